@@ -143,27 +143,27 @@ enum fots_status {
     FOTS_WEEKDAY_OUT_OF_RANGE = 67
 };
 
-/* Returns the name of a status: the component, such as "day", or words such as "past the range";
+/* Returns the name of a status: the component, such as "day", or words such as "result out of range";
  * "unknown" for other numbers. */
 static inline const char *fots_status_name(int32_t status)
 {
     switch (status) {
-    case FOTS_OK: return "done";
-    case FOTS_RESULT_OUT_OF_RANGE: return "past the range";
-    case FOTS_INVALID_DATE: return "bad date";
-    case FOTS_INVALID_TIME: return "bad time";
-    case FOTS_INVALID_OFFSET: return "bad offset";
-    case FOTS_INVALID_DURATION: return "bad duration";
-    case FOTS_INVALID_WEEKDAY: return "bad weekday";
-    case FOTS_INVALID_COUNT: return "bad count";
-    case FOTS_UNEXPECTED_BYTE: return "unreadable";
-    case FOTS_INVALID_MOMENT: return "bad moment";
-    case FOTS_INVALID_FREQUENCY: return "bad frequency";
-    case FOTS_TOO_MANY_PARTS: return "many parts";
-    case FOTS_INVALID_CONVENTION: return "bad convention";
-    case FOTS_INVALID_WEEKMASK: return "bad week";
-    case FOTS_INVALID_HOLIDAYS: return "bad holidays";
-    case FOTS_TOO_MANY_HOLIDAYS: return "many holidays";
+    case FOTS_OK: return "ok";
+    case FOTS_RESULT_OUT_OF_RANGE: return "result out of range";
+    case FOTS_INVALID_DATE: return "invalid date";
+    case FOTS_INVALID_TIME: return "invalid time";
+    case FOTS_INVALID_OFFSET: return "invalid offset";
+    case FOTS_INVALID_DURATION: return "invalid duration";
+    case FOTS_INVALID_WEEKDAY: return "invalid weekday";
+    case FOTS_INVALID_COUNT: return "invalid count";
+    case FOTS_UNEXPECTED_BYTE: return "unexpected byte";
+    case FOTS_INVALID_MOMENT: return "invalid moment";
+    case FOTS_INVALID_FREQUENCY: return "invalid frequency";
+    case FOTS_TOO_MANY_PARTS: return "too many parts";
+    case FOTS_INVALID_CONVENTION: return "invalid convention";
+    case FOTS_INVALID_WEEKMASK: return "invalid weekmask";
+    case FOTS_INVALID_HOLIDAYS: return "invalid holidays";
+    case FOTS_TOO_MANY_HOLIDAYS: return "too many holidays";
     case FOTS_YEAR_OUT_OF_RANGE: return "year";
     case FOTS_MONTH_OUT_OF_RANGE: return "month";
     case FOTS_JULIAN_DAY_OUT_OF_RANGE: return "julian_day";
@@ -207,10 +207,10 @@ typedef struct fots_date_result {
 } fots_date_result;
 
 /* An unsigned part of a value, such as a month. */
-typedef struct fots_part_result {
+typedef struct fots_component_result {
     int32_t status;
     uint32_t number; /* or FOTS_NO_COMPONENT */
-} fots_part_result;
+} fots_component_result;
 
 /* A year, a part of an offset or a duration, or a sign. */
 typedef struct fots_number_result {
@@ -218,10 +218,10 @@ typedef struct fots_number_result {
     int32_t number; /* or FOTS_NO_VALUE */
 } fots_number_result;
 
-typedef struct fots_long_result {
+typedef struct fots_int64_result {
     int32_t status;
     int64_t number; /* or INT64_MIN, which is also a valid number of whole seconds */
-} fots_long_result;
+} fots_int64_result;
 
 typedef struct fots_calendar_date_result {
     int32_t status;
@@ -254,25 +254,25 @@ typedef struct fots_adjusted_time_result {
     fots_time time; /* or FOTS_NO_TIME */
 } fots_adjusted_time_result;
 
-typedef struct fots_clock_result {
+typedef struct fots_hms_nano_result {
     int32_t status;
     uint32_t hour; /* or UINT32_MAX, as for the next fields */
     uint32_t minute;
     uint32_t second;
     uint32_t nanosecond;
-} fots_clock_result;
+} fots_hms_nano_result;
 
 typedef struct fots_offset_result {
     int32_t status;
     fots_offset offset; /* or {FOTS_NO_VALUE} */
 } fots_offset_result;
 
-typedef struct fots_offset_parts_result {
+typedef struct fots_offset_hms_result {
     int32_t status;
     int32_t hours; /* or FOTS_NO_VALUE, as for the next fields */
     int32_t minutes;
     int32_t seconds;
-} fots_offset_parts_result;
+} fots_offset_hms_result;
 
 typedef struct fots_duration_result {
     int32_t status;
@@ -298,19 +298,19 @@ typedef struct fots_text_result {
 
 /* The position of an error: the first wrong byte, from 0, for FOTS_UNEXPECTED_BYTE; the length for
  * FOTS_UNEXPECTED_END; else SIZE_MAX. */
-typedef struct fots_read_date_result {
+typedef struct fots_parse_date_result {
     int32_t status;
     fots_date date; /* or {FOTS_NO_VALUE} */
     size_t position;
-} fots_read_date_result;
+} fots_parse_date_result;
 
-typedef struct fots_read_moment_result {
+typedef struct fots_parse_moment_result {
     int32_t status;
     fots_date date; /* or {FOTS_NO_VALUE} */
     fots_time time; /* or FOTS_NO_TIME */
     fots_offset offset; /* or {FOTS_NO_VALUE} */
     size_t position; /* as above */
-} fots_read_moment_result;
+} fots_parse_moment_result;
 
 /* Years, months and days, all positive or 0, or all negative or 0. */
 typedef struct fots_period_result {
@@ -336,12 +336,12 @@ typedef struct fots_recurrence_result {
     size_t position;
 } fots_recurrence_result;
 
-typedef struct fots_read_recurrence_result {
+typedef struct fots_parse_recurrence_result {
     int32_t status;
     uint32_t part; /* this and position as above */
     size_t position;
     fots_recurrence recurrence; /* or zeros, with {FOTS_NO_VALUE} for until */
-} fots_read_recurrence_result;
+} fots_parse_recurrence_result;
 
 typedef struct fots_recurrence_text_result {
     int32_t status;
@@ -395,15 +395,15 @@ fots_iso_week_date_result fots_date_to_iso_week_date(fots_date date);
 /* Return the year (-999999 to 999999), the month, the day of the month (1 to 31), the ordinal (1 to
  * 366), the ISO week (1 to 53) and the weekday. For 2000-02-29: 2000, 2, 29, 60, 9, 2. */
 fots_number_result fots_date_year(fots_date date);
-fots_part_result fots_date_month(fots_date date);
-fots_part_result fots_date_day(fots_date date);
-fots_part_result fots_date_ordinal(fots_date date);
-fots_part_result fots_date_iso_week(fots_date date);
-fots_part_result fots_date_weekday(fots_date date);
+fots_component_result fots_date_month(fots_date date);
+fots_component_result fots_date_day(fots_date date);
+fots_component_result fots_date_ordinal(fots_date date);
+fots_component_result fots_date_iso_week(fots_date date);
+fots_component_result fots_date_weekday(fots_date date);
 
 /* Return the Sundays or Mondays of the year up to the date: 0 to 53. For 2000-02-29: 9, 9. */
-fots_part_result fots_date_sunday_based_week(fots_date date);
-fots_part_result fots_date_monday_based_week(fots_date date);
+fots_component_result fots_date_sunday_based_week(fots_date date);
+fots_component_result fots_date_monday_based_week(fots_date date);
 
 /* ---- move dates */
 
@@ -469,7 +469,7 @@ fots_date_result fots_date_first_of_year(fots_date date);
 fots_date_result fots_date_last_of_year(fots_date date);
 fots_date_result fots_date_first_of_iso_week(fots_date date);
 fots_date_result fots_date_last_of_iso_week(fots_date date);
-fots_part_result fots_date_quarter(fots_date date);
+fots_component_result fots_date_quarter(fots_date date);
 
 /* Return the n-th (1 to 255), or the last, date with a weekday in a month. Errors: FOTS_INVALID_COUNT,
  * FOTS_YEAR_OUT_OF_RANGE, and FOTS_WEEKDAY_OUT_OF_RANGE if the month has no such date. In 2000-02, the fifth Tuesday is
@@ -492,7 +492,7 @@ fots_date_result fots_date_on_or_before(fots_date date, uint32_t weekday);
 #define FOTS_MAX_HOLIDAYS 1024
 
 /* Returns 1 if the date is a working day, else 0. Tuesday 2000-02-29 is 1. */
-fots_part_result fots_date_is_workday(fots_date date, uint32_t week, const fots_date *holidays, size_t holidays_length);
+fots_component_result fots_date_is_workday(fots_date date, uint32_t week, const fots_date *holidays, size_t holidays_length);
 
 /* Return the first working day after the date, or the last one before it; FOTS_RESULT_OUT_OF_RANGE. For
  * Friday 2000-03-03: 2000-03-06 and 2000-03-02. */
@@ -520,7 +520,7 @@ enum fots_convention {
 /* Returns the working day that the date moves to. Errors: FOTS_INVALID_CONVENTION, and at last
  * FOTS_RESULT_OUT_OF_RANGE. Saturday 2000-04-29 moves to 2000-05-01 by FOTS_FOLLOWING, and to 2000-04-28 by
  * FOTS_MODIFIED_FOLLOWING. */
-fots_date_result fots_date_adjusted(fots_date date, uint32_t convention, uint32_t week, const fots_date *holidays, size_t holidays_length);
+fots_date_result fots_date_adjust(fots_date date, uint32_t convention, uint32_t week, const fots_date *holidays, size_t holidays_length);
 
 /* ---- recurrences */
 
@@ -547,7 +547,7 @@ typedef struct fots_rule {
 #define FOTS_MAX_WEEKDAYS 64
 
 /* Returns the rule of every day, or the same day of every week (from Monday), month or year. */
-static inline fots_rule fots_rule_of(fots_date start, uint32_t frequency)
+static inline fots_rule fots_rule_new(fots_date start, uint32_t frequency)
 {
     static const fots_rule_weekday none = {0, 0};
     fots_rule rule;
@@ -575,7 +575,7 @@ fots_date_result fots_rule_first(const fots_rule *rule);
 fots_date_result fots_rule_next_after(const fots_rule *rule, fots_date date);
 
 /* Returns 1 if the date is a day of the rule, else 0. 2024-01-26 is 1, and 2024-01-19 is 0. */
-fots_part_result fots_rule_contains(const fots_rule *rule, fots_date date);
+fots_component_result fots_rule_contains(const fots_rule *rule, fots_date date);
 
 /* Writes the days of the rule after a date, in order, and returns their number: `days_length`, or
  * fewer if no more follow. The array must not overlap the rule. */
@@ -597,7 +597,7 @@ enum fots_rule_part {
  * its first wrong part as FOTS_UNKNOWN_PART, FOTS_TOO_MANY_VALUES, FOTS_DUPLICATE_PART, FOTS_INVALID_VALUE or
  * FOTS_MISSING_FREQUENCY. "FREQ=MONTHLY;BYDAY=-1FR;COUNT=3" has FOTS_MONTHLY, the interval 1, the week
  * start 1, the count 3 and the weekday {-1, 5}. */
-fots_read_recurrence_result fots_recurrence_parse(const char *text, size_t text_length);
+fots_parse_recurrence_result fots_recurrence_parse(const char *text, size_t text_length);
 
 /* Returns the text of the same recurrence with its parts in one order.
  * "byday=-01fr;count=3;freq=monthly" becomes "FREQ=MONTHLY;COUNT=3;BYDAY=-1FR". */
@@ -607,7 +607,7 @@ fots_recurrence_text_result fots_recurrence_text(const char *text, size_t text_l
  * recurrence, so keep that for as long as you use the rule. */
 static inline fots_rule fots_recurrence_rule(const fots_recurrence *recurrence, fots_date start)
 {
-    fots_rule rule = fots_rule_of(start, recurrence->frequency);
+    fots_rule rule = fots_rule_new(start, recurrence->frequency);
     if (recurrence->until.julian_day != FOTS_NO_VALUE) {
         rule.until = recurrence->until;
     }
@@ -671,16 +671,16 @@ fots_time_result fots_time_from_hms_nano(uint32_t hour, uint32_t minute, uint32_
 /* ---- parts of a time of day */
 
 /* Returns the hour, minute, second and nanosecond. For 1:02:03.004005006: 1, 2, 3, 4005006. */
-fots_clock_result fots_time_as_hms_nano(fots_time time);
+fots_hms_nano_result fots_time_as_hms_nano(fots_time time);
 
 /* Return the hour, the minute, the second, and the part below the second in milliseconds,
  * microseconds or nanoseconds. For 1:02:03.004005006: 1, 2, 3, 4, 4005, 4005006. */
-fots_part_result fots_time_hour(fots_time time);
-fots_part_result fots_time_minute(fots_time time);
-fots_part_result fots_time_second(fots_time time);
-fots_part_result fots_time_millisecond(fots_time time);
-fots_part_result fots_time_microsecond(fots_time time);
-fots_part_result fots_time_nanosecond(fots_time time);
+fots_component_result fots_time_hour(fots_time time);
+fots_component_result fots_time_minute(fots_time time);
+fots_component_result fots_time_second(fots_time time);
+fots_component_result fots_time_millisecond(fots_time time);
+fots_component_result fots_time_microsecond(fots_time time);
+fots_component_result fots_time_nanosecond(fots_time time);
 
 /* ---- replace a component of a time of day; the last three replace all below the second */
 fots_time_result fots_time_replace_hour(fots_time time, uint32_t hour);
@@ -727,7 +727,7 @@ fots_offset_result fots_offset_from_hms(int32_t hours, int32_t minutes, int32_t 
 fots_offset_result fots_offset_from_whole_seconds(int64_t seconds);
 
 /* Returns the hours, minutes and seconds, with one sign. For -01:30: -1, -30, 0. */
-fots_offset_parts_result fots_offset_as_hms(fots_offset offset);
+fots_offset_hms_result fots_offset_as_hms(fots_offset offset);
 
 /* Return the whole hours, the whole minutes, the minutes past the hours, and the seconds past the
  * minutes, with one sign. For -01:30: -1, -90, -30, 0. */
@@ -737,7 +737,7 @@ fots_number_result fots_offset_minutes_past_hour(fots_offset offset);
 fots_number_result fots_offset_seconds_past_minute(fots_offset offset);
 
 /* Returns the offset with the other sign. For -01:30: +01:30. */
-fots_offset_result fots_offset_negated(fots_offset offset);
+fots_offset_result fots_offset_neg(fots_offset offset);
 
 /* ---- create durations */
 
@@ -760,17 +760,17 @@ fots_duration_result fots_duration_nanoseconds(int64_t nanoseconds);
 /* ---- parts of a duration, truncated toward zero */
 
 /* Return the whole weeks, days, hours, minutes and seconds. -47 h: 0, -1, -47, -2820, -169200. */
-fots_long_result fots_duration_whole_weeks(fots_duration duration);
-fots_long_result fots_duration_whole_days(fots_duration duration);
-fots_long_result fots_duration_whole_hours(fots_duration duration);
-fots_long_result fots_duration_whole_minutes(fots_duration duration);
-fots_long_result fots_duration_whole_seconds(fots_duration duration);
+fots_int64_result fots_duration_whole_weeks(fots_duration duration);
+fots_int64_result fots_duration_whole_days(fots_duration duration);
+fots_int64_result fots_duration_whole_hours(fots_duration duration);
+fots_int64_result fots_duration_whole_minutes(fots_duration duration);
+fots_int64_result fots_duration_whole_seconds(fots_duration duration);
 
 /* Return the whole milliseconds, microseconds and nanoseconds; FOTS_RESULT_OUT_OF_RANGE outside int64_t. For
  * -1.5 s: -1500, -1500000, -1500000000. */
-fots_long_result fots_duration_whole_milliseconds(fots_duration duration);
-fots_long_result fots_duration_whole_microseconds(fots_duration duration);
-fots_long_result fots_duration_whole_nanoseconds(fots_duration duration);
+fots_int64_result fots_duration_whole_milliseconds(fots_duration duration);
+fots_int64_result fots_duration_whole_microseconds(fots_duration duration);
+fots_int64_result fots_duration_whole_nanoseconds(fots_duration duration);
 
 /* Return the part below the second in milliseconds or microseconds. For -1.5 s: -500, -500000. */
 fots_number_result fots_duration_subsec_milliseconds(fots_duration duration);
@@ -800,16 +800,16 @@ fots_duration_result fots_duration_saturating_mul(fots_duration duration, int32_
 /* ---- months, weekdays and years */
 
 /* Returns the number of days of a month in a year: 28 to 31. For 2, 2000: 29. */
-fots_part_result fots_month_length(uint32_t month, int32_t year);
+fots_component_result fots_month_length(uint32_t month, int32_t year);
 
 /* Return the month or weekday n places after or before. 9 months after 7 is 4. */
-fots_part_result fots_month_nth_next(uint32_t month, uint32_t n);
-fots_part_result fots_month_nth_prev(uint32_t month, uint32_t n);
-fots_part_result fots_weekday_nth_next(uint32_t weekday, uint32_t n);
-fots_part_result fots_weekday_nth_prev(uint32_t weekday, uint32_t n);
+fots_component_result fots_month_nth_next(uint32_t month, uint32_t n);
+fots_component_result fots_month_nth_prev(uint32_t month, uint32_t n);
+fots_component_result fots_weekday_nth_next(uint32_t weekday, uint32_t n);
+fots_component_result fots_weekday_nth_prev(uint32_t weekday, uint32_t n);
 
 /* Returns the number of a weekday from 1 (Sunday) to 7 (Saturday). For 5 (Friday): 6. */
-fots_part_result fots_weekday_number_from_sunday(uint32_t weekday);
+fots_component_result fots_weekday_number_from_sunday(uint32_t weekday);
 
 /* Return 1 for a leap year, else 0; the days of a year (365, 366); its ISO weeks (52, 53). All
  * years are valid. */
@@ -871,7 +871,7 @@ fots_moment_result fots_moment_from_unix_time(fots_duration duration);
 
 /* Return the Unix time in whole seconds, rounded down, or as a duration. Half a second before 1970:
  * -1 and {0, -500000000}. In a struct timespec, tv_nsec is time % 1000000000. */
-fots_long_result fots_moment_unix_timestamp(fots_moment moment);
+fots_int64_result fots_moment_unix_timestamp(fots_moment moment);
 fots_duration_result fots_moment_unix_time(fots_moment moment);
 
 /* ---- print texts: at most 38 ASCII bytes and a zero byte, so `bytes` is a C string */
@@ -903,19 +903,19 @@ fots_text_result fots_weekday_name(uint32_t weekday);
 /* Parses a calendar date, an ordinal date or a week date of ISO 8601, as they are printed. Errors:
  * FOTS_MONTH_OUT_OF_RANGE, FOTS_YEAR_OUT_OF_RANGE, FOTS_DAY_OUT_OF_RANGE, FOTS_ORDINAL_OUT_OF_RANGE, FOTS_WEEK_OUT_OF_RANGE; FOTS_WEEKDAY_OUT_OF_RANGE after the last date.
  * "2024x" is FOTS_UNEXPECTED_BYTE at 4, "2024-02-3" FOTS_UNEXPECTED_END, and "2023-02-29" FOTS_DAY_OUT_OF_RANGE. */
-fots_read_date_result fots_date_read(const char *text, size_t length);
+fots_parse_date_result fots_date_parse(const char *text, size_t length);
 
 /* Parses a Julian day, such as "J2460370" or "J-1". Error: FOTS_JULIAN_DAY_OUT_OF_RANGE. */
-fots_read_date_result fots_julian_day_read(const char *text, size_t length);
+fots_parse_date_result fots_julian_day_parse(const char *text, size_t length);
 
 /* Parses a moment of RFC 3339, such as "2024-02-29T23:59:59.25+01:00". T may be t or a space, and Z
  * may be z. Digits after the ninth of a fraction are ignored. Errors: FOTS_MONTH_OUT_OF_RANGE, FOTS_DAY_OUT_OF_RANGE,
  * FOTS_HOUR_OUT_OF_RANGE, FOTS_MINUTE_OUT_OF_RANGE, FOTS_SECOND_OUT_OF_RANGE (also 60), FOTS_OFFSET_HOUR_OUT_OF_RANGE above 23, FOTS_OFFSET_MINUTE_OUT_OF_RANGE. */
-fots_read_moment_result fots_moment_read(const char *text, size_t length);
+fots_parse_moment_result fots_moment_parse(const char *text, size_t length);
 
 /* Parses a Unix time, such as "@1709164800.5", to a moment at UTC: @, a minus sign if negative, at
  * most 18 digits, and optionally a fraction of at most 9. Error: FOTS_TIMESTAMP_OUT_OF_RANGE. */
-fots_read_moment_result fots_unix_read(const char *text, size_t length);
+fots_parse_moment_result fots_unix_parse(const char *text, size_t length);
 
 /* ---- whole columns
  *
@@ -975,13 +975,13 @@ size_t fots_dates_workdays_between(const int32_t *dates, size_t dates_length, co
  * One array has the bytes of all texts, and another their bounds, one more than rows, as in Arrow:
  * text k is the bytes from bounds[k] to bounds[k + 1]. Times are uint64_t, and offsets int32_t. */
 
-/* Parses like fots_date_read, without positions. FOTS_INVALID_BOUNDS if the bounds of a row are out of
+/* Parses like fots_date_parse, without positions. FOTS_INVALID_BOUNDS if the bounds of a row are out of
  * range or descend. */
-size_t fots_dates_read(const char *bytes, size_t bytes_length, const int32_t *bounds, size_t bounds_length, int32_t *dates,
+size_t fots_dates_parse(const char *bytes, size_t bytes_length, const int32_t *bounds, size_t bounds_length, int32_t *dates,
     size_t dates_length, uint8_t *statuses, size_t length);
 
-/* Parses like fots_moment_read, in the same way. */
-size_t fots_moments_read(const char *bytes, size_t bytes_length, const int32_t *bounds, size_t bounds_length, int32_t *dates,
+/* Parses like fots_moment_parse, in the same way. */
+size_t fots_moments_parse(const char *bytes, size_t bytes_length, const int32_t *bounds, size_t bounds_length, int32_t *dates,
     size_t dates_length, uint64_t *times, size_t times_length, int32_t *offsets, size_t offsets_length, uint8_t *statuses, size_t length);
 
 /* The bytes of room for each text of the next calls. */

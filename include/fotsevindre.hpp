@@ -30,7 +30,7 @@ namespace fotsevindre {
 class error : public std::runtime_error {
 public:
     explicit error(std::int32_t status, std::size_t position = SIZE_MAX)
-        : std::runtime_error(words(status, position)), status_(status), position_(position)
+        : std::runtime_error(message(status, position)), status_(status), position_(position)
     {
     }
 
@@ -48,7 +48,7 @@ public:
     std::size_t position() const noexcept { return position_; }
 
 private:
-    static std::string words(std::int32_t status, std::size_t position)
+    static std::string message(std::int32_t status, std::size_t position)
     {
         if (status == FOTS_UNEXPECTED_BYTE) {
             return "unexpected byte at " + std::to_string(position);
@@ -67,9 +67,9 @@ private:
 };
 
 // Thrown by Recurrence::parse: the first wrong part of a text.
-class rule_fault : public error {
+class parse_rule_error : public error {
 public:
-    rule_fault(std::int32_t status, std::size_t position, std::uint32_t part) : error(status, position), part_(part) {}
+    parse_rule_error(std::int32_t status, std::size_t position, std::uint32_t part) : error(status, position), part_(part) {}
 
     // Returns the part, such as FOTS_RULE_BYDAY, or 0 for FOTS_UNKNOWN_PART and FOTS_MISSING_FREQUENCY.
     std::uint32_t part() const noexcept { return part_; }
@@ -81,10 +81,10 @@ private:
 namespace detail {
 
 // Marks a valid value from a call, which is not checked again.
-struct Answered {};
+struct Unchecked {};
 
 // Returns the result, or throws an error.
-template <class Result> Result done(Result result)
+template <class Result> Result value_or_throw(Result result)
 {
     if (result.status != FOTS_OK) {
         throw error(result.status);
@@ -92,7 +92,7 @@ template <class Result> Result done(Result result)
     return result;
 }
 
-template <class Result> Result read(Result result)
+template <class Result> Result parsed_or_throw(Result result)
 {
     if (result.status != FOTS_OK) {
         throw error(result.status, result.position);
@@ -101,10 +101,10 @@ template <class Result> Result read(Result result)
 }
 
 // Returns the result of a call that parses a recurrence, or throws a rule_fault.
-template <class Result> Result parsed(Result result)
+template <class Result> Result recurrence_or_throw(Result result)
 {
     if (result.status != FOTS_OK) {
-        throw rule_fault(result.status, result.position, result.part);
+        throw parse_rule_error(result.status, result.position, result.part);
     }
     return result;
 }
@@ -112,12 +112,12 @@ template <class Result> Result parsed(Result result)
 // Returns whether there is a result, false for FOTS_RESULT_OUT_OF_RANGE, or throws an error.
 template <class Result> bool is_in_range(Result result)
 {
-    return result.status != FOTS_RESULT_OUT_OF_RANGE && (done(result), true);
+    return result.status != FOTS_RESULT_OUT_OF_RANGE && (value_or_throw(result), true);
 }
 
 inline std::string text(fots_text_result result)
 {
-    return std::string(done(result).bytes, result.length);
+    return std::string(value_or_throw(result).bytes, result.length);
 }
 
 // Compares by a key.
@@ -147,8 +147,8 @@ inline std::ostream &operator<<(std::ostream &out, Weekday weekday) { return out
 class Duration : public detail::Ordered<Duration> {
 public:
     // Converts a duration of C, or throws FOTS_INVALID_DURATION.
-    explicit Duration(fots_duration value) : value_(value) { detail::done(fots_duration_whole_seconds(value)); }
-    Duration(fots_duration value, detail::Answered) noexcept : value_(value) {}
+    explicit Duration(fots_duration value) : value_(value) { detail::value_or_throw(fots_duration_whole_seconds(value)); }
+    Duration(fots_duration value, detail::Unchecked) noexcept : value_(value) {}
 
     static Duration of(std::int64_t seconds, std::int32_t nanoseconds) { return from(fots_duration_new(seconds, nanoseconds)); }
     static Duration weeks(std::int64_t weeks) { return from(fots_duration_weeks(weeks)); }
@@ -160,10 +160,10 @@ public:
     static Duration microseconds(std::int64_t microseconds) { return from(fots_duration_microseconds(microseconds)); }
     static Duration nanoseconds(std::int64_t nanoseconds) { return from(fots_duration_nanoseconds(nanoseconds)); }
 
-    std::int64_t whole_weeks() const { return detail::done(fots_duration_whole_weeks(value_)).number; }
-    std::int64_t whole_days() const { return detail::done(fots_duration_whole_days(value_)).number; }
-    std::int64_t whole_hours() const { return detail::done(fots_duration_whole_hours(value_)).number; }
-    std::int64_t whole_minutes() const { return detail::done(fots_duration_whole_minutes(value_)).number; }
+    std::int64_t whole_weeks() const { return detail::value_or_throw(fots_duration_whole_weeks(value_)).number; }
+    std::int64_t whole_days() const { return detail::value_or_throw(fots_duration_whole_days(value_)).number; }
+    std::int64_t whole_hours() const { return detail::value_or_throw(fots_duration_whole_hours(value_)).number; }
+    std::int64_t whole_minutes() const { return detail::value_or_throw(fots_duration_whole_minutes(value_)).number; }
     std::int64_t whole_seconds() const noexcept { return value_.seconds; }
     std::int32_t subsec_nanoseconds() const noexcept { return value_.nanoseconds; }
     Duration abs() const { return from(fots_duration_abs(value_)); }
@@ -179,7 +179,7 @@ public:
     std::pair<std::int64_t, std::int32_t> key() const noexcept { return {value_.seconds, value_.nanoseconds}; }
 
 private:
-    static Duration from(fots_duration_result result) { return Duration(detail::done(result).duration, {}); }
+    static Duration from(fots_duration_result result) { return Duration(detail::value_or_throw(result).duration, {}); }
 
     fots_duration value_;
 };
@@ -188,30 +188,30 @@ private:
 class Time : public detail::Ordered<Time> {
 public:
     // Converts nanoseconds since midnight, or throws FOTS_INVALID_TIME.
-    explicit Time(fots_time value) : value_(value) { detail::done(fots_time_hour(value)); }
-    Time(fots_time value, detail::Answered) noexcept : value_(value) {}
+    explicit Time(fots_time value) : value_(value) { detail::value_or_throw(fots_time_hour(value)); }
+    Time(fots_time value, detail::Unchecked) noexcept : value_(value) {}
 
     static Time from_hms(std::uint32_t hour, std::uint32_t minute, std::uint32_t second)
     {
-        return Time(detail::done(fots_time_from_hms(hour, minute, second)).time, {});
+        return Time(detail::value_or_throw(fots_time_from_hms(hour, minute, second)).time, {});
     }
     static Time from_hms_nano(std::uint32_t hour, std::uint32_t minute, std::uint32_t second, std::uint32_t nanosecond)
     {
-        return Time(detail::done(fots_time_from_hms_nano(hour, minute, second, nanosecond)).time, {});
+        return Time(detail::value_or_throw(fots_time_from_hms_nano(hour, minute, second, nanosecond)).time, {});
     }
 
-    std::uint32_t hour() const { return detail::done(fots_time_hour(value_)).number; }
-    std::uint32_t minute() const { return detail::done(fots_time_minute(value_)).number; }
-    std::uint32_t second() const { return detail::done(fots_time_second(value_)).number; }
-    std::uint32_t nanosecond() const { return detail::done(fots_time_nanosecond(value_)).number; }
+    std::uint32_t hour() const { return detail::value_or_throw(fots_time_hour(value_)).number; }
+    std::uint32_t minute() const { return detail::value_or_throw(fots_time_minute(value_)).number; }
+    std::uint32_t second() const { return detail::value_or_throw(fots_time_second(value_)).number; }
+    std::uint32_t nanosecond() const { return detail::value_or_throw(fots_time_nanosecond(value_)).number; }
 
     // Moves the time by a duration, modulo 24 hours. 23:00 plus 2 h is 1:00.
-    friend Time operator+(Time time, Duration duration) { return Time(detail::done(fots_time_add(time.value_, duration.c())).time, {}); }
-    friend Time operator-(Time time, Duration duration) { return Time(detail::done(fots_time_sub(time.value_, duration.c())).time, {}); }
+    friend Time operator+(Time time, Duration duration) { return Time(detail::value_or_throw(fots_time_add(time.value_, duration.c())).time, {}); }
+    friend Time operator-(Time time, Duration duration) { return Time(detail::value_or_throw(fots_time_sub(time.value_, duration.c())).time, {}); }
     // Subtracts on the same day: 0:00 minus 23:00 is -23 h.
     friend Duration operator-(Time time, Time other)
     {
-        return Duration(detail::done(fots_time_difference(time.value_, other.value_)).duration, {});
+        return Duration(detail::value_or_throw(fots_time_difference(time.value_, other.value_)).duration, {});
     }
 
     fots_time c() const noexcept { return value_; }
@@ -224,27 +224,27 @@ private:
 // An offset from UTC in seconds, positive to the east.
 class UtcOffset : public detail::Ordered<UtcOffset> {
 public:
-    explicit UtcOffset(fots_offset value) : value_(value) { detail::done(fots_offset_whole_hours(value)); }
-    UtcOffset(fots_offset value, detail::Answered) noexcept : value_(value) {}
+    explicit UtcOffset(fots_offset value) : value_(value) { detail::value_or_throw(fots_offset_whole_hours(value)); }
+    UtcOffset(fots_offset value, detail::Unchecked) noexcept : value_(value) {}
 
     static UtcOffset utc() { return UtcOffset(fots_offset{0}, {}); }
     static UtcOffset from_hms(std::int32_t hours, std::int32_t minutes, std::int32_t seconds)
     {
-        return UtcOffset(detail::done(fots_offset_from_hms(hours, minutes, seconds)).offset, {});
+        return UtcOffset(detail::value_or_throw(fots_offset_from_hms(hours, minutes, seconds)).offset, {});
     }
     static UtcOffset from_whole_seconds(std::int64_t seconds)
     {
-        return UtcOffset(detail::done(fots_offset_from_whole_seconds(seconds)).offset, {});
+        return UtcOffset(detail::value_or_throw(fots_offset_from_whole_seconds(seconds)).offset, {});
     }
 
     std::int32_t whole_seconds() const noexcept { return value_.seconds; }
     // Returns the hours, minutes and seconds, with one sign.
     std::tuple<std::int32_t, std::int32_t, std::int32_t> as_hms() const
     {
-        const fots_offset_parts_result parts = detail::done(fots_offset_as_hms(value_));
+        const fots_offset_hms_result parts = detail::value_or_throw(fots_offset_as_hms(value_));
         return {parts.hours, parts.minutes, parts.seconds};
     }
-    UtcOffset operator-() const { return UtcOffset(detail::done(fots_offset_negated(value_)).offset, {}); }
+    UtcOffset operator-() const { return UtcOffset(detail::value_or_throw(fots_offset_neg(value_)).offset, {}); }
 
     fots_offset c() const noexcept { return value_; }
     std::int32_t key() const noexcept { return value_.seconds; }
@@ -280,8 +280,8 @@ enum class DayCount : std::uint32_t {
 // A date of the proleptic Gregorian calendar, from -999999-01-01 to 999999-12-31.
 class Date : public detail::Ordered<Date> {
 public:
-    explicit Date(fots_date value) : value_(value) { detail::done(fots_date_year(value)); }
-    Date(fots_date value, detail::Answered) noexcept : value_(value) {}
+    explicit Date(fots_date value) : value_(value) { detail::value_or_throw(fots_date_year(value)); }
+    Date(fots_date value, detail::Unchecked) noexcept : value_(value) {}
 
     static Date min() { return Date(fots_date{FOTS_MIN_JULIAN_DAY}, {}); }
     static Date max() { return Date(fots_date{FOTS_MAX_JULIAN_DAY}, {}); }
@@ -300,31 +300,31 @@ public:
         return from(fots_date_from_iso_week_date(year, week, static_cast<std::uint32_t>(weekday)));
     }
     // Parses a calendar date, an ordinal date or an ISO week date, such as "2024-W09-4".
-    static Date read(std::string_view text) { return Date(detail::read(fots_date_read(data(text), text.size())).date, {}); }
+    static Date parse(std::string_view text) { return Date(detail::parsed_or_throw(fots_date_parse(data(text), text.size())).date, {}); }
 
     std::int32_t to_julian_day() const noexcept { return value_.julian_day; }
     std::tuple<std::int32_t, Month, std::uint32_t> to_calendar_date() const
     {
-        const fots_calendar_date_result found = detail::done(fots_date_to_calendar_date(value_));
+        const fots_calendar_date_result found = detail::value_or_throw(fots_date_to_calendar_date(value_));
         return {found.year, static_cast<Month>(found.month), found.day};
     }
     std::tuple<std::int32_t, std::uint32_t> to_ordinal_date() const
     {
-        const fots_ordinal_date_result found = detail::done(fots_date_to_ordinal_date(value_));
+        const fots_ordinal_date_result found = detail::value_or_throw(fots_date_to_ordinal_date(value_));
         return {found.year, found.ordinal};
     }
     std::tuple<std::int32_t, std::uint32_t, Weekday> to_iso_week_date() const
     {
-        const fots_iso_week_date_result found = detail::done(fots_date_to_iso_week_date(value_));
+        const fots_iso_week_date_result found = detail::value_or_throw(fots_date_to_iso_week_date(value_));
         return {found.year, found.week, static_cast<Weekday>(found.weekday)};
     }
 
-    std::int32_t year() const { return detail::done(fots_date_year(value_)).number; }
-    Month month() const { return static_cast<Month>(detail::done(fots_date_month(value_)).number); }
-    std::uint32_t day() const { return detail::done(fots_date_day(value_)).number; }
-    std::uint32_t ordinal() const { return detail::done(fots_date_ordinal(value_)).number; }
-    std::uint32_t iso_week() const { return detail::done(fots_date_iso_week(value_)).number; }
-    Weekday weekday() const { return static_cast<Weekday>(detail::done(fots_date_weekday(value_)).number); }
+    std::int32_t year() const { return detail::value_or_throw(fots_date_year(value_)).number; }
+    Month month() const { return static_cast<Month>(detail::value_or_throw(fots_date_month(value_)).number); }
+    std::uint32_t day() const { return detail::value_or_throw(fots_date_day(value_)).number; }
+    std::uint32_t ordinal() const { return detail::value_or_throw(fots_date_ordinal(value_)).number; }
+    std::uint32_t iso_week() const { return detail::value_or_throw(fots_date_iso_week(value_)).number; }
+    Weekday weekday() const { return static_cast<Weekday>(detail::value_or_throw(fots_date_weekday(value_)).number); }
 
     std::optional<Date> next_day() const { return if_any(fots_date_next_day(value_)); }
     std::optional<Date> previous_day() const { return if_any(fots_date_previous_day(value_)); }
@@ -350,17 +350,17 @@ public:
     std::optional<Date> checked_add_months(std::int32_t months) const { return if_any(fots_date_add_months(value_, months)); }
     std::optional<Date> checked_add_years(std::int32_t years) const { return if_any(fots_date_add_years(value_, years)); }
     Date saturating_add_months(std::int32_t months) const { return from(fots_date_saturating_add_months(value_, months)); }
-    std::int32_t months_until(Date other) const { return detail::done(fots_date_months_until(value_, other.value_)).number; }
-    std::int32_t years_until(Date other) const { return detail::done(fots_date_years_until(value_, other.value_)).number; }
+    std::int32_t months_until(Date other) const { return detail::value_or_throw(fots_date_months_until(value_, other.value_)).number; }
+    std::int32_t years_until(Date other) const { return detail::value_or_throw(fots_date_years_until(value_, other.value_)).number; }
     Period period_until(Date other) const
     {
-        const fots_period_result found = detail::done(fots_date_period_until(value_, other.value_));
+        const fots_period_result found = detail::value_or_throw(fots_date_period_until(value_, other.value_));
         return {found.years, found.months, found.days};
     }
     YearFraction day_count(Date other, DayCount convention) const
     {
         const fots_year_fraction_result found =
-            detail::done(fots_date_day_count(value_, other.value_, static_cast<std::uint32_t>(convention)));
+            detail::value_or_throw(fots_date_day_count(value_, other.value_, static_cast<std::uint32_t>(convention)));
         return {found.numerator, found.denominator};
     }
 
@@ -372,7 +372,7 @@ public:
     Date last_of_year() const { return from(fots_date_last_of_year(value_)); }
     Date first_of_iso_week() const { return from(fots_date_first_of_iso_week(value_)); }
     std::optional<Date> last_of_iso_week() const { return if_any(fots_date_last_of_iso_week(value_)); }
-    std::uint32_t quarter() const { return detail::done(fots_date_quarter(value_)).number; }
+    std::uint32_t quarter() const { return detail::value_or_throw(fots_date_quarter(value_)).number; }
     static Date nth_weekday_of_month(std::int32_t year, Month month, Weekday weekday, std::uint32_t n)
     {
         return from(fots_date_nth_weekday_of_month(
@@ -396,7 +396,7 @@ public:
     friend Date operator-(Date date, Duration duration) { return from(fots_date_checked_sub(date.value_, duration.c())); }
     friend Duration operator-(Date date, Date other)
     {
-        return Duration(detail::done(fots_date_duration_since(date.value_, other.value_)).duration, {});
+        return Duration(detail::value_or_throw(fots_date_duration_since(date.value_, other.value_)).duration, {});
     }
 
     // Return texts of ISO 8601: 2024-02-29, 2024-060, 2024-W09-4.
@@ -431,7 +431,7 @@ private:
     static constexpr std::int32_t unix_epoch = 2440588;
 
     static const char *data(std::string_view text) noexcept { return text.empty() ? "" : text.data(); }
-    static Date from(fots_date_result result) { return Date(detail::done(result).date, {}); }
+    static Date from(fots_date_result result) { return Date(detail::value_or_throw(result).date, {}); }
 
     fots_date value_;
 };
@@ -468,7 +468,7 @@ public:
 
     bool is_workday(Date date) const
     {
-        return detail::done(fots_date_is_workday(date.c(), week_, holidays_.data(), holidays_.size())).number == 1;
+        return detail::value_or_throw(fots_date_is_workday(date.c(), week_, holidays_.data(), holidays_.size())).number == 1;
     }
     std::optional<Date> next_workday(Date date) const
     {
@@ -484,12 +484,12 @@ public:
     }
     std::int32_t workdays_between(Date from, Date to) const
     {
-        return detail::done(fots_date_workdays_between(from.c(), to.c(), week_, holidays_.data(), holidays_.size())).number;
+        return detail::value_or_throw(fots_date_workdays_between(from.c(), to.c(), week_, holidays_.data(), holidays_.size())).number;
     }
-    std::optional<Date> adjusted(Date date, Convention convention) const
+    std::optional<Date> adjust(Date date, Convention convention) const
     {
         return Date::if_any(
-            fots_date_adjusted(date.c(), static_cast<std::uint32_t>(convention), week_, holidays_.data(), holidays_.size()));
+            fots_date_adjust(date.c(), static_cast<std::uint32_t>(convention), week_, holidays_.data(), holidays_.size()));
     }
 
 private:
@@ -545,14 +545,14 @@ public:
     }
     bool contains(Date date) const
     {
-        return detail::done(with([date](const fots_rule *rule) { return fots_rule_contains(rule, date.c()); })).number == 1;
+        return detail::value_or_throw(with([date](const fots_rule *rule) { return fots_rule_contains(rule, date.c()); })).number == 1;
     }
     // Returns the first days after a date, in order: `count` of them, or fewer if no more follow.
     std::vector<Date> days_after(Date date, std::size_t count) const
     {
         // One more than needed, so that data() is not null.
         std::vector<fots_date> room(count + 1);
-        const fots_days_result written = detail::done(
+        const fots_days_result written = detail::value_or_throw(
             with([&](const fots_rule *rule) { return fots_rule_days_after(rule, date.c(), room.data(), count); }));
         return detail::first_dates(room, written.length);
     }
@@ -572,7 +572,7 @@ private:
     // Calls with a rule of C, whose arrays live until the call returns.
     template <class Call> auto with(Call call) const -> decltype(call(static_cast<const fots_rule *>(nullptr)))
     {
-        fots_rule rule = fots_rule_of(start.c(), static_cast<std::uint32_t>(frequency));
+        fots_rule rule = fots_rule_new(start.c(), static_cast<std::uint32_t>(frequency));
         rule.until = until.value_or(Date::max()).c();
         rule.interval = interval;
         rule.week_start = static_cast<std::uint32_t>(week_start);
@@ -584,7 +584,7 @@ private:
         for (const ByDay by : weekdays) {
             parts.push_back(fots_rule_weekday{by.number, static_cast<std::uint8_t>(by.weekday)});
         }
-        // An empty array stays as fots_rule_of set it.
+        // An empty array stays as fots_rule_new set it.
         if (!numbers.empty()) {
             rule.months = numbers.data();
             rule.months_length = numbers.size();
@@ -658,7 +658,7 @@ public:
     {
         // One more than needed, so that data() is not null.
         std::vector<fots_date> room(count + 1);
-        const fots_recurrence_result written = detail::parsed(
+        const fots_recurrence_result written = detail::recurrence_or_throw(
             fots_recurrence_days(text_.data(), text_.size(), start.c(), from.c(), room.data(), count));
         return detail::first_dates(room, written.length);
     }
@@ -668,9 +668,9 @@ public:
     friend bool operator!=(const Recurrence &one, const Recurrence &other) { return one.text_ != other.text_; }
 
 private:
-    explicit Recurrence(const std::string &text) : parts_(detail::parsed(fots_recurrence_parse(text.data(), text.size())).recurrence)
+    explicit Recurrence(const std::string &text) : parts_(detail::recurrence_or_throw(fots_recurrence_parse(text.data(), text.size())).recurrence)
     {
-        const fots_recurrence_text_result written = detail::parsed(fots_recurrence_text(text.data(), text.size()));
+        const fots_recurrence_text_result written = detail::recurrence_or_throw(fots_recurrence_text(text.data(), text.size()));
         text_.assign(written.bytes, written.length);
     }
 
@@ -701,16 +701,16 @@ inline std::optional<std::string> rfc3339_text(Date date, Time time, UtcOffset o
 }
 
 // Parses a date, a time of day and an offset in RFC 3339.
-inline std::tuple<Date, Time, UtcOffset> read_rfc3339(std::string_view text)
+inline std::tuple<Date, Time, UtcOffset> parse_rfc3339(std::string_view text)
 {
-    const fots_read_moment_result found = detail::read(fots_moment_read(text.empty() ? "" : text.data(), text.size()));
+    const fots_parse_moment_result found = detail::parsed_or_throw(fots_moment_parse(text.empty() ? "" : text.data(), text.size()));
     return {Date(found.date, {}), Time(found.time, {}), UtcOffset(found.offset, {})};
 }
 
 // Returns the Unix time: the duration from 1970-01-01 0:00 UTC.
 inline Duration unix_duration(Date date, Time time, UtcOffset offset)
 {
-    return Duration(detail::done(fots_unix_time(date.c(), time.c(), offset.c())).duration, {});
+    return Duration(detail::value_or_throw(fots_unix_time(date.c(), time.c(), offset.c())).duration, {});
 }
 
 // Returns the date and time of a Unix time at an offset; empty out of range.
@@ -725,7 +725,7 @@ class OffsetDateTime;
 // A date and a time of day without an offset.
 class PlainDateTime : public detail::Ordered<PlainDateTime> {
 public:
-    PlainDateTime(Date date, Time time) : value_(detail::done(fots_moment_new(date.c(), time.c(), fots_offset{0})).moment) {}
+    PlainDateTime(Date date, Time time) : value_(detail::value_or_throw(fots_moment_new(date.c(), time.c(), fots_offset{0})).moment) {}
 
     Date date() const noexcept { return Date(value_.date, {}); }
     Time time() const noexcept { return Time(value_.time, {}); }
@@ -747,7 +747,7 @@ public:
     }
     friend Duration operator-(PlainDateTime one, PlainDateTime other)
     {
-        return Duration(detail::done(fots_moment_duration_since(one.value_, other.value_)).duration, {});
+        return Duration(detail::value_or_throw(fots_moment_duration_since(one.value_, other.value_)).duration, {});
     }
 
     // Return this date and time at an offset.
@@ -758,7 +758,7 @@ public:
 
 private:
     explicit PlainDateTime(fots_moment value) noexcept : value_(value) {}
-    static PlainDateTime from(fots_moment_result result) { return PlainDateTime(detail::done(result).moment); }
+    static PlainDateTime from(fots_moment_result result) { return PlainDateTime(detail::value_or_throw(result).moment); }
     static std::optional<PlainDateTime> if_any(fots_moment_result result)
     {
         return detail::is_in_range(result) ? std::optional<PlainDateTime>(PlainDateTime(result.moment)) : std::nullopt;
@@ -771,8 +771,8 @@ private:
 // A date and a time of day at an offset from UTC. Compares by instant.
 class OffsetDateTime : public detail::Ordered<OffsetDateTime> {
 public:
-    explicit OffsetDateTime(fots_moment value) : value_(value) { detail::done(fots_moment_unix_timestamp(value)); }
-    OffsetDateTime(fots_moment value, detail::Answered) noexcept : value_(value) {}
+    explicit OffsetDateTime(fots_moment value) : value_(value) { detail::value_or_throw(fots_moment_unix_timestamp(value)); }
+    OffsetDateTime(fots_moment value, detail::Unchecked) noexcept : value_(value) {}
 
     static OffsetDateTime new_in_offset(Date date, Time time, UtcOffset offset)
     {
@@ -788,8 +788,8 @@ public:
     PlainDateTime local() const { return {date(), time()}; }
 
     // Return the Unix time in whole seconds, rounded down, or as a duration.
-    std::int64_t unix_timestamp() const { return detail::done(fots_moment_unix_timestamp(value_)).number; }
-    Duration unix_duration() const { return Duration(detail::done(fots_moment_unix_time(value_)).duration, {}); }
+    std::int64_t unix_timestamp() const { return detail::value_or_throw(fots_moment_unix_timestamp(value_)).number; }
+    Duration unix_duration() const { return Duration(detail::value_or_throw(fots_moment_unix_time(value_)).duration, {}); }
 
     // Return the same instant at another offset.
     std::optional<OffsetDateTime> checked_to_offset(UtcOffset offset) const { return if_any(fots_moment_to_offset(value_, offset.c())); }
@@ -814,14 +814,14 @@ public:
     }
     friend Duration operator-(OffsetDateTime moment, OffsetDateTime other)
     {
-        return Duration(detail::done(fots_moment_duration_since(moment.value_, other.value_)).duration, {});
+        return Duration(detail::value_or_throw(fots_moment_duration_since(moment.value_, other.value_)).duration, {});
     }
 
     fots_moment c() const noexcept { return value_; }
     std::pair<std::int64_t, std::int32_t> key() const { return unix_duration().key(); }
 
 private:
-    static OffsetDateTime from(fots_moment_result result) { return OffsetDateTime(detail::done(result).moment, {}); }
+    static OffsetDateTime from(fots_moment_result result) { return OffsetDateTime(detail::value_or_throw(result).moment, {}); }
     static std::optional<OffsetDateTime> if_any(fots_moment_result result)
     {
         return detail::is_in_range(result) ? std::optional<OffsetDateTime>(OffsetDateTime(result.moment, {})) : std::nullopt;

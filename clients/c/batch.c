@@ -123,7 +123,7 @@ static void columns(size_t n)
     COLUMN(fots_dates_to_iso_week_dates(dates, n, found, n, firsts, n, seconds, n, statuses, n),
         fots_iso_week_date_result single = fots_date_to_iso_week_date(date_at(dates[k])),
         found[k] == single.year && firsts[k] == single.week && seconds[k] == single.weekday);
-    COLUMN(fots_dates_weekdays(dates, n, firsts, n, statuses, n), fots_part_result single = fots_date_weekday(date_at(dates[k])),
+    COLUMN(fots_dates_weekdays(dates, n, firsts, n, statuses, n), fots_component_result single = fots_date_weekday(date_at(dates[k])),
         firsts[k] == (single.status == FOTS_OK ? single.number : 0));
     COLUMN(fots_dates_add_days(dates, n, days, n, found, n, statuses, n),
         fots_date_result single = fots_date_add_days(date_at(dates[k]), days[k]), DATES_FOUND);
@@ -213,17 +213,17 @@ static size_t same_text(size_t k, fots_text_result single)
 /* Parses texts one after another and at once. */
 static void read_back(size_t n, size_t bytes_length)
 {
-    size_t refused = 0, counted = fots_dates_read(bytes, bytes_length, bounds, n + 1, found, n, statuses, n);
+    size_t refused = 0, counted = fots_dates_parse(bytes, bytes_length, bounds, n + 1, found, n, statuses, n);
     for (size_t k = 0; k < n; k++) {
-        fots_read_date_result single = fots_date_read(bytes + bounds[k], (size_t)(bounds[k + 1] - bounds[k]));
+        fots_parse_date_result single = fots_date_parse(bytes + bounds[k], (size_t)(bounds[k + 1] - bounds[k]));
         check(statuses[k] == single.status && found[k] == single.date.julian_day, "a date that is read", (long long)k, statuses[k]);
         refused += single.status == FOTS_OK ? 0 : 1;
     }
     check(counted == refused, "the texts of no date", (long long)counted, (long long)refused);
     refused = 0;
-    counted = fots_moments_read(bytes, bytes_length, bounds, n + 1, found, n, found_times, n, found_offsets, n, statuses, n);
+    counted = fots_moments_parse(bytes, bytes_length, bounds, n + 1, found, n, found_times, n, found_offsets, n, statuses, n);
     for (size_t k = 0; k < n; k++) {
-        fots_read_moment_result single = fots_moment_read(bytes + bounds[k], (size_t)(bounds[k + 1] - bounds[k]));
+        fots_parse_moment_result single = fots_moment_parse(bytes + bounds[k], (size_t)(bounds[k + 1] - bounds[k]));
         check(statuses[k] == single.status && found[k] == single.date.julian_day && found_times[k] == single.time
             && found_offsets[k] == single.offset.seconds, "a moment that is read", (long long)k, statuses[k]);
         refused += single.status == FOTS_OK ? 0 : 1;
@@ -275,11 +275,11 @@ static void bad_texts(void)
     const int32_t wrong[] = {0, 10, 20, 10, 21, -1, 10, INT32_MIN, INT32_MAX, 0, 0};
     const uint8_t expected[] = {FOTS_OK, FOTS_DAY_OUT_OF_RANGE, FOTS_INVALID_BOUNDS, FOTS_INVALID_BOUNDS, FOTS_INVALID_BOUNDS, FOTS_INVALID_BOUNDS, FOTS_INVALID_BOUNDS,
         FOTS_INVALID_BOUNDS, FOTS_INVALID_BOUNDS, FOTS_UNEXPECTED_END};
-    check(fots_dates_read(text, 20, wrong, 11, found, 10, statuses, 10) == 9, "texts that are none", 0, 0);
+    check(fots_dates_parse(text, 20, wrong, 11, found, 10, statuses, 10) == 9, "texts that are none", 0, 0);
     for (size_t k = 0; k < 10; k++) {
         check(statuses[k] == expected[k] && found[k] == (k == 0 ? 2460370 : FOTS_NO_VALUE), "a text that is none", (long long)k, statuses[k]);
     }
-    check(fots_moments_read(text, 20, wrong, 11, found, 10, found_times, 10, found_offsets, 10, statuses, 10) == 10, "no moments", 0, 0);
+    check(fots_moments_parse(text, 20, wrong, 11, found, 10, found_times, 10, found_offsets, 10, statuses, 10) == 10, "no moments", 0, 0);
     for (size_t k = 0; k < 10; k++) {
         check(statuses[k] == (k == 0 || k == 1 || k == 9 ? FOTS_UNEXPECTED_END : FOTS_INVALID_BOUNDS) && found_times[k] == FOTS_NO_TIME,
             "a moment that is none", (long long)k, statuses[k]);
@@ -287,9 +287,9 @@ static void bad_texts(void)
     statuses[0] = 77;
     bounds[0] = 77;
     bytes[0] = 77;
-    check(fots_dates_read(text, 20, wrong, 1, found, 1, statuses, 1) == FOTS_LENGTH_MISMATCH, "a bound too few", 0, 0);
-    check(fots_dates_read(text, 20, wrong, 0, found, 0, statuses, 0) == FOTS_LENGTH_MISMATCH, "no bound", 0, 0);
-    check(fots_moments_read(text, 20, wrong, 2, found, 1, found_times, 1, found_offsets, 2, statuses, 1) == FOTS_LENGTH_MISMATCH, "two offsets", 0, 0);
+    check(fots_dates_parse(text, 20, wrong, 1, found, 1, statuses, 1) == FOTS_LENGTH_MISMATCH, "a bound too few", 0, 0);
+    check(fots_dates_parse(text, 20, wrong, 0, found, 0, statuses, 0) == FOTS_LENGTH_MISMATCH, "no bound", 0, 0);
+    check(fots_moments_parse(text, 20, wrong, 2, found, 1, found_times, 1, found_offsets, 2, statuses, 1) == FOTS_LENGTH_MISMATCH, "two offsets", 0, 0);
     check(fots_dates_calendar_texts(dates, 1, bytes, 12, bounds, 2, statuses, 1) == FOTS_LENGTH_MISMATCH, "a byte too few", 0, 0);
     check(fots_dates_calendar_texts(dates, 1, bytes, 13, bounds, 1, statuses, 1) == FOTS_LENGTH_MISMATCH, "no second bound", 0, 0);
     check(fots_moments_texts(dates, 1, times, 1, offsets, 1, bytes, 37, bounds, 2, statuses, 1) == FOTS_LENGTH_MISMATCH, "less room", 0, 0);

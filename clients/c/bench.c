@@ -14,7 +14,7 @@ static fots_date dates[VALUES];
 static fots_offset offsets[VALUES];
 static int64_t days[VALUES];
 static fots_date_result made[VALUES];
-static fots_part_result numbers[VALUES];
+static fots_component_result numbers[VALUES];
 static fots_calendar_date_result calendars[VALUES];
 
 /* Columns. */
@@ -58,7 +58,7 @@ static void no_call(void)
 static void one_offset_negated(void)
 {
     for (int k = 0; k < VALUES; k++) {
-        keep(fots_offset_negated(offsets[k]).offset.seconds);
+        keep(fots_offset_neg(offsets[k]).offset.seconds);
     }
 }
 
@@ -129,7 +129,7 @@ static const struct {
     void (*run)(void);
 } loops[] = {
     {"no call", no_call},
-    {"fots_offset_negated", one_offset_negated},
+    {"fots_offset_neg", one_offset_negated},
     {"fots_date_next_day", one_next_day},
     {"fots_date_weekday", one_weekday},
     {"fots_dates_weekdays, a row", column_of_weekdays},

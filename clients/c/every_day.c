@@ -86,7 +86,7 @@ static int is_number(fots_number_result result, int32_t number)
     return result.status == FOTS_OK && result.number == number;
 }
 
-static int is_part(fots_part_result result, uint32_t number)
+static int is_part(fots_component_result result, uint32_t number)
 {
     return result.status == FOTS_OK && result.number == number;
 }

@@ -83,7 +83,7 @@ static void a_leap_night(void)
     fots_moment night = shown(2024, 2, 29, 23, 59, 59, 250000000, 1);
     fots_moment at_utc = shown(2024, 2, 29, 22, 59, 59, 250000000, 0);
     fots_moment further_east = shown(2024, 3, 1, 0, 59, 59, 250000000, 2);
-    fots_long_result seconds = fots_moment_unix_timestamp(night);
+    fots_int64_result seconds = fots_moment_unix_timestamp(night);
     check(is_same(night, moment_at(2460370, 3600, UINT64_C(86399250000000))), "the numbers", night.date.julian_day, night.offset.seconds);
     check(seconds.status == FOTS_OK && seconds.number == 1709247599, "whole seconds", seconds.status, seconds.number);
     is_duration(fots_moment_unix_time(night), duration_of(1709247599, 250000000), "Unix time");
@@ -106,7 +106,7 @@ static void before_the_epoch(void)
 {
     fots_moment epoch = shown(1970, 1, 1, 0, 0, 0, 0, 0);
     fots_moment half = shown(1969, 12, 31, 23, 59, 59, 500000000, 0);
-    fots_long_result seconds = fots_moment_unix_timestamp(half);
+    fots_int64_result seconds = fots_moment_unix_timestamp(half);
     check(seconds.status == FOTS_OK && seconds.number == -1, "half a second before", seconds.status, seconds.number);
     is_duration(fots_moment_unix_time(half), duration_of(0, -500000000), "half a second before, exactly");
     is_moment(fots_moment_from_unix_time(duration_of(0, -500000000)), half, "of half a second before");
@@ -162,7 +162,7 @@ static void wrong_moment(fots_moment wrong, const char *what)
     const fots_offset no_offset = offset_at(FOTS_MAX_OFFSET_SECONDS + 1);
     const fots_duration no_duration = duration_of(1, -1);
     fots_number_result order = fots_moment_compare(wrong, right), back = fots_moment_compare(right, wrong);
-    fots_long_result seconds = fots_moment_unix_timestamp(wrong);
+    fots_int64_result seconds = fots_moment_unix_timestamp(wrong);
     is_no_moment(fots_moment_to_offset(wrong, no_offset), FOTS_INVALID_MOMENT, what);
     is_no_moment(fots_moment_replace_offset(wrong, no_offset), FOTS_INVALID_MOMENT, what);
     is_no_moment(fots_moment_checked_add(wrong, no_duration), FOTS_INVALID_MOMENT, what);
@@ -308,7 +308,7 @@ static void unix_times(fots_moment moment, fots_duration duration)
     const wide epoch = (wide)(2440588 - (int64_t)FOTS_MIN_JULIAN_DAY) * DAY;
     const wide since = instant_of(moment) - epoch;
     const wide past = since % SECOND < 0 ? 1 : 0;
-    const fots_long_result seconds = fots_moment_unix_timestamp(moment);
+    const fots_int64_result seconds = fots_moment_unix_timestamp(moment);
     const fots_pair_result pair = fots_unix_pair(fots_moment_unix_time(moment).duration, moment.offset);
     check(seconds.status == FOTS_OK && seconds.number == (int64_t)(since / SECOND - past), "drawn, whole seconds", seconds.status,
         seconds.number);

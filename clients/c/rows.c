@@ -72,7 +72,7 @@ static void is_number(fots_number_result result, int32_t number, const char *wha
     check(result.status == FOTS_OK && result.number == number, what, result.status, result.number);
 }
 
-static void is_part(fots_part_result result, uint32_t number, const char *what)
+static void is_part(fots_component_result result, uint32_t number, const char *what)
 {
     check(result.status == FOTS_OK && result.number == number, what, result.status, result.number);
 }
@@ -95,26 +95,26 @@ static void is_no_text(fots_text_result result, int32_t status, const char *what
         result.length);
 }
 
-static void is_read(fots_read_date_result result, fots_date date, const char *what)
+static void is_read(fots_parse_date_result result, fots_date date, const char *what)
 {
     check(result.status == FOTS_OK && result.date.julian_day == date.julian_day && result.position == SIZE_MAX, what, result.status,
         result.date.julian_day);
 }
 
 /* Checks an error, with the position of FOTS_UNEXPECTED_BYTE and FOTS_UNEXPECTED_END. */
-static void is_not_read(fots_read_date_result result, int32_t status, size_t position, const char *what)
+static void is_not_read(fots_parse_date_result result, int32_t status, size_t position, const char *what)
 {
     check(result.status == status && result.date.julian_day == FOTS_NO_VALUE && result.position == position, what, result.status,
         (long long)result.position);
 }
 
-static void is_moment(fots_read_moment_result result, fots_date date, fots_time time, fots_offset offset, const char *what)
+static void is_moment(fots_parse_moment_result result, fots_date date, fots_time time, fots_offset offset, const char *what)
 {
     check(result.status == FOTS_OK && result.date.julian_day == date.julian_day && result.time == time
         && result.offset.seconds == offset.seconds && result.position == SIZE_MAX, what, result.status, result.date.julian_day);
 }
 
-static void is_no_moment(fots_read_moment_result result, int32_t status, size_t position, const char *what)
+static void is_no_moment(fots_parse_moment_result result, int32_t status, size_t position, const char *what)
 {
     check(result.status == status && result.date.julian_day == FOTS_NO_VALUE && result.time == FOTS_NO_TIME
         && result.offset.seconds == FOTS_NO_VALUE && result.position == position, what, result.status, (long long)result.position);
@@ -263,7 +263,7 @@ static void moves(void)
 static void durations(void)
 {
     fots_duration long_one = both(-3074457345618258602, -999999999);
-    fots_long_result whole;
+    fots_int64_result whole;
     is_duration(fots_duration_new(1, 2000000000), seconds(3), "1 s and 2000000000 ns");
     is_duration(fots_duration_new(-1, 1), nanoseconds(-999999999), "-1 s and 1 ns");
     is_no_duration(fots_duration_new(INT64_MAX, 1000000000), FOTS_RESULT_OUT_OF_RANGE, "past the greatest");
@@ -378,7 +378,7 @@ static void offsets(void)
     };
     for (int k = 0; k < COUNT(rows); k++) {
         fots_offset_result made = fots_offset_from_hms(rows[k].hours, rows[k].minutes, rows[k].seconds);
-        fots_offset_parts_result parts = fots_offset_as_hms(offset_at(rows[k].offset));
+        fots_offset_hms_result parts = fots_offset_as_hms(offset_at(rows[k].offset));
         check(made.status == FOTS_OK && made.offset.seconds == rows[k].offset, "an offset of a row", k, made.offset.seconds);
         check(parts.status == FOTS_OK && parts.hours == rows[k].parts[0] && parts.minutes == rows[k].parts[1]
             && parts.seconds == rows[k].parts[2], "the parts of an offset", k, parts.hours);
@@ -390,7 +390,7 @@ static void offsets(void)
     check(fots_offset_from_whole_seconds(93600).status == FOTS_SECONDS_OUT_OF_RANGE, "93600 seconds", 0, 0);
     check(fots_offset_from_whole_seconds(4294967296).status == FOTS_SECONDS_OUT_OF_RANGE, "seconds of 33 bits", 0, 0);
     check(fots_offset_from_whole_seconds(-93599).offset.seconds == -93599, "-93599 seconds", 0, 0);
-    check(fots_offset_negated(offset_at(-19800)).offset.seconds == 19800, "the other side", 0, 0);
+    check(fots_offset_neg(offset_at(-19800)).offset.seconds == 19800, "the other side", 0, 0);
     is_number(fots_offset_whole_hours(offset_at(-5400)), -1, "the hours of -1:30");
     is_number(fots_offset_whole_minutes(offset_at(-5400)), -90, "the minutes of -1:30");
     is_number(fots_offset_minutes_past_hour(offset_at(-5400)), -30, "the minutes past the hour");
@@ -439,12 +439,12 @@ static void texts_of_days(void)
         is_text(fots_date_ordinal_text(date), rows[k].ordinal, rows[k].ordinal);
         is_text(fots_date_week_text(date), rows[k].week, rows[k].week);
         is_text(fots_date_julian_text(date), rows[k].julian, rows[k].julian);
-        is_read(fots_date_read(rows[k].calendar, strlen(rows[k].calendar)), date, rows[k].calendar);
-        is_read(fots_date_read(rows[k].ordinal, strlen(rows[k].ordinal)), date, rows[k].ordinal);
-        is_read(fots_date_read(rows[k].week, strlen(rows[k].week)), date, rows[k].week);
-        is_read(fots_julian_day_read(rows[k].julian, strlen(rows[k].julian)), date, rows[k].julian);
+        is_read(fots_date_parse(rows[k].calendar, strlen(rows[k].calendar)), date, rows[k].calendar);
+        is_read(fots_date_parse(rows[k].ordinal, strlen(rows[k].ordinal)), date, rows[k].ordinal);
+        is_read(fots_date_parse(rows[k].week, strlen(rows[k].week)), date, rows[k].week);
+        is_read(fots_julian_day_parse(rows[k].julian, strlen(rows[k].julian)), date, rows[k].julian);
     }
-    is_read(fots_date_read("2024-060-", 8), date_at(2460370), "no byte after the length is looked at");
+    is_read(fots_date_parse("2024-060-", 8), date_at(2460370), "no byte after the length is looked at");
     is_no_text(fots_date_calendar_text(date_at(FOTS_MAX_JULIAN_DAY + 1)), FOTS_INVALID_DATE, "the text of no date");
 }
 
@@ -475,11 +475,11 @@ static void refused_texts_of_days(void)
         {"J2460370 ", FOTS_UNEXPECTED_BYTE, 8}, {"J366963560", FOTS_JULIAN_DAY_OUT_OF_RANGE, SIZE_MAX}, {"J-363521075", FOTS_JULIAN_DAY_OUT_OF_RANGE, SIZE_MAX},
     };
     for (int k = 0; k < COUNT(rows); k++) {
-        is_not_read(fots_date_read(rows[k].text, strlen(rows[k].text)), rows[k].status, rows[k].position, rows[k].text);
+        is_not_read(fots_date_parse(rows[k].text, strlen(rows[k].text)), rows[k].status, rows[k].position, rows[k].text);
     }
     for (int k = 0; k < COUNT(julian_days); k++) {
         const char *text = julian_days[k].text;
-        is_not_read(fots_julian_day_read(text, strlen(text)), julian_days[k].status, julian_days[k].position, text);
+        is_not_read(fots_julian_day_parse(text, strlen(text)), julian_days[k].status, julian_days[k].position, text);
     }
 }
 
@@ -518,12 +518,12 @@ static void texts_of_moments(void)
         fots_date date = day_of(rows[k].year, rows[k].month, rows[k].day);
         fots_offset offset = offset_at(rows[k].offset);
         fots_time time = clock_of(rows[k].hour, rows[k].minute, rows[k].second, rows[k].nanosecond);
-        is_moment(fots_moment_read(rows[k].text, strlen(rows[k].text)), date, time, offset, rows[k].text);
+        is_moment(fots_moment_parse(rows[k].text, strlen(rows[k].text)), date, time, offset, rows[k].text);
         is_text(fots_moment_text(date, time, offset), rows[k].printed, rows[k].printed);
     }
     for (int k = 0; k < COUNT(refused); k++) {
         const char *text = refused[k].text;
-        is_no_moment(fots_moment_read(text, strlen(text)), refused[k].status, refused[k].position, text);
+        is_no_moment(fots_moment_parse(text, strlen(text)), refused[k].status, refused[k].position, text);
     }
     is_no_text(fots_moment_text(day_of(10000, 1, 1), 0, offset_at(0)), FOTS_RESULT_OUT_OF_RANGE, "a moment of the year 10000");
     is_no_text(fots_moment_text(day_of(-1, 12, 31), 0, offset_at(0)), FOTS_RESULT_OUT_OF_RANGE, "a moment of the year -1");
@@ -578,13 +578,13 @@ static void unix_times(void)
             pair.date.julian_day,
             k);
         if (rows[k].offset == 0) {
-            is_moment(fots_unix_read(rows[k].text, strlen(rows[k].text)), date, rows[k].time, offset, rows[k].text);
+            is_moment(fots_unix_parse(rows[k].text, strlen(rows[k].text)), date, rows[k].time, offset, rows[k].text);
         }
     }
-    is_moment(fots_unix_read("@1709164800.50", 14), date_at(2460370), 500000000, offset_at(0), "a zero at the end");
+    is_moment(fots_unix_parse("@1709164800.50", 14), date_at(2460370), 500000000, offset_at(0), "a zero at the end");
     for (int k = 0; k < COUNT(refused); k++) {
         const char *text = refused[k].text;
-        is_no_moment(fots_unix_read(text, strlen(text)), refused[k].status, refused[k].position, text);
+        is_no_moment(fots_unix_parse(text, strlen(text)), refused[k].status, refused[k].position, text);
     }
     pair = fots_unix_pair(seconds(31494784780799), offset_at(3600));
     check(pair.status == FOTS_RESULT_OUT_OF_RANGE && pair.date.julian_day == FOTS_NO_VALUE && pair.time == FOTS_NO_TIME, "past the last day",
@@ -617,8 +617,8 @@ static void names(void)
 {
     check(strcmp(fots_status_name(FOTS_DAY_OUT_OF_RANGE), "day") == 0, "the name of a refusal", FOTS_DAY_OUT_OF_RANGE, 0);
     check(strcmp(fots_status_name(FOTS_OFFSET_HOUR_OUT_OF_RANGE), "offset hour") == 0, "the name of a refusal", FOTS_OFFSET_HOUR_OUT_OF_RANGE, 0);
-    check(strcmp(fots_status_name(FOTS_RESULT_OUT_OF_RANGE), "past the range") == 0, "the name of a status", FOTS_RESULT_OUT_OF_RANGE, 0);
-    check(strcmp(fots_status_name(FOTS_UNEXPECTED_BYTE), "unreadable") == 0, "the name of a status", FOTS_UNEXPECTED_BYTE, 0);
+    check(strcmp(fots_status_name(FOTS_RESULT_OUT_OF_RANGE), "result out of range") == 0, "the name of a status", FOTS_RESULT_OUT_OF_RANGE, 0);
+    check(strcmp(fots_status_name(FOTS_UNEXPECTED_BYTE), "unexpected byte") == 0, "the name of a status", FOTS_UNEXPECTED_BYTE, 0);
     check(strcmp(fots_status_name(FOTS_UNEXPECTED_END), "unexpected end") == 0, "the name of a status", FOTS_UNEXPECTED_END, 0);
     check(strcmp(fots_status_name(FOTS_TIMESTAMP_OUT_OF_RANGE), "timestamp") == 0, "the name of a refusal", FOTS_TIMESTAMP_OUT_OF_RANGE, 0);
     check(!fots_status_is_conditional(FOTS_TIMESTAMP_OUT_OF_RANGE) && !fots_status_is_conditional(FOTS_UNEXPECTED_BYTE), "the marks", 0, 0);
@@ -630,9 +630,9 @@ static void names(void)
 static void refused_next(void)
 {
     fots_calendar_date_result calendar = fots_date_to_calendar_date(fots_date_from_calendar_date(2023, 2, 29).date);
-    fots_clock_result clock = fots_time_as_hms_nano(fots_time_from_hms(24, 0, 0).time);
-    fots_offset_parts_result parts = fots_offset_as_hms(fots_offset_from_hms(26, 0, 0).offset);
-    fots_part_result part = fots_date_month(date_at(FOTS_NO_VALUE));
+    fots_hms_nano_result clock = fots_time_as_hms_nano(fots_time_from_hms(24, 0, 0).time);
+    fots_offset_hms_result parts = fots_offset_as_hms(fots_offset_from_hms(26, 0, 0).offset);
+    fots_component_result part = fots_date_month(date_at(FOTS_NO_VALUE));
     check(calendar.status == FOTS_INVALID_DATE && clock.status == FOTS_INVALID_TIME && parts.status == FOTS_INVALID_OFFSET, "values", 0, 0);
     check(part.status == FOTS_INVALID_DATE && part.number == FOTS_NO_COMPONENT, "no part", part.status, part.number);
     is_no_date(fots_date_from_calendar_date(2023, calendar.month, 1), FOTS_MONTH_OUT_OF_RANGE, "no month");

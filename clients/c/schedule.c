@@ -158,15 +158,15 @@ static void workdays(void)
     check(fots_date_is_workday(day(2024, 7, 5), week, holidays, 10).number == 1, "the day after it", 0, 0);
     is_day(fots_date_next_workday(day(2024, 8, 30), week, holidays, 10), day(2024, 9, 3), "after the Friday before Labor Day");
     is_day(fots_date_previous_workday(day(2024, 9, 3), week, holidays, 10), day(2024, 8, 30), "before the Tuesday after it");
-    is_day(fots_date_adjusted(day(2024, 8, 31), FOTS_FOLLOWING, week, holidays, 10), day(2024, 9, 3), "following");
-    is_day(fots_date_adjusted(day(2024, 8, 31), FOTS_MODIFIED_FOLLOWING, week, holidays, 10), day(2024, 8, 30), "modified following");
-    is_day(fots_date_adjusted(day(2024, 9, 1), FOTS_PRECEDING, week, holidays, 10), day(2024, 8, 30), "preceding");
-    is_day(fots_date_adjusted(day(2024, 9, 1), FOTS_MODIFIED_PRECEDING, week, holidays, 10), day(2024, 9, 3), "modified preceding");
-    is_day(fots_date_adjusted(day(2024, 9, 1), FOTS_UNADJUSTED, week, holidays, 10), day(2024, 9, 1), "unadjusted");
+    is_day(fots_date_adjust(day(2024, 8, 31), FOTS_FOLLOWING, week, holidays, 10), day(2024, 9, 3), "following");
+    is_day(fots_date_adjust(day(2024, 8, 31), FOTS_MODIFIED_FOLLOWING, week, holidays, 10), day(2024, 8, 30), "modified following");
+    is_day(fots_date_adjust(day(2024, 9, 1), FOTS_PRECEDING, week, holidays, 10), day(2024, 8, 30), "preceding");
+    is_day(fots_date_adjust(day(2024, 9, 1), FOTS_MODIFIED_PRECEDING, week, holidays, 10), day(2024, 9, 3), "modified preceding");
+    is_day(fots_date_adjust(day(2024, 9, 1), FOTS_UNADJUSTED, week, holidays, 10), day(2024, 9, 1), "unadjusted");
     refuses(fots_date_next_workday(day(2024, 8, 30), 0, holidays, 10), FOTS_RESULT_OUT_OF_RANGE, "a week with no working day");
     refuses(fots_date_next_workday(date_at(INT32_MAX), 128, holidays, 10), FOTS_INVALID_DATE, "no date");
     refuses(fots_date_next_workday(day(2024, 8, 30), 128, holidays, SIZE_MAX / 8), FOTS_INVALID_WEEKMASK, "an eighth mark");
-    refuses(fots_date_adjusted(day(2024, 8, 30), 5, 128, holidays, 10), FOTS_INVALID_CONVENTION, "no convention");
+    refuses(fots_date_adjust(day(2024, 8, 30), 5, 128, holidays, 10), FOTS_INVALID_CONVENTION, "no convention");
     static fots_date many[FOTS_MAX_HOLIDAYS + 1];
     for (int row = 0; row <= FOTS_MAX_HOLIDAYS; row++) {
         many[row] = date_at(2460000 + row);
@@ -276,7 +276,7 @@ static void by_its_text(const recurrence *its)
 /* Checks the parts of its text, and their rule. */
 static void by_its_parts(const recurrence *its, const fots_rule *rule)
 {
-    const fots_read_recurrence_result read = fots_recurrence_parse(its->text, strlen(its->text));
+    const fots_parse_recurrence_result read = fots_recurrence_parse(its->text, strlen(its->text));
     const fots_rule said = fots_recurrence_rule(&read.recurrence, rule->start);
     const char *count = strstr(its->text, "COUNT=");
     check(read.status == FOTS_OK && read.part == 0 && read.position == SIZE_MAX, its->text, read.status, (long long)read.position);
@@ -298,7 +298,7 @@ static void recurrences_of_the_rfc(void)
     for (int row = 0; row < COUNT(recurrences); row++) {
         const recurrence *its = &recurrences[row];
         by_its_text(its);
-        fots_rule rule = fots_rule_of(of_number(its->start), its->frequency);
+        fots_rule rule = fots_rule_new(of_number(its->start), its->frequency);
         rule.interval = its->interval;
         rule.week_start = its->week_start;
         if (its->until != 0) {
@@ -343,7 +343,7 @@ static void recurrences_of_the_rfc(void)
 
 static void recurrences_refused(void)
 {
-    const fots_rule daily = fots_rule_of(day(2024, 1, 1), FOTS_DAILY);
+    const fots_rule daily = fots_rule_new(day(2024, 1, 1), FOTS_DAILY);
     fots_date days[3] = {{1}, {2}, {3}};
     check(fots_rule_days_after(&daily, daily.start, days, 0).length == 0 && days[0].julian_day == 1, "no room", 0, 0);
     check(fots_rule_days_after(&daily, daily.start, days, 2).length == 2 && days[2].julian_day == 3, "room for two", 0, 0);
@@ -439,11 +439,11 @@ static void texts_in_one_order(void)
         for (size_t index = length; index < sizeof text.bytes; index++) {
             check(text.bytes[index] == 0, "a byte after the text", row, (long long)index);
         }
-        const fots_read_recurrence_result read = fots_recurrence_parse(rows[row].text, strlen(rows[row].text));
-        const fots_read_recurrence_result again = fots_recurrence_parse(text.bytes, text.length);
+        const fots_parse_recurrence_result read = fots_recurrence_parse(rows[row].text, strlen(rows[row].text));
+        const fots_parse_recurrence_result again = fots_recurrence_parse(text.bytes, text.length);
         check(memcmp(&read, &again, sizeof read) == 0, "read again", row, 0);
     }
-    const fots_read_recurrence_result longest = fots_recurrence_parse(words, strlen(words));
+    const fots_parse_recurrence_result longest = fots_recurrence_parse(words, strlen(words));
     const fots_rule rule = fots_recurrence_rule(&longest.recurrence, day(2024, 1, 1));
     check(rule.months_length == 62 && rule.months[61] == 12 && rule.month_days[61] == -31 && rule.weekdays[61].number == -53, "full lists", 0, 0);
     refuses(fots_rule_first(&rule), FOTS_RESULT_OUT_OF_RANGE, "no 53rd Wednesday of a month");
@@ -478,7 +478,7 @@ static void texts_refused(void)
         const fots_recurrence_result found = of_text(rows[row].text, date_at(FOTS_NO_VALUE), date_at(0), days, 2);
         check(found.status == rows[row].status && found.part == rows[row].part && found.position == rows[row].position && found.length == 0
             && days[0].julian_day == 1, rows[row].text, found.status, (long long)found.position);
-        const fots_read_recurrence_result read = fots_recurrence_parse(rows[row].text, strlen(rows[row].text));
+        const fots_parse_recurrence_result read = fots_recurrence_parse(rows[row].text, strlen(rows[row].text));
         check(read.status == found.status && read.part == found.part && read.position == found.position, rows[row].text, read.status, 0);
         check(read.recurrence.frequency == 0 && read.recurrence.until.julian_day == FOTS_NO_VALUE && read.recurrence.weekdays_length == 0
             && read.recurrence.weekdays[61].weekday == 0, rows[row].text, read.recurrence.frequency, 0);

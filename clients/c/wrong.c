@@ -113,12 +113,12 @@ static int bytes_of_text(const fots_text_result *result)
     } while (0)
 #define PART(wanted, call, first) \
     do { \
-        fots_part_result result = call; \
+        fots_component_result result = call; \
         status_is(wanted, result.status, result.number != FOTS_NO_COMPONENT, #call, (long long)(first), result.status); \
     } while (0)
 #define LONG(wanted, call) \
     do { \
-        fots_long_result result = call; \
+        fots_int64_result result = call; \
         int fits = wanted != FOTS_OK ? result.status == wanted : result.status == FOTS_OK || result.status == FOTS_RESULT_OUT_OF_RANGE; \
         check(fits, #call, duration.seconds, result.status); \
         check(result.status == FOTS_OK || result.number == INT64_MIN, #call, duration.seconds, result.status); \
@@ -262,7 +262,7 @@ static void workdays(int32_t julian_day, uint32_t number, int32_t count)
     DATE(wrong, fots_date_add_workdays(date, count, number, rising, 2));
     NUMBER(first_of(first_of(of_date(date), of_date(other)), no_week), fots_date_workdays_between(date, other, number, rising, 2),
         julian_day);
-    DATE(first_of(first_of(of_date(date), no_convention), no_week), fots_date_adjusted(date, (uint32_t)count, number, rising, 2));
+    DATE(first_of(first_of(of_date(date), no_convention), no_week), fots_date_adjust(date, (uint32_t)count, number, rising, 2));
     DATE(first_of(wrong, FOTS_INVALID_HOLIDAYS), fots_date_next_workday(date, number, falling, 2));
     /* Their number is checked before they are read, so the array may be shorter. */
     DATE(first_of(wrong, FOTS_TOO_MANY_HOLIDAYS), fots_date_next_workday(date, number, rising, FOTS_MAX_HOLIDAYS + 1));
@@ -272,7 +272,7 @@ static void rules(int32_t julian_day, uint32_t number, int32_t count)
 {
     fots_date date = date_at(julian_day), other = date_at(count), days[3];
     uint8_t month = (uint8_t)number;
-    fots_rule rule = fots_rule_of(date, number & 7);
+    fots_rule rule = fots_rule_new(date, number & 7);
     fots_days_result written;
     int32_t no_frequency = (number & 7) >= 1 && (number & 7) <= 4 ? FOTS_OK : FOTS_INVALID_FREQUENCY, wrong, with_other;
     rule.interval = number;
@@ -309,7 +309,7 @@ static void times(fots_time time, uint32_t number, fots_duration duration)
     int32_t with_other = first_of(wrong, of_time(other));
     fots_date date = date_at((int32_t)number);
     int32_t of_pair = first_of(of_date(date), with_duration);
-    fots_clock_result clock = fots_time_as_hms_nano(time);
+    fots_hms_nano_result clock = fots_time_as_hms_nano(time);
     fots_adjusted_time_result later = fots_time_adjusting_add(time, duration), earlier = fots_time_adjusting_sub(time, duration);
     fots_pair_result after = fots_add_to_pair(date, time, duration), before = fots_sub_from_pair(date, time, duration);
     status_is(wrong, clock.status, clock.hour < 24 && clock.minute < 60 && clock.second < 60 && clock.nanosecond < 1000000000,
@@ -352,8 +352,8 @@ static void offsets(int32_t seconds, int32_t number)
 {
     fots_offset offset = offset_at(seconds);
     int32_t wrong = of_offset(offset);
-    fots_offset_parts_result parts = fots_offset_as_hms(offset);
-    fots_offset_result negated = fots_offset_negated(offset);
+    fots_offset_hms_result parts = fots_offset_as_hms(offset);
+    fots_offset_result negated = fots_offset_neg(offset);
     fots_offset_result made = fots_offset_from_hms(seconds, number, (int32_t)((uint32_t)seconds ^ (uint32_t)number));
     fots_offset_result whole = fots_offset_from_whole_seconds((int64_t)seconds * number);
     status_is(wrong, parts.status, parts.hours != FOTS_NO_VALUE, "as_hms", seconds, parts.hours);
@@ -460,20 +460,20 @@ static int is_this(fots_text_result text, const char *bytes, size_t length)
 
 static int reads_as_date(fots_text_result text, fots_date date)
 {
-    fots_read_date_result read = fots_date_read(text.bytes, text.length);
+    fots_parse_date_result read = fots_date_parse(text.bytes, text.length);
     return read.status == FOTS_OK && read.date.julian_day == date.julian_day;
 }
 
 /* Checks that a parsed date prints the text in one form, and that its three texts parse. */
 static void read_date(const char *bytes, size_t length)
 {
-    fots_read_date_result read = fots_date_read(bytes, length);
+    fots_parse_date_result read = fots_date_parse(bytes, length);
     reads(read.status, read.position, length, read.status == FOTS_MONTH_OUT_OF_RANGE || read.status == FOTS_YEAR_OUT_OF_RANGE
         || (read.status >= FOTS_DAY_OUT_OF_RANGE && read.status <= FOTS_WEEKDAY_OUT_OF_RANGE), is_date(read.date), "date_read");
     if (read.status == FOTS_UNEXPECTED_BYTE) {
-        check(fots_date_read(bytes, read.position).status != FOTS_UNEXPECTED_BYTE, "what a date begins with",
+        check(fots_date_parse(bytes, read.position).status != FOTS_UNEXPECTED_BYTE, "what a date begins with",
             (long long)read.position, (long long)length);
-        check(fots_date_read(bytes, read.position + 1).position == read.position, "the position in a date",
+        check(fots_date_parse(bytes, read.position + 1).position == read.position, "the position in a date",
             (long long)read.position, (long long)length);
     }
     if (read.status == FOTS_OK) {
@@ -489,12 +489,12 @@ static void read_date(const char *bytes, size_t length)
 
 static void read_julian_day(const char *bytes, size_t length)
 {
-    fots_read_date_result read = fots_julian_day_read(bytes, length);
+    fots_parse_date_result read = fots_julian_day_parse(bytes, length);
     reads(read.status, read.position, length, read.status == FOTS_JULIAN_DAY_OUT_OF_RANGE, is_date(read.date), "julian_day_read");
     if (read.status == FOTS_UNEXPECTED_BYTE) {
-        check(fots_julian_day_read(bytes, read.position).status != FOTS_UNEXPECTED_BYTE, "what a Julian day begins with",
+        check(fots_julian_day_parse(bytes, read.position).status != FOTS_UNEXPECTED_BYTE, "what a Julian day begins with",
             (long long)read.position, (long long)length);
-        check(fots_julian_day_read(bytes, read.position + 1).position == read.position, "the position in a Julian day",
+        check(fots_julian_day_parse(bytes, read.position + 1).position == read.position, "the position in a Julian day",
             (long long)read.position, (long long)length);
     }
     if (read.status == FOTS_OK) {
@@ -503,12 +503,12 @@ static void read_julian_day(const char *bytes, size_t length)
     }
 }
 
-static int is_moment(fots_read_moment_result read)
+static int is_moment(fots_parse_moment_result read)
 {
     return is_date(read.date) && is_time(read.time) && is_offset(read.offset);
 }
 
-static int is_same_moment(fots_read_moment_result one, fots_read_moment_result other)
+static int is_same_moment(fots_parse_moment_result one, fots_parse_moment_result other)
 {
     return one.status == FOTS_OK && other.status == FOTS_OK && one.date.julian_day == other.date.julian_day
         && one.time == other.time && one.offset.seconds == other.offset.seconds;
@@ -516,36 +516,36 @@ static int is_same_moment(fots_read_moment_result one, fots_read_moment_result o
 
 static void read_moment(const char *bytes, size_t length)
 {
-    fots_read_moment_result read = fots_moment_read(bytes, length);
+    fots_parse_moment_result read = fots_moment_parse(bytes, length);
     reads(read.status, read.position, length, read.status == FOTS_MONTH_OUT_OF_RANGE || read.status == FOTS_DAY_OUT_OF_RANGE
         || (read.status >= FOTS_HOUR_OUT_OF_RANGE && read.status <= FOTS_SECOND_OUT_OF_RANGE) || read.status == FOTS_OFFSET_HOUR_OUT_OF_RANGE
         || read.status == FOTS_OFFSET_MINUTE_OUT_OF_RANGE, is_moment(read), "moment_read");
     if (read.status == FOTS_UNEXPECTED_BYTE) {
-        check(fots_moment_read(bytes, read.position).status != FOTS_UNEXPECTED_BYTE, "what a moment begins with",
+        check(fots_moment_parse(bytes, read.position).status != FOTS_UNEXPECTED_BYTE, "what a moment begins with",
             (long long)read.position, (long long)length);
-        check(fots_moment_read(bytes, read.position + 1).position == read.position, "the position in a moment",
+        check(fots_moment_parse(bytes, read.position + 1).position == read.position, "the position in a moment",
             (long long)read.position, (long long)length);
     }
     if (read.status == FOTS_OK) {
         fots_text_result text = fots_moment_text(read.date, read.time, read.offset);
-        check(is_same_moment(fots_moment_read(text.bytes, text.length), read), "a moment read back", read.date.julian_day,
+        check(is_same_moment(fots_moment_parse(text.bytes, text.length), read), "a moment read back", read.date.julian_day,
             read.offset.seconds);
     }
 }
 
 static void read_unix(const char *bytes, size_t length)
 {
-    fots_read_moment_result read = fots_unix_read(bytes, length);
+    fots_parse_moment_result read = fots_unix_parse(bytes, length);
     reads(read.status, read.position, length, read.status == FOTS_TIMESTAMP_OUT_OF_RANGE, is_moment(read) && read.offset.seconds == 0, "unix_read");
     if (read.status == FOTS_UNEXPECTED_BYTE) {
-        check(fots_unix_read(bytes, read.position).status != FOTS_UNEXPECTED_BYTE, "what a Unix time begins with",
+        check(fots_unix_parse(bytes, read.position).status != FOTS_UNEXPECTED_BYTE, "what a Unix time begins with",
             (long long)read.position, (long long)length);
-        check(fots_unix_read(bytes, read.position + 1).position == read.position, "the position in a Unix time",
+        check(fots_unix_parse(bytes, read.position + 1).position == read.position, "the position in a Unix time",
             (long long)read.position, (long long)length);
     }
     if (read.status == FOTS_OK) {
         fots_text_result text = fots_unix_text(read.date, read.time, offset_at(0));
-        check(is_same_moment(fots_unix_read(text.bytes, text.length), read), "a Unix time read back", read.date.julian_day,
+        check(is_same_moment(fots_unix_parse(text.bytes, text.length), read), "a Unix time read back", read.date.julian_day,
             (long long)length);
     }
 }
@@ -608,7 +608,7 @@ static unsigned long long recurrences_read;
 /* Checks the parts, the text and the rule against the days. */
 static void spelled(const char *bytes, size_t length, fots_recurrence_result found, fots_date start, const fots_date *days)
 {
-    const fots_read_recurrence_result read = fots_recurrence_parse(bytes, length);
+    const fots_parse_recurrence_result read = fots_recurrence_parse(bytes, length);
     const fots_recurrence_text_result text = fots_recurrence_text(bytes, length);
     check(read.status == found.status && read.part == found.part && read.position == found.position, "its parts", read.status, found.status);
     check(text.status == found.status && text.part == found.part && text.position == found.position, "its text", text.status, found.status);
@@ -618,7 +618,7 @@ static void spelled(const char *bytes, size_t length, fots_recurrence_result fou
         check(fots_rule_first(&rule).status == FOTS_INVALID_FREQUENCY, "no rule", read.status, (long long)length);
         return;
     }
-    const fots_read_recurrence_result again = fots_recurrence_parse(text.bytes, text.length);
+    const fots_parse_recurrence_result again = fots_recurrence_parse(text.bytes, text.length);
     check(text.length == strlen(text.bytes) && memcmp(&again, &read, sizeof read) == 0, "read again", text.length, (long long)length);
     if (found.length > 0) {
         check(fots_rule_first(&rule).date.julian_day == days[0].julian_day, "the first of its rule", days[0].julian_day, (long long)length);
@@ -647,7 +647,7 @@ static void read_recurrence(const char *bytes, size_t length)
     check(names_part ? found.part >= FOTS_RULE_FREQ && found.part <= FOTS_RULE_COUNT : found.part == 0, "its part", found.status, found.part);
     check(found.length == 0 && days[0].julian_day == -1, "no day", found.status, (long long)found.length);
     if (found.status == FOTS_MISSING_FREQUENCY) {
-        check(found.position == length, "no frequency", (long long)found.position, (long long)length);
+        check(found.position == length, "missing frequency", (long long)found.position, (long long)length);
         return;
     }
     check(names_part || found.status == FOTS_UNKNOWN_PART, "the status of a recurrence", found.status, (long long)length);

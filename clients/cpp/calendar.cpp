@@ -35,15 +35,15 @@ void chained()
     check(fots_date_next_occurrence(date, fots_weekday_nth_next(fots_date_weekday(date).number, 7).number).date.julian_day == 2460377,
         "weekdays");
     const fots_time time = fots_time_from_hms_nano(1, 2, 3, 4).time;
-    const fots_clock_result clock = fots_time_as_hms_nano(time);
+    const fots_hms_nano_result clock = fots_time_as_hms_nano(time);
     check(fots_time_from_hms_nano(clock.hour, clock.minute, clock.second, clock.nanosecond).time == time, "a clock");
     check(fots_time_replace_hour(time, fots_time_hour(time).number).time == time, "an hour");
     const fots_offset offset = fots_offset_from_whole_seconds(fots_offset_from_hms(-1, 30, 0).offset.seconds).offset;
-    const fots_offset_parts_result parts = fots_offset_as_hms(offset);
+    const fots_offset_hms_result parts = fots_offset_as_hms(offset);
     check(fots_offset_from_hms(parts.hours, parts.minutes, parts.seconds).offset.seconds == -5400, "the parts of an offset");
     const fots_duration duration = fots_duration_days(fots_duration_whole_days(fots_duration_weeks(1).duration).number).duration;
     const fots_text_result text = fots_unix_text(date, time, offset);
-    const fots_read_moment_result moment = fots_unix_read(text.bytes, text.length);
+    const fots_parse_moment_result moment = fots_unix_parse(text.bytes, text.length);
     check(fots_add_to_pair(moment.date, moment.time, duration).status == FOTS_OK, "a moment moved");
     check(fots_date_add_days(date, fots_days_in_year(calendar.year)).date.julian_day == 2460736, "a year of days");
     check(fots_duration_new(duration.seconds, duration.nanoseconds).status == FOTS_OK, "a duration by its numbers");
@@ -62,10 +62,10 @@ int main()
     check(none.status == FOTS_DAY_OUT_OF_RANGE && std::strcmp(fots_status_name(none.status), "day") == 0, "29 February of 2023");
     check(fots_status_is_conditional(none.status) == 1, "the mark of a day");
     check(fots_date_weekday(none.date).status == FOTS_INVALID_DATE, "the weekday of no date");
-    const fots_read_date_result read = fots_date_read("2024-060", 8);
-    check(read.status == FOTS_OK && read.date.julian_day == leap_day.date.julian_day && read.position == SIZE_MAX,
+    const fots_parse_date_result parse = fots_date_parse("2024-060", 8);
+    check(parse.status == FOTS_OK && parse.date.julian_day == leap_day.date.julian_day && parse.position == SIZE_MAX,
         "an ordinal date read");
-    const fots_text_result text = fots_date_week_text(read.date);
+    const fots_text_result text = fots_date_week_text(parse.date);
     check(text.length == 10 && std::strcmp(text.bytes, "2024-W09-4") == 0, "a week date printed");
     chained();
     std::printf("calendar in C++: %d failed\n", failed);

@@ -220,7 +220,7 @@ _FORMS: List[Tuple[Any, List[Any], str]] = [
     (_OFFSET, [_I32, _I32, _I32], "offset_from_hms"),
     (_OFFSET, [_I64], "offset_from_whole_seconds"),
     (_OFFSET_PARTS, [_I32], "offset_as_hms"),
-    (_OFFSET, [_I32], "offset_negated"),
+    (_OFFSET, [_I32], "offset_neg"),
     (_DURATION, [_I64, _I32], "duration_new"),
     (_DURATION, [_I64], "duration_weeks duration_days duration_hours duration_minutes duration_seconds duration_milliseconds "
         "duration_microseconds duration_nanoseconds"),
@@ -240,8 +240,8 @@ _FORMS: List[Tuple[Any, List[Any], str]] = [
     (_PAIR, [_CDuration, _I32], "unix_pair"),
     (_TEXT, [_I32], "date_calendar_text date_ordinal_text date_week_text date_julian_text"),
     (_TEXT, [_I32, _U64, _I32], "moment_text unix_text"),
-    (_READ_DATE, [ctypes.c_char_p, ctypes.c_size_t], "date_read julian_day_read"),
-    (_READ_MOMENT, [ctypes.c_char_p, ctypes.c_size_t], "moment_read unix_read"),
+    (_READ_DATE, [ctypes.c_char_p, ctypes.c_size_t], "date_parse julian_day_parse"),
+    (_READ_MOMENT, [ctypes.c_char_p, ctypes.c_size_t], "moment_parse unix_parse"),
     (_MOMENT, [_I32, _U64, _I32], "moment_new"),
     (_MOMENT, [_CMoment, _I32], "moment_to_offset moment_replace_offset"),
     (_MOMENT, [_CMoment, _CDuration], "moment_checked_add moment_checked_sub moment_saturating_add moment_saturating_sub"),
@@ -264,7 +264,7 @@ _FORMS: List[Tuple[Any, List[Any], str]] = [
     (_DATE, [_I32, _U32, ctypes.POINTER(_I32), ctypes.c_size_t], "date_next_workday date_previous_workday"),
     (_DATE, [_I32, _I32, _U32, ctypes.POINTER(_I32), ctypes.c_size_t], "date_add_workdays"),
     (_NUMBER, [_I32, _I32, _U32, ctypes.POINTER(_I32), ctypes.c_size_t], "date_workdays_between"),
-    (_DATE, [_I32, _U32, _U32, ctypes.POINTER(_I32), ctypes.c_size_t], "date_adjusted"),
+    (_DATE, [_I32, _U32, _U32, ctypes.POINTER(_I32), ctypes.c_size_t], "date_adjust"),
     (_DATE, [ctypes.POINTER(_CRule)], "rule_first"),
     (_DATE, [ctypes.POINTER(_CRule), _I32], "rule_next_after"),
     (_PART, [ctypes.POINTER(_CRule), _I32], "rule_contains"),
@@ -298,8 +298,8 @@ _COLUMNS: Dict[str, Tuple[List[Any], List[Any]]] = {
     "dates_add_months": ([_I32, _I32], [_I32]),
     "dates_add_workdays": ([_I32, _I32], [_I32]),
     "dates_workdays_between": ([_I32, _I32], [_I32]),
-    "dates_read": ([_U8, _I32], [_I32]),
-    "moments_read": ([_U8, _I32], [_I32, _U64, _I32]),
+    "dates_parse": ([_U8, _I32], [_I32]),
+    "moments_parse": ([_U8, _I32], [_I32, _U64, _I32]),
     "dates_calendar_texts": ([_I32], [_U8, _I32]),
     "moments_texts": ([_I32, _U64, _I32], [_U8, _I32]),
 }
@@ -1350,7 +1350,7 @@ class UtcOffset(_Value):
         return self._key < 0
 
     def __neg__(self) -> UtcOffset:
-        return _offset(_C.offset_negated(self._key))
+        return _offset(_C.offset_neg(self._key))
 
     def __reduce__(self) -> Tuple[Any, ...]:
         return UtcOffset.from_whole_seconds, (self._key,)
@@ -1422,12 +1422,12 @@ class Date(_Value):
         >>> Date.read("2020-W53-5"), Date.read("+10000-001")
         (2021-01-01, +10000-01-01)
         """
-        return _date(_read(_C.date_read, text))
+        return _date(_read(_C.date_parse, text))
 
     @classmethod
     def read_julian_day(cls, text: str) -> Date:
         """The date of a Julian day in text, as `J2460370`; `Unreadable`, or `ComponentRange` as `julian_day`."""
-        return _date(_read(_C.julian_day_read, text))
+        return _date(_read(_C.julian_day_parse, text))
 
     def calendar_text(self) -> str:
         """The calendar date in text, as `2024-02-29`: what `str` gives."""
@@ -1883,7 +1883,7 @@ class Workdays:
 
     def adjusted(self, date: Date, convention: Convention) -> Optional[Date]:
         """The working day that the day is moved to, or `None` where the range has no such day."""
-        return _date_or_none(_C.date_adjusted(_is(date, Date)._key, _is(convention, Convention).value, self._week, self._holidays, len(self._holidays)))
+        return _date_or_none(_C.date_adjust(_is(date, Date)._key, _is(convention, Convention).value, self._week, self._holidays, len(self._holidays)))
 
 
 class Frequency(enum.IntEnum):
@@ -2137,7 +2137,7 @@ def read_rfc3339(text: str) -> Tuple[Date, Time, UtcOffset]:
     >>> read_rfc3339("2024-02-29T23:59:59.25+01:00")
     (2024-02-29, 23:59:59.25, +01:00:00)
     """
-    found = _read(_C.moment_read, text)
+    found = _read(_C.moment_parse, text)
     return _date(found), _time(found), _offset(found)
 
 
@@ -2170,7 +2170,7 @@ def read_unix(text: str) -> Tuple[Date, Time]:
     >>> read_unix("@1709164800.5")
     (2024-02-29, 0:00:00.5)
     """
-    return _pair(_read(_C.unix_read, text))
+    return _pair(_read(_C.unix_parse, text))
 
 
 # ---- date-times
@@ -2865,12 +2865,12 @@ def dates_read(texts: object, bounds: object) -> DateColumns:
     >>> dates_read(b"2024-02-292024-0602024-02-30", array.array("i", [0, 10, 18, 28]))
     DateColumns(dates=array('i', [2460370, 2460370, -2147483648]), statuses=array('B', [0, 0, 64]), refused=1)
     """
-    return DateColumns(*_over_texts("dates_read", texts, bounds))
+    return DateColumns(*_over_texts("dates_parse", texts, bounds))
 
 
 def moments_read(texts: object, bounds: object) -> MomentColumns:
     """Parse such texts like `read_rfc3339`."""
-    return MomentColumns(*_over_texts("moments_read", texts, bounds))
+    return MomentColumns(*_over_texts("moments_parse", texts, bounds))
 
 
 def _printed(name: str, room: int, columns: Tuple[object, ...]) -> TextColumns:

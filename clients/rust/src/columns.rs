@@ -4,22 +4,22 @@
 //! months, days of the month, weeks and weekdays as `u8`. A call writes into your slices, and
 //! returns the number of rows without a result. These have numbers that the next call rejects:
 //! `i32::MIN` for a date, a year, an offset or a count of working days, `u64::MAX` for a time, and
-//! 0 for a part with 8 or 16 bits. [`refusal`] explains a status.
+//! 0 for a part with 8 or 16 bits. [`row_error`] explains a status.
 //!
 //! ```
-//! use fotsevindre::columns::{self, Refusal};
+//! use fotsevindre::columns::{self, RowError};
 //!
 //! let (years, months, days) = ([2024, 2023, 2024], [2, 2, 13], [29, 29, 1]);
 //! let (mut dates, mut statuses) = ([0; 3], [0; 3]);
 //! assert_eq!(columns::dates_from_calendar_dates(&years, &months, &days, &mut dates, &mut statuses), 2);
 //! assert_eq!(dates, [2_460_370, i32::MIN, i32::MIN]);
-//! let Some(Refusal::OutOfRange(error)) = columns::refusal(statuses[1]) else { panic!() };
+//! let Some(RowError::OutOfRange(error)) = columns::row_error(statuses[1]) else { panic!() };
 //! assert_eq!(error.name(), "day");
 //!
 //! let mut weekdays = [0; 3];
 //! assert_eq!(columns::dates_weekdays(&dates, &mut weekdays, &mut statuses), 2);
 //! assert_eq!(weekdays, [4, 0, 0]);
-//! assert_eq!(columns::refusal(statuses[1]), Some(Refusal::NoDate));
+//! assert_eq!(columns::row_error(statuses[1]), Some(RowError::NoDate));
 //! ```
 //!
 //! # Panics
@@ -32,7 +32,7 @@ use crate::{Date, Workdays};
 
 /// Why a row has no result.
 #[derive(Clone, Copy, Debug, PartialEq, Eq, Hash)]
-pub enum Refusal {
+pub enum RowError {
     /// The number is not a date.
     NoDate,
     /// The date is out of range.
@@ -44,7 +44,7 @@ pub enum Refusal {
     /// The number is not an offset.
     NoOffset,
     /// The text has a byte that no text of the form has there.
-    Unreadable,
+    ParseError,
     /// The text ends too early: more bytes could complete it.
     UnexpectedEnd,
 }
@@ -54,8 +54,8 @@ pub enum Refusal {
 /// # Panics
 ///
 /// If no call over columns writes the status.
-pub fn refusal(status: u8) -> Option<Refusal> {
-    ffi::refusal_of(i32::from(status))
+pub fn row_error(status: u8) -> Option<RowError> {
+    ffi::row_error_of_status(i32::from(status))
 }
 
 /// Returns the Julian days of dates, in place.
@@ -164,10 +164,10 @@ pub fn dates_workdays_between(
 }
 
 /// The bytes for each row of [`dates_calendar_texts`].
-pub const DATE_ROOM: usize = 13;
+pub const MAX_DATE_LENGTH: usize = 13;
 
 /// The bytes for each row of [`moments_texts`].
-pub const MOMENT_ROOM: usize = 38;
+pub const MAX_MOMENT_LENGTH: usize = 38;
 
 /// Parses texts, like [`text::date::read`](crate::text::date::read).
 ///
@@ -178,18 +178,18 @@ pub const MOMENT_ROOM: usize = 38;
 /// use fotsevindre::columns;
 ///
 /// let (mut dates, mut statuses) = ([0; 2], [0; 2]);
-/// assert_eq!(columns::dates_read(b"2024-02-292024-060", &[0, 10, 18], &mut dates, &mut statuses), 0);
+/// assert_eq!(columns::dates_parse(b"2024-02-292024-060", &[0, 10, 18], &mut dates, &mut statuses), 0);
 /// assert_eq!(dates, [2_460_370, 2_460_370]);
 /// ```
 #[track_caller]
-pub fn dates_read(bytes: &[u8], bounds: &[i32], dates: &mut [i32], statuses: &mut [u8]) -> usize {
-    ffi::fots_dates_read(bytes, bounds, dates, statuses)
+pub fn dates_parse(bytes: &[u8], bounds: &[i32], dates: &mut [i32], statuses: &mut [u8]) -> usize {
+    ffi::fots_dates_parse(bytes, bounds, dates, statuses)
 }
 
 /// Parses texts, like [`text::rfc3339::read`](crate::text::rfc3339::read), to dates, nanoseconds
 /// since midnight and offsets in seconds.
 #[track_caller]
-pub fn moments_read(
+pub fn moments_parse(
     bytes: &[u8],
     bounds: &[i32],
     dates: &mut [i32],
@@ -197,7 +197,7 @@ pub fn moments_read(
     offsets: &mut [i32],
     statuses: &mut [u8],
 ) -> usize {
-    ffi::fots_moments_read(bytes, bounds, dates, times, offsets, statuses)
+    ffi::fots_moments_parse(bytes, bounds, dates, times, offsets, statuses)
 }
 
 /// Writes calendar dates one after another, and their bounds. A row without a result has no bytes.
@@ -205,15 +205,15 @@ pub fn moments_read(
 ///
 /// # Panics
 ///
-/// Also if there are fewer than [`DATE_ROOM`] bytes for each row, or these are more than
+/// Also if there are fewer than [`MAX_DATE_LENGTH`] bytes for each row, or these are more than
 /// `i32::MAX`.
 #[track_caller]
 pub fn dates_calendar_texts(dates: &[i32], bytes: &mut [u8], bounds: &mut [i32], statuses: &mut [u8]) -> usize {
     ffi::fots_dates_calendar_texts(dates, bytes, bounds, statuses)
 }
 
-/// Writes moments in RFC 3339, in the same way, with [`MOMENT_ROOM`] bytes for each row. A moment
-/// without a text is [`Refusal::PastRange`].
+/// Writes moments in RFC 3339, in the same way, with [`MAX_MOMENT_LENGTH`] bytes for each row. A moment
+/// without a text is [`RowError::PastRange`].
 #[track_caller]
 pub fn moments_texts(
     dates: &[i32],

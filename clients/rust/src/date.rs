@@ -1,5 +1,5 @@
-use crate::error::{ComponentRange, Unreadable};
-use crate::ffi::{self, certain, or_none, or_refused, Answer};
+use crate::error::{ComponentRange, ParseError};
+use crate::ffi::{self, expect_answer, or_none, or_error, Answer};
 use crate::iter::DateIter;
 use crate::text::date::{self, CalendarText};
 use crate::{Month, SignedDuration, Weekday};
@@ -21,13 +21,13 @@ pub struct Date {
 /// Returns the date, or the component that is out of range.
 #[inline]
 fn made(answer: Answer<i32>) -> Result<Date, ComponentRange> {
-    or_refused(answer).map(Date::of_c)
+    or_error(answer).map(Date::from_c)
 }
 
 /// Returns the date, or `None` if it is out of range.
 #[inline]
 fn moved(answer: Answer<i32>) -> Option<Date> {
-    or_none(answer).map(Date::of_c)
+    or_none(answer).map(Date::from_c)
 }
 
 impl Date {
@@ -42,7 +42,7 @@ impl Date {
 
     /// Converts from the number of C.
     #[inline]
-    pub(crate) fn of_c(julian_day: i32) -> Self {
+    pub(crate) fn from_c(julian_day: i32) -> Self {
         Self { julian_day }
     }
 
@@ -103,70 +103,70 @@ impl Date {
     /// Returns the year, from -999999 to 999999.
     #[inline]
     pub fn year(self) -> i32 {
-        certain(ffi::fots_date_year(self.julian_day))
+        expect_answer(ffi::fots_date_year(self.julian_day))
     }
 
     /// Returns the month. For 2020-02-29: February.
     #[inline]
     pub fn month(self) -> Month {
-        Month::of_number(certain(ffi::fots_date_month(self.julian_day)))
+        Month::from_number(expect_answer(ffi::fots_date_month(self.julian_day)))
     }
 
     /// Returns the day of the month, from 1 to 31. For 2020-02-29: 29.
     #[inline]
     pub fn day(self) -> u8 {
-        certain(ffi::fots_date_day(self.julian_day)) as u8
+        expect_answer(ffi::fots_date_day(self.julian_day)) as u8
     }
 
     /// Returns the day of the year, from 1 to 366. For 2020-12-31: 366.
     #[inline]
     pub fn ordinal(self) -> u16 {
-        certain(ffi::fots_date_ordinal(self.julian_day)) as u16
+        expect_answer(ffi::fots_date_ordinal(self.julian_day)) as u16
     }
 
     /// Returns the ISO week, from 1 to 53. For 2021-01-01: 53, because its week belongs to 2020.
     #[inline]
     pub fn iso_week(self) -> u8 {
-        certain(ffi::fots_date_iso_week(self.julian_day)) as u8
+        expect_answer(ffi::fots_date_iso_week(self.julian_day)) as u8
     }
 
     /// Returns the Sundays of the year up to the date, from 0 to 53. For 2020-12-31: 52.
     #[inline]
     pub fn sunday_based_week(self) -> u8 {
-        certain(ffi::fots_date_sunday_based_week(self.julian_day)) as u8
+        expect_answer(ffi::fots_date_sunday_based_week(self.julian_day)) as u8
     }
 
     /// Returns the Mondays of the year up to the date, from 0 to 53. For 2020-12-31: 52.
     #[inline]
     pub fn monday_based_week(self) -> u8 {
-        certain(ffi::fots_date_monday_based_week(self.julian_day)) as u8
+        expect_answer(ffi::fots_date_monday_based_week(self.julian_day)) as u8
     }
 
     /// Returns the weekday. For 2021-01-01: Friday.
     #[inline]
     pub fn weekday(self) -> Weekday {
-        Weekday::of_number(certain(ffi::fots_date_weekday(self.julian_day)))
+        Weekday::from_number(expect_answer(ffi::fots_date_weekday(self.julian_day)))
     }
 
     /// Returns the year, the month and the day of the month. For 2000-01-01: (2000, January, 1).
     #[inline]
     pub fn to_calendar_date(self) -> (i32, Month, u8) {
-        let (year, month, day) = certain(ffi::fots_date_to_calendar_date(self.julian_day));
-        (year, Month::of_number(month), day as u8)
+        let (year, month, day) = expect_answer(ffi::fots_date_to_calendar_date(self.julian_day));
+        (year, Month::from_number(month), day as u8)
     }
 
     /// Returns the year and the ordinal. For 2020-12-31: (2020, 366).
     #[inline]
     pub fn to_ordinal_date(self) -> (i32, u16) {
-        let (year, ordinal) = certain(ffi::fots_date_to_ordinal_date(self.julian_day));
+        let (year, ordinal) = expect_answer(ffi::fots_date_to_ordinal_date(self.julian_day));
         (year, ordinal as u16)
     }
 
     /// Returns the ISO year, the week and the weekday. For 2021-01-01: (2020, 53, Friday).
     #[inline]
     pub fn to_iso_week_date(self) -> (i32, u8, Weekday) {
-        let (year, week, weekday) = certain(ffi::fots_date_to_iso_week_date(self.julian_day));
-        (year, week as u8, Weekday::of_number(weekday))
+        let (year, week, weekday) = expect_answer(ffi::fots_date_to_iso_week_date(self.julian_day));
+        (year, week as u8, Weekday::from_number(weekday))
     }
 
     /// Returns the Julian day, from -363521074 to 366963559. For 2000-01-01: 2451545.
@@ -203,13 +203,13 @@ impl Date {
     /// Adds the whole days of a duration, clamped to the range.
     #[inline]
     pub fn saturating_add(self, duration: SignedDuration) -> Self {
-        Self::of_c(certain(ffi::fots_date_saturating_add(self.julian_day, duration.to_c())))
+        Self::from_c(expect_answer(ffi::fots_date_saturating_add(self.julian_day, duration.to_c())))
     }
 
     /// Subtracts the whole days of a duration, clamped to the range.
     #[inline]
     pub fn saturating_sub(self, duration: SignedDuration) -> Self {
-        Self::of_c(certain(ffi::fots_date_saturating_sub(self.julian_day, duration.to_c())))
+        Self::from_c(expect_answer(ffi::fots_date_saturating_sub(self.julian_day, duration.to_c())))
     }
 
     /// Returns the first date after this one with the weekday, or `None` out of range.
@@ -373,7 +373,7 @@ impl Sub for Date {
     /// Returns the days between, negative if `other` is later. 2020-01-01 minus 2019-12-31 is one
     /// day.
     fn sub(self, other: Self) -> SignedDuration {
-        SignedDuration::of_c(certain(ffi::fots_date_duration_since(self.julian_day, other.julian_day)))
+        SignedDuration::from_c(expect_answer(ffi::fots_date_duration_since(self.julian_day, other.julian_day)))
     }
 }
 
@@ -390,11 +390,11 @@ impl fmt::Debug for Date {
 }
 
 impl FromStr for Date {
-    type Err = Unreadable;
+    type Err = ParseError;
 
     /// Parses a calendar date, an ordinal date or a week date, like
     /// [`text::date::read`](date::read).
-    fn from_str(text: &str) -> Result<Self, Unreadable> {
+    fn from_str(text: &str) -> Result<Self, ParseError> {
         date::read(text.as_bytes())
     }
 }

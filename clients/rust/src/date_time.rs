@@ -1,6 +1,6 @@
 //! Calls that both date-times have.
 
-/// Implements them from `date`, `time`, `of_c`, `to_c`, and `with`, which replaces date and time.
+/// Implements them from `date`, `time`, `from_c`, `to_c`, and `with`, which replaces date and time.
 macro_rules! date_time {
     ($name:ident) => {
         impl $name {
@@ -201,22 +201,22 @@ macro_rules! date_time {
 
             /// Adds a duration exactly, or returns `None` out of range.
             pub fn checked_add(self, duration: SignedDuration) -> Option<Self> {
-                or_none(ffi::fots_moment_checked_add(self.to_c(), duration.to_c())).map(Self::of_c)
+                or_none(ffi::fots_moment_checked_add(self.to_c(), duration.to_c())).map(Self::from_c)
             }
 
             /// Adds a duration, clamped to the range.
             pub fn saturating_add(self, duration: SignedDuration) -> Self {
-                Self::of_c(certain(ffi::fots_moment_saturating_add(self.to_c(), duration.to_c())))
+                Self::from_c(expect_answer(ffi::fots_moment_saturating_add(self.to_c(), duration.to_c())))
             }
 
             /// Subtracts a duration exactly, or returns `None` out of range.
             pub fn checked_sub(self, duration: SignedDuration) -> Option<Self> {
-                or_none(ffi::fots_moment_checked_sub(self.to_c(), duration.to_c())).map(Self::of_c)
+                or_none(ffi::fots_moment_checked_sub(self.to_c(), duration.to_c())).map(Self::from_c)
             }
 
             /// Subtracts a duration, clamped to the range.
             pub fn saturating_sub(self, duration: SignedDuration) -> Self {
-                Self::of_c(certain(ffi::fots_moment_saturating_sub(self.to_c(), duration.to_c())))
+                Self::from_c(expect_answer(ffi::fots_moment_saturating_sub(self.to_c(), duration.to_c())))
             }
         }
 
@@ -259,7 +259,7 @@ macro_rules! date_time {
 
             /// Returns the duration from `other` to `self`, negative if `other` is later.
             fn sub(self, other: Self) -> SignedDuration {
-                SignedDuration::of_c(certain(ffi::fots_moment_duration_since(self.to_c(), other.to_c())))
+                SignedDuration::from_c(expect_answer(ffi::fots_moment_duration_since(self.to_c(), other.to_c())))
             }
         }
 

@@ -1,5 +1,5 @@
 use crate::error::ConversionRange;
-use crate::ffi::{self, certain, or_none, Answer, CDuration};
+use crate::ffi::{self, expect_answer, or_none, Answer, CDuration};
 use core::fmt;
 use core::iter::Sum;
 use core::ops::{Add, AddAssign, Div, DivAssign, Mul, MulAssign, Neg, Sub, SubAssign};
@@ -21,7 +21,7 @@ pub struct SignedDuration {
 
 /// Returns the duration, or `None` out of range.
 fn made(answer: Answer<CDuration>) -> Option<SignedDuration> {
-    or_none(answer).map(SignedDuration::of_c)
+    or_none(answer).map(SignedDuration::from_c)
 }
 
 impl SignedDuration {
@@ -54,7 +54,7 @@ impl SignedDuration {
     }
 
     /// Converts from the struct of C.
-    pub(crate) fn of_c(duration: CDuration) -> Self {
+    pub(crate) fn from_c(duration: CDuration) -> Self {
         Self::raw(duration.seconds, duration.nanoseconds)
     }
 
@@ -116,22 +116,22 @@ impl SignedDuration {
 
     /// Creates a duration from seconds.
     pub fn seconds(seconds: i64) -> Self {
-        Self::of_c(certain(ffi::fots_duration_seconds(seconds)))
+        Self::from_c(expect_answer(ffi::fots_duration_seconds(seconds)))
     }
 
     /// Creates a duration from milliseconds. `milliseconds(-1_500)` is -1 s and -500000000 ns.
     pub fn milliseconds(milliseconds: i64) -> Self {
-        Self::of_c(certain(ffi::fots_duration_milliseconds(milliseconds)))
+        Self::from_c(expect_answer(ffi::fots_duration_milliseconds(milliseconds)))
     }
 
     /// Creates a duration from microseconds. `microseconds(1_500_000)` is 1 s and 500000000 ns.
     pub fn microseconds(microseconds: i64) -> Self {
-        Self::of_c(certain(ffi::fots_duration_microseconds(microseconds)))
+        Self::from_c(expect_answer(ffi::fots_duration_microseconds(microseconds)))
     }
 
     /// Creates a duration from nanoseconds.
     pub fn nanoseconds(nanoseconds: i64) -> Self {
-        Self::of_c(certain(ffi::fots_duration_nanoseconds(nanoseconds)))
+        Self::from_c(expect_answer(ffi::fots_duration_nanoseconds(nanoseconds)))
     }
 
     /// Creates a duration from nanoseconds. `nanoseconds_i128(1_000_000_001)` is 1 s and 1 ns.
@@ -162,7 +162,7 @@ impl SignedDuration {
 
     /// Returns the absolute value, clamped to the range: `MIN.abs()` is `MAX`.
     pub fn abs(self) -> Self {
-        Self::of_c(certain(ffi::fots_duration_abs(self.to_c())))
+        Self::from_c(expect_answer(ffi::fots_duration_abs(self.to_c())))
     }
 
     /// Returns the absolute value as a duration of std. For -5 s: 5 s.
@@ -172,22 +172,22 @@ impl SignedDuration {
 
     /// Returns the whole weeks, truncated toward zero. For -6 days: 0.
     pub fn whole_weeks(self) -> i64 {
-        certain(ffi::fots_duration_whole_weeks(self.to_c()))
+        expect_answer(ffi::fots_duration_whole_weeks(self.to_c()))
     }
 
     /// Returns the whole days, truncated toward zero. For -47 hours: -1.
     pub fn whole_days(self) -> i64 {
-        certain(ffi::fots_duration_whole_days(self.to_c()))
+        expect_answer(ffi::fots_duration_whole_days(self.to_c()))
     }
 
     /// Returns the whole hours, truncated toward zero. For -90 minutes: -1.
     pub fn whole_hours(self) -> i64 {
-        certain(ffi::fots_duration_whole_hours(self.to_c()))
+        expect_answer(ffi::fots_duration_whole_hours(self.to_c()))
     }
 
     /// Returns the whole minutes, truncated toward zero. For 90 s: 1.
     pub fn whole_minutes(self) -> i64 {
-        certain(ffi::fots_duration_whole_minutes(self.to_c()))
+        expect_answer(ffi::fots_duration_whole_minutes(self.to_c()))
     }
 
     /// Returns the whole seconds, truncated toward zero. For -1.5 s: -1.
@@ -212,12 +212,12 @@ impl SignedDuration {
 
     /// Returns the milliseconds past the seconds, truncated, from -999 to 999. For -1.5 s: -500.
     pub fn subsec_milliseconds(self) -> i16 {
-        certain(ffi::fots_duration_subsec_milliseconds(self.to_c())) as i16
+        expect_answer(ffi::fots_duration_subsec_milliseconds(self.to_c())) as i16
     }
 
     /// Returns the microseconds past the seconds, truncated, from -999999 to 999999.
     pub fn subsec_microseconds(self) -> i32 {
-        certain(ffi::fots_duration_subsec_microseconds(self.to_c()))
+        expect_answer(ffi::fots_duration_subsec_microseconds(self.to_c()))
     }
 
     /// Returns the nanoseconds past the seconds, from -999999999 to 999999999.
@@ -254,17 +254,17 @@ impl SignedDuration {
 
     /// Adds, clamped to the range. `MAX` plus 1 ns is `MAX`.
     pub fn saturating_add(self, rhs: Self) -> Self {
-        Self::of_c(certain(ffi::fots_duration_saturating_add(self.to_c(), rhs.to_c())))
+        Self::from_c(expect_answer(ffi::fots_duration_saturating_add(self.to_c(), rhs.to_c())))
     }
 
     /// Subtracts, clamped to the range. Zero minus `MIN` is `MAX`.
     pub fn saturating_sub(self, rhs: Self) -> Self {
-        Self::of_c(certain(ffi::fots_duration_saturating_sub(self.to_c(), rhs.to_c())))
+        Self::from_c(expect_answer(ffi::fots_duration_saturating_sub(self.to_c(), rhs.to_c())))
     }
 
     /// Multiplies, clamped to the range. `MIN` times -2 is `MAX`.
     pub fn saturating_mul(self, rhs: i32) -> Self {
-        Self::of_c(certain(ffi::fots_duration_saturating_mul(self.to_c(), rhs)))
+        Self::from_c(expect_answer(ffi::fots_duration_saturating_mul(self.to_c(), rhs)))
     }
 
     /// Adds all, in order, or returns `None` if a partial sum is out of range.

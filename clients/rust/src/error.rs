@@ -27,7 +27,7 @@ const FIRST_CONDITIONAL: i32 = 64;
 impl ComponentRange {
     /// Returns the error of a status.
     #[cold]
-    pub(crate) fn of_status(status: i32) -> Self {
+    pub(crate) fn from_status(status: i32) -> Self {
         let name = match status {
             16 => "year",
             17 => "month",
@@ -83,7 +83,7 @@ impl core::error::Error for ComponentRange {}
 ///
 /// It prints as `unexpected byte at 4`, `unexpected end at 9` or `day was not in range`.
 #[derive(Clone, Copy, Debug, PartialEq, Eq, Hash)]
-pub enum Unreadable {
+pub enum ParseError {
     /// No text of the form has the byte at this position, from 0.
     UnexpectedByte(usize),
     /// The text ends too early, with this length: more bytes could complete it.
@@ -92,7 +92,7 @@ pub enum Unreadable {
     OutOfRange(ComponentRange),
 }
 
-impl fmt::Display for Unreadable {
+impl fmt::Display for ParseError {
     fn fmt(&self, f: &mut fmt::Formatter<'_>) -> fmt::Result {
         match self {
             Self::UnexpectedByte(position) => write!(f, "unexpected byte at {position}"),
@@ -102,7 +102,7 @@ impl fmt::Display for Unreadable {
     }
 }
 
-impl core::error::Error for Unreadable {}
+impl core::error::Error for ParseError {}
 
 /// A duration is outside the range of the target type.
 ///

@@ -4,31 +4,31 @@
 //! take slices, each passed with its own length. So all are safe if the declarations match the
 //! header. Calls of one value and methods of dates are `#[inline]`, which saves a call.
 
-use crate::columns::Refusal;
-use crate::error::{ComponentRange, Unreadable};
-use crate::recurrence::RuleFault;
+use crate::columns::RowError;
+use crate::error::{ComponentRange, ParseError};
+use crate::recurrence::ParseRuleError;
 use crate::rule::{ByDay, Rule};
 use crate::Date;
 
 /// Success.
-const DONE: i32 = 0;
+const OK: i32 = 0;
 /// The result does not exist, or is outside its type.
-const PAST_RANGE: i32 = 1;
+const RESULT_OUT_OF_RANGE: i32 = 1;
 /// A number is not a date.
-const BAD_DATE: i32 = 2;
+const INVALID_DATE: i32 = 2;
 /// A number is not a time of day.
-const BAD_TIME: i32 = 3;
+const INVALID_TIME: i32 = 3;
 /// A number is not an offset.
-const BAD_OFFSET: i32 = 4;
+const INVALID_OFFSET: i32 = 4;
 /// A number is not a weekday.
-const BAD_WEEKDAY: i32 = 6;
+const INVALID_WEEKDAY: i32 = 6;
 /// A byte of a text is wrong.
-const UNREADABLE: i32 = 8;
+const UNEXPECTED_BYTE: i32 = 8;
 /// A text ends too early.
 const UNEXPECTED_END: i32 = 31;
 
 /// The result of a column call if lengths differ.
-const UNLIKE: usize = usize::MAX;
+const LENGTH_MISMATCH: usize = usize::MAX;
 
 /// A duration of C.
 #[repr(C)]
@@ -88,7 +88,7 @@ pub(crate) struct CRecurrence {
     pub(crate) weekdays: [CRuleWeekday; 62],
 }
 
-/// The value of a call, or a status that is not [`DONE`].
+/// The value of a call, or a status that is not [`OK`].
 pub(crate) type Answer<T> = Result<T, i32>;
 
 /// Panics for a status that a call cannot return.
@@ -98,27 +98,27 @@ pub(crate) fn unexpected(status: i32) -> ! {
 }
 
 /// Returns the value of a call without errors.
-pub(crate) fn certain<T>(answer: Answer<T>) -> T {
+pub(crate) fn expect_answer<T>(answer: Answer<T>) -> T {
     answer.unwrap_or_else(|status| unexpected(status))
 }
 
 /// Returns the value of a call, or `None` out of range.
 pub(crate) fn or_none<T>(answer: Answer<T>) -> Option<T> {
     match answer {
-        Err(PAST_RANGE) => None,
-        answer => Some(certain(answer)),
+        Err(RESULT_OUT_OF_RANGE) => None,
+        answer => Some(expect_answer(answer)),
     }
 }
 
 /// Returns the value of a call, or the component that is out of range.
-pub(crate) fn or_refused<T>(answer: Answer<T>) -> Result<T, ComponentRange> {
+pub(crate) fn or_error<T>(answer: Answer<T>) -> Result<T, ComponentRange> {
     answer.map_err(|status| match status {
-        BAD_WEEKDAY => ComponentRange::WEEKDAY,
-        status => ComponentRange::of_status(status),
+        INVALID_WEEKDAY => ComponentRange::WEEKDAY,
+        status => ComponentRange::from_status(status),
     })
 }
 
-/// Defines structs with a status, and the value if that is [`DONE`].
+/// Defines structs with a status, and the value if that is [`OK`].
 macro_rules! results {
     ($($name:ident { $($field:ident: $kind:ty),* } => $value:ty;)*) => {
         $(
@@ -134,7 +134,7 @@ macro_rules! results {
 
                 #[inline]
                 fn answer(self) -> Answer<$value> {
-                    if self.status == DONE {
+                    if self.status == OK {
                         Ok(($(self.$field),*))
                     } else {
                         Err(self.status)
@@ -154,17 +154,17 @@ pub(crate) trait Returned {
 
 results! {
     DateResult { date: i32 } => i32;
-    PartResult { number: u32 } => u32;
+    ComponentResult { number: u32 } => u32;
     NumberResult { number: i32 } => i32;
-    LongResult { number: i64 } => i64;
+    Int64Result { number: i64 } => i64;
     CalendarDateResult { year: i32, month: u32, day: u32 } => (i32, u32, u32);
     OrdinalDateResult { year: i32, ordinal: u32 } => (i32, u32);
     IsoWeekDateResult { year: i32, week: u32, weekday: u32 } => (i32, u32, u32);
     TimeResult { time: u64 } => u64;
     AdjustedTimeResult { carry: i32, time: u64 } => (i32, u64);
-    ClockResult { hour: u32, minute: u32, second: u32, nanosecond: u32 } => (u32, u32, u32, u32);
+    HmsNanoResult { hour: u32, minute: u32, second: u32, nanosecond: u32 } => (u32, u32, u32, u32);
     OffsetResult { offset: i32 } => i32;
-    OffsetPartsResult { hours: i32, minutes: i32, seconds: i32 } => (i32, i32, i32);
+    OffsetHmsResult { hours: i32, minutes: i32, seconds: i32 } => (i32, i32, i32);
     DurationResult { duration: CDuration } => CDuration;
     PairResult { date: i32, time: u64 } => (i32, u64);
     MomentResult { moment: CMoment } => CMoment;
@@ -172,10 +172,10 @@ results! {
     YearFractionResult { denominator: u32, numerator: i64 } => (u32, i64);
     TextResult { length: u32, bytes: [u8; 40] } => (u32, [u8; 40]);
     RecurrenceResult { part: u32, length: usize, position: usize } => (u32, usize, usize);
-    ReadRecurrenceResult { part: u32, position: usize, recurrence: CRecurrence } => (u32, usize, CRecurrence);
+    ParseRecurrenceResult { part: u32, position: usize, recurrence: CRecurrence } => (u32, usize, CRecurrence);
     RecurrenceTextResult { part: u32, position: usize, length: u32, bytes: [u8; 1404] } => (u32, usize, u32, [u8; 1404]);
-    ReadDateResult { date: i32, position: usize } => (i32, usize);
-    ReadMomentResult { date: i32, time: u64, offset: i32, position: usize } => (i32, u64, i32, usize);
+    ParseDateResult { date: i32, position: usize } => (i32, usize);
+    ParseMomentResult { date: i32, time: u64, offset: i32, position: usize } => (i32, u64, i32, usize);
 }
 
 /// Defines calls that return a struct with a status.
@@ -207,13 +207,13 @@ calls! {
     fots_date_to_ordinal_date(date: i32) -> OrdinalDateResult;
     fots_date_to_iso_week_date(date: i32) -> IsoWeekDateResult;
     fots_date_year(date: i32) -> NumberResult;
-    fots_date_month(date: i32) -> PartResult;
-    fots_date_day(date: i32) -> PartResult;
-    fots_date_ordinal(date: i32) -> PartResult;
-    fots_date_iso_week(date: i32) -> PartResult;
-    fots_date_weekday(date: i32) -> PartResult;
-    fots_date_sunday_based_week(date: i32) -> PartResult;
-    fots_date_monday_based_week(date: i32) -> PartResult;
+    fots_date_month(date: i32) -> ComponentResult;
+    fots_date_day(date: i32) -> ComponentResult;
+    fots_date_ordinal(date: i32) -> ComponentResult;
+    fots_date_iso_week(date: i32) -> ComponentResult;
+    fots_date_weekday(date: i32) -> ComponentResult;
+    fots_date_sunday_based_week(date: i32) -> ComponentResult;
+    fots_date_monday_based_week(date: i32) -> ComponentResult;
     fots_date_next_day(date: i32) -> DateResult;
     fots_date_previous_day(date: i32) -> DateResult;
     fots_date_add_days(date: i32, days: i64) -> DateResult;
@@ -244,7 +244,7 @@ calls! {
     fots_date_last_of_year(date: i32) -> DateResult;
     fots_date_first_of_iso_week(date: i32) -> DateResult;
     fots_date_last_of_iso_week(date: i32) -> DateResult;
-    fots_date_quarter(date: i32) -> PartResult;
+    fots_date_quarter(date: i32) -> ComponentResult;
     fots_date_nth_weekday_of_month(year: i32, month: u32, weekday: u32, n: u32) -> DateResult;
     fots_date_last_weekday_of_month(year: i32, month: u32, weekday: u32) -> DateResult;
     fots_date_on_or_after(date: i32, weekday: u32) -> DateResult;
@@ -254,13 +254,13 @@ calls! {
     fots_time_from_hms_milli(hour: u32, minute: u32, second: u32, millisecond: u32) -> TimeResult;
     fots_time_from_hms_micro(hour: u32, minute: u32, second: u32, microsecond: u32) -> TimeResult;
     fots_time_from_hms_nano(hour: u32, minute: u32, second: u32, nanosecond: u32) -> TimeResult;
-    fots_time_as_hms_nano(time: u64) -> ClockResult;
-    fots_time_hour(time: u64) -> PartResult;
-    fots_time_minute(time: u64) -> PartResult;
-    fots_time_second(time: u64) -> PartResult;
-    fots_time_millisecond(time: u64) -> PartResult;
-    fots_time_microsecond(time: u64) -> PartResult;
-    fots_time_nanosecond(time: u64) -> PartResult;
+    fots_time_as_hms_nano(time: u64) -> HmsNanoResult;
+    fots_time_hour(time: u64) -> ComponentResult;
+    fots_time_minute(time: u64) -> ComponentResult;
+    fots_time_second(time: u64) -> ComponentResult;
+    fots_time_millisecond(time: u64) -> ComponentResult;
+    fots_time_microsecond(time: u64) -> ComponentResult;
+    fots_time_nanosecond(time: u64) -> ComponentResult;
     fots_time_replace_hour(time: u64, hour: u32) -> TimeResult;
     fots_time_replace_minute(time: u64, minute: u32) -> TimeResult;
     fots_time_replace_second(time: u64, second: u32) -> TimeResult;
@@ -281,12 +281,12 @@ calls! {
     fots_time_difference(time: u64, other: u64) -> DurationResult;
     fots_offset_from_hms(hours: i32, minutes: i32, seconds: i32) -> OffsetResult;
     fots_offset_from_whole_seconds(seconds: i64) -> OffsetResult;
-    fots_offset_as_hms(offset: i32) -> OffsetPartsResult;
+    fots_offset_as_hms(offset: i32) -> OffsetHmsResult;
     fots_offset_whole_hours(offset: i32) -> NumberResult;
     fots_offset_whole_minutes(offset: i32) -> NumberResult;
     fots_offset_minutes_past_hour(offset: i32) -> NumberResult;
     fots_offset_seconds_past_minute(offset: i32) -> NumberResult;
-    fots_offset_negated(offset: i32) -> OffsetResult;
+    fots_offset_neg(offset: i32) -> OffsetResult;
     fots_duration_new(seconds: i64, nanoseconds: i32) -> DurationResult;
     fots_duration_weeks(weeks: i64) -> DurationResult;
     fots_duration_days(days: i64) -> DurationResult;
@@ -296,10 +296,10 @@ calls! {
     fots_duration_milliseconds(milliseconds: i64) -> DurationResult;
     fots_duration_microseconds(microseconds: i64) -> DurationResult;
     fots_duration_nanoseconds(nanoseconds: i64) -> DurationResult;
-    fots_duration_whole_weeks(duration: CDuration) -> LongResult;
-    fots_duration_whole_days(duration: CDuration) -> LongResult;
-    fots_duration_whole_hours(duration: CDuration) -> LongResult;
-    fots_duration_whole_minutes(duration: CDuration) -> LongResult;
+    fots_duration_whole_weeks(duration: CDuration) -> Int64Result;
+    fots_duration_whole_days(duration: CDuration) -> Int64Result;
+    fots_duration_whole_hours(duration: CDuration) -> Int64Result;
+    fots_duration_whole_minutes(duration: CDuration) -> Int64Result;
     fots_duration_subsec_milliseconds(duration: CDuration) -> NumberResult;
     fots_duration_subsec_microseconds(duration: CDuration) -> NumberResult;
     fots_duration_abs(duration: CDuration) -> DurationResult;
@@ -311,12 +311,12 @@ calls! {
     fots_duration_saturating_add(duration: CDuration, other: CDuration) -> DurationResult;
     fots_duration_saturating_sub(duration: CDuration, other: CDuration) -> DurationResult;
     fots_duration_saturating_mul(duration: CDuration, factor: i32) -> DurationResult;
-    fots_month_length(month: u32, year: i32) -> PartResult;
-    fots_month_nth_next(month: u32, n: u32) -> PartResult;
-    fots_month_nth_prev(month: u32, n: u32) -> PartResult;
-    fots_weekday_nth_next(weekday: u32, n: u32) -> PartResult;
-    fots_weekday_nth_prev(weekday: u32, n: u32) -> PartResult;
-    fots_weekday_number_from_sunday(weekday: u32) -> PartResult;
+    fots_month_length(month: u32, year: i32) -> ComponentResult;
+    fots_month_nth_next(month: u32, n: u32) -> ComponentResult;
+    fots_month_nth_prev(month: u32, n: u32) -> ComponentResult;
+    fots_weekday_nth_next(weekday: u32, n: u32) -> ComponentResult;
+    fots_weekday_nth_prev(weekday: u32, n: u32) -> ComponentResult;
+    fots_weekday_number_from_sunday(weekday: u32) -> ComponentResult;
     fots_add_to_pair(date: i32, time: u64, duration: CDuration) -> PairResult;
     fots_sub_from_pair(date: i32, time: u64, duration: CDuration) -> PairResult;
     fots_unix_time(date: i32, time: u64, offset: i32) -> DurationResult;
@@ -336,7 +336,7 @@ calls! {
     fots_moment_compare(moment: CMoment, other: CMoment) -> NumberResult;
     fots_moment_from_unix_timestamp(seconds: i64) -> MomentResult;
     fots_moment_from_unix_time(duration: CDuration) -> MomentResult;
-    fots_moment_unix_timestamp(moment: CMoment) -> LongResult;
+    fots_moment_unix_timestamp(moment: CMoment) -> Int64Result;
     fots_moment_unix_time(moment: CMoment) -> DurationResult;
 }
 
@@ -362,12 +362,12 @@ macro_rules! calls_of_workdays {
 }
 
 calls_of_workdays! {
-    fots_date_is_workday(date: i32; week, holidays) -> PartResult;
+    fots_date_is_workday(date: i32; week, holidays) -> ComponentResult;
     fots_date_next_workday(date: i32; week, holidays) -> DateResult;
     fots_date_previous_workday(date: i32; week, holidays) -> DateResult;
     fots_date_add_workdays(date: i32, days: i32; week, holidays) -> DateResult;
     fots_date_workdays_between(date: i32, other: i32; week, holidays) -> NumberResult;
-    fots_date_adjusted(date: i32, convention: u32; week, holidays) -> DateResult;
+    fots_date_adjust(date: i32, convention: u32; week, holidays) -> DateResult;
 }
 
 mod declared_alone {
@@ -392,11 +392,11 @@ pub(crate) fn fots_version() -> u32 {
 }
 
 /// Writes days of a recurrence from a date on, and returns their number.
-pub(crate) fn fots_recurrence_days(text: &[u8], start: i32, from: i32, days: &mut [i32]) -> Result<usize, RuleFault> {
+pub(crate) fn fots_recurrence_days(text: &[u8], start: i32, from: i32, days: &mut [i32]) -> Result<usize, ParseRuleError> {
     let result =
         unsafe { declared_alone::fots_recurrence_days(text.as_ptr(), text.len(), start, from, days.as_mut_ptr(), days.len()) };
     let RecurrenceResult { part, position, .. } = result;
-    result.answer().map(|(_, length, _)| length).map_err(|status| RuleFault::of_status(status, part, position))
+    result.answer().map(|(_, length, _)| length).map_err(|status| ParseRuleError::from_status(status, part, position))
 }
 
 /// Defines calls that parse the text of a recurrence.
@@ -411,17 +411,17 @@ macro_rules! calls_of_recurrences {
         }
 
         $(
-            pub(crate) fn $name(text: &[u8]) -> Result<<$result as Returned>::Value, RuleFault> {
+            pub(crate) fn $name(text: &[u8]) -> Result<<$result as Returned>::Value, ParseRuleError> {
                 let result = unsafe { declared_of_recurrences::$name(text.as_ptr(), text.len()) };
                 let (part, position) = (result.part, result.position);
-                result.answer().map_err(|status| RuleFault::of_status(status, part, position))
+                result.answer().map_err(|status| ParseRuleError::from_status(status, part, position))
             }
         )*
     };
 }
 
 calls_of_recurrences! {
-    fots_recurrence_parse -> ReadRecurrenceResult;
+    fots_recurrence_parse -> ParseRecurrenceResult;
     fots_recurrence_text -> RecurrenceTextResult;
 }
 
@@ -448,18 +448,18 @@ macro_rules! calls_of_rules {
 calls_of_rules! {
     fots_rule_first(rule: *const CRule) -> DateResult;
     fots_rule_next_after(rule: *const CRule, date: i32) -> DateResult;
-    fots_rule_contains(rule: *const CRule, date: i32) -> PartResult;
+    fots_rule_contains(rule: *const CRule, date: i32) -> ComponentResult;
 }
 
 /// Calls with the parts of a rule, which live until the call returns. Panics with too many of them.
 fn with_parts<T>(rule: &Rule<'_>, call: impl FnOnce(*const CRule) -> T) -> T {
-    assert!(rule.months.len() <= Rule::MOST_MONTHS, "a rule has more than {} months", Rule::MOST_MONTHS);
-    assert!(rule.weekdays.len() <= Rule::MOST_WEEKDAYS, "a rule has more than {} weekdays", Rule::MOST_WEEKDAYS);
-    let mut months = [0; Rule::MOST_MONTHS];
+    assert!(rule.months.len() <= Rule::MAX_MONTHS, "a rule has more than {} months", Rule::MAX_MONTHS);
+    assert!(rule.weekdays.len() <= Rule::MAX_WEEKDAYS, "a rule has more than {} weekdays", Rule::MAX_WEEKDAYS);
+    let mut months = [0; Rule::MAX_MONTHS];
     for (number, month) in months.iter_mut().zip(rule.months) {
         *number = *month as u8;
     }
-    let mut weekdays = [CRuleWeekday { number: 0, weekday: 0 }; Rule::MOST_WEEKDAYS];
+    let mut weekdays = [CRuleWeekday { number: 0, weekday: 0 }; Rule::MAX_WEEKDAYS];
     for (parts, by) in weekdays.iter_mut().zip(rule.weekdays) {
         *parts = match by {
             ByDay::Every(weekday) => CRuleWeekday { number: 0, weekday: weekday.number_from_monday() },
@@ -508,9 +508,9 @@ calls_of_years! {
 }
 
 /// Defines calls that parse a text.
-macro_rules! calls_that_read {
+macro_rules! calls_that_parse {
     ($($name:ident -> $result:ident;)*) => {
-        mod declared_reading {
+        mod declared_parsing {
             use super::*;
 
             extern "C" {
@@ -520,24 +520,24 @@ macro_rules! calls_that_read {
 
         $(
             #[inline]
-            pub(crate) fn $name(text: &[u8]) -> Result<<$result as Returned>::Value, Unreadable> {
-                let result = unsafe { declared_reading::$name(text.as_ptr(), text.len()) };
+            pub(crate) fn $name(text: &[u8]) -> Result<<$result as Returned>::Value, ParseError> {
+                let result = unsafe { declared_parsing::$name(text.as_ptr(), text.len()) };
                 let position = result.position;
                 result.answer().map_err(|status| match status {
-                    UNREADABLE => Unreadable::UnexpectedByte(position),
-                    UNEXPECTED_END => Unreadable::UnexpectedEnd(position),
-                    status => Unreadable::OutOfRange(ComponentRange::of_status(status)),
+                    UNEXPECTED_BYTE => ParseError::UnexpectedByte(position),
+                    UNEXPECTED_END => ParseError::UnexpectedEnd(position),
+                    status => ParseError::OutOfRange(ComponentRange::from_status(status)),
                 })
             }
         )*
     };
 }
 
-calls_that_read! {
-    fots_date_read -> ReadDateResult;
-    fots_julian_day_read -> ReadDateResult;
-    fots_moment_read -> ReadMomentResult;
-    fots_unix_read -> ReadMomentResult;
+calls_that_parse! {
+    fots_date_parse -> ParseDateResult;
+    fots_julian_day_parse -> ParseDateResult;
+    fots_moment_parse -> ParseMomentResult;
+    fots_unix_parse -> ParseMomentResult;
 }
 
 /// Defines column calls by their names, the slices to read and the slices to write.
@@ -560,7 +560,7 @@ macro_rules! calls_over_columns {
                         $($column.as_ptr(), $column.len(),)* $($written.as_mut_ptr(), $written.len()),*
                     )
                 };
-                assert!(refused != UNLIKE, "columns are not of one length, or have no room");
+                assert!(refused != LENGTH_MISMATCH, "columns are not of one length, or have no room");
                 refused
             }
         )*
@@ -579,8 +579,8 @@ calls_over_columns! {
     fots_calendar_dates_to_iso_week_dates(years: i32, months: u8, days: u8) -> (iso_years: i32, weeks: u8, weekdays: u8, statuses: u8);
     fots_dates_add_days(dates: i32, days: i64) -> (moved: i32, statuses: u8);
     fots_dates_add_months(dates: i32, months: i32) -> (moved: i32, statuses: u8);
-    fots_dates_read(bytes: u8, bounds: i32) -> (dates: i32, statuses: u8);
-    fots_moments_read(bytes: u8, bounds: i32) -> (dates: i32, times: u64, offsets: i32, statuses: u8);
+    fots_dates_parse(bytes: u8, bounds: i32) -> (dates: i32, statuses: u8);
+    fots_moments_parse(bytes: u8, bounds: i32) -> (dates: i32, times: u64, offsets: i32, statuses: u8);
     fots_dates_calendar_texts(dates: i32) -> (bytes: u8, bounds: i32, statuses: u8);
     fots_moments_texts(dates: i32, times: u64, offsets: i32) -> (bytes: u8, bounds: i32, statuses: u8);
 }
@@ -611,7 +611,7 @@ macro_rules! calls_over_columns_of_workdays {
                         $($written.as_mut_ptr(), $written.len()),*
                     )
                 };
-                assert!(refused != UNLIKE, "columns are not of one length");
+                assert!(refused != LENGTH_MISMATCH, "columns are not of one length");
                 refused
             }
         )*
@@ -629,16 +629,16 @@ pub(crate) fn julian_days(dates: &[Date]) -> &[i32] {
 }
 
 /// Returns why a row with this status has no result.
-pub(crate) fn refusal_of(status: i32) -> Option<Refusal> {
+pub(crate) fn row_error_of_status(status: i32) -> Option<RowError> {
     match status {
-        DONE => None,
-        BAD_DATE => Some(Refusal::NoDate),
-        PAST_RANGE => Some(Refusal::PastRange),
-        BAD_WEEKDAY => Some(Refusal::OutOfRange(ComponentRange::WEEKDAY)),
-        BAD_TIME => Some(Refusal::NoTime),
-        BAD_OFFSET => Some(Refusal::NoOffset),
-        UNREADABLE => Some(Refusal::Unreadable),
-        UNEXPECTED_END => Some(Refusal::UnexpectedEnd),
-        status => Some(Refusal::OutOfRange(ComponentRange::of_status(status))),
+        OK => None,
+        INVALID_DATE => Some(RowError::NoDate),
+        RESULT_OUT_OF_RANGE => Some(RowError::PastRange),
+        INVALID_WEEKDAY => Some(RowError::OutOfRange(ComponentRange::WEEKDAY)),
+        INVALID_TIME => Some(RowError::NoTime),
+        INVALID_OFFSET => Some(RowError::NoOffset),
+        UNEXPECTED_BYTE => Some(RowError::ParseError),
+        UNEXPECTED_END => Some(RowError::UnexpectedEnd),
+        status => Some(RowError::OutOfRange(ComponentRange::from_status(status))),
     }
 }

@@ -1,5 +1,5 @@
 use crate::error::{ComponentRange, InvalidVariant};
-use crate::ffi::{self, certain};
+use crate::ffi::{self, expect_answer};
 use crate::iter::MonthIter;
 use core::fmt;
 use core::str::FromStr;
@@ -45,7 +45,7 @@ const MONTHS: [Month; 12] = [
 impl Month {
     /// Converts from a number, 1 to 12.
     #[inline]
-    pub(crate) fn of_number(number: u32) -> Self {
+    pub(crate) fn from_number(number: u32) -> Self {
         MONTHS[number as usize - 1]
     }
 
@@ -57,7 +57,7 @@ impl Month {
 
     /// Returns the days of the month in a year, from 28 to 31. For February and 2020: 29.
     pub fn length(self, year: i32) -> u8 {
-        certain(ffi::fots_month_length(self.number(), year)) as u8
+        expect_answer(ffi::fots_month_length(self.number(), year)) as u8
     }
 
     /// Returns the previous month. For January: December.
@@ -72,12 +72,12 @@ impl Month {
 
     /// Returns the month `n` months after this one. For July and 9: April.
     pub fn nth_next(self, n: u8) -> Self {
-        Self::of_number(certain(ffi::fots_month_nth_next(self.number(), n.into())))
+        Self::from_number(expect_answer(ffi::fots_month_nth_next(self.number(), n.into())))
     }
 
     /// Returns the month `n` months before this one. For July and 9: October.
     pub fn nth_prev(self, n: u8) -> Self {
-        Self::of_number(certain(ffi::fots_month_nth_prev(self.number(), n.into())))
+        Self::from_number(expect_answer(ffi::fots_month_nth_prev(self.number(), n.into())))
     }
 
     /// Returns an endless iterator from a month on. From November: November, December, January, ..
@@ -132,7 +132,7 @@ impl TryFrom<u8> for Month {
     /// Converts from a number, or returns the error `month` outside 1 to 12.
     fn try_from(number: u8) -> Result<Self, ComponentRange> {
         match number {
-            1..=12 => Ok(Self::of_number(number.into())),
+            1..=12 => Ok(Self::from_number(number.into())),
             _ => Err(ComponentRange::MONTH),
         }
     }

@@ -1,6 +1,6 @@
 use crate::date_time::date_time;
-use crate::error::{ComponentRange, Unreadable};
-use crate::ffi::{self, certain, or_none, or_refused, CMoment};
+use crate::error::{ComponentRange, ParseError};
+use crate::ffi::{self, expect_answer, or_none, or_error, CMoment};
 use crate::reader::both;
 use crate::short_text::ShortText;
 use crate::text::rfc3339;
@@ -22,7 +22,7 @@ use core::str::FromStr;
 /// assert_eq!(night.unix_timestamp(), 1709247599);
 /// assert_eq!(night.to_utc().to_string(), "2024-02-29 22:59:59.25 +00:00:00");
 /// assert_eq!(night.to_utc(), night);
-/// # Ok::<(), fotsevindre::error::Unreadable>(())
+/// # Ok::<(), fotsevindre::error::ParseError>(())
 /// ```
 #[derive(Clone, Copy)]
 pub struct OffsetDateTime {
@@ -46,8 +46,8 @@ impl OffsetDateTime {
     }
 
     /// Converts from the struct of C.
-    fn of_c(moment: CMoment) -> Self {
-        Self::new_in_offset(Date::of_c(moment.date), Time::of_c(moment.time), UtcOffset::of_c(moment.offset))
+    fn from_c(moment: CMoment) -> Self {
+        Self::new_in_offset(Date::from_c(moment.date), Time::from_c(moment.time), UtcOffset::from_c(moment.offset))
     }
 
     /// Converts to the struct of C.
@@ -66,7 +66,7 @@ impl OffsetDateTime {
     ///
     /// `timestamp` out of range.
     pub fn from_unix_timestamp(timestamp: i64) -> Result<Self, ComponentRange> {
-        or_refused(ffi::fots_moment_from_unix_timestamp(timestamp)).map(Self::of_c)
+        or_error(ffi::fots_moment_from_unix_timestamp(timestamp)).map(Self::from_c)
     }
 
     /// Creates a date-time at UTC from a Unix time in nanoseconds.
@@ -79,17 +79,17 @@ impl OffsetDateTime {
         // Numbers of seconds past `i64` are far out of range.
         let seconds = (timestamp / SECOND).clamp(i64::MIN.into(), i64::MAX.into()) as i64;
         let duration = SignedDuration::new(seconds, (timestamp % SECOND) as i32);
-        or_refused(ffi::fots_moment_from_unix_time(duration.to_c())).map(Self::of_c)
+        or_error(ffi::fots_moment_from_unix_time(duration.to_c())).map(Self::from_c)
     }
 
     /// Returns the Unix time in seconds, rounded down. Half a second before 1970 is -1.
     pub fn unix_timestamp(self) -> i64 {
-        certain(ffi::fots_moment_unix_timestamp(self.to_c()))
+        expect_answer(ffi::fots_moment_unix_timestamp(self.to_c()))
     }
 
     /// Returns the Unix time in nanoseconds.
     pub fn unix_timestamp_nanos(self) -> i128 {
-        SignedDuration::of_c(certain(ffi::fots_moment_unix_time(self.to_c()))).whole_nanoseconds()
+        SignedDuration::from_c(expect_answer(ffi::fots_moment_unix_time(self.to_c()))).whole_nanoseconds()
     }
 
     /// Returns the date and the time of day.
@@ -114,7 +114,7 @@ impl OffsetDateTime {
 
     /// Returns the same instant at another offset, or `None` out of range.
     pub fn checked_to_offset(self, offset: UtcOffset) -> Option<Self> {
-        or_none(ffi::fots_moment_to_offset(self.to_c(), offset.whole_seconds())).map(Self::of_c)
+        or_none(ffi::fots_moment_to_offset(self.to_c(), offset.whole_seconds())).map(Self::from_c)
     }
 
     /// Returns the same instant at UTC, or `None` out of range.
@@ -171,7 +171,7 @@ impl PartialOrd for OffsetDateTime {
 
 impl Ord for OffsetDateTime {
     fn cmp(&self, other: &Self) -> Ordering {
-        certain(ffi::fots_moment_compare(self.to_c(), other.to_c())).cmp(&0)
+        expect_answer(ffi::fots_moment_compare(self.to_c(), other.to_c())).cmp(&0)
     }
 }
 
@@ -190,7 +190,7 @@ impl fmt::Display for OffsetDateTime {
 }
 
 impl FromStr for OffsetDateTime {
-    type Err = Unreadable;
+    type Err = ParseError;
 
     /// Parses RFC 3339, like [`text::rfc3339::read`](rfc3339::read), or a [`PlainDateTime`], a
     /// space and a [`UtcOffset`].
@@ -198,7 +198,7 @@ impl FromStr for OffsetDateTime {
     /// # Errors
     ///
     /// `UnexpectedByte` or `UnexpectedEnd`, else `OutOfRange` for the first component out of range.
-    fn from_str(text: &str) -> Result<Self, Unreadable> {
+    fn from_str(text: &str) -> Result<Self, ParseError> {
         if text.matches(' ').count() < 2 {
             let (date, time, offset) = rfc3339::read(text.as_bytes())?;
             return Ok(Self::new_in_offset(date, time, offset));

@@ -1,6 +1,6 @@
 use crate::date_time::date_time;
-use crate::error::{ComponentRange, Unreadable};
-use crate::ffi::{self, certain, or_none, CMoment};
+use crate::error::{ComponentRange, ParseError};
+use crate::ffi::{self, expect_answer, or_none, CMoment};
 use crate::reader::both;
 use crate::short_text::ShortText;
 use crate::{Date, Month, OffsetDateTime, SignedDuration, Time, UtcOffset, Weekday};
@@ -16,7 +16,7 @@ use core::str::FromStr;
 ///
 /// let late: PlainDateTime = "2020-12-31 23:00:00".parse()?;
 /// assert_eq!((late + SignedDuration::hours(2)).to_string(), "2021-01-01 1:00:00.0");
-/// # Ok::<(), fotsevindre::error::Unreadable>(())
+/// # Ok::<(), fotsevindre::error::ParseError>(())
 /// ```
 #[derive(Clone, Copy, PartialEq, Eq, PartialOrd, Ord, Hash)]
 pub struct PlainDateTime {
@@ -37,8 +37,8 @@ impl PlainDateTime {
     }
 
     /// Converts from the struct of C.
-    fn of_c(moment: CMoment) -> Self {
-        Self::new(Date::of_c(moment.date), Time::of_c(moment.time))
+    fn from_c(moment: CMoment) -> Self {
+        Self::new(Date::from_c(moment.date), Time::from_c(moment.time))
     }
 
     /// Converts to the struct of C, at the offset 0.
@@ -131,14 +131,14 @@ impl fmt::Display for PlainDateTime {
 }
 
 impl FromStr for PlainDateTime {
-    type Err = Unreadable;
+    type Err = ParseError;
 
     /// Parses a [`Date`], a space and a [`Time`]: `2024-02-29 23:59:59.25`.
     ///
     /// # Errors
     ///
     /// `UnexpectedByte` or `UnexpectedEnd`, else `OutOfRange` for the first component out of range.
-    fn from_str(text: &str) -> Result<Self, Unreadable> {
+    fn from_str(text: &str) -> Result<Self, ParseError> {
         let (date, time) = both(text, text.find(' '))?;
         Ok(Self::new(date, time))
     }

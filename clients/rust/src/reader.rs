@@ -1,6 +1,6 @@
 //! Parses texts of this crate byte by byte.
 
-use crate::error::Unreadable;
+use crate::error::ParseError;
 use core::str::FromStr;
 
 /// The rest of a text.
@@ -15,11 +15,11 @@ impl<'a> Reader<'a> {
     }
 
     /// Returns the error of the next byte, or of the end.
-    pub(crate) fn unexpected(&self) -> Unreadable {
+    pub(crate) fn unexpected(&self) -> ParseError {
         if self.position < self.bytes.len() {
-            Unreadable::UnexpectedByte(self.position)
+            ParseError::UnexpectedByte(self.position)
         } else {
-            Unreadable::UnexpectedEnd(self.position)
+            ParseError::UnexpectedEnd(self.position)
         }
     }
 
@@ -31,7 +31,7 @@ impl<'a> Reader<'a> {
     }
 
     /// Skips this byte, or returns an error.
-    pub(crate) fn byte(&mut self, byte: u8) -> Result<(), Unreadable> {
+    pub(crate) fn byte(&mut self, byte: u8) -> Result<(), ParseError> {
         if self.takes(byte) {
             Ok(())
         } else {
@@ -47,14 +47,14 @@ impl<'a> Reader<'a> {
     }
 
     /// Returns the number of two digits.
-    pub(crate) fn two_digits(&mut self) -> Result<u8, Unreadable> {
+    pub(crate) fn two_digits(&mut self) -> Result<u8, ParseError> {
         let tens = self.digit().ok_or_else(|| self.unexpected())?;
         let ones = self.digit().ok_or_else(|| self.unexpected())?;
         Ok(tens * 10 + ones)
     }
 
     /// Returns an error unless the text has ended.
-    pub(crate) fn end(&self) -> Result<(), Unreadable> {
+    pub(crate) fn end(&self) -> Result<(), ParseError> {
         if self.position == self.bytes.len() {
             Ok(())
         } else {
@@ -65,23 +65,23 @@ impl<'a> Reader<'a> {
 
 /// Parses the parts before and after a space. Unexpected bytes come first, then the first component
 /// out of range. Without the space the text ends too early.
-pub(crate) fn both<A, B>(text: &str, space: Option<usize>) -> Result<(A, B), Unreadable>
+pub(crate) fn both<A, B>(text: &str, space: Option<usize>) -> Result<(A, B), ParseError>
 where
-    A: FromStr<Err = Unreadable>,
-    B: FromStr<Err = Unreadable>,
+    A: FromStr<Err = ParseError>,
+    B: FromStr<Err = ParseError>,
 {
     let end = space.unwrap_or(text.len());
     let first = text[..end].parse();
     match first {
         // If the first part ends too early, the space is wrong.
-        Err(Unreadable::UnexpectedEnd(_)) if space.is_some() => return Err(Unreadable::UnexpectedByte(end)),
-        Err(error @ (Unreadable::UnexpectedByte(_) | Unreadable::UnexpectedEnd(_))) => return Err(error),
-        Ok(_) | Err(Unreadable::OutOfRange(_)) => {}
+        Err(ParseError::UnexpectedEnd(_)) if space.is_some() => return Err(ParseError::UnexpectedByte(end)),
+        Err(error @ (ParseError::UnexpectedByte(_) | ParseError::UnexpectedEnd(_))) => return Err(error),
+        Ok(_) | Err(ParseError::OutOfRange(_)) => {}
     }
-    let rest = text.get(end + 1..).ok_or(Unreadable::UnexpectedEnd(end))?;
+    let rest = text.get(end + 1..).ok_or(ParseError::UnexpectedEnd(end))?;
     match rest.parse() {
-        Err(Unreadable::UnexpectedByte(position)) => Err(Unreadable::UnexpectedByte(end + 1 + position)),
-        Err(Unreadable::UnexpectedEnd(_)) => Err(Unreadable::UnexpectedEnd(text.len())),
+        Err(ParseError::UnexpectedByte(position)) => Err(ParseError::UnexpectedByte(end + 1 + position)),
+        Err(ParseError::UnexpectedEnd(_)) => Err(ParseError::UnexpectedEnd(text.len())),
         second => Ok((first?, second?)),
     }
 }

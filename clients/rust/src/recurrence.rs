@@ -58,7 +58,7 @@ impl RulePart {
 
 /// Why a part is wrong.
 #[derive(Clone, Copy, Debug, PartialEq, Eq, Hash)]
-pub enum RuleReason {
+pub enum ParseRuleErrorKind {
     /// The part has another name, such as `BYSETPOS=1`.
     Unknown,
     /// The part is there twice, or is a second end after `UNTIL` or `COUNT`.
@@ -73,43 +73,43 @@ pub enum RuleReason {
 
 /// The first wrong part. It prints as `invalid value of BYDAY at 11`.
 #[derive(Clone, Copy, Debug, PartialEq, Eq, Hash)]
-pub struct RuleFault {
+pub struct ParseRuleError {
     /// The position of the part, from 0, or the length of the text if a part is missing.
     pub position: usize,
     /// Why the part is wrong.
-    pub reason: RuleReason,
+    pub reason: ParseRuleErrorKind,
 }
 
-impl RuleFault {
+impl ParseRuleError {
     /// Converts from a status and the number of a part.
-    pub(crate) fn of_status(status: i32, part: u32, position: usize) -> Self {
+    pub(crate) fn from_status(status: i32, part: u32, position: usize) -> Self {
         let part = || RulePart::ALL[part as usize - 1];
         let reason = match status {
-            32 => RuleReason::Unknown,
-            33 => RuleReason::Twice(part()),
-            34 => RuleReason::TooMany(part()),
-            35 => RuleReason::Value(part()),
-            36 => RuleReason::Missing,
+            32 => ParseRuleErrorKind::Unknown,
+            33 => ParseRuleErrorKind::Twice(part()),
+            34 => ParseRuleErrorKind::TooMany(part()),
+            35 => ParseRuleErrorKind::Value(part()),
+            36 => ParseRuleErrorKind::Missing,
             status => unexpected(status),
         };
         Self { position, reason }
     }
 }
 
-impl fmt::Display for RuleFault {
+impl fmt::Display for ParseRuleError {
     fn fmt(&self, f: &mut fmt::Formatter<'_>) -> fmt::Result {
         let (reason, part) = match self.reason {
-            RuleReason::Unknown => ("unknown part", ""),
-            RuleReason::Twice(part) => ("duplicate ", part.name()),
-            RuleReason::TooMany(part) => ("too many values in ", part.name()),
-            RuleReason::Value(part) => ("invalid value of ", part.name()),
-            RuleReason::Missing => ("missing FREQ", ""),
+            ParseRuleErrorKind::Unknown => ("unknown part", ""),
+            ParseRuleErrorKind::Twice(part) => ("duplicate ", part.name()),
+            ParseRuleErrorKind::TooMany(part) => ("too many values in ", part.name()),
+            ParseRuleErrorKind::Value(part) => ("invalid value of ", part.name()),
+            ParseRuleErrorKind::Missing => ("missing FREQ", ""),
         };
         write!(f, "{reason}{part} at {}", self.position)
     }
 }
 
-impl core::error::Error for RuleFault {}
+impl core::error::Error for ParseRuleError {}
 
 /// The end of a recurrence.
 #[derive(Clone, Copy, Debug, PartialEq, Eq)]
@@ -145,14 +145,14 @@ pub struct Recurrence<'a> {
 /// Parses a text such as `FREQ=MONTHLY;BYDAY=-1FR;COUNT=12`, or returns the first wrong part.
 ///
 /// ```
-/// use fotsevindre::recurrence::{parse, RulePart, RuleReason};
+/// use fotsevindre::recurrence::{parse, RulePart, ParseRuleErrorKind};
 ///
 /// let fault = parse(b"FREQ=DAILY;UNTIL=20241231;COUNT=3").unwrap_err();
-/// assert_eq!((fault.position, fault.reason), (26, RuleReason::Twice(RulePart::Count)));
+/// assert_eq!((fault.position, fault.reason), (26, ParseRuleErrorKind::Twice(RulePart::Count)));
 /// ```
-pub fn parse(text: &[u8]) -> Result<Recurrence<'_>, RuleFault> {
+pub fn parse(text: &[u8]) -> Result<Recurrence<'_>, ParseRuleError> {
     let (_, _, parts) = ffi::fots_recurrence_parse(text)?;
-    Ok(Recurrence { text, parts: Parts::of_c(&parts) })
+    Ok(Recurrence { text, parts: Parts::from_c(&parts) })
 }
 
 impl PartialEq for Recurrence<'_> {
@@ -172,7 +172,7 @@ impl fmt::Display for Recurrence<'_> {
 impl<'a> Recurrence<'a> {
     /// Returns the text with its parts in one order: `FREQ=MONTHLY;COUNT=3;BYDAY=-1FR`.
     pub fn text(&self) -> RecurrenceText {
-        RecurrenceText::of_c(ffi::fots_recurrence_text(self.text).expect("the text was read"))
+        RecurrenceText::from_c(ffi::fots_recurrence_text(self.text).expect("the text was read"))
     }
 
     /// Returns the rule from a start, without `COUNT`.
@@ -260,12 +260,12 @@ impl Iterator for RecurrenceDays<'_> {
             self.length = written.expect("the text was read");
             self.next = 0;
             if self.length == AT_ONCE {
-                self.from = Date::of_c(self.days[AT_ONCE - 1]).next_day();
+                self.from = Date::from_c(self.days[AT_ONCE - 1]).next_day();
             }
         }
         let day = *self.days[..self.length].get(self.next)?;
         self.next += 1;
-        Some(Date::of_c(day))
+        Some(Date::from_c(day))
     }
 }
 

@@ -1,6 +1,6 @@
 //! Recurrence rules of RFC 5545.
 
-use crate::ffi::{self, certain, or_none};
+use crate::ffi::{self, expect_answer, or_none};
 use crate::{Date, Month, Weekday};
 use core::iter::{FusedIterator, Take};
 
@@ -19,7 +19,7 @@ impl Frequency {
     const ALL: [Self; 4] = [Self::Daily, Self::Weekly, Self::Monthly, Self::Yearly];
 
     /// Converts from a number of C.
-    pub(crate) fn of_number(number: u32) -> Self {
+    pub(crate) fn from_number(number: u32) -> Self {
         Self::ALL[number as usize - 1]
     }
 }
@@ -37,7 +37,7 @@ pub enum ByDay {
 /// A recurrence rule in a subset of RFC 5545. A day matches if it matches all parts; an empty slice
 /// excludes no day. A rule without days of the month and weekdays takes the day of its start.
 ///
-/// Calls panic with more than [`Rule::MOST_MONTHS`] months or [`Rule::MOST_WEEKDAYS`] weekdays.
+/// Calls panic with more than [`Rule::MAX_MONTHS`] months or [`Rule::MAX_WEEKDAYS`] weekdays.
 ///
 /// ```
 /// use fotsevindre::{ByDay, Date, Frequency, Month, Rule, Weekday};
@@ -70,10 +70,10 @@ pub struct Rule<'a> {
 
 impl<'a> Rule<'a> {
     /// The maximum number of months.
-    pub const MOST_MONTHS: usize = 64;
+    pub const MAX_MONTHS: usize = 64;
 
     /// The maximum number of weekdays.
-    pub const MOST_WEEKDAYS: usize = 64;
+    pub const MAX_WEEKDAYS: usize = 64;
 
     /// Creates the rule of every day, or the same day of every week (from Monday), month or year.
     pub fn new(start: Date, frequency: Frequency) -> Self {
@@ -91,17 +91,17 @@ impl<'a> Rule<'a> {
 
     /// Returns whether a date is a day of the rule.
     pub fn contains(&self, date: Date) -> bool {
-        certain(ffi::fots_rule_contains(self, date.to_c())) == 1
+        expect_answer(ffi::fots_rule_contains(self, date.to_c())) == 1
     }
 
     /// Returns the first day of the rule after a date, or `None` if none follows.
     pub fn next_after(&self, date: Date) -> Option<Date> {
-        or_none(ffi::fots_rule_next_after(self, date.to_c())).map(Date::of_c)
+        or_none(ffi::fots_rule_next_after(self, date.to_c())).map(Date::from_c)
     }
 
     /// Returns an iterator over the days of the rule.
     pub fn days<'r>(&'r self) -> RuleDays<'r, 'a> {
-        RuleDays { rule: self, front: or_none(ffi::fots_rule_first(self)).map(Date::of_c) }
+        RuleDays { rule: self, front: or_none(ffi::fots_rule_first(self)).map(Date::from_c) }
     }
 
     /// Returns an iterator over the first `count` days of the rule.

@@ -14,10 +14,10 @@
 //! assert_eq!(unix::Text::new(day, time, offset).to_string(), "@1709247599.25");
 //! let (day, time) = unix::read(b"@1709247599.25")?;
 //! assert_eq!(rfc3339::Text::new(day, time, UtcOffset::UTC).unwrap().to_string(), "2024-02-29T22:59:59.25Z");
-//! # Ok::<(), fotsevindre::error::Unreadable>(())
+//! # Ok::<(), fotsevindre::error::ParseError>(())
 //! ```
 
-use crate::ffi::{certain, Answer};
+use crate::ffi::{expect_answer, Answer};
 use core::fmt;
 use core::str;
 
@@ -27,7 +27,7 @@ pub mod julian_day;
 pub mod rfc3339;
 pub mod unix;
 
-pub use crate::error::Unreadable;
+pub use crate::error::ParseError;
 pub use any::{read_any, DateOrMoment};
 
 /// A text of a date or a moment in place: at most 38 ASCII bytes. `WeekText(date).line().as_str()`
@@ -40,13 +40,13 @@ pub struct Line {
 
 impl Line {
     /// Converts from the result of C.
-    pub(crate) fn of_c((length, bytes): (u32, [u8; 40])) -> Self {
+    pub(crate) fn from_c((length, bytes): (u32, [u8; 40])) -> Self {
         Self { length, bytes }
     }
 
     /// Converts the result of a call without errors.
-    fn certain(answer: Answer<(u32, [u8; 40])>) -> Self {
-        Self::of_c(certain(answer))
+    fn expect_answer(answer: Answer<(u32, [u8; 40])>) -> Self {
+        Self::from_c(expect_answer(answer))
     }
 
     /// Returns the text.

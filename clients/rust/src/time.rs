@@ -1,5 +1,5 @@
-use crate::error::{ComponentRange, Unreadable};
-use crate::ffi::{self, certain, or_refused, Answer};
+use crate::error::{ComponentRange, ParseError};
+use crate::ffi::{self, expect_answer, or_error, Answer};
 use crate::reader::Reader;
 use crate::short_text::ShortText;
 use crate::util::DateAdjustment;
@@ -18,7 +18,7 @@ pub struct Time {
 
 /// Returns the time, or the component that is out of range.
 fn made(answer: Answer<u64>) -> Result<Time, ComponentRange> {
-    or_refused(answer).map(Time::of_c)
+    or_error(answer).map(Time::from_c)
 }
 
 /// Converts a carry of C.
@@ -38,7 +38,7 @@ impl Time {
     pub const MAX: Self = Self { nanoseconds: 86_399_999_999_999 };
 
     /// Converts from nanoseconds since midnight.
-    pub(crate) fn of_c(nanoseconds: u64) -> Self {
+    pub(crate) fn from_c(nanoseconds: u64) -> Self {
         Self { nanoseconds }
     }
 
@@ -103,38 +103,38 @@ impl Time {
 
     /// Returns the hour, minute, second and nanosecond. For 1:02:03.004005006: 1, 2, 3, 4005006.
     pub fn as_hms_nano(self) -> (u8, u8, u8, u32) {
-        let (hour, minute, second, nanosecond) = certain(ffi::fots_time_as_hms_nano(self.nanoseconds));
+        let (hour, minute, second, nanosecond) = expect_answer(ffi::fots_time_as_hms_nano(self.nanoseconds));
         (hour as u8, minute as u8, second as u8, nanosecond)
     }
 
     /// Returns the hour, from 0 to 23. For 1:02:03.004005006: 1.
     pub fn hour(self) -> u8 {
-        certain(ffi::fots_time_hour(self.nanoseconds)) as u8
+        expect_answer(ffi::fots_time_hour(self.nanoseconds)) as u8
     }
 
     /// Returns the minute, from 0 to 59. For 1:02:03.004005006: 2.
     pub fn minute(self) -> u8 {
-        certain(ffi::fots_time_minute(self.nanoseconds)) as u8
+        expect_answer(ffi::fots_time_minute(self.nanoseconds)) as u8
     }
 
     /// Returns the second, from 0 to 59. For 1:02:03.004005006: 3.
     pub fn second(self) -> u8 {
-        certain(ffi::fots_time_second(self.nanoseconds)) as u8
+        expect_answer(ffi::fots_time_second(self.nanoseconds)) as u8
     }
 
     /// Returns the millisecond, from 0 to 999. For 1:02:03.004005006: 4.
     pub fn millisecond(self) -> u16 {
-        certain(ffi::fots_time_millisecond(self.nanoseconds)) as u16
+        expect_answer(ffi::fots_time_millisecond(self.nanoseconds)) as u16
     }
 
     /// Returns the microsecond, from 0 to 999999. For 1:02:03.004005006: 4005.
     pub fn microsecond(self) -> u32 {
-        certain(ffi::fots_time_microsecond(self.nanoseconds))
+        expect_answer(ffi::fots_time_microsecond(self.nanoseconds))
     }
 
     /// Returns the nanosecond, from 0 to 999999999. For 1:02:03.004005006: 4005006.
     pub fn nanosecond(self) -> u32 {
-        certain(ffi::fots_time_nanosecond(self.nanoseconds))
+        expect_answer(ffi::fots_time_nanosecond(self.nanoseconds))
     }
 
     /// Replaces the hour. For 1:02:03.5 and 7: 7:02:03.5.
@@ -193,51 +193,51 @@ impl Time {
 
     /// Sets all below the hour to zero. 1:02:03.004005006 becomes 1:00:00.0.
     pub fn truncate_to_hour(self) -> Self {
-        Self::of_c(certain(ffi::fots_time_truncate_to_hour(self.nanoseconds)))
+        Self::from_c(expect_answer(ffi::fots_time_truncate_to_hour(self.nanoseconds)))
     }
 
     /// Sets all below the minute to zero. 1:02:03.004005006 becomes 1:02:00.0.
     pub fn truncate_to_minute(self) -> Self {
-        Self::of_c(certain(ffi::fots_time_truncate_to_minute(self.nanoseconds)))
+        Self::from_c(expect_answer(ffi::fots_time_truncate_to_minute(self.nanoseconds)))
     }
 
     /// Sets all below the second to zero. 1:02:03.004005006 becomes 1:02:03.0.
     pub fn truncate_to_second(self) -> Self {
-        Self::of_c(certain(ffi::fots_time_truncate_to_second(self.nanoseconds)))
+        Self::from_c(expect_answer(ffi::fots_time_truncate_to_second(self.nanoseconds)))
     }
 
     /// Sets all below the millisecond to zero. 1:02:03.004005006 becomes 1:02:03.004.
     pub fn truncate_to_millisecond(self) -> Self {
-        Self::of_c(certain(ffi::fots_time_truncate_to_millisecond(self.nanoseconds)))
+        Self::from_c(expect_answer(ffi::fots_time_truncate_to_millisecond(self.nanoseconds)))
     }
 
     /// Sets all below the microsecond to zero. 1:02:03.004005006 becomes 1:02:03.004005.
     pub fn truncate_to_microsecond(self) -> Self {
-        Self::of_c(certain(ffi::fots_time_truncate_to_microsecond(self.nanoseconds)))
+        Self::from_c(expect_answer(ffi::fots_time_truncate_to_microsecond(self.nanoseconds)))
     }
 
     /// Returns the duration forward to `other`, below 24 hours. From 23:00 until 1:00: 2 hours.
     pub fn duration_until(self, other: Self) -> SignedDuration {
-        SignedDuration::of_c(certain(ffi::fots_time_duration_until(self.nanoseconds, other.nanoseconds)))
+        SignedDuration::from_c(expect_answer(ffi::fots_time_duration_until(self.nanoseconds, other.nanoseconds)))
     }
 
     /// Returns the duration forward from `other`, below 24 hours. At 1:00 since 23:00: 2 hours.
     pub fn duration_since(self, other: Self) -> SignedDuration {
-        SignedDuration::of_c(certain(ffi::fots_time_duration_since(self.nanoseconds, other.nanoseconds)))
+        SignedDuration::from_c(expect_answer(ffi::fots_time_duration_since(self.nanoseconds, other.nanoseconds)))
     }
 
     /// Adds a duration, and returns the carry beyond its whole days. 23:00 plus 26 hours is 1:00
     /// two days later, so the carry is `Next`.
     pub fn adjusting_add(self, duration: SignedDuration) -> (DateAdjustment, Self) {
-        let (carry, time) = certain(ffi::fots_time_adjusting_add(self.nanoseconds, duration.to_c()));
-        (adjustment(carry), Self::of_c(time))
+        let (carry, time) = expect_answer(ffi::fots_time_adjusting_add(self.nanoseconds, duration.to_c()));
+        (adjustment(carry), Self::from_c(time))
     }
 
     /// Subtracts a duration, and returns the carry beyond its whole days. 1:00 minus 26 hours is
     /// 23:00 two days earlier, so the carry is `Previous`.
     pub fn adjusting_sub(self, duration: SignedDuration) -> (DateAdjustment, Self) {
-        let (carry, time) = certain(ffi::fots_time_adjusting_sub(self.nanoseconds, duration.to_c()));
-        (adjustment(carry), Self::of_c(time))
+        let (carry, time) = expect_answer(ffi::fots_time_adjusting_sub(self.nanoseconds, duration.to_c()));
+        (adjustment(carry), Self::from_c(time))
     }
 }
 
@@ -246,7 +246,7 @@ impl Add<SignedDuration> for Time {
 
     /// Adds a duration, modulo 24 hours. 23:00 plus 26 hours is 1:00.
     fn add(self, duration: SignedDuration) -> Self {
-        Self::of_c(certain(ffi::fots_time_add(self.nanoseconds, duration.to_c())))
+        Self::from_c(expect_answer(ffi::fots_time_add(self.nanoseconds, duration.to_c())))
     }
 }
 
@@ -261,7 +261,7 @@ impl Sub<SignedDuration> for Time {
 
     /// Subtracts a duration, modulo 24 hours. 1:00 minus 26 hours is 23:00.
     fn sub(self, duration: SignedDuration) -> Self {
-        Self::of_c(certain(ffi::fots_time_sub(self.nanoseconds, duration.to_c())))
+        Self::from_c(expect_answer(ffi::fots_time_sub(self.nanoseconds, duration.to_c())))
     }
 }
 
@@ -276,7 +276,7 @@ impl Sub for Time {
 
     /// Subtracts on the same day, negative if `other` is later. 0:00 minus 23:00 is -23 hours.
     fn sub(self, other: Self) -> SignedDuration {
-        SignedDuration::of_c(certain(ffi::fots_time_difference(self.nanoseconds, other.nanoseconds)))
+        SignedDuration::from_c(expect_answer(ffi::fots_time_difference(self.nanoseconds, other.nanoseconds)))
     }
 }
 
@@ -301,7 +301,7 @@ impl fmt::Debug for Time {
 }
 
 impl FromStr for Time {
-    type Err = Unreadable;
+    type Err = ParseError;
 
     /// Parses a time: one or two digits of the hour, two each of minute and second, and optionally
     /// one to nine decimals, such as `9:05:00.12` and `09:05:00`.
@@ -309,7 +309,7 @@ impl FromStr for Time {
     /// # Errors
     ///
     /// `UnexpectedByte` or `UnexpectedEnd`, else `OutOfRange` for `hour`, `minute` or `second`.
-    fn from_str(text: &str) -> Result<Self, Unreadable> {
+    fn from_str(text: &str) -> Result<Self, ParseError> {
         let mut reader = Reader::new(text);
         let mut hour = reader.digit().ok_or_else(|| reader.unexpected())?;
         if let Some(ones) = reader.digit() {
@@ -330,6 +330,6 @@ impl FromStr for Time {
             }
         }
         reader.end()?;
-        Self::from_hms_nano(hour, minute, second, nanosecond).map_err(Unreadable::OutOfRange)
+        Self::from_hms_nano(hour, minute, second, nanosecond).map_err(ParseError::OutOfRange)
     }
 }

@@ -1,5 +1,5 @@
-use crate::error::{ComponentRange, Unreadable};
-use crate::ffi::{self, certain, or_refused};
+use crate::error::{ComponentRange, ParseError};
+use crate::ffi::{self, expect_answer, or_error};
 use crate::reader::Reader;
 use crate::short_text::ShortText;
 use core::fmt::{self, Write};
@@ -19,7 +19,7 @@ impl UtcOffset {
     pub const UTC: Self = Self { seconds: 0 };
 
     /// Converts from the number of C.
-    pub(crate) fn of_c(seconds: i32) -> Self {
+    pub(crate) fn from_c(seconds: i32) -> Self {
         Self { seconds }
     }
 
@@ -31,7 +31,7 @@ impl UtcOffset {
     /// The first one out of range: `offset hour`, `offset minute` or `offset second`.
     pub fn from_hms(hours: i8, minutes: i8, seconds: i8) -> Result<Self, ComponentRange> {
         let made = ffi::fots_offset_from_hms(hours.into(), minutes.into(), seconds.into());
-        or_refused(made).map(Self::of_c)
+        or_error(made).map(Self::from_c)
     }
 
     /// Creates an offset from seconds. `from_whole_seconds(3723)` is +01:02:03.
@@ -40,28 +40,28 @@ impl UtcOffset {
     ///
     /// `seconds` outside -93599 to 93599.
     pub fn from_whole_seconds(seconds: i32) -> Result<Self, ComponentRange> {
-        or_refused(ffi::fots_offset_from_whole_seconds(seconds.into())).map(Self::of_c)
+        or_error(ffi::fots_offset_from_whole_seconds(seconds.into())).map(Self::from_c)
     }
 
     /// Returns the hours, minutes and seconds, with one sign. For -01:30:00: -1, -30, 0.
     pub fn as_hms(self) -> (i8, i8, i8) {
-        let (hours, minutes, seconds) = certain(ffi::fots_offset_as_hms(self.seconds));
+        let (hours, minutes, seconds) = expect_answer(ffi::fots_offset_as_hms(self.seconds));
         (hours as i8, minutes as i8, seconds as i8)
     }
 
     /// Returns the whole hours, from -25 to 25. For -01:30:00: -1.
     pub fn whole_hours(self) -> i8 {
-        certain(ffi::fots_offset_whole_hours(self.seconds)) as i8
+        expect_answer(ffi::fots_offset_whole_hours(self.seconds)) as i8
     }
 
     /// Returns the whole minutes, from -1559 to 1559. For -01:30:00: -90.
     pub fn whole_minutes(self) -> i16 {
-        certain(ffi::fots_offset_whole_minutes(self.seconds)) as i16
+        expect_answer(ffi::fots_offset_whole_minutes(self.seconds)) as i16
     }
 
     /// Returns the minutes past the hours, from -59 to 59. For -01:30:00: -30.
     pub fn minutes_past_hour(self) -> i8 {
-        certain(ffi::fots_offset_minutes_past_hour(self.seconds)) as i8
+        expect_answer(ffi::fots_offset_minutes_past_hour(self.seconds)) as i8
     }
 
     /// Returns the seconds, from -93599 to 93599. For -01:30:00: -5400.
@@ -71,7 +71,7 @@ impl UtcOffset {
 
     /// Returns the seconds past the minutes, from -59 to 59. For +01:02:03: 3.
     pub fn seconds_past_minute(self) -> i8 {
-        certain(ffi::fots_offset_seconds_past_minute(self.seconds)) as i8
+        expect_answer(ffi::fots_offset_seconds_past_minute(self.seconds)) as i8
     }
 
     /// Returns whether the offset is zero.
@@ -95,7 +95,7 @@ impl Neg for UtcOffset {
 
     /// Negates. For -05:30:00: +05:30:00.
     fn neg(self) -> Self {
-        Self::of_c(certain(ffi::fots_offset_negated(self.seconds)))
+        Self::from_c(expect_answer(ffi::fots_offset_neg(self.seconds)))
     }
 }
 
@@ -116,7 +116,7 @@ impl fmt::Debug for UtcOffset {
 }
 
 impl FromStr for UtcOffset {
-    type Err = Unreadable;
+    type Err = ParseError;
 
     /// Parses an offset: a sign, two digits each of hours and minutes and optionally of seconds,
     /// such as `-05:30:00` and `+01:00`, or `Z` or `z`.
@@ -125,7 +125,7 @@ impl FromStr for UtcOffset {
     ///
     /// `UnexpectedByte` or `UnexpectedEnd`, else `OutOfRange` for `offset hour` above 25, `offset
     /// minute` or `offset second`.
-    fn from_str(text: &str) -> Result<Self, Unreadable> {
+    fn from_str(text: &str) -> Result<Self, ParseError> {
         let mut reader = Reader::new(text);
         if reader.takes(b'Z') || reader.takes(b'z') {
             return reader.end().map(|()| Self::UTC);
@@ -141,6 +141,6 @@ impl FromStr for UtcOffset {
         let minutes = reader.two_digits()? as i8;
         let seconds = if reader.takes(b':') { reader.two_digits()? as i8 } else { 0 };
         reader.end()?;
-        Self::from_hms(sign * hours, sign * minutes, sign * seconds).map_err(Unreadable::OutOfRange)
+        Self::from_hms(sign * hours, sign * minutes, sign * seconds).map_err(ParseError::OutOfRange)
     }
 }

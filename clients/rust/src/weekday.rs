@@ -1,5 +1,5 @@
 use crate::error::InvalidVariant;
-use crate::ffi::{self, certain};
+use crate::ffi::{self, expect_answer};
 use crate::iter::WeekdayIter;
 use core::fmt;
 use core::str::FromStr;
@@ -28,7 +28,7 @@ const WEEKDAYS: [Weekday; 7] =
 impl Weekday {
     /// Converts from a number, 1 (Monday) to 7 (Sunday).
     #[inline]
-    pub(crate) fn of_number(number: u32) -> Self {
+    pub(crate) fn from_number(number: u32) -> Self {
         WEEKDAYS[number as usize - 1]
     }
 
@@ -50,12 +50,12 @@ impl Weekday {
 
     /// Returns the weekday `n` days after this one. For Sunday and 10: Wednesday.
     pub fn nth_next(self, n: u8) -> Self {
-        Self::of_number(certain(ffi::fots_weekday_nth_next(self.number(), n.into())))
+        Self::from_number(expect_answer(ffi::fots_weekday_nth_next(self.number(), n.into())))
     }
 
     /// Returns the weekday `n` days before this one. For Sunday and 10: Thursday.
     pub fn nth_prev(self, n: u8) -> Self {
-        Self::of_number(certain(ffi::fots_weekday_nth_prev(self.number(), n.into())))
+        Self::from_number(expect_answer(ffi::fots_weekday_nth_prev(self.number(), n.into())))
     }
 
     /// Returns the number of ISO 8601, from 1 (Monday) to 7 (Sunday). For Friday: 5.
@@ -66,7 +66,7 @@ impl Weekday {
 
     /// Returns the number from 1 (Sunday) to 7 (Saturday). For Friday: 6.
     pub fn number_from_sunday(self) -> u8 {
-        certain(ffi::fots_weekday_number_from_sunday(self.number())) as u8
+        expect_answer(ffi::fots_weekday_number_from_sunday(self.number())) as u8
     }
 
     /// Returns the days since Monday, from 0 to 6. For Friday: 4.

@@ -1,6 +1,6 @@
 //! Working days: days of the week without holidays.
 
-use crate::ffi::{self, certain, or_none};
+use crate::ffi::{self, expect_answer, or_none};
 use crate::Date;
 
 /// How a date moves to a working day, with the names of the ISDA Definitions.
@@ -39,12 +39,12 @@ impl<'a> Workdays<'a> {
     pub const MONDAY_TO_FRIDAY: [bool; 7] = [true, true, true, true, true, false, false];
 
     /// The maximum number of holidays.
-    pub const MOST_HOLIDAYS: usize = 1024;
+    pub const MAX_HOLIDAYS: usize = 1024;
 
     /// Takes the marks from Monday to Sunday, and holidays. Returns `None` unless these are in
-    /// strictly ascending order, and at most [`Self::MOST_HOLIDAYS`].
+    /// strictly ascending order, and at most [`Self::MAX_HOLIDAYS`].
     pub fn new(marks: [bool; 7], holidays: &'a [Date]) -> Option<Self> {
-        if holidays.len() > Self::MOST_HOLIDAYS || holidays.windows(2).any(|next| next[0] >= next[1]) {
+        if holidays.len() > Self::MAX_HOLIDAYS || holidays.windows(2).any(|next| next[0] >= next[1]) {
             return None;
         }
         let week = marks.iter().rev().fold(0, |week, marked| 2 * week + u32::from(*marked));
@@ -53,32 +53,32 @@ impl<'a> Workdays<'a> {
 
     /// Returns whether a date is a working day.
     pub fn is_workday(&self, date: Date) -> bool {
-        certain(ffi::fots_date_is_workday(date.to_c(), self.week, self.holidays)) == 1
+        expect_answer(ffi::fots_date_is_workday(date.to_c(), self.week, self.holidays)) == 1
     }
 
     /// Returns the first working day after a date, or `None` out of range.
     pub fn next_workday(&self, date: Date) -> Option<Date> {
-        or_none(ffi::fots_date_next_workday(date.to_c(), self.week, self.holidays)).map(Date::of_c)
+        or_none(ffi::fots_date_next_workday(date.to_c(), self.week, self.holidays)).map(Date::from_c)
     }
 
     /// Returns the last working day before a date, or `None` out of range.
     pub fn previous_workday(&self, date: Date) -> Option<Date> {
-        or_none(ffi::fots_date_previous_workday(date.to_c(), self.week, self.holidays)).map(Date::of_c)
+        or_none(ffi::fots_date_previous_workday(date.to_c(), self.week, self.holidays)).map(Date::from_c)
     }
 
     /// Returns the n-th working day after a date, or before it if negative; for 0 the date itself,
     /// or the first working day after it. Returns `None` out of range.
     pub fn checked_add_workdays(&self, date: Date, days: i32) -> Option<Date> {
-        or_none(ffi::fots_date_add_workdays(date.to_c(), days, self.week, self.holidays)).map(Date::of_c)
+        or_none(ffi::fots_date_add_workdays(date.to_c(), days, self.week, self.holidays)).map(Date::from_c)
     }
 
     /// Counts the working days from the earlier date, without the later; negative if `to` is first.
     pub fn workdays_between(&self, from: Date, to: Date) -> i32 {
-        certain(ffi::fots_date_workdays_between(from.to_c(), to.to_c(), self.week, self.holidays))
+        expect_answer(ffi::fots_date_workdays_between(from.to_c(), to.to_c(), self.week, self.holidays))
     }
 
     /// Returns the working day that a date moves to, or `None` out of range.
-    pub fn adjusted(&self, date: Date, convention: Convention) -> Option<Date> {
-        or_none(ffi::fots_date_adjusted(date.to_c(), convention as u32, self.week, self.holidays)).map(Date::of_c)
+    pub fn adjust(&self, date: Date, convention: Convention) -> Option<Date> {
+        or_none(ffi::fots_date_adjust(date.to_c(), convention as u32, self.week, self.holidays)).map(Date::from_c)
     }
 }

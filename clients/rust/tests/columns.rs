@@ -1,6 +1,6 @@
 //! Columns: worked rows, each row against the call of one value, and columns that are not of one length.
 
-use fotsevindre::columns::{self, refusal, Refusal};
+use fotsevindre::columns::{self, row_error, RowError};
 use fotsevindre::error::ComponentRange;
 use fotsevindre::{Date, Month, Weekday, Workdays};
 use std::panic::catch_unwind;
@@ -37,7 +37,7 @@ fn same(dates: &[i32], statuses: &[u8], refused: usize, one_by_one: impl Iterato
     assert_eq!(one_by_one.len(), dates.len());
     for (row, answer) in one_by_one.iter().enumerate() {
         assert_eq!(dates[row], answer.map_or(NOTHING, Date::to_julian_day), "{row}");
-        assert_eq!(refusal(statuses[row]), answer.err().map(Refusal::OutOfRange), "{row}");
+        assert_eq!(row_error(statuses[row]), answer.err().map(RowError::OutOfRange), "{row}");
     }
     assert_eq!(refused, one_by_one.iter().filter(|answer| answer.is_err()).count());
     assert!(refused > 0 && refused < dates.len());
@@ -45,8 +45,8 @@ fn same(dates: &[i32], statuses: &[u8], refused: usize, one_by_one: impl Iterato
 
 /// What a column refuses under this name.
 fn component(status: u8) -> (&'static str, bool) {
-    match refusal(status) {
-        Some(Refusal::OutOfRange(error)) => (error.name(), error.is_conditional()),
+    match row_error(status) {
+        Some(RowError::OutOfRange(error)) => (error.name(), error.is_conditional()),
         other => panic!("{other:?}"),
     }
 }
@@ -57,7 +57,7 @@ fn worked_rows() {
     let (years, weeks, weekdays) = ([2020, 2019, 999_999, 999_999, 2020, 1_000_000], [53, 53, 52, 52, 1, 1], [5, 1, 5, 6, 0, 8]);
     assert_eq!(columns::dates_from_iso_week_dates(&years, &weeks, &weekdays, &mut dates, &mut statuses), 4);
     assert_eq!(dates, [2_459_216, NOTHING, 366_963_559, NOTHING, NOTHING, NOTHING]);
-    assert_eq!((refusal(statuses[0]), refusal(statuses[2])), (None, None));
+    assert_eq!((row_error(statuses[0]), row_error(statuses[2])), (None, None));
     let refusals = [1, 3, 4, 5].map(|row| component(statuses[row]));
     assert_eq!(refusals, [("week", true), ("weekday", true), ("weekday", false), ("weekday", false)]);
 
@@ -65,8 +65,8 @@ fn worked_rows() {
     let dates = [366_963_559, -363_521_074, 2_460_370, 366_963_560];
     assert_eq!(columns::dates_add_days(&dates, &[1, -1, 366, 0], &mut moved, &mut statuses), 3);
     assert_eq!(moved, [NOTHING, NOTHING, 2_460_736, NOTHING]);
-    let refusals = statuses.map(refusal);
-    assert_eq!(refusals, [Some(Refusal::PastRange), Some(Refusal::PastRange), None, Some(Refusal::NoDate)]);
+    let refusals = statuses.map(row_error);
+    assert_eq!(refusals, [Some(RowError::PastRange), Some(RowError::PastRange), None, Some(RowError::NoDate)]);
 }
 
 #[test]
@@ -94,7 +94,7 @@ fn dates_made() {
         match weekday.map(|weekday| Date::from_iso_week_date(years[row], greater[row], weekday)) {
             Some(answer) => {
                 assert_eq!(dates[row], answer.map_or(NOTHING, Date::to_julian_day));
-                assert_eq!(refusal(statuses[row]), answer.err().map(Refusal::OutOfRange));
+                assert_eq!(row_error(statuses[row]), answer.err().map(RowError::OutOfRange));
             }
             None => assert_eq!((dates[row], component(statuses[row])), (NOTHING, ("weekday", false))),
         }
@@ -115,7 +115,7 @@ fn what_dates_have() {
         columns::dates_to_iso_week_dates(&dates, &mut iso_years, &mut weeks, &mut week_weekdays, &mut statuses),
         columns::dates_weekdays(&dates, &mut weekdays, &mut statuses),
     ];
-    let none = statuses.iter().filter(|status| refusal(**status) == Some(Refusal::NoDate)).count();
+    let none = statuses.iter().filter(|status| row_error(**status) == Some(RowError::NoDate)).count();
     assert!(counts == [none; 4] && none > 0);
     for row in 0..ROWS {
         let Ok(date) = Date::from_julian_day(dates[row]) else {
@@ -137,21 +137,21 @@ fn what_dates_have() {
             i32::try_from(i64::from(dates[row]).saturating_add(days[row])).ok().filter(|day| Date::from_julian_day(*day).is_ok());
         let expected = match Date::from_julian_day(dates[row]) {
             Ok(_) if later.is_some() => None,
-            Ok(_) => Some(Refusal::PastRange),
-            Err(_) => Some(Refusal::NoDate),
+            Ok(_) => Some(RowError::PastRange),
+            Err(_) => Some(RowError::NoDate),
         };
-        assert_eq!(refusal(statuses[row]), expected);
+        assert_eq!(row_error(statuses[row]), expected);
         assert_eq!(moved[row], if expected.is_none() { later.unwrap() } else { NOTHING });
     }
     assert_eq!(refused, statuses.iter().filter(|status| **status != 0).count());
 }
 
 /// What a move by months or working days answers: a date, none past the range, or none as the row has no date.
-fn moved_row(date: i32, moved: impl Fn(Date) -> Option<Date>) -> (i32, Option<Refusal>) {
+fn moved_row(date: i32, moved: impl Fn(Date) -> Option<Date>) -> (i32, Option<RowError>) {
     match Date::from_julian_day(date).map(moved) {
         Ok(Some(later)) => (later.to_julian_day(), None),
-        Ok(None) => (NOTHING, Some(Refusal::PastRange)),
-        Err(_) => (NOTHING, Some(Refusal::NoDate)),
+        Ok(None) => (NOTHING, Some(RowError::PastRange)),
+        Err(_) => (NOTHING, Some(RowError::NoDate)),
     }
 }
 
@@ -169,7 +169,7 @@ fn dates_of_the_schedule() {
     assert_eq!(refused, statuses.iter().filter(|status| **status != 0).count());
     for row in 0..ROWS {
         let expected = moved_row(dates[row], |date| date.checked_add_months(moves[row]));
-        assert_eq!((moved[row], refusal(statuses[row])), expected, "{row}");
+        assert_eq!((moved[row], row_error(statuses[row])), expected, "{row}");
     }
 
     let holidays = [-363_521_073, 2_451_545, 366_963_557, 366_963_558].map(|day| Date::from_julian_day(day).unwrap());
@@ -178,7 +178,7 @@ fn dates_of_the_schedule() {
     assert_eq!(refused, statuses.iter().filter(|status| **status != 0).count());
     for row in 0..ROWS {
         let expected = moved_row(dates[row], |date| workdays.checked_add_workdays(date, moves[row]));
-        assert_eq!((moved[row], refusal(statuses[row])), expected, "{row}");
+        assert_eq!((moved[row], row_error(statuses[row])), expected, "{row}");
     }
 
     let mut numbers = vec![0; ROWS];
@@ -187,9 +187,9 @@ fn dates_of_the_schedule() {
     for row in 0..ROWS {
         let expected = match (Date::from_julian_day(dates[row]), Date::from_julian_day(others[row])) {
             (Ok(date), Ok(other)) => (workdays.workdays_between(date, other), None),
-            _ => (NOTHING, Some(Refusal::NoDate)),
+            _ => (NOTHING, Some(RowError::NoDate)),
         };
-        assert_eq!((numbers[row], refusal(statuses[row])), expected, "{row}");
+        assert_eq!((numbers[row], row_error(statuses[row])), expected, "{row}");
     }
 }
 
@@ -264,18 +264,18 @@ fn columns_of_other_lengths() {
 #[test]
 fn texts() {
     let dates = column(8, -363_600_000, 367_000_000, |number| number as i32);
-    let (mut bytes, mut bounds, mut statuses) = (vec![77; ROWS * columns::DATE_ROOM], vec![0; ROWS + 1], vec![0; ROWS]);
+    let (mut bytes, mut bounds, mut statuses) = (vec![77; ROWS * columns::MAX_DATE_LENGTH], vec![0; ROWS + 1], vec![0; ROWS]);
     let refused = columns::dates_calendar_texts(&dates, &mut bytes, &mut bounds, &mut statuses);
     let (mut read, mut read_statuses) = (vec![0; ROWS], vec![0; ROWS]);
-    assert_eq!(columns::dates_read(&bytes, &bounds, &mut read, &mut read_statuses), refused);
+    assert_eq!(columns::dates_parse(&bytes, &bounds, &mut read, &mut read_statuses), refused);
     assert!(bounds[0] == 0 && bytes[bounds[ROWS] as usize..].iter().all(|byte| *byte == 77));
     for row in 0..ROWS {
         let text = std::str::from_utf8(&bytes[bounds[row] as usize..bounds[row + 1] as usize]).unwrap();
         match Date::from_julian_day(dates[row]) {
             Ok(date) => assert_eq!((text, read[row], statuses[row]), (date.to_string().as_str(), dates[row], 0)),
             Err(_) => {
-                assert_eq!((text, read[row], refusal(statuses[row])), ("", NOTHING, Some(Refusal::NoDate)));
-                assert_eq!(refusal(read_statuses[row]), Some(Refusal::UnexpectedEnd));
+                assert_eq!((text, read[row], row_error(statuses[row])), ("", NOTHING, Some(RowError::NoDate)));
+                assert_eq!(row_error(read_statuses[row]), Some(RowError::UnexpectedEnd));
             }
         }
     }
@@ -286,7 +286,7 @@ fn texts_of_moments() {
     let text = b"2024-02-29T23:59:59.25+01:002024-02-29t00:00:00z2024-02-30T00:00:00Z";
     let bounds = [0, 28, 48, 68, 3, 69];
     let (mut dates, mut times, mut offsets, mut statuses) = ([0; 5], [0; 5], [0; 5], [0; 5]);
-    assert_eq!(columns::moments_read(text, &bounds, &mut dates, &mut times, &mut offsets, &mut statuses), 3);
+    assert_eq!(columns::moments_parse(text, &bounds, &mut dates, &mut times, &mut offsets, &mut statuses), 3);
     assert_eq!((dates[0], times[0], offsets[0]), (2_460_370, 86_399_250_000_000, 3600));
     assert_eq!((dates[2], times[2], offsets[2]), (NOTHING, u64::MAX, NOTHING));
     assert_eq!(component(statuses[2]), ("day", true));
@@ -294,17 +294,17 @@ fn texts_of_moments() {
 
     (times[1], offsets[2], dates[2]) = (86_400_000_000_000, 93_600, 0);
     (times[2], dates[3], times[3], offsets[3]) = (0, 5_373_485, 0, 0);
-    let (mut bytes, mut bounds) = ([0; 5 * columns::MOMENT_ROOM], [0; 6]);
+    let (mut bytes, mut bounds) = ([0; 5 * columns::MAX_MOMENT_LENGTH], [0; 6]);
     assert_eq!(columns::moments_texts(&dates, &times, &offsets, &mut bytes, &mut bounds, &mut statuses), 4);
     assert_eq!((&bytes[..28], bounds), (&text[..28], [0, 28, 28, 28, 28, 28]));
-    let refusals = [1, 2, 3, 4].map(|row| refusal(statuses[row]));
-    assert_eq!(refusals, [Refusal::NoTime, Refusal::NoOffset, Refusal::PastRange, Refusal::NoDate].map(Some));
+    let refusals = [1, 2, 3, 4].map(|row| row_error(statuses[row]));
+    assert_eq!(refusals, [RowError::NoTime, RowError::NoOffset, RowError::PastRange, RowError::NoDate].map(Some));
 }
 
 #[test]
 fn no_room() {
     let mut bytes = [0; 12];
     assert!(catch_unwind(move || columns::dates_calendar_texts(&[0], &mut bytes, &mut [0; 2], &mut [0])).is_err());
-    assert!(catch_unwind(|| columns::dates_read(b"", &[], &mut [], &mut [])).is_err());
-    assert_eq!(columns::dates_read(b"", &[0], &mut [], &mut []), 0);
+    assert!(catch_unwind(|| columns::dates_parse(b"", &[], &mut [], &mut [])).is_err());
+    assert_eq!(columns::dates_parse(b"", &[0], &mut [], &mut []), 0);
 }

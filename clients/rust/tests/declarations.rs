@@ -164,7 +164,7 @@ fn refusals_are_those_of_the_header() {
         let number = plain.split_once(&format!("FOTS_{name} = ")).unwrap().1;
         let number: i32 = number.split(|c: char| !c.is_ascii_digit()).next().unwrap().parse().unwrap();
         if (32..=36).contains(&number) {
-            assert!(RECURRENCES.contains(&format!("            {number} => RuleReason::")), "{name}");
+            assert!(RECURRENCES.contains(&format!("            {number} => ParseRuleErrorKind::")), "{name}");
             // The client names the part, as in `duplicate BYDAY`.
             let reason = text.trim_end_matches(" part");
             assert!(RECURRENCES.contains(&format!(" => (\"{reason}")), "{name}");

@@ -1,6 +1,6 @@
 //! Date-times: worked rows, texts, and drawn values against whole numbers of 128 bits.
 
-use fotsevindre::error::Unreadable::{self, UnexpectedByte, UnexpectedEnd};
+use fotsevindre::error::ParseError::{self, UnexpectedByte, UnexpectedEnd};
 use fotsevindre::{Date, Month, OffsetDateTime, PlainDateTime, SignedDuration, Time, UtcOffset, Weekday};
 use std::collections::hash_map::DefaultHasher;
 use std::hash::{Hash, Hasher};
@@ -232,9 +232,9 @@ fn texts() {
         assert_eq!(text.parse::<OffsetDateTime>(), Err(error), "{text}");
     }
     for (text, name) in [("2023-02-29 24:00:00", "day"), ("2024-02-29 24:00:00", "hour")] {
-        let Err(Unreadable::OutOfRange(error)) = text.parse::<PlainDateTime>() else { panic!("{text}") };
+        let Err(ParseError::OutOfRange(error)) = text.parse::<PlainDateTime>() else { panic!("{text}") };
         assert_eq!(error.name(), name);
-        let Err(Unreadable::OutOfRange(error)) = format!("{text} +26:00").parse::<OffsetDateTime>() else { panic!("{text}") };
+        let Err(ParseError::OutOfRange(error)) = format!("{text} +26:00").parse::<OffsetDateTime>() else { panic!("{text}") };
         assert_eq!(error.name(), name);
     }
 }

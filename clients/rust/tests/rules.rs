@@ -1,6 +1,6 @@
 //! Recurrences, by examples of RFC 5545 with their first days.
 
-use fotsevindre::recurrence::{parse, RuleEnd, RuleFault, RulePart, RuleReason};
+use fotsevindre::recurrence::{parse, RuleEnd, ParseRuleError, RulePart, ParseRuleErrorKind};
 use fotsevindre::ByDay::{Every, Nth};
 use fotsevindre::Frequency::{Daily, Monthly, Weekly, Yearly};
 use fotsevindre::Month::{December, February, January, July, June, November};
@@ -169,30 +169,30 @@ fn days_by_many_pages() {
 fn texts_at_fault() {
     let many = format!("FREQ=DAILY;BYMONTHDAY=1{}", ",1".repeat(62));
     for (text, position, reason, printed) in [
-        ("FREQ=MONTHLY;BYSETPOS=-1;BYDAY=FR", 13, RuleReason::Unknown, "unknown part at 13"),
-        ("FREQ=DAILY;UNTIL=20241231;COUNT=3", 26, RuleReason::Twice(RulePart::Count), "duplicate COUNT at 26"),
-        (&many, 11, RuleReason::TooMany(RulePart::MonthDays), "too many values in BYMONTHDAY at 11"),
-        ("FREQ=HOURLY", 0, RuleReason::Value(RulePart::Frequency), "invalid value of FREQ at 0"),
-        ("FREQ=DAILY;INTERVAL=0", 11, RuleReason::Value(RulePart::Interval), "invalid value of INTERVAL at 11"),
-        ("FREQ=DAILY;WKST=1MO", 11, RuleReason::Value(RulePart::WeekStart), "invalid value of WKST at 11"),
-        ("FREQ=DAILY;BYMONTH=13", 11, RuleReason::Value(RulePart::Months), "invalid value of BYMONTH at 11"),
-        ("FREQ=DAILY;BYDAY=54MO", 11, RuleReason::Value(RulePart::Weekdays), "invalid value of BYDAY at 11"),
-        ("FREQ=DAILY;UNTIL=20230229", 11, RuleReason::Value(RulePart::Until), "invalid value of UNTIL at 11"),
-        ("BYDAY=MO", 8, RuleReason::Missing, "missing FREQ at 8"),
+        ("FREQ=MONTHLY;BYSETPOS=-1;BYDAY=FR", 13, ParseRuleErrorKind::Unknown, "unknown part at 13"),
+        ("FREQ=DAILY;UNTIL=20241231;COUNT=3", 26, ParseRuleErrorKind::Twice(RulePart::Count), "duplicate COUNT at 26"),
+        (&many, 11, ParseRuleErrorKind::TooMany(RulePart::MonthDays), "too many values in BYMONTHDAY at 11"),
+        ("FREQ=HOURLY", 0, ParseRuleErrorKind::Value(RulePart::Frequency), "invalid value of FREQ at 0"),
+        ("FREQ=DAILY;INTERVAL=0", 11, ParseRuleErrorKind::Value(RulePart::Interval), "invalid value of INTERVAL at 11"),
+        ("FREQ=DAILY;WKST=1MO", 11, ParseRuleErrorKind::Value(RulePart::WeekStart), "invalid value of WKST at 11"),
+        ("FREQ=DAILY;BYMONTH=13", 11, ParseRuleErrorKind::Value(RulePart::Months), "invalid value of BYMONTH at 11"),
+        ("FREQ=DAILY;BYDAY=54MO", 11, ParseRuleErrorKind::Value(RulePart::Weekdays), "invalid value of BYDAY at 11"),
+        ("FREQ=DAILY;UNTIL=20230229", 11, ParseRuleErrorKind::Value(RulePart::Until), "invalid value of UNTIL at 11"),
+        ("BYDAY=MO", 8, ParseRuleErrorKind::Missing, "missing FREQ at 8"),
     ] {
         let fault = parse(text.as_bytes()).unwrap_err();
-        assert_eq!((fault, fault.to_string().as_str()), (RuleFault { position, reason }, printed), "{text}");
+        assert_eq!((fault, fault.to_string().as_str()), (ParseRuleError { position, reason }, printed), "{text}");
     }
 }
 
 #[test]
 fn as_many_parts_as_there_can_be() {
     let rule =
-        Rule { months: &[January; Rule::MOST_MONTHS], weekdays: &[Every(Monday); Rule::MOST_WEEKDAYS], ..rule(Yearly, 2024_01_01) };
+        Rule { months: &[January; Rule::MAX_MONTHS], weekdays: &[Every(Monday); Rule::MAX_WEEKDAYS], ..rule(Yearly, 2024_01_01) };
     assert_eq!(rule.days().nth(5), Some(date(2025_01_06)));
     let header = include_str!("../../../include/fotsevindre.h");
-    assert!(header.contains(&format!("#define FOTS_MAX_MONTHS {}", Rule::MOST_MONTHS)));
-    assert!(header.contains(&format!("#define FOTS_MAX_WEEKDAYS {}", Rule::MOST_WEEKDAYS)));
+    assert!(header.contains(&format!("#define FOTS_MAX_MONTHS {}", Rule::MAX_MONTHS)));
+    assert!(header.contains(&format!("#define FOTS_MAX_WEEKDAYS {}", Rule::MAX_WEEKDAYS)));
 }
 
 #[test]

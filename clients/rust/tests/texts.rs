@@ -1,6 +1,6 @@
 //! Texts: worked rows, the examples of RFC 3339, what is refused and where, and days and moments printed and read back.
 
-use fotsevindre::error::Unreadable::{self, UnexpectedByte, UnexpectedEnd};
+use fotsevindre::error::ParseError::{self, UnexpectedByte, UnexpectedEnd};
 use fotsevindre::text::date::{CalendarText, OrdinalText, WeekText};
 use fotsevindre::text::julian_day::JulianText;
 use fotsevindre::text::{date, julian_day, read_any, rfc3339, unix, DateOrMoment};
@@ -44,11 +44,11 @@ fn days_in_text() {
 
 /// The error prints as said, is one of std, and has the name and the mark of the component.
 #[track_caller]
-fn is_out_of_range<T: std::fmt::Debug>(text: &str, read: Result<T, Unreadable>, name: &str, is_conditional: bool) {
+fn is_out_of_range<T: std::fmt::Debug>(text: &str, read: Result<T, ParseError>, name: &str, is_conditional: bool) {
     let error = read.unwrap_err();
     let _: &dyn std::error::Error = &error;
     assert_eq!(error.to_string(), format!("{name} was not in range"), "{text}");
-    let Unreadable::OutOfRange(component) = error else { panic!("{text}: {error}") };
+    let ParseError::OutOfRange(component) = error else { panic!("{text}: {error}") };
     assert_eq!((component.name(), component.is_conditional()), (name, is_conditional), "{text}");
 }
 

@@ -48,7 +48,7 @@ fn conventions() {
         (start, Convention::Preceding, day(2024, 5, 31)),
         (start, Convention::ModifiedPreceding, day(2024, 6, 3)),
     ] {
-        assert_eq!(workdays.adjusted(date, convention), Some(wanted), "{date} {convention:?}");
+        assert_eq!(workdays.adjust(date, convention), Some(wanted), "{date} {convention:?}");
     }
 }
 
@@ -62,6 +62,6 @@ fn lists_of_holidays() {
     let most = Workdays::new([true; 7], &many[1..]).unwrap();
     assert_eq!(most.next_workday(many[0]), Date::from_julian_day(2_461_025).ok());
     assert!(
-        include_str!("../../../include/fotsevindre.h").contains(&format!("#define FOTS_MAX_HOLIDAYS {}", Workdays::MOST_HOLIDAYS))
+        include_str!("../../../include/fotsevindre.h").contains(&format!("#define FOTS_MAX_HOLIDAYS {}", Workdays::MAX_HOLIDAYS))
     );
 }

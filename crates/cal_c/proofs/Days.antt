@@ -4,7 +4,7 @@ use Rattle.std.proofs.lemmas.Int.{ints}
 use Rattle.std.proofs.lemmas.Bool.Decides.{nat_tests}
 use Rattle.cal_time.specs.Date.{julian_day_at, IsDate}
 use Rattle.cal_time.specs.Lengths.{days_in_month}
-use Rattle.cal_c.specs.Results.{date_done, IsDayWith}
+use Rattle.cal_c.specs.Results.{date_ok, IsDateWith}
 use Rattle.cal_c.specs.Values.{IsJulianDay, day_of}
 
 pub day_of-julian_day_at : (n : ℕ) → day_of (julian_day_at n) ≡ n
@@ -20,8 +20,8 @@ pub IsJulianDay-at : (n : ℕ) → IsDate n → IsJulianDay (julian_day_at n)
 IsJulianDay-at n h = record { not_before = omega (arith, ints); not_after = omega (arith, ints) }
 
 -- the answer that is day n has what day n has
-pub IsDayWith-at : (Has : ℕ → Type 0) (n : ℕ) → IsDate n → Has n → IsDayWith Has (date_done (julian_day_at n))
-IsDayWith-at Has n h has = record { status_is = refl; in_range = IsJulianDay-at n h; has = subst Has (sym (day_of-julian_day_at n)) has }
+pub IsDateWith-at : (Has : ℕ → Type 0) (n : ℕ) → IsDate n → Has n → IsDateWith Has (date_ok (julian_day_at n))
+IsDateWith-at Has n h has = record { status_is = refl; in_range = IsJulianDay-at n h; has = subst Has (sym (day_of-julian_day_at n)) has }
 
 pub days_in_month_most : (y : ℤ) (m : ℕ) → days_in_month y m ≤ 31
 unfolding days_in_month

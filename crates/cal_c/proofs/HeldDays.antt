@@ -2,7 +2,7 @@
 use Rattle.std.proofs.Common.{◌≡◌, sym, subst, arith, ℤ, pos, neg_ℤ, ◌+ℤ◌}
 use Rattle.std.specs.Int.{int_min, int_max}
 use Rattle.std.proofs.lemmas.Int.{ints, clamps}
-use Rattle.cal_c.specs.Columns.{IsDateMoved}
+use Rattle.cal_c.specs.Columns.{IsDateDaysLater}
 use Rattle.cal_c.specs.Values.{IsJulianDay}
 use Rattle.cal_c.specs.declared.results.DateResult.{DateResult}
 
@@ -15,11 +15,11 @@ same_if_held date days is moved = omega (arith, ints, clamps, is.not_before, is.
 same_if_moved : (date days : ℤ) → IsJulianDay date → IsJulianDay (date +ℤ days) → held days ≡ days
 same_if_moved date days is moved = omega (arith, ints, clamps, is.not_before, is.not_after, moved.not_before, moved.not_after)
 
-pub IsDateMoved-held : (date days : ℤ) (r : DateResult) → IsDateMoved date (held days) r → IsDateMoved date days r
-IsDateMoved-held date days r moved = record {
-  bad_date = moved.bad_date;
+pub IsDateDaysLater-held : (date days : ℤ) (r : DateResult) → IsDateDaysLater date (held days) r → IsDateDaysLater date days r
+IsDateDaysLater-held date days r moved = record {
+  invalid_date = moved.invalid_date;
   day = λ is. record {
-    past_range = λ none. (moved.day is).past_range (λ h. none (subst (λ d. IsJulianDay (date +ℤ d)) (same_if_held date days is h) h));
+    result_out_of_range = λ none. (moved.day is).result_out_of_range (λ h. none (subst (λ d. IsJulianDay (date +ℤ d)) (same_if_held date days is h) h));
     day = λ h. let same = same_if_moved date days is h in
         subst (λ d. r ≡ record { status = pos 0; date = date +ℤ d }) same ((moved.day is).day (subst (λ d. IsJulianDay (date +ℤ d)) (sym same) h));
   };

@@ -3,7 +3,7 @@ use Rattle.std.proofs.Common.{◌≡◌, ℕ, ◌+◌, ◌<◌, ◌≤◌, ap, s
 use Rattle.std.proofs.lemmas.List.{map_more}
 use Rattle.std.proofs.lemmas.List.Elements.{All-more}
 use Rattle.cal_c.specs.Values.{IsJulianDay, day_of}
-use Rattle.cal_c.specs.Workweeks.{holidays_in}
+use Rattle.cal_c.specs.Weekmasks.{holidays_in}
 
 pub days_more : (hs : List ℤ) (i : ℕ) (xs : List ℕ) (n : ℕ) → i < length hs → xs ≡ holidays_in (take i hs) → n ≡ day_of (get_or hs i (pos 0))
     → xs ++ n ∷ [] ≡ holidays_in (take (i + 1) hs)

@@ -3,7 +3,7 @@ use Rattle.std.proofs.Common.{◌≡◌, ℕ, suc, ◌+◌, ◌-◌, ◌*◌, �
 use Rattle.std.proofs.lemmas.Bool.Decides.{nat_tests}
 use Rattle.cal_time.specs.Date.{last_day, weekday_at, IsDate}
 use Rattle.cal_time.specs.Laws.{weekday_at-is, kth-next_occurrences, kth-prev_occurrences}
-use Rattle.cal_time.specs.Occurrence.{next_occurrences, prev_occurrences, kth}
+use Rattle.cal_time.specs.Occurrences.{next_occurrences, prev_occurrences, kth}
 
 next_days : (w n : ℕ) → 1 ≤ w → w ≤ 7 → (weekday_at n + ((w + 12 - n % 7) % 7 + 1)) % 7 ≡ w - 1
 next_days w n low high = let is = weekday_at-is n in omega arith
@@ -12,13 +12,13 @@ prev_days : (w n : ℕ) → 1 ≤ w → w ≤ 7 → (w - 1 + ((n % 7 + 7 - w) % 
 prev_days w n low high = let is = weekday_at-is n in omega arith
 
 -- A day, if it is in range.
-abbrev pub day_if_any : ℕ → Option ℕ
-day_if_any n = if nat_le n last_day then Some n else None
+abbrev pub date_result_from_number : ℕ → Option ℕ
+date_result_from_number n = if nat_le n last_day then Some n else None
 
-pub next-found : (w n m : ℕ) → 1 ≤ w → w ≤ 7 → day_if_any (n + ((w + 12 - n % 7) % 7 + 1) + 7 * m) ≡ kth (suc m) (next_occurrences (w - 1) n)
+pub next-found : (w n m : ℕ) → 1 ≤ w → w ≤ 7 → date_result_from_number (n + ((w + 12 - n % 7) % 7 + 1) + 7 * m) ≡ kth (suc m) (next_occurrences (w - 1) n)
 next-found w n m low high =
     let sum : n + ((w + 12 - n % 7) % 7 + 1) + 7 * m ≡ n + ((w + 12 - n % 7) % 7 + 1 + 7 * m) = omega arith in
-    ap day_if_any sum ∙ sym (kth-next_occurrences (w - 1) n ((w + 12 - n % 7) % 7 + 1) m (omega arith) (omega arith) (next_days w n low high))
+    ap date_result_from_number sum ∙ sym (kth-next_occurrences (w - 1) n ((w + 12 - n % 7) % 7 + 1) m (omega arith) (omega arith) (next_days w n low high))
 
 prev-found : (w n m : ℕ) → 1 ≤ w → w ≤ 7
     → kth (suc m) (prev_occurrences (w - 1) n)
@@ -26,7 +26,7 @@ prev-found : (w n m : ℕ) → 1 ≤ w → w ≤ 7
 prev-found w n m low high = kth-prev_occurrences (w - 1) n ((n % 7 + 7 - w) % 7 + 1) m (omega arith) (omega arith) (omega arith) (prev_days w n low high)
 
 pub prev-some : (w n m : ℕ) → 1 ≤ w → w ≤ 7 → IsDate n → (n % 7 + 7 - w) % 7 + 1 + 7 * m ≤ n
-    → day_if_any (n - ((n % 7 + 7 - w) % 7 + 1 + 7 * m)) ≡ kth (suc m) (prev_occurrences (w - 1) n)
+    → date_result_from_number (n - ((n % 7 + 7 - w) % 7 + 1 + 7 * m)) ≡ kth (suc m) (prev_occurrences (w - 1) n)
 prev-some w n m low high h there = let found = prev-found w n m low high in rw found (grind (arith, nat_tests))
 
 pub prev-none : (w n m : ℕ) → 1 ≤ w → w ≤ 7 → ((n % 7 + 7 - w) % 7 + 1 + 7 * m ≤ n → ⊥) → None ≡ kth (suc m) (prev_occurrences (w - 1) n)

@@ -5,12 +5,12 @@ use Rattle.std.proofs.lemmas.List.{ext_get_or}
 use Rattle.cal_recurrence.proofs.OneAnswer.{days-one}
 use Rattle.cal_recurrence.specs.Days.{AreDays}
 use Rattle.cal_recurrence.specs.Text.{recurrence_of}
-use Rattle.cal_recurrence.specs.declared.fault.RuleFault.{RuleFault}
+use Rattle.cal_recurrence.specs.declared.fault.ParseRuleError.{ParseRuleError}
 use Rattle.cal_recurrence.specs.declared.recurrence.Recurrence.{Recurrence}
 use Rattle.cal_c.proofs.Days.{either}
-use Rattle.cal_c.specs.RecurrenceTexts.{recurrence_done, recurrence_refused, recurrence_unread}
-use Rattle.cal_c.specs.Recurrences.{AreWritten}
-use Rattle.cal_c.specs.Statuses.{bad_date}
+use Rattle.cal_c.specs.RecurrenceTexts.{recurrence_ok, recurrence_error, recurrence_parse_error}
+use Rattle.cal_c.specs.Recurrences.{AreDatesWritten}
+use Rattle.cal_c.specs.Statuses.{invalid_date}
 use Rattle.cal_c.specs.Values.{IsJulianDay, day_of}
 use Rattle.cal_c.specs.declared.schedule.recurrences.results.RecurrenceResult.{RecurrenceResult}
 
@@ -19,7 +19,7 @@ decided None v h = inr h
 decided (Some x) v h = inl h.0
 
 -- Writing over an array has one result.
-written-one : (ns : List ℕ) (old a b : List ℤ) (n m : ℕ) → length a ≡ length b → AreWritten ns old a n → AreWritten ns old b m → (n ≡ m) × (a ≡ b)
+written-one : (ns : List ℕ) (old a b : List ℤ) (n m : ℕ) → length a ≡ length b → AreDatesWritten ns old a n → AreDatesWritten ns old b m → (n ≡ m) × (a ≡ b)
 written-one ns old a b n m lengths p q =
     let count : n ≡ m = p.count_is ∙ sym q.count_is in (
       count,
@@ -31,25 +31,25 @@ written-one ns old a b n m lengths p q =
 -- the last clause of a call, of a recurrence and two dates
 abbrev pub IsAnswer : Recurrence → ℤ → ℤ → List ℤ → List ℤ → RecurrenceResult → Type 0
 IsAnswer its start from old new r =
-    (all : List ℕ) × AreDays its (day_of start) all × (r ≡ recurrence_done r.length)
-    × AreWritten (filter (nat_le (day_of from)) all) old new r.length
+    (all : List ℕ) × AreDays its (day_of start) all × (r ≡ recurrence_ok r.length)
+    × AreDatesWritten (filter (nat_le (day_of from)) all) old new r.length
 
 answer-one : (its : Recurrence) (start from : ℤ) (old a b : List ℤ) (r s : RecurrenceResult) → length a ≡ length b
     → IsAnswer its start from old a r → IsAnswer its start from old b s → (r ≡ s) × (a ≡ b)
 answer-one its start from old a b r s lengths (xs, p, e, v) (ys, q, f, w) =
     let same = days-one its (day_of start) ys xs q p in
     let both = written-one (filter (nat_le (day_of from)) xs) old a b r.length s.length lengths v
-    (subst (λ days. AreWritten (filter (nat_le (day_of from)) days) old b s.length) same w) in
-    (e ∙ ap recurrence_done both.0 ∙ sym f, both.1)
+    (subst (λ days. AreDatesWritten (filter (nat_le (day_of from)) days) old b s.length) same w) in
+    (e ∙ ap recurrence_ok both.0 ∙ sym f, both.1)
 
 -- all of them
 pub record Clauses (text : List ℕ) (start from : ℤ) (old new : List ℤ) (r : RecurrenceResult) : Type 0 where
-  pub unread : (fault : RuleFault) → recurrence_of text ≡ Err fault → (r ≡ recurrence_unread fault) × (new ≡ old)
-  pub bad_date : (its : Recurrence) → recurrence_of text ≡ Ok its → ¬ (IsJulianDay start × IsJulianDay from)
-      → (r ≡ recurrence_refused bad_date) × (new ≡ old)
+  pub unread : (fault : ParseRuleError) → recurrence_of text ≡ Err fault → (r ≡ recurrence_parse_error fault) × (new ≡ old)
+  pub invalid_date : (its : Recurrence) → recurrence_of text ≡ Ok its → ¬ (IsJulianDay start × IsJulianDay from)
+      → (r ≡ recurrence_error invalid_date) × (new ≡ old)
   pub days : (its : Recurrence) → recurrence_of text ≡ Ok its → IsJulianDay start → IsJulianDay from → IsAnswer its start from old new r
 
-pub recurrence-one : (text : List ℕ) (start from : ℤ) (old a b : List ℤ) (r s : RecurrenceResult) (x : Result Recurrence RuleFault)
+pub recurrence-one : (text : List ℕ) (start from : ℤ) (old a b : List ℤ) (r s : RecurrenceResult) (x : Result Recurrence ParseRuleError)
     → recurrence_of text ≡ x → IsJulianDay start ⊎ (¬ IsJulianDay start) → IsJulianDay from ⊎ (¬ IsJulianDay from) → length a ≡ length b
     → Clauses text start from old a r → Clauses text start from old b s → (r ≡ s) × (a ≡ b)
 recurrence-one text start from old a b r s (Err fault) e either_start either_from lengths p q =
@@ -57,8 +57,8 @@ recurrence-one text start from old a b r s (Err fault) e either_start either_fro
     let other = q.unread fault e in (one.0 ∙ sym other.0, one.1 ∙ sym other.1)
 recurrence-one text start from old a b r s (Ok its) e either_start either_from lengths p q =
     let refused : ¬ (IsJulianDay start × IsJulianDay from) → (r ≡ s) × (a ≡ b) = λ out.
-    let one = p.bad_date its e out in
-    let other = q.bad_date its e out in (one.0 ∙ sym other.0, one.1 ∙ sym other.1) in
+    let one = p.invalid_date its e out in
+    let other = q.invalid_date its e out in (one.0 ∙ sym other.0, one.1 ∙ sym other.1) in
     either either_start
     (λ is_start. either either_from
     (λ is_from. answer-one its start from old a b r s lengths (p.days its e is_start is_from) (q.days its e is_start is_from))

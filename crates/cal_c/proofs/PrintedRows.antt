@@ -5,7 +5,7 @@ use Rattle.std.proofs.lemmas.Int.{ints}
 use Rattle.std.proofs.lemmas.List.{take-take, drop-drop}
 use Rattle.std.proofs.lemmas.Slice.{between_is}
 use Rattle.std.specs.List.{between}
-use Rattle.cal_c.specs.TextColumns.{ArePartOf, text_at}
+use Rattle.cal_c.specs.TextColumns.{AreBoundsWithin, text_at}
 
 -- The texts of the first rows are before the end, each between its bounds, and the bytes after the
 -- end are unchanged.
@@ -14,7 +14,7 @@ pub record Printed (Row : ℕ → List ℕ → ℕ → Type 0) (longest : ℕ) (
   pub first : get_or bounds 0 (pos 0) ≡ pos 0
   pub last : get_or bounds row (pos 0) ≡ pos end
   pub rest : drop end now ≡ drop end old
-  pub part : (k : ℕ) → k < row → ArePartOf now (get_or bounds k (pos 0)) (get_or bounds (k + 1) (pos 0))
+  pub part : (k : ℕ) → k < row → AreBoundsWithin now (get_or bounds k (pos 0)) (get_or bounds (k + 1) (pos 0))
   pub before : (k : ℕ) → k < row → get_or bounds (k + 1) (pos 0) ≤ℤ pos end
   pub text : (k : ℕ) → k < row → Row k (text_at now bounds k) (get_or statuses k 0)
 
@@ -31,10 +31,10 @@ pub record IsPut (end : ℕ) (text old now : List ℕ) : Type 0 where
   pub put : between end (end + length text) now ≡ text
   pub back : drop (end + length text) now ≡ drop (end + length text) old
 
-part-stays : (old now : List ℕ) (from to : ℤ) → length now ≡ length old → ArePartOf old from to → ArePartOf now from to
+part-stays : (old now : List ℕ) (from to : ℤ) → length now ≡ length old → AreBoundsWithin old from to → AreBoundsWithin now from to
 part-stays old now from to e are = record { not_before = are.not_before; rising = are.rising; not_after = rw e are.not_after }
 
-lies : (now : List ℕ) (from to : ℕ) → from ≤ to → to ≤ length now → ArePartOf now (pos from) (pos to)
+lies : (now : List ℕ) (from to : ℕ) → from ≤ to → to ≤ length now → AreBoundsWithin now (pos from) (pos to)
 lies now from to rising within = record { not_before = omega (arith, ints); rising = omega (arith, ints); not_after = omega (arith, ints) }
 
 abbrev at : List ℤ → ℕ → ℤ
@@ -62,11 +62,11 @@ one-more Row longest start old now bounds statuses row end text status hb hs roo
       first = as_before 0 (omega arith) ∙ so_far.first;
       last = last;
       rest = put.back ∙ sym (drop-drop (length text) end old) ∙ ap (drop (length text)) so_far.rest ∙ drop-drop (length text) end start;
-      part = below_more (λ k. ArePartOf now (at more k) (at more (k + 1))) row
-          (λ k below. subst (λ x. ArePartOf now x (at more (k + 1))) (sym (as_before k (omega arith)))
-          (subst (ArePartOf now (at bounds k)) (sym (as_before (k + 1) (omega arith))) (part-stays old now (at bounds k) (at bounds (k + 1)) put.as_long (so_far.part k below))))
-          (subst (λ x. ArePartOf now x (at more (row + 1))) (sym (as_before row (omega arith) ∙ so_far.last))
-          (subst (ArePartOf now (pos end)) (sym last) (lies now end (end + length text) (omega arith) (omega (arith, put.as_long, room)))));
+      part = below_more (λ k. AreBoundsWithin now (at more k) (at more (k + 1))) row
+          (λ k below. subst (λ x. AreBoundsWithin now x (at more (k + 1))) (sym (as_before k (omega arith)))
+          (subst (AreBoundsWithin now (at bounds k)) (sym (as_before (k + 1) (omega arith))) (part-stays old now (at bounds k) (at bounds (k + 1)) put.as_long (so_far.part k below))))
+          (subst (λ x. AreBoundsWithin now x (at more (row + 1))) (sym (as_before row (omega arith) ∙ so_far.last))
+          (subst (AreBoundsWithin now (pos end)) (sym last) (lies now end (end + length text) (omega arith) (omega (arith, put.as_long, room)))));
       before = below_more (λ k. at more (k + 1) ≤ℤ pos (end + length text)) row
           (λ k below. subst (λ x. x ≤ℤ pos (end + length text)) (sym (as_before (k + 1) (omega arith))) (omega (arith, ints, so_far.before k below)))
           (subst (λ x. x ≤ℤ pos (end + length text)) (sym last) (omega (arith, ints)));

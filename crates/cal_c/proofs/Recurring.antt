@@ -4,40 +4,40 @@ use Rattle.std.proofs.Math.ListN.{set}
 use Rattle.std.proofs.lemmas.List.{map_more, take_more_set}
 use Rattle.cal_time.specs.Date.{last_day}
 use Rattle.cal_time.specs.Filters.{IsFirstDay, filter-first, first_passing}
-use Rattle.cal_time.specs.Month.{month_at, number}
-use Rattle.cal_time.specs.Occurrence.{days_from}
+use Rattle.cal_time.specs.Month.{month_of_index, number}
+use Rattle.cal_time.specs.Occurrences.{days_from}
 use Rattle.cal_time.specs.declared.Month.{Month}
 use Rattle.cal_time.specs.declared.Month.TheVariants.{January, February, March, April, May, June, July, August, September, October, November, December}
-use Rattle.cal_schedule.specs.declared.rule.kinds.Rule.{Rule}
-use Rattle.cal_schedule.specs.Rule.{days_after, is_on}
+use Rattle.cal_schedule.specs.declared.rule.rule.Rule.{Rule}
+use Rattle.cal_schedule.specs.Rule.{occurrences_after, is_occurrence}
 use Rattle.cal_c.specs.Recurrences.{AreDates, IsFrequency, IsRule, IsRuleStatus}
-use Rattle.cal_c.specs.Statuses.{bad_date, bad_frequency, bad_weekday}
+use Rattle.cal_c.specs.Statuses.{invalid_date, invalid_frequency, invalid_weekday}
 use Rattle.cal_c.specs.Values.{IsWeekday}
-use Rattle.cal_c.specs.declared.schedule.recurrences.parts.RuleParts.{RuleParts}
+use Rattle.cal_c.specs.declared.schedule.recurrences.rule_parts.RuleParts.{RuleParts}
 
 pub mapped_more : {A B : Type 0} (f : A → B) (xs : List A) (ys : List B) (i : ℕ) (d : A) (y : B) → i < length xs → i < length ys
     → take i ys ≡ map f (take i xs) → y ≡ f (get_or xs i d) → take (i + 1) (set ys i y) ≡ map f (take (i + 1) xs)
 mapped_more f xs ys i d y lt room e q = take_more_set ys i y room ∙ (λ k. e k ++ q k ∷ []) ∙ sym (map_more f xs i d lt)
 
-month_at-number : (m : Month) → month_at (number m - 1) ≡ m
-month_at-number January = refl
-month_at-number February = refl
-month_at-number March = refl
-month_at-number April = refl
-month_at-number May = refl
-month_at-number June = refl
-month_at-number July = refl
-month_at-number August = refl
-month_at-number September = refl
-month_at-number October = refl
-month_at-number November = refl
-month_at-number December = refl
+month_of_index-number : (m : Month) → month_of_index (number m - 1) ≡ m
+month_of_index-number January = refl
+month_of_index-number February = refl
+month_of_index-number March = refl
+month_of_index-number April = refl
+month_of_index-number May = refl
+month_of_index-number June = refl
+month_of_index-number July = refl
+month_of_index-number August = refl
+month_of_index-number September = refl
+month_of_index-number October = refl
+month_of_index-number November = refl
+month_of_index-number December = refl
 
-pub month_numbered : (m : Month) (k : ℕ) → number m ≡ k → m ≡ month_at (k - 1)
-month_numbered m k e = sym (month_at-number m) ∙ ap (λ n. month_at (n - 1)) e
+pub month_numbered : (m : Month) (k : ℕ) → number m ≡ k → m ≡ month_of_index (k - 1)
+month_numbered m k e = sym (month_of_index-number m) ∙ ap (λ n. month_of_index (n - 1)) e
 
 -- The status of the first invalid part.
-pub refused_dates : (p : RuleParts) → ¬ AreDates p → (¬ IsRule p) × IsRuleStatus p bad_date
+pub refused_dates : (p : RuleParts) → ¬ AreDates p → (¬ IsRule p) × IsRuleStatus p invalid_date
 refused_dates p out = (
   λ is. out is.plain.dates,
   record {
@@ -50,7 +50,7 @@ refused_dates p out = (
   },
 )
 
-pub refused_frequency : (p : RuleParts) → AreDates p → ¬ IsFrequency p.frequency → (¬ IsRule p) × IsRuleStatus p bad_frequency
+pub refused_frequency : (p : RuleParts) → AreDates p → ¬ IsFrequency p.frequency → (¬ IsRule p) × IsRuleStatus p invalid_frequency
 refused_frequency p dates out = (
   λ is. out is.plain.frequency,
   record {
@@ -63,7 +63,7 @@ refused_frequency p dates out = (
   },
 )
 
-pub refused_week_start : (p : RuleParts) → AreDates p → IsFrequency p.frequency → ¬ IsWeekday p.week_start → (¬ IsRule p) × IsRuleStatus p bad_weekday
+pub refused_week_start : (p : RuleParts) → AreDates p → IsFrequency p.frequency → ¬ IsWeekday p.week_start → (¬ IsRule p) × IsRuleStatus p invalid_weekday
 refused_week_start p dates frequency out = (
   λ is. out is.plain.week_start,
   record {
@@ -82,13 +82,13 @@ first_given None xs ys h = ap (λ l. slice_get l 0) (sym h.0)
 first_given (Some x) xs ys h = ap (λ l. slice_get l 0) (sym h)
 
 -- the days after a day, from the first of them on
-after_first : (rule : Rule) (n x : ℕ) → IsFirstDay (is_on rule) (n + 1) (last_day - n) x → days_after rule n ≡ x ∷ days_after rule x
+after_first : (rule : Rule) (n x : ℕ) → IsFirstDay (is_occurrence rule) (n + 1) (last_day - n) x → occurrences_after rule n ≡ x ∷ occurrences_after rule x
 after_first rule n x h =
     let count : n + 1 + (last_day - n) - (x + 1) ≡ last_day - x = omega (arith, h.not_before, h.within) in
-    filter-first (is_on rule) (n + 1) (last_day - n) x h ∙ ap (λ c. x ∷ filter (is_on rule) (days_from (x + 1) c)) count
+    filter-first (is_occurrence rule) (n + 1) (last_day - n) x h ∙ ap (λ c. x ∷ filter (is_occurrence rule) (days_from (x + 1) c)) count
 
-pub after_next : (rule : Rule) (n x : ℕ) → Some x ≡ slice_get (days_after rule n) 0 → days_after rule n ≡ x ∷ days_after rule x
-after_next rule n x e = after_first rule n x (first_passing (is_on rule) (n + 1) (last_day - n) (Some x) e)
+pub after_next : (rule : Rule) (n x : ℕ) → Some x ≡ slice_get (occurrences_after rule n) 0 → occurrences_after rule n ≡ x ∷ occurrences_after rule x
+after_next rule n x e = after_first rule n x (first_passing (is_occurrence rule) (n + 1) (last_day - n) (Some x) e)
 
 pub none_first : (xs : List ℕ) → None ≡ slice_get xs 0 → xs ≡ []
 none_first [] e = refl

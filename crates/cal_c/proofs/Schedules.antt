@@ -2,24 +2,24 @@
 use Rattle.std.proofs.Common.{◌≡◌, ℕ, ◌<◌, ◌≤◌, ◌==◌, if◌then◌else◌, refl, sym, ap, ◌∙◌, arith, ℤ, ◌≤ℤ◌, ◌<ℤ◌, Option, Some, None, IfSome, IfNone, Result, Ok, Err, IfOk, IfErr, subst}
 use Rattle.std.proofs.lemmas.Int.{ints}
 use Rattle.cal_time.specs.Date.{IsDate}
-use Rattle.cal_schedule.specs.declared.money.DayCount.{DayCount}
-use Rattle.cal_schedule.specs.declared.money.DayCount.TheVariants.{Actual360, Actual365Fixed, Thirty360, ThirtyE360, ActualActual}
+use Rattle.cal_schedule.specs.declared.year_fraction.DayCount.{DayCount}
+use Rattle.cal_schedule.specs.declared.year_fraction.DayCount.TheVariants.{Actual360, Actual365Fixed, Thirty360, ThirtyE360, ActualActual}
 use Rattle.cal_schedule.specs.declared.period.Period.{Period}
 use Rattle.cal_schedule.specs.declared.workdays.convention.Convention.{Convention}
 use Rattle.cal_schedule.specs.declared.workdays.convention.Convention.TheVariants.{Unadjusted, Following, ModifiedFollowing, Preceding, ModifiedPreceding}
 use Rattle.cal_c.specs.Columns.{IsByte}
-use Rattle.cal_c.specs.Results.{date_refused, date_if_any, number_done, IsDayWith}
-use Rattle.cal_c.specs.Schedule.{day_count_number, period_done, IsNumberWith, IsPeriodWith}
-use Rattle.cal_c.specs.Statuses.{past_range}
+use Rattle.cal_c.specs.Results.{date_error, date_or_out_of_range, number_ok, IsDateWith}
+use Rattle.cal_c.specs.Schedule.{day_count_number, period_ok, IsNumberWith, IsPeriodWith}
+use Rattle.cal_c.specs.Statuses.{result_out_of_range}
 use Rattle.cal_c.specs.Values.{IsJulianDay, day_of}
-use Rattle.cal_c.specs.Workweeks.{convention_number}
-use Rattle.cal_c.proofs.Days.{IsDayWith-at}
+use Rattle.cal_c.specs.Weekmasks.{convention_number}
+use Rattle.cal_c.proofs.Days.{IsDateWith-at}
 
-pub day-if-any : (Has : ℕ → Type 0) (A : Type 0) (r : Option ℕ) → IfSome r (λ n. IsDate n × Has n) → IfNone r (A → ⊥) → A → IsDayWith Has (date_if_any r)
+pub day-if-any : (Has : ℕ → Type 0) (A : Type 0) (r : Option ℕ) → IfSome r (λ n. IsDate n × Has n) → IfNone r (A → ⊥) → A → IsDateWith Has (date_or_out_of_range r)
 day-if-any Has A None has none a = absurd (none a)
-day-if-any Has A (Some n) has none a = IsDayWith-at Has n has.0 has.1
+day-if-any Has A (Some n) has none a = IsDateWith-at Has n has.0 has.1
 
-pub past-if-any : (A : Type 0) (r : Option ℕ) → IfSome r (λ n. A) → (A → ⊥) → date_if_any r ≡ date_refused past_range
+pub past-if-any : (A : Type 0) (r : Option ℕ) → IfSome r (λ n. A) → (A → ⊥) → date_or_out_of_range r ≡ date_error result_out_of_range
 past-if-any A None some out = refl
 past-if-any A (Some n) some out = absurd (out some)
 
@@ -38,10 +38,10 @@ not_after j k h i e = omega (arith, ints)
 pub before : (j k : ℤ) → IsJulianDay j → IsJulianDay k → j <ℤ k → day_of j < day_of k
 before j k h i e = omega (arith, ints)
 
-pub number-with : (Has : ℤ → Type 0) (z : ℤ) → Has z → IsNumberWith Has (number_done z)
+pub number-with : (Has : ℤ → Type 0) (z : ℤ) → Has z → IsNumberWith Has (number_ok z)
 number-with Has z h = record { status_is = refl; has = h }
 
-pub period-with : (Has : Period → Type 0) (p : Period) → Has p → IsPeriodWith Has (period_done p)
+pub period-with : (Has : Period → Type 0) (p : Period) → Has p → IsPeriodWith Has (period_ok p)
 period-with Has p h = record { status_is = refl; has = h }
 
 -- each number is of one day count

@@ -7,9 +7,9 @@ use Rattle.std.proofs.lemmas.Bool.Decides.{nat_tests, Decides-int_eq}
 use Rattle.std.proofs.lemmas.Int.{ints}
 use Rattle.cal_time.specs.CalendarDay.{CalendarDay, day_after, is_first_of_january}
 use Rattle.cal_time.specs.Date.{day_at, year_at, ordinal_at, HasOrdinalDate}
-use Rattle.cal_time.specs.IsoWeekDate.{count_before, is_weekday_of_year, weekdays_upto, thursday_of, iso_year_at, iso_week_at}
+use Rattle.cal_time.specs.IsoWeekDate.{count_before, is_weekday_of_year, weekday_count, thursday_of, iso_year_at, iso_week_at}
 use Rattle.cal_time.specs.Laws.{weekday_at-is}
-use Rattle.cal_time.specs.Parts.{year_at-rises, ordinals-apart}
+use Rattle.cal_time.specs.Components.{year_at-rises, ordinals-apart}
 
 -- One step of the count of days, of the ordinals, and of the Thursdays.
 day_at-next : (n : ℕ) → day_at (suc n) ≡ day_after (day_at n)
@@ -107,7 +107,7 @@ thursdays (suc n) =
           step ∙ next_day n (count_before test (suc n)) (ordinal_at n) (ordinal_at (suc n)) before (ordinal_at-next n later) (ordinal_at-some n)
     ]
 
-thursday_week : (t o : ℕ) → t % 7 ≡ 3 → ordinal_at t ≡ o → weekdays_upto 3 t ≡ (o + 6) / 7
+thursday_week : (t o : ℕ) → t % 7 ≡ 3 → ordinal_at t ≡ o → weekday_count 3 t ≡ (o + 6) / 7
 thursday_week t o index ordinal =
     let sums : t + 1 ≡ suc t = omega arith in
     let all = ap (count_before (is_weekday_of_year 3 (year_at t))) sums ∙ thursdays t in
@@ -117,4 +117,4 @@ pub iso_week-thursday : (n : ℕ) (y : ℤ) (o : ℕ) → HasOrdinalDate y o (n 
 unfolding iso_year_at iso_week_at
 iso_week-thursday n y o has =
     let same : thursday_of n ≡ n - n % 7 + 3 = ap (λ k. n - k + 3) (weekday_at-is n) in
-    (ap year_at same ∙ has.0, ap (weekdays_upto 3) same ∙ thursday_week (n - n % 7 + 3) o (omega arith) has.1)
+    (ap year_at same ∙ has.0, ap (weekday_count 3) same ∙ thursday_week (n - n % 7 + 3) o (omega arith) has.1)

@@ -4,9 +4,9 @@ use Rattle.std.proofs.Common.{◌≡◌, refl, ℕ, zero, suc, ◌+◌, ◌-◌,
 use Rattle.std.proofs.lemmas.Bool.Decides.{nat_tests}
 use Rattle.std.specs.Ordering.{is_le, nat_cmp}
 use Rattle.cal_time.specs.Date.{last_day}
-use Rattle.cal_time.specs.Occurrence.{days_from}
-use Rattle.cal_schedule.specs.Rule.{days_after, days_of, is_on}
-use Rattle.cal_schedule.specs.declared.rule.kinds.Rule.{Rule}
+use Rattle.cal_time.specs.Occurrences.{days_from}
+use Rattle.cal_schedule.specs.Rule.{occurrences_after, occurrences, is_occurrence}
+use Rattle.cal_schedule.specs.declared.rule.rule.Rule.{Rule}
 
 is_le-nat_le : (a b : ℕ) → is_le (nat_cmp a b) ≡ nat_le a b
 is_le-nat_le a b = grind (arith, nat_tests)
@@ -57,9 +57,9 @@ late_days (suc d) k n count e =
     let all : suc d + count ≡ suc (d + count) = omega arith in
     ap (λ c. filter (nat_le k) (days_from n c)) all ∙ first_early k n (d + count) (omega arith) ∙ late_days d k (n + 1) count (omega arith)
 
-pub days_on : (rule : Rule) (n k : ℕ) → k ≡ n + 1 → n ≤ last_day → filter (nat_le k) (days_of rule) ≡ days_after rule n
+pub days_on : (rule : Rule) (n k : ℕ) → k ≡ n + 1 → n ≤ last_day → filter (nat_le k) (occurrences rule) ≡ occurrences_after rule n
 days_on rule n k e h =
     let all : last_day + 1 ≡ k + (last_day - n) = omega arith in
-    filters_commute (nat_le k) (is_on rule) (days_from 0 (last_day + 1))
-    ∙ ap (λ c. filter (is_on rule) (filter (nat_le k) (days_from 0 c))) all
-    ∙ ap (filter (is_on rule)) (late_days k k 0 (last_day - n) (omega arith) ∙ ap (λ m. days_from m (last_day - n)) e)
+    filters_commute (nat_le k) (is_occurrence rule) (days_from 0 (last_day + 1))
+    ∙ ap (λ c. filter (is_occurrence rule) (filter (nat_le k) (days_from 0 c))) all
+    ∙ ap (filter (is_occurrence rule)) (late_days k k 0 (last_day - n) (omega arith) ∙ ap (λ m. days_from m (last_day - n)) e)

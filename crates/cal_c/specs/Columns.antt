@@ -4,10 +4,10 @@ use Rattle.cal_time.specs.Date.{julian_day_at, weekday_at, IsDate, IsYear, IsDay
 use Rattle.cal_time.specs.IsoWeekDate.{IsWeek, HasIsoWeekDate}
 use Rattle.cal_schedule.specs.Months.{month_number_at, IsMonthNumber, IsMonthsLater}
 use Rattle.cal_schedule.specs.Workdays.{nth_workday}
-use Rattle.cal_c.specs.Results.{IsDateIfAny, date_done, date_if_any, date_refused, number_done, number_refused, IsDayWith, calendar_date_done, calendar_date_refused, ordinal_date_done, ordinal_date_refused, iso_week_date_done, iso_week_date_refused}
-use Rattle.cal_c.specs.Statuses.{done, past_range, bad_date, bad_weekday, bad_week, bad_holidays, many_holidays, year_refused, month_refused, julian_day_refused, day_refused, ordinal_refused, week_refused, weekday_refused}
+use Rattle.cal_c.specs.Results.{IsDateOrOutOfRange, date_ok, date_or_out_of_range, date_error, number_ok, number_error, IsDateWith, calendar_date_ok, calendar_date_error, ordinal_date_ok, ordinal_date_error, iso_week_date_ok, iso_week_date_error}
+use Rattle.cal_c.specs.Statuses.{ok_status, result_out_of_range, invalid_date, invalid_weekday, invalid_weekmask, invalid_holidays, too_many_holidays, year_status, month_status, julian_day_status, day_status, ordinal_status, week_status, weekday_status}
 use Rattle.cal_c.specs.Values.{IsJulianDay, IsMonth, IsWeekday, day_of}
-use Rattle.cal_c.specs.Workweeks.{most_holidays, work_week, workdays_number, AreHolidays, IsMarks}
+use Rattle.cal_c.specs.Weekmasks.{max_holidays, work_week, workdays_between, AreHolidays, IsWeekmask}
 use Rattle.cal_c.specs.declared.results.DateResult.{DateResult}
 use Rattle.cal_c.specs.declared.results.NumberResult.{NumberResult}
 use Rattle.cal_c.specs.declared.results.CalendarDateResult.{CalendarDateResult}
@@ -15,25 +15,25 @@ use Rattle.cal_c.specs.declared.results.OrdinalDateResult.{OrdinalDateResult}
 use Rattle.cal_c.specs.declared.results.IsoWeekDateResult.{IsoWeekDateResult}
 
 -- A status is an error if it isn't 0.
-abbrev pub is_refused : ℕ → Bool
-is_refused status = not (status == 0)
+abbrev pub is_error : ℕ → Bool
+is_error status = not (status == 0)
 
 -- A status fits in a byte.
 abbrev pub IsByte : ℤ → Type 0
 IsByte status = (pos 0 ≤ℤ status) × (status ≤ℤ pos 255)
 
 -- The arrays have the same length.
-abbrev pub Alike3 : {A B C : Type 0} → List A → List B → List C → Type 0
-Alike3 a b c = (length b ≡ length a) × (length c ≡ length a)
+abbrev pub SameLength3 : {A B C : Type 0} → List A → List B → List C → Type 0
+SameLength3 a b c = (length b ≡ length a) × (length c ≡ length a)
 
-abbrev pub Alike4 : {A B C D : Type 0} → List A → List B → List C → List D → Type 0
-Alike4 a b c d = (length b ≡ length a) × (length c ≡ length a) × (length d ≡ length a)
+abbrev pub SameLength4 : {A B C D : Type 0} → List A → List B → List C → List D → Type 0
+SameLength4 a b c d = (length b ≡ length a) × (length c ≡ length a) × (length d ≡ length a)
 
-abbrev pub Alike5 : {A B C D E : Type 0} → List A → List B → List C → List D → List E → Type 0
-Alike5 a b c d e = (length b ≡ length a) × (length c ≡ length a) × (length d ≡ length a) × (length e ≡ length a)
+abbrev pub SameLength5 : {A B C D E : Type 0} → List A → List B → List C → List D → List E → Type 0
+SameLength5 a b c d e = (length b ≡ length a) × (length c ≡ length a) × (length d ≡ length a) × (length e ≡ length a)
 
-abbrev pub Alike7 : {A B C D E F G : Type 0} → List A → List B → List C → List D → List E → List F → List G → Type 0
-Alike7 a b c d e f g =
+abbrev pub SameLength7 : {A B C D E F G : Type 0} → List A → List B → List C → List D → List E → List F → List G → Type 0
+SameLength7 a b c d e f g =
     (length b ≡ length a) × (length c ≡ length a) × (length d ≡ length a) × (length e ≡ length a) × (length f ≡ length a)
     × (length g ≡ length a)
 
@@ -45,9 +45,9 @@ abbrev pub nat_at : List ℕ → ℕ → ℕ
 nat_at xs k = get_or xs k 0
 
 -- Each row has its result, and the rows with an error are counted.
-pub record AreAnswered (statuses : List ℕ) (refused : ℕ) (Row : ℕ → Type 0) : Type 0 where
+pub record AreRows (statuses : List ℕ) (refused : ℕ) (Row : ℕ → Type 0) : Type 0 where
   pub each : (k : ℕ) → k < length statuses → Row k
-  pub count : refused ≡ count_by is_refused statuses
+  pub count : refused ≡ count_by is_error statuses
 
 -- ---- a row of several arrays, which is the result of the single call
 abbrev pub date_row : ℤ → ℕ → DateResult
@@ -67,84 +67,84 @@ iso_week_date_row year week weekday status = record { status = pos status; year 
 
 -- The result of `fots_date_from_julian_day`.
 pub record IsDateOfJulianDay (julian_day : ℤ) (r : DateResult) : Type 0 where
-  pub no_julian_day : (IsJulianDay julian_day → ⊥) → r ≡ date_refused julian_day_refused
-  pub date : IsJulianDay julian_day → r ≡ date_done julian_day
+  pub no_julian_day : (IsJulianDay julian_day → ⊥) → r ≡ date_error julian_day_status
+  pub date : IsJulianDay julian_day → r ≡ date_ok julian_day
 
 -- The result of `fots_date_from_calendar_date`.
 pub record IsDateOfCalendarDate (year : ℤ) (month : ℕ) (day : ℕ) (r : DateResult) : Type 0 where
-  pub no_month : (IsMonth month → ⊥) → r ≡ date_refused month_refused
-  pub no_year : IsMonth month → (IsYear year → ⊥) → r ≡ date_refused year_refused
-  pub no_day : IsMonth month → IsYear year → (IsDayOfMonth year month day → ⊥) → r ≡ date_refused day_refused
-  pub date : IsMonth month → IsYear year → IsDayOfMonth year month day → IsDayWith (HasCalendarDate year month day) r
+  pub no_month : (IsMonth month → ⊥) → r ≡ date_error month_status
+  pub no_year : IsMonth month → (IsYear year → ⊥) → r ≡ date_error year_status
+  pub no_day : IsMonth month → IsYear year → (IsDayOfMonth year month day → ⊥) → r ≡ date_error day_status
+  pub date : IsMonth month → IsYear year → IsDayOfMonth year month day → IsDateWith (HasCalendarDate year month day) r
 
 -- The result of `fots_date_from_ordinal_date`.
 pub record IsDateOfOrdinalDate (year : ℤ) (ordinal : ℕ) (r : DateResult) : Type 0 where
-  pub no_year : (IsYear year → ⊥) → r ≡ date_refused year_refused
-  pub no_ordinal : IsYear year → (IsOrdinal year ordinal → ⊥) → r ≡ date_refused ordinal_refused
-  pub date : IsYear year → IsOrdinal year ordinal → IsDayWith (HasOrdinalDate year ordinal) r
+  pub no_year : (IsYear year → ⊥) → r ≡ date_error year_status
+  pub no_ordinal : IsYear year → (IsOrdinal year ordinal → ⊥) → r ≡ date_error ordinal_status
+  pub date : IsYear year → IsOrdinal year ordinal → IsDateWith (HasOrdinalDate year ordinal) r
 
 -- The result of `fots_date_from_iso_week_date`.
 pub record IsDateOfIsoWeekDate (year : ℤ) (week : ℕ) (weekday : ℕ) (r : DateResult) : Type 0 where
-  pub bad_weekday : (IsWeekday weekday → ⊥) → r ≡ date_refused bad_weekday
-  pub no_year : IsWeekday weekday → (IsYear year → ⊥) → r ≡ date_refused year_refused
-  pub no_week : IsWeekday weekday → IsYear year → (IsWeek year week → ⊥) → r ≡ date_refused week_refused
-  pub no_weekday : IsWeekday weekday → IsYear year → IsWeek year week → NoDate (HasIsoWeekDate year week (weekday - 1)) → r ≡ date_refused weekday_refused
-  pub date : IsWeekday weekday → (n : ℕ) → IsDate n → HasIsoWeekDate year week (weekday - 1) n → IsWeek year week → r ≡ date_done (julian_day_at n)
+  pub invalid_weekday : (IsWeekday weekday → ⊥) → r ≡ date_error invalid_weekday
+  pub no_year : IsWeekday weekday → (IsYear year → ⊥) → r ≡ date_error year_status
+  pub no_week : IsWeekday weekday → IsYear year → (IsWeek year week → ⊥) → r ≡ date_error week_status
+  pub no_weekday : IsWeekday weekday → IsYear year → IsWeek year week → NoDate (HasIsoWeekDate year week (weekday - 1)) → r ≡ date_error weekday_status
+  pub date : IsWeekday weekday → (n : ℕ) → IsDate n → HasIsoWeekDate year week (weekday - 1) n → IsWeek year week → r ≡ date_ok (julian_day_at n)
 
 -- The result of `fots_date_to_calendar_date`.
 pub record IsCalendarDateOf (date : ℤ) (r : CalendarDateResult) : Type 0 where
-  pub bad_date : (IsJulianDay date → ⊥) → r ≡ calendar_date_refused bad_date
-  pub value : IsJulianDay date → r ≡ calendar_date_done (day_of date)
+  pub invalid_date : (IsJulianDay date → ⊥) → r ≡ calendar_date_error invalid_date
+  pub value : IsJulianDay date → r ≡ calendar_date_ok (day_of date)
 
 -- The result of `fots_date_to_ordinal_date`.
 pub record IsOrdinalDateOf (date : ℤ) (r : OrdinalDateResult) : Type 0 where
-  pub bad_date : (IsJulianDay date → ⊥) → r ≡ ordinal_date_refused bad_date
-  pub value : IsJulianDay date → r ≡ ordinal_date_done (day_of date)
+  pub invalid_date : (IsJulianDay date → ⊥) → r ≡ ordinal_date_error invalid_date
+  pub value : IsJulianDay date → r ≡ ordinal_date_ok (day_of date)
 
 -- The result of `fots_date_to_iso_week_date`.
 pub record IsIsoWeekDateOf (date : ℤ) (r : IsoWeekDateResult) : Type 0 where
-  pub bad_date : (IsJulianDay date → ⊥) → r ≡ iso_week_date_refused bad_date
-  pub value : IsJulianDay date → r ≡ iso_week_date_done (day_of date)
+  pub invalid_date : (IsJulianDay date → ⊥) → r ≡ iso_week_date_error invalid_date
+  pub value : IsJulianDay date → r ≡ iso_week_date_ok (day_of date)
 
 -- The result of `fots_date_weekday`, with the weekday 0 for an error.
-pub record IsWeekdayOf (date : ℤ) (weekday status : ℕ) : Type 0 where
-  pub bad_date : (IsJulianDay date → ⊥) → (weekday ≡ 0) × (pos status ≡ bad_date)
-  pub value : IsJulianDay date → (weekday ≡ weekday_at (day_of date) + 1) × (pos status ≡ done)
+pub record IsWeekdayNumberOf (date : ℤ) (weekday status : ℕ) : Type 0 where
+  pub invalid_date : (IsJulianDay date → ⊥) → (weekday ≡ 0) × (pos status ≡ invalid_date)
+  pub value : IsJulianDay date → (weekday ≡ weekday_at (day_of date) + 1) × (pos status ≡ ok_status)
 
 -- The result of `fots_date_from_calendar_date` and then `fots_date_to_iso_week_date`.
 pub record IsIsoWeekDateOfCalendarDate (year : ℤ) (month : ℕ) (day : ℕ) (r : IsoWeekDateResult) : Type 0 where
-  pub no_month : (IsMonth month → ⊥) → r ≡ iso_week_date_refused month_refused
-  pub no_year : IsMonth month → (IsYear year → ⊥) → r ≡ iso_week_date_refused year_refused
-  pub no_day : IsMonth month → IsYear year → (IsDayOfMonth year month day → ⊥) → r ≡ iso_week_date_refused day_refused
+  pub no_month : (IsMonth month → ⊥) → r ≡ iso_week_date_error month_status
+  pub no_year : IsMonth month → (IsYear year → ⊥) → r ≡ iso_week_date_error year_status
+  pub no_day : IsMonth month → IsYear year → (IsDayOfMonth year month day → ⊥) → r ≡ iso_week_date_error day_status
   pub value : IsMonth month → IsYear year → IsDayOfMonth year month day
-      → (n : ℕ) × IsDate n × HasCalendarDate year month day n × (r ≡ iso_week_date_done n)
+      → (n : ℕ) × IsDate n × HasCalendarDate year month day n × (r ≡ iso_week_date_ok n)
 
 -- The result of `fots_date_add_days`.
-pub record IsDateMoved (date : ℤ) (days : ℤ) (r : DateResult) : Type 0 where
-  pub bad_date : (IsJulianDay date → ⊥) → r ≡ date_refused bad_date
-  pub day : IsJulianDay date → IsDateIfAny (date +ℤ days) r
+pub record IsDateDaysLater (date : ℤ) (days : ℤ) (r : DateResult) : Type 0 where
+  pub invalid_date : (IsJulianDay date → ⊥) → r ≡ date_error invalid_date
+  pub day : IsJulianDay date → IsDateOrOutOfRange (date +ℤ days) r
 
 -- The result of `fots_date_add_months`.
 pub record IsDateMonthsLater (date : ℤ) (months : ℤ) (r : DateResult) : Type 0 where
-  pub bad_date : (IsJulianDay date → ⊥) → r ≡ date_refused bad_date
-  pub past_range : IsJulianDay date → (IsMonthNumber (month_number_at (day_of date) +ℤ months) → ⊥) → r ≡ date_refused past_range
-  pub day : IsJulianDay date → IsMonthNumber (month_number_at (day_of date) +ℤ months) → IsDayWith (IsMonthsLater (day_of date) months) r
+  pub invalid_date : (IsJulianDay date → ⊥) → r ≡ date_error invalid_date
+  pub result_out_of_range : IsJulianDay date → (IsMonthNumber (month_number_at (day_of date) +ℤ months) → ⊥) → r ≡ date_error result_out_of_range
+  pub day : IsJulianDay date → IsMonthNumber (month_number_at (day_of date) +ℤ months) → IsDateWith (IsMonthsLater (day_of date) months) r
 
 -- The result of `fots_date_add_workdays`.
 pub record IsDateWorkdaysLater (date : ℤ) (days : ℤ) (week : ℕ) (holidays : List ℤ) (r : DateResult) : Type 0 where
-  pub bad_date : (IsJulianDay date → ⊥) → r ≡ date_refused bad_date
-  pub bad_week : IsJulianDay date → (IsMarks week → ⊥) → r ≡ date_refused bad_week
-  pub many_holidays : IsJulianDay date → IsMarks week → most_holidays < length holidays → r ≡ date_refused many_holidays
-  pub bad_holidays : IsJulianDay date → IsMarks week → length holidays ≤ most_holidays → (AreHolidays holidays → ⊥) → r ≡ date_refused bad_holidays
-  pub day : IsJulianDay date → IsMarks week → length holidays ≤ most_holidays → AreHolidays holidays
-      → r ≡ date_if_any (nth_workday (work_week week holidays) days (day_of date))
+  pub invalid_date : (IsJulianDay date → ⊥) → r ≡ date_error invalid_date
+  pub invalid_weekmask : IsJulianDay date → (IsWeekmask week → ⊥) → r ≡ date_error invalid_weekmask
+  pub too_many_holidays : IsJulianDay date → IsWeekmask week → max_holidays < length holidays → r ≡ date_error too_many_holidays
+  pub invalid_holidays : IsJulianDay date → IsWeekmask week → length holidays ≤ max_holidays → (AreHolidays holidays → ⊥) → r ≡ date_error invalid_holidays
+  pub day : IsJulianDay date → IsWeekmask week → length holidays ≤ max_holidays → AreHolidays holidays
+      → r ≡ date_or_out_of_range (nth_workday (work_week week holidays) days (day_of date))
 
 -- The result of `fots_date_workdays_between`.
 pub record IsWorkdaysBetween (date : ℤ) (other : ℤ) (week : ℕ) (holidays : List ℤ) (r : NumberResult) : Type 0 where
-  pub bad_date : (IsJulianDay date × IsJulianDay other → ⊥) → r ≡ number_refused bad_date
-  pub bad_week : IsJulianDay date → IsJulianDay other → (IsMarks week → ⊥) → r ≡ number_refused bad_week
-  pub many_holidays : IsJulianDay date → IsJulianDay other → IsMarks week → most_holidays < length holidays → r ≡ number_refused many_holidays
-  pub bad_holidays : IsJulianDay date → IsJulianDay other → IsMarks week → length holidays ≤ most_holidays → (AreHolidays holidays → ⊥)
-      → r ≡ number_refused bad_holidays
-  pub value : IsJulianDay date → IsJulianDay other → IsMarks week → length holidays ≤ most_holidays → AreHolidays holidays
-      → r ≡ number_done (workdays_number (work_week week holidays) (day_of date) (day_of other))
+  pub invalid_date : (IsJulianDay date × IsJulianDay other → ⊥) → r ≡ number_error invalid_date
+  pub invalid_weekmask : IsJulianDay date → IsJulianDay other → (IsWeekmask week → ⊥) → r ≡ number_error invalid_weekmask
+  pub too_many_holidays : IsJulianDay date → IsJulianDay other → IsWeekmask week → max_holidays < length holidays → r ≡ number_error too_many_holidays
+  pub invalid_holidays : IsJulianDay date → IsJulianDay other → IsWeekmask week → length holidays ≤ max_holidays → (AreHolidays holidays → ⊥)
+      → r ≡ number_error invalid_holidays
+  pub value : IsJulianDay date → IsJulianDay other → IsWeekmask week → length holidays ≤ max_holidays → AreHolidays holidays
+      → r ≡ number_ok (workdays_between (work_week week holidays) (day_of date) (day_of other))

@@ -3,10 +3,10 @@ pub mod Statuses
 pub mod Values
 pub mod Columns
 pub mod Texts
-pub mod Unread
+pub mod ParseErrors
 pub mod Moments
 pub mod Schedule
-pub mod Workweeks
+pub mod Weekmasks
 pub mod TextColumns
 pub mod RecurrenceTexts
 pub mod Recurrences

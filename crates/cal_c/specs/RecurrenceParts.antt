@@ -3,26 +3,26 @@ use Rattle.std.specs.Prelude.{ℕ, ◌+◌, ◌-◌, ℤ, pos, List, ◌++◌, l
 use Rattle.cal_time.specs.Date.{julian_day_at}
 use Rattle.cal_time.specs.Month.{number}
 use Rattle.cal_time.specs.Weekday.{index}
-use Rattle.cal_schedule.specs.declared.rule.kinds.ByDay.{ByDay}
-use Rattle.cal_schedule.specs.declared.rule.kinds.ByDay.TheVariants.{Every, Nth}
-use Rattle.cal_recurrence.specs.declared.fault.RuleFault.{RuleFault}
+use Rattle.cal_schedule.specs.declared.rule.rule.ByDay.{ByDay}
+use Rattle.cal_schedule.specs.declared.rule.rule.ByDay.TheVariants.{Every, Nth}
+use Rattle.cal_recurrence.specs.declared.fault.ParseRuleError.{ParseRuleError}
 use Rattle.cal_recurrence.specs.declared.recurrence.Recurrence.{Recurrence}
 use Rattle.cal_recurrence.specs.declared.recurrence.RuleEnd.{RuleEnd}
 use Rattle.cal_recurrence.specs.declared.recurrence.RuleEnd.TheVariants.{Never, Until, Count}
-use Rattle.cal_c.specs.RecurrenceTexts.{part_of, reason_status}
+use Rattle.cal_c.specs.RecurrenceTexts.{error_part, reason_status}
 use Rattle.cal_c.specs.Recurrences.{frequency_number}
-use Rattle.cal_c.specs.Results.{nothing}
-use Rattle.cal_c.specs.Statuses.{done}
-use Rattle.cal_c.specs.Texts.{nowhere}
-use Rattle.cal_c.specs.declared.schedule.recurrences.parsed.RecurrenceParts.{RecurrenceParts}
-use Rattle.cal_c.specs.declared.schedule.recurrences.parsing.ReadRecurrenceResult.{ReadRecurrenceResult}
-use Rattle.cal_c.specs.declared.schedule.recurrences.parts.RuleWeekday.{RuleWeekday}
+use Rattle.cal_c.specs.Results.{no_value}
+use Rattle.cal_c.specs.Statuses.{ok_status}
+use Rattle.cal_c.specs.Texts.{no_position}
+use Rattle.cal_c.specs.declared.schedule.recurrences.recurrence_parts.RecurrenceParts.{RecurrenceParts}
+use Rattle.cal_c.specs.declared.schedule.recurrences.parsing.ParseRecurrenceResult.{ParseRecurrenceResult}
+use Rattle.cal_c.specs.declared.schedule.recurrences.rule_parts.RuleWeekday.{RuleWeekday}
 
 -- The last day of a recurrence, or the number for none.
 abbrev pub until_in : RuleEnd → ℤ
-until_in Never = nothing
+until_in Never = no_value
 until_in (Until day) = julian_day_at day
-until_in (Count n) = nothing
+until_in (Count n) = no_value
 
 -- The number of days of a recurrence, or 0.
 abbrev pub count_in : RuleEnd → ℕ
@@ -64,7 +64,7 @@ no_parts = record {
   frequency = 0;
   interval = 0;
   week_start = 0;
-  until = nothing;
+  until = no_value;
   count = 0;
   months_length = 0;
   month_days_length = 0;
@@ -75,6 +75,6 @@ no_parts = record {
 }
 
 -- The result of parsing: the parts of the recurrence, or the first wrong part of the text.
-abbrev pub parsed_as : Result Recurrence RuleFault → ReadRecurrenceResult
-parsed_as (Ok its) = record { status = done; part = 0; position = nowhere; recurrence = parts_of its }
-parsed_as (Err fault) = record { status = reason_status fault.reason; part = part_of fault.reason; position = fault.position; recurrence = no_parts }
+abbrev pub parse_recurrence_result : Result Recurrence ParseRuleError → ParseRecurrenceResult
+parse_recurrence_result (Ok its) = record { status = ok_status; part = 0; position = no_position; recurrence = parts_of its }
+parse_recurrence_result (Err fault) = record { status = reason_status fault.reason; part = error_part fault.reason; position = fault.position; recurrence = no_parts }

@@ -1,19 +1,19 @@
 -- Recurrence rules with the parts that C passes.
 use Rattle.std.specs.Prelude.{◌≡◌, ℕ, zero, ◌+◌, ◌-◌, ◌<◌, ◌≤◌, min, ℤ, pos, List, All, get_or, length, map, Some}
 use Rattle.cal_time.specs.Date.{julian_day_at}
-use Rattle.cal_schedule.specs.declared.rule.kinds.ByDay.{ByDay}
-use Rattle.cal_schedule.specs.declared.rule.kinds.ByDay.TheVariants.{Every, Nth}
-use Rattle.cal_schedule.specs.declared.rule.kinds.Frequency.{Frequency}
-use Rattle.cal_schedule.specs.declared.rule.kinds.Frequency.TheVariants.{Daily, Weekly, Monthly, Yearly}
-use Rattle.cal_schedule.specs.declared.rule.kinds.Rule.{Rule}
-use Rattle.cal_time.specs.Month.{month_at}
-use Rattle.cal_time.specs.Weekday.{index, weekday_at}
+use Rattle.cal_schedule.specs.declared.rule.rule.ByDay.{ByDay}
+use Rattle.cal_schedule.specs.declared.rule.rule.ByDay.TheVariants.{Every, Nth}
+use Rattle.cal_schedule.specs.declared.rule.rule.Frequency.{Frequency}
+use Rattle.cal_schedule.specs.declared.rule.rule.Frequency.TheVariants.{Daily, Weekly, Monthly, Yearly}
+use Rattle.cal_schedule.specs.declared.rule.rule.Rule.{Rule}
+use Rattle.cal_time.specs.Month.{month_of_index}
+use Rattle.cal_time.specs.Weekday.{index, weekday_of_index}
 use Rattle.cal_time.specs.declared.Month.{Month}
 use Rattle.cal_time.specs.declared.Weekday.{Weekday}
-use Rattle.cal_c.specs.Statuses.{bad_date, bad_frequency, bad_weekday, done, many_parts, month_refused}
+use Rattle.cal_c.specs.Statuses.{invalid_date, invalid_frequency, invalid_weekday, ok_status, too_many_parts, month_status}
 use Rattle.cal_c.specs.Values.{IsJulianDay, IsMonth, IsWeekday, day_of}
-use Rattle.cal_c.specs.declared.schedule.recurrences.parts.RuleParts.{RuleParts}
-use Rattle.cal_c.specs.declared.schedule.recurrences.parts.RuleWeekday.{RuleWeekday}
+use Rattle.cal_c.specs.declared.schedule.recurrences.rule_parts.RuleParts.{RuleParts}
+use Rattle.cal_c.specs.declared.schedule.recurrences.rule_parts.RuleWeekday.{RuleWeekday}
 use Rattle.cal_c.specs.declared.schedule.results.DaysResult.{DaysResult}
 
 -- Frequencies are numbered from 1, daily.
@@ -27,15 +27,15 @@ abbrev pub IsFrequency : ℕ → Type 0
 IsFrequency k = (1 ≤ k) × (k ≤ 4)
 
 -- A rule has at most 64 months and 64 weekdays.
-abbrev pub most_months : ℕ
-most_months = 64
+abbrev pub max_months : ℕ
+max_months = 64
 
-abbrev pub most_weekdays : ℕ
-most_weekdays = 64
+abbrev pub max_weekdays : ℕ
+max_weekdays = 64
 
 -- The months with these numbers.
 abbrev pub months_in : List ℕ → List Month
-months_in ms = map (λ m. month_at (m - 1)) ms
+months_in ms = map (λ m. month_of_index (m - 1)) ms
 
 -- A weekday of a rule has a number in the month or the year; 0 means each such weekday.
 abbrev pub by_day : ℤ → Weekday → ByDay
@@ -43,7 +43,7 @@ by_day (pos zero) w = Every w
 by_day k w = Nth k w
 
 abbrev pub weekday_in : RuleWeekday → ByDay
-weekday_in w = by_day w.number (weekday_at (w.weekday - 1))
+weekday_in w = by_day w.number (weekday_of_index (w.weekday - 1))
 
 abbrev pub weekdays_in : List RuleWeekday → List ByDay
 weekdays_in ws = map weekday_in ws
@@ -53,8 +53,8 @@ abbrev pub AreDates : RuleParts → Type 0
 AreDates p = IsJulianDay p.start × IsJulianDay p.until
 
 -- The parts have few enough months and weekdays.
-abbrev pub AreFew : RuleParts → Type 0
-AreFew p = (length p.months.now ≤ most_months) × (length p.weekdays.now ≤ most_weekdays)
+abbrev pub AreListsShort : RuleParts → Type 0
+AreListsShort p = (length p.months.now ≤ max_months) × (length p.weekdays.now ≤ max_weekdays)
 
 -- Each number is the number of a month.
 abbrev pub AreMonths : List ℕ → Type 0
@@ -73,21 +73,21 @@ pub record ArePlain (p : RuleParts) : Type 0 where
 -- All parts are valid.
 pub record IsRule (p : RuleParts) : Type 0 where
   pub plain : ArePlain p
-  pub few : AreFew p
+  pub few : AreListsShort p
   pub months : AreMonths p.months.now
   pub weekdays : AreWeekdays p.weekdays.now
 
 -- The status of the first invalid part.
 pub record IsRuleStatus (p : RuleParts) (s : ℤ) : Type 0 where
-  pub dates : ¬ AreDates p → s ≡ bad_date
-  pub frequency : AreDates p → ¬ IsFrequency p.frequency → s ≡ bad_frequency
-  pub week_start : AreDates p → IsFrequency p.frequency → ¬ IsWeekday p.week_start → s ≡ bad_weekday
-  pub few : ArePlain p → ¬ AreFew p → s ≡ many_parts
-  pub months : ArePlain p → AreFew p → ¬ AreMonths p.months.now → s ≡ month_refused
-  pub weekdays : ArePlain p → AreFew p → AreMonths p.months.now → ¬ AreWeekdays p.weekdays.now → s ≡ bad_weekday
+  pub dates : ¬ AreDates p → s ≡ invalid_date
+  pub frequency : AreDates p → ¬ IsFrequency p.frequency → s ≡ invalid_frequency
+  pub week_start : AreDates p → IsFrequency p.frequency → ¬ IsWeekday p.week_start → s ≡ invalid_weekday
+  pub few : ArePlain p → ¬ AreListsShort p → s ≡ too_many_parts
+  pub months : ArePlain p → AreListsShort p → ¬ AreMonths p.months.now → s ≡ month_status
+  pub weekdays : ArePlain p → AreListsShort p → AreMonths p.months.now → ¬ AreWeekdays p.weekdays.now → s ≡ invalid_weekday
 
 -- The rule has the parts p, except its months and weekdays.
-pub record IsPlainRuleOf (p : RuleParts) (rule : Rule) : Type 0 where
+pub record IsPlainRuleFromParts (p : RuleParts) (rule : Rule) : Type 0 where
   pub start : rule.start ≡ day_of p.start
   pub until : rule.until ≡ Some (day_of p.until)
   pub frequency : frequency_number rule.frequency ≡ p.frequency
@@ -96,22 +96,22 @@ pub record IsPlainRuleOf (p : RuleParts) (rule : Rule) : Type 0 where
   pub month_days : rule.month_days.now ≡ p.month_days.now
 
 -- The rule has the parts p.
-pub record IsRuleOf (p : RuleParts) (rule : Rule) : Type 0 where
-  pub plain : IsPlainRuleOf p rule
+pub record IsRuleFromParts (p : RuleParts) (rule : Rule) : Type 0 where
+  pub plain : IsPlainRuleFromParts p rule
   pub months : rule.months.now ≡ months_in p.months.now
   pub weekdays : rule.weekdays.now ≡ weekdays_in p.weekdays.now
 
 -- The result with a number of days written.
-abbrev pub days_done : ℕ → DaysResult
-days_done count = record { status = done; length = count }
+abbrev pub days_ok : ℕ → DaysResult
+days_ok count = record { status = ok_status; length = count }
 
 -- The result with an error.
-abbrev pub days_refused : ℤ → DaysResult
-days_refused s = record { status = s; length = 0 }
+abbrev pub days_error : ℤ → DaysResult
+days_error s = record { status = s; length = 0 }
 
 -- The first days of a list were written, as many as fit in the array, and the rest of the array is
 -- unchanged.
-pub record AreWritten (ns : List ℕ) (old new : List ℤ) (count : ℕ) : Type 0 where
+pub record AreDatesWritten (ns : List ℕ) (old new : List ℤ) (count : ℕ) : Type 0 where
   pub count_is : count ≡ min (length ns) (length old)
   pub days : (k : ℕ) → k < count → get_or new k (pos 0) ≡ julian_day_at (get_or ns k 0)
   pub others : (k : ℕ) → count ≤ k → get_or new k (pos 0) ≡ get_or old k (pos 0)

@@ -7,32 +7,32 @@ use Rattle.cal_time.specs.DateText.{text}
 use Rattle.cal_time.specs.Time.{IsTime}
 use Rattle.cal_time.specs.UtcOffset.{IsOffset}
 use Rattle.cal_time.specs.declared.error.ComponentRange.{ComponentRange}
-use Rattle.cal_datetime.specs.OffsetDateTime.{Shown}
+use Rattle.cal_datetime.specs.OffsetDateTime.{LocalAndOffset}
 use Rattle.cal_text.specs.DateForms.{IsDateText}
 use Rattle.cal_text.specs.Rfc3339.{HasMomentText, moment_text}
 use Rattle.cal_text.specs.Rfc3339Form.{IsMomentText}
-use Rattle.cal_c.specs.Columns.{int_at, nat_at, is_refused}
-use Rattle.cal_c.specs.Moments.{moment_done, moment_refused}
-use Rattle.cal_c.specs.Results.{date_done, date_refused}
-use Rattle.cal_c.specs.Statuses.{done, past_range, bad_date, bad_time, bad_offset, bounds_refused, component_status}
-use Rattle.cal_c.specs.Texts.{HasDateForm, HasFormOfMoment, HasDateFault, HasMomentFault, StopsAt}
+use Rattle.cal_c.specs.Columns.{int_at, nat_at, is_error}
+use Rattle.cal_c.specs.Moments.{moment_ok, moment_error}
+use Rattle.cal_c.specs.Results.{date_ok, date_error}
+use Rattle.cal_c.specs.Statuses.{ok_status, result_out_of_range, invalid_date, invalid_time, invalid_offset, bounds_status, component_status}
+use Rattle.cal_c.specs.Texts.{HasDateSyntax, HasMomentSyntax, HasDateError, HasMomentError, StopsAt}
 use Rattle.cal_c.specs.Values.{IsJulianDay, day_of, moment_of}
 use Rattle.cal_c.specs.declared.results.DateResult.{DateResult}
 use Rattle.cal_c.specs.declared.results.MomentResult.{MomentResult}
 
 -- Two bounds are within the bytes, in order.
-pub record ArePartOf (bytes : List ℕ) (from to : ℤ) : Type 0 where
+pub record AreBoundsWithin (bytes : List ℕ) (from to : ℤ) : Type 0 where
   pub not_before : pos 0 ≤ℤ from
   pub rising : from ≤ℤ to
   pub not_after : to ≤ℤ pos (length bytes)
 
 -- The bytes between two bounds.
-abbrev pub part : List ℕ → ℤ → ℤ → List ℕ
-part bytes from to = between (unsigned_abs from) (unsigned_abs to) bytes
+abbrev pub bytes_between : List ℕ → ℤ → ℤ → List ℕ
+bytes_between bytes from to = between (unsigned_abs from) (unsigned_abs to) bytes
 
 -- The text of row k.
 abbrev pub text_at : List ℕ → List ℤ → ℕ → List ℕ
-text_at bytes bounds k = part bytes (int_at bounds k) (int_at bounds (k + 1))
+text_at bytes bounds k = bytes_between bytes (int_at bounds k) (int_at bounds (k + 1))
 
 -- The arrays have the same length, except that there is one bound more than rows.
 abbrev pub Bounded2 : {A B C : Type 0} → List A → List B → List C → Type 0
@@ -50,48 +50,48 @@ pub record HasRoomFor (longest rows bytes : ℕ) : Type 0 where
 -- bytes after them are unchanged, and the rows with an error are counted.
 pub record ArePrinted (old new : List ℕ) (bounds : List ℤ) (statuses : List ℕ) (refused : ℕ) (Row : ℕ → List ℕ → ℕ → Type 0) : Type 0 where
   pub first : int_at bounds 0 ≡ pos 0
-  pub part : (k : ℕ) → k < length statuses → ArePartOf new (int_at bounds k) (int_at bounds (k + 1))
+  pub bytes_between : (k : ℕ) → k < length statuses → AreBoundsWithin new (int_at bounds k) (int_at bounds (k + 1))
   pub text : (k : ℕ) → k < length statuses → Row k (text_at new bounds k) (nat_at statuses k)
   pub rest : let end = unsigned_abs (int_at bounds (length statuses)) in drop end new ≡ drop end old
-  pub count : refused ≡ count_by is_refused statuses
+  pub count : refused ≡ count_by is_error statuses
 
 -- ---- a row of several arrays, which is the result of the single call
 abbrev pub moment_row : ℤ → ℕ → ℤ → ℕ → MomentResult
 moment_row date time offset status = record { status = pos status; moment = record { date = date; offset = offset; time = time } }
 
--- The result of `fots_date_read` without the position.
-pub record IsDateOfText (bytes : List ℕ) (r : DateResult) : Type 0 where
-  pub date : (n : ℕ) → IsDate n → IsDateText bytes n → r ≡ date_done (julian_day_at n)
-  pub form : (HasDateForm bytes → ⊥) → (at : ℕ) × (s : ℤ) × StopsAt HasDateForm bytes at s × (r ≡ date_refused s)
-  pub component : (why : ComponentRange) → HasDateFault bytes why → r ≡ date_refused (component_status why.component)
+-- The result of `fots_date_parse` without the position.
+pub record IsParsedDate (bytes : List ℕ) (r : DateResult) : Type 0 where
+  pub date : (n : ℕ) → IsDate n → IsDateText bytes n → r ≡ date_ok (julian_day_at n)
+  pub form : (HasDateSyntax bytes → ⊥) → (at : ℕ) × (s : ℤ) × StopsAt HasDateSyntax bytes at s × (r ≡ date_error s)
+  pub component : (why : ComponentRange) → HasDateError bytes why → r ≡ date_error (component_status why.component)
 
 -- The same for the bytes between two bounds.
-pub record IsDateOfPart (bytes : List ℕ) (from to : ℤ) (r : DateResult) : Type 0 where
-  pub bounds : (ArePartOf bytes from to → ⊥) → r ≡ date_refused bounds_refused
-  pub read : ArePartOf bytes from to → IsDateOfText (part bytes from to) r
+pub record IsParsedDateRow (bytes : List ℕ) (from to : ℤ) (r : DateResult) : Type 0 where
+  pub bounds : (AreBoundsWithin bytes from to → ⊥) → r ≡ date_error bounds_status
+  pub read : AreBoundsWithin bytes from to → IsParsedDate (bytes_between bytes from to) r
 
--- The result of `fots_moment_read` without the position.
-pub record IsMomentOfText (bytes : List ℕ) (r : MomentResult) : Type 0 where
-  pub moment : (m : Shown) → IsMomentText bytes m → r ≡ moment_done m
-  pub form : (HasFormOfMoment bytes → ⊥) → (at : ℕ) × (s : ℤ) × StopsAt HasFormOfMoment bytes at s × (r ≡ moment_refused s)
-  pub component : (why : ComponentRange) → HasMomentFault bytes why → r ≡ moment_refused (component_status why.component)
+-- The result of `fots_moment_parse` without the position.
+pub record IsParsedMoment (bytes : List ℕ) (r : MomentResult) : Type 0 where
+  pub moment : (m : LocalAndOffset) → IsMomentText bytes m → r ≡ moment_ok m
+  pub form : (HasMomentSyntax bytes → ⊥) → (at : ℕ) × (s : ℤ) × StopsAt HasMomentSyntax bytes at s × (r ≡ moment_error s)
+  pub component : (why : ComponentRange) → HasMomentError bytes why → r ≡ moment_error (component_status why.component)
 
 -- The same for the bytes between two bounds.
-pub record IsMomentOfPart (bytes : List ℕ) (from to : ℤ) (r : MomentResult) : Type 0 where
-  pub bounds : (ArePartOf bytes from to → ⊥) → r ≡ moment_refused bounds_refused
-  pub read : ArePartOf bytes from to → IsMomentOfText (part bytes from to) r
+pub record IsParsedMomentRow (bytes : List ℕ) (from to : ℤ) (r : MomentResult) : Type 0 where
+  pub bounds : (AreBoundsWithin bytes from to → ⊥) → r ≡ moment_error bounds_status
+  pub read : AreBoundsWithin bytes from to → IsParsedMoment (bytes_between bytes from to) r
 
 -- The result of `fots_date_calendar_text`.
-pub record IsTextOfDate (date : ℤ) (bytes : List ℕ) (status : ℕ) : Type 0 where
-  pub bad_date : (IsJulianDay date → ⊥) → (bytes ≡ []) × (pos status ≡ bad_date)
-  pub value : IsJulianDay date → (bytes ≡ text (day_of date)) × (pos status ≡ done)
+pub record IsDateTextRow (date : ℤ) (bytes : List ℕ) (status : ℕ) : Type 0 where
+  pub invalid_date : (IsJulianDay date → ⊥) → (bytes ≡ []) × (pos status ≡ invalid_date)
+  pub value : IsJulianDay date → (bytes ≡ text (day_of date)) × (pos status ≡ ok_status)
 
 -- The result of `fots_moment_text`.
-pub record IsTextOfMoment (date : ℤ) (time : ℕ) (offset : ℤ) (bytes : List ℕ) (status : ℕ) : Type 0 where
-  pub bad_date : (IsJulianDay date → ⊥) → (bytes ≡ []) × (pos status ≡ bad_date)
-  pub bad_time : IsJulianDay date → (IsTime time → ⊥) → (bytes ≡ []) × (pos status ≡ bad_time)
-  pub bad_offset : IsJulianDay date → IsTime time → (IsOffset offset → ⊥) → (bytes ≡ []) × (pos status ≡ bad_offset)
-  pub past_range : IsJulianDay date → IsTime time → IsOffset offset → (HasMomentText (moment_of date time offset) → ⊥)
-      → (bytes ≡ []) × (pos status ≡ past_range)
+pub record IsMomentTextRow (date : ℤ) (time : ℕ) (offset : ℤ) (bytes : List ℕ) (status : ℕ) : Type 0 where
+  pub invalid_date : (IsJulianDay date → ⊥) → (bytes ≡ []) × (pos status ≡ invalid_date)
+  pub invalid_time : IsJulianDay date → (IsTime time → ⊥) → (bytes ≡ []) × (pos status ≡ invalid_time)
+  pub invalid_offset : IsJulianDay date → IsTime time → (IsOffset offset → ⊥) → (bytes ≡ []) × (pos status ≡ invalid_offset)
+  pub result_out_of_range : IsJulianDay date → IsTime time → IsOffset offset → (HasMomentText (moment_of date time offset) → ⊥)
+      → (bytes ≡ []) × (pos status ≡ result_out_of_range)
   pub value : IsJulianDay date → IsTime time → IsOffset offset → HasMomentText (moment_of date time offset)
-      → (bytes ≡ moment_text (moment_of date time offset)) × (pos status ≡ done)
+      → (bytes ≡ moment_text (moment_of date time offset)) × (pos status ≡ ok_status)

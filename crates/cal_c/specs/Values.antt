@@ -5,7 +5,7 @@ use Rattle.std.specs.Int.{int_min, int_max}
 use Rattle.cal_time.specs.Date.{first_julian_day, last_day, julian_day_at}
 use Rattle.cal_time.specs.SignedDuration.{second}
 use Rattle.cal_datetime.specs.DateTime.{date_time}
-use Rattle.cal_datetime.specs.OffsetDateTime.{Shown}
+use Rattle.cal_datetime.specs.OffsetDateTime.{LocalAndOffset}
 use Rattle.cal_c.specs.declared.results.Duration.{Duration}
 
 -- A date is its Julian day.
@@ -18,8 +18,8 @@ abbrev pub day_of : ℤ → ℕ
 day_of j = unsigned_abs (j -ℤ first_julian_day)
 
 -- The Julian day of the range that is nearest to j.
-abbrev pub julian_nearest : ℤ → ℤ
-julian_nearest j = int_max first_julian_day (int_min j (julian_day_at last_day))
+abbrev pub clamped_julian_day : ℤ → ℤ
+clamped_julian_day j = int_max first_julian_day (int_min j (julian_day_at last_day))
 
 -- Months are numbered from 1, January, and weekdays from 1, Monday.
 abbrev pub IsMonth : ℕ → Type 0
@@ -41,5 +41,5 @@ abbrev pub nanoseconds_in : Duration → ℤ
 nanoseconds_in d = d.seconds *ℤ pos second +ℤ d.nanoseconds
 
 -- A moment is a date and a time of day at an offset.
-abbrev pub moment_of : ℤ → ℕ → ℤ → Shown
+abbrev pub moment_of : ℤ → ℕ → ℤ → LocalAndOffset
 moment_of date time offset = record { local = date_time (day_of date) time; offset = offset }

@@ -4,57 +4,57 @@
 //! call writes can be passed to the next call. A call returns the number of rows with an error, or
 //! `usize::MAX` if its arrays differ in length; then it writes nothing.
 ghost use Rattle.std.specs.Prelude.{◌≡◌, ◌≤◌, count_by, length, if◌then◌else◌};
-ghost use Rattle.cal_c.specs.Columns.{is_refused};
+ghost use Rattle.cal_c.specs.Columns.{is_error};
 
-mod making;
+mod constructors;
 mod months;
-mod moves;
-mod parts;
+mod arithmetic;
+mod components;
 mod statuses;
 mod texts;
 mod workdays;
 
-use statuses::DONE;
+use statuses::OK;
 
 /// The result of a call whose arrays differ in length.
-const UNLIKE: usize = usize::MAX;
+const LENGTH_MISMATCH: usize = usize::MAX;
 
 /// The number of rows that are counted in one byte.
 const BLOCK: usize = 192;
 
 /// The date or the year of a row with an error.
-const NOTHING: i32 = i32::MIN;
+const NO_VALUE: i32 = i32::MIN;
 
 /// Returns the number of rows with an error.
-fn refused_in(statuses: &[u8]) -> usize
-    ensures { result ≡ count_by is_refused statuses.now }
+fn count_errors(statuses: &[u8]) -> usize
+    ensures { result ≡ count_by is_error statuses.now }
 {
     let mut refused = 0;
     let mut counted = 0;
     while counted < statuses.len() {
         let end = statuses.len().min(counted + BLOCK);
-        refused += usize::from(refused_among(&statuses[counted..end]));
+        refused += usize::from(count_errors_in_block(&statuses[counted..end]));
         counted = end;
     }
     refused
 }
 
 /// Returns the number of rows with an error among at most 192. A `u8` counts many rows at once.
-fn refused_among(statuses: &[u8]) -> u8
+fn count_errors_in_block(statuses: &[u8]) -> u8
     requires { length statuses.now ≤ 192 }
-    ensures { result ≡ count_by is_refused statuses.now }
+    ensures { result ≡ count_by is_error statuses.now }
 {
     let mut refused = 0;
     for status in statuses {
-        refused += one_if_refused(*status);
+        refused += error_bit(*status);
     }
     refused
 }
 
 /// Returns 1 for an error, else 0.
 #[inline(always)]
-fn one_if_refused(status: u8) -> u8
-    ensures { result ≡ (if is_refused status then 1 else 0) }
+fn error_bit(status: u8) -> u8
+    ensures { result ≡ (if is_error status then 1 else 0) }
 {
-    if status == DONE { 0 } else { 1 }
+    if status == OK { 0 } else { 1 }
 }

@@ -2,73 +2,73 @@
 ghost use Rattle.std.specs.Prelude.{◌≡◌, ◌+◌, ◌-◌, ◌%◌, pos, if◌then◌else◌};
 ghost use Rattle.cal_time.specs.Lengths.{is_leap_year, days_in_year, days_in_month};
 ghost use Rattle.cal_time.specs.Weeks.{weeks_in_year};
-ghost use Rattle.cal_c.specs.Results.{number_done, number_refused};
-ghost use Rattle.cal_c.specs.Statuses.{bad_weekday, month_refused};
+ghost use Rattle.cal_c.specs.Results.{number_ok, number_error};
+ghost use Rattle.cal_c.specs.Statuses.{invalid_weekday, month_status};
 ghost use Rattle.cal_c.specs.Values.{IsMonth, IsWeekday};
 
 use crate::results::NumberResult;
-use crate::status::{BAD_WEEKDAY, MONTH};
-use crate::values::{month_of, weekday_of};
+use crate::status::{INVALID_WEEKDAY, MONTH_OUT_OF_RANGE};
+use crate::values::{valid_month, valid_weekday};
 use cal_time::util::{days_in_year, is_leap_year, weeks_in_year};
 
 /// Returns the number of days of a month in a year. For 2 and 2000 it is 29.
 #[unsafe(no_mangle)]
 pub extern "C" fn fots_month_length(month: u32, year: i32) -> NumberResult
-    ensures month { ¬ IsMonth month → result ≡ number_refused month_refused }
-    ensures value { IsMonth month → result ≡ number_done (pos (days_in_month year month)) }
+    ensures month { ¬ IsMonth month → result ≡ number_error month_status }
+    ensures value { IsMonth month → result ≡ number_ok (pos (days_in_month year month)) }
 {
-    let month = or_return!(month_of(month), NumberResult::refused(MONTH));
-    NumberResult::of(i32::from(month.length(year)))
+    let month = or_return!(valid_month(month), NumberResult::error(MONTH_OUT_OF_RANGE));
+    NumberResult::ok(i32::from(month.length(year)))
 }
 
 /// Returns the month `n` months later. January comes after December. Nine months after 7 is 4.
 #[unsafe(no_mangle)]
 pub extern "C" fn fots_month_nth_next(month: u32, n: u32) -> NumberResult
-    ensures month { ¬ IsMonth month → result ≡ number_refused month_refused }
-    ensures value { IsMonth month → result ≡ number_done (pos ((month - 1 + n) % 12 + 1)) }
+    ensures month { ¬ IsMonth month → result ≡ number_error month_status }
+    ensures value { IsMonth month → result ≡ number_ok (pos ((month - 1 + n) % 12 + 1)) }
 {
-    let month = or_return!(month_of(month), NumberResult::refused(MONTH));
-    NumberResult::of(i32::from(month.nth_next((n % 12) as u8) as u8))
+    let month = or_return!(valid_month(month), NumberResult::error(MONTH_OUT_OF_RANGE));
+    NumberResult::ok(i32::from(month.nth_next((n % 12) as u8) as u8))
 }
 
 /// Returns the month `n` months earlier. December comes before January. Nine months before 4 is 7.
 #[unsafe(no_mangle)]
 pub extern "C" fn fots_month_nth_prev(month: u32, n: u32) -> NumberResult
-    ensures month { ¬ IsMonth month → result ≡ number_refused month_refused }
-    ensures value { IsMonth month → result ≡ number_done (pos ((month + 11 - n % 12) % 12 + 1)) }
+    ensures month { ¬ IsMonth month → result ≡ number_error month_status }
+    ensures value { IsMonth month → result ≡ number_ok (pos ((month + 11 - n % 12) % 12 + 1)) }
 {
-    let month = or_return!(month_of(month), NumberResult::refused(MONTH));
-    NumberResult::of(i32::from(month.nth_prev((n % 12) as u8) as u8))
+    let month = or_return!(valid_month(month), NumberResult::error(MONTH_OUT_OF_RANGE));
+    NumberResult::ok(i32::from(month.nth_prev((n % 12) as u8) as u8))
 }
 
 /// Returns the weekday `n` days later. Ten days after 7 is 3.
 #[unsafe(no_mangle)]
 pub extern "C" fn fots_weekday_nth_next(weekday: u32, n: u32) -> NumberResult
-    ensures bad_weekday { ¬ IsWeekday weekday → result ≡ number_refused bad_weekday }
-    ensures value { IsWeekday weekday → result ≡ number_done (pos ((weekday - 1 + n) % 7 + 1)) }
+    ensures invalid_weekday { ¬ IsWeekday weekday → result ≡ number_error invalid_weekday }
+    ensures value { IsWeekday weekday → result ≡ number_ok (pos ((weekday - 1 + n) % 7 + 1)) }
 {
-    let weekday = or_return!(weekday_of(weekday), NumberResult::refused(BAD_WEEKDAY));
-    NumberResult::of(i32::from(weekday.nth_next((n % 7) as u8).number_from_monday()))
+    let weekday = or_return!(valid_weekday(weekday), NumberResult::error(INVALID_WEEKDAY));
+    NumberResult::ok(i32::from(weekday.nth_next((n % 7) as u8).number_from_monday()))
 }
 
 /// Returns the weekday `n` days earlier. Ten days before 3 is 7.
 #[unsafe(no_mangle)]
 pub extern "C" fn fots_weekday_nth_prev(weekday: u32, n: u32) -> NumberResult
-    ensures bad_weekday { ¬ IsWeekday weekday → result ≡ number_refused bad_weekday }
-    ensures value { IsWeekday weekday → result ≡ number_done (pos ((weekday + 6 - n % 7) % 7 + 1)) }
+    ensures invalid_weekday { ¬ IsWeekday weekday → result ≡ number_error invalid_weekday }
+    ensures value { IsWeekday weekday → result ≡ number_ok (pos ((weekday + 6 - n % 7) % 7 + 1)) }
 {
-    let weekday = or_return!(weekday_of(weekday), NumberResult::refused(BAD_WEEKDAY));
-    NumberResult::of(i32::from(weekday.nth_prev((n % 7) as u8).number_from_monday()))
+    let weekday = or_return!(valid_weekday(weekday), NumberResult::error(INVALID_WEEKDAY));
+    NumberResult::ok(i32::from(weekday.nth_prev((n % 7) as u8).number_from_monday()))
 }
 
 /// Returns the number of a weekday from 1, Sunday, to 7, Saturday. For Friday, 5, it is 6.
 #[unsafe(no_mangle)]
 pub extern "C" fn fots_weekday_number_from_sunday(weekday: u32) -> NumberResult
-    ensures bad_weekday { ¬ IsWeekday weekday → result ≡ number_refused bad_weekday }
-    ensures value { IsWeekday weekday → result ≡ number_done (pos (weekday % 7 + 1)) }
+    ensures invalid_weekday { ¬ IsWeekday weekday → result ≡ number_error invalid_weekday }
+    ensures value { IsWeekday weekday → result ≡ number_ok (pos (weekday % 7 + 1)) }
 {
-    let weekday = or_return!(weekday_of(weekday), NumberResult::refused(BAD_WEEKDAY));
-    NumberResult::of(i32::from(weekday.number_from_sunday()))
+    let weekday = or_return!(valid_weekday(weekday), NumberResult::error(INVALID_WEEKDAY));
+    NumberResult::ok(i32::from(weekday.number_from_sunday()))
 }
 
 /// Returns 1 for a leap year, else 0. For 2000 it is 1, and for 1900 it is 0.

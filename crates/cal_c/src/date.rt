@@ -1,7 +1,7 @@
 //! Dates, which are Julian days.
 
-pub(crate) mod making;
-pub(crate) mod moves;
+pub(crate) mod constructors;
+pub(crate) mod arithmetic;
 mod occurrences;
-pub(crate) mod parts;
+pub(crate) mod components;
 mod replacement;

@@ -1,13 +1,13 @@
 //! Constructors and components of durations.
 ghost use Rattle.std.specs.Prelude.{◌≡◌, pos, ◌+ℤ◌, ◌*ℤ◌};
-ghost use Rattle.cal_time.specs.SignedDuration.{microsecond, millisecond, second, minute, hour, day, week, cut, past_second};
-ghost use Rattle.cal_c.specs.Results.{IsDurationIfAny, IsLongIfAny, duration_done, number_done, number_refused, long_done, long_refused};
-ghost use Rattle.cal_c.specs.Statuses.{bad_duration};
+ghost use Rattle.cal_time.specs.SignedDuration.{microsecond, millisecond, second, minute, hour, day, week, cut, subsec_nanoseconds};
+ghost use Rattle.cal_c.specs.Results.{IsDurationOrOutOfRange, IsInt64OrOutOfRange, duration_ok, number_ok, number_error, int64_ok, int64_error};
+ghost use Rattle.cal_c.specs.Statuses.{invalid_duration};
 ghost use Rattle.cal_c.specs.Values.{IsDurationPair, nanoseconds_in};
 
-use crate::results::{Duration, DurationResult, LongResult, NumberResult};
-use crate::status::{BAD_DURATION, PAST_RANGE};
-use crate::values::duration_of;
+use crate::results::{Duration, DurationResult, Int64Result, NumberResult};
+use crate::status::{INVALID_DURATION, RESULT_OUT_OF_RANGE};
+use crate::values::valid_duration;
 use cal_time::SignedDuration;
 
 mod arithmetic;
@@ -16,188 +16,188 @@ mod arithmetic;
 /// range. -1 and 1 give 0 seconds and -999999999 nanoseconds.
 #[unsafe(no_mangle)]
 pub extern "C" fn fots_duration_new(seconds: i64, nanoseconds: i32) -> DurationResult
-    ensures { IsDurationIfAny (seconds *ℤ pos second +ℤ nanoseconds) result }
+    ensures { IsDurationOrOutOfRange (seconds *ℤ pos second +ℤ nanoseconds) result }
 {
     let past = SignedDuration::nanoseconds(i64::from(nanoseconds));
-    DurationResult::of_option(SignedDuration::seconds(seconds).checked_add(past))
+    DurationResult::from_option(SignedDuration::seconds(seconds).checked_add(past))
 }
 
 /// Creates a duration from weeks of 7 days. Fails if it is out of range.
 #[unsafe(no_mangle)]
 pub extern "C" fn fots_duration_weeks(weeks: i64) -> DurationResult
-    ensures { IsDurationIfAny (weeks *ℤ pos week) result }
+    ensures { IsDurationOrOutOfRange (weeks *ℤ pos week) result }
 {
     let seconds = or_return!(
         weeks.checked_mul(604800),
-        DurationResult::refused(PAST_RANGE)
+        DurationResult::error(RESULT_OUT_OF_RANGE)
     );
-    DurationResult::of(SignedDuration::seconds(seconds))
+    DurationResult::ok(SignedDuration::seconds(seconds))
 }
 
 /// Creates a duration from days of 24 hours. Fails if it is out of range.
 #[unsafe(no_mangle)]
 pub extern "C" fn fots_duration_days(days: i64) -> DurationResult
-    ensures { IsDurationIfAny (days *ℤ pos day) result }
+    ensures { IsDurationOrOutOfRange (days *ℤ pos day) result }
 {
-    let seconds = or_return!(days.checked_mul(86400), DurationResult::refused(PAST_RANGE));
-    DurationResult::of(SignedDuration::seconds(seconds))
+    let seconds = or_return!(days.checked_mul(86400), DurationResult::error(RESULT_OUT_OF_RANGE));
+    DurationResult::ok(SignedDuration::seconds(seconds))
 }
 
 /// Creates a duration from hours. Fails if it is out of range.
 #[unsafe(no_mangle)]
 pub extern "C" fn fots_duration_hours(hours: i64) -> DurationResult
-    ensures { IsDurationIfAny (hours *ℤ pos hour) result }
+    ensures { IsDurationOrOutOfRange (hours *ℤ pos hour) result }
 {
-    let seconds = or_return!(hours.checked_mul(3600), DurationResult::refused(PAST_RANGE));
-    DurationResult::of(SignedDuration::seconds(seconds))
+    let seconds = or_return!(hours.checked_mul(3600), DurationResult::error(RESULT_OUT_OF_RANGE));
+    DurationResult::ok(SignedDuration::seconds(seconds))
 }
 
 /// Creates a duration from minutes. Fails if it is out of range.
 #[unsafe(no_mangle)]
 pub extern "C" fn fots_duration_minutes(minutes: i64) -> DurationResult
-    ensures { IsDurationIfAny (minutes *ℤ pos minute) result }
+    ensures { IsDurationOrOutOfRange (minutes *ℤ pos minute) result }
 {
-    let seconds = or_return!(minutes.checked_mul(60), DurationResult::refused(PAST_RANGE));
-    DurationResult::of(SignedDuration::seconds(seconds))
+    let seconds = or_return!(minutes.checked_mul(60), DurationResult::error(RESULT_OUT_OF_RANGE));
+    DurationResult::ok(SignedDuration::seconds(seconds))
 }
 
 /// Creates a duration from seconds.
 #[unsafe(no_mangle)]
 pub extern "C" fn fots_duration_seconds(seconds: i64) -> DurationResult
-    ensures { result ≡ duration_done (seconds *ℤ pos second) }
+    ensures { result ≡ duration_ok (seconds *ℤ pos second) }
 {
-    DurationResult::of(SignedDuration::seconds(seconds))
+    DurationResult::ok(SignedDuration::seconds(seconds))
 }
 
 /// Creates a duration from milliseconds.
 #[unsafe(no_mangle)]
 pub extern "C" fn fots_duration_milliseconds(milliseconds: i64) -> DurationResult
-    ensures { result ≡ duration_done (milliseconds *ℤ pos millisecond) }
+    ensures { result ≡ duration_ok (milliseconds *ℤ pos millisecond) }
 {
-    DurationResult::of(SignedDuration::milliseconds(milliseconds))
+    DurationResult::ok(SignedDuration::milliseconds(milliseconds))
 }
 
 /// Creates a duration from microseconds.
 #[unsafe(no_mangle)]
 pub extern "C" fn fots_duration_microseconds(microseconds: i64) -> DurationResult
-    ensures { result ≡ duration_done (microseconds *ℤ pos microsecond) }
+    ensures { result ≡ duration_ok (microseconds *ℤ pos microsecond) }
 {
-    DurationResult::of(SignedDuration::microseconds(microseconds))
+    DurationResult::ok(SignedDuration::microseconds(microseconds))
 }
 
 /// Creates a duration from nanoseconds.
 #[unsafe(no_mangle)]
 pub extern "C" fn fots_duration_nanoseconds(nanoseconds: i64) -> DurationResult
-    ensures { result ≡ duration_done nanoseconds }
+    ensures { result ≡ duration_ok nanoseconds }
 {
-    DurationResult::of(SignedDuration::nanoseconds(nanoseconds))
+    DurationResult::ok(SignedDuration::nanoseconds(nanoseconds))
 }
 
 /// Returns the whole weeks, truncated toward zero.
 #[unsafe(no_mangle)]
-pub extern "C" fn fots_duration_whole_weeks(duration: Duration) -> LongResult
-    ensures bad_duration { ¬ IsDurationPair duration → result ≡ long_refused bad_duration }
+pub extern "C" fn fots_duration_whole_weeks(duration: Duration) -> Int64Result
+    ensures invalid_duration { ¬ IsDurationPair duration → result ≡ int64_error invalid_duration }
     ensures value { IsDurationPair duration
-        → result ≡ long_done (cut (nanoseconds_in duration) (pos week)) }
+        → result ≡ int64_ok (cut (nanoseconds_in duration) (pos week)) }
 {
-    let duration = or_return!(duration_of(duration), LongResult::refused(BAD_DURATION));
-    LongResult::of(duration.whole_weeks())
+    let duration = or_return!(valid_duration(duration), Int64Result::error(INVALID_DURATION));
+    Int64Result::ok(duration.whole_weeks())
 }
 
 /// Returns the whole days, truncated toward zero.
 #[unsafe(no_mangle)]
-pub extern "C" fn fots_duration_whole_days(duration: Duration) -> LongResult
-    ensures bad_duration { ¬ IsDurationPair duration → result ≡ long_refused bad_duration }
+pub extern "C" fn fots_duration_whole_days(duration: Duration) -> Int64Result
+    ensures invalid_duration { ¬ IsDurationPair duration → result ≡ int64_error invalid_duration }
     ensures value { IsDurationPair duration
-        → result ≡ long_done (cut (nanoseconds_in duration) (pos day)) }
+        → result ≡ int64_ok (cut (nanoseconds_in duration) (pos day)) }
 {
-    let duration = or_return!(duration_of(duration), LongResult::refused(BAD_DURATION));
-    LongResult::of(duration.whole_days())
+    let duration = or_return!(valid_duration(duration), Int64Result::error(INVALID_DURATION));
+    Int64Result::ok(duration.whole_days())
 }
 
 /// Returns the whole hours, truncated toward zero.
 #[unsafe(no_mangle)]
-pub extern "C" fn fots_duration_whole_hours(duration: Duration) -> LongResult
-    ensures bad_duration { ¬ IsDurationPair duration → result ≡ long_refused bad_duration }
+pub extern "C" fn fots_duration_whole_hours(duration: Duration) -> Int64Result
+    ensures invalid_duration { ¬ IsDurationPair duration → result ≡ int64_error invalid_duration }
     ensures value { IsDurationPair duration
-        → result ≡ long_done (cut (nanoseconds_in duration) (pos hour)) }
+        → result ≡ int64_ok (cut (nanoseconds_in duration) (pos hour)) }
 {
-    let duration = or_return!(duration_of(duration), LongResult::refused(BAD_DURATION));
-    LongResult::of(duration.whole_hours())
+    let duration = or_return!(valid_duration(duration), Int64Result::error(INVALID_DURATION));
+    Int64Result::ok(duration.whole_hours())
 }
 
 /// Returns the whole minutes, truncated toward zero.
 #[unsafe(no_mangle)]
-pub extern "C" fn fots_duration_whole_minutes(duration: Duration) -> LongResult
-    ensures bad_duration { ¬ IsDurationPair duration → result ≡ long_refused bad_duration }
+pub extern "C" fn fots_duration_whole_minutes(duration: Duration) -> Int64Result
+    ensures invalid_duration { ¬ IsDurationPair duration → result ≡ int64_error invalid_duration }
     ensures value { IsDurationPair duration
-        → result ≡ long_done (cut (nanoseconds_in duration) (pos minute)) }
+        → result ≡ int64_ok (cut (nanoseconds_in duration) (pos minute)) }
 {
-    let duration = or_return!(duration_of(duration), LongResult::refused(BAD_DURATION));
-    LongResult::of(duration.whole_minutes())
+    let duration = or_return!(valid_duration(duration), Int64Result::error(INVALID_DURATION));
+    Int64Result::ok(duration.whole_minutes())
 }
 
 /// Returns the whole seconds, truncated toward zero.
 #[unsafe(no_mangle)]
-pub extern "C" fn fots_duration_whole_seconds(duration: Duration) -> LongResult
-    ensures bad_duration { ¬ IsDurationPair duration → result ≡ long_refused bad_duration }
+pub extern "C" fn fots_duration_whole_seconds(duration: Duration) -> Int64Result
+    ensures invalid_duration { ¬ IsDurationPair duration → result ≡ int64_error invalid_duration }
     ensures value { IsDurationPair duration
-        → result ≡ long_done (cut (nanoseconds_in duration) (pos second)) }
+        → result ≡ int64_ok (cut (nanoseconds_in duration) (pos second)) }
 {
-    let duration = or_return!(duration_of(duration), LongResult::refused(BAD_DURATION));
-    LongResult::of(duration.whole_seconds())
+    let duration = or_return!(valid_duration(duration), Int64Result::error(INVALID_DURATION));
+    Int64Result::ok(duration.whole_seconds())
 }
 
 /// Returns the whole milliseconds, truncated toward zero. Fails if they don't fit in an `i64`.
 #[unsafe(no_mangle)]
-pub extern "C" fn fots_duration_whole_milliseconds(duration: Duration) -> LongResult
-    ensures bad_duration { ¬ IsDurationPair duration → result ≡ long_refused bad_duration }
+pub extern "C" fn fots_duration_whole_milliseconds(duration: Duration) -> Int64Result
+    ensures invalid_duration { ¬ IsDurationPair duration → result ≡ int64_error invalid_duration }
     ensures value { IsDurationPair duration
-        → IsLongIfAny (cut (nanoseconds_in duration) (pos millisecond)) result }
+        → IsInt64OrOutOfRange (cut (nanoseconds_in duration) (pos millisecond)) result }
 {
-    let duration = or_return!(duration_of(duration), LongResult::refused(BAD_DURATION));
-    LongResult::of_wide(duration.whole_milliseconds())
+    let duration = or_return!(valid_duration(duration), Int64Result::error(INVALID_DURATION));
+    Int64Result::from_i128(duration.whole_milliseconds())
 }
 
 /// Returns the whole microseconds, truncated toward zero. Fails if they don't fit in an `i64`.
 #[unsafe(no_mangle)]
-pub extern "C" fn fots_duration_whole_microseconds(duration: Duration) -> LongResult
-    ensures bad_duration { ¬ IsDurationPair duration → result ≡ long_refused bad_duration }
+pub extern "C" fn fots_duration_whole_microseconds(duration: Duration) -> Int64Result
+    ensures invalid_duration { ¬ IsDurationPair duration → result ≡ int64_error invalid_duration }
     ensures value { IsDurationPair duration
-        → IsLongIfAny (cut (nanoseconds_in duration) (pos microsecond)) result }
+        → IsInt64OrOutOfRange (cut (nanoseconds_in duration) (pos microsecond)) result }
 {
-    let duration = or_return!(duration_of(duration), LongResult::refused(BAD_DURATION));
-    LongResult::of_wide(duration.whole_microseconds())
+    let duration = or_return!(valid_duration(duration), Int64Result::error(INVALID_DURATION));
+    Int64Result::from_i128(duration.whole_microseconds())
 }
 
 /// Returns the nanoseconds. Fails if they don't fit in an `i64`.
 #[unsafe(no_mangle)]
-pub extern "C" fn fots_duration_whole_nanoseconds(duration: Duration) -> LongResult
-    ensures bad_duration { ¬ IsDurationPair duration → result ≡ long_refused bad_duration }
-    ensures value { IsDurationPair duration → IsLongIfAny (nanoseconds_in duration) result }
+pub extern "C" fn fots_duration_whole_nanoseconds(duration: Duration) -> Int64Result
+    ensures invalid_duration { ¬ IsDurationPair duration → result ≡ int64_error invalid_duration }
+    ensures value { IsDurationPair duration → IsInt64OrOutOfRange (nanoseconds_in duration) result }
 {
-    let duration = or_return!(duration_of(duration), LongResult::refused(BAD_DURATION));
-    LongResult::of_wide(duration.whole_nanoseconds())
+    let duration = or_return!(valid_duration(duration), Int64Result::error(INVALID_DURATION));
+    Int64Result::from_i128(duration.whole_nanoseconds())
 }
 
 /// Returns the milliseconds past the whole seconds, truncated toward zero.
 #[unsafe(no_mangle)]
 pub extern "C" fn fots_duration_subsec_milliseconds(duration: Duration) -> NumberResult
-    ensures bad_duration { ¬ IsDurationPair duration → result ≡ number_refused bad_duration }
+    ensures invalid_duration { ¬ IsDurationPair duration → result ≡ number_error invalid_duration }
     ensures value { IsDurationPair duration
-        → result ≡ number_done (cut (past_second (nanoseconds_in duration)) (pos millisecond)) }
+        → result ≡ number_ok (cut (subsec_nanoseconds (nanoseconds_in duration)) (pos millisecond)) }
 {
-    let duration = or_return!(duration_of(duration), NumberResult::refused(BAD_DURATION));
-    NumberResult::of(i32::from(duration.subsec_milliseconds()))
+    let duration = or_return!(valid_duration(duration), NumberResult::error(INVALID_DURATION));
+    NumberResult::ok(i32::from(duration.subsec_milliseconds()))
 }
 
 /// Returns the microseconds past the whole seconds, truncated toward zero.
 #[unsafe(no_mangle)]
 pub extern "C" fn fots_duration_subsec_microseconds(duration: Duration) -> NumberResult
-    ensures bad_duration { ¬ IsDurationPair duration → result ≡ number_refused bad_duration }
+    ensures invalid_duration { ¬ IsDurationPair duration → result ≡ number_error invalid_duration }
     ensures value { IsDurationPair duration
-        → result ≡ number_done (cut (past_second (nanoseconds_in duration)) (pos microsecond)) }
+        → result ≡ number_ok (cut (subsec_nanoseconds (nanoseconds_in duration)) (pos microsecond)) }
 {
-    let duration = or_return!(duration_of(duration), NumberResult::refused(BAD_DURATION));
-    NumberResult::of(duration.subsec_microseconds())
+    let duration = or_return!(valid_duration(duration), NumberResult::error(INVALID_DURATION));
+    NumberResult::ok(duration.subsec_microseconds())
 }

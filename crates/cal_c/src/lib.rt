@@ -27,11 +27,11 @@ macro_rules! or_return {
 }
 
 /// Returns the result of a value, or the result of its error.
-macro_rules! made_or_refused {
+macro_rules! ok_or_error {
     ($answer:ident, $made:expr) => {
         match $made {
-            Ok(made) => $answer::of(made),
-            Err(error) => $answer::refused($crate::status::status_of(error)),
+            Ok(made) => $answer::ok(made),
+            Err(error) => $answer::error($crate::status::error_status(error)),
         }
     };
 }
@@ -42,13 +42,13 @@ mod date;
 mod duration;
 mod laws;
 mod moment;
-mod number;
+mod day_number;
 mod offset;
 mod pair;
 mod results;
 mod schedule;
 mod status;
-mod sums;
+mod branchless;
 mod texts;
 mod time;
 mod values;

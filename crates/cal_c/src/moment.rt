@@ -1,21 +1,21 @@
 //! Moments: a date and a time of day at an offset from UTC.
 ghost use Rattle.std.specs.Prelude.{SomeIff};
-ghost use Rattle.cal_c.specs.Moments.{IsMoment, shown_in};
+ghost use Rattle.cal_c.specs.Moments.{IsMoment, local_and_offset_in};
 
 use crate::results::Moment;
-use crate::values::{date_of, offset_of, time_of};
+use crate::values::{valid_date, valid_offset, valid_time};
 use cal_datetime::OffsetDateTime;
 
-mod making;
-mod moves;
+mod constructors;
+mod arithmetic;
 mod unix;
 
 /// Returns the moment of three numbers, or `None` if one of them is invalid.
-fn moment_of(moment: Moment) -> Option<OffsetDateTime>
-    ensures { SomeIff result (IsMoment moment) (shown_in moment) }
+fn valid_moment(moment: Moment) -> Option<OffsetDateTime>
+    ensures { SomeIff result (IsMoment moment) (local_and_offset_in moment) }
 {
-    let date = date_of(moment.date)?;
-    let time = time_of(moment.time)?;
-    let offset = offset_of(moment.offset)?;
+    let date = valid_date(moment.date)?;
+    let time = valid_time(moment.time)?;
+    let offset = valid_offset(moment.offset)?;
     Some(OffsetDateTime::new_in_offset(date, time, offset))
 }

@@ -1,12 +1,12 @@
 //! Offsets from UTC, in seconds.
 ghost use Rattle.std.specs.Prelude.{◌≡◌, ◌<◌, ◌≤◌, neg_ℤ, unsigned_abs};
 ghost use Rattle.cal_time.specs.UtcOffset.{IsOffset, offset_of, whole_hours, whole_minutes, minutes_past_hour, seconds_past_minute};
-ghost use Rattle.cal_c.specs.Results.{offset_done, offset_refused, offset_parts_done, offset_parts_refused, number_done, number_refused};
-ghost use Rattle.cal_c.specs.Statuses.{bad_offset, offset_hour_refused, offset_minute_refused, offset_second_refused, seconds_refused};
+ghost use Rattle.cal_c.specs.Results.{offset_ok, offset_error, offset_hms_ok, offset_hms_error, number_ok, number_error};
+ghost use Rattle.cal_c.specs.Statuses.{invalid_offset, offset_hour_status, offset_minute_status, offset_second_status, seconds_status};
 
-use crate::results::{NumberResult, OffsetPartsResult, OffsetResult};
-use crate::status::{BAD_OFFSET, DONE, SECONDS};
-use crate::values::{offset_of, signed_byte_of};
+use crate::results::{NumberResult, OffsetHmsResult, OffsetResult};
+use crate::status::{INVALID_OFFSET, OK, SECONDS_OUT_OF_RANGE};
+use crate::values::{valid_offset, saturating_i8};
 use cal_time::UtcOffset;
 
 /// Creates an offset from hours, minutes and seconds. The first that isn't 0 gives the sign of all.
@@ -14,20 +14,20 @@ use cal_time::UtcOffset;
 /// outside -59 to 59. -1, 30 and 0 give -5400.
 #[unsafe(no_mangle)]
 pub extern "C" fn fots_offset_from_hms(hours: i32, minutes: i32, seconds: i32) -> OffsetResult
-    ensures hour { 25 < unsigned_abs hours → result ≡ offset_refused offset_hour_refused }
+    ensures hour { 25 < unsigned_abs hours → result ≡ offset_error offset_hour_status }
     ensures minute { unsigned_abs hours ≤ 25 → 59 < unsigned_abs minutes
-        → result ≡ offset_refused offset_minute_refused }
+        → result ≡ offset_error offset_minute_status }
     ensures second { unsigned_abs hours ≤ 25 → unsigned_abs minutes ≤ 59 → 59 < unsigned_abs seconds
-        → result ≡ offset_refused offset_second_refused }
-    ensures offset { unsigned_abs hours ≤ 25 → unsigned_abs minutes ≤ 59 → unsigned_abs seconds ≤ 59
-        → result ≡ offset_done (offset_of hours minutes seconds) }
+        → result ≡ offset_error offset_second_status }
+    ensures value { unsigned_abs hours ≤ 25 → unsigned_abs minutes ≤ 59 → unsigned_abs seconds ≤ 59
+        → result ≡ offset_ok (offset_of hours minutes seconds) }
 {
-    made_or_refused!(
+    ok_or_error!(
         OffsetResult,
         UtcOffset::from_hms(
-            signed_byte_of(hours),
-            signed_byte_of(minutes),
-            signed_byte_of(seconds),
+            saturating_i8(hours),
+            saturating_i8(minutes),
+            saturating_i8(seconds),
         )
     )
 }
@@ -35,24 +35,24 @@ pub extern "C" fn fots_offset_from_hms(hours: i32, minutes: i32, seconds: i32) -
 /// Creates an offset from seconds, from -93599 to 93599. Returns the error `seconds` outside.
 #[unsafe(no_mangle)]
 pub extern "C" fn fots_offset_from_whole_seconds(seconds: i64) -> OffsetResult
-    ensures seconds { ¬ IsOffset seconds → result ≡ offset_refused seconds_refused }
-    ensures offset { IsOffset seconds → result ≡ offset_done seconds }
+    ensures seconds { ¬ IsOffset seconds → result ≡ offset_error seconds_status }
+    ensures value { IsOffset seconds → result ≡ offset_ok seconds }
 {
-    let seconds = or_return!(i32::try_from(seconds), _ => OffsetResult::refused(SECONDS));
-    let offset = or_return!(offset_of(seconds), OffsetResult::refused(SECONDS));
-    OffsetResult::of(offset)
+    let seconds = or_return!(i32::try_from(seconds), _ => OffsetResult::error(SECONDS_OUT_OF_RANGE));
+    let offset = or_return!(valid_offset(seconds), OffsetResult::error(SECONDS_OUT_OF_RANGE));
+    OffsetResult::ok(offset)
 }
 
 /// Returns the hours, minutes and seconds, all of one sign. For -5400 they are -1, -30 and 0.
 #[unsafe(no_mangle)]
-pub extern "C" fn fots_offset_as_hms(offset: i32) -> OffsetPartsResult
-    ensures bad_offset { ¬ IsOffset offset → result ≡ offset_parts_refused bad_offset }
-    ensures value { IsOffset offset → result ≡ offset_parts_done offset }
+pub extern "C" fn fots_offset_as_hms(offset: i32) -> OffsetHmsResult
+    ensures invalid_offset { ¬ IsOffset offset → result ≡ offset_hms_error invalid_offset }
+    ensures value { IsOffset offset → result ≡ offset_hms_ok offset }
 {
-    let offset = or_return!(offset_of(offset), OffsetPartsResult::refused(BAD_OFFSET));
+    let offset = or_return!(valid_offset(offset), OffsetHmsResult::error(INVALID_OFFSET));
     let (hours, minutes, seconds) = offset.as_hms();
-    OffsetPartsResult {
-        status: DONE,
+    OffsetHmsResult {
+        status: OK,
         hours: i32::from(hours),
         minutes: i32::from(minutes),
         seconds: i32::from(seconds),
@@ -61,50 +61,50 @@ pub extern "C" fn fots_offset_as_hms(offset: i32) -> OffsetPartsResult
 
 /// Negates an offset. -5400 becomes 5400.
 #[unsafe(no_mangle)]
-pub extern "C" fn fots_offset_negated(offset: i32) -> OffsetResult
-    ensures bad_offset { ¬ IsOffset offset → result ≡ offset_refused bad_offset }
-    ensures value { IsOffset offset → result ≡ offset_done (neg_ℤ offset) }
+pub extern "C" fn fots_offset_neg(offset: i32) -> OffsetResult
+    ensures invalid_offset { ¬ IsOffset offset → result ≡ offset_error invalid_offset }
+    ensures value { IsOffset offset → result ≡ offset_ok (neg_ℤ offset) }
 {
-    let offset = or_return!(offset_of(offset), OffsetResult::refused(BAD_OFFSET));
-    OffsetResult::of(-offset)
+    let offset = or_return!(valid_offset(offset), OffsetResult::error(INVALID_OFFSET));
+    OffsetResult::ok(-offset)
 }
 
 /// Returns the whole hours, truncated toward zero. For -5400 it is -1.
 #[unsafe(no_mangle)]
 pub extern "C" fn fots_offset_whole_hours(offset: i32) -> NumberResult
-    ensures bad_offset { ¬ IsOffset offset → result ≡ number_refused bad_offset }
-    ensures value { IsOffset offset → result ≡ number_done (whole_hours offset) }
+    ensures invalid_offset { ¬ IsOffset offset → result ≡ number_error invalid_offset }
+    ensures value { IsOffset offset → result ≡ number_ok (whole_hours offset) }
 {
-    let offset = or_return!(offset_of(offset), NumberResult::refused(BAD_OFFSET));
-    NumberResult::of(i32::from(offset.whole_hours()))
+    let offset = or_return!(valid_offset(offset), NumberResult::error(INVALID_OFFSET));
+    NumberResult::ok(i32::from(offset.whole_hours()))
 }
 
 /// Returns the whole minutes, truncated toward zero. For -5400 it is -90.
 #[unsafe(no_mangle)]
 pub extern "C" fn fots_offset_whole_minutes(offset: i32) -> NumberResult
-    ensures bad_offset { ¬ IsOffset offset → result ≡ number_refused bad_offset }
-    ensures value { IsOffset offset → result ≡ number_done (whole_minutes offset) }
+    ensures invalid_offset { ¬ IsOffset offset → result ≡ number_error invalid_offset }
+    ensures value { IsOffset offset → result ≡ number_ok (whole_minutes offset) }
 {
-    let offset = or_return!(offset_of(offset), NumberResult::refused(BAD_OFFSET));
-    NumberResult::of(i32::from(offset.whole_minutes()))
+    let offset = or_return!(valid_offset(offset), NumberResult::error(INVALID_OFFSET));
+    NumberResult::ok(i32::from(offset.whole_minutes()))
 }
 
 /// Returns the minutes past the whole hours, with the sign of the offset. For -5400 it is -30.
 #[unsafe(no_mangle)]
 pub extern "C" fn fots_offset_minutes_past_hour(offset: i32) -> NumberResult
-    ensures bad_offset { ¬ IsOffset offset → result ≡ number_refused bad_offset }
-    ensures value { IsOffset offset → result ≡ number_done (minutes_past_hour offset) }
+    ensures invalid_offset { ¬ IsOffset offset → result ≡ number_error invalid_offset }
+    ensures value { IsOffset offset → result ≡ number_ok (minutes_past_hour offset) }
 {
-    let offset = or_return!(offset_of(offset), NumberResult::refused(BAD_OFFSET));
-    NumberResult::of(i32::from(offset.minutes_past_hour()))
+    let offset = or_return!(valid_offset(offset), NumberResult::error(INVALID_OFFSET));
+    NumberResult::ok(i32::from(offset.minutes_past_hour()))
 }
 
 /// Returns the seconds past the whole minutes, with the sign of the offset. For -5400 it is 0.
 #[unsafe(no_mangle)]
 pub extern "C" fn fots_offset_seconds_past_minute(offset: i32) -> NumberResult
-    ensures bad_offset { ¬ IsOffset offset → result ≡ number_refused bad_offset }
-    ensures value { IsOffset offset → result ≡ number_done (seconds_past_minute offset) }
+    ensures invalid_offset { ¬ IsOffset offset → result ≡ number_error invalid_offset }
+    ensures value { IsOffset offset → result ≡ number_ok (seconds_past_minute offset) }
 {
-    let offset = or_return!(offset_of(offset), NumberResult::refused(BAD_OFFSET));
-    NumberResult::of(i32::from(offset.seconds_past_minute()))
+    let offset = or_return!(valid_offset(offset), NumberResult::error(INVALID_OFFSET));
+    NumberResult::ok(i32::from(offset.seconds_past_minute()))
 }

@@ -1,12 +1,12 @@
 //! Durations, moments and results. A result with an error has numbers that no valid value has.
 ghost use Rattle.std.specs.Prelude.{◌≡◌};
 ghost use Rattle.cal_time.specs.Date.{julian_day_at};
-ghost use Rattle.cal_c.specs.Results.{IsLongIfAny, date_done, date_refused, date_if_any, number_done, number_refused, calendar_date_refused, ordinal_date_refused, iso_week_date_refused, duration_done, duration_if_any, duration_refused, time_done, time_refused, clock_refused, adjusted_time_done, adjusted_time_refused, offset_done, offset_refused, offset_parts_refused, long_done, long_refused, pair_if_any, pair_refused};
-ghost use Rattle.cal_c.specs.Moments.{moment_done, moment_refused};
+ghost use Rattle.cal_c.specs.Results.{IsInt64OrOutOfRange, date_ok, date_error, date_or_out_of_range, number_ok, number_error, calendar_date_error, ordinal_date_error, iso_week_date_error, duration_ok, duration_or_out_of_range, duration_error, time_ok, time_error, hms_nano_error, adjusted_time_ok, adjusted_time_error, offset_ok, offset_error, offset_hms_error, int64_ok, int64_error, pair_or_out_of_range, pair_error};
+ghost use Rattle.cal_c.specs.Moments.{moment_ok, moment_error};
 ghost use Rattle.cal_time.specs.Time.{carry};
 
-use crate::status::{DONE, PAST_RANGE};
-use crate::values::nanoseconds_of;
+use crate::status::{OK, RESULT_OUT_OF_RANGE};
+use crate::values::nanoseconds_since_midnight;
 use cal_datetime::OffsetDateTime;
 use cal_time::util::DateAdjustment;
 use cal_time::{Date, SignedDuration, Time, UtcOffset};
@@ -54,7 +54,7 @@ pub struct TimeResult {
 /// The components of a time of day.
 #[repr(C)]
 #[derive(Clone, Copy)]
-pub struct ClockResult {
+pub struct HmsNanoResult {
     pub status: i32,
     pub hour: u32,
     pub minute: u32,
@@ -82,7 +82,7 @@ pub struct OffsetResult {
 /// The components of an offset.
 #[repr(C)]
 #[derive(Clone, Copy)]
-pub struct OffsetPartsResult {
+pub struct OffsetHmsResult {
     pub status: i32,
     pub hours: i32,
     pub minutes: i32,
@@ -92,7 +92,7 @@ pub struct OffsetPartsResult {
 /// A number in 64 bits.
 #[repr(C)]
 #[derive(Clone, Copy)]
-pub struct LongResult {
+pub struct Int64Result {
     pub status: i32,
     pub number: i64,
 }
@@ -136,17 +136,17 @@ pub struct IsoWeekDateResult {
 }
 
 impl DateResult {
-    pub fn of(date: Date) -> Self
-        ensures { result ≡ date_done (julian_day_at date) }
+    pub fn ok(date: Date) -> Self
+        ensures { result ≡ date_ok (julian_day_at date) }
     {
         DateResult {
-            status: DONE,
+            status: OK,
             date: date.to_julian_day(),
         }
     }
 
-    pub fn refused(status: i32) -> Self
-        ensures { result ≡ date_refused status }
+    pub fn error(status: i32) -> Self
+        ensures { result ≡ date_error status }
     {
         DateResult {
             status,
@@ -154,26 +154,26 @@ impl DateResult {
         }
     }
 
-    pub fn of_option(date: Option<Date>) -> Self
-        ensures { result ≡ date_if_any date }
+    pub fn from_option(date: Option<Date>) -> Self
+        ensures { result ≡ date_or_out_of_range date }
     {
-        let date = or_return!(date, Self::refused(PAST_RANGE));
-        Self::of(date)
+        let date = or_return!(date, Self::error(RESULT_OUT_OF_RANGE));
+        Self::ok(date)
     }
 }
 
 impl NumberResult {
-    pub fn of(number: i32) -> Self
-        ensures { result ≡ number_done number }
+    pub fn ok(number: i32) -> Self
+        ensures { result ≡ number_ok number }
     {
         NumberResult {
-            status: DONE,
+            status: OK,
             number,
         }
     }
 
-    pub fn refused(status: i32) -> Self
-        ensures { result ≡ number_refused status }
+    pub fn error(status: i32) -> Self
+        ensures { result ≡ number_error status }
     {
         NumberResult {
             status,
@@ -183,8 +183,8 @@ impl NumberResult {
 }
 
 impl CalendarDateResult {
-    pub fn refused(status: i32) -> Self
-        ensures { result ≡ calendar_date_refused status }
+    pub fn error(status: i32) -> Self
+        ensures { result ≡ calendar_date_error status }
     {
         CalendarDateResult {
             status,
@@ -196,8 +196,8 @@ impl CalendarDateResult {
 }
 
 impl OrdinalDateResult {
-    pub fn refused(status: i32) -> Self
-        ensures { result ≡ ordinal_date_refused status }
+    pub fn error(status: i32) -> Self
+        ensures { result ≡ ordinal_date_error status }
     {
         OrdinalDateResult {
             status,
@@ -208,8 +208,8 @@ impl OrdinalDateResult {
 }
 
 impl IsoWeekDateResult {
-    pub fn refused(status: i32) -> Self
-        ensures { result ≡ iso_week_date_refused status }
+    pub fn error(status: i32) -> Self
+        ensures { result ≡ iso_week_date_error status }
     {
         IsoWeekDateResult {
             status,
@@ -221,11 +221,11 @@ impl IsoWeekDateResult {
 }
 
 impl DurationResult {
-    pub fn of(duration: SignedDuration) -> Self
-        ensures { result ≡ duration_done duration }
+    pub fn ok(duration: SignedDuration) -> Self
+        ensures { result ≡ duration_ok duration }
     {
         DurationResult {
-            status: DONE,
+            status: OK,
             duration: Duration {
                 seconds: duration.whole_seconds(),
                 nanoseconds: duration.subsec_nanoseconds(),
@@ -233,15 +233,15 @@ impl DurationResult {
         }
     }
 
-    pub fn of_option(duration: Option<SignedDuration>) -> Self
-        ensures { result ≡ duration_if_any duration }
+    pub fn from_option(duration: Option<SignedDuration>) -> Self
+        ensures { result ≡ duration_or_out_of_range duration }
     {
-        let duration = or_return!(duration, Self::refused(PAST_RANGE));
-        Self::of(duration)
+        let duration = or_return!(duration, Self::error(RESULT_OUT_OF_RANGE));
+        Self::ok(duration)
     }
 
-    pub fn refused(status: i32) -> Self
-        ensures { result ≡ duration_refused status }
+    pub fn error(status: i32) -> Self
+        ensures { result ≡ duration_error status }
     {
         DurationResult {
             status,
@@ -254,17 +254,17 @@ impl DurationResult {
 }
 
 impl TimeResult {
-    pub fn of(time: Time) -> Self
-        ensures { result ≡ time_done time }
+    pub fn ok(time: Time) -> Self
+        ensures { result ≡ time_ok time }
     {
         TimeResult {
-            status: DONE,
-            time: nanoseconds_of(time),
+            status: OK,
+            time: nanoseconds_since_midnight(time),
         }
     }
 
-    pub fn refused(status: i32) -> Self
-        ensures { result ≡ time_refused status }
+    pub fn error(status: i32) -> Self
+        ensures { result ≡ time_error status }
     {
         TimeResult {
             status,
@@ -273,11 +273,11 @@ impl TimeResult {
     }
 }
 
-impl ClockResult {
-    pub fn refused(status: i32) -> Self
-        ensures { result ≡ clock_refused status }
+impl HmsNanoResult {
+    pub fn error(status: i32) -> Self
+        ensures { result ≡ hms_nano_error status }
     {
-        ClockResult {
+        HmsNanoResult {
             status,
             hour: u32::MAX,
             minute: u32::MAX,
@@ -288,8 +288,8 @@ impl ClockResult {
 }
 
 impl AdjustedTimeResult {
-    pub fn of(adjustment: DateAdjustment, time: Time) -> Self
-        ensures { result ≡ adjusted_time_done (carry adjustment) time }
+    pub fn ok(adjustment: DateAdjustment, time: Time) -> Self
+        ensures { result ≡ adjusted_time_ok (carry adjustment) time }
     {
         let carry = match adjustment {
             DateAdjustment::Previous => -1,
@@ -297,14 +297,14 @@ impl AdjustedTimeResult {
             DateAdjustment::Next => 1,
         };
         AdjustedTimeResult {
-            status: DONE,
+            status: OK,
             carry,
-            time: nanoseconds_of(time),
+            time: nanoseconds_since_midnight(time),
         }
     }
 
-    pub fn refused(status: i32) -> Self
-        ensures { result ≡ adjusted_time_refused status }
+    pub fn error(status: i32) -> Self
+        ensures { result ≡ adjusted_time_error status }
     {
         AdjustedTimeResult {
             status,
@@ -315,17 +315,17 @@ impl AdjustedTimeResult {
 }
 
 impl OffsetResult {
-    pub fn of(offset: UtcOffset) -> Self
-        ensures { result ≡ offset_done offset }
+    pub fn ok(offset: UtcOffset) -> Self
+        ensures { result ≡ offset_ok offset }
     {
         OffsetResult {
-            status: DONE,
+            status: OK,
             offset: offset.whole_seconds(),
         }
     }
 
-    pub fn refused(status: i32) -> Self
-        ensures { result ≡ offset_refused status }
+    pub fn error(status: i32) -> Self
+        ensures { result ≡ offset_error status }
     {
         OffsetResult {
             status,
@@ -334,11 +334,11 @@ impl OffsetResult {
     }
 }
 
-impl OffsetPartsResult {
-    pub fn refused(status: i32) -> Self
-        ensures { result ≡ offset_parts_refused status }
+impl OffsetHmsResult {
+    pub fn error(status: i32) -> Self
+        ensures { result ≡ offset_hms_error status }
     {
-        OffsetPartsResult {
+        OffsetHmsResult {
             status,
             hours: i32::MIN,
             minutes: i32::MIN,
@@ -347,28 +347,28 @@ impl OffsetPartsResult {
     }
 }
 
-impl LongResult {
-    pub fn of(number: i64) -> Self
-        ensures { result ≡ long_done number }
+impl Int64Result {
+    pub fn ok(number: i64) -> Self
+        ensures { result ≡ int64_ok number }
     {
-        LongResult {
-            status: DONE,
+        Int64Result {
+            status: OK,
             number,
         }
     }
 
     /// Returns the result of a number, or of an error if it doesn't fit in an `i64`.
-    pub fn of_wide(number: i128) -> Self
-        ensures { IsLongIfAny number result }
+    pub fn from_i128(number: i128) -> Self
+        ensures { IsInt64OrOutOfRange number result }
     {
-        let number = or_return!(i64::try_from(number), _ => Self::refused(PAST_RANGE));
-        Self::of(number)
+        let number = or_return!(i64::try_from(number), _ => Self::error(RESULT_OUT_OF_RANGE));
+        Self::ok(number)
     }
 
-    pub fn refused(status: i32) -> Self
-        ensures { result ≡ long_refused status }
+    pub fn error(status: i32) -> Self
+        ensures { result ≡ int64_error status }
     {
-        LongResult {
+        Int64Result {
             status,
             number: i64::MIN,
         }
@@ -376,21 +376,21 @@ impl LongResult {
 }
 
 impl PairResult {
-    pub fn of_option(pair: Option<(Date, Time)>) -> Self
-        ensures { result ≡ pair_if_any pair }
+    pub fn from_option(pair: Option<(Date, Time)>) -> Self
+        ensures { result ≡ pair_or_out_of_range pair }
     {
         match pair {
             Some((date, time)) => PairResult {
-                status: DONE,
+                status: OK,
                 date: date.to_julian_day(),
-                time: nanoseconds_of(time),
+                time: nanoseconds_since_midnight(time),
             },
-            None => Self::refused(PAST_RANGE),
+            None => Self::error(RESULT_OUT_OF_RANGE),
         }
     }
 
-    pub fn refused(status: i32) -> Self
-        ensures { result ≡ pair_refused status }
+    pub fn error(status: i32) -> Self
+        ensures { result ≡ pair_error status }
     {
         PairResult {
             status,
@@ -418,21 +418,21 @@ pub struct MomentResult {
 }
 
 impl MomentResult {
-    pub fn of(moment: OffsetDateTime) -> Self
-        ensures { result ≡ moment_done moment }
+    pub fn ok(moment: OffsetDateTime) -> Self
+        ensures { result ≡ moment_ok moment }
     {
         MomentResult {
-            status: DONE,
+            status: OK,
             moment: Moment {
                 date: moment.date().to_julian_day(),
                 offset: moment.offset().whole_seconds(),
-                time: nanoseconds_of(moment.time()),
+                time: nanoseconds_since_midnight(moment.time()),
             },
         }
     }
 
-    pub fn refused(status: i32) -> Self
-        ensures { result ≡ moment_refused status }
+    pub fn error(status: i32) -> Self
+        ensures { result ≡ moment_error status }
     {
         MomentResult {
             status,

@@ -1,7 +1,7 @@
 //! Months and years, ends of periods, weekdays of months, day counts, working days, recurrences.
 
-mod bounds;
-mod money;
+mod period_ends;
+mod year_fraction;
 mod months;
 mod recurrences;
 mod results;

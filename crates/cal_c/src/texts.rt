@@ -1,16 +1,16 @@
 //! Texts and the results of parsing.
 ghost use Rattle.std.specs.Prelude.{◌≡◌, ◌≤◌, length};
-ghost use Rattle.cal_c.specs.Texts.{no_date_read, no_moment_read, read_date_done, read_moment_done, text_done, text_refused};
-ghost use Rattle.cal_c.specs.Unread.{unread_date, unread_moment};
+ghost use Rattle.cal_c.specs.Texts.{parsed_date_error_at, parsed_moment_error_at, parsed_date_ok, parsed_moment_ok, text_ok, text_error};
+ghost use Rattle.cal_c.specs.ParseErrors.{date_of_parse_error, moment_of_parse_error};
 
-use crate::status::{DONE, UNEXPECTED_END, UNREADABLE, status_of};
-use crate::values::nanoseconds_of;
+use crate::status::{OK, UNEXPECTED_END, UNEXPECTED_BYTE, error_status};
+use crate::values::nanoseconds_since_midnight;
 use cal_datetime::OffsetDateTime;
-use cal_text::Unreadable;
+use cal_text::ParseError;
 use cal_time::Date;
 
-mod making;
-pub mod reading;
+mod formatting;
+pub mod parsing;
 
 /// The bytes of a text: enough for the longest one and a zero byte.
 const CAPACITY: usize = 40;
@@ -27,7 +27,7 @@ pub struct TextResult {
 /// A parsed date, or the position of the first wrong byte or of an end that comes too early.
 #[repr(C)]
 #[derive(Clone, Copy)]
-pub struct ReadDateResult {
+pub struct ParseDateResult {
     pub status: i32,
     pub date: i32,
     pub position: usize,
@@ -36,7 +36,7 @@ pub struct ReadDateResult {
 /// A parsed date, time and offset, or a position as for a date.
 #[repr(C)]
 #[derive(Clone, Copy)]
-pub struct ReadMomentResult {
+pub struct ParseMomentResult {
     pub status: i32,
     pub date: i32,
     pub time: u64,
@@ -45,21 +45,21 @@ pub struct ReadMomentResult {
 }
 
 impl TextResult {
-    pub fn of(text: &[u8]) -> Self
+    pub fn ok(text: &[u8]) -> Self
         requires { length text.now ≤ 39 }
-        ensures { result ≡ text_done text.now }
+        ensures { result ≡ text_ok text.now }
     {
         let mut bytes = [0; CAPACITY];
         bytes[..text.len()].copy_from_slice(text);
         TextResult {
-            status: DONE,
+            status: OK,
             length: text.len() as u32,
             bytes,
         }
     }
 
-    pub fn refused(status: i32) -> Self
-        ensures { result ≡ text_refused status }
+    pub fn error(status: i32) -> Self
+        ensures { result ≡ text_error status }
     {
         TextResult {
             status,
@@ -69,31 +69,31 @@ impl TextResult {
     }
 }
 
-impl ReadDateResult {
-    pub fn of(date: Date) -> Self
-        ensures { result ≡ read_date_done date }
+impl ParseDateResult {
+    pub fn ok(date: Date) -> Self
+        ensures { result ≡ parsed_date_ok date }
     {
-        ReadDateResult {
-            status: DONE,
+        ParseDateResult {
+            status: OK,
             date: date.to_julian_day(),
             position: usize::MAX,
         }
     }
 
-    pub fn refused(error: Unreadable) -> Self
-        ensures { result ≡ unread_date error }
+    pub fn error(error: ParseError) -> Self
+        ensures { result ≡ date_of_parse_error error }
     {
         match error {
-            Unreadable::UnexpectedByte(position) => Self::none(UNREADABLE, position),
-            Unreadable::UnexpectedEnd(position) => Self::none(UNEXPECTED_END, position),
-            Unreadable::OutOfRange(error) => Self::none(status_of(error), usize::MAX),
+            ParseError::UnexpectedByte(position) => Self::error_at(UNEXPECTED_BYTE, position),
+            ParseError::UnexpectedEnd(position) => Self::error_at(UNEXPECTED_END, position),
+            ParseError::OutOfRange(error) => Self::error_at(error_status(error), usize::MAX),
         }
     }
 
-    fn none(status: i32, position: usize) -> Self
-        ensures { result ≡ no_date_read status position }
+    fn error_at(status: i32, position: usize) -> Self
+        ensures { result ≡ parsed_date_error_at status position }
     {
-        ReadDateResult {
+        ParseDateResult {
             status,
             date: i32::MIN,
             position,
@@ -101,33 +101,33 @@ impl ReadDateResult {
     }
 }
 
-impl ReadMomentResult {
-    pub fn of(moment: OffsetDateTime) -> Self
-        ensures { result ≡ read_moment_done moment }
+impl ParseMomentResult {
+    pub fn ok(moment: OffsetDateTime) -> Self
+        ensures { result ≡ parsed_moment_ok moment }
     {
-        ReadMomentResult {
-            status: DONE,
+        ParseMomentResult {
+            status: OK,
             date: moment.date().to_julian_day(),
-            time: nanoseconds_of(moment.time()),
+            time: nanoseconds_since_midnight(moment.time()),
             offset: moment.offset().whole_seconds(),
             position: usize::MAX,
         }
     }
 
-    pub fn refused(error: Unreadable) -> Self
-        ensures { result ≡ unread_moment error }
+    pub fn error(error: ParseError) -> Self
+        ensures { result ≡ moment_of_parse_error error }
     {
         match error {
-            Unreadable::UnexpectedByte(position) => Self::none(UNREADABLE, position),
-            Unreadable::UnexpectedEnd(position) => Self::none(UNEXPECTED_END, position),
-            Unreadable::OutOfRange(error) => Self::none(status_of(error), usize::MAX),
+            ParseError::UnexpectedByte(position) => Self::error_at(UNEXPECTED_BYTE, position),
+            ParseError::UnexpectedEnd(position) => Self::error_at(UNEXPECTED_END, position),
+            ParseError::OutOfRange(error) => Self::error_at(error_status(error), usize::MAX),
         }
     }
 
-    fn none(status: i32, position: usize) -> Self
-        ensures { result ≡ no_moment_read status position }
+    fn error_at(status: i32, position: usize) -> Self
+        ensures { result ≡ parsed_moment_error_at status position }
     {
-        ReadMomentResult {
+        ParseMomentResult {
             status,
             date: i32::MIN,
             time: u64::MAX,

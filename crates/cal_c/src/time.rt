@@ -1,7 +1,7 @@
 //! Times of day, in nanoseconds since midnight.
 
-mod making;
-mod moves;
-mod parts;
+mod constructors;
+mod arithmetic;
+mod components;
 mod replacement;
 mod truncation;

@@ -21,7 +21,7 @@ const NANOSECONDS_PER_HOUR: u64 = 3_600_000_000_000;
 const NANOSECONDS_PER_DAY: u64 = 86_400_000_000_000;
 
 /// Returns the date with a Julian day, or `None` if it is out of range.
-pub fn date_of(julian_day: i32) -> Option<Date>
+pub fn valid_date(julian_day: i32) -> Option<Date>
     ensures { SomeIff result (IsJulianDay julian_day) (day_of julian_day) }
 {
     match Date::from_julian_day(julian_day) {
@@ -31,15 +31,15 @@ pub fn date_of(julian_day: i32) -> Option<Date>
 }
 
 /// Returns the month with a number, from 1 for January, or `None`.
-pub fn month_of(month: u32) -> Option<Month>
+pub fn valid_month(month: u32) -> Option<Month>
     ensures { MatchOption result (¬ IsMonth month)
         (λ found. IsMonth month × (number found ≡ month)) }
 {
-    Month::try_from(byte_of(month)).ok()
+    Month::try_from(saturating_u8(month)).ok()
 }
 
 /// Returns the weekday with a number, from 1 for Monday, or `None`.
-pub fn weekday_of(weekday: u32) -> Option<Weekday>
+pub fn valid_weekday(weekday: u32) -> Option<Weekday>
     ensures { MatchOption result (¬ IsWeekday weekday)
         (λ found. IsWeekday weekday × (index found + 1 ≡ weekday)) }
 {
@@ -57,38 +57,38 @@ pub fn weekday_of(weekday: u32) -> Option<Weekday>
 
 /// Returns the day of the month as a byte. An invalid day becomes one that no month has.
 #[tactic(auto, using(crate::proofs::Days::days_in_month_most))]
-pub fn day_of_month_of(day: u32) -> u8
-    ensures has { (y : ℤ) (m : ℕ) → IsDayOfMonth y m day → result ≡ day }
+pub fn day_or_invalid(day: u32) -> u8
+    ensures value { (y : ℤ) (m : ℕ) → IsDayOfMonth y m day → result ≡ day }
     ensures none { (y : ℤ) (m : ℕ) → ¬ IsDayOfMonth y m day → ¬ IsDayOfMonth y m result }
 {
-    byte_of(day)
+    saturating_u8(day)
 }
 
 /// Returns the ordinal in 16 bits. An invalid ordinal becomes one that no year has.
-pub fn ordinal_of(ordinal: u32) -> u16
-    ensures has { (y : ℤ) → IsOrdinal y ordinal → result ≡ ordinal }
+pub fn ordinal_or_invalid(ordinal: u32) -> u16
+    ensures value { (y : ℤ) → IsOrdinal y ordinal → result ≡ ordinal }
     ensures none { (y : ℤ) → ¬ IsOrdinal y ordinal → ¬ IsOrdinal y result }
 {
-    short_of(ordinal)
+    saturating_u16(ordinal)
 }
 
 /// Clamps a number to 8 bits. No component has the maximum, 255.
-pub fn byte_of(number: u32) -> u8
+pub fn saturating_u8(number: u32) -> u8
     ensures { result ≡ min number 255 }
 {
     number.min(255) as u8
 }
 
 /// Clamps a number to 16 bits.
-pub fn short_of(number: u32) -> u16
+pub fn saturating_u16(number: u32) -> u16
     ensures { result ≡ min number 65535 }
 {
     number.min(65535) as u16
 }
 
 /// Returns the week, or 0 if the year doesn't have it.
-pub fn week_of(year: i32, week: u32) -> u8
-    ensures has { IsWeek year week → result ≡ week }
+pub fn week_or_invalid(year: i32, week: u32) -> u8
+    ensures value { IsWeek year week → result ≡ week }
     ensures none { ¬ IsWeek year week → ¬ IsWeek year result }
 {
     if week <= 52 || week <= u32::from(weeks_in_year(year)) {
@@ -99,14 +99,14 @@ pub fn week_of(year: i32, week: u32) -> u8
 }
 
 /// Returns the date with a Julian day, or `None` if it is out of range.
-pub fn date_at(julian_day: i64) -> Option<Date>
+pub fn valid_date_i64(julian_day: i64) -> Option<Date>
     ensures { SomeIff result (IsJulianDay julian_day) (day_of julian_day) }
 {
-    date_of(i32::try_from(julian_day).ok()?)
+    valid_date(i32::try_from(julian_day).ok()?)
 }
 
 /// Returns the duration of seconds and nanoseconds, or `None` if they are invalid.
-pub fn duration_of(duration: Duration) -> Option<SignedDuration>
+pub fn valid_duration(duration: Duration) -> Option<SignedDuration>
     ensures { SomeIff result (IsDurationPair duration) (nanoseconds_in duration) }
 {
     let Duration {
@@ -126,7 +126,7 @@ pub fn duration_of(duration: Duration) -> Option<SignedDuration>
 }
 
 /// Returns the time with nanoseconds since midnight, or `None` if it is a day or more.
-pub fn time_of(nanoseconds: u64) -> Option<Time>
+pub fn valid_time(nanoseconds: u64) -> Option<Time>
     ensures { SomeIff result (IsTime nanoseconds) nanoseconds }
 {
     if nanoseconds >= NANOSECONDS_PER_DAY {
@@ -138,7 +138,7 @@ pub fn time_of(nanoseconds: u64) -> Option<Time>
 }
 
 /// Returns the nanoseconds since midnight of a time.
-pub fn nanoseconds_of(time: Time) -> u64
+pub fn nanoseconds_since_midnight(time: Time) -> u64
     ensures { result ≡ time }
 {
     u64::from(time.hour()) * NANOSECONDS_PER_HOUR
@@ -148,14 +148,14 @@ pub fn nanoseconds_of(time: Time) -> u64
 }
 
 /// Returns the offset of seconds, or `None` if it is out of range.
-pub fn offset_of(seconds: i32) -> Option<UtcOffset>
+pub fn valid_offset(seconds: i32) -> Option<UtcOffset>
     ensures { SomeIff result (IsOffset seconds) seconds }
 {
     UtcOffset::from_whole_seconds(seconds).ok()
 }
 
 /// Clamps a number to 8 bits with a sign. No component of an offset is at either end.
-pub fn signed_byte_of(number: i32) -> i8
+pub fn saturating_i8(number: i32) -> i8
     ensures same { unsigned_abs number ≤ 127 → result ≡ number }
     ensures above { (n : ℕ) → n < 127 → n < unsigned_abs number → n < unsigned_abs result }
 {

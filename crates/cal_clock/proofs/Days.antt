@@ -3,9 +3,9 @@ use Rattle.std.proofs.Common.{◌≡◌, ℕ, zero, suc, ◌*◌, ◌/◌, ◌%�
 use Rattle.std.specs.Int.{w64}
 use borrow.Author.Differences.{up, down}
 use Rattle.std.proofs.lemmas.Int.{ints, by_lt_z, quot-rem, rem_below, to_z-of_z, fits_signed_from_abs, fits_signed_mul}
-use Rattle.cal_span.specs.SignedDuration.{second, day, cut, past_second}
+use Rattle.cal_span.specs.SignedDuration.{second, day, cut, subsec_nanoseconds}
 use Rattle.cal_span.specs.FieldsLaws.{times-second}
-use Rattle.cal_clock.specs.Time.{IsPastDays, modulo_day}
+use Rattle.cal_clock.specs.Time.{IsSubdayPart, modulo_day}
 
 -- The positive part and the negative part of a number of days in nanoseconds.
 times-day : (s : ℤ) → (up (s *ℤ pos day) ≡ day * up s) × (down (s *ℤ pos day) ≡ day * down s)
@@ -19,10 +19,10 @@ int_rem-neg (suc q) = refl
 
 -- The seconds past the whole days, with the nanoseconds past the seconds, are the nanoseconds past
 -- the whole days.
-pub past_days-is : (v : ℤ)
-    → int_rem (cut v (pos second)) (pos 86_400) *ℤ pos second +ℤ past_second v ≡ int_rem v (pos day)
-past_days-is (pos n) = omega (arith, ints)
-past_days-is (negsuc n) =
+pub subday_nanoseconds-is : (v : ℤ)
+    → int_rem (cut v (pos second)) (pos 86_400) *ℤ pos second +ℤ subsec_nanoseconds v ≡ int_rem v (pos day)
+subday_nanoseconds-is (pos n) = omega (arith, ints)
+subday_nanoseconds-is (negsuc n) =
     let q = suc n / second in
     let rest = int_rem-neg q in
     let seconds = times-second (int_rem (neg_ℤ (pos q)) (pos 86_400)) in
@@ -33,8 +33,8 @@ rem-sign : (v : ℤ) → (pos 0 ≤ℤ v → pos 0 ≤ℤ int_rem v (pos day)) �
 rem-sign (pos n) = (λ h. omega (arith, ints), λ h. omega (arith, ints))
 rem-sign (negsuc n) = (λ h. omega (arith, ints), λ h. omega (arith, ints))
 
-pub IsPastDays-rem : (v : ℤ) → IsPastDays v (int_rem v (pos day))
-IsPastDays-rem v = record {
+pub IsSubdayPart-rem : (v : ℤ) → IsSubdayPart v (int_rem v (pos day))
+IsSubdayPart-rem v = record {
   value = sym (quot-rem v (pos day));
   below_day = rem_below v (pos day) (omega arith);
   positive = (rem-sign v).0;
@@ -46,13 +46,13 @@ pub record HasRest (v s n : ℤ) : Type 0 where
   pub rem_fits : FitsSigned w64 (int_rem s (pos 86_400))
   pub product_fits : FitsSigned w64 (int_rem s (pos 86_400) *ℤ pos second)
   pub rest_fits : FitsSigned w64 (int_rem s (pos 86_400) *ℤ pos second +ℤ n)
-  pub past : IsPastDays v (int_rem s (pos 86_400) *ℤ pos second +ℤ n)
+  pub past : IsSubdayPart v (int_rem s (pos 86_400) *ℤ pos second +ℤ n)
 
-pub rest-of : (v s n : ℤ) → s ≡ cut v (pos second) → n ≡ past_second v → HasRest v s n
+pub rest-of : (v s n : ℤ) → s ≡ cut v (pos second) → n ≡ subsec_nanoseconds v → HasRest v s n
 rest-of v s n whole past =
     let small = rem_below s (pos 86_400) (omega arith) in
-    let rest : int_rem s (pos 86_400) *ℤ pos second +ℤ n ≡ int_rem v (pos day) = (λ i. int_rem (whole i) (pos 86_400) *ℤ pos second +ℤ past i) ∙ past_days-is v in
-    let is_past : IsPastDays v (int_rem s (pos 86_400) *ℤ pos second +ℤ n) = subst (IsPastDays v) (sym rest) (IsPastDays-rem v) in
+    let rest : int_rem s (pos 86_400) *ℤ pos second +ℤ n ≡ int_rem v (pos day) = (λ i. int_rem (whole i) (pos 86_400) *ℤ pos second +ℤ past i) ∙ subday_nanoseconds-is v in
+    let is_past : IsSubdayPart v (int_rem s (pos 86_400) *ℤ pos second +ℤ n) = subst (IsSubdayPart v) (sym rest) (IsSubdayPart-rem v) in
     let below = is_past.below_day in
     record {
       rem_fits = fits_signed_from_abs w64 (int_rem s (pos 86_400)) (omega arith);

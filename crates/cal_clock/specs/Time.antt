@@ -6,7 +6,7 @@ use Rattle.std.specs.Int.{int_rem_euclid}
 use Rattle.std.specs.Fmt.{decimal}
 use Rattle.cal_units.specs.declared.error.Component.TheVariants as component
 use Rattle.cal_units.specs.declared.error.ComponentRange.{ComponentRange}
-use Rattle.cal_units.specs.Refusal.{unconditional, IsRefused}
+use Rattle.cal_units.specs.ComponentError.{unconditional, FailsWith}
 use Rattle.cal_units.specs.declared.util.date_adjustment.DateAdjustment.{DateAdjustment}
 use Rattle.cal_units.specs.declared.util.date_adjustment.DateAdjustment.TheVariants.{Previous, Next, None}
 use Rattle.cal_span.specs.SignedDuration.{microsecond, millisecond, second, minute, hour, day, whole_days}
@@ -36,10 +36,10 @@ abbrev pub nanosecond_out_of_range : ComponentRange
 nanosecond_out_of_range = unconditional component.Nanosecond
 
 -- The error for an hour, a minute and a second names the first of them that is out of range.
-pub record IsRefusedByClock {T : Type 0} (h m s : ℕ) (result : Result T ComponentRange) : Type 0 where
-  pub hour : IsRefused hour_out_of_range result ↔ (23 < h)
-  pub minute : IsRefused minute_out_of_range result ↔ (h ≤ 23) × (59 < m)
-  pub second : IsRefused second_out_of_range result ↔ (h ≤ 23) × (m ≤ 59) × (59 < s)
+pub record ChecksHms {T : Type 0} (h m s : ℕ) (result : Result T ComponentRange) : Type 0 where
+  pub hour : FailsWith hour_out_of_range result ↔ (23 < h)
+  pub minute : FailsWith minute_out_of_range result ↔ (h ≤ 23) × (59 < m)
+  pub second : FailsWith second_out_of_range result ↔ (h ≤ 23) × (m ≤ 59) × (59 < s)
 
 -- ---- components
 -- The time of day with these hours, minutes, seconds and nanoseconds.
@@ -71,7 +71,7 @@ abbrev pub modulo_day : ℤ → ℕ
 modulo_day v = unsigned_abs (int_rem_euclid v (pos day))
 
 -- r is the part of v past its whole days. It doesn't have the opposite sign of v.
-pub record IsPastDays (v r : ℤ) : Type 0 where
+pub record IsSubdayPart (v r : ℤ) : Type 0 where
   pub value : v ≡ whole_days v *ℤ pos day +ℤ r
   pub below_day : unsigned_abs r < day
   pub positive : pos 0 ≤ℤ v → pos 0 ≤ℤ r

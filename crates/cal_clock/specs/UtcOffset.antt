@@ -4,16 +4,16 @@ use Rattle.std.specs.Prelude.{ℕ, zero, suc, ◌+◌, ◌*◌, ◌/◌, ◌%◌
 use Rattle.cal_span.specs.SignedDuration.{cut}
 use Rattle.cal_units.specs.declared.error.Component.TheVariants as component
 use Rattle.cal_units.specs.declared.error.ComponentRange.{ComponentRange}
-use Rattle.cal_units.specs.Refusal.{unconditional}
+use Rattle.cal_units.specs.ComponentError.{unconditional}
 use Rattle.cal_units.specs.Digits.{two_digits}
 
 -- The maximum magnitude is 25 hours, 59 minutes and 59 seconds.
-abbrev pub greatest : ℕ
-greatest = 93_599
+abbrev pub max_offset_seconds : ℕ
+max_offset_seconds = 93_599
 
 -- A number of seconds is an offset if it is from -93599 to 93599.
 pub record IsOffset (seconds : ℤ) : Type 0 where
-  pub magnitude : unsigned_abs seconds ≤ greatest
+  pub magnitude : unsigned_abs seconds ≤ max_offset_seconds
 
 -- ---- errors
 abbrev pub offset_hour_out_of_range : ComponentRange
@@ -30,24 +30,24 @@ seconds_out_of_range = unconditional component.Seconds
 
 -- ---- the offset of hours, minutes and seconds
 -- The first number, or the second if the first is 0.
-abbrev pub or_else : ℤ → ℤ → ℤ
-or_else (pos zero) next = next
-or_else (pos (suc n)) next = pos (suc n)
-or_else (negsuc n) next = negsuc n
+abbrev pub first_nonzero : ℤ → ℤ → ℤ
+first_nonzero (pos zero) next = next
+first_nonzero (pos (suc n)) next = pos (suc n)
+first_nonzero (negsuc n) next = negsuc n
 
 -- The first of three numbers that isn't 0, or 0.
-abbrev pub leading : ℤ → ℤ → ℤ → ℤ
-leading hours minutes seconds = or_else hours (or_else minutes seconds)
+abbrev pub leading_component : ℤ → ℤ → ℤ → ℤ
+leading_component hours minutes seconds = first_nonzero hours (first_nonzero minutes seconds)
 
 -- n, or -n if the number that gives the sign is negative.
-abbrev pub with_sign_of : ℤ → ℕ → ℤ
-with_sign_of (pos _) n = pos n
-with_sign_of (negsuc _) n = neg_ℤ (pos n)
+abbrev pub with_sign_from : ℤ → ℕ → ℤ
+with_sign_from (pos _) n = pos n
+with_sign_from (negsuc _) n = neg_ℤ (pos n)
 
 -- The offset is the sum of the magnitudes, with the sign of the first number that isn't 0.
 abbrev pub offset_of : ℤ → ℤ → ℤ → ℤ
 offset_of hours minutes seconds =
-    with_sign_of (leading hours minutes seconds)
+    with_sign_from (leading_component hours minutes seconds)
     (3_600 * unsigned_abs hours + 60 * unsigned_abs minutes + unsigned_abs seconds)
 
 -- ---- parts: quotients truncated toward zero, and remainders

@@ -1,7 +1,7 @@
 //! Times of day.
 ghost use Rattle.std.specs.Prelude.{◌≡◌, ◌↔◌, ◌*◌, ◌<◌, ◌≤◌};
-ghost use Rattle.cal_units.specs.Refusal.{IsRefused};
-ghost use Rattle.cal_clock.specs.Time.{millisecond_out_of_range, microsecond_out_of_range, nanosecond_out_of_range, time_of, IsRefusedByClock};
+ghost use Rattle.cal_units.specs.ComponentError.{FailsWith};
+ghost use Rattle.cal_clock.specs.Time.{millisecond_out_of_range, microsecond_out_of_range, nanosecond_out_of_range, time_of, ChecksHms};
 
 use crate::units::{NANOSECONDS_PER_HOUR, NANOSECONDS_PER_MINUTE, NANOSECONDS_PER_SECOND};
 use cal_units::error::{Component, ComponentRange};
@@ -10,7 +10,7 @@ use std::marker::Model;
 mod arithmetic;
 mod display;
 mod order;
-mod parts;
+mod components;
 
 /// A time of day with nanosecond precision, without leap seconds: 0:00:00.0 to 23:59:59.999999999.
 ///
@@ -49,7 +49,7 @@ impl Time {
     /// Returns the unconditional error of the first component that is out of range: `hour` above
     /// 23, `minute` above 59 or `second` above 59.
     pub fn from_hms(hour: u8, minute: u8, second: u8) -> Result<Self, ComponentRange>
-        ensures refused { IsRefusedByClock hour minute second result }
+        ensures error { ChecksHms hour minute second result }
         ensures value { hour ≤ 23 → minute ≤ 59 → second ≤ 59
             → result ≡ Ok (time_of hour minute second 0) }
     {
@@ -80,8 +80,8 @@ impl Time {
         second: u8,
         millisecond: u16,
     ) -> Result<Self, ComponentRange>
-        ensures refused { IsRefusedByClock hour minute second result }
-        ensures millisecond { IsRefused millisecond_out_of_range result
+        ensures error { ChecksHms hour minute second result }
+        ensures millisecond { FailsWith millisecond_out_of_range result
             ↔ (hour ≤ 23) × (minute ≤ 59) × (second ≤ 59) × (999 < millisecond) }
         ensures value { hour ≤ 23 → minute ≤ 59 → second ≤ 59 → millisecond ≤ 999
             → result ≡ Ok (time_of hour minute second (millisecond * 1_000_000)) }
@@ -103,8 +103,8 @@ impl Time {
         second: u8,
         microsecond: u32,
     ) -> Result<Self, ComponentRange>
-        ensures refused { IsRefusedByClock hour minute second result }
-        ensures microsecond { IsRefused microsecond_out_of_range result
+        ensures error { ChecksHms hour minute second result }
+        ensures microsecond { FailsWith microsecond_out_of_range result
             ↔ (hour ≤ 23) × (minute ≤ 59) × (second ≤ 59) × (999_999 < microsecond) }
         ensures value { hour ≤ 23 → minute ≤ 59 → second ≤ 59 → microsecond ≤ 999_999
             → result ≡ Ok (time_of hour minute second (microsecond * 1_000)) }
@@ -126,8 +126,8 @@ impl Time {
         second: u8,
         nanosecond: u32,
     ) -> Result<Self, ComponentRange>
-        ensures refused { IsRefusedByClock hour minute second result }
-        ensures nanosecond { IsRefused nanosecond_out_of_range result
+        ensures error { ChecksHms hour minute second result }
+        ensures nanosecond { FailsWith nanosecond_out_of_range result
             ↔ (hour ≤ 23) × (minute ≤ 59) × (second ≤ 59) × (999_999_999 < nanosecond) }
         ensures value { hour ≤ 23 → minute ≤ 59 → second ≤ 59 → nanosecond ≤ 999_999_999
             → result ≡ Ok (time_of hour minute second nanosecond) }

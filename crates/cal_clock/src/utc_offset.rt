@@ -2,8 +2,8 @@
 ghost use Rattle.std.specs.Prelude.{length, ◌≡◌, ◌↔◌, ◌<◌, ◌≤◌, pos, neg_ℤ, ◌<ℤ◌, unsigned_abs, Some, IsTrue};
 ghost use Rattle.std.specs.Fmt.{WritesOnOk, WritesStyledOnOk, formatter_spec, padded};
 ghost use Rattle.std.specs.Str.{IsAscii};
-ghost use Rattle.cal_units.specs.Refusal.{IsRefused};
-ghost use Rattle.cal_clock.specs.UtcOffset.{IsOffset, greatest, offset_hour_out_of_range, offset_minute_out_of_range, offset_second_out_of_range, seconds_out_of_range, leading, offset_of, whole_hours, whole_minutes, minutes_past_hour, seconds_past_minute, text};
+ghost use Rattle.cal_units.specs.ComponentError.{FailsWith};
+ghost use Rattle.cal_clock.specs.UtcOffset.{IsOffset, max_offset_seconds, offset_hour_out_of_range, offset_minute_out_of_range, offset_second_out_of_range, seconds_out_of_range, leading_component, offset_of, whole_hours, whole_minutes, minutes_past_hour, seconds_past_minute, text};
 
 use crate::units::{SECONDS_PER_HOUR, SECONDS_PER_MINUTE};
 use cal_units::error::{Component, ComponentRange};
@@ -47,10 +47,10 @@ impl UtcOffset {
     /// Returns the unconditional error of the first component that is out of range: `offset hour`
     /// outside -25 to 25, `offset minute` outside -59 to 59, or `offset second` outside -59 to 59.
     pub fn from_hms(hours: i8, minutes: i8, seconds: i8) -> Result<Self, ComponentRange>
-        ensures hour { IsRefused offset_hour_out_of_range result ↔ (25 < unsigned_abs hours) }
-        ensures minute { IsRefused offset_minute_out_of_range result
+        ensures hour { FailsWith offset_hour_out_of_range result ↔ (25 < unsigned_abs hours) }
+        ensures minute { FailsWith offset_minute_out_of_range result
             ↔ (unsigned_abs hours ≤ 25) × (59 < unsigned_abs minutes) }
-        ensures second { IsRefused offset_second_out_of_range result
+        ensures second { FailsWith offset_second_out_of_range result
             ↔ (unsigned_abs hours ≤ 25) × (unsigned_abs minutes ≤ 59)
             × (59 < unsigned_abs seconds) }
         ensures value { unsigned_abs hours ≤ 25 → unsigned_abs minutes ≤ 59
@@ -66,11 +66,11 @@ impl UtcOffset {
         if seconds.unsigned_abs() > 59 {
             return Err(ComponentRange::unconditional(Component::OffsetSecond));
         }
-        Ok(Self::of_components(hours, minutes, seconds))
+        Ok(Self::from_components(hours, minutes, seconds))
     }
 
     /// Creates an offset from components that are in range.
-    fn of_components(hours: i8, minutes: i8, seconds: i8) -> Self
+    fn from_components(hours: i8, minutes: i8, seconds: i8) -> Self
         requires hour { unsigned_abs hours ≤ 25 }
         requires minute { unsigned_abs minutes ≤ 59 }
         requires second { unsigned_abs seconds ≤ 59 }
@@ -80,7 +80,7 @@ impl UtcOffset {
             + u32::from(minutes.unsigned_abs()) * SECONDS_PER_MINUTE
             + u32::from(seconds.unsigned_abs());
         let magnitude = magnitude as i32;
-        if leading(hours, minutes, seconds) < 0 {
+        if leading_component(hours, minutes, seconds) < 0 {
             Self {
                 seconds: -magnitude,
             }
@@ -92,9 +92,9 @@ impl UtcOffset {
     /// Creates an offset from seconds. `from_whole_seconds(3723)` is +01:02:03. Returns the
     /// unconditional error `seconds` if they are outside -93599 to 93599.
     pub fn from_whole_seconds(seconds: i32) -> Result<Self, ComponentRange>
-        ensures refused { IsRefused seconds_out_of_range result
-            ↔ (greatest < unsigned_abs seconds) }
-        ensures value { unsigned_abs seconds ≤ greatest → result ≡ Ok seconds }
+        ensures error { FailsWith seconds_out_of_range result
+            ↔ (max_offset_seconds < unsigned_abs seconds) }
+        ensures value { unsigned_abs seconds ≤ max_offset_seconds → result ≡ Ok seconds }
     {
         if seconds.unsigned_abs() > 93_599 {
             return Err(ComponentRange::unconditional(Component::Seconds));
@@ -156,8 +156,8 @@ impl UtcOffset {
     /// Returns the text that the offset prints, such as `-05:30:00`. It has the sign, `+` for zero
     /// too, and two digits each for hours, minutes and seconds: 9 bytes, all ASCII.
     pub fn text(self) -> ShortText
-        ensures text { result ≡ text self }
-        ensures short { length result ≤ 9 }
+        ensures value { result ≡ text self }
+        ensures max_length { length result ≤ 9 }
         ensures ascii { IsAscii result }
     {
         let seconds = self.seconds.unsigned_abs();
@@ -194,8 +194,8 @@ impl UtcOffset {
 }
 
 /// Returns the first component that isn't zero, or zero.
-fn leading(hours: i8, minutes: i8, seconds: i8) -> i8
-    ensures { result ≡ leading hours minutes seconds }
+fn leading_component(hours: i8, minutes: i8, seconds: i8) -> i8
+    ensures { result ≡ leading_component hours minutes seconds }
 {
     if hours != 0 {
         hours
@@ -226,11 +226,11 @@ impl Counted for UtcOffset {
 
     ghost number_of = { λ o. o };
 
-    ghost ordered = { λ x y. refl };
+    ghost cmp_by_number = { λ x y. refl };
 
-    ghost alike = { λ x y. Prim.search rules };
+    ghost eq_by_number = { λ x y. Prim.search rules };
 
-    ghost hashed = { λ x y e. ap fed.i32 e };
+    ghost hash_by_number = { λ x y e. ap fed.i32 e };
 
     /// Returns the seconds. For -01:30:00 they are -5400.
     fn number(self) -> i128 {
@@ -252,7 +252,7 @@ impl fmt::Debug for UtcOffset {
     ghost debug_output = { λ o. Some (text o) };
 
     fn fmt<W: fmt::Write>(&self, f: &mut fmt::Formatter<W>) -> fmt::Result
-        ensures text { WritesOnOk W.write_str_gives f.old result (text self.now) f.new }
+        ensures value { WritesOnOk W.write_str_gives f.old result (text self.now) f.new }
         ensures styled { WritesStyledOnOk W.write_str_gives f.old result
             (padded (formatter_spec f.old) (text self.now)) f.new }
     {

@@ -5,7 +5,7 @@ use Rattle.std.proofs.lemmas.Bool.{cases_lt}
 use Rattle.std.proofs.lemmas.Bool.Decides.{nat_tests}
 use Rattle.cal_date.specs.Date.{last_day, day_at, year_at, day_of_month_at, weekday_at, IsDate, HasOrdinalDate, HasCalendarDate}
 use Rattle.cal_date.specs.IsoWeekDate.{HasIsoWeekDate}
-use Rattle.cal_date.specs.Occurrence.{next_occurrences, prev_occurrences, kth}
+use Rattle.cal_date.specs.Occurrences.{next_occurrences, prev_occurrences, kth}
 use Rattle.cal_date.specs.DateIter.{Walk, walk, walk_between, days_of, days_between}
 use Rattle.cal_date.proofs.Dates.{in_range}
 use Rattle.cal_date.proofs.IsoWeeks.{in_weeks}

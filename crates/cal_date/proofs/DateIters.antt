@@ -9,7 +9,7 @@ use Rattle.std.proofs.lemmas.Bool.Decides.{nat_tests}
 use Rattle.std.proofs.lemmas.List.{get_or-reverse, length-reverse}
 use Rattle.std.proofs.lemmas.Option.{slice_get-get_or}
 use Rattle.cal_date.specs.Date.{year_at, ordinal_at, IsDate, HasOrdinalDate}
-use Rattle.cal_date.specs.Occurrence.{days_from}
+use Rattle.cal_date.specs.Occurrences.{days_from}
 use Rattle.cal_date.proofs.Dates.{stands}
 use Rattle.cal_date.proofs.Neighbours.{same_year, as_far}
 use Rattle.cal_date.specs.DateIter.{IsInOneYear, Walk, walk, IsWalk, days_between, days_of, without_first, without_last}
@@ -209,7 +209,7 @@ without_last-from w b day e less h =
 pub without_last-all : (w : Walk) (b day : ℕ) → w.back ≡ Some b → day ≤ w.front → day ≤ b → walk w.front None ≡ without_last (b + 1 - day) w
 without_last-all w b day e all h = sym (without_last-none (b + 1 - day) w (omega (arith, length-days_of w b e)))
 
--- The days that are left after `leave_after` and `leave_before` if the iterator becomes empty.
+-- The days that are left after `advance_front_past` and `advance_back_past` if the iterator becomes empty.
 pub ruleset days_left_after = (without_first-all, nat_tests)
 
 pub ruleset days_left_before = (without_last-from, without_last-all, nat_tests)

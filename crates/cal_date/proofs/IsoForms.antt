@@ -9,14 +9,14 @@ use Rattle.cal_units.proofs.Weeks.{weeks_in_year-is, weeks_in_year-most}
 use Rattle.cal_date.specs.Date.{first_year, last_year, year_at, ordinal_at, weekday_at, IsYear, IsOrdinal, HasOrdinalDate, NoDate}
 use Rattle.cal_date.specs.CountLaws.{years_before, days_before, days_of_years-closed}
 use Rattle.cal_date.specs.IsoWeekDate.{IsWeek, HasIsoWeekDate}
-use Rattle.cal_date.specs.ClosedForms.{week_quotient, iso_year_of, iso_week_of, fourth_weekday, year_of_week, ordinal_of_week}
+use Rattle.cal_date.specs.ClosedForms.{week_quotient, iso_year_of, iso_week_of, january_4_weekday, year_of_week, ordinal_of_week}
 use Rattle.cal_date.specs.PackedDate.{ordinal_number}
 use Rattle.cal_date.proofs.Dates.{IsYear-i32, year-most, StandsAt, stands, in_range}
 use Rattle.cal_date.proofs.IsoWeeks.{iso_number, in_weeks, HasIsoWeekDate-iso_number, HasIsoWeekDate-same_year, HasIsoWeekDate-next_year, HasIsoWeekDate-previous_year, has_year_before}
 use Rattle.cal_date.proofs.Rising.{has_ordinal_number}
 use Rattle.cal_date.proofs.Weekdays.{weekday_at-is, first_weekday-days_before, weeks_in_year-days_before}
 use Rattle.cal_date.proofs.Years.{days_before-next}
-use Rattle.cal_units.specs.WeekdayCycle.{index-weekday_at}
+use Rattle.cal_units.specs.WeekdayCycle.{index-weekday_of_index}
 
 -- The weekday of 1 January, from the number of years of the range before.
 pub first_weekday-years_before : (y : ℤ) (k : ℕ) → first_year ≤ℤ y → k ≡ years_before y → first_weekday y ≡ (k + k / 4 - k / 100 + k / 400) % 7
@@ -122,15 +122,15 @@ pub record IsBack (y : ℤ) (w wd : ℕ) (year : ℤ) (ordinal : ℕ) : Type 0 w
   pub year_is : year_of_week y w wd ≡ year
   pub ordinal_is : ordinal_of_week y w wd ≡ ordinal
 
-pub back-before : (y : ℤ) (w wd : ℕ) → 7 * w + wd ≤ fourth_weekday y + 3 → IsBack y w wd (y -ℤ pos 1) (days_in_year (y -ℤ pos 1) + (7 * w + wd) - (fourth_weekday y + 3))
+pub back-before : (y : ℤ) (w wd : ℕ) → 7 * w + wd ≤ january_4_weekday y + 3 → IsBack y w wd (y -ℤ pos 1) (days_in_year (y -ℤ pos 1) + (7 * w + wd) - (january_4_weekday y + 3))
 unfolding year_of_week ordinal_of_week
 back-before y w wd h = record { year_is = grind (arith, nat_tests); ordinal_is = grind (arith, nat_tests) }
 
-pub back-after : (y : ℤ) (w wd : ℕ) → fourth_weekday y + 3 + days_in_year y < 7 * w + wd → IsBack y w wd (y +ℤ pos 1) (7 * w + wd - (fourth_weekday y + 3) - days_in_year y)
+pub back-after : (y : ℤ) (w wd : ℕ) → january_4_weekday y + 3 + days_in_year y < 7 * w + wd → IsBack y w wd (y +ℤ pos 1) (7 * w + wd - (january_4_weekday y + 3) - days_in_year y)
 unfolding year_of_week ordinal_of_week
 back-after y w wd h = record { year_is = grind (arith, nat_tests); ordinal_is = grind (arith, nat_tests) }
 
-pub back-same : (y : ℤ) (w wd : ℕ) → fourth_weekday y + 3 < 7 * w + wd → 7 * w + wd ≤ fourth_weekday y + 3 + days_in_year y → IsBack y w wd y (7 * w + wd - (fourth_weekday y + 3))
+pub back-same : (y : ℤ) (w wd : ℕ) → january_4_weekday y + 3 < 7 * w + wd → 7 * w + wd ≤ january_4_weekday y + 3 + days_in_year y → IsBack y w wd y (7 * w + wd - (january_4_weekday y + 3))
 unfolding year_of_week ordinal_of_week
 back-same y w wd h f = record { year_is = grind (arith, nat_tests); ordinal_is = grind (arith, nat_tests) }
 
@@ -141,7 +141,7 @@ pub record IsDayOfWeek (y : ℤ) (w p : ℕ) (z : ℤ) (o : ℕ) : Type 0 where
   pub number_is : ordinal_number z o ≡ iso_number y w p
 
 -- The first year begins on a Monday, so none of its weeks begins in the year before.
-has_year_before_week : (y : ℤ) (w p : ℕ) → first_year ≤ℤ y → 1 ≤ w → 7 * w + (p + 1) ≤ fourth_weekday y + 3 → first_year ≤ℤ (y -ℤ pos 1)
+has_year_before_week : (y : ℤ) (w p : ℕ) → first_year ≤ℤ y → 1 ≤ w → 7 * w + (p + 1) ≤ january_4_weekday y + 3 → first_year ≤ℤ (y -ℤ pos 1)
 has_year_before_week y w p late least before =
     let k = years_before y in
     let first = first_weekday-years_before y k late refl in
@@ -159,8 +159,8 @@ day_of_week y w p late week below =
     let most = week.1 in
     let next = days_before-next y late in
     let long : 365 ≤ days_in_year y = grind (arith, nat_tests) in
-    elim (cases_lt (fourth_weekday y + 3) (7 * w + (p + 1))) as (λ _. IsDayOfWeek y w p (year_of_week y w (p + 1)) (ordinal_of_week y w (p + 1))) [
-      | inl begun ↦ elim (cases_lt (fourth_weekday y + 3 + days_in_year y) (7 * w + (p + 1))) as (λ _. IsDayOfWeek y w p (year_of_week y w (p + 1)) (ordinal_of_week y w (p + 1))) [
+    elim (cases_lt (january_4_weekday y + 3) (7 * w + (p + 1))) as (λ _. IsDayOfWeek y w p (year_of_week y w (p + 1)) (ordinal_of_week y w (p + 1))) [
+      | inl begun ↦ elim (cases_lt (january_4_weekday y + 3 + days_in_year y) (7 * w + (p + 1))) as (λ _. IsDayOfWeek y w p (year_of_week y w (p + 1)) (ordinal_of_week y w (p + 1))) [
         | inl past ↦
             let is = back-after y w (p + 1) past in
             let after : 365 ≤ days_in_year (y +ℤ pos 1) = grind (arith, nat_tests) in
@@ -196,4 +196,4 @@ NoDate-week_date y w p year week below late n h has =
     let most = year.1 in
     omega (arith, ints)
 
-pub ruleset weekdays = (weekday_at-first_weekday, index-weekday_at, IsYear-i32, ints, nat_tests)
+pub ruleset weekdays = (weekday_at-first_weekday, index-weekday_of_index, IsYear-i32, ints, nat_tests)

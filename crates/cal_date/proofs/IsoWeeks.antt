@@ -9,12 +9,12 @@ use Rattle.cal_units.proofs.Weeks.{weeks_in_year-is}
 use Rattle.cal_date.specs.Date.{first_year, year_at, ordinal_at, weekday_at, IsYear, IsDate}
 use Rattle.cal_date.specs.CountLaws.{days_of_years, days_before, in_year, year_start-days_before}
 use Rattle.cal_date.specs.PackedDate.{ordinal_number}
-use Rattle.cal_date.specs.IsoWeekDate.{weekdays_upto, thursday_of, iso_year_at, iso_week_at, IsWeek, HasIsoWeekDate}
+use Rattle.cal_date.specs.IsoWeekDate.{weekday_count, thursday_of, iso_year_at, iso_week_at, IsWeek, HasIsoWeekDate}
 use Rattle.cal_date.specs.Order.{IsBefore, iso_week_date_at}
 use Rattle.cal_date.proofs.Years.{days_before-next}
 use Rattle.cal_date.proofs.Dates.{stands, in_range}
 use Rattle.cal_date.proofs.Order.{Rises, in_order}
-use Rattle.cal_date.proofs.Weekdays.{weekday_at-is, weekdays_upto-is, weeks_in_year-days_before}
+use Rattle.cal_date.proofs.Weekdays.{weekday_at-is, weekday_count-is, weeks_in_year-days_before}
 
 -- The number of whole weeks of the count before the first week of a year.
 abbrev pub weeks_before : ℤ → ℕ
@@ -41,7 +41,7 @@ stands_in_week n =
     let at = stands t in
     let d = days_before (year_at t) in
     let o = ordinal_at t in
-    let count : weekdays_upto 3 t + (d + 6 - 3) / 7 ≡ (t + 7 - 3) / 7 = weekdays_upto-is 3 t (lit< tt) in
+    let count : weekday_count 3 t + (d + 6 - 3) / 7 ≡ (t + 7 - 3) / 7 = weekday_count-is 3 t (lit< tt) in
     let number : t ≡ d + (o - 1) = at.number_is in
     let low : 1 ≤ o = at.ordinal.0 in
     let high : o ≤ days_in_year (year_at t) = at.ordinal.1 in

@@ -7,8 +7,8 @@ use Rattle.std.proofs.lemmas.Bool.Decides.{nat_tests}
 use Rattle.cal_units.specs.Lengths.{is_leap_year}
 use Rattle.cal_date.specs.Date.{first_year, first_julian_day, year_at, ordinal_at, julian_day_at, IsDate, HasOrdinalDate, HasJulianDay}
 use Rattle.cal_date.specs.CountLaws.{years_before}
-use Rattle.cal_date.specs.ClosedForms.{shifted_day, century_at, century_part_at, julian_at, years_at, year_part_at, kernel_by, kernel_of, HasKernel, is_julian_year, year_of_kernel, ordinal_of_kernel, is_leap_by_kernel}
-use Rattle.cal_date.specs.Move.{IsDateNumber}
+use Rattle.cal_date.specs.ClosedForms.{shifted_day, century_at, century_part_at, julian_at, years_at, year_part_at, kernel_of_shifted_day, kernel_of, HasKernel, is_julian_year, year_of_kernel, ordinal_of_kernel, is_leap_by_kernel}
+use Rattle.cal_date.specs.Arithmetic.{IsDateNumber}
 use Rattle.cal_date.specs.declared.kernel.JulianKernel.{JulianKernel}
 use Rattle.cal_date.proofs.Dates.{stands, IsInRange, in_range}
 use Rattle.cal_date.proofs.JulianDays.{IsAfterYears, after_years, number_at}
@@ -91,14 +91,14 @@ year_part_at-is y o n at =
     year_part_at-rest (julian_at n) y (4 * julian_at n - 1461 * y) (omega arith) (omega arith) (omega arith) (omega arith)
 
 -- After the first year of a century the part is above the cut.
-later_year : (y o n : ℕ) → Stands y o n → y % 100 ≢ 0 → is_julian_year (kernel_by n) ≡ true
+later_year : (y o n : ℕ) → Stands y o n → y % 100 ≢ 0 → is_julian_year (kernel_of_shifted_day n) ≡ true
 later_year y o n at later =
     let century = right_century y o n at in
     let above = part_above_cut n (4 * n / 146097) (4 * n % 146097) (omega arith) (omega arith) (omega arith) (omega arith) in
     grind (arith, nat_tests)
 
 -- In the first year of a century that 4 doesn't divide, the part is not above the cut.
-first_year_of_century : (y o n : ℕ) → Stands y o n → y % 100 ≡ 0 → y % 400 ≢ 0 → is_julian_year (kernel_by n) ≡ false
+first_year_of_century : (y o n : ℕ) → Stands y o n → y % 100 ≡ 0 → y % 400 ≢ 0 → is_julian_year (kernel_of_shifted_day n) ≡ false
 first_year_of_century y o n at first other =
     let century = right_century y o n at in
     let is = century_at-is n (omega arith) (omega arith) in
@@ -108,7 +108,7 @@ first_year_of_century y o n at first other =
 
 -- In a year that 400 divides, 4 divides the century. The exception is the first day: the century is
 -- one too low, and the part is above the cut.
-first_year_of_four_centuries : (y o n : ℕ) → Stands y o n → y % 400 ≡ 0 → is_julian_year (kernel_by n) ≡ true
+first_year_of_four_centuries : (y o n : ℕ) → Stands y o n → y % 400 ≡ 0 → is_julian_year (kernel_of_shifted_day n) ≡ true
 first_year_of_four_centuries y o n at first =
     let century = right_century y o n at in
     elim (cases_lt 0 (n % 146097)) [
@@ -124,7 +124,7 @@ first_year_of_four_centuries y o n at first =
 abbrev is_julian : ℕ → Bool
 is_julian y = not (y % 100 == 0) || (y % 400 == 0)
 
-is_julian_year-is : (y o n : ℕ) → Stands y o n → is_julian_year (kernel_by n) ≡ is_julian y
+is_julian_year-is : (y o n : ℕ) → Stands y o n → is_julian_year (kernel_of_shifted_day n) ≡ is_julian y
 is_julian_year-is y o n at =
     elim (cases_lt 0 (y % 100)) [
       | inl later ↦ later_year y o n at (omega arith) ∙ grind (arith, nat_tests)
@@ -142,7 +142,7 @@ ordinal_by_days y o n at =
     let julian = julian_at-is n (omega arith) (omega arith) in
     grind (arith, nat_tests)
 
-ordinal_of_kernel-is : (y o n : ℕ) → Stands y o n → ordinal_of_kernel (kernel_by n) ≡ o
+ordinal_of_kernel-is : (y o n : ℕ) → Stands y o n → ordinal_of_kernel (kernel_of_shifted_day n) ≡ o
 ordinal_of_kernel-is y o n at =
     rw (is_julian_year-is y o n at) (omega (arith, year_part_at-is y o n at, ordinal_by_days y o n at))
 
@@ -186,8 +186,8 @@ is_leap_by_kernel-is n h =
 pub record IsOneLow (d n : ℕ) : Type 0 where
   pub century : century_at n + 1 ≡ 4 * n / 146097
   pub julian : julian_at n ≡ n - 4 * n / 146097 / 4 + 4 * n / 146097
-  pub date : HasOrdinalDate (year_of_kernel (kernel_by n)) (ordinal_of_kernel (kernel_by n)) d
-  pub leap : is_leap_by_kernel (kernel_by n) ≡ is_leap_year (year_at d)
+  pub date : HasOrdinalDate (year_of_kernel (kernel_of_shifted_day n)) (ordinal_of_kernel (kernel_of_shifted_day n)) d
+  pub leap : is_leap_by_kernel (kernel_of_shifted_day n) ≡ is_leap_year (year_at d)
 
 pub century_one_low : (d : ℕ) → IsDate d → shifted_day (julian_day_at d) % 146097 ≡ 0 → IsOneLow d (shifted_day (julian_day_at d))
 unfolding kernel_of

@@ -1,31 +1,31 @@
--- The results of `date_nearest` inside the range and outside it.
+-- The results of `clamped_date` inside the range and outside it.
 use Rattle.std.proofs.Common.{◌≡◌, ◌∙◌, ap, ℕ, ℤ, pos, negsuc, ◌≤ℤ◌, ◌<ℤ◌, arith, Option, Some, None, SomeIff, IfSome}
 use Rattle.std.proofs.lemmas.Int.{ints, clamps, by_lt_z}
 use Rattle.cal_span.specs.SignedDuration.{whole_days}
 use Rattle.cal_date.specs.Date.{last_day, IsDate}
-use Rattle.cal_date.specs.Move.{IsDateNumber, date_nearest}
+use Rattle.cal_date.specs.Arithmetic.{IsDateNumber, clamped_date}
 
-pub date_nearest-inside : (z : ℤ) → IsDateNumber z → pos (date_nearest z) ≡ z
-date_nearest-inside z h =
+pub clamped_date-inside : (z : ℤ) → IsDateNumber z → pos (clamped_date z) ≡ z
+clamped_date-inside z h =
     let low = h.not_before in
     let high = h.not_after in
     omega (arith, ints, clamps)
 
-pub date_nearest-before : (z : ℤ) → z ≤ℤ pos last_day → ¬ IsDateNumber z → date_nearest z ≡ 0
-date_nearest-before z high outside =
+pub clamped_date-before : (z : ℤ) → z ≤ℤ pos last_day → ¬ IsDateNumber z → clamped_date z ≡ 0
+clamped_date-before z high outside =
     by_lt_z z (pos 0)
     (λ before. omega (arith, ints, clamps))
     (λ low. absurd (outside (record { not_before = low; not_after = high })))
 
-pub date_nearest-after : (z : ℤ) → pos 0 ≤ℤ z → ¬ IsDateNumber z → date_nearest z ≡ last_day
-date_nearest-after z low outside =
+pub clamped_date-after : (z : ℤ) → pos 0 ≤ℤ z → ¬ IsDateNumber z → clamped_date z ≡ last_day
+clamped_date-after z low outside =
     by_lt_z (pos last_day) z
     (λ after. omega (arith, ints, clamps))
     (λ high. absurd (outside (record { not_before = low; not_after = high })))
 
 -- The day with the number of day n is day n.
-pub number-date_nearest : (n : ℕ) (z : ℤ) → IsDate n → z ≡ pos n → IsDateNumber z × (n ≡ date_nearest z)
-number-date_nearest n z h e = (record { not_before = omega (arith, ints); not_after = omega (arith, ints) }, omega (arith, ints, clamps))
+pub number-clamped_date : (n : ℕ) (z : ℤ) → IsDate n → z ≡ pos n → IsDateNumber z × (n ≡ clamped_date z)
+number-clamped_date n z h e = (record { not_before = omega (arith, ints); not_after = omega (arith, ints) }, omega (arith, ints, clamps))
 
 -- The whole days of a duration don't have its opposite sign.
 pub whole_days-negative : (v : ℤ) → v <ℤ pos 0 → whole_days v ≤ℤ pos 0
@@ -37,6 +37,6 @@ whole_days-not_negative (pos i) h = omega (arith, ints)
 whole_days-not_negative (negsuc i) h = absurd (omega (arith, ints))
 
 -- A day that is found has the number.
-pub found_number : (z : ℤ) (r : Option ℕ) → SomeIff r (IsDateNumber z) (date_nearest z) → IfSome r (λ n. pos n ≡ z)
+pub found_number : (z : ℤ) (r : Option ℕ) → SomeIff r (IsDateNumber z) (clamped_date z) → IfSome r (λ n. pos n ≡ z)
 found_number z None h = tt
-found_number z (Some n) h = ap pos h.1 ∙ date_nearest-inside z h.0
+found_number z (Some n) h = ap pos h.1 ∙ clamped_date-inside z h.0

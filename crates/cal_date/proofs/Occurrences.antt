@@ -2,7 +2,7 @@
 use Rattle.std.proofs.Common.{◌≡◌, ◌≢◌, ℕ, zero, suc, ◌+◌, ◌-◌, ◌*◌, ◌%◌, ◌<◌, ◌≤◌, refl, ◌∙◌, arith, List, [], ◌∷◌, filter, slice_get, Some, None, true, false, if◌then◌else◌, nat_lt, nat_le, Option, SomeIff, IfSome}
 use Rattle.std.proofs.lemmas.Bool.Decides.{nat_tests}
 use Rattle.cal_date.specs.Date.{last_day, weekday_at}
-use Rattle.cal_date.specs.Occurrence.{days_from, days_before_back, is_on, next_occurrences, prev_occurrences, kth}
+use Rattle.cal_date.specs.Occurrences.{days_from, days_back_from, has_weekday, next_occurrences, prev_occurrences, kth}
 use Rattle.cal_date.proofs.Weekdays.{weekday_at-is}
 use Rattle.std.proofs.lemmas.Int.{ints}
 use Rattle.cal_units.specs.WeekdayCycle.{index-below}
@@ -16,53 +16,53 @@ days_from-none : (n : ℕ) → days_from n 0 ≡ []
 unfolding days_from
 days_from-none n = refl
 
-days_before_back-suc : (n : ℕ) → days_before_back (suc n) ≡ n ∷ days_before_back n
-unfolding days_before_back
-days_before_back-suc n = refl
+days_back_from-suc : (n : ℕ) → days_back_from (suc n) ≡ n ∷ days_back_from n
+unfolding days_back_from
+days_back_from-suc n = refl
 
-days_before_back-none : days_before_back 0 ≡ []
-unfolding days_before_back
-days_before_back-none = refl
+days_back_from-none : days_back_from 0 ≡ []
+unfolding days_back_from
+days_back_from-none = refl
 
-is_on-true : (w n : ℕ) → n % 7 ≡ w → is_on w n ≡ true
-is_on-true w n h = rw (weekday_at-is n) (grind (arith, nat_tests))
+has_weekday-true : (w n : ℕ) → n % 7 ≡ w → has_weekday w n ≡ true
+has_weekday-true w n h = rw (weekday_at-is n) (grind (arith, nat_tests))
 
-is_on-false : (w n : ℕ) → n % 7 ≢ w → is_on w n ≡ false
-is_on-false w n h = rw (weekday_at-is n) (grind (arith, nat_tests))
+has_weekday-false : (w n : ℕ) → n % 7 ≢ w → has_weekday w n ≡ false
+has_weekday-false w n h = rw (weekday_at-is n) (grind (arith, nat_tests))
 
 -- The first day of a list has the weekday, or not.
-first_is_on : (w n : ℕ) (days : List ℕ) → is_on w n ≡ true → filter (is_on w) (n ∷ days) ≡ n ∷ filter (is_on w) days
+first_is_on : (w n : ℕ) (days : List ℕ) → has_weekday w n ≡ true → filter (has_weekday w) (n ∷ days) ≡ n ∷ filter (has_weekday w) days
 first_is_on w n days h = rw h refl
 
-first_is_not : (w n : ℕ) (days : List ℕ) → is_on w n ≡ false → filter (is_on w) (n ∷ days) ≡ filter (is_on w) days
+first_is_not : (w n : ℕ) (days : List ℕ) → has_weekday w n ≡ false → filter (has_weekday w) (n ∷ days) ≡ filter (has_weekday w) days
 first_is_not w n days h = rw h refl
 
 -- If the first of consecutive days with the weekday is k days later, the next ones follow every
 -- seven days.
 in_days_from : (w n k m count : ℕ) → k < 7 → (n + k) % 7 ≡ w
-    → slice_get (filter (is_on w) (days_from n count)) m ≡ (if nat_lt (k + 7 * m) count then Some (n + k + 7 * m) else None)
+    → slice_get (filter (has_weekday w) (days_from n count)) m ≡ (if nat_lt (k + 7 * m) count then Some (n + k + 7 * m) else None)
 in_days_from w n k m zero h e = rw (days_from-none n) (grind (arith, nat_tests))
 in_days_from w n zero zero (suc count) h e =
-    rw (days_from-suc n count, first_is_on w n (days_from (n + 1) count) (is_on-true w n (omega arith))) (grind (arith, nat_tests))
+    rw (days_from-suc n count, first_is_on w n (days_from (n + 1) count) (has_weekday-true w n (omega arith))) (grind (arith, nat_tests))
 in_days_from w n zero (suc m) (suc count) h e =
-    rw (days_from-suc n count, first_is_on w n (days_from (n + 1) count) (is_on-true w n (omega arith)))
+    rw (days_from-suc n count, first_is_on w n (days_from (n + 1) count) (has_weekday-true w n (omega arith)))
     (in_days_from w (n + 1) 6 m count (omega arith) (omega arith) ∙ grind (arith, nat_tests))
 in_days_from w n (suc k) m (suc count) h e =
-    rw (days_from-suc n count, first_is_not w n (days_from (n + 1) count) (is_on-false w n (omega arith)))
+    rw (days_from-suc n count, first_is_not w n (days_from (n + 1) count) (has_weekday-false w n (omega arith)))
     (in_days_from w (n + 1) k m count (omega arith) (omega arith) ∙ grind (arith, nat_tests))
 
 -- If the nearest earlier day with the weekday is k days before the day before, the next ones follow
 -- every seven days, backward.
 in_days_before : (w n k m : ℕ) → w < 7 → k < 7 → (w + k + 1) % 7 ≡ n % 7
-    → slice_get (filter (is_on w) (days_before_back n)) m ≡ (if nat_lt (k + 7 * m) n then Some (n - 1 - (k + 7 * m)) else None)
-in_days_before w zero k m g h e = rw days_before_back-none (grind (arith, nat_tests))
+    → slice_get (filter (has_weekday w) (days_back_from n)) m ≡ (if nat_lt (k + 7 * m) n then Some (n - 1 - (k + 7 * m)) else None)
+in_days_before w zero k m g h e = rw days_back_from-none (grind (arith, nat_tests))
 in_days_before w (suc n) zero zero g h e =
-    rw (days_before_back-suc n, first_is_on w n (days_before_back n) (is_on-true w n (omega arith))) (grind (arith, nat_tests))
+    rw (days_back_from-suc n, first_is_on w n (days_back_from n) (has_weekday-true w n (omega arith))) (grind (arith, nat_tests))
 in_days_before w (suc n) zero (suc m) g h e =
-    rw (days_before_back-suc n, first_is_on w n (days_before_back n) (is_on-true w n (omega arith)))
+    rw (days_back_from-suc n, first_is_on w n (days_back_from n) (has_weekday-true w n (omega arith)))
     (in_days_before w n 6 m g (omega arith) (omega arith) ∙ grind (arith, nat_tests))
 in_days_before w (suc n) (suc k) m g h e =
-    rw (days_before_back-suc n, first_is_not w n (days_before_back n) (is_on-false w n (omega arith)))
+    rw (days_back_from-suc n, first_is_not w n (days_back_from n) (has_weekday-false w n (omega arith)))
     (in_days_before w n k m g (omega arith) (omega arith) ∙ grind (arith, nat_tests))
 
 -- The k-th occurrence, counted from 1, is the days to the first occurrence, from 1 to 7, and seven

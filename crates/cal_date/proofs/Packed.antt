@@ -8,13 +8,13 @@ use lib.Signed.{shr_z}
 use mir.Val.{bool_byte}
 use Rattle.cal_units.specs.Lengths.{is_leap_year, days_in_year}
 use Rattle.cal_date.specs.Date.{year_at, ordinal_at, IsYear, IsOrdinal, IsDate}
-use Rattle.cal_date.specs.PackedDate.{packed, raised_by, leap_mark, year_of, ordinal_of, IsPacked, IsPackedDate, IsPacked-fields, fields-IsPacked, ordinal_number, number_of, HasOrdinalDate-number_of, packed_at-number_of}
+use Rattle.cal_date.specs.PackedDate.{packed, packing_bias, leap_mark, year_of, ordinal_of, IsPacked, IsPackedDate, IsPacked-fields, fields-IsPacked, ordinal_number, number_of, HasOrdinalDate-number_of, packed_at-number_of}
 use Rattle.cal_date.specs.declared.date.Date.TheInside.{Inside}
 use Rattle.cal_date.proofs.Dates.{IsDate-ordinal_number}
 
 record IsBounded (z : ℤ) : Type 0 where
-  low : neg_ℤ (pos (raised_by * 1024)) ≤ℤ z
-  high : z ≤ℤ pos (raised_by * 1024)
+  low : neg_ℤ (pos (packing_bias * 1024)) ≤ℤ z
+  high : z ≤ℤ pos (packing_bias * 1024)
 
 bounded : (y : ℤ) (o : ℕ) → IsYear y → IsOrdinal y o → IsBounded (packed y o)
 unfolding packed
@@ -89,7 +89,7 @@ lowest_bits-of : (z : ℤ) → IsBounded z → unsigned_abs (to_z w32 (bit_and (
 unfolding ordinal_of
 lowest_bits-of z h =
     let mask : bit_and (of_z w32 z) 511 ≡ of_z w32 z % 512 = and_mask (of_z w32 z) 9 in
-    let bits : of_z w32 z % 512 ≡ unsigned_abs (z +ℤ pos (raised_by * 1024)) % 512 = grind (arith, ints) in
+    let bits : of_z w32 z % 512 ≡ unsigned_abs (z +ℤ pos (packing_bias * 1024)) % 512 = grind (arith, ints) in
     ap (λ n. unsigned_abs (to_z w32 n)) mask ∙ omega (arith, ints)
 
 pub lowest_bits : (y : ℤ) (o : ℕ) → IsYear y → IsOrdinal y o → unsigned_abs (to_z w32 (bit_and (of_z w32 (packed y o)) 511)) ≡ o
@@ -110,13 +110,13 @@ next-i32 y o h f = let b = next-bounded y o h f in grind (arith, ints)
 pub next-lowest_bits : (y : ℤ) (o : ℕ) → IsYear y → IsOrdinal y o → unsigned_abs (to_z w32 (bit_and (of_z w32 (packed y o +ℤ pos 1)) 511)) ≡ o + 1
 next-lowest_bits y o h f = lowest_bits-of (packed y o +ℤ pos 1) (next-bounded y o h f) ∙ next-ordinal_of y o h f
 
-low_bits-of : (z : ℤ) → IsBounded z → unsigned_abs (to_z w32 (bit_and (of_z w32 z) 1023)) ≡ unsigned_abs (z +ℤ pos (raised_by * 1024)) % 1024
+low_bits-of : (z : ℤ) → IsBounded z → unsigned_abs (to_z w32 (bit_and (of_z w32 z) 1023)) ≡ unsigned_abs (z +ℤ pos (packing_bias * 1024)) % 1024
 low_bits-of z h =
     let mask : bit_and (of_z w32 z) 1023 ≡ of_z w32 z % 1024 = and_mask (of_z w32 z) 10 in
-    let bits : of_z w32 z % 1024 ≡ unsigned_abs (z +ℤ pos (raised_by * 1024)) % 1024 = grind (arith, ints) in
+    let bits : of_z w32 z % 1024 ≡ unsigned_abs (z +ℤ pos (packing_bias * 1024)) % 1024 = grind (arith, ints) in
     ap (λ n. unsigned_abs (to_z w32 n)) mask ∙ omega (arith, ints)
 
-low_bits-packed : (y : ℤ) (o : ℕ) → IsYear y → IsOrdinal y o → unsigned_abs (packed y o +ℤ pos (raised_by * 1024)) % 1024 ≡ leap_mark y + o
+low_bits-packed : (y : ℤ) (o : ℕ) → IsYear y → IsOrdinal y o → unsigned_abs (packed y o +ℤ pos (packing_bias * 1024)) % 1024 ≡ leap_mark y + o
 unfolding packed
 low_bits-packed y o h f = grind (arith, ints, nat_tests)
 

@@ -3,7 +3,7 @@ use Rattle.std.proofs.Common.{◌≡◌, ◌≢◌, ◌⊎◌, inl, inr, refl, s
 use Rattle.std.proofs.lemmas.Bool.Decides.{nat_tests}
 use mathlib.Core.Bool.{beq}
 use Rattle.cal_units.specs.Lengths.{is_leap_year, days_in_month}
-use Rattle.cal_units.specs.Refusal.{IsRefused}
+use Rattle.cal_units.specs.ComponentError.{FailsWith}
 use Rattle.cal_units.specs.declared.error.ComponentRange.{ComponentRange}
 use Rattle.std.specs.Prelude.{Result, Ok, Err, IfErr}
 use Rattle.cal_date.specs.Date.{year_at, month_at, day_of_month_at, ordinal_at, IsDate, IsYear, IsOrdinal, IsDayOfMonth, HasCalendarDate}
@@ -202,7 +202,7 @@ replaceable z n k f has =
     record { year = is.year; day = subst (λ m. IsDayOfMonth z m d) (sym at.month_is) is.day }
 
 -- If an error has one of two reasons, and not the first, it has the second.
-pub other_reason : {V : Type 0} (r : Result V ComponentRange) (a b : ComponentRange) → IfErr r (λ e. (e ≡ a) ⊎ (e ≡ b)) → ¬ (IsRefused a r) → IfErr r (λ e. e ≡ b)
+pub other_reason : {V : Type 0} (r : Result V ComponentRange) (a b : ComponentRange) → IfErr r (λ e. (e ≡ a) ⊎ (e ≡ b)) → ¬ (FailsWith a r) → IfErr r (λ e. e ≡ b)
 other_reason (Ok v) a b h other = h
 other_reason (Err e) a b h other = elim h [ inl one ↦ absurd (other one) | inr is ↦ is ]
 

@@ -5,9 +5,9 @@ use Rattle.std.proofs.lemmas.Int.{ints}
 use Rattle.cal_units.specs.Lengths.{days_in_year}
 use Rattle.cal_date.specs.Date.{year_at, ordinal_at, IsOrdinal, IsDate}
 use Rattle.cal_date.specs.PackedDate.{ordinal_number, HasOrdinalDate-ordinal_number}
-use Rattle.cal_date.specs.Move.{IsDateNumber, IsOrdinalNumber, date_nearest}
+use Rattle.cal_date.specs.Arithmetic.{IsDateNumber, IsOrdinalNumber, clamped_date}
 use Rattle.cal_date.proofs.Dates.{in_range, IsDate-ordinal_number}
-use Rattle.cal_date.proofs.Moves.{number-date_nearest, found_number}
+use Rattle.cal_date.proofs.Moves.{number-clamped_date, found_number}
 
 -- A sum that wraps is far above the indexes of a year. Any other sum is the index of the moved
 -- ordinal.
@@ -18,7 +18,7 @@ index-added w o fits low high near = grind (arith, ints)
 -- d is the day with the ordinal p + 1 of the year of day n. The integer z equals this ordinal, and
 -- m is the number to which day n moves.
 pub record IsNear (n d : ℕ) (m z : ℤ) : Type 0 where
-  pub day : IsDateNumber m × (d ≡ date_nearest m)
+  pub day : IsDateNumber m × (d ≡ clamped_date m)
   pub same_year : (year_at d ≡ year_at n) × (pos (ordinal_at d) ≡ z)
 
 pub near : (n d p : ℕ) (m z : ℤ) → IsDate n → p < days_in_year (year_at n) → d ≡ ordinal_number (year_at n) (p + 1) → pos (p + 1) ≡ z → m +ℤ pos (ordinal_at n) ≡ pos n +ℤ z → IsNear n d m z
@@ -29,7 +29,7 @@ near n d p m z h within is ordinal move =
     let has = HasOrdinalDate-ordinal_number (year_at n) (p + 1) at.year here in
     let number : m ≡ pos d = omega (arith, ints, at.number_is, at.ordinal.0) in
     record {
-      day = number-date_nearest d m date number;
+      day = number-clamped_date d m date number;
       same_year = (ap year_at is ∙ has.0, ap pos (ap ordinal_at is ∙ has.1) ∙ ordinal);
     }
 
@@ -43,13 +43,13 @@ number-added-in_range w n fits h is = let first = is.not_before in let last = is
 
 -- A day that is found by its number is the moved day.
 pub moved_by_number : (n k : ℕ) (w : ℤ) (r : Option ℕ) → FitsSigned w64 w → IsDate n → k ≡ (of_z w64 w + n) % 18446744073709551616 → SomeIff r (IsDate k) k
-    → SomeIff r (IsDateNumber (pos n +ℤ w)) (date_nearest (pos n +ℤ w))
+    → SomeIff r (IsDateNumber (pos n +ℤ w)) (clamped_date (pos n +ℤ w))
 moved_by_number n k w None fits h e none = λ is. none (subst IsDate (sym e) (number-added-in_range w n fits h is))
 moved_by_number n k w (Some d) fits h e some =
     let number = number-added w n fits h (subst IsDate e some.0) in
-    number-date_nearest d (pos n +ℤ w) (subst IsDate (sym some.1) some.0) (sym number ∙ ap pos (sym e) ∙ ap pos (sym some.1))
+    number-clamped_date d (pos n +ℤ w) (subst IsDate (sym some.1) some.0) (sym number ∙ ap pos (sym e) ∙ ap pos (sym some.1))
 
-found_in_year : (n : ℕ) (w : ℤ) (r : Option ℕ) (d : ℕ) → IsNear n d (pos n +ℤ w) (pos (ordinal_at n) +ℤ w) → SomeIff r (IsDateNumber (pos n +ℤ w)) (date_nearest (pos n +ℤ w))
+found_in_year : (n : ℕ) (w : ℤ) (r : Option ℕ) (d : ℕ) → IsNear n d (pos n +ℤ w) (pos (ordinal_at n) +ℤ w) → SomeIff r (IsDateNumber (pos n +ℤ w)) (clamped_date (pos n +ℤ w))
     → IsSomeAnd r (λ d. (year_at d ≡ year_at n) × (pos (ordinal_at d) ≡ pos (ordinal_at n) +ℤ w))
 found_in_year n w None d here none = absurd (none here.day.0)
 found_in_year n w (Some x) d here some =
@@ -57,7 +57,7 @@ found_in_year n w (Some x) d here some =
     (ap year_at same ∙ here.same_year.0, ap pos (ap ordinal_at same) ∙ here.same_year.1)
 
 -- If the year has the moved ordinal, the moved day has it too.
-pub moved_in_year : (n : ℕ) (w : ℤ) (r : Option ℕ) → IsDate n → SomeIff r (IsDateNumber (pos n +ℤ w)) (date_nearest (pos n +ℤ w))
+pub moved_in_year : (n : ℕ) (w : ℤ) (r : Option ℕ) → IsDate n → SomeIff r (IsDateNumber (pos n +ℤ w)) (clamped_date (pos n +ℤ w))
     → IsOrdinalNumber (year_at n) (pos (ordinal_at n) +ℤ w) → IsSomeAnd r (λ d. (year_at d ≡ year_at n) × (pos (ordinal_at d) ≡ pos (ordinal_at n) +ℤ w))
 moved_in_year n w r h moves is =
     let z = pos (ordinal_at n) +ℤ w in
@@ -69,13 +69,13 @@ moved_in_year n w r h moves is =
     found_in_year n w r (ordinal_number (year_at n) (p + 1)) here moves
 
 -- The same for days that are subtracted.
-pub moved_back_in_year : (n : ℕ) (w v : ℤ) (r : Option ℕ) → IsDate n → v ≡ neg_ℤ w → SomeIff r (IsDateNumber (pos n +ℤ v)) (date_nearest (pos n +ℤ v))
+pub moved_back_in_year : (n : ℕ) (w v : ℤ) (r : Option ℕ) → IsDate n → v ≡ neg_ℤ w → SomeIff r (IsDateNumber (pos n +ℤ v)) (clamped_date (pos n +ℤ v))
     → IsOrdinalNumber (year_at n) (pos (ordinal_at n) -ℤ w) → IsSomeAnd r (λ d. (year_at d ≡ year_at n) × (pos (ordinal_at d) ≡ pos (ordinal_at n) -ℤ w))
 moved_back_in_year n w v r h e moves =
     let same : pos (ordinal_at n) +ℤ v ≡ pos (ordinal_at n) -ℤ w = ap (λ z. pos (ordinal_at n) +ℤ z) e ∙ omega (arith, ints) in
     subst (λ z. IsOrdinalNumber (year_at n) z → IsSomeAnd r (λ d. (year_at d ≡ year_at n) × (pos (ordinal_at d) ≡ z))) same (moved_in_year n v r h moves)
 
-pub found_back : (n : ℕ) (w v : ℤ) (r : Option ℕ) → v ≡ neg_ℤ w → SomeIff r (IsDateNumber (pos n +ℤ v)) (date_nearest (pos n +ℤ v)) → IfSome r (λ d. pos d ≡ pos n -ℤ w)
+pub found_back : (n : ℕ) (w v : ℤ) (r : Option ℕ) → v ≡ neg_ℤ w → SomeIff r (IsDateNumber (pos n +ℤ v)) (clamped_date (pos n +ℤ v)) → IfSome r (λ d. pos d ≡ pos n -ℤ w)
 found_back n w v r e moves =
     let same : pos n +ℤ v ≡ pos n -ℤ w = ap (λ z. pos n +ℤ z) e ∙ omega (arith, ints) in
     subst (λ z. IfSome r (λ d. pos d ≡ z)) same (found_number (pos n +ℤ v) r moves)

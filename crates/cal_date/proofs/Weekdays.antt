@@ -14,7 +14,7 @@ use Rattle.cal_units.specs.Weeks.{first_weekday, weeks_in_year}
 use Rattle.cal_units.proofs.Weeks.{first_weekday-next, first_weekday-is, weeks_in_year-is}
 use Rattle.cal_date.specs.Date.{first_year, last_day, year_at, ordinal_at, weekday_at, IsYear}
 use Rattle.cal_date.specs.CountLaws.{days_of_years, days_before, in_year, year_start-days_before, days_of_years-suc}
-use Rattle.cal_date.specs.IsoWeekDate.{count_before, is_weekday_of_year, weekdays_upto}
+use Rattle.cal_date.specs.IsoWeekDate.{count_before, is_weekday_of_year, weekday_count}
 use Rattle.cal_date.proofs.Years.{days_before-IsYear}
 use Rattle.cal_date.proofs.Dates.{StandsAt, stands, ordinal-most, IsYear-i32}
 
@@ -98,8 +98,8 @@ count_in_year y w (suc j) h below within =
     ap (λ n. count_before test n + (d + 6 - w) / 7) sums ∙ one_more (count_before test (suc (d + j))) (count_before test (d + j)) d j w below step before
 
 -- The number of days with the weekday up to a day of its year.
-pub weekdays_upto-is : (w n : ℕ) → w < 7 → weekdays_upto w n + (days_before (year_at n) + 6 - w) / 7 ≡ (n + 7 - w) / 7
-weekdays_upto-is w n below =
+pub weekday_count-is : (w n : ℕ) → w < 7 → weekday_count w n + (days_before (year_at n) + 6 - w) / 7 ≡ (n + 7 - w) / 7
+weekday_count-is w n below =
     let at = stands n in
     let d = days_before (year_at n) in
     let count = count_in_year (year_at n) w (ordinal_at n) at.year below at.ordinal.1 in
@@ -107,10 +107,10 @@ weekdays_upto-is w n below =
     rw sums at count ∙ ap (λ k. k / 7) (omega arith)
 
 -- The same from the ordinal and the days since the last day with the weekday.
-pub weekdays_upto-ordinal : (w since n : ℕ) → w < 7 → since < 7 → (since + w) % 7 ≡ n % 7 → (ordinal_at n + 6 - since) / 7 ≡ weekdays_upto w n
-weekdays_upto-ordinal w since n below small index =
+pub weekday_count-ordinal : (w since n : ℕ) → w < 7 → since < 7 → (since + w) % 7 ≡ n % 7 → (ordinal_at n + 6 - since) / 7 ≡ weekday_count w n
+weekday_count-ordinal w since n below small index =
     let at = stands n in
-    let count = weekdays_upto-is w n below in
+    let count = weekday_count-is w n below in
     let number : n ≡ days_before (year_at n) + (ordinal_at n - 1) = at.number_is in
     let low : 1 ≤ ordinal_at n = at.ordinal.0 in
     omega arith
@@ -146,6 +146,6 @@ weeks_in_year-count y h =
     let weeks = weeks_in_year-days_before y h.0 in
     omega arith ∙ sym all ∙ ap (count_before test) sums
 
-pub ruleset weeks_begun = (ordinal-most, weekday_at-is, weekdays_upto-ordinal, days_from_sunday-index, ints, nat_tests)
+pub ruleset weeks_begun = (ordinal-most, weekday_at-is, weekday_count-ordinal, days_from_sunday-index, ints, nat_tests)
 
 pub ruleset weeks_of_years = (IsYear-i32, weeks_in_year-count, ints, nat_tests)

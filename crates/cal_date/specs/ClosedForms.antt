@@ -75,8 +75,8 @@ years_at j = j * 3010298776 / 2 ^ 8 / 2 ^ 32
 abbrev pub year_part_at : ℕ → ℕ
 year_part_at j = j * 3010298776 / 2 ^ 8 % 2 ^ 32
 
-abbrev pub kernel_by : ℕ → JulianKernel
-kernel_by n = record {
+abbrev pub kernel_of_shifted_day : ℕ → JulianKernel
+kernel_of_shifted_day n = record {
   century = century_at n;
   century_part = century_part_at n;
   julian = julian_at n;
@@ -85,7 +85,7 @@ kernel_by n = record {
 }
 
 unfoldable pub kernel_of : ℤ → JulianKernel
-kernel_of j = kernel_by (shifted_day j)
+kernel_of j = kernel_of_shifted_day (shifted_day j)
 
 -- Day n has this kernel.
 abbrev pub HasKernel : JulianKernel → ℕ → Type 0
@@ -123,27 +123,27 @@ iso_week_of y o w =
     else (if (week_quotient o w == 53) && (weeks_in_year y == 52) then 1 else week_quotient o w)
 
 -- The day has the ISO year and the week of these forms.
-unfoldable pub IsWeekByForm : ℤ → ℕ → ℕ → ℤ → ℕ → Type 0
-IsWeekByForm y o w iso_year week = (iso_year ≡ iso_year_of y o w) × (week ≡ iso_week_of y o w)
+unfoldable pub IsWeekByClosedForm : ℤ → ℕ → ℕ → ℤ → ℕ → Type 0
+IsWeekByClosedForm y o w iso_year week = (iso_year ≡ iso_year_of y o w) × (week ≡ iso_week_of y o w)
 
 -- ---- year and ordinal of an ISO week date
 -- The weekday of 4 January, which is always in week 1.
-abbrev pub fourth_weekday : ℤ → ℕ
-fourth_weekday y = (first_weekday y + 3) % 7 + 1
+abbrev pub january_4_weekday : ℤ → ℕ
+january_4_weekday y = (first_weekday y + 3) % 7 + 1
 
 -- The ordinal is 7 * w + wd - fourth_weekday y - 3. If it is below 1, the day is in the year
 -- before. If it is above the length of the year, the day is in the next year.
 unfoldable pub year_of_week : ℤ → ℕ → ℕ → ℤ
 year_of_week y w wd =
-    if nat_le (7 * w + wd) (fourth_weekday y + 3) then y -ℤ pos 1
-    else (if nat_lt (fourth_weekday y + 3 + days_in_year y) (7 * w + wd) then y +ℤ pos 1 else y)
+    if nat_le (7 * w + wd) (january_4_weekday y + 3) then y -ℤ pos 1
+    else (if nat_lt (january_4_weekday y + 3 + days_in_year y) (7 * w + wd) then y +ℤ pos 1 else y)
 
 unfoldable pub ordinal_of_week : ℤ → ℕ → ℕ → ℕ
 ordinal_of_week y w wd =
-    if nat_le (7 * w + wd) (fourth_weekday y + 3) then days_in_year (y -ℤ pos 1) + (7 * w + wd) - (fourth_weekday y + 3)
-    else (if nat_lt (fourth_weekday y + 3 + days_in_year y) (7 * w + wd) then 7 * w + wd - (fourth_weekday y + 3) - days_in_year y
-    else 7 * w + wd - (fourth_weekday y + 3))
+    if nat_le (7 * w + wd) (january_4_weekday y + 3) then days_in_year (y -ℤ pos 1) + (7 * w + wd) - (january_4_weekday y + 3)
+    else (if nat_lt (january_4_weekday y + 3 + days_in_year y) (7 * w + wd) then 7 * w + wd - (january_4_weekday y + 3) - days_in_year y
+    else 7 * w + wd - (january_4_weekday y + 3))
 
 -- Day n has the year and the ordinal of these forms.
-unfoldable pub IsDayByForm : ℤ → ℕ → ℕ → ℕ → Type 0
-IsDayByForm y w wd n = HasOrdinalDate (year_of_week y w wd) (ordinal_of_week y w wd) n
+unfoldable pub IsDayByClosedForm : ℤ → ℕ → ℕ → ℕ → Type 0
+IsDayByClosedForm y w wd n = HasOrdinalDate (year_of_week y w wd) (ordinal_of_week y w wd) n

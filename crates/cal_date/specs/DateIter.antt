@@ -3,7 +3,7 @@
 use Rattle.std.specs.Prelude.{◌≡◌, ℕ, ◌+◌, ◌-◌, ◌≤◌, Bool, ◌&&◌, ◌==◌, List, [], length, reverse, slice_get, nat_lt, nat_le, Option, Some, None, IfSome, option_map, if◌then◌else◌}
 use Rattle.std.specs.Option.{option_eq}
 use Rattle.cal_date.specs.Date.{year_at, IsDate}
-use Rattle.cal_date.specs.Occurrence.{days_from}
+use Rattle.cal_date.specs.Occurrences.{days_from}
 
 pub record Walk : Type 0 where
   pub front : ℕ

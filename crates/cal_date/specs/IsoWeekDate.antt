@@ -16,8 +16,8 @@ abbrev pub is_weekday_of_year : ℕ → ℤ → ℕ → Bool
 is_weekday_of_year w y n = int_eq (year_at n) y && (weekday_at n == w)
 
 -- The number of days with the weekday w in the year of day n, up to and including day n.
-abbrev pub weekdays_upto : ℕ → ℕ → ℕ
-weekdays_upto w n = count_before (is_weekday_of_year w (year_at n)) (n + 1)
+abbrev pub weekday_count : ℕ → ℕ → ℕ
+weekday_count w n = count_before (is_weekday_of_year w (year_at n)) (n + 1)
 
 -- The Thursday of the week of day n is three days after the Monday of this week.
 abbrev pub thursday_of : ℕ → ℕ
@@ -29,7 +29,7 @@ unfoldable pub iso_year_at : ℕ → ℤ
 iso_year_at n = year_at (thursday_of n)
 
 unfoldable pub iso_week_at : ℕ → ℕ
-iso_week_at n = weekdays_upto 3 (thursday_of n)
+iso_week_at n = weekday_count 3 (thursday_of n)
 
 -- The year y has the week w.
 abbrev pub IsWeek : ℤ → ℕ → Type 0

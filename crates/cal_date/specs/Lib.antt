@@ -7,9 +7,9 @@ pub mod DateIter
 pub mod DateLimits
 pub mod DateText
 pub mod IsoWeekDate
-pub mod Move
-pub mod Occurrence
+pub mod Arithmetic
+pub mod Occurrences
 pub mod Order
-pub mod Refusals
+pub mod DateErrors
 -- The errors, for higher crates.
-pub use Rattle.cal_units.specs.Refusal
+pub use Rattle.cal_units.specs.ComponentError

@@ -19,15 +19,15 @@ abbrev pub packed_value : ℤ → ℕ → ℤ
 packed_value y o = y *ℤ pos 1024 +ℤ pos (leap_mark y + o)
 
 -- With this number added, each year of the range is positive, and so is its packed value.
-abbrev pub raised_by : ℕ
-raised_by = unsigned_abs first_year + 1
+abbrev pub packing_bias : ℕ
+packing_bias = unsigned_abs first_year + 1
 
 -- The year of a packed value is above its low ten bits, and the ordinal is in its lowest nine bits.
 abbrev pub year_part : ℤ → ℤ
-year_part p = pos (unsigned_abs (p +ℤ pos (raised_by * 1024)) / 1024) -ℤ pos raised_by
+year_part p = pos (unsigned_abs (p +ℤ pos (packing_bias * 1024)) / 1024) -ℤ pos packing_bias
 
 abbrev pub ordinal_part : ℤ → ℕ
-ordinal_part p = unsigned_abs (p +ℤ pos (raised_by * 1024)) % 512
+ordinal_part p = unsigned_abs (p +ℤ pos (packing_bias * 1024)) % 512
 
 -- p is the packed value of y and o, a year of the range and an ordinal of this year.
 abbrev pub packs : ℤ → ℤ → ℕ → Bool

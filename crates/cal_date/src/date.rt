@@ -5,8 +5,8 @@ ghost use Rattle.cal_date.specs.Order.{IsBefore, ordinal_date_at};
 ghost use Rattle.cal_date.specs.ClosedForms.{julian_day_of, kernel_of, year_of_kernel, ordinal_of_kernel};
 ghost use Rattle.cal_date.specs.PackedDate.{leap_mark, ordinal_number};
 ghost use Rattle.cal_units.specs.Lengths.{days_in_year, is_leap_year};
-ghost use Rattle.cal_units.specs.Refusal.{IsRefused};
-ghost use Rattle.cal_date.specs.Refusals.{year_out_of_range, ordinal_out_of_range, julian_day_out_of_range};
+ghost use Rattle.cal_units.specs.ComponentError.{FailsWith};
+ghost use Rattle.cal_date.specs.DateErrors.{year_out_of_range, ordinal_out_of_range, julian_day_out_of_range};
 
 use crate::error::{Component, ComponentRange};
 use crate::kernel::date_of_julian_day;
@@ -24,7 +24,7 @@ mod order;
 mod replacement;
 
 /// The number of days of a common year. Every year has this many days or one more.
-const FEWEST_DAYS: u32 = 365;
+const MIN_DAYS_IN_YEAR: u32 = 365;
 
 /// The leap mark of a packed date, in a leap year.
 const LEAP_MARK: i32 = 512;
@@ -47,7 +47,7 @@ fn has_ordinal(year: i32, ordinal: u16) -> bool
     ensures { IsTrue result ↔ IsOrdinal year ordinal }
 {
     // The ordinal 0 wraps to a number far above the length of a year.
-    if u32::from(ordinal).wrapping_sub(1) < FEWEST_DAYS {
+    if u32::from(ordinal).wrapping_sub(1) < MIN_DAYS_IN_YEAR {
         return true;
     }
     ordinal == 366 && is_leap_year(year)
@@ -100,14 +100,14 @@ impl Date {
     #[tactic(auto, using(crate::proofs::Dates::ordinal_dates))]
     pub fn from_ordinal_date(year: i32, ordinal: u16) -> Result<Self, ComponentRange>
         ensures every { (n : ℕ) → IsDate n → HasOrdinalDate year ordinal n → result ≡ Ok n }
-        ensures has { IfOk result (λ n. IsDate n × HasOrdinalDate year ordinal n) }
+        ensures value { IfOk result (λ n. IsDate n × HasOrdinalDate year ordinal n) }
 
         // It fails if and only if no day of the range has the ordinal date. The error names the
         // first component that is out of range.
-        ensures refused { IsErr result ↔ NoDate (HasOrdinalDate year ordinal) }
-        ensures reason { IfErr result (λ e. (e ≡ year_out_of_range) ⊎ (e ≡ ordinal_out_of_range)) }
-        ensures year { IsRefused year_out_of_range result ↔ ¬ IsYear year }
-        ensures ordinal { IsRefused ordinal_out_of_range result
+        ensures error { IsErr result ↔ NoDate (HasOrdinalDate year ordinal) }
+        ensures error_kind { IfErr result (λ e. (e ≡ year_out_of_range) ⊎ (e ≡ ordinal_out_of_range)) }
+        ensures year { FailsWith year_out_of_range result ↔ ¬ IsYear year }
+        ensures ordinal { FailsWith ordinal_out_of_range result
             ↔ IsYear year × ¬ IsOrdinal year ordinal }
     {
         if !is_year(year) {
@@ -125,10 +125,10 @@ impl Date {
     /// Returns the unconditional error `julian_day` if the Julian day is out of range.
     pub fn from_julian_day(julian_day: i32) -> Result<Self, ComponentRange>
         ensures every { (n : ℕ) → IsDate n → HasJulianDay julian_day n → result ≡ Ok n }
-        ensures has { IfOk result (λ n. IsDate n × HasJulianDay julian_day n) }
-        ensures refused { IsErr result ↔ NoDate (HasJulianDay julian_day) }
-        ensures reason { IfErr result (λ e. e ≡ julian_day_out_of_range) }
-        ensures julian_day { IsRefused julian_day_out_of_range result
+        ensures value { IfOk result (λ n. IsDate n × HasJulianDay julian_day n) }
+        ensures error { IsErr result ↔ NoDate (HasJulianDay julian_day) }
+        ensures error_kind { IfErr result (λ e. e ≡ julian_day_out_of_range) }
+        ensures julian_day { FailsWith julian_day_out_of_range result
             ↔ NoDate (HasJulianDay julian_day) }
         ensures closed_form { let kernel = kernel_of julian_day in
             IfOk result (HasOrdinalDate (year_of_kernel kernel) (ordinal_of_kernel kernel)) }
@@ -141,7 +141,7 @@ impl Date {
 
     /// Returns the year, from -999999 to 999999. For [`Self::MIN`] it is -999999.
     pub fn year(self) -> i32
-        ensures counted { result ≡ year_at self }
+        ensures value { result ≡ year_at self }
         ensures range { IsYear result }
         ensures in_range { IsDate self }
     {
@@ -150,9 +150,9 @@ impl Date {
 
     /// Returns the day of the year, from 1 to 365, or 366 in a leap year. For 2020-12-31 it is 366.
     pub fn ordinal(self) -> u16
-        ensures counted { result ≡ ordinal_at self }
+        ensures value { result ≡ ordinal_at self }
         ensures range { IsOrdinal (year_at self) result }
-        ensures most { result ≤ 366 }
+        ensures max { result ≤ 366 }
         ensures in_range { IsDate self }
     {
         (self.packed & ORDINAL_BITS) as u16
@@ -161,7 +161,7 @@ impl Date {
     /// Returns the year and the ordinal day: the ordinal date of ISO 8601. For 2020-12-31 it is
     /// (2020, 366).
     pub fn to_ordinal_date(self) -> (i32, u16)
-        ensures date { HasOrdinalDate result.0 result.1 self }
+        ensures value { HasOrdinalDate result.0 result.1 self }
         ensures order { (n : ℕ) → IsDate n
             → (n < self) ↔ IsBefore (ordinal_date_at n) (result.0 ∷ pos result.1 ∷ []) }
         ensures range { IsYear result.0 × IsOrdinal result.0 result.1 × (result.1 ≤ 366) }
@@ -172,9 +172,9 @@ impl Date {
 
     /// Returns the Julian day, from -363521074 to 366963559. For 2000-01-01 it is 2451545.
     pub fn to_julian_day(self) -> i32
-        ensures day { result ≡ julian_day_at self }
+        ensures value { result ≡ julian_day_at self }
         ensures order { (n : ℕ) → IsDate n → (n < self) ↔ (julian_day_at n <ℤ result) }
-        ensures has { HasJulianDay result self }
+        ensures julian_day { HasJulianDay result self }
         ensures in_range { IsDate self }
         ensures closed_form { result ≡ julian_day_of (year_at self) (ordinal_at self) }
     {
@@ -187,32 +187,32 @@ impl Date {
     /// Returns the next day, or `None` for [`Self::MAX`]. For 2019-12-31 it is 2020-01-01.
     #[tactic(auto, using(crate::proofs::Neighbours::next_days))]
     pub fn next_day(self) -> Option<Self>
-        ensures day { SomeIff result (self < last_day) (self + 1) }
+        ensures value { SomeIff result (self < last_day) (self + 1) }
         ensures in_range { IsDate self }
     {
         // The test is of the next ordinal, because a caller who needs that ordinal then has it.
-        if self.next_ordinal() < FEWEST_DAYS {
-            return Some(self.moved_in_year(1));
+        if self.next_ordinal() < MIN_DAYS_IN_YEAR {
+            return Some(self.add_days_in_year(1));
         }
         if self == Self::MAX {
             return None;
         }
-        Some(self.after_year_end())
+        Some(self.first_of_next_year())
     }
 
     /// Returns the previous day, or `None` for [`Self::MIN`]. For 2020-01-01 it is 2019-12-31.
     #[tactic(auto, using(crate::proofs::Neighbours::previous_days))]
     pub fn previous_day(self) -> Option<Self>
-        ensures day { SomeIff result (0 < self) (self - 1) }
+        ensures value { SomeIff result (0 < self) (self - 1) }
         ensures in_range { IsDate self }
     {
         if self.ordinal() > 1 {
-            return Some(self.moved_in_year(-1));
+            return Some(self.add_days_in_year(-1));
         }
         if self == Self::MIN {
             return None;
         }
-        Some(self.before_year_start())
+        Some(self.last_of_previous_year())
     }
 
     /// Returns the day after a date that isn't the last one.
@@ -221,10 +221,10 @@ impl Date {
         requires { self < last_day }
         ensures { result ≡ self + 1 }
     {
-        if u32::from(self.ordinal()) < FEWEST_DAYS {
-            self.moved_in_year(1)
+        if u32::from(self.ordinal()) < MIN_DAYS_IN_YEAR {
+            self.add_days_in_year(1)
         } else {
-            self.after_year_end()
+            self.first_of_next_year()
         }
     }
 
@@ -235,9 +235,9 @@ impl Date {
         ensures { result ≡ self - 1 }
     {
         if self.ordinal() > 1 {
-            self.moved_in_year(-1)
+            self.add_days_in_year(-1)
         } else {
-            self.before_year_start()
+            self.last_of_previous_year()
         }
     }
 
@@ -245,31 +245,31 @@ impl Date {
     /// every other date stays short.
     #[cold]
     #[inline(never)]
-    fn after_year_end(self) -> Self
+    fn first_of_next_year(self) -> Self
         requires { self < last_day }
         ensures { result ≡ self + 1 }
     {
-        self.days_later(1)
+        self.add_days(1)
     }
 
     /// Returns the previous day of a date that begins its year. It isn't inlined, like
-    /// [`Self::after_year_end`].
+    /// [`Self::first_of_next_year`].
     #[cold]
     #[inline(never)]
-    fn before_year_start(self) -> Self
+    fn last_of_previous_year(self) -> Self
         requires { 0 < self }
         ensures { result ≡ self - 1 }
     {
-        self.days_earlier(1)
+        self.sub_days(1)
     }
 
     /// Creates a date from a year of the range and an ordinal of this year.
     pub(crate) fn at_ordinal(year: i32, ordinal: u16) -> Self
         requires year { IsYear year }
         requires ordinal { IsOrdinal year ordinal }
-        ensures number { result ≡ ordinal_number year ordinal }
+        ensures value { result ≡ ordinal_number year ordinal }
         ensures date { HasOrdinalDate year ordinal result }
-        ensures in_range { IsDate result }
+        ensures range { IsDate result }
     {
         Date::from_parts(year, is_leap_year(year), ordinal)
     }
@@ -280,9 +280,9 @@ impl Date {
         requires year { IsYear year }
         requires leap { leap ≡ is_leap_year year }
         requires ordinal { IsOrdinal year ordinal }
-        ensures number { result ≡ ordinal_number year ordinal }
+        ensures value { result ≡ ordinal_number year ordinal }
         ensures date { HasOrdinalDate year ordinal result }
-        ensures in_range { IsDate result }
+        ensures range { IsDate result }
     {
         Date {
             packed: year << 10 | i32::from(leap) << 9 | i32::from(ordinal),
@@ -291,7 +291,7 @@ impl Date {
 
     /// Returns the leap mark and the ordinal: from 1 to 365, or from 513 to 878 in a leap year.
     fn low_bits(self) -> u32
-        ensures bits { result ≡ leap_mark (year_at self) + ordinal_at self }
+        ensures value { result ≡ leap_mark (year_at self) + ordinal_at self }
         ensures in_range { IsDate self }
     {
         (self.packed & LOW_BITS) as u32
@@ -299,7 +299,7 @@ impl Date {
 
     /// Returns one more than the ordinal.
     fn next_ordinal(self) -> u32
-        ensures next { result ≡ ordinal_at self + 1 }
+        ensures value { result ≡ ordinal_at self + 1 }
         ensures in_range { IsDate self }
     {
         ((self.packed + 1) & ORDINAL_BITS) as u32
@@ -307,7 +307,7 @@ impl Date {
 
     /// Returns `true` if the year of the date is a leap year, by its leap mark.
     fn is_in_leap_year(self) -> bool
-        ensures leap { result ≡ is_leap_year (year_at self) }
+        ensures value { result ≡ is_leap_year (year_at self) }
         ensures in_range { IsDate self }
     {
         // An ordinal is never 0, so `>` gives the same result, and `>=` is a test of one bit.
@@ -315,7 +315,7 @@ impl Date {
     }
 
     /// Returns the date of the same year `days` days later, or earlier if `days` is negative.
-    fn moved_in_year(self, days: i32) -> Self
+    fn add_days_in_year(self, days: i32) -> Self
         requires not_before { pos 1 ≤ℤ (pos (ordinal_at self) +ℤ days) }
         requires not_after { (pos (ordinal_at self) +ℤ days) ≤ℤ pos (days_in_year (year_at self)) }
         ensures { pos result ≡ pos self +ℤ days }
@@ -328,14 +328,14 @@ impl Date {
     /// Returns the date of the same year by its index from 0 at 1 January, or `None` if the year
     /// doesn't have the index.
     #[tactic(auto, using(crate::proofs::Neighbours::places))]
-    fn of_same_year(self, index: u64) -> Option<Self>
-        ensures day { SomeIff result (index < days_in_year (year_at self))
+    fn at_index_in_year(self, index: u64) -> Option<Self>
+        ensures value { SomeIff result (index < days_in_year (year_at self))
             (ordinal_number (year_at self) (index + 1)) }
         ensures in_range { IsDate self }
     {
         let length = 365 + u64::from(self.is_in_leap_year());
         if index < length {
-            Some(self.moved_in_year(index as i32 + 1 - i32::from(self.ordinal())))
+            Some(self.add_days_in_year(index as i32 + 1 - i32::from(self.ordinal())))
         } else {
             None
         }

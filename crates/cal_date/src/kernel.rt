@@ -8,8 +8,8 @@
 ghost use Rattle.std.specs.Prelude.{◌≡◌, ◌≢◌, ℕ, ◌+◌, ◌*◌, ◌/◌, ◌%◌, ◌^◌, ◌<◌, ◌-ℤ◌, IfSome, None};
 ghost use Rattle.cal_units.specs.Lengths.{is_leap_year};
 ghost use Rattle.cal_date.specs.Date.{first_julian_day, IsDate, IsYear, HasJulianDay, HasOrdinalDate, NoDate};
-ghost use Rattle.cal_date.specs.Move.{IsDateNumber};
-ghost use Rattle.cal_date.specs.ClosedForms.{shifted_day, kernel_by, kernel_of, HasKernel, is_julian_year, year_of_kernel, ordinal_of_kernel, is_leap_by_kernel};
+ghost use Rattle.cal_date.specs.Arithmetic.{IsDateNumber};
+ghost use Rattle.cal_date.specs.ClosedForms.{shifted_day, kernel_of_shifted_day, kernel_of, HasKernel, is_julian_year, year_of_kernel, ordinal_of_kernel, is_leap_by_kernel};
 
 use crate::date::Date;
 use crate::limits::{LAST_DAY, MAX_YEAR, MIN_JULIAN_DAY};
@@ -64,7 +64,7 @@ pub struct JulianKernel {
 /// 2000-01-01, it is 23815, 4294963575, 869879400, 2381600 and 1469893. The century is one too low.
 pub fn julian_kernel(julian_day: i32) -> JulianKernel
     requires { IsDateNumber (julian_day -ℤ first_julian_day) }
-    ensures kernel { result ≡ kernel_of julian_day }
+    ensures value { result ≡ kernel_of julian_day }
     ensures date { (n : ℕ) → IsDate n → HasJulianDay julian_day n
         → HasOrdinalDate (year_of_kernel result) (ordinal_of_kernel result) n }
     ensures leap { is_leap_by_kernel result ≡ is_leap_year (year_of_kernel result) }
@@ -78,7 +78,7 @@ pub fn julian_kernel(julian_day: i32) -> JulianKernel
 
 /// Returns the date of a Julian day, or `None` if it is out of range.
 pub(crate) fn date_of_julian_day(julian_day: i32) -> Option<Date>
-    ensures has { IfSome result (λ n. IsDate n × HasJulianDay julian_day n) }
+    ensures value { IfSome result (λ n. IsDate n × HasJulianDay julian_day n) }
     ensures none { result ≡ None → NoDate (HasJulianDay julian_day) }
     ensures closed_form { let kernel = kernel_of julian_day in
         IfSome result (HasOrdinalDate (year_of_kernel kernel) (ordinal_of_kernel kernel)) }
@@ -117,7 +117,7 @@ fn shifted_day(julian_day: i32) -> u32
 /// Returns the kernel of a day that is counted from 1 January -2379600.
 fn kernel_of_day(day: u32) -> JulianKernel
     requires { day < 2 ^ 31 }
-    ensures { result ≡ kernel_by day }
+    ensures { result ≡ kernel_of_shifted_day day }
 {
     let centuries = u64::from(day) * CENTURY_FACTOR >> 15;
     let century = (centuries >> 32) as u32;

@@ -12,7 +12,7 @@ use std::alloc::AllocError;
 
 /// Returns the first day of the range: day 0, which is 1 January of the first year.
 pub(crate) fn first_day() -> Date
-    ensures number { result ≡ 0 }
+    ensures value { result ≡ 0 }
     ensures day { day_at 0 ≡ calendar_day first_year 1 1 }
 {
     Date::MIN
@@ -21,7 +21,7 @@ pub(crate) fn first_day() -> Date
 /// Returns the last day of the range, 31 December of the last year.
 #[tactic(auto, using(crate::proofs::Years::end_of_range))]
 pub(crate) fn final_day() -> Date
-    ensures number { result ≡ last_day }
+    ensures value { result ≡ last_day }
     ensures day { day_at last_day ≡ calendar_day last_year 12 31 }
 {
     Date::MAX

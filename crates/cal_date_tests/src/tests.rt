@@ -2,8 +2,8 @@
 ghost use Rattle.std.specs.Prelude.{◌≡◌, pos, ◌+ℤ◌, ◌-ℤ◌, IsSome};
 ghost use Rattle.cal_span.specs.SignedDuration.{whole_days};
 ghost use Rattle.cal_units.specs.Weekday.{index};
-ghost use Rattle.cal_date.specs.Move.{IsDateNumber};
-ghost use Rattle.cal_date.specs.Occurrence.{next_occurrences, prev_occurrences, kth};
+ghost use Rattle.cal_date.specs.Arithmetic.{IsDateNumber};
+ghost use Rattle.cal_date.specs.Occurrences.{next_occurrences, prev_occurrences, kth};
 
 use cal_date::{Date, julian_kernel};
 use cal_span::SignedDuration;

@@ -4,21 +4,21 @@ use Rattle.std.proofs.lemmas.Int.{ints}
 use Rattle.std.specs.Int.{int_div_euclid, int_rem_euclid}
 use Rattle.cal_time.specs.SignedDuration.{second, IsDuration}
 use Rattle.cal_time.specs.Date.{first_julian_day, IsDate, HasJulianDay, NoDate}
-use Rattle.cal_time.specs.Move.{IsDateNumber}
-use Rattle.cal_time.specs.UtcOffset.{IsOffset, greatest}
+use Rattle.cal_time.specs.Arithmetic.{IsDateNumber}
+use Rattle.cal_time.specs.UtcOffset.{IsOffset, max_offset_seconds}
 use Rattle.cal_datetime.specs.DateTime.{IsDateTime, date_time}
-use Rattle.cal_datetime.specs.OffsetDateTime.{Shown, IsInstant, instant, local_at, epoch_day, unix_epoch, unix_seconds}
+use Rattle.cal_datetime.specs.OffsetDateTime.{LocalAndOffset, IsInstant, instant, local_at, epoch_day, unix_epoch, unix_seconds}
 
 -- what a clock at another offset shows
-pub local-ahead : (m : Shown) (ahead offset : ℤ) → ahead ≡ offset *ℤ pos second -ℤ m.offset *ℤ pos second → m.local +ℤ ahead ≡ local_at (instant m) offset
+pub local-ahead : (m : LocalAndOffset) (ahead offset : ℤ) → ahead ≡ offset *ℤ pos second -ℤ m.offset *ℤ pos second → m.local +ℤ ahead ≡ local_at (instant m) offset
 unfolding instant
 local-ahead m ahead offset e = omega (arith, ints, e)
 
 -- the seconds of an offset, in nanoseconds
 pub IsInstant-less : (l o : ℤ) → IsDateTime l → IsOffset o → IsInstant (l -ℤ o *ℤ pos second)
 IsInstant-less l o h k =
-    let low : neg_ℤ (pos greatest) ≤ℤ o = omega (arith, ints, k.magnitude) in
-    let high : o ≤ℤ pos greatest = omega (arith, ints, k.magnitude) in
+    let low : neg_ℤ (pos max_offset_seconds) ≤ℤ o = omega (arith, ints, k.magnitude) in
+    let high : o ≤ℤ pos max_offset_seconds = omega (arith, ints, k.magnitude) in
     record { not_before = omega (arith, ints, h.not_before); not_after = omega (arith, ints, h.not_after) }
 
 pub ruleset instants = (IsInstant-less)
@@ -49,7 +49,7 @@ div_euclid-one (negsuc a) (pos b) low high = omega (arith, ints)
 div_euclid-one (negsuc a) (negsuc b) low high = omega (arith, ints)
 
 -- The Unix time in seconds, from the seconds of the day, the time and the offset.
-pub unix_seconds-is : (m : Shown) (q : ℤ) (n t : ℕ) → m.local ≡ date_time n t → q ≡ ((pos n -ℤ epoch_day) *ℤ pos 86_400 +ℤ pos (t / second)) -ℤ m.offset
+pub unix_seconds-is : (m : LocalAndOffset) (q : ℤ) (n t : ℕ) → m.local ≡ date_time n t → q ≡ ((pos n -ℤ epoch_day) *ℤ pos 86_400 +ℤ pos (t / second)) -ℤ m.offset
     → q ≡ unix_seconds (instant m)
 unfolding instant
 unix_seconds-is m q n t e f = sym (div_euclid-one _ q (omega (arith, ints, e, f)) (omega (arith, ints, e, f)))
@@ -66,33 +66,33 @@ seconds-and_past (negsuc n) = omega (arith, ints)
 -- the duration between two instants
 pub apart-is_duration : (l m o p : ℤ) → IsDateTime l → IsDateTime m → IsOffset o → IsOffset p → IsDuration ((l -ℤ m) +ℤ (o *ℤ pos second -ℤ p *ℤ pos second))
 apart-is_duration l m o p h k i j =
-    let a : neg_ℤ (pos greatest) ≤ℤ o = omega (arith, ints, i.magnitude) in
-    let b : o ≤ℤ pos greatest = omega (arith, ints, i.magnitude) in
-    let c : neg_ℤ (pos greatest) ≤ℤ p = omega (arith, ints, j.magnitude) in
-    let d : p ≤ℤ pos greatest = omega (arith, ints, j.magnitude) in
+    let a : neg_ℤ (pos max_offset_seconds) ≤ℤ o = omega (arith, ints, i.magnitude) in
+    let b : o ≤ℤ pos max_offset_seconds = omega (arith, ints, i.magnitude) in
+    let c : neg_ℤ (pos max_offset_seconds) ≤ℤ p = omega (arith, ints, j.magnitude) in
+    let d : p ≤ℤ pos max_offset_seconds = omega (arith, ints, j.magnitude) in
     record {
       at_least = omega (arith, ints, h.not_before, k.not_after);
       at_most = omega (arith, ints, h.not_after, k.not_before);
     }
 
-pub instants-apart : (m k : Shown) → (m.local -ℤ k.local) +ℤ (k.offset *ℤ pos second -ℤ m.offset *ℤ pos second) ≡ instant m -ℤ instant k
+pub instants-apart : (m k : LocalAndOffset) → (m.local -ℤ k.local) +ℤ (k.offset *ℤ pos second -ℤ m.offset *ℤ pos second) ≡ instant m -ℤ instant k
 unfolding instant
 instants-apart m k = omega (arith, ints)
 
 -- A date-time at the same offset is v later if its instant is v later.
-pub later_at : (m to : Shown) (v : ℤ) → to.offset ≡ m.offset → v ≡ instant to -ℤ instant m → m.local +ℤ v ≡ to.local
+pub later_at : (m to : LocalAndOffset) (v : ℤ) → to.offset ≡ m.offset → v ≡ instant to -ℤ instant m → m.local +ℤ v ≡ to.local
 unfolding instant
 later_at m to v e f = omega (arith, ints, e, f)
 
-pub earlier_at : (m to : Shown) (v : ℤ) → to.offset ≡ m.offset → v ≡ instant m -ℤ instant to → m.local -ℤ v ≡ to.local
+pub earlier_at : (m to : LocalAndOffset) (v : ℤ) → to.offset ≡ m.offset → v ≡ instant m -ℤ instant to → m.local -ℤ v ≡ to.local
 unfolding instant
 earlier_at m to v e f = omega (arith, ints, e, f)
 
 -- The date-time of an instant at an offset is unique.
-pub shown_at : (m there : Shown) (offset : ℤ) → there.offset ≡ offset → instant there ≡ instant m → local_at (instant m) offset ≡ there.local
+pub shown_at : (m there : LocalAndOffset) (offset : ℤ) → there.offset ≡ offset → instant there ≡ instant m → local_at (instant m) offset ≡ there.local
 unfolding instant
 shown_at m there offset e f = omega (arith, ints, e, f)
 
 -- the clock of a date-time shows its own instant again
-pub own_clock : (m k : Shown) → instant k ≡ instant m → local_at (instant k) m.offset ≡ m.local
+pub own_clock : (m k : LocalAndOffset) → instant k ≡ instant m → local_at (instant k) m.offset ≡ m.local
 own_clock m k e = shown_at k m m.offset refl (sym e)

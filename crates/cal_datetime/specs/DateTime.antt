@@ -16,8 +16,8 @@ pub record IsDateTime (z : ℤ) : Type 0 where
   pub not_after : z ≤ℤ pos last_date_time
 
 -- The date-time of the range that is nearest to z.
-abbrev pub nearest : ℤ → ℤ
-nearest z = int_max (pos 0) (int_min z (pos last_date_time))
+abbrev pub clamped_date_time : ℤ → ℤ
+clamped_date_time z = int_max (pos 0) (int_min z (pos last_date_time))
 
 -- The date-time of day n at the time of day t.
 abbrev pub date_time : ℕ → ℕ → ℤ

@@ -38,12 +38,12 @@ pub IsDateTime-date_time : (n t : ℕ) → IsDate n → t < day → IsDateTime (
 IsDateTime-date_time n t h below = record { not_before = omega (arith, ints); not_after = omega (arith, ints) }
 
 -- The fields of a date-time are its day and its time of day.
-abbrev pub parts_of : ℤ → Inside
-parts_of z = record { date = date_at z; time = time_at z }
+abbrev pub fields_of : ℤ → Inside
+fields_of z = record { date = date_at z; time = time_at z }
 
 -- The date-time of two fields has these fields.
-pub parts_of-date_time : (m : Inside) → IsDate m.date × IsTime m.time → parts_of (date_time m.date m.time) ≡ m
-parts_of-date_time m h =
+pub fields_of-date_time : (m : Inside) → IsDate m.date × IsTime m.time → fields_of (date_time m.date m.time) ≡ m
+fields_of-date_time m h =
     let dates = date_at-date_time m.date m.time h.1.below_day in
     let times = time_at-date_time m.date m.time h.1.below_day in
     λ i. record { date = dates i; time = times i }

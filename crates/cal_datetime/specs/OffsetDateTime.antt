@@ -7,28 +7,28 @@ use Rattle.std.specs.Hash as fed
 use Rattle.std.specs.Hash.{HashWrites}
 use Rattle.cal_time.specs.declared.error.Component.TheVariants as component
 use Rattle.cal_time.specs.declared.error.ComponentRange.{ComponentRange}
-use Rattle.cal_time.specs.Refusal.{unconditional}
+use Rattle.cal_time.specs.ComponentError.{unconditional}
 use Rattle.cal_time.specs.SignedDuration.{day, second}
 use Rattle.cal_time.specs.UtcOffset as offset
-use Rattle.cal_time.specs.UtcOffset.{greatest}
+use Rattle.cal_time.specs.UtcOffset.{max_offset_seconds}
 use Rattle.cal_time.specs.DateText as date
 use Rattle.cal_time.specs.Time as clock
 use Rattle.cal_datetime.specs.DateTime.{last_date_time, date_at, time_at}
 
 -- A date-time at an offset, with the offset in seconds.
-pub record Shown : Type 0 where
+pub record LocalAndOffset : Type 0 where
   pub local : ℤ
   pub offset : ℤ
 
 -- The instant is the nanoseconds at UTC since the first date-time of the range. It may lie outside
 -- the range.
-unfoldable pub instant : Shown → ℤ
+unfoldable pub instant : LocalAndOffset → ℤ
 instant m = m.local -ℤ m.offset *ℤ pos second
 
 -- An instant is in the range, or outside it by at most 25:59:59, the maximum offset.
 pub record IsInstant (z : ℤ) : Type 0 where
-  pub not_before : neg_ℤ (pos (greatest * second)) ≤ℤ z
-  pub not_after : z ≤ℤ pos (last_date_time + greatest * second)
+  pub not_before : neg_ℤ (pos (max_offset_seconds * second)) ≤ℤ z
+  pub not_after : z ≤ℤ pos (last_date_time + max_offset_seconds * second)
 
 -- The local date-time of the instant z at an offset in seconds.
 abbrev pub local_at : ℤ → ℤ → ℤ
@@ -55,10 +55,10 @@ abbrev pub timestamp_out_of_range : ComponentRange
 timestamp_out_of_range = unconditional component.Timestamp
 
 -- A date-time at an offset feeds its instant to a hasher.
-abbrev pub hash_input_of : Shown → HashWrites
+abbrev pub hash_input_of : LocalAndOffset → HashWrites
 hash_input_of m = fed.i128 (instant m)
 
 -- The text of a date-time at an offset is the texts of the day, the time and the offset, separated
 -- by spaces.
-abbrev pub text : Shown → List ℕ
+abbrev pub text : LocalAndOffset → List ℕ
 text m = date.text (date_at m.local) ++ codes " " ++ clock.text (time_at m.local) ++ codes " " ++ offset.text m.offset

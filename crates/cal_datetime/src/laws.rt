@@ -84,7 +84,7 @@ pub fn order_of_instants(a: OffsetDateTime, b: OffsetDateTime) -> Ordering
 
 /// Converts to `offset` and back, which gives `moment` again. Only the first conversion can return
 /// `None`.
-pub fn there_and_back(moment: OffsetDateTime, offset: UtcOffset) -> Option<OffsetDateTime>
+pub fn round_trip(moment: OffsetDateTime, offset: UtcOffset) -> Option<OffsetDateTime>
     ensures there { IsSome result ↔ IsDateTime (local_at (instant moment) offset) }
     ensures back { IfSome result (λ back. back ≡ moment) }
 {

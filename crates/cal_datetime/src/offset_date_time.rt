@@ -5,7 +5,7 @@ ghost use Rattle.cal_time.specs.Date.{IsDate};
 ghost use Rattle.cal_time.specs.Time.{IsTime};
 ghost use Rattle.cal_time.specs.UtcOffset.{IsOffset};
 ghost use Rattle.cal_datetime.specs.DateTime.{IsDateTime, date_time, date_at, time_at};
-ghost use Rattle.cal_datetime.specs.OffsetDateTime.{Shown, instant, local_at};
+ghost use Rattle.cal_datetime.specs.OffsetDateTime.{LocalAndOffset, instant, local_at};
 
 use crate::PlainDateTime;
 use cal_time::{Date, SignedDuration, Time, UtcOffset};
@@ -14,7 +14,7 @@ use std::marker::Model;
 mod arithmetic;
 mod display;
 mod order;
-mod parts;
+mod components;
 mod replacement;
 mod unix;
 
@@ -34,19 +34,19 @@ impl Model for OffsetDateTime {
     ghost use Rattle.cal_time.specs.Date.{IsDate};
     ghost use Rattle.cal_time.specs.Time.{IsTime};
     ghost use Rattle.cal_time.specs.UtcOffset.{IsOffset};
-    ghost use Rattle.cal_datetime.specs.OffsetDateTime.{Shown};
+    ghost use Rattle.cal_datetime.specs.OffsetDateTime.{LocalAndOffset};
 
-    ghost Value = { Shown };
+    ghost Value = { LocalAndOffset };
 
-    ghost use Rattle.cal_datetime.specs.OffsetDateTimeLaws.{shown_of, parts_of, parts_of-shown_of};
+    ghost use Rattle.cal_datetime.specs.OffsetDateTimeLaws.{local_and_offset_of, fields_of, fields_of-local_and_offset_of};
 
-    ghost view = { shown_of };
+    ghost view = { local_and_offset_of };
 
     ghost invariant = { λ m. IsDate m.date × IsTime m.time × IsOffset m.offset };
 
-    ghost inverse = { parts_of };
+    ghost inverse = { fields_of };
 
-    ghost inverse_ok = { parts_of-shown_of };
+    ghost inverse_ok = { fields_of-local_and_offset_of };
 }
 
 impl PlainDateTime {
@@ -147,12 +147,12 @@ impl OffsetDateTime {
         ensures value { let local = local_at (instant self) offset
             in SomeIff result (IsDateTime local) (record { local = local; offset = offset }) }
         ensures same_instant { IfSome result (λ there. instant there ≡ instant self) }
-        ensures every { (there : Shown) → IsDateTime there.local → there.offset ≡ offset
+        ensures every { (there : LocalAndOffset) → IsDateTime there.local → there.offset ≡ offset
             → instant there ≡ instant self
             → result ≡ Some there }
         ensures in_range { IsDateTime self.local }
     {
-        match self.local().checked_add(ahead(offset, self.offset())) {
+        match self.local().checked_add(offset_difference(offset, self.offset())) {
             Some(local) => Some(local.assume_offset(offset)),
             None => None,
         }
@@ -190,7 +190,7 @@ impl OffsetDateTime {
 }
 
 /// Returns the difference of two offsets, `offset` minus `other`.
-fn ahead(offset: UtcOffset, other: UtcOffset) -> SignedDuration
+fn offset_difference(offset: UtcOffset, other: UtcOffset) -> SignedDuration
     ensures { result ≡ offset *ℤ pos second -ℤ other *ℤ pos second }
 {
     let seconds = offset.whole_seconds() - other.whole_seconds();

@@ -10,7 +10,7 @@ use std::marker::Model;
 mod arithmetic;
 mod display;
 mod order;
-mod parts;
+mod components;
 mod replacement;
 
 /// A date and a time of day, in nanoseconds, from -999999-01-01 0:00:00.0 to 999999-12-31
@@ -29,15 +29,15 @@ impl Model for PlainDateTime {
     ghost Value = { ℤ };
 
     ghost use Rattle.cal_datetime.specs.DateTime.{date_time, date_at, time_at};
-    ghost use Rattle.cal_datetime.specs.DateTimeLaws.{parts_of, parts_of-date_time};
+    ghost use Rattle.cal_datetime.specs.DateTimeLaws.{fields_of, fields_of-date_time};
 
     ghost view = { λ m. date_time m.date m.time };
 
     ghost invariant = { λ m. IsDate m.date × IsTime m.time };
 
-    ghost inverse = { parts_of };
+    ghost inverse = { fields_of };
 
-    ghost inverse_ok = { parts_of-date_time };
+    ghost inverse_ok = { fields_of-date_time };
 }
 
 impl PlainDateTime {

@@ -8,8 +8,8 @@ use Rattle.cal_time.specs.CalendarDay.{calendar_day}
 use Rattle.cal_time.specs.Date.{last_day, year_at, month_at, day_of_month_at, HasCalendarDate, IsDate, NoDate}
 use Rattle.cal_time.specs.Days.{month_at-range}
 use Rattle.cal_time.specs.Filters.{filter-first, filter-none}
-use Rattle.cal_time.specs.Month.{number, index, month_at as month_with_index, FromNumber}
-use Rattle.cal_time.specs.MonthCycle.{month_at-index}
+use Rattle.cal_time.specs.Month.{number, index, month_of_index as month_with_index, IsMonthFromNumber}
+use Rattle.cal_time.specs.MonthCycle.{month_of_index-index}
 use Rattle.cal_time.specs.declared.Month.{Month}
 use Rattle.cal_time.specs.declared.error.ComponentRange.{ComponentRange}
 use Rattle.cal_recurrence.specs.Words.{day_with, has_digits}
@@ -68,6 +68,6 @@ no_month n h =
     omega (arith, month, (month_at-range k).0, (month_at-range k).1, h)))))
 
 -- the month with a number
-pub month_with : (n : ℕ) (r : Result Month ComponentRange) → FromNumber n r → 1 ≤ n → n ≤ 12 → result_ok r ≡ Some (month_with_index (n - 1))
-month_with n (Ok m) h low high = let same : n - 1 ≡ index m = omega (arith, h) in ap Some (sym (ap month_with_index same ∙ month_at-index m))
+pub month_with : (n : ℕ) (r : Result Month ComponentRange) → IsMonthFromNumber n r → 1 ≤ n → n ≤ 12 → result_ok r ≡ Some (month_with_index (n - 1))
+month_with n (Ok m) h low high = let same : n - 1 ≡ index m = omega (arith, h) in ap Some (sym (ap month_with_index same ∙ month_of_index-index m))
 month_with n (Err why) h low high = absurd (omega (arith, h.1, low, high))

@@ -11,16 +11,16 @@ use Rattle.std.proofs.lemmas.Str.Parse.{digits_value_short}
 use Rattle.cal_time.specs.Date.{last_day, year_at}
 use Rattle.cal_time.specs.Filters.{IsFirstDay, first_passing}
 use Rattle.cal_time.specs.declared.Weekday.{Weekday}
-use Rattle.cal_schedule.specs.declared.rule.kinds.Frequency.{Frequency}
-use Rattle.cal_schedule.specs.declared.rule.kinds.ByDay.TheVariants.{Every, Nth}
+use Rattle.cal_schedule.specs.declared.rule.rule.Frequency.{Frequency}
+use Rattle.cal_schedule.specs.declared.rule.rule.ByDay.TheVariants.{Every, Nth}
 use Rattle.cal_recurrence.specs.Spelled.{IsCount, IsIndex, IsMonthDay, IsByDay, IsEnd, IsSpelled}
 use Rattle.cal_recurrence.specs.Text.{fault, each, list_of, has_few_words, fresh, changed, put, put_value, put_part, with_frequency, and_on, read_on, nothing, recurrence_of}
 use Rattle.cal_recurrence.specs.Values.{most_values}
 use Rattle.cal_recurrence.specs.Words.{parts_at, front_at, rest_at, part_of, frequency_of, is_number, number_of, from_one_to, count_of, short_count_of, index_of, weekday_of, month_of, month_day_of, by_day_of, has_digits, day_with, date_of}
 use Rattle.cal_recurrence.specs.declared.draft.Draft.{Draft}
-use Rattle.cal_recurrence.specs.declared.fault.RuleFault.{RuleFault}
-use Rattle.cal_recurrence.specs.declared.fault.RuleReason.{RuleReason}
-use Rattle.cal_recurrence.specs.declared.fault.RuleReason.TheVariants.{Unknown, TooMany, Missing}
+use Rattle.cal_recurrence.specs.declared.fault.ParseRuleError.{ParseRuleError}
+use Rattle.cal_recurrence.specs.declared.fault.ParseRuleErrorKind.{ParseRuleErrorKind}
+use Rattle.cal_recurrence.specs.declared.fault.ParseRuleErrorKind.TheVariants.{Unknown, TooMany, Missing}
 use Rattle.cal_recurrence.specs.declared.fault.RulePart.{RulePart}
 use Rattle.cal_recurrence.specs.declared.fault.RulePart.TheVariants as part
 use Rattle.cal_recurrence.specs.declared.recurrence.Recurrence.{Recurrence}
@@ -243,12 +243,12 @@ spelled d f h =
       end = or_else IsEnd d.end Never h.end tt;
     }
 
-with-one : (d : Draft) (why : RuleFault) (f : Option Frequency) → IsDraft d
+with-one : (d : Draft) (why : ParseRuleError) (f : Option Frequency) → IsDraft d
     → IfOk (option_map_or (λ f. Ok (with_frequency d f)) f (Err why)) IsSpelled
 with-one d why None h = tt
 with-one d why (Some f) h = spelled d f h
 
-next : (at : ℕ) (others : Draft → Result Recurrence RuleFault) (r : Result Draft RuleReason) → IfOk r IsDraft
+next : (at : ℕ) (others : Draft → Result Recurrence ParseRuleError) (r : Result Draft ParseRuleErrorKind) → IfOk r IsDraft
     → ((d : Draft) → IsDraft d → IfOk (others d) IsSpelled)
     → IfOk (and_on at others r) IsSpelled
 next at others (Ok d) h k = k d h

@@ -1,7 +1,7 @@
 -- The days of a recurrence are one list, for any borrows of the lists of its rule.
 use Rattle.std.proofs.Common.{◌≡◌, ℕ, List, refl, sym, ap, ◌∙◌}
-use Rattle.cal_schedule.specs.Rule.{days_of, is_on, turns_past, is_in_months, is_on_days}
-use Rattle.cal_schedule.specs.declared.rule.kinds.Rule.{Rule}
+use Rattle.cal_schedule.specs.Rule.{occurrences, is_occurrence, periods_past, matches_months, matches_days}
+use Rattle.cal_schedule.specs.declared.rule.rule.Rule.{Rule}
 use Rattle.cal_recurrence.specs.Days.{AreDays, IsRuleOf, up_to_end}
 use Rattle.cal_recurrence.specs.declared.recurrence.Recurrence.{Recurrence}
 
@@ -18,8 +18,8 @@ moved a b = record {
   until = b.until;
 }
 
-moved-days : (a b : Rule) → days_of (moved a b) ≡ days_of b
-unfolding is_on turns_past is_in_months is_on_days
+moved-days : (a b : Rule) → occurrences (moved a b) ≡ occurrences b
+unfolding is_occurrence periods_past matches_months matches_days
 moved-days a b = refl
 
 moved-same : (r : Recurrence) (first : ℕ) (a b : Rule) → IsRuleOf r first a → IsRuleOf r first b → a ≡ moved a b
@@ -36,4 +36,4 @@ moved-same r first a b p q = λ i. record {
 
 pub days-one : (r : Recurrence) (first : ℕ) (xs ys : List ℕ) → AreDays r first xs → AreDays r first ys → xs ≡ ys
 days-one r first xs ys (a, p, e) (b, q, f) =
-    e ∙ ap (λ rule. up_to_end r.end (days_of rule)) (moved-same r first a b p q) ∙ ap (up_to_end r.end) (moved-days a b) ∙ sym f
+    e ∙ ap (λ rule. up_to_end r.end (occurrences rule)) (moved-same r first a b p q) ∙ ap (up_to_end r.end) (moved-days a b) ∙ sym f

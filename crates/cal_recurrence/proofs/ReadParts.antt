@@ -6,8 +6,8 @@ use Rattle.std.proofs.lemmas.Bool.{cases_Bool, eqb-true}
 use Rattle.cal_time.specs.declared.Month.{Month}
 use Rattle.cal_time.specs.declared.Weekday.{Weekday}
 use Rattle.cal_time.specs.declared.Weekday.TheVariants as weekday
-use Rattle.cal_schedule.specs.declared.rule.kinds.Frequency.{Frequency}
-use Rattle.cal_schedule.specs.declared.rule.kinds.ByDay.{ByDay}
+use Rattle.cal_schedule.specs.declared.rule.rule.Frequency.{Frequency}
+use Rattle.cal_schedule.specs.declared.rule.rule.ByDay.{ByDay}
 use Rattle.cal_recurrence.specs.Spelled.{IsCount, IsMonthDay, IsByDay, IsEnd, IsSpelled}
 use Rattle.cal_recurrence.specs.Text.{list_of, fresh, changed, put, put_value, put_part, and_on, read_on, nothing, recurrence_of}
 use Rattle.cal_recurrence.specs.Words.{parts_at, frequency_of, weekday_of, count_of, month_of, month_day_of, by_day_of, date_of}
@@ -15,7 +15,7 @@ use Rattle.cal_recurrence.specs.Written.{frequency_text, weekday_text, month_tex
 use Rattle.cal_recurrence.specs.declared.draft.Draft.{Draft}
 use Rattle.cal_recurrence.specs.declared.fault.RulePart.{RulePart}
 use Rattle.cal_recurrence.specs.declared.fault.RulePart.TheVariants as part
-use Rattle.cal_recurrence.specs.declared.fault.RuleReason.TheVariants.{TooMany}
+use Rattle.cal_recurrence.specs.declared.fault.ParseRuleErrorKind.TheVariants.{TooMany}
 use Rattle.cal_recurrence.specs.declared.recurrence.Recurrence.{Recurrence}
 use Rattle.cal_recurrence.specs.declared.recurrence.RuleEnd.{RuleEnd}
 use Rattle.cal_recurrence.specs.declared.recurrence.RuleEnd.TheVariants.{Never, Until, Count}

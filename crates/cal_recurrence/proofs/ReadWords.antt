@@ -10,15 +10,15 @@ use Rattle.std.proofs.lemmas.Bool.Decides.{nat_tests}
 use Rattle.std.proofs.lemmas.Fmt.{digits_decimal, digits_value-decimal, decimal_nonempty, length-decimal-le, first_decimal}
 use Rattle.std.proofs.lemmas.List.{take-append-le, drop-append-le, take_all, drop_all, length-append}
 use Rattle.std.proofs.lemmas.Str.Parse.{tells_all_ascii_digits}
-use Rattle.cal_time.specs.Month.{number, index, month_at as month_with_index}
-use Rattle.cal_time.specs.MonthCycle.{index-below, month_at-index}
+use Rattle.cal_time.specs.Month.{number, index, month_of_index as month_with_index}
+use Rattle.cal_time.specs.MonthCycle.{index-below, month_of_index-index}
 use Rattle.cal_time.specs.declared.Month.{Month}
 use Rattle.cal_time.specs.declared.Weekday.{Weekday}
 use Rattle.cal_time.specs.declared.Weekday.TheVariants as weekday
-use Rattle.cal_schedule.specs.declared.rule.kinds.Frequency.{Frequency}
-use Rattle.cal_schedule.specs.declared.rule.kinds.Frequency.TheVariants as frequency
-use Rattle.cal_schedule.specs.declared.rule.kinds.ByDay.{ByDay}
-use Rattle.cal_schedule.specs.declared.rule.kinds.ByDay.TheVariants.{Every, Nth}
+use Rattle.cal_schedule.specs.declared.rule.rule.Frequency.{Frequency}
+use Rattle.cal_schedule.specs.declared.rule.rule.Frequency.TheVariants as frequency
+use Rattle.cal_schedule.specs.declared.rule.rule.ByDay.{ByDay}
+use Rattle.cal_schedule.specs.declared.rule.rule.ByDay.TheVariants.{Every, Nth}
 use Rattle.cal_recurrence.specs.Spelled.{IsCount, IsIndex, IsByDay}
 use Rattle.cal_recurrence.specs.Words.{is_number, number_of, from_one_to, count_of, short_count_of, index_of, frequency_of, weekday_of, month_of, month_day_of, by_day_of}
 use Rattle.cal_recurrence.specs.Written.{frequency_text, weekday_text, month_text, month_day_text, by_day_text}
@@ -112,7 +112,7 @@ number-most : (m : Month) → number m ≤ 12
 number-most m = omega (arith, index-below m)
 
 number-back_to : (m : Month) → month_with_index (number m - 1) ≡ m
-number-back_to m = let same : number m - 1 ≡ index m = omega arith in ap month_with_index same ∙ month_at-index m
+number-back_to m = let same : number m - 1 ≡ index m = omega arith in ap month_with_index same ∙ month_of_index-index m
 
 pub month-word : (m : Month) → IsWord month_of m (month_text m)
 month-word m =

@@ -1,7 +1,7 @@
 -- The days of a recurrence: the days of its rule from a start, or with a COUNT the first of them.
 use Rattle.std.specs.Prelude.{◌≡◌, ℕ, List, take, Option, Some, None}
-use Rattle.cal_schedule.specs.declared.rule.kinds.Rule.{Rule}
-use Rattle.cal_schedule.specs.Rule.{days_of}
+use Rattle.cal_schedule.specs.declared.rule.rule.Rule.{Rule}
+use Rattle.cal_schedule.specs.Rule.{occurrences}
 use Rattle.cal_recurrence.specs.declared.recurrence.Recurrence.{Recurrence}
 use Rattle.cal_recurrence.specs.declared.recurrence.RuleEnd.{RuleEnd}
 use Rattle.cal_recurrence.specs.declared.recurrence.RuleEnd.TheVariants.{Never, Until, Count}
@@ -31,4 +31,4 @@ up_to_end (Count count) days = take count days
 
 -- The days are the days of the recurrence from the start `first`.
 abbrev pub AreDays : Recurrence → ℕ → List ℕ → Type 0
-AreDays recurrence first days = (rule : Rule) × IsRuleOf recurrence first rule × (days ≡ up_to_end recurrence.end (days_of rule))
+AreDays recurrence first days = (rule : Rule) × IsRuleOf recurrence first rule × (days ≡ up_to_end recurrence.end (occurrences rule))

@@ -1,10 +1,10 @@
 -- The text of an error in the text of a recurrence.
 use Rattle.std.specs.Prelude.{ℕ, List, ◌++◌, codes, decimal}
-use Rattle.cal_recurrence.specs.declared.fault.RuleFault.{RuleFault}
+use Rattle.cal_recurrence.specs.declared.fault.ParseRuleError.{ParseRuleError}
 use Rattle.cal_recurrence.specs.declared.fault.RulePart.{RulePart}
 use Rattle.cal_recurrence.specs.declared.fault.RulePart.TheVariants as part
-use Rattle.cal_recurrence.specs.declared.fault.RuleReason.{RuleReason}
-use Rattle.cal_recurrence.specs.declared.fault.RuleReason.TheVariants.{Unknown, Twice, TooMany, Value, Missing}
+use Rattle.cal_recurrence.specs.declared.fault.ParseRuleErrorKind.{ParseRuleErrorKind}
+use Rattle.cal_recurrence.specs.declared.fault.ParseRuleErrorKind.TheVariants.{Unknown, Twice, TooMany, Value, Missing}
 
 abbrev pub part_name : RulePart → List ℕ
 part_name part.Frequency = codes "FREQ"
@@ -17,12 +17,12 @@ part_name part.Until = codes "UNTIL"
 part_name part.Count = codes "COUNT"
 
 -- a COUNT after an UNTIL is a duplicate too, and an UNTIL after a COUNT
-abbrev pub reason_text : RuleReason → List ℕ
+abbrev pub reason_text : ParseRuleErrorKind → List ℕ
 reason_text Unknown = codes "unknown part"
 reason_text (Twice at) = codes "duplicate " ++ part_name at
 reason_text (TooMany at) = codes "too many values in " ++ part_name at
 reason_text (Value at) = codes "invalid value of " ++ part_name at
 reason_text Missing = codes "missing FREQ"
 
-abbrev pub fault_text : RuleFault → List ℕ
+abbrev pub fault_text : ParseRuleError → List ℕ
 fault_text fault = reason_text fault.reason ++ codes " at " ++ decimal fault.position

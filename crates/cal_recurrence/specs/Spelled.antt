@@ -2,8 +2,8 @@
 use Rattle.std.specs.Prelude.{⊤, ℕ, ◌≤◌, ◌<◌, ◌^◌, ℤ, pos, ◌≤ℤ◌, unsigned_abs, length}
 use Rattle.std.specs.List.{All}
 use Rattle.cal_time.specs.Date.{year_at, IsDate}
-use Rattle.cal_schedule.specs.declared.rule.kinds.ByDay.{ByDay}
-use Rattle.cal_schedule.specs.declared.rule.kinds.ByDay.TheVariants.{Every, Nth}
+use Rattle.cal_schedule.specs.declared.rule.rule.ByDay.{ByDay}
+use Rattle.cal_schedule.specs.declared.rule.rule.ByDay.TheVariants.{Every, Nth}
 use Rattle.cal_recurrence.specs.Values.{most_values}
 use Rattle.cal_recurrence.specs.declared.recurrence.Recurrence.{Recurrence}
 use Rattle.cal_recurrence.specs.declared.recurrence.RuleEnd.{RuleEnd}

@@ -4,15 +4,15 @@ use Rattle.std.specs.Prelude.{ℕ, ◌+◌, ◌-◌, nat_le, Bool, true, false, 
 use Rattle.std.specs.Option.{option_map_or, option_zip}
 use Rattle.std.specs.Result.{result_map_both}
 use Rattle.cal_time.specs.declared.Weekday.TheVariants.{Monday}
-use Rattle.cal_schedule.specs.declared.rule.kinds.Frequency.{Frequency}
+use Rattle.cal_schedule.specs.declared.rule.rule.Frequency.{Frequency}
 use Rattle.cal_recurrence.specs.Values.{most_values}
 use Rattle.cal_recurrence.specs.Words.{parts_at, front_at, rest_at, part_of, frequency_of, weekday_of, count_of, month_of, month_day_of, by_day_of, date_of}
 use Rattle.cal_recurrence.specs.declared.draft.Draft.{Draft}
 use Rattle.cal_recurrence.specs.declared.fault.RulePart.{RulePart}
 use Rattle.cal_recurrence.specs.declared.fault.RulePart.TheVariants as part
-use Rattle.cal_recurrence.specs.declared.fault.RuleReason.{RuleReason}
-use Rattle.cal_recurrence.specs.declared.fault.RuleReason.TheVariants.{Unknown, Twice, TooMany, Value, Missing}
-use Rattle.cal_recurrence.specs.declared.fault.RuleFault.{RuleFault}
+use Rattle.cal_recurrence.specs.declared.fault.ParseRuleErrorKind.{ParseRuleErrorKind}
+use Rattle.cal_recurrence.specs.declared.fault.ParseRuleErrorKind.TheVariants.{Unknown, Twice, TooMany, Value, Missing}
+use Rattle.cal_recurrence.specs.declared.fault.ParseRuleError.{ParseRuleError}
 use Rattle.cal_recurrence.specs.declared.recurrence.Recurrence.{Recurrence}
 use Rattle.cal_recurrence.specs.declared.recurrence.RuleEnd.TheVariants.{Never, Until, Count}
 
@@ -31,16 +31,16 @@ has_few_words value = nat_le (length (parts_at 44 value)) most_values
 
 -- ---- parts
 -- The value is valid, and the part was not given before.
-abbrev pub fresh : {X : Type 0} → RulePart → Bool → Option X → Result X RuleReason
+abbrev pub fresh : {X : Type 0} → RulePart → Bool → Option X → Result X ParseRuleErrorKind
 fresh at true value = Err (Twice at)
 fresh at false None = Err (Value at)
 fresh at false (Some x) = Ok x
 
 -- The draft gets one more part. UNTIL and COUNT both set the end.
-abbrev pub changed : {X : Type 0} → (X → Draft) → Result X RuleReason → Result Draft RuleReason
+abbrev pub changed : {X : Type 0} → (X → Draft) → Result X ParseRuleErrorKind → Result Draft ParseRuleErrorKind
 changed to value = result_map_both to (λ reason. reason) value
 
-abbrev pub put : Draft → RulePart → List ℕ → Result Draft RuleReason
+abbrev pub put : Draft → RulePart → List ℕ → Result Draft ParseRuleErrorKind
 put draft part.Frequency value =
     changed (λ x. record draft { frequency = Some x }) (fresh part.Frequency (is_some draft.frequency) (frequency_of value))
 put draft part.Interval value =
@@ -58,14 +58,14 @@ put draft part.Until value =
 put draft part.Count value =
     changed (λ x. record draft { end = Some (Count x) }) (fresh part.Count (is_some draft.end) (count_of 4294967295 value))
 
-abbrev pub put_value : Draft → List ℕ → RulePart → Result Draft RuleReason
+abbrev pub put_value : Draft → List ℕ → RulePart → Result Draft ParseRuleErrorKind
 put_value draft value at = if has_few_words value then put draft at value else Err (TooMany at)
 
-abbrev pub put_part : Draft → List ℕ → Result Draft RuleReason
+abbrev pub put_part : Draft → List ℕ → Result Draft ParseRuleErrorKind
 put_part draft text = option_map_or (put_value draft (rest_at 61 text)) (part_of (front_at 61 text)) (Err Unknown)
 
 -- ---- the whole
-abbrev pub fault : ℕ → RuleReason → RuleFault
+abbrev pub fault : ℕ → ParseRuleErrorKind → ParseRuleError
 fault at why = record { position = at; reason = why }
 
 -- The defaults are an interval of 1, weeks from Monday, empty lists and no end. The frequency is
@@ -81,15 +81,15 @@ with_frequency draft f = record {
   end = unwrap_or draft.end Never;
 }
 
-abbrev pub finished : ℕ → Draft → Result Recurrence RuleFault
+abbrev pub finished : ℕ → Draft → Result Recurrence ParseRuleError
 finished at draft = option_map_or (λ f. Ok (with_frequency draft f)) draft.frequency (Err (fault at Missing))
 
 -- The parts follow one another, and the first of them begins at byte `at`.
-abbrev pub and_on : ℕ → (Draft → Result Recurrence RuleFault) → Result Draft RuleReason → Result Recurrence RuleFault
+abbrev pub and_on : ℕ → (Draft → Result Recurrence ParseRuleError) → Result Draft ParseRuleErrorKind → Result Recurrence ParseRuleError
 and_on at others (Ok draft) = others draft
 and_on at others (Err why) = Err (fault at why)
 
-abbrev pub read_on : ℕ → Draft → List (List ℕ) → Result Recurrence RuleFault
+abbrev pub read_on : ℕ → Draft → List (List ℕ) → Result Recurrence ParseRuleError
 read_on at draft [] = finished (at - 1) draft
 read_on at draft (text ∷ texts) = and_on at (λ more. read_on (at + length text + 1) more texts) (put_part draft text)
 
@@ -97,5 +97,5 @@ abbrev pub nothing : Draft
 nothing = record { frequency = None; interval = None; week_start = None; months = None; month_days = None; weekdays = None; end = None }
 
 -- The recurrence of a text, or its first error.
-abbrev pub recurrence_of : List ℕ → Result Recurrence RuleFault
+abbrev pub recurrence_of : List ℕ → Result Recurrence ParseRuleError
 recurrence_of text = read_on 0 nothing (parts_at 59 text)

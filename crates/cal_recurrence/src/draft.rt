@@ -4,7 +4,7 @@ ghost use Rattle.cal_recurrence.specs.Text.{finished, fresh, nothing, put, put_p
 ghost use Rattle.cal_recurrence.specs.Values.{most_values};
 ghost use Rattle.cal_recurrence.specs.Words.{parts_at};
 
-use crate::fault::{RuleFault, RulePart, RuleReason};
+use crate::fault::{ParseRuleError, RulePart, ParseRuleErrorKind};
 use crate::lists::{has_few_words, values_of};
 use crate::recurrence::{Recurrence, RuleEnd};
 use crate::values::Values;
@@ -25,15 +25,15 @@ pub struct Draft {
 }
 
 /// Returns the value, or the error `Twice` or `Value`.
-fn fresh<T: Drop>(part: RulePart, is_given: bool, value: Option<T>) -> Result<T, RuleReason>
+fn fresh<T: Drop>(part: RulePart, is_given: bool, value: Option<T>) -> Result<T, ParseRuleErrorKind>
     ensures { result ≡ fresh part is_given value }
 {
     if is_given {
-        return Err(RuleReason::Twice(part));
+        return Err(ParseRuleErrorKind::Twice(part));
     }
     match value {
         Some(value) => Ok(value),
-        None => Err(RuleReason::Value(part)),
+        None => Err(ParseRuleErrorKind::Value(part)),
     }
 }
 
@@ -54,26 +54,26 @@ impl Draft {
     }
 
     /// Parses one more part.
-    pub fn with_part(self, text: &[u8]) -> Result<Self, RuleReason>
+    pub fn with_part(self, text: &[u8]) -> Result<Self, ParseRuleErrorKind>
         ensures { result ≡ put_part self text.now }
     {
         let (name, value) = cut(text, b'=');
         match part_of(name) {
             Some(part) => self.with_value(part, value.unwrap_or(b"".as_slice())),
-            None => Err(RuleReason::Unknown),
+            None => Err(ParseRuleErrorKind::Unknown),
         }
     }
 
-    fn with_value(self, part: RulePart, value: &[u8]) -> Result<Self, RuleReason>
+    fn with_value(self, part: RulePart, value: &[u8]) -> Result<Self, ParseRuleErrorKind>
         ensures { result ≡ put_value self value.now part }
     {
         if !has_few_words(value) {
-            return Err(RuleReason::TooMany(part));
+            return Err(ParseRuleErrorKind::TooMany(part));
         }
         self.with(part, value)
     }
 
-    fn with(mut self, part: RulePart, value: &[u8]) -> Result<Self, RuleReason>
+    fn with(mut self, part: RulePart, value: &[u8]) -> Result<Self, ParseRuleErrorKind>
         requires { length (parts_at 44 value.now) ≤ most_values }
         ensures { result ≡ put self part value.now }
     {
@@ -132,13 +132,13 @@ impl Draft {
     }
 
     /// Returns the recurrence, or the error `Missing` at byte `end`.
-    pub fn finished(self, end: usize) -> Result<Recurrence, RuleFault>
+    pub fn finished(self, end: usize) -> Result<Recurrence, ParseRuleError>
         ensures { result ≡ finished end self }
     {
         let Some(frequency) = self.frequency else {
-            return Err(RuleFault {
+            return Err(ParseRuleError {
                 position: end,
-                reason: RuleReason::Missing,
+                reason: ParseRuleErrorKind::Missing,
             });
         };
         Ok(Recurrence {

@@ -28,7 +28,7 @@ pub enum RulePart {
 
 /// What is at fault.
 #[derive(Clone, Copy, Debug, PartialEq, Eq)]
-pub enum RuleReason {
+pub enum ParseRuleErrorKind {
     /// The part has no name of those that are read, as `BYSETPOS=1`.
     Unknown,
     /// A part of this name comes before it. `UNTIL` and `COUNT` both say where the rule ends, and count as one.
@@ -45,17 +45,17 @@ pub enum RuleReason {
 ///
 /// It prints its reason and its position: `invalid value of BYDAY at 13`.
 #[derive(Clone, Copy, Debug, PartialEq, Eq)]
-pub struct RuleFault {
+pub struct ParseRuleError {
     /// The position of its first byte, counted from 0. A part that is missing has the position at the end of the text.
     pub position: usize,
     /// What is at fault.
-    pub reason: RuleReason,
+    pub reason: ParseRuleErrorKind,
 }
 
 impl RulePart {
     /// The name of the part: that of `RulePart::Weekdays` is `BYDAY`.
     pub fn name(self) -> &'static str
-        ensures name { result.now ≡ part_name self }
+        ensures value { result.now ≡ part_name self }
         ensures short { length result.now ≤ 10 }
     {
         match self {
@@ -71,7 +71,7 @@ impl RulePart {
     }
 }
 
-impl RuleReason {
+impl ParseRuleErrorKind {
     /// Returns the text of the reason, such as `duplicate COUNT`, `too many values in BYDAY` or
     /// `missing FREQ`.
     pub fn text(self) -> ShortText
@@ -79,26 +79,26 @@ impl RuleReason {
     {
         let mut text = ShortText::new();
         match self {
-            RuleReason::Unknown => text.push("unknown part"),
-            RuleReason::Twice(part) => {
+            ParseRuleErrorKind::Unknown => text.push("unknown part"),
+            ParseRuleErrorKind::Twice(part) => {
                 text.push("duplicate ");
                 text.push(part.name());
             }
-            RuleReason::TooMany(part) => {
+            ParseRuleErrorKind::TooMany(part) => {
                 text.push("too many values in ");
                 text.push(part.name());
             }
-            RuleReason::Value(part) => {
+            ParseRuleErrorKind::Value(part) => {
                 text.push("invalid value of ");
                 text.push(part.name());
             }
-            RuleReason::Missing => text.push("missing FREQ"),
+            ParseRuleErrorKind::Missing => text.push("missing FREQ"),
         }
         text
     }
 }
 
-impl fmt::Display for RuleReason {
+impl fmt::Display for ParseRuleErrorKind {
     ghost output = { λ reason. Some (reason_text reason) };
 
     fn fmt<W: fmt::Write>(&self, f: &mut fmt::Formatter<W>) -> fmt::Result {
@@ -106,7 +106,7 @@ impl fmt::Display for RuleReason {
     }
 }
 
-impl fmt::Display for RuleFault {
+impl fmt::Display for ParseRuleError {
     ghost output = { λ fault. Some (fault_text fault) };
 
     fn fmt<W: fmt::Write>(&self, f: &mut fmt::Formatter<W>) -> fmt::Result {

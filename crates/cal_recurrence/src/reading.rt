@@ -5,7 +5,7 @@ ghost use Rattle.cal_recurrence.specs.Text.{read_on, recurrence_of};
 ghost use Rattle.cal_recurrence.specs.Words.{parts_at};
 
 use crate::draft::Draft;
-use crate::fault::RuleFault;
+use crate::fault::ParseRuleError;
 use crate::recurrence::Recurrence;
 use crate::words::cut;
 
@@ -16,7 +16,7 @@ use crate::words::cut;
 /// any other name, `Twice` for a repeated part or a second end, `TooMany` for more than 62 words,
 /// `Value` for an invalid value, and `Missing` if there is no `FREQ`.
 #[tactic(auto, using(crate::proofs::GivenParts::read_is_spelled))]
-pub fn parse(text: &[u8]) -> Result<Recurrence, RuleFault>
+pub fn parse(text: &[u8]) -> Result<Recurrence, ParseRuleError>
     ensures value { result ≡ recurrence_of text.now }
     ensures spelled { IfOk result IsSpelled }
 {
@@ -24,7 +24,7 @@ pub fn parse(text: &[u8]) -> Result<Recurrence, RuleFault>
 }
 
 /// Parses the parts from byte `position` on, after the parts of the draft.
-fn read_on(position: usize, draft: Draft, text: &[u8]) -> Result<Recurrence, RuleFault>
+fn read_on(position: usize, draft: Draft, text: &[u8]) -> Result<Recurrence, ParseRuleError>
     requires { position + length text.now < 2 ^ 64 }
     ensures { result ≡ read_on position draft (parts_at 59 text.now) }
 {
@@ -34,6 +34,6 @@ fn read_on(position: usize, draft: Draft, text: &[u8]) -> Result<Recurrence, Rul
             Some(rest) => read_on(position + part.len() + 1, draft, rest),
             None => draft.finished(position + part.len()),
         },
-        Err(reason) => Err(RuleFault { position, reason }),
+        Err(reason) => Err(ParseRuleError { position, reason }),
     }
 }

@@ -42,7 +42,7 @@ impl RecurrenceText {
 
     /// Returns the text.
     pub fn as_str(&self) -> &str
-        ensures text { result.now ≡ self.now }
+        ensures value { result.now ≡ self.now }
         ensures short { length result.now ≤ capacity }
     {
         // The invariant says that the bytes are UTF-8.
@@ -51,7 +51,7 @@ impl RecurrenceText {
 
     /// Returns the bytes of the text, which is UTF-8.
     pub fn as_bytes(&self) -> &[u8]
-        ensures bytes { result.now ≡ self.now }
+        ensures value { result.now ≡ self.now }
         ensures short { length result.now ≤ capacity }
     {
         &self.bytes[..self.filled]
@@ -59,8 +59,8 @@ impl RecurrenceText {
 
     /// Returns the number of bytes, at most 1400.
     pub fn len(&self) -> usize
-        ensures bytes { result ≡ length self.now }
-        ensures short { result ≤ capacity }
+        ensures value { result ≡ length self.now }
+        ensures max { result ≤ capacity }
     {
         self.filled
     }

@@ -91,7 +91,7 @@ fn index_text(index: i8) -> ShortText
     ensures short { length result ≤ 4 }
 {
     let mut text = ShortText::new();
-    text.push_signed(i32::from(index));
+    text.push_i32(i32::from(index));
     text
 }
 

@@ -5,10 +5,10 @@ use Rattle.std.proofs.lemmas.Bool.Decides.{nat_tests}
 use Rattle.std.proofs.lemmas.Int.{ints}
 use Rattle.cal_time.specs.Date.{year_at, month_at, day_of_month_at, weekday_at, IsDate, HasCalendarDate}
 use Rattle.cal_time.specs.Days.{day_of_month_at-range}
-use Rattle.cal_time.specs.IsoWeekDate.{iso_year_at, iso_week_at, thursday_of, weekdays_upto, HasIsoWeekDate}
+use Rattle.cal_time.specs.IsoWeekDate.{iso_year_at, iso_week_at, thursday_of, weekday_count, HasIsoWeekDate}
 use Rattle.cal_time.specs.Laws.{weekday_at-is}
 use Rattle.cal_time.specs.Lengths.{days_in_month}
-use Rattle.cal_time.specs.Parts.{day_of_month_at-rises}
+use Rattle.cal_time.specs.Components.{day_of_month_at-rises}
 use Rattle.cal_schedule.specs.Months.{month_number_at}
 use Rattle.cal_schedule.proofs.MonthMoves.{month_numbers-rise, same_month, days_apart, number_from}
 
@@ -62,4 +62,4 @@ pub same_week : (r n w : ℕ) → weekday_at r ≡ w → r + weekday_at n ≡ n 
 unfolding iso_year_at iso_week_at
 same_week r n w e h =
     let thursday : thursday_of r ≡ thursday_of n = omega (arith, weekday_at-is r, weekday_at-is n) in
-    (ap year_at thursday, ap (weekdays_upto 3) thursday, e)
+    (ap year_at thursday, ap (weekday_count 3) thursday, e)

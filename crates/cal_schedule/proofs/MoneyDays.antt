@@ -9,8 +9,8 @@ use Rattle.cal_time.specs.Date.{first_year, day_at, year_at, ordinal_at, IsDate}
 use Rattle.cal_time.specs.Days.{day_at-first, year_at-range}
 use Rattle.cal_time.specs.IsoWeekDate.{count_before}
 use Rattle.cal_time.specs.Lengths.{is_leap_year, days_in_year, days_in_month}
-use Rattle.cal_time.specs.Parts.{ordinals-apart, ordinals-apart_a_year}
-use Rattle.cal_schedule.specs.Money.{in_leap_year, in_other_year}
+use Rattle.cal_time.specs.Components.{ordinals-apart, ordinals-apart_a_year}
+use Rattle.cal_schedule.specs.YearFraction.{in_leap_year, in_common_year}
 
 -- The next day is in the same year, or is 1 January of the next one.
 in_month : (d : CalendarDay) → d.day < days_in_month d.year d.month → day_after d ≡ calendar_day d.year d.month (d.day + 1)
@@ -120,7 +120,7 @@ leaps_closed (suc n) h =
     ]
 
 -- each day is in a leap year or in another
-pub leap_or_other : (n : ℕ) → count_before in_leap_year n + count_before in_other_year n ≡ n
+pub leap_or_other : (n : ℕ) → count_before in_leap_year n + count_before in_common_year n ≡ n
 unfolding count_before
 leap_or_other zero = refl
 leap_or_other (suc n) =

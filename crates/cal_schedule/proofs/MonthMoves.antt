@@ -7,7 +7,7 @@ use Rattle.cal_time.specs.Lengths.{days_in_month}
 use Rattle.cal_time.specs.Date.{year_at, month_at, day_of_month_at, IsDate, IsYear, HasCalendarDate}
 use Rattle.cal_time.specs.CalendarDay.{calendar_day}
 use Rattle.cal_time.specs.Days.{month_at-range, day_of_month_at-range, year_at-range, days-follow, day_with}
-use Rattle.cal_time.specs.Parts.{day_of_month_at-rises, months-rise}
+use Rattle.cal_time.specs.Components.{day_of_month_at-rises, months-rise}
 use Rattle.cal_schedule.specs.Months.{month_number_at, IsMonthNumber, IsMonthsLater}
 
 -- the numbers of months rise

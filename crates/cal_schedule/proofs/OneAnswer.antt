@@ -6,7 +6,7 @@ use Rattle.std.proofs.lemmas.Int.{ints, by_lt_z}
 use Rattle.cal_time.specs.declared.error.ComponentRange.{ComponentRange}
 use Rattle.cal_time.specs.Date.{first_year, last_year, last_day, IsDate}
 use Rattle.cal_schedule.specs.Months.{month_number_at, IsMonthNumber, IsMonthsLater}
-use Rattle.cal_schedule.specs.Until.{LeadsTo, IsGreatest, IsLeast, months_of}
+use Rattle.cal_schedule.specs.Until.{IsPeriodUntil, IsGreatest, IsLeast, months_of}
 use Rattle.cal_schedule.specs.declared.period.Period.{Period}
 use Rattle.cal_schedule.proofs.MonthMoves.{one_later}
 
@@ -51,7 +51,7 @@ until-one a b Up Back y z on back more less =
     ]
 
 -- years and months of one sign, of one number of months, and the days that are left
-pub period-one : (a b : ℕ) (p q : Period) → LeadsTo a b p → LeadsTo a b q → months_of p ≡ months_of q
+pub period-one : (a b : ℕ) (p q : Period) → IsPeriodUntil a b p → IsPeriodUntil a b q → months_of p ≡ months_of q
     → p.years ≡ q.years → p.months ≡ q.months → p ≡ q
 period-one a b p q h k e years months =
     let day : h.day ≡ k.day = one_later a h.day k.day (months_of q) (subst (λ m. IsMonthsLater a m h.day) e h.later) k.later in

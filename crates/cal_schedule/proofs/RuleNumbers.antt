@@ -5,8 +5,8 @@ use Rattle.cal_time.specs.Date.{year_at, month_at, day_of_month_at, ordinal_at, 
 use Rattle.cal_time.specs.Days.{day_of_month_at-range, day_with, month_at-range, year-next, year_at-range}
 use Rattle.cal_time.specs.Laws.{weekday_at-is}
 use Rattle.cal_time.specs.Lengths.{days_in_month, days_in_year}
-use Rattle.cal_time.specs.Parts.{ordinals-apart, ordinals-apart_a_year}
-use Rattle.cal_schedule.specs.Rule.{is_nth_of}
+use Rattle.cal_time.specs.Components.{ordinals-apart, ordinals-apart_a_year}
+use Rattle.cal_schedule.specs.Rule.{is_nth_weekday}
 use Rattle.cal_schedule.specs.RuleLaws.{NumbersByCount}
 use Rattle.cal_schedule.specs.Weekdays.{IsLastWeekday, IsNthWeekday, IsNthWeekdayFromEnd, IsNthWeekdayOfYear, IsNthWeekdayOfYearFromEnd}
 use Rattle.cal_schedule.proofs.Ends.{days_in_month-least, last-apart}
@@ -85,20 +85,20 @@ year_of n h =
     }
 
 -- what the formulas say
-up_in_month : (n k : ℕ) → is_nth_of false n (pos k) ≡ ((day_of_month_at n + 6) / 7 == k)
-unfolding is_nth_of
+up_in_month : (n k : ℕ) → is_nth_weekday false n (pos k) ≡ ((day_of_month_at n + 6) / 7 == k)
+unfolding is_nth_weekday
 up_in_month n k = refl
 
-back_in_month : (n k : ℕ) → is_nth_of false n (negsuc k) ≡ ((days_in_month (year_at n) (month_at n) - day_of_month_at n) / 7 + 1 == suc k)
-unfolding is_nth_of
+back_in_month : (n k : ℕ) → is_nth_weekday false n (negsuc k) ≡ ((days_in_month (year_at n) (month_at n) - day_of_month_at n) / 7 + 1 == suc k)
+unfolding is_nth_weekday
 back_in_month n k = refl
 
-up_in_year : (n k : ℕ) → is_nth_of true n (pos k) ≡ ((ordinal_at n + 6) / 7 == k)
-unfolding is_nth_of
+up_in_year : (n k : ℕ) → is_nth_weekday true n (pos k) ≡ ((ordinal_at n + 6) / 7 == k)
+unfolding is_nth_weekday
 up_in_year n k = refl
 
-back_in_year : (n k : ℕ) → is_nth_of true n (negsuc k) ≡ ((days_in_year (year_at n) - ordinal_at n) / 7 + 1 == suc k)
-unfolding is_nth_of
+back_in_year : (n k : ℕ) → is_nth_weekday true n (negsuc k) ≡ ((days_in_year (year_at n) - ordinal_at n) / 7 + 1 == suc k)
+unfolding is_nth_weekday
 back_in_year n k = refl
 
 -- The number equals the count.
@@ -108,7 +108,7 @@ same_number b a i count k e f g = (
   λ same. e ∙ eq-eqb a i (sym f ∙ same ∙ sym g),
 )
 
-by_month : (n : ℕ) → IsDate n → IsMonthOf n → (k : ℕ) → (is_nth_of false n (pos k) ≡ true) ↔ IsNthWeekday (year_at n) (month_at n) (weekday_at n) k n
+by_month : (n : ℕ) → IsDate n → IsMonthOf n → (k : ℕ) → (is_nth_weekday false n (pos k) ≡ true) ↔ IsNthWeekday (year_at n) (month_at n) (weekday_at n) k n
 by_month n h at k =
     let w = weekday_at n in
     let is = weekday_at-is n in
@@ -119,7 +119,7 @@ by_month n h at k =
     (λ on. record { is = record { year = refl; month = refl; weekday = refl }; nth = same.0 on }, λ has. same.1 has.nth)
 
 by_month_back : (n : ℕ) → IsDate n → IsMonthOf n → (k : ℕ)
-    → (is_nth_of false n (negsuc k) ≡ true) ↔ IsNthWeekdayFromEnd (year_at n) (month_at n) (weekday_at n) (k + 1) n
+    → (is_nth_weekday false n (negsuc k) ≡ true) ↔ IsNthWeekdayFromEnd (year_at n) (month_at n) (weekday_at n) (k + 1) n
 by_month_back n h at k =
     let w = weekday_at n in
     let is = weekday_at-is n in
@@ -132,7 +132,7 @@ by_month_back n h at k =
     (λ on. record { is = record { year = refl; month = refl; weekday = refl }; nth = same.0 on }, λ has. same.1 has.nth)
 
 -- the last one has no other of its month after it
-by_month_last : (n : ℕ) → IsMonthOf n → (is_nth_of false n (negsuc 0) ≡ true) ↔ IsLastWeekday (year_at n) (month_at n) (weekday_at n) n
+by_month_last : (n : ℕ) → IsMonthOf n → (is_nth_weekday false n (negsuc 0) ≡ true) ↔ IsLastWeekday (year_at n) (month_at n) (weekday_at n) n
 by_month_last n at =
     let y = year_at n in
     let m = month_at n in
@@ -158,7 +158,7 @@ by_month_last n at =
       ]),
     )
 
-by_year : (n : ℕ) → IsDate n → IsYearOf n → (k : ℕ) → (is_nth_of true n (pos k) ≡ true) ↔ IsNthWeekdayOfYear (year_at n) (weekday_at n) k n
+by_year : (n : ℕ) → IsDate n → IsYearOf n → (k : ℕ) → (is_nth_weekday true n (pos k) ≡ true) ↔ IsNthWeekdayOfYear (year_at n) (weekday_at n) k n
 by_year n h at k =
     let w = weekday_at n in
     let is = weekday_at-is n in
@@ -168,7 +168,7 @@ by_year n h at k =
     (λ on. record { is = record { year = refl; weekday = refl }; nth = same.0 on }, λ has. same.1 has.nth)
 
 by_year_back : (n : ℕ) → IsDate n → IsYearOf n → (k : ℕ)
-    → (is_nth_of true n (negsuc k) ≡ true) ↔ IsNthWeekdayOfYearFromEnd (year_at n) (weekday_at n) (k + 1) n
+    → (is_nth_weekday true n (negsuc k) ≡ true) ↔ IsNthWeekdayOfYearFromEnd (year_at n) (weekday_at n) (k + 1) n
 by_year_back n h at k =
     let w = weekday_at n in
     let is = weekday_at-is n in

@@ -7,17 +7,17 @@ use Rattle.cal_time.specs.CalendarDay.{calendar_day, is_first_of_january}
 use Rattle.cal_time.specs.Date.{first_year, day_at, year_at, month_at, day_of_month_at, ordinal_at, weekday_at}
 use Rattle.cal_time.specs.Days.{day_at-first, day_at-period, days_in_month-period, month_at-range, weekday_at-period}
 use Rattle.cal_time.specs.Lengths.{days_in_month, days_in_year}
-use Rattle.cal_time.specs.Parts.{year_at-rises}
+use Rattle.cal_time.specs.Components.{year_at-rises}
 use Rattle.cal_time.specs.Weekday.{index}
 use Rattle.cal_time.specs.WeekdayCycle.{index-below}
 use Rattle.cal_time.specs.declared.Weekday.{Weekday}
-use Rattle.cal_schedule.specs.declared.rule.kinds.Frequency.{Frequency}
-use Rattle.cal_schedule.specs.declared.rule.kinds.Frequency.TheVariants.{Daily, Weekly, Monthly, Yearly}
-use Rattle.cal_schedule.specs.declared.rule.kinds.ByDay.{ByDay}
-use Rattle.cal_schedule.specs.declared.rule.kinds.ByDay.TheVariants.{Every, Nth}
-use Rattle.cal_schedule.specs.declared.rule.kinds.Rule.{Rule}
+use Rattle.cal_schedule.specs.declared.rule.rule.Frequency.{Frequency}
+use Rattle.cal_schedule.specs.declared.rule.rule.Frequency.TheVariants.{Daily, Weekly, Monthly, Yearly}
+use Rattle.cal_schedule.specs.declared.rule.rule.ByDay.{ByDay}
+use Rattle.cal_schedule.specs.declared.rule.rule.ByDay.TheVariants.{Every, Nth}
+use Rattle.cal_schedule.specs.declared.rule.rule.Rule.{Rule}
 use Rattle.cal_schedule.specs.Months.{month_number_at}
-use Rattle.cal_schedule.specs.Rule.{allows, is_as_start, is_by, is_empty, is_in_months, is_month_day, is_nth_of, is_on, is_on_days, is_weekday, is_yearly, step, turn_at, turns_past}
+use Rattle.cal_schedule.specs.Rule.{allows, matches_start, matches_until, is_empty, matches_months, is_month_day, is_nth_weekday, is_occurrence, matches_days, matches_by_day, is_yearly, interval_or_1, period_index, periods_past}
 use Rattle.cal_schedule.proofs.MonthMoves.{month_numbers-rise}
 
 -- Two days that differ only in number and year, as far as a rule can see.
@@ -108,27 +108,27 @@ periods n (suc j) =
 year_low : (n : ℕ) → first_year ≤ℤ year_at n
 year_low n = omega (arith, ints, year_at-rises 0 n (omega arith), ap (λ d. d.year) day_at-first)
 
-pub pos-months : (w : Weekday) (n : ℕ) → pos (turn_at Monthly w n) ≡ month_number_at n -ℤ first_year *ℤ pos 12
-unfolding turn_at
+pub pos-months : (w : Weekday) (n : ℕ) → pos (period_index Monthly w n) ≡ month_number_at n -ℤ first_year *ℤ pos 12
+unfolding period_index
 pos-months w n = omega (arith, ints, year_low n, (month_at-range n).0)
 
-pub pos-years : (w : Weekday) (n : ℕ) → pos (turn_at Yearly w n) ≡ year_at n -ℤ first_year
-unfolding turn_at
+pub pos-years : (w : Weekday) (n : ℕ) → pos (period_index Yearly w n) ≡ year_at n -ℤ first_year
+unfolding period_index
 pos-years w n = omega (arith, ints, year_low n)
 
-pub days-is : (w : Weekday) (n : ℕ) → turn_at Daily w n ≡ n
-unfolding turn_at
+pub days-is : (w : Weekday) (n : ℕ) → period_index Daily w n ≡ n
+unfolding period_index
 days-is w n = refl
 
-pub weeks-is : (w : Weekday) (n : ℕ) → turn_at Weekly w n ≡ (n + 7 - index w) / 7
-unfolding turn_at
+pub weeks-is : (w : Weekday) (n : ℕ) → period_index Weekly w n ≡ (n + 7 - index w) / 7
+unfolding period_index
 weeks-is w n = refl
 
-pub turn_at-rises : (f : Frequency) (w : Weekday) (m n : ℕ) → m ≤ n → turn_at f w m ≤ turn_at f w n
-turn_at-rises Daily w m n h = omega (arith, days-is w m, days-is w n)
-turn_at-rises Weekly w m n h = omega (arith, weeks-is w m, weeks-is w n, index-below w)
-turn_at-rises Monthly w m n h = omega (arith, ints, pos-months w m, pos-months w n, month_numbers-rise m n h)
-turn_at-rises Yearly w m n h = omega (arith, ints, pos-years w m, pos-years w n, year_at-rises m n h)
+pub period_index-rises : (f : Frequency) (w : Weekday) (m n : ℕ) → m ≤ n → period_index f w m ≤ period_index f w n
+period_index-rises Daily w m n h = omega (arith, days-is w m, days-is w n)
+period_index-rises Weekly w m n h = omega (arith, weeks-is w m, weeks-is w n, index-below w)
+period_index-rises Monthly w m n h = omega (arith, ints, pos-months w m, pos-months w n, month_numbers-rise m n h)
+period_index-rises Yearly w m n h = omega (arith, ints, pos-years w m, pos-years w n, year_at-rises m n h)
 
 abbrev turns_in : Frequency → ℕ
 turns_in Daily = 146097
@@ -136,95 +136,95 @@ turns_in Weekly = 20871
 turns_in Monthly = 4800
 turns_in Yearly = 400
 
-turn_at-periods : (f : Frequency) (w : Weekday) (n j : ℕ) → turn_at f w (n + 146097 * j) ≡ turn_at f w n + turns_in f * j
-turn_at-periods Daily w n j = omega (arith, days-is w n, days-is w (n + 146097 * j))
-turn_at-periods Weekly w n j = omega (arith, weeks-is w n, weeks-is w (n + 146097 * j), index-below w)
-turn_at-periods Monthly w n j = omega (arith, ints, pos-months w n, pos-months w (n + 146097 * j), (periods n j).year, (periods n j).alike.month)
-turn_at-periods Yearly w n j = omega (arith, ints, pos-years w n, pos-years w (n + 146097 * j), (periods n j).year)
+period_index-periods : (f : Frequency) (w : Weekday) (n j : ℕ) → period_index f w (n + 146097 * j) ≡ period_index f w n + turns_in f * j
+period_index-periods Daily w n j = omega (arith, days-is w n, days-is w (n + 146097 * j))
+period_index-periods Weekly w n j = omega (arith, weeks-is w n, weeks-is w (n + 146097 * j), index-below w)
+period_index-periods Monthly w n j = omega (arith, ints, pos-months w n, pos-months w (n + 146097 * j), (periods n j).year, (periods n j).alike.month)
+period_index-periods Yearly w n j = omega (arith, ints, pos-years w n, pos-years w (n + 146097 * j), (periods n j).year)
 
 -- what the rule says of days that are alike
-pub is_in_months-alike : (rule : Rule) (m n : ℕ) → month_at m ≡ month_at n → is_in_months rule m ≡ is_in_months rule n
-unfolding is_in_months
-is_in_months-alike rule m n e = rw e refl
+pub matches_months-alike : (rule : Rule) (m n : ℕ) → month_at m ≡ month_at n → matches_months rule m ≡ matches_months rule n
+unfolding matches_months
+matches_months-alike rule m n e = rw e refl
 
 is_month_day-alike : (m n : ℕ) → IsAlike m n → (k : ℤ) → is_month_day m k ≡ is_month_day n k
 unfolding is_month_day
 is_month_day-alike m n h k = rw (h.day, h.length) refl
 
-is_nth_of-alike : (b : Bool) (m n : ℕ) → IsAlike m n → (k : ℤ) → is_nth_of b m k ≡ is_nth_of b n k
-unfolding is_nth_of
-is_nth_of-alike true m n h k = rw (h.ordinal, h.days) refl
-is_nth_of-alike false m n h k = rw (h.day, h.length) refl
+is_nth_weekday-alike : (b : Bool) (m n : ℕ) → IsAlike m n → (k : ℤ) → is_nth_weekday b m k ≡ is_nth_weekday b n k
+unfolding is_nth_weekday
+is_nth_weekday-alike true m n h k = rw (h.ordinal, h.days) refl
+is_nth_weekday-alike false m n h k = rw (h.day, h.length) refl
 
-is_weekday-alike : (b : Bool) (m n : ℕ) → IsAlike m n → (by : ByDay) → is_weekday b m by ≡ is_weekday b n by
-unfolding is_weekday
-is_weekday-alike b m n h (Every w) = rw h.weekday refl
-is_weekday-alike b m n h (Nth k w) = rw (h.weekday, is_nth_of-alike b m n h k) refl
+matches_by_day-alike : (b : Bool) (m n : ℕ) → IsAlike m n → (by : ByDay) → matches_by_day b m by ≡ matches_by_day b n by
+unfolding matches_by_day
+matches_by_day-alike b m n h (Every w) = rw h.weekday refl
+matches_by_day-alike b m n h (Nth k w) = rw (h.weekday, is_nth_weekday-alike b m n h k) refl
 
-is_as_start-alike : (f : Frequency) (start m n : ℕ) → IsAlike m n → is_as_start f start m ≡ is_as_start f start n
-is_as_start-alike Daily start m n h = refl
-is_as_start-alike Weekly start m n h = rw h.weekday refl
-is_as_start-alike Monthly start m n h = rw h.day refl
-is_as_start-alike Yearly start m n h = rw h.day refl
+matches_start-alike : (f : Frequency) (start m n : ℕ) → IsAlike m n → matches_start f start m ≡ matches_start f start n
+matches_start-alike Daily start m n h = refl
+matches_start-alike Weekly start m n h = rw h.weekday refl
+matches_start-alike Monthly start m n h = rw h.day refl
+matches_start-alike Yearly start m n h = rw h.day refl
 
 allows-alike : {X : Type 0} (s t : X → Bool) (xs : List X) → ((x : X) → s x ≡ t x) → allows s xs ≡ allows t xs
 allows-alike s t xs h = ap (λ test. allows test xs) (λ i x. h x i)
 
-is_on_days-alike : (rule : Rule) (m n : ℕ) → IsAlike m n → is_on_days rule m ≡ is_on_days rule n
-unfolding is_on_days
-is_on_days-alike rule m n h =
+matches_days-alike : (rule : Rule) (m n : ℕ) → IsAlike m n → matches_days rule m ≡ matches_days rule n
+unfolding matches_days
+matches_days-alike rule m n h =
     let b = is_yearly rule.frequency && is_empty rule.months.now in
     rw (
-      is_as_start-alike rule.frequency rule.start m n h,
+      matches_start-alike rule.frequency rule.start m n h,
       allows-alike (is_month_day m) (is_month_day n) rule.month_days.now (is_month_day-alike m n h),
-      allows-alike (is_weekday b m) (is_weekday b n) rule.weekdays.now (is_weekday-alike b m n h),
+      allows-alike (matches_by_day b m) (matches_by_day b n) rule.weekdays.now (matches_by_day-alike b m n h),
     ) refl
 
-is_by-earlier : (last : Option ℕ) (m n : ℕ) → m ≤ n → is_by last n ≡ true → is_by last m ≡ true
-is_by-earlier None m n h on = refl
-is_by-earlier (Some last) m n h on = le-leb m last (omega (arith, leb-true n last on))
+matches_until-earlier : (last : Option ℕ) (m n : ℕ) → m ≤ n → matches_until last n ≡ true → matches_until last m ≡ true
+matches_until-earlier None m n h on = refl
+matches_until-earlier (Some last) m n h on = le-leb m last (omega (arith, leb-true n last on))
 
-turns_past-periods : (rule : Rule) (n : ℕ) → rule.start ≤ n → turns_past rule (n + 146097 * step rule) ≡ turns_past rule n
-unfolding turns_past
-turns_past-periods rule n h =
+periods_past-periods : (rule : Rule) (n : ℕ) → rule.start ≤ n → periods_past rule (n + 146097 * interval_or_1 rule) ≡ periods_past rule n
+unfolding periods_past
+periods_past-periods rule n h =
     let f = rule.frequency in
     let w = rule.week_start in
-    let rises = turn_at-rises f w rule.start n h in
-    let sum : turn_at f w (n + 146097 * step rule) - turn_at f w rule.start ≡ turn_at f w n - turn_at f w rule.start + turns_in f * step rule =
-    omega (arith, turn_at-periods f w n (step rule), rises) in
-    ap (λ k. k % step rule) sum ∙ add-mul-mod_self_right (turn_at f w n - turn_at f w rule.start) (turns_in f) (step rule)
+    let rises = period_index-rises f w rule.start n h in
+    let sum : period_index f w (n + 146097 * interval_or_1 rule) - period_index f w rule.start ≡ period_index f w n - period_index f w rule.start + turns_in f * interval_or_1 rule =
+    omega (arith, period_index-periods f w n (interval_or_1 rule), rises) in
+    ap (λ k. k % interval_or_1 rule) sum ∙ add-mul-mod_self_right (period_index f w n - period_index f w rule.start) (turns_in f) (interval_or_1 rule)
 
 -- what makes a day one of the rule's
 pub record IsOn (rule : Rule) (n : ℕ) : Type 0 where
   pub start : rule.start ≤ n
-  pub by : is_by rule.until n ≡ true
-  pub turn : turns_past rule n ≡ 0
-  pub months : is_in_months rule n ≡ true
-  pub days : is_on_days rule n ≡ true
+  pub by : matches_until rule.until n ≡ true
+  pub turn : periods_past rule n ≡ 0
+  pub months : matches_months rule n ≡ true
+  pub days : matches_days rule n ≡ true
 
-pub IsOn-is_on : (rule : Rule) (n : ℕ) → is_on rule n ≡ true → IsOn rule n
-unfolding is_on
-IsOn-is_on rule n h =
+pub IsOn-is_occurrence : (rule : Rule) (n : ℕ) → is_occurrence rule n ≡ true → IsOn rule n
+unfolding is_occurrence
+IsOn-is_occurrence rule n h =
     let a = and_parts _ _ h in
     let b = and_parts _ _ a.1 in
     let c = and_parts _ _ b.1 in
     let d = and_parts _ _ c.1 in
     record { start = leb-true rule.start n a.0; by = b.0; turn = eqb-true _ _ c.0; months = d.0; days = d.1 }
 
-is_on-IsOn : (rule : Rule) (n : ℕ) → IsOn rule n → is_on rule n ≡ true
-unfolding is_on
-is_on-IsOn rule n h = and_from _ _ (le-leb rule.start n h.start) (and_from _ _ h.by (and_from _ _ (eq-eqb _ _ h.turn) (and_from _ _ h.months h.days)))
+is_occurrence-IsOn : (rule : Rule) (n : ℕ) → IsOn rule n → is_occurrence rule n ≡ true
+unfolding is_occurrence
+is_occurrence-IsOn rule n h = and_from _ _ (le-leb rule.start n h.start) (and_from _ _ h.by (and_from _ _ (eq-eqb _ _ h.turn) (and_from _ _ h.months h.days)))
 
 -- A day this many periods before a day of the rule is a day of the rule, if it isn't before the
 -- start.
-pub is_on-period : (rule : Rule) (n : ℕ) → rule.start ≤ n → is_on rule (n + 146097 * step rule) ≡ true → is_on rule n ≡ true
-is_on-period rule n h on =
-    let is = IsOn-is_on rule (n + 146097 * step rule) on in
-    let same = (periods n (step rule)).alike in
-    is_on-IsOn rule n (record {
+pub is_occurrence-period : (rule : Rule) (n : ℕ) → rule.start ≤ n → is_occurrence rule (n + 146097 * interval_or_1 rule) ≡ true → is_occurrence rule n ≡ true
+is_occurrence-period rule n h on =
+    let is = IsOn-is_occurrence rule (n + 146097 * interval_or_1 rule) on in
+    let same = (periods n (interval_or_1 rule)).alike in
+    is_occurrence-IsOn rule n (record {
       start = h;
-      by = is_by-earlier rule.until n (n + 146097 * step rule) (omega arith) is.by;
-      turn = sym (turns_past-periods rule n h) ∙ is.turn;
-      months = sym (is_in_months-alike rule _ n same.month) ∙ is.months;
-      days = sym (is_on_days-alike rule _ n same) ∙ is.days;
+      by = matches_until-earlier rule.until n (n + 146097 * interval_or_1 rule) (omega arith) is.by;
+      turn = sym (periods_past-periods rule n h) ∙ is.turn;
+      months = sym (matches_months-alike rule _ n same.month) ∙ is.months;
+      days = sym (matches_days-alike rule _ n same) ∙ is.days;
     })

@@ -9,10 +9,10 @@ use Rattle.cal_time.specs.Laws.{weekday_at-is}
 use Rattle.cal_time.specs.Lengths.{days_in_month}
 use Rattle.cal_time.specs.WeekdayCycle.{index-below}
 use Rattle.cal_time.specs.declared.Weekday.{Weekday}
-use Rattle.cal_schedule.specs.declared.rule.kinds.Frequency.{Frequency}
-use Rattle.cal_schedule.specs.declared.rule.kinds.Frequency.TheVariants.{Daily, Weekly, Monthly, Yearly}
-use Rattle.cal_schedule.specs.Rule.{turn_at}
-use Rattle.cal_schedule.specs.RuleLaws.{Begins, RisesAtBeginning}
+use Rattle.cal_schedule.specs.declared.rule.rule.Frequency.{Frequency}
+use Rattle.cal_schedule.specs.declared.rule.rule.Frequency.TheVariants.{Daily, Weekly, Monthly, Yearly}
+use Rattle.cal_schedule.specs.Rule.{period_index}
+use Rattle.cal_schedule.specs.RuleLaws.{BeginsPeriod, RisesAtBeginning}
 use Rattle.cal_schedule.proofs.MonthMoves.{first_before}
 use Rattle.cal_schedule.proofs.RulePeriods.{days-is, weeks-is, pos-months, pos-years}
 
@@ -48,7 +48,7 @@ next_day n h =
 -- both ways, from one step
 abbrev IsStep : Frequency → Weekday → ℕ → Type 0
 IsStep f w n =
-    (Begins f w (n + 1) × (turn_at f w (n + 1) ≡ turn_at f w n + 1)) ⊎ ((¬ Begins f w (n + 1)) × (turn_at f w (n + 1) ≡ turn_at f w n))
+    (BeginsPeriod f w (n + 1) × (period_index f w (n + 1) ≡ period_index f w n + 1)) ⊎ ((¬ BeginsPeriod f w (n + 1)) × (period_index f w (n + 1) ≡ period_index f w n))
 
 from_step : (f : Frequency) (w : Weekday) (n : ℕ) → IsStep f w n → RisesAtBeginning f w n
 from_step f w n h =
@@ -63,7 +63,7 @@ week_step w n =
     let next = weeks-is w (n + 1) in
     let below = index-below w in
     let day = weekday_at-is (n + 1) in
-    elim (cases_lt (turn_at Weekly w n) (turn_at Weekly w (n + 1))) as (λ _. IsStep Weekly w n) [
+    elim (cases_lt (period_index Weekly w n) (period_index Weekly w (n + 1))) as (λ _. IsStep Weekly w n) [
       | inl less ↦ inl (omega arith, omega arith)
       | inr most ↦ inr (λ e. omega arith, omega arith)
     ]

@@ -13,43 +13,43 @@ use Rattle.cal_time.specs.Days.{day_of_month_at-range, month_at-range}
 use Rattle.cal_time.specs.Filters.{IsFirstDay, filter-first, filter-none, first_passing, none_passing}
 use Rattle.cal_time.specs.Laws.{weekday_at-is}
 use Rattle.cal_time.specs.Lengths.{days_in_month}
-use Rattle.cal_time.specs.Occurrence.{days_from}
-use Rattle.cal_time.specs.Parts.{day_of_month_at-rises}
+use Rattle.cal_time.specs.Occurrences.{days_from}
+use Rattle.cal_time.specs.Components.{day_of_month_at-rises}
 use Rattle.cal_time.specs.Weekday.{index}
 use Rattle.cal_time.specs.declared.Weekday.{Weekday}
-use Rattle.cal_schedule.specs.declared.rule.kinds.ByDay.{ByDay}
-use Rattle.cal_schedule.specs.declared.rule.kinds.ByDay.TheVariants.{Every, Nth}
-use Rattle.cal_schedule.specs.declared.rule.kinds.Frequency.TheVariants.{Monthly, Yearly}
-use Rattle.cal_schedule.specs.declared.rule.kinds.Rule.{Rule}
+use Rattle.cal_schedule.specs.declared.rule.rule.ByDay.{ByDay}
+use Rattle.cal_schedule.specs.declared.rule.rule.ByDay.TheVariants.{Every, Nth}
+use Rattle.cal_schedule.specs.declared.rule.rule.Frequency.TheVariants.{Monthly, Yearly}
+use Rattle.cal_schedule.specs.declared.rule.rule.Rule.{Rule}
 use Rattle.cal_schedule.specs.Months.{month_number_at}
-use Rattle.cal_schedule.specs.Rule.{allows, days_after, days_left, days_of, is_empty, is_in_months, is_month_day, is_on, is_on_days, is_weekday, is_yearly, step, turn_at, turns_past}
-use Rattle.cal_schedule.specs.RuleSearch.{takes_weekday, weekday_of, IsFirstOf, IsNextFrom, IsSkip, NoDayBetween}
+use Rattle.cal_schedule.specs.Rule.{allows, occurrences_after, occurrences_left, occurrences, is_empty, matches_months, is_month_day, is_occurrence, matches_days, matches_by_day, is_yearly, interval_or_1, period_index, periods_past}
+use Rattle.cal_schedule.specs.RuleSearch.{may_fall_on, by_day_weekday, IsFirstOfPeriod, IsNextFrom, IsSkip, NoDayBetween}
 use Rattle.cal_schedule.proofs.MonthMoves.{IsMonthNumber-date, same_month}
-use Rattle.cal_schedule.proofs.RulePeriods.{IsOn-is_on, is_in_months-alike, is_on-period, pos-months, pos-years, turn_at-rises}
+use Rattle.cal_schedule.proofs.RulePeriods.{IsOn-is_occurrence, matches_months-alike, is_occurrence-period, pos-months, pos-years, period_index-rises}
 
-is_off : (rule : Rule) (n : ℕ) → ¬ (is_on rule n ≡ true) → is_on rule n ≡ false
-is_off rule n h = false_from_ne_true (is_on rule n) h
+is_off : (rule : Rule) (n : ℕ) → ¬ (is_occurrence rule n ≡ true) → is_occurrence rule n ≡ false
+is_off rule n h = false_from_ne_true (is_occurrence rule n) h
 
 -- the first day of a month, and of a year
 pub first_day-month : (w : Weekday) (p x : ℕ) → pos p ≡ month_number_at x +ℤ pos 11999988 → IsDate x
-    → day_of_month_at x ≡ min 1 (days_in_month (year_at x) (month_at x)) → IsFirstOf Monthly w p (Some x)
+    → day_of_month_at x ≡ min 1 (days_in_month (year_at x) (month_at x)) → IsFirstOfPeriod Monthly w p (Some x)
 first_day-month w p x e h day =
-    let at : turn_at Monthly w x ≡ p = omega (arith, ints, pos-months w x) in (
+    let at : period_index Monthly w x ≡ p = omega (arith, ints, pos-months w x) in (
       h,
       omega arith,
       λ k less.
-          elim (cases_lt (turn_at Monthly w k) p) as (λ _. turn_at Monthly w k < p) [
+          elim (cases_lt (period_index Monthly w k) p) as (λ _. period_index Monthly w k < p) [
             | inl before ↦ before
             | inr most ↦
-                let same = same_month k x (omega (arith, ints, pos-months w k, pos-months w x, turn_at-rises Monthly w k x (omega arith))) in
+                let same = same_month k x (omega (arith, ints, pos-months w k, pos-months w x, period_index-rises Monthly w k x (omega arith))) in
                 absurd (omega (arith, day_of_month_at-rises k x less same.year same.month, (day_of_month_at-range k).0, (day_of_month_at-range x).0))
           ],
     )
 
-pub no_month : (w : Weekday) (p : ℕ) → 23999988 ≤ p → IsFirstOf Monthly w p None
+pub no_month : (w : Weekday) (p : ℕ) → 23999988 ≤ p → IsFirstOfPeriod Monthly w p None
 no_month w p h = λ k date. omega (arith, ints, pos-months w k, (IsMonthNumber-date k date).not_after)
 
-pub first_of_year : (w : Weekday) (t : ℕ) (r : Option ℕ) → IsFirstOf Monthly w (12 * t) r → IsFirstOf Yearly w t r
+pub first_of_year : (w : Weekday) (t : ℕ) (r : Option ℕ) → IsFirstOfPeriod Monthly w (12 * t) r → IsFirstOfPeriod Yearly w t r
 first_of_year w t None h = λ k date. omega (arith, ints, pos-months w k, pos-years w k, (month_at-range k).0, h k date)
 first_of_year w t (Some x) h = (
   h.0,
@@ -69,40 +69,40 @@ none_within a b i some h g e =
       | inr most ↦ omega (arith, mul-le-mul_left i most)
     ]
 
-turns_past-none : (rule : Rule) (n k : ℕ) → rule.start ≤ n → n ≤ k → 0 < turns_past rule n
-    → turn_at rule.frequency rule.week_start k < turn_at rule.frequency rule.week_start n + (step rule - turns_past rule n) → ¬ (turns_past rule k ≡ 0)
-unfolding turns_past
-turns_past-none rule n k start h some less = λ e.
-    let a = turn_at-rises rule.frequency rule.week_start rule.start n start in
-    let b = turn_at-rises rule.frequency rule.week_start n k h in
-    none_within _ _ (step rule) some (omega arith) (omega arith) e
+periods_past-none : (rule : Rule) (n k : ℕ) → rule.start ≤ n → n ≤ k → 0 < periods_past rule n
+    → period_index rule.frequency rule.week_start k < period_index rule.frequency rule.week_start n + (interval_or_1 rule - periods_past rule n) → ¬ (periods_past rule k ≡ 0)
+unfolding periods_past
+periods_past-none rule n k start h some less = λ e.
+    let a = period_index-rises rule.frequency rule.week_start rule.start n start in
+    let b = period_index-rises rule.frequency rule.week_start n k h in
+    none_within _ _ (interval_or_1 rule) some (omega arith) (omega arith) e
 
 -- so the rule has none before its next turn, nor in a month that it does not take
-pub skip-turn : (rule : Rule) (n t : ℕ) (r : Option ℕ) → rule.start ≤ n → 0 < turns_past rule n
-    → t ≡ turn_at rule.frequency rule.week_start n + (step rule - turns_past rule n) → turns_past rule n < step rule
-    → IsFirstOf rule.frequency rule.week_start t r → IsSkip rule n r
+pub skip-turn : (rule : Rule) (n t : ℕ) (r : Option ℕ) → rule.start ≤ n → 0 < periods_past rule n
+    → t ≡ period_index rule.frequency rule.week_start n + (interval_or_1 rule - periods_past rule n) → periods_past rule n < interval_or_1 rule
+    → IsFirstOfPeriod rule.frequency rule.week_start t r → IsSkip rule n r
 skip-turn rule n t None start some e less h = λ k low high.
-    is_off rule k (λ on. turns_past-none rule n k start low some (omega (arith, h k (omega arith))) (IsOn-is_on rule k on).turn)
+    is_off rule k (λ on. periods_past-none rule n k start low some (omega (arith, h k (omega arith))) (IsOn-is_occurrence rule k on).turn)
 skip-turn rule n t (Some x) start some e less h = (
   elim (cases_lt n x) as (λ _. n < x) [
     | inl before ↦ before
-    | inr most ↦ absurd (omega (arith, h.1, turn_at-rises rule.frequency rule.week_start x n most))
+    | inr most ↦ absurd (omega (arith, h.1, period_index-rises rule.frequency rule.week_start x n most))
   ],
   h.0,
-  λ k low high. is_off rule k (λ on. turns_past-none rule n k start low some (omega (arith, h.2 k high)) (IsOn-is_on rule k on).turn),
+  λ k low high. is_off rule k (λ on. periods_past-none rule n k start low some (omega (arith, h.2 k high)) (IsOn-is_occurrence rule k on).turn),
 )
 
-off_month : (rule : Rule) (w : Weekday) (n k : ℕ) → is_in_months rule n ≡ false → n ≤ k → turn_at Monthly w k < turn_at Monthly w n + 1 → is_on rule k ≡ false
+off_month : (rule : Rule) (w : Weekday) (n k : ℕ) → matches_months rule n ≡ false → n ≤ k → period_index Monthly w k < period_index Monthly w n + 1 → is_occurrence rule k ≡ false
 off_month rule w n k off h less =
-    let same = same_month k n (omega (arith, ints, pos-months w k, pos-months w n, turn_at-rises Monthly w n k h)) in
-    is_off rule k (λ on. false≢true (sym off ∙ sym (is_in_months-alike rule k n same.month) ∙ (IsOn-is_on rule k on).months))
+    let same = same_month k n (omega (arith, ints, pos-months w k, pos-months w n, period_index-rises Monthly w n k h)) in
+    is_off rule k (λ on. false≢true (sym off ∙ sym (matches_months-alike rule k n same.month) ∙ (IsOn-is_occurrence rule k on).months))
 
-pub skip-month : (rule : Rule) (w : Weekday) (n t : ℕ) (r : Option ℕ) → is_in_months rule n ≡ false → t ≡ turn_at Monthly w n + 1 → IsFirstOf Monthly w t r → IsSkip rule n r
+pub skip-month : (rule : Rule) (w : Weekday) (n t : ℕ) (r : Option ℕ) → matches_months rule n ≡ false → t ≡ period_index Monthly w n + 1 → IsFirstOfPeriod Monthly w t r → IsSkip rule n r
 skip-month rule w n t None off e h = λ k low high. off_month rule w n k off low (omega (arith, h k (omega arith)))
 skip-month rule w n t (Some x) off e h = (
   elim (cases_lt n x) as (λ _. n < x) [
     | inl before ↦ before
-    | inr most ↦ absurd (omega (arith, h.1, turn_at-rises Monthly w x n most))
+    | inr most ↦ absurd (omega (arith, h.1, period_index-rises Monthly w x n most))
   ],
   h.0,
   λ k low high. off_month rule w n k off low (omega (arith, h.2 k high)),
@@ -123,65 +123,65 @@ then_allows a p q r xs [] h e = refl
 then_allows a p q r [] (y ∷ ys) h e = any-more q r h (y ∷ ys) e
 then_allows a p q r (x ∷ xs) (y ∷ ys) h e = any-more q r h (y ∷ ys) (and_parts _ _ e).1
 
-weekday_is : (b : Bool) (n : ℕ) (by : ByDay) → is_weekday b n by ≡ true → (weekday_at n == index (weekday_of by)) ≡ true
-unfolding is_weekday
+weekday_is : (b : Bool) (n : ℕ) (by : ByDay) → matches_by_day b n by ≡ true → (weekday_at n == index (by_day_weekday by)) ≡ true
+unfolding matches_by_day
 weekday_is b n (Every w) e = e
 weekday_is b n (Nth k w) e = (and_parts _ _ e).0
 
-takes_weekday-days : (rule : Rule) (n : ℕ) → is_on_days rule n ≡ true → takes_weekday rule (weekday_at n) ≡ true
-unfolding is_on_days
-takes_weekday-days rule n e =
+may_fall_on-days : (rule : Rule) (n : ℕ) → matches_days rule n ≡ true → may_fall_on rule (weekday_at n) ≡ true
+unfolding matches_days
+may_fall_on-days rule n e =
     let b = is_yearly rule.frequency && is_empty rule.months.now in
-    then_allows _ (is_month_day n) (is_weekday b n) _ rule.month_days.now rule.weekdays.now (weekday_is b n) e
+    then_allows _ (is_month_day n) (matches_by_day b n) _ rule.month_days.now rule.weekdays.now (weekday_is b n) e
 
-off_weekday : (rule : Rule) (k : ℕ) → takes_weekday rule (weekday_at k) ≡ false → is_on rule k ≡ false
-off_weekday rule k off = is_off rule k (λ on. false≢true (sym off ∙ takes_weekday-days rule k (IsOn-is_on rule k on).days))
+off_weekday : (rule : Rule) (k : ℕ) → may_fall_on rule (weekday_at k) ≡ false → is_occurrence rule k ≡ false
+off_weekday rule k off = is_off rule k (λ on. false≢true (sym off ∙ may_fall_on-days rule k (IsOn-is_occurrence rule k on).days))
 
-pub takes-further : (rule : Rule) (n d : ℕ) → ((k : ℕ) → n < k → k < n + d → takes_weekday rule (weekday_at k) ≡ false)
-    → takes_weekday rule ((weekday_at n + d) % 7) ≡ false → (k : ℕ) → n < k → k < n + (d + 1) → takes_weekday rule (weekday_at k) ≡ false
-takes-further rule n d none off k low high = elim (cases_lt k (n + d)) as (λ _. takes_weekday rule (weekday_at k) ≡ false) [
+pub takes-further : (rule : Rule) (n d : ℕ) → ((k : ℕ) → n < k → k < n + d → may_fall_on rule (weekday_at k) ≡ false)
+    → may_fall_on rule ((weekday_at n + d) % 7) ≡ false → (k : ℕ) → n < k → k < n + (d + 1) → may_fall_on rule (weekday_at k) ≡ false
+takes-further rule n d none off k low high = elim (cases_lt k (n + d)) as (λ _. may_fall_on rule (weekday_at k) ≡ false) [
   | inl before ↦ none k low before
-  | inr most ↦ let e : weekday_at k ≡ (weekday_at n + d) % 7 = omega (arith, weekday_at-is k, weekday_at-is n) in ap (takes_weekday rule) e ∙ off
+  | inr most ↦ let e : weekday_at k ≡ (weekday_at n + d) % 7 = omega (arith, weekday_at-is k, weekday_at-is n) in ap (may_fall_on rule) e ∙ off
 ]
 
 skip_to : (rule : Rule) (n t : ℕ) (r : Option ℕ) → n < t → NoDayBetween rule n t → SomeIff r (IsDate t) t → IsSkip rule n r
-skip_to rule n t None less none h = λ k low high. elim (cases_lt last_day t) as (λ _. is_on rule k ≡ false) [
+skip_to rule n t None less none h = λ k low high. elim (cases_lt last_day t) as (λ _. is_occurrence rule k ≡ false) [
   | inl past ↦ none k low (omega arith)
   | inr within ↦ absurd (h within)
 ]
 skip_to rule n t (Some x) less none h = (omega (arith, h.1), omega (arith, h.0, h.1), λ k low high. none k low (omega (arith, h.1)))
 
-pub skip-day : (rule : Rule) (n d t : ℕ) (r : Option ℕ) → is_on rule n ≡ false → t ≡ n + d → 1 ≤ d
-    → ((k : ℕ) → n < k → k < n + d → takes_weekday rule (weekday_at k) ≡ false) → SomeIff r (IsDate t) t → IsSkip rule n r
+pub skip-day : (rule : Rule) (n d t : ℕ) (r : Option ℕ) → is_occurrence rule n ≡ false → t ≡ n + d → 1 ≤ d
+    → ((k : ℕ) → n < k → k < n + d → may_fall_on rule (weekday_at k) ≡ false) → SomeIff r (IsDate t) t → IsSkip rule n r
 skip-day rule n d t r off e some none h =
-    let between : NoDayBetween rule n t = λ k low high. elim (cases_lt n k) as (λ _. is_on rule k ≡ false) [
+    let between : NoDayBetween rule n t = λ k low high. elim (cases_lt n k) as (λ _. is_occurrence rule k ≡ false) [
       | inl after ↦ off_weekday rule k (none k after (omega arith))
-      | inr most ↦ let same : k ≡ n = omega arith in ap (is_on rule) same ∙ off
+      | inr most ↦ let same : k ≡ n = omega arith in ap (is_occurrence rule) same ∙ off
     ] in
     skip_to rule n t r (omega arith) between h
 
 -- from day to day
 pub none-joined : (rule : Rule) (l m n : ℕ) → NoDayBetween rule l m → NoDayBetween rule m n → NoDayBetween rule l n
-none-joined rule l m n a b = λ k low high. elim (cases_lt k m) as (λ _. is_on rule k ≡ false) [
+none-joined rule l m n a b = λ k low high. elim (cases_lt k m) as (λ _. is_occurrence rule k ≡ false) [
   | inl before ↦ a k low before
   | inr most ↦ b k most high
 ]
 
 -- If this many periods have no day of the rule, no later day is one: a later day would have one
 -- this many periods earlier.
-none_ever : (rule : Rule) (m n : ℕ) → 1 ≤ step rule → rule.start ≤ m → m + 146097 * step rule ≤ n → NoDayBetween rule m n
-    → (fuel k : ℕ) → k < fuel → m ≤ k → is_on rule k ≡ false
+none_ever : (rule : Rule) (m n : ℕ) → 1 ≤ interval_or_1 rule → rule.start ≤ m → m + 146097 * interval_or_1 rule ≤ n → NoDayBetween rule m n
+    → (fuel k : ℕ) → k < fuel → m ≤ k → is_occurrence rule k ≡ false
 none_ever rule m n some start past none zero k less low = absurd (omega arith)
-none_ever rule m n some start past none (suc fuel) k less low = elim (cases_lt k n) as (λ _. is_on rule k ≡ false) [
+none_ever rule m n some start past none (suc fuel) k less low = elim (cases_lt k n) as (λ _. is_occurrence rule k ≡ false) [
   | inl before ↦ none k low before
   | inr most ↦
-      let back = k - 146097 * step rule in
-      let e : back + 146097 * step rule ≡ k = omega arith in
+      let back = k - 146097 * interval_or_1 rule in
+      let e : back + 146097 * interval_or_1 rule ≡ k = omega arith in
       is_off rule k (λ on. false≢true (sym (none_ever rule m n some start past none fuel back (omega arith) (omega arith))
-      ∙ is_on-period rule back (omega arith) (ap (is_on rule) e ∙ on)))
+      ∙ is_occurrence-period rule back (omega arith) (ap (is_occurrence rule) e ∙ on)))
 ]
 
-pub none_left : (rule : Rule) (m n : ℕ) → 1 ≤ step rule → rule.start ≤ m → m + 146097 * step rule ≤ n → NoDayBetween rule m n → IsNextFrom rule m None
+pub none_left : (rule : Rule) (m n : ℕ) → 1 ≤ interval_or_1 rule → rule.start ≤ m → m + 146097 * interval_or_1 rule ≤ n → NoDayBetween rule m n → IsNextFrom rule m None
 none_left rule m n some start past none = λ k low high. none_ever rule m n some start past none (k + 1) k (omega arith) low
 
 -- one step of the search
@@ -190,60 +190,60 @@ next_none rule m n a b = none-joined rule m n (last_day + 1) a b
 
 -- the list of the days after a day, from the first of them
 pub first_after : (rule : Rule) (n m : ℕ) (r : Option ℕ) → NoDayBetween rule (n + 1) m → n < m → IsNextFrom rule m r
-    → MatchOption r (days_after rule n ≡ []) (λ x. days_after rule n ≡ x ∷ days_after rule x)
+    → MatchOption r (occurrences_after rule n ≡ []) (λ x. occurrences_after rule n ≡ x ∷ occurrences_after rule x)
 first_after rule n m None none after h =
-    filter-none (is_on rule) (n + 1) (last_day - n) (λ k low high. none-joined rule (n + 1) m (last_day + 1) none h k low (omega arith))
+    filter-none (is_occurrence rule) (n + 1) (last_day - n) (λ k low high. none-joined rule (n + 1) m (last_day + 1) none h k low (omega arith))
 first_after rule n m (Some x) none after h =
     let count : n + 1 + (last_day - n) - (x + 1) ≡ last_day - x = omega (arith, h.0, h.1) in
-    filter-first (is_on rule) (n + 1) (last_day - n) x (record {
+    filter-first (is_occurrence rule) (n + 1) (last_day - n) x (record {
       not_before = omega (arith, h.0);
       within = omega (arith, h.1);
       passes = h.2;
       none_before = none-joined rule (n + 1) m x none h.3;
-    }) ∙ ap (λ c. x ∷ filter (is_on rule) (days_from (x + 1) c)) count
+    }) ∙ ap (λ c. x ∷ filter (is_occurrence rule) (days_from (x + 1) c)) count
 
-get-first : (rule : Rule) (n : ℕ) (r : Option ℕ) → MatchOption r (days_after rule n ≡ []) (λ x. days_after rule n ≡ x ∷ days_after rule x) → r ≡ slice_get (days_after rule n) 0
+get-first : (rule : Rule) (n : ℕ) (r : Option ℕ) → MatchOption r (occurrences_after rule n ≡ []) (λ x. occurrences_after rule n ≡ x ∷ occurrences_after rule x) → r ≡ slice_get (occurrences_after rule n) 0
 get-first rule n None h = ap (λ l. slice_get l 0) (sym h)
 get-first rule n (Some x) h = ap (λ l. slice_get l 0) (sym h)
 
-pub next_day : (rule : Rule) (n m : ℕ) (r : Option ℕ) → NoDayBetween rule (n + 1) m → n < m → IsNextFrom rule m r → r ≡ slice_get (days_after rule n) 0
+pub next_day : (rule : Rule) (n m : ℕ) (r : Option ℕ) → NoDayBetween rule (n + 1) m → n < m → IsNextFrom rule m r → r ≡ slice_get (occurrences_after rule n) 0
 next_day rule n m r none after h = get-first rule n r (first_after rule n m r none after h)
 
-pub next_found : (rule : Rule) (n m : ℕ) (r : Option ℕ) → n < m → IsNextFrom rule m r → IfSome r (λ x. (n < x) × IsDate x × (is_on rule x ≡ true))
+pub next_found : (rule : Rule) (n m : ℕ) (r : Option ℕ) → n < m → IsNextFrom rule m r → IfSome r (λ x. (n < x) × IsDate x × (is_occurrence rule x ≡ true))
 next_found rule n m None after h = tt
 next_found rule n m (Some x) after h = (omega (arith, h.0), h.1, h.2)
 
 pub before_start : (rule : Rule) (n : ℕ) → NoDayBetween rule n rule.start
-before_start rule n = λ k low high. is_off rule k (λ on. omega (arith, (IsOn-is_on rule k on).start))
+before_start rule n = λ k low high. is_off rule k (λ on. omega (arith, (IsOn-is_occurrence rule k on).start))
 
 pub none_empty : (rule : Rule) (n m : ℕ) → m ≤ n → NoDayBetween rule n m
 none_empty rule n m h = λ k low high. absurd (omega arith)
 
-pub no_next : (rule : Rule) (n : ℕ) → last_day < n + 1 → None ≡ slice_get (days_after rule n) 0
-no_next rule n h = ap (λ l. slice_get l 0) (sym (filter-none (is_on rule) (n + 1) (last_day - n) (λ k low high. absurd (omega arith))))
+pub no_next : (rule : Rule) (n : ℕ) → last_day < n + 1 → None ≡ slice_get (occurrences_after rule n) 0
+no_next rule n h = ap (λ l. slice_get l 0) (sym (filter-none (is_occurrence rule) (n + 1) (last_day - n) (λ k low high. absurd (omega arith))))
 
 -- the days that are left, from the first that comes after a day
-left_of : (rule : Rule) (n x : ℕ) → IsFirstDay (is_on rule) (n + 1) (last_day - n) x → days_after rule n ≡ x ∷ days_after rule x
+left_of : (rule : Rule) (n x : ℕ) → IsFirstDay (is_occurrence rule) (n + 1) (last_day - n) x → occurrences_after rule n ≡ x ∷ occurrences_after rule x
 left_of rule n x h =
     let count : n + 1 + (last_day - n) - (x + 1) ≡ last_day - x = omega (arith, h.not_before, h.within) in
-    filter-first (is_on rule) (n + 1) (last_day - n) x h ∙ ap (λ c. x ∷ filter (is_on rule) (days_from (x + 1) c)) count
+    filter-first (is_occurrence rule) (n + 1) (last_day - n) x h ∙ ap (λ c. x ∷ filter (is_occurrence rule) (days_from (x + 1) c)) count
 
-pub left_after : (rule : Rule) (n : ℕ) (r : Option ℕ) → r ≡ slice_get (days_after rule n) 0 → days_left rule r ≡ days_after rule n
-left_after rule n None e = sym (filter-none (is_on rule) (n + 1) (last_day - n) (none_passing (is_on rule) (n + 1) (last_day - n) (sym e)))
-left_after rule n (Some x) e = sym (left_of rule n x (first_passing (is_on rule) (n + 1) (last_day - n) (Some x) e))
+pub left_after : (rule : Rule) (n : ℕ) (r : Option ℕ) → r ≡ slice_get (occurrences_after rule n) 0 → occurrences_left rule r ≡ occurrences_after rule n
+left_after rule n None e = sym (filter-none (is_occurrence rule) (n + 1) (last_day - n) (none_passing (is_occurrence rule) (n + 1) (last_day - n) (sym e)))
+left_after rule n (Some x) e = sym (left_of rule n x (first_passing (is_occurrence rule) (n + 1) (last_day - n) (Some x) e))
 
 -- and all of them, from the first one on
-pub left_from_start : (rule : Rule) (r : Option ℕ) → IsNextFrom rule rule.start r → days_left rule r ≡ days_of rule
+pub left_from_start : (rule : Rule) (r : Option ℕ) → IsNextFrom rule rule.start r → occurrences_left rule r ≡ occurrences rule
 left_from_start rule None h =
-    sym (filter-none (is_on rule) 0 (last_day + 1) (λ k low high. none-joined rule 0 rule.start (last_day + 1) (before_start rule 0) h k low (omega arith)))
+    sym (filter-none (is_occurrence rule) 0 (last_day + 1) (λ k low high. none-joined rule 0 rule.start (last_day + 1) (before_start rule 0) h k low (omega arith)))
 left_from_start rule (Some x) h =
     let count : 0 + (last_day + 1) - (x + 1) ≡ last_day - x = omega (arith, h.1) in
-    sym (filter-first (is_on rule) 0 (last_day + 1) x (record {
+    sym (filter-first (is_occurrence rule) 0 (last_day + 1) x (record {
       not_before = omega arith;
       within = omega (arith, h.1);
       passes = h.2;
       none_before = none-joined rule 0 rule.start x (before_start rule 0) h.3;
-    }) ∙ ap (λ c. x ∷ filter (is_on rule) (days_from (x + 1) c)) count)
+    }) ∙ ap (λ c. x ∷ filter (is_occurrence rule) (days_from (x + 1) c)) count)
 
 -- The range has fewer days than an iterator may return, so the first `u32.MAX` days are all of
 -- them.
@@ -252,17 +252,17 @@ unfolding days_from
 length-days_from n zero = refl
 length-days_from n (suc count) = ap suc (length-days_from (n + 1) count)
 
-pub all_of_them : (rule : Rule) → take 4294967295 (days_of rule) ≡ days_of rule
+pub all_of_them : (rule : Rule) → take 4294967295 (occurrences rule) ≡ occurrences rule
 all_of_them rule =
     let days = days_from 0 (last_day + 1) in
-    take_all 4294967295 (days_of rule) (omega (arith, length-filter (is_on rule) days, count_by-le-length (is_on rule) days, length-days_from 0 (last_day + 1)))
+    take_all 4294967295 (occurrences rule) (omega (arith, length-filter (is_occurrence rule) days, count_by-le-length (is_occurrence rule) days, length-days_from 0 (last_day + 1)))
 
 -- one day of the walk, with the others after it
-pub some_left : (rule : Rule) (n left : ℕ) (front : Option ℕ) → left ≢ 0 → front ≡ slice_get (days_after rule n) 0
-    → take left (days_left rule (Some n)) ≡ n ∷ take (left - 1) (days_left rule front)
+pub some_left : (rule : Rule) (n left : ℕ) (front : Option ℕ) → left ≢ 0 → front ≡ slice_get (occurrences_after rule n) 0
+    → take left (occurrences_left rule (Some n)) ≡ n ∷ take (left - 1) (occurrences_left rule front)
 some_left rule n zero front some e = absurd (some refl)
 some_left rule n (suc left) front some e =
     let less : left ≡ suc left - 1 = omega arith in
-    ap (λ days. n ∷ take left days) (sym (left_after rule n front e)) ∙ ap (λ m. n ∷ take m (days_left rule front)) less
+    ap (λ days. n ∷ take left days) (sym (left_after rule n front e)) ∙ ap (λ m. n ∷ take m (occurrences_left rule front)) less
 
 pub ruleset firsts = (first_day-month, no_month, first_of_year, arith)

@@ -7,7 +7,7 @@ use Rattle.cal_time.specs.Lengths.{days_in_month}
 use Rattle.cal_time.specs.Date.{first_year, year_at, month_at, day_of_month_at, IsDate, IsDayOfMonth}
 use Rattle.cal_time.specs.Days.{day_of_month_at-range, day_with}
 use Rattle.cal_schedule.specs.Months.{month_number_at, IsMonthNumber, IsMonthsLater}
-use Rattle.cal_schedule.specs.Until.{LeadsUpTo, LeadsBackTo, IsGreatest, IsLeast}
+use Rattle.cal_schedule.specs.Until.{IsMonthsUpTo, IsMonthsBackTo, IsGreatest, IsLeast}
 use Rattle.cal_schedule.proofs.Ends.{days_in_month-least}
 use Rattle.cal_schedule.proofs.MonthMoves.{month_numbers-rise, same_month, days_apart, one_later, IsMonthNumber-date, number_from}
 
@@ -23,14 +23,14 @@ pub no_months : (a : ℕ) → IsMonthsLater a (pos 0) a
 no_months a = record { month = omega (arith, ints); day = omega (arith, (day_of_month_at-range a).1) }
 
 -- The months from one day to another, if they don't pass it, and if they do.
-pub greatest_same : (a b r : ℕ) (m : ℤ) → IsDate r → IsMonthsLater a m r → month_number_at b ≡ month_number_at a +ℤ m → r ≤ b → IsGreatest (LeadsUpTo a b) m
+pub greatest_same : (a b r : ℕ) (m : ℤ) → IsDate r → IsMonthsLater a m r → month_number_at b ≡ month_number_at a +ℤ m → r ≤ b → IsGreatest (IsMonthsUpTo a b) m
 greatest_same a b r m h x e in_time = record {
   holds = record { day = r; date = h; later = x; in_time = in_time };
   greatest = λ k at. omega (arith, ints, month_numbers-rise at.day b at.in_time, at.later.month);
 }
 
 pub greatest_less : (a b r s : ℕ) (m less : ℤ) → less ≡ m -ℤ pos 1 → IsDate r → IsDate s → IsMonthsLater a m r → IsMonthsLater a less s
-    → month_number_at b ≡ month_number_at a +ℤ m → b < r → IsGreatest (LeadsUpTo a b) less
+    → month_number_at b ≡ month_number_at a +ℤ m → b < r → IsGreatest (IsMonthsUpTo a b) less
 greatest_less a b r s m less is h g x y e past =
     let before : s < b = earlier s b (omega (arith, ints, y.month)) in
     record {
@@ -44,14 +44,14 @@ greatest_less a b r s m less is h g x y e past =
           absurd (omega (arith, at.in_time))));
     }
 
-pub least_same : (a b r : ℕ) (m : ℤ) → IsDate r → IsMonthsLater a m r → month_number_at b ≡ month_number_at a +ℤ m → b ≤ r → IsLeast (LeadsBackTo a b) m
+pub least_same : (a b r : ℕ) (m : ℤ) → IsDate r → IsMonthsLater a m r → month_number_at b ≡ month_number_at a +ℤ m → b ≤ r → IsLeast (IsMonthsBackTo a b) m
 least_same a b r m h x e in_time = record {
   holds = record { day = r; date = h; later = x; in_time = in_time };
   least = λ k at. omega (arith, ints, month_numbers-rise b at.day at.in_time, at.later.month);
 }
 
 pub least_more : (a b r s : ℕ) (m more : ℤ) → more ≡ m +ℤ pos 1 → IsDate r → IsDate s → IsMonthsLater a m r → IsMonthsLater a more s
-    → month_number_at b ≡ month_number_at a +ℤ m → r < b → IsLeast (LeadsBackTo a b) more
+    → month_number_at b ≡ month_number_at a +ℤ m → r < b → IsLeast (IsMonthsBackTo a b) more
 least_more a b r s m more is h g x y e past =
     let after : b < s = earlier b s (omega (arith, ints, y.month)) in
     record {
@@ -121,15 +121,15 @@ later-rises a r s k m h x y =
     omega arith)
 
 -- The months forward are not negative, and the months backward are not positive.
-pub months-on : (a b : ℕ) (m : ℤ) → IsDate a → a ≤ b → IsGreatest (LeadsUpTo a b) m → pos 0 ≤ℤ m
+pub months-on : (a b : ℕ) (m : ℤ) → IsDate a → a ≤ b → IsGreatest (IsMonthsUpTo a b) m → pos 0 ≤ℤ m
 months-on a b m d h most = most.greatest (pos 0) (record { day = a; date = d; later = no_months a; in_time = h })
 
-pub months-back : (a b : ℕ) (m : ℤ) → IsDate a → b < a → IsLeast (LeadsBackTo a b) m → m ≤ℤ pos 0
+pub months-back : (a b : ℕ) (m : ℤ) → IsDate a → b < a → IsLeast (IsMonthsBackTo a b) m → m ≤ℤ pos 0
 months-back a b m d h least = least.least (pos 0) (record { day = a; date = d; later = no_months a; in_time = omega arith })
 
 -- the whole years of the months
-pub years-on : (a b : ℕ) (m y r : ℤ) → IsDate a → IsGreatest (LeadsUpTo a b) m → m ≡ pos 12 *ℤ y +ℤ r → pos 0 ≤ℤ y → pos 0 ≤ℤ r → r ≤ℤ pos 11
-    → IsGreatest (λ years. LeadsUpTo a b (pos 12 *ℤ years)) y
+pub years-on : (a b : ℕ) (m y r : ℤ) → IsDate a → IsGreatest (IsMonthsUpTo a b) m → m ≡ pos 12 *ℤ y +ℤ r → pos 0 ≤ℤ y → pos 0 ≤ℤ r → r ≤ℤ pos 11
+    → IsGreatest (λ years. IsMonthsUpTo a b (pos 12 *ℤ years)) y
 years-on a b m y r d h e some least most =
     let there = h.holds in
     let first = IsMonthNumber-date a d in
@@ -141,8 +141,8 @@ years-on a b m y r d h e some least most =
       greatest = λ k at. omega (arith, ints, h.greatest (pos 12 *ℤ k) at);
     }
 
-pub years-back : (a b : ℕ) (m y r : ℤ) → IsDate a → IsLeast (LeadsBackTo a b) m → m ≡ pos 12 *ℤ y +ℤ r → y ≤ℤ pos 0 → (pos 0 -ℤ pos 11) ≤ℤ r → r ≤ℤ pos 0
-    → IsLeast (λ years. LeadsBackTo a b (pos 12 *ℤ years)) y
+pub years-back : (a b : ℕ) (m y r : ℤ) → IsDate a → IsLeast (IsMonthsBackTo a b) m → m ≡ pos 12 *ℤ y +ℤ r → y ≤ℤ pos 0 → (pos 0 -ℤ pos 11) ≤ℤ r → r ≤ℤ pos 0
+    → IsLeast (λ years. IsMonthsBackTo a b (pos 12 *ℤ years)) y
 years-back a b m y r d h e none least most =
     let there = h.holds in
     let first = IsMonthNumber-date there.day there.date in
@@ -155,17 +155,17 @@ years-back a b m y r d h e none least most =
     }
 
 -- The months until a day, in both directions: their month is in range, and they don't pass the day.
-pub until-month : (a b : ℕ) (m : ℤ) → (a ≤ b → IsGreatest (LeadsUpTo a b) m) → (b < a → IsLeast (LeadsBackTo a b) m) → IsMonthNumber (month_number_at a +ℤ m)
+pub until-month : (a b : ℕ) (m : ℤ) → (a ≤ b → IsGreatest (IsMonthsUpTo a b) m) → (b < a → IsLeast (IsMonthsBackTo a b) m) → IsMonthNumber (month_number_at a +ℤ m)
 until-month a b m on back =
     elim (cases_lt b a) as (λ _. IsMonthNumber (month_number_at a +ℤ m)) [
       | inl less ↦ let there = (back less).holds in subst IsMonthNumber there.later.month (IsMonthNumber-date there.day there.date)
       | inr most ↦ let there = (on most).holds in subst IsMonthNumber there.later.month (IsMonthNumber-date there.day there.date)
     ]
 
-pub until-on : (a b r : ℕ) (m : ℤ) → IsMonthsLater a m r → IsGreatest (LeadsUpTo a b) m → r ≤ b
+pub until-on : (a b r : ℕ) (m : ℤ) → IsMonthsLater a m r → IsGreatest (IsMonthsUpTo a b) m → r ≤ b
 until-on a b r m x h = let one = one_later a r h.holds.day m x h.holds.later in omega (arith, h.holds.in_time)
 
-pub until-back : (a b r : ℕ) (m : ℤ) → IsMonthsLater a m r → IsLeast (LeadsBackTo a b) m → b ≤ r
+pub until-back : (a b r : ℕ) (m : ℤ) → IsMonthsLater a m r → IsLeast (IsMonthsBackTo a b) m → b ≤ r
 until-back a b r m x h = let one = one_later a r h.holds.day m x h.holds.later in omega (arith, h.holds.in_time)
 
 -- the order of days is kept
@@ -192,12 +192,12 @@ back-again a r b m less e early x y =
     one_later a b a (pos 0) zero (no_months a)
 
 -- The months until a day don't pass it, and one month more does.
-pub leads-up : (a b : ℕ) (m : ℤ) (r : Option ℕ) → a ≤ b → IsGreatest (LeadsUpTo a b) m → IfSome r (λ n. IsDate n × IsMonthsLater a m n)
+pub leads-up : (a b : ℕ) (m : ℤ) (r : Option ℕ) → a ≤ b → IsGreatest (IsMonthsUpTo a b) m → IfSome r (λ n. IsDate n × IsMonthsLater a m n)
     → IfNone r (¬ IsMonthNumber (month_number_at a +ℤ m)) → IsSomeAnd r (λ n. n ≤ b)
 leads-up a b m None h most has none = none (subst IsMonthNumber most.holds.later.month (IsMonthNumber-date most.holds.day most.holds.date))
 leads-up a b m (Some n) h most has none = until-on a b n m has.1 most
 
-pub leads-past : (a b : ℕ) (m more : ℤ) (r : Option ℕ) → more ≡ m +ℤ pos 1 → IsGreatest (LeadsUpTo a b) m → IfSome r (λ n. IsDate n × IsMonthsLater a more n) → IfSome r (λ n. b < n)
+pub leads-past : (a b : ℕ) (m more : ℤ) (r : Option ℕ) → more ≡ m +ℤ pos 1 → IsGreatest (IsMonthsUpTo a b) m → IfSome r (λ n. IsDate n × IsMonthsLater a more n) → IfSome r (λ n. b < n)
 leads-past a b m more None e most has = tt
 leads-past a b m more (Some n) e most has =
     elim (cases_lt b n) as (λ _. b < n) [

@@ -10,7 +10,7 @@ use Rattle.cal_time.specs.IsoWeekDate.{count_before, is_weekday_of_year}
 use Rattle.cal_time.specs.Laws.{weekday_at-is}
 use Rattle.cal_time.specs.Lengths.{days_in_month}
 use Rattle.cal_schedule.specs.Ranks.{length-from}
-use Rattle.cal_schedule.specs.Weekdays.{count_from, is_weekday_of_month}
+use Rattle.cal_schedule.specs.Weekdays.{count_from, is_weekday_in_month}
 use Rattle.cal_schedule.proofs.Ends.{days_in_month-least, first-least, last-greatest}
 use Rattle.cal_schedule.proofs.MonthMoves.{month_numbers-rise, number_from}
 
@@ -118,13 +118,13 @@ span_of test w y a b f l first last out in_months = record {
   past = λ k h. false_from_ne_true (test k) (λ on. omega (arith, before_last y a b l k last (out k on)));
 }
 
-of_month : (w : ℕ) (y : ℤ) (m k : ℕ) → is_weekday_of_month w y m k ≡ true → IsInMonths y m m k
+of_month : (w : ℕ) (y : ℤ) (m k : ℕ) → is_weekday_in_month w y m k ≡ true → IsInMonths y m m k
 of_month w y m k on =
     let year = and_parts _ _ on in
     let month : month_at k ≡ m = eqb-true _ _ (and_parts _ _ year.1).0 in
     record { year = (Decides-int_eq (year_at k) y).0 year.0; least = omega arith; most = omega arith }
 
-in_month : (w : ℕ) (y : ℤ) (m k : ℕ) → IsInMonths y m m k → is_weekday_of_month w y m k ≡ (k % 7 == w)
+in_month : (w : ℕ) (y : ℤ) (m k : ℕ) → IsInMonths y m m k → is_weekday_in_month w y m k ≡ (k % 7 == w)
 in_month w y m k h =
     let month : (month_at k == m) ≡ true = eq-eqb _ _ (omega (arith, h.least, h.most)) in
     rw ((Decides-int_eq (year_at k) y).1 h.year, month, weekday_at-is k) refl
@@ -137,8 +137,8 @@ of_year w y k on =
 in_year : (w : ℕ) (y : ℤ) (k : ℕ) → IsInMonths y 1 12 k → is_weekday_of_year w y k ≡ (k % 7 == w)
 in_year w y k h = rw ((Decides-int_eq (year_at k) y).1 h.year, weekday_at-is k) refl
 
-pub month_span : (w : ℕ) (y : ℤ) (m f l : ℕ) → HasCalendarDate y m 1 f → HasCalendarDate y m (days_in_month y m) l → IsSpan (is_weekday_of_month w y m) w f l
-month_span w y m f l first last = span_of (is_weekday_of_month w y m) w y m m f l first last (of_month w y m) (in_month w y m)
+pub month_span : (w : ℕ) (y : ℤ) (m f l : ℕ) → HasCalendarDate y m 1 f → HasCalendarDate y m (days_in_month y m) l → IsSpan (is_weekday_in_month w y m) w f l
+month_span w y m f l first last = span_of (is_weekday_in_month w y m) w y m m f l first last (of_month w y m) (in_month w y m)
 
 pub last_after : (y : ℤ) (m f : ℕ) → HasCalendarDate y m 1 f → HasCalendarDate y m (days_in_month y m) (f + (days_in_month y m - 1))
 last_after y m f first =

@@ -10,19 +10,19 @@ use Rattle.cal_time.specs.Days.{day_of_month_at-range, year_at-range}
 use Rattle.cal_time.specs.IsoWeekDate.{count_before}
 use Rattle.cal_time.specs.Laws.{weekday_at-is, kth-next_occurrences, kth-prev_occurrences}
 use Rattle.cal_time.specs.Lengths.{days_in_month}
-use Rattle.cal_time.specs.Occurrence.{days_from, days_before_back, is_on, next_occurrences, prev_occurrences, kth}
+use Rattle.cal_time.specs.Occurrences.{days_from, days_back_from, has_weekday, next_occurrences, prev_occurrences, kth}
 use Rattle.cal_schedule.specs.Months.{month_number_at}
-use Rattle.cal_schedule.specs.Weekdays.{is_weekday_of_month, IsWeekdayOf, IsNthWeekday, IsLastWeekday, occurrences_from, occurrences_upto}
+use Rattle.cal_schedule.specs.Weekdays.{is_weekday_in_month, IsWeekdayInMonth, IsNthWeekday, IsLastWeekday, occurrences_from, occurrences_upto}
 use Rattle.cal_schedule.proofs.MonthMoves.{days_apart, first_before, number_from}
 use Rattle.cal_schedule.proofs.WeekdaySpans.{count_in_span, last_after, month_span}
 
 -- a day of the range has a year of the range
-pub year_of : (y : ℤ) (m w k : ℕ) → IsDate k → IsWeekdayOf y m w k → IsYear y
+pub year_of : (y : ℤ) (m w k : ℕ) → IsDate k → IsWeekdayInMonth y m w k → IsYear y
 year_of y m w k h is = subst IsYear is.year (year_at-range k h)
 
 -- a day of the month and the first one
 counted : (y : ℤ) (m f w d n : ℕ) → HasCalendarDate y m 1 f → HasCalendarDate y m d n → w < 7
-    → (f + d ≡ n + 1) × (count_before (is_weekday_of_month w y m) (n + 1) + (f + 6 - w) / 7 ≡ (n + 7 - w) / 7)
+    → (f + d ≡ n + 1) × (count_before (is_weekday_in_month w y m) (n + 1) + (f + 6 - w) / 7 ≡ (n + 7 - w) / 7)
 counted y m f w d n e h below =
     let first : HasCalendarDate (year_at n) (month_at n) 1 f =
     e ∙ ap (λ z. calendar_day z m 1) (sym (ap (λ c. c.year) h)) ∙ ap (λ k. calendar_day (year_at n) k 1) (sym (ap (λ c. c.month) h)) in
@@ -32,9 +32,9 @@ counted y m f w d n e h below =
     let length : days_in_month (year_at n) (month_at n) ≡ days_in_month y m =
     ap (λ z. days_in_month z (month_at n)) (ap (λ c. c.year) h) ∙ ap (days_in_month y) (ap (λ c. c.month) h) in
     let span = month_span w y m f _ e (last_after y m f e) in
-    let count = count_in_span (is_weekday_of_month w y m) w f _ d span below (omega arith) in
+    let count = count_in_span (is_weekday_in_month w y m) w f _ d span below (omega arith) in
     let numbers : f + d + 6 - w ≡ n + 7 - w = omega arith in
-    (sums, ap (λ k. count_before (is_weekday_of_month w y m) k + (f + 6 - w) / 7) (sym sums) ∙ count ∙ ap (λ k. k / 7) numbers)
+    (sums, ap (λ k. count_before (is_weekday_in_month w y m) k + (f + 6 - w) / 7) (sym sums) ∙ count ∙ ap (λ k. k / 7) numbers)
 
 -- a month has 31 days at most
 pub days_in_month-most : (y : ℤ) (m : ℕ) → days_in_month y m ≤ 31
@@ -94,45 +94,45 @@ last-index y m t w r dates date below end at =
     }
 
 -- the days from one on that have the weekday begin with that one, or are those after it
-from-on : (w n count : ℕ) → is_on w n ≡ true → slice_get (filter (is_on w) (days_from n (suc count))) 0 ≡ Some n
+from-on : (w n count : ℕ) → has_weekday w n ≡ true → slice_get (filter (has_weekday w) (days_from n (suc count))) 0 ≡ Some n
 unfolding days_from
 from-on w n count h = rw h refl
 
-from-off : (w n count : ℕ) → is_on w n ≡ false → filter (is_on w) (days_from n (suc count)) ≡ filter (is_on w) (days_from (n + 1) count)
+from-off : (w n count : ℕ) → has_weekday w n ≡ false → filter (has_weekday w) (days_from n (suc count)) ≡ filter (has_weekday w) (days_from (n + 1) count)
 unfolding days_from
 from-off w n count h = rw h refl
 
-back-on : (w n : ℕ) → is_on w n ≡ true → slice_get (filter (is_on w) (days_before_back (suc n))) 0 ≡ Some n
-unfolding days_before_back
+back-on : (w n : ℕ) → has_weekday w n ≡ true → slice_get (filter (has_weekday w) (days_back_from (suc n))) 0 ≡ Some n
+unfolding days_back_from
 back-on w n h = rw h refl
 
-back-off : (w n : ℕ) → is_on w n ≡ false → filter (is_on w) (days_before_back (suc n)) ≡ filter (is_on w) (days_before_back n)
-unfolding days_before_back
+back-off : (w n : ℕ) → has_weekday w n ≡ false → filter (has_weekday w) (days_back_from (suc n)) ≡ filter (has_weekday w) (days_back_from n)
+unfolding days_back_from
 back-off w n h = rw h refl
 
 pub from-here : (w n : ℕ) → IsDate n → weekday_at n ≡ w → Some n ≡ slice_get (occurrences_from w n) 0
 from-here w n h e =
-    let on : is_on w n ≡ true = grind (arith, nat_tests) in
+    let on : has_weekday w n ≡ true = grind (arith, nat_tests) in
     let count : last_day + 1 - n ≡ suc (last_day - n) = omega arith in
-    sym (ap (λ c. slice_get (filter (is_on w) (days_from n c)) 0) count ∙ from-on w n (last_day - n) on)
+    sym (ap (λ c. slice_get (filter (has_weekday w) (days_from n c)) 0) count ∙ from-on w n (last_day - n) on)
 
 pub from-next : (w n : ℕ) → IsDate n → ¬ (weekday_at n ≡ w) → next_occurrences w n ≡ occurrences_from w n
 from-next w n h other =
-    let off : is_on w n ≡ false = grind (arith, nat_tests) in
+    let off : has_weekday w n ≡ false = grind (arith, nat_tests) in
     let count : last_day + 1 - n ≡ suc (last_day - n) = omega arith in
-    sym (ap (λ c. filter (is_on w) (days_from n c)) count ∙ from-off w n (last_day - n) off)
+    sym (ap (λ c. filter (has_weekday w) (days_from n c)) count ∙ from-off w n (last_day - n) off)
 
 pub upto-here : (w n : ℕ) → weekday_at n ≡ w → Some n ≡ slice_get (occurrences_upto w n) 0
 upto-here w n e =
-    let on : is_on w n ≡ true = grind (arith, nat_tests) in
+    let on : has_weekday w n ≡ true = grind (arith, nat_tests) in
     let next : n + 1 ≡ suc n = omega arith in
-    sym (ap (λ c. slice_get (filter (is_on w) (days_before_back c)) 0) next ∙ back-on w n on)
+    sym (ap (λ c. slice_get (filter (has_weekday w) (days_back_from c)) 0) next ∙ back-on w n on)
 
 pub upto-previous : (w n : ℕ) → ¬ (weekday_at n ≡ w) → prev_occurrences w n ≡ occurrences_upto w n
 upto-previous w n other =
-    let off : is_on w n ≡ false = grind (arith, nat_tests) in
+    let off : has_weekday w n ≡ false = grind (arith, nat_tests) in
     let next : n + 1 ≡ suc n = omega arith in
-    sym (ap (λ c. filter (is_on w) (days_before_back c)) next ∙ back-off w n off)
+    sym (ap (λ c. filter (has_weekday w) (days_back_from c)) next ∙ back-off w n off)
 
 -- And if it is in range.
 iff : (a b x y : ℕ) (r : Option ℕ) → r ≡ (if nat_le a b then Some x else None) → x ≡ y → SomeIff r (a ≤ b) y

@@ -5,9 +5,9 @@ use Rattle.std.proofs.lemmas.Bool.{cases_lt, cases_Bool}
 use Rattle.std.proofs.lemmas.List.Sums.{count_by_more_yes}
 use Rattle.cal_time.specs.Date.{last_day, IsDate}
 use Rattle.cal_time.specs.IsoWeekDate.{count_before}
-use Rattle.cal_schedule.specs.Workdays.{WorkWeek, is_marked, is_workday, workdays_from, workdays_back, workdays_within}
+use Rattle.cal_schedule.specs.Workdays.{WorkWeek, is_marked, is_workday, workdays_from, workdays_before, workdays_within}
 use Rattle.cal_schedule.specs.WorkdaysLaws.{length-within}
-use Rattle.cal_schedule.specs.WorkdaysSplit.{IsSplit, marked_count, IsNthFrom, IsNthBack}
+use Rattle.cal_schedule.specs.WorkdaysSplit.{IsSplit, marked_count, IsNthFrom, IsNthBefore}
 use Rattle.cal_schedule.specs.Ranks.{count-none, count-yes, count-no, count-rises, count-less, greater-rank, below-rank, nth-from, none-nth_from, nth-back, none-nth_back}
 use Rattle.cal_schedule.proofs.WorkdaysWeeks.{Rises, ranks, free, before-last, workday-unmarked, none-marked}
 
@@ -49,7 +49,7 @@ pub found-back : (w : WorkWeek) → Rises w.holidays → (end i to n before x : 
     → before + (n + 1) + marked_count w end ≡ count_before (is_marked w) to + marked_count w i → before + (n + 1) ≤ count_before (is_marked w) to
     → ((j : ℕ) → i ≤ j → j < end → before < count_before (is_marked w) (get_or w.holidays j 0))
     → ((j : ℕ) → j < i → get_or w.holidays j 0 < x)
-    → is_marked w x ≡ true → count_before (is_marked w) x ≡ before → IsNthBack w to n x
+    → is_marked w x ≡ true → count_before (is_marked w) x ≡ before → IsNthBefore w to n x
 found-back w r end i to n before x s within sum most passed below on e =
     let earlier : x < to = greater-rank (is_marked w) x to (omega arith) in
     let above : (j : ℕ) → i ≤ j → j < length w.holidays → x < get_or w.holidays j 0 =
@@ -97,16 +97,16 @@ pub found-day_from : (w : WorkWeek) (n k x : ℕ) (r : Option ℕ) → IsNthFrom
 found-day_from w n k x None h out = tt
 found-day_from w n k x (Some y) h is = (ap (is_workday w) is.1 ∙ h.workday, omega (arith, is.1, h.not_before), omega (arith, is.0, is.1))
 
-pub day-back : (w : WorkWeek) (n k x : ℕ) (r : Option ℕ) → n ≤ last_day + 1 → IsNthBack w n k x → SomeIff r (IsDate x) x → r ≡ slice_get (workdays_back w n) k
+pub day-back : (w : WorkWeek) (n k x : ℕ) (r : Option ℕ) → n ≤ last_day + 1 → IsNthBefore w n k x → SomeIff r (IsDate x) x → r ≡ slice_get (workdays_before w n) k
 day-back w n k x None low h out = absurd (out (omega (arith, h.before)))
 day-back w n k x (Some y) low h is = ap Some is.1 ∙ sym (nth-back (is_workday w) n k x h.before h.workday h.rank)
 
-pub found-day_back : (w : WorkWeek) (n k x : ℕ) (r : Option ℕ) → IsNthBack w n k x → SomeIff r (IsDate x) x
+pub found-day_back : (w : WorkWeek) (n k x : ℕ) (r : Option ℕ) → IsNthBefore w n k x → SomeIff r (IsDate x) x
     → IfSome r (λ day. (is_workday w day ≡ true) × (day < n) × IsDate day)
 found-day_back w n k x None h out = tt
 found-day_back w n k x (Some y) h is = (ap (is_workday w) is.1 ∙ h.workday, omega (arith, is.1, h.before), omega (arith, is.0, is.1))
 
-pub none-day_back : (w : WorkWeek) (n k : ℕ) → count_before (is_workday w) n ≤ k → None ≡ slice_get (workdays_back w n) k
+pub none-day_back : (w : WorkWeek) (n k : ℕ) → count_before (is_workday w) n ≤ k → None ≡ slice_get (workdays_before w n) k
 none-day_back w n k h = sym (none-nth_back (is_workday w) n k h)
 
 -- a week with no marked day has no working day
@@ -126,7 +126,7 @@ no_marks-from w n k e =
     let all = n + (last_day + 1 - n) in
     sym (none-nth_from (is_workday w) n (last_day + 1 - n) k (omega (arith, workday-most w all, none-marked w e all)))
 
-pub no_marks-back : (w : WorkWeek) (n k : ℕ) → count_before (is_marked w) 7 ≡ 0 → None ≡ slice_get (workdays_back w n) k
+pub no_marks-back : (w : WorkWeek) (n k : ℕ) → count_before (is_marked w) 7 ≡ 0 → None ≡ slice_get (workdays_before w n) k
 no_marks-back w n k e = none-day_back w n k (omega (arith, workday-most w n, none-marked w e n))
 
 pub back-passed : (w : WorkWeek) (i end before after k : ℕ)

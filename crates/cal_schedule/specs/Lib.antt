@@ -5,7 +5,7 @@ pub mod RuleLaws
 pub mod RuleSearch
 pub mod Until
 pub mod Weekdays
-pub mod Money
+pub mod YearFraction
 pub mod Workdays
 pub mod WorkdaysConvention
 pub mod WorkdaysLaws

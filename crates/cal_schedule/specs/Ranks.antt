@@ -6,7 +6,7 @@ use Rattle.std.proofs.lemmas.Bool.{cases_lt, cases_Bool, false≢true}
 use Rattle.std.proofs.lemmas.Option.{slice_get_past}
 use Rattle.std.specs.Int.{from_bool}
 use Rattle.cal_time.specs.IsoWeekDate.{count_before}
-use Rattle.cal_time.specs.Occurrence.{days_from, days_before_back}
+use Rattle.cal_time.specs.Occurrences.{days_from, days_back_from}
 
 -- The count before day 0 is 0.
 pub count-none : (test : ℕ → Bool) → count_before test 0 ≡ 0
@@ -92,12 +92,12 @@ from-no : (test : ℕ → Bool) (n count : ℕ) → test n ≡ false → filter 
 unfolding days_from
 from-no test n count h = rw h refl
 
-back-yes : (test : ℕ → Bool) (n : ℕ) → test n ≡ true → filter test (days_before_back (suc n)) ≡ n ∷ filter test (days_before_back n)
-unfolding days_before_back
+back-yes : (test : ℕ → Bool) (n : ℕ) → test n ≡ true → filter test (days_back_from (suc n)) ≡ n ∷ filter test (days_back_from n)
+unfolding days_back_from
 back-yes test n h = rw h refl
 
-back-no : (test : ℕ → Bool) (n : ℕ) → test n ≡ false → filter test (days_before_back (suc n)) ≡ filter test (days_before_back n)
-unfolding days_before_back
+back-no : (test : ℕ → Bool) (n : ℕ) → test n ≡ false → filter test (days_back_from (suc n)) ≡ filter test (days_back_from n)
+unfolding days_back_from
 back-no test n h = rw h refl
 
 -- The lengths of the lists.
@@ -105,8 +105,8 @@ none-from : (test : ℕ → Bool) (n : ℕ) → length (filter test (days_from n
 unfolding days_from
 none-from test n = refl
 
-none-back : (test : ℕ → Bool) → length (filter test (days_before_back 0)) ≡ 0
-unfolding days_before_back
+none-back : (test : ℕ → Bool) → length (filter test (days_back_from 0)) ≡ 0
+unfolding days_back_from
 none-back test = refl
 
 -- The length of a list is the difference of two counts.
@@ -122,7 +122,7 @@ length-from test n (suc count) =
       | inr miss ↦ omega (arith, ap (count_before test) e, ap (count_before test) f, count-no test n miss, ap length (from-no test n count miss), length-from test (n + 1) count)
     ]
 
-length-back : (test : ℕ → Bool) (n : ℕ) → length (filter test (days_before_back n)) ≡ count_before test n
+length-back : (test : ℕ → Bool) (n : ℕ) → length (filter test (days_back_from n)) ≡ count_before test n
 length-back test zero = omega (arith, none-back test, count-none test)
 length-back test (suc n) =
     elim (cases_Bool (test n)) [
@@ -187,10 +187,10 @@ none-nth_from test n count k h = slice_get_past (filter test (days_from n count)
 -- A day that passes, whose rank is k + 1 less than the rank of day n, is at index k of the days
 -- before day n, from the nearest.
 pub nth-back : (test : ℕ → Bool) (n k x : ℕ) → x < n → test x ≡ true → count_before test x + (k + 1) ≡ count_before test n
-    → slice_get (filter test (days_before_back n)) k ≡ Some x
+    → slice_get (filter test (days_back_from n)) k ≡ Some x
 nth-back test zero k x h on e = absurd (omega arith)
 nth-back test (suc n) zero x h on e =
-    elim (cases_Bool (test n)) as (λ _. slice_get (filter test (days_before_back (suc n))) 0 ≡ Some x) [
+    elim (cases_Bool (test n)) as (λ _. slice_get (filter test (days_back_from (suc n))) 0 ≡ Some x) [
       | inl hit ↦
           let same : n ≡ x = sym (same-rank test x n on (omega arith) (omega (arith, count-yes test n hit))) in
           ap (λ days. slice_get days 0) (back-yes test n hit) ∙ ap Some same
@@ -199,7 +199,7 @@ nth-back test (suc n) zero x h on e =
           ∙ nth-back test n 0 x (before-no test n x miss on (omega arith)) on (omega (arith, count-no test n miss))
     ]
 nth-back test (suc n) (suc k) x h on e =
-    elim (cases_Bool (test n)) as (λ _. slice_get (filter test (days_before_back (suc n))) (suc k) ≡ Some x) [
+    elim (cases_Bool (test n)) as (λ _. slice_get (filter test (days_back_from (suc n))) (suc k) ≡ Some x) [
       | inl hit ↦
           let less : count_before test x < count_before test n = omega (arith, count-yes test n hit) in
           ap (λ days. slice_get days (suc k)) (back-yes test n hit)
@@ -210,8 +210,8 @@ nth-back test (suc n) (suc k) x h on e =
     ]
 
 -- The days before day n have none at index k if at most k of them pass.
-pub none-nth_back : (test : ℕ → Bool) (n k : ℕ) → count_before test n ≤ k → slice_get (filter test (days_before_back n)) k ≡ None
-none-nth_back test n k h = slice_get_past (filter test (days_before_back n)) k (omega (arith, length-back test n))
+pub none-nth_back : (test : ℕ → Bool) (n k : ℕ) → count_before test n ≤ k → slice_get (filter test (days_back_from n)) k ≡ None
+none-nth_back test n k h = slice_get_past (filter test (days_back_from n)) k (omega (arith, length-back test n))
 
 -- A day that passes comes after day m if its rank is not less than the number of such days up to
 -- day m.

@@ -5,23 +5,23 @@ use Rattle.std.specs.List.{list_any}
 use Rattle.cal_time.specs.Date.{first_year, last_day, year_at, month_at, day_of_month_at, ordinal_at, weekday_at}
 use Rattle.cal_time.specs.Lengths.{days_in_month, days_in_year}
 use Rattle.cal_time.specs.Month.{number}
-use Rattle.cal_time.specs.Occurrence.{days_from}
+use Rattle.cal_time.specs.Occurrences.{days_from}
 use Rattle.cal_time.specs.Weekday.{index}
 use Rattle.cal_time.specs.declared.Weekday.{Weekday}
 use Rattle.cal_schedule.specs.Months.{month_number_at}
-use Rattle.cal_schedule.specs.declared.rule.kinds.Frequency.{Frequency}
-use Rattle.cal_schedule.specs.declared.rule.kinds.Frequency.TheVariants.{Daily, Weekly, Monthly, Yearly}
-use Rattle.cal_schedule.specs.declared.rule.kinds.ByDay.{ByDay}
-use Rattle.cal_schedule.specs.declared.rule.kinds.ByDay.TheVariants.{Every, Nth}
-use Rattle.cal_schedule.specs.declared.rule.kinds.Rule.{Rule}
+use Rattle.cal_schedule.specs.declared.rule.rule.Frequency.{Frequency}
+use Rattle.cal_schedule.specs.declared.rule.rule.Frequency.TheVariants.{Daily, Weekly, Monthly, Yearly}
+use Rattle.cal_schedule.specs.declared.rule.rule.ByDay.{ByDay}
+use Rattle.cal_schedule.specs.declared.rule.rule.ByDay.TheVariants.{Every, Nth}
+use Rattle.cal_schedule.specs.declared.rule.rule.Rule.{Rule}
 
 -- The index of the day, week, month or year of day n, from the start of the range. Weeks begin on
 -- the weekday `first`.
-unfoldable pub turn_at : Frequency → Weekday → ℕ → ℕ
-turn_at Daily first n = n
-turn_at Weekly first n = (n + 7 - index first) / 7
-turn_at Monthly first n = unsigned_abs (month_number_at n -ℤ first_year *ℤ pos 12)
-turn_at Yearly first n = unsigned_abs (year_at n -ℤ first_year)
+unfoldable pub period_index : Frequency → Weekday → ℕ → ℕ
+period_index Daily first n = n
+period_index Weekly first n = (n + 7 - index first) / 7
+period_index Monthly first n = unsigned_abs (month_number_at n -ℤ first_year *ℤ pos 12)
+period_index Yearly first n = unsigned_abs (year_at n -ℤ first_year)
 
 -- An item is the k-th if it is number k from the start, or number -k from the end if k is negative.
 -- `ahead` and `back` are its numbers from the start and the end, both from 1.
@@ -44,14 +44,14 @@ unfoldable pub is_month_day : ℕ → ℤ → Bool
 is_month_day n k = is_nth k (day_of_month_at n) (days_in_month (year_at n) (month_at n) + 1 - day_of_month_at n)
 
 -- Day n is the k-th of its weekday in its year, or in its month. Every seven days have one.
-unfoldable pub is_nth_of : Bool → ℕ → ℤ → Bool
-is_nth_of true n k = is_nth k ((ordinal_at n + 6) / 7) ((days_in_year (year_at n) - ordinal_at n) / 7 + 1)
-is_nth_of false n k = is_nth k ((day_of_month_at n + 6) / 7) ((days_in_month (year_at n) (month_at n) - day_of_month_at n) / 7 + 1)
+unfoldable pub is_nth_weekday : Bool → ℕ → ℤ → Bool
+is_nth_weekday true n k = is_nth k ((ordinal_at n + 6) / 7) ((days_in_year (year_at n) - ordinal_at n) / 7 + 1)
+is_nth_weekday false n k = is_nth k ((day_of_month_at n + 6) / 7) ((days_in_month (year_at n) (month_at n) - day_of_month_at n) / 7 + 1)
 
 -- Day n has the weekday of a part, and its number if it has one.
-unfoldable pub is_weekday : Bool → ℕ → ByDay → Bool
-is_weekday of_year n (Every w) = weekday_at n == index w
-is_weekday of_year n (Nth k w) = (weekday_at n == index w) && is_nth_of of_year n k
+unfoldable pub matches_by_day : Bool → ℕ → ByDay → Bool
+matches_by_day of_year n (Every w) = weekday_at n == index w
+matches_by_day of_year n (Nth k w) = (weekday_at n == index w) && is_nth_weekday of_year n k
 
 -- A rule is yearly.
 abbrev pub is_yearly : Frequency → Bool
@@ -64,56 +64,56 @@ names_no_day rule = is_empty rule.month_days.now && is_empty rule.weekdays.now
 
 -- Day n is in a month of the rule. A yearly rule that names neither months nor days has the month
 -- of its start.
-unfoldable pub is_in_months : Rule → ℕ → Bool
-is_in_months rule n =
+unfoldable pub matches_months : Rule → ℕ → Bool
+matches_months rule n =
     allows (λ m. number m == month_at n) rule.months.now
     && (not (is_yearly rule.frequency && is_empty rule.months.now && names_no_day rule) || (month_at n == month_at rule.start))
 
 -- Day n has the day of the start: the weekday in a weekly rule, the day of the month in a monthly
 -- or yearly rule.
-abbrev pub is_as_start : Frequency → ℕ → ℕ → Bool
-is_as_start Daily start n = true
-is_as_start Weekly start n = weekday_at n == weekday_at start
-is_as_start Monthly start n = day_of_month_at n == day_of_month_at start
-is_as_start Yearly start n = day_of_month_at n == day_of_month_at start
+abbrev pub matches_start : Frequency → ℕ → ℕ → Bool
+matches_start Daily start n = true
+matches_start Weekly start n = weekday_at n == weekday_at start
+matches_start Monthly start n = day_of_month_at n == day_of_month_at start
+matches_start Yearly start n = day_of_month_at n == day_of_month_at start
 
 -- Day n passes the days of the month and the weekdays, or has the day of the start if the rule
 -- names no day.
-unfoldable pub is_on_days : Rule → ℕ → Bool
-is_on_days rule n =
-    if names_no_day rule then is_as_start rule.frequency rule.start n
+unfoldable pub matches_days : Rule → ℕ → Bool
+matches_days rule n =
+    if names_no_day rule then matches_start rule.frequency rule.start n
     else allows (is_month_day n) rule.month_days.now
-    && allows (is_weekday (is_yearly rule.frequency && is_empty rule.months.now) n) rule.weekdays.now
+    && allows (matches_by_day (is_yearly rule.frequency && is_empty rule.months.now) n) rule.weekdays.now
 
 -- Day n is not after the last day, if there is one.
-abbrev pub is_by : Option ℕ → ℕ → Bool
-is_by None n = true
-is_by (Some last) n = nat_le n last
+abbrev pub matches_until : Option ℕ → ℕ → Bool
+matches_until None n = true
+matches_until (Some last) n = nat_le n last
 
 -- A rule selects every n-th period. An interval of 0 counts as 1.
-abbrev pub step : Rule → ℕ
-step rule = max rule.interval 1
+abbrev pub interval_or_1 : Rule → ℕ
+interval_or_1 rule = max rule.interval 1
 
 -- The number of periods from the last selected period to the period of day n. A period is selected
 -- if it comes a multiple of the step after the period of the start.
-unfoldable pub turns_past : Rule → ℕ → ℕ
-turns_past rule n = (turn_at rule.frequency rule.week_start n - turn_at rule.frequency rule.week_start rule.start) % step rule
+unfoldable pub periods_past : Rule → ℕ → ℕ
+periods_past rule n = (period_index rule.frequency rule.week_start n - period_index rule.frequency rule.week_start rule.start) % interval_or_1 rule
 
 -- Day n is a day of the rule if it isn't before the start or after the last day, is in a selected
 -- period, and passes the months and the days.
-unfoldable pub is_on : Rule → ℕ → Bool
-is_on rule n =
-    nat_le rule.start n && (is_by rule.until n && ((turns_past rule n == 0) && (is_in_months rule n && is_on_days rule n)))
+unfoldable pub is_occurrence : Rule → ℕ → Bool
+is_occurrence rule n =
+    nat_le rule.start n && (matches_until rule.until n && ((periods_past rule n == 0) && (matches_months rule n && matches_days rule n)))
 
 -- The days of the rule after day n, in ascending order.
-abbrev pub days_after : Rule → ℕ → List ℕ
-days_after rule n = filter (is_on rule) (days_from (n + 1) (last_day - n))
+abbrev pub occurrences_after : Rule → ℕ → List ℕ
+occurrences_after rule n = filter (is_occurrence rule) (days_from (n + 1) (last_day - n))
 
 -- All days of the rule, in ascending order.
-abbrev pub days_of : Rule → List ℕ
-days_of rule = filter (is_on rule) (days_from 0 (last_day + 1))
+abbrev pub occurrences : Rule → List ℕ
+occurrences rule = filter (is_occurrence rule) (days_from 0 (last_day + 1))
 
 -- A day of the rule and the days after it, or no days.
-abbrev pub days_left : Rule → Option ℕ → List ℕ
-days_left rule None = []
-days_left rule (Some n) = n ∷ days_after rule n
+abbrev pub occurrences_left : Rule → Option ℕ → List ℕ
+occurrences_left rule None = []
+occurrences_left rule (Some n) = n ∷ occurrences_after rule n

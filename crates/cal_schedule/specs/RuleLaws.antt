@@ -4,33 +4,33 @@ use Rattle.std.specs.Prelude.{◌≡◌, ℕ, ◌+◌, ◌↔◌, true, false, �
 use Rattle.cal_time.specs.Date.{year_at, month_at, day_of_month_at, weekday_at}
 use Rattle.cal_time.specs.Weekday.{index}
 use Rattle.cal_time.specs.declared.Weekday.{Weekday}
-use Rattle.cal_schedule.specs.Rule.{is_nth_of, turn_at}
+use Rattle.cal_schedule.specs.Rule.{is_nth_weekday, period_index}
 use Rattle.cal_schedule.specs.Weekdays.{IsNthWeekday, IsLastWeekday, IsNthWeekdayFromEnd, IsNthWeekdayOfYear, IsNthWeekdayOfYearFromEnd}
-use Rattle.cal_schedule.specs.declared.rule.kinds.Frequency.{Frequency}
-use Rattle.cal_schedule.specs.declared.rule.kinds.Frequency.TheVariants.{Daily, Weekly, Monthly, Yearly}
+use Rattle.cal_schedule.specs.declared.rule.rule.Frequency.{Frequency}
+use Rattle.cal_schedule.specs.declared.rule.rule.Frequency.TheVariants.{Daily, Weekly, Monthly, Yearly}
 
 -- Day n begins a period: a day, a week on the weekday `first`, a month on its first day, or a year
 -- on 1 January.
-abbrev pub Begins : Frequency → Weekday → ℕ → Type 0
-Begins Daily first n = ⊤
-Begins Weekly first n = weekday_at n ≡ index first
-Begins Monthly first n = day_of_month_at n ≡ 1
-Begins Yearly first n = (month_at n ≡ 1) × (day_of_month_at n ≡ 1)
+abbrev pub BeginsPeriod : Frequency → Weekday → ℕ → Type 0
+BeginsPeriod Daily first n = ⊤
+BeginsPeriod Weekly first n = weekday_at n ≡ index first
+BeginsPeriod Monthly first n = day_of_month_at n ≡ 1
+BeginsPeriod Yearly first n = (month_at n ≡ 1) × (day_of_month_at n ≡ 1)
 
 -- From day n to the next day, the index of the period rises by 1 exactly if the next day begins a
 -- period, else it stays.
 pub record RisesAtBeginning (f : Frequency) (first : Weekday) (n : ℕ) : Type 0 where
-  pub rises : (turn_at f first (n + 1) ≡ turn_at f first n + 1) ↔ Begins f first (n + 1)
-  pub stays : (turn_at f first (n + 1) ≡ turn_at f first n) ↔ ¬ Begins f first (n + 1)
+  pub rises : (period_index f first (n + 1) ≡ period_index f first n + 1) ↔ BeginsPeriod f first (n + 1)
+  pub stays : (period_index f first (n + 1) ≡ period_index f first n) ↔ ¬ BeginsPeriod f first (n + 1)
 
 -- Day n is the k-th of its weekday in its month or year exactly if there are k such days up to it,
 -- or from it on if counted from the end. `negsuc k` is the (k + 1)-th from the end, so `negsuc 0`
 -- is the last.
 pub record NumbersByCount (n : ℕ) : Type 0 where
-  pub of_month : (k : ℕ) → (is_nth_of false n (pos k) ≡ true) ↔ IsNthWeekday (year_at n) (month_at n) (weekday_at n) k n
+  pub of_month : (k : ℕ) → (is_nth_weekday false n (pos k) ≡ true) ↔ IsNthWeekday (year_at n) (month_at n) (weekday_at n) k n
   pub of_month_from_end : (k : ℕ)
-      → (is_nth_of false n (negsuc k) ≡ true) ↔ IsNthWeekdayFromEnd (year_at n) (month_at n) (weekday_at n) (k + 1) n
-  pub last_of_month : (is_nth_of false n (negsuc 0) ≡ true) ↔ IsLastWeekday (year_at n) (month_at n) (weekday_at n) n
-  pub of_year : (k : ℕ) → (is_nth_of true n (pos k) ≡ true) ↔ IsNthWeekdayOfYear (year_at n) (weekday_at n) k n
+      → (is_nth_weekday false n (negsuc k) ≡ true) ↔ IsNthWeekdayFromEnd (year_at n) (month_at n) (weekday_at n) (k + 1) n
+  pub last_of_month : (is_nth_weekday false n (negsuc 0) ≡ true) ↔ IsLastWeekday (year_at n) (month_at n) (weekday_at n) n
+  pub of_year : (k : ℕ) → (is_nth_weekday true n (pos k) ≡ true) ↔ IsNthWeekdayOfYear (year_at n) (weekday_at n) k n
   pub of_year_from_end : (k : ℕ)
-      → (is_nth_of true n (negsuc k) ≡ true) ↔ IsNthWeekdayOfYearFromEnd (year_at n) (weekday_at n) (k + 1) n
+      → (is_nth_weekday true n (negsuc k) ≡ true) ↔ IsNthWeekdayOfYearFromEnd (year_at n) (weekday_at n) (k + 1) n

@@ -3,29 +3,29 @@ use Rattle.std.specs.Prelude.{◌≡◌, ℕ, ◌+◌, ◌<◌, ◌≤◌, ◌==
 use Rattle.cal_time.specs.Date.{last_day, IsDate}
 use Rattle.cal_time.specs.Weekday.{index}
 use Rattle.cal_time.specs.declared.Weekday.{Weekday}
-use Rattle.cal_schedule.specs.declared.rule.kinds.Frequency.{Frequency}
-use Rattle.cal_schedule.specs.declared.rule.kinds.ByDay.{ByDay}
-use Rattle.cal_schedule.specs.declared.rule.kinds.ByDay.TheVariants.{Every, Nth}
-use Rattle.cal_schedule.specs.declared.rule.kinds.Rule.{Rule}
-use Rattle.cal_schedule.specs.Rule.{allows, is_on, turn_at}
+use Rattle.cal_schedule.specs.declared.rule.rule.Frequency.{Frequency}
+use Rattle.cal_schedule.specs.declared.rule.rule.ByDay.{ByDay}
+use Rattle.cal_schedule.specs.declared.rule.rule.ByDay.TheVariants.{Every, Nth}
+use Rattle.cal_schedule.specs.declared.rule.rule.Rule.{Rule}
+use Rattle.cal_schedule.specs.Rule.{allows, is_occurrence, period_index}
 
 -- No day of the rule is from day m on and before day n.
 abbrev pub NoDayBetween : Rule → ℕ → ℕ → Type 0
-NoDayBetween rule m n = (k : ℕ) → m ≤ k → k < n → is_on rule k ≡ false
+NoDayBetween rule m n = (k : ℕ) → m ≤ k → k < n → is_occurrence rule k ≡ false
 
 -- The weekday of a part, without its number.
-abbrev pub weekday_of : ByDay → Weekday
-weekday_of (Every w) = w
-weekday_of (Nth k w) = w
+abbrev pub by_day_weekday : ByDay → Weekday
+by_day_weekday (Every w) = w
+by_day_weekday (Nth k w) = w
 
 -- The rule allows days with the weekday at this index, with any number.
-abbrev pub takes_weekday : Rule → ℕ → Bool
-takes_weekday rule at = allows (λ by. at == index (weekday_of by)) rule.weekdays.now
+abbrev pub may_fall_on : Rule → ℕ → Bool
+may_fall_on rule at = allows (λ by. at == index (by_day_weekday by)) rule.weekdays.now
 
 -- r is the first day of the range in period t or a later one.
-abbrev pub IsFirstOf : Frequency → Weekday → ℕ → Option ℕ → Type 0
-IsFirstOf f w t r =
-    MatchOption r ((k : ℕ) → IsDate k → turn_at f w k < t) (λ x. IsDate x × (t ≤ turn_at f w x) × ((k : ℕ) → k < x → turn_at f w k < t))
+abbrev pub IsFirstOfPeriod : Frequency → Weekday → ℕ → Option ℕ → Type 0
+IsFirstOfPeriod f w t r =
+    MatchOption r ((k : ℕ) → IsDate k → period_index f w k < t) (λ x. IsDate x × (t ≤ period_index f w x) × ((k : ℕ) → k < x → period_index f w k < t))
 
 -- r is a day after day n to go on with: no day of the rule is from day n on and before r. If r is
 -- `None`, the rule has no day from day n on.
@@ -35,4 +35,4 @@ IsSkip rule n r = MatchOption r (NoDayBetween rule n (last_day + 1)) (λ x. (n <
 -- r is the first day of the rule from day n on.
 abbrev pub IsNextFrom : Rule → ℕ → Option ℕ → Type 0
 IsNextFrom rule n r =
-    MatchOption r (NoDayBetween rule n (last_day + 1)) (λ x. (n ≤ x) × IsDate x × (is_on rule x ≡ true) × NoDayBetween rule n x)
+    MatchOption r (NoDayBetween rule n (last_day + 1)) (λ x. (n ≤ x) × IsDate x × (is_occurrence rule x ≡ true) × NoDayBetween rule n x)

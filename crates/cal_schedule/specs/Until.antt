@@ -5,14 +5,14 @@ use Rattle.cal_schedule.specs.declared.period.Period.{Period}
 use Rattle.cal_schedule.specs.Months.{IsMonthsLater}
 
 -- The day `months` months after day n is in the range and not after day t.
-pub record LeadsUpTo (n t : ℕ) (months : ℤ) : Type 0 where
+pub record IsMonthsUpTo (n t : ℕ) (months : ℤ) : Type 0 where
   pub day : ℕ
   pub date : IsDate day
   pub later : IsMonthsLater n months day
   pub in_time : day ≤ t
 
 -- The day `months` months after day n is in the range and not before day t.
-pub record LeadsBackTo (n t : ℕ) (months : ℤ) : Type 0 where
+pub record IsMonthsBackTo (n t : ℕ) (months : ℤ) : Type 0 where
   pub day : ℕ
   pub date : IsDate day
   pub later : IsMonthsLater n months day
@@ -33,7 +33,7 @@ abbrev pub months_of : Period → ℤ
 months_of p = pos 12 *ℤ p.years +ℤ p.months
 
 -- Day t is a period after day n: its years and months at once, and then its days.
-pub record LeadsTo (n t : ℕ) (p : Period) : Type 0 where
+pub record IsPeriodUntil (n t : ℕ) (p : Period) : Type 0 where
   pub day : ℕ
   pub date : IsDate day
   pub later : IsMonthsLater n (months_of p) day

@@ -2,7 +2,7 @@
 use Rattle.std.specs.Prelude.{ℕ, zero, suc, ◌+◌, ◌-◌, ◌==◌, ◌&&◌, Bool, false, not, List, Option, filter, slice_get, ℤ, pos, negsuc, slice_index_or}
 use Rattle.std.specs.List.{list_any}
 use Rattle.cal_time.specs.Date.{last_day, weekday_at}
-use Rattle.cal_time.specs.Occurrence.{days_from, days_before_back}
+use Rattle.cal_time.specs.Occurrences.{days_from, days_back_from}
 
 -- A working week has a mark for each weekday, from Monday to Sunday, and the numbers of the
 -- holidays.
@@ -27,8 +27,8 @@ abbrev pub workdays_from : WorkWeek → ℕ → List ℕ
 workdays_from w n = filter (is_workday w) (days_from n (last_day + 1 - n))
 
 -- The working days before day n, from the nearest back.
-abbrev pub workdays_back : WorkWeek → ℕ → List ℕ
-workdays_back w n = filter (is_workday w) (days_before_back n)
+abbrev pub workdays_before : WorkWeek → ℕ → List ℕ
+workdays_before w n = filter (is_workday w) (days_back_from n)
 
 -- The working days from day m on and before day n.
 abbrev pub workdays_within : WorkWeek → ℕ → ℕ → List ℕ
@@ -39,4 +39,4 @@ workdays_within w m n = filter (is_workday w) (days_from m (n - m))
 abbrev pub nth_workday : WorkWeek → ℤ → ℕ → Option ℕ
 nth_workday w (pos zero) n = slice_get (workdays_from w n) 0
 nth_workday w (pos (suc k)) n = slice_get (workdays_from w (n + 1)) k
-nth_workday w (negsuc k) n = slice_get (workdays_back w n) k
+nth_workday w (negsuc k) n = slice_get (workdays_before w n) k

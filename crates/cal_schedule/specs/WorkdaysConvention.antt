@@ -2,7 +2,7 @@
 use Rattle.std.specs.Prelude.{◌≡◌, ℕ, ◌+◌, ◌==◌, ◌&&◌, ◌≤◌, Bool, true, Option, Some, None, slice_get, if◌then◌else◌}
 use Rattle.std.specs.Ordering.{int_eq}
 use Rattle.cal_time.specs.Date.{year_at, month_at}
-use Rattle.cal_schedule.specs.Workdays.{WorkWeek, is_workday, workdays_from, workdays_back}
+use Rattle.cal_schedule.specs.Workdays.{WorkWeek, is_workday, workdays_from, workdays_before}
 use Rattle.cal_schedule.specs.declared.workdays.convention.Convention.{Convention}
 use Rattle.cal_schedule.specs.declared.workdays.convention.Convention.TheVariants.{Unadjusted, Following, ModifiedFollowing, Preceding, ModifiedPreceding}
 
@@ -12,24 +12,24 @@ following w n = slice_get (workdays_from w n) 0
 
 -- The last working day up to day n.
 abbrev pub preceding : WorkWeek → ℕ → Option ℕ
-preceding w n = slice_get (workdays_back w (n + 1)) 0
+preceding w n = slice_get (workdays_before w (n + 1)) 0
 
 -- Day r is in the month of day n.
 abbrev pub is_in_month_of : ℕ → ℕ → Bool
 is_in_month_of n r = int_eq (year_at r) (year_at n) && (month_at r == month_at n)
 
 -- The first day if it is in the month of day n, else the second.
-abbrev pub first_in_month_of : ℕ → Option ℕ → Option ℕ → Option ℕ
-first_in_month_of n None second = second
-first_in_month_of n (Some r) second = if is_in_month_of n r then Some r else second
+abbrev pub first_in_same_month : ℕ → Option ℕ → Option ℕ → Option ℕ
+first_in_same_month n None second = second
+first_in_same_month n (Some r) second = if is_in_month_of n r then Some r else second
 
 -- The day to which a convention moves day n.
-abbrev pub adjusted : WorkWeek → Convention → ℕ → Option ℕ
-adjusted w Unadjusted n = Some n
-adjusted w Following n = following w n
-adjusted w ModifiedFollowing n = first_in_month_of n (following w n) (preceding w n)
-adjusted w Preceding n = preceding w n
-adjusted w ModifiedPreceding n = first_in_month_of n (preceding w n) (following w n)
+abbrev pub adjusted_date : WorkWeek → Convention → ℕ → Option ℕ
+adjusted_date w Unadjusted n = Some n
+adjusted_date w Following n = following w n
+adjusted_date w ModifiedFollowing n = first_in_same_month n (following w n) (preceding w n)
+adjusted_date w Preceding n = preceding w n
+adjusted_date w ModifiedPreceding n = first_in_same_month n (preceding w n) (following w n)
 
 -- A property of each day to which a convention moves day n.
 abbrev pub IsAdjusted : WorkWeek → Convention → ℕ → ℕ → Type 0

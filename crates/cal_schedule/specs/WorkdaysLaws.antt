@@ -5,8 +5,8 @@ use Rattle.std.proofs.lemmas.Bool.Decides.{Decides-int_eq}
 use Rattle.std.proofs.lemmas.Int.{ints}
 use Rattle.cal_time.specs.Date.{last_day, year_at, month_at, IsDate}
 use Rattle.cal_time.specs.IsoWeekDate.{count_before}
-use Rattle.cal_schedule.specs.Workdays.{WorkWeek, is_workday, workdays_from, workdays_back, workdays_within}
-use Rattle.cal_schedule.specs.WorkdaysConvention.{following, preceding, is_in_month_of, first_in_month_of, adjusted}
+use Rattle.cal_schedule.specs.Workdays.{WorkWeek, is_workday, workdays_from, workdays_before, workdays_within}
+use Rattle.cal_schedule.specs.WorkdaysConvention.{following, preceding, is_in_month_of, first_in_same_month, adjusted_date}
 use Rattle.cal_schedule.specs.declared.workdays.convention.Convention.{Convention}
 use Rattle.cal_schedule.specs.declared.workdays.convention.Convention.TheVariants.{Unadjusted, Following, ModifiedFollowing, Preceding, ModifiedPreceding}
 use Rattle.cal_schedule.specs.Ranks.{count-yes, length-from, nth-from, nth-back}
@@ -15,7 +15,7 @@ use Rattle.cal_schedule.specs.Ranks.{count-yes, length-from, nth-from, nth-back}
 from-here : (w : WorkWeek) (n : ℕ) → IsDate n → is_workday w n ≡ true → slice_get (workdays_from w n) 0 ≡ Some n
 from-here w n h on = nth-from (is_workday w) n (last_day + 1 - n) 0 n (omega arith) (omega arith) on (omega arith)
 
-back-here : (w : WorkWeek) (n : ℕ) → is_workday w n ≡ true → slice_get (workdays_back w (n + 1)) 0 ≡ Some n
+back-here : (w : WorkWeek) (n : ℕ) → is_workday w n ≡ true → slice_get (workdays_before w (n + 1)) 0 ≡ Some n
 back-here w n on = nth-back (is_workday w) (n + 1) 0 n (omega arith) on (omega (arith, ap (count_before (is_workday w)) (add-one n), count-yes (is_workday w) n on))
 
 -- A day is in its own month.
@@ -23,12 +23,12 @@ in-own : (n : ℕ) → is_in_month_of n n ≡ true
 in-own n = and_from _ _ ((Decides-int_eq (year_at n) (year_at n)).1 refl) (eq-eqb (month_at n) (month_at n) refl)
 
 -- Each convention moves a working day to itself.
-pub adjusted-kept : (w : WorkWeek) (convention : Convention) (n : ℕ) → IsDate n → is_workday w n ≡ true → adjusted w convention n ≡ Some n
-adjusted-kept w Unadjusted n h on = refl
-adjusted-kept w Following n h on = from-here w n h on
-adjusted-kept w Preceding n h on = back-here w n on
-adjusted-kept w ModifiedFollowing n h on = ap (λ r. first_in_month_of n r (preceding w n)) (from-here w n h on) ∙ rw (in-own n) refl
-adjusted-kept w ModifiedPreceding n h on = ap (λ r. first_in_month_of n r (following w n)) (back-here w n on) ∙ rw (in-own n) refl
+pub adjusted_date-kept : (w : WorkWeek) (convention : Convention) (n : ℕ) → IsDate n → is_workday w n ≡ true → adjusted_date w convention n ≡ Some n
+adjusted_date-kept w Unadjusted n h on = refl
+adjusted_date-kept w Following n h on = from-here w n h on
+adjusted_date-kept w Preceding n h on = back-here w n on
+adjusted_date-kept w ModifiedFollowing n h on = ap (λ r. first_in_same_month n r (preceding w n)) (from-here w n h on) ∙ rw (in-own n) refl
+adjusted_date-kept w ModifiedPreceding n h on = ap (λ r. first_in_same_month n r (following w n)) (back-here w n on) ∙ rw (in-own n) refl
 
 -- The number of working days from day m on and before day n is the difference of their ranks.
 pub length-within : (w : WorkWeek) (m n : ℕ) → m ≤ n → length (workdays_within w m n) + count_before (is_workday w) m ≡ count_before (is_workday w) n

@@ -21,7 +21,7 @@ pub record IsNthFrom (w : WorkWeek) (n k x : ℕ) : Type 0 where
   pub rank : count_before (is_workday w) x ≡ count_before (is_workday w) n + k
 
 -- Day x is a working day before day n, with k others in between.
-pub record IsNthBack (w : WorkWeek) (n k x : ℕ) : Type 0 where
+pub record IsNthBefore (w : WorkWeek) (n k x : ℕ) : Type 0 where
   pub workday : is_workday w x ≡ true
   pub before : x < n
   pub rank : count_before (is_workday w) x + (k + 1) ≡ count_before (is_workday w) n

@@ -5,22 +5,22 @@
 //! result is out of range or doesn't exist.
 #![tactic(auto)]
 
-mod bounds;
+mod period_ends;
 pub mod laws;
-mod money;
+mod year_fraction;
 mod months;
-mod numbers;
+mod day_number;
 mod period;
 mod rule;
 mod until;
 mod weekdays;
 mod workdays;
 
-pub use bounds::{
+pub use period_ends::{
     first_of_iso_week, first_of_month, first_of_quarter, first_of_year, last_of_iso_week,
     last_of_month, last_of_quarter, last_of_year, quarter,
 };
-pub use money::{DayCount, YearFraction, day_count};
+pub use year_fraction::{DayCount, YearFraction, day_count};
 pub use months::{checked_add_months, checked_add_years, saturating_add_months};
 pub use period::Period;
 pub use rule::{ByDay, Frequency, Rule, RuleDays};

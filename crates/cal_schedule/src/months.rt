@@ -11,9 +11,9 @@ use cal_time::limits::{MAX_YEAR, MIN_YEAR};
 const MONTHS: i64 = 12 * (MAX_YEAR - MIN_YEAR + 1) as i64;
 
 /// Returns the index of the month, from 0 for the first one of the range, and the day of the month.
-pub(crate) fn index_and_day(date: Date) -> (u32, u8)
+pub(crate) fn month_number_and_day(date: Date) -> (u32, u8)
     ensures index { pos result.0 ≡ month_number_at date +ℤ pos 11_999_988 }
-    ensures bound { result.0 < 23_999_988 }
+    ensures max { result.0 < 23_999_988 }
     ensures day { result.1 ≡ day_of_month_at date }
     ensures first { 1 ≤ result.1 }
     ensures in_range { IsDate date }
@@ -33,34 +33,34 @@ fn year_and_month(index: u32) -> (i32, u8)
 }
 
 /// Returns the date in a month with this day, or the last day of the month if it is shorter.
-pub(crate) fn day_in_month(index: u32, day: u8) -> Date
+pub(crate) fn clamped_date_in_month(index: u32, day: u8) -> Date
     requires month { index < 23_999_988 }
     requires day { 1 ≤ day }
     ensures month { pos index ≡ month_number_at result +ℤ pos 11_999_988 }
     ensures day { day_of_month_at result
         ≡ min day (days_in_month (year_at result) (month_at result)) }
-    ensures in_range { IsDate result }
+    ensures range { IsDate result }
 {
     let (year, month) = year_and_month(index);
-    Date::at_month_index(year, month, day)
+    Date::from_month_index_clamped(year, month, day)
 }
 
 /// Adds months, or returns `None` if the resulting month is out of range.
-fn moved(date: Date, months: i64) -> Option<Date>
-    requires least { neg_ℤ (pos (2 ^ 40)) ≤ℤ months }
-    requires most { months ≤ℤ pos (2 ^ 40) }
+fn checked_add_i64_months(date: Date, months: i64) -> Option<Date>
+    requires min { neg_ℤ (pos (2 ^ 40)) ≤ℤ months }
+    requires max { months ≤ℤ pos (2 ^ 40) }
     ensures every { (n : ℕ) → IsDate n → IsMonthsLater date months n → result ≡ Some n }
-    ensures has { IfSome result (λ n. IsDate n × IsMonthsLater date months n) }
+    ensures value { IfSome result (λ n. IsDate n × IsMonthsLater date months n) }
     ensures some { IfSome result (λ _. IsMonthNumber (month_number_at date +ℤ months)) }
     ensures none { IfNone result (¬ IsMonthNumber (month_number_at date +ℤ months)) }
     ensures in_range { IsDate date }
 {
-    let (index, day) = index_and_day(date);
+    let (index, day) = month_number_and_day(date);
     let index = i64::from(index) + months;
     if index < 0 || index >= MONTHS {
         return None;
     }
-    Some(day_in_month(index as u32, day))
+    Some(clamped_date_in_month(index as u32, day))
 }
 
 /// Adds months, or subtracts them if the number is negative. The day of the month stays, or becomes
@@ -69,12 +69,12 @@ fn moved(date: Date, months: i64) -> Option<Date>
 /// Returns `None` if the resulting month is out of range.
 pub fn checked_add_months(date: Date, months: i32) -> Option<Date>
     ensures every { (n : ℕ) → IsDate n → IsMonthsLater date months n → result ≡ Some n }
-    ensures has { IfSome result (λ n. IsDate n × IsMonthsLater date months n) }
+    ensures value { IfSome result (λ n. IsDate n × IsMonthsLater date months n) }
     ensures some { IfSome result (λ _. IsMonthNumber (month_number_at date +ℤ months)) }
     ensures none { IfNone result (¬ IsMonthNumber (month_number_at date +ℤ months)) }
     ensures in_range { IsDate date }
 {
-    moved(date, i64::from(months))
+    checked_add_i64_months(date, i64::from(months))
 }
 
 /// Adds months like [`checked_add_months`], but returns the first or the last date of the range if
@@ -101,7 +101,7 @@ pub fn saturating_add_months(date: Date, months: i32) -> Date
 /// Returns `None` if the resulting year is out of range.
 pub fn checked_add_years(date: Date, years: i32) -> Option<Date>
     ensures every { (n : ℕ) → IsDate n → IsMonthsLater date (pos 12 *ℤ years) n → result ≡ Some n }
-    ensures has { IfSome result (λ n. IsDate n × IsMonthsLater date (pos 12 *ℤ years) n) }
+    ensures value { IfSome result (λ n. IsDate n × IsMonthsLater date (pos 12 *ℤ years) n) }
     ensures parts { IfSome result (λ n.
         (year_at n ≡ year_at date +ℤ years) × (month_at n ≡ month_at date)) }
     ensures some { IfSome result (λ _. IsYear (year_at date +ℤ years)) }
@@ -109,5 +109,5 @@ pub fn checked_add_years(date: Date, years: i32) -> Option<Date>
     ensures in_range { IsDate date }
 {
     let months = 12 * i64::from(years);
-    moved(date, months)
+    checked_add_i64_months(date, months)
 }

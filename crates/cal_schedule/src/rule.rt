@@ -1,9 +1,9 @@
 //! Recurrence rules of days, a subset of RFC 5545.
-mod kinds;
-mod passes;
+mod rule;
+mod matching;
 mod search;
-mod walk;
+mod iter;
 
-pub use kinds::{ByDay, Frequency, Rule};
-pub(crate) use passes::{is_nth_of, turn_of};
-pub use walk::RuleDays;
+pub use rule::{ByDay, Frequency, Rule};
+pub(crate) use matching::{is_nth_in_period, period_of};
+pub use iter::RuleDays;

@@ -2,29 +2,29 @@
 ghost use Rattle.std.specs.Prelude.{◌≡◌, ◌<◌, ◌≤◌, ◌^◌, pos, neg_ℤ, ◌+ℤ◌, ◌-ℤ◌, ◌*ℤ◌, ◌<ℤ◌, ◌≤ℤ◌};
 ghost use Rattle.cal_time.specs.Date.{IsDate};
 ghost use Rattle.cal_schedule.specs.Months.{month_number_at, IsMonthNumber, IsMonthsLater};
-ghost use Rattle.cal_schedule.specs.Until.{months_of, IsGreatest, IsLeast, LeadsTo, LeadsUpTo, LeadsBackTo};
+ghost use Rattle.cal_schedule.specs.Until.{months_of, IsGreatest, IsLeast, IsPeriodUntil, IsMonthsUpTo, IsMonthsBackTo};
 
-use crate::months::{checked_add_months, index_and_day};
+use crate::months::{checked_add_months, month_number_and_day};
 use crate::period::Period;
 use cal_time::Date;
 
 /// Returns the months from the month of one date to the month of another.
-pub(crate) fn months_apart(from: Date, to: Date) -> i32
-    ensures number { month_number_at to ≡ month_number_at from +ℤ result }
+pub(crate) fn month_difference(from: Date, to: Date) -> i32
+    ensures value { month_number_at to ≡ month_number_at from +ℤ result }
     ensures month { IsMonthNumber (month_number_at from +ℤ result) }
-    ensures least { neg_ℤ (pos (2 ^ 25)) ≤ℤ result }
-    ensures most { result ≤ℤ pos (2 ^ 25) }
+    ensures min { neg_ℤ (pos (2 ^ 25)) ≤ℤ result }
+    ensures max { result ≤ℤ pos (2 ^ 25) }
     ensures in_range { IsDate from × IsDate to }
 {
-    let (start, _) = index_and_day(from);
-    let (end, _) = index_and_day(to);
+    let (start, _) = month_number_and_day(from);
+    let (end, _) = month_number_and_day(to);
     end as i32 - start as i32
 }
 
 /// Adds months. The resulting month must be in range.
 fn add_months(date: Date, months: i32) -> Date
     requires { IsMonthNumber (month_number_at date +ℤ months) }
-    ensures later { IsMonthsLater date months result }
+    ensures value { IsMonthsLater date months result }
     ensures range { IsDate result }
 {
     match checked_add_months(date, months) {
@@ -34,12 +34,12 @@ fn add_months(date: Date, months: i32) -> Date
 }
 
 /// Returns the months to a date that is not before the first.
-fn months_on(from: Date, to: Date) -> i32
+fn months_forward(from: Date, to: Date) -> i32
     requires { from ≤ to }
-    ensures greatest { IsGreatest (LeadsUpTo from to) result }
+    ensures value { IsGreatest (IsMonthsUpTo from to) result }
     ensures in_range { IsDate from × IsDate to }
 {
-    let months = months_apart(from, to);
+    let months = month_difference(from, to);
     let later = add_months(from, months);
     if later <= to {
         return months;
@@ -48,12 +48,12 @@ fn months_on(from: Date, to: Date) -> i32
 }
 
 /// Returns the months to a date that is not after the first.
-fn months_back(from: Date, to: Date) -> i32
+fn months_backward(from: Date, to: Date) -> i32
     requires { to ≤ from }
-    ensures least { IsLeast (LeadsBackTo from to) result }
+    ensures value { IsLeast (IsMonthsBackTo from to) result }
     ensures in_range { IsDate from × IsDate to }
 {
-    let months = months_apart(from, to);
+    let months = month_difference(from, to);
     let earlier = add_months(from, months);
     if to <= earlier {
         return months;
@@ -66,25 +66,25 @@ fn months_back(from: Date, to: Date) -> i32
 ///
 /// From 31 January 2023 it is 1 to 28 February, 0 to 27 February, and -1 to 30 December 2022.
 pub fn months_until(from: Date, to: Date) -> i32
-    ensures on { from ≤ to → IsGreatest (LeadsUpTo from to) result }
-    ensures back { to < from → IsLeast (LeadsBackTo from to) result }
-    ensures least { from ≤ to → pos 0 ≤ℤ result }
-    ensures most { to < from → result ≤ℤ pos 0 }
+    ensures value_forward { from ≤ to → IsGreatest (IsMonthsUpTo from to) result }
+    ensures value_backward { to < from → IsLeast (IsMonthsBackTo from to) result }
+    ensures min { from ≤ to → pos 0 ≤ℤ result }
+    ensures max { to < from → result ≤ℤ pos 0 }
     ensures in_range { IsDate from × IsDate to }
 {
     if from <= to {
-        months_on(from, to)
+        months_forward(from, to)
     } else {
-        months_back(from, to)
+        months_backward(from, to)
     }
 }
 
 /// Splits months into years and months.
 fn years_and_months(months: i32) -> (i32, i32)
-    ensures sum { months ≡ pos 12 *ℤ result.0 +ℤ result.1 }
-    ensures on { pos 0 ≤ℤ months → (pos 0 ≤ℤ result.0) × (pos 0 ≤ℤ result.1)
+    ensures value { months ≡ pos 12 *ℤ result.0 +ℤ result.1 }
+    ensures forward { pos 0 ≤ℤ months → (pos 0 ≤ℤ result.0) × (pos 0 ≤ℤ result.1)
         × (result.1 ≤ℤ pos 11) }
-    ensures back { months ≤ℤ pos 0 → (result.0 ≤ℤ pos 0) × (neg_ℤ (pos 11) ≤ℤ result.1)
+    ensures backward { months ≤ℤ pos 0 → (result.0 ≤ℤ pos 0) × (neg_ℤ (pos 11) ≤ℤ result.1)
         × (result.1 ≤ℤ pos 0) }
 {
     (months / 12, months % 12)
@@ -95,10 +95,10 @@ fn years_and_months(months: i32) -> (i32, i32)
 /// From 1 June 1980 it is 43 to 31 May 2024, and 44 to 1 June 2024. A birthday on 29 February
 /// counts on the 28th in common years.
 pub fn years_until(from: Date, to: Date) -> i32
-    ensures on { from ≤ to → IsGreatest (λ years. LeadsUpTo from to (pos 12 *ℤ years)) result }
-    ensures back { to < from → IsLeast (λ years. LeadsBackTo from to (pos 12 *ℤ years)) result }
-    ensures least { from ≤ to → pos 0 ≤ℤ result }
-    ensures most { to < from → result ≤ℤ pos 0 }
+    ensures value_forward { from ≤ to → IsGreatest (λ years. IsMonthsUpTo from to (pos 12 *ℤ years)) result }
+    ensures value_backward { to < from → IsLeast (λ years. IsMonthsBackTo from to (pos 12 *ℤ years)) result }
+    ensures min { from ≤ to → pos 0 ≤ℤ result }
+    ensures max { to < from → result ≤ℤ pos 0 }
     ensures in_range { IsDate from × IsDate to }
 {
     let (years, _) = years_and_months(months_until(from, to));
@@ -112,9 +112,9 @@ pub fn years_until(from: Date, to: Date) -> i32
 /// From 31 January 2023 to 2 March 2024 it is a year, a month and 2 days, because 13 months later
 /// is 29 February 2024.
 pub fn period_until(from: Date, to: Date) -> Period
-    ensures leads { LeadsTo from to result }
-    ensures on { from ≤ to → IsGreatest (LeadsUpTo from to) (months_of result) }
-    ensures back { to < from → IsLeast (LeadsBackTo from to) (months_of result) }
+    ensures value { IsPeriodUntil from to result }
+    ensures value_forward { from ≤ to → IsGreatest (IsMonthsUpTo from to) (months_of result) }
+    ensures value_backward { to < from → IsLeast (IsMonthsBackTo from to) (months_of result) }
     ensures forward { from ≤ to → (pos 0 ≤ℤ result.years) × (pos 0 ≤ℤ result.months)
         × (result.months ≤ℤ pos 11) × (pos 0 ≤ℤ result.days) }
     ensures backward { to < from → (result.years ≤ℤ pos 0) × (neg_ℤ (pos 11) ≤ℤ result.months)

@@ -3,8 +3,8 @@ use Rattle.std.proofs.Common.{◌≡◌, true, false, ℤ, pos, negsuc, neg_ℤ,
 use Rattle.std.specs.Int.{w64, from_bool}
 use Rattle.std.specs.Int.Signed.{lt_z}
 use Rattle.std.proofs.lemmas.Int.{ints, by_lt_z}
-use Rattle.cal_span.specs.SignedDuration.{second, IsDuration, IsWithin}
-use Rattle.cal_span.specs.Fields.{nanoseconds_in, IsNormal, CanCarry, IsCarry}
+use Rattle.cal_span.specs.SignedDuration.{second, IsDuration, IsMagnitudeWithin}
+use Rattle.cal_span.specs.Fields.{nanoseconds_of_fields, IsNormal, CanCarry, IsCarry}
 use Rattle.cal_span.specs.FieldsLaws.{times-second}
 use Rattle.cal_span.specs.declared.signed_duration.SignedDuration.TheInside.{Inside}
 
@@ -59,7 +59,7 @@ IsCarry-counted s n most least x y can bounds above below =
     })))
 
 -- Seconds in an i64 and less than a second more are a duration.
-pub IsDuration-sum : (s n : ℤ) → FitsSigned w64 s → IsWithin 999_999_999 n → IsDuration (s *ℤ pos second +ℤ n)
+pub IsDuration-sum : (s n : ℤ) → FitsSigned w64 s → IsMagnitudeWithin 999_999_999 n → IsDuration (s *ℤ pos second +ℤ n)
 IsDuration-sum s n fits within =
     let t = times-second s in
     record { at_least = omega (arith, ints); at_most = omega (arith, ints) }
@@ -77,7 +77,7 @@ pub exact-along : (r : Option ℤ) (v w : ℤ) → v ≡ w → SomeIff r (IsDura
 exact-along r v w e = subst (λ u. SomeIff r (IsDuration u) u) e
 
 -- The number of normal fields is a duration if the seconds fit in an i64.
-pub IsDuration-fields : (a : Inside) → IsNormal a → FitsSigned w64 a.seconds → IsDuration (nanoseconds_in a)
+pub IsDuration-fields : (a : Inside) → IsNormal a → FitsSigned w64 a.seconds → IsDuration (nanoseconds_of_fields a)
 IsDuration-fields a h f =
     let t = times-second a.seconds in
     record { at_least = omega (arith, ints); at_most = omega (arith, ints) }
@@ -96,7 +96,7 @@ IsDuration-carried s n carry is fits =
     subst IsDuration (carry-whole s n carry) (IsDuration-fields (record { seconds = s +ℤ carry; nanoseconds = n -ℤ carry *ℤ pos second }) is.normal fits)
 
 -- The seconds of a sum fit in an i64 if the sum is a duration.
-pub add-fits : (a b : Inside) (v w : ℤ) → IsNormal a → IsNormal b → FitsSigned w64 a.seconds → FitsSigned w64 b.seconds → nanoseconds_in a ≡ v → nanoseconds_in b ≡ w → IsDuration (v +ℤ w) → FitsSigned w64 (a.seconds +ℤ b.seconds)
+pub add-fits : (a b : Inside) (v w : ℤ) → IsNormal a → IsNormal b → FitsSigned w64 a.seconds → FitsSigned w64 b.seconds → nanoseconds_of_fields a ≡ v → nanoseconds_of_fields b ≡ w → IsDuration (v +ℤ w) → FitsSigned w64 (a.seconds +ℤ b.seconds)
 add-fits a b v w h k f g is_v is_w d =
     let p = times-second a.seconds in
     let q = times-second b.seconds in
@@ -106,7 +106,7 @@ add-fits a b v w h k f g is_v is_w d =
 
 -- If a difference is a duration, its seconds fit in an i64, except if the seconds of the left side
 -- are 0 and the nanoseconds are negative.
-pub sub-fits-apart : (a b : Inside) (v w : ℤ) → IsNormal a → IsNormal b → FitsSigned w64 a.seconds → FitsSigned w64 b.seconds → nanoseconds_in a ≡ v → nanoseconds_in b ≡ w → IsDuration (v -ℤ w) → ¬ (a.seconds ≡ pos 0) → FitsSigned w64 (a.seconds -ℤ b.seconds)
+pub sub-fits-apart : (a b : Inside) (v w : ℤ) → IsNormal a → IsNormal b → FitsSigned w64 a.seconds → FitsSigned w64 b.seconds → nanoseconds_of_fields a ≡ v → nanoseconds_of_fields b ≡ w → IsDuration (v -ℤ w) → ¬ (a.seconds ≡ pos 0) → FitsSigned w64 (a.seconds -ℤ b.seconds)
 sub-fits-apart a b v w h k f g is_v is_w d apart =
     let p = times-second a.seconds in
     let q = times-second b.seconds in
@@ -114,7 +114,7 @@ sub-fits-apart a b v w h k f g is_v is_w d apart =
     let high = d.at_most in
     grind (arith, ints)
 
-pub sub-fits-over : (a b : Inside) (v w : ℤ) → IsNormal a → IsNormal b → FitsSigned w64 a.seconds → FitsSigned w64 b.seconds → nanoseconds_in a ≡ v → nanoseconds_in b ≡ w → IsDuration (v -ℤ w) → pos 0 ≤ℤ (a.nanoseconds -ℤ b.nanoseconds) → FitsSigned w64 (a.seconds -ℤ b.seconds)
+pub sub-fits-over : (a b : Inside) (v w : ℤ) → IsNormal a → IsNormal b → FitsSigned w64 a.seconds → FitsSigned w64 b.seconds → nanoseconds_of_fields a ≡ v → nanoseconds_of_fields b ≡ w → IsDuration (v -ℤ w) → pos 0 ≤ℤ (a.nanoseconds -ℤ b.nanoseconds) → FitsSigned w64 (a.seconds -ℤ b.seconds)
 sub-fits-over a b v w h k f g is_v is_w d over =
     let p = times-second a.seconds in
     let q = times-second b.seconds in
@@ -161,8 +161,8 @@ CanCarry-difference a b h k = record {
 }
 
 -- The sum and the difference of two numbers, from the sums and differences of their fields.
-pub sum-fields : (a b : Inside) (v w : ℤ) → nanoseconds_in a ≡ v → nanoseconds_in b ≡ w → (a.seconds +ℤ b.seconds) *ℤ pos second +ℤ (a.nanoseconds +ℤ b.nanoseconds) ≡ v +ℤ w
+pub sum-fields : (a b : Inside) (v w : ℤ) → nanoseconds_of_fields a ≡ v → nanoseconds_of_fields b ≡ w → (a.seconds +ℤ b.seconds) *ℤ pos second +ℤ (a.nanoseconds +ℤ b.nanoseconds) ≡ v +ℤ w
 sum-fields a b v w is_v is_w = omega (arith, ints)
 
-pub difference-fields : (a b : Inside) (v w : ℤ) → nanoseconds_in a ≡ v → nanoseconds_in b ≡ w → (a.seconds -ℤ b.seconds) *ℤ pos second +ℤ (a.nanoseconds -ℤ b.nanoseconds) ≡ v -ℤ w
+pub difference-fields : (a b : Inside) (v w : ℤ) → nanoseconds_of_fields a ≡ v → nanoseconds_of_fields b ≡ w → (a.seconds -ℤ b.seconds) *ℤ pos second +ℤ (a.nanoseconds -ℤ b.nanoseconds) ≡ v -ℤ w
 difference-fields a b v w is_v is_w = omega (arith, ints)

@@ -2,8 +2,8 @@
 use Rattle.std.proofs.Common.{◌≡◌, ℤ, pos, neg_ℤ, ◌+ℤ◌, ◌≤ℤ◌, ◌<ℤ◌, FitsSigned, arith}
 use Rattle.std.specs.Int.{int_min, w64}
 use Rattle.std.proofs.lemmas.Int.{ints, clamps, by_lt_z}
-use Rattle.cal_span.specs.SignedDuration.{second, IsDuration, clamp, least, greatest}
-use Rattle.cal_span.specs.Fields.{nanoseconds_in, IsNormal}
+use Rattle.cal_span.specs.SignedDuration.{second, IsDuration, clamp, min_duration, max_duration}
+use Rattle.cal_span.specs.Fields.{nanoseconds_of_fields, IsNormal}
 use Rattle.cal_span.specs.FieldsLaws.{times-second}
 use Rattle.cal_span.specs.declared.signed_duration.SignedDuration.TheInside.{Inside}
 
@@ -13,22 +13,22 @@ clamp-inside v d =
     let high = d.at_most in
     omega (arith, ints, clamps)
 
-pub clamp-below : (v : ℤ) → v ≤ℤ greatest → ¬ IsDuration v → clamp v ≡ least
+pub clamp-below : (v : ℤ) → v ≤ℤ max_duration → ¬ IsDuration v → clamp v ≡ min_duration
 clamp-below v high outside =
-    by_lt_z v least
+    by_lt_z v min_duration
     (λ below. omega (arith, ints, clamps))
     (λ low. absurd (outside (record { at_least = low; at_most = high })))
 
-pub clamp-above : (v : ℤ) → least ≤ℤ v → ¬ IsDuration v → clamp v ≡ greatest
+pub clamp-above : (v : ℤ) → min_duration ≤ℤ v → ¬ IsDuration v → clamp v ≡ max_duration
 clamp-above v low outside =
-    by_lt_z greatest v
+    by_lt_z max_duration v
     (λ above. omega (arith, ints, clamps))
     (λ high. absurd (outside (record { at_least = low; at_most = high })))
 
 -- A sum is not above the maximum if the seconds of one side are negative, and not below the minimum
 -- if the seconds of no side are.
-module _ (a b : Inside) (v w : ℤ) (h : IsNormal a) (k : IsNormal b) (f : FitsSigned w64 a.seconds) (g : FitsSigned w64 b.seconds) (is_v : nanoseconds_in a ≡ v) (is_w : nanoseconds_in b ≡ w) where
-  pub sum-at_most : int_min a.seconds b.seconds <ℤ pos 0 → (v +ℤ w) ≤ℤ greatest
+module _ (a b : Inside) (v w : ℤ) (h : IsNormal a) (k : IsNormal b) (f : FitsSigned w64 a.seconds) (g : FitsSigned w64 b.seconds) (is_v : nanoseconds_of_fields a ≡ v) (is_w : nanoseconds_of_fields b ≡ w) where
+  pub sum-at_most : int_min a.seconds b.seconds <ℤ pos 0 → (v +ℤ w) ≤ℤ max_duration
   sum-at_most side =
       let p = times-second a.seconds in
       let q = times-second b.seconds in
@@ -36,7 +36,7 @@ module _ (a b : Inside) (v w : ℤ) (h : IsNormal a) (k : IsNormal b) (f : FitsS
       (λ left. grind (arith, ints))
       (λ not_left. let right : b.seconds <ℤ pos 0 = omega (arith, ints, clamps) in grind (arith, ints))
 
-  pub sum-at_least : pos 0 ≤ℤ int_min a.seconds b.seconds → least ≤ℤ (v +ℤ w)
+  pub sum-at_least : pos 0 ≤ℤ int_min a.seconds b.seconds → min_duration ≤ℤ (v +ℤ w)
   sum-at_least neither =
       let p = times-second a.seconds in
       let q = times-second b.seconds in

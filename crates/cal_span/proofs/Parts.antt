@@ -3,7 +3,7 @@ use Rattle.std.proofs.Common.{◌≡◌, zero, suc, ℤ, pos, negsuc, ◌+ℤ◌
 use borrow.Author.Differences.{up, down}
 use Rattle.std.proofs.lemmas.Int.{ints}
 use Rattle.cal_span.specs.SignedDuration.{second}
-use Rattle.cal_span.specs.Fields.{nanoseconds_in, IsNormal}
+use Rattle.cal_span.specs.Fields.{nanoseconds_of_fields, IsNormal}
 use Rattle.cal_span.specs.FieldsLaws.{times-second}
 use Rattle.cal_span.specs.declared.signed_duration.SignedDuration.TheInside.{Inside}
 
@@ -20,7 +20,7 @@ sum-parts (negsuc m) (pos zero) p q =
 sum-parts (negsuc m) (pos (suc n)) p q = absurd (omega (arith, ints, q (omega (arith, ints))))
 sum-parts (negsuc m) (negsuc n) p q = (omega (arith, ints), omega (arith, ints))
 
-pub parts : (fields : Inside) → IsNormal fields → (up (nanoseconds_in fields) ≡ second * up fields.seconds + up fields.nanoseconds) × (down (nanoseconds_in fields) ≡ second * down fields.seconds + down fields.nanoseconds)
+pub parts : (fields : Inside) → IsNormal fields → (up (nanoseconds_of_fields fields) ≡ second * up fields.seconds + up fields.nanoseconds) × (down (nanoseconds_of_fields fields) ≡ second * down fields.seconds + down fields.nanoseconds)
 parts fields h =
     let t = times-second fields.seconds in
     let s = sum-parts (fields.seconds *ℤ pos second) fields.nanoseconds (λ x. h.positive (omega (arith, ints))) (λ x. h.negative (omega (arith, ints))) in

@@ -5,9 +5,9 @@ use borrow.Author.Differences.{up, down, same_in, sum_is_lem, product_is}
 use Rattle.std.proofs.lemmas.Int.{ints, by_lt_z, fits_signed_mul, quot-rem, rem_below, unsigned_abs-mul}
 use Rattle.std.proofs.lemmas.Nat.{mul-le}
 use Rattle.std.proofs.Math.Nat.{mul-le-mul_right}
-use Rattle.cal_span.specs.SignedDuration.{second, past_second, IsWithin}
-use Rattle.cal_span.specs.Fields.{nanoseconds_in, IsNormal}
-use Rattle.cal_span.specs.FieldsLaws.{times-second, fields_of-nanoseconds_in}
+use Rattle.cal_span.specs.SignedDuration.{second, subsec_nanoseconds, IsMagnitudeWithin}
+use Rattle.cal_span.specs.Fields.{nanoseconds_of_fields, IsNormal}
+use Rattle.cal_span.specs.FieldsLaws.{times-second, fields_of-nanoseconds_of_fields}
 use Rattle.cal_span.specs.declared.signed_duration.SignedDuration.TheInside.{Inside}
 
 -- The product of a sum is the sum of the products.
@@ -27,7 +27,7 @@ product-second s k =
     let down_down = ap (λ n. n * down k) t.1 in
     same_in ((s *ℤ pos second) *ℤ k) ((s *ℤ k) *ℤ pos second) (omega (arith, product_is))
 
-pub product-fields : (a : Inside) (v k : ℤ) → nanoseconds_in a ≡ v → v *ℤ k ≡ (a.seconds *ℤ k) *ℤ pos second +ℤ a.nanoseconds *ℤ k
+pub product-fields : (a : Inside) (v k : ℤ) → nanoseconds_of_fields a ≡ v → v *ℤ k ≡ (a.seconds *ℤ k) *ℤ pos second +ℤ a.nanoseconds *ℤ k
 product-fields a v k is_v =
     ap (λ x. x *ℤ k) (sym is_v)
     ∙ product-sum (a.seconds *ℤ pos second) a.nanoseconds k
@@ -55,31 +55,31 @@ product-negative (negsuc s) (negsuc n) (pos k) p q h = omega (arith, ints)
 product-negative (negsuc s) (negsuc n) (negsuc k) p q h = absurd (omega (arith, ints))
 
 -- The nanoseconds past the seconds, times a factor of 33 bits, fit in an i64.
-pub past-fits : (v k : ℤ) → IsWithin 4_294_967_295 k → FitsSigned w64 (past_second v *ℤ k)
+pub past-fits : (v k : ℤ) → IsMagnitudeWithin 4_294_967_295 k → FitsSigned w64 (subsec_nanoseconds v *ℤ k)
 past-fits v k within =
     let parts = quot-rem v (pos second) in
     let small = rem_below v (pos second) (omega arith) in
-    fits_signed_mul w64 (past_second v) k 999_999_999 4_294_967_295 (omega (arith, ints)) (omega (arith, ints)) (lit< tt)
+    fits_signed_mul w64 (subsec_nanoseconds v) k 999_999_999 4_294_967_295 (omega (arith, ints)) (omega (arith, ints)) (lit< tt)
 
-past_second-fields : (a : Inside) (v : ℤ) → IsNormal a → nanoseconds_in a ≡ v → past_second v ≡ a.nanoseconds
-past_second-fields a v h is_v =
+subsec_nanoseconds-fields : (a : Inside) (v : ℤ) → IsNormal a → nanoseconds_of_fields a ≡ v → subsec_nanoseconds v ≡ a.nanoseconds
+subsec_nanoseconds-fields a v h is_v =
     let parts = quot-rem v (pos second) in
-    let rest : int_rem v (pos second) ≡ a.nanoseconds = ap (λ x. int_rem x (pos second)) (sym is_v) ∙ ap (λ fields. fields.nanoseconds) (fields_of-nanoseconds_in a h) in
+    let rest : int_rem v (pos second) ≡ a.nanoseconds = ap (λ x. int_rem x (pos second)) (sym is_v) ∙ ap (λ fields. fields.nanoseconds) (fields_of-nanoseconds_of_fields a h) in
     omega (arith, ints)
 
 -- The fields of a number have its sign.
-above-fields : (a : Inside) → IsNormal a → pos 0 ≤ℤ nanoseconds_in a → (pos 0 ≤ℤ a.seconds) × (pos 0 ≤ℤ a.nanoseconds)
+above-fields : (a : Inside) → IsNormal a → pos 0 ≤ℤ nanoseconds_of_fields a → (pos 0 ≤ℤ a.seconds) × (pos 0 ≤ℤ a.nanoseconds)
 above-fields a h from =
     let t = times-second a.seconds in
     (grind (arith, ints), grind (arith, ints))
 
-below-fields : (a : Inside) → IsNormal a → nanoseconds_in a ≤ℤ pos 0 → (a.seconds ≤ℤ pos 0) × (a.nanoseconds ≤ℤ pos 0)
+below-fields : (a : Inside) → IsNormal a → nanoseconds_of_fields a ≤ℤ pos 0 → (a.seconds ≤ℤ pos 0) × (a.nanoseconds ≤ℤ pos 0)
 below-fields a h to =
     let t = times-second a.seconds in
     (grind (arith, ints), grind (arith, ints))
 
 -- If n is less than a second, the seconds of n * k are not more than k.
-seconds-small : (a : Inside) (n k : ℤ) → IsNormal a → nanoseconds_in a ≡ n *ℤ k → unsigned_abs n ≤ 999_999_999 → unsigned_abs a.seconds ≤ unsigned_abs k
+seconds-small : (a : Inside) (n k : ℤ) → IsNormal a → nanoseconds_of_fields a ≡ n *ℤ k → unsigned_abs n ≤ 999_999_999 → unsigned_abs a.seconds ≤ unsigned_abs k
 seconds-small a n k h is small =
     let size = unsigned_abs-mul n k in
     let most = mul-le-mul_right {m = unsigned_abs n} {n = 999_999_999} (unsigned_abs k) small in
@@ -93,11 +93,11 @@ pub record IsProduct (a b : Inside) (v k : ℤ) : Type 0 where
   pub positive : pos 0 <ℤ (a.seconds *ℤ k) → pos 0 ≤ℤ b.seconds
   pub negative : (a.seconds *ℤ k) <ℤ pos 0 → b.seconds ≤ℤ pos 0
   pub normal : IsNormal (record { seconds = a.seconds *ℤ k +ℤ b.seconds; nanoseconds = b.nanoseconds })
-  pub whole : nanoseconds_in (record { seconds = a.seconds *ℤ k +ℤ b.seconds; nanoseconds = b.nanoseconds }) ≡ v *ℤ k
+  pub whole : nanoseconds_of_fields (record { seconds = a.seconds *ℤ k +ℤ b.seconds; nanoseconds = b.nanoseconds }) ≡ v *ℤ k
 
-pub IsProduct-of : (a b : Inside) (v k : ℤ) → IsNormal a → IsNormal b → nanoseconds_in a ≡ v → nanoseconds_in b ≡ past_second v *ℤ k → IsProduct a b v k
+pub IsProduct-of : (a b : Inside) (v k : ℤ) → IsNormal a → IsNormal b → nanoseconds_of_fields a ≡ v → nanoseconds_of_fields b ≡ subsec_nanoseconds v *ℤ k → IsProduct a b v k
 IsProduct-of a b v k h g is_v is_past =
-    let is : nanoseconds_in b ≡ a.nanoseconds *ℤ k = is_past ∙ ap (λ n. n *ℤ k) (past_second-fields a v h is_v) in
+    let is : nanoseconds_of_fields b ≡ a.nanoseconds *ℤ k = is_past ∙ ap (λ n. n *ℤ k) (subsec_nanoseconds-fields a v h is_v) in
     let above = λ (s : pos 0 <ℤ (a.seconds *ℤ k)). above-fields b g (rw is (product-positive a.seconds a.nanoseconds k h.positive h.negative s)) in
     let below = λ (s : (a.seconds *ℤ k) <ℤ pos 0). below-fields b g (rw is (product-negative a.seconds a.nanoseconds k h.positive h.negative s)) in
     record {

@@ -3,16 +3,16 @@ use Rattle.std.proofs.Common.{◌≡◌, ℕ, zero, suc, ◌+◌, ◌*◌, ◌/�
 use Rattle.std.proofs.lemmas.Fmt.{length-decimal-le}
 use Rattle.std.proofs.lemmas.Bool.Decides.{nat_tests}
 use Rattle.std.proofs.lemmas.Int.{ints}
-use Rattle.cal_span.specs.SignedDuration.{day, hour, minute, second, millisecond, microsecond, part, parts_text, text}
+use Rattle.cal_span.specs.SignedDuration.{day, hour, minute, second, millisecond, microsecond, part_text, parts_text, text}
 
 pub parts_text-fields : (s n : ℕ) → n < second →
-    part (s / 86_400) (codes "d")
-    ++ (part (s % 86_400 / 3_600) (codes "h")
-    ++ (part (s % 86_400 / 60 % 60) (codes "m")
-    ++ (part (s % 86_400 % 60) (codes "s")
-    ++ (part (n / 1_000_000) (codes "ms")
-    ++ (part (n / 1_000 % 1_000) (0xc2 ∷ 0xb5 ∷ codes "s")
-    ++ part (n % 1_000) (codes "ns"))))))
+    part_text (s / 86_400) (codes "d")
+    ++ (part_text (s % 86_400 / 3_600) (codes "h")
+    ++ (part_text (s % 86_400 / 60 % 60) (codes "m")
+    ++ (part_text (s % 86_400 % 60) (codes "s")
+    ++ (part_text (n / 1_000_000) (codes "ms")
+    ++ (part_text (n / 1_000 % 1_000) (0xc2 ∷ 0xb5 ∷ codes "s")
+    ++ part_text (n % 1_000) (codes "ns"))))))
     ≡ parts_text (s * second + n)
 parts_text-fields s n below =
     let v = s * second + n in
@@ -24,43 +24,43 @@ parts_text-fields s n below =
     let microseconds : n / 1_000 % 1_000 ≡ v / microsecond % 1_000 = omega arith in
     let nanoseconds : n % 1_000 ≡ v % 1_000 = omega arith in
     simp append_assoc (λ i.
-    part (days i) (codes "d")
-    ++ (part (hours i) (codes "h")
-    ++ (part (minutes i) (codes "m")
-    ++ (part (seconds i) (codes "s")
-    ++ (part (milliseconds i) (codes "ms")
-    ++ (part (microseconds i) (0xc2 ∷ 0xb5 ∷ codes "s")
-    ++ part (nanoseconds i) (codes "ns")))))))
+    part_text (days i) (codes "d")
+    ++ (part_text (hours i) (codes "h")
+    ++ (part_text (minutes i) (codes "m")
+    ++ (part_text (seconds i) (codes "s")
+    ++ (part_text (milliseconds i) (codes "ms")
+    ++ (part_text (microseconds i) (0xc2 ∷ 0xb5 ∷ codes "s")
+    ++ part_text (nanoseconds i) (codes "ns")))))))
 
 -- The parts, appended one after another.
-pub parts-appended : (a b c d e f g h : List ℕ) (s n : ℕ) → n < second → b ≡ a ++ part (s / 86_400) (codes "d") → c ≡ b ++ part (s % 86_400 / 3_600) (codes "h")
-    → d ≡ c ++ part (s % 86_400 / 60 % 60) (codes "m") → e ≡ d ++ part (s % 86_400 % 60) (codes "s") → f ≡ e ++ part (n / 1_000_000) (codes "ms")
-    → g ≡ f ++ part (n / 1_000 % 1_000) (0xc2 ∷ 0xb5 ∷ codes "s") → h ≡ g ++ part (n % 1_000) (codes "ns") → h ≡ a ++ parts_text (s * second + n)
+pub parts-appended : (a b c d e f g h : List ℕ) (s n : ℕ) → n < second → b ≡ a ++ part_text (s / 86_400) (codes "d") → c ≡ b ++ part_text (s % 86_400 / 3_600) (codes "h")
+    → d ≡ c ++ part_text (s % 86_400 / 60 % 60) (codes "m") → e ≡ d ++ part_text (s % 86_400 % 60) (codes "s") → f ≡ e ++ part_text (n / 1_000_000) (codes "ms")
+    → g ≡ f ++ part_text (n / 1_000 % 1_000) (0xc2 ∷ 0xb5 ∷ codes "s") → h ≡ g ++ part_text (n % 1_000) (codes "ns") → h ≡ a ++ parts_text (s * second + n)
 parts-appended a b c d e f g h s n below p q r t u v w =
     rw (w, v, u, t, r, q, p)
-    (regrouped a (part (s / 86_400) (codes "d")) (part (s % 86_400 / 3_600) (codes "h")) (part (s % 86_400 / 60 % 60) (codes "m")) (part (s % 86_400 % 60) (codes "s"))
-    (part (n / 1_000_000) (codes "ms")) (part (n / 1_000 % 1_000) (0xc2 ∷ 0xb5 ∷ codes "s")) (part (n % 1_000) (codes "ns"))
+    (regrouped a (part_text (s / 86_400) (codes "d")) (part_text (s % 86_400 / 3_600) (codes "h")) (part_text (s % 86_400 / 60 % 60) (codes "m")) (part_text (s % 86_400 % 60) (codes "s"))
+    (part_text (n / 1_000_000) (codes "ms")) (part_text (n / 1_000 % 1_000) (0xc2 ∷ 0xb5 ∷ codes "s")) (part_text (n % 1_000) (codes "ns"))
     ∙ ap (λ parts. a ++ parts) (parts_text-fields s n below))
   where
     regrouped : (a d h m s x y z : List ℕ) → a ++ d ++ h ++ m ++ s ++ x ++ y ++ z ≡ a ++ (d ++ (h ++ (m ++ (s ++ (x ++ (y ++ z))))))
     regrouped a d h m s x y z = simp append_assoc
 
 -- The length of a number and its unit.
-some-part : (n : ℕ) (unit : List ℕ) → 0 < n → part n unit ≡ decimal n ++ unit
-some-part n unit some = grind (arith, nat_tests)
+some-part_text : (n : ℕ) (unit : List ℕ) → 0 < n → part_text n unit ≡ decimal n ++ unit
+some-part_text n unit some = grind (arith, nat_tests)
 
-length-part : (k n : ℕ) (unit : List ℕ) → 0 < k → n < 10 ^ k → n < 2 ^ 64 → length (part n unit) ≤ k + length unit
-length-part k zero unit some below small = omega arith
-length-part k (suc n) unit some below small = omega (arith, ap length (some-part (suc n) unit (omega arith)), length-append (decimal (suc n)) unit, length-decimal-le k (suc n) some below small)
+length-part_text : (k n : ℕ) (unit : List ℕ) → 0 < k → n < 10 ^ k → n < 2 ^ 64 → length (part_text n unit) ≤ k + length unit
+length-part_text k zero unit some below small = omega arith
+length-part_text k (suc n) unit some below small = omega (arith, ap length (some-part_text (suc n) unit (omega arith)), length-append (decimal (suc n)) unit, length-decimal-le k (suc n) some below small)
 
-pub length-days : (n : ℕ) (unit : List ℕ) → n < 1_000_000_000_000_000 → length (part n unit) ≤ 15 + length unit
-length-days n unit below = length-part 15 n unit (omega arith) (omega (arith, below)) (omega (arith, below))
+pub length-days : (n : ℕ) (unit : List ℕ) → n < 1_000_000_000_000_000 → length (part_text n unit) ≤ 15 + length unit
+length-days n unit below = length-part_text 15 n unit (omega arith) (omega (arith, below)) (omega (arith, below))
 
-pub length-below_100 : (n : ℕ) (unit : List ℕ) → n < 100 → length (part n unit) ≤ 2 + length unit
-length-below_100 n unit below = length-part 2 n unit (omega arith) (omega (arith, below)) (omega (arith, below))
+pub length-below_100 : (n : ℕ) (unit : List ℕ) → n < 100 → length (part_text n unit) ≤ 2 + length unit
+length-below_100 n unit below = length-part_text 2 n unit (omega arith) (omega (arith, below)) (omega (arith, below))
 
-pub length-below_1000 : (n : ℕ) (unit : List ℕ) → n < 1_000 → length (part n unit) ≤ 3 + length unit
-length-below_1000 n unit below = length-part 3 n unit (omega arith) (omega (arith, below)) (omega (arith, below))
+pub length-below_1000 : (n : ℕ) (unit : List ℕ) → n < 1_000 → length (part_text n unit) ≤ 3 + length unit
+length-below_1000 n unit below = length-part_text 3 n unit (omega arith) (omega (arith, below)) (omega (arith, below))
 
 -- The text of a negative number and of a positive number.
 pub text-negative : (v : ℤ) (s n : ℕ) → v <ℤ pos 0 → s ≡ unsigned_abs v / second → n ≡ unsigned_abs v % second → codes "-" ++ parts_text (s * second + n) ≡ text v

@@ -4,8 +4,8 @@ use Rattle.cal_span.specs.SignedDuration.{second}
 use Rattle.cal_span.specs.declared.signed_duration.SignedDuration.TheInside.{Inside}
 
 -- The number of nanoseconds of the fields.
-abbrev pub nanoseconds_in : Inside → ℤ
-nanoseconds_in fields = fields.seconds *ℤ pos second +ℤ fields.nanoseconds
+abbrev pub nanoseconds_of_fields : Inside → ℤ
+nanoseconds_of_fields fields = fields.seconds *ℤ pos second +ℤ fields.nanoseconds
 
 -- The nanoseconds are less than a second, and the fields don't have opposite signs.
 pub record IsNormal (fields : Inside) : Type 0 where

@@ -4,7 +4,7 @@ use Rattle.std.proofs.Common.{arith}
 use borrow.Author.Differences.{up, down}
 use Rattle.std.proofs.lemmas.Int.{ints, quot-rem, rem_below}
 use Rattle.cal_span.specs.SignedDuration.{second}
-use Rattle.cal_span.specs.Fields.{nanoseconds_in, IsNormal, fields_of}
+use Rattle.cal_span.specs.Fields.{nanoseconds_of_fields, IsNormal, fields_of}
 use Rattle.cal_span.specs.declared.signed_duration.SignedDuration.TheInside.{Inside}
 
 -- A remainder and its dividend don't have opposite signs.
@@ -26,19 +26,19 @@ times-second (pos n) = (omega (arith, ints), omega (arith, ints))
 times-second (negsuc n) = (omega (arith, ints), omega (arith, ints))
 
 -- A number has only one pair of normal fields.
-one-pair : (a b : Inside) → IsNormal a → IsNormal b → nanoseconds_in a ≡ nanoseconds_in b → (a.seconds ≡ b.seconds) × (a.nanoseconds ≡ b.nanoseconds)
+one-pair : (a b : Inside) → IsNormal a → IsNormal b → nanoseconds_of_fields a ≡ nanoseconds_of_fields b → (a.seconds ≡ b.seconds) × (a.nanoseconds ≡ b.nanoseconds)
 one-pair a b h k e =
     let p = times-second a.seconds in
     let q = times-second b.seconds in
     (grind (arith, ints), grind (arith, ints))
 
 -- The number of the fields of v is v.
-pub nanoseconds_in-fields_of : (v : ℤ) → nanoseconds_in (fields_of v) ≡ v
-nanoseconds_in-fields_of v = quot-rem v (pos second)
+pub nanoseconds_of_fields-fields_of : (v : ℤ) → nanoseconds_of_fields (fields_of v) ≡ v
+nanoseconds_of_fields-fields_of v = quot-rem v (pos second)
 
 -- Normal fields are the fields of their number.
-pub fields_of-nanoseconds_in : (fields : Inside) → IsNormal fields → fields_of (nanoseconds_in fields) ≡ fields
-fields_of-nanoseconds_in fields h =
-    let v = nanoseconds_in fields in
-    let same = one-pair (fields_of v) fields (IsNormal-fields_of v) h (nanoseconds_in-fields_of v) in
+pub fields_of-nanoseconds_of_fields : (fields : Inside) → IsNormal fields → fields_of (nanoseconds_of_fields fields) ≡ fields
+fields_of-nanoseconds_of_fields fields h =
+    let v = nanoseconds_of_fields fields in
+    let same = one-pair (fields_of v) fields (IsNormal-fields_of v) h (nanoseconds_of_fields-fields_of v) in
     λ i. record { seconds = same.0 i; nanoseconds = same.1 i }

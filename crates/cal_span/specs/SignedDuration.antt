@@ -32,25 +32,25 @@ week = 604_800_000_000_000
 
 -- ---- range: whole seconds in an i64, and nanoseconds below a second (`MIN` and `MAX`)
 -- The minimum is -(2^63 seconds and 999999999 nanoseconds).
-abbrev pub least : ℤ
-least = neg_ℤ (pos 9_223_372_036_854_775_808_999_999_999)
+abbrev pub min_duration : ℤ
+min_duration = neg_ℤ (pos 9_223_372_036_854_775_808_999_999_999)
 
 -- The maximum is 2^63 - 1 seconds and 999999999 nanoseconds.
-abbrev pub greatest : ℤ
-greatest = pos 9_223_372_036_854_775_807_999_999_999
+abbrev pub max_duration : ℤ
+max_duration = pos 9_223_372_036_854_775_807_999_999_999
 
 -- A number of nanoseconds is a duration if it is in the range.
 pub record IsDuration (v : ℤ) : Type 0 where
-  pub at_least : least ≤ℤ v
-  pub at_most : v ≤ℤ greatest
+  pub at_least : min_duration ≤ℤ v
+  pub at_most : v ≤ℤ max_duration
 
 -- A number is clamped to the range, as by `saturating_add`.
 abbrev pub clamp : ℤ → ℤ
-clamp v = int_max least (int_min v greatest)
+clamp v = int_max min_duration (int_min v max_duration)
 
 -- n is from -bound to bound.
-abbrev pub IsWithin : ℕ → ℤ → Type 0
-IsWithin bound n = (neg_ℤ (pos bound) ≤ℤ n) × (n ≤ℤ pos bound)
+abbrev pub IsMagnitudeWithin : ℕ → ℤ → Type 0
+IsMagnitudeWithin bound n = (neg_ℤ (pos bound) ≤ℤ n) × (n ≤ℤ pos bound)
 
 -- ---- parts
 -- A magnitude is negated if the sign is negative.
@@ -67,28 +67,28 @@ abbrev pub whole_days : ℤ → ℤ
 whole_days v = cut v (pos day)
 
 -- The nanoseconds of a duration past its whole seconds.
-abbrev pub past_second : ℤ → ℤ
-past_second v = v -ℤ cut v (pos second) *ℤ pos second
+abbrev pub subsec_nanoseconds : ℤ → ℤ
+subsec_nanoseconds v = v -ℤ cut v (pos second) *ℤ pos second
 
 -- A duration feeds its whole seconds, and the nanoseconds past them, to a hasher.
 abbrev pub hash_input_of : ℤ → HashWrites
-hash_input_of v = fed.i64 (cut v (pos second)) ++ fed.i32 (past_second v)
+hash_input_of v = fed.i64 (cut v (pos second)) ++ fed.i32 (subsec_nanoseconds v)
 
 -- ---- text: the output of `Display`
 -- A part is a number and its unit, or nothing if the number is 0.
-abbrev pub part : ℕ → List ℕ → List ℕ
-part n unit = if n == 0 then [] else decimal n ++ unit
+abbrev pub part_text : ℕ → List ℕ → List ℕ
+part_text n unit = if n == 0 then [] else decimal n ++ unit
 
 -- The parts of a magnitude in nanoseconds, from days to nanoseconds.
 abbrev pub parts_text : ℕ → List ℕ
 parts_text n =
-    part (n / day) (codes "d")
-    ++ part (n / hour % 24) (codes "h")
-    ++ part (n / minute % 60) (codes "m")
-    ++ part (n / second % 60) (codes "s")
-    ++ part (n / millisecond % 1_000) (codes "ms")
-    ++ part (n / microsecond % 1_000) (0xc2 ∷ 0xb5 ∷ codes "s")
-    ++ part (n % 1_000) (codes "ns")
+    part_text (n / day) (codes "d")
+    ++ part_text (n / hour % 24) (codes "h")
+    ++ part_text (n / minute % 60) (codes "m")
+    ++ part_text (n / second % 60) (codes "s")
+    ++ part_text (n / millisecond % 1_000) (codes "ms")
+    ++ part_text (n / microsecond % 1_000) (0xc2 ∷ 0xb5 ∷ codes "s")
+    ++ part_text (n % 1_000) (codes "ns")
 
 -- The text of a duration is its sign and its parts. Zero is `0s`.
 abbrev pub text : ℤ → List ℕ

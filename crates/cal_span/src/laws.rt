@@ -1,7 +1,7 @@
 //! Properties of constants and derived traits, which have no clauses: functions return their
 //! values.
 ghost use Rattle.std.specs.Prelude.{◌≡◌, pos, ◌*ℤ◌, Some, Ok, slice_get};
-ghost use Rattle.cal_span.specs.SignedDuration.{microsecond, millisecond, second, minute, hour, day, week, least, greatest, IsDuration};
+ghost use Rattle.cal_span.specs.SignedDuration.{microsecond, millisecond, second, minute, hour, day, week, min_duration, max_duration, IsDuration};
 
 use crate::signed_duration::SignedDuration;
 use std::alloc::AllocError;
@@ -32,8 +32,8 @@ pub(crate) fn units() -> [SignedDuration; 8]
 /// Returns zero, the minimum and the maximum.
 pub(crate) fn limits() -> [SignedDuration; 3]
     ensures zero_is { slice_get result 0 ≡ Some (pos 0) }
-    ensures min_is { slice_get result 1 ≡ Some least }
-    ensures max_is { slice_get result 2 ≡ Some greatest }
+    ensures min_is { slice_get result 1 ≡ Some min_duration }
+    ensures max_is { slice_get result 2 ≡ Some max_duration }
 {
     [
         SignedDuration::ZERO,

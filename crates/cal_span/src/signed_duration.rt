@@ -1,7 +1,7 @@
 //! Durations: constructors and parts.
 ghost use Rattle.std.specs.Prelude.{◌≡◌, ◌↔◌, pos, ◌+ℤ◌, ◌*ℤ◌, ◌<ℤ◌, ◌/◌, ◌%◌, unsigned_abs, FitsSigned, IsTrue};
 ghost use Rattle.std.specs.Int.{w64};
-ghost use Rattle.cal_span.specs.SignedDuration.{microsecond, millisecond, second, minute, hour, day, week, IsDuration, clamp, cut, past_second};
+ghost use Rattle.cal_span.specs.SignedDuration.{microsecond, millisecond, second, minute, hour, day, week, IsDuration, clamp, cut, subsec_nanoseconds};
 
 use std::marker::Model;
 
@@ -49,16 +49,16 @@ impl Model for SignedDuration {
 
     ghost Value = { ℤ };
 
-    ghost use Rattle.cal_span.specs.Fields.{nanoseconds_in, IsNormal, fields_of};
-    ghost use Rattle.cal_span.specs.FieldsLaws.{fields_of-nanoseconds_in};
+    ghost use Rattle.cal_span.specs.Fields.{nanoseconds_of_fields, IsNormal, fields_of};
+    ghost use Rattle.cal_span.specs.FieldsLaws.{fields_of-nanoseconds_of_fields};
 
-    ghost view = { nanoseconds_in };
+    ghost view = { nanoseconds_of_fields };
 
     ghost invariant = { IsNormal };
 
     ghost inverse = { fields_of };
 
-    ghost inverse_ok = { fields_of-nanoseconds_in };
+    ghost inverse_ok = { fields_of-nanoseconds_of_fields };
 }
 
 impl SignedDuration {
@@ -336,7 +336,7 @@ impl SignedDuration {
     /// Returns the milliseconds past the whole seconds, truncated toward zero, from -999 to 999.
     /// For -1.5 s they are -500.
     pub fn subsec_milliseconds(self) -> i16
-        ensures { result ≡ cut (past_second self) (pos millisecond) }
+        ensures { result ≡ cut (subsec_nanoseconds self) (pos millisecond) }
     {
         (self.nanoseconds / NANOSECONDS_PER_MILLISECOND) as i16
     }
@@ -344,7 +344,7 @@ impl SignedDuration {
     /// Returns the microseconds past the whole seconds, truncated toward zero, from -999999 to
     /// 999999. For 1 s and 2500 ns they are 2.
     pub fn subsec_microseconds(self) -> i32
-        ensures { result ≡ cut (past_second self) (pos microsecond) }
+        ensures { result ≡ cut (subsec_nanoseconds self) (pos microsecond) }
     {
         self.nanoseconds / NANOSECONDS_PER_MICROSECOND
     }
@@ -352,7 +352,7 @@ impl SignedDuration {
     /// Returns the nanoseconds past the whole seconds, from -999999999 to 999999999. For -1.5 s
     /// they are -500000000.
     pub fn subsec_nanoseconds(self) -> i32
-        ensures { result ≡ past_second self }
+        ensures { result ≡ subsec_nanoseconds self }
     {
         self.nanoseconds
     }

@@ -2,19 +2,19 @@
 use Rattle.std.proofs.Common.{◌≡◌, ◌⊎◌, ℕ, ℤ, List, get_or, ap, inl, inr, arith}
 use Rattle.cal_time.specs.Date.{IsDate}
 use Rattle.cal_time.specs.declared.error.ComponentRange.{ComponentRange}
-use Rattle.cal_datetime.specs.OffsetDateTime.{Shown}
+use Rattle.cal_datetime.specs.OffsetDateTime.{LocalAndOffset}
 use Rattle.cal_text.specs.declared.any.DateOrMoment.{DateOrMoment}
 use Rattle.cal_text.specs.declared.any.DateOrMoment.TheVariants.{Date, Moment}
 use Rattle.cal_text.specs.declared.any.DateForm.TheVariants.{Calendar, Ordinal, Week, JulianDay}
 use Rattle.cal_text.specs.declared.any.MomentForm.TheVariants.{Rfc3339, Unix}
 use Rattle.cal_text.specs.declared.date_numbers.DateNumbers.{DateNumbers}
 use Rattle.cal_text.specs.declared.rfc3339.numbers.Numbers.{Numbers}
-use Rattle.cal_text.specs.AnyForm.{IsTextOf, name_of, HasAnyForm, IsFault}
+use Rattle.cal_text.specs.AnyForm.{IsTextOf, date_form_of, HasAnyForm, IsDateOrMomentError}
 use Rattle.cal_text.specs.DateForms.{HasForm}
-use Rattle.cal_text.specs.Reading.{HasFault, IsFaultOf}
-use Rattle.cal_text.specs.JulianForm.{IsJulianForm, julian_text, IsJulianFault}
-use Rattle.cal_text.specs.Rfc3339Form.{IsSeparator, IsMomentText, HasMomentForm, IsMomentFault}
-use Rattle.cal_text.specs.UnixText.{IsUnixText, HasUnixForm, IsUnixFault}
+use Rattle.cal_text.specs.Parsing.{HasError, IsDateError}
+use Rattle.cal_text.specs.JulianForm.{IsJulianForm, julian_text, IsJulianDayError}
+use Rattle.cal_text.specs.Rfc3339Form.{IsSeparator, IsMomentText, HasMomentForm, IsMomentError}
+use Rattle.cal_text.specs.UnixText.{IsUnixText, HasUnixForm, IsUnixTimeError}
 use Rattle.cal_text.proofs.DayForms.{HasOnDay, calendar-of, ordinal-of, week-of}
 use Rattle.cal_text.proofs.Shapes.{IsNoOther, date-shape, day-shape, moment-shape, julian-first, unix-first}
 
@@ -60,7 +60,7 @@ julian-found bytes P first at (Moment Unix m) is = julian-unix bytes _ first is.
 pub julian-any : (bytes : List ℕ) → get_or bytes 0 0 ≡ 74 → HasAnyForm bytes → SomeJulian bytes
 julian-any bytes first is = of_four is (julian-date bytes first) (λ h. h) (julian-moment bytes first) (λ h. julian-unix bytes h.0 first h.1)
 
-pub julian-fault : (bytes : List ℕ) (why : ComponentRange) → get_or bytes 0 0 ≡ 74 → IsFault bytes why → HasFault IsJulianForm IsJulianFault bytes why
+pub julian-fault : (bytes : List ℕ) (why : ComponentRange) → get_or bytes 0 0 ≡ 74 → IsDateOrMomentError bytes why → HasError IsJulianForm IsJulianDayError bytes why
 julian-fault bytes why first is = of_four is (λ h. julian-date bytes first (h.0, h.1)) (λ h. h) (λ h. julian-moment bytes first (h.0, h.1)) (λ h. julian-unix bytes h.0 first h.1)
 
 -- ---- an @ at the front
@@ -76,7 +76,7 @@ unix-julian bytes j first h = absurd (omega (arith, first, julian-first bytes j 
 unix-day : {R : Type 0} (bytes : List ℕ) (n : ℕ) → get_or bytes 0 0 ≡ 64 → bytes ≡ julian_text n → R
 unix-day bytes n first e = absurd (omega (arith, first, ap (λ all. get_or all 0 0) e))
 
-pub unix-found : (bytes : List ℕ) (P : DateOrMoment → Type 0) → get_or bytes 0 0 ≡ 64 → ((m : Shown) → IsUnixText bytes m → P (Moment Unix m))
+pub unix-found : (bytes : List ℕ) (P : DateOrMoment → Type 0) → get_or bytes 0 0 ≡ 64 → ((m : LocalAndOffset) → IsUnixText bytes m → P (Moment Unix m))
     → (found : DateOrMoment) → IsTextOf bytes found → P found
 unix-found bytes P first at (Date Calendar n) is = absurd ((day-shape bytes n is.0 (inl is.1)).first.1 first)
 unix-found bytes P first at (Date Ordinal n) is = absurd ((day-shape bytes n is.0 (inr (inl is.1))).first.1 first)
@@ -88,7 +88,7 @@ unix-found bytes P first at (Moment Unix m) is = at m is
 pub unix-any : (bytes : List ℕ) → get_or bytes 0 0 ≡ 64 → HasAnyForm bytes → SomeUnix bytes
 unix-any bytes first is = of_four is (unix-date bytes first) (λ h. unix-julian bytes h.0 first h.1) (unix-moment bytes first) (λ h. h)
 
-pub unix-fault : (bytes : List ℕ) (why : ComponentRange) → get_or bytes 0 0 ≡ 64 → IsFault bytes why → HasFault HasUnixForm IsUnixFault bytes why
+pub unix-fault : (bytes : List ℕ) (why : ComponentRange) → get_or bytes 0 0 ≡ 64 → IsDateOrMomentError bytes why → HasError HasUnixForm IsUnixTimeError bytes why
 unix-fault bytes why first is = of_four is (λ h. unix-date bytes first (h.0, h.1)) (λ h. unix-julian bytes h.0 first h.1) (λ h. unix-moment bytes first (h.0, h.1)) (λ h. h)
 
 -- ---- a separator at 10
@@ -105,7 +105,7 @@ other-unix : {R : Type 0} (bytes : List ℕ) (v : ℤ) → IsNoOther bytes → H
 other-unix bytes v first h = absurd (first.1 (unix-first bytes v h))
 
 pub moment-found : (bytes : List ℕ) (P : DateOrMoment → Type 0) → IsNoOther bytes → IsSeparator (get_or bytes 10 0)
-    → ((m : Shown) → IsMomentText bytes m → P (Moment Rfc3339 m)) → (found : DateOrMoment) → IsTextOf bytes found → P found
+    → ((m : LocalAndOffset) → IsMomentText bytes m → P (Moment Rfc3339 m)) → (found : DateOrMoment) → IsTextOf bytes found → P found
 moment-found bytes P first sep at (Date Calendar n) is = absurd ((day-shape bytes n is.0 (inl is.1)).separator sep)
 moment-found bytes P first sep at (Date Ordinal n) is = absurd ((day-shape bytes n is.0 (inr (inl is.1))).separator sep)
 moment-found bytes P first sep at (Date Week n) is = absurd ((day-shape bytes n is.0 (inr (inr is.1))).separator sep)
@@ -116,7 +116,7 @@ moment-found bytes P first sep at (Moment Unix m) is = other-unix bytes _ first 
 pub moment-any : (bytes : List ℕ) → IsNoOther bytes → IsSeparator (get_or bytes 10 0) → HasAnyForm bytes → SomeMoment bytes
 moment-any bytes first sep is = of_four is (moment-date bytes sep) (λ h. other-julian bytes h.0 first h.1) (λ h. h) (λ h. other-unix bytes h.0 first h.1)
 
-pub moment-fault : (bytes : List ℕ) (why : ComponentRange) → IsNoOther bytes → IsSeparator (get_or bytes 10 0) → IsFault bytes why → HasFault HasMomentForm IsMomentFault bytes why
+pub moment-fault : (bytes : List ℕ) (why : ComponentRange) → IsNoOther bytes → IsSeparator (get_or bytes 10 0) → IsDateOrMomentError bytes why → HasError HasMomentForm IsMomentError bytes why
 moment-fault bytes why first sep is = of_four is (λ h. moment-date bytes sep (h.0, h.1)) (λ h. other-julian bytes h.0 first h.1) (λ h. h) (λ h. other-unix bytes h.0 first h.1)
 
 -- ---- none of these
@@ -124,7 +124,7 @@ date-moment : {R : Type 0} (bytes : List ℕ) → ¬ IsSeparator (get_or bytes 1
 date-moment bytes none h = absurd (none (moment-shape bytes h.0 h.1).separator)
 
 pub date-found : (bytes : List ℕ) (P : DateOrMoment → Type 0) → IsNoOther bytes → ¬ IsSeparator (get_or bytes 10 0)
-    → ((f : DateNumbers) (n : ℕ) → IsDate n → HasOnDay bytes f n → P (Date (name_of f) n)) → (found : DateOrMoment) → IsTextOf bytes found → P found
+    → ((f : DateNumbers) (n : ℕ) → IsDate n → HasOnDay bytes f n → P (Date (date_form_of f) n)) → (found : DateOrMoment) → IsTextOf bytes found → P found
 date-found bytes P first none at (Date Calendar n) is = at _ n is.0 (calendar-of bytes n is.0 is.1)
 date-found bytes P first none at (Date Ordinal n) is = at _ n is.0 (ordinal-of bytes n is.0 is.1)
 date-found bytes P first none at (Date Week n) is = at _ n is.0 (week-of bytes n is.0 is.1)
@@ -135,5 +135,5 @@ date-found bytes P first none at (Moment Unix m) is = other-unix bytes _ first i
 pub date-any : (bytes : List ℕ) → IsNoOther bytes → ¬ IsSeparator (get_or bytes 10 0) → HasAnyForm bytes → SomeForm bytes
 date-any bytes first none is = of_four is (λ h. h) (λ h. other-julian bytes h.0 first h.1) (date-moment bytes none) (λ h. other-unix bytes h.0 first h.1)
 
-pub date-fault : (bytes : List ℕ) (why : ComponentRange) → IsNoOther bytes → ¬ IsSeparator (get_or bytes 10 0) → IsFault bytes why → HasFault HasForm IsFaultOf bytes why
+pub date-fault : (bytes : List ℕ) (why : ComponentRange) → IsNoOther bytes → ¬ IsSeparator (get_or bytes 10 0) → IsDateOrMomentError bytes why → HasError HasForm IsDateError bytes why
 date-fault bytes why first none is = of_four is (λ h. h) (λ h. other-julian bytes h.0 first h.1) (λ h. date-moment bytes none (h.0, h.1)) (λ h. other-unix bytes h.0 first h.1)

@@ -7,11 +7,11 @@ use Rattle.cal_time.proofs.DistinctTexts.{year-plain}
 use Rattle.cal_text.specs.AnyForm.{HasAnyForm}
 use Rattle.cal_text.specs.DateForms.{HasForm}
 use Rattle.cal_text.specs.JulianForm.{IsJulianForm}
-use Rattle.cal_text.specs.Position.{Begins, IsPosition, HasSome, IsAtStop}
+use Rattle.cal_text.specs.Position.{Begins, IsPosition, HasSome, IsErrorAtStop}
 use Rattle.cal_text.specs.Rfc3339Form.{IsSeparator, HasMomentForm, clock_digits}
 use Rattle.cal_text.specs.UnixText.{HasUnixForm}
-use Rattle.cal_text.specs.declared.error.Unreadable.{Unreadable}
-use Rattle.cal_text.specs.declared.error.Unreadable.TheVariants.{UnexpectedEnd}
+use Rattle.cal_text.specs.declared.error.ParseError.{ParseError}
+use Rattle.cal_text.specs.declared.error.ParseError.TheVariants.{UnexpectedEnd}
 use Rattle.cal_text.specs.declared.date_numbers.DateNumbers.TheVariants.{Calendar}
 use Rattle.cal_text.specs.declared.rfc3339.numbers.Numbers.{Numbers}
 use Rattle.cal_text.proofs.AnyForms.{of_four, julian-any, unix-any}
@@ -26,19 +26,19 @@ at_same text more i q before within =
 
 -- A position in one form is a position in all forms, if every beginning of some form there begins
 -- this form.
-widened : (IsText : List ℕ → Type 0) (text : List ℕ) (e : Unreadable) → ((bytes : List ℕ) → IsText bytes → HasAnyForm bytes)
-    → ((q : ℕ) → 0 < q → q ≤ length text → Begins HasAnyForm (take q text) → Begins IsText (take q text)) → IsAtStop IsText text e → IsAtStop HasAnyForm text e
+widened : (IsText : List ℕ → Type 0) (text : List ℕ) (e : ParseError) → ((bytes : List ℕ) → IsText bytes → HasAnyForm bytes)
+    → ((q : ℕ) → 0 < q → q ≤ length text → Begins HasAnyForm (take q text) → Begins IsText (take q text)) → IsErrorAtStop IsText text e → IsErrorAtStop HasAnyForm text e
 widened IsText text e into back = carried IsText HasAnyForm text e (λ p h. record {
   within = h.within;
   begins = record { more = h.begins.more; text = into _ h.begins.text };
   no_further = λ more b. h.no_further more (back (p + 1) (omega arith) (omega (arith, more)) b);
 })
 
-pub julian : (text : List ℕ) (e : Unreadable) → get_or text 0 0 ≡ 74 → IsAtStop (HasSome IsJulianForm) text e → IsAtStop HasAnyForm text e
+pub julian : (text : List ℕ) (e : ParseError) → get_or text 0 0 ≡ 74 → IsErrorAtStop (HasSome IsJulianForm) text e → IsErrorAtStop HasAnyForm text e
 julian text e first = widened (HasSome IsJulianForm) text e (λ bytes h. inr (inl h))
     (λ q some few b. record { more = b.more; text = julian-any (take q text ++ b.more) (at_same text b.more 0 q some few ∙ first) b.text })
 
-pub unix : (text : List ℕ) (e : Unreadable) → get_or text 0 0 ≡ 64 → IsAtStop (HasSome HasUnixForm) text e → IsAtStop HasAnyForm text e
+pub unix : (text : List ℕ) (e : ParseError) → get_or text 0 0 ≡ 64 → IsErrorAtStop (HasSome HasUnixForm) text e → IsErrorAtStop HasAnyForm text e
 unix text e first = widened (HasSome HasUnixForm) text e (λ bytes h. inr (inr (inr h)))
     (λ q some few b. record { more = b.more; text = unix-any (take q text ++ b.more) (at_same text b.more 0 q some few ∙ first) b.text })
 
@@ -76,7 +76,7 @@ either text q other some few b =
     of_four b.text (λ date. inl (record { more = b.more; text = date })) (λ julian. absurd (other.0 (sym at ∙ julian-first (take q text ++ b.more) julian.0 julian.1)))
     (λ moment. inr (record { more = b.more; text = moment })) (λ unix. absurd (other.1 (sym at ∙ unix-first (take q text ++ b.more) unix.0 unix.1)))
 
-pub date : (text : List ℕ) (e : Unreadable) → IsOther text → ¬ IsSeparator (get_or text 10 0) → IsAtStop (HasSome HasForm) text e → IsAtStop HasAnyForm text e
+pub date : (text : List ℕ) (e : ParseError) → IsOther text → ¬ IsSeparator (get_or text 10 0) → IsErrorAtStop (HasSome HasForm) text e → IsErrorAtStop HasAnyForm text e
 date text e other none = widened (HasSome HasForm) text e (λ bytes h. inl h) back
   where
     back : (q : ℕ) → 0 < q → q ≤ length text → Begins HasAnyForm (take q text) → Begins (HasSome HasForm) (take q text)
@@ -93,7 +93,7 @@ date text e other none = widened (HasSome HasForm) text e (λ bytes h. inl h) ba
     ]
 
 -- what ends too early for a moment ends too early
-pub ended : (text : List ℕ) (n : ℕ) → IsAtStop (HasSome HasMomentForm) text (UnexpectedEnd n) → IsAtStop HasAnyForm text (UnexpectedEnd n)
+pub ended : (text : List ℕ) (n : ℕ) → IsErrorAtStop (HasSome HasMomentForm) text (UnexpectedEnd n) → IsErrorAtStop HasAnyForm text (UnexpectedEnd n)
 ended text n h =
     let begins = h.0.begins in (
       record {

@@ -7,9 +7,9 @@ use Rattle.cal_time.specs.DateText.{text}
 use Rattle.cal_time.specs.IsoWeekDate.{iso_year_at, iso_week_at}
 use Rattle.cal_text.specs.declared.date_numbers.DateNumbers.{DateNumbers}
 use Rattle.cal_text.specs.declared.date_numbers.DateNumbers.TheVariants.{Calendar, Ordinal, Week}
-use Rattle.cal_text.specs.AnyForm.{date_text, name_of}
+use Rattle.cal_text.specs.AnyForm.{date_text, date_form_of}
 use Rattle.cal_text.specs.DateForms.{IsDateText, HasForm, form_text, ordinal_text, week_text}
-use Rattle.cal_text.specs.Reading.{IsOnDay}
+use Rattle.cal_text.specs.Parsing.{IsOnDay}
 use Rattle.cal_text.proofs.Ranges.{year_at-written, iso_year_at-written, month_at-below, day_of_month_at-below, ordinal_at-below, iso_week_at-below, weekday_at-below}
 
 -- the text of a date as a form
@@ -47,7 +47,7 @@ form-of-day bytes n date t = elim t as (λ _. FormOfDay bytes n) [
   ]
 ]
 
-pub text-of-form : (bytes : List ℕ) (f : DateNumbers) (n : ℕ) → HasForm bytes f → IsOnDay f n → bytes ≡ date_text (name_of f) n
+pub text-of-form : (bytes : List ℕ) (f : DateNumbers) (n : ℕ) → HasForm bytes f → IsOnDay f n → bytes ≡ date_text (date_form_of f) n
 text-of-form bytes (Calendar y m d) n h e =
     h.bytes_are ∙ sym (text-is n ∙ ap (λ (c : CalendarDay). form_text (Calendar c.year c.month c.day)) e)
 text-of-form bytes (Ordinal y o) n h e =

@@ -7,7 +7,7 @@ use Rattle.std.proofs.lemmas.Bool.{cases_lt}
 use Rattle.std.proofs.lemmas.List.{append_assoc, length-append, length-take-le, take_all}
 use Rattle.cal_text.specs.Rfc3339Form.{nanoseconds_of, IsFraction, HasFractionBefore}
 use Rattle.std.specs.Prelude.{Option, Some, None, IfSome}
-use Rattle.cal_text.specs.Shape.{Shape, left, Scans, Branch, From, UpTo, SomeUpTo, Byte, decimals_value, ReadsDecimals, ReadsSomeDecimals}
+use Rattle.cal_text.specs.Shape.{Shape, unmatched_bytes, Scans, Branch, ByteRange, UpTo, SomeUpTo, Byte, decimals_value, ParsesDecimals, ParsesPositiveDecimals}
 use Rattle.cal_text.proofs.DigitParts.{value-most}
 use Rattle.cal_text.proofs.ReadDigits.{value-of}
 use Rattle.cal_text.proofs.YearDigits.{value-after}
@@ -117,7 +117,7 @@ one_read old mid new count unit next before now d h digit = record {
     all-push (x ∷ xs) a = (a.0, all-push xs a.1)
 
 pub all_read : (old mid new : List ℕ) (count most unit next before now : ℕ) → count ≤ most → AreRead old mid count unit next before now → new ≡ mid
-    → ReadsDecimals old new most unit before now
+    → ParsesDecimals old new most unit before now
 all_read old mid new count most unit next before now few h kept = record {
   digits = h.digits;
   all = h.all;
@@ -133,43 +133,43 @@ at_most_nine d unit low = let most : d ≤ 9 = omega arith in mul-le-mul_right u
 pub has_room : (n unit d : ℕ) → n + 10 * unit ≤ 1000000000 → d < 10 → n + d * unit + 10 * (unit / 10) ≤ 1000000000
 has_room n unit d room low = omega (arith, at_most_nine d unit low)
 
-pub scanned : (f : Shape) (most i : ℕ) (old mid new : List ℕ) → i < most → left (UpTo most f) old ≡ left (UpTo (most - i) f) mid
-    → ((g h : Shape) → left (Branch 48 9 g h) mid ≡ left g new) → left (UpTo most f) old ≡ left (UpTo (most - (i + 1)) f) new
+pub scanned : (f : Shape) (most i : ℕ) (old mid new : List ℕ) → i < most → unmatched_bytes (UpTo most f) old ≡ unmatched_bytes (UpTo (most - i) f) mid
+    → ((g h : Shape) → unmatched_bytes (Branch 48 9 g h) mid ≡ unmatched_bytes g new) → unmatched_bytes (UpTo most f) old ≡ unmatched_bytes (UpTo (most - (i + 1)) f) new
 scanned f most i old mid new more e first =
     let next : most - i ≡ suc (most - (i + 1)) = omega (arith, more) in
-    e ∙ ap (λ k. left (UpTo k f) mid) next ∙ first (UpTo (most - (i + 1)) f) f
+    e ∙ ap (λ k. unmatched_bytes (UpTo k f) mid) next ∙ first (UpTo (most - (i + 1)) f) f
 
-pub stopped : (f : Shape) (most i : ℕ) (old mid new : List ℕ) → i < most → left (UpTo most f) old ≡ left (UpTo (most - i) f) mid
-    → ((g h : Shape) → left (Branch 48 9 g h) mid ≡ left h new) → left (UpTo most f) old ≡ left f new
+pub stopped : (f : Shape) (most i : ℕ) (old mid new : List ℕ) → i < most → unmatched_bytes (UpTo most f) old ≡ unmatched_bytes (UpTo (most - i) f) mid
+    → ((g h : Shape) → unmatched_bytes (Branch 48 9 g h) mid ≡ unmatched_bytes h new) → unmatched_bytes (UpTo most f) old ≡ unmatched_bytes f new
 stopped f most i old mid new more e other =
     let next : most - i ≡ suc (most - (i + 1)) = omega (arith, more) in
-    e ∙ ap (λ k. left (UpTo k f) mid) next ∙ other (UpTo (most - (i + 1)) f) f
+    e ∙ ap (λ k. unmatched_bytes (UpTo k f) mid) next ∙ other (UpTo (most - (i + 1)) f) f
 
-pub at_most : (f : Shape) (most i : ℕ) (old new : List ℕ) → most ≤ i → left (UpTo most f) old ≡ left (UpTo (most - i) f) new → left (UpTo most f) old ≡ left f new
+pub at_most : (f : Shape) (most i : ℕ) (old new : List ℕ) → most ≤ i → unmatched_bytes (UpTo most f) old ≡ unmatched_bytes (UpTo (most - i) f) new → unmatched_bytes (UpTo most f) old ≡ unmatched_bytes f new
 at_most f most i old new less e =
     let none : most - i ≡ 0 = omega (arith, less) in
-    e ∙ ap (λ k. left (UpTo k f) new) none
+    e ∙ ap (λ k. unmatched_bytes (UpTo k f) new) none
 
 -- ---- digits of which one is not 0
-pub first-scans : (f : Shape) (more : ℕ) (old mid new : List ℕ) → ((g h : Shape) → left (Branch 49 8 g h) old ≡ left g mid) → ((g : Shape) → left (From 49 8 g) old ≡ left g mid)
-    → left (UpTo more f) mid ≡ left f new → left (SomeUpTo more f) old ≡ left f new
+pub first-scans : (f : Shape) (more : ℕ) (old mid new : List ℕ) → ((g h : Shape) → unmatched_bytes (Branch 49 8 g h) old ≡ unmatched_bytes g mid) → ((g : Shape) → unmatched_bytes (ByteRange 49 8 g) old ≡ unmatched_bytes g mid)
+    → unmatched_bytes (UpTo more f) mid ≡ unmatched_bytes f new → unmatched_bytes (SomeUpTo more f) old ≡ unmatched_bytes f new
 first-scans f zero old mid new branch from e = from f ∙ e
 first-scans f (suc k) old mid new branch from e = branch (UpTo (suc k) f) (Byte 48 (SomeUpTo k f)) ∙ e
 
-pub other-scans : (f : Shape) (more n : ℕ) (old mid : List ℕ) → more ≢ 0 → ((g h : Shape) → left (Branch 49 8 g h) old ≡ left h mid)
-    → left (Byte 48 (SomeUpTo (more - 1) f)) mid ≡ n → left (SomeUpTo more f) old ≡ n
+pub other-scans : (f : Shape) (more n : ℕ) (old mid : List ℕ) → more ≢ 0 → ((g h : Shape) → unmatched_bytes (Branch 49 8 g h) old ≡ unmatched_bytes h mid)
+    → unmatched_bytes (Byte 48 (SomeUpTo (more - 1) f)) mid ≡ n → unmatched_bytes (SomeUpTo more f) old ≡ n
 other-scans f zero n old mid some branch e = absurd (some refl)
 other-scans f (suc k) n old mid some branch e =
     let same : suc k - 1 ≡ k = omega arith in
-    branch (UpTo (suc k) f) (Byte 48 (SomeUpTo k f)) ∙ ap (λ i. left (Byte 48 (SomeUpTo i f)) mid) (sym same) ∙ e
+    branch (UpTo (suc k) f) (Byte 48 (SomeUpTo k f)) ∙ ap (λ i. unmatched_bytes (Byte 48 (SomeUpTo i f)) mid) (sym same) ∙ e
 
-pub zero-scans : (more : ℕ) (old kept mid new : List ℕ) (r : Option ℕ) → more ≢ 0 → ((g h : Shape) → left (Branch 49 8 g h) old ≡ left h kept)
-    → ((g : Shape) → left (Byte 48 g) kept ≡ left g mid) → Scans (SomeUpTo (more - 1)) mid new r → Scans (SomeUpTo more) old new r
-zero-scans more old kept mid new (Some n) some branch byte scans = λ f. other-scans f more (left f new) old kept some branch (byte (SomeUpTo (more - 1) f) ∙ scans f)
+pub zero-scans : (more : ℕ) (old kept mid new : List ℕ) (r : Option ℕ) → more ≢ 0 → ((g h : Shape) → unmatched_bytes (Branch 49 8 g h) old ≡ unmatched_bytes h kept)
+    → ((g : Shape) → unmatched_bytes (Byte 48 g) kept ≡ unmatched_bytes g mid) → Scans (SomeUpTo (more - 1)) mid new r → Scans (SomeUpTo more) old new r
+zero-scans more old kept mid new (Some n) some branch byte scans = λ f. other-scans f more (unmatched_bytes f new) old kept some branch (byte (SomeUpTo (more - 1) f) ∙ scans f)
 zero-scans more old kept mid new None some branch byte scans = λ f. other-scans f more (suc (length new)) old kept some branch (byte (SomeUpTo (more - 1) f) ∙ scans f)
 
-pub first_decimal : (more unit d n : ℕ) (old mid new : List ℕ) → (1 ≤ d) × (d < 10) × (old ≡ (48 + d) ∷ mid) → ReadsDecimals mid new more (unit / 10) (d * unit) n
-    → ReadsSomeDecimals old new more unit n
+pub first_decimal : (more unit d n : ℕ) (old mid new : List ℕ) → (1 ≤ d) × (d < 10) × (old ≡ (48 + d) ∷ mid) → ParsesDecimals mid new more (unit / 10) (d * unit) n
+    → ParsesPositiveDecimals old new more unit n
 first_decimal more unit d n old mid new digit h =
     let value = value-of d digit.1 in
     record {
@@ -183,7 +183,7 @@ first_decimal more unit d n old mid new digit h =
       some = omega (arith, value-most (0 * 10 + digit_value (48 + d)) h.digits, value, digit.0);
     }
 
-zero_decimal : (more unit n : ℕ) (old mid new : List ℕ) → more ≢ 0 → old ≡ 48 ∷ mid → ReadsSomeDecimals mid new (more - 1) (unit / 10) n → ReadsSomeDecimals old new more unit n
+zero_decimal : (more unit n : ℕ) (old mid new : List ℕ) → more ≢ 0 → old ≡ 48 ∷ mid → ParsesPositiveDecimals mid new (more - 1) (unit / 10) n → ParsesPositiveDecimals old new more unit n
 zero_decimal more unit n old mid new some byte h = record {
   decimals = record {
     digits = 48 ∷ h.decimals.digits;
@@ -195,14 +195,14 @@ zero_decimal more unit n old mid new some byte h = record {
   some = h.some;
 }
 
-pub zero_decimals : (more unit : ℕ) (old mid new : List ℕ) (r : Option ℕ) → more ≢ 0 → old ≡ 48 ∷ mid → IfSome r (ReadsSomeDecimals mid new (more - 1) (unit / 10))
-    → IfSome r (ReadsSomeDecimals old new more unit)
+pub zero_decimals : (more unit : ℕ) (old mid new : List ℕ) (r : Option ℕ) → more ≢ 0 → old ≡ 48 ∷ mid → IfSome r (ParsesPositiveDecimals mid new (more - 1) (unit / 10))
+    → IfSome r (ParsesPositiveDecimals old new more unit)
 zero_decimals more unit old mid new (Some n) some byte h = zero_decimal more unit n old mid new some byte h
 zero_decimals more unit old mid new None some byte h = tt
 
 -- ---- the whole fraction
 pub put_fraction : (more d n : ℕ) (old mid digits new : List ℕ) → old ≡ 46 ∷ mid → (d < 10) × (mid ≡ (48 + d) ∷ digits)
-    → ReadsDecimals digits new more 10000000 (d * 100000000) n → HasFractionBefore new more old n
+    → ParsesDecimals digits new more 10000000 (d * 100000000) n → HasFractionBefore new more old n
 put_fraction more d n old mid digits new point first h =
     let value = value-of d first.0 in
     record {

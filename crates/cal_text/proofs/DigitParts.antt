@@ -9,11 +9,11 @@ use Rattle.std.proofs.lemmas.Str.{digit_value_digit}
 use Rattle.std.proofs.lemmas.Str.Parse.{digit_from_value}
 use Rattle.cal_time.specs.DateText.{digits_at_least}
 use Rattle.cal_time.proofs.DistinctTexts.{digits_at_least-digits, digits_at_least-value}
-use Rattle.cal_text.specs.Shape.{Shape, left, Byte, Digits, UpTo, SomeDigits, AtLeast, ReadsDigits}
+use Rattle.cal_text.specs.Shape.{Shape, unmatched_bytes, Byte, Digits, UpTo, SomeDigits, DigitsAtLeast, ParsesDigits}
 use Rattle.cal_text.proofs.DigitTexts.{below-nine, digits-printed, digits_at_least-length}
-use Rattle.cal_text.proofs.Parts.{IsPart, Splits, HasAfter, BeginsOutside, left-outside, same_pair, renamed, byte_part}
+use Rattle.cal_text.proofs.Parts.{IsPart, Splits, HasAfter, BeginsOutside, unmatched_bytes-outside, same_pair, renamed, byte_part}
 use Rattle.cal_text.proofs.Positions.{IsShapeOf}
-use Rattle.cal_text.proofs.Stops.{IsIn, in_or_out, left-in, left-out, left-end, left-branch_in, left-branch_out, left-branch_end}
+use Rattle.cal_text.proofs.Stops.{IsIn, in_or_out, unmatched_bytes-in, unmatched_bytes-out, unmatched_bytes-end, unmatched_bytes-branch_in, unmatched_bytes-branch_out, unmatched_bytes-branch_end}
 
 pub is_digit : (x : ℕ) → digit_value x < 10 → IsIn 48 9 x
 is_digit x h = let range = digit_from_value x h in (range.0, range.1)
@@ -28,20 +28,20 @@ digit_is x h = omega (arith, has_value x h, h.1)
 abbrev pub IsExact : ℕ → List ℕ → Type 0
 IsExact k ds = AllDigits 10 ds × (length ds ≡ k)
 
-exact-each : (k : ℕ) (f : Shape) (ds rest : List ℕ) → IsExact k ds → left (Digits k f) (ds ++ rest) ≡ left f rest
+exact-each : (k : ℕ) (f : Shape) (ds rest : List ℕ) → IsExact k ds → unmatched_bytes (Digits k f) (ds ++ rest) ≡ unmatched_bytes f rest
 exact-each zero f [] rest h = refl
 exact-each zero f (x ∷ xs) rest h = absurd (omega (arith, h.1))
 exact-each (suc k) f [] rest h = absurd (omega (arith, h.1))
 exact-each (suc k) f (x ∷ xs) rest h =
-    left-in 48 9 (Digits k f) x (xs ++ rest) (is_digit x h.0.0) ∙ exact-each k f xs rest (h.0.1, omega (arith, h.1))
+    unmatched_bytes-in 48 9 (Digits k f) x (xs ++ rest) (is_digit x h.0.0) ∙ exact-each k f xs rest (h.0.1, omega (arith, h.1))
 
-exact-only : (k : ℕ) (f : Shape) (bytes : List ℕ) → left (Digits k f) bytes ≡ 0 → Splits (IsExact k) (λ ds. ds) f bytes
+exact-only : (k : ℕ) (f : Shape) (bytes : List ℕ) → unmatched_bytes (Digits k f) bytes ≡ 0 → Splits (IsExact k) (λ ds. ds) f bytes
 exact-only zero f bytes e = record { value = []; rest = bytes; valid = (tt, refl); bytes_are = refl; next = e }
-exact-only (suc k) f [] e = absurd (omega (arith, e, left-end 48 9 (Digits k f)))
+exact-only (suc k) f [] e = absurd (omega (arith, e, unmatched_bytes-end 48 9 (Digits k f)))
 exact-only (suc k) f (x ∷ xs) e =
     elim (in_or_out 48 9 x) as (λ _. Splits (IsExact (suc k)) (λ ds. ds) f (x ∷ xs)) [
       | inl here ↦
-          let a = exact-only k f xs (sym (left-in 48 9 (Digits k f) x xs here) ∙ e) in
+          let a = exact-only k f xs (sym (unmatched_bytes-in 48 9 (Digits k f) x xs here) ∙ e) in
           record {
             value = x ∷ a.value;
             rest = a.rest;
@@ -49,7 +49,7 @@ exact-only (suc k) f (x ∷ xs) e =
             bytes_are = ap (λ ds. x ∷ ds) a.bytes_are;
             next = a.next;
           }
-      | inr out ↦ absurd (omega (arith, e, left-out 48 9 (Digits k f) x xs out))
+      | inr out ↦ absurd (omega (arith, e, unmatched_bytes-out 48 9 (Digits k f) x xs out))
     ]
 
 exact-one : (k : ℕ) (ds es r s : List ℕ) → length ds ≡ k → length es ≡ k → ds ++ r ≡ es ++ s → (ds ≡ es) × (r ≡ s)
@@ -67,8 +67,8 @@ exact_part : (k : ℕ) → IsPart (IsExact k) (λ ds. ds) (Digits k)
 exact_part k = record { each = exact-each k; only = exact-only k; one = λ ds es r s a b e. exact-one k ds es r s a.1 b.1 e }
 
 -- those that a scanner read
-pub reads-scans : (k n : ℕ) (f : Shape) (old new : List ℕ) → ReadsDigits old new k n → left (Digits k f) old ≡ left f new
-reads-scans k n f old new h = ap (left (Digits k f)) h.bytes_are ∙ exact-each k f h.digits new (h.all, h.count_is)
+pub reads-scans : (k n : ℕ) (f : Shape) (old new : List ℕ) → ParsesDigits old new k n → unmatched_bytes (Digits k f) old ≡ unmatched_bytes f new
+reads-scans k n f old new h = ap (unmatched_bytes (Digits k f)) h.bytes_are ∙ exact-each k f h.digits new (h.all, h.count_is)
 
 -- as a number
 pub number_part : (k : ℕ) → 1 ≤ k → k ≤ 9 → IsPart (λ n. (n < 10 ^ k) × (n < 10 ^ 9)) (digits_at_least k) (Digits k)
@@ -94,29 +94,29 @@ number_part k some few = renamed _ _ _ (λ n. (n < 10 ^ k) × (n < 10 ^ 9)) (dig
 abbrev pub IsCount : ℕ → ℕ → List ℕ → Type 0
 IsCount k more ds = AllDigits 10 ds × (k ≤ length ds) × (length ds ≤ k + more)
 
-counted-each : (k more : ℕ) (f : Shape) (ds rest : List ℕ) → IsCount k more ds → BeginsOutside 48 9 rest → left (Digits k (UpTo more f)) (ds ++ rest) ≡ left f rest
+counted-each : (k more : ℕ) (f : Shape) (ds rest : List ℕ) → IsCount k more ds → BeginsOutside 48 9 rest → unmatched_bytes (Digits k (UpTo more f)) (ds ++ rest) ≡ unmatched_bytes f rest
 counted-each zero zero f [] rest h out = refl
 counted-each zero zero f (x ∷ xs) rest h out = absurd (omega (arith, h.2))
-counted-each zero (suc m) f [] rest h out = left-outside 48 9 (UpTo m f) f rest out
+counted-each zero (suc m) f [] rest h out = unmatched_bytes-outside 48 9 (UpTo m f) f rest out
 counted-each zero (suc m) f (x ∷ xs) rest h out =
-    left-branch_in 48 9 (UpTo m f) f x (xs ++ rest) (is_digit x h.0.0) ∙ counted-each zero m f xs rest (h.0.1, omega arith, omega (arith, h.2)) out
+    unmatched_bytes-branch_in 48 9 (UpTo m f) f x (xs ++ rest) (is_digit x h.0.0) ∙ counted-each zero m f xs rest (h.0.1, omega arith, omega (arith, h.2)) out
 counted-each (suc k) m f [] rest h out = absurd (omega (arith, h.1))
 counted-each (suc k) m f (x ∷ xs) rest h out =
-    left-in 48 9 (Digits k (UpTo m f)) x (xs ++ rest) (is_digit x h.0.0) ∙ counted-each k m f xs rest (h.0.1, omega (arith, h.1), omega (arith, h.2)) out
+    unmatched_bytes-in 48 9 (Digits k (UpTo m f)) x (xs ++ rest) (is_digit x h.0.0) ∙ counted-each k m f xs rest (h.0.1, omega (arith, h.1), omega (arith, h.2)) out
 
 abbrev Counted : ℕ → ℕ → Shape → List ℕ → Type 0
 Counted k more f bytes = Splits (IsCount k more) (λ ds. ds) f bytes
 
-no_digits : (m : ℕ) (f : Shape) (bytes : List ℕ) → left f bytes ≡ 0 → Counted 0 m f bytes
+no_digits : (m : ℕ) (f : Shape) (bytes : List ℕ) → unmatched_bytes f bytes ≡ 0 → Counted 0 m f bytes
 no_digits m f bytes e = record { value = []; rest = bytes; valid = (tt, omega arith, omega arith); bytes_are = refl; next = e }
 
-counted-only : (k more : ℕ) (f : Shape) (bytes : List ℕ) → left (Digits k (UpTo more f)) bytes ≡ 0 → Counted k more f bytes
+counted-only : (k more : ℕ) (f : Shape) (bytes : List ℕ) → unmatched_bytes (Digits k (UpTo more f)) bytes ≡ 0 → Counted k more f bytes
 counted-only zero zero f bytes e = no_digits 0 f bytes e
-counted-only zero (suc m) f [] e = no_digits (suc m) f [] (sym (left-branch_end 48 9 (UpTo m f) f) ∙ e)
+counted-only zero (suc m) f [] e = no_digits (suc m) f [] (sym (unmatched_bytes-branch_end 48 9 (UpTo m f) f) ∙ e)
 counted-only zero (suc m) f (x ∷ xs) e =
     elim (in_or_out 48 9 x) as (λ _. Counted 0 (suc m) f (x ∷ xs)) [
       | inl here ↦
-          let a = counted-only zero m f xs (sym (left-branch_in 48 9 (UpTo m f) f x xs here) ∙ e) in
+          let a = counted-only zero m f xs (sym (unmatched_bytes-branch_in 48 9 (UpTo m f) f x xs here) ∙ e) in
           record {
             value = x ∷ a.value;
             rest = a.rest;
@@ -124,13 +124,13 @@ counted-only zero (suc m) f (x ∷ xs) e =
             bytes_are = ap (λ ds. x ∷ ds) a.bytes_are;
             next = a.next;
           }
-      | inr out ↦ no_digits (suc m) f (x ∷ xs) (sym (left-branch_out 48 9 (UpTo m f) f x xs out) ∙ e)
+      | inr out ↦ no_digits (suc m) f (x ∷ xs) (sym (unmatched_bytes-branch_out 48 9 (UpTo m f) f x xs out) ∙ e)
     ]
-counted-only (suc k) m f [] e = absurd (omega (arith, e, left-end 48 9 (Digits k (UpTo m f))))
+counted-only (suc k) m f [] e = absurd (omega (arith, e, unmatched_bytes-end 48 9 (Digits k (UpTo m f))))
 counted-only (suc k) m f (x ∷ xs) e =
     elim (in_or_out 48 9 x) as (λ _. Counted (suc k) m f (x ∷ xs)) [
       | inl here ↦
-          let a = counted-only k m f xs (sym (left-in 48 9 (Digits k (UpTo m f)) x xs here) ∙ e) in
+          let a = counted-only k m f xs (sym (unmatched_bytes-in 48 9 (Digits k (UpTo m f)) x xs here) ∙ e) in
           record {
             value = x ∷ a.value;
             rest = a.rest;
@@ -138,7 +138,7 @@ counted-only (suc k) m f (x ∷ xs) e =
             bytes_are = ap (λ ds. x ∷ ds) a.bytes_are;
             next = a.next;
           }
-      | inr out ↦ absurd (omega (arith, e, left-out 48 9 (Digits k (UpTo m f)) x xs out))
+      | inr out ↦ absurd (omega (arith, e, unmatched_bytes-out 48 9 (Digits k (UpTo m f)) x xs out))
     ]
 
 counted-one : (ds es r s : List ℕ) → AllDigits 10 ds → AllDigits 10 es → BeginsOutside 48 9 r → BeginsOutside 48 9 s → ds ++ r ≡ es ++ s → (ds ≡ es) × (r ≡ s)
@@ -156,7 +156,7 @@ pub counted : {W : Type 0} (k more : ℕ) (Has : List ℕ → W → Type 0) (f :
     → ((x : ℕ) (xs : List ℕ) (w : W) → IsIn 48 9 x → ¬ Has (x ∷ xs) w) → IsShapeOf (HasAfter (IsCount k more) (λ ds. ds) Has) (Digits k (UpTo more f))
 counted {W} k more Has f p apart = record {
   each = λ bytes (v, h).
-      ap (left (Digits k (UpTo more f))) h.bytes_are ∙ counted-each k more f v.0 h.rest h.valid (outside h.rest v.1 h.has) ∙ p.each h.rest (v.1, h.has);
+      ap (unmatched_bytes (Digits k (UpTo more f))) h.bytes_are ∙ counted-each k more f v.0 h.rest h.valid (outside h.rest v.1 h.has) ∙ p.each h.rest (v.1, h.has);
   only = λ bytes e.
       let a = counted-only k more f bytes e in
       let b = p.only a.rest a.next in
@@ -176,11 +176,11 @@ hyphened ds = ds ++ 45 ∷ []
 hyphen_outside : (rest : List ℕ) → BeginsOutside 48 9 (45 ∷ rest)
 hyphen_outside rest x xs e here = let first : 45 ≡ x = cc in omega (arith, here.0, first)
 
-pub count_part : (k more : ℕ) → IsPart (IsCount k more) hyphened (AtLeast k more)
+pub count_part : (k more : ℕ) → IsPart (IsCount k more) hyphened (DigitsAtLeast k more)
 count_part k more = record {
   each = λ f ds rest h.
-      ap (left (AtLeast k more f)) (append_assoc ds (45 ∷ []) rest) ∙ counted-each k more (Byte 45 f) ds (45 ∷ rest) h (hyphen_outside rest)
-      ∙ left-in 45 0 f 45 rest (lit≤ tt, lit≤ tt);
+      ap (unmatched_bytes (DigitsAtLeast k more f)) (append_assoc ds (45 ∷ []) rest) ∙ counted-each k more (Byte 45 f) ds (45 ∷ rest) h (hyphen_outside rest)
+      ∙ unmatched_bytes-in 45 0 f 45 rest (lit≤ tt, lit≤ tt);
   only = λ f bytes e.
       let a = counted-only k more (Byte 45 f) bytes e in
       let b = (byte_part 45).only f a.rest a.next in
@@ -212,26 +212,26 @@ pub zero_byte : (x : ℕ) → IsIn 48 9 x → ¬ IsIn 49 8 x → x ≡ 48
 zero_byte x here out =
     elim (cases_lt 48 x) as (λ _. x ≡ 48) [ inl more ↦ absurd (out (omega arith, omega (arith, here.1))) | inr few ↦ omega (arith, here.0, few) ]
 
-some-each : (k : ℕ) (f : Shape) (ds rest : List ℕ) → IsSome k ds → left (SomeDigits k f) (ds ++ rest) ≡ left f rest
+some-each : (k : ℕ) (f : Shape) (ds rest : List ℕ) → IsSome k ds → unmatched_bytes (SomeDigits k f) (ds ++ rest) ≡ unmatched_bytes f rest
 some-each zero f [] rest h = absurd (omega (arith, h.0.1))
-some-each zero f (x ∷ []) rest h = left-in 49 8 f x rest (omega (arith, h.1, has_value x (is_digit x h.0.0.0)), omega (arith, (is_digit x h.0.0.0).1))
+some-each zero f (x ∷ []) rest h = unmatched_bytes-in 49 8 f x rest (omega (arith, h.1, has_value x (is_digit x h.0.0.0)), omega (arith, (is_digit x h.0.0.0).1))
 some-each zero f (x ∷ y ∷ xs) rest h = absurd (omega (arith, h.0.1))
 some-each (suc k) f [] rest h = absurd (omega (arith, h.0.1))
 some-each (suc k) f (x ∷ xs) rest h =
-    elim (in_or_out 49 8 x) as (λ _. left (SomeDigits (suc k) f) (x ∷ (xs ++ rest)) ≡ left f rest) [
+    elim (in_or_out 49 8 x) as (λ _. unmatched_bytes (SomeDigits (suc k) f) (x ∷ (xs ++ rest)) ≡ unmatched_bytes f rest) [
       | inl here ↦
-          left-branch_in 49 8 (Digits (suc k) f) (Byte 48 (SomeDigits k f)) x (xs ++ rest) here ∙ exact-each (suc k) f xs rest (h.0.0.1, omega (arith, h.0.1))
+          unmatched_bytes-branch_in 49 8 (Digits (suc k) f) (Byte 48 (SomeDigits k f)) x (xs ++ rest) here ∙ exact-each (suc k) f xs rest (h.0.0.1, omega (arith, h.0.1))
       | inr out ↦
           let is : x ≡ 48 = zero_byte x (is_digit x h.0.0.0) out in
-          left-branch_out 49 8 (Digits (suc k) f) (Byte 48 (SomeDigits k f)) x (xs ++ rest) out
-          ∙ left-in 48 0 (SomeDigits k f) x (xs ++ rest) (omega (arith, is), omega (arith, is))
+          unmatched_bytes-branch_out 49 8 (Digits (suc k) f) (Byte 48 (SomeDigits k f)) x (xs ++ rest) out
+          ∙ unmatched_bytes-in 48 0 (SomeDigits k f) x (xs ++ rest) (omega (arith, is), omega (arith, is))
           ∙ some-each k f xs rest ((h.0.0.1, omega (arith, h.0.1)), subst (λ b. 0 < digits_value 10 (b ∷ xs)) is h.1)
     ]
 
-some-only : (k : ℕ) (f : Shape) (bytes : List ℕ) → left (SomeDigits k f) bytes ≡ 0 → Splits (IsSome k) (λ ds. ds) f bytes
-some-only zero f [] e = absurd (omega (arith, e, left-end 49 8 f))
+some-only : (k : ℕ) (f : Shape) (bytes : List ℕ) → unmatched_bytes (SomeDigits k f) bytes ≡ 0 → Splits (IsSome k) (λ ds. ds) f bytes
+some-only zero f [] e = absurd (omega (arith, e, unmatched_bytes-end 49 8 f))
 some-only (suc k) f [] e =
-    absurd (omega (arith, e, left-branch_end 49 8 (Digits (suc k) f) (Byte 48 (SomeDigits k f)), left-end 48 0 (SomeDigits k f)))
+    absurd (omega (arith, e, unmatched_bytes-branch_end 49 8 (Digits (suc k) f) (Byte 48 (SomeDigits k f)), unmatched_bytes-end 48 0 (SomeDigits k f)))
 some-only zero f (x ∷ xs) e =
     elim (in_or_out 49 8 x) as (λ _. Splits (IsSome 0) (λ ds. ds) f (x ∷ xs)) [
       | inl here ↦
@@ -241,15 +241,15 @@ some-only zero f (x ∷ xs) e =
             rest = xs;
             valid = (((digit_is x digit, tt), refl), omega (arith, has_value x digit, here.0));
             bytes_are = refl;
-            next = sym (left-in 49 8 f x xs here) ∙ e;
+            next = sym (unmatched_bytes-in 49 8 f x xs here) ∙ e;
           }
-      | inr out ↦ absurd (omega (arith, e, left-out 49 8 f x xs out))
+      | inr out ↦ absurd (omega (arith, e, unmatched_bytes-out 49 8 f x xs out))
     ]
 some-only (suc k) f (x ∷ xs) e =
     elim (in_or_out 49 8 x) as (λ _. Splits (IsSome (suc k)) (λ ds. ds) f (x ∷ xs)) [
       | inl here ↦
           let digit : IsIn 48 9 x = (omega (arith, here.0), omega (arith, here.1)) in
-          let a = exact-only (suc k) f xs (sym (left-branch_in 49 8 (Digits (suc k) f) (Byte 48 (SomeDigits k f)) x xs here) ∙ e) in
+          let a = exact-only (suc k) f xs (sym (unmatched_bytes-branch_in 49 8 (Digits (suc k) f) (Byte 48 (SomeDigits k f)) x xs here) ∙ e) in
           record {
             value = x ∷ a.value;
             rest = a.rest;
@@ -258,7 +258,7 @@ some-only (suc k) f (x ∷ xs) e =
             next = a.next;
           }
       | inr out ↦
-          let rest_is : left (Byte 48 (SomeDigits k f)) (x ∷ xs) ≡ 0 = sym (left-branch_out 49 8 (Digits (suc k) f) (Byte 48 (SomeDigits k f)) x xs out) ∙ e in
+          let rest_is : unmatched_bytes (Byte 48 (SomeDigits k f)) (x ∷ xs) ≡ 0 = sym (unmatched_bytes-branch_out 49 8 (Digits (suc k) f) (Byte 48 (SomeDigits k f)) x xs out) ∙ e in
           let zero_is = (byte_part 48).only (SomeDigits k f) (x ∷ xs) rest_is in
           let a = some-only k f zero_is.rest zero_is.next in
           record {

@@ -2,10 +2,10 @@
 -- its text.
 use Rattle.std.proofs.Common.{◌≡◌, ◌⊎◌, ◌↔◌, Some, None, List, ℕ, Result, Ok, Err, IfErr, sym, ap, subst, ◌∙◌, inl, inr}
 use Rattle.std.proofs.lemmas.Option.{none-some}
-use Rattle.cal_time.specs.Refusal.{IsRefused}
+use Rattle.cal_time.specs.ComponentError.{FailsWith}
 use Rattle.cal_time.specs.declared.error.ComponentRange.{ComponentRange}
-use Rattle.cal_text.specs.Reading.{HasFault, component_of}
-use Rattle.cal_text.specs.declared.error.Unreadable.{Unreadable}
+use Rattle.cal_text.specs.Parsing.{HasError, component_of}
+use Rattle.cal_text.specs.declared.error.ParseError.{ParseError}
 use Rattle.cal_text.proofs.Results.{one, not_ok}
 
 -- ---- one of several components
@@ -15,23 +15,23 @@ For a A why = (why ≡ a) × A
 -- An error of the result for one of these reasons is a fault, and each fault is an error of the
 -- result.
 pub record AreFaults {V : Type 0} (r : Result V ComponentRange) (Reason Fault : ComponentRange → Type 0) : Type 0 where
-  pub found : (why : ComponentRange) → IsRefused why r → Reason why → Fault why
-  pub back : (why : ComponentRange) → Fault why → IsRefused why r
+  pub found : (why : ComponentRange) → FailsWith why r → Reason why → Fault why
+  pub back : (why : ComponentRange) → Fault why → FailsWith why r
 
-pub last : {V : Type 0} (r : Result V ComponentRange) (a : ComponentRange) (A : Type 0) → IsRefused a r ↔ A → AreFaults r (λ why. why ≡ a) (For a A)
+pub last : {V : Type 0} (r : Result V ComponentRange) (a : ComponentRange) (A : Type 0) → FailsWith a r ↔ A → AreFaults r (λ why. why ≡ a) (For a A)
 last r a A is = record {
-  found = λ why h e. (e, is.0 (subst (λ w. IsRefused w r) e h));
-  back = λ why fault. subst (λ w. IsRefused w r) (sym fault.0) (is.1 fault.1);
+  found = λ why h e. (e, is.0 (subst (λ w. FailsWith w r) e h));
+  back = λ why fault. subst (λ w. FailsWith w r) (sym fault.0) (is.1 fault.1);
 }
 
-pub more : {V : Type 0} {R P : ComponentRange → Type 0} (r : Result V ComponentRange) (a : ComponentRange) (A : Type 0) → IsRefused a r ↔ A
+pub more : {V : Type 0} {R P : ComponentRange → Type 0} (r : Result V ComponentRange) (a : ComponentRange) (A : Type 0) → FailsWith a r ↔ A
     → AreFaults r R P → AreFaults r (λ why. (why ≡ a) ⊎ R why) (λ why. For a A why ⊎ P why)
 more {V} {R} {P} r a A is others = record {
   found = λ why h reason. elim reason as (λ _. For a A why ⊎ P why) [ inl e ↦ inl ((last r a A is).found why h e) | inr e ↦ inr (others.found why h e) ];
-  back = λ why fault. elim fault as (λ _. IsRefused why r) [ inl x ↦ (last r a A is).back why x | inr x ↦ others.back why x ];
+  back = λ why fault. elim fault as (λ _. FailsWith why r) [ inl x ↦ (last r a A is).back why x | inr x ↦ others.back why x ];
 }
 
-pub all : {V : Type 0} {R P : ComponentRange → Type 0} (r : Result V ComponentRange) → AreFaults r R P → IfErr r R → (why : ComponentRange) → IsRefused why r ↔ P why
+pub all : {V : Type 0} {R P : ComponentRange → Type 0} (r : Result V ComponentRange) → AreFaults r R P → IfErr r R → (why : ComponentRange) → FailsWith why r ↔ P why
 all (Ok v) faults reason why = (λ h. absurd h, λ fault. faults.back why fault)
 all {V} {R} (Err e) faults reason why = (λ h. faults.found why h (subst R h reason), λ fault. faults.back why fault)
 
@@ -40,23 +40,23 @@ abbrev pub IsOnly : {F : Type 0} → (List ℕ → F → Type 0) → List ℕ �
 IsOnly {F} Has text form = (other : F) → Has text other → ◌≡◌ {A = Result F ℕ} (Ok form) (Ok other)
 
 only : {F : Type 0} (Has : List ℕ → F → Type 0) (Of : F → ComponentRange → Type 0) (text : List ℕ) (form : F) (why : ComponentRange)
-    → IsOnly Has text form → HasFault Has Of text why → Of form why
+    → IsOnly Has text form → HasError Has Of text why → Of form why
 only Has Of text form why every h = subst (λ f. Of f why) (sym (one form h.0 (every h.0 h.1))) h.2
 
 one_some : {A : Type 0} (a b : A) → Some a ≡ Some b → a ≡ b
 one_some a b e = cc
 
 pub not_refused : {F : Type 0} (Has : List ℕ → F → Type 0) (Of : F → ComponentRange → Type 0) (text : List ℕ) (form : F)
-    → IsOnly Has text form → ((why : ComponentRange) → ⊥ ↔ Of form why) → (why : ComponentRange) → ⊥ ↔ HasFault Has Of text why
+    → IsOnly Has text form → ((why : ComponentRange) → ⊥ ↔ Of form why) → (why : ComponentRange) → ⊥ ↔ HasError Has Of text why
 not_refused Has Of text form every component why = (λ e. absurd e, λ h. (component why).1 (only Has Of text form why every h))
 
 pub refused_for : {F : Type 0} (Has : List ℕ → F → Type 0) (Of : F → ComponentRange → Type 0) (text : List ℕ) (form : F) (found : ComponentRange)
     → IsOnly Has text form → Has text form → ((why : ComponentRange) → (found ≡ why) ↔ Of form why)
-    → (why : ComponentRange) → (Some found ≡ Some why) ↔ HasFault Has Of text why
+    → (why : ComponentRange) → (Some found ≡ Some why) ↔ HasError Has Of text why
 refused_for Has Of text form found every has component why =
     (λ e. (form, has, (component why).0 (one_some found why e)), λ h. ap Some ((component why).1 (only Has Of text form why every h)))
 
-pub no_form : {F : Type 0} (Has : List ℕ → F → Type 0) (Of : F → ComponentRange → Type 0) (text : List ℕ) (e : Unreadable) → component_of e ≡ None
+pub no_form : {F : Type 0} (Has : List ℕ → F → Type 0) (Of : F → ComponentRange → Type 0) (text : List ℕ) (e : ParseError) → component_of e ≡ None
     → (position : ℕ) → ((form : F) → Has text form → ◌≡◌ {A = Result F ℕ} (Err position) (Ok form))
-    → (why : ComponentRange) → (component_of e ≡ Some why) ↔ HasFault Has Of text why
+    → (why : ComponentRange) → (component_of e ≡ Some why) ↔ HasError Has Of text why
 no_form Has Of text e none position every why = (λ h. absurd (none-some _ (sym none ∙ h)), λ h. absurd (not_ok _ _ (every h.0 h.1)))

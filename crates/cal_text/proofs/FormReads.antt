@@ -8,8 +8,8 @@ use Rattle.cal_time.specs.DateText.{digits_at_least}
 use Rattle.cal_time.proofs.DistinctTexts.{digits_at_least-digits, digits_at_least-value}
 use Rattle.cal_text.specs.declared.date_numbers.DateNumbers.{DateNumbers}
 use Rattle.cal_text.specs.declared.date_numbers.DateNumbers.TheVariants.{Calendar, Ordinal, Week}
-use Rattle.cal_text.specs.DateForms.{year_text, month_and_day_text, year_of, rest_of, IsWrittenYear, DigitsFit, HasForm}
-use Rattle.cal_text.specs.Shape.{ReadsDigits}
+use Rattle.cal_text.specs.DateForms.{year_text, month_and_day_text, form_year, form_rest, IsPrintableYear, DigitsFit, HasForm}
+use Rattle.cal_text.specs.Shape.{ParsesDigits}
 use Rattle.cal_text.proofs.DigitTexts.{digits-printed, digits_at_least-length}
 use Rattle.cal_text.proofs.NumberTexts.{one_digit}
 use Rattle.cal_text.proofs.Parts.{at_end}
@@ -33,8 +33,8 @@ three_digits-split m d few low =
 pub pair : (front back old rest : List ℕ) → old ≡ front ++ rest → rest ≡ 45 ∷ back → old ≡ (front ++ 45 ∷ []) ++ back
 pair front back old rest e f = e ∙ ap (λ r. front ++ r) f ∙ sym (append_assoc front (45 ∷ []) back)
 
-pub put_week : (y : ℤ) (w b : ℕ) (old a c e : List ℕ) → IsWrittenYear y → ReadsDigits old a 2 w → a ≡ 45 ∷ c → (49 ≤ b) × (b ≤ 55) × (c ≡ b ∷ e) → e ≡ []
-    → DigitsFit (Week y w (b - 48)) × (87 ∷ old ≡ rest_of (Week y w (b - 48)))
+pub put_week : (y : ℤ) (w b : ℕ) (old a c e : List ℕ) → IsPrintableYear y → ParsesDigits old a 2 w → a ≡ 45 ∷ c → (49 ≤ b) × (b ≤ 55) × (c ≡ b ∷ e) → e ≡ []
+    → DigitsFit (Week y w (b - 48)) × (87 ∷ old ≡ form_rest (Week y w (b - 48)))
 put_week y w b old a c e written h hyphen weekday end =
     let two = printed old a 2 w (lit≤ tt) (lit≤ tt) h in
     let same : b ≡ 48 + (b - 48) = omega (arith, weekday.0) in
@@ -44,8 +44,8 @@ put_week y w b old a c e written h hyphen weekday end =
       ap (λ r. 87 ∷ r) (pair (digits_at_least 2 w) (digits_at_least 1 (b - 48)) old a two.1 (hyphen ∙ ap (λ r. 45 ∷ r) last)),
     )
 
-pub put_calendar : (y : ℤ) (m d : ℕ) (old a c e : List ℕ) → IsWrittenYear y → ReadsDigits old a 2 m → a ≡ 45 ∷ c → ReadsDigits c e 2 d → e ≡ []
-    → DigitsFit (Calendar y m d) × (old ≡ rest_of (Calendar y m d))
+pub put_calendar : (y : ℤ) (m d : ℕ) (old a c e : List ℕ) → IsPrintableYear y → ParsesDigits old a 2 m → a ≡ 45 ∷ c → ParsesDigits c e 2 d → e ≡ []
+    → DigitsFit (Calendar y m d) × (old ≡ form_rest (Calendar y m d))
 put_calendar y m d old a c e written h hyphen k end =
     let first = printed old a 2 m (lit≤ tt) (lit≤ tt) h in
     let second = printed c e 2 d (lit≤ tt) (lit≤ tt) k in (
@@ -57,14 +57,14 @@ pub month_and_day : (m d : ℕ) (new : List ℕ) → new ≡ [] → digits_at_le
 month_and_day m d new end =
     pair (digits_at_least 2 m) (digits_at_least 2 d) _ _ refl (ap (λ r. 45 ∷ r) (at_end _ (digits_at_least 2 d) new refl end))
 
-pub put_ordinal : (y : ℤ) (m d : ℕ) (old a c : List ℕ) → IsWrittenYear y → ReadsDigits old a 2 m → (d < 10) × (a ≡ (48 + d) ∷ c) → c ≡ []
-    → DigitsFit (Ordinal y (m * 10 + d)) × (old ≡ rest_of (Ordinal y (m * 10 + d)))
+pub put_ordinal : (y : ℤ) (m d : ℕ) (old a c : List ℕ) → IsPrintableYear y → ParsesDigits old a 2 m → (d < 10) × (a ≡ (48 + d) ∷ c) → c ≡ []
+    → DigitsFit (Ordinal y (m * 10 + d)) × (old ≡ form_rest (Ordinal y (m * 10 + d)))
 put_ordinal y m d old a c written h last end =
     let three = printed old c 3 (m * 10 + d) (lit≤ tt) (lit≤ tt) (one_more m d 2 old a c h last.0 last.1) in
     ((written, omega (arith, three.0)), at_end old (digits_at_least 3 (m * 10 + d)) c three.1 end)
 
-pub put_form : (y : ℤ) (f : DateNumbers) (old mid : List ℕ) → old ≡ year_text y ++ 45 ∷ mid → DigitsFit f → year_of f ≡ y → mid ≡ rest_of f → HasForm old f
+pub put_form : (y : ℤ) (f : DateNumbers) (old mid : List ℕ) → old ≡ year_text y ++ 45 ∷ mid → DigitsFit f → form_year f ≡ y → mid ≡ form_rest f → HasForm old f
 put_form y f old mid e is same rest = record {
   form = is;
-  bytes_are = e ∙ ap (λ r. year_text y ++ 45 ∷ r) rest ∙ sym (append_assoc (year_text y) (45 ∷ []) (rest_of f)) ∙ ap (λ z. (year_text z ++ 45 ∷ []) ++ rest_of f) (sym same);
+  bytes_are = e ∙ ap (λ r. year_text y ++ 45 ∷ r) rest ∙ sym (append_assoc (year_text y) (45 ∷ []) (form_rest f)) ∙ ap (λ z. (year_text z ++ 45 ∷ []) ++ form_rest f) (sym same);
 }

@@ -6,8 +6,8 @@ use Rattle.cal_time.specs.DateText.{digits_at_least}
 use Rattle.cal_time.proofs.DistinctTexts.{digits_at_least-digits}
 use Rattle.cal_text.specs.declared.date_numbers.DateNumbers.{DateNumbers}
 use Rattle.cal_text.specs.declared.date_numbers.DateNumbers.TheVariants.{Calendar, Ordinal, Week}
-use Rattle.cal_text.specs.DateForms.{year_text, IsWrittenYear, HasForm}
-use Rattle.cal_text.specs.Shape.{date, week, month_or_ordinal, after_year, Digits, Done}
+use Rattle.cal_text.specs.DateForms.{year_text, IsPrintableYear, HasForm}
+use Rattle.cal_text.specs.Shape.{date, week_date, month_or_ordinal, after_year, Digits, End}
 use Rattle.cal_text.proofs.DigitTexts.{digits_at_least-length}
 use Rattle.cal_text.proofs.DigitParts.{number_part, is_digit}
 use Rattle.cal_text.proofs.FormReads.{put_form, three_digits-split}
@@ -24,7 +24,7 @@ IsBelow k n = (n < 10 ^ k) × (n < 10 ^ 9)
 abbrev IsNumber : ℕ → List ℕ → ℕ → Type 0
 IsNumber k bytes n = IsBelow k n × (bytes ≡ digits_at_least k n)
 
-number_shape : (k : ℕ) → 1 ≤ k → k ≤ 9 → IsShapeOf (IsNumber k) (Digits k Done)
+number_shape : (k : ℕ) → 1 ≤ k → k ≤ 9 → IsShapeOf (IsNumber k) (Digits k End)
 number_shape k some few = last _ _ _ (number_part k some few)
 
 first-digit : (k n x : ℕ) (xs rest : List ℕ) → 1 ≤ k → IsBelow k n → x ∷ xs ≡ digits_at_least k n ++ rest → IsIn 48 9 x
@@ -42,7 +42,7 @@ WeekParts = ℕ × (Unit {0} × ℕ)
 abbrev IsWeekText : List ℕ → WeekParts → Type 0
 IsWeekText bytes v = (IsBelow 2 v.0 × (Unit {0} × (v.1.1 ≤ 6))) × (bytes ≡ digits_at_least 2 v.0 ++ (45 ∷ [] ++ (49 + v.1.1) ∷ []))
 
-week_shape : IsShapeOf IsWeekText week
+week_shape : IsShapeOf IsWeekText week_date
 week_shape = last _ _ _ (both _ _ _ _ _ _ (number_part 2 (lit≤ tt) (lit≤ tt)) (both _ _ _ _ _ _ (byte_part 45) (from_part 49 6)))
 
 abbrev MonthParts : Type 0
@@ -73,7 +73,7 @@ abbrev Parts : Type 0
 Parts = ℤ × WithWeek
 
 abbrev IsWhole : List ℕ → Parts → Type 0
-IsWhole = HasAfter IsWrittenYear year_hyphen IsAfterYear
+IsWhole = HasAfter IsPrintableYear year_hyphen IsAfterYear
 
 into : Parts → DateNumbers
 into (y, inl (letter, (w, (hyphen, d)))) = Week y w (d + 1)

@@ -6,25 +6,25 @@ use Rattle.cal_text.specs.declared.rfc3339.numbers.Numbers.{Numbers}
 use Rattle.cal_text.specs.declared.rfc3339.numbers.TimeOffset.{TimeOffset}
 use Rattle.cal_text.specs.declared.rfc3339.numbers.TimeOffset.TheVariants.{Utc, Signed}
 use Rattle.cal_text.specs.Rfc3339Form.{IsSeparator, IsTimeOffset, HasMomentForm, HasFractionBefore, clock_digits}
-use Rattle.cal_text.specs.Shape.{Shape, Done, left, Branch, Byte, Digits, UpTo, Fraction, Separator, TwoNumbers, ToSeconds, offset_digits, signed_offset, time_offset, moment, ReadsDigits}
+use Rattle.cal_text.specs.Shape.{Shape, End, unmatched_bytes, Branch, Byte, Digits, UpTo, Fraction, Separator, TwoNumbers, ToSeconds, offset_digits, signed_offset, time_offset, moment, ParsesDigits}
 use Rattle.cal_text.proofs.Decimals.{fraction-below}
 use Rattle.cal_text.proofs.DigitParts.{number_part}
 use Rattle.cal_text.proofs.NumberShapes.{IsEnd, end_shape}
 use Rattle.cal_text.proofs.Parts.{IsPart, Splits, HasAfter, HasEither, byte_part, both, last, after, either, retold, at_end}
 use Rattle.cal_text.proofs.Positions.{IsShapeOf, AreShapesOf}
 use Rattle.cal_text.proofs.ReadDigits.{printed}
-use Rattle.cal_text.proofs.Stops.{IsIn, in_or_out, left-in, left-out, left-end, left-branch_in, left-branch_out, left-branch_end}
+use Rattle.cal_text.proofs.Stops.{IsIn, in_or_out, unmatched_bytes-in, unmatched_bytes-out, unmatched_bytes-end, unmatched_bytes-branch_in, unmatched_bytes-branch_out, unmatched_bytes-branch_end}
 use Rattle.cal_text.proofs.UnixShapes.{HasFraction, fraction_then}
 
 -- ---- the byte between the date and the time
-separator-each : (f : Shape) (s : ℕ) (rest : List ℕ) → IsSeparator s → left (Separator f) (s ∷ rest) ≡ left f rest
-separator-each f s rest h = elim h as (λ _. left (Separator f) (s ∷ rest) ≡ left f rest) [
-  | inl upper ↦ left-branch_in 84 0 f (Branch 116 0 f (Byte 32 f)) s rest (omega (arith, upper), omega (arith, upper))
-  | inr other ↦ left-branch_out 84 0 f (Branch 116 0 f (Byte 32 f)) s rest (λ here. not-upper here other) ∙ elim other as (λ _. left (Branch 116 0 f (Byte 32 f)) (s ∷ rest) ≡ left f rest) [
-    | inl lower ↦ left-branch_in 116 0 f (Byte 32 f) s rest (omega (arith, lower), omega (arith, lower))
+separator-each : (f : Shape) (s : ℕ) (rest : List ℕ) → IsSeparator s → unmatched_bytes (Separator f) (s ∷ rest) ≡ unmatched_bytes f rest
+separator-each f s rest h = elim h as (λ _. unmatched_bytes (Separator f) (s ∷ rest) ≡ unmatched_bytes f rest) [
+  | inl upper ↦ unmatched_bytes-branch_in 84 0 f (Branch 116 0 f (Byte 32 f)) s rest (omega (arith, upper), omega (arith, upper))
+  | inr other ↦ unmatched_bytes-branch_out 84 0 f (Branch 116 0 f (Byte 32 f)) s rest (λ here. not-upper here other) ∙ elim other as (λ _. unmatched_bytes (Branch 116 0 f (Byte 32 f)) (s ∷ rest) ≡ unmatched_bytes f rest) [
+    | inl lower ↦ unmatched_bytes-branch_in 116 0 f (Byte 32 f) s rest (omega (arith, lower), omega (arith, lower))
     | inr space ↦
-        left-branch_out 116 0 f (Byte 32 f) s rest (λ here. absurd (omega (arith, here.0, space)))
-        ∙ left-in 32 0 f s rest (omega (arith, space), omega (arith, space))
+        unmatched_bytes-branch_out 116 0 f (Byte 32 f) s rest (λ here. absurd (omega (arith, here.0, space)))
+        ∙ unmatched_bytes-in 32 0 f s rest (omega (arith, space), omega (arith, space))
   ]
 ]
   where
@@ -35,32 +35,32 @@ separator-each f s rest h = elim h as (λ _. left (Separator f) (s ∷ rest) ≡
 abbrev Separated : Shape → List ℕ → Type 0
 Separated f bytes = Splits IsSeparator (λ s. s ∷ []) f bytes
 
-separated : (f : Shape) (x b : ℕ) (xs : List ℕ) → IsSeparator b → IsIn b 0 x → left f xs ≡ 0 → Separated f (x ∷ xs)
+separated : (f : Shape) (x b : ℕ) (xs : List ℕ) → IsSeparator b → IsIn b 0 x → unmatched_bytes f xs ≡ 0 → Separated f (x ∷ xs)
 separated f x b xs is here e =
     let same : b ≡ x = omega (arith, here.0, here.1) in
     record { value = x; rest = xs; valid = subst IsSeparator same is; bytes_are = refl; next = e }
 
-separator-only : (f : Shape) (bytes : List ℕ) → left (Separator f) bytes ≡ 0 → Separated f bytes
+separator-only : (f : Shape) (bytes : List ℕ) → unmatched_bytes (Separator f) bytes ≡ 0 → Separated f bytes
 separator-only f [] e =
-    absurd (omega (arith, e, left-branch_end 84 0 f (Branch 116 0 f (Byte 32 f)), left-branch_end 116 0 f (Byte 32 f), left-end 32 0 f))
+    absurd (omega (arith, e, unmatched_bytes-branch_end 84 0 f (Branch 116 0 f (Byte 32 f)), unmatched_bytes-branch_end 116 0 f (Byte 32 f), unmatched_bytes-end 32 0 f))
 separator-only f (x ∷ xs) e =
     elim (in_or_out 84 0 x) as (λ _. Separated f (x ∷ xs)) [
-      | inl upper ↦ separated f x 84 xs (inl refl) upper (sym (left-branch_in 84 0 f (Branch 116 0 f (Byte 32 f)) x xs upper) ∙ e)
-      | inr out ↦ next (sym (left-branch_out 84 0 f (Branch 116 0 f (Byte 32 f)) x xs out) ∙ e)
+      | inl upper ↦ separated f x 84 xs (inl refl) upper (sym (unmatched_bytes-branch_in 84 0 f (Branch 116 0 f (Byte 32 f)) x xs upper) ∙ e)
+      | inr out ↦ next (sym (unmatched_bytes-branch_out 84 0 f (Branch 116 0 f (Byte 32 f)) x xs out) ∙ e)
     ]
   where
-    space : left (Byte 32 f) (x ∷ xs) ≡ 0 → Separated f (x ∷ xs)
+    space : unmatched_bytes (Byte 32 f) (x ∷ xs) ≡ 0 → Separated f (x ∷ xs)
     space e =
         elim (in_or_out 32 0 x) as (λ _. Separated f (x ∷ xs)) [
-          | inl is ↦ separated f x 32 xs (inr (inr refl)) is (sym (left-in 32 0 f x xs is) ∙ e)
-          | inr out ↦ absurd (omega (arith, e, left-out 32 0 f x xs out))
+          | inl is ↦ separated f x 32 xs (inr (inr refl)) is (sym (unmatched_bytes-in 32 0 f x xs is) ∙ e)
+          | inr out ↦ absurd (omega (arith, e, unmatched_bytes-out 32 0 f x xs out))
         ]
 
-    next : left (Branch 116 0 f (Byte 32 f)) (x ∷ xs) ≡ 0 → Separated f (x ∷ xs)
+    next : unmatched_bytes (Branch 116 0 f (Byte 32 f)) (x ∷ xs) ≡ 0 → Separated f (x ∷ xs)
     next e =
         elim (in_or_out 116 0 x) as (λ _. Separated f (x ∷ xs)) [
-          | inl lower ↦ separated f x 116 xs (inr (inl refl)) lower (sym (left-branch_in 116 0 f (Byte 32 f) x xs lower) ∙ e)
-          | inr out ↦ space (sym (left-branch_out 116 0 f (Byte 32 f) x xs out) ∙ e)
+          | inl lower ↦ separated f x 116 xs (inr (inl refl)) lower (sym (unmatched_bytes-branch_in 116 0 f (Byte 32 f) x xs lower) ∙ e)
+          | inr out ↦ space (sym (unmatched_bytes-branch_out 116 0 f (Byte 32 f) x xs out) ∙ e)
         ]
 
 separator_one : (s t : ℕ) (r q : List ℕ) → s ∷ r ≡ t ∷ q → (s ≡ t) × (r ≡ q)
@@ -121,8 +121,8 @@ IsOffset = HasEither 90 0 IsEnd IsLowerOr
 
 offset_shape : IsShapeOf IsOffset time_offset
 offset_shape =
-    either 90 0 IsEnd Done IsLowerOr _ end_shape
-    (either 122 0 IsEnd Done IsSigned _ end_shape signed_shape (λ x xs v here h. omega (arith, here.0, (signed-first x xs v h).1))) lower-first
+    either 90 0 IsEnd End IsLowerOr _ end_shape
+    (either 122 0 IsEnd End IsSigned _ end_shape signed_shape (λ x xs v here h. omega (arith, here.0, (signed-first x xs v h).1))) lower-first
 
 time_offset_of : Offset → TimeOffset
 time_offset_of (inl v) = Utc
@@ -307,14 +307,14 @@ moment_shapes = record {
         (moment_up_to (length bytes)).one bytes v w (fits (length bytes) bytes v long a) (fits (length bytes) bytes w long b)
 
 -- ---- what a scanner read
-pub put_two : (b m n : ℕ) (old first mid second new : List ℕ) → old ≡ b ∷ first → ReadsDigits first mid 2 m → mid ≡ b ∷ second → ReadsDigits second new 2 n
+pub put_two : (b m n : ℕ) (old first mid second new : List ℕ) → old ≡ b ∷ first → ParsesDigits first mid 2 m → mid ≡ b ∷ second → ParsesDigits second new 2 n
     → (m < 100) × (n < 100) × (old ≡ b ∷ (digits_at_least 2 m ++ b ∷ (digits_at_least 2 n ++ new)))
 put_two b m n old first mid second new one h other k =
     let x = printed first mid 2 m (lit≤ tt) (lit≤ tt) h in
     let y = printed second new 2 n (lit≤ tt) (lit≤ tt) k in
     (x.0, y.0, one ∙ ap (λ r. b ∷ r) (x.1 ∙ ap (λ r. digits_at_least 2 m ++ r) (other ∙ ap (λ r. b ∷ r) y.1)))
 
-pub put_pair : (m n : ℕ) (old mid second new : List ℕ) → ReadsDigits old mid 2 m → mid ≡ 58 ∷ second → ReadsDigits second new 2 n → new ≡ []
+pub put_pair : (m n : ℕ) (old mid second new : List ℕ) → ParsesDigits old mid 2 m → mid ≡ 58 ∷ second → ParsesDigits second new 2 n → new ≡ []
     → (m < 100) × (n < 100) × (old ≡ digits_at_least 2 m ++ 58 ∷ digits_at_least 2 n)
 put_pair m n old mid second new h colon k end =
     let x = printed old mid 2 m (lit≤ tt) (lit≤ tt) h in
@@ -322,35 +322,35 @@ put_pair m n old mid second new h colon k end =
     (x.0, y.0, x.1 ∙ ap (λ r. digits_at_least 2 m ++ r) (colon ∙ ap (λ r. 58 ∷ r) (at_end second (digits_at_least 2 n) new y.1 end)))
 
 -- more digits than there are bytes do not matter
-same_digits : (j k : ℕ) (f : Shape) (bytes : List ℕ) → length bytes ≤ j → length bytes ≤ k → left (UpTo j f) bytes ≡ left (UpTo k f) bytes
+same_digits : (j k : ℕ) (f : Shape) (bytes : List ℕ) → length bytes ≤ j → length bytes ≤ k → unmatched_bytes (UpTo j f) bytes ≡ unmatched_bytes (UpTo k f) bytes
 same_digits zero zero f bytes a b = refl
-same_digits zero (suc k) f [] a b = sym (left-branch_end 48 9 (UpTo k f) f)
-same_digits (suc j) zero f [] a b = left-branch_end 48 9 (UpTo j f) f
+same_digits zero (suc k) f [] a b = sym (unmatched_bytes-branch_end 48 9 (UpTo k f) f)
+same_digits (suc j) zero f [] a b = unmatched_bytes-branch_end 48 9 (UpTo j f) f
 same_digits zero (suc k) f (x ∷ xs) a b = absurd (omega (arith, a))
 same_digits (suc j) zero f (x ∷ xs) a b = absurd (omega (arith, b))
-same_digits (suc j) (suc k) f [] a b = left-branch_end 48 9 (UpTo j f) f ∙ sym (left-branch_end 48 9 (UpTo k f) f)
+same_digits (suc j) (suc k) f [] a b = unmatched_bytes-branch_end 48 9 (UpTo j f) f ∙ sym (unmatched_bytes-branch_end 48 9 (UpTo k f) f)
 same_digits (suc j) (suc k) f (x ∷ xs) a b =
-    elim (in_or_out 48 9 x) as (λ _. left (UpTo (suc j) f) (x ∷ xs) ≡ left (UpTo (suc k) f) (x ∷ xs)) [
+    elim (in_or_out 48 9 x) as (λ _. unmatched_bytes (UpTo (suc j) f) (x ∷ xs) ≡ unmatched_bytes (UpTo (suc k) f) (x ∷ xs)) [
       | inl here ↦
-          left-branch_in 48 9 (UpTo j f) f x xs here ∙ same_digits j k f xs (omega (arith, a)) (omega (arith, b)) ∙ sym (left-branch_in 48 9 (UpTo k f) f x xs here)
-      | inr out ↦ left-branch_out 48 9 (UpTo j f) f x xs out ∙ sym (left-branch_out 48 9 (UpTo k f) f x xs out)
+          unmatched_bytes-branch_in 48 9 (UpTo j f) f x xs here ∙ same_digits j k f xs (omega (arith, a)) (omega (arith, b)) ∙ sym (unmatched_bytes-branch_in 48 9 (UpTo k f) f x xs here)
+      | inr out ↦ unmatched_bytes-branch_out 48 9 (UpTo j f) f x xs out ∙ sym (unmatched_bytes-branch_out 48 9 (UpTo k f) f x xs out)
     ]
 
-pub same_fraction : (j k : ℕ) (f : Shape) (bytes : List ℕ) → length bytes ≤ j → length bytes ≤ k → left (Fraction j f) bytes ≡ left (Fraction k f) bytes
-same_fraction j k f [] a b = left-branch_end 46 0 (Digits 1 (UpTo j f)) f ∙ sym (left-branch_end 46 0 (Digits 1 (UpTo k f)) f)
+pub same_fraction : (j k : ℕ) (f : Shape) (bytes : List ℕ) → length bytes ≤ j → length bytes ≤ k → unmatched_bytes (Fraction j f) bytes ≡ unmatched_bytes (Fraction k f) bytes
+same_fraction j k f [] a b = unmatched_bytes-branch_end 46 0 (Digits 1 (UpTo j f)) f ∙ sym (unmatched_bytes-branch_end 46 0 (Digits 1 (UpTo k f)) f)
 same_fraction j k f (x ∷ xs) a b =
-    elim (in_or_out 46 0 x) as (λ _. left (Fraction j f) (x ∷ xs) ≡ left (Fraction k f) (x ∷ xs)) [
+    elim (in_or_out 46 0 x) as (λ _. unmatched_bytes (Fraction j f) (x ∷ xs) ≡ unmatched_bytes (Fraction k f) (x ∷ xs)) [
       | inl here ↦
-          left-branch_in 46 0 (Digits 1 (UpTo j f)) f x xs here ∙ digit xs (omega (arith, a)) (omega (arith, b)) ∙ sym (left-branch_in 46 0 (Digits 1 (UpTo k f)) f x xs here)
-      | inr out ↦ left-branch_out 46 0 (Digits 1 (UpTo j f)) f x xs out ∙ sym (left-branch_out 46 0 (Digits 1 (UpTo k f)) f x xs out)
+          unmatched_bytes-branch_in 46 0 (Digits 1 (UpTo j f)) f x xs here ∙ digit xs (omega (arith, a)) (omega (arith, b)) ∙ sym (unmatched_bytes-branch_in 46 0 (Digits 1 (UpTo k f)) f x xs here)
+      | inr out ↦ unmatched_bytes-branch_out 46 0 (Digits 1 (UpTo j f)) f x xs out ∙ sym (unmatched_bytes-branch_out 46 0 (Digits 1 (UpTo k f)) f x xs out)
     ]
   where
-    digit : (xs : List ℕ) → length xs ≤ j → length xs ≤ k → left (Digits 1 (UpTo j f)) xs ≡ left (Digits 1 (UpTo k f)) xs
-    digit [] a b = left-end 48 9 (UpTo j f) ∙ sym (left-end 48 9 (UpTo k f))
+    digit : (xs : List ℕ) → length xs ≤ j → length xs ≤ k → unmatched_bytes (Digits 1 (UpTo j f)) xs ≡ unmatched_bytes (Digits 1 (UpTo k f)) xs
+    digit [] a b = unmatched_bytes-end 48 9 (UpTo j f) ∙ sym (unmatched_bytes-end 48 9 (UpTo k f))
     digit (x ∷ xs) a b =
-        elim (in_or_out 48 9 x) as (λ _. left (Digits 1 (UpTo j f)) (x ∷ xs) ≡ left (Digits 1 (UpTo k f)) (x ∷ xs)) [
-          | inl here ↦ left-in 48 9 (UpTo j f) x xs here ∙ same_digits j k f xs (omega (arith, a)) (omega (arith, b)) ∙ sym (left-in 48 9 (UpTo k f) x xs here)
-          | inr out ↦ left-out 48 9 (UpTo j f) x xs out ∙ sym (left-out 48 9 (UpTo k f) x xs out)
+        elim (in_or_out 48 9 x) as (λ _. unmatched_bytes (Digits 1 (UpTo j f)) (x ∷ xs) ≡ unmatched_bytes (Digits 1 (UpTo k f)) (x ∷ xs)) [
+          | inl here ↦ unmatched_bytes-in 48 9 (UpTo j f) x xs here ∙ same_digits j k f xs (omega (arith, a)) (omega (arith, b)) ∙ sym (unmatched_bytes-in 48 9 (UpTo k f) x xs here)
+          | inr out ↦ unmatched_bytes-out 48 9 (UpTo j f) x xs out ∙ sym (unmatched_bytes-out 48 9 (UpTo k f) x xs out)
         ]
 
 -- the parts up to the seconds, as they were read
@@ -361,8 +361,8 @@ pub record IsToSeconds (old rest : List ℕ) (y m d h n s : ℕ) : Type 0 where
   pub is_separator : IsSeparator separator
   pub bytes_are : old ≡ date_digits y m d ++ separator ∷ (clock_digits h n s ++ rest)
 
-pub to_seconds : (y m d h n s b : ℕ) (old a c e g rest : List ℕ) → ReadsDigits old a 4 y
-    → a ≡ 45 ∷ (digits_at_least 2 m ++ 45 ∷ (digits_at_least 2 d ++ c)) → IsSeparator b → c ≡ b ∷ e → ReadsDigits e g 2 h
+pub to_seconds : (y m d h n s b : ℕ) (old a c e g rest : List ℕ) → ParsesDigits old a 4 y
+    → a ≡ 45 ∷ (digits_at_least 2 m ++ 45 ∷ (digits_at_least 2 d ++ c)) → IsSeparator b → c ≡ b ∷ e → ParsesDigits e g 2 h
     → g ≡ 58 ∷ (digits_at_least 2 n ++ 58 ∷ (digits_at_least 2 s ++ rest)) → IsToSeconds old rest y m d h n s
 to_seconds y m d h n s b old a c e g rest year date is byte hour time =
     let front = printed old a 4 y (lit≤ tt) (lit≤ tt) year in

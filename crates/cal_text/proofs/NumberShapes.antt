@@ -8,12 +8,12 @@ use Rattle.std.proofs.lemmas.Fmt.{decimal-digits_value, decimal_digit, decimal_i
 use Rattle.std.proofs.lemmas.Int.Digits.{digits_value-lt}
 use Rattle.std.proofs.lemmas.Str.Parse.{IsNumeralModel, numerals_by_value, tells_digits, digit_at}
 use Rattle.cal_text.specs.JulianForm.{IsJulianForm}
-use Rattle.cal_text.specs.Shape.{Shape, Done, left, Number, From, natural, julian_day, ReadsMore}
+use Rattle.cal_text.specs.Shape.{Shape, End, unmatched_bytes, Number, ByteRange, natural, julian_day, ParsesMoreDigits}
 use Rattle.cal_text.proofs.DigitParts.{IsCount, counted, digit_is, is_digit, value-most}
 use Rattle.cal_text.proofs.Parts.{HasAfter, HasEither, from_part, byte_part, after, either, retold, done_then, at_end}
 use Rattle.cal_text.proofs.Positions.{IsShapeOf}
 use Rattle.cal_text.proofs.ReadDigits.{value-of}
-use Rattle.cal_text.proofs.Stops.{IsIn, left-done}
+use Rattle.cal_text.proofs.Stops.{IsIn, unmatched_bytes-done}
 
 own : IsNumeralModel (AllDigits 10) (digits_value 10)
 own = numerals_by_value _ tells_digits
@@ -22,8 +22,8 @@ own = numerals_by_value _ tells_digits
 abbrev pub IsEnd : List ℕ → Unit {0} → Type 0
 IsEnd bytes u = bytes ≡ []
 
-pub end_shape : IsShapeOf IsEnd Done
-end_shape = record { each = λ bytes (u, h). ap (left Done) h ∙ left-done; only = λ bytes e. (tt, done_then bytes e); one = λ bytes v w a b. refl }
+pub end_shape : IsShapeOf IsEnd End
+end_shape = record { each = λ bytes (u, h). ap (unmatched_bytes End) h ∙ unmatched_bytes-done; only = λ bytes e. (tt, done_then bytes e); one = λ bytes v w a b. refl }
 
 pub not_end : (x : ℕ) (xs : List ℕ) (u : Unit {0}) → ¬ IsEnd (x ∷ xs) u
 not_end x xs u e = absurd (omega (arith, ap length e))
@@ -85,7 +85,7 @@ split more n few h =
 
 pub number_then : {W : Type 0} (more : ℕ) (Has : List ℕ → W → Type 0) (f : Shape) → more ≤ 17 → IsShapeOf Has f
     → ((x : ℕ) (xs : List ℕ) (w : W) → IsIn 48 9 x → ¬ Has (x ∷ xs) w) → IsShapeOf (HasAfter (IsAbove0 more) decimal Has) (Number more f)
-number_then {W} more Has f few p apart = retold _ _ _ (after _ _ (From 49 8) _ _ (from_part 49 8) (counted 0 more Has f p apart)) into there here
+number_then {W} more Has f few p apart = retold _ _ _ (after _ _ (ByteRange 49 8) _ _ (from_part 49 8) (counted 0 more Has f p apart)) into there here
   where
     Raw : Type 0
     Raw = ℕ × (List ℕ × W)
@@ -126,7 +126,7 @@ most_digits d more few low =
     let digits : (d + 1) * 10 ^ more ≤ (d + 1) * 10 ^ 17 = mul-le-mul_left (d + 1) up in
     omega (arith, digits)
 
-pub put_number : (more d n : ℕ) (old mid new : List ℕ) → more ≤ 17 → (1 ≤ d) × (d < 10) × (old ≡ (48 + d) ∷ mid) → ReadsMore mid new more d n
+pub put_number : (more d n : ℕ) (old mid new : List ℕ) → more ≤ 17 → (1 ≤ d) × (d < 10) × (old ≡ (48 + d) ∷ mid) → ParsesMoreDigits mid new more d n
     → (0 < n) × (n < 10 ^ (more + 1)) × (old ≡ decimal n ++ new)
 put_number more d n old mid new few digit h =
     let is = is_text more (d - 1) h.digits few (omega (arith, digit.1)) (h.all, omega arith, omega (arith, h.few)) in
@@ -148,8 +148,8 @@ zero_text = decimal_digit 0 (lit< tt)
 abbrev pub NumberAtEnd : List ℕ → ℕ × Unit {0} → Type 0
 NumberAtEnd = HasAfter (IsAbove0 8) decimal IsEnd
 
-pub number_at_end : IsShapeOf NumberAtEnd (Number 8 Done)
-number_at_end = number_then 8 IsEnd Done (lit≤ tt) end_shape (λ x xs u here. not_end x xs u)
+pub number_at_end : IsShapeOf NumberAtEnd (Number 8 End)
+number_at_end = number_then 8 IsEnd End (lit≤ tt) end_shape (λ x xs u here. not_end x xs u)
 
 pub at_number_end : (bytes : List ℕ) (v : ℕ × Unit {0}) → NumberAtEnd bytes v → bytes ≡ decimal v.0
 at_number_end bytes v h = at_end bytes (decimal v.0) h.rest h.bytes_are h.has
@@ -160,7 +160,7 @@ no_zero_first x xs v here h =
     omega (arith, here.1, first_decimal v.0 h.valid.0 small, ap (λ all. get_or all 0 0) (at_number_end (x ∷ xs) v h))
 
 natural_shape : IsShapeOf IsNatural natural
-natural_shape = retold _ _ IsNatural (either 48 0 IsEnd Done NumberAtEnd (Number 8 Done) end_shape number_at_end no_zero_first) into there here
+natural_shape = retold _ _ IsNatural (either 48 0 IsEnd End NumberAtEnd (Number 8 End) end_shape number_at_end no_zero_first) into there here
   where
     Raw : Type 0
     Raw = (ℕ × Unit {0}) ⊎ (ℕ × Unit {0})
@@ -195,7 +195,7 @@ no_minus x xs n here h =
 
 pub julian_shape : IsShapeOf IsJulianForm julian_day
 julian_shape =
-    retold _ _ IsJulianForm (after (λ (u : Unit {0}). Unit {0}) (λ u. 74 ∷ []) _ IsSigned _ (byte_part 74) (either 45 0 NumberAtEnd (Number 8 Done) IsNatural natural number_at_end natural_shape no_minus))
+    retold _ _ IsJulianForm (after (λ (u : Unit {0}). Unit {0}) (λ u. 74 ∷ []) _ IsSigned _ (byte_part 74) (either 45 0 NumberAtEnd (Number 8 End) IsNatural natural number_at_end natural_shape no_minus))
     into there here
   where
     Raw : Type 0

@@ -1,10 +1,10 @@
 -- Parts of a text, and whole texts, that a shape describes: how they are put together.
 use Rattle.std.proofs.Common.{◌≡◌, ℕ, ◌+◌, ◌-◌, ◌≤◌, ◌⊎◌, inl, inr, List, [], ◌∷◌, ◌++◌, refl, sym, ap, subst, ◌∙◌, arith, lit≤}
 use Rattle.std.proofs.lemmas.List.{append_assoc, append-nil}
-use Rattle.cal_text.specs.Shape.{Shape, Done, From, Branch, left, Byte}
+use Rattle.cal_text.specs.Shape.{Shape, End, ByteRange, Branch, unmatched_bytes, Byte}
 use Rattle.cal_text.specs.Position.{HasSome}
 use Rattle.cal_text.proofs.Positions.{IsShapeOf}
-use Rattle.cal_text.proofs.Stops.{IsIn, left-in, left-out, left-end, left-branch_in, left-branch_out, left-branch_end, left-done, left-more, in_or_out}
+use Rattle.cal_text.proofs.Stops.{IsIn, unmatched_bytes-in, unmatched_bytes-out, unmatched_bytes-end, unmatched_bytes-branch_in, unmatched_bytes-branch_out, unmatched_bytes-branch_end, unmatched_bytes-done, unmatched_bytes-more, in_or_out}
 
 -- ---- a part, which more may follow: its texts, each with one value, go before texts of any shape
 pub record Splits {V : Type 0} (Valid : V → Type 0) (text : V → List ℕ) (f : Shape) (bytes : List ℕ) : Type 0 where
@@ -12,30 +12,30 @@ pub record Splits {V : Type 0} (Valid : V → Type 0) (text : V → List ℕ) (f
   pub rest : List ℕ
   pub valid : Valid value
   pub bytes_are : bytes ≡ text value ++ rest
-  pub next : left f rest ≡ 0
+  pub next : unmatched_bytes f rest ≡ 0
 
 pub record IsPart {V : Type 0} (Valid : V → Type 0) (text : V → List ℕ) (part : Shape → Shape) : Type 0 where
-  pub each : (f : Shape) (v : V) (rest : List ℕ) → Valid v → left (part f) (text v ++ rest) ≡ left f rest
-  pub only : (f : Shape) (bytes : List ℕ) → left (part f) bytes ≡ 0 → Splits Valid text f bytes
+  pub each : (f : Shape) (v : V) (rest : List ℕ) → Valid v → unmatched_bytes (part f) (text v ++ rest) ≡ unmatched_bytes f rest
+  pub only : (f : Shape) (bytes : List ℕ) → unmatched_bytes (part f) bytes ≡ 0 → Splits Valid text f bytes
   pub one : (v w : V) (r s : List ℕ) → Valid v → Valid w → text v ++ r ≡ text w ++ s → (v ≡ w) × (r ≡ s)
 
 -- a byte from a range, by its number in it
-from_only : (low above : ℕ) (f : Shape) (bytes : List ℕ) → left (From low above f) bytes ≡ 0 → Splits (λ d. d ≤ above) (λ d. (low + d) ∷ []) f bytes
-from_only low above f [] e = absurd (omega (arith, e, left-end low above f))
+from_only : (low above : ℕ) (f : Shape) (bytes : List ℕ) → unmatched_bytes (ByteRange low above f) bytes ≡ 0 → Splits (λ d. d ≤ above) (λ d. (low + d) ∷ []) f bytes
+from_only low above f [] e = absurd (omega (arith, e, unmatched_bytes-end low above f))
 from_only low above f (x ∷ xs) e =
     elim (in_or_out low above x) as (λ _. Splits (λ d. d ≤ above) (λ d. (low + d) ∷ []) f (x ∷ xs)) [
       | inl here ↦
           let same : x ≡ low + (x - low) = omega arith in
-          record { value = x - low; rest = xs; valid = omega arith; bytes_are = ap (λ b. b ∷ xs) same; next = sym (left-in low above f x xs here) ∙ e }
-      | inr out ↦ absurd (omega (arith, e, left-out low above f x xs out))
+          record { value = x - low; rest = xs; valid = omega arith; bytes_are = ap (λ b. b ∷ xs) same; next = sym (unmatched_bytes-in low above f x xs here) ∙ e }
+      | inr out ↦ absurd (omega (arith, e, unmatched_bytes-out low above f x xs out))
     ]
 
 from_one : (low d e : ℕ) (r s : List ℕ) → (low + d) ∷ r ≡ (low + e) ∷ s → (d ≡ e) × (r ≡ s)
 from_one low d e r s h = let first : low + d ≡ low + e = cc in (omega arith, cc)
 
-pub from_part : (low above : ℕ) → IsPart (λ d. d ≤ above) (λ d. (low + d) ∷ []) (From low above)
+pub from_part : (low above : ℕ) → IsPart (λ d. d ≤ above) (λ d. (low + d) ∷ []) (ByteRange low above)
 from_part low above = record {
-  each = λ f d rest h. left-in low above f (low + d) rest (omega arith, omega arith);
+  each = λ f d rest h. unmatched_bytes-in low above f (low + d) rest (omega arith, omega arith);
   only = from_only low above;
   one = λ d e r s _ _ h. from_one low d e r s h;
 }
@@ -50,7 +50,7 @@ pub both : {V W : Type 0} (Valid : V → Type 0) (text : V → List ℕ) (part :
     → IsPart {V = V × W} (λ v. Valid v.0 × Valid' v.1) (λ v. text v.0 ++ text' v.1) (λ f. part (part' f))
 both {V} {W} Valid text part Valid' text' part' p q = record {
   each = λ f v rest h.
-      ap (left (part (part' f))) (append_assoc (text v.0) (text' v.1) rest) ∙ p.each (part' f) v.0 (text' v.1 ++ rest) h.0 ∙ q.each f v.1 rest h.1;
+      ap (unmatched_bytes (part (part' f))) (append_assoc (text v.0) (text' v.1) rest) ∙ p.each (part' f) v.0 (text' v.1 ++ rest) h.0 ∙ q.each f v.1 rest h.1;
   only = λ f bytes e.
       let a = p.only (part' f) bytes e in
       let b = q.only f a.rest a.next in
@@ -81,7 +81,7 @@ pub renamed : {V W : Type 0} (Valid : V → Type 0) (text : V → List ℕ) (par
     → ((w : W) → Valid' w → Told Valid text text' into w)
     → IsPart Valid' text' part
 renamed Valid text part Valid' text' p into there here = record {
-  each = λ f w rest h. let v = here w h in ap (λ ds. left (part f) (ds ++ rest)) v.text_is ∙ p.each f v.value rest v.valid;
+  each = λ f w rest h. let v = here w h in ap (λ ds. unmatched_bytes (part f) (ds ++ rest)) v.text_is ∙ p.each f v.value rest v.valid;
   only = λ f bytes e.
       let a = p.only f bytes e in
       record {
@@ -103,7 +103,7 @@ plus_none : (b d : ℕ) → d ≤ 0 → (b + d) ∷ [] ≡ b ∷ []
 plus_none b d h = let same : b + d ≡ b = omega arith in ap (λ x. x ∷ []) same
 
 pub byte_part : (b : ℕ) → IsPart {V = Unit {0}} (λ _. Unit {0}) (λ _. b ∷ []) (Byte b)
-byte_part b = renamed (λ d. d ≤ 0) (λ d. (b + d) ∷ []) (From b 0) (λ _. Unit {0}) (λ _. b ∷ []) (from_part b 0) (λ (d : ℕ). tt)
+byte_part b = renamed (λ d. d ≤ 0) (λ d. (b + d) ∷ []) (ByteRange b 0) (λ _. Unit {0}) (λ _. b ∷ []) (from_part b 0) (λ (d : ℕ). tt)
     (λ d h. (tt, plus_none b d h)) (λ (u : Unit {0}) h. record { value = 0; valid = lit≤ tt; text_is = sym (plus_none b 0 (lit≤ tt)); same = refl })
 
 -- A branch: a byte of the range and the first part, or the second part, which doesn't begin with
@@ -119,9 +119,9 @@ text_other low text text' (inr w) = text' w
 abbrev pub BeginsOutside : ℕ → ℕ → List ℕ → Type 0
 BeginsOutside low above bytes = (x : ℕ) (xs : List ℕ) → bytes ≡ x ∷ xs → ¬ IsIn low above x
 
-pub left-outside : (low above : ℕ) (f g : Shape) (bytes : List ℕ) → BeginsOutside low above bytes → left (Branch low above f g) bytes ≡ left g bytes
-left-outside low above f g [] out = left-branch_end low above f g
-left-outside low above f g (x ∷ xs) out = left-branch_out low above f g x xs (out x xs refl)
+pub unmatched_bytes-outside : (low above : ℕ) (f g : Shape) (bytes : List ℕ) → BeginsOutside low above bytes → unmatched_bytes (Branch low above f g) bytes ≡ unmatched_bytes g bytes
+unmatched_bytes-outside low above f g [] out = unmatched_bytes-branch_end low above f g
+unmatched_bytes-outside low above f g (x ∷ xs) out = unmatched_bytes-branch_out low above f g x xs (out x xs refl)
 
 pub other : {V W : Type 0} (low above : ℕ) (Valid : V → Type 0) (text : V → List ℕ) (part : Shape → Shape)
     (Valid' : W → Type 0) (text' : W → List ℕ) (part' : Shape → Shape) → IsPart Valid text part → IsPart Valid' text' part'
@@ -133,24 +133,24 @@ other {V} {W} low above Valid text part Valid' text' part' p q apart = record { 
     Value = (ℕ × V) ⊎ W
 
     each : (f : Shape) (v : Value) (rest : List ℕ) → IsOther above Valid Valid' v
-        → left (Branch low above (part f) (part' f)) (text_other low text text' v ++ rest) ≡ left f rest
+        → unmatched_bytes (Branch low above (part f) (part' f)) (text_other low text text' v ++ rest) ≡ unmatched_bytes f rest
     each f (inl v) rest h =
-        left-branch_in low above (part f) (part' f) (low + v.0) (text v.1 ++ rest) (omega arith, omega (arith, h.0)) ∙ p.each f v.1 rest h.1
-    each f (inr w) rest h = left-outside low above (part f) (part' f) (text' w ++ rest) (apart w rest h) ∙ q.each f w rest h
+        unmatched_bytes-branch_in low above (part f) (part' f) (low + v.0) (text v.1 ++ rest) (omega arith, omega (arith, h.0)) ∙ p.each f v.1 rest h.1
+    each f (inr w) rest h = unmatched_bytes-outside low above (part f) (part' f) (text' w ++ rest) (apart w rest h) ∙ q.each f w rest h
 
     Found : Shape → List ℕ → Type 0
     Found f bytes = Splits (IsOther above Valid Valid') (text_other low text text') f bytes
 
-    right : (f : Shape) (bytes : List ℕ) → left (part' f) bytes ≡ 0 → Found f bytes
+    right : (f : Shape) (bytes : List ℕ) → unmatched_bytes (part' f) bytes ≡ 0 → Found f bytes
     right f bytes e =
         let a = q.only f bytes e in record { value = inr a.value; rest = a.rest; valid = a.valid; bytes_are = a.bytes_are; next = a.next }
 
-    only : (f : Shape) (bytes : List ℕ) → left (Branch low above (part f) (part' f)) bytes ≡ 0 → Found f bytes
-    only f [] e = right f [] (sym (left-branch_end low above (part f) (part' f)) ∙ e)
+    only : (f : Shape) (bytes : List ℕ) → unmatched_bytes (Branch low above (part f) (part' f)) bytes ≡ 0 → Found f bytes
+    only f [] e = right f [] (sym (unmatched_bytes-branch_end low above (part f) (part' f)) ∙ e)
     only f (x ∷ xs) e =
         elim (in_or_out low above x) as (λ _. Found f (x ∷ xs)) [
           | inl here ↦
-              let a = p.only f xs (sym (left-branch_in low above (part f) (part' f) x xs here) ∙ e) in
+              let a = p.only f xs (sym (unmatched_bytes-branch_in low above (part f) (part' f) x xs here) ∙ e) in
               let same : x ≡ low + (x - low) = omega arith in
               record {
                 value = inl (x - low, a.value);
@@ -159,7 +159,7 @@ other {V} {W} low above Valid text part Valid' text' part' p q apart = record { 
                 bytes_are = ap (λ b. b ∷ xs) same ∙ ap (λ ds. (low + (x - low)) ∷ ds) a.bytes_are;
                 next = a.next;
               }
-          | inr out ↦ right f (x ∷ xs) (sym (left-branch_out low above (part f) (part' f) x xs out) ∙ e)
+          | inr out ↦ right f (x ∷ xs) (sym (unmatched_bytes-branch_out low above (part f) (part' f) x xs out) ∙ e)
         ]
 
     never : (v : ℕ × V) (w : W) (r s : List ℕ) → v.0 ≤ above → Valid' w → (low + v.0) ∷ (text v.1 ++ r) ≡ text' w ++ s → ⊥
@@ -179,19 +179,19 @@ other {V} {W} low above Valid text part Valid' text' part' p q apart = record { 
 
 -- ---- a whole text
 -- a part at the end
-pub done_then : (bytes : List ℕ) → left Done bytes ≡ 0 → bytes ≡ []
+pub done_then : (bytes : List ℕ) → unmatched_bytes End bytes ≡ 0 → bytes ≡ []
 done_then [] e = refl
-done_then (x ∷ xs) e = absurd (omega (arith, e, left-more x xs))
+done_then (x ∷ xs) e = absurd (omega (arith, e, unmatched_bytes-more x xs))
 
 pub at_end : (bytes ds rest : List ℕ) → bytes ≡ ds ++ rest → rest ≡ [] → bytes ≡ ds
 at_end bytes ds rest e none = e ∙ ap (λ more. ds ++ more) none ∙ append-nil ds
 
 pub last : {V : Type 0} (Valid : V → Type 0) (text : V → List ℕ) (part : Shape → Shape) → IsPart Valid text part
-    → IsShapeOf (λ bytes v. Valid v × (bytes ≡ text v)) (part Done)
+    → IsShapeOf (λ bytes v. Valid v × (bytes ≡ text v)) (part End)
 last Valid text part p = record {
-  each = λ bytes (v, h). ap (left (part Done)) (h.1 ∙ sym (append-nil (text v))) ∙ p.each Done v [] h.0 ∙ left-done;
+  each = λ bytes (v, h). ap (unmatched_bytes (part End)) (h.1 ∙ sym (append-nil (text v))) ∙ p.each End v [] h.0 ∙ unmatched_bytes-done;
   only = λ bytes e.
-      let a = p.only Done bytes e in
+      let a = p.only End bytes e in
       (a.value, (a.valid, at_end bytes (text a.value) a.rest a.bytes_are (done_then a.rest a.next)));
   one = λ bytes v w a b. (p.one v w [] [] a.0 b.0 (ap (λ ds. ds ++ []) (sym a.1 ∙ b.1))).0;
 }
@@ -206,7 +206,7 @@ pub record HasAfter {V W : Type 0} (Valid : V → Type 0) (text : V → List ℕ
 pub after : {V W : Type 0} (Valid : V → Type 0) (text : V → List ℕ) (part : Shape → Shape) (Has : List ℕ → W → Type 0) (f : Shape)
     → IsPart Valid text part → IsShapeOf Has f → IsShapeOf (HasAfter Valid text Has) (part f)
 after {V} {W} Valid text part Has f p q = record {
-  each = λ bytes (v, h). ap (left (part f)) h.bytes_are ∙ p.each f v.0 h.rest h.valid ∙ q.each h.rest (v.1, h.has);
+  each = λ bytes (v, h). ap (unmatched_bytes (part f)) h.bytes_are ∙ p.each f v.0 h.rest h.valid ∙ q.each h.rest (v.1, h.has);
   only = λ bytes e.
       let a = p.only f bytes e in
       let b = q.only a.rest a.next in
@@ -230,25 +230,25 @@ either {V} {W} low above Has f Has' g p q apart = record { each = each; only = o
     Both : List ℕ → (ℕ × V) ⊎ W → Type 0
     Both = HasEither low above Has Has'
 
-    first : IsShapeOf (HasAfter (λ d. d ≤ above) (λ d. (low + d) ∷ []) Has) (From low above f)
-    first = after _ _ (From low above) Has f (from_part low above) p
+    first : IsShapeOf (HasAfter (λ d. d ≤ above) (λ d. (low + d) ∷ []) Has) (ByteRange low above f)
+    first = after _ _ (ByteRange low above) Has f (from_part low above) p
 
-    each : (bytes : List ℕ) → HasSome Both bytes → left (Branch low above f g) bytes ≡ 0
+    each : (bytes : List ℕ) → HasSome Both bytes → unmatched_bytes (Branch low above f g) bytes ≡ 0
     each bytes (inl v, h) =
         let here : IsIn low above (low + v.0) = (omega arith, omega (arith, h.valid)) in
-        ap (left (Branch low above f g)) h.bytes_are ∙ left-branch_in low above f g (low + v.0) h.rest here ∙ p.each h.rest (v.1, h.has)
-    each [] (inr w, h) = left-branch_end low above f g ∙ q.each [] (w, h)
-    each (x ∷ xs) (inr w, h) = left-branch_out low above f g x xs (λ here. apart x xs w here h) ∙ q.each (x ∷ xs) (w, h)
+        ap (unmatched_bytes (Branch low above f g)) h.bytes_are ∙ unmatched_bytes-branch_in low above f g (low + v.0) h.rest here ∙ p.each h.rest (v.1, h.has)
+    each [] (inr w, h) = unmatched_bytes-branch_end low above f g ∙ q.each [] (w, h)
+    each (x ∷ xs) (inr w, h) = unmatched_bytes-branch_out low above f g x xs (λ here. apart x xs w here h) ∙ q.each (x ∷ xs) (w, h)
 
-    only : (bytes : List ℕ) → left (Branch low above f g) bytes ≡ 0 → HasSome Both bytes
-    only [] e = let found = q.only [] (sym (left-branch_end low above f g) ∙ e) in (inr found.0, found.1)
+    only : (bytes : List ℕ) → unmatched_bytes (Branch low above f g) bytes ≡ 0 → HasSome Both bytes
+    only [] e = let found = q.only [] (sym (unmatched_bytes-branch_end low above f g) ∙ e) in (inr found.0, found.1)
     only (x ∷ xs) e =
         elim (in_or_out low above x) as (λ _. HasSome Both (x ∷ xs)) [
           | inl here ↦
-              let found = p.only xs (sym (left-branch_in low above f g x xs here) ∙ e) in
+              let found = p.only xs (sym (unmatched_bytes-branch_in low above f g x xs here) ∙ e) in
               let same : x ≡ low + (x - low) = omega arith in
               (inl (x - low, found.0), record { rest = xs; valid = omega arith; bytes_are = ap (λ b. b ∷ xs) same; has = found.1 })
-          | inr out ↦ let found = q.only (x ∷ xs) (sym (left-branch_out low above f g x xs out) ∙ e) in (inr found.0, found.1)
+          | inr out ↦ let found = q.only (x ∷ xs) (sym (unmatched_bytes-branch_out low above f g x xs out) ∙ e) in (inr found.0, found.1)
         ]
 
     never : (bytes : List ℕ) (v : ℕ × V) (w : W) → Both bytes (inl v) → Both bytes (inr w) → ⊥

@@ -13,7 +13,7 @@ use Rattle.cal_time.specs.Time.{hour_of, minute_of, second_of, nanosecond_of}
 use Rattle.cal_time.proofs.DistinctTexts.{year-plain}
 use Rattle.cal_datetime.specs.DateTime.{IsDateTime, date_at, time_at}
 use Rattle.cal_datetime.specs.DateTimeLaws.{IsTime-time_at}
-use Rattle.cal_datetime.specs.OffsetDateTime.{Shown}
+use Rattle.cal_datetime.specs.OffsetDateTime.{LocalAndOffset}
 use Rattle.cal_text.specs.DateForms.{year_text}
 use Rattle.cal_text.specs.declared.rfc3339.numbers.TimeOffset.{TimeOffset}
 use Rattle.cal_text.specs.declared.rfc3339.numbers.TimeOffset.TheVariants.{Utc, Signed}
@@ -69,7 +69,7 @@ joined : (ys ms ds hs ns ss fs os : List ℕ) → ys ++ 45 ∷ [] ++ ms ++ 45 �
     ≡ (ys ++ 45 ∷ [] ++ ms ++ 45 ∷ [] ++ ds) ++ 84 ∷ ((hs ++ 58 ∷ [] ++ ns ++ 58 ∷ [] ++ ss) ++ (fs ++ os))
 joined ys ms ds hs ns ss fs os = simp append_assoc
 
-pub printed : (m : Shown) → IsDateTime m.local → HasMomentText m → IsMomentText (moment_text m) m
+pub printed : (m : LocalAndOffset) → IsDateTime m.local → HasMomentText m → IsMomentText (moment_text m) m
 printed m in_range has =
     let n = date_at m.local in
     let t = time_at m.local in

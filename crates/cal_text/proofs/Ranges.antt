@@ -10,8 +10,8 @@ use Rattle.std.proofs.lemmas.Int.{ints}
 use Rattle.cal_time.specs.Lengths.{days_in_month}
 use Rattle.cal_time.specs.CalendarDay.{CalendarDay, calendar_day, day_after, is_first_of_january}
 use Rattle.cal_time.specs.Date.{first_year, last_day, day_at, year_at, month_at, day_of_month_at, ordinal_at, weekday_at, IsDate}
-use Rattle.cal_time.specs.IsoWeekDate.{count_before, is_weekday_of_year, weekdays_upto, thursday_of, iso_year_at, iso_week_at}
-use Rattle.cal_text.specs.DateForms.{IsWrittenYear}
+use Rattle.cal_time.specs.IsoWeekDate.{count_before, is_weekday_of_year, weekday_count, thursday_of, iso_year_at, iso_week_at}
+use Rattle.cal_text.specs.DateForms.{IsPrintableYear}
 
 days_in_month-most : (y : ℤ) (m : ℕ) → days_in_month y m ≤ 31
 unfolding days_in_month
@@ -130,7 +130,7 @@ is_year (suc n) =
       | new_year e first ↦ record { low = omega (arith, ints, e, before.low, before.high); high = omega (arith, ints, e, before.low, before.high) }
     ]
 
-pub year_at-written : (n : ℕ) → n ≤ last_day + 3 → IsWrittenYear (year_at n)
+pub year_at-written : (n : ℕ) → n ≤ last_day + 3 → IsPrintableYear (year_at n)
 year_at-written n h = let y = is_year n in omega (arith, ints, y.low, y.high)
 
 rises : (n : ℕ) → year_at n ≤ℤ year_at (suc n)
@@ -191,7 +191,7 @@ weekday_at-below (suc n) = omega (arith, weekday_at-suc n)
 
 -- Weeks: in a year, each Thursday comes seven days after the previous one.
 abbrev Thursdays : ℕ → ℕ
-Thursdays n = weekdays_upto 3 n
+Thursdays n = weekday_count 3 n
 
 abbrev is_thursday : ℕ → ℕ
 is_thursday n = if weekday_at n == 3 then 1 else 0
@@ -267,6 +267,6 @@ iso_week_at-below n =
     let most = ordinal_at-most t in
     omega arith
 
-pub iso_year_at-written : (n : ℕ) → IsDate n → IsWrittenYear (iso_year_at n)
+pub iso_year_at-written : (n : ℕ) → IsDate n → IsPrintableYear (iso_year_at n)
 unfolding iso_year_at
 iso_year_at-written n h = year_at-written (thursday_of n) (omega arith)

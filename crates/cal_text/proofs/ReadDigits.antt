@@ -6,14 +6,14 @@ use Rattle.std.proofs.lemmas.Int.Digits.{digits_push, digits_value_push, digits_
 use Rattle.std.proofs.Math.Nat.{mul-le-mul_left, pow-le-pow_right, pow-suc}
 use Rattle.std.proofs.lemmas.List.{append_assoc, length-append, take_all}
 use Rattle.std.proofs.lemmas.Str.{digit_value_digit}
-use Rattle.cal_text.specs.Shape.{Shape, Branch, UpTo, left, ReadsDigits, ReadsMore}
+use Rattle.cal_text.specs.Shape.{Shape, Branch, UpTo, unmatched_bytes, ParsesDigits, ParsesMoreDigits}
 use Rattle.cal_time.specs.DateText.{digits_at_least}
 use Rattle.cal_text.proofs.DigitTexts.{digits-printed}
 
 pub value-of : (d : ℕ) → d < 10 → digit_value (48 + d) ≡ d
 value-of d low = omega (arith, digit_value_digit (48 + d) (omega arith, omega arith))
 
-pub one_digit : (d : ℕ) (old new : List ℕ) → d < 10 → old ≡ (48 + d) ∷ new → ReadsDigits old new 1 d
+pub one_digit : (d : ℕ) (old new : List ℕ) → d < 10 → old ≡ (48 + d) ∷ new → ParsesDigits old new 1 d
 one_digit d old new low e = record {
   digits = (48 + d) ∷ [];
   all = (omega (arith, value-of d low), tt);
@@ -22,7 +22,7 @@ one_digit d old new low e = record {
   bytes_are = e;
 }
 
-pub one_more : (m d i : ℕ) (old mid new : List ℕ) → ReadsDigits old mid i m → d < 10 → mid ≡ (48 + d) ∷ new → ReadsDigits old new (i + 1) (m * 10 + d)
+pub one_more : (m d i : ℕ) (old mid new : List ℕ) → ParsesDigits old mid i m → d < 10 → mid ≡ (48 + d) ∷ new → ParsesDigits old new (i + 1) (m * 10 + d)
 one_more m d i old mid new h low e = record {
   digits = h.digits ++ (48 + d) ∷ [];
   all = digits_push 10 h.digits (48 + d) h.all (omega (arith, value-of d low));
@@ -33,7 +33,7 @@ one_more m d i old mid new h low e = record {
 
 -- The first two bytes, if both are digits.
 pub at_once : (n : ℕ) (old : List ℕ) → 2 ≤ length old → AllDigits 10 (get_or old 0 0 ∷ get_or old 1 0 ∷ []) × (n ≡ digits_value 10 (get_or old 0 0 ∷ get_or old 1 0 ∷ []))
-    → ReadsDigits old (take (length old - 2) (drop 2 old)) 2 n
+    → ParsesDigits old (take (length old - 2) (drop 2 old)) 2 n
 at_once n [] two h = absurd (omega arith)
 at_once n (x ∷ []) two h = absurd (omega arith)
 at_once n (x ∷ y ∷ rest) two h = record {
@@ -44,7 +44,7 @@ at_once n (x ∷ y ∷ rest) two h = record {
   bytes_are = ap (λ r. x ∷ y ∷ r) (sym (take_all (length (x ∷ y ∷ rest) - 2) rest (omega arith)));
 }
 
-pub zero_first : (n i : ℕ) (old mid new : List ℕ) → old ≡ 48 ∷ mid → ReadsDigits mid new i n → ReadsDigits old new (suc i) n
+pub zero_first : (n i : ℕ) (old mid new : List ℕ) → old ≡ 48 ∷ mid → ParsesDigits mid new i n → ParsesDigits old new (suc i) n
 zero_first n i old mid new e h = record {
   digits = 48 ∷ h.digits;
   all = (lit< tt, h.all);
@@ -53,11 +53,11 @@ zero_first n i old mid new e h = record {
   bytes_are = e ∙ ap (λ rest. 48 ∷ rest) h.bytes_are;
 }
 
-pub kept : (old mid new : List ℕ) (k n : ℕ) → mid ≡ old → ReadsDigits mid new k n → ReadsDigits old new k n
+pub kept : (old mid new : List ℕ) (k n : ℕ) → mid ≡ old → ParsesDigits mid new k n → ParsesDigits old new k n
 kept old mid new k n e h = record { digits = h.digits; all = h.all; count_is = h.count_is; value = h.value; bytes_are = sym e ∙ h.bytes_are }
 
-pub more_after : (most d n before : ℕ) (old mid new : List ℕ) → most ≢ 0 → (d < 10) × (old ≡ (48 + d) ∷ mid) → ReadsMore mid new (most - 1) (before * 10 + d) n
-    → ReadsMore old new most before n
+pub more_after : (most d n before : ℕ) (old mid new : List ℕ) → most ≢ 0 → (d < 10) × (old ≡ (48 + d) ∷ mid) → ParsesMoreDigits mid new (most - 1) (before * 10 + d) n
+    → ParsesMoreDigits old new most before n
 more_after most d n before old mid new some first h = record {
   digits = (48 + d) ∷ h.digits;
   all = (omega (arith, value-of d first.0, first.0), h.all);
@@ -66,12 +66,12 @@ more_after most d n before old mid new some first h = record {
   bytes_are = first.1 ∙ ap (λ rest. (48 + d) ∷ rest) h.bytes_are;
 }
 
-pub more-scans : (f : Shape) (most : ℕ) (old mid new : List ℕ) → most ≢ 0 → ((g h : Shape) → left (Branch 48 9 g h) old ≡ left g mid)
-    → left (UpTo (most - 1) f) mid ≡ left f new → left (UpTo most f) old ≡ left f new
+pub more-scans : (f : Shape) (most : ℕ) (old mid new : List ℕ) → most ≢ 0 → ((g h : Shape) → unmatched_bytes (Branch 48 9 g h) old ≡ unmatched_bytes g mid)
+    → unmatched_bytes (UpTo (most - 1) f) mid ≡ unmatched_bytes f new → unmatched_bytes (UpTo most f) old ≡ unmatched_bytes f new
 more-scans f zero old mid new some first e = absurd (some refl)
 more-scans f (suc k) old mid new some first e =
     let same : suc k - 1 ≡ k = omega arith in
-    first (UpTo k f) f ∙ ap (λ n. left (UpTo n f) mid) (sym same) ∙ e
+    first (UpTo k f) f ∙ ap (λ n. unmatched_bytes (UpTo n f) mid) (sym same) ∙ e
 
 pub room : (limit n most d : ℕ) → most ≢ 0 → d < 10 → (n + 1) * 10 ^ most ≤ limit → (n * 10 + d + 1) * 10 ^ (most - 1) ≤ limit
 room limit n zero d some low h = absurd (some refl)
@@ -98,7 +98,7 @@ all-append [] ys a b = b
 all-append (x ∷ xs) ys a b = (a.0, all-append xs ys a.1 b)
 
 -- as they are printed
-pub printed : (old new : List ℕ) (count n : ℕ) → 1 ≤ count → count ≤ 9 → ReadsDigits old new count n → (n < 10 ^ count) × (old ≡ digits_at_least count n ++ new)
+pub printed : (old new : List ℕ) (count n : ℕ) → 1 ≤ count → count ≤ 9 → ParsesDigits old new count n → (n < 10 ^ count) × (old ≡ digits_at_least count n ++ new)
 printed old new count n some few h =
     let same : digits_at_least count n ≡ h.digits =
     ap (λ v. digits_at_least count v) (sym h.value) ∙ ap (λ k. digits_at_least k (digits_value 10 h.digits)) (sym h.count_is)

@@ -10,7 +10,7 @@ use Rattle.cal_time.proofs.DistinctTexts.{digits_at_least-digits, year-plain, ye
 use Rattle.cal_text.specs.declared.date_numbers.DateNumbers.{DateNumbers}
 use Rattle.cal_text.specs.declared.date_numbers.DateNumbers.TheVariants.{Calendar, Ordinal, Week}
 use Rattle.cal_text.specs.declared.rfc3339.numbers.Numbers.{Numbers}
-use Rattle.cal_text.specs.DateForms.{year_text, form_text, rest_of, year_of, IsWrittenYear, DigitsFit, HasForm, IsDateText}
+use Rattle.cal_text.specs.DateForms.{year_text, form_text, form_rest, form_year, IsPrintableYear, DigitsFit, HasForm, IsDateText}
 use Rattle.cal_text.specs.JulianForm.{IsJulianForm}
 use Rattle.cal_text.specs.Rfc3339Form.{IsSeparator, HasMomentForm, clock_digits}
 use Rattle.cal_text.specs.UnixText.{HasUnixForm}
@@ -48,7 +48,7 @@ number-date width n small = digits-date (digits_at_least width n) (digits_at_lea
 hyphen-date : AreDateBytes (45 ∷ [])
 hyphen-date = more-date 45 [] (inr (inl (omega arith, omega arith))) none-date
 
-year-date : (y : ℤ) → IsWrittenYear y → AreDateBytes (year_text y)
+year-date : (y : ℤ) → IsPrintableYear y → AreDateBytes (year_text y)
 year-date (pos n) small =
     elim (cases_lt 9999 n) as (λ _. AreDateBytes (year_text (pos n))) [
       | inl many ↦ subst AreDateBytes (sym (year-plus n many)) (more-date 43 _ (inr (inl (omega arith, omega arith))) (number-date 4 n small))
@@ -56,12 +56,12 @@ year-date (pos n) small =
     ]
 year-date (negsuc k) small = more-date 45 _ (inr (inl (omega arith, omega arith))) (number-date 4 (suc k) small)
 
-written : (f : DateNumbers) → DigitsFit f → IsWrittenYear (year_of f)
+written : (f : DateNumbers) → DigitsFit f → IsPrintableYear (form_year f)
 written (Calendar y m d) h = h.0
 written (Ordinal y o) h = h.0
 written (Week y w d) h = h.0
 
-rest-date : (f : DateNumbers) → DigitsFit f → AreDateBytes (rest_of f)
+rest-date : (f : DateNumbers) → DigitsFit f → AreDateBytes (form_rest f)
 rest-date (Calendar y m d) h =
     both-date (digits_at_least 2 m ++ 45 ∷ []) (digits_at_least 2 d)
     (both-date (digits_at_least 2 m) (45 ∷ []) (number-date 2 m (omega (arith, h.1))) hyphen-date)
@@ -76,7 +76,7 @@ rest-date (Week y w d) h =
 
 form-date : (f : DateNumbers) → DigitsFit f → AreDateBytes (form_text f)
 form-date f h =
-    both-date (year_text (year_of f) ++ 45 ∷ []) (rest_of f) (both-date (year_text (year_of f)) (45 ∷ []) (year-date (year_of f) (written f h)) hyphen-date) (rest-date f h)
+    both-date (year_text (form_year f) ++ 45 ∷ []) (form_rest f) (both-date (year_text (form_year f)) (45 ∷ []) (year-date (form_year f) (written f h)) hyphen-date) (rest-date f h)
 
 -- ---- what they are not
 abbrev pub IsNoOther : List ℕ → Type 0

@@ -4,7 +4,7 @@ use Rattle.std.proofs.lemmas.Int.{ints}
 use Rattle.cal_time.specs.SignedDuration.{second}
 use Rattle.cal_time.specs.UtcOffset.{IsOffset}
 use Rattle.cal_datetime.specs.DateTime.{IsDateTime}
-use Rattle.cal_datetime.specs.OffsetDateTime.{Shown, instant, unix_nanoseconds}
+use Rattle.cal_datetime.specs.OffsetDateTime.{LocalAndOffset, instant, unix_nanoseconds}
 use Rattle.cal_text.specs.Rfc3339.{fraction_text}
 use Rattle.cal_text.specs.UnixText.{HasUnixForm, unix_text}
 use Rattle.cal_text.proofs.PrintedMoments.{fraction, fraction-long}
@@ -18,7 +18,7 @@ offset-high (pos n) h = omega (arith, ints)
 offset-high (negsuc n) h = omega (arith, ints)
 
 -- the time of a moment
-pub unix-small : (m : Shown) → IsDateTime m.local → IsOffset m.offset → unsigned_abs (unix_nanoseconds (instant m)) < 40000000000000000000000
+pub unix-small : (m : LocalAndOffset) → IsDateTime m.local → IsOffset m.offset → unsigned_abs (unix_nanoseconds (instant m)) < 40000000000000000000000
 unfolding instant
 unix-small m range o =
     let low = offset-low m.offset o.magnitude in

@@ -8,14 +8,14 @@ use Rattle.std.proofs.lemmas.List.{get_or_append_left}
 use Rattle.std.proofs.lemmas.Str.Parse.{digit_at}
 use Rattle.cal_time.specs.SignedDuration.{second}
 use Rattle.cal_text.specs.Rfc3339Form.{IsFraction, HasFractionBefore, nanoseconds_of}
-use Rattle.cal_text.specs.Shape.{Shape, Done, Byte, left, Fraction, SomeUpTo, UpTo, from_one, seconds, seconds_above_0, unix_time, ReadsSomeDecimals}
+use Rattle.cal_text.specs.Shape.{Shape, End, Byte, unmatched_bytes, Fraction, SomeUpTo, UpTo, from_one, seconds, seconds_above_0, unix_time, ParsesPositiveDecimals}
 use Rattle.cal_text.specs.UnixText.{HasUnixForm, HasSeconds}
 use Rattle.cal_text.proofs.Decimals.{nanoseconds, nanoseconds-some, value-some, fraction-below}
 use Rattle.cal_text.proofs.DigitParts.{IsCount, counted, is_digit, digit_is, zero_byte, has_value, value-most}
 use Rattle.cal_text.proofs.NumberShapes.{IsEnd, end_shape, not_end, IsAbove0, number_then, zero_text}
 use Rattle.cal_text.proofs.Parts.{HasAfter, HasEither, byte_part, after, either, retold, done_then, at_end}
 use Rattle.cal_text.proofs.Positions.{IsShapeOf}
-use Rattle.cal_text.proofs.Stops.{IsIn, in_or_out, left-in, left-out, left-end, left-branch_in, left-branch_out, left-branch_end, left-done}
+use Rattle.cal_text.proofs.Stops.{IsIn, in_or_out, unmatched_bytes-in, unmatched_bytes-out, unmatched_bytes-end, unmatched_bytes-branch_in, unmatched_bytes-branch_out, unmatched_bytes-branch_end, unmatched_bytes-done}
 
 -- ---- a fraction, and then the rest of a text that begins with no byte of one
 pub record HasFraction {W : Type 0} (more : ℕ) (Has : List ℕ → W → Type 0) (bytes : List ℕ) (v : ℕ × W) : Type 0 where
@@ -74,47 +74,47 @@ IsSomeDigits more ds = AllDigits 10 ds × (1 ≤ length ds) × (length ds ≤ mo
 abbrev AreFew : ℕ → List ℕ → List ℕ × Unit {0} → Type 0
 AreFew more = HasAfter (IsCount 0 more) (λ ds. ds) IsEnd
 
-few_digits : (more : ℕ) → IsShapeOf (AreFew more) (UpTo more Done)
-few_digits more = counted 0 more IsEnd Done end_shape (λ x xs u here. not_end x xs u)
+few_digits : (more : ℕ) → IsShapeOf (AreFew more) (UpTo more End)
+few_digits more = counted 0 more IsEnd End end_shape (λ x xs u here. not_end x xs u)
 
 longer : (ds : List ℕ) → 0 < digits_value 10 ds → 0 < length ds
 longer [] value = absurd (omega arith)
 longer (d ∷ ds) value = omega arith
 
-some-each : (more : ℕ) (ds : List ℕ) → IsSomeDigits more ds → left (SomeUpTo more Done) ds ≡ 0
+some-each : (more : ℕ) (ds : List ℕ) → IsSomeDigits more ds → unmatched_bytes (SomeUpTo more End) ds ≡ 0
 some-each more [] h = absurd (omega (arith, h.1))
-some-each zero (x ∷ []) h = left-in 49 8 Done x [] (omega (arith, h.3, has_value x (is_digit x h.0.0)), omega (arith, (is_digit x h.0.0).1)) ∙ left-done
+some-each zero (x ∷ []) h = unmatched_bytes-in 49 8 End x [] (omega (arith, h.3, has_value x (is_digit x h.0.0)), omega (arith, (is_digit x h.0.0).1)) ∙ unmatched_bytes-done
 some-each zero (x ∷ y ∷ ys) h = absurd (omega (arith, h.2))
 some-each (suc k) (x ∷ xs) h =
-    elim (in_or_out 49 8 x) as (λ _. left (SomeUpTo (suc k) Done) (x ∷ xs) ≡ 0) [
+    elim (in_or_out 49 8 x) as (λ _. unmatched_bytes (SomeUpTo (suc k) End) (x ∷ xs) ≡ 0) [
       | inl here ↦
-          left-branch_in 49 8 (UpTo (suc k) Done) (Byte 48 (SomeUpTo k Done)) x xs here
+          unmatched_bytes-branch_in 49 8 (UpTo (suc k) End) (Byte 48 (SomeUpTo k End)) x xs here
           ∙ (few_digits (suc k)).each xs ((xs, tt), record { rest = []; valid = (h.0.1, omega arith, omega (arith, h.2)); bytes_are = sym (append-nil xs); has = refl })
       | inr out ↦
           let is : x ≡ 48 = zero_byte x (is_digit x h.0.0) out in
           let value : 0 < digits_value 10 xs = subst (λ b. 0 < digits_value 10 (b ∷ xs)) is h.3 in
-          left-branch_out 49 8 (UpTo (suc k) Done) (Byte 48 (SomeUpTo k Done)) x xs out
-          ∙ left-in 48 0 (SomeUpTo k Done) x xs (omega (arith, is), omega (arith, is))
+          unmatched_bytes-branch_out 49 8 (UpTo (suc k) End) (Byte 48 (SomeUpTo k End)) x xs out
+          ∙ unmatched_bytes-in 48 0 (SomeUpTo k End) x xs (omega (arith, is), omega (arith, is))
           ∙ some-each k xs (h.0.1, longer xs value, omega (arith, h.2), value)
     ]
 
-some-only : (more : ℕ) (bytes : List ℕ) → left (SomeUpTo more Done) bytes ≡ 0 → IsSomeDigits more bytes
-some-only zero [] e = absurd (omega (arith, e, left-end 49 8 Done))
+some-only : (more : ℕ) (bytes : List ℕ) → unmatched_bytes (SomeUpTo more End) bytes ≡ 0 → IsSomeDigits more bytes
+some-only zero [] e = absurd (omega (arith, e, unmatched_bytes-end 49 8 End))
 some-only (suc k) [] e =
-    absurd (omega (arith, e, left-branch_end 49 8 (UpTo (suc k) Done) (Byte 48 (SomeUpTo k Done)), left-end 48 0 (SomeUpTo k Done)))
+    absurd (omega (arith, e, unmatched_bytes-branch_end 49 8 (UpTo (suc k) End) (Byte 48 (SomeUpTo k End)), unmatched_bytes-end 48 0 (SomeUpTo k End)))
 some-only zero (x ∷ xs) e =
     elim (in_or_out 49 8 x) as (λ _. IsSomeDigits 0 (x ∷ xs)) [
       | inl here ↦
           let digit : IsIn 48 9 x = (omega (arith, here.0), omega (arith, here.1)) in
-          let none = done_then xs (sym (left-in 49 8 Done x xs here) ∙ e) in
+          let none = done_then xs (sym (unmatched_bytes-in 49 8 End x xs here) ∙ e) in
           subst (λ r. IsSomeDigits 0 (x ∷ r)) (sym none) ((digit_is x digit, tt), omega arith, omega arith, omega (arith, has_value x digit, here.0))
-      | inr out ↦ absurd (omega (arith, e, left-out 49 8 Done x xs out))
+      | inr out ↦ absurd (omega (arith, e, unmatched_bytes-out 49 8 End x xs out))
     ]
 some-only (suc k) (x ∷ xs) e =
     elim (in_or_out 49 8 x) as (λ _. IsSomeDigits (suc k) (x ∷ xs)) [
       | inl here ↦
           let digit : IsIn 48 9 x = (omega (arith, here.0), omega (arith, here.1)) in
-          let a = (few_digits (suc k)).only xs (sym (left-branch_in 49 8 (UpTo (suc k) Done) (Byte 48 (SomeUpTo k Done)) x xs here) ∙ e) in
+          let a = (few_digits (suc k)).only xs (sym (unmatched_bytes-branch_in 49 8 (UpTo (suc k) End) (Byte 48 (SomeUpTo k End)) x xs here) ∙ e) in
           let same : xs ≡ a.0.0 = at_end xs a.0.0 a.1.rest a.1.bytes_are a.1.has in (
             (digit_is x digit, subst (AllDigits 10) (sym same) a.1.valid.0),
             omega arith,
@@ -122,14 +122,14 @@ some-only (suc k) (x ∷ xs) e =
             omega (arith, value-most (0 * 10 + digit_value x) xs, has_value x digit, here.0),
           )
       | inr out ↦
-          let zero_is = (byte_part 48).only (SomeUpTo k Done) (x ∷ xs) (sym (left-branch_out 49 8 (UpTo (suc k) Done) (Byte 48 (SomeUpTo k Done)) x xs out) ∙ e) in
+          let zero_is = (byte_part 48).only (SomeUpTo k End) (x ∷ xs) (sym (unmatched_bytes-branch_out 49 8 (UpTo (suc k) End) (Byte 48 (SomeUpTo k End)) x xs out) ∙ e) in
           let a = some-only k zero_is.rest zero_is.next in
           subst (IsSomeDigits (suc k)) (sym zero_is.bytes_are) ((lit< tt, a.0), omega arith, omega (arith, a.2), a.3)
     ]
 
-some_digits : (more : ℕ) → IsShapeOf (λ bytes ds. IsSomeDigits more ds × (bytes ≡ ds)) (SomeUpTo more Done)
+some_digits : (more : ℕ) → IsShapeOf (λ bytes ds. IsSomeDigits more ds × (bytes ≡ ds)) (SomeUpTo more End)
 some_digits more = record {
-  each = λ bytes (ds, h). ap (left (SomeUpTo more Done)) h.1 ∙ some-each more ds h.0;
+  each = λ bytes (ds, h). ap (unmatched_bytes (SomeUpTo more End)) h.1 ∙ some-each more ds h.0;
   only = λ bytes e. (bytes, (some-only more bytes e, refl));
   one = λ bytes v w a b. sym a.1 ∙ b.1;
 }
@@ -137,7 +137,7 @@ some_digits more = record {
 abbrev pub IsFractionAbove0 : List ℕ → ℕ → Type 0
 IsFractionAbove0 bytes n = IsFraction bytes n × (length bytes ≤ 10) × (0 < n)
 
-fraction_above_0 : IsShapeOf IsFractionAbove0 (Byte 46 (SomeUpTo 8 Done))
+fraction_above_0 : IsShapeOf IsFractionAbove0 (Byte 46 (SomeUpTo 8 End))
 fraction_above_0 = retold _ _ IsFractionAbove0 (after (λ (u : Unit {0}). Unit {0}) (λ u. 46 ∷ []) _ IsTail _ (byte_part 46) (some_digits 8)) into there here
   where
     IsTail : List ℕ → List ℕ → Type 0
@@ -171,8 +171,8 @@ fraction_above_0 = retold _ _ IsFractionAbove0 (after (λ (u : Unit {0}). Unit {
 abbrev IsTail : List ℕ → ℕ × Unit {0} → Type 0
 IsTail = HasFraction 8 IsEnd
 
-tail_shape : IsShapeOf IsTail (Fraction 8 Done)
-tail_shape = fraction_then 8 IsEnd Done end_shape (λ x xs u here. not_end x xs u)
+tail_shape : IsShapeOf IsTail (Fraction 8 End)
+tail_shape = fraction_then 8 IsEnd End end_shape (λ x xs u here. not_end x xs u)
 
 tail-first : (x : ℕ) (xs : List ℕ) (v : ℕ × Unit {0}) → IsIn 48 9 x → ¬ IsTail (x ∷ xs) v
 tail-first x xs v here h = elim h.is_fraction [
@@ -187,7 +187,7 @@ abbrev IsFromOne : List ℕ → ℕ × (ℕ × Unit {0}) → Type 0
 IsFromOne = HasAfter (IsAbove0 17) decimal IsTail
 
 from_one_shape : IsShapeOf IsFromOne from_one
-from_one_shape = number_then 17 IsTail (Fraction 8 Done) (lit≤ tt) tail_shape tail-first
+from_one_shape = number_then 17 IsTail (Fraction 8 End) (lit≤ tt) tail_shape tail-first
 
 from_one-first : (x : ℕ) (xs : List ℕ) (v : ℕ × (ℕ × Unit {0})) → IsFromOne (x ∷ xs) v → 48 < x
 from_one-first x xs v h =
@@ -275,7 +275,7 @@ pub put_from_one : (s n : ℕ) (old mid new : List ℕ) → (0 < s) × (s < 10 ^
 put_from_one s n old mid new number h end =
     record { seconds = number.1; fraction = h.fraction; is_fraction = h.is_fraction; short = h.short; bytes_are = number.2 ∙ ap (λ r. decimal s ++ r) (at_end mid h.fraction new h.bytes_are end) }
 
-pub put_decimals : (n : ℕ) (old mid digits new : List ℕ) → old ≡ 48 ∷ mid → mid ≡ 46 ∷ digits → ReadsSomeDecimals digits new 8 100000000 n → new ≡ []
+pub put_decimals : (n : ℕ) (old mid digits new : List ℕ) → old ≡ 48 ∷ mid → mid ≡ 46 ∷ digits → ParsesPositiveDecimals digits new 8 100000000 n → new ≡ []
     → HasSeconds old 0 n × (0 < n)
 put_decimals n old mid digits new zero_byte point h end =
     let whole : digits ≡ h.decimals.digits = at_end digits h.decimals.digits new h.decimals.bytes_are end in

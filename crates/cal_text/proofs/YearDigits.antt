@@ -10,8 +10,8 @@ use Rattle.std.proofs.lemmas.Int.Digits.{digits_value-lt}
 use Rattle.std.proofs.lemmas.List.{append_assoc, length-append}
 use Rattle.cal_time.specs.DateText.{digits_at_least}
 use Rattle.cal_time.proofs.DistinctTexts.{year-plain}
-use Rattle.cal_text.specs.DateForms.{year_text, IsWrittenYear}
-use Rattle.cal_text.specs.Shape.{ReadsDigits, ReadsMore}
+use Rattle.cal_text.specs.DateForms.{year_text, IsPrintableYear}
+use Rattle.cal_text.specs.Shape.{ParsesDigits, ParsesMoreDigits}
 use Rattle.cal_text.proofs.DigitTexts.{IsMagnitude, magnitude-printed, digits-printed, digits_at_least-length, below-nine}
 use Rattle.cal_text.proofs.YearTexts.{plain-cast}
 use Rattle.cal_text.proofs.ReadDigits.{value-append, all-append, value-of}
@@ -55,7 +55,7 @@ value-after n (x ∷ xs) =
     let power = pow-suc 10 (length xs) in
     omega (arith, value-after (n * 10 + digit_value x) xs, value-after (0 * 10 + digit_value x) xs, ap (λ p. n * p) power)
 
-pub two_and_two : (front back : ℕ) (old mid new : List ℕ) → ReadsDigits old mid 2 front → ReadsDigits mid new 2 back → ReadsDigits old new 4 (front * 100 + back)
+pub two_and_two : (front back : ℕ) (old mid new : List ℕ) → ParsesDigits old mid 2 front → ParsesDigits mid new 2 back → ParsesDigits old new 4 (front * 100 + back)
 two_and_two front back old mid new h k = record {
   digits = h.digits ++ k.digits;
   all = all-append h.digits k.digits h.all k.all;
@@ -72,8 +72,8 @@ pub record Spells (least : ℕ) (old new : List ℕ) (n : ℕ) : Type 0 where
   pub long : least ≤ length digits
   pub bytes_are : old ≡ digits ++ 45 ∷ new
 
-pub put_more : (d k m before most n : ℕ) (old a b c new : List ℕ) → (1 ≤ d) × (d < 10) × (old ≡ (48 + d) ∷ a) → ReadsDigits a b k m → 3 ≤ k → k + most ≤ 8
-    → before ≡ d * 10 ^ k + m → ReadsMore b c most before n → c ≡ 45 ∷ new → Spells (suc k) old new n
+pub put_more : (d k m before most n : ℕ) (old a b c new : List ℕ) → (1 ≤ d) × (d < 10) × (old ≡ (48 + d) ∷ a) → ParsesDigits a b k m → 3 ≤ k → k + most ≤ 8
+    → before ≡ d * 10 ^ k + m → ParsesMoreDigits b c most before n → c ≡ 45 ∷ new → Spells (suc k) old new n
 put_more d k m before most n old a b c new h front least size is more hyphen =
     let long = length-append front.digits more.digits in
     let digit : 0 * 10 + digit_value (48 + d) ≡ d = omega (arith, value-of d h.1) in
@@ -112,18 +112,18 @@ pub four-spelled : (ds : List ℕ) (n : ℕ) → AllDigits 10 ds → length ds �
 four-spelled ds n all size value =
     record { all = all; size = record { least = omega arith; most = omega arith; first = λ more. absurd (omega arith) }; value = value }
 
-pub put_four : (n : ℕ) (old mid new : List ℕ) → ReadsDigits old mid 4 n → mid ≡ 45 ∷ new → old ≡ digits_at_least 4 n ++ 45 ∷ new
+pub put_four : (n : ℕ) (old mid new : List ℕ) → ParsesDigits old mid 4 n → mid ≡ 45 ∷ new → old ≡ digits_at_least 4 n ++ 45 ∷ new
 put_four n old mid new h e =
     h.bytes_are ∙ ap (λ rest. h.digits ++ rest) e ∙ ap (λ ds. ds ++ 45 ∷ new) (spelled-printed h.digits n (four-spelled h.digits n h.all h.count_is h.value))
 
-pub put_zero : (n : ℕ) (old b new : List ℕ) → ReadsDigits old b 4 n → (0 < n) × (n < 1000) → b ≡ 45 ∷ new → IsNumberAbove 0 new old n
+pub put_zero : (n : ℕ) (old b new : List ℕ) → ParsesDigits old b 4 n → (0 < n) × (n < 1000) → b ≡ 45 ∷ new → IsNumberAbove 0 new old n
 put_zero n old b new h range hyphen = (range.0, omega (arith, range.1), put_four n old b new h hyphen)
 
 -- ---- the sign
 abbrev IsYearBefore : List ℕ → List ℕ → ℤ → Type 0
-IsYearBefore new old y = IsWrittenYear y × (old ≡ year_text y ++ 45 ∷ new)
+IsYearBefore new old y = IsPrintableYear y × (old ≡ year_text y ++ 45 ∷ new)
 
-pub put_plain : (n : ℕ) (old mid new : List ℕ) → n < 10000 → ReadsDigits old mid 4 n → mid ≡ 45 ∷ new → IsYearBefore new old (to_z w32 n)
+pub put_plain : (n : ℕ) (old mid new : List ℕ) → n < 10000 → ParsesDigits old mid 4 n → mid ≡ 45 ∷ new → IsYearBefore new old (to_z w32 n)
 put_plain n old mid new below h e =
     subst (IsYearBefore new old) (sym (plain-cast n (omega arith)))
     (omega arith, put_four n old mid new h e ∙ ap (λ ds. ds ++ 45 ∷ new) (sym (year-plain n (omega arith))))

@@ -5,8 +5,8 @@ use Rattle.std.proofs.lemmas.Bool.{cases_lt}
 use Rattle.std.proofs.lemmas.Int.Digits.{digits_value-lt}
 use Rattle.cal_time.specs.DateText.{digits_at_least}
 use Rattle.cal_time.proofs.DistinctTexts.{digits_at_least-digits, digits_at_least-value, year-minus, year-plain, year-plus}
-use Rattle.cal_text.specs.DateForms.{year_text, IsWrittenYear}
-use Rattle.cal_text.specs.Shape.{Above, Below, Unsigned, Year, AtLeast, Byte, SomeDigits}
+use Rattle.cal_text.specs.DateForms.{year_text, IsPrintableYear}
+use Rattle.cal_text.specs.Shape.{YearAfterPlus, YearAfterMinus, Unsigned, Year, DigitsAtLeast, Byte, SomeDigits}
 use Rattle.cal_text.proofs.DigitTexts.{digits_at_least-magnitude, digits_at_least-length}
 use Rattle.cal_text.proofs.DigitParts.{IsCount, IsSome, hyphened, count_part, some_part, is_digit, digit_is}
 use Rattle.cal_text.proofs.Parts.{IsPart, Told, BeginsOutside, IsOther, text_other, from_part, byte_part, both, renamed, other}
@@ -58,7 +58,7 @@ small-length n small few =
     let below = digits_value-lt 10 (digits_at_least 4 n) (digits_at_least-digits 4 n small) in
     omega (arith, digits_at_least-value 4 n small, subst (λ k. digits_value 10 (digits_at_least 4 n) < 10 ^ k) four below)
 
-above_part : IsPart (IsFrom 9999) number_hyphen Above
+above_part : IsPart (IsFrom 9999) number_hyphen YearAfterPlus
 above_part = renamed _ _ _ (IsFrom 9999) number_hyphen (both _ _ _ _ _ _ (from_part 49 8) (count_part 4 4)) first_value
     (λ v h. let is = first-spelled 4 4 v (lit≤ tt) (lit≤ tt) h in (
       (spelled-large _ _ is (omega (arith, h.1.1)), spelled-below _ _ is),
@@ -142,11 +142,11 @@ here_below n h =
           first-whole n (first-of 3 5 n ds all (λ e. other_is (omega (arith, e), omega (arith, e))) (omega (arith, size.least)) (omega (arith, size.most)) refl value)
     ]
 
-below_part : IsPart (IsFrom 0) number_hyphen Below
+below_part : IsPart (IsFrom 0) number_hyphen YearAfterMinus
 below_part = renamed _ _ _ (IsFrom 0) number_hyphen (other 49 8 _ _ _ _ _ _ (count_part 3 5) zeroed_part zeroed_outside) whole_value there_below here_below
 
 -- four digits
-plain_part : IsPart (λ n. n < 10000) number_hyphen (AtLeast 4 0)
+plain_part : IsPart (λ n. n < 10000) number_hyphen (DigitsAtLeast 4 0)
 plain_part = renamed _ _ _ (λ n. n < 10000) number_hyphen (count_part 4 0) (digits_value 10)
     (λ ds h.
     let size : length ds ≡ 4 = omega (arith, h.1, h.2) in
@@ -199,7 +199,7 @@ into (inr (inl (sign, zero))) = pos 0
 into (inr (inl (sign, suc k))) = negsuc k
 into (inr (inr n)) = pos n
 
-there : (v : YearParts) → IsYearParts v → IsWrittenYear (into v) × (year_parts_text v ≡ year_hyphen (into v))
+there : (v : YearParts) → IsYearParts v → IsPrintableYear (into v) × (year_parts_text v ≡ year_hyphen (into v))
 unfolding into
 there (inl (sign, n)) h =
     let same : 43 + sign ≡ 43 = omega (arith, h.0) in
@@ -210,7 +210,7 @@ there (inr (inl (sign, suc k))) h =
     (h.1.1, ap (λ b. b ∷ number_hyphen (suc k)) same ∙ ap (λ ds. ds ++ 45 ∷ []) (sym (year-minus k)))
 there (inr (inr n)) h = (omega (arith, h), ap (λ ds. ds ++ 45 ∷ []) (sym (year-plain n (omega arith))))
 
-here : (y : ℤ) → IsWrittenYear y → Told IsYearParts year_parts_text year_hyphen into y
+here : (y : ℤ) → IsPrintableYear y → Told IsYearParts year_parts_text year_hyphen into y
 unfolding into
 here (pos n) h =
     elim (cases_lt n 10000) as (λ _. Told IsYearParts year_parts_text year_hyphen into (pos n)) [
@@ -220,5 +220,5 @@ here (pos n) h =
 here (negsuc k) h =
     record { value = inr (inl (0, suc k)); valid = (lit≤ tt, (omega arith, h)); text_is = ap (λ ds. ds ++ 45 ∷ []) (year-minus k); same = refl }
 
-pub year_part : IsPart IsWrittenYear year_hyphen Year
-year_part = renamed _ _ _ IsWrittenYear year_hyphen (other 43 0 _ _ _ _ _ _ above_part unsigned_part unsigned_outside) into there here
+pub year_part : IsPart IsPrintableYear year_hyphen Year
+year_part = renamed _ _ _ IsPrintableYear year_hyphen (other 43 0 _ _ _ _ _ _ above_part unsigned_part unsigned_outside) into there here

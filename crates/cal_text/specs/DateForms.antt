@@ -32,30 +32,30 @@ IsDateText bytes n = (bytes ≡ text n) ⊎ (bytes ≡ ordinal_text n) ⊎ (byte
 
 -- ---- forms
 -- A year in text has at most nine digits.
-abbrev pub IsWrittenYear : ℤ → Type 0
-IsWrittenYear y = unsigned_abs y < 10 ^ 9
+abbrev pub IsPrintableYear : ℤ → Type 0
+IsPrintableYear y = unsigned_abs y < 10 ^ 9
 
 -- The year of a form.
-abbrev pub year_of : DateNumbers → ℤ
-year_of (Calendar y m d) = y
-year_of (Ordinal y o) = y
-year_of (Week y w d) = y
+abbrev pub form_year : DateNumbers → ℤ
+form_year (Calendar y m d) = y
+form_year (Ordinal y o) = y
+form_year (Week y w d) = y
 
 -- The text of a form after the year and a hyphen.
-abbrev pub rest_of : DateNumbers → List ℕ
-rest_of (Calendar y m d) = month_and_day_text m d
-rest_of (Ordinal y o) = ordinal_digits o
-rest_of (Week y w d) = week_and_weekday_text w d
+abbrev pub form_rest : DateNumbers → List ℕ
+form_rest (Calendar y m d) = month_and_day_text m d
+form_rest (Ordinal y o) = ordinal_digits o
+form_rest (Week y w d) = week_and_weekday_text w d
 
 -- The text of a form.
 abbrev pub form_text : DateNumbers → List ℕ
-form_text f = year_text (year_of f) ++ codes "-" ++ rest_of f
+form_text f = year_text (form_year f) ++ codes "-" ++ form_rest f
 
 -- Each number has at most as many digits as the form, and the weekday is from 1 to 7.
 abbrev pub DigitsFit : DateNumbers → Type 0
-DigitsFit (Calendar y m d) = IsWrittenYear y × (m < 100) × (d < 100)
-DigitsFit (Ordinal y o) = IsWrittenYear y × (o < 1000)
-DigitsFit (Week y w d) = IsWrittenYear y × (w < 100) × (1 ≤ d) × (d ≤ 7)
+DigitsFit (Calendar y m d) = IsPrintableYear y × (m < 100) × (d < 100)
+DigitsFit (Ordinal y o) = IsPrintableYear y × (o < 1000)
+DigitsFit (Week y w d) = IsPrintableYear y × (w < 100) × (1 ≤ d) × (d ≤ 7)
 
 -- The bytes have the form f.
 pub record HasForm (bytes : List ℕ) (f : DateNumbers) : Type 0 where

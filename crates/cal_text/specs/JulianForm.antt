@@ -2,7 +2,7 @@
 use Rattle.std.specs.Prelude.{◌≡◌, ◌<◌, ◌^◌, ℕ, ℤ, List, ◌++◌, codes, unsigned_abs}
 use Rattle.std.specs.Fmt.{signed_decimal}
 use Rattle.cal_time.specs.Date.{julian_day_at, HasJulianDay, NoDate}
-use Rattle.cal_time.specs.Refusals.{julian_day_out_of_range}
+use Rattle.cal_time.specs.DateErrors.{julian_day_out_of_range}
 use Rattle.cal_time.specs.declared.error.ComponentRange.{ComponentRange}
 
 -- The letter J and a number, with a minus sign if it is negative.
@@ -19,5 +19,5 @@ pub record IsJulianForm (bytes : List ℕ) (j : ℤ) : Type 0 where
   pub bytes_are : bytes ≡ julian_form j
 
 -- The error of a number that is not the Julian day of a day of the range.
-abbrev pub IsJulianFault : ℤ → ComponentRange → Type 0
-IsJulianFault j why = (why ≡ julian_day_out_of_range) × NoDate (HasJulianDay j)
+abbrev pub IsJulianDayError : ℤ → ComponentRange → Type 0
+IsJulianDayError j why = (why ≡ julian_day_out_of_range) × NoDate (HasJulianDay j)

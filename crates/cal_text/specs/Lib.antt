@@ -1,7 +1,7 @@
 pub mod Position
 pub mod Shape
 pub mod DateForms
-pub mod Reading
+pub mod Parsing
 pub mod ErrorText
 pub mod JulianForm
 pub mod Rfc3339

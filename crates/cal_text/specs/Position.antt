@@ -1,7 +1,7 @@
 -- The position at which a text stops matching a form. A form is a set of texts.
 use Rattle.std.specs.Prelude.{◌≡◌, ℕ, ◌+◌, ◌<◌, ◌≤◌, List, ◌++◌, length, take}
-use Rattle.cal_text.specs.declared.error.Unreadable.{Unreadable}
-use Rattle.cal_text.specs.declared.error.Unreadable.TheVariants.{UnexpectedByte, UnexpectedEnd, OutOfRange}
+use Rattle.cal_text.specs.declared.error.ParseError.{ParseError}
+use Rattle.cal_text.specs.declared.error.ParseError.TheVariants.{UnexpectedByte, UnexpectedEnd, OutOfRange}
 
 -- The bytes have the form, with some value.
 abbrev pub HasSome : {V : Type 0} → (List ℕ → V → Type 0) → List ℕ → Type 0
@@ -21,7 +21,7 @@ pub record IsPosition (IsText : List ℕ → Type 0) (text : List ℕ) (p : ℕ)
 
 -- An error names the position at which the text stops matching: a byte of the text, or its end. An
 -- error of a component names none.
-abbrev pub IsAtStop : (List ℕ → Type 0) → List ℕ → Unreadable → Type 0
-IsAtStop IsText text (UnexpectedByte p) = IsPosition IsText text p × (p < length text)
-IsAtStop IsText text (UnexpectedEnd p) = IsPosition IsText text p × (p ≡ length text)
-IsAtStop IsText text (OutOfRange why) = Unit {0}
+abbrev pub IsErrorAtStop : (List ℕ → Type 0) → List ℕ → ParseError → Type 0
+IsErrorAtStop IsText text (UnexpectedByte p) = IsPosition IsText text p × (p < length text)
+IsErrorAtStop IsText text (UnexpectedEnd p) = IsPosition IsText text p × (p ≡ length text)
+IsErrorAtStop IsText text (OutOfRange why) = Unit {0}

@@ -6,7 +6,7 @@ use Rattle.cal_time.specs.Digits.{decimals}
 use Rattle.cal_time.specs.Time.{hour_of, minute_of, second_of, nanosecond_of}
 use Rattle.cal_time.specs.UtcOffset.{sign}
 use Rattle.cal_datetime.specs.DateTime.{date_at, time_at}
-use Rattle.cal_datetime.specs.OffsetDateTime.{Shown}
+use Rattle.cal_datetime.specs.OffsetDateTime.{LocalAndOffset}
 use Rattle.cal_text.specs.DateForms.{year_text}
 
 -- A fraction of a second is empty for 0 nanoseconds, else a point and decimals.
@@ -21,19 +21,19 @@ offset_text o =
 
 -- The text of day n at time of day t with offset o. Each part has two digits, except the year, the
 -- fraction and the offset.
-abbrev pub parts_text : ℕ → ℕ → ℤ → List ℕ
-parts_text n t o =
+abbrev pub rfc3339_text : ℕ → ℕ → ℤ → List ℕ
+rfc3339_text n t o =
     year_text (year_at n) ++ codes "-" ++ digits_at_least 2 (month_at n) ++ codes "-" ++ digits_at_least 2 (day_of_month_at n)
     ++ codes "T" ++ digits_at_least 2 (hour_of t) ++ codes ":" ++ digits_at_least 2 (minute_of t) ++ codes ":" ++ digits_at_least 2 (second_of t)
     ++ fraction_text (nanosecond_of t) ++ offset_text o
 
 -- The text of a moment.
-abbrev pub moment_text : Shown → List ℕ
-moment_text m = parts_text (date_at m.local) (time_at m.local) m.offset
+abbrev pub moment_text : LocalAndOffset → List ℕ
+moment_text m = rfc3339_text (date_at m.local) (time_at m.local) m.offset
 
 -- A moment has a text if its year is from 0 to 9999 and its offset is whole minutes, less than a
 -- day.
-pub record HasMomentText (m : Shown) : Type 0 where
+pub record HasMomentText (m : LocalAndOffset) : Type 0 where
   pub from_year_0 : pos 0 ≤ℤ year_at (date_at m.local)
   pub to_year_9999 : year_at (date_at m.local) ≤ℤ pos 9999
   pub whole_minutes : unsigned_abs m.offset % 60 ≡ 0

@@ -6,15 +6,15 @@ use Rattle.cal_time.specs.Date.{IsDayOfMonth, HasCalendarDate}
 use Rattle.cal_time.specs.DateText.{digits_at_least, date_digits}
 use Rattle.cal_time.specs.Month.{month_out_of_range}
 use Rattle.cal_time.specs.declared.error.ComponentRange.{ComponentRange}
-use Rattle.cal_time.specs.Refusals.{day_out_of_range}
+use Rattle.cal_time.specs.DateErrors.{day_out_of_range}
 use Rattle.cal_time.specs.Time.{time_of, hour_out_of_range, minute_out_of_range, second_out_of_range}
 use Rattle.cal_time.specs.UtcOffset.{offset_hour_out_of_range, offset_minute_out_of_range}
 use Rattle.cal_datetime.specs.DateTime.{IsDateTime, date_at, time_at}
-use Rattle.cal_datetime.specs.OffsetDateTime.{Shown}
+use Rattle.cal_datetime.specs.OffsetDateTime.{LocalAndOffset}
 use Rattle.cal_text.specs.declared.rfc3339.numbers.Numbers.{Numbers}
 use Rattle.cal_text.specs.declared.rfc3339.numbers.TimeOffset.{TimeOffset}
 use Rattle.cal_text.specs.declared.rfc3339.numbers.TimeOffset.TheVariants.{Utc, Signed}
-use Rattle.cal_text.specs.Reading.{IsMonth}
+use Rattle.cal_text.specs.Parsing.{IsMonth}
 
 -- ---- parts
 -- T, t or a space separates the date from the time.
@@ -88,7 +88,7 @@ IsOffsetOf (Signed is_west h m) o =
     (h ≤ 23) × (m ≤ 59) × (o ≡ if is_west then neg_ℤ (pos (3600 * h + 60 * m)) else pos (3600 * h + 60 * m))
 
 -- The moment `at` has the numbers m.
-pub record IsAt (m : Numbers) (at : Shown) : Type 0 where
+pub record IsMomentOf (m : Numbers) (at : LocalAndOffset) : Type 0 where
   pub in_range : IsDateTime at.local
   pub date : HasCalendarDate (pos m.year) m.month m.day (date_at at.local)
   pub hour : m.hour ≤ 23
@@ -98,8 +98,8 @@ pub record IsAt (m : Numbers) (at : Shown) : Type 0 where
   pub offset : IsOffsetOf m.offset at.offset
 
 -- The bytes are a text of this moment.
-abbrev pub IsMomentText : List ℕ → Shown → Type 0
-IsMomentText bytes at = (m : Numbers) × HasMomentForm bytes m × IsAt m at
+abbrev pub IsMomentText : List ℕ → LocalAndOffset → Type 0
+IsMomentText bytes at = (m : Numbers) × HasMomentForm bytes m × IsMomentOf m at
 
 -- ---- the first component out of range: of the date, the time of day and the offset, in this order
 -- The date is in range.
@@ -111,22 +111,22 @@ abbrev pub HasClock : Numbers → Type 0
 HasClock m = HasDay m × (m.hour ≤ 23) × (m.minute ≤ 59) × (m.second ≤ 59)
 
 -- The hours of the offset are out of range.
-abbrev pub IsPastHours : TimeOffset → Type 0
-IsPastHours Utc = ⊥
-IsPastHours (Signed is_west h m) = 23 < h
+abbrev pub ExceedsHours : TimeOffset → Type 0
+ExceedsHours Utc = ⊥
+ExceedsHours (Signed is_west h m) = 23 < h
 
 -- The minutes of the offset are out of range, and its hours are not.
-abbrev pub IsPastMinutes : TimeOffset → Type 0
-IsPastMinutes Utc = ⊥
-IsPastMinutes (Signed is_west h m) = (h ≤ 23) × (59 < m)
+abbrev pub ExceedsMinutes : TimeOffset → Type 0
+ExceedsMinutes Utc = ⊥
+ExceedsMinutes (Signed is_west h m) = (h ≤ 23) × (59 < m)
 
 -- The error of the first component out of range.
-abbrev pub IsMomentFault : Numbers → ComponentRange → Type 0
-IsMomentFault m why =
+abbrev pub IsMomentError : Numbers → ComponentRange → Type 0
+IsMomentError m why =
     ((why ≡ month_out_of_range) × ¬ IsMonth m.month)
     ⊎ ((why ≡ day_out_of_range) × (IsMonth m.month × ¬ IsDayOfMonth (pos m.year) m.month m.day))
     ⊎ ((why ≡ hour_out_of_range) × (HasDay m × (23 < m.hour)))
     ⊎ ((why ≡ minute_out_of_range) × (HasDay m × (m.hour ≤ 23) × (59 < m.minute)))
     ⊎ ((why ≡ second_out_of_range) × (HasDay m × (m.hour ≤ 23) × (m.minute ≤ 59) × (59 < m.second)))
-    ⊎ ((why ≡ offset_hour_out_of_range) × (HasClock m × IsPastHours m.offset))
-    ⊎ ((why ≡ offset_minute_out_of_range) × (HasClock m × IsPastMinutes m.offset))
+    ⊎ ((why ≡ offset_hour_out_of_range) × (HasClock m × ExceedsHours m.offset))
+    ⊎ ((why ≡ offset_minute_out_of_range) × (HasClock m × ExceedsMinutes m.offset))

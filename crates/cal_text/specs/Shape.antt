@@ -6,36 +6,36 @@ use Rattle.std.specs.Str.Parse.{AllDigits, digits_value, digits_value_after}
 -- A shape is the end of the text, or a byte from `low` to `low + above` and then a shape, or a
 -- branch: the first shape after such a byte, else the second shape.
 pub data Shape : Type 0 where
-  Done : Shape
-  From : (low above : ℕ) → Shape → Shape
+  End : Shape
+  ByteRange : (low above : ℕ) → Shape → Shape
   Branch : (low above : ℕ) → Shape → Shape → Shape
 
--- `left f bytes` is 0 if the bytes have the shape f. Otherwise it is 1 plus the number of bytes
+-- `unmatched_bytes f bytes` is 0 if the bytes have the shape f. Otherwise it is 1 plus the number of bytes
 -- from the position on at which they stop matching f.
-unfoldable pub left : Shape → List ℕ → ℕ
-left Done [] = 0
-left Done (x ∷ xs) = suc (length (x ∷ xs))
-left (From low above f) [] = 1
-left (From low above f) (x ∷ xs) = if nat_le low x && nat_le x (low + above) then left f xs else suc (length (x ∷ xs))
-left (Branch low above f g) [] = left g []
-left (Branch low above f g) (x ∷ xs) = if nat_le low x && nat_le x (low + above) then left f xs else left g (x ∷ xs)
+unfoldable pub unmatched_bytes : Shape → List ℕ → ℕ
+unmatched_bytes End [] = 0
+unmatched_bytes End (x ∷ xs) = suc (length (x ∷ xs))
+unmatched_bytes (ByteRange low above f) [] = 1
+unmatched_bytes (ByteRange low above f) (x ∷ xs) = if nat_le low x && nat_le x (low + above) then unmatched_bytes f xs else suc (length (x ∷ xs))
+unmatched_bytes (Branch low above f g) [] = unmatched_bytes g []
+unmatched_bytes (Branch low above f g) (x ∷ xs) = if nat_le low x && nat_le x (low + above) then unmatched_bytes f xs else unmatched_bytes g (x ∷ xs)
 
 -- ---- parsers, which go from the old list to the new list, or stop at the new list
 -- The parser goes past a part of a shape.
 abbrev pub Scans : {V : Type 0} → (Shape → Shape) → List ℕ → List ℕ → Option V → Type 0
-Scans part old new r = MatchOption r ((f : Shape) → left (part f) old ≡ suc (length new)) (λ _. (f : Shape) → left (part f) old ≡ left f new)
+Scans part old new r = MatchOption r ((f : Shape) → unmatched_bytes (part f) old ≡ suc (length new)) (λ _. (f : Shape) → unmatched_bytes (part f) old ≡ unmatched_bytes f new)
 
 -- The parser goes past a byte of a branch, or past nothing if the byte isn't there.
 abbrev pub Branches : {V : Type 0} → ℕ → ℕ → List ℕ → List ℕ → Option V → Type 0
 Branches low above old new r =
-    MatchOption r ((f g : Shape) → left (Branch low above f g) old ≡ left g new) (λ _. (f g : Shape) → left (Branch low above f g) old ≡ left f new)
+    MatchOption r ((f g : Shape) → unmatched_bytes (Branch low above f g) old ≡ unmatched_bytes g new) (λ _. (f g : Shape) → unmatched_bytes (Branch low above f g) old ≡ unmatched_bytes f new)
 
 -- The parser goes past a whole shape, up to the end.
 abbrev pub ScansWhole : {V : Type 0} → Shape → List ℕ → List ℕ → Option V → Type 0
-ScansWhole f old new r = MatchOption r (left f old ≡ suc (length new)) (λ _. left f old ≡ 0)
+ScansWhole f old new r = MatchOption r (unmatched_bytes f old ≡ suc (length new)) (λ _. unmatched_bytes f old ≡ 0)
 
 -- The parser went past `count` digits, which spell n.
-pub record ReadsDigits (old new : List ℕ) (count n : ℕ) : Type 0 where
+pub record ParsesDigits (old new : List ℕ) (count n : ℕ) : Type 0 where
   pub digits : List ℕ
   pub all : AllDigits 10 digits
   pub count_is : length digits ≡ count
@@ -43,7 +43,7 @@ pub record ReadsDigits (old new : List ℕ) (count n : ℕ) : Type 0 where
   pub bytes_are : old ≡ digits ++ new
 
 -- The parser went past at most `most` digits. The digits of `before` and these digits spell n.
-pub record ReadsMore (old new : List ℕ) (most before n : ℕ) : Type 0 where
+pub record ParsesMoreDigits (old new : List ℕ) (most before n : ℕ) : Type 0 where
   pub digits : List ℕ
   pub all : AllDigits 10 digits
   pub few : length digits ≤ most
@@ -57,7 +57,7 @@ decimals_value unit [] = 0
 decimals_value unit (x ∷ xs) = digit_value x * unit + decimals_value (unit / 10) xs
 
 -- The parser went past at most `most` digits after a point. Their value plus `before` is n.
-pub record ReadsDecimals (old new : List ℕ) (most unit before n : ℕ) : Type 0 where
+pub record ParsesDecimals (old new : List ℕ) (most unit before n : ℕ) : Type 0 where
   pub digits : List ℕ
   pub all : AllDigits 10 digits
   pub few : length digits ≤ most
@@ -65,19 +65,19 @@ pub record ReadsDecimals (old new : List ℕ) (most unit before n : ℕ) : Type 
   pub bytes_are : old ≡ digits ++ new
 
 -- The parser went past at most more + 1 digits after a point, with the value n. They are not all 0.
-pub record ReadsSomeDecimals (old new : List ℕ) (more unit n : ℕ) : Type 0 where
-  pub decimals : ReadsDecimals old new (more + 1) unit 0 n
+pub record ParsesPositiveDecimals (old new : List ℕ) (more unit n : ℕ) : Type 0 where
+  pub decimals : ParsesDecimals old new (more + 1) unit 0 n
   pub some : 0 < digits_value 10 decimals.digits
 
 -- ---- parts
 -- The byte b.
 abbrev pub Byte : ℕ → Shape → Shape
-Byte b f = From b 0 f
+Byte b f = ByteRange b 0 f
 
 -- This many digits.
 abbrev pub Digits : ℕ → Shape → Shape
 Digits zero f = f
-Digits (suc k) f = From 48 9 (Digits k f)
+Digits (suc k) f = ByteRange 48 9 (Digits k f)
 
 -- A plus sign or a minus sign.
 abbrev pub Sign : Shape → Shape
@@ -90,79 +90,79 @@ UpTo (suc k) f = Branch 48 9 (UpTo k f) f
 
 -- One digit more than this many, not all of them 0.
 abbrev pub SomeDigits : ℕ → Shape → Shape
-SomeDigits zero f = From 49 8 f
+SomeDigits zero f = ByteRange 49 8 f
 SomeDigits (suc k) f = Branch 49 8 (Digits (suc k) f) (Byte 48 (SomeDigits k f))
 
 -- At most one digit more than this many, not all of them 0.
 abbrev pub SomeUpTo : ℕ → Shape → Shape
-SomeUpTo zero f = From 49 8 f
+SomeUpTo zero f = ByteRange 49 8 f
 SomeUpTo (suc k) f = Branch 49 8 (UpTo (suc k) f) (Byte 48 (SomeUpTo k f))
 
 -- A number above 0 of at most more + 1 digits, without leading zeros.
 abbrev pub Number : ℕ → Shape → Shape
-Number more f = From 49 8 (UpTo more f)
+Number more f = ByteRange 49 8 (UpTo more f)
 
 -- A fraction of a second: nothing, or a point and at most more + 1 digits.
 abbrev pub Fraction : ℕ → Shape → Shape
-Fraction more f = Branch 46 0 (From 48 9 (UpTo more f)) f
+Fraction more f = Branch 46 0 (ByteRange 48 9 (UpTo more f)) f
 
 -- ---- a year and the hyphen after it
 -- k digits, at most `more` further digits, and a hyphen.
-abbrev pub AtLeast : ℕ → ℕ → Shape → Shape
-AtLeast k more f = Digits k (UpTo more (Byte 45 f))
+abbrev pub DigitsAtLeast : ℕ → ℕ → Shape → Shape
+DigitsAtLeast k more f = Digits k (UpTo more (Byte 45 f))
 
 -- A year above 9999 without its sign.
-abbrev pub Above : Shape → Shape
-Above f = From 49 8 (AtLeast 4 4 f)
+abbrev pub YearAfterPlus : Shape → Shape
+YearAfterPlus f = ByteRange 49 8 (DigitsAtLeast 4 4 f)
 
 -- A zero and three digits that are not all 0.
 abbrev pub ZeroAndThree : Shape → Shape
 ZeroAndThree f = Byte 48 (SomeDigits 2 f)
 
 -- A negative year without its sign.
-abbrev pub Below : Shape → Shape
-Below f = Branch 49 8 (AtLeast 3 5 f) (ZeroAndThree (Byte 45 f))
+abbrev pub YearAfterMinus : Shape → Shape
+YearAfterMinus f = Branch 49 8 (DigitsAtLeast 3 5 f) (ZeroAndThree (Byte 45 f))
 
 -- A negative year, or a year from 0 to 9999.
 abbrev pub Unsigned : Shape → Shape
-Unsigned f = Branch 45 0 (Below f) (AtLeast 4 0 f)
+Unsigned f = Branch 45 0 (YearAfterMinus f) (DigitsAtLeast 4 0 f)
 
 -- Any year, and the hyphen after it.
 abbrev pub Year : Shape → Shape
-Year f = Branch 43 0 (Above f) (Unsigned f)
+Year f = Branch 43 0 (YearAfterPlus f) (Unsigned f)
 
 -- ---- forms
 -- A week and a weekday.
-abbrev pub week : Shape
-week = Digits 2 (Byte 45 (From 49 6 Done))
+abbrev pub week_date : Shape
+week_date = Digits 2 (Byte 45 (ByteRange 49 6 End))
 
 -- A month and a day of the month, or an ordinal.
 abbrev pub month_or_ordinal : Shape
-month_or_ordinal = Digits 2 (Branch 45 0 (Digits 2 Done) (Digits 1 Done))
+month_or_ordinal = Digits 2 (Branch 45 0 (Digits 2 End) (Digits 1 End))
 
 abbrev pub after_year : Shape
-after_year = Branch 87 0 week month_or_ordinal
+after_year = Branch 87 0 week_date month_or_ordinal
 
 abbrev pub date : Shape
 date = Year after_year
 
 abbrev pub natural : Shape
-natural = Branch 48 0 Done (Number 8 Done)
+natural = Branch 48 0 End (Number 8 End)
 
 abbrev pub julian_day : Shape
-julian_day = Byte 74 (Branch 45 0 (Number 8 Done) natural)
+julian_day = Byte 74 (Branch 45 0 (Number 8 End) natural)
 
 -- Seconds from 1 on, and a fraction.
 abbrev pub from_one : Shape
-from_one = Number 17 (Fraction 8 Done)
+from_one = Number 17 (Fraction 8 End)
 
 -- Seconds and a fraction.
 abbrev pub seconds : Shape
-seconds = Branch 48 0 (Fraction 8 Done) from_one
+seconds = Branch 48 0 (Fraction 8 End) from_one
 
 -- Seconds and a fraction that are not both 0.
 abbrev pub seconds_above_0 : Shape
-seconds_above_0 = Branch 48 0 (Byte 46 (SomeUpTo 8 Done)) from_one
+seconds_above_0 = Branch 48 0 (Byte 46 (SomeUpTo 8 End)) from_one
 
 abbrev pub unix_time : Shape
 unix_time = Byte 64 (Branch 45 0 seconds_above_0 seconds)
@@ -176,13 +176,13 @@ abbrev pub TwoNumbers : ℕ → Shape → Shape
 TwoNumbers b f = Byte b (Digits 2 (Byte b (Digits 2 f)))
 
 abbrev pub offset_digits : Shape
-offset_digits = Digits 2 (Byte 58 (Digits 2 Done))
+offset_digits = Digits 2 (Byte 58 (Digits 2 End))
 
 abbrev pub signed_offset : Shape
 signed_offset = Sign offset_digits
 
 abbrev pub time_offset : Shape
-time_offset = Branch 90 0 Done (Branch 122 0 Done signed_offset)
+time_offset = Branch 90 0 End (Branch 122 0 End signed_offset)
 
 abbrev pub ToSeconds : Shape → Shape
 ToSeconds f = Digits 4 (TwoNumbers 45 (Separator (Digits 2 (TwoNumbers 58 f))))

@@ -4,7 +4,7 @@ use Rattle.std.specs.Prelude.{◌≡◌, ℕ, ◌/◌, ◌%◌, ◌≤◌, ◌<�
 use Rattle.cal_time.specs.SignedDuration.{second}
 use Rattle.cal_time.specs.declared.error.ComponentRange.{ComponentRange}
 use Rattle.cal_datetime.specs.DateTime.{IsDateTime}
-use Rattle.cal_datetime.specs.OffsetDateTime.{Shown, instant, unix_epoch, unix_nanoseconds}
+use Rattle.cal_datetime.specs.OffsetDateTime.{LocalAndOffset, instant, unix_epoch, unix_nanoseconds}
 pub use Rattle.cal_datetime.specs.OffsetDateTime.{timestamp_out_of_range}
 use Rattle.cal_text.specs.Rfc3339.{fraction_text}
 use Rattle.cal_text.specs.Rfc3339Form.{IsFraction}
@@ -35,11 +35,11 @@ pub record HasSeconds (bytes : List ℕ) (s n : ℕ) : Type 0 where
   pub bytes_are : bytes ≡ decimal s ++ fraction
 
 -- The bytes are the Unix time of the moment m, which is at UTC.
-pub record IsUnixText (bytes : List ℕ) (m : Shown) : Type 0 where
+pub record IsUnixText (bytes : List ℕ) (m : LocalAndOffset) : Type 0 where
   pub in_range : IsDateTime m.local
   pub at_utc : m.offset ≡ pos 0
   pub form : HasUnixForm bytes (unix_nanoseconds (instant m))
 
 -- The error of a Unix time that no moment at UTC has.
-abbrev pub IsUnixFault : ℤ → ComponentRange → Type 0
-IsUnixFault v why = (why ≡ timestamp_out_of_range) × ¬ IsDateTime (unix_epoch +ℤ v)
+abbrev pub IsUnixTimeError : ℤ → ComponentRange → Type 0
+IsUnixTimeError v why = (why ≡ timestamp_out_of_range) × ¬ IsDateTime (unix_epoch +ℤ v)

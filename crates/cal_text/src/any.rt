@@ -2,12 +2,12 @@
 ghost use Rattle.std.specs.Prelude.{◌≡◌, ◌↔◌, ◌<◌, length, get_or, IsTrue, IfOk, IfErr, Ok};
 ghost use Rattle.cal_time.specs.declared.error.ComponentRange.{ComponentRange};
 ghost use Rattle.cal_text.specs.declared.any.DateOrMoment.{DateOrMoment};
-ghost use Rattle.cal_text.specs.AnyForm.{IsTextOf, IsFault, HasAnyForm};
-ghost use Rattle.cal_text.specs.Position.{IsAtStop};
-ghost use Rattle.cal_text.specs.Reading.{IsRefusedFor, IsRefusedForForm};
+ghost use Rattle.cal_text.specs.AnyForm.{IsTextOf, IsDateOrMomentError, HasAnyForm};
+ghost use Rattle.cal_text.specs.Position.{IsErrorAtStop};
+ghost use Rattle.cal_text.specs.Parsing.{FailsWithComponent, FailsWithSyntax};
 
-use crate::any::dates::{date_in, further};
-use crate::error::Unreadable;
+use crate::any::dates::{parse_date, furthest_error};
+use crate::error::ParseError;
 use crate::rfc3339::is_separator;
 use crate::{julian_day, rfc3339, unix};
 use cal_datetime::OffsetDateTime;
@@ -53,30 +53,30 @@ pub enum DateOrMoment {
 ///
 /// Returns `UnexpectedByte` or `UnexpectedEnd` if the text has none of the forms. If it has a form,
 /// the errors are the errors of the parser of this form.
-pub fn read_any(text: &[u8]) -> Result<DateOrMoment, Unreadable>
+pub fn parse_any(text: &[u8]) -> Result<DateOrMoment, ParseError>
     ensures every { (found : DateOrMoment) → IsTextOf text.now found → result ≡ Ok found }
-    ensures has { IfOk result (IsTextOf text.now) }
-    ensures form { IsRefusedForForm result ↔ ¬ HasAnyForm text.now }
-    ensures position { IfErr result (IsAtStop HasAnyForm text.now) }
-    ensures component { (why : ComponentRange) → IsRefusedFor why result ↔ IsFault text.now why }
+    ensures value { IfOk result (IsTextOf text.now) }
+    ensures syntax_error { FailsWithSyntax result ↔ ¬ HasAnyForm text.now }
+    ensures position { IfErr result (IsErrorAtStop HasAnyForm text.now) }
+    ensures out_of_range { (why : ComponentRange) → FailsWithComponent why result ↔ IsDateOrMomentError text.now why }
 {
     if begins_with(text, b'J') {
-        match julian_day::read(text) {
+        match julian_day::parse(text) {
             Ok(date) => Ok(DateOrMoment::Date(DateForm::JulianDay, date)),
             Err(error) => Err(error),
         }
     } else if begins_with(text, b'@') {
-        match unix::read(text) {
+        match unix::parse(text) {
             Ok(moment) => Ok(DateOrMoment::Moment(MomentForm::Unix, moment)),
             Err(error) => Err(error),
         }
     } else if text.len() > 10 && is_separator(text[10]) {
-        match rfc3339::read(text) {
+        match rfc3339::parse(text) {
             Ok(moment) => Ok(DateOrMoment::Moment(MomentForm::Rfc3339, moment)),
-            Err(error) => Err(further(error, text)),
+            Err(error) => Err(furthest_error(error, text)),
         }
     } else {
-        date_in(text)
+        parse_date(text)
     }
 }
 

@@ -4,16 +4,16 @@ ghost use Rattle.cal_time.specs.Date.{IsDate};
 ghost use Rattle.cal_time.specs.declared.error.ComponentRange.{ComponentRange};
 ghost use Rattle.cal_text.specs.declared.date_numbers.DateNumbers.{DateNumbers};
 ghost use Rattle.cal_text.specs.DateForms.{IsDateText, HasForm};
-ghost use Rattle.cal_text.specs.Position.{HasSome, IsAtStop};
-ghost use Rattle.cal_text.specs.Reading.{IsFaultOf, HasFault, IsRefusedFor, IsRefusedForForm};
+ghost use Rattle.cal_text.specs.Position.{HasSome, IsErrorAtStop};
+ghost use Rattle.cal_text.specs.Parsing.{IsDateError, HasError, FailsWithComponent, FailsWithSyntax};
 
-use crate::date::of_form::date_of;
-use crate::date_numbers::form_of;
-use crate::error::Unreadable;
+use crate::date::from_numbers::date_from_numbers;
+use crate::date_numbers::parse_numbers;
+use crate::error::ParseError;
 use cal_time::Date;
 
 mod display;
-pub(crate) mod of_form;
+pub(crate) mod from_numbers;
 
 pub use display::{CalendarText, OrdinalText, WeekText};
 
@@ -27,22 +27,22 @@ pub use display::{CalendarText, OrdinalText, WeekText};
 /// Returns `UnexpectedByte` or `UnexpectedEnd` for any other form; a year has at most nine digits.
 /// Otherwise returns `OutOfRange` with the first component out of range: `month`, `year` outside
 /// -999999 to 999999, `day`, `ordinal`, `week`, or `weekday` after the last day of the range.
-pub fn read(text: &[u8]) -> Result<Date, Unreadable>
+pub fn parse(text: &[u8]) -> Result<Date, ParseError>
     ensures every { (n : ℕ) → IsDate n → IsDateText text.now n → result ≡ Ok n }
-    ensures has { IfOk result (λ n. IsDate n × IsDateText text.now n) }
+    ensures value { IfOk result (λ n. IsDate n × IsDateText text.now n) }
 
     // The error is about the form exactly if the text has none, else about the first component out
     // of range.
-    ensures form { IsRefusedForForm result ↔ ((form : DateNumbers) → ¬ HasForm text.now form) }
-    ensures position { IfErr result (IsAtStop (HasSome HasForm) text.now) }
-    ensures component { (why : ComponentRange)
-        → IsRefusedFor why result ↔ HasFault HasForm IsFaultOf text.now why }
+    ensures syntax_error { FailsWithSyntax result ↔ ((form : DateNumbers) → ¬ HasForm text.now form) }
+    ensures position { IfErr result (IsErrorAtStop (HasSome HasForm) text.now) }
+    ensures out_of_range { (why : ComponentRange)
+        → FailsWithComponent why result ↔ HasError HasForm IsDateError text.now why }
 {
-    match form_of(text) {
-        Ok(form) => match date_of(form) {
+    match parse_numbers(text) {
+        Ok(form) => match date_from_numbers(form) {
             Ok(date) => Ok(date),
-            Err(error) => Err(Unreadable::OutOfRange(error)),
+            Err(error) => Err(ParseError::OutOfRange(error)),
         },
-        Err(position) => Err(Unreadable::at(position, text.len())),
+        Err(position) => Err(ParseError::unexpected(position, text.len())),
     }
 }

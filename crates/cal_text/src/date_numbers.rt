@@ -1,8 +1,8 @@
 //! The numbers of a date in text.
 
-mod reading;
+mod parsing;
 
-pub(crate) use reading::form_of;
+pub(crate) use parsing::parse_numbers;
 
 /// The numbers of a date in text, by its form. They need not be in range.
 #[derive(Clone, Copy)]

@@ -1,8 +1,8 @@
 //! The error of a parser.
 ghost use Rattle.std.specs.Prelude.{◌≡◌, ◌<◌, ◌≤◌, None, Some};
 ghost use Rattle.cal_text.specs.ErrorText.{error_text};
-ghost use Rattle.cal_text.specs.Reading.{component_of};
-ghost use Rattle.cal_text.specs.declared.error.Unreadable.TheVariants.{UnexpectedByte, UnexpectedEnd};
+ghost use Rattle.cal_text.specs.Parsing.{component_of};
+ghost use Rattle.cal_text.specs.declared.error.ParseError.TheVariants.{UnexpectedByte, UnexpectedEnd};
 
 use cal_time::error::ComponentRange;
 use std::fmt;
@@ -10,7 +10,7 @@ use std::fmt;
 /// An error: a text has the wrong form, or a component is out of range. It prints
 /// `unexpected byte at 4`, `unexpected end at 9` or, for example, `day was not in range`.
 #[derive(Clone, Copy, Debug, PartialEq, Eq)]
-pub enum Unreadable {
+pub enum ParseError {
     /// The position, from 0, of the first byte that no text of the form has there.
     UnexpectedByte(usize),
     /// The length of a text that ends too early: more bytes could complete it.
@@ -19,31 +19,31 @@ pub enum Unreadable {
     OutOfRange(ComponentRange),
 }
 
-impl Unreadable {
+impl ParseError {
     /// Creates the error of a text of `len` bytes that stops matching a form at `position`, which
     /// is `len` or less. `at(4, 4)` is `UnexpectedEnd(4)`, and `at(4, 5)` is `UnexpectedByte(4)`.
-    pub fn at(position: usize, len: usize) -> Self
+    pub fn unexpected(position: usize, len: usize) -> Self
         requires { position ≤ len }
         ensures byte { position < len → result ≡ UnexpectedByte position }
         ensures end { position ≡ len → result ≡ UnexpectedEnd len }
         ensures form { component_of result ≡ None }
     {
         if position < len {
-            Unreadable::UnexpectedByte(position)
+            ParseError::UnexpectedByte(position)
         } else {
-            Unreadable::UnexpectedEnd(len)
+            ParseError::UnexpectedEnd(len)
         }
     }
 }
 
-impl fmt::Display for Unreadable {
+impl fmt::Display for ParseError {
     ghost output = { λ e. Some (error_text e) };
 
     fn fmt<W: fmt::Write>(&self, f: &mut fmt::Formatter<W>) -> fmt::Result {
         match self {
-            Unreadable::UnexpectedByte(position) => write!(f, "unexpected byte at {position}"),
-            Unreadable::UnexpectedEnd(position) => write!(f, "unexpected end at {position}"),
-            Unreadable::OutOfRange(error) => write!(f, "{error}"),
+            ParseError::UnexpectedByte(position) => write!(f, "unexpected byte at {position}"),
+            ParseError::UnexpectedEnd(position) => write!(f, "unexpected end at {position}"),
+            ParseError::OutOfRange(error) => write!(f, "{error}"),
         }
     }
 }

@@ -2,7 +2,7 @@
 ghost use Rattle.std.specs.Prelude.{◌≡◌, ◌+◌, ◌*◌, IfSome, ◌<◌, ◌≤◌, ◌++◌, length};
 ghost use Rattle.cal_time.specs.ShortText.{HasRoom};
 ghost use Rattle.cal_text.specs.Rfc3339.{fraction_text};
-ghost use Rattle.cal_text.specs.Shape.{Shape, left, Scans, ReadsDecimals, ReadsSomeDecimals, UpTo, SomeUpTo, Fraction};
+ghost use Rattle.cal_text.specs.Shape.{Shape, unmatched_bytes, Scans, ParsesDecimals, ParsesPositiveDecimals, UpTo, SomeUpTo, Fraction};
 ghost use Rattle.cal_text.specs.Rfc3339Form.{HasFractionBefore};
 
 use crate::scanner::Scanner;
@@ -12,9 +12,9 @@ use cal_time::ShortText;
 #[tactic(auto, using(cal_time::proofs::TextLengths::text_lengths))]
 pub(crate) fn push_fraction(text: &mut ShortText, nanosecond: u32)
     requires room { HasRoom 10 text.old }
-    requires below { nanosecond < 1_000_000_000 }
+    requires range { nanosecond < 1_000_000_000 }
     ensures appended { text.new ≡ text.old ++ fraction_text nanosecond }
-    ensures short { length text.new ≤ length text.old + 10 }
+    ensures max_length { length text.new ≤ length text.old + 10 }
 {
     if nanosecond == 0 {
         return;
@@ -26,15 +26,15 @@ pub(crate) fn push_fraction(text: &mut ShortText, nanosecond: u32)
 /// Parses a fraction of a second of up to `more + 1` digits, and returns its nanoseconds. Without a
 /// point it is 0. Digits after the ninth are ignored.
 #[inline(always)]
-pub(crate) fn fraction(scanner: &mut Scanner, more: usize) -> Option<u32>
+pub(crate) fn scan_fraction(scanner: &mut Scanner, more: usize) -> Option<u32>
     ensures scans { Scans (Fraction more) scanner.old.rest.now scanner.new.rest.now result }
-    ensures fraction { IfSome result
+    ensures value { IfSome result
         (HasFractionBefore scanner.new.rest.now more scanner.old.rest.now) }
 {
     match scanner.byte(b'.') {
         Some(()) => {
             let first = scanner.digit()?;
-            Some(more_decimals(scanner, first * 100_000_000, 10_000_000, more))
+            Some(scan_more_decimals(scanner, first * 100_000_000, 10_000_000, more))
         }
         None => Some(0),
     }
@@ -42,34 +42,34 @@ pub(crate) fn fraction(scanner: &mut Scanner, more: usize) -> Option<u32>
 
 /// Parses up to `more + 1` digits of a fraction that are not all 0, and returns their nanoseconds.
 /// The first digit counts `unit` nanoseconds.
-pub(crate) fn decimals_above_0(scanner: &mut Scanner, unit: u32, more: usize) -> Option<u32>
+pub(crate) fn scan_positive_decimals(scanner: &mut Scanner, unit: u32, more: usize) -> Option<u32>
     requires { unit ≤ 100_000_000 }
     ensures scans { Scans (SomeUpTo more) scanner.old.rest.now scanner.new.rest.now result }
-    ensures digits { IfSome result (ReadsSomeDecimals scanner.old.rest.now scanner.new.rest.now more
+    ensures value { IfSome result (ParsesPositiveDecimals scanner.old.rest.now scanner.new.rest.now more
         unit) }
 {
     match scanner.digit_from_1() {
         Some(first) => {
             let nanosecond = first * unit;
-            Some(more_decimals(scanner, nanosecond, unit / 10, more))
+            Some(scan_more_decimals(scanner, nanosecond, unit / 10, more))
         }
         None => {
             if more == 0 {
                 return None;
             }
             scanner.byte(b'0')?;
-            decimals_above_0(scanner, unit / 10, more - 1)
+            scan_positive_decimals(scanner, unit / 10, more - 1)
         }
     }
 }
 
 /// Parses up to `most` further digits of a fraction and adds them to `nanosecond`. The first digit
 /// counts `unit` nanoseconds, each later digit a tenth of the digit before it.
-fn more_decimals(scanner: &mut Scanner, nanosecond: u32, unit: u32, most: usize) -> u32
+fn scan_more_decimals(scanner: &mut Scanner, nanosecond: u32, unit: u32, most: usize) -> u32
     requires { nanosecond + 10 * unit ≤ 1_000_000_000 }
-    ensures scans { (f : Shape) → left (UpTo most f) scanner.old.rest.now
-        ≡ left f scanner.new.rest.now }
-    ensures digits { ReadsDecimals scanner.old.rest.now scanner.new.rest.now most unit nanosecond
+    ensures scans { (f : Shape) → unmatched_bytes (UpTo most f) scanner.old.rest.now
+        ≡ unmatched_bytes f scanner.new.rest.now }
+    ensures value { ParsesDecimals scanner.old.rest.now scanner.new.rest.now most unit nanosecond
         result }
 {
     let mut nanosecond = nanosecond;

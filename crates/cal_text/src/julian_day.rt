@@ -3,13 +3,13 @@ ghost use Rattle.std.specs.Prelude.{◌≡◌, ℕ, ℤ, ◌≤◌, ◌↔◌, l
 ghost use Rattle.std.specs.Fmt.{padded};
 ghost use Rattle.cal_time.specs.Date.{IsDate};
 ghost use Rattle.cal_time.specs.declared.error.ComponentRange.{ComponentRange};
-ghost use Rattle.cal_text.specs.JulianForm.{julian_text, IsJulianForm, IsJulianFault};
-ghost use Rattle.cal_text.specs.Position.{HasSome, IsAtStop};
-ghost use Rattle.cal_text.specs.Reading.{HasFault, IsRefusedFor, IsRefusedForForm};
+ghost use Rattle.cal_text.specs.JulianForm.{julian_text, IsJulianForm, IsJulianDayError};
+ghost use Rattle.cal_text.specs.Position.{HasSome, IsErrorAtStop};
+ghost use Rattle.cal_text.specs.Parsing.{HasError, FailsWithComponent, FailsWithSyntax};
 ghost use Rattle.cal_text.specs.Shape.{ScansWhole, julian_day};
 
-use crate::digits::number_above_0;
-use crate::error::Unreadable;
+use crate::digits::scan_positive_number;
+use crate::error::ParseError;
 use crate::scanner::Scanner;
 use cal_time::{Date, ShortText};
 use std::fmt;
@@ -22,12 +22,12 @@ impl JulianText {
     /// Returns the text, at most 12 bytes.
     #[tactic(auto, using(cal_time::proofs::TextLengths::text_lengths))]
     pub fn text(self) -> ShortText
-        ensures text { result ≡ julian_text self.0 }
-        ensures short { length result ≤ 12 }
+        ensures value { result ≡ julian_text self.0 }
+        ensures max_length { length result ≤ 12 }
     {
         let mut text = ShortText::new();
         text.push("J");
-        text.push_signed(self.0.to_julian_day());
+        text.push_i32(self.0.to_julian_day());
         text
     }
 }
@@ -48,36 +48,36 @@ impl fmt::Display for JulianText {
 ///
 /// Returns `UnexpectedByte` or `UnexpectedEnd` for any other form, and the error `julian_day` if a
 /// number of at most nine digits is out of range.
-pub fn read(text: &[u8]) -> Result<Date, Unreadable>
+pub fn parse(text: &[u8]) -> Result<Date, ParseError>
     ensures every { (n : ℕ) → IsDate n → text.now ≡ julian_text n → result ≡ Ok n }
-    ensures has { IfOk result (λ n. IsDate n × (text.now ≡ julian_text n)) }
-    ensures form { IsRefusedForForm result ↔ ((j : ℤ) → ¬ IsJulianForm text.now j) }
-    ensures position { IfErr result (IsAtStop (HasSome IsJulianForm) text.now) }
-    ensures component { (why : ComponentRange)
-        → IsRefusedFor why result ↔ HasFault IsJulianForm IsJulianFault text.now why }
+    ensures value { IfOk result (λ n. IsDate n × (text.now ≡ julian_text n)) }
+    ensures syntax_error { FailsWithSyntax result ↔ ((j : ℤ) → ¬ IsJulianForm text.now j) }
+    ensures position { IfErr result (IsErrorAtStop (HasSome IsJulianForm) text.now) }
+    ensures out_of_range { (why : ComponentRange)
+        → FailsWithComponent why result ↔ HasError IsJulianForm IsJulianDayError text.now why }
 {
     let mut scanner = Scanner { rest: text };
-    match julian_day(&mut scanner) {
+    match scan_julian_day(&mut scanner) {
         Some(julian_day) => match Date::from_julian_day(julian_day) {
             Ok(date) => Ok(date),
-            Err(error) => Err(Unreadable::OutOfRange(error)),
+            Err(error) => Err(ParseError::OutOfRange(error)),
         },
         None => {
             let position = text.len() - scanner.rest.len();
-            Err(Unreadable::at(position, text.len()))
+            Err(ParseError::unexpected(position, text.len()))
         }
     }
 }
 
 /// Parses the letter J, a number of at most nine digits and the end of the text.
-fn julian_day(scanner: &mut Scanner) -> Option<i32>
+fn scan_julian_day(scanner: &mut Scanner) -> Option<i32>
     ensures scans { ScansWhole julian_day scanner.old.rest.now scanner.new.rest.now result }
-    ensures has { IfSome result (IsJulianForm scanner.old.rest.now) }
+    ensures value { IfSome result (IsJulianForm scanner.old.rest.now) }
 {
     scanner.byte(b'J')?;
     match scanner.byte(b'-') {
         Some(()) => {
-            let number = number_above_0(scanner, 8)?;
+            let number = scan_positive_number(scanner, 8)?;
             scanner.end()?;
             Some(-(number as i32))
         }
@@ -87,7 +87,7 @@ fn julian_day(scanner: &mut Scanner) -> Option<i32>
                 Some(0)
             }
             None => {
-                let number = number_above_0(scanner, 8)?;
+                let number = scan_positive_number(scanner, 8)?;
                 scanner.end()?;
                 Some(number as i32)
             }

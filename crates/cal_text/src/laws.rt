@@ -1,15 +1,15 @@
 //! Consequences of the parsers: a text has at most one date, one form and one moment.
 ghost use Rattle.std.specs.Prelude.{◌≡◌};
-ghost use Rattle.cal_datetime.specs.OffsetDateTime.{Shown};
+ghost use Rattle.cal_datetime.specs.OffsetDateTime.{LocalAndOffset};
 ghost use Rattle.cal_text.specs.declared.date_numbers.DateNumbers.{DateNumbers};
 ghost use Rattle.cal_text.specs.declared.any.DateOrMoment.{DateOrMoment};
 ghost use Rattle.cal_text.specs.AnyForm.{IsTextOf};
 ghost use Rattle.cal_text.specs.DateForms.{HasForm};
 ghost use Rattle.cal_text.specs.Rfc3339Form.{IsMomentText};
 
-use crate::any::{DateOrMoment, read_any};
-use crate::date_numbers::{DateNumbers, form_of};
-use crate::error::Unreadable;
+use crate::any::{DateOrMoment, parse_any};
+use crate::date_numbers::{DateNumbers, parse_numbers};
+use crate::error::ParseError;
 use crate::rfc3339;
 use cal_datetime::OffsetDateTime;
 
@@ -18,19 +18,19 @@ use cal_datetime::OffsetDateTime;
 pub(crate) fn one_form(text: &[u8]) -> Result<DateNumbers, usize>
     ensures { (f g : DateNumbers) → HasForm text.now f → HasForm text.now g → f ≡ g }
 {
-    form_of(text)
+    parse_numbers(text)
 }
 
 /// Parses a date or a moment. A text has at most one of the six forms, and one date or moment.
-pub(crate) fn one_reading(text: &[u8]) -> Result<DateOrMoment, Unreadable>
+pub(crate) fn one_reading(text: &[u8]) -> Result<DateOrMoment, ParseError>
     ensures { (a b : DateOrMoment) → IsTextOf text.now a → IsTextOf text.now b → a ≡ b }
 {
-    read_any(text)
+    parse_any(text)
 }
 
 /// Parses a moment. No two moments have the same text.
-pub(crate) fn one_moment(text: &[u8]) -> Result<OffsetDateTime, Unreadable>
-    ensures { (m n : Shown) → IsMomentText text.now m → IsMomentText text.now n → m ≡ n }
+pub(crate) fn one_moment(text: &[u8]) -> Result<OffsetDateTime, ParseError>
+    ensures { (m n : LocalAndOffset) → IsMomentText text.now m → IsMomentText text.now n → m ≡ n }
 {
-    rfc3339::read(text)
+    rfc3339::parse(text)
 }

@@ -16,5 +16,5 @@ mod scanner;
 pub mod unix;
 mod year;
 
-pub use any::{DateForm, DateOrMoment, MomentForm, read_any};
-pub use error::Unreadable;
+pub use any::{DateForm, DateOrMoment, MomentForm, parse_any};
+pub use error::ParseError;

@@ -1,21 +1,21 @@
 //! Moments of RFC 3339.
 ghost use Rattle.std.specs.Prelude.{◌≡◌, ◌↔◌, IfOk, IfErr, Ok};
 ghost use Rattle.cal_time.specs.declared.error.ComponentRange.{ComponentRange};
-ghost use Rattle.cal_datetime.specs.OffsetDateTime.{Shown};
+ghost use Rattle.cal_datetime.specs.OffsetDateTime.{LocalAndOffset};
 ghost use Rattle.cal_text.specs.declared.rfc3339.numbers.Numbers.{Numbers};
-ghost use Rattle.cal_text.specs.Position.{HasSome, IsAtStop};
-ghost use Rattle.cal_text.specs.Reading.{HasFault, IsRefusedFor, IsRefusedForForm};
-ghost use Rattle.cal_text.specs.Rfc3339Form.{HasMomentForm, IsMomentFault, IsMomentText};
+ghost use Rattle.cal_text.specs.Position.{HasSome, IsErrorAtStop};
+ghost use Rattle.cal_text.specs.Parsing.{HasError, FailsWithComponent, FailsWithSyntax};
+ghost use Rattle.cal_text.specs.Rfc3339Form.{HasMomentForm, IsMomentError, IsMomentText};
 
-use crate::error::Unreadable;
-use crate::rfc3339::form::numbers_of;
-use crate::rfc3339::of_numbers::moment_of;
+use crate::error::ParseError;
+use crate::rfc3339::form::scan_numbers;
+use crate::rfc3339::from_numbers::moment_from_numbers;
 use crate::scanner::Scanner;
 use cal_datetime::OffsetDateTime;
 
 mod form;
 mod numbers;
-mod of_numbers;
+mod from_numbers;
 mod text;
 
 pub(crate) use form::is_separator;
@@ -30,26 +30,26 @@ pub use text::Text;
 /// Returns `UnexpectedByte` or `UnexpectedEnd` for any other form. Otherwise returns `OutOfRange`
 /// with the first component out of range: `month`, `day`, `hour`, `minute`, `second` (also 60,
 /// because there are no leap seconds), `offset hour` above 23, or `offset minute`.
-pub fn read(text: &[u8]) -> Result<OffsetDateTime, Unreadable>
-    ensures every { (m : Shown) → IsMomentText text.now m → result ≡ Ok m }
-    ensures has { IfOk result (IsMomentText text.now) }
+pub fn parse(text: &[u8]) -> Result<OffsetDateTime, ParseError>
+    ensures every { (m : LocalAndOffset) → IsMomentText text.now m → result ≡ Ok m }
+    ensures value { IfOk result (IsMomentText text.now) }
 
     // The error is about the form exactly if the text doesn't have it, else about the first
     // component out of range.
-    ensures form { IsRefusedForForm result ↔ ((m : Numbers) → ¬ HasMomentForm text.now m) }
-    ensures position { IfErr result (IsAtStop (HasSome HasMomentForm) text.now) }
-    ensures component { (why : ComponentRange)
-        → IsRefusedFor why result ↔ HasFault HasMomentForm IsMomentFault text.now why }
+    ensures syntax_error { FailsWithSyntax result ↔ ((m : Numbers) → ¬ HasMomentForm text.now m) }
+    ensures position { IfErr result (IsErrorAtStop (HasSome HasMomentForm) text.now) }
+    ensures out_of_range { (why : ComponentRange)
+        → FailsWithComponent why result ↔ HasError HasMomentForm IsMomentError text.now why }
 {
     let mut scanner = Scanner { rest: text };
-    match numbers_of(&mut scanner) {
-        Some(numbers) => match moment_of(numbers) {
+    match scan_numbers(&mut scanner) {
+        Some(numbers) => match moment_from_numbers(numbers) {
             Ok(moment) => Ok(moment),
-            Err(error) => Err(Unreadable::OutOfRange(error)),
+            Err(error) => Err(ParseError::OutOfRange(error)),
         },
         None => {
             let position = text.len() - scanner.rest.len();
-            Err(Unreadable::at(position, text.len()))
+            Err(ParseError::unexpected(position, text.len()))
         }
     }
 }

@@ -2,9 +2,9 @@
 ghost use Rattle.std.specs.Prelude.{◌≡◌, ◌+◌, ◌<◌, ◌≤◌, ◌∷◌, ◌++◌, [], IfSome, IfNone};
 ghost use Rattle.cal_time.specs.DateText.{digits_at_least};
 ghost use Rattle.cal_text.specs.Rfc3339Form.{sign_byte};
-ghost use Rattle.cal_text.specs.Shape.{Scans, Branches, ScansWhole, ReadsDigits, Done, From, Byte, Digits, Sign, TwoNumbers};
+ghost use Rattle.cal_text.specs.Shape.{Scans, Branches, ScansWhole, ParsesDigits, End, ByteRange, Byte, Digits, Sign, TwoNumbers};
 
-use crate::digits::number_of_two;
+use crate::digits::two_digit_value;
 
 /// The rest of a text. A call that returns `None` leaves it at the wrong byte, or at the end.
 #[derive(Drop)]
@@ -17,11 +17,11 @@ impl Scanner<'_> {
     #[inline(always)]
     pub(crate) fn byte_from(&mut self, low: u8, above: u8) -> Option<u8>
         requires { low + above < 256 }
-        ensures scans { Scans (From low above) self.old.rest.now self.new.rest.now result }
+        ensures scans { Scans (ByteRange low above) self.old.rest.now self.new.rest.now result }
         ensures branches { Branches low above self.old.rest.now self.new.rest.now result }
-        ensures byte { IfSome result (λ b.
+        ensures value { IfSome result (λ b.
             (low ≤ b) × (b ≤ low + above) × (self.old.rest.now ≡ b ∷ self.new.rest.now)) }
-        ensures kept { IfNone result (self.new.rest.now ≡ self.old.rest.now) }
+        ensures unchanged { IfNone result (self.new.rest.now ≡ self.old.rest.now) }
     {
         let (first, others) = self.rest.split_first()?;
         if *first < low || *first > low + above {
@@ -35,8 +35,8 @@ impl Scanner<'_> {
     pub(crate) fn byte(&mut self, byte: u8) -> Option<()>
         ensures scans { Scans (Byte byte) self.old.rest.now self.new.rest.now result }
         ensures branches { Branches byte 0 self.old.rest.now self.new.rest.now result }
-        ensures byte { IfSome result (λ _. self.old.rest.now ≡ byte ∷ self.new.rest.now) }
-        ensures kept { IfNone result (self.new.rest.now ≡ self.old.rest.now) }
+        ensures value { IfSome result (λ _. self.old.rest.now ≡ byte ∷ self.new.rest.now) }
+        ensures unchanged { IfNone result (self.new.rest.now ≡ self.old.rest.now) }
     {
         self.byte_from(byte, 0)?;
         Some(())
@@ -45,11 +45,11 @@ impl Scanner<'_> {
     /// Parses a digit from 1 to 9.
     #[inline(always)]
     pub(crate) fn digit_from_1(&mut self) -> Option<u32>
-        ensures scans { Scans (From 49 8) self.old.rest.now self.new.rest.now result }
+        ensures scans { Scans (ByteRange 49 8) self.old.rest.now self.new.rest.now result }
         ensures branches { Branches 49 8 self.old.rest.now self.new.rest.now result }
-        ensures digit { IfSome result (λ d.
+        ensures value { IfSome result (λ d.
             (1 ≤ d) × (d < 10) × (self.old.rest.now ≡ (48 + d) ∷ self.new.rest.now)) }
-        ensures kept { IfNone result (self.new.rest.now ≡ self.old.rest.now) }
+        ensures unchanged { IfNone result (self.new.rest.now ≡ self.old.rest.now) }
     {
         let byte = self.byte_from(b'1', 8)?;
         Some(u32::from(byte - b'0'))
@@ -59,9 +59,9 @@ impl Scanner<'_> {
     pub(crate) fn digit(&mut self) -> Option<u32>
         ensures scans { Scans (Digits 1) self.old.rest.now self.new.rest.now result }
         ensures branches { Branches 48 9 self.old.rest.now self.new.rest.now result }
-        ensures digit { IfSome result (λ d.
+        ensures value { IfSome result (λ d.
             (d < 10) × (self.old.rest.now ≡ (48 + d) ∷ self.new.rest.now)) }
-        ensures kept { IfNone result (self.new.rest.now ≡ self.old.rest.now) }
+        ensures unchanged { IfNone result (self.new.rest.now ≡ self.old.rest.now) }
     {
         let byte = self.byte_from(b'0', 9)?;
         Some(u32::from(byte - b'0'))
@@ -71,7 +71,7 @@ impl Scanner<'_> {
     #[inline(always)]
     pub(crate) fn sign(&mut self) -> Option<bool>
         ensures scans { Scans Sign self.old.rest.now self.new.rest.now result }
-        ensures byte { IfSome result (λ is_minus.
+        ensures value { IfSome result (λ is_minus.
             self.old.rest.now ≡ sign_byte is_minus ∷ self.new.rest.now) }
     {
         let (first, others) = self.rest.split_first()?;
@@ -86,11 +86,11 @@ impl Scanner<'_> {
     #[inline(always)]
     pub(crate) fn two_digits(&mut self) -> Option<u32>
         ensures scans { Scans (Digits 2) self.old.rest.now self.new.rest.now result }
-        ensures number { IfSome result (λ n. ReadsDigits self.old.rest.now self.new.rest.now 2 n) }
-        ensures below { IfSome result (λ n. n < 100) }
+        ensures value { IfSome result (λ n. ParsesDigits self.old.rest.now self.new.rest.now 2 n) }
+        ensures range { IfSome result (λ n. n < 100) }
     {
         if let [tens, ones, others @ ..] = self.rest
-            && let Some(number) = number_of_two(*tens, *ones)
+            && let Some(number) = two_digit_value(*tens, *ones)
         {
             self.rest = others;
             return Some(number);
@@ -103,8 +103,8 @@ impl Scanner<'_> {
     #[inline(always)]
     pub(crate) fn three_digits(&mut self) -> Option<u32>
         ensures scans { Scans (Digits 3) self.old.rest.now self.new.rest.now result }
-        ensures number { IfSome result (λ n. ReadsDigits self.old.rest.now self.new.rest.now 3 n) }
-        ensures below { IfSome result (λ n. n < 1000) }
+        ensures value { IfSome result (λ n. ParsesDigits self.old.rest.now self.new.rest.now 3 n) }
+        ensures range { IfSome result (λ n. n < 1000) }
     {
         let tens = self.two_digits()?;
         let ones = self.digit()?;
@@ -114,8 +114,8 @@ impl Scanner<'_> {
     #[inline(always)]
     pub(crate) fn four_digits(&mut self) -> Option<u32>
         ensures scans { Scans (Digits 4) self.old.rest.now self.new.rest.now result }
-        ensures number { IfSome result (λ n. ReadsDigits self.old.rest.now self.new.rest.now 4 n) }
-        ensures below { IfSome result (λ n. n < 10000) }
+        ensures value { IfSome result (λ n. ParsesDigits self.old.rest.now self.new.rest.now 4 n) }
+        ensures range { IfSome result (λ n. n < 10000) }
     {
         let front = self.two_digits()?;
         let back = self.two_digits()?;
@@ -126,7 +126,7 @@ impl Scanner<'_> {
     #[inline(always)]
     pub(crate) fn two_numbers(&mut self, byte: u8) -> Option<(u8, u8)>
         ensures scans { Scans (TwoNumbers byte) self.old.rest.now self.new.rest.now result }
-        ensures numbers { IfSome result (λ found. (found.0 < 100) × (found.1 < 100)
+        ensures value { IfSome result (λ found. (found.0 < 100) × (found.1 < 100)
             × (self.old.rest.now ≡ byte
             ∷ (digits_at_least 2 found.0 ++ byte
             ∷ (digits_at_least 2 found.1 ++ self.new.rest.now)))) }
@@ -141,9 +141,9 @@ impl Scanner<'_> {
     /// Returns `Some(())` at the end of the text.
     #[inline(always)]
     pub(crate) fn end(&mut self) -> Option<()>
-        ensures scans { ScansWhole Done self.old.rest.now self.new.rest.now result }
-        ensures empty { IfSome result (λ _. self.old.rest.now ≡ []) }
-        ensures kept { self.new.rest.now ≡ self.old.rest.now }
+        ensures scans { ScansWhole End self.old.rest.now self.new.rest.now result }
+        ensures value { IfSome result (λ _. self.old.rest.now ≡ []) }
+        ensures unchanged { self.new.rest.now ≡ self.old.rest.now }
     {
         match self.rest {
             [] => Some(()),

@@ -1,17 +1,17 @@
 //! Moments as Unix times.
 ghost use Rattle.std.specs.Prelude.{◌≡◌, ℤ, ◌↔◌, IfOk, IfErr, Ok};
 ghost use Rattle.cal_time.specs.declared.error.ComponentRange.{ComponentRange};
-ghost use Rattle.cal_datetime.specs.OffsetDateTime.{Shown};
-ghost use Rattle.cal_text.specs.Position.{HasSome, IsAtStop};
-ghost use Rattle.cal_text.specs.Reading.{HasFault, IsRefusedFor, IsRefusedForForm};
-ghost use Rattle.cal_text.specs.UnixText.{HasUnixForm, IsUnixText, IsUnixFault};
+ghost use Rattle.cal_datetime.specs.OffsetDateTime.{LocalAndOffset};
+ghost use Rattle.cal_text.specs.Position.{HasSome, IsErrorAtStop};
+ghost use Rattle.cal_text.specs.Parsing.{HasError, FailsWithComponent, FailsWithSyntax};
+ghost use Rattle.cal_text.specs.UnixText.{HasUnixForm, IsUnixText, IsUnixTimeError};
 
-use crate::error::Unreadable;
+use crate::error::ParseError;
 use crate::scanner::Scanner;
-use crate::unix::reading::unix_time;
+use crate::unix::parsing::scan_unix_time;
 use cal_datetime::OffsetDateTime;
 
-mod reading;
+mod parsing;
 mod text;
 
 pub use text::Text;
@@ -24,23 +24,23 @@ pub use text::Text;
 ///
 /// Returns `UnexpectedByte` or `UnexpectedEnd` for any other form, and the error `timestamp` if no
 /// moment at UTC has this time.
-pub fn read(text: &[u8]) -> Result<OffsetDateTime, Unreadable>
-    ensures every { (m : Shown) → IsUnixText text.now m → result ≡ Ok m }
-    ensures has { IfOk result (IsUnixText text.now) }
-    ensures form { IsRefusedForForm result ↔ ((v : ℤ) → ¬ HasUnixForm text.now v) }
-    ensures position { IfErr result (IsAtStop (HasSome HasUnixForm) text.now) }
-    ensures component { (why : ComponentRange)
-        → IsRefusedFor why result ↔ HasFault HasUnixForm IsUnixFault text.now why }
+pub fn parse(text: &[u8]) -> Result<OffsetDateTime, ParseError>
+    ensures every { (m : LocalAndOffset) → IsUnixText text.now m → result ≡ Ok m }
+    ensures value { IfOk result (IsUnixText text.now) }
+    ensures syntax_error { FailsWithSyntax result ↔ ((v : ℤ) → ¬ HasUnixForm text.now v) }
+    ensures position { IfErr result (IsErrorAtStop (HasSome HasUnixForm) text.now) }
+    ensures out_of_range { (why : ComponentRange)
+        → FailsWithComponent why result ↔ HasError HasUnixForm IsUnixTimeError text.now why }
 {
     let mut scanner = Scanner { rest: text };
-    match unix_time(&mut scanner) {
+    match scan_unix_time(&mut scanner) {
         Some(nanoseconds) => match OffsetDateTime::from_unix_timestamp_nanos(nanoseconds) {
             Ok(moment) => Ok(moment),
-            Err(error) => Err(Unreadable::OutOfRange(error)),
+            Err(error) => Err(ParseError::OutOfRange(error)),
         },
         None => {
             let position = text.len() - scanner.rest.len();
-            Err(Unreadable::at(position, text.len()))
+            Err(ParseError::unexpected(position, text.len()))
         }
     }
 }

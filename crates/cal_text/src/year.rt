@@ -1,25 +1,25 @@
 //! The year of a date in text.
 ghost use Rattle.std.specs.Prelude.{◌≡◌, ℕ, ◌+◌, ◌*◌, ◌<◌, ◌≤◌, ◌^◌, ◌∷◌, ◌++◌, IfSome};
 ghost use Rattle.cal_time.specs.DateText.{digits_at_least};
-ghost use Rattle.cal_text.specs.DateForms.{year_text, IsWrittenYear};
-ghost use Rattle.cal_text.specs.Shape.{Scans, ReadsDigits, Digits, SomeDigits, ZeroAndThree, Above, Below, Year};
+ghost use Rattle.cal_text.specs.DateForms.{year_text, IsPrintableYear};
+ghost use Rattle.cal_text.specs.Shape.{Scans, ParsesDigits, Digits, SomeDigits, ZeroAndThree, YearAfterPlus, YearAfterMinus, Year};
 
-use crate::digits::more_digits;
+use crate::digits::scan_more_digits;
 use crate::scanner::Scanner;
 
 /// Parses a year and the hyphen after it.
-pub(crate) fn year(scanner: &mut Scanner) -> Option<i32>
+pub(crate) fn scan_year(scanner: &mut Scanner) -> Option<i32>
     ensures scans { Scans Year scanner.old.rest.now scanner.new.rest.now result }
-    ensures year { IfSome result (λ y.
-        IsWrittenYear y × (scanner.old.rest.now ≡ year_text y ++ 45 ∷ scanner.new.rest.now)) }
+    ensures value { IfSome result (λ y.
+        IsPrintableYear y × (scanner.old.rest.now ≡ year_text y ++ 45 ∷ scanner.new.rest.now)) }
 {
     if let Some(()) = scanner.byte(b'+') {
-        let number = above_9999(scanner)?;
+        let number = scan_year_above_9999(scanner)?;
         return Some(number as i32);
     }
     match scanner.byte(b'-') {
         Some(()) => {
-            let number = above_0(scanner)?;
+            let number = scan_positive_year(scanner)?;
             Some(-(number as i32))
         }
         None => {
@@ -31,33 +31,33 @@ pub(crate) fn year(scanner: &mut Scanner) -> Option<i32>
 }
 
 /// Parses a number of five to nine digits without leading zeros, and the hyphen after it.
-fn above_9999(scanner: &mut Scanner) -> Option<u32>
-    ensures scans { Scans Above scanner.old.rest.now scanner.new.rest.now result }
-    ensures number { IfSome result (λ n. (9999 < n) × (n < 10 ^ 9)
+fn scan_year_above_9999(scanner: &mut Scanner) -> Option<u32>
+    ensures scans { Scans YearAfterPlus scanner.old.rest.now scanner.new.rest.now result }
+    ensures value { IfSome result (λ n. (9999 < n) × (n < 10 ^ 9)
         × (scanner.old.rest.now ≡ digits_at_least 4 n ++ 45 ∷ scanner.new.rest.now)) }
 {
     let first = scanner.digit_from_1()?;
     let four = scanner.four_digits()?;
-    let number = more_digits(scanner, u64::from(first * 10_000 + four), 4);
+    let number = scan_more_digits(scanner, u64::from(first * 10_000 + four), 4);
     scanner.byte(b'-')?;
     Some(number as u32)
 }
 
-/// Parses a number above 0 of four digits, or like `above_9999`, and the hyphen after it.
-fn above_0(scanner: &mut Scanner) -> Option<u32>
-    ensures scans { Scans Below scanner.old.rest.now scanner.new.rest.now result }
-    ensures number { IfSome result (λ n. (0 < n) × (n < 10 ^ 9)
+/// Parses a number above 0 of four digits, or like `scan_year_above_9999`, and the hyphen after it.
+fn scan_positive_year(scanner: &mut Scanner) -> Option<u32>
+    ensures scans { Scans YearAfterMinus scanner.old.rest.now scanner.new.rest.now result }
+    ensures value { IfSome result (λ n. (0 < n) × (n < 10 ^ 9)
         × (scanner.old.rest.now ≡ digits_at_least 4 n ++ 45 ∷ scanner.new.rest.now)) }
 {
     match scanner.digit_from_1() {
         Some(first) => {
             let three = scanner.three_digits()?;
-            let number = more_digits(scanner, u64::from(first * 1000 + three), 5);
+            let number = scan_more_digits(scanner, u64::from(first * 1000 + three), 5);
             scanner.byte(b'-')?;
             Some(number as u32)
         }
         None => {
-            let number = zero_and_three(scanner)?;
+            let number = scan_zero_and_three(scanner)?;
             scanner.byte(b'-')?;
             Some(number)
         }
@@ -65,22 +65,22 @@ fn above_0(scanner: &mut Scanner) -> Option<u32>
 }
 
 /// Parses a zero and three digits that are not all 0.
-fn zero_and_three(scanner: &mut Scanner) -> Option<u32>
+fn scan_zero_and_three(scanner: &mut Scanner) -> Option<u32>
     ensures scans { Scans ZeroAndThree scanner.old.rest.now scanner.new.rest.now result }
-    ensures number { IfSome result (λ n.
-        ReadsDigits scanner.old.rest.now scanner.new.rest.now 4 n) }
+    ensures value { IfSome result (λ n.
+        ParsesDigits scanner.old.rest.now scanner.new.rest.now 4 n) }
     ensures range { IfSome result (λ n. (0 < n) × (n < 1000)) }
 {
     scanner.byte(b'0')?;
-    let number = some_of_three(scanner)?;
+    let number = scan_some_of_three(scanner)?;
     Some(number)
 }
 
 /// Parses three digits that are not all 0.
-fn some_of_three(scanner: &mut Scanner) -> Option<u32>
+fn scan_some_of_three(scanner: &mut Scanner) -> Option<u32>
     ensures scans { Scans (SomeDigits 2) scanner.old.rest.now scanner.new.rest.now result }
-    ensures number { IfSome result (λ n.
-        ReadsDigits scanner.old.rest.now scanner.new.rest.now 3 n) }
+    ensures value { IfSome result (λ n.
+        ParsesDigits scanner.old.rest.now scanner.new.rest.now 3 n) }
     ensures range { IfSome result (λ n. (0 < n) × (n < 1000)) }
 {
     match scanner.digit_from_1() {
@@ -91,17 +91,17 @@ fn some_of_three(scanner: &mut Scanner) -> Option<u32>
         }
         None => {
             scanner.byte(b'0')?;
-            let others = some_of_two(scanner)?;
+            let others = scan_some_of_two(scanner)?;
             Some(others)
         }
     }
 }
 
 /// Parses two digits that are not both 0.
-fn some_of_two(scanner: &mut Scanner) -> Option<u32>
+fn scan_some_of_two(scanner: &mut Scanner) -> Option<u32>
     ensures scans { Scans (SomeDigits 1) scanner.old.rest.now scanner.new.rest.now result }
-    ensures number { IfSome result (λ n.
-        ReadsDigits scanner.old.rest.now scanner.new.rest.now 2 n) }
+    ensures value { IfSome result (λ n.
+        ParsesDigits scanner.old.rest.now scanner.new.rest.now 2 n) }
     ensures range { IfSome result (λ n. (0 < n) × (n < 100)) }
 {
     match scanner.digit_from_1() {

@@ -1,9 +1,9 @@
 //! Texts and their dates, from outside.
 use cal_datetime::OffsetDateTime;
-use cal_text::Unreadable::{UnexpectedByte, UnexpectedEnd};
-use cal_text::date::{CalendarText, OrdinalText, WeekText, read};
+use cal_text::ParseError::{UnexpectedByte, UnexpectedEnd};
+use cal_text::date::{CalendarText, OrdinalText, WeekText, parse};
 use cal_text::julian_day::JulianText;
-use cal_text::{Unreadable, julian_day};
+use cal_text::{ParseError, julian_day};
 use cal_time::{Date, Month, SignedDuration, Time, UtcOffset};
 use std::alloc::Global;
 use std::fmt::{Debug, Display};
@@ -22,8 +22,8 @@ fn same<T: Copy + Debug + PartialEq>(rt: &impl Abort, found: T, wanted: T) {
 
 /// A parsed moment in three parts, because moments at different offsets can be equal.
 fn parts_of(
-    found: Result<OffsetDateTime, Unreadable>,
-) -> Result<(Date, Time, UtcOffset), Unreadable> {
+    found: Result<OffsetDateTime, ParseError>,
+) -> Result<(Date, Time, UtcOffset), ParseError> {
     match found {
         Ok(moment) => Ok((moment.date(), moment.time(), moment.offset())),
         Err(error) => Err(error),
@@ -34,8 +34,8 @@ fn parts_of(
 fn reads<T: Copy + Debug + PartialEq, R: Copy + Debug>(
     rt: &impl Abort,
     row: R,
-    found: &Result<T, Unreadable>,
-    wanted: &Result<T, Unreadable>,
+    found: &Result<T, ParseError>,
+    wanted: &Result<T, ParseError>,
 ) {
     assert!(rt;
         *found == *wanted,
@@ -47,12 +47,12 @@ fn reads<T: Copy + Debug + PartialEq, R: Copy + Debug>(
 fn out_of_range<T: Copy + Debug>(
     rt: &impl Abort,
     text: &str,
-    found: &Result<T, Unreadable>,
+    found: &Result<T, ParseError>,
     name: &str,
     is_conditional: bool,
 ) {
     match found {
-        Err(Unreadable::OutOfRange(error)) => {
+        Err(ParseError::OutOfRange(error)) => {
             assert!(rt;
                 error.name() == name && error.is_conditional() == is_conditional,
                 "{text}: {error:?} and not {name} {is_conditional}"
@@ -102,7 +102,7 @@ fn dates_in_three_forms(rt: HostRuntime) -> Result<(), Fail> {
         let Ok(date) = Date::from_calendar_date(year, month, day) else {
             return Err(Fail::from("a date"));
         };
-        reads(&rt, text, &read(text.as_bytes()), &Ok(date));
+        reads(&rt, text, &parse(text.as_bytes()), &Ok(date));
     }
     Ok(())
 }
@@ -124,7 +124,7 @@ fn components_out_of_range(rt: HostRuntime) {
         ("2021-W00-1", "week", true),
         ("+999999-W52-6", "weekday", true),
     ] {
-        out_of_range(&rt, text, &read(text.as_bytes()), name, is_conditional);
+        out_of_range(&rt, text, &parse(text.as_bytes()), name, is_conditional);
     }
 }
 
@@ -160,7 +160,7 @@ fn texts_of_no_date(rt: HostRuntime) {
         ("2024-W09-8", UnexpectedByte(9)),
         ("2024-W09-41", UnexpectedByte(10)),
     ] {
-        reads(&rt, text, &read(text.as_bytes()), &Err(error));
+        reads(&rt, text, &parse(text.as_bytes()), &Err(error));
     }
 }
 
@@ -178,13 +178,13 @@ fn texts_of_errors(rt: HostRuntime) -> Result<(), Fail> {
         ("2021-W53-1", "week was not in range"),
         ("+999999-W52-6", "weekday was not in range"),
     ] {
-        let Err(refused) = read(text.as_bytes()) else {
+        let Err(refused) = parse(text.as_bytes()) else {
             return Err(Fail::from("a text that is read"));
         };
         prints(&rt, rt.alloc(), &refused, error)?;
     }
-    same(&rt, Unreadable::at(4, 5), UnexpectedByte(4));
-    same(&rt, Unreadable::at(5, 5), UnexpectedEnd(5));
+    same(&rt, ParseError::unexpected(4, 5), UnexpectedByte(4));
+    same(&rt, ParseError::unexpected(5, 5), UnexpectedEnd(5));
     prints(
         &rt,
         rt.alloc(),
@@ -266,7 +266,7 @@ fn days_printed_and_read(rt: HostRuntime) -> Result<(), Fail> {
                 format!(in rt.alloc(); "{}", OrdinalText(date))?,
                 format!(in rt.alloc(); "{}", WeekText(date))?,
             ] {
-                reads(&rt, day, &read(text.as_bytes()), &Ok(date));
+                reads(&rt, day, &parse(text.as_bytes()), &Ok(date));
             }
         }
     }
@@ -285,7 +285,7 @@ fn julian_days(rt: HostRuntime) -> Result<(), Fail> {
         let Ok(date) = Date::from_julian_day(number) else {
             return Err(Fail::from("a date"));
         };
-        reads(&rt, text, &julian_day::read(text.as_bytes()), &Ok(date));
+        reads(&rt, text, &julian_day::parse(text.as_bytes()), &Ok(date));
         prints(&rt, rt.alloc(), &JulianText(date), text)?;
         same(&rt, JulianText(date).text().as_str(), text);
     }
@@ -293,7 +293,7 @@ fn julian_days(rt: HostRuntime) -> Result<(), Fail> {
         out_of_range(
             &rt,
             text,
-            &julian_day::read(text.as_bytes()),
+            &julian_day::parse(text.as_bytes()),
             "julian_day",
             false,
         );
@@ -312,7 +312,7 @@ fn julian_days(rt: HostRuntime) -> Result<(), Fail> {
         ("J2460370.5", UnexpectedByte(8)),
         ("J2460370 ", UnexpectedByte(8)),
     ] {
-        reads(&rt, text, &julian_day::read(text.as_bytes()), &Err(error));
+        reads(&rt, text, &julian_day::parse(text.as_bytes()), &Err(error));
     }
     Ok(())
 }

@@ -8,29 +8,29 @@ use Rattle.std.specs.Prelude.{IfOk, IfErr, MatchOption, IsSomeAnd, ◌↔◌, �
 use Rattle.std.specs.List.{All}
 use Rattle.cal_units.specs.Counted.{IsExtent, IsFirstMaximum, IsFirstMinimum, IsItemBetween}
 use Rattle.cal_units.specs.declared.cycle.Cycle.{Ghosts}
-use Rattle.cal_units.specs.Refusal.{IsRefused}
+use Rattle.cal_units.specs.ComponentError.{FailsWith}
 use Rattle.cal_units.specs.declared.error.ComponentRange.{ComponentRange}
-use Rattle.cal_units.specs.Walk.{IsBack, Asked, at_end, stops, goes_on}
+use Rattle.cal_units.specs.CycleSteps.{IsBehind, ShortCircuits, at_end, stops, goes_on}
 use Rattle.cal_units.specs.declared.util.date_adjustment.DateAdjustment.{DateAdjustment}
 use Rattle.cal_span.specs.SignedDuration.{day}
 use Rattle.cal_clock.specs.Time.{carry}
 use Rattle.cal_date.specs.Date.{IsDate, julian_day_at}
-use Rattle.cal_time.specs.Pair.{HasPairNumber, PairAt}
+use Rattle.cal_time.specs.Pair.{HasPairNumber, IsPairWithNumber}
 use Rattle.cal_time.proofs.Pairs.{same_number}
 
 -- An error with a reason is the error of this reason.
-refused-err : {V : Type 0} (why : ComponentRange) (r : Result V ComponentRange) → IsRefused why r → r ≡ Err why
+refused-err : {V : Type 0} (why : ComponentRange) (r : Result V ComponentRange) → FailsWith why r → r ≡ Err why
 refused-err why (Ok v) h = absurd h
 refused-err why (Err e) h = ap Err h
 
 same_refusal : {V : Type 0} (why : ComponentRange) (Says : Type 0) (r s : Result V ComponentRange)
-    → (IsRefused why r ↔ Says) → (IsRefused why s ↔ Says) → IsRefused why s → r ≡ s
+    → (FailsWith why r ↔ Says) → (FailsWith why s ↔ Says) → FailsWith why s → r ≡ s
 same_refusal why Says r s h k refused = refused-err why r (h.1 (k.0 refused)) ∙ sym (refused-err why s refused)
 
 -- The day that was asked for, or one of two errors, each exactly as its clause says.
 pub of_two_refusals-one : (Has : ℕ → Type 0) (a b : ComponentRange) (A B : Type 0) (r s : Result ℕ ComponentRange)
     → ((n : ℕ) → IsDate n → Has n → r ≡ Ok n) → IfOk s (λ n. IsDate n × Has n) → IfErr s (λ e. (e ≡ a) ⊎ (e ≡ b))
-    → (IsRefused a r ↔ A) → (IsRefused a s ↔ A) → (IsRefused b r ↔ B) → (IsRefused b s ↔ B) → r ≡ s
+    → (FailsWith a r ↔ A) → (FailsWith a s ↔ A) → (FailsWith b r ↔ B) → (FailsWith b s ↔ B) → r ≡ s
 of_two_refusals-one Has a b A B r (Ok n) every has reason ra sa rb sb = every n has.0 has.1
 of_two_refusals-one Has a b A B r (Err e) every has reason ra sa rb sb =
     elim reason [
@@ -41,8 +41,8 @@ of_two_refusals-one Has a b A B r (Err e) every has reason ra sa rb sb =
 -- The same for three errors.
 pub of_three_refusals-one : (Has : ℕ → Type 0) (a b c : ComponentRange) (A B C : Type 0) (r s : Result ℕ ComponentRange)
     → ((n : ℕ) → IsDate n → Has n → r ≡ Ok n) → IfOk s (λ n. IsDate n × Has n) → IfErr s (λ e. (e ≡ a) ⊎ (e ≡ b) ⊎ (e ≡ c))
-    → (IsRefused a r ↔ A) → (IsRefused a s ↔ A) → (IsRefused b r ↔ B) → (IsRefused b s ↔ B)
-    → (IsRefused c r ↔ C) → (IsRefused c s ↔ C) → r ≡ s
+    → (FailsWith a r ↔ A) → (FailsWith a s ↔ A) → (FailsWith b r ↔ B) → (FailsWith b s ↔ B)
+    → (FailsWith c r ↔ C) → (FailsWith c s ↔ C) → r ≡ s
 of_three_refusals-one Has a b c A B C r (Ok n) every has reason ra sa rb sb rc sc = every n has.0 has.1
 of_three_refusals-one Has a b c A B C r (Err e) every has reason ra sa rb sb rc sc =
     elim reason [
@@ -55,9 +55,9 @@ of_three_refusals-one Has a b c A B C r (Err e) every has reason ra sa rb sb rc 
 
 -- A value if three numbers are within their bounds, else the error of the first that isn't.
 pub of_three_bounds-one : {V : Type 0} (a b c : ComponentRange) (x y z i j k : ℕ) (v : V) (r s : Result V ComponentRange)
-    → (IsRefused a r ↔ (i < x)) → (IsRefused a s ↔ (i < x))
-    → (IsRefused b r ↔ (x ≤ i) × (j < y)) → (IsRefused b s ↔ (x ≤ i) × (j < y))
-    → (IsRefused c r ↔ (x ≤ i) × (y ≤ j) × (k < z)) → (IsRefused c s ↔ (x ≤ i) × (y ≤ j) × (k < z))
+    → (FailsWith a r ↔ (i < x)) → (FailsWith a s ↔ (i < x))
+    → (FailsWith b r ↔ (x ≤ i) × (j < y)) → (FailsWith b s ↔ (x ≤ i) × (j < y))
+    → (FailsWith c r ↔ (x ≤ i) × (y ≤ j) × (k < z)) → (FailsWith c s ↔ (x ≤ i) × (y ≤ j) × (k < z))
     → (x ≤ i → y ≤ j → z ≤ k → r ≡ Ok v) → (x ≤ i → y ≤ j → z ≤ k → s ≡ Ok v) → r ≡ s
 of_three_bounds-one a b c x y z i j k v r s ra sa rb sb rc sc rv sv =
     elim (cases_lt i x) [
@@ -97,7 +97,7 @@ come_back a n length below =
 -- A step back has one result, because two values don't have the same index.
 back-one : {C : Type 0} (cycle : Ghosts C)
     → ((x : C) → cycle.index_of x < cycle.LENGTH) → ((x : C) → cycle.value_at (cycle.index_of x) ≡ x)
-    → (n : ℕ) (x y z : C) → IsBack cycle n x y → IsBack cycle n x z → y ≡ z
+    → (n : ℕ) (x y z : C) → IsBehind cycle n x y → IsBehind cycle n x z → y ≡ z
 back-one cycle below at_index n x y z e f =
     let length = cycle.LENGTH in
     let there = come_back (cycle.index_of y) n length (below y) in
@@ -108,8 +108,8 @@ back-one cycle below at_index n x y z e f =
 pub nth_back-one : {C : Type 0} (cycle : Ghosts C)
     → ((x : C) → cycle.index_of x < cycle.LENGTH) → ((x : C) → cycle.value_at (cycle.index_of x) ≡ x)
     → (n : ℕ) (x : C) (r s : Option C × C)
-    → IsSomeAnd r.0 (λ y. IsBack cycle n x y × IsBack cycle 1 y r.1)
-    → IsSomeAnd s.0 (λ y. IsBack cycle n x y × IsBack cycle 1 y s.1) → r ≡ s
+    → IsSomeAnd r.0 (λ y. IsBehind cycle n x y × IsBehind cycle 1 y r.1)
+    → IsSomeAnd s.0 (λ y. IsBehind cycle n x y × IsBehind cycle 1 y s.1) → r ≡ s
 nth_back-one cycle below at_index n x (None, after) (end, left) h k = absurd h
 nth_back-one cycle below at_index n x (Some y, after) (None, left) h k = absurd k
 nth_back-one cycle below at_index n x (Some y, after) (Some z, left) h k =
@@ -127,17 +127,17 @@ abbrev Seen : {F C : Type 0} (cycle : Ghosts C) (calls : F → C → Bool → F 
 Seen cycle calls go i f r =
     ((i ≡ cycle.LENGTH) × (r ≡ go))
     ⊎ (((i < cycle.LENGTH) × (g : _) × calls f (cycle.value_at i) (not go) g × (r ≡ not go))
-    ⊎ ((i < cycle.LENGTH) × (g : _) × calls f (cycle.value_at i) go g × Asked cycle calls go (i + 1) g r))
+    ⊎ ((i < cycle.LENGTH) × (g : _) × calls f (cycle.value_at i) go g × ShortCircuits cycle calls go (i + 1) g r))
 
 seen : {F C : Type 0} (cycle : Ghosts C) (calls : F → C → Bool → F → Type 0) (go : Bool) (i : ℕ) (f : F) (r : Bool)
-    → Asked cycle calls go i f r → Seen cycle calls go i f r
+    → ShortCircuits cycle calls go i f r → Seen cycle calls go i f r
 seen cycle calls go i f r (at_end _) = inl (refl, refl)
 seen cycle calls go i f r (stops _ _ g below call) = inr (inl (below, g, call, refl))
 seen cycle calls go i f r (goes_on _ _ g _ below call rest) = inr (inr (below, g, call, rest))
 
 pub asked-one : {F C : Type 0} (cycle : Ghosts C) (calls : F → C → Bool → F → Type 0) (go : Bool)
     → ((x : C) (f g h : F) (p q : Bool) → calls f x p g → calls f x q h → (p ≡ q) × (g ≡ h))
-    → (i : ℕ) (f : F) (r s : Bool) → Asked cycle calls go i f r → Asked cycle calls go i f s → r ≡ s
+    → (i : ℕ) (f : F) (r s : Bool) → ShortCircuits cycle calls go i f r → ShortCircuits cycle calls go i f s → r ≡ s
 asked-one cycle calls go one i f r s (at_end _) other =
     elim (seen cycle calls go _ f s other) [
       | inl end ↦ sym end.1
@@ -160,7 +160,7 @@ asked-one cycle calls go one i f r s (goes_on _ _ g _ below call rest) other =
       | inr more ↦ elim more [
         | inl stop ↦ absurd (not-itself go (one _ f _ _ _ _ call stop.2).0)
         | inr on ↦
-            let after = subst (λ h. Asked cycle calls go (i + 1) h s) (one _ f _ _ _ _ on.2 call).1 on.3 in
+            let after = subst (λ h. ShortCircuits cycle calls go (i + 1) h s) (one _ f _ _ _ _ on.2 call).1 on.3 in
             asked-one cycle calls go one (i + 1) g r s rest after
       ]
     ]
@@ -172,7 +172,7 @@ pair-one z p q h k =
     let dates : p.0 ≡ q.0 = omega (arith, ints, same.0) in
     λ i. (dates i, same.1 i)
 
-pub pair_at-one : (z : ℤ) (r s : Option (ℕ × ℕ)) → PairAt z r → PairAt z s → r ≡ s
+pub pair_at-one : (z : ℤ) (r s : Option (ℕ × ℕ)) → IsPairWithNumber z r → IsPairWithNumber z s → r ≡ s
 pair_at-one z None None h k = refl
 pair_at-one z None (Some p) h k = absurd (h p.0 p.1 k)
 pair_at-one z (Some p) None h k = absurd (k p.0 p.1 h)

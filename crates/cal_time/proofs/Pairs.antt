@@ -4,7 +4,7 @@ use Rattle.std.proofs.lemmas.Int.{ints}
 use borrow.Author.Differences.{up, down}
 use Rattle.cal_span.specs.SignedDuration.{day, whole_days}
 use Rattle.cal_date.specs.Date.{IsDate, julian_day_at}
-use Rattle.cal_date.specs.Move.{IsDateNumber}
+use Rattle.cal_date.specs.Arithmetic.{IsDateNumber}
 use Rattle.cal_time.specs.Pair.{pair_number, HasPairNumber, NoPair}
 
 -- The positive part and the negative part of a number of days in nanoseconds.

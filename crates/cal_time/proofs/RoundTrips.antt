@@ -4,8 +4,8 @@ use Rattle.std.proofs.lemmas.Int.{ints}
 use Rattle.std.proofs.lemmas.List.{reverse-append}
 use Rattle.cal_span.specs.SignedDuration.{day, whole_days}
 use Rattle.cal_date.specs.Date.{first_julian_day, IsDate, HasJulianDay}
-use Rattle.cal_date.specs.Move.{IsDateNumber, date_nearest}
-use Rattle.cal_date.proofs.Moves.{number-date_nearest}
+use Rattle.cal_date.specs.Arithmetic.{IsDateNumber, clamped_date}
+use Rattle.cal_date.proofs.Moves.{number-clamped_date}
 
 -- a value where there is one
 pub value-one : {T : Type 0} (r : Option T) (P : Type 0) (v w : T) → SomeIff r P v → P → v ≡ w → r ≡ Some w
@@ -13,10 +13,10 @@ value-one None P v w h p e = absurd (h p)
 value-one (Some x) P v w h p e = ap Some (h.1 ∙ e)
 
 -- the day of a number
-pub date-one : (r : Option ℕ) (z : ℤ) (n : ℕ) → SomeIff r (IsDateNumber z) (date_nearest z) → z ≡ pos n → IsDate n → r ≡ Some n
+pub date-one : (r : Option ℕ) (z : ℤ) (n : ℕ) → SomeIff r (IsDateNumber z) (clamped_date z) → z ≡ pos n → IsDate n → r ≡ Some n
 date-one r z n h e date =
-    let at = number-date_nearest n z date e in
-    value-one r (IsDateNumber z) (date_nearest z) n h at.0 (sym at.1)
+    let at = number-clamped_date n z date e in
+    value-one r (IsDateNumber z) (clamped_date z) n h at.0 (sym at.1)
 
 -- the days of a duration of whole days
 pub whole_days-of_days : (z : ℤ) → whole_days (z *ℤ pos day) ≡ z

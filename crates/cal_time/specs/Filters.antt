@@ -2,11 +2,11 @@
 use Rattle.std.proofs.Common.{◌≡◌, ℕ, zero, suc, ◌+◌, ◌-◌, ◌<◌, ◌≤◌, ◌⊎◌, inl, inr, refl, sym, ap, ◌∙◌, arith, List, [], ◌∷◌, filter, slice_get, Option, None, Bool, true, false}
 use Rattle.std.specs.Prelude.{IfSome}
 use Rattle.std.proofs.lemmas.Bool.{cases_lt, cases_Bool, false≢true}
-use Rattle.cal_date.specs.Occurrence.{days_from}
+use Rattle.cal_date.specs.Occurrences.{days_from}
 
 -- No day passes the test among `count` days from day n on.
-abbrev pub NoDayPasses : (ℕ → Bool) → ℕ → ℕ → Type 0
-NoDayPasses test n count = (k : ℕ) → n ≤ k → k < n + count → test k ≡ false
+abbrev pub NoDayMatches : (ℕ → Bool) → ℕ → ℕ → Type 0
+NoDayMatches test n count = (k : ℕ) → n ≤ k → k < n + count → test k ≡ false
 
 -- x is the first of these days that passes.
 pub record IsFirstDay (test : ℕ → Bool) (n count x : ℕ) : Type 0 where
@@ -16,34 +16,34 @@ pub record IsFirstDay (test : ℕ → Bool) (n count x : ℕ) : Type 0 where
   pub none_before : (k : ℕ) → n ≤ k → k < x → test k ≡ false
 
 -- The days that pass, in order.
-abbrev passing : (ℕ → Bool) → ℕ → ℕ → List ℕ
-passing test n count = filter test (days_from n count)
+abbrev matching_days : (ℕ → Bool) → ℕ → ℕ → List ℕ
+matching_days test n count = filter test (days_from n count)
 
 -- One step of the list.
-passing-none : (test : ℕ → Bool) (n : ℕ) → passing test n 0 ≡ []
+matching_days-none : (test : ℕ → Bool) (n : ℕ) → matching_days test n 0 ≡ []
 unfolding days_from
-passing-none test n = refl
+matching_days-none test n = refl
 
-passing-true : (test : ℕ → Bool) (n count : ℕ) → test n ≡ true → passing test n (suc count) ≡ n ∷ passing test (n + 1) count
+matching_days-true : (test : ℕ → Bool) (n count : ℕ) → test n ≡ true → matching_days test n (suc count) ≡ n ∷ matching_days test (n + 1) count
 unfolding days_from
-passing-true test n count h = rw h refl
+matching_days-true test n count h = rw h refl
 
-passing-false : (test : ℕ → Bool) (n count : ℕ) → test n ≡ false → passing test n (suc count) ≡ passing test (n + 1) count
+matching_days-false : (test : ℕ → Bool) (n count : ℕ) → test n ≡ false → matching_days test n (suc count) ≡ matching_days test (n + 1) count
 unfolding days_from
-passing-false test n count h = rw h refl
+matching_days-false test n count h = rw h refl
 
 -- The list is empty, and no day passes, or it begins with the first day that passes.
 record BeginsEmpty (test : ℕ → Bool) (n count : ℕ) : Type 0 where
-  none : NoDayPasses test n count
-  days : passing test n count ≡ []
+  none : NoDayMatches test n count
+  days : matching_days test n count ≡ []
 
 record BeginsWithDay (test : ℕ → Bool) (n count : ℕ) : Type 0 where
   day : ℕ
   first : IsFirstDay test n count day
-  days : passing test n count ≡ day ∷ passing test (day + 1) (n + count - (day + 1))
+  days : matching_days test n count ≡ day ∷ matching_days test (day + 1) (n + count - (day + 1))
 
 -- If the first day doesn't pass, the list begins like the list of the other days.
-none_after : (test : ℕ → Bool) (n count : ℕ) → test n ≡ false → NoDayPasses test (n + 1) count → NoDayPasses test n (suc count)
+none_after : (test : ℕ → Bool) (n count : ℕ) → test n ≡ false → NoDayMatches test (n + 1) count → NoDayMatches test n (suc count)
 none_after test n count off none k low high =
     elim (cases_lt n k) [
       | inl later ↦ none k (omega arith) (omega arith)
@@ -62,7 +62,7 @@ first_after test n count x off h = record {
 }
 
 begins : (test : ℕ → Bool) (n count : ℕ) → BeginsEmpty test n count ⊎ BeginsWithDay test n count
-begins test n zero = inl (record { none = λ k low high. absurd (omega arith); days = passing-none test n })
+begins test n zero = inl (record { none = λ k low high. absurd (omega arith); days = matching_days-none test n })
 begins test n (suc count) =
     elim (cases_Bool (test n)) as (λ _. BeginsEmpty test n (suc count) ⊎ BeginsWithDay test n (suc count)) [
       | inl on ↦
@@ -70,16 +70,16 @@ begins test n (suc count) =
           inr (record {
             day = n;
             first = record { not_before = omega arith; within = omega arith; passes = on; none_before = λ k low high. absurd (omega arith) };
-            days = passing-true test n count on ∙ ap (λ c. n ∷ passing test (n + 1) c) left;
+            days = matching_days-true test n count on ∙ ap (λ c. n ∷ matching_days test (n + 1) c) left;
           })
       | inr off ↦ elim (begins test (n + 1) count) as (λ _. BeginsEmpty test n (suc count) ⊎ BeginsWithDay test n (suc count)) [
-        | inl h ↦ inl (record { none = none_after test n count off h.none; days = passing-false test n count off ∙ h.days })
+        | inl h ↦ inl (record { none = none_after test n count off h.none; days = matching_days-false test n count off ∙ h.days })
         | inr h ↦
             let left : n + 1 + count ≡ n + suc count = omega arith in
             inr (record {
               day = h.day;
               first = first_after test n count h.day off h.first;
-              days = passing-false test n count off ∙ h.days ∙ ap (λ c. h.day ∷ passing test (h.day + 1) (c - (h.day + 1))) left;
+              days = matching_days-false test n count off ∙ h.days ∙ ap (λ c. h.day ∷ matching_days test (h.day + 1) (c - (h.day + 1))) left;
             })
       ]
     ]
@@ -102,7 +102,7 @@ first_passing test n count r e =
       | inr h ↦ rw (e, h.days) h.first
     ]
 
-pub none_passing : (test : ℕ → Bool) (n count : ℕ) → slice_get (filter test (days_from n count)) 0 ≡ None → NoDayPasses test n count
+pub none_passing : (test : ℕ → Bool) (n count : ℕ) → slice_get (filter test (days_from n count)) 0 ≡ None → NoDayMatches test n count
 none_passing test n count e =
     elim (begins test n count) [
       | inl h ↦ h.none
@@ -115,10 +115,10 @@ pub filter-first : (test : ℕ → Bool) (n count x : ℕ) → IsFirstDay test n
 filter-first test n count x h =
     elim (begins test n count) [
       | inl k ↦ absurd (false≢true (sym (k.none x h.not_before h.within) ∙ h.passes))
-      | inr k ↦ let e = one_first test n count k.day x k.first h in k.days ∙ ap (λ m. m ∷ passing test (m + 1) (n + count - (m + 1))) e
+      | inr k ↦ let e = one_first test n count k.day x k.first h in k.days ∙ ap (λ m. m ∷ matching_days test (m + 1) (n + count - (m + 1))) e
     ]
 
-pub filter-none : (test : ℕ → Bool) (n count : ℕ) → NoDayPasses test n count → filter test (days_from n count) ≡ []
+pub filter-none : (test : ℕ → Bool) (n count : ℕ) → NoDayMatches test n count → filter test (days_from n count) ≡ []
 filter-none test n count h =
     elim (begins test n count) [
       | inl k ↦ k.days

@@ -3,10 +3,10 @@ use Rattle.std.proofs.Common.{◌≡◌, ℕ, suc, ◌+◌, ◌-◌, ◌*◌, �
 use Rattle.std.specs.Prelude.{IsSome}
 use Rattle.cal_date.specs.Date.{last_day, weekday_at, IsDate, HasOrdinalDate, HasCalendarDate}
 use Rattle.cal_date.specs.IsoWeekDate.{HasIsoWeekDate}
-use Rattle.cal_date.specs.Occurrence.{next_occurrences, prev_occurrences, kth}
+use Rattle.cal_date.specs.Occurrences.{next_occurrences, prev_occurrences, kth}
 use Rattle.cal_date.specs.DateIter.{Walk, walk_between, days_of}
 use Rattle.cal_date.specs.DateText.{text}
-use Rattle.cal_time.specs.Pair.{HasPairNumber, PairAt}
+use Rattle.cal_time.specs.Pair.{HasPairNumber, IsPairWithNumber}
 use Rattle.cal_date.proofs.CallersLaws as proved
 use Rattle.cal_date.proofs.DistinctTexts as texts
 
@@ -56,6 +56,6 @@ pub length-walk_between : (m n : ℕ) → length (days_of (walk_between m n)) �
 length-walk_between = proved.length-walk_between
 
 -- A moved pair exists if a date and a time have its number.
-pub pair_at-some : (z : ℤ) (n t : ℕ) (r : Option (ℕ × ℕ)) → PairAt z r → HasPairNumber z n t → IsSome r
+pub pair_at-some : (z : ℤ) (n t : ℕ) (r : Option (ℕ × ℕ)) → IsPairWithNumber z r → HasPairNumber z n t → IsSome r
 pair_at-some z n t None none has = absurd (none n t has)
 pair_at-some z n t (Some pair) at has = refl

@@ -2,7 +2,7 @@ pub mod Days
 pub mod Filters
 pub mod Laws
 pub mod Pair
-pub mod Parts
+pub mod Components
 pub mod Walks
 -- The definitions that the contracts of the calls use, for higher crates.
 pub use Rattle.cal_units.specs.Counted
@@ -11,9 +11,9 @@ pub use Rattle.cal_units.specs.Lengths
 pub use Rattle.cal_units.specs.Month
 pub use Rattle.cal_units.specs.MonthCycle
 pub use Rattle.cal_units.specs.Name
-pub use Rattle.cal_units.specs.Refusal
+pub use Rattle.cal_units.specs.ComponentError
 pub use Rattle.cal_units.specs.ShortText
-pub use Rattle.cal_units.specs.Walk
+pub use Rattle.cal_units.specs.CycleSteps
 pub use Rattle.cal_units.specs.Weekday
 pub use Rattle.cal_units.specs.WeekdayCycle
 pub use Rattle.cal_units.specs.Weeks
@@ -27,7 +27,7 @@ pub use Rattle.cal_date.specs.DateIter
 pub use Rattle.cal_date.specs.DateLimits
 pub use Rattle.cal_date.specs.DateText
 pub use Rattle.cal_date.specs.IsoWeekDate
-pub use Rattle.cal_date.specs.Move
-pub use Rattle.cal_date.specs.Occurrence
+pub use Rattle.cal_date.specs.Arithmetic
+pub use Rattle.cal_date.specs.Occurrences
 pub use Rattle.cal_date.specs.Order
-pub use Rattle.cal_date.specs.Refusals
+pub use Rattle.cal_date.specs.DateErrors

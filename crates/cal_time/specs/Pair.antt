@@ -19,5 +19,5 @@ abbrev pub NoPair : ℤ → Type 0
 NoPair z = (n t : ℕ) → ¬ HasPairNumber z n t
 
 -- r is the pair with the number z, or nothing if no pair has it.
-abbrev pub PairAt : ℤ → Option (ℕ × ℕ) → Type 0
-PairAt z r = MatchOption r (NoPair z) (λ pair. HasPairNumber z pair.0 pair.1)
+abbrev pub IsPairWithNumber : ℤ → Option (ℕ × ℕ) → Type 0
+IsPairWithNumber z r = MatchOption r (NoPair z) (λ pair. HasPairNumber z pair.0 pair.1)

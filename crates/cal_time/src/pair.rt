@@ -2,8 +2,8 @@
 ghost use Rattle.std.specs.Prelude.{pos, ◌+ℤ◌, ◌-ℤ◌, SomeIff};
 ghost use Rattle.cal_clock.specs.Time.{carry};
 ghost use Rattle.cal_date.specs.Date.{IsDate};
-ghost use Rattle.cal_date.specs.Move.{IsDateNumber, date_nearest};
-ghost use Rattle.cal_time.specs.Pair.{pair_number, PairAt};
+ghost use Rattle.cal_date.specs.Arithmetic.{IsDateNumber, clamped_date};
+ghost use Rattle.cal_time.specs.Pair.{pair_number, IsPairWithNumber};
 
 use cal_clock::Time;
 use cal_date::Date;
@@ -16,10 +16,10 @@ use cal_units::util::DateAdjustment;
 /// the pair whose number is the old number plus the duration. 23:00 on 2020-12-31 plus two hours is
 /// 1:00 on 2021-01-01. The last nanosecond of [`Date::MAX`] plus 1 ns is `None`.
 pub fn add_to_pair(date: Date, time: Time, duration: SignedDuration) -> Option<(Date, Time)>
-    ensures { PairAt (pair_number date time +ℤ duration) result }
+    ensures { IsPairWithNumber (pair_number date time +ℤ duration) result }
 {
     let (adjustment, time) = time.adjusting_add(duration);
-    let date = adjusted(date.checked_add(duration)?, adjustment)?;
+    let date = adjust_date(date.checked_add(duration)?, adjustment)?;
     Some((date, time))
 }
 
@@ -28,18 +28,18 @@ pub fn add_to_pair(date: Date, time: Time, duration: SignedDuration) -> Option<(
 /// The result is the pair whose number is the old number minus the duration. 1:00 on 2021-01-01
 /// minus two hours is 23:00 on 2020-12-31. Midnight of [`Date::MIN`] minus 1 ns is `None`.
 pub fn sub_from_pair(date: Date, time: Time, duration: SignedDuration) -> Option<(Date, Time)>
-    ensures { PairAt (pair_number date time -ℤ duration) result }
+    ensures { IsPairWithNumber (pair_number date time -ℤ duration) result }
 {
     let (adjustment, time) = time.adjusting_sub(duration);
-    let date = adjusted(date.checked_sub(duration)?, adjustment)?;
+    let date = adjust_date(date.checked_sub(duration)?, adjustment)?;
     Some((date, time))
 }
 
 /// Returns the date after the adjustment, or `None` if it is out of range.
-fn adjusted(date: Date, adjustment: DateAdjustment) -> Option<Date>
+fn adjust_date(date: Date, adjustment: DateAdjustment) -> Option<Date>
     requires { IsDate date }
     ensures { SomeIff result (IsDateNumber (pos date +ℤ carry adjustment))
-        (date_nearest (pos date +ℤ carry adjustment)) }
+        (clamped_date (pos date +ℤ carry adjustment)) }
 {
     match adjustment {
         DateAdjustment::Previous => date.previous_day(),

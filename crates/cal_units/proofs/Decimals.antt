@@ -5,81 +5,81 @@ use Rattle.std.proofs.lemmas.Bool.{cases_eq, cases_lt}
 use Rattle.std.proofs.lemmas.Bool.Decides.{nat_tests}
 use Rattle.std.proofs.lemmas.List.{length-append}
 use Rattle.std.proofs.lemmas.Str.Ascii.{IsAscii-nil, IsAscii-cons}
-use Rattle.cal_units.specs.Digits.{digit, two_digits, nine_digits, digit_before, without_last_zeros, decimals}
+use Rattle.cal_units.specs.Digits.{digit, two_digits, nine_digits, prepend_digit, without_trailing_zeros, decimals}
 use Rattle.cal_units.proofs.Digits.{nine_digits-ascii}
 
 -- ---- a digit before other digits
-pub is-before-other : (d : ℕ) (ds : List ℕ) → d ≢ 48 → digit_before d ds ≡ d ∷ ds
+pub is-before-other : (d : ℕ) (ds : List ℕ) → d ≢ 48 → prepend_digit d ds ≡ d ∷ ds
 is-before-other d [] other = grind (arith, nat_tests)
 is-before-other d (e ∷ es) other = refl
 
-pub none-of-zero : (d : ℕ) → d ≡ 48 → digit_before d [] ≡ []
+pub none-of-zero : (d : ℕ) → d ≡ 48 → prepend_digit d [] ≡ []
 none-of-zero d e = grind (arith, nat_tests)
 
-is-before : (d : ℕ) (ds : List ℕ) → 0 < length (digit_before d ds) → digit_before d ds ≡ d ∷ ds
-is-before d [] some = elim (cases_eq d 48) as (λ _. digit_before d [] ≡ d ∷ []) [
+is-before : (d : ℕ) (ds : List ℕ) → 0 < length (prepend_digit d ds) → prepend_digit d ds ≡ d ∷ ds
+is-before d [] some = elim (cases_eq d 48) as (λ _. prepend_digit d [] ≡ d ∷ []) [
   | inl zero_is ↦ absurd (omega (arith, some, ap length (none-of-zero d zero_is)))
   | inr other ↦ is-before-other d [] other
 ]
 is-before d (e ∷ es) some = refl
 
-is-before-some : (d : ℕ) (ds : List ℕ) → 0 < length ds → digit_before d ds ≡ d ∷ ds
+is-before-some : (d : ℕ) (ds : List ℕ) → 0 < length ds → prepend_digit d ds ≡ d ∷ ds
 is-before-some d [] some = absurd (omega arith)
 is-before-some d (e ∷ es) some = refl
 
-none-before : (d : ℕ) (ds : List ℕ) → length (digit_before d ds) ≡ 0 → (d ≡ 48) × (length ds ≡ 0)
+none-before : (d : ℕ) (ds : List ℕ) → length (prepend_digit d ds) ≡ 0 → (d ≡ 48) × (length ds ≡ 0)
 none-before d [] e = (elim (cases_eq d 48) as (λ _. d ≡ 48) [ inl zero_is ↦ zero_is | inr other ↦ absurd (omega (arith, ap length (is-before-other d [] other), e)) ], refl)
 none-before d (e ∷ es) none = absurd (omega (arith, none))
 
-before-few : (d : ℕ) (ds : List ℕ) → length (digit_before d ds) ≤ suc (length ds)
-before-few d [] = elim (cases_eq d 48) as (λ _. length (digit_before d []) ≤ 1) [
+before-few : (d : ℕ) (ds : List ℕ) → length (prepend_digit d ds) ≤ suc (length ds)
+before-few d [] = elim (cases_eq d 48) as (λ _. length (prepend_digit d []) ≤ 1) [
   | inl zero_is ↦ omega (arith, ap length (none-of-zero d zero_is))
   | inr other ↦ omega (arith, ap length (is-before-other d [] other))
 ]
 before-few d (e ∷ es) = omega arith
 
-before-ascii : (d : ℕ) (ds : List ℕ) → d < 128 → IsAscii ds → IsAscii (digit_before d ds)
-before-ascii d [] low h = elim (cases_eq d 48) as (λ _. IsAscii (digit_before d [])) [
+before-ascii : (d : ℕ) (ds : List ℕ) → d < 128 → IsAscii ds → IsAscii (prepend_digit d ds)
+before-ascii d [] low h = elim (cases_eq d 48) as (λ _. IsAscii (prepend_digit d [])) [
   | inl zero_is ↦ subst IsAscii (sym (none-of-zero d zero_is)) IsAscii-nil
   | inr other ↦ subst IsAscii (sym (is-before-other d [] other)) (IsAscii-cons d [] low IsAscii-nil)
 ]
 before-ascii d (e ∷ es) low h = IsAscii-cons d (e ∷ es) low h
 
 -- ---- digits without trailing zeros
-zero-last : (ds : List ℕ) → without_last_zeros (ds ++ 48 ∷ []) ≡ without_last_zeros ds
-unfolding without_last_zeros
+zero-last : (ds : List ℕ) → without_trailing_zeros (ds ++ 48 ∷ []) ≡ without_trailing_zeros ds
+unfolding without_trailing_zeros
 zero-last [] = refl
-zero-last (d ∷ ds) = ap (digit_before d) (zero-last ds)
+zero-last (d ∷ ds) = ap (prepend_digit d) (zero-last ds)
 
-none-left : (d : ℕ) (ds : List ℕ) → length (without_last_zeros (d ∷ ds)) ≡ 0 → (d ≡ 48) × (length (without_last_zeros ds) ≡ 0)
-unfolding without_last_zeros
-none-left d ds = none-before d (without_last_zeros ds)
+none-left : (d : ℕ) (ds : List ℕ) → length (without_trailing_zeros (d ∷ ds)) ≡ 0 → (d ≡ 48) × (length (without_trailing_zeros ds) ≡ 0)
+unfolding without_trailing_zeros
+none-left d ds = none-before d (without_trailing_zeros ds)
 
 -- If no digit is left, all digits are zeros.
 total : List ℕ → ℕ
 total [] = 0
 total (d ∷ ds) = d + total ds
 
-all-zeros : (ds : List ℕ) → length (without_last_zeros ds) ≡ 0 → total ds ≡ 48 * length ds
+all-zeros : (ds : List ℕ) → length (without_trailing_zeros ds) ≡ 0 → total ds ≡ 48 * length ds
 unfolding total
 all-zeros [] e = refl
 all-zeros (d ∷ ds) e =
     let none = none-left d ds e in
     omega (arith, none.0, all-zeros ds none.1)
 
-pub few-left : (ds : List ℕ) → length (without_last_zeros ds) ≤ length ds
-unfolding without_last_zeros
+pub few-left : (ds : List ℕ) → length (without_trailing_zeros ds) ≤ length ds
+unfolding without_trailing_zeros
 few-left [] = omega arith
-few-left (d ∷ ds) = omega (arith, before-few d (without_last_zeros ds), few-left ds)
+few-left (d ∷ ds) = omega (arith, before-few d (without_trailing_zeros ds), few-left ds)
 
-ascii-left : (ds : List ℕ) → IsAscii ds → IsAscii (without_last_zeros ds)
-unfolding without_last_zeros
+ascii-left : (ds : List ℕ) → IsAscii ds → IsAscii (without_trailing_zeros ds)
+unfolding without_trailing_zeros
 ascii-left [] h = IsAscii-nil
-ascii-left (d ∷ ds) h = before-ascii d (without_last_zeros ds) (h 0) (ascii-left ds (λ i. h (suc i)))
+ascii-left (d ∷ ds) h = before-ascii d (without_trailing_zeros ds) (h 0) (ascii-left ds (λ i. h (suc i)))
 
 -- ---- the decimals of n nanoseconds
 abbrev pub decimals_of : ℕ → List ℕ
-decimals_of n = without_last_zeros (nine_digits n)
+decimals_of n = without_trailing_zeros (nine_digits n)
 
 abbrev pub after_two : ℕ → List ℕ
 after_two n =
@@ -89,16 +89,16 @@ after_two n =
 abbrev pub after_one : ℕ → List ℕ
 after_one n = digit (n / 10000000 % 10) ∷ after_two n
 
-some-left : (n : ℕ) → 0 < n % 100000000 → 0 < length (without_last_zeros (after_one n))
+some-left : (n : ℕ) → 0 < n % 100000000 → 0 < length (without_trailing_zeros (after_one n))
 unfolding total
 some-left n more =
-    elim (cases_lt 0 (length (without_last_zeros (after_one n)))) as (λ _. 0 < length (without_last_zeros (after_one n))) [
+    elim (cases_lt 0 (length (without_trailing_zeros (after_one n)))) as (λ _. 0 < length (without_trailing_zeros (after_one n))) [
       | inl some ↦ some
       | inr none ↦ absurd (omega (arith, more, all-zeros (after_one n) (omega (arith, none))))
     ]
 
 -- The decimals after the first two are the decimals of 100 times the rest of n.
-hundredfold : (n : ℕ) → n < 1000000000 → decimals_of (n % 10000000 * 100) ≡ without_last_zeros (after_two n)
+hundredfold : (n : ℕ) → n < 1000000000 → decimals_of (n % 10000000 * 100) ≡ without_trailing_zeros (after_two n)
 hundredfold n below =
     let a : n % 10000000 * 100 / 100000000 ≡ n / 1000000 % 10 = omega arith in
     let b : n % 10000000 * 100 / 10000000 % 10 ≡ n / 100000 % 10 = omega arith in
@@ -109,20 +109,20 @@ hundredfold n below =
     let g : n % 10000000 * 100 / 100 % 10 ≡ n % 10 = omega arith in
     let tens : n % 10000000 * 100 / 10 % 10 ≡ 0 = omega arith in
     let ones : n % 10000000 * 100 % 10 ≡ 0 = omega arith in
-    (λ i. without_last_zeros (digit (a i) ∷ digit (b i) ∷ digit (c i) ∷ digit (d i) ∷ digit (e i) ∷ digit (f i) ∷ digit (g i) ∷ digit (tens i) ∷ digit (ones i) ∷ []))
+    (λ i. without_trailing_zeros (digit (a i) ∷ digit (b i) ∷ digit (c i) ∷ digit (d i) ∷ digit (e i) ∷ digit (f i) ∷ digit (g i) ∷ digit (tens i) ∷ digit (ones i) ∷ []))
     ∙ zero-last (after_two n ++ 48 ∷ []) ∙ zero-last (after_two n)
 
 pub two-decimals : (n : ℕ) → n < 1000000000 → 0 < n % 100000000 → decimals_of n ≡ two_digits (n / 10000000) ++ decimals_of (n % 10000000 * 100)
-unfolding without_last_zeros
+unfolding without_trailing_zeros
 two-decimals n below more =
     let tens : n / 100000000 ≡ n / 10000000 / 10 = omega arith in
-    ap (digit_before (digit (n / 100000000))) (is-before (digit (n / 10000000 % 10)) (without_last_zeros (after_two n)) (some-left n more))
-    ∙ ap (λ k. digit k ∷ digit (n / 10000000 % 10) ∷ without_last_zeros (after_two n)) tens
+    ap (prepend_digit (digit (n / 100000000))) (is-before (digit (n / 10000000 % 10)) (without_trailing_zeros (after_two n)) (some-left n more))
+    ∙ ap (λ k. digit k ∷ digit (n / 10000000 % 10) ∷ without_trailing_zeros (after_two n)) tens
     ∙ ap (λ ds. two_digits (n / 10000000) ++ ds) (sym (hundredfold n below))
 
 -- Only the first digit is left if the other eight are zeros.
-no-zeros : (n : ℕ) → n % 100000000 ≡ 0 → without_last_zeros (after_one n) ≡ []
-unfolding without_last_zeros
+no-zeros : (n : ℕ) → n % 100000000 ≡ 0 → without_trailing_zeros (after_one n) ≡ []
+unfolding without_trailing_zeros
 no-zeros n none =
     let a : n / 10000000 % 10 ≡ 0 = omega (arith, none) in
     let b : n / 1000000 % 10 ≡ 0 = omega (arith, none) in
@@ -132,34 +132,34 @@ no-zeros n none =
     let f : n / 100 % 10 ≡ 0 = omega (arith, none) in
     let g : n / 10 % 10 ≡ 0 = omega (arith, none) in
     let h : n % 10 ≡ 0 = omega (arith, none) in
-    λ i. without_last_zeros (digit (a i) ∷ digit (b i) ∷ digit (c i) ∷ digit (d i) ∷ digit (e i) ∷ digit (f i) ∷ digit (g i) ∷ digit (h i) ∷ [])
+    λ i. without_trailing_zeros (digit (a i) ∷ digit (b i) ∷ digit (c i) ∷ digit (d i) ∷ digit (e i) ∷ digit (f i) ∷ digit (g i) ∷ digit (h i) ∷ [])
 
 pub last-decimal : (n : ℕ) → 0 < n → n % 100000000 ≡ 0 → decimals_of n ≡ digit (n / 100000000) ∷ []
-unfolding without_last_zeros
+unfolding without_trailing_zeros
 last-decimal n more none =
-    ap (digit_before (digit (n / 100000000))) (no-zeros n none) ∙ is-before-other (digit (n / 100000000)) [] (λ e. omega (arith, e, more, none))
+    ap (prepend_digit (digit (n / 100000000))) (no-zeros n none) ∙ is-before-other (digit (n / 100000000)) [] (λ e. omega (arith, e, more, none))
 
 pub no-decimal : decimals_of 0 ≡ []
-unfolding without_last_zeros
+unfolding without_trailing_zeros
 no-decimal = refl
 
 pub one-zero : decimals 0 ≡ 48 ∷ []
-unfolding without_last_zeros
+unfolding without_trailing_zeros
 one-zero = refl
 
 -- For n above 0, the first digit needs no exception.
 pub decimals-some : (n : ℕ) → 0 < n → decimals n ≡ decimals_of n
-unfolding without_last_zeros
+unfolding without_trailing_zeros
 decimals-some n more =
     elim (cases_lt 0 (n % 100000000)) as (λ _. decimals n ≡ decimals_of n) [
-      | inl some ↦ sym (is-before-some (digit (n / 100000000)) (without_last_zeros (after_one n)) (some-left n some))
-      | inr none ↦ sym (is-before-other (digit (n / 100000000)) (without_last_zeros (after_one n)) (λ e. omega (arith, e, more, none)))
+      | inl some ↦ sym (is-before-some (digit (n / 100000000)) (without_trailing_zeros (after_one n)) (some-left n some))
+      | inr none ↦ sym (is-before-other (digit (n / 100000000)) (without_trailing_zeros (after_one n)) (λ e. omega (arith, e, more, none)))
     ]
 
 pub decimals-ascii : (n : ℕ) → n < 1000000000 → IsAscii (decimals n)
 decimals-ascii n below =
     let h = nine_digits-ascii n below in
-    IsAscii-cons (digit (n / 100000000)) (without_last_zeros (after_one n)) (h 0) (ascii-left (after_one n) (λ i. h (suc i)))
+    IsAscii-cons (digit (n / 100000000)) (without_trailing_zeros (after_one n)) (h 0) (ascii-left (after_one n) (λ i. h (suc i)))
 
 -- ---- the text, if the decimals of k are still to be appended
 some-too : (n k : ℕ) → (n ≡ 0 → k ≡ 0) → 0 < k → 0 < n

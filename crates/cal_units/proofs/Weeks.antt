@@ -5,7 +5,7 @@ use Rattle.std.specs.Int.{int_div_euclid, int_rem_euclid}
 use Rattle.std.proofs.lemmas.Int.{ints, int_rem_euclid_is}
 use Rattle.std.proofs.lemmas.Bool.Decides.{nat_tests}
 use Rattle.cal_units.specs.Lengths.{days_in_year}
-use Rattle.cal_units.specs.Weeks.{weekday_after, first_weekday_on, first_weekday_back, first_weekday, thursdays, weeks_in_year}
+use Rattle.cal_units.specs.Weeks.{weekday_after, first_weekday_after, first_weekday_before, first_weekday, thursdays, weeks_in_year}
 
 -- Up to whole weeks, the number of days of the first n years of a cycle of 400 years.
 abbrev pub shift : ℕ → ℕ
@@ -15,11 +15,11 @@ shift n = n + n / 4 - n / 100 + n / 400
 pub shift-suc : (n : ℕ) → shift (suc n) + 364 ≡ shift n + days_in_year (pos (suc n))
 shift-suc n = grind (arith, nat_tests)
 
-pub first_weekday_on-is : (n : ℕ) → first_weekday_on n ≡ shift n % 7
-unfolding first_weekday_on
-first_weekday_on-is zero = refl
-first_weekday_on-is (suc n) =
-    let before : first_weekday_on n ≡ shift n % 7 = first_weekday_on-is n in
+pub first_weekday_after-is : (n : ℕ) → first_weekday_after n ≡ shift n % 7
+unfolding first_weekday_after
+first_weekday_after-is zero = refl
+first_weekday_after-is (suc n) =
+    let before : first_weekday_after n ≡ shift n % 7 = first_weekday_after-is n in
     let step = shift-suc n in
     omega arith
 
@@ -35,13 +35,13 @@ days_in_year-later (negsuc i) k n e =
     let later : n + suc i ≡ 400 * k = omega (arith, ints) in
     grind (arith, nat_tests)
 
-pub first_weekday_back-is : (k n m : ℕ) → n + m ≡ 400 * k → first_weekday_back m ≡ shift n % 7
-unfolding first_weekday_back
-first_weekday_back-is k n zero e =
+pub first_weekday_before-is : (k n m : ℕ) → n + m ≡ 400 * k → first_weekday_before m ≡ shift n % 7
+unfolding first_weekday_before
+first_weekday_before-is k n zero e =
     let whole : n ≡ 400 * k = omega arith in
     rw whole (sym (shift-whole_cycles k))
-first_weekday_back-is k n (suc m) e =
-    let after : first_weekday_back m ≡ shift (suc n) % 7 = first_weekday_back-is k (suc n) m (omega arith) in
+first_weekday_before-is k n (suc m) e =
+    let after : first_weekday_before m ≡ shift (suc n) % 7 = first_weekday_before-is k (suc n) m (omega arith) in
     let step = shift-suc n in
     let same = days_in_year-later (pos 0 -ℤ pos m) k (suc n) (omega (arith, ints)) in
     rw same (omega arith)
@@ -49,12 +49,12 @@ first_weekday_back-is k n (suc m) e =
 -- The weekday of 1 January of y, from the shift of the year n + 1, k cycles of 400 years later.
 pub first_weekday-is : (y : ℤ) (k n : ℕ) → pos n +ℤ pos 1 ≡ y +ℤ pos (400 * k) → first_weekday y ≡ shift n % 7
 unfolding first_weekday
-first_weekday-is (pos zero) k n e = first_weekday_back-is k n 1 (omega (arith, ints))
+first_weekday-is (pos zero) k n e = first_weekday_before-is k n 1 (omega (arith, ints))
 first_weekday-is (pos (suc i)) k n e =
-    let on = first_weekday_on-is i in
+    let on = first_weekday_after-is i in
     let later : n ≡ i + 400 * k = omega (arith, ints) in
     omega arith
-first_weekday-is (negsuc i) k n e = first_weekday_back-is k n (i + 2) (omega (arith, ints))
+first_weekday-is (negsuc i) k n e = first_weekday_before-is k n (i + 2) (omega (arith, ints))
 
 -- Every year has a year from year 1 on that is some cycles of 400 years later.
 pub later_year : (y : ℤ) → (k : ℕ) × (n : ℕ) × (pos n +ℤ pos 1 ≡ y +ℤ pos (400 * k))

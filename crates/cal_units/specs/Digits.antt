@@ -21,15 +21,15 @@ nine_digits n =
     ∷ digit (n / 100 % 10) ∷ digit (n / 10 % 10) ∷ digit (n % 10) ∷ []
 
 -- A digit comes before the digits that are kept. A zero is dropped if no digit after it is kept.
-abbrev pub digit_before : ℕ → List ℕ → List ℕ
-digit_before d [] = if d == digit 0 then [] else d ∷ []
-digit_before d (e ∷ es) = d ∷ e ∷ es
+abbrev pub prepend_digit : ℕ → List ℕ → List ℕ
+prepend_digit d [] = if d == digit 0 then [] else d ∷ []
+prepend_digit d (e ∷ es) = d ∷ e ∷ es
 
 -- The trailing zeros of a list of digits are dropped.
-unfoldable pub without_last_zeros : List ℕ → List ℕ
-without_last_zeros [] = []
-without_last_zeros (d ∷ ds) = digit_before d (without_last_zeros ds)
+unfoldable pub without_trailing_zeros : List ℕ → List ℕ
+without_trailing_zeros [] = []
+without_trailing_zeros (d ∷ ds) = prepend_digit d (without_trailing_zeros ds)
 
 -- The decimals of n nanoseconds are its first digit, and its other digits without trailing zeros.
 abbrev pub decimals : ℕ → List ℕ
-decimals n = take 1 (nine_digits n) ++ without_last_zeros (drop 1 (nine_digits n))
+decimals n = take 1 (nine_digits n) ++ without_trailing_zeros (drop 1 (nine_digits n))

@@ -1,14 +1,14 @@
 pub mod Counted
 pub mod Digits
-pub mod Indices
+pub mod RoundTrips
 pub mod Lengths
 pub mod Month
 pub mod MonthCycle
 pub mod Name
 pub mod Order
-pub mod Refusal
+pub mod ComponentError
 pub mod ShortText
-pub mod Walk
+pub mod CycleSteps
 pub mod Weekday
 pub mod WeekdayCycle
 pub mod Weeks

@@ -4,7 +4,7 @@ use Rattle.cal_units.specs.declared.error.Component.TheVariants as component
 use Rattle.cal_units.specs.declared.error.ComponentRange.{ComponentRange}
 use Rattle.cal_units.specs.declared.month.Month.{Month}
 use Rattle.cal_units.specs.declared.month.Month.TheVariants.{January, February, March, April, May, June, July, August, September, October, November, December}
-use Rattle.cal_units.specs.Refusal.{unconditional}
+use Rattle.cal_units.specs.ComponentError.{unconditional}
 
 -- The index of a month on the cycle of months is counted from 0 at January.
 abbrev pub index : Month → ℕ
@@ -26,8 +26,8 @@ abbrev pub number : Month → ℕ
 number m = index m + 1
 
 -- The month at index i is the month with this index, or December if i is 12 or more.
-abbrev pub month_at : ℕ → Month
-month_at i = slice_index_or (January ∷ February ∷ March ∷ April ∷ May ∷ June ∷ July ∷ August ∷ September ∷ October ∷ November ∷ December ∷ []) i December
+abbrev pub month_of_index : ℕ → Month
+month_of_index i = slice_index_or (January ∷ February ∷ March ∷ April ∷ May ∷ June ∷ July ∷ August ∷ September ∷ October ∷ November ∷ December ∷ []) i December
 
 -- The name of a month is its English name.
 abbrev pub name : Month → List ℕ
@@ -49,5 +49,5 @@ abbrev pub month_out_of_range : ComponentRange
 month_out_of_range = unconditional component.Month
 
 -- r is the result for the number n: the month with this number, or the error if n is 0 or above 12.
-abbrev pub FromNumber : ℕ → Result Month ComponentRange → Type 0
-FromNumber n r = MatchResult r (λ m. number m ≡ n) (λ e. (e ≡ month_out_of_range) × ((n ≡ 0) ⊎ (12 < n)))
+abbrev pub IsMonthFromNumber : ℕ → Result Month ComponentRange → Type 0
+IsMonthFromNumber n r = MatchResult r (λ m. number m ≡ n) (λ e. (e ≡ month_out_of_range) × ((n ≡ 0) ⊎ (12 < n)))

@@ -3,5 +3,5 @@ use Rattle.std.specs.Prelude.{◌≡◌, ◌≢◌, ℕ, List, Result, MatchResu
 
 -- r is the result of parsing the text: the value with exactly this name, or an error if no value
 -- has it.
-abbrev pub Reads : {C E : Type 0} → (C → List ℕ) → List ℕ → Result C E → Type 0
-Reads {C} name text r = MatchResult r (λ x. text ≡ name x) (λ _. (x : C) → text ≢ name x)
+abbrev pub ParsesName : {C E : Type 0} → (C → List ℕ) → List ℕ → Result C E → Type 0
+ParsesName {C} name text r = MatchResult r (λ x. text ≡ name x) (λ _. (x : C) → text ≢ name x)

@@ -24,8 +24,8 @@ days_from_sunday Friday = 5
 days_from_sunday Saturday = 6
 
 -- The weekday at index i is the weekday with this index, or Sunday if i is 7 or more.
-abbrev pub weekday_at : ℕ → Weekday
-weekday_at i = slice_index_or (Monday ∷ Tuesday ∷ Wednesday ∷ Thursday ∷ Friday ∷ Saturday ∷ Sunday ∷ []) i Sunday
+abbrev pub weekday_of_index : ℕ → Weekday
+weekday_of_index i = slice_index_or (Monday ∷ Tuesday ∷ Wednesday ∷ Thursday ∷ Friday ∷ Saturday ∷ Sunday ∷ []) i Sunday
 
 -- The name of a weekday is its English name.
 abbrev pub name : Weekday → List ℕ

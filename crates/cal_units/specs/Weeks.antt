@@ -12,20 +12,20 @@ abbrev pub weekday_before : ℕ → ℕ → ℕ
 weekday_before weekday days = (weekday + (7 - days % 7)) % 7
 
 -- The weekday of 1 January, n years after year 1.
-unfoldable pub first_weekday_on : ℕ → ℕ
-first_weekday_on zero = 0
-first_weekday_on (suc n) = weekday_after (first_weekday_on n) (days_in_year (pos (suc n)))
+unfoldable pub first_weekday_after : ℕ → ℕ
+first_weekday_after zero = 0
+first_weekday_after (suc n) = weekday_after (first_weekday_after n) (days_in_year (pos (suc n)))
 
 -- The weekday of 1 January, n years before year 1.
-unfoldable pub first_weekday_back : ℕ → ℕ
-first_weekday_back zero = 0
-first_weekday_back (suc n) = weekday_before (first_weekday_back n) (days_in_year (pos 0 -ℤ pos n))
+unfoldable pub first_weekday_before : ℕ → ℕ
+first_weekday_before zero = 0
+first_weekday_before (suc n) = weekday_before (first_weekday_before n) (days_in_year (pos 0 -ℤ pos n))
 
 -- The weekday of 1 January of any year.
 unfoldable pub first_weekday : ℤ → ℕ
-first_weekday (pos zero) = first_weekday_back 1
-first_weekday (pos (suc n)) = first_weekday_on n
-first_weekday (negsuc n) = first_weekday_back (n + 2)
+first_weekday (pos zero) = first_weekday_before 1
+first_weekday (pos (suc n)) = first_weekday_after n
+first_weekday (negsuc n) = first_weekday_before (n + 2)
 
 -- The number of Thursdays among n days. `first` is the weekday of the first of them.
 unfoldable pub thursdays : ℕ → ℕ → ℕ

@@ -16,13 +16,13 @@ pub trait Counted: Copy + Ord + Hash {
         ensures { result ≡ number_of self };
 
     // Values are ordered by their numbers.
-    ghost ordered: { (x y : Self) → Self.cmp x y ≡ int_cmp (number_of x) (number_of y) };
+    ghost cmp_by_number: { (x y : Self) → Self.cmp x y ≡ int_cmp (number_of x) (number_of y) };
 
     // Two values are equal if and only if their numbers are equal.
-    ghost alike: { (x y : Self) → IsTrue (Self.eq x y) ↔ (number_of x ≡ number_of y) };
+    ghost eq_by_number: { (x y : Self) → IsTrue (Self.eq x y) ↔ (number_of x ≡ number_of y) };
 
     // Two values with the same number feed the same input to a hasher.
-    ghost hashed: { (x y : Self) → number_of x ≡ number_of y
+    ghost hash_by_number: { (x y : Self) → number_of x ≡ number_of y
         → Self.hash_input x ≡ Self.hash_input y };
 }
 

@@ -1,6 +1,6 @@
 //! The errors of the calendar.
 ghost use Rattle.std.specs.Prelude.{◌≡◌, ◌≤◌, ◌++◌, Some, codes, length};
-ghost use Rattle.cal_units.specs.Refusal.{component_name, unconditional, conditional};
+ghost use Rattle.cal_units.specs.ComponentError.{component_name, unconditional, conditional};
 
 use std::fmt;
 
@@ -49,8 +49,8 @@ impl Component {
     /// Returns the name in lower case, such as `julian_day` or `offset hour`. It has at most 13
     /// bytes.
     pub fn name(self) -> &'static str
-        ensures name { result.now ≡ component_name self }
-        ensures short { length result.now ≤ 13 }
+        ensures value { result.now ≡ component_name self }
+        ensures max_length { length result.now ≤ 13 }
     {
         match self {
             Component::Year => "year",
@@ -119,8 +119,8 @@ impl ComponentRange {
     /// Returns the name of the component: `day` for `ComponentRange::conditional(Component::Day)`.
     /// It has at most 13 bytes.
     pub fn name(self) -> &'static str
-        ensures name { result.now ≡ component_name self.component }
-        ensures short { length result.now ≤ 13 }
+        ensures value { result.now ≡ component_name self.component }
+        ensures max_length { length result.now ≤ 13 }
     {
         self.component.name()
     }

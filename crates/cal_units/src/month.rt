@@ -7,9 +7,9 @@ ghost use Rattle.std.specs.Str.{IsAscii};
 ghost use Rattle.std.specs.Ordering.{nat_cmp, on, as_partial_cmp};
 ghost use Rattle.std.proofs.Common.{rules};
 ghost use Rattle.cal_units.specs.Lengths.{days_in_month};
-ghost use Rattle.cal_units.specs.Month.{number, index, month_at, name, FromNumber};
-ghost use Rattle.cal_units.specs.MonthCycle.{index-below, month_at-index, index-month_at};
-ghost use Rattle.cal_units.specs.Name.{Reads};
+ghost use Rattle.cal_units.specs.Month.{number, index, month_of_index, name, IsMonthFromNumber};
+ghost use Rattle.cal_units.specs.MonthCycle.{index-below, month_of_index-index, index-month_of_index};
+ghost use Rattle.cal_units.specs.Name.{ParsesName};
 
 use crate::cycle::Cycle;
 use crate::error::{Component, ComponentRange, InvalidVariant};
@@ -88,8 +88,8 @@ impl Month {
 
     /// Returns the English name, which the month prints: `May`. It is ASCII, with at most 9 bytes.
     pub fn name(self) -> &'static str
-        ensures text { result.now ≡ name self }
-        ensures short { length result.now ≤ 9 }
+        ensures value { result.now ≡ name self }
+        ensures max_length { length result.now ≤ 9 }
         ensures ascii { IsAscii result.now }
     {
         match self {
@@ -155,13 +155,13 @@ impl Cycle for Month {
 
     ghost index_of = { index };
 
-    ghost value_at = { month_at };
+    ghost value_at = { month_of_index };
 
     ghost index_below = { index-below };
 
-    ghost value_at_index = { month_at-index };
+    ghost value_at_index = { month_of_index-index };
 
-    ghost index_of_value = { index-month_at };
+    ghost index_of_value = { index-month_of_index };
 
     fn place(self) -> u8 {
         self as u8 - 1
@@ -198,7 +198,7 @@ impl fmt::Display for Month {
 impl FromStr for Month {
     type Err = InvalidVariant;
 
-    ghost from_str_gives = { Reads name };
+    ghost from_str_gives = { ParsesName name };
 
     /// Parses the exact English name of a month, such as `March`. Returns the error
     /// `InvalidVariant` for any other text, such as `march` or `Mar`.
@@ -234,7 +234,7 @@ impl From<Month> for u8 {
 impl TryFrom<u8> for Month {
     type Error = ComponentRange;
 
-    ghost try_from_gives = { FromNumber };
+    ghost try_from_gives = { IsMonthFromNumber };
 
     /// Returns the month with this number, from 1 for January to 12 for December.
     /// `Month::try_from(5)` is May. Returns the unconditional error `month` for any other number,

@@ -1,6 +1,6 @@
 //! Steps along a cycle, and tests of all its values.
 ghost use Rattle.std.specs.Prelude.{true, false};
-ghost use Rattle.cal_units.specs.Walk.{Asked, IsAhead, IsBack};
+ghost use Rattle.cal_units.specs.CycleSteps.{ShortCircuits, IsAhead, IsBehind};
 
 use crate::cycle::Cycle;
 
@@ -16,7 +16,7 @@ pub fn nth_in<C: Cycle>(start: C, n: usize) -> C
 
 /// Returns the value `n` places before `start` on the cycle.
 pub(crate) fn nth_back_in<C: Cycle>(start: C, n: usize) -> C
-    ensures { IsBack C.Cycle n start result }
+    ensures { IsBehind C.Cycle n start result }
 {
     let length = C::LENGTH as usize;
     let place = (start.place() as usize + (length - n % length)) % length;
@@ -27,7 +27,7 @@ pub(crate) fn nth_back_in<C: Cycle>(start: C, n: usize) -> C
 /// their indexes, until it returns `false`.
 pub(crate) fn all_in<C: Cycle, F: FnMut(C) -> bool>(mut f: F) -> bool
     requires { F.IsAlwaysCallable f }
-    ensures { Asked C.Cycle F.step true 0 f result }
+    ensures { ShortCircuits C.Cycle F.step true 0 f result }
 {
     for index in 0..C::LENGTH {
         if !f(C::at(index)) {
@@ -41,7 +41,7 @@ pub(crate) fn all_in<C: Cycle, F: FnMut(C) -> bool>(mut f: F) -> bool
 /// their indexes, until it returns `true`.
 pub(crate) fn any_in<C: Cycle, F: FnMut(C) -> bool>(mut f: F) -> bool
     requires { F.IsAlwaysCallable f }
-    ensures { Asked C.Cycle F.step false 0 f result }
+    ensures { ShortCircuits C.Cycle F.step false 0 f result }
 {
     for index in 0..C::LENGTH {
         if f(C::at(index)) {

@@ -53,8 +53,8 @@ impl ShortText {
 
     /// Returns the text as a `str` of at most 42 bytes.
     pub fn as_str(&self) -> &str
-        ensures text { result.now ≡ self.now }
-        ensures short { length result.now ≤ capacity }
+        ensures value { result.now ≡ self.now }
+        ensures max_length { length result.now ≤ capacity }
     {
         // By the invariant the bytes are UTF-8.
         unsafe { from_utf8_unchecked(&self.bytes[..self.filled]) }
@@ -62,16 +62,16 @@ impl ShortText {
 
     /// Returns the bytes of the text in UTF-8, at most 42.
     pub fn as_bytes(&self) -> &[u8]
-        ensures bytes { result.now ≡ self.now }
-        ensures short { length result.now ≤ capacity }
+        ensures value { result.now ≡ self.now }
+        ensures max_length { length result.now ≤ capacity }
     {
         &self.bytes[..self.filled]
     }
 
     /// Returns the length in bytes, at most 42.
     pub fn len(&self) -> usize
-        ensures bytes { result ≡ length self.now }
-        ensures short { result ≤ capacity }
+        ensures value { result ≡ length self.now }
+        ensures max { result ≤ capacity }
     {
         self.filled
     }
@@ -80,7 +80,7 @@ impl ShortText {
     pub fn push(&mut self, text: &str)
         requires { HasRoom (length text.now) self.old }
         ensures appended { self.new ≡ self.old ++ text.now }
-        ensures longer { length self.new ≡ length self.old + length text.now }
+        ensures length { length self.new ≡ length self.old + length text.now }
     {
         let end = self.filled + text.len();
         self.bytes[self.filled..end].copy_from_slice(text.as_bytes());
@@ -92,7 +92,7 @@ impl ShortText {
         requires room { HasRoom (length bytes.now) self.old }
         requires ascii { IsAscii bytes.now }
         ensures appended { self.new ≡ self.old ++ bytes.now }
-        ensures longer { length self.new ≡ length self.old + length bytes.now }
+        ensures length { length self.new ≡ length self.old + length bytes.now }
     {
         // ASCII is valid UTF-8.
         self.push(unsafe { from_utf8_unchecked(bytes) });
@@ -101,32 +101,32 @@ impl ShortText {
     /// Appends the digit of a number below 10.
     pub fn push_digit(&mut self, number: u32)
         requires room { HasRoom 1 self.old }
-        requires below { number < 10 }
+        requires range { number < 10 }
         ensures appended { self.new ≡ self.old ++ digit number ∷ [] }
-        ensures longer { length self.new ≡ length self.old + 1 }
+        ensures length { length self.new ≡ length self.old + 1 }
     {
-        self.push_ascii(&[digit(number)]);
+        self.push_ascii(&[ascii_digit(number)]);
     }
 
     /// Appends the two digits of a number below 100. For 7 they are `07`.
     #[tactic(auto, using(crate::proofs::Digits::pairs))]
     pub fn push_two_digits(&mut self, number: u32)
         requires room { HasRoom 2 self.old }
-        requires below { number < 100 }
+        requires range { number < 100 }
         ensures appended { self.new ≡ self.old ++ two_digits number }
         ensures padded { self.new ≡ self.old ++ digits_at_least 2 number }
-        ensures longer { length self.new ≡ length self.old + 2 }
+        ensures length { length self.new ≡ length self.old + 2 }
     {
-        self.push_ascii(&two_digits(number));
+        self.push_ascii(&ascii_two_digits(number));
     }
 
     /// Appends the three digits of a number below 1000. For 60 they are `060`.
     #[tactic(auto, using(crate::proofs::Digits::threes))]
     pub fn push_three_digits(&mut self, number: u32)
         requires room { HasRoom 3 self.old }
-        requires below { number < 1000 }
+        requires range { number < 1000 }
         ensures appended { self.new ≡ self.old ++ digits_at_least 3 number }
-        ensures longer { length self.new ≡ length self.old + 3 }
+        ensures length { length self.new ≡ length self.old + 3 }
     {
         self.push_digit(number / 100);
         self.push_two_digits(number % 100);
@@ -137,7 +137,7 @@ impl ShortText {
     pub fn push_number(&mut self, number: u64)
         requires { HasRoom (length (decimal number)) self.old }
         ensures appended { self.new ≡ self.old ++ decimal number }
-        ensures longer { length self.new ≡ length self.old + length (decimal number) }
+        ensures length { length self.new ≡ length self.old + length (decimal number) }
     {
         if number < 10 {
             self.push_digit(number as u32);
@@ -151,11 +151,11 @@ impl ShortText {
 
     /// Appends a number in decimal, with a minus sign if it is negative, such as `-7`.
     #[tactic(auto, using(crate::proofs::Digits::short_numbers))]
-    pub fn push_signed(&mut self, number: i32)
+    pub fn push_i32(&mut self, number: i32)
         requires { HasRoom (length (signed_decimal number)) self.old }
         ensures appended { self.new ≡ self.old ++ signed_decimal number }
-        ensures longer { length self.new ≡ length self.old + length (signed_decimal number) }
-        ensures short { length self.new ≤ length self.old + 11 }
+        ensures length { length self.new ≡ length self.old + length (signed_decimal number) }
+        ensures max_length { length self.new ≤ length self.old + 11 }
     {
         if number < 0 {
             self.push("-");
@@ -165,30 +165,30 @@ impl ShortText {
 
     /// Appends a 128-bit number in decimal, with a minus sign if it is negative.
     #[tactic(auto, using(crate::proofs::Digits::wide_numbers))]
-    pub fn push_signed_wide(&mut self, number: i128)
+    pub fn push_i128(&mut self, number: i128)
         requires { HasRoom (length (signed_decimal number)) self.old }
         ensures appended { self.new ≡ self.old ++ signed_decimal number }
-        ensures longer { length self.new ≡ length self.old + length (signed_decimal number) }
-        ensures short { length self.new ≤ length self.old + 40 }
+        ensures length { length self.new ≡ length self.old + length (signed_decimal number) }
+        ensures max_length { length self.new ≤ length self.old + 40 }
     {
         if number < 0 {
             self.push("-");
         }
-        self.push_wide(number.unsigned_abs());
+        self.push_u128(number.unsigned_abs());
     }
 
     /// Appends a 128-bit number in decimal, without leading zeros.
     #[tactic(auto, using(crate::proofs::Digits::last_digits))]
-    fn push_wide(&mut self, number: u128)
+    fn push_u128(&mut self, number: u128)
         requires { HasRoom (length (decimal number)) self.old }
         ensures appended { self.new ≡ self.old ++ decimal number }
-        ensures longer { length self.new ≡ length self.old + length (decimal number) }
+        ensures length { length self.new ≡ length self.old + length (decimal number) }
     {
         if number < 1_000_000_000_000_000_000 {
             self.push_number(number as u64);
             return;
         }
-        self.push_wide(number / 10);
+        self.push_u128(number / 10);
         self.push_digit((number % 10) as u32);
     }
 
@@ -197,10 +197,10 @@ impl ShortText {
     #[tactic(auto, using(crate::proofs::YearTexts::year_lengths))]
     pub fn push_year(&mut self, year: i32)
         requires room { HasRoom (length (year_text year)) self.old }
-        requires below { unsigned_abs year < 1_000_000 }
+        requires range { unsigned_abs year < 1_000_000 }
         ensures appended { self.new ≡ self.old ++ year_text year }
-        ensures longer { length self.new ≡ length self.old + length (year_text year) }
-        ensures short { length self.new ≤ length self.old + 7 }
+        ensures length { length self.new ≡ length self.old + length (year_text year) }
+        ensures max_length { length self.new ≤ length self.old + 7 }
     {
         if year < 0 {
             self.push("-");
@@ -214,9 +214,9 @@ impl ShortText {
     #[tactic(auto, using(crate::proofs::YearTexts::years))]
     fn push_four_digits(&mut self, number: u32)
         requires room { HasRoom (length (digits_at_least 4 number)) self.old }
-        requires below { number < 1_000_000 }
+        requires range { number < 1_000_000 }
         ensures appended { self.new ≡ self.old ++ digits_at_least 4 number }
-        ensures longer { length self.new ≡ length self.old + length (digits_at_least 4 number) }
+        ensures length { length self.new ≡ length self.old + length (digits_at_least 4 number) }
     {
         let above = number / 10_000;
         if above > 9 {
@@ -232,11 +232,11 @@ impl ShortText {
     /// and for no nanoseconds `0`. The nanoseconds must be below 1000000000.
     pub fn push_decimals(&mut self, nanoseconds: u32)
         requires room { HasRoom (length (decimals nanoseconds)) self.old }
-        requires below { nanoseconds < 1_000_000_000 }
+        requires range { nanoseconds < 1_000_000_000 }
         ensures appended { self.new ≡ self.old ++ decimals nanoseconds }
-        ensures longer { length self.new ≡ length self.old + length (decimals nanoseconds) }
+        ensures length { length self.new ≡ length self.old + length (decimals nanoseconds) }
         ensures ascii { IsAscii (decimals nanoseconds) }
-        ensures short { length self.new ≤ length self.old + 9 }
+        ensures max_length { length self.new ≤ length self.old + 9 }
     {
         let mut others = nanoseconds;
         while others % 100_000_000 > 0 {
@@ -258,7 +258,7 @@ impl fmt::Debug for ShortText {
 }
 
 /// Returns the two ASCII digits of a number below 100. For 7 they are `*b"07"`.
-fn two_digits(n: u32) -> [u8; 2]
+fn ascii_two_digits(n: u32) -> [u8; 2]
     requires { n < 100 }
     ensures { result ≡ two_digits n }
 {
@@ -267,7 +267,7 @@ fn two_digits(n: u32) -> [u8; 2]
 }
 
 /// Returns the ASCII digit of a number below 10. For 7 it is `b'7'`.
-fn digit(n: u32) -> u8
+fn ascii_digit(n: u32) -> u8
     requires { n < 10 }
     ensures { result ≡ digit n }
 {

@@ -91,8 +91,8 @@ pub fn days_in_year_month(year: i32, month: Month) -> u8
 // Monday. Each year of 365 days moves the weekday by one, and each leap day by one more. The
 // quotients are rounded down, so the result is right before year 1 too.
 fn first_weekday(year: i64) -> i64
-    requires low { neg_ℤ (pos (2 ^ 32)) ≤ℤ year }
-    requires high { year ≤ℤ pos (2 ^ 32) }
+    requires min { neg_ℤ (pos (2 ^ 32)) ≤ℤ year }
+    requires max { year ≤ℤ pos (2 ^ 32) }
     ensures { result ≡ pos (first_weekday year) }
 {
     let years = year - 1;

@@ -5,9 +5,9 @@ ghost use Rattle.std.specs.Fmt.{padded};
 ghost use Rattle.std.specs.Str.{IsAscii};
 ghost use Rattle.std.specs.Ordering.{on};
 ghost use Rattle.std.proofs.Common.{rules};
-ghost use Rattle.cal_units.specs.Name.{Reads};
-ghost use Rattle.cal_units.specs.Weekday.{index, days_from_sunday, weekday_at, name};
-ghost use Rattle.cal_units.specs.WeekdayCycle.{index-below, weekday_at-index, index-weekday_at};
+ghost use Rattle.cal_units.specs.Name.{ParsesName};
+ghost use Rattle.cal_units.specs.Weekday.{index, days_from_sunday, weekday_of_index, name};
+ghost use Rattle.cal_units.specs.WeekdayCycle.{index-below, weekday_of_index-index, index-weekday_of_index};
 
 use crate::cycle::Cycle;
 use crate::error::InvalidVariant;
@@ -103,8 +103,8 @@ impl Weekday {
     /// Returns the English name, which the weekday prints: `Friday`. It is ASCII, with at most 9
     /// bytes.
     pub fn name(self) -> &'static str
-        ensures text { result.now ≡ name self }
-        ensures short { length result.now ≤ 9 }
+        ensures value { result.now ≡ name self }
+        ensures max_length { length result.now ≤ 9 }
         ensures ascii { IsAscii result.now }
     {
         match self {
@@ -140,13 +140,13 @@ impl Cycle for Weekday {
 
     ghost index_of = { index };
 
-    ghost value_at = { weekday_at };
+    ghost value_at = { weekday_of_index };
 
     ghost index_below = { index-below };
 
-    ghost value_at_index = { weekday_at-index };
+    ghost value_at_index = { weekday_of_index-index };
 
-    ghost index_of_value = { index-weekday_at };
+    ghost index_of_value = { index-weekday_of_index };
 
     fn place(self) -> u8 {
         self as u8
@@ -178,7 +178,7 @@ impl fmt::Display for Weekday {
 impl FromStr for Weekday {
     type Err = InvalidVariant;
 
-    ghost from_str_gives = { Reads name };
+    ghost from_str_gives = { ParsesName name };
 
     /// Parses the exact English name of a weekday, such as `Friday`. Returns the error
     /// `InvalidVariant` for any other text, such as `friday` or `Fri`.

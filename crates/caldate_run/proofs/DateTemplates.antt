@@ -5,11 +5,11 @@ use Rattle.std.proofs.lemmas.Bool.{cases_lt, eqb-true, false≢true}
 use Rattle.std.proofs.lemmas.Bool.Decides.{nat_tests}
 use Rattle.std.proofs.lemmas.List.{get_or-take, get_or_append_left, length-take-le}
 use Rattle.cal_text.specs.AnyForm.{HasAnyForm}
-use Rattle.cal_text.specs.Shape.{Shape, Done, From, left, date, week, month_or_ordinal, after_year, julian_day, unix_time, moment, Digits, Above, Below, Unsigned, AtLeast}
+use Rattle.cal_text.specs.Shape.{Shape, End, ByteRange, unmatched_bytes, date, week_date, month_or_ordinal, after_year, julian_day, unix_time, moment, Digits, YearAfterPlus, YearAfterMinus, Unsigned, DigitsAtLeast}
 use Rattle.cal_text.proofs.FormShapes.{date_shape}
 use Rattle.cal_text.proofs.MomentShapes.{moment_shapes}
 use Rattle.cal_text.proofs.NumberShapes.{julian_shape}
-use Rattle.cal_text.proofs.Stops.{IsIn, left-in, left-branch_in, left-branch_out, left-done}
+use Rattle.cal_text.proofs.Stops.{IsIn, unmatched_bytes-in, unmatched_bytes-branch_in, unmatched_bytes-branch_out, unmatched_bytes-done}
 use Rattle.cal_text.proofs.UnixShapes.{unix_shape}
 use Rattle.caldate_run.specs.Readings.{HasFormIn, is_parted, is_separator}
 use Rattle.caldate_run.specs.Templates.{Fits, IsTemplateFor, stands_at}
@@ -25,8 +25,8 @@ is_digit x e = (grind (arith, nat_tests), grind (arith, nat_tests))
 pub stands_digit : (x : ℕ) → IsIn 48 9 x → nat_le 48 x && nat_le x 57 ≡ true
 stands_digit x h = let least = h.0 in let most = h.1 in grind (arith, nat_tests)
 
-on_digit : (f : Shape) (x : ℕ) (xs : List ℕ) → nat_le 48 x && nat_le x 57 ≡ true → left (From 48 9 f) (x ∷ xs) ≡ left f xs
-on_digit f x xs e = left-in 48 9 f x xs (is_digit x e)
+on_digit : (f : Shape) (x : ℕ) (xs : List ℕ) → nat_le 48 x && nat_le x 57 ≡ true → unmatched_bytes (ByteRange 48 9 f) (x ∷ xs) ≡ unmatched_bytes f xs
+on_digit f x xs e = unmatched_bytes-in 48 9 f x xs (is_digit x e)
 
 not_digit : (b x : ℕ) → (b < 48) ⊎ (57 < b) → nat_le 48 x && nat_le x 57 ≡ true → ¬ IsIn b 0 x
 not_digit b x (inl low) e here = omega (arith, low, (is_digit x e).0, here.1)
@@ -42,26 +42,26 @@ hyphens = None ∷ None ∷ None ∷ None ∷ Some 45 ∷ None ∷ None ∷ Some
 abbrev AreDigits : List ℕ → Type 0
 AreDigits bytes = Fits (codes "dddd-dd-dd") bytes
 
-after_year-digits : (e f g h : ℕ) → left after_year (e ∷ f ∷ 45 ∷ g ∷ h ∷ []) ≡ 0 → Fits (codes "dd-dd") (e ∷ f ∷ 45 ∷ g ∷ h ∷ [])
-after_year-digits e f g h is = elim (branch-first 87 0 week month_or_ordinal e _ is) as (λ _. Fits (codes "dd-dd") (e ∷ f ∷ 45 ∷ g ∷ h ∷ [])) [
-  | inl w ↦ absurd (ruled_out (None ∷ Some 45 ∷ None ∷ None ∷ []) week (f ∷ 45 ∷ g ∷ h ∷ []) refl (refl, tt) w.1)
+after_year-digits : (e f g h : ℕ) → unmatched_bytes after_year (e ∷ f ∷ 45 ∷ g ∷ h ∷ []) ≡ 0 → Fits (codes "dd-dd") (e ∷ f ∷ 45 ∷ g ∷ h ∷ [])
+after_year-digits e f g h is = elim (branch-first 87 0 week_date month_or_ordinal e _ is) as (λ _. Fits (codes "dd-dd") (e ∷ f ∷ 45 ∷ g ∷ h ∷ [])) [
+  | inl w ↦ absurd (ruled_out (None ∷ Some 45 ∷ None ∷ None ∷ []) week_date (f ∷ 45 ∷ g ∷ h ∷ []) refl (refl, tt) w.1)
   | inr month ↦
       let m = from-first 48 9 _ e _ month in
       let n = from-first 48 9 _ f _ m.1 in
-      elim (branch-first 45 0 (Digits 2 Done) (Digits 1 Done) 45 _ n.1) as (λ _. Fits (codes "dd-dd") (e ∷ f ∷ 45 ∷ g ∷ h ∷ [])) [
+      elim (branch-first 45 0 (Digits 2 End) (Digits 1 End) 45 _ n.1) as (λ _. Fits (codes "dd-dd") (e ∷ f ∷ 45 ∷ g ∷ h ∷ [])) [
         | inl day ↦
             let p = from-first 48 9 _ g _ day.1 in
             let q = from-first 48 9 _ h _ p.1 in
             (stands_digit e m.0, (stands_digit f n.0, (refl, (stands_digit g p.0, (stands_digit h q.0, tt)))))
-        | inr ordinal ↦ absurd (omega (arith, (from-first 48 9 Done 45 _ ordinal).0.0))
+        | inr ordinal ↦ absurd (omega (arith, (from-first 48 9 End 45 _ ordinal).0.0))
       ]
 ]
 
-date-digits : (a b c d e f g h : ℕ) → left date (dashed a b c d e f g h) ≡ 0 → AreDigits (dashed a b c d e f g h)
-date-digits a b c d e f g h is = elim (branch-first 43 0 (Above after_year) (Unsigned after_year) a _ is) as (λ _. AreDigits (dashed a b c d e f g h)) [
-  | inl plus ↦ absurd (ruled_out (None ∷ None ∷ None ∷ Some 45 ∷ None ∷ None ∷ Some 45 ∷ None ∷ None ∷ []) (Above after_year) _ refl (refl, (refl, tt)) plus.1)
-  | inr other ↦ elim (branch-first 45 0 (Below after_year) (AtLeast 4 0 after_year) a _ other) as (λ _. AreDigits (dashed a b c d e f g h)) [
-    | inl minus ↦ absurd (ruled_out (None ∷ None ∷ None ∷ Some 45 ∷ None ∷ None ∷ Some 45 ∷ None ∷ None ∷ []) (Below after_year) _ refl (refl, (refl, tt)) minus.1)
+date-digits : (a b c d e f g h : ℕ) → unmatched_bytes date (dashed a b c d e f g h) ≡ 0 → AreDigits (dashed a b c d e f g h)
+date-digits a b c d e f g h is = elim (branch-first 43 0 (YearAfterPlus after_year) (Unsigned after_year) a _ is) as (λ _. AreDigits (dashed a b c d e f g h)) [
+  | inl plus ↦ absurd (ruled_out (None ∷ None ∷ None ∷ Some 45 ∷ None ∷ None ∷ Some 45 ∷ None ∷ None ∷ []) (YearAfterPlus after_year) _ refl (refl, (refl, tt)) plus.1)
+  | inr other ↦ elim (branch-first 45 0 (YearAfterMinus after_year) (DigitsAtLeast 4 0 after_year) a _ other) as (λ _. AreDigits (dashed a b c d e f g h)) [
+    | inl minus ↦ absurd (ruled_out (None ∷ None ∷ None ∷ Some 45 ∷ None ∷ None ∷ Some 45 ∷ None ∷ None ∷ []) (YearAfterMinus after_year) _ refl (refl, (refl, tt)) minus.1)
     | inr year ↦
         let w = from-first 48 9 _ a _ year in
         let x = from-first 48 9 _ b _ w.1 in
@@ -80,11 +80,11 @@ any-digits a b c d e f g h (inr (inr (inr is))) = absurd (ruled_out hyphens unix
 
 digits-any : (a b c d e f g h : ℕ) → AreDigits (dashed a b c d e f g h) → HasAnyForm (dashed a b c d e f g h)
 digits-any a b c d e f g h (da, (db, (dc, (dd, (y, (de, (df, (m, (dg, (dh, t)))))))))) = inl (date_shape.only _ (
-    left-branch_out 43 0 (Above after_year) (Unsigned after_year) a _ (not_digit 43 a (inl (omega arith)) da)
-    ∙ left-branch_out 45 0 (Below after_year) (AtLeast 4 0 after_year) a _ (not_digit 45 a (inl (omega arith)) da)
-    ∙ on_digit _ a _ da ∙ on_digit _ b _ db ∙ on_digit _ c _ dc ∙ on_digit _ d _ dd ∙ left-in 45 0 after_year 45 _ (omega arith, omega arith)
-    ∙ left-branch_out 87 0 week month_or_ordinal e _ (not_digit 87 e (inr (omega arith)) de) ∙ on_digit _ e _ de ∙ on_digit _ f _ df
-    ∙ left-branch_in 45 0 (Digits 2 Done) (Digits 1 Done) 45 _ (omega arith, omega arith) ∙ on_digit _ g _ dg ∙ on_digit Done h [] dh ∙ left-done
+    unmatched_bytes-branch_out 43 0 (YearAfterPlus after_year) (Unsigned after_year) a _ (not_digit 43 a (inl (omega arith)) da)
+    ∙ unmatched_bytes-branch_out 45 0 (YearAfterMinus after_year) (DigitsAtLeast 4 0 after_year) a _ (not_digit 45 a (inl (omega arith)) da)
+    ∙ on_digit _ a _ da ∙ on_digit _ b _ db ∙ on_digit _ c _ dc ∙ on_digit _ d _ dd ∙ unmatched_bytes-in 45 0 after_year 45 _ (omega arith, omega arith)
+    ∙ unmatched_bytes-branch_out 87 0 week_date month_or_ordinal e _ (not_digit 87 e (inr (omega arith)) de) ∙ on_digit _ e _ de ∙ on_digit _ f _ df
+    ∙ unmatched_bytes-branch_in 45 0 (Digits 2 End) (Digits 1 End) 45 _ (omega arith, omega arith) ∙ on_digit _ g _ dg ∙ on_digit End h [] dh ∙ unmatched_bytes-done
     ))
 
 pub guarded : (b : Bool) (x : List ℕ) → IsSomeAnd (if b then Some x else None) HasAnyForm → (b ≡ true) × HasAnyForm x

@@ -8,11 +8,11 @@ use Rattle.std.proofs.lemmas.List.Sums.{take_while-cons}
 use Rattle.cal_recurrence.specs.Days.{up_to_end, AreDays}
 use Rattle.cal_recurrence.specs.declared.recurrence.RuleEnd.{RuleEnd}
 use Rattle.cal_recurrence.specs.declared.recurrence.RuleEnd.TheVariants.{Never, Until, Count}
-use Rattle.cal_schedule.specs.Rule.{days_of, is_on}
-use Rattle.cal_schedule.specs.declared.rule.kinds.Rule.{Rule}
+use Rattle.cal_schedule.specs.Rule.{occurrences, is_occurrence}
+use Rattle.cal_schedule.specs.declared.rule.rule.Rule.{Rule}
 use Rattle.cal_schedule.proofs.Rules.{all_of_them}
 use Rattle.cal_time.specs.Date.{last_day}
-use Rattle.cal_time.specs.Occurrence.{days_from}
+use Rattle.cal_time.specs.Occurrences.{days_from}
 use Rattle.cal_recurrence.proofs.OneAnswer.{days-one}
 use Rattle.caldate_run.specs.Recurring.{up_to, AreOccurrences}
 use Rattle.caldate_run.specs.declared.request.Occurrences.{Occurrences}
@@ -86,10 +86,10 @@ front_days last test (suc k) n count =
 abbrev pub front_to : ℕ → List ℕ → List ℕ
 front_to last days = take_while (within last) days
 
-front_of_rule : (last : ℕ) (end : RuleEnd) (rule : Rule) → front_to last (up_to_end end (days_of rule)) ≡ up_to last (up_to_end end (days_of rule))
-front_of_rule last Never rule = subst (λ l. front_to last l ≡ up_to last l) (all_of_them rule) (front_days last (is_on rule) (last_day + 1) 0 4294967295)
-front_of_rule last (Until day) rule = subst (λ l. front_to last l ≡ up_to last l) (all_of_them rule) (front_days last (is_on rule) (last_day + 1) 0 4294967295)
-front_of_rule last (Count count) rule = front_days last (is_on rule) (last_day + 1) 0 count
+front_of_rule : (last : ℕ) (end : RuleEnd) (rule : Rule) → front_to last (up_to_end end (occurrences rule)) ≡ up_to last (up_to_end end (occurrences rule))
+front_of_rule last Never rule = subst (λ l. front_to last l ≡ up_to last l) (all_of_them rule) (front_days last (is_occurrence rule) (last_day + 1) 0 4294967295)
+front_of_rule last (Until day) rule = subst (λ l. front_to last l ≡ up_to last l) (all_of_them rule) (front_days last (is_occurrence rule) (last_day + 1) 0 4294967295)
+front_of_rule last (Count count) rule = front_days last (is_occurrence rule) (last_day + 1) 0 count
 
 pub front_occurrences : (asked : Occurrences) (days : List ℕ) → AreDays asked.recurrence asked.first days → AreOccurrences asked (front_to asked.last days)
 front_occurrences asked days (rule, is, e) =

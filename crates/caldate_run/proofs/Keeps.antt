@@ -4,7 +4,7 @@ use Rattle.std.specs.Prelude.{MatchBool, OnOk, is_some, nat_lt}
 use Rattle.std.proofs.lemmas.Bool.{false≢true, le-ltb}
 use Rattle.std.proofs.lemmas.List.{append-nil}
 use Rattle.cal_text.specs.declared.any.DateOrMoment.{DateOrMoment}
-use Rattle.cal_text.specs.declared.error.Unreadable.{Unreadable}
+use Rattle.cal_text.specs.declared.error.ParseError.{ParseError}
 use Rattle.caldate_run.specs.Answers.{HasAnswer, IsAnswerTo, LacksAnswer}
 use Rattle.caldate_run.specs.Bounds.{lies_in}
 use Rattle.caldate_run.specs.Fields.{asked_text}
@@ -33,13 +33,13 @@ pub untold_lacks : (filter : Filter) (bounds : Bounds) (text : List ℕ) (found 
     → IsTextIn filter.reading text found → lies_in bounds found ≡ None → (words : List ℕ) × LacksAnswer filter text words
 untold_lacks filter bounds text found e fits is none = (_, lacks_none filter text found fits is (none_told filter.request bounds found e none))
 
-abbrev pub known : DateOrMoment → Result DateOrMoment Unreadable
+abbrev pub known : DateOrMoment → Result DateOrMoment ParseError
 known found = Ok found
 
 pub ok_one : (a b : DateOrMoment) → known a ≡ known b → a ≡ b
 ok_one a b e = ap (held a) e
   where
-    held : DateOrMoment → Result DateOrMoment Unreadable → DateOrMoment
+    held : DateOrMoment → Result DateOrMoment ParseError → DateOrMoment
     held other (Ok found) = found
     held other (Err error) = other
 

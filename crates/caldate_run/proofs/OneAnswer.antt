@@ -8,13 +8,13 @@ use Rattle.std.proofs.lemmas.Bool.{false≢true}
 use Rattle.std.proofs.lemmas.List.{append-nil}
 use Rattle.std.proofs.lemmas.List.Elements.{All-cons, All-nil}
 use Rattle.cal_time.specs.declared.error.ComponentRange.{ComponentRange}
-use Rattle.cal_datetime.specs.OffsetDateTime.{Shown}
-use Rattle.cal_text.specs.Reading.{IsRefusedFor, IsRefusedForForm}
+use Rattle.cal_datetime.specs.OffsetDateTime.{LocalAndOffset}
+use Rattle.cal_text.specs.Parsing.{FailsWithComponent, FailsWithSyntax}
 use Rattle.cal_text.proofs.Positions.{one_position}
 use Rattle.cal_text.specs.declared.any.DateOrMoment.{DateOrMoment}
 use Rattle.cal_text.specs.declared.any.MomentForm.TheVariants.{Rfc3339, Unix}
-use Rattle.cal_text.specs.declared.error.Unreadable.{Unreadable}
-use Rattle.cal_text.specs.declared.error.Unreadable.TheVariants.{UnexpectedByte, UnexpectedEnd, OutOfRange}
+use Rattle.cal_text.specs.declared.error.ParseError.{ParseError}
+use Rattle.cal_text.specs.declared.error.ParseError.TheVariants.{UnexpectedByte, UnexpectedEnd, OutOfRange}
 use Rattle.caldate_run.specs.Answers.{IsAnswerTo, IsAnswer, IsBetween, IsTooLong, IsUnreadable, refused_text, moment_of, day_of, form_read, on_day}
 use Rattle.caldate_run.specs.Forms.{IsInForm}
 use Rattle.caldate_run.specs.Lines.{is_end, lines_of, without_empty_last}
@@ -34,7 +34,7 @@ use Rattle.caldate_run.proofs.OneCount.{one_count}
 use Rattle.caldate_run.proofs.Leads.{one_lead}
 
 -- ---- the answer to a date or a moment
-in_form : (form : Form) (m : Shown) (a b : List ℕ) → IsInForm form m a → IsInForm form m b → a ≡ b
+in_form : (form : Form) (m : LocalAndOffset) (a b : List ℕ) → IsInForm form m a → IsInForm form m b → a ≡ b
 in_form (Date form) m a b h k = h ∙ sym k
 in_form Weekday m a b h k = h ∙ sym k
 in_form (Moment Rfc3339) m a b h k = h.1 ∙ sym k.1
@@ -45,7 +45,7 @@ in_form Quarter m a b h k = h ∙ sym k
 in_form Basic m a b h k = h.1 ∙ sym k.1
 in_form (form.Unix unit) m a b h k = h ∙ sym k
 
-in_form_at : (form : Form) (m n : Shown) (a b : List ℕ) → m ≡ n → IsInForm form m a → IsInForm form n b → a ≡ b
+in_form_at : (form : Form) (m n : LocalAndOffset) (a b : List ℕ) → m ≡ n → IsInForm form m a → IsInForm form n b → a ≡ b
 in_form_at form m n a b e h k = in_form form n a b (subst (λ m. IsInForm form m a) e h) k
 
 pub some_one : {A : Type 0} (a b : A) → Some a ≡ Some b → a ≡ b
@@ -66,7 +66,7 @@ one_answer_to (At offset) found a b h k = in_form_at (Moment Rfc3339) _ _ a b (h
 one_answer_to (Keep bounds) found a b h k = h.1 ∙ sym k.1
 
 -- ---- the words for what a reader says of the text
-abbrev Told : Filter → List ℕ → Result DateOrMoment Unreadable → List ℕ → Type 0
+abbrev Told : Filter → List ℕ → Result DateOrMoment ParseError → List ℕ → Type 0
 Told filter text (Ok found) words = IsAnswerTo filter.request found words ⊎ (words ≡ codes "none") × ((others : List ℕ) → ¬ IsAnswerTo filter.request found others)
 Told filter text (Err (OutOfRange e)) words = words ≡ refused_text e
 Told filter text (Err (UnexpectedByte at)) words = IsUnreadable filter text words
@@ -76,7 +76,7 @@ one_unreadable : (filter : Filter) (text a b : List ℕ) → IsUnreadable filter
 one_unreadable filter text a b h k =
     h.1.2 ∙ ap (λ at. codes "unreadable at " ++ decimal at) (one_position (HasFormIn filter.reading) text h.1.0 k.1.0 h.1.1 k.1.1) ∙ sym k.1.2
 
-one_told : (filter : Filter) (text : List ℕ) (r : Result DateOrMoment Unreadable) (a b : List ℕ) → Told filter text r a → Told filter text r b → a ≡ b
+one_told : (filter : Filter) (text : List ℕ) (r : Result DateOrMoment ParseError) (a b : List ℕ) → Told filter text r a → Told filter text r b → a ≡ b
 one_told filter text (Ok found) a b (inl h) (inl k) = one_answer_to filter.request found a b h k
 one_told filter text (Ok found) a b (inl h) (inr k) = absurd (k.1 a h)
 one_told filter text (Ok found) a b (inr h) (inl k) = absurd (h.1 b k)
@@ -88,27 +88,27 @@ one_told filter text (Err (UnexpectedEnd at)) a b h k = one_unreadable filter te
 pub none_some : {A : Type 0} (a : A) → None ≡ Some a → ⊥
 none_some a e = cc
 
-refused_told : (filter : Filter) (text : List ℕ) (r : Result DateOrMoment Unreadable) (why : ComponentRange) (words : List ℕ)
-    → IsRefusedFor why r → words ≡ refused_text why → Told filter text r words
+refused_told : (filter : Filter) (text : List ℕ) (r : Result DateOrMoment ParseError) (why : ComponentRange) (words : List ℕ)
+    → FailsWithComponent why r → words ≡ refused_text why → Told filter text r words
 refused_told filter text (Ok found) why words h e = absurd h
 refused_told filter text (Err (OutOfRange o)) why words h e = e ∙ ap refused_text (sym (some_one o why h))
 refused_told filter text (Err (UnexpectedByte at)) why words h e = absurd (none_some why h)
 refused_told filter text (Err (UnexpectedEnd at)) why words h e = absurd (none_some why h)
 
-unreadable_told : (filter : Filter) (text : List ℕ) (r : Result DateOrMoment Unreadable) (words : List ℕ)
-    → IsRefusedForForm r → IsUnreadable filter text words → Told filter text r words
+unreadable_told : (filter : Filter) (text : List ℕ) (r : Result DateOrMoment ParseError) (words : List ℕ)
+    → FailsWithSyntax r → IsUnreadable filter text words → Told filter text r words
 unreadable_told filter text (Ok found) words h u = absurd h
 unreadable_told filter text (Err (OutOfRange o)) words h u = absurd (none_some o (sym h))
 unreadable_told filter text (Err (UnexpectedByte at)) words h u = u
 unreadable_told filter text (Err (UnexpectedEnd at)) words h u = u
 
-found_told : (filter : Filter) (text : List ℕ) (r : Result DateOrMoment Unreadable) (found : DateOrMoment) (words : List ℕ)
+found_told : (filter : Filter) (text : List ℕ) (r : Result DateOrMoment ParseError) (found : DateOrMoment) (words : List ℕ)
     → r ≡ Ok found → Told filter text (Ok found) words → Told filter text r words
 found_told filter text r found words e h = subst (λ r. Told filter text r words) (sym e) h
 
-told : (filter : Filter) (text : List ℕ) (r : Result DateOrMoment Unreadable) (words : List ℕ)
+told : (filter : Filter) (text : List ℕ) (r : Result DateOrMoment ParseError) (words : List ℕ)
     → ((found : DateOrMoment) → IsTextIn filter.reading text found → r ≡ Ok found)
-    → (IsRefusedForForm r ↔ ¬ HasFormIn filter.reading text) → ((why : ComponentRange) → IsRefusedFor why r ↔ IsFaultIn filter.reading text why)
+    → (FailsWithSyntax r ↔ ¬ HasFormIn filter.reading text) → ((why : ComponentRange) → FailsWithComponent why r ↔ IsFaultIn filter.reading text why)
     → IsAnswer filter text words → IsTooLong text words ⊎ (length text ≤ 4096) × Told filter text r words
 told filter text r words every form component (inl h) = inr (h.0, found_told filter text r h.1.0 words (every h.1.0 h.1.1) (inl h.1.2))
 told filter text r words every form component (inr (inl h)) = inl h
@@ -123,7 +123,7 @@ told filter text r words every form component (inr (inr h)) = inr (
   ],
 )
 
-one_of : (filter : Filter) (text : List ℕ) (r : Result DateOrMoment Unreadable) (a b : List ℕ)
+one_of : (filter : Filter) (text : List ℕ) (r : Result DateOrMoment ParseError) (a b : List ℕ)
     → IsTooLong text a ⊎ (length text ≤ 4096) × Told filter text r a → IsTooLong text b ⊎ (length text ≤ 4096) × Told filter text r b
     → a ≡ b
 one_of filter text r a b (inl h) (inl k) = h.1 ∙ sym k.1
@@ -131,9 +131,9 @@ one_of filter text r a b (inl h) (inr k) = absurd (omega (arith, h.0, k.0))
 one_of filter text r a b (inr h) (inl k) = absurd (omega (arith, h.0, k.0))
 one_of filter text r a b (inr h) (inr k) = one_told filter text r a b h.1 k.1
 
-pub one_answer : (filter : Filter) (text : List ℕ) (r : Result DateOrMoment Unreadable) (a b : List ℕ)
+pub one_answer : (filter : Filter) (text : List ℕ) (r : Result DateOrMoment ParseError) (a b : List ℕ)
     → ((found : DateOrMoment) → IsTextIn filter.reading text found → r ≡ Ok found)
-    → (IsRefusedForForm r ↔ ¬ HasFormIn filter.reading text) → ((why : ComponentRange) → IsRefusedFor why r ↔ IsFaultIn filter.reading text why)
+    → (FailsWithSyntax r ↔ ¬ HasFormIn filter.reading text) → ((why : ComponentRange) → FailsWithComponent why r ↔ IsFaultIn filter.reading text why)
     → IsAnswer filter text a → IsAnswer filter text b → a ≡ b
 one_answer filter text r a b every form component h k =
     one_of filter text r a b (told filter text r a every form component h) (told filter text r b every form component k)

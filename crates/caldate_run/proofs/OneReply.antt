@@ -3,9 +3,9 @@ use Rattle.std.proofs.Common.{◌≡◌, ℕ, ◌≤◌, Bool, true, false, List
 use Rattle.std.specs.Prelude.{◌↔◌, MatchBool, MatchOption, IsErrAnd, IsSomeAnd, is_some, nat_lt, if◌then◌else◌}
 use Rattle.std.proofs.lemmas.Bool.{false≢true, le-ltb}
 use Rattle.cal_time.specs.declared.error.ComponentRange.{ComponentRange}
-use Rattle.cal_text.specs.Reading.{IsRefusedFor, IsRefusedForForm}
+use Rattle.cal_text.specs.Parsing.{FailsWithComponent, FailsWithSyntax}
 use Rattle.cal_text.specs.declared.any.DateOrMoment.{DateOrMoment}
-use Rattle.cal_text.specs.declared.error.Unreadable.{Unreadable}
+use Rattle.cal_text.specs.declared.error.ParseError.{ParseError}
 use Rattle.caldate_run.specs.Answers.{IsAnswer, IsAnswerTo, LacksAnswer}
 use Rattle.caldate_run.specs.Bounds.{lies_in}
 use Rattle.caldate_run.specs.Fields.{asked_text, text_with}
@@ -23,19 +23,19 @@ use Rattle.caldate_run.proofs.Keeps.{ok_one}
 use Rattle.caldate_run.proofs.OneAnswer.{none_some, one_answer, some_one}
 
 -- ---- what a reader says of the text that is asked about
-told_one : (filter : Filter) (bounds : Bounds) (asked : List ℕ) (r : Result DateOrMoment Unreadable) (a b : Bool)
+told_one : (filter : Filter) (bounds : Bounds) (asked : List ℕ) (r : Result DateOrMoment ParseError) (a b : Bool)
     → ((found : DateOrMoment) → IsTextIn filter.reading asked found → r ≡ Ok found)
     → IsTold filter bounds asked a → IsTold filter bounds asked b → a ≡ b
 told_one filter bounds asked r a b every h k =
     let same = ok_one h.0 k.0 (sym (every h.0 h.1) ∙ every k.0 k.1) in
     some_one a b (sym h.2 ∙ ap (λ f. lies_in bounds f) same ∙ k.2)
 
-refuses_no : (P : Unreadable → Type 0) (r : Result DateOrMoment Unreadable) (found : DateOrMoment) → r ≡ Ok found → ¬ IsErrAnd r P
+refuses_no : (P : ParseError → Type 0) (r : Result DateOrMoment ParseError) (found : DateOrMoment) → r ≡ Ok found → ¬ IsErrAnd r P
 refuses_no P r found e = subst (λ s. ¬ IsErrAnd s P) (sym e) (λ h. h)
 
-told_lacks : (filter : Filter) (bounds : Bounds) (asked : List ℕ) (r : Result DateOrMoment Unreadable) (lies : Bool) (words : List ℕ)
+told_lacks : (filter : Filter) (bounds : Bounds) (asked : List ℕ) (r : Result DateOrMoment ParseError) (lies : Bool) (words : List ℕ)
     → filter.request ≡ Keep bounds → ((found : DateOrMoment) → IsTextIn filter.reading asked found → r ≡ Ok found)
-    → (IsRefusedForForm r ↔ ¬ HasFormIn filter.reading asked) → ((why : ComponentRange) → IsRefusedFor why r ↔ IsFaultIn filter.reading asked why)
+    → (FailsWithSyntax r ↔ ¬ HasFormIn filter.reading asked) → ((why : ComponentRange) → FailsWithComponent why r ↔ IsFaultIn filter.reading asked why)
     → length asked ≤ 4096 → IsTold filter bounds asked lies → ¬ LacksAnswer filter asked words
 told_lacks filter bounds asked r lies words e every form component fits t (inl long) = omega (arith, fits, long.0)
 told_lacks filter bounds asked r lies words e every form component fits t (inr (within, inl none)) =
@@ -52,9 +52,9 @@ One filter bounds asked =
     ((a b : Bool) → IsTold filter bounds asked a → IsTold filter bounds asked b → a ≡ b)
     × ((lies : Bool) (words : List ℕ) → length asked ≤ 4096 → IsTold filter bounds asked lies → ¬ LacksAnswer filter asked words)
 
-one : (filter : Filter) (bounds : Bounds) (asked : List ℕ) (r : Result DateOrMoment Unreadable)
+one : (filter : Filter) (bounds : Bounds) (asked : List ℕ) (r : Result DateOrMoment ParseError)
     → filter.request ≡ Keep bounds → ((found : DateOrMoment) → IsTextIn filter.reading asked found → r ≡ Ok found)
-    → (IsRefusedForForm r ↔ ¬ HasFormIn filter.reading asked) → ((why : ComponentRange) → IsRefusedFor why r ↔ IsFaultIn filter.reading asked why)
+    → (FailsWithSyntax r ↔ ¬ HasFormIn filter.reading asked) → ((why : ComponentRange) → FailsWithComponent why r ↔ IsFaultIn filter.reading asked why)
     → One filter bounds asked
 one filter bounds asked r e every form component = (
   λ a b h k. told_one filter bounds asked r a b every h k,
@@ -130,8 +130,8 @@ abbrev pub IsOneAsked : Filter → List ℕ → Type 0
 IsOneAsked filter asked =
     ((a b : List ℕ) → IsAnswer filter asked a → IsAnswer filter asked b → a ≡ b) × ((bounds : Bounds) → filter.request ≡ Keep bounds → One filter bounds asked)
 
-pub one_asked : (filter : Filter) (asked : List ℕ) (r : Result DateOrMoment Unreadable) → ((found : DateOrMoment) → IsTextIn filter.reading asked found → r ≡ Ok found)
-    → (IsRefusedForForm r ↔ ¬ HasFormIn filter.reading asked) → ((why : ComponentRange) → IsRefusedFor why r ↔ IsFaultIn filter.reading asked why)
+pub one_asked : (filter : Filter) (asked : List ℕ) (r : Result DateOrMoment ParseError) → ((found : DateOrMoment) → IsTextIn filter.reading asked found → r ≡ Ok found)
+    → (FailsWithSyntax r ↔ ¬ HasFormIn filter.reading asked) → ((why : ComponentRange) → FailsWithComponent why r ↔ IsFaultIn filter.reading asked why)
     → IsOneAsked filter asked
 one_asked filter asked r every form component =
     (λ a b h k. one_answer filter asked r a b every form component h k, λ bounds e. one filter bounds asked r e every form component)

@@ -12,7 +12,7 @@ use Rattle.std.proofs.lemmas.Str.{IsUtf8-from_ascii, IsAscii-append}
 use Rattle.std.proofs.lemmas.Str.Parse.{IsNumeralModel, numerals_by_value, tells_digits, digit_at, parse_signed_minus, parse_signed_plain}
 use Rattle.cal_time.specs.declared.error.ComponentRange.{ComponentRange}
 use Rattle.cal_datetime.specs.DateTime.{IsDateTime, last_date_time}
-use Rattle.cal_datetime.specs.OffsetDateTime.{Shown, unix_epoch}
+use Rattle.cal_datetime.specs.OffsetDateTime.{LocalAndOffset, unix_epoch}
 use Rattle.cal_text.specs.declared.any.DateOrMoment.TheVariants.{Moment}
 use Rattle.cal_text.specs.declared.any.MomentForm.TheVariants.{Unix}
 use Rattle.caldate_run.specs.Readings.{IsFaultIn, IsNumber, IsNumberOf, local_of, nanoseconds_in}
@@ -101,11 +101,11 @@ in_range (negsuc n) h = absurd (h (λ k. omega (arith, ints, k.not_before)))
 one_value : {A E : Type 0} (a b : A) → ◌≡◌ {A = Result A E} (Ok a) (Ok b) → a ≡ b
 one_value a b e = cc
 
-abbrev at_utc : ℤ → Shown
+abbrev at_utc : ℤ → LocalAndOffset
 at_utc v = record { local = unix_epoch +ℤ v; offset = pos 0 }
 
-pub moment_of : {E : Type 0} (unit : UnixUnit) (text : List ℕ) (z v : ℤ) (m : Shown) → IsNumber text z → v ≡ z *ℤ pos (nanoseconds_in unit)
-    → (IsDateTime (unix_epoch +ℤ v) → ◌≡◌ {A = Result Shown E} (Ok m) (Ok (record { local = unix_epoch +ℤ v; offset = pos 0 })))
+pub moment_of : {E : Type 0} (unit : UnixUnit) (text : List ℕ) (z v : ℤ) (m : LocalAndOffset) → IsNumber text z → v ≡ z *ℤ pos (nanoseconds_in unit)
+    → (IsDateTime (unix_epoch +ℤ v) → ◌≡◌ {A = Result LocalAndOffset E} (Ok m) (Ok (record { local = unix_epoch +ℤ v; offset = pos 0 })))
     → (¬ IsDateTime (unix_epoch +ℤ v) → ⊥) → IsNumberOf unit text (Moment Unix m)
 moment_of unit text z v m n e made some =
     let range = in_range (unix_epoch +ℤ v) some in

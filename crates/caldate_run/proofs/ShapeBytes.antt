@@ -3,23 +3,23 @@ use Rattle.std.proofs.Common.{◌≡◌, ◌⊎◌, inl, inr, ℕ, ◌+◌, Bool
 use Rattle.std.specs.Prelude.{◌||◌, nat_lt}
 use Rattle.std.proofs.lemmas.Bool.{false≢true}
 use Rattle.std.proofs.lemmas.Bool.Decides.{nat_tests}
-use Rattle.cal_text.specs.Shape.{Shape, Done, From, Branch, left}
-use Rattle.cal_text.proofs.Stops.{IsIn, in_or_out, left-in, left-out, left-end, left-branch_in, left-branch_out, left-branch_end, left-more}
+use Rattle.cal_text.specs.Shape.{Shape, End, ByteRange, Branch, unmatched_bytes}
+use Rattle.cal_text.proofs.Stops.{IsIn, in_or_out, unmatched_bytes-in, unmatched_bytes-out, unmatched_bytes-end, unmatched_bytes-branch_in, unmatched_bytes-branch_out, unmatched_bytes-branch_end, unmatched_bytes-more}
 
 -- ---- the first byte of a text
-pub from-first : (low above : ℕ) (f : Shape) (x : ℕ) (xs : List ℕ) → left (From low above f) (x ∷ xs) ≡ 0 → IsIn low above x × (left f xs ≡ 0)
+pub from-first : (low above : ℕ) (f : Shape) (x : ℕ) (xs : List ℕ) → unmatched_bytes (ByteRange low above f) (x ∷ xs) ≡ 0 → IsIn low above x × (unmatched_bytes f xs ≡ 0)
 from-first low above f x xs e =
-    elim (in_or_out low above x) as (λ _. IsIn low above x × (left f xs ≡ 0)) [
-      | inl here ↦ (here, sym (left-in low above f x xs here) ∙ e)
-      | inr out ↦ absurd (omega (arith, e, left-out low above f x xs out))
+    elim (in_or_out low above x) as (λ _. IsIn low above x × (unmatched_bytes f xs ≡ 0)) [
+      | inl here ↦ (here, sym (unmatched_bytes-in low above f x xs here) ∙ e)
+      | inr out ↦ absurd (omega (arith, e, unmatched_bytes-out low above f x xs out))
     ]
 
-pub branch-first : (low above : ℕ) (f g : Shape) (x : ℕ) (xs : List ℕ) → left (Branch low above f g) (x ∷ xs) ≡ 0
-    → (IsIn low above x × (left f xs ≡ 0)) ⊎ (left g (x ∷ xs) ≡ 0)
+pub branch-first : (low above : ℕ) (f g : Shape) (x : ℕ) (xs : List ℕ) → unmatched_bytes (Branch low above f g) (x ∷ xs) ≡ 0
+    → (IsIn low above x × (unmatched_bytes f xs ≡ 0)) ⊎ (unmatched_bytes g (x ∷ xs) ≡ 0)
 branch-first low above f g x xs e =
-    elim (in_or_out low above x) as (λ _. (IsIn low above x × (left f xs ≡ 0)) ⊎ (left g (x ∷ xs) ≡ 0)) [
-      | inl here ↦ inl (here, sym (left-branch_in low above f g x xs here) ∙ e)
-      | inr out ↦ inr (sym (left-branch_out low above f g x xs out) ∙ e)
+    elim (in_or_out low above x) as (λ _. (IsIn low above x × (unmatched_bytes f xs ≡ 0)) ⊎ (unmatched_bytes g (x ∷ xs) ≡ 0)) [
+      | inl here ↦ inl (here, sym (unmatched_bytes-branch_in low above f g x xs here) ∙ e)
+      | inr out ↦ inr (sym (unmatched_bytes-branch_out low above f g x xs out) ∙ e)
     ]
 
 abbrev pub is_out : ℕ → ℕ → ℕ → Bool
@@ -38,15 +38,15 @@ one_of false b e = inr e
 
 -- ---- a byte that no text of the shape has
 abbrev pub lacks : ℕ → Shape → Bool
-lacks b Done = true
-lacks b (From low above f) = is_out low above b && lacks b f
+lacks b End = true
+lacks b (ByteRange low above f) = is_out low above b && lacks b f
 lacks b (Branch low above f g) = is_out low above b && (lacks b f && lacks b g)
 
-pub lacking : (b : ℕ) (f : Shape) (xs ys : List ℕ) → lacks b f ≡ true → left f (xs ++ b ∷ ys) ≡ 0 → ⊥
-lacking b Done [] ys h e = absurd (omega (arith, e, left-more b ys))
-lacking b Done (x ∷ xs) ys h e = absurd (omega (arith, e, left-more x (xs ++ b ∷ ys)))
-lacking b (From low above f) [] ys h e = absurd (out low above b (both _ _ h).0 (from-first low above f b ys e).0)
-lacking b (From low above f) (x ∷ xs) ys h e = lacking b f xs ys (both _ _ h).1 (from-first low above f x (xs ++ b ∷ ys) e).1
+pub lacking : (b : ℕ) (f : Shape) (xs ys : List ℕ) → lacks b f ≡ true → unmatched_bytes f (xs ++ b ∷ ys) ≡ 0 → ⊥
+lacking b End [] ys h e = absurd (omega (arith, e, unmatched_bytes-more b ys))
+lacking b End (x ∷ xs) ys h e = absurd (omega (arith, e, unmatched_bytes-more x (xs ++ b ∷ ys)))
+lacking b (ByteRange low above f) [] ys h e = absurd (out low above b (both _ _ h).0 (from-first low above f b ys e).0)
+lacking b (ByteRange low above f) (x ∷ xs) ys h e = lacking b f xs ys (both _ _ h).1 (from-first low above f x (xs ++ b ∷ ys) e).1
 lacking b (Branch low above f g) [] ys h e =
     let all = both _ _ h in
     elim (branch-first low above f g b ys e) [ inl here ↦ out low above b all.0 here.0 | inr other ↦ lacking b g [] ys (both _ _ all.1).1 other ]
@@ -67,10 +67,10 @@ misses low above None = false
 misses low above (Some b) = is_out low above b
 
 abbrev pub rules_out : List (Option ℕ) → Shape → Bool
-rules_out [] Done = false
-rules_out (k ∷ ks) Done = true
-rules_out [] (From low above f) = true
-rules_out (k ∷ ks) (From low above f) = misses low above k || rules_out ks f
+rules_out [] End = false
+rules_out (k ∷ ks) End = true
+rules_out [] (ByteRange low above f) = true
+rules_out (k ∷ ks) (ByteRange low above f) = misses low above k || rules_out ks f
 rules_out [] (Branch low above f g) = rules_out [] g
 rules_out (k ∷ ks) (Branch low above f g) = (misses low above k || rules_out ks f) && rules_out (k ∷ ks) g
 
@@ -79,18 +79,18 @@ known : (low above : ℕ) (k : Option ℕ) (ks : List (Option ℕ)) (x : ℕ) (x
 known low above None ks x xs h = (λ e. absurd (false≢true e), h)
 known low above (Some b) ks x xs h = (λ e here. out low above b e (subst (IsIn low above) (sym h.0) here), h.1)
 
-pub ruled_out : (ks : List (Option ℕ)) (f : Shape) (bytes : List ℕ) → rules_out ks f ≡ true → Knows ks bytes → left f bytes ≡ 0 → ⊥
-ruled_out [] Done bytes h is e = absurd (false≢true h)
-ruled_out (k ∷ ks) Done [] h is e = absurd is
-ruled_out (k ∷ ks) Done (x ∷ xs) h is e = absurd (omega (arith, e, left-more x xs))
-ruled_out [] (From low above f) [] h is e = absurd (omega (arith, e, left-end low above f))
-ruled_out [] (From low above f) (x ∷ xs) h is e = absurd is
-ruled_out (k ∷ ks) (From low above f) [] h is e = absurd is
-ruled_out (k ∷ ks) (From low above f) (x ∷ xs) h is e =
+pub ruled_out : (ks : List (Option ℕ)) (f : Shape) (bytes : List ℕ) → rules_out ks f ≡ true → Knows ks bytes → unmatched_bytes f bytes ≡ 0 → ⊥
+ruled_out [] End bytes h is e = absurd (false≢true h)
+ruled_out (k ∷ ks) End [] h is e = absurd is
+ruled_out (k ∷ ks) End (x ∷ xs) h is e = absurd (omega (arith, e, unmatched_bytes-more x xs))
+ruled_out [] (ByteRange low above f) [] h is e = absurd (omega (arith, e, unmatched_bytes-end low above f))
+ruled_out [] (ByteRange low above f) (x ∷ xs) h is e = absurd is
+ruled_out (k ∷ ks) (ByteRange low above f) [] h is e = absurd is
+ruled_out (k ∷ ks) (ByteRange low above f) (x ∷ xs) h is e =
     let first = known low above k ks x xs is in
     let next = from-first low above f x xs e in
     elim (one_of _ _ h) [ inl missed ↦ first.0 missed next.0 | inr none ↦ ruled_out ks f xs none first.1 next.1 ]
-ruled_out [] (Branch low above f g) [] h is e = ruled_out [] g [] h is (sym (left-branch_end low above f g) ∙ e)
+ruled_out [] (Branch low above f g) [] h is e = ruled_out [] g [] h is (sym (unmatched_bytes-branch_end low above f g) ∙ e)
 ruled_out [] (Branch low above f g) (x ∷ xs) h is e = absurd is
 ruled_out (k ∷ ks) (Branch low above f g) [] h is e = absurd is
 ruled_out (k ∷ ks) (Branch low above f g) (x ∷ xs) h is e =

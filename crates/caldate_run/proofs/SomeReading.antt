@@ -6,7 +6,7 @@ use Rattle.std.proofs.lemmas.List.Elements.{All-cons, All-nil, All-same, All-wea
 use Rattle.std.proofs.lemmas.Slice.Eq.{bytes_eq-Decides}
 use Rattle.cal_text.specs.AnyForm.{IsTextOf}
 use Rattle.cal_text.specs.declared.any.DateOrMoment.{DateOrMoment}
-use Rattle.cal_text.specs.declared.error.Unreadable.{Unreadable}
+use Rattle.cal_text.specs.declared.error.ParseError.{ParseError}
 use Rattle.caldate_run.specs.Requests.{IsRead, IsReading}
 
 abbrev pub HasReading : List (List ℕ) → Type 0
@@ -29,12 +29,12 @@ itself_read reading word found is =
     subst (λ same. IsRead (λ text. cond same found (reading text)) word) (sym ((bytes_eq-Decides word word).1 refl)) is
 
 -- what a reader says of a text that it reads right
-is_read : (text : List ℕ) (r : Result DateOrMoment Unreadable) → ((found : DateOrMoment) → IsTextOf text found → r ≡ Ok found) → IfOk r (IsTextOf text)
+is_read : (text : List ℕ) (r : Result DateOrMoment ParseError) → ((found : DateOrMoment) → IsTextOf text found → r ≡ Ok found) → IfOk r (IsTextOf text)
     → IsRead (λ text. result_ok r) text
 is_read text (Ok found) every has = has
 is_read text (Err error) every has = λ found h. let e = every found h in cc
 
-pub one_more_read : (word : List ℕ) (r : Result DateOrMoment Unreadable) (words all : List (List ℕ)) → ((found : DateOrMoment) → IsTextOf word found → r ≡ Ok found)
+pub one_more_read : (word : List ℕ) (r : Result DateOrMoment ParseError) (words all : List (List ℕ)) → ((found : DateOrMoment) → IsTextOf word found → r ≡ Ok found)
     → IfOk r (IsTextOf word) → all ≡ word ∷ words → HasReading words → HasReading all
 one_more_read word r words all every has e (reading, h) =
     let found = result_ok r in

@@ -5,8 +5,8 @@ use Rattle.std.specs.Prelude.{◌==◌, IfErr, Result, Ok, Err}
 use Rattle.std.proofs.lemmas.Bool.{cases_lt}
 use Rattle.std.proofs.lemmas.Bool.Decides.{nat_tests}
 use Rattle.std.proofs.lemmas.List.{get_or-take, length-take-le}
-use Rattle.cal_text.specs.Position.{Begins, IsPosition, IsAtStop}
-use Rattle.cal_text.specs.declared.error.Unreadable.{Unreadable}
+use Rattle.cal_text.specs.Position.{Begins, IsPosition, IsErrorAtStop}
+use Rattle.cal_text.specs.declared.error.ParseError.{ParseError}
 use Rattle.cal_text.proofs.Positions.{carried}
 use Rattle.caldate_run.specs.Templates.{Fits, IsTemplateFor, stands_at}
 
@@ -95,8 +95,8 @@ template_for IsText template text into back q less = (fitting, begun)
     begun : Fits template (take q text) → Begins IsText (take q text)
     begun h = let all = filled template (take q text) h in record { more = all.more; text = back (take q text ++ all.more) all.whole all.fits }
 
-pub at_stop : (IsText : List ℕ → Type 0) (template text : List ℕ) (e : Unreadable) → IsTemplateFor IsText text template → IsAtStop (Fits template) text e
-    → IsAtStop IsText text e
+pub at_stop : (IsText : List ℕ → Type 0) (template text : List ℕ) (e : ParseError) → IsTemplateFor IsText text template → IsErrorAtStop (Fits template) text e
+    → IsErrorAtStop IsText text e
 at_stop IsText template text e is = carried (Fits template) IsText text e (λ p h. record {
   within = h.within;
   begins = (is p h.within).1 (fits-front template (take p text) h.begins.more h.begins.text);
@@ -104,7 +104,7 @@ at_stop IsText template text e is = carried (Fits template) IsText text e (λ p 
       (record { more = []; text = subst (Fits template) (sym (append-nil (take (p + 1) text))) ((is (p + 1) (omega (arith, less))).0 further) });
 })
 
-pub stop_in : {V : Type 0} (IsText : List ℕ → Type 0) (template text : List ℕ) (r : Result V Unreadable) → IsTemplateFor IsText text template
-    → IfErr r (IsAtStop (Fits template) text) → IfErr r (IsAtStop IsText text)
+pub stop_in : {V : Type 0} (IsText : List ℕ → Type 0) (template text : List ℕ) (r : Result V ParseError) → IsTemplateFor IsText text template
+    → IfErr r (IsErrorAtStop (Fits template) text) → IfErr r (IsErrorAtStop IsText text)
 stop_in IsText template text (Ok v) is h = h
 stop_in IsText template text (Err e) is h = at_stop IsText template text e is h

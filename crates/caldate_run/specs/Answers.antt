@@ -2,15 +2,15 @@
 use Rattle.std.specs.Prelude.{◌≡◌, ◌⊎◌, ℕ, ◌<◌, ◌≤◌, ◌&&◌, true, ℤ, pos, ◌+ℤ◌, ◌-ℤ◌, List, [], ◌++◌, codes, length, decimal, Option, Some, None, is_some, if◌then◌else◌}
 use Rattle.std.specs.Fmt.{signed_decimal}
 use Rattle.cal_time.specs.Date.{IsDate, julian_day_at}
-use Rattle.cal_time.specs.Refusal.{component_name}
+use Rattle.cal_time.specs.ComponentError.{component_name}
 use Rattle.cal_time.specs.declared.error.ComponentRange.{ComponentRange}
 use Rattle.cal_time.specs.SignedDuration.{whole_days}
 use Rattle.cal_time.specs.SignedDuration as duration
 use Rattle.cal_datetime.specs.DateTime.{IsDateTime, date_time, time_at}
-use Rattle.cal_datetime.specs.OffsetDateTime.{Shown, instant, local_at}
+use Rattle.cal_datetime.specs.OffsetDateTime.{LocalAndOffset, instant, local_at}
 use Rattle.cal_text.specs.Position.{IsPosition}
-use Rattle.cal_text.specs.declared.error.Unreadable.{Unreadable}
-use Rattle.cal_text.specs.declared.error.Unreadable.TheVariants.{UnexpectedByte, UnexpectedEnd, OutOfRange}
+use Rattle.cal_text.specs.declared.error.ParseError.{ParseError}
+use Rattle.cal_text.specs.declared.error.ParseError.TheVariants.{UnexpectedByte, UnexpectedEnd, OutOfRange}
 use Rattle.cal_text.specs.declared.any.DateOrMoment.{DateOrMoment}
 use Rattle.cal_text.specs.declared.any.DateOrMoment.TheVariants as read
 use Rattle.cal_text.specs.declared.any.MomentForm.TheVariants.{Rfc3339}
@@ -30,21 +30,21 @@ use Rattle.caldate_run.specs.declared.request.TimeUnit.{TimeUnit}
 
 -- ---- the words
 -- Moment m moves to day n and keeps its time of day and offset.
-abbrev pub on_day : Shown → ℕ → Shown
+abbrev pub on_day : LocalAndOffset → ℕ → LocalAndOffset
 on_day m n = record { local = date_time n (time_at m.local); offset = m.offset }
 
 -- A date moves by only the whole days of a duration, a moment by all of it.
-pub record IsDayLater (n : ℕ) (d : ℤ) (m : Shown) : Type 0 where
+pub record IsDayLater (n : ℕ) (d : ℤ) (m : LocalAndOffset) : Type 0 where
   pub day : ℕ
   pub date : IsDate day
   pub moved : pos day ≡ pos n +ℤ whole_days d
   pub midnight : m ≡ record { local = date_time day 0; offset = pos 0 }
 
-pub record IsMomentLater (from : Shown) (d : ℤ) (m : Shown) : Type 0 where
+pub record IsMomentLater (from : LocalAndOffset) (d : ℤ) (m : LocalAndOffset) : Type 0 where
   pub in_range : IsDateTime (from.local +ℤ d)
   pub moved : m ≡ record { local = from.local +ℤ d; offset = from.offset }
 
-abbrev pub IsLater : DateOrMoment → ℤ → Shown → Type 0
+abbrev pub IsLater : DateOrMoment → ℤ → LocalAndOffset → Type 0
 IsLater (read.Date form n) d m = IsDayLater n d m
 IsLater (read.Moment form from) d m = IsMomentLater from d m
 
@@ -60,12 +60,12 @@ IsBetween None from to words = words ≡ until_text from to
 IsBetween (Some unit) from to words = (z : ℤ) × IsCount unit (moment_of from) (moment_of to) z × (words ≡ signed_decimal z)
 
 -- Moment m is the moment `from` at the offset.
-pub record IsShownAt (offset : ℤ) (from m : Shown) : Type 0 where
+pub record IsShownAt (offset : ℤ) (from m : LocalAndOffset) : Type 0 where
   pub in_range : IsDateTime (local_at (instant from) offset)
   pub shown : m ≡ record { local = local_at (instant from) offset; offset = offset }
 
-abbrev pub IsAt : ℤ → Shown → List ℕ → Type 0
-IsAt offset from words = (m : Shown) × IsShownAt offset from m × IsInForm (Moment Rfc3339) m words
+abbrev pub IsAt : ℤ → LocalAndOffset → List ℕ → Type 0
+IsAt offset from words = (m : LocalAndOffset) × IsShownAt offset from m × IsInForm (Moment Rfc3339) m words
 
 -- The words are the moved day in the form that was read, at the same time of day.
 abbrev pub IsMoved : DayMove → DateOrMoment → List ℕ → Type 0
@@ -75,7 +75,7 @@ IsMoved by found words = (n : ℕ) × LeadsTo by (day_of found) n × IsInForm (f
 -- it.
 abbrev pub IsAnswerTo : Request → DateOrMoment → List ℕ → Type 0
 IsAnswerTo (To form) found words = IsInForm form (moment_of found) words
-IsAnswerTo (Add d) found words = (m : Shown) × IsLater found d m × IsInForm (form_read found) m words
+IsAnswerTo (Add d) found words = (m : LocalAndOffset) × IsLater found d m × IsInForm (form_read found) m words
 IsAnswerTo (Move by) found words = IsMoved by found words
 IsAnswerTo (Until target unit) found words = IsBetween unit found target words
 IsAnswerTo (Since target unit) found words = IsBetween unit target found words
@@ -101,7 +101,7 @@ abbrev pub refused_text : ComponentRange → List ℕ
 refused_text why = codes "refused " ++ component_name why.component ++ (if why.is_conditional then codes " conditional" else [])
 
 -- The words say why a text can't be read.
-abbrev pub why_text : Unreadable → List ℕ
+abbrev pub why_text : ParseError → List ℕ
 why_text (UnexpectedByte at) = codes "unreadable at " ++ decimal at
 why_text (UnexpectedEnd at) = codes "unreadable at " ++ decimal at
 why_text (OutOfRange e) = refused_text e

@@ -3,7 +3,7 @@ use Rattle.std.specs.Prelude.{ℕ, ◌-◌, ◌==◌, Bool, true, false, List, [
 use Rattle.std.specs.Option.{option_map_or}
 use Rattle.cal_recurrence.specs.FaultText.{fault_text}
 use Rattle.cal_recurrence.specs.Text.{recurrence_of}
-use Rattle.cal_recurrence.specs.declared.fault.RuleFault.{RuleFault}
+use Rattle.cal_recurrence.specs.declared.fault.ParseRuleError.{ParseRuleError}
 use Rattle.cal_recurrence.specs.declared.recurrence.Recurrence.{Recurrence}
 use Rattle.caldate_run.specs.Requests.{is_option}
 use Rattle.caldate_run.specs.Shown.{shown}
@@ -105,7 +105,7 @@ abbrev pub quoted : List ℕ → List ℕ
 quoted word = codes "'" ++ shown word ++ codes "'"
 
 -- the error in the text of a rule
-abbrev pub rule_error : Result Recurrence RuleFault → List ℕ
+abbrev pub rule_error : Result Recurrence ParseRuleError → List ℕ
 rule_error (Ok recurrence) = []
 rule_error (Err fault) = codes ": " ++ fault_text fault
 

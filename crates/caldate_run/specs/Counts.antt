@@ -3,19 +3,19 @@ use Rattle.std.specs.Prelude.{◌≡◌, ℕ, ◌≤◌, ◌<◌, ℤ, pos, ◌+
 use Rattle.cal_time.specs.Date.{IsDate}
 use Rattle.cal_time.specs.SignedDuration.{cut, whole_days, week, day, hour, minute, second}
 use Rattle.cal_datetime.specs.DateTime.{date_at}
-use Rattle.cal_datetime.specs.OffsetDateTime.{Shown, instant}
-use Rattle.cal_schedule.specs.Until.{LeadsUpTo, LeadsBackTo, IsGreatest, IsLeast}
+use Rattle.cal_datetime.specs.OffsetDateTime.{LocalAndOffset, instant}
+use Rattle.cal_schedule.specs.Until.{IsMonthsUpTo, IsMonthsBackTo, IsGreatest, IsLeast}
 use Rattle.cal_schedule.specs.Workdays.{workdays_within}
 use Rattle.caldate_run.specs.Moves.{monday_to_friday}
 use Rattle.caldate_run.specs.declared.request.TimeUnit.{TimeUnit}
 use Rattle.caldate_run.specs.declared.request.TimeUnit.TheVariants as unit
 
 -- The duration from one moment to another.
-abbrev pub duration_between : Shown → Shown → ℤ
+abbrev pub duration_between : LocalAndOffset → LocalAndOffset → ℤ
 duration_between from to = instant to -ℤ instant from
 
 -- Day t is the whole days of the duration after the local date of `from`.
-pub record IsReached (from to : Shown) (t : ℕ) : Type 0 where
+pub record IsReached (from to : LocalAndOffset) (t : ℕ) : Type 0 where
   pub date : IsDate t
   pub moved : pos t ≡ pos (date_at from.local) +ℤ whole_days (duration_between from to)
 
@@ -25,16 +25,16 @@ IsCut n t Up Back z = (n ≤ t → IsGreatest Up z) × (t < n → IsLeast Back z
 
 -- The number of years, months or workdays from day n to day t is z.
 unfoldable pub AreYears : ℕ → ℕ → ℤ → Type 0
-AreYears n t z = IsCut n t (λ y. LeadsUpTo n t (pos 12 *ℤ y)) (λ y. LeadsBackTo n t (pos 12 *ℤ y)) z
+AreYears n t z = IsCut n t (λ y. IsMonthsUpTo n t (pos 12 *ℤ y)) (λ y. IsMonthsBackTo n t (pos 12 *ℤ y)) z
 
 abbrev pub AreMonths : ℕ → ℕ → ℤ → Type 0
-AreMonths n t z = IsCut n t (LeadsUpTo n t) (LeadsBackTo n t) z
+AreMonths n t z = IsCut n t (IsMonthsUpTo n t) (IsMonthsBackTo n t) z
 
 abbrev pub AreWorkdays : ℕ → ℕ → ℤ → Type 0
 AreWorkdays n t z = z ≡ pos (length (workdays_within monday_to_friday n t)) -ℤ pos (length (workdays_within monday_to_friday t n))
 
 -- The number of units from one moment to another is z.
-abbrev pub IsCount : TimeUnit → Shown → Shown → ℤ → Type 0
+abbrev pub IsCount : TimeUnit → LocalAndOffset → LocalAndOffset → ℤ → Type 0
 IsCount unit.Years from to z = (t : ℕ) × IsReached from to t × AreYears (date_at from.local) t z
 IsCount unit.Months from to z = (t : ℕ) × IsReached from to t × AreMonths (date_at from.local) t z
 IsCount unit.Workdays from to z = (t : ℕ) × IsReached from to t × AreWorkdays (date_at from.local) t z

@@ -9,7 +9,7 @@ use Rattle.cal_time.specs.SignedDuration.{microsecond, millisecond}
 use Rattle.cal_time.specs.Weekday.{name}
 use Rattle.cal_time.specs.Weekday as weekday
 use Rattle.cal_datetime.specs.DateTime.{date_at}
-use Rattle.cal_datetime.specs.OffsetDateTime.{Shown, instant, unix_nanoseconds}
+use Rattle.cal_datetime.specs.OffsetDateTime.{LocalAndOffset, instant, unix_nanoseconds}
 use Rattle.cal_schedule.specs.Months.{quarter_at}
 use Rattle.cal_text.specs.AnyForm.{date_text}
 use Rattle.cal_text.specs.Rfc3339.{HasMomentText, moment_text}
@@ -22,7 +22,7 @@ use Rattle.caldate_run.specs.declared.request.UnixUnit.TheVariants.{Milliseconds
 
 -- The English name of the weekday of day n.
 abbrev pub weekday_text : ℕ → List ℕ
-weekday_text n = name (weekday.weekday_at (weekday_at n))
+weekday_text n = name (weekday.weekday_of_index (weekday_at n))
 
 -- The month and the quarter of day n, such as 2024-02 and 2024-Q1.
 abbrev pub month_text : ℕ → List ℕ
@@ -46,7 +46,7 @@ units_in Microseconds v = int_div_euclid v (pos microsecond)
 units_in Nanoseconds v = v
 
 -- The words are the text of a moment in the form.
-abbrev pub IsInForm : Form → Shown → List ℕ → Type 0
+abbrev pub IsInForm : Form → LocalAndOffset → List ℕ → Type 0
 IsInForm (Date form) m words = words ≡ date_text form (date_at m.local)
 IsInForm Weekday m words = words ≡ weekday_text (date_at m.local)
 IsInForm (Moment moment.Rfc3339) m words = HasMomentText m × (words ≡ moment_text m)

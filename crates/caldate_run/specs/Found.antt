@@ -1,13 +1,13 @@
 -- The moment, the day and the form of a date or a moment that was read. A date is midnight UTC.
 use Rattle.std.specs.Prelude.{ℕ, Bool, true, false, pos}
 use Rattle.cal_datetime.specs.DateTime.{date_time, date_at}
-use Rattle.cal_datetime.specs.OffsetDateTime.{Shown}
+use Rattle.cal_datetime.specs.OffsetDateTime.{LocalAndOffset}
 use Rattle.cal_text.specs.declared.any.DateOrMoment.{DateOrMoment}
 use Rattle.cal_text.specs.declared.any.DateOrMoment.TheVariants as read
 use Rattle.caldate_run.specs.declared.request.Form.{Form}
 use Rattle.caldate_run.specs.declared.request.Form.TheVariants.{Date, Moment}
 
-abbrev pub moment_of : DateOrMoment → Shown
+abbrev pub moment_of : DateOrMoment → LocalAndOffset
 moment_of (read.Date form n) = record { local = date_time n 0; offset = pos 0 }
 moment_of (read.Moment form m) = m
 

@@ -2,7 +2,7 @@
 use Rattle.std.specs.Prelude.{◌≡◌, ℕ, ◌+◌, ◌-◌, ◌*◌, true, false, pos, ◌*ℤ◌, [], ◌∷◌, Some, slice_get}
 use Rattle.cal_time.specs.Date.{IsDate, HasCalendarDate, year_at, month_at, weekday_at}
 use Rattle.cal_time.specs.Lengths.{days_in_month}
-use Rattle.cal_time.specs.Occurrence.{next_occurrences, prev_occurrences, kth}
+use Rattle.cal_time.specs.Occurrences.{next_occurrences, prev_occurrences, kth}
 use Rattle.cal_time.specs.Weekday.{index}
 use Rattle.cal_schedule.specs.Months.{IsMonthsLater, quarter_at}
 use Rattle.cal_schedule.specs.Weekdays.{occurrences_from, occurrences_upto}

@@ -4,8 +4,8 @@ use Rattle.std.specs.Fmt.{signed_decimal}
 use Rattle.cal_time.specs.SignedDuration.{microsecond, millisecond}
 use Rattle.cal_time.specs.declared.error.ComponentRange.{ComponentRange}
 use Rattle.cal_datetime.specs.DateTime.{IsDateTime}
-use Rattle.cal_datetime.specs.OffsetDateTime.{Shown, unix_epoch, timestamp_out_of_range}
-use Rattle.cal_text.specs.AnyForm.{IsTextOf, IsFault, HasAnyForm}
+use Rattle.cal_datetime.specs.OffsetDateTime.{LocalAndOffset, unix_epoch, timestamp_out_of_range}
+use Rattle.cal_text.specs.AnyForm.{IsTextOf, IsDateOrMomentError, HasAnyForm}
 use Rattle.cal_text.specs.declared.any.DateOrMoment.{DateOrMoment}
 use Rattle.cal_text.specs.declared.any.DateOrMoment.TheVariants.{Moment}
 use Rattle.cal_text.specs.declared.any.MomentForm.TheVariants as form
@@ -57,13 +57,13 @@ pub record IsNumber (bytes : List ℕ) (z : ℤ) : Type 0 where
 abbrev pub local_of : UnixUnit → ℤ → ℤ
 local_of unit z = unix_epoch +ℤ (z *ℤ pos (nanoseconds_in unit))
 
-pub record IsUnixMoment (unit : UnixUnit) (z : ℤ) (m : Shown) : Type 0 where
+pub record IsUnixMoment (unit : UnixUnit) (z : ℤ) (m : LocalAndOffset) : Type 0 where
   pub in_range : IsDateTime (local_of unit z)
   pub at_utc : m ≡ record { local = local_of unit z; offset = pos 0 }
 
 abbrev pub IsNumberOf : UnixUnit → List ℕ → DateOrMoment → Type 0
 IsNumberOf unit bytes found =
-    (z : ℤ) × IsNumber bytes z × ((m : Shown) × IsUnixMoment unit z m × (found ≡ Moment form.Unix m))
+    (z : ℤ) × IsNumber bytes z × ((m : LocalAndOffset) × IsUnixMoment unit z m × (found ≡ Moment form.Unix m))
 
 -- ---- the whole
 -- The bytes are a text of this date or moment.
@@ -81,4 +81,4 @@ HasFormIn reading bytes = IsSomeAnd (full_text reading bytes) HasAnyForm
 abbrev pub IsFaultIn : Reading → List ℕ → ComponentRange → Type 0
 IsFaultIn (reading.Unix unit) bytes why =
     (why ≡ timestamp_out_of_range) × ((z : ℤ) × IsNumber bytes z × ¬ IsDateTime (local_of unit z))
-IsFaultIn reading bytes why = IsSomeAnd (full_text reading bytes) (λ text. IsFault text why)
+IsFaultIn reading bytes why = IsSomeAnd (full_text reading bytes) (λ text. IsDateOrMomentError text why)

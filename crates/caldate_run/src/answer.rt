@@ -1,8 +1,8 @@
 //! The answer to the text of a line.
 ghost use Rattle.std.specs.Prelude.{◌≡◌, ◌+◌, ◌≤◌, ◌++◌, ℕ, List, Some, false, true, codes, length, MatchOption};
-ghost use Rattle.cal_datetime.specs.OffsetDateTime.{Shown};
+ghost use Rattle.cal_datetime.specs.OffsetDateTime.{LocalAndOffset};
 ghost use Rattle.cal_text.specs.AnyForm.{date_text};
-ghost use Rattle.cal_text.specs.Reading.{component_of};
+ghost use Rattle.cal_text.specs.Parsing.{component_of};
 ghost use Rattle.caldate_run.specs.Answers.{HasAnswer, IsAnswerTo, IsAt, IsBetween, IsDayLater, IsLater, IsMomentLater, IsMoved, LacksAnswer, refused_text, until_text, why_text, moment_of, form_read, on_day, is_date};
 ghost use Rattle.caldate_run.specs.Forms.{IsInForm};
 ghost use Rattle.caldate_run.specs.Room.{HasRoom, longest_answer};
@@ -19,7 +19,7 @@ use crate::signed::signed_text;
 use cal_datetime::OffsetDateTime;
 use cal_text::date::{CalendarText, OrdinalText, WeekText};
 use cal_text::julian_day::JulianText;
-use cal_text::{DateForm, DateOrMoment, MomentForm, Unreadable, rfc3339, unix};
+use cal_text::{DateForm, DateOrMoment, MomentForm, ParseError, rfc3339, unix};
 use cal_time::error::ComponentRange;
 use cal_time::{Date, ShortText, SignedDuration, Time, UtcOffset};
 
@@ -49,17 +49,17 @@ pub fn push_answer(buffer: &mut Buffer, filter: &Filter, text: &[u8]) -> bool
 }
 
 /// Appends the reason why a text can't be read, such as `unreadable at 4`.
-fn push_why(buffer: &mut Buffer, error: Unreadable)
+fn push_why(buffer: &mut Buffer, error: ParseError)
     requires { HasRoom longest_answer buffer.old }
     ensures text { buffer.new ≡ buffer.old ++ why_text error }
     ensures short { length buffer.new ≤ length buffer.old + longest_answer }
 {
     match error {
-        Unreadable::UnexpectedByte(position) | Unreadable::UnexpectedEnd(position) => {
+        ParseError::UnexpectedByte(position) | ParseError::UnexpectedEnd(position) => {
             buffer.push(b"unreadable at ");
             buffer.push_number(position as u64);
         }
-        Unreadable::OutOfRange(component) => push_refusal(buffer, component),
+        ParseError::OutOfRange(component) => push_refusal(buffer, component),
     }
 }
 
@@ -182,7 +182,7 @@ fn text_of_date(form: DateForm, date: Date) -> ShortText
 
 /// Adds a duration, or returns `None` if the result is out of range.
 fn later(found: &DateOrMoment, duration: SignedDuration) -> Option<OffsetDateTime>
-    ensures { MatchOption result ((m : Shown) → ¬ IsLater found.now duration m)
+    ensures { MatchOption result ((m : LocalAndOffset) → ¬ IsLater found.now duration m)
         (IsLater found.now duration) }
 {
     match found {
@@ -193,7 +193,7 @@ fn later(found: &DateOrMoment, duration: SignedDuration) -> Option<OffsetDateTim
 
 /// Returns midnight UTC on the day after adding the whole days of the duration.
 fn day_later(date: Date, duration: SignedDuration) -> Option<OffsetDateTime>
-    ensures { MatchOption result ((m : Shown) → ¬ IsDayLater date duration m)
+    ensures { MatchOption result ((m : LocalAndOffset) → ¬ IsDayLater date duration m)
         (IsDayLater date duration) }
 {
     match date.checked_add(duration) {
@@ -203,7 +203,7 @@ fn day_later(date: Date, duration: SignedDuration) -> Option<OffsetDateTime>
 }
 
 fn moment_later(moment: OffsetDateTime, duration: SignedDuration) -> Option<OffsetDateTime>
-    ensures { MatchOption result ((m : Shown) → ¬ IsMomentLater moment duration m)
+    ensures { MatchOption result ((m : LocalAndOffset) → ¬ IsMomentLater moment duration m)
         (IsMomentLater moment duration) }
 {
     moment.checked_add(duration)
@@ -278,7 +278,7 @@ fn push_until(buffer: &mut Buffer, from: &DateOrMoment, to: &DateOrMoment)
     let end = moment_of(to);
     if is_date(from) && is_date(to) {
         let mut days = ShortText::new();
-        days.push_signed(end.date().to_julian_day() - start.date().to_julian_day());
+        days.push_i32(end.date().to_julian_day() - start.date().to_julian_day());
         buffer.push(days.as_bytes());
     } else {
         buffer.push((end - start).text().as_bytes());

@@ -46,7 +46,7 @@ impl Input {
 
     /// Returns the bytes.
     pub fn as_bytes(&self) -> &[u8]
-        ensures bytes { result.now ≡ self.now }
+        ensures value { result.now ≡ self.now }
         ensures few { length result.now ≤ capacity }
     {
         &self.bytes[..self.filled]

@@ -10,10 +10,10 @@ use crate::lines::cut_return;
 use crate::reading::read_in;
 use crate::request::Filter;
 use crate::words::cut;
-use cal_text::{DateOrMoment, Unreadable, read_any};
+use cal_text::{DateOrMoment, ParseError, parse_any};
 
 /// Proves that no text has two answers to the same request in the same reading.
-pub fn one_answer(filter: &Filter, text: &[u8]) -> Result<DateOrMoment, Unreadable>
+pub fn one_answer(filter: &Filter, text: &[u8]) -> Result<DateOrMoment, ParseError>
     ensures { (words others : List ℕ) → IsAnswer filter.now text.now words
         → IsAnswer filter.now text.now others → words ≡ others }
 {
@@ -21,7 +21,7 @@ pub fn one_answer(filter: &Filter, text: &[u8]) -> Result<DateOrMoment, Unreadab
 }
 
 /// Proves that no line has two replies.
-pub fn one_reply(filter: &Filter, line: &[u8]) -> Option<Result<DateOrMoment, Unreadable>>
+pub fn one_reply(filter: &Filter, line: &[u8]) -> Option<Result<DateOrMoment, ParseError>>
     ensures { (before : ℕ) (reply other : List ℕ) → IsReplyTo filter.now before line.now reply
         → IsReplyTo filter.now before line.now other → reply ≡ other }
 {
@@ -35,7 +35,7 @@ pub fn have_reading(arguments: &[u8])
         × IsReading reading (arguments_of arguments.now) }
 {
     let (word, rest) = cut(arguments);
-    let _ = read_any(word);
+    let _ = parse_any(word);
     if let Some(words) = rest {
         have_reading(words);
     }

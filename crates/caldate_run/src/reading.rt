@@ -1,8 +1,8 @@
 //! The ways to read the text of a line.
 ghost use Rattle.std.specs.Prelude.{◌≡◌, ◌↔◌, IfOk, IfErr, Ok};
 ghost use Rattle.cal_time.specs.declared.error.ComponentRange.{ComponentRange};
-ghost use Rattle.cal_text.specs.Position.{IsAtStop};
-ghost use Rattle.cal_text.specs.Reading.{IsRefusedFor, IsRefusedForForm};
+ghost use Rattle.cal_text.specs.Position.{IsErrorAtStop};
+ghost use Rattle.cal_text.specs.Parsing.{FailsWithComponent, FailsWithSyntax};
 ghost use Rattle.cal_text.specs.declared.any.DateOrMoment.{DateOrMoment};
 ghost use Rattle.caldate_run.specs.Readings.{HasFormIn, IsFaultIn, IsTextIn};
 
@@ -17,7 +17,7 @@ use crate::reading::parts::{
     basic_parts, day_first_parts, month_first_parts, parted_template, read_parts,
 };
 use crate::request::UnixUnit;
-use cal_text::{DateOrMoment, Unreadable, read_any};
+use cal_text::{DateOrMoment, ParseError, parse_any};
 use cal_time::UtcOffset;
 
 /// A way to read the text of a line.
@@ -43,16 +43,16 @@ pub enum Reading {
 /// its first wrong byte. `31.04.2024` has the form, and gives `OutOfRange` for `day`.
 // Inlined, so that a line in one of the six forms takes no extra call.
 #[inline(always)]
-pub fn read_in(reading: Reading, text: &[u8]) -> Result<DateOrMoment, Unreadable>
+pub fn read_in(reading: Reading, text: &[u8]) -> Result<DateOrMoment, ParseError>
     ensures every { (found : DateOrMoment) → IsTextIn reading text.now found → result ≡ Ok found }
     ensures has { IfOk result (IsTextIn reading text.now) }
-    ensures form { IsRefusedForForm result ↔ ¬ HasFormIn reading text.now }
-    ensures position { IfErr result (IsAtStop (HasFormIn reading) text.now) }
+    ensures form { FailsWithSyntax result ↔ ¬ HasFormIn reading text.now }
+    ensures position { IfErr result (IsErrorAtStop (HasFormIn reading) text.now) }
     ensures component { (why : ComponentRange)
-        → IsRefusedFor why result ↔ IsFaultIn reading text.now why }
+        → FailsWithComponent why result ↔ IsFaultIn reading text.now why }
 {
     match reading {
-        Reading::Any => read_any(text),
+        Reading::Any => parse_any(text),
         Reading::Basic => read_parts(basic_parts(text), text, b"dddddddd"),
         Reading::DayFirst => read_parts(day_first_parts(text), text, &parted_template(text)),
         Reading::MonthFirst => read_parts(month_first_parts(text), text, &parted_template(text)),

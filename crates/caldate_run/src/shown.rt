@@ -28,7 +28,7 @@ impl ShownText {
 
     /// Returns the bytes to show, at most 80.
     pub fn as_bytes(&self) -> &[u8]
-        ensures bytes { result.now ≡ words_shown self.now }
+        ensures value { result.now ≡ words_shown self.now }
         ensures few { length result.now ≤ 80 }
     {
         &self.bytes[..self.count.min(MOST_SHOWN)]

@@ -11,6 +11,6 @@ pub fn signed_text(number: i128) -> ShortText
     ensures short { length result ≤ 40 }
 {
     let mut text = ShortText::new();
-    text.push_signed_wide(number);
+    text.push_i128(number);
     text
 }

@@ -6,7 +6,7 @@ ghost use Rattle.caldate_run.specs.Requests.{IsRead, IsReading, and_then, argume
 
 use crate::lines::index_of;
 use crate::senseless::{Senseless, Wanted, senseless_at};
-use cal_text::{DateOrMoment, read_any};
+use cal_text::{DateOrMoment, parse_any};
 
 /// Splits off the first word, and returns the words after its zero byte, if it has one.
 #[tactic(auto, using(crate::proofs::Parts::arguments_of_some, crate::proofs::Parts::arguments_of_none, std::proofs::lemmas::List::take_rest))]
@@ -74,7 +74,7 @@ fn found_in(text: &[u8]) -> Option<DateOrMoment>
     ensures { (reading : List ℕ → Option DateOrMoment) → IsRead reading text.now
         → result ≡ reading text.now }
 {
-    match read_any(text) {
+    match parse_any(text) {
         Ok(found) => Some(found),
         Err(_) => None,
     }

@@ -11,9 +11,9 @@ use Rattle.cal_time.specs.MonthCycle.{index-below}
 use Rattle.cal_time.specs.CalendarDay.{calendar_day}
 use Rattle.cal_time.specs.Date.{IsDate, first_julian_day, last_day, IsYear, NoDate, HasJulianDay, HasOrdinalDate, HasCalendarDate, julian_day_at, year_at, month_at, day_of_month_at}
 use Rattle.cal_time.specs.IsoWeekDate.{IsWeek, HasIsoWeekDate}
-use Rattle.cal_time.specs.Move.{IsDateNumber, date_nearest}
+use Rattle.cal_time.specs.Arithmetic.{IsDateNumber, clamped_date}
 use Rattle.cal_time.specs.Order.{ordinal_date_at, calendar_date_at, iso_week_date_at}
-use Rattle.caltool.specs.Answers.{first_below, day_where, day_with, julian_day, is_year, is_month, is_week}
+use Rattle.caltool.specs.Answers.{first_below, first_day_where, day_with, julian_day_list, is_year, is_month, is_week}
 
 -- one more day, which is the first to pass, or comes after the first, or does not pass
 first_below-found : (test : ℕ → Bool) (n day : ℕ) → first_below test n ≡ Some day → first_below test (suc n) ≡ Some day
@@ -53,26 +53,26 @@ first_below-only test (suc n) day h p only = elim (cases_lt day n) [
 
 module _ (Has : ℕ → Type 0) (test : ℕ → Bool) (decides : (n : ℕ) → Decides (test n) (Has n)) where
   -- the day that has it, if no other has it
-  pub day_where-has : (day : ℕ) → IsDate day → Has day → ((n : ℕ) → IsDate n → Has n → n ≡ day) → day_where test ≡ Some day
-  day_where-has day h has only =
+  pub first_day_where-has : (day : ℕ) → IsDate day → Has day → ((n : ℕ) → IsDate n → Has n → n ≡ day) → first_day_where test ≡ Some day
+  first_day_where-has day h has only =
       first_below-only test (last_day + 1) day (omega arith) ((decides day).1 has) (λ n l p. only n (omega arith) ((decides n).0 p))
 
   -- none, if no day has it
-  pub day_where-none : NoDate Has → day_where test ≡ None
-  day_where-none none = first_below-none test (last_day + 1) (λ n l. false_from_ne_true (test n) (λ p. none n (omega arith) ((decides n).0 p)))
+  pub first_day_where-none : NoDate Has → first_day_where test ≡ None
+  first_day_where-none none = first_below-none test (last_day + 1) (λ n l. false_from_ne_true (test n) (λ p. none n (omega arith) ((decides n).0 p)))
 
   -- what a constructor of dates answers: the day, as each day that has it is that one
-  pub found : {E : Type 0} (day : ℕ) → ((n : ℕ) → IsDate n → Has n → ◌≡◌ {A = Result ℕ E} (Ok day) (Ok n)) → IsDate day × Has day → day_where test ≡ Some day
-  found day every has = day_where-has day has.0 has.1 (λ n h f. let e = every n h f in cc)
+  pub found : {E : Type 0} (day : ℕ) → ((n : ℕ) → IsDate n → Has n → ◌≡◌ {A = Result ℕ E} (Ok day) (Ok n)) → IsDate day × Has day → first_day_where test ≡ Some day
+  found day every has = first_day_where-has day has.0 has.1 (λ n h f. let e = every n h f in cc)
 
   -- or an error, so no day has it
-  pub refused : {E : Type 0} (error : E) → ((n : ℕ) → IsDate n → Has n → ◌≡◌ {A = Result ℕ E} (Err error) (Ok n)) → NoDate Has × (day_where test ≡ None)
+  pub refused : {E : Type 0} (error : E) → ((n : ℕ) → IsDate n → Has n → ◌≡◌ {A = Result ℕ E} (Err error) (Ok n)) → NoDate Has × (first_day_where test ≡ None)
   refused error every =
       let none : NoDate Has = λ n h f. let e = every n h f in cc in
-      (none, day_where-none none)
+      (none, first_day_where-none none)
 
 -- whether a day has these numbers
-pub decides_julian_day : (j : ℤ) (n : ℕ) → Decides (pointwise int_eq (julian_day n) (j ∷ [])) (HasJulianDay j n)
+pub decides_julian_day : (j : ℤ) (n : ℕ) → Decides (pointwise int_eq (julian_day_list n) (j ∷ [])) (HasJulianDay j n)
 decides_julian_day j n = (λ p. grind (arith, ints), λ e. grind (arith, ints))
 
 pub decides_ordinal_date : (y : ℤ) (o n : ℕ)
@@ -102,26 +102,26 @@ pub decides_iso_week_date : (y : ℤ) (w wd n : ℕ)
 decides_iso_week_date y w wd n = (λ p. (grind (arith, ints), grind (arith, ints), grind (arith, ints)), λ e. grind (arith, ints))
 
 -- The nearest number of a day is the number itself, if it is in range.
-date_nearest-same : (z : ℤ) → IsDateNumber z → pos (date_nearest z) ≡ z
-date_nearest-same (pos n) h = grind (arith, ints)
-date_nearest-same (negsuc n) h = absurd (omega (arith, ints, h.not_before))
+clamped_date-same : (z : ℤ) → IsDateNumber z → pos (clamped_date z) ≡ z
+clamped_date-same (pos n) h = grind (arith, ints)
+clamped_date-same (negsuc n) h = absurd (omega (arith, ints, h.not_before))
 
 -- A day plus w days has the Julian day plus w.
 moved : (n : ℕ) (w : ℤ) → julian_day_at n +ℤ w ≡ first_julian_day +ℤ (pos n +ℤ w)
 moved n w = omega (arith, ints)
 
 pub day_with-moved : (n : ℕ) (w : ℤ) → IsDateNumber (pos n +ℤ w)
-    → day_with julian_day ((julian_day_at n +ℤ w) ∷ []) ≡ Some (date_nearest (pos n +ℤ w))
+    → day_with julian_day_list ((julian_day_at n +ℤ w) ∷ []) ≡ Some (clamped_date (pos n +ℤ w))
 day_with-moved n w h =
-    let same : pos (date_nearest (pos n +ℤ w)) ≡ pos n +ℤ w = date_nearest-same (pos n +ℤ w) h in
+    let same : pos (clamped_date (pos n +ℤ w)) ≡ pos n +ℤ w = clamped_date-same (pos n +ℤ w) h in
     let late = h.not_after in
-    day_where-has (HasJulianDay (julian_day_at n +ℤ w)) _ (decides_julian_day (julian_day_at n +ℤ w)) (date_nearest (pos n +ℤ w))
+    first_day_where-has (HasJulianDay (julian_day_at n +ℤ w)) _ (decides_julian_day (julian_day_at n +ℤ w)) (clamped_date (pos n +ℤ w))
     (omega (arith, ints)) (ap (λ z. first_julian_day +ℤ z) same ∙ sym (moved n w)) (λ m l e. omega (arith, ints))
 
 pub day_with-moved_away : (n : ℕ) (w : ℤ) → ¬ IsDateNumber (pos n +ℤ w)
-    → day_with julian_day ((julian_day_at n +ℤ w) ∷ []) ≡ None
+    → day_with julian_day_list ((julian_day_at n +ℤ w) ∷ []) ≡ None
 day_with-moved_away n w none =
-    day_where-none (HasJulianDay (julian_day_at n +ℤ w)) _ (decides_julian_day (julian_day_at n +ℤ w))
+    first_day_where-none (HasJulianDay (julian_day_at n +ℤ w)) _ (decides_julian_day (julian_day_at n +ℤ w))
     (λ m l e. none record { not_before = omega (arith, ints); not_after = omega (arith, ints) })
 
 -- a month has the number of a month

@@ -6,7 +6,7 @@ use Rattle.std.proofs.KnownBytes.{Appends-kept, Appends-trans, Consumes-trans}
 use Rattle.std.proofs.Math.Nat.{min-eq_left}
 use Rattle.std.proofs.Math.Seq.{take-append-add}
 use Rattle.std.proofs.lemmas.List.{take-append-le, take_rest}
-use Rattle.caltool.specs.Runs.{AppendsFront, GivesTooMany, most_bytes}
+use Rattle.caltool.specs.Runs.{AppendsPrefix, ReadsTooMany, max_input_bytes}
 
 -- the front of a buffer whose part from a on was read into
 pub take-read : (a k n : ℕ) (xs ys : List ℕ) → a ≤ length xs → n ≤ length ys
@@ -24,8 +24,8 @@ given_more old mid new a k n xs ys h e p q = rw (take-read a k n xs ys h e) (Con
 
 -- as many bytes as are allowed, and n bytes more
 pub given_too_many : (old mid new : Option (List ℕ)) (a n : ℕ) (xs ys : List ℕ) → Consumes old mid (take a xs)
-    → Consumes mid new (take n ys) → most_bytes ≤ a → a ≤ length xs → n ≤ length ys → 0 < n
-    → GivesTooMany old new
+    → Consumes mid new (take n ys) → max_input_bytes ≤ a → a ≤ length xs → n ≤ length ys → 0 < n
+    → ReadsTooMany old new
 given_too_many old mid new a n xs ys p q f h e s = record {
   bytes = take a xs ++ take n ys;
   more = simp (length-append, length-take) (omega arith);
@@ -54,7 +54,7 @@ taken_kept old mid new bytes rest p kept = record { taken = p.taken; whole = p.w
 
 -- A prefix of the rest.
 pub taken_front : (old mid new : Option (List ℕ)) (bytes rest : List ℕ) → HasTaken old mid bytes rest
-    → AppendsFront mid new rest → AppendsFront old new bytes
+    → AppendsPrefix mid new rest → AppendsPrefix old new bytes
 taken_front old mid new bytes rest p q = record {
   front = p.taken ++ q.front;
   rest = q.rest;
@@ -64,8 +64,8 @@ taken_front old mid new bytes rest p q = record {
 }
 
 -- A prefix of the bytes that isn't all, if more were to follow.
-pub front_of_longer : (old new : Option (List ℕ)) (bytes more : List ℕ) → AppendsFront old new bytes
-    → AppendsFront old new (bytes ++ more)
+pub front_of_longer : (old new : Option (List ℕ)) (bytes more : List ℕ) → AppendsPrefix old new bytes
+    → AppendsPrefix old new (bytes ++ more)
 front_of_longer old new bytes more q = record {
   front = q.front;
   rest = q.rest ++ more;

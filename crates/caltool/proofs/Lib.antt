@@ -1,6 +1,6 @@
 pub mod Calls
 pub mod Days
-pub mod Finds
+pub mod FindsDate
 pub mod Known
 pub mod Numbers
 pub mod Pairs

@@ -5,7 +5,7 @@ use Rattle.std.proofs.Common.{ℕ}
 use Rattle.std.specs.Prelude.{IsErrOf}
 use Rattle.std.specs.Io.KnownBytes.{Appends, Consumes, IsAtEnd, Keeps}
 use Rattle.caltool.specs.Answers.{out}
-use Rattle.caltool.specs.Runs.{Ended}
+use Rattle.caltool.specs.Runs.{IsRunResult}
 use Rattle.caltool.specs.declared.fault.Fault.{Fault}
 use Rattle.caltool.specs.declared.fault.Fault.TheVariants.{TooLong, Read, Write}
 
@@ -26,7 +26,7 @@ kept-one held (Some x) None first second = absurd second
 kept-one held (Some x) (Some y) first second = ap Some (first ∙ sym second)
 
 pub ended-one : (input held : List ℕ) (r : Result Unit Fault) (left rest w v : Option (List ℕ))
-    → Ended r (Some input) left (Some held) w → Ended r (Some input) rest (Some held) v → ¬ IsErrOf r Write → w ≡ v
+    → IsRunResult r (Some input) left (Some held) w → IsRunResult r (Some input) rest (Some held) v → ¬ IsErrOf r Write → w ≡ v
 ended-one input held (Ok done) left rest w v first second no_write =
     let a = all_given input _ left first.1.given first.1.ended in
     let b = all_given input _ rest second.1.given second.1.ended in

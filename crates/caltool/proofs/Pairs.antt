@@ -5,13 +5,13 @@ use Rattle.cal_time.specs.Date.{julian_day_at, NoDate}
 use Rattle.cal_time.specs.Pair.{HasPairNumber, NoPair}
 use Rattle.cal_time.specs.SignedDuration.{day}
 use Rattle.cal_time.proofs.Pairs.{times-day}
-use Rattle.caltool.specs.Answers.{day_where, holds_pair}
-use Rattle.caltool.proofs.Days.{day_where-has, day_where-none}
+use Rattle.caltool.specs.Answers.{first_day_where, has_pair_number}
+use Rattle.caltool.proofs.Days.{first_day_where-has, first_day_where-none}
 
 abbrev Holds : ℤ → ℕ → Type 0
 Holds z n = ((julian_day_at n *ℤ pos day) ≤ℤ z) × (z <ℤ ((julian_day_at n +ℤ pos 1) *ℤ pos day))
 
-decides_pair : (z : ℤ) (n : ℕ) → Decides (holds_pair z n) (Holds z n)
+decides_pair : (z : ℤ) (n : ℕ) → Decides (has_pair_number z n) (Holds z n)
 decides_pair z n = (λ p. (grind (arith, ints), grind (arith, ints)), λ h. grind (arith, ints))
 
 one_day : (z : ℤ) (n m : ℕ) → Holds z n → Holds z m → n ≡ m
@@ -30,9 +30,9 @@ holds z n t h =
     let same = h.number_is in
     (omega (arith, ints), omega (arith, ints))
 
-pub day_where-pair : (z : ℤ) (n t : ℕ) → HasPairNumber z n t → day_where (holds_pair z) ≡ Some n
-day_where-pair z n t h =
-    day_where-has (Holds z) (holds_pair z) (decides_pair z) n h.date (holds z n t h) (λ m l f. one_day z m n f (holds z n t h))
+pub first_day_where-pair : (z : ℤ) (n t : ℕ) → HasPairNumber z n t → first_day_where (has_pair_number z) ≡ Some n
+first_day_where-pair z n t h =
+    first_day_where-has (Holds z) (has_pair_number z) (decides_pair z) n h.date (holds z n t h) (λ m l f. one_day z m n f (holds z n t h))
 
 pub rest-time : (z : ℤ) (n t : ℕ) → HasPairNumber z n t → unsigned_abs (z -ℤ julian_day_at n *ℤ pos day) ≡ t
 rest-time z n t h = let same = h.number_is in omega (arith, ints)
@@ -48,5 +48,5 @@ no_day z none n l h =
       number_is = omega (arith, ints);
     })
 
-pub day_where-no_pair : (z : ℤ) → NoPair z → day_where (holds_pair z) ≡ None
-day_where-no_pair z none = day_where-none (Holds z) (holds_pair z) (decides_pair z) (no_day z none)
+pub first_day_where-no_pair : (z : ℤ) → NoPair z → first_day_where (has_pair_number z) ≡ None
+first_day_where-no_pair z none = first_day_where-none (Holds z) (has_pair_number z) (decides_pair z) (no_day z none)

@@ -6,8 +6,8 @@ use Rattle.cal_time.specs.DateText.{text}
 use Rattle.cal_time.specs.IsoWeekDate.{HasIsoWeekDate}
 use Rattle.cal_time.specs.declared.Weekday.{Weekday}
 use Rattle.cal_time.specs.Weekday.{name, index}
-use Rattle.cal_time.specs.WeekdayCycle.{weekday_at-index}
-use Rattle.caltool.specs.Answers.{day_text, week_text}
+use Rattle.cal_time.specs.WeekdayCycle.{weekday_of_index-index}
+use Rattle.caltool.specs.Answers.{day_text, week_answer}
 
 -- the text of a day in place, by its parts
 pub day_in_place : (a b c d e f : List ℕ) (year julian_day : ℤ) (ordinal n : ℕ) → b ≡ a ++ signed_decimal year → c ≡ b ++ codes " ordinal "
@@ -20,7 +20,7 @@ day_in_place a b c d e f year julian_day ordinal n p q r s t u v w =
 pub week_in_place : (a b c d e f g h i j : List ℕ) (year : ℤ) (week day n : ℕ) (weekday : Weekday) → b ≡ a ++ text n → c ≡ b ++ codes " iso "
     → d ≡ c ++ signed_decimal year → e ≡ d ++ 32 ∷ [] → f ≡ e ++ signed_decimal (pos week) → g ≡ f ++ 32 ∷ []
     → h ≡ g ++ signed_decimal (pos day) → i ≡ h ++ 32 ∷ [] → j ≡ i ++ name weekday
-    → HasIsoWeekDate year week (index weekday) n → day ≡ index weekday + 1 → j ≡ a ++ week_text n
+    → HasIsoWeekDate year week (index weekday) n → day ≡ index weekday + 1 → j ≡ a ++ week_answer n
 week_in_place a b c d e f g h i j year week day n weekday p q r s t u v w x has number =
-    let same = weekday_at-index weekday in
+    let same = weekday_of_index-index weekday in
     rw (x, w, v, u, t, s, r, q, p, number, ← has.0, ← has.1, has.2, same) (simp append_assoc)

@@ -2,7 +2,7 @@
 use Rattle.std.specs.Prelude.{Some, ℕ, ◌-◌, ◌&&◌, nat_le, List, [], ◌∷◌, if◌then◌else◌, Option, None, option_map, option_and_then, bytes_eq, codes}
 use Rattle.std.specs.Option.{option_zip}
 use Rattle.cal_time.specs.declared.Weekday.{Weekday}
-use Rattle.cal_time.specs.Weekday.{weekday_at}
+use Rattle.cal_time.specs.Weekday.{weekday_of_index}
 use Rattle.caltool.specs.Numbers.{i32_of, i64_of, u8_of, u16_of}
 use Rattle.caltool.specs.declared.command.Command.{Command}
 use Rattle.caltool.specs.declared.command.Command.TheVariants.{Julian, Ordinal, Calendar, Iso, Show, Add, Moment}
@@ -24,14 +24,14 @@ calendar_command (y ∷ m ∷ d ∷ []) =
 calendar_command words = None
 
 -- The weekday with a number, from 1, Monday, to 7, Sunday (ISO 8601).
-abbrev pub weekday_numbered : ℕ → Option Weekday
-weekday_numbered n = if nat_le 1 n && nat_le n 7 then Some (weekday_at (n - 1)) else None
+abbrev pub weekday_from_number : ℕ → Option Weekday
+weekday_from_number n = if nat_le 1 n && nat_le n 7 then Some (weekday_of_index (n - 1)) else None
 
 -- `iso Y W D`: an ISO year, a week and the number of a weekday
 abbrev pub iso_command : List (List ℕ) → Option Command
 iso_command (y ∷ w ∷ d ∷ []) =
     option_map (λ n. Iso n.0 n.1.0 n.1.1)
-    (option_zip (i32_of y) (option_zip (u8_of w) (option_and_then weekday_numbered (u8_of d))))
+    (option_zip (i32_of y) (option_zip (u8_of w) (option_and_then weekday_from_number (u8_of d))))
 iso_command words = None
 
 -- `show N`: a Julian day

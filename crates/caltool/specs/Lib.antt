@@ -1,8 +1,8 @@
 pub mod Answers
 pub mod Calls
 pub mod Commands
-pub mod Ending
-pub mod Finds
+pub mod Outcome
+pub mod FindsDate
 pub mod Lines
 pub mod Numbers
 pub mod Room

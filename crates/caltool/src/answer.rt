@@ -2,7 +2,7 @@
 ghost use Rattle.std.specs.Prelude.{◌≡◌, ◌+◌, ◌≤◌, ◌++◌, length};
 ghost use Rattle.std.specs.Fmt.{signed_decimal};
 ghost use Rattle.cal_time.specs.Weekday.{index};
-ghost use Rattle.caltool.specs.Answers.{answer_of, add_answer, calendar_answer, clock_text, day_text, iso_answer, julian_answer, later_text, moment_answer, moved_text, ordinal_answer, pair_text, refused_text, reply_to, show_answer, week_text};
+ghost use Rattle.caltool.specs.Answers.{answer_of, add_answer, calendar_answer, clock_text, day_text, iso_answer, julian_answer, later_pair_text, moment_answer, later_date_text, ordinal_answer, pair_text, refusal_text, reply_to, show_answer, week_answer};
 ghost use Rattle.caltool.specs.Room.{HasRoom, longest_answer, longest_reply};
 
 use crate::buffer::Buffer;
@@ -16,97 +16,97 @@ pub fn reply(buffer: &mut Buffer, line: &[u8])
     requires { HasRoom longest_reply buffer.old }
     ensures { buffer.new ≡ buffer.old ++ reply_to line.now }
 {
-    write_answer(buffer, parse(line));
+    push_answer(buffer, parse(line));
     buffer.push(b"\n");
 }
 
 /// Appends the answer to a command, or to a line that is not a command.
-fn write_answer(buffer: &mut Buffer, command: Option<Command>)
+fn push_answer(buffer: &mut Buffer, command: Option<Command>)
     requires { HasRoom longest_answer buffer.old }
-    ensures text { buffer.new ≡ buffer.old ++ answer_of command }
-    ensures short { length buffer.new ≤ length buffer.old + longest_answer }
+    ensures appended { buffer.new ≡ buffer.old ++ answer_of command }
+    ensures max_length { length buffer.new ≤ length buffer.old + longest_answer }
 {
     match command {
-        Some(Command::Julian(julian_day)) => write_julian(buffer, julian_day),
-        Some(Command::Ordinal(year, ordinal)) => write_ordinal(buffer, year, ordinal),
-        Some(Command::Calendar(year, month, day)) => write_calendar(buffer, year, month, day),
-        Some(Command::Iso(year, week, weekday)) => write_iso(buffer, year, week, weekday),
-        Some(Command::Show(julian_day)) => write_show(buffer, julian_day),
-        Some(Command::Add(julian_day, seconds)) => write_add(buffer, julian_day, seconds),
+        Some(Command::Julian(julian_day)) => push_julian(buffer, julian_day),
+        Some(Command::Ordinal(year, ordinal)) => push_ordinal(buffer, year, ordinal),
+        Some(Command::Calendar(year, month, day)) => push_calendar(buffer, year, month, day),
+        Some(Command::Iso(year, week, weekday)) => push_iso(buffer, year, week, weekday),
+        Some(Command::Show(julian_day)) => push_show(buffer, julian_day),
+        Some(Command::Add(julian_day, seconds)) => push_add(buffer, julian_day, seconds),
         Some(Command::Moment(julian_day, hour, minute, second, seconds)) => {
-            write_moment(buffer, julian_day, hour, minute, second, seconds)
+            push_moment(buffer, julian_day, hour, minute, second, seconds)
         }
         None => buffer.push(b"bad line"),
     }
 }
 
-fn write_julian(buffer: &mut Buffer, julian_day: i32)
+fn push_julian(buffer: &mut Buffer, julian_day: i32)
     requires { HasRoom longest_answer buffer.old }
-    ensures text { buffer.new ≡ buffer.old ++ julian_answer julian_day }
-    ensures short { length buffer.new ≤ length buffer.old + longest_answer }
+    ensures appended { buffer.new ≡ buffer.old ++ julian_answer julian_day }
+    ensures max_length { length buffer.new ≤ length buffer.old + longest_answer }
 {
     match find_julian_day(julian_day) {
-        Ok(date) => write_day(buffer, date),
-        Err(error) => write_refusal(buffer, error),
+        Ok(date) => push_day(buffer, date),
+        Err(error) => push_refusal(buffer, error),
     }
 }
 
-fn write_ordinal(buffer: &mut Buffer, year: i32, ordinal: u16)
+fn push_ordinal(buffer: &mut Buffer, year: i32, ordinal: u16)
     requires { HasRoom longest_answer buffer.old }
-    ensures text { buffer.new ≡ buffer.old ++ ordinal_answer year ordinal }
-    ensures short { length buffer.new ≤ length buffer.old + longest_answer }
+    ensures appended { buffer.new ≡ buffer.old ++ ordinal_answer year ordinal }
+    ensures max_length { length buffer.new ≤ length buffer.old + longest_answer }
 {
     match find_ordinal_date(year, ordinal) {
-        Ok(date) => write_day(buffer, date),
-        Err(error) => write_refusal(buffer, error),
+        Ok(date) => push_day(buffer, date),
+        Err(error) => push_refusal(buffer, error),
     }
 }
 
-fn write_calendar(buffer: &mut Buffer, year: i32, month: u8, day: u8)
+fn push_calendar(buffer: &mut Buffer, year: i32, month: u8, day: u8)
     requires { HasRoom longest_answer buffer.old }
-    ensures text { buffer.new ≡ buffer.old ++ calendar_answer year month day }
-    ensures short { length buffer.new ≤ length buffer.old + longest_answer }
+    ensures appended { buffer.new ≡ buffer.old ++ calendar_answer year month day }
+    ensures max_length { length buffer.new ≤ length buffer.old + longest_answer }
 {
     match find_calendar_date(year, month, day) {
-        Ok(date) => write_day(buffer, date),
-        Err(error) => write_refusal(buffer, error),
+        Ok(date) => push_day(buffer, date),
+        Err(error) => push_refusal(buffer, error),
     }
 }
 
-fn write_iso(buffer: &mut Buffer, year: i32, week: u8, weekday: Weekday)
+fn push_iso(buffer: &mut Buffer, year: i32, week: u8, weekday: Weekday)
     requires { HasRoom longest_answer buffer.old }
-    ensures text { buffer.new ≡ buffer.old ++ iso_answer year week (index weekday) }
-    ensures short { length buffer.new ≤ length buffer.old + longest_answer }
+    ensures appended { buffer.new ≡ buffer.old ++ iso_answer year week (index weekday) }
+    ensures max_length { length buffer.new ≤ length buffer.old + longest_answer }
 {
     match find_iso_week_date(year, week, weekday) {
-        Ok(date) => write_day(buffer, date),
-        Err(error) => write_refusal(buffer, error),
+        Ok(date) => push_day(buffer, date),
+        Err(error) => push_refusal(buffer, error),
     }
 }
 
-fn write_show(buffer: &mut Buffer, julian_day: i32)
+fn push_show(buffer: &mut Buffer, julian_day: i32)
     requires { HasRoom longest_answer buffer.old }
-    ensures text { buffer.new ≡ buffer.old ++ show_answer julian_day }
-    ensures short { length buffer.new ≤ length buffer.old + longest_answer }
+    ensures appended { buffer.new ≡ buffer.old ++ show_answer julian_day }
+    ensures max_length { length buffer.new ≤ length buffer.old + longest_answer }
 {
     match find_julian_day(julian_day) {
-        Ok(date) => write_week(buffer, date),
-        Err(error) => write_refusal(buffer, error),
+        Ok(date) => push_week(buffer, date),
+        Err(error) => push_refusal(buffer, error),
     }
 }
 
-fn write_add(buffer: &mut Buffer, julian_day: i32, seconds: i64)
+fn push_add(buffer: &mut Buffer, julian_day: i32, seconds: i64)
     requires { HasRoom longest_answer buffer.old }
-    ensures text { buffer.new ≡ buffer.old ++ add_answer julian_day seconds }
-    ensures short { length buffer.new ≤ length buffer.old + longest_answer }
+    ensures appended { buffer.new ≡ buffer.old ++ add_answer julian_day seconds }
+    ensures max_length { length buffer.new ≤ length buffer.old + longest_answer }
 {
     match find_julian_day(julian_day) {
-        Ok(date) => write_moved(buffer, date, seconds),
-        Err(error) => write_refusal(buffer, error),
+        Ok(date) => push_later_date(buffer, date, seconds),
+        Err(error) => push_refusal(buffer, error),
     }
 }
 
-fn write_moment(
+fn push_moment(
     buffer: &mut Buffer,
     julian_day: i32,
     hour: u8,
@@ -115,41 +115,41 @@ fn write_moment(
     seconds: i64,
 )
     requires { HasRoom longest_answer buffer.old }
-    ensures text { buffer.new ≡ buffer.old ++ moment_answer julian_day hour minute second seconds }
-    ensures short { length buffer.new ≤ length buffer.old + longest_answer }
+    ensures appended { buffer.new ≡ buffer.old ++ moment_answer julian_day hour minute second seconds }
+    ensures max_length { length buffer.new ≤ length buffer.old + longest_answer }
 {
     match find_julian_day(julian_day) {
-        Ok(date) => write_clock(buffer, date, hour, minute, second, seconds),
-        Err(error) => write_refusal(buffer, error),
+        Ok(date) => push_clock(buffer, date, hour, minute, second, seconds),
+        Err(error) => push_refusal(buffer, error),
     }
 }
 
-fn write_clock(buffer: &mut Buffer, date: Date, hour: u8, minute: u8, second: u8, seconds: i64)
+fn push_clock(buffer: &mut Buffer, date: Date, hour: u8, minute: u8, second: u8, seconds: i64)
     requires { HasRoom longest_answer buffer.old }
-    ensures text { buffer.new ≡ buffer.old ++ clock_text hour minute second seconds date }
-    ensures short { length buffer.new ≤ length buffer.old + longest_answer }
+    ensures appended { buffer.new ≡ buffer.old ++ clock_text hour minute second seconds date }
+    ensures max_length { length buffer.new ≤ length buffer.old + longest_answer }
 {
     match Time::from_hms(hour, minute, second) {
-        Ok(time) => write_later(buffer, date, time, seconds),
-        Err(error) => write_refusal(buffer, error),
+        Ok(time) => push_later_pair(buffer, date, time, seconds),
+        Err(error) => push_refusal(buffer, error),
     }
 }
 
-fn write_later(buffer: &mut Buffer, date: Date, time: Time, seconds: i64)
+fn push_later_pair(buffer: &mut Buffer, date: Date, time: Time, seconds: i64)
     requires { HasRoom longest_answer buffer.old }
-    ensures text { buffer.new ≡ buffer.old ++ later_text seconds date time }
-    ensures short { length buffer.new ≤ length buffer.old + longest_answer }
+    ensures appended { buffer.new ≡ buffer.old ++ later_pair_text seconds date time }
+    ensures max_length { length buffer.new ≤ length buffer.old + longest_answer }
 {
     match add_to_pair(date, time, SignedDuration::seconds(seconds)) {
-        Some(pair) => write_pair(buffer, pair.0, pair.1),
+        Some(pair) => push_pair(buffer, pair.0, pair.1),
         None => buffer.push(b"none"),
     }
 }
 
-fn write_moved(buffer: &mut Buffer, date: Date, seconds: i64)
+fn push_later_date(buffer: &mut Buffer, date: Date, seconds: i64)
     requires { HasRoom longest_answer buffer.old }
-    ensures text { buffer.new ≡ buffer.old ++ moved_text seconds date }
-    ensures short { length buffer.new ≤ length buffer.old + longest_answer }
+    ensures appended { buffer.new ≡ buffer.old ++ later_date_text seconds date }
+    ensures max_length { length buffer.new ≤ length buffer.old + longest_answer }
 {
     match date.checked_add(SignedDuration::seconds(seconds)) {
         Some(moved) => buffer.push(moved.text().as_bytes()),
@@ -157,20 +157,20 @@ fn write_moved(buffer: &mut Buffer, date: Date, seconds: i64)
     }
 }
 
-fn write_pair(buffer: &mut Buffer, date: Date, time: Time)
+fn push_pair(buffer: &mut Buffer, date: Date, time: Time)
     requires { HasRoom longest_answer buffer.old }
-    ensures text { buffer.new ≡ buffer.old ++ pair_text date time }
-    ensures short { length buffer.new ≤ length buffer.old + longest_answer }
+    ensures appended { buffer.new ≡ buffer.old ++ pair_text date time }
+    ensures max_length { length buffer.new ≤ length buffer.old + longest_answer }
 {
     buffer.push(date.text().as_bytes());
     buffer.push(b" ");
     buffer.push(time.text().as_bytes());
 }
 
-fn write_day(buffer: &mut Buffer, date: Date)
+fn push_day(buffer: &mut Buffer, date: Date)
     requires { HasRoom longest_answer buffer.old }
-    ensures text { buffer.new ≡ buffer.old ++ day_text date }
-    ensures short { length buffer.new ≤ length buffer.old + longest_answer }
+    ensures appended { buffer.new ≡ buffer.old ++ day_text date }
+    ensures max_length { length buffer.new ≤ length buffer.old + longest_answer }
 {
     push_number(buffer, date.year());
     buffer.push(b" ordinal ");
@@ -179,10 +179,10 @@ fn write_day(buffer: &mut Buffer, date: Date)
     push_number(buffer, date.to_julian_day());
 }
 
-fn write_week(buffer: &mut Buffer, date: Date)
+fn push_week(buffer: &mut Buffer, date: Date)
     requires { HasRoom longest_answer buffer.old }
-    ensures text { buffer.new ≡ buffer.old ++ week_text date }
-    ensures short { length buffer.new ≤ length buffer.old + longest_answer }
+    ensures appended { buffer.new ≡ buffer.old ++ week_answer date }
+    ensures max_length { length buffer.new ≤ length buffer.old + longest_answer }
 {
     let (year, week, weekday) = date.to_iso_week_date();
     buffer.push(date.text().as_bytes());
@@ -199,18 +199,18 @@ fn write_week(buffer: &mut Buffer, date: Date)
 #[tactic(auto, using(cal_time::proofs::TextLengths::text_lengths))]
 fn push_number(buffer: &mut Buffer, number: i32)
     requires { HasRoom 11 buffer.old }
-    ensures text { buffer.new ≡ buffer.old ++ signed_decimal number }
-    ensures short { length buffer.new ≤ length buffer.old + 11 }
+    ensures appended { buffer.new ≡ buffer.old ++ signed_decimal number }
+    ensures max_length { length buffer.new ≤ length buffer.old + 11 }
 {
     let mut text = ShortText::new();
-    text.push_signed(number);
+    text.push_i32(number);
     buffer.push(text.as_bytes());
 }
 
-fn write_refusal(buffer: &mut Buffer, error: ComponentRange)
+fn push_refusal(buffer: &mut Buffer, error: ComponentRange)
     requires { HasRoom longest_answer buffer.old }
-    ensures text { buffer.new ≡ buffer.old ++ refused_text error }
-    ensures short { length buffer.new ≤ length buffer.old + longest_answer }
+    ensures appended { buffer.new ≡ buffer.old ++ refusal_text error }
+    ensures max_length { length buffer.new ≤ length buffer.old + longest_answer }
 {
     buffer.push(b"refused ");
     buffer.push(error.name().as_bytes());

@@ -57,7 +57,7 @@ impl Buffer {
     pub fn push(&mut self, bytes: &[u8])
         requires { HasRoom (length bytes.now) self.old }
         ensures appended { self.new ≡ self.old ++ bytes.now }
-        ensures longer { length self.new ≡ length self.old + length bytes.now }
+        ensures length { length self.new ≡ length self.old + length bytes.now }
     {
         let end = self.filled + bytes.len();
         self.bytes[self.filled..end].copy_from_slice(bytes);

@@ -1,6 +1,6 @@
 //! Parsing commands.
 ghost use Rattle.std.specs.Prelude.{◌≡◌, ℕ, List, [], ◌∷◌, MatchOption};
-ghost use Rattle.caltool.specs.Commands.{command_of, julian_command, ordinal_command, calendar_command, iso_command, show_command, add_command, moment_command, weekday_numbered};
+ghost use Rattle.caltool.specs.Commands.{command_of, julian_command, ordinal_command, calendar_command, iso_command, show_command, add_command, moment_command, weekday_from_number};
 ghost use Rattle.caltool.specs.Lines.{words_of};
 
 use crate::lines::index_of;
@@ -81,7 +81,7 @@ fn parse_iso(words: &[u8]) -> Option<Command>
     let (year, words) = first_word(words)?;
     let (week, words) = first_word(words)?;
     let number = parse_u8(only_word(words)?)?;
-    Some(Command::Iso(parse_i32(year)?, parse_u8(week)?, numbered_weekday(number)?))
+    Some(Command::Iso(parse_i32(year)?, parse_u8(week)?, weekday_from_number(number)?))
 }
 
 fn parse_show(words: &[u8]) -> Option<Command>
@@ -115,8 +115,8 @@ fn parse_moment(words: &[u8]) -> Option<Command>
 }
 
 /// Returns the weekday with a number, from 1, Monday, to 7, Sunday.
-fn numbered_weekday(number: u8) -> Option<Weekday>
-    ensures { result ≡ weekday_numbered number }
+fn weekday_from_number(number: u8) -> Option<Weekday>
+    ensures { result ≡ weekday_from_number number }
 {
     if number == 0 || number > 7 {
         return None;

@@ -4,7 +4,7 @@
 mod answer;
 mod buffer;
 mod command;
-mod ending;
+mod outcome;
 mod fault;
 mod find;
 mod input;

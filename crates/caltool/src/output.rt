@@ -2,7 +2,7 @@
 ghost use Rattle.std.specs.Prelude.{◌≡◌, OnOk, OnErr, IfErr};
 ghost use Rattle.std.specs.Io.KnownBytes.{Appends};
 ghost use Rattle.caltool.specs.Calls.{Writes, has_write_failure};
-ghost use Rattle.caltool.specs.Runs.{AppendsFront};
+ghost use Rattle.caltool.specs.Runs.{AppendsPrefix};
 
 use crate::fault::Fault;
 use crate::retries::Retries;
@@ -12,9 +12,9 @@ use crate::streams::Sink;
 /// if a retry is left.
 pub fn write_all<W: Sink>(writer: &mut W, bytes: &[u8], retries: &mut Retries) -> Result<(), Fault>
     ensures ok { OnOk result (Appends (W.contents writer.old) (W.contents writer.new) bytes.now) }
-    ensures front { OnErr result
-        (AppendsFront (W.contents writer.old) (W.contents writer.new) bytes.now) }
-    ensures err { IfErr result (λ fault. fault ≡ Fault.Write) }
+    ensures prefix { OnErr result
+        (AppendsPrefix (W.contents writer.old) (W.contents writer.new) bytes.now) }
+    ensures error { IfErr result (λ fault. fault ≡ Fault.Write) }
     ensures writes { Writes W.write_gives retries.old writer.old
         (has_write_failure result) retries.new writer.new }
 {

@@ -1,10 +1,10 @@
 //! The program over any three streams.
 ghost use Rattle.std.specs.Prelude.{Result};
-ghost use Rattle.caltool.specs.Ending.{Tells};
-ghost use Rattle.caltool.specs.Runs.{Ended};
+ghost use Rattle.caltool.specs.Outcome.{ReportsOutcome};
+ghost use Rattle.caltool.specs.Runs.{IsRunResult};
 ghost use Rattle.caltool.specs.declared.fault.Fault.{Fault};
 
-use crate::ending::end;
+use crate::outcome::report;
 use crate::run::run;
 use std::io::{Read, Write};
 
@@ -15,10 +15,10 @@ use std::io::{Read, Write};
 /// status 0. After 4097 bytes it has written only the message `input too long`, with status 2.
 pub fn perform<R: Read, W: Write, E: Write>(reader: &mut R, writer: &mut W, errors: &mut E) -> u8
     ensures { (outcome : Result Unit Fault)
-        × Ended outcome (R.remaining reader.old) (R.remaining reader.new) (W.contents writer.old)
+        × IsRunResult outcome (R.remaining reader.old) (R.remaining reader.new) (W.contents writer.old)
         (W.contents writer.new)
-        × Tells outcome result (E.contents errors.old) (E.contents errors.new) }
+        × ReportsOutcome outcome result (E.contents errors.old) (E.contents errors.new) }
 {
     let outcome = run(reader, writer);
-    end(outcome, errors)
+    report(outcome, errors)
 }

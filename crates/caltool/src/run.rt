@@ -3,13 +3,13 @@ ghost use Rattle.std.specs.Prelude.{◌≡◌, ◌++◌, OnOk, OnErr, IfErr, IsE
 ghost use Rattle.std.specs.Io.KnownBytes.{Appends, Keeps};
 ghost use Rattle.caltool.specs.Calls.{Reads, Writes, has_read_failure, has_write_failure, most_retries};
 ghost use Rattle.caltool.specs.Room.{HasRoom, longest_reply};
-ghost use Rattle.caltool.specs.Runs.{AppendsFront, GivesAll, GivesTooMany};
+ghost use Rattle.caltool.specs.Runs.{AppendsPrefix, ReadsAll, ReadsTooMany};
 ghost use Rattle.caltool.specs.Answers.{out};
 
 use crate::answer::reply;
 use crate::buffer::Buffer;
 use crate::fault::Fault;
-use crate::input::{MOST_BYTES, read_all};
+use crate::input::{MAX_INPUT_BYTES, read_all};
 use crate::lines::first_line;
 use crate::output::write_all;
 use crate::retries::Retries;
@@ -19,15 +19,15 @@ use std::io::{Read, Write};
 /// Reads the whole input, at most 4096 bytes, and then answers it line by line.
 pub fn run<R: Read, W: Write>(reader: &mut R, writer: &mut W) -> Result<(), Fault>
     ensures ok { OnOk result ((input : List ℕ)
-        × GivesAll (R.remaining reader.old) (R.remaining reader.new) input
+        × ReadsAll (R.remaining reader.old) (R.remaining reader.new) input
         × Appends (W.contents writer.old) (W.contents writer.new) (out input)) }
     ensures write { IsErrOf result Fault.Write → (input : List ℕ)
-        × GivesAll (R.remaining reader.old) (R.remaining reader.new) input
-        × AppendsFront (W.contents writer.old) (W.contents writer.new) (out input) }
+        × ReadsAll (R.remaining reader.old) (R.remaining reader.new) input
+        × AppendsPrefix (W.contents writer.old) (W.contents writer.new) (out input) }
     ensures read { IsErrOf result Fault.Read
         → Keeps (W.contents writer.old) (W.contents writer.new) }
     ensures too_long { IsErrOf result Fault.TooLong
-        → GivesTooMany (R.remaining reader.old) (R.remaining reader.new)
+        → ReadsTooMany (R.remaining reader.old) (R.remaining reader.new)
         × Keeps (W.contents writer.old) (W.contents writer.new) }
 {
     run_calls(reader, writer)
@@ -37,22 +37,22 @@ pub fn run<R: Read, W: Write>(reader: &mut R, writer: &mut W) -> Result<(), Faul
 /// if the outcome says so, and no read follows it; the same for writes.
 fn run_calls<R: Source, W: Sink>(reader: &mut R, writer: &mut W) -> Result<(), Fault>
     ensures ok { OnOk result ((input : List ℕ)
-        × GivesAll (R.remaining reader.old) (R.remaining reader.new) input
+        × ReadsAll (R.remaining reader.old) (R.remaining reader.new) input
         × Appends (W.contents writer.old) (W.contents writer.new) (out input)) }
     ensures write { IsErrOf result Fault.Write → (input : List ℕ)
-        × GivesAll (R.remaining reader.old) (R.remaining reader.new) input
-        × AppendsFront (W.contents writer.old) (W.contents writer.new) (out input) }
+        × ReadsAll (R.remaining reader.old) (R.remaining reader.new) input
+        × AppendsPrefix (W.contents writer.old) (W.contents writer.new) (out input) }
     ensures read { IsErrOf result Fault.Read
         → Keeps (W.contents writer.old) (W.contents writer.new) }
     ensures too_long { IsErrOf result Fault.TooLong
-        → GivesTooMany (R.remaining reader.old) (R.remaining reader.new)
+        → ReadsTooMany (R.remaining reader.old) (R.remaining reader.new)
         × Keeps (W.contents writer.old) (W.contents writer.new) }
     ensures reads { (left : ℕ)
         × Reads R.read_gives most_retries reader.old (has_read_failure result) left reader.new }
     ensures writes { (left : ℕ)
         × Writes W.write_gives most_retries writer.old (has_write_failure result) left writer.new }
 {
-    let mut buffer = [0u8; MOST_BYTES];
+    let mut buffer = [0u8; MAX_INPUT_BYTES];
     let length = read_all(reader, &mut buffer)?;
     write_answers(writer, &buffer[..length])
 }
@@ -61,9 +61,9 @@ fn run_calls<R: Source, W: Sink>(reader: &mut R, writer: &mut W) -> Result<(), F
 fn write_answers<W: Sink>(writer: &mut W, input: &[u8]) -> Result<(), Fault>
     ensures ok { OnOk result
         (Appends (W.contents writer.old) (W.contents writer.new) (out input.now)) }
-    ensures front { OnErr result
-        (AppendsFront (W.contents writer.old) (W.contents writer.new) (out input.now)) }
-    ensures err { IfErr result (λ fault. fault ≡ Fault.Write) }
+    ensures prefix { OnErr result
+        (AppendsPrefix (W.contents writer.old) (W.contents writer.new) (out input.now)) }
+    ensures error { IfErr result (λ fault. fault ≡ Fault.Write) }
     ensures writes { (left : ℕ)
         × Writes W.write_gives most_retries writer.old (has_write_failure result) left writer.new }
 {
@@ -88,9 +88,9 @@ fn make_room<W: Sink>(
     ensures ok { OnOk result ((written : List ℕ)
         × (buffer.old ≡ written ++ buffer.new)
         × Appends (W.contents writer.old) (W.contents writer.new) written) }
-    ensures front { OnErr result
-        (AppendsFront (W.contents writer.old) (W.contents writer.new) buffer.old) }
-    ensures err { IfErr result (λ fault. fault ≡ Fault.Write) }
+    ensures prefix { OnErr result
+        (AppendsPrefix (W.contents writer.old) (W.contents writer.new) buffer.old) }
+    ensures error { IfErr result (λ fault. fault ≡ Fault.Write) }
     ensures writes { Writes W.write_gives retries.old writer.old
         (has_write_failure result) retries.new writer.new }
 {

@@ -16,7 +16,7 @@ pub trait Source {
 
     /// Reads into the front of the buffer, and returns the number of bytes: 0 at the end.
     fn read(&mut self, buffer: &mut [u8]) -> io::Result<usize>
-        ensures bound { ReadsAtMost result buffer.new }
+        ensures max { ReadsAtMost result buffer.new }
         ensures bytes { ReadConsumes (remaining self.old) (remaining self.new) result buffer.new }
         ensures gives { read_gives self.old result self.new };
 }
@@ -41,7 +41,7 @@ pub trait Sink {
 
     /// Writes a prefix of the bytes, and returns its length.
     fn write(&mut self, bytes: &[u8]) -> io::Result<usize>
-        ensures bound { WritesAtMost result bytes.now }
+        ensures max { WritesAtMost result bytes.now }
         ensures bytes { WriteAppends (contents self.old) (contents self.new) result bytes.now }
         ensures gives { write_gives self.old bytes.now result self.new };
 }

@@ -9,7 +9,7 @@ use std::process::Abort;
 use std::test::Fail;
 
 mod failing;
-mod manual;
+mod reference;
 mod one_answer;
 mod reading;
 

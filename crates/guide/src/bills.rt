@@ -4,9 +4,9 @@ ghost use Rattle.cal_time.specs.Counted.{IsRising};
 ghost use Rattle.cal_time.specs.Date.{julian_day_at, year_at, month_at, HasCalendarDate, IsDate, IsYear};
 ghost use Rattle.cal_time.specs.Lengths.{days_in_month};
 ghost use Rattle.cal_schedule.specs.Months.{month_number_at, IsMonthNumber, IsMonthsLater};
-ghost use Rattle.cal_schedule.specs.Until.{IsGreatest, LeadsUpTo};
+ghost use Rattle.cal_schedule.specs.Until.{IsGreatest, IsMonthsUpTo};
 ghost use Rattle.cal_schedule.specs.Weekdays.{IsNthWeekday};
-ghost use Rattle.cal_schedule.specs.WorkdaysConvention.{adjusted};
+ghost use Rattle.cal_schedule.specs.WorkdaysConvention.{adjusted_date};
 ghost use Rattle.cal_schedule.specs.declared.workdays.convention.Convention.TheVariants.{ModifiedFollowing};
 
 use cal_schedule::{
@@ -35,15 +35,15 @@ fn due(workdays: &Workdays<'_>, billed: Date) -> Option<Date>
         → (later : ℕ) × IsMonthsLater billed (pos 1) later
         × (end : ℕ) × HasCalendarDate (year_at later) (month_at later)
         (days_in_month (year_at later) (month_at later)) end
-        × (result ≡ adjusted workdays.now ModifiedFollowing end) }
+        × (result ≡ adjusted_date workdays.now ModifiedFollowing end) }
     ensures past { ¬ IsMonthNumber (month_number_at billed +ℤ pos 1) → result ≡ None }
 {
     let end = end_of_next_month(billed)?;
-    workdays.adjusted(end, Convention::ModifiedFollowing)
+    workdays.adjust(end, Convention::ModifiedFollowing)
 }
 
 /// Returns the date a year later, or 28 February for the 29th. The resulting year must be in range.
-fn a_year_on(date: Date) -> Date
+fn year_after(date: Date) -> Date
     requires { IsYear (year_at date +ℤ pos 1) }
     ensures { IsMonthsLater date (pos 12) result }
 {
@@ -71,8 +71,8 @@ fn office(holidays: &[Date]) -> Workdays<'_>
 /// Returns the age in years of someone who was born today or earlier.
 fn age(born: Date, today: Date) -> i32
     requires { born ≤ today }
-    ensures years { IsGreatest (λ years. LeadsUpTo born today (pos 12 *ℤ years)) result }
-    ensures least { pos 0 ≤ℤ result }
+    ensures years { IsGreatest (λ years. IsMonthsUpTo born today (pos 12 *ℤ years)) result }
+    ensures min { pos 0 ≤ℤ result }
 {
     years_until(born, today)
 }
@@ -80,7 +80,7 @@ fn age(born: Date, today: Date) -> i32
 /// Returns Thanksgiving in the United States, the fourth Thursday of November.
 fn thanksgiving(year: i32) -> Result<Date, ComponentRange>
     ensures every { (k : ℕ) → IsDate k → IsNthWeekday year 11 3 4 k → result ≡ Ok k }
-    ensures has { IfOk result (IsNthWeekday year 11 3 4) }
+    ensures value { IfOk result (IsNthWeekday year 11 3 4) }
 {
     nth_weekday_of_month(year, Month::November, Weekday::Thursday, 4)
 }
@@ -119,7 +119,7 @@ pub fn show(rt: &impl Print) -> io::Result<()> {
         println!(rt; "{}", age(born, billed))?;
     }
     if billed.year() < 999_999 {
-        println!(rt; "{}", a_year_on(billed))?;
+        println!(rt; "{}", year_after(billed))?;
     }
     println!(rt; "{:?}", thanksgiving(2024))?;
     let interest = day_count(born, billed, DayCount::Thirty360);

@@ -19,7 +19,7 @@ fn age(born: Date, at: Date) -> i32
     ensures since { (month_at born < month_at at) ⊎ ((month_at at ≡ month_at born)
         × (day_of_month_at born ≤ day_of_month_at at))
         → result ≡ year_at at -ℤ year_at born }
-    ensures least { pos 0 ≤ℤ result }
+    ensures min { pos 0 ≤ℤ result }
 {
     let years = at.year() - born.year();
     if at.month() < born.month() || (at.month() == born.month() && at.day() < born.day()) {
@@ -165,7 +165,7 @@ fn last_friday(year: i32, month: Month) -> Option<Date>
 }
 
 /// Adds a duration and subtracts it again, which gives the same date.
-fn there_and_back_by(date: Date, duration: SignedDuration) -> Option<Date>
+fn round_trip_by(date: Date, duration: SignedDuration) -> Option<Date>
     ensures { IfSome result (λ same. same ≡ date) }
 {
     let there = date.checked_add(duration)?;
@@ -174,7 +174,7 @@ fn there_and_back_by(date: Date, duration: SignedDuration) -> Option<Date>
 }
 
 /// Adds a duration of 0 to a date and a time. The result exists, because the parts are in range.
-fn moved_by_nothing(date: Date, time: Time) -> Option<(Date, Time)>
+fn add_zero(date: Date, time: Time) -> Option<(Date, Time)>
     ensures { IsSome result }
 {
     let _ = (date.year(), time.hour());
@@ -182,7 +182,7 @@ fn moved_by_nothing(date: Date, time: Time) -> Option<(Date, Time)>
 }
 
 /// Returns the date a week earlier, or `None` if it is out of range.
-fn a_week_back(date: Date) -> Option<Date>
+fn week_before(date: Date) -> Option<Date>
     ensures back { IfSome result (λ day. day + 7 ≡ date) }
     ensures none { IsNone result ↔ (date < 7) }
 {
@@ -270,9 +270,9 @@ pub fn show(rt: &impl Print) -> io::Result<()> {
     println!(rt; "{}", days_since_new_year(day))?;
     println!(rt; "{} {}", extra_weeks(2020), weeks_gone(day))?;
     println!(rt; "{:?}", last_friday(2024, Month::February))?;
-    println!(rt; "{:?}", there_and_back_by(day, SignedDuration::DAY))?;
-    println!(rt; "{:?}", moved_by_nothing(day, Time::MAX))?;
-    println!(rt; "{:?} {:?}", a_week_back(day), due(day))?;
+    println!(rt; "{:?}", round_trip_by(day, SignedDuration::DAY))?;
+    println!(rt; "{:?}", add_zero(day, Time::MAX))?;
+    println!(rt; "{:?} {:?}", week_before(day), due(day))?;
     println!(rt; "{:?} {}", next_thursday(day), not_before(day, 1))?;
     println!(rt; "{} {}", is_last(day), working_days(born, day))
 }

@@ -1,7 +1,7 @@
 //! Functions that are proved from the clauses of `cal_time` only.
 ghost use Rattle.std.specs.Prelude.{◌≡◌, pos, ◌+ℤ◌, IfOk, IfSome};
 ghost use Rattle.cal_time.specs.Date.{last_day, year_at, month_at, HasCalendarDate};
-ghost use Rattle.cal_time.specs.Move.{IsDateNumber};
+ghost use Rattle.cal_time.specs.Arithmetic.{IsDateNumber};
 ghost use Rattle.cal_time.specs.Lengths.{days_in_month};
 ghost use Rattle.cal_time.specs.Month.{number};
 
@@ -23,18 +23,18 @@ fn month_start(date: Date) -> Date
     ensures { HasCalendarDate (year_at date) (month_at date) 1 result }
 {
     let (index, _) = date.month_index_and_day();
-    Date::at_month_index(date.year(), index, 1)
+    Date::from_month_index_clamped(date.year(), index, 1)
 }
 
 /// Returns the same day, by way of the next one.
-fn there_and_back(date: Date) -> Option<Date>
+fn round_trip(date: Date) -> Option<Date>
     ensures { IfSome result (λ same. same ≡ date) }
 {
     date.next_day()?.previous_day()
 }
 
 /// Returns the day a week later, which must be in the range.
-fn a_week_on(date: Date) -> Date
+fn week_after(date: Date) -> Date
     requires { IsDateNumber (pos date +ℤ pos 7) }
     ensures { pos result ≡ pos date +ℤ pos 7 }
 {
@@ -50,9 +50,9 @@ fn last_day() -> Date
 
 pub fn show(rt: &impl Print) -> io::Result<()> {
     if let Ok(date) = last_of_month(2020, Month::February) {
-        println!(rt; "{} {date} {:?}", month_start(date), there_and_back(date))?;
+        println!(rt; "{} {date} {:?}", month_start(date), round_trip(date))?;
         if date.checked_add(SignedDuration::days(7)).is_some() {
-            println!(rt; "{}", a_week_on(date))?;
+            println!(rt; "{}", week_after(date))?;
         }
     }
     println!(rt; "{}", last_day())?;

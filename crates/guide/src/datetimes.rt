@@ -13,7 +13,7 @@ use cal_time::{Date, Month, SignedDuration, Time, UtcOffset};
 use std::io;
 
 /// Returns the date and the time that a date-time was made from.
-fn parts_come_back(date: Date, time: Time) -> (Date, Time)
+fn components_round_trip(date: Date, time: Time) -> (Date, Time)
     ensures { result ≡ (date, time) }
 {
     let plain = PlainDateTime::new(date, time);
@@ -21,14 +21,14 @@ fn parts_come_back(date: Date, time: Time) -> (Date, Time)
 }
 
 /// Creates a date-time from its own parts.
-fn made_of_its_parts(plain: PlainDateTime) -> PlainDateTime
+fn from_own_components(plain: PlainDateTime) -> PlainDateTime
     ensures { result ≡ plain }
 {
     PlainDateTime::new(plain.date(), plain.time())
 }
 
 /// Creates a date-time from its own calendar date and time.
-fn made_of_its_numbers(plain: PlainDateTime) -> Result<PlainDateTime, ComponentRange>
+fn from_own_numbers(plain: PlainDateTime) -> Result<PlainDateTime, ComponentRange>
     ensures { result ≡ Ok plain }
 {
     let (year, month, day) = plain.to_calendar_date();
@@ -38,7 +38,7 @@ fn made_of_its_numbers(plain: PlainDateTime) -> Result<PlainDateTime, ComponentR
 }
 
 /// Returns the date, the hour and the minute that a date-time was made from.
-fn clock_comes_back(date: Date, hour: u8, minute: u8) -> Option<(Date, u8, u8)>
+fn hms_round_trip(date: Date, hour: u8, minute: u8) -> Option<(Date, u8, u8)>
     ensures some { IsSome result ↔ (hour ≤ 23) × (minute ≤ 59) }
     ensures same { IfSome result (λ same. same ≡ (date, hour, minute)) }
 {
@@ -101,7 +101,7 @@ fn local_ranges(moment: OffsetDateTime) -> (PlainDateTime, Date, Time, UtcOffset
 }
 
 /// Adds a duration and subtracts it again, which gives the same date-time.
-fn on_and_back(plain: PlainDateTime, duration: SignedDuration) -> Option<PlainDateTime>
+fn add_then_sub(plain: PlainDateTime, duration: SignedDuration) -> Option<PlainDateTime>
     ensures some { IsSome result ↔ IsDateTime (plain +ℤ duration) }
     ensures same { IfSome result (λ same. same ≡ plain) }
 {
@@ -117,14 +117,14 @@ fn difference(a: PlainDateTime, b: PlainDateTime) -> SignedDuration
 }
 
 /// Adds the difference of two date-times to the first, which gives the second.
-fn moved_by_difference(from: PlainDateTime, to: PlainDateTime) -> Option<PlainDateTime>
+fn add_difference(from: PlainDateTime, to: PlainDateTime) -> Option<PlainDateTime>
     ensures { result ≡ Some to }
 {
     from.checked_add(to - from)
 }
 
 /// Subtracts the difference from the second, which gives the first.
-fn back_by_difference(from: PlainDateTime, to: PlainDateTime) -> Option<PlainDateTime>
+fn sub_difference(from: PlainDateTime, to: PlainDateTime) -> Option<PlainDateTime>
     ensures { result ≡ Some from }
 {
     to.checked_sub(to - from)
@@ -145,7 +145,7 @@ fn own_date(plain: PlainDateTime) -> PlainDateTime
 }
 
 /// Returns the parts that a date-time at an offset was made from.
-fn offset_comes_back(plain: PlainDateTime, offset: UtcOffset) -> (PlainDateTime, UtcOffset)
+fn offset_round_trip(plain: PlainDateTime, offset: UtcOffset) -> (PlainDateTime, UtcOffset)
     ensures { result ≡ (plain, offset) }
 {
     let moment = plain.assume_offset(offset);
@@ -170,7 +170,7 @@ fn elsewhere(moment: OffsetDateTime, offset: UtcOffset) -> Option<OffsetDateTime
 }
 
 /// Converts a moment to another offset and back, which gives the same value.
-fn there_and_back(moment: OffsetDateTime, offset: UtcOffset) -> Option<OffsetDateTime>
+fn round_trip(moment: OffsetDateTime, offset: UtcOffset) -> Option<OffsetDateTime>
     ensures some { IsSome result ↔ IsDateTime (local_at (instant moment) offset) }
     ensures same { IfSome result (λ same. same ≡ moment) }
 {
@@ -194,7 +194,7 @@ fn is_earlier(a: OffsetDateTime, b: OffsetDateTime) -> bool
 }
 
 /// Returns the later of two moments, or the second if they are the same instant.
-fn later(a: OffsetDateTime, b: OffsetDateTime) -> OffsetDateTime
+fn later_moment(a: OffsetDateTime, b: OffsetDateTime) -> OffsetDateTime
     ensures tie { instant a ≡ instant b → result ≡ b }
     ensures from_a { ¬ (instant result <ℤ instant a) }
     ensures from_b { ¬ (instant result <ℤ instant b) }
@@ -211,7 +211,7 @@ fn moved(moment: OffsetDateTime, duration: SignedDuration) -> Option<OffsetDateT
 }
 
 /// Returns the difference of two instants, which is a duration.
-fn between(a: OffsetDateTime, b: OffsetDateTime) -> SignedDuration
+fn duration_between(a: OffsetDateTime, b: OffsetDateTime) -> SignedDuration
     ensures value { result ≡ instant a -ℤ instant b }
     ensures range { IsDuration result }
 {
@@ -228,7 +228,7 @@ fn moved_to(from: OffsetDateTime, to: OffsetDateTime) -> Option<OffsetDateTime>
 }
 
 /// Converts a Unix time in seconds to a moment at an offset and back.
-fn unix_seconds_there_and_back(timestamp: i64, offset: UtcOffset) -> Option<i64>
+fn unix_seconds_round_trip(timestamp: i64, offset: UtcOffset) -> Option<i64>
     ensures { IfSome result (λ same. same ≡ timestamp) }
 {
     let moment = OffsetDateTime::from_unix_timestamp(timestamp).ok()?;
@@ -237,7 +237,7 @@ fn unix_seconds_there_and_back(timestamp: i64, offset: UtcOffset) -> Option<i64>
 
 /// Converts a Unix time in nanoseconds to a moment at an offset and back.
 #[tactic(auto, using(std::proofs::lemmas::Int::ints))]
-fn unix_nanoseconds_there_and_back(timestamp: i128, offset: UtcOffset) -> Option<i128>
+fn unix_nanoseconds_round_trip(timestamp: i128, offset: UtcOffset) -> Option<i128>
     ensures { IfSome result (λ same. same ≡ timestamp) }
 {
     let Ok(moment) = OffsetDateTime::from_unix_timestamp_nanos(timestamp) else {
@@ -259,7 +259,7 @@ fn through_unix_time(moment: OffsetDateTime) -> Option<OffsetDateTime>
 }
 
 /// Converts a moment to a Unix time, back, and to its own offset, which gives the same value.
-fn moment_comes_back(moment: OffsetDateTime) -> Option<OffsetDateTime>
+fn moment_round_trip(moment: OffsetDateTime) -> Option<OffsetDateTime>
     ensures { IfSome result (λ same. same ≡ moment) }
 {
     // This call states that the local date-time is in range.

@@ -3,7 +3,7 @@ ghost use Rattle.std.specs.Prelude.{◌≡◌, ◌+◌, ◌-◌, ◌≤◌, ◌<
 ghost use Rattle.cal_time.specs.Date.{first_year, last_year, last_day, year_at, month_at, IsYear, HasCalendarDate, HasOrdinalDate};
 ghost use Rattle.cal_time.specs.Filters.{IsFirstDay};
 ghost use Rattle.cal_time.specs.Lengths.{days_in_year};
-ghost use Rattle.cal_time.specs.Occurrence.{is_on};
+ghost use Rattle.cal_time.specs.Occurrences.{has_weekday};
 
 use cal_time::{Date, Month, SignedDuration, Weekday};
 use std::io;
@@ -17,7 +17,7 @@ fn is_same(one: Date, other: Date) -> bool
 }
 
 /// Returns `true`: replacing the year with the current year gives the same date.
-fn stays_in_its_year(date: Date) -> bool
+fn stays_in_year(date: Date) -> bool
     ensures { IsTrue result }
 {
     date.replace_year(date.year()) == Ok(date)
@@ -63,7 +63,7 @@ fn days_to_next_new_year(year: i32) -> i32
 
 /// Returns the first day of the month of this date.
 #[tactic(auto, using(cal_time::specs::Days::ranges))]
-fn first_of_its_month(date: Date) -> Date
+fn first_of_same_month(date: Date) -> Date
     ensures { HasCalendarDate (year_at date) (month_at date) 1 result }
 {
     match date.replace_day(1) {
@@ -84,7 +84,7 @@ fn first_of_walk(from: Date, to: Date) -> Option<Date>
 /// Returns the next Friday. No day before it is a Friday.
 #[tactic(auto, using(cal_time::specs::Filters::first_passing))]
 fn next_friday(date: Date) -> Option<Date>
-    ensures { IfSome result (IsFirstDay (is_on 4) (date + 1) (last_day - date)) }
+    ensures { IfSome result (IsFirstDay (has_weekday 4) (date + 1) (last_day - date)) }
 {
     date.checked_next_occurrence(Weekday::Friday)
 }
@@ -96,9 +96,9 @@ pub fn show(rt: &impl Print) -> io::Result<()> {
     let Ok(to) = Date::from_calendar_date(2024, Month::December, 31) else {
         return Ok(());
     };
-    println!(rt; "{} {}", is_same(from, to), stays_in_its_year(from))?;
+    println!(rt; "{} {}", is_same(from, to), stays_in_year(from))?;
     println!(rt; "{} {}", later_year(from, 365), days_to_next_new_year(2024))?;
-    println!(rt; "{} {:?}", first_of_its_month(from), next_friday(from))?;
+    println!(rt; "{} {:?}", first_of_same_month(from), next_friday(from))?;
     if from <= to {
         println!(rt; "{:?}", first_of_walk(from, to))?;
         if from.year() == to.year() {

@@ -7,11 +7,11 @@ mod clauses;
 mod datetimes;
 mod days;
 mod generic;
-mod making;
-mod moving;
+mod constructors;
+mod arithmetic;
 mod names;
 mod order;
-mod parts;
+mod components;
 mod printing;
 mod recurrences;
 mod refusals;
@@ -21,10 +21,10 @@ mod walking;
 use std::io;
 
 fn main(rt: HostRuntime) -> io::Result<()> {
-    making::show(&rt)?;
+    constructors::show(&rt)?;
     refusals::show(&rt)?;
-    parts::show(&rt)?;
-    moving::show(&rt)?;
+    components::show(&rt)?;
+    arithmetic::show(&rt)?;
     datetimes::show(&rt)?;
     walking::show(&rt)?;
     order::show(&rt)?;

@@ -239,7 +239,7 @@ fn dates(rt: &impl Print, date: Date) -> io::Result<()> {
     println!(rt;
         "{:?} {}",
         date.month_index_and_day(),
-        Date::at_month_index(2023, 1, 31)
+        Date::from_month_index_clamped(2023, 1, 31)
     )?;
     println!(rt; "{:?} {:?}", date.next_day(), date.previous_day())?;
     println!(rt;

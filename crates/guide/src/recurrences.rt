@@ -3,9 +3,9 @@ ghost use Rattle.std.specs.Prelude.{◌≡◌, ◌<◌, IfOk, IfSome, Ok, true};
 ghost use Rattle.cal_recurrence.specs.declared.recurrence.Recurrence.{Recurrence};
 ghost use Rattle.cal_recurrence.specs.Text.{recurrence_of};
 ghost use Rattle.cal_recurrence.specs.Written.{text_of};
-ghost use Rattle.cal_schedule.specs.Rule.{is_on};
+ghost use Rattle.cal_schedule.specs.Rule.{is_occurrence};
 
-use cal_recurrence::{RecurrenceText, RuleFault, parse};
+use cal_recurrence::{RecurrenceText, ParseRuleError, parse};
 use cal_schedule::{ByDay, Frequency, Rule};
 use cal_time::{Date, Month, Weekday};
 use std::io;
@@ -14,7 +14,7 @@ use std::io;
 fn next_two(rule: &Rule<'_>, date: Date) -> Option<(Date, Date)>
     ensures order { IfSome result (λ days. (date < days.0) × (days.0 < days.1)) }
     ensures on { IfSome result (λ days.
-        (is_on rule.now days.0 ≡ true) × (is_on rule.now days.1 ≡ true)) }
+        (is_occurrence rule.now days.0 ≡ true) × (is_occurrence rule.now days.1 ≡ true)) }
 {
     let first = rule.next_after(date)?;
     let second = rule.next_after(first)?;
@@ -22,7 +22,7 @@ fn next_two(rule: &Rule<'_>, date: Date) -> Option<(Date, Date)>
 }
 
 /// Parses the text of a recurrence and writes it again, or passes the error on.
-fn respelled(text: &[u8]) -> Result<RecurrenceText, RuleFault>
+fn respelled(text: &[u8]) -> Result<RecurrenceText, ParseRuleError>
     ensures written { IfOk result (λ written.
         (r : Recurrence) × (recurrence_of text.now ≡ Ok r) × (written ≡ text_of r)) }
     ensures same { IfOk result (λ written. recurrence_of written ≡ recurrence_of text.now) }

@@ -2,7 +2,7 @@
 ghost use Rattle.std.specs.Prelude.{◌≡◌, ℕ, IfOk, IfErr, IfSome, IsNone};
 ghost use Rattle.cal_time.specs.Date.{weekday_at, HasCalendarDate, HasJulianDay, HasOrdinalDate, IsDate};
 ghost use Rattle.cal_time.specs.Month.{number};
-ghost use Rattle.cal_time.specs.Refusals.{julian_day_out_of_range};
+ghost use Rattle.cal_time.specs.DateErrors.{julian_day_out_of_range};
 ghost use Rattle.cal_time.specs.Weekday.{index};
 
 use cal_time::error::ComponentRange;
@@ -10,7 +10,7 @@ use cal_time::{Date, Month, Time, Weekday};
 use std::io;
 
 /// Returns the first day of the month and its weekday, or passes the error on.
-fn first_of_month(year: i32, month: Month) -> Result<(Date, Weekday), ComponentRange>
+fn first_of_month_and_weekday(year: i32, month: Month) -> Result<(Date, Weekday), ComponentRange>
     ensures { IfOk result (λ first. HasCalendarDate year (number month) 1 first.0
         × (index first.1 ≡ weekday_at first.0)) }
 {
@@ -26,7 +26,7 @@ fn day_of_year(year: i32, ordinal: u16) -> Option<Date>
 }
 
 /// Returns the weekday of a Julian day, or the error.
-fn weekday_of(julian_day: i32) -> Result<Weekday, ComponentRange>
+fn weekday_of_julian_day(julian_day: i32) -> Result<Weekday, ComponentRange>
     ensures { IfErr result (λ error. error ≡ julian_day_out_of_range) }
 {
     Date::from_julian_day(julian_day).map(|date| date.weekday())
@@ -85,9 +85,9 @@ pub fn show(rt: &impl Print) -> io::Result<()> {
     describe(rt, 2020, Month::February, 29)?;
     describe(rt, 2019, Month::February, 29)?;
     describe(rt, 1_000_000, Month::February, 29)?;
-    println!(rt; "{:?}", first_of_month(2019, Month::February))?;
+    println!(rt; "{:?}", first_of_month_and_weekday(2019, Month::February))?;
     println!(rt; "{:?} {:?}", day_of_year(2020, 366), day_of_year(2019, 366))?;
-    println!(rt; "{:?} {}", weekday_of(2_451_545), day_or_last(i32::MAX))?;
+    println!(rt; "{:?} {}", weekday_of_julian_day(2_451_545), day_or_last(i32::MAX))?;
     println!(rt; "{:?}", booking(2024, Month::February, 29, 20))?;
     println!(rt; "{:?}", booking(2024, Month::February, 30, 20))?;
     println!(rt; "{:?}", booking(2024, Month::February, 29, 24))?;

@@ -4,17 +4,17 @@ ghost use Rattle.cal_time.specs.DateText.{text};
 ghost use Rattle.cal_time.specs.Month.{month_out_of_range};
 ghost use Rattle.cal_text.specs.DateForms.{HasForm};
 ghost use Rattle.cal_text.specs.Position.{HasSome, IsPosition};
-ghost use Rattle.cal_text.specs.Reading.{HasFault, IsFaultOf, IsRefusedFor};
+ghost use Rattle.cal_text.specs.Parsing.{HasError, IsDateError, FailsWithComponent};
 
 use cal_datetime::OffsetDateTime;
 use cal_text::rfc3339::{self, Text};
-use cal_text::{DateForm, DateOrMoment, MomentForm, Unreadable, date, read_any, unix};
+use cal_text::{DateForm, DateOrMoment, MomentForm, ParseError, date, parse_any, unix};
 use cal_time::Date;
 use std::io;
 
 /// Parses a date in any of the three forms of ISO 8601, and prints it or the error.
 fn show_date(rt: &impl Print, text: &str) -> io::Result<()> {
-    match date::read(text.as_bytes()) {
+    match date::parse(text.as_bytes()) {
         Ok(date) => println!(rt; "{date}"),
         Err(error) => println!(rt; "{text}: {error}"),
     }
@@ -22,7 +22,7 @@ fn show_date(rt: &impl Print, text: &str) -> io::Result<()> {
 
 /// Prints the time from 1970-01-01 0:00 UTC to a moment in text, and the moment at UTC.
 fn show_moment(rt: &impl Print, text: &str) -> io::Result<()> {
-    let moment = match rfc3339::read(text.as_bytes()) {
+    let moment = match rfc3339::parse(text.as_bytes()) {
         Ok(moment) => moment,
         Err(error) => return println!(rt; "{text}: {error}"),
     };
@@ -36,19 +36,19 @@ fn show_moment(rt: &impl Print, text: &str) -> io::Result<()> {
 }
 
 /// Parses a calendar date, an ordinal date or a week date, and passes an error on.
-fn date_in(text: &[u8]) -> Result<Date, Unreadable>
-    ensures month { IsRefusedFor month_out_of_range result
-        ↔ HasFault HasForm IsFaultOf text.now month_out_of_range }
+fn parse_date(text: &[u8]) -> Result<Date, ParseError>
+    ensures month { FailsWithComponent month_out_of_range result
+        ↔ HasError HasForm IsDateError text.now month_out_of_range }
 {
-    date::read(text)
+    date::parse(text)
 }
 
 /// Returns the length of a text that more bytes could complete to a date. `None` promises nothing.
 fn bytes_so_far(text: &[u8]) -> Option<usize>
     ensures { IfSome result (λ n. IsPosition (HasSome HasForm) text.now n × (n ≡ length text.now)) }
 {
-    match date::read(text) {
-        Err(Unreadable::UnexpectedEnd(length)) => Some(length),
+    match date::parse(text) {
+        Err(ParseError::UnexpectedEnd(length)) => Some(length),
         _ => None,
     }
 }
@@ -57,7 +57,7 @@ fn bytes_so_far(text: &[u8]) -> Option<usize>
 fn calendar_day(bytes: &[u8]) -> Option<Date>
     ensures { IfSome result (λ n. bytes.now ≡ text n) }
 {
-    match read_any(bytes) {
+    match parse_any(bytes) {
         Ok(found) => match found {
             DateOrMoment::Date(form, date) => match form {
                 DateForm::Calendar => Some(date),
@@ -71,7 +71,7 @@ fn calendar_day(bytes: &[u8]) -> Option<Date>
 
 /// Prints a moment of RFC 3339 as a Unix time, a date with its form, and a Unix time in parts.
 fn show_any(rt: &impl Print, text: &str) -> io::Result<()> {
-    let found = match read_any(text.as_bytes()) {
+    let found = match parse_any(text.as_bytes()) {
         Ok(found) => found,
         Err(error) => return println!(rt; "{text}: {error}"),
     };
@@ -88,7 +88,7 @@ pub fn show(rt: &impl Print) -> io::Result<()> {
     for text in ["2024-060", "2024-W09-4", "2023-02-29", "2024-02-3"] {
         show_date(rt, text)?;
     }
-    println!(rt; "{:?}", date_in(b"2024-13-01"))?;
+    println!(rt; "{:?}", parse_date(b"2024-13-01"))?;
     println!(rt;
         "{:?} {:?}",
         bytes_so_far(b"2024-02-3"),

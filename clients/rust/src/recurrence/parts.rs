@@ -18,17 +18,17 @@ pub(super) struct Parts {
 }
 
 impl Parts {
-    pub(super) fn of_c(parts: &CRecurrence) -> Self {
+    pub(super) fn from_c(parts: &CRecurrence) -> Self {
         Self {
-            frequency: Frequency::of_number(parts.frequency),
+            frequency: Frequency::from_number(parts.frequency),
             interval: parts.interval,
-            week_start: Weekday::of_number(parts.week_start),
-            months: Values::of_c(parts.months, parts.months_length, |month| Month::of_number(month.into()), Month::January),
-            month_days: Values::of_c(parts.month_days, parts.month_days_length, |day| day, 0),
-            weekdays: Values::of_c(parts.weekdays, parts.weekdays_length, by_day, ByDay::Every(Weekday::Monday)),
+            week_start: Weekday::from_number(parts.week_start),
+            months: Values::from_c(parts.months, parts.months_length, |month| Month::from_number(month.into()), Month::January),
+            month_days: Values::from_c(parts.month_days, parts.month_days_length, |day| day, 0),
+            weekdays: Values::from_c(parts.weekdays, parts.weekdays_length, by_day, ByDay::Every(Weekday::Monday)),
             end: match parts.count {
                 0 if parts.until == i32::MIN => RuleEnd::Never,
-                0 => RuleEnd::Until(Date::of_c(parts.until)),
+                0 => RuleEnd::Until(Date::from_c(parts.until)),
                 count => RuleEnd::Count(count),
             },
         }
@@ -36,7 +36,7 @@ impl Parts {
 }
 
 fn by_day(by: CRuleWeekday) -> ByDay {
-    let weekday = Weekday::of_number(by.weekday.into());
+    let weekday = Weekday::from_number(by.weekday.into());
     match by.number {
         0 => ByDay::Every(weekday),
         number => ByDay::Nth(number, weekday),

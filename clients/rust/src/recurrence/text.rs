@@ -13,7 +13,7 @@ pub struct RecurrenceText {
 #[allow(clippy::len_without_is_empty)]
 impl RecurrenceText {
     /// Converts from the result of C.
-    pub(super) fn of_c((_, _, length, bytes): (u32, usize, u32, [u8; 1404])) -> Self {
+    pub(super) fn from_c((_, _, length, bytes): (u32, usize, u32, [u8; 1404])) -> Self {
         Self { bytes, length: length as usize }
     }
 

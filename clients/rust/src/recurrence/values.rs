@@ -14,11 +14,11 @@ pub(super) struct Values<T> {
 
 impl<T: Copy> Values<T> {
     /// Converts the first items of an array of C.
-    pub(super) fn of_c<C: Copy>(items: [C; MOST], length: u32, of_c: impl Fn(C) -> T, filler: T) -> Self {
+    pub(super) fn from_c<C: Copy>(items: [C; MOST], length: u32, from_c: impl Fn(C) -> T, filler: T) -> Self {
         let length = length as usize;
         let mut values = Self { items: [filler; MOST], length };
         for (value, item) in values.items[..length].iter_mut().zip(items) {
-            *value = of_c(item);
+            *value = from_c(item);
         }
         values
     }

@@ -1,6 +1,6 @@
 //! Texts of any form.
 
-use crate::error::Unreadable;
+use crate::error::ParseError;
 use crate::text::{date, julian_day, rfc3339, unix};
 use crate::{Date, Time, UtcOffset};
 
@@ -28,7 +28,7 @@ pub enum DateOrMoment {
 ///
 /// `UnexpectedByte` or `UnexpectedEnd` if the text has none of these forms, else the error of its
 /// form.
-pub fn read_any(text: &[u8]) -> Result<DateOrMoment, Unreadable> {
+pub fn read_any(text: &[u8]) -> Result<DateOrMoment, ParseError> {
     match (text.first(), text.get(10)) {
         (Some(b'J'), _) => julian_day::read(text).map(DateOrMoment::JulianDay),
         (Some(b'@'), _) => unix::read(text).map(|(date, time)| DateOrMoment::Unix(date, time)),

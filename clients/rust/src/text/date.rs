@@ -1,6 +1,6 @@
 //! Texts of dates in ISO 8601.
 
-use crate::error::Unreadable;
+use crate::error::ParseError;
 use crate::ffi;
 use crate::text::Line;
 use crate::Date;
@@ -17,7 +17,7 @@ macro_rules! texts {
             impl $text {
                 /// Returns the text.
                 pub fn line(self) -> Line {
-                    Line::certain(ffi::$call(self.0.to_c()))
+                    Line::expect_answer(ffi::$call(self.0.to_c()))
                 }
             }
 
@@ -46,6 +46,6 @@ texts! {
 ///
 /// `UnexpectedByte` or `UnexpectedEnd`, else `OutOfRange` for the first component out of range:
 /// `month`, `year`, `day`, `ordinal`, `week`, or `weekday` after [`Date::MAX`].
-pub fn read(text: &[u8]) -> Result<Date, Unreadable> {
-    ffi::fots_date_read(text).map(|(date, _)| Date::of_c(date))
+pub fn read(text: &[u8]) -> Result<Date, ParseError> {
+    ffi::fots_date_parse(text).map(|(date, _)| Date::from_c(date))
 }

@@ -1,6 +1,6 @@
 //! Texts of dates as Julian days.
 
-use crate::error::Unreadable;
+use crate::error::ParseError;
 use crate::ffi;
 use crate::text::Line;
 use crate::Date;
@@ -13,7 +13,7 @@ pub struct JulianText(pub Date);
 impl JulianText {
     /// Returns the text.
     pub fn line(self) -> Line {
-        Line::certain(ffi::fots_date_julian_text(self.0.to_c()))
+        Line::expect_answer(ffi::fots_date_julian_text(self.0.to_c()))
     }
 }
 
@@ -28,6 +28,6 @@ impl fmt::Display for JulianText {
 /// # Errors
 ///
 /// `UnexpectedByte` or `UnexpectedEnd`, else `OutOfRange` for `julian_day`.
-pub fn read(text: &[u8]) -> Result<Date, Unreadable> {
-    ffi::fots_julian_day_read(text).map(|(date, _)| Date::of_c(date))
+pub fn read(text: &[u8]) -> Result<Date, ParseError> {
+    ffi::fots_julian_day_parse(text).map(|(date, _)| Date::from_c(date))
 }

@@ -1,6 +1,6 @@
 //! Texts of moments in RFC 3339.
 
-use crate::error::Unreadable;
+use crate::error::ParseError;
 use crate::ffi::{self, or_none};
 use crate::text::Line;
 use crate::{Date, Time, UtcOffset};
@@ -18,7 +18,7 @@ impl Text {
     /// and for an offset with seconds or of 24 hours or more.
     pub fn new(date: Date, time: Time, offset: UtcOffset) -> Option<Self> {
         let text = or_none(ffi::fots_moment_text(date.to_c(), time.to_c(), offset.whole_seconds()))?;
-        Some(Self { line: Line::of_c(text) })
+        Some(Self { line: Line::from_c(text) })
     }
 
     /// Returns the text.
@@ -41,7 +41,7 @@ impl fmt::Display for Text {
 /// `UnexpectedByte` or `UnexpectedEnd`, else `OutOfRange` for the first component out of range:
 /// `month`, `day`, `hour`, `minute`, `second` (also 60), `offset hour` above 23, or `offset
 /// minute`.
-pub fn read(text: &[u8]) -> Result<(Date, Time, UtcOffset), Unreadable> {
-    let (date, time, offset, _) = ffi::fots_moment_read(text)?;
-    Ok((Date::of_c(date), Time::of_c(time), UtcOffset::of_c(offset)))
+pub fn read(text: &[u8]) -> Result<(Date, Time, UtcOffset), ParseError> {
+    let (date, time, offset, _) = ffi::fots_moment_parse(text)?;
+    Ok((Date::from_c(date), Time::from_c(time), UtcOffset::from_c(offset)))
 }

@@ -1,7 +1,7 @@
 //! Unix times as durations and as texts. Leap seconds are not counted.
 
-use crate::error::Unreadable;
-use crate::ffi::{self, certain, or_none};
+use crate::error::ParseError;
+use crate::ffi::{self, expect_answer, or_none};
 use crate::text::Line;
 use crate::{Date, SignedDuration, Time, UtcOffset};
 use core::fmt;
@@ -9,13 +9,13 @@ use core::fmt;
 /// Returns the Unix time of a date and a time of day at an offset, exactly. For 2024-02-29
 /// 0:00:00.5 UTC: 1709164800.5 s.
 pub fn duration_of(date: Date, time: Time, offset: UtcOffset) -> SignedDuration {
-    SignedDuration::of_c(certain(ffi::fots_unix_time(date.to_c(), time.to_c(), offset.whole_seconds())))
+    SignedDuration::from_c(expect_answer(ffi::fots_unix_time(date.to_c(), time.to_c(), offset.whole_seconds())))
 }
 
 /// Returns the date and time of a Unix time at an offset, or `None` out of range.
 pub fn pair_of(duration: SignedDuration, offset: UtcOffset) -> Option<(Date, Time)> {
     let (date, time) = or_none(ffi::fots_unix_pair(duration.to_c(), offset.whole_seconds()))?;
-    Some((Date::of_c(date), Time::of_c(time)))
+    Some((Date::from_c(date), Time::from_c(time)))
 }
 
 /// Prints a moment as its Unix time, `@1709164800.5`. The fraction has no trailing zeros. A width
@@ -28,7 +28,7 @@ pub struct Text {
 impl Text {
     /// Takes a date and a time of day at an offset.
     pub fn new(date: Date, time: Time, offset: UtcOffset) -> Self {
-        Self { line: Line::certain(ffi::fots_unix_text(date.to_c(), time.to_c(), offset.whole_seconds())) }
+        Self { line: Line::expect_answer(ffi::fots_unix_text(date.to_c(), time.to_c(), offset.whole_seconds())) }
     }
 
     /// Returns the text.
@@ -49,7 +49,7 @@ impl fmt::Display for Text {
 /// # Errors
 ///
 /// `UnexpectedByte` or `UnexpectedEnd`, else `OutOfRange` for `timestamp`.
-pub fn read(text: &[u8]) -> Result<(Date, Time), Unreadable> {
-    let (date, time, _, _) = ffi::fots_unix_read(text)?;
-    Ok((Date::of_c(date), Time::of_c(time)))
+pub fn read(text: &[u8]) -> Result<(Date, Time), ParseError> {
+    let (date, time, _, _) = ffi::fots_unix_parse(text)?;
+    Ok((Date::from_c(date), Time::from_c(time)))
 }

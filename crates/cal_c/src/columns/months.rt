@@ -3,15 +3,15 @@ ghost use Rattle.std.specs.Prelude.{◌≡◌, ◌≤◌, ◌+ℤ◌, min, pos};
 ghost use Rattle.cal_time.specs.Date.{year_at, month_at, day_of_month_at};
 ghost use Rattle.cal_time.specs.Lengths.{days_in_month};
 ghost use Rattle.cal_schedule.specs.Months.{month_number_at};
-ghost use Rattle.cal_c.specs.Columns.{int_at, nat_at, Alike4, AreAnswered, date_row, IsDateMonthsLater};
+ghost use Rattle.cal_c.specs.Columns.{int_at, nat_at, SameLength4, AreRows, date_row, IsDateMonthsLater};
 ghost use Rattle.cal_c.specs.Values.{IsJulianDay, day_of};
 
-use super::making::refused;
-use super::statuses::{BAD_DATE, DONE, PAST_RANGE};
-use super::{UNLIKE, refused_in};
-use crate::number::is_julian_day;
-use crate::sums::{julian_day_at, length_of};
-use crate::values::date_of;
+use super::constructors::error_row;
+use super::statuses::{INVALID_DATE, OK, RESULT_OUT_OF_RANGE};
+use super::{LENGTH_MISMATCH, count_errors};
+use crate::day_number::is_julian_day;
+use crate::branchless::{julian_day_from_calendar_date, month_length};
+use crate::values::valid_date;
 use cal_time::Cycle;
 use cal_time::limits::MIN_YEAR;
 use cal_time::util::is_leap_year;
@@ -27,51 +27,51 @@ pub extern "C" fn fots_dates_add_months(
     moved: &mut [i32],
     statuses: &mut [u8],
 ) -> usize
-    ensures unlike { ¬ Alike4 dates.now months.now moved.old statuses.old
+    ensures length_mismatch { ¬ SameLength4 dates.now months.now moved.old statuses.old
         → (result ≡ usize.MAX) × (moved.new ≡ moved.old) × (statuses.new ≡ statuses.old) }
-    ensures rows { Alike4 dates.now months.now moved.old statuses.old
-        → AreAnswered statuses.new result (λ k. IsDateMonthsLater (int_at dates.now k)
+    ensures rows { SameLength4 dates.now months.now moved.old statuses.old
+        → AreRows statuses.new result (λ k. IsDateMonthsLater (int_at dates.now k)
         (int_at months.now k) (date_row (int_at moved.new k) (nat_at statuses.new k))) }
 {
     let rows = dates.len();
     if months.len() != rows || moved.len() != rows || statuses.len() != rows {
-        return UNLIKE;
+        return LENGTH_MISMATCH;
     }
     for row in 0..rows {
         let (date, status) = date_months_later(dates[row], months[row]);
         moved[row] = date;
         statuses[row] = status;
     }
-    refused_in(statuses)
+    count_errors(statuses)
 }
 
 /// Returns the row of a date plus months.
 fn date_months_later(date: i32, months: i32) -> (i32, u8)
     ensures { IsDateMonthsLater date months (date_row result.0 result.1) }
 {
-    let (index, day) = index_and_day(date);
+    let (index, day) = month_number_and_day(date);
     // A negative sum wraps to a number far above the last month.
     let index = index.wrapping_add(months.cast_unsigned());
-    let later = day_in_month(index.min(LAST_MONTH), day);
+    let later = clamped_date_in_month(index.min(LAST_MONTH), day);
     if !is_julian_day(date) {
-        refused(BAD_DATE)
+        error_row(INVALID_DATE)
     } else if index > LAST_MONTH {
-        refused(PAST_RANGE)
+        error_row(RESULT_OUT_OF_RANGE)
     } else {
-        (later, DONE)
+        (later, OK)
     }
 }
 
 /// Returns the index of the month from the start of the range, and the day of the month.
 #[inline(always)]
-fn index_and_day(date: i32) -> (u32, u8)
+fn month_number_and_day(date: i32) -> (u32, u8)
     ensures index { IsJulianDay date
         → pos result.0 ≡ month_number_at (day_of date) +ℤ pos 11_999_988 }
     ensures day { IsJulianDay date → result.1 ≡ day_of_month_at (day_of date) }
-    ensures most { result.0 ≤ 23_999_987 }
-    ensures some { 1 ≤ result.1 }
+    ensures max { result.0 ≤ 23_999_987 }
+    ensures min { 1 ≤ result.1 }
 {
-    match date_of(date) {
+    match valid_date(date) {
         Some(date) => {
             let (year, month, day) = date.to_calendar_date();
             (
@@ -85,15 +85,15 @@ fn index_and_day(date: i32) -> (u32, u8)
 
 /// Returns the date in a month with this day, or the last day of the month if it is shorter.
 #[inline(always)]
-fn day_in_month(index: u32, day: u8) -> i32
+fn clamped_date_in_month(index: u32, day: u8) -> i32
     requires index { index ≤ 23_999_987 }
     requires day { 1 ≤ day }
     ensures month { month_number_at (day_of result) +ℤ pos 11_999_988 ≡ pos index }
     ensures day { day_of_month_at (day_of result)
         ≡ min day (days_in_month (year_at (day_of result)) (month_at (day_of result))) }
-    ensures in_range { IsJulianDay result }
+    ensures range { IsJulianDay result }
 {
     let year = (index / 12) as i32 + MIN_YEAR;
     let month = (index % 12) as u8 + 1;
-    julian_day_at(year, month, day.min(length_of(month, is_leap_year(year))))
+    julian_day_from_calendar_date(year, month, day.min(month_length(month, is_leap_year(year))))
 }

@@ -6,44 +6,44 @@ ghost use Rattle.cal_c.specs.Statuses.{component_status};
 use crate::status;
 use cal_time::error::ComponentRange;
 
-pub(super) const DONE: u8 = status::DONE as u8;
+pub(super) const OK: u8 = status::OK as u8;
 
-pub(super) const PAST_RANGE: u8 = status::PAST_RANGE as u8;
+pub(super) const RESULT_OUT_OF_RANGE: u8 = status::RESULT_OUT_OF_RANGE as u8;
 
-pub(super) const BAD_DATE: u8 = status::BAD_DATE as u8;
+pub(super) const INVALID_DATE: u8 = status::INVALID_DATE as u8;
 
-pub(super) const BAD_TIME: u8 = status::BAD_TIME as u8;
+pub(super) const INVALID_TIME: u8 = status::INVALID_TIME as u8;
 
-pub(super) const BAD_OFFSET: u8 = status::BAD_OFFSET as u8;
+pub(super) const INVALID_OFFSET: u8 = status::INVALID_OFFSET as u8;
 
-pub(super) const BAD_WEEKDAY: u8 = status::BAD_WEEKDAY as u8;
+pub(super) const INVALID_WEEKDAY: u8 = status::INVALID_WEEKDAY as u8;
 
-pub(super) const BOUNDS: u8 = status::BOUNDS as u8;
+pub(super) const INVALID_BOUNDS: u8 = status::INVALID_BOUNDS as u8;
 
-pub(super) const YEAR: u8 = status::YEAR as u8;
+pub(super) const YEAR_OUT_OF_RANGE: u8 = status::YEAR_OUT_OF_RANGE as u8;
 
-pub(super) const MONTH: u8 = status::MONTH as u8;
+pub(super) const MONTH_OUT_OF_RANGE: u8 = status::MONTH_OUT_OF_RANGE as u8;
 
-pub(super) const JULIAN_DAY: u8 = status::JULIAN_DAY as u8;
+pub(super) const JULIAN_DAY_OUT_OF_RANGE: u8 = status::JULIAN_DAY_OUT_OF_RANGE as u8;
 
-pub(super) const DAY: u8 = status::DAY as u8;
+pub(super) const DAY_OUT_OF_RANGE: u8 = status::DAY_OUT_OF_RANGE as u8;
 
-pub(super) const ORDINAL: u8 = status::ORDINAL as u8;
+pub(super) const ORDINAL_OUT_OF_RANGE: u8 = status::ORDINAL_OUT_OF_RANGE as u8;
 
-pub(super) const WEEK: u8 = status::WEEK as u8;
+pub(super) const WEEK_OUT_OF_RANGE: u8 = status::WEEK_OUT_OF_RANGE as u8;
 
-pub(super) const WEEKDAY: u8 = status::WEEKDAY as u8;
+pub(super) const WEEKDAY_OUT_OF_RANGE: u8 = status::WEEKDAY_OUT_OF_RANGE as u8;
 
 /// Returns the status of an error.
 #[tactic(auto, using(crate::proofs::TextRows::is_byte))]
-pub(super) fn status_of(error: ComponentRange) -> u8
+pub(super) fn status_byte(error: ComponentRange) -> u8
     ensures { pos result ≡ component_status error.component }
 {
-    byte_of(status::status_of(error))
+    byte_status(status::error_status(error))
 }
 
 /// Returns a status as a byte.
-pub(super) fn byte_of(status: i32) -> u8
+pub(super) fn byte_status(status: i32) -> u8
     ensures { IsByte status → pos result ≡ status }
 {
     u8::try_from(status).unwrap_or(u8::MAX)

@@ -1,3 +1,3 @@
 //! Columns of texts: the bytes of all texts, and the bounds between which the texts are.
-mod making;
-mod reading;
+mod formatting;
+mod parsing;

@@ -1,33 +1,33 @@
 //! The days with a weekday after a date, and before it.
 ghost use Rattle.std.specs.Prelude.{◌≡◌, ◌+◌, ◌-◌, ◌%◌, ◌<◌, ◌≤◌};
 ghost use Rattle.cal_time.specs.Date.{IsDate};
-ghost use Rattle.cal_time.specs.Occurrence.{next_occurrences, prev_occurrences, kth};
-ghost use Rattle.cal_c.specs.Results.{date_refused, date_if_any};
-ghost use Rattle.cal_c.specs.Statuses.{bad_date, bad_weekday, bad_count};
+ghost use Rattle.cal_time.specs.Occurrences.{next_occurrences, prev_occurrences, kth};
+ghost use Rattle.cal_c.specs.Results.{date_error, date_or_out_of_range};
+ghost use Rattle.cal_c.specs.Statuses.{invalid_date, invalid_weekday, invalid_count};
 ghost use Rattle.cal_c.specs.Values.{IsJulianDay, IsWeekday, day_of};
 
-use crate::number::{day_if_any, days_since_monday, number_of};
+use crate::day_number::{date_result_from_number, days_since_monday, day_number};
 use crate::results::DateResult;
-use crate::status::{BAD_COUNT, BAD_DATE, BAD_WEEKDAY, PAST_RANGE};
+use crate::status::{INVALID_COUNT, INVALID_DATE, INVALID_WEEKDAY, RESULT_OUT_OF_RANGE};
 
 /// Returns the `count`-th day with a weekday after a date, from 1 to 255. Fails if it is out of
 /// range, or for 0. The fifth Monday after 2460121 is 2460150.
 #[unsafe(no_mangle)]
 pub extern "C" fn fots_date_nth_next_occurrence(date: i32, weekday: u32, count: u32) -> DateResult
-    ensures bad_date { ¬ IsJulianDay date → result ≡ date_refused bad_date }
-    ensures bad_weekday { IsJulianDay date → ¬ IsWeekday weekday
-        → result ≡ date_refused bad_weekday }
-    ensures bad_count { IsJulianDay date → IsWeekday weekday → 255 < count
-        → result ≡ date_refused bad_count }
-    ensures day { IsJulianDay date → IsWeekday weekday → count ≤ 255
-        → result ≡ date_if_any (kth count (next_occurrences (weekday - 1) (day_of date))) }
+    ensures invalid_date { ¬ IsJulianDay date → result ≡ date_error invalid_date }
+    ensures invalid_weekday { IsJulianDay date → ¬ IsWeekday weekday
+        → result ≡ date_error invalid_weekday }
+    ensures invalid_count { IsJulianDay date → IsWeekday weekday → 255 < count
+        → result ≡ date_error invalid_count }
+    ensures value { IsJulianDay date → IsWeekday weekday → count ≤ 255
+        → result ≡ date_or_out_of_range (kth count (next_occurrences (weekday - 1) (day_of date))) }
 {
-    let number = or_return!(number_of(date), DateResult::refused(BAD_DATE));
+    let number = or_return!(day_number(date), DateResult::error(INVALID_DATE));
     if weekday == 0 || weekday > 7 {
-        return DateResult::refused(BAD_WEEKDAY);
+        return DateResult::error(INVALID_WEEKDAY);
     }
     if count > 255 {
-        return DateResult::refused(BAD_COUNT);
+        return DateResult::error(INVALID_COUNT);
     }
     occurrence_after(number, weekday, count)
 }
@@ -36,20 +36,20 @@ pub extern "C" fn fots_date_nth_next_occurrence(date: i32, weekday: u32, count: 
 /// range, or for 0. The third Monday before 2460123 is 2460108.
 #[unsafe(no_mangle)]
 pub extern "C" fn fots_date_nth_prev_occurrence(date: i32, weekday: u32, count: u32) -> DateResult
-    ensures bad_date { ¬ IsJulianDay date → result ≡ date_refused bad_date }
-    ensures bad_weekday { IsJulianDay date → ¬ IsWeekday weekday
-        → result ≡ date_refused bad_weekday }
-    ensures bad_count { IsJulianDay date → IsWeekday weekday → 255 < count
-        → result ≡ date_refused bad_count }
-    ensures day { IsJulianDay date → IsWeekday weekday → count ≤ 255
-        → result ≡ date_if_any (kth count (prev_occurrences (weekday - 1) (day_of date))) }
+    ensures invalid_date { ¬ IsJulianDay date → result ≡ date_error invalid_date }
+    ensures invalid_weekday { IsJulianDay date → ¬ IsWeekday weekday
+        → result ≡ date_error invalid_weekday }
+    ensures invalid_count { IsJulianDay date → IsWeekday weekday → 255 < count
+        → result ≡ date_error invalid_count }
+    ensures value { IsJulianDay date → IsWeekday weekday → count ≤ 255
+        → result ≡ date_or_out_of_range (kth count (prev_occurrences (weekday - 1) (day_of date))) }
 {
-    let number = or_return!(number_of(date), DateResult::refused(BAD_DATE));
+    let number = or_return!(day_number(date), DateResult::error(INVALID_DATE));
     if weekday == 0 || weekday > 7 {
-        return DateResult::refused(BAD_WEEKDAY);
+        return DateResult::error(INVALID_WEEKDAY);
     }
     if count > 255 {
-        return DateResult::refused(BAD_COUNT);
+        return DateResult::error(INVALID_COUNT);
     }
     occurrence_before(number, weekday, count)
 }
@@ -58,15 +58,15 @@ pub extern "C" fn fots_date_nth_prev_occurrence(date: i32, weekday: u32, count: 
 /// 2460124 is 2460129.
 #[unsafe(no_mangle)]
 pub extern "C" fn fots_date_next_occurrence(date: i32, weekday: u32) -> DateResult
-    ensures bad_date { ¬ IsJulianDay date → result ≡ date_refused bad_date }
-    ensures bad_weekday { IsJulianDay date → ¬ IsWeekday weekday
-        → result ≡ date_refused bad_weekday }
-    ensures day { IsJulianDay date → IsWeekday weekday
-        → result ≡ date_if_any (kth 1 (next_occurrences (weekday - 1) (day_of date))) }
+    ensures invalid_date { ¬ IsJulianDay date → result ≡ date_error invalid_date }
+    ensures invalid_weekday { IsJulianDay date → ¬ IsWeekday weekday
+        → result ≡ date_error invalid_weekday }
+    ensures value { IsJulianDay date → IsWeekday weekday
+        → result ≡ date_or_out_of_range (kth 1 (next_occurrences (weekday - 1) (day_of date))) }
 {
-    let number = or_return!(number_of(date), DateResult::refused(BAD_DATE));
+    let number = or_return!(day_number(date), DateResult::error(INVALID_DATE));
     if weekday == 0 || weekday > 7 {
-        return DateResult::refused(BAD_WEEKDAY);
+        return DateResult::error(INVALID_WEEKDAY);
     }
     occurrence_after(number, weekday, 1)
 }
@@ -75,15 +75,15 @@ pub extern "C" fn fots_date_next_occurrence(date: i32, weekday: u32) -> DateResu
 /// before 2460115 is 2460108.
 #[unsafe(no_mangle)]
 pub extern "C" fn fots_date_prev_occurrence(date: i32, weekday: u32) -> DateResult
-    ensures bad_date { ¬ IsJulianDay date → result ≡ date_refused bad_date }
-    ensures bad_weekday { IsJulianDay date → ¬ IsWeekday weekday
-        → result ≡ date_refused bad_weekday }
-    ensures day { IsJulianDay date → IsWeekday weekday
-        → result ≡ date_if_any (kth 1 (prev_occurrences (weekday - 1) (day_of date))) }
+    ensures invalid_date { ¬ IsJulianDay date → result ≡ date_error invalid_date }
+    ensures invalid_weekday { IsJulianDay date → ¬ IsWeekday weekday
+        → result ≡ date_error invalid_weekday }
+    ensures value { IsJulianDay date → IsWeekday weekday
+        → result ≡ date_or_out_of_range (kth 1 (prev_occurrences (weekday - 1) (day_of date))) }
 {
-    let number = or_return!(number_of(date), DateResult::refused(BAD_DATE));
+    let number = or_return!(day_number(date), DateResult::error(INVALID_DATE));
     if weekday == 0 || weekday > 7 {
-        return DateResult::refused(BAD_WEEKDAY);
+        return DateResult::error(INVALID_WEEKDAY);
     }
     occurrence_before(number, weekday, 1)
 }
@@ -93,14 +93,14 @@ fn occurrence_after(number: u32, weekday: u32, count: u32) -> DateResult
     requires in_range { IsDate number }
     requires is_weekday { IsWeekday weekday }
     requires is_count { count ≤ 255 }
-    ensures { result ≡ date_if_any (kth count (next_occurrences (weekday - 1) number)) }
+    ensures { result ≡ date_or_out_of_range (kth count (next_occurrences (weekday - 1) number)) }
 {
     if count == 0 {
-        return DateResult::refused(PAST_RANGE);
+        return DateResult::error(RESULT_OUT_OF_RANGE);
     }
 
-    let first = days_until(days_since_monday(number) + 1, weekday);
-    day_if_any(number + first + 7 * (count - 1))
+    let first = days_to_next_weekday(days_since_monday(number) + 1, weekday);
+    date_result_from_number(number + first + 7 * (count - 1))
 }
 
 /// Returns the `count`-th day with a weekday before a day.
@@ -108,21 +108,21 @@ fn occurrence_before(number: u32, weekday: u32, count: u32) -> DateResult
     requires in_range { IsDate number }
     requires is_weekday { IsWeekday weekday }
     requires is_count { count ≤ 255 }
-    ensures { result ≡ date_if_any (kth count (prev_occurrences (weekday - 1) number)) }
+    ensures { result ≡ date_or_out_of_range (kth count (prev_occurrences (weekday - 1) number)) }
 {
     if count == 0 {
-        return DateResult::refused(PAST_RANGE);
+        return DateResult::error(RESULT_OUT_OF_RANGE);
     }
-    let first = days_until(weekday, days_since_monday(number) + 1);
+    let first = days_to_next_weekday(weekday, days_since_monday(number) + 1);
     let number = or_return!(
         number.checked_sub(first + 7 * (count - 1)),
-        DateResult::refused(PAST_RANGE)
+        DateResult::error(RESULT_OUT_OF_RANGE)
     );
-    day_if_any(number)
+    date_result_from_number(number)
 }
 
 /// Returns the days from one weekday to the next day with another, from 1 to 7.
-fn days_until(weekday: u32, other: u32) -> u32
+fn days_to_next_weekday(weekday: u32, other: u32) -> u32
     requires is_weekday { IsWeekday weekday }
     requires is_other { IsWeekday other }
     ensures { result ≡ (other + 6 - weekday) % 7 + 1 }

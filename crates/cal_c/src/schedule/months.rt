@@ -3,13 +3,13 @@ ghost use Rattle.std.specs.Prelude.{◌≡◌, pos, ◌+ℤ◌, ◌*ℤ◌, ◌<
 ghost use Rattle.cal_time.specs.Date.{first_julian_day, first_year, last_day, last_year, julian_day_at, year_at, IsYear};
 ghost use Rattle.cal_schedule.specs.Months.{month_number_at, IsMonthNumber, IsMonthsLater};
 ghost use Rattle.cal_c.specs.Columns.{IsDateMonthsLater};
-ghost use Rattle.cal_c.specs.Results.{date_done, date_refused, IsDayWith};
-ghost use Rattle.cal_c.specs.Statuses.{bad_date, past_range};
+ghost use Rattle.cal_c.specs.Results.{date_ok, date_error, IsDateWith};
+ghost use Rattle.cal_c.specs.Statuses.{invalid_date, result_out_of_range};
 ghost use Rattle.cal_c.specs.Values.{IsJulianDay, day_of};
 
 use crate::results::DateResult;
-use crate::status::BAD_DATE;
-use crate::values::date_of;
+use crate::status::INVALID_DATE;
+use crate::values::valid_date;
 use cal_schedule::{checked_add_months, checked_add_years, saturating_add_months};
 
 /// Adds months, or subtracts them if the number is negative. The day of the month stays, or becomes
@@ -19,25 +19,25 @@ use cal_schedule::{checked_add_months, checked_add_years, saturating_add_months}
 pub extern "C" fn fots_date_add_months(date: i32, months: i32) -> DateResult
     ensures { IsDateMonthsLater date months result }
 {
-    let date = or_return!(date_of(date), DateResult::refused(BAD_DATE));
-    DateResult::of_option(checked_add_months(date, months))
+    let date = or_return!(valid_date(date), DateResult::error(INVALID_DATE));
+    DateResult::from_option(checked_add_months(date, months))
 }
 
 /// Adds months like `fots_date_add_months`, but returns the first or the last date of the range if
 /// the resulting month is out of range. A month after 366963559, the last day, is 366963559.
 #[unsafe(no_mangle)]
 pub extern "C" fn fots_date_saturating_add_months(date: i32, months: i32) -> DateResult
-    ensures bad_date { ¬ IsJulianDay date → result ≡ date_refused bad_date }
-    ensures day { IsJulianDay date → IsMonthNumber (month_number_at (day_of date) +ℤ months)
-        → IsDayWith (IsMonthsLater (day_of date) months) result }
+    ensures invalid_date { ¬ IsJulianDay date → result ≡ date_error invalid_date }
+    ensures value { IsJulianDay date → IsMonthNumber (month_number_at (day_of date) +ℤ months)
+        → IsDateWith (IsMonthsLater (day_of date) months) result }
     ensures before { IsJulianDay date
         → (month_number_at (day_of date) +ℤ months) <ℤ (first_year *ℤ pos 12)
-        → result ≡ date_done first_julian_day }
+        → result ≡ date_ok first_julian_day }
     ensures past { IsJulianDay date → ((last_year +ℤ pos 1) *ℤ pos 12)
-        ≤ℤ (month_number_at (day_of date) +ℤ months) → result ≡ date_done (julian_day_at last_day) }
+        ≤ℤ (month_number_at (day_of date) +ℤ months) → result ≡ date_ok (julian_day_at last_day) }
 {
-    let date = or_return!(date_of(date), DateResult::refused(BAD_DATE));
-    DateResult::of(saturating_add_months(date, months))
+    let date = or_return!(valid_date(date), DateResult::error(INVALID_DATE));
+    DateResult::ok(saturating_add_months(date, months))
 }
 
 /// Adds years, or subtracts them if the number is negative. 29 February becomes the 28th in a
@@ -45,12 +45,12 @@ pub extern "C" fn fots_date_saturating_add_months(date: i32, months: i32) -> Dat
 /// 2451969, 2001-02-28.
 #[unsafe(no_mangle)]
 pub extern "C" fn fots_date_add_years(date: i32, years: i32) -> DateResult
-    ensures bad_date { ¬ IsJulianDay date → result ≡ date_refused bad_date }
-    ensures past_range { IsJulianDay date → ¬ IsYear (year_at (day_of date) +ℤ years)
-        → result ≡ date_refused past_range }
-    ensures day { IsJulianDay date → IsYear (year_at (day_of date) +ℤ years)
-        → IsDayWith (IsMonthsLater (day_of date) (pos 12 *ℤ years)) result }
+    ensures invalid_date { ¬ IsJulianDay date → result ≡ date_error invalid_date }
+    ensures result_out_of_range { IsJulianDay date → ¬ IsYear (year_at (day_of date) +ℤ years)
+        → result ≡ date_error result_out_of_range }
+    ensures value { IsJulianDay date → IsYear (year_at (day_of date) +ℤ years)
+        → IsDateWith (IsMonthsLater (day_of date) (pos 12 *ℤ years)) result }
 {
-    let date = or_return!(date_of(date), DateResult::refused(BAD_DATE));
-    DateResult::of_option(checked_add_years(date, years))
+    let date = or_return!(valid_date(date), DateResult::error(INVALID_DATE));
+    DateResult::from_option(checked_add_years(date, years))
 }

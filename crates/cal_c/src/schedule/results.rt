@@ -1,9 +1,9 @@
 //! Results of the calls for schedules.
 ghost use Rattle.std.specs.Prelude.{◌≡◌};
-ghost use Rattle.cal_c.specs.Recurrences.{days_done, days_refused};
-ghost use Rattle.cal_c.specs.Schedule.{period_done, period_refused, year_fraction_done, year_fraction_refused};
+ghost use Rattle.cal_c.specs.Recurrences.{days_ok, days_error};
+ghost use Rattle.cal_c.specs.Schedule.{period_ok, period_error, year_fraction_ok, year_fraction_error};
 
-use crate::status::DONE;
+use crate::status::OK;
 use cal_schedule::{Period, YearFraction};
 
 /// A period of years, months and days, all of one sign.
@@ -34,36 +34,36 @@ pub struct DaysResult {
 }
 
 impl DaysResult {
-    pub fn of(length: usize) -> Self
-        ensures { result ≡ days_done length }
+    pub fn ok(length: usize) -> Self
+        ensures { result ≡ days_ok length }
     {
         DaysResult {
-            status: DONE,
+            status: OK,
             length,
         }
     }
 
-    pub fn refused(status: i32) -> Self
-        ensures { result ≡ days_refused status }
+    pub fn error(status: i32) -> Self
+        ensures { result ≡ days_error status }
     {
         DaysResult { status, length: 0 }
     }
 }
 
 impl PeriodResult {
-    pub fn of(period: Period) -> Self
-        ensures { result ≡ period_done period }
+    pub fn ok(period: Period) -> Self
+        ensures { result ≡ period_ok period }
     {
         PeriodResult {
-            status: DONE,
+            status: OK,
             years: period.years,
             months: period.months,
             days: period.days,
         }
     }
 
-    pub fn refused(status: i32) -> Self
-        ensures { result ≡ period_refused status }
+    pub fn error(status: i32) -> Self
+        ensures { result ≡ period_error status }
     {
         PeriodResult {
             status,
@@ -75,18 +75,18 @@ impl PeriodResult {
 }
 
 impl YearFractionResult {
-    pub fn of(fraction: YearFraction) -> Self
-        ensures { result ≡ year_fraction_done fraction.numerator fraction.denominator }
+    pub fn ok(fraction: YearFraction) -> Self
+        ensures { result ≡ year_fraction_ok fraction.numerator fraction.denominator }
     {
         YearFractionResult {
-            status: DONE,
+            status: OK,
             denominator: fraction.denominator,
             numerator: fraction.numerator,
         }
     }
 
-    pub fn refused(status: i32) -> Self
-        ensures { result ≡ year_fraction_refused status }
+    pub fn error(status: i32) -> Self
+        ensures { result ≡ year_fraction_error status }
     {
         YearFractionResult {
             status,

@@ -1,47 +1,47 @@
 //! The months, the years and the period from one date to another.
 ghost use Rattle.std.specs.Prelude.{◌≡◌, pos, neg_ℤ, ◌*ℤ◌, ◌<ℤ◌, ◌≤ℤ◌};
-ghost use Rattle.cal_schedule.specs.Until.{months_of, IsGreatest, IsLeast, LeadsTo, LeadsUpTo, LeadsBackTo};
-ghost use Rattle.cal_c.specs.Results.{number_refused};
-ghost use Rattle.cal_c.specs.Schedule.{period_refused, IsNumberWith, IsPeriodWith};
-ghost use Rattle.cal_c.specs.Statuses.{bad_date};
+ghost use Rattle.cal_schedule.specs.Until.{months_of, IsGreatest, IsLeast, IsPeriodUntil, IsMonthsUpTo, IsMonthsBackTo};
+ghost use Rattle.cal_c.specs.Results.{number_error};
+ghost use Rattle.cal_c.specs.Schedule.{period_error, IsNumberWith, IsPeriodWith};
+ghost use Rattle.cal_c.specs.Statuses.{invalid_date};
 ghost use Rattle.cal_c.specs.Values.{IsJulianDay, day_of};
 
 use crate::results::NumberResult;
 use crate::schedule::results::PeriodResult;
-use crate::status::BAD_DATE;
-use crate::values::date_of;
+use crate::status::INVALID_DATE;
+use crate::values::valid_date;
 use cal_schedule::{months_until, period_until, years_until};
 
 /// Returns the whole months from `date` to `other`, truncated toward zero: as many as possible
 /// without passing `other`. From 2451575, 2000-01-31, to 2451604, 2000-02-29, it is 1.
 #[unsafe(no_mangle)]
 pub extern "C" fn fots_date_months_until(date: i32, other: i32) -> NumberResult
-    ensures bad_date { ¬ (IsJulianDay date × IsJulianDay other) → result ≡ number_refused bad_date }
-    ensures on { IsJulianDay date → IsJulianDay other → date ≤ℤ other
-        → IsNumberWith (IsGreatest (LeadsUpTo (day_of date) (day_of other))) result }
-    ensures back { IsJulianDay date → IsJulianDay other → other <ℤ date
-        → IsNumberWith (IsLeast (LeadsBackTo (day_of date) (day_of other))) result }
+    ensures invalid_date { ¬ (IsJulianDay date × IsJulianDay other) → result ≡ number_error invalid_date }
+    ensures value_forward { IsJulianDay date → IsJulianDay other → date ≤ℤ other
+        → IsNumberWith (IsGreatest (IsMonthsUpTo (day_of date) (day_of other))) result }
+    ensures value_backward { IsJulianDay date → IsJulianDay other → other <ℤ date
+        → IsNumberWith (IsLeast (IsMonthsBackTo (day_of date) (day_of other))) result }
 {
-    let date = or_return!(date_of(date), NumberResult::refused(BAD_DATE));
-    let other = or_return!(date_of(other), NumberResult::refused(BAD_DATE));
-    NumberResult::of(months_until(date, other))
+    let date = or_return!(valid_date(date), NumberResult::error(INVALID_DATE));
+    let other = or_return!(valid_date(other), NumberResult::error(INVALID_DATE));
+    NumberResult::ok(months_until(date, other))
 }
 
 /// Returns the whole years from `date` to `other`, such as an age, truncated toward zero. From
 /// 2451604, 2000-02-29, to 2451969, 2001-02-28, it is 1.
 #[unsafe(no_mangle)]
 pub extern "C" fn fots_date_years_until(date: i32, other: i32) -> NumberResult
-    ensures bad_date { ¬ (IsJulianDay date × IsJulianDay other) → result ≡ number_refused bad_date }
-    ensures on { IsJulianDay date → IsJulianDay other → date ≤ℤ other
+    ensures invalid_date { ¬ (IsJulianDay date × IsJulianDay other) → result ≡ number_error invalid_date }
+    ensures value_forward { IsJulianDay date → IsJulianDay other → date ≤ℤ other
         → IsNumberWith (IsGreatest (λ years.
-        LeadsUpTo (day_of date) (day_of other) (pos 12 *ℤ years))) result }
-    ensures back { IsJulianDay date → IsJulianDay other → other <ℤ date
+        IsMonthsUpTo (day_of date) (day_of other) (pos 12 *ℤ years))) result }
+    ensures value_backward { IsJulianDay date → IsJulianDay other → other <ℤ date
         → IsNumberWith (IsLeast (λ years.
-        LeadsBackTo (day_of date) (day_of other) (pos 12 *ℤ years))) result }
+        IsMonthsBackTo (day_of date) (day_of other) (pos 12 *ℤ years))) result }
 {
-    let date = or_return!(date_of(date), NumberResult::refused(BAD_DATE));
-    let other = or_return!(date_of(other), NumberResult::refused(BAD_DATE));
-    NumberResult::of(years_until(date, other))
+    let date = or_return!(valid_date(date), NumberResult::error(INVALID_DATE));
+    let other = or_return!(valid_date(other), NumberResult::error(INVALID_DATE));
+    NumberResult::ok(years_until(date, other))
 }
 
 /// Returns the years, months and days from `date` to `other`: as many whole months as
@@ -49,14 +49,14 @@ pub extern "C" fn fots_date_years_until(date: i32, other: i32) -> NumberResult
 /// 2000-01-31, to 2451971, 2001-03-02, it is 1, 1 and 2.
 #[unsafe(no_mangle)]
 pub extern "C" fn fots_date_period_until(date: i32, other: i32) -> PeriodResult
-    ensures bad_date { ¬ (IsJulianDay date × IsJulianDay other) → result ≡ period_refused bad_date }
-    ensures leads { IsJulianDay date → IsJulianDay other
-        → IsPeriodWith (LeadsTo (day_of date) (day_of other)) result }
-    ensures on { IsJulianDay date → IsJulianDay other → date ≤ℤ other
-        → IsPeriodWith (λ p. IsGreatest (LeadsUpTo (day_of date) (day_of other)) (months_of p))
+    ensures invalid_date { ¬ (IsJulianDay date × IsJulianDay other) → result ≡ period_error invalid_date }
+    ensures value { IsJulianDay date → IsJulianDay other
+        → IsPeriodWith (IsPeriodUntil (day_of date) (day_of other)) result }
+    ensures value_forward { IsJulianDay date → IsJulianDay other → date ≤ℤ other
+        → IsPeriodWith (λ p. IsGreatest (IsMonthsUpTo (day_of date) (day_of other)) (months_of p))
         result }
-    ensures back { IsJulianDay date → IsJulianDay other → other <ℤ date
-        → IsPeriodWith (λ p. IsLeast (LeadsBackTo (day_of date) (day_of other)) (months_of p))
+    ensures value_backward { IsJulianDay date → IsJulianDay other → other <ℤ date
+        → IsPeriodWith (λ p. IsLeast (IsMonthsBackTo (day_of date) (day_of other)) (months_of p))
         result }
     ensures forward { IsJulianDay date → IsJulianDay other → date ≤ℤ other
         → (pos 0 ≤ℤ result.years) × (pos 0 ≤ℤ result.months) × (result.months ≤ℤ pos 11)
@@ -65,7 +65,7 @@ pub extern "C" fn fots_date_period_until(date: i32, other: i32) -> PeriodResult
         → (result.years ≤ℤ pos 0) × (neg_ℤ (pos 11) ≤ℤ result.months) × (result.months ≤ℤ pos 0)
         × (result.days ≤ℤ pos 0) }
 {
-    let date = or_return!(date_of(date), PeriodResult::refused(BAD_DATE));
-    let other = or_return!(date_of(other), PeriodResult::refused(BAD_DATE));
-    PeriodResult::of(period_until(date, other))
+    let date = or_return!(valid_date(date), PeriodResult::error(INVALID_DATE));
+    let other = or_return!(valid_date(other), PeriodResult::error(INVALID_DATE));
+    PeriodResult::ok(period_until(date, other))
 }

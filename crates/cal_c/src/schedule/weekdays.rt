@@ -2,13 +2,13 @@
 ghost use Rattle.std.specs.Prelude.{◌≡◌, ◌-◌, ◌<◌, ◌≤◌, ℕ, slice_get};
 ghost use Rattle.cal_time.specs.Date.{julian_day_at, IsDate, IsYear, NoDate};
 ghost use Rattle.cal_schedule.specs.Weekdays.{IsNthWeekday, IsLastWeekday, occurrences_from, occurrences_upto};
-ghost use Rattle.cal_c.specs.Results.{date_done, date_refused, date_if_any};
-ghost use Rattle.cal_c.specs.Statuses.{bad_count, bad_date, bad_weekday, month_refused, weekday_refused, year_refused};
+ghost use Rattle.cal_c.specs.Results.{date_ok, date_error, date_or_out_of_range};
+ghost use Rattle.cal_c.specs.Statuses.{invalid_count, invalid_date, invalid_weekday, month_status, weekday_status, year_status};
 ghost use Rattle.cal_c.specs.Values.{IsJulianDay, IsMonth, IsWeekday, day_of};
 
 use crate::results::DateResult;
-use crate::status::{BAD_COUNT, BAD_DATE, BAD_WEEKDAY, MONTH};
-use crate::values::{date_of, month_of, weekday_of};
+use crate::status::{INVALID_COUNT, INVALID_DATE, INVALID_WEEKDAY, MONTH_OUT_OF_RANGE};
+use crate::values::{valid_date, valid_month, valid_weekday};
 use cal_schedule::{last_weekday_of_month, nth_weekday_of_month, on_or_after, on_or_before};
 
 /// Returns the n-th day with a weekday in a month, counted from 1. Returns the error `year`, or
@@ -20,25 +20,25 @@ pub extern "C" fn fots_date_nth_weekday_of_month(
     weekday: u32,
     n: u32,
 ) -> DateResult
-    ensures month { ¬ IsMonth month → result ≡ date_refused month_refused }
-    ensures bad_weekday { IsMonth month → ¬ IsWeekday weekday → result ≡ date_refused bad_weekday }
-    ensures bad_count { IsMonth month → IsWeekday weekday → 255 < n
-        → result ≡ date_refused bad_count }
+    ensures month { ¬ IsMonth month → result ≡ date_error month_status }
+    ensures invalid_weekday { IsMonth month → ¬ IsWeekday weekday → result ≡ date_error invalid_weekday }
+    ensures invalid_count { IsMonth month → IsWeekday weekday → 255 < n
+        → result ≡ date_error invalid_count }
     ensures year { IsMonth month → IsWeekday weekday → n ≤ 255 → ¬ IsYear year
-        → result ≡ date_refused year_refused }
+        → result ≡ date_error year_status }
     ensures weekday { IsMonth month → IsWeekday weekday → n ≤ 255 → IsYear year
         → NoDate (IsNthWeekday year month (weekday - 1) n)
-        → result ≡ date_refused weekday_refused }
-    ensures day { IsMonth month → IsWeekday weekday → n ≤ 255 → (k : ℕ) → IsDate k
+        → result ≡ date_error weekday_status }
+    ensures value { IsMonth month → IsWeekday weekday → n ≤ 255 → (k : ℕ) → IsDate k
         → IsNthWeekday year month (weekday - 1) n k
-        → result ≡ date_done (julian_day_at k) }
+        → result ≡ date_ok (julian_day_at k) }
 {
-    let month = or_return!(month_of(month), DateResult::refused(MONTH));
-    let weekday = or_return!(weekday_of(weekday), DateResult::refused(BAD_WEEKDAY));
+    let month = or_return!(valid_month(month), DateResult::error(MONTH_OUT_OF_RANGE));
+    let weekday = or_return!(valid_weekday(weekday), DateResult::error(INVALID_WEEKDAY));
     if n > 255 {
-        return DateResult::refused(BAD_COUNT);
+        return DateResult::error(INVALID_COUNT);
     }
-    made_or_refused!(
+    ok_or_error!(
         DateResult,
         nth_weekday_of_month(year, month, weekday, n as u8)
     )
@@ -48,45 +48,45 @@ pub extern "C" fn fots_date_nth_weekday_of_month(
 /// The last Friday of 2000, 2 is 2451600, 2000-02-25.
 #[unsafe(no_mangle)]
 pub extern "C" fn fots_date_last_weekday_of_month(year: i32, month: u32, weekday: u32) -> DateResult
-    ensures month { ¬ IsMonth month → result ≡ date_refused month_refused }
-    ensures bad_weekday { IsMonth month → ¬ IsWeekday weekday → result ≡ date_refused bad_weekday }
+    ensures month { ¬ IsMonth month → result ≡ date_error month_status }
+    ensures invalid_weekday { IsMonth month → ¬ IsWeekday weekday → result ≡ date_error invalid_weekday }
     ensures year { IsMonth month → IsWeekday weekday → ¬ IsYear year
-        → result ≡ date_refused year_refused }
-    ensures day { IsMonth month → IsWeekday weekday → (k : ℕ) → IsDate k
+        → result ≡ date_error year_status }
+    ensures value { IsMonth month → IsWeekday weekday → (k : ℕ) → IsDate k
         → IsLastWeekday year month (weekday - 1) k
-        → result ≡ date_done (julian_day_at k) }
+        → result ≡ date_ok (julian_day_at k) }
 {
-    let month = or_return!(month_of(month), DateResult::refused(MONTH));
-    let weekday = or_return!(weekday_of(weekday), DateResult::refused(BAD_WEEKDAY));
-    made_or_refused!(DateResult, last_weekday_of_month(year, month, weekday))
+    let month = or_return!(valid_month(month), DateResult::error(MONTH_OUT_OF_RANGE));
+    let weekday = or_return!(valid_weekday(weekday), DateResult::error(INVALID_WEEKDAY));
+    ok_or_error!(DateResult, last_weekday_of_month(year, month, weekday))
 }
 
 /// Returns the first day with a weekday on or after a date. Fails if it is out of range. The Friday
 /// on or after 2451604, 2000-02-29, is 2451607.
 #[unsafe(no_mangle)]
 pub extern "C" fn fots_date_on_or_after(date: i32, weekday: u32) -> DateResult
-    ensures bad_date { ¬ IsJulianDay date → result ≡ date_refused bad_date }
-    ensures bad_weekday { IsJulianDay date → ¬ IsWeekday weekday
-        → result ≡ date_refused bad_weekday }
-    ensures day { IsJulianDay date → IsWeekday weekday
-        → result ≡ date_if_any (slice_get (occurrences_from (weekday - 1) (day_of date)) 0) }
+    ensures invalid_date { ¬ IsJulianDay date → result ≡ date_error invalid_date }
+    ensures invalid_weekday { IsJulianDay date → ¬ IsWeekday weekday
+        → result ≡ date_error invalid_weekday }
+    ensures value { IsJulianDay date → IsWeekday weekday
+        → result ≡ date_or_out_of_range (slice_get (occurrences_from (weekday - 1) (day_of date)) 0) }
 {
-    let date = or_return!(date_of(date), DateResult::refused(BAD_DATE));
-    let weekday = or_return!(weekday_of(weekday), DateResult::refused(BAD_WEEKDAY));
-    DateResult::of_option(on_or_after(date, weekday))
+    let date = or_return!(valid_date(date), DateResult::error(INVALID_DATE));
+    let weekday = or_return!(valid_weekday(weekday), DateResult::error(INVALID_WEEKDAY));
+    DateResult::from_option(on_or_after(date, weekday))
 }
 
 /// Returns the last day with a weekday on or before a date. Fails if it is out of range. The Friday
 /// on or before 2451604, 2000-02-29, is 2451600.
 #[unsafe(no_mangle)]
 pub extern "C" fn fots_date_on_or_before(date: i32, weekday: u32) -> DateResult
-    ensures bad_date { ¬ IsJulianDay date → result ≡ date_refused bad_date }
-    ensures bad_weekday { IsJulianDay date → ¬ IsWeekday weekday
-        → result ≡ date_refused bad_weekday }
-    ensures day { IsJulianDay date → IsWeekday weekday
-        → result ≡ date_if_any (slice_get (occurrences_upto (weekday - 1) (day_of date)) 0) }
+    ensures invalid_date { ¬ IsJulianDay date → result ≡ date_error invalid_date }
+    ensures invalid_weekday { IsJulianDay date → ¬ IsWeekday weekday
+        → result ≡ date_error invalid_weekday }
+    ensures value { IsJulianDay date → IsWeekday weekday
+        → result ≡ date_or_out_of_range (slice_get (occurrences_upto (weekday - 1) (day_of date)) 0) }
 {
-    let date = or_return!(date_of(date), DateResult::refused(BAD_DATE));
-    let weekday = or_return!(weekday_of(weekday), DateResult::refused(BAD_WEEKDAY));
-    DateResult::of_option(on_or_before(date, weekday))
+    let date = or_return!(valid_date(date), DateResult::error(INVALID_DATE));
+    let weekday = or_return!(valid_weekday(weekday), DateResult::error(INVALID_WEEKDAY));
+    DateResult::from_option(on_or_before(date, weekday))
 }

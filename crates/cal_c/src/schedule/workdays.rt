@@ -4,20 +4,20 @@
 //! 31 is Monday to Friday. The holidays are dates in ascending order, at most 1024.
 ghost use Rattle.std.specs.Prelude.{◌≡◌, ◌+◌, ◌<◌, ◌≤◌, length, pos, slice_get, IfErr, IfOk, MatchOption, if◌then◌else◌};
 ghost use Rattle.cal_schedule.specs.declared.workdays.convention.Convention.{Convention};
-ghost use Rattle.cal_schedule.specs.Workdays.{is_workday, nth_workday, workdays_back, workdays_from};
-ghost use Rattle.cal_schedule.specs.WorkdaysConvention.{adjusted};
+ghost use Rattle.cal_schedule.specs.Workdays.{is_workday, nth_workday, workdays_before, workdays_from};
+ghost use Rattle.cal_schedule.specs.WorkdaysConvention.{adjusted_date};
 ghost use Rattle.cal_c.specs.Columns.{IsDateWorkdaysLater, IsWorkdaysBetween};
-ghost use Rattle.cal_c.specs.Results.{date_if_any, date_refused, number_done, number_refused};
-ghost use Rattle.cal_c.specs.Statuses.{bad_convention, bad_date, bad_holidays, bad_week, many_holidays};
+ghost use Rattle.cal_c.specs.Results.{date_or_out_of_range, date_error, number_ok, number_error};
+ghost use Rattle.cal_c.specs.Statuses.{invalid_convention, invalid_date, invalid_holidays, invalid_weekmask, too_many_holidays};
 ghost use Rattle.cal_c.specs.Values.{IsJulianDay, day_of};
-ghost use Rattle.cal_c.specs.Workweeks.{convention_number, most_holidays, work_week, workdays_number, AreHolidays, IsConvention, IsMarks};
+ghost use Rattle.cal_c.specs.Weekmasks.{convention_number, max_holidays, work_week, workdays_between, AreHolidays, IsConvention, IsWeekmask};
 
 pub mod calendar;
 mod holidays;
 
 use crate::results::{DateResult, NumberResult};
-use crate::status::{BAD_CONVENTION, BAD_DATE};
-use crate::values::date_of;
+use crate::status::{INVALID_CONVENTION, INVALID_DATE};
+use crate::values::valid_date;
 use cal_schedule::Convention;
 use calendar::Calendar;
 
@@ -25,61 +25,61 @@ use calendar::Calendar;
 /// and without holidays.
 #[unsafe(no_mangle)]
 pub extern "C" fn fots_date_is_workday(date: i32, week: u32, holidays: &[i32]) -> NumberResult
-    ensures bad_date { ¬ IsJulianDay date → result ≡ number_refused bad_date }
-    ensures bad_week { IsJulianDay date → ¬ IsMarks week → result ≡ number_refused bad_week }
-    ensures many_holidays { IsJulianDay date → IsMarks week → most_holidays < length holidays.now
-        → result ≡ number_refused many_holidays }
-    ensures bad_holidays { IsJulianDay date → IsMarks week → length holidays.now ≤ most_holidays
-        → ¬ AreHolidays holidays.now → result ≡ number_refused bad_holidays }
-    ensures value { IsJulianDay date → IsMarks week → length holidays.now ≤ most_holidays
+    ensures invalid_date { ¬ IsJulianDay date → result ≡ number_error invalid_date }
+    ensures invalid_weekmask { IsJulianDay date → ¬ IsWeekmask week → result ≡ number_error invalid_weekmask }
+    ensures too_many_holidays { IsJulianDay date → IsWeekmask week → max_holidays < length holidays.now
+        → result ≡ number_error too_many_holidays }
+    ensures invalid_holidays { IsJulianDay date → IsWeekmask week → length holidays.now ≤ max_holidays
+        → ¬ AreHolidays holidays.now → result ≡ number_error invalid_holidays }
+    ensures value { IsJulianDay date → IsWeekmask week → length holidays.now ≤ max_holidays
         → AreHolidays holidays.now
-        → result ≡ number_done (if is_workday (work_week week holidays.now)
+        → result ≡ number_ok (if is_workday (work_week week holidays.now)
         (day_of date) then pos 1 else pos 0) }
 {
-    let date = or_return!(date_of(date), NumberResult::refused(BAD_DATE));
+    let date = or_return!(valid_date(date), NumberResult::error(INVALID_DATE));
     let calendar =
-        or_return!(Calendar::of(week, holidays), status => NumberResult::refused(status));
-    NumberResult::of(i32::from(calendar.workdays().is_workday(date)))
+        or_return!(Calendar::from_c(week, holidays), status => NumberResult::error(status));
+    NumberResult::ok(i32::from(calendar.workdays().is_workday(date)))
 }
 
 /// Returns the first working day after a date. Fails if the range has none. For 2451607, a Friday,
 /// it is 2451610 with the marks 31 and without holidays.
 #[unsafe(no_mangle)]
 pub extern "C" fn fots_date_next_workday(date: i32, week: u32, holidays: &[i32]) -> DateResult
-    ensures bad_date { ¬ IsJulianDay date → result ≡ date_refused bad_date }
-    ensures bad_week { IsJulianDay date → ¬ IsMarks week → result ≡ date_refused bad_week }
-    ensures many_holidays { IsJulianDay date → IsMarks week → most_holidays < length holidays.now
-        → result ≡ date_refused many_holidays }
-    ensures bad_holidays { IsJulianDay date → IsMarks week → length holidays.now ≤ most_holidays
-        → ¬ AreHolidays holidays.now → result ≡ date_refused bad_holidays }
-    ensures day { IsJulianDay date → IsMarks week → length holidays.now ≤ most_holidays
+    ensures invalid_date { ¬ IsJulianDay date → result ≡ date_error invalid_date }
+    ensures invalid_weekmask { IsJulianDay date → ¬ IsWeekmask week → result ≡ date_error invalid_weekmask }
+    ensures too_many_holidays { IsJulianDay date → IsWeekmask week → max_holidays < length holidays.now
+        → result ≡ date_error too_many_holidays }
+    ensures invalid_holidays { IsJulianDay date → IsWeekmask week → length holidays.now ≤ max_holidays
+        → ¬ AreHolidays holidays.now → result ≡ date_error invalid_holidays }
+    ensures value { IsJulianDay date → IsWeekmask week → length holidays.now ≤ max_holidays
         → AreHolidays holidays.now
-        → result ≡ date_if_any (slice_get
+        → result ≡ date_or_out_of_range (slice_get
         (workdays_from (work_week week holidays.now) (day_of date + 1)) 0) }
 {
-    let date = or_return!(date_of(date), DateResult::refused(BAD_DATE));
-    let calendar = or_return!(Calendar::of(week, holidays), status => DateResult::refused(status));
-    DateResult::of_option(calendar.workdays().next_workday(date))
+    let date = or_return!(valid_date(date), DateResult::error(INVALID_DATE));
+    let calendar = or_return!(Calendar::from_c(week, holidays), status => DateResult::error(status));
+    DateResult::from_option(calendar.workdays().next_workday(date))
 }
 
 /// Returns the last working day before a date. Fails if the range has none. For 2451610, a Monday,
 /// it is 2451607 with the marks 31 and without holidays.
 #[unsafe(no_mangle)]
 pub extern "C" fn fots_date_previous_workday(date: i32, week: u32, holidays: &[i32]) -> DateResult
-    ensures bad_date { ¬ IsJulianDay date → result ≡ date_refused bad_date }
-    ensures bad_week { IsJulianDay date → ¬ IsMarks week → result ≡ date_refused bad_week }
-    ensures many_holidays { IsJulianDay date → IsMarks week → most_holidays < length holidays.now
-        → result ≡ date_refused many_holidays }
-    ensures bad_holidays { IsJulianDay date → IsMarks week → length holidays.now ≤ most_holidays
-        → ¬ AreHolidays holidays.now → result ≡ date_refused bad_holidays }
-    ensures day { IsJulianDay date → IsMarks week → length holidays.now ≤ most_holidays
+    ensures invalid_date { ¬ IsJulianDay date → result ≡ date_error invalid_date }
+    ensures invalid_weekmask { IsJulianDay date → ¬ IsWeekmask week → result ≡ date_error invalid_weekmask }
+    ensures too_many_holidays { IsJulianDay date → IsWeekmask week → max_holidays < length holidays.now
+        → result ≡ date_error too_many_holidays }
+    ensures invalid_holidays { IsJulianDay date → IsWeekmask week → length holidays.now ≤ max_holidays
+        → ¬ AreHolidays holidays.now → result ≡ date_error invalid_holidays }
+    ensures value { IsJulianDay date → IsWeekmask week → length holidays.now ≤ max_holidays
         → AreHolidays holidays.now
-        → result ≡ date_if_any (slice_get
-        (workdays_back (work_week week holidays.now) (day_of date)) 0) }
+        → result ≡ date_or_out_of_range (slice_get
+        (workdays_before (work_week week holidays.now) (day_of date)) 0) }
 {
-    let date = or_return!(date_of(date), DateResult::refused(BAD_DATE));
-    let calendar = or_return!(Calendar::of(week, holidays), status => DateResult::refused(status));
-    DateResult::of_option(calendar.workdays().previous_workday(date))
+    let date = or_return!(valid_date(date), DateResult::error(INVALID_DATE));
+    let calendar = or_return!(Calendar::from_c(week, holidays), status => DateResult::error(status));
+    DateResult::from_option(calendar.workdays().previous_workday(date))
 }
 
 /// Adds working days, or subtracts them if the number is negative. 0 gives the date itself, or the
@@ -94,23 +94,23 @@ pub extern "C" fn fots_date_add_workdays(
 ) -> DateResult
     ensures { IsDateWorkdaysLater date days week holidays.now result }
 {
-    workdays_later(date, days, &Calendar::of(week, holidays))
+    workdays_later_result(date, days, &Calendar::from_c(week, holidays))
 }
 
 /// Adds working days of a calendar.
-fn workdays_later(date: i32, days: i32, calendar: &Result<Calendar, i32>) -> DateResult
-    ensures bad_date { ¬ IsJulianDay date → result ≡ date_refused bad_date }
-    ensures refused { IsJulianDay date
-        → IfErr calendar.now (λ status. result ≡ date_refused status) }
-    ensures day { IsJulianDay date → IfOk calendar.now
-        (λ w. result ≡ date_if_any (nth_workday w days (day_of date))) }
+fn workdays_later_result(date: i32, days: i32, calendar: &Result<Calendar, i32>) -> DateResult
+    ensures invalid_date { ¬ IsJulianDay date → result ≡ date_error invalid_date }
+    ensures error { IsJulianDay date
+        → IfErr calendar.now (λ status. result ≡ date_error status) }
+    ensures value { IsJulianDay date → IfOk calendar.now
+        (λ w. result ≡ date_or_out_of_range (nth_workday w days (day_of date))) }
 {
-    let date = or_return!(date_of(date), DateResult::refused(BAD_DATE));
+    let date = or_return!(valid_date(date), DateResult::error(INVALID_DATE));
     match calendar {
         Ok(calendar) => {
-            DateResult::of_option(calendar.workdays().checked_add_workdays(date, days))
+            DateResult::from_option(calendar.workdays().checked_add_workdays(date, days))
         }
-        Err(status) => DateResult::refused(*status),
+        Err(status) => DateResult::error(*status),
     }
 }
 
@@ -126,26 +126,26 @@ pub extern "C" fn fots_date_workdays_between(
 ) -> NumberResult
     ensures { IsWorkdaysBetween date other week holidays.now result }
 {
-    workdays_to(date, other, &Calendar::of(week, holidays))
+    workdays_between_result(date, other, &Calendar::from_c(week, holidays))
 }
 
 /// Counts the working days of a calendar from `date` to `other`.
-fn workdays_to(date: i32, other: i32, calendar: &Result<Calendar, i32>) -> NumberResult
-    ensures bad_date { ¬ (IsJulianDay date × IsJulianDay other) → result ≡ number_refused bad_date }
-    ensures refused { IsJulianDay date → IsJulianDay other
-        → IfErr calendar.now (λ status. result ≡ number_refused status) }
+fn workdays_between_result(date: i32, other: i32, calendar: &Result<Calendar, i32>) -> NumberResult
+    ensures invalid_date { ¬ (IsJulianDay date × IsJulianDay other) → result ≡ number_error invalid_date }
+    ensures error { IsJulianDay date → IsJulianDay other
+        → IfErr calendar.now (λ status. result ≡ number_error status) }
     ensures value { IsJulianDay date → IsJulianDay other
         → IfOk calendar.now (λ w. result
-        ≡ number_done (workdays_number w (day_of date) (day_of other))) }
+        ≡ number_ok (workdays_between w (day_of date) (day_of other))) }
 {
-    let date = or_return!(date_of(date), NumberResult::refused(BAD_DATE));
-    let other = or_return!(date_of(other), NumberResult::refused(BAD_DATE));
-    let calendar = or_return!(calendar, status => NumberResult::refused(*status));
-    NumberResult::of(calendar.workdays().workdays_between(date, other))
+    let date = or_return!(valid_date(date), NumberResult::error(INVALID_DATE));
+    let other = or_return!(valid_date(other), NumberResult::error(INVALID_DATE));
+    let calendar = or_return!(calendar, status => NumberResult::error(*status));
+    NumberResult::ok(calendar.workdays().workdays_between(date, other))
 }
 
 /// Returns the convention with a number, from 0 for `Unadjusted`, or `None`.
-fn convention_of(number: u32) -> Option<Convention>
+fn valid_convention(number: u32) -> Option<Convention>
     ensures { MatchOption result (¬ IsConvention number)
         (λ found. IsConvention number × (convention_number found ≡ number)) }
 {
@@ -163,32 +163,32 @@ fn convention_of(number: u32) -> Option<Convention>
 /// and 4 modified preceding. Fails if the range has no such day. 2451664, Saturday 2000-04-29,
 /// moves to 2451666 by 1 and to 2451663 by 2, with the marks 31 and without holidays.
 #[unsafe(no_mangle)]
-pub extern "C" fn fots_date_adjusted(
+pub extern "C" fn fots_date_adjust(
     date: i32,
     convention: u32,
     week: u32,
     holidays: &[i32],
 ) -> DateResult
-    ensures bad_date { ¬ IsJulianDay date → result ≡ date_refused bad_date }
-    ensures bad_convention { IsJulianDay date → ¬ IsConvention convention
-        → result ≡ date_refused bad_convention }
-    ensures bad_week { IsJulianDay date → IsConvention convention → ¬ IsMarks week
-        → result ≡ date_refused bad_week }
-    ensures many_holidays { IsJulianDay date → IsConvention convention → IsMarks week
-        → most_holidays < length holidays.now → result ≡ date_refused many_holidays }
-    ensures bad_holidays { IsJulianDay date → IsConvention convention → IsMarks week
-        → length holidays.now ≤ most_holidays → ¬ AreHolidays holidays.now
-        → result ≡ date_refused bad_holidays }
-    ensures day { IsJulianDay date → IsMarks week → length holidays.now ≤ most_holidays
+    ensures invalid_date { ¬ IsJulianDay date → result ≡ date_error invalid_date }
+    ensures invalid_convention { IsJulianDay date → ¬ IsConvention convention
+        → result ≡ date_error invalid_convention }
+    ensures invalid_weekmask { IsJulianDay date → IsConvention convention → ¬ IsWeekmask week
+        → result ≡ date_error invalid_weekmask }
+    ensures too_many_holidays { IsJulianDay date → IsConvention convention → IsWeekmask week
+        → max_holidays < length holidays.now → result ≡ date_error too_many_holidays }
+    ensures invalid_holidays { IsJulianDay date → IsConvention convention → IsWeekmask week
+        → length holidays.now ≤ max_holidays → ¬ AreHolidays holidays.now
+        → result ≡ date_error invalid_holidays }
+    ensures value { IsJulianDay date → IsWeekmask week → length holidays.now ≤ max_holidays
         → AreHolidays holidays.now
         → (c : Convention) → convention_number c ≡ convention
-        → result ≡ date_if_any (adjusted (work_week week holidays.now) c (day_of date)) }
+        → result ≡ date_or_out_of_range (adjusted_date (work_week week holidays.now) c (day_of date)) }
 {
-    let date = or_return!(date_of(date), DateResult::refused(BAD_DATE));
+    let date = or_return!(valid_date(date), DateResult::error(INVALID_DATE));
     let convention = or_return!(
-        convention_of(convention),
-        DateResult::refused(BAD_CONVENTION)
+        valid_convention(convention),
+        DateResult::error(INVALID_CONVENTION)
     );
-    let calendar = or_return!(Calendar::of(week, holidays), status => DateResult::refused(status));
-    DateResult::of_option(calendar.workdays().adjusted(date, convention))
+    let calendar = or_return!(Calendar::from_c(week, holidays), status => DateResult::error(status));
+    DateResult::from_option(calendar.workdays().adjust(date, convention))
 }

@@ -2,7 +2,7 @@
 
 ghost use Rattle.std.specs.Prelude.{◌≡◌, ◌*◌, ◌<◌, pos, negsuc, neg_ℤ, ◌+ℤ◌, ◌-ℤ◌, ◌*ℤ◌, ◌<ℤ◌, ◌≤ℤ◌, unsigned_abs};
 ghost use Rattle.cal_span.specs.SignedDuration.{day, whole_days};
-ghost use Rattle.cal_clock.specs.Time.{IsPastDays, modulo_day, carry};
+ghost use Rattle.cal_clock.specs.Time.{IsSubdayPart, modulo_day, carry};
 
 use crate::Time;
 use crate::units::{NANOSECONDS_PER_DAY, NANOSECONDS_PER_SECOND, SECONDS_PER_DAY};
@@ -38,13 +38,13 @@ impl Time {
     /// adjustment `Next`. The whole days are truncated toward zero. The adjustment is not
     /// `Previous` for a positive duration, and not `Next` for a negative one.
     pub fn adjusting_add(self, duration: SignedDuration) -> (DateAdjustment, Self)
-        ensures equation { pos self +ℤ duration
+        ensures value { pos self +ℤ duration
             ≡ (whole_days duration +ℤ carry result.0) *ℤ pos day +ℤ pos result.1 }
-        ensures below_day { result.1 < day }
+        ensures range { result.1 < day }
         ensures forward { pos 0 ≤ℤ duration → pos 0 ≤ℤ carry result.0 }
         ensures backward { duration ≤ℤ pos 0 → carry result.0 ≤ℤ pos 0 }
     {
-        carried(self.nanoseconds as i64 + past_days(duration))
+        adjusted_time(self.nanoseconds as i64 + subday_nanoseconds(duration))
     }
 
     /// Subtracts the duration. Returns the adjustment past the duration's whole days and the time.
@@ -53,19 +53,19 @@ impl Time {
     /// adjustment `Previous`. The whole days are truncated toward zero. The adjustment is not
     /// `Next` for a positive duration, and not `Previous` for a negative one.
     pub fn adjusting_sub(self, duration: SignedDuration) -> (DateAdjustment, Self)
-        ensures equation { pos self -ℤ duration
+        ensures value { pos self -ℤ duration
             ≡ (carry result.0 -ℤ whole_days duration) *ℤ pos day +ℤ pos result.1 }
-        ensures below_day { result.1 < day }
+        ensures range { result.1 < day }
         ensures backward { pos 0 ≤ℤ duration → carry result.0 ≤ℤ pos 0 }
         ensures forward { duration ≤ℤ pos 0 → pos 0 ≤ℤ carry result.0 }
     {
-        carried(self.nanoseconds as i64 - past_days(duration))
+        adjusted_time(self.nanoseconds as i64 - subday_nanoseconds(duration))
     }
 }
 
 /// Returns the nanoseconds of the duration past its whole days, with its sign.
-fn past_days(duration: SignedDuration) -> i64
-    ensures { IsPastDays duration result }
+fn subday_nanoseconds(duration: SignedDuration) -> i64
+    ensures { IsSubdayPart duration result }
 {
     let seconds = duration.whole_seconds() % SECONDS_PER_DAY;
     seconds * NANOSECONDS_PER_SECOND as i64 + i64::from(duration.subsec_nanoseconds())
@@ -73,7 +73,7 @@ fn past_days(duration: SignedDuration) -> i64
 
 /// Returns the day of nanoseconds since midnight, relative to today: -1, 0 or 1. The sign of a step
 /// is often random, so the comparisons are subtracted, which needs no branch.
-fn days_past(nanoseconds: i64) -> i64
+fn day_carry(nanoseconds: i64) -> i64
     ensures before { nanoseconds <ℤ pos 0 → result ≡ negsuc 0 }
     ensures same { pos 0 ≤ℤ nanoseconds → nanoseconds <ℤ pos day → result ≡ pos 0 }
     ensures after { pos day ≤ℤ nanoseconds → result ≡ pos 1 }
@@ -82,9 +82,9 @@ fn days_past(nanoseconds: i64) -> i64
 }
 
 /// Returns the adjustment of -1, 0 or 1 days.
-fn adjustment_of(days: i64) -> DateAdjustment
-    requires low { negsuc 0 ≤ℤ days }
-    requires high { days ≤ℤ pos 1 }
+fn adjustment_from_days(days: i64) -> DateAdjustment
+    requires min { negsuc 0 ≤ℤ days }
+    requires max { days ≤ℤ pos 1 }
     ensures { carry result ≡ days }
 {
     match days {
@@ -96,17 +96,17 @@ fn adjustment_of(days: i64) -> DateAdjustment
 
 /// Splits nanoseconds since midnight, which may be in the day before or the day after, into the
 /// adjustment and the time.
-fn carried(nanoseconds: i64) -> (DateAdjustment, Time)
-    requires low { neg_ℤ (pos day) <ℤ nanoseconds }
-    requires high { nanoseconds <ℤ pos (2 * day) }
-    ensures equation { nanoseconds ≡ carry result.0 *ℤ pos day +ℤ pos result.1 }
-    ensures below_day { result.1 < day }
+fn adjusted_time(nanoseconds: i64) -> (DateAdjustment, Time)
+    requires min { neg_ℤ (pos day) <ℤ nanoseconds }
+    requires max { nanoseconds <ℤ pos (2 * day) }
+    ensures value { nanoseconds ≡ carry result.0 *ℤ pos day +ℤ pos result.1 }
+    ensures range { result.1 < day }
 {
-    let days = days_past(nanoseconds);
+    let days = day_carry(nanoseconds);
 
     // Midnight comes from the number of days: from a `match` it would be a branch on a random sign.
     let nanoseconds = (nanoseconds - days * NANOSECONDS_PER_DAY as i64) as u64;
-    (adjustment_of(days), Time { nanoseconds })
+    (adjustment_from_days(days), Time { nanoseconds })
 }
 
 impl Add<SignedDuration> for Time {

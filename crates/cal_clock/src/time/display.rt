@@ -17,8 +17,8 @@ impl Time {
     /// ASCII.
     #[tactic(auto, using(crate::proofs::Text::hours))]
     pub fn text(self) -> ShortText
-        ensures text { result ≡ text self }
-        ensures short { length result ≤ 18 }
+        ensures value { result ≡ text self }
+        ensures max_length { length result ≤ 18 }
         ensures ascii { IsAscii result }
     {
         let mut text = ShortText::new();
@@ -47,7 +47,7 @@ impl fmt::Debug for Time {
     ghost debug_output = { λ t. Some (text t) };
 
     fn fmt<W: fmt::Write>(&self, f: &mut fmt::Formatter<W>) -> fmt::Result
-        ensures text { WritesOnOk W.write_str_gives f.old result (text self.now) f.new }
+        ensures value { WritesOnOk W.write_str_gives f.old result (text self.now) f.new }
         ensures styled { WritesStyledOnOk W.write_str_gives f.old result
             (padded (formatter_spec f.old) (text self.now)) f.new }
     {

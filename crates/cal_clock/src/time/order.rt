@@ -12,11 +12,11 @@ impl Counted for Time {
 
     ghost number_of = { pos };
 
-    ghost ordered = { nat_cmp-pos };
+    ghost cmp_by_number = { nat_cmp-pos };
 
-    ghost alike = { λ x y. Prim.grind (arith, ints) };
+    ghost eq_by_number = { λ x y. Prim.grind (arith, ints) };
 
-    ghost hashed = { λ x y e. ap fed.u64 (same-pos x y e) };
+    ghost hash_by_number = { λ x y e. ap fed.u64 (same-pos x y e) };
 
     /// Returns the nanoseconds since midnight. For 1:00 they are 3600000000000.
     fn number(self) -> i128 {

@@ -2,7 +2,7 @@
 ghost use Rattle.std.specs.Prelude.{◌≡◌, pos, ◌+ℤ◌, ◌-ℤ◌, ◌*ℤ◌, SomeIff, IfSome, IsSomeAnd};
 ghost use Rattle.cal_span.specs.SignedDuration.{day, whole_days};
 ghost use Rattle.cal_date.specs.Date.{year_at, ordinal_at, IsDate};
-ghost use Rattle.cal_date.specs.Move.{IsDateNumber, IsOrdinalNumber, date_nearest};
+ghost use Rattle.cal_date.specs.Arithmetic.{IsDateNumber, IsOrdinalNumber, clamped_date};
 
 use crate::date::Date;
 use cal_span::SignedDuration;
@@ -14,8 +14,8 @@ impl Date {
     ///
     /// 2020-12-31 plus 47 hours is 2021-01-01. [`Self::MIN`] plus -23 hours is [`Self::MIN`].
     pub fn checked_add(self, duration: SignedDuration) -> Option<Self>
-        ensures day { SomeIff result (IsDateNumber (pos self +ℤ whole_days duration))
-            (date_nearest (pos self +ℤ whole_days duration)) }
+        ensures value { SomeIff result (IsDateNumber (pos self +ℤ whole_days duration))
+            (clamped_date (pos self +ℤ whole_days duration)) }
         ensures number { IfSome result (λ n. pos n ≡ pos self +ℤ whole_days duration) }
         ensures same_year { IsOrdinalNumber (year_at self)
             (pos (ordinal_at self) +ℤ whole_days duration)
@@ -23,14 +23,14 @@ impl Date {
             × (pos (ordinal_at n) ≡ pos (ordinal_at self) +ℤ whole_days duration)) }
         ensures in_range { IsDate self }
     {
-        self.moved(duration.whole_days())
+        self.checked_add_days(duration.whole_days())
     }
 
     /// Subtracts the whole days of the duration, truncated toward zero. Returns `None` if the date
     /// is out of range. 2020-12-31 minus 47 hours is 2020-12-30.
     pub fn checked_sub(self, duration: SignedDuration) -> Option<Self>
-        ensures day { SomeIff result (IsDateNumber (pos self -ℤ whole_days duration))
-            (date_nearest (pos self -ℤ whole_days duration)) }
+        ensures value { SomeIff result (IsDateNumber (pos self -ℤ whole_days duration))
+            (clamped_date (pos self -ℤ whole_days duration)) }
         ensures number { IfSome result (λ n. pos n ≡ pos self -ℤ whole_days duration) }
         ensures same_year { IsOrdinalNumber (year_at self)
             (pos (ordinal_at self) -ℤ whole_days duration)
@@ -40,13 +40,13 @@ impl Date {
     {
         // If the days can't be negated, the date is out of range.
         let days = duration.whole_days().checked_neg()?;
-        self.moved(days)
+        self.checked_add_days(days)
     }
 
     /// Adds the whole days of the duration, truncated toward zero, and clamps the date to the
     /// range. [`Self::MAX`] plus one day is [`Self::MAX`].
     pub fn saturating_add(self, duration: SignedDuration) -> Self
-        ensures day { result ≡ date_nearest (pos self +ℤ whole_days duration) }
+        ensures value { result ≡ clamped_date (pos self +ℤ whole_days duration) }
         ensures in_range { IsDate self }
     {
         match self.checked_add(duration) {
@@ -59,7 +59,7 @@ impl Date {
     /// Subtracts the whole days of the duration, truncated toward zero, and clamps the date to the
     /// range. [`Self::MIN`] minus one day is [`Self::MIN`].
     pub fn saturating_sub(self, duration: SignedDuration) -> Self
-        ensures day { result ≡ date_nearest (pos self -ℤ whole_days duration) }
+        ensures value { result ≡ clamped_date (pos self -ℤ whole_days duration) }
         ensures in_range { IsDate self }
     {
         match self.checked_sub(duration) {
@@ -71,19 +71,19 @@ impl Date {
 
     /// Returns the date `days` days later, or earlier if `days` is negative, or `None` if it is out
     /// of range.
-    fn moved(self, days: i64) -> Option<Self>
-        ensures day { SomeIff result (IsDateNumber (pos self +ℤ days))
-            (date_nearest (pos self +ℤ days)) }
+    fn checked_add_days(self, days: i64) -> Option<Self>
+        ensures value { SomeIff result (IsDateNumber (pos self +ℤ days))
+            (clamped_date (pos self +ℤ days)) }
         ensures in_range { IsDate self }
     {
         // Here a negative number becomes 2^64 more. A negative sum is then far above the length of
         // a year and above the number of the last day.
         let days = days.cast_unsigned();
         let index = days.wrapping_add(u64::from(self.ordinal()) - 1);
-        if let Some(date) = self.of_same_year(index) {
+        if let Some(date) = self.at_index_in_year(index) {
             return Some(date);
         }
-        Self::checked_at_number(days.wrapping_add(u64::from(self.number())))
+        Self::checked_from_number(days.wrapping_add(u64::from(self.number())))
     }
 }
 

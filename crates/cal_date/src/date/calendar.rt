@@ -1,13 +1,13 @@
 //! Dates by year, month and day of the month.
 ghost use Rattle.std.specs.Prelude.{◌≡◌, ℕ, ◌+◌, ◌<◌, ◌≤◌, min, pos, ◌↔◌, ◌⊎◌, IfOk, IfErr, IsErr, IsTrue, Ok, [], ◌∷◌, ℤ};
 ghost use Rattle.cal_units.specs.Month.{number};
-ghost use Rattle.cal_units.specs.Refusal.{IsRefused};
+ghost use Rattle.cal_units.specs.ComponentError.{FailsWith};
 ghost use Rattle.cal_units.specs.Lengths.{is_leap_year, days_in_month};
 ghost use Rattle.cal_date.specs.ClosedForms.{days_in_part, months_before_part, month_of_ordinal, day_of_ordinal};
 ghost use Rattle.cal_date.specs.CountLaws.{days_of_months};
 ghost use Rattle.cal_date.specs.Date.{year_at, month_at, day_of_month_at, ordinal_at, IsDate, IsYear, IsDayOfMonth, HasCalendarDate, NoDate};
 ghost use Rattle.cal_date.specs.Order.{IsBefore, calendar_date_at};
-ghost use Rattle.cal_date.specs.Refusals.{year_out_of_range, day_out_of_range};
+ghost use Rattle.cal_date.specs.DateErrors.{year_out_of_range, day_out_of_range};
 
 use crate::date::{Date, is_year};
 use crate::error::{Component, ComponentRange};
@@ -76,14 +76,14 @@ impl Date {
     pub fn from_calendar_date(year: i32, month: Month, day: u8) -> Result<Self, ComponentRange>
         ensures every { (n : ℕ) → IsDate n → HasCalendarDate year (number month) day n
             → result ≡ Ok n }
-        ensures has { IfOk result (λ n. IsDate n × HasCalendarDate year (number month) day n) }
+        ensures value { IfOk result (λ n. IsDate n × HasCalendarDate year (number month) day n) }
 
         // It fails if and only if no day of the range has the calendar date. The error names the
         // first component that is out of range.
-        ensures refused { IsErr result ↔ NoDate (HasCalendarDate year (number month) day) }
-        ensures reason { IfErr result (λ e. (e ≡ year_out_of_range) ⊎ (e ≡ day_out_of_range)) }
-        ensures year { IsRefused year_out_of_range result ↔ ¬ IsYear year }
-        ensures day { IsRefused day_out_of_range result
+        ensures error { IsErr result ↔ NoDate (HasCalendarDate year (number month) day) }
+        ensures error_kind { IfErr result (λ e. (e ≡ year_out_of_range) ⊎ (e ≡ day_out_of_range)) }
+        ensures year { FailsWith year_out_of_range result ↔ ¬ IsYear year }
+        ensures day { FailsWith day_out_of_range result
             ↔ IsYear year × ¬ IsDayOfMonth year (number month) day }
     {
         if !is_year(year) {
@@ -101,13 +101,13 @@ impl Date {
     ///
     /// The year is from -999999 to 999999, the index from 0 at January to 11, and the day 1 or
     /// more. 2023, 0 and 31 give 2023-01-31, and 2023, 1 and 31 give 2023-02-28.
-    pub fn at_month_index(year: i32, index: u8, day: u8) -> Self
+    pub fn from_month_index_clamped(year: i32, index: u8, day: u8) -> Self
         requires year { IsYear year }
         requires index { index < 12 }
         requires day { 1 ≤ day }
-        ensures date { HasCalendarDate year (index + 1)
+        ensures value { HasCalendarDate year (index + 1)
             (min day (days_in_month year (index + 1))) result }
-        ensures in_range { IsDate result }
+        ensures range { IsDate result }
     {
         let leap = is_leap_year(year);
         let ordinal = days_before_month(index, leap) + u16::from(day);
@@ -116,7 +116,7 @@ impl Date {
 
     /// Returns the month. For 2020-02-29 it is February.
     pub fn month(self) -> Month
-        ensures counted { number result ≡ month_at self }
+        ensures value { number result ≡ month_at self }
         ensures range { (1 ≤ month_at self) × (month_at self ≤ 12) }
         ensures closed_form { number result
             ≡ month_of_ordinal (is_leap_year (year_at self)) (ordinal_at self) }
@@ -128,9 +128,9 @@ impl Date {
 
     /// Returns the day of the month, from 1 to the length of the month. For 2020-02-29 it is 29.
     pub fn day(self) -> u8
-        ensures counted { result ≡ day_of_month_at self }
+        ensures value { result ≡ day_of_month_at self }
         ensures range { IsDayOfMonth (year_at self) (month_at self) result }
-        ensures most { result ≤ 31 }
+        ensures max { result ≤ 31 }
         ensures closed_form { result ≡ day_of_ordinal (is_leap_year (year_at self))
             (ordinal_at self) }
         ensures in_range { IsDate self }
@@ -142,7 +142,7 @@ impl Date {
     /// Returns the year, the month and the day of the month: the calendar date of ISO 8601. For the
     /// Julian day 2451545 it is (2000, January, 1).
     pub fn to_calendar_date(self) -> (i32, Month, u8)
-        ensures date { HasCalendarDate result.0 (number result.1) result.2 self }
+        ensures value { HasCalendarDate result.0 (number result.1) result.2 self }
         ensures order { (n : ℕ) → IsDate n
             → (n < self) ↔ IsBefore (calendar_date_at n)
             (result.0 ∷ pos (number result.1) ∷ pos result.2 ∷ []) }
@@ -162,7 +162,7 @@ impl Date {
         ensures day { result.1 ≡ day_of_month_at self }
         ensures index { result.0 < 12 }
         ensures range { IsDayOfMonth (year_at self) (month_at self) result.1 }
-        ensures most { result.1 ≤ 31 }
+        ensures max { result.1 ≤ 31 }
         ensures in_range { IsDate self }
     {
         let index = self.month_index();
@@ -172,7 +172,7 @@ impl Date {
 
     /// Returns the index of the month, from 0 at January.
     fn month_index(self) -> u8
-        ensures month { result + 1 ≡ month_at self }
+        ensures value { result + 1 ≡ month_at self }
         ensures range { result < 12 }
     {
         MONTH_INDEXES[self.low_bits() as usize]
@@ -187,7 +187,7 @@ impl Date {
         ensures month { number result.0 ≡ month_at self }
         ensures day { result.1 ≡ day_of_month_at self }
         ensures range { IsDayOfMonth (year_at self) (month_at self) result.1 }
-        ensures most { result.1 ≤ 31 }
+        ensures max { result.1 ≤ 31 }
         ensures closed_month { number result.0
             ≡ month_of_ordinal (is_leap_year (year_at self)) (ordinal_at self) }
         ensures closed_day { result.1 ≡ day_of_ordinal (is_leap_year (year_at self))
@@ -236,7 +236,7 @@ fn has_day(month: Month, leap: bool, day: u8) -> bool
 fn days_before_month(index: u8, leap: bool) -> u16
     requires { index ≤ 12 }
     ensures value { (year : ℤ) → leap ≡ is_leap_year year → result ≡ days_of_months year index }
-    ensures most { result ≤ 366 }
+    ensures max { result ≤ 366 }
 {
     DAYS_BEFORE_MONTH[usize::from(index)][usize::from(leap)]
 }

@@ -16,8 +16,8 @@ impl Date {
     /// all ASCII.
     #[tactic(auto, using(cal_units::proofs::TextLengths::text_lengths))]
     pub fn text(self) -> ShortText
-        ensures text { result ≡ text self }
-        ensures short { length result ≤ 13 }
+        ensures value { result ≡ text self }
+        ensures max_length { length result ≤ 13 }
         ensures ascii { IsAscii result }
     {
         let (month, day) = self.month_and_day();
@@ -45,7 +45,7 @@ impl fmt::Debug for Date {
     ghost debug_output = { λ n. Some (text n) };
 
     fn fmt<W: fmt::Write>(&self, f: &mut fmt::Formatter<W>) -> fmt::Result
-        ensures text { WritesOnOk W.write_str_gives f.old result (text self.now) f.new }
+        ensures value { WritesOnOk W.write_str_gives f.old result (text self.now) f.new }
         ensures styled { WritesStyledOnOk W.write_str_gives f.old result
             (padded (formatter_spec f.old) (text self.now)) f.new }
     {

@@ -1,13 +1,13 @@
 //! Weekdays, ISO week dates, and the weeks of a year from Sunday or Monday on.
 ghost use Rattle.std.specs.Prelude.{◌≡◌, ℕ, ◌+◌, ◌-◌, ◌*◌, ◌/◌, ◌%◌, ◌^◌, ◌<◌, ◌≤◌, pos, ◌↔◌, ◌⊎◌, IfOk, IfErr, IsErr, IsTrue, Ok, [], ◌∷◌};
-ghost use Rattle.cal_units.specs.Refusal.{IsRefused};
+ghost use Rattle.cal_units.specs.ComponentError.{FailsWith};
 ghost use Rattle.cal_units.specs.Weekday.{index};
 ghost use Rattle.cal_units.specs.Weeks.{first_weekday, weeks_in_year};
-ghost use Rattle.cal_date.specs.ClosedForms.{iso_year_of, iso_week_of, year_of_week, ordinal_of_week, IsWeekByForm, IsDayByForm};
+ghost use Rattle.cal_date.specs.ClosedForms.{iso_year_of, iso_week_of, year_of_week, ordinal_of_week, IsWeekByClosedForm, IsDayByClosedForm};
 ghost use Rattle.cal_date.specs.Date.{year_at, ordinal_at, weekday_at, IsDate, IsYear, IsOrdinal, NoDate};
-ghost use Rattle.cal_date.specs.IsoWeekDate.{weekdays_upto, iso_year_at, iso_week_at, IsWeek, HasIsoWeekDate};
+ghost use Rattle.cal_date.specs.IsoWeekDate.{weekday_count, iso_year_at, iso_week_at, IsWeek, HasIsoWeekDate};
 ghost use Rattle.cal_date.specs.Order.{IsBefore, iso_week_date_at};
-ghost use Rattle.cal_date.specs.Refusals.{year_out_of_range, week_out_of_range, weekday_out_of_range};
+ghost use Rattle.cal_date.specs.DateErrors.{year_out_of_range, week_out_of_range, weekday_out_of_range};
 
 use crate::date::{Date, is_year};
 use crate::error::{Component, ComponentRange};
@@ -31,18 +31,18 @@ impl Date {
     pub fn from_iso_week_date(year: i32, week: u8, weekday: Weekday) -> Result<Self, ComponentRange>
         ensures every { (n : ℕ) → IsDate n → HasIsoWeekDate year week (index weekday) n
             → result ≡ Ok n }
-        ensures has { IfOk result (λ n. IsDate n × HasIsoWeekDate year week (index weekday) n) }
+        ensures value { IfOk result (λ n. IsDate n × HasIsoWeekDate year week (index weekday) n) }
 
         // It fails if and only if no day of the range has the ISO week date. The error names the
         // first component that is out of range.
-        ensures refused { IsErr result ↔ NoDate (HasIsoWeekDate year week (index weekday)) }
-        ensures reason { IfErr result (λ e.
+        ensures error { IsErr result ↔ NoDate (HasIsoWeekDate year week (index weekday)) }
+        ensures error_kind { IfErr result (λ e.
             (e ≡ year_out_of_range) ⊎ (e ≡ week_out_of_range) ⊎ (e ≡ weekday_out_of_range)) }
-        ensures year { IsRefused year_out_of_range result ↔ ¬ IsYear year }
-        ensures week { IsRefused week_out_of_range result ↔ IsYear year × ¬ IsWeek year week }
-        ensures weekday { IsRefused weekday_out_of_range result
+        ensures year { FailsWith year_out_of_range result ↔ ¬ IsYear year }
+        ensures week { FailsWith week_out_of_range result ↔ IsYear year × ¬ IsWeek year week }
+        ensures weekday { FailsWith weekday_out_of_range result
             ↔ IsYear year × IsWeek year week × NoDate (HasIsoWeekDate year week (index weekday)) }
-        ensures closed_form { IfOk result (IsDayByForm year week (index weekday + 1)) }
+        ensures closed_form { IfOk result (IsDayByClosedForm year week (index weekday + 1)) }
     {
         if !is_year(year) {
             return Err(ComponentRange::unconditional(Component::Year));
@@ -50,7 +50,7 @@ impl Date {
         if !has_week(year, week) {
             return Err(ComponentRange::conditional(Component::Week));
         }
-        let (calendar_year, ordinal) = ordinal_date_of(year, week, weekday);
+        let (calendar_year, ordinal) = ordinal_date_from_week(year, week, weekday);
         if calendar_year > MAX_YEAR {
             return Err(ComponentRange::conditional(Component::Weekday));
         }
@@ -60,7 +60,7 @@ impl Date {
     /// Returns the weekday. For 2021-01-01 it is Friday.
     #[tactic(auto, using(crate::proofs::IsoForms::weekdays))]
     pub fn weekday(self) -> Weekday
-        ensures counted { index result ≡ weekday_at self }
+        ensures value { index result ≡ weekday_at self }
         ensures range { weekday_at self < 7 }
         ensures in_range { IsDate self }
     {
@@ -69,9 +69,9 @@ impl Date {
 
     /// Returns the ISO week, from 1 to 53. For 2021-01-01 it is 53, the last week of 2020.
     pub fn iso_week(self) -> u8
-        ensures counted { result ≡ iso_week_at self }
+        ensures value { result ≡ iso_week_at self }
         ensures range { IsWeek (iso_year_at self) result }
-        ensures most { result ≤ 53 }
+        ensures max { result ≤ 53 }
         ensures in_range { IsDate self }
     {
         let (_, week, _) = self.to_iso_week_date();
@@ -81,13 +81,13 @@ impl Date {
     /// Returns the ISO year, from -999999 to 999999, the week and the weekday: the week date of
     /// ISO 8601. For 2021-01-01 it is (2020, 53, Friday).
     pub fn to_iso_week_date(self) -> (i32, u8, Weekday)
-        ensures date { HasIsoWeekDate result.0 result.1 (index result.2) self }
+        ensures value { HasIsoWeekDate result.0 result.1 (index result.2) self }
         ensures range { IsYear result.0 × IsWeek result.0 result.1 × (result.1 ≤ 53) }
         ensures in_range { IsDate self }
         ensures order { (n : ℕ) → IsDate n
             → (n < self) ↔ IsBefore (iso_week_date_at n)
             (result.0 ∷ pos result.1 ∷ pos (index result.2) ∷ []) }
-        ensures closed_form { IsWeekByForm (year_at self) (ordinal_at self)
+        ensures closed_form { IsWeekByClosedForm (year_at self) (ordinal_at self)
             (weekday_at self + 1) result.0 result.1 }
     {
         let weekday = self.weekday();
@@ -99,8 +99,8 @@ impl Date {
     /// begins on the first Sunday. For 2019-01-01 it is 0, and for 2020-12-31 it is 52.
     #[tactic(auto, using(crate::proofs::Weekdays::weeks_begun))]
     pub fn sunday_based_week(self) -> u8
-        ensures counted { result ≡ weekdays_upto 6 self }
-        ensures range { result ≤ 53 }
+        ensures value { result ≡ weekday_count 6 self }
+        ensures max { result ≤ 53 }
         ensures in_range { IsDate self }
     {
         ((self.ordinal() + 6 - u16::from(self.weekday().number_days_from_sunday())) / 7) as u8
@@ -110,8 +110,8 @@ impl Date {
     /// begins on the first Monday. For 2019-01-01 it is 0, and for 2020-12-31 it is 52.
     #[tactic(auto, using(crate::proofs::Weekdays::weeks_begun))]
     pub fn monday_based_week(self) -> u8
-        ensures counted { result ≡ weekdays_upto 0 self }
-        ensures range { result ≤ 53 }
+        ensures value { result ≡ weekday_count 0 self }
+        ensures max { result ≤ 53 }
         ensures in_range { IsDate self }
     {
         ((self.ordinal() + 6 - u16::from(self.weekday().number_days_from_monday())) / 7) as u8
@@ -149,11 +149,11 @@ fn weekday_index(year: i32, ordinal: u16) -> u8
     // one, and each leap day by one more.
     let years = (year - MIN_YEAR) as u32;
     let moved = years + years / 4 - years / 100 + years / 400;
-    past_whole_weeks(moved + u32::from(ordinal) - 1)
+    rem_7(moved + u32::from(ordinal) - 1)
 }
 
 /// Returns the whole weeks of a number of days.
-fn whole_weeks(days: u16) -> u8
+fn div_7(days: u16) -> u8
     requires { days < 7 * 256 }
     ensures { result ≡ days / 7 }
 {
@@ -161,7 +161,7 @@ fn whole_weeks(days: u16) -> u8
 }
 
 /// Returns the days past the whole weeks of a number of days: the fraction of a week times 7.
-fn past_whole_weeks(days: u32) -> u8
+fn rem_7(days: u32) -> u8
     requires { days < 2 ^ 30 }
     ensures { result ≡ days % 7 }
 {
@@ -177,7 +177,7 @@ fn iso_year_and_week(year: i32, ordinal: u16, weekday: Weekday) -> (i32, u8)
     ensures year { result.0 ≡ iso_year_of year ordinal (index weekday + 1) }
     ensures week { result.1 ≡ iso_week_of year ordinal (index weekday + 1) }
 {
-    let week = whole_weeks(ordinal + 10 - u16::from(weekday.number_from_monday()));
+    let week = div_7(ordinal + 10 - u16::from(weekday.number_from_monday()));
     if week == 0 {
         return (year - 1, weeks_of_year(year - 1));
     }
@@ -190,7 +190,7 @@ fn iso_year_and_week(year: i32, ordinal: u16, weekday: Weekday) -> (i32, u8)
 /// Returns the year and the ordinal of a day, given its ISO year in the range, its week and its
 /// weekday.
 #[tactic(auto, using(crate::proofs::IsoForms::years_of_weeks), unfolding(crate::specs::ClosedForms::year_of_week, crate::specs::ClosedForms::ordinal_of_week))]
-fn ordinal_date_of(year: i32, week: u8, weekday: Weekday) -> (i32, u16)
+fn ordinal_date_from_week(year: i32, week: u8, weekday: Weekday) -> (i32, u16)
     requires year { IsYear year }
     requires week { IsWeek year week }
     ensures year { result.0 ≡ year_of_week year week (index weekday + 1) }

@@ -16,14 +16,14 @@ impl Date {
 
     /// Returns the number of the date: the number of days of the range before it.
     pub(super) fn number(self) -> u32
-        ensures number { result ≡ self }
+        ensures value { result ≡ self }
         ensures in_range { IsDate self }
     {
         (self.to_julian_day() - MIN_JULIAN_DAY) as u32
     }
 
     /// Creates a date from its number.
-    pub(super) fn at_number(number: u32) -> Self
+    pub(super) fn from_number(number: u32) -> Self
         requires { IsDate number }
         ensures { result ≡ number }
     {
@@ -31,11 +31,11 @@ impl Date {
     }
 
     /// Creates a date from its number. Returns `None` if the number is past the last day.
-    pub(super) fn checked_at_number(number: u64) -> Option<Self>
+    pub(super) fn checked_from_number(number: u64) -> Option<Self>
         ensures { SomeIff result (IsDate number) number }
     {
         if number <= LAST_DAY as u64 {
-            Some(Self::at_number(number as u32))
+            Some(Self::from_number(number as u32))
         } else {
             None
         }
@@ -54,27 +54,27 @@ impl Date {
 
     /// Returns the date `days` days later, which must be in the range.
     #[tactic(auto, using(crate::proofs::Dates::places_in_years))]
-    pub(crate) fn days_later(self, days: u32) -> Self
+    pub(crate) fn add_days(self, days: u32) -> Self
         requires { IsDate (self + days) }
         ensures { result ≡ self + days }
     {
-        match self.of_same_year(u64::from(self.ordinal()) - 1 + u64::from(days)) {
+        match self.at_index_in_year(u64::from(self.ordinal()) - 1 + u64::from(days)) {
             Some(date) => date,
-            None => Self::at_number(self.number() + days),
+            None => Self::from_number(self.number() + days),
         }
     }
 
     /// Returns the date `days` days earlier, which must be in the range.
     #[tactic(auto, using(crate::proofs::Dates::places_in_years))]
-    pub(crate) fn days_earlier(self, days: u32) -> Self
+    pub(crate) fn sub_days(self, days: u32) -> Self
         requires { days ≤ self }
         ensures { result ≡ self - days }
     {
         // If the year begins in between, the difference wraps to a number far above the length of a
         // year.
-        match self.of_same_year((u64::from(self.ordinal()) - 1).wrapping_sub(u64::from(days))) {
+        match self.at_index_in_year((u64::from(self.ordinal()) - 1).wrapping_sub(u64::from(days))) {
             Some(date) => date,
-            None => Self::at_number(self.number() - days),
+            None => Self::from_number(self.number() - days),
         }
     }
 }

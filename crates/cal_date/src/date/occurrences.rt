@@ -2,7 +2,7 @@
 ghost use Rattle.std.specs.Prelude.{◌≡◌, ◌+◌, ◌-◌, ◌*◌, ◌<◌, ◌≤◌, Some, IsSome, IfSome};
 ghost use Rattle.cal_units.specs.Weekday.{index};
 ghost use Rattle.cal_date.specs.Date.{weekday_at, IsDate};
-ghost use Rattle.cal_date.specs.Occurrence.{next_occurrences, prev_occurrences, kth};
+ghost use Rattle.cal_date.specs.Occurrences.{next_occurrences, prev_occurrences, kth};
 
 use crate::date::Date;
 use crate::limits::LAST_DAY;
@@ -17,7 +17,7 @@ impl Date {
     ///
     /// The Monday after 2023-06-28 is 2023-07-03. The Monday after a Monday is seven days later.
     pub fn checked_next_occurrence(self, weekday: Weekday) -> Option<Self>
-        ensures day { result ≡ kth 1 (next_occurrences (index weekday) self) }
+        ensures value { result ≡ kth 1 (next_occurrences (index weekday) self) }
         ensures weekday { IfSome result (λ n. weekday_at n ≡ index weekday) }
         ensures within { IfSome result (λ n. (self < n) × (n ≤ self + 7) × IsDate n) }
         ensures in_range { IsDate self }
@@ -28,7 +28,7 @@ impl Date {
     /// Returns the last date before this one with the weekday, or `None` if it is before
     /// [`Self::MIN`]. The Monday before 2023-06-19, a Monday, is 2023-06-12.
     pub fn checked_prev_occurrence(self, weekday: Weekday) -> Option<Self>
-        ensures day { result ≡ kth 1 (prev_occurrences (index weekday) self) }
+        ensures value { result ≡ kth 1 (prev_occurrences (index weekday) self) }
         ensures weekday { IfSome result (λ n. weekday_at n ≡ index weekday) }
         ensures within { IfSome result (λ n. (n < self) × (self ≤ n + 7)) }
         ensures in_range { IsDate self }
@@ -39,7 +39,7 @@ impl Date {
     /// Returns the `n`-th date after this one with the weekday, counted from 1. Returns `None` if
     /// it is after [`Self::MAX`] or `n` is 0. The fifth Monday after 2023-06-25 is 2023-07-24.
     pub fn checked_nth_next_occurrence(self, weekday: Weekday, n: u8) -> Option<Self>
-        ensures day { result ≡ kth n (next_occurrences (index weekday) self) }
+        ensures value { result ≡ kth n (next_occurrences (index weekday) self) }
 
         // It is in the n-th week after the date.
         ensures weekday { IfSome result (λ later. weekday_at later ≡ index weekday) }
@@ -56,14 +56,14 @@ impl Date {
         // The first day of the range is a Monday.
         let first = (weekday + PAST_LAST_DAY - 1 - from) % 7 + 1;
         let days = first + 7 * (u32::from(n) - 1);
-        Self::checked_at_number(u64::from(from + days))
+        Self::checked_from_number(u64::from(from + days))
     }
 
     /// Returns the `n`-th date before this one with the weekday, counted from 1. Returns `None` if
     /// it is before [`Self::MIN`] or `n` is 0. The third Monday before 2023-06-27 is 2023-06-12.
     #[tactic(auto, using(crate::proofs::Occurrences::days_before))]
     pub fn checked_nth_prev_occurrence(self, weekday: Weekday, n: u8) -> Option<Self>
-        ensures day { result ≡ kth n (prev_occurrences (index weekday) self) }
+        ensures value { result ≡ kth n (prev_occurrences (index weekday) self) }
 
         // It is in the n-th week before the date.
         ensures weekday { IfSome result (λ earlier. weekday_at earlier ≡ index weekday) }
@@ -79,7 +79,7 @@ impl Date {
         let first = (number + 6 - weekday) % 7 + 1;
         let days = first + 7 * (u32::from(n) - 1);
         if days <= number {
-            Some(Self::at_number(number - days))
+            Some(Self::from_number(number - days))
         } else {
             None
         }
@@ -89,7 +89,7 @@ impl Date {
     /// Monday after 2023-06-28 is 2023-07-03.
     pub fn next_occurrence(self, weekday: Weekday) -> Self
         requires { IsSome (kth 1 (next_occurrences (index weekday) self)) }
-        ensures day { kth 1 (next_occurrences (index weekday) self) ≡ Some result }
+        ensures value { kth 1 (next_occurrences (index weekday) self) ≡ Some result }
         ensures weekday { weekday_at result ≡ index weekday }
         ensures within { (self < result) × (result ≤ self + 7) }
         ensures in_range { IsDate self }
@@ -101,7 +101,7 @@ impl Date {
     /// Monday before 2023-06-19 is 2023-06-12.
     pub fn prev_occurrence(self, weekday: Weekday) -> Self
         requires { IsSome (kth 1 (prev_occurrences (index weekday) self)) }
-        ensures day { kth 1 (prev_occurrences (index weekday) self) ≡ Some result }
+        ensures value { kth 1 (prev_occurrences (index weekday) self) ≡ Some result }
         ensures weekday { weekday_at result ≡ index weekday }
         ensures within { (result < self) × (self ≤ result + 7) }
         ensures in_range { IsDate self }
@@ -113,7 +113,7 @@ impl Date {
     /// and the date must be in the range. The fifth Monday after 2023-06-25 is 2023-07-24.
     pub fn nth_next_occurrence(self, weekday: Weekday, n: u8) -> Self
         requires { IsSome (kth n (next_occurrences (index weekday) self)) }
-        ensures day { kth n (next_occurrences (index weekday) self) ≡ Some result }
+        ensures value { kth n (next_occurrences (index weekday) self) ≡ Some result }
         ensures weekday { weekday_at result ≡ index weekday }
         ensures within { (self + 7 * (n - 1) < result) × (result ≤ self + 7 * n) }
         ensures in_range { IsDate self }
@@ -125,7 +125,7 @@ impl Date {
     /// and the date must be in the range. The third Monday before 2023-06-27 is 2023-06-12.
     pub fn nth_prev_occurrence(self, weekday: Weekday, n: u8) -> Self
         requires { IsSome (kth n (prev_occurrences (index weekday) self)) }
-        ensures day { kth n (prev_occurrences (index weekday) self) ≡ Some result }
+        ensures value { kth n (prev_occurrences (index weekday) self) ≡ Some result }
         ensures weekday { weekday_at result ≡ index weekday }
         ensures within { (result + 7 * (n - 1) < self) × (self ≤ result + 7 * n) }
         ensures in_range { IsDate self }

@@ -73,11 +73,11 @@ impl Counted for Date {
 
     ghost number_of = { julian_day_at };
 
-    ghost ordered = { λ x y. Prim.grind (arith, ints, nat_tests) };
+    ghost cmp_by_number = { λ x y. Prim.grind (arith, ints, nat_tests) };
 
-    ghost alike = { λ x y. Prim.grind (arith, ints, nat_tests) };
+    ghost eq_by_number = { λ x y. Prim.grind (arith, ints, nat_tests) };
 
-    ghost hashed = { λ x y e. Prim.grind (arith, ints) };
+    ghost hash_by_number = { λ x y e. Prim.grind (arith, ints) };
 
     /// Returns the Julian day, from -363521074 to 366963559. For 2000-01-01 it is 2451545.
     fn number(self) -> i128 {

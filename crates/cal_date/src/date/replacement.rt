@@ -1,10 +1,10 @@
 //! Dates with one component replaced.
 ghost use Rattle.std.specs.Prelude.{◌≡◌, ℕ, ◌+◌, ◌-◌, ◌↔◌, ◌⊎◌, IfOk, IfErr, IsErr, Ok, SomeIff};
 ghost use Rattle.cal_units.specs.Month.{number};
-ghost use Rattle.cal_units.specs.Refusal.{IsRefused};
+ghost use Rattle.cal_units.specs.ComponentError.{FailsWith};
 ghost use Rattle.cal_date.specs.CountLaws.{days_of_months};
 ghost use Rattle.cal_date.specs.Date.{year_at, month_at, day_of_month_at, IsDate, IsYear, IsDayOfMonth, IsOrdinal, HasCalendarDate, HasOrdinalDate, NoDate};
-ghost use Rattle.cal_date.specs.Refusals.{year_out_of_range, day_out_of_range, ordinal_out_of_range};
+ghost use Rattle.cal_date.specs.DateErrors.{year_out_of_range, day_out_of_range, ordinal_out_of_range};
 
 use crate::date::{Date, is_year};
 use crate::error::{Component, ComponentRange};
@@ -23,23 +23,23 @@ impl Date {
     pub fn replace_year(self, year: i32) -> Result<Self, ComponentRange>
         ensures every { (n : ℕ) → IsDate n
             → HasCalendarDate year (month_at self) (day_of_month_at self) n → result ≡ Ok n }
-        ensures has { IfOk result (λ n.
+        ensures value { IfOk result (λ n.
             IsDate n × HasCalendarDate year (month_at self) (day_of_month_at self) n) }
 
         // It fails if and only if no day of the range has the calendar date.
-        ensures refused { IsErr result
+        ensures error { IsErr result
             ↔ NoDate (HasCalendarDate year (month_at self) (day_of_month_at self)) }
-        ensures reason { IfErr result (λ e. (e ≡ year_out_of_range) ⊎ (e ≡ day_out_of_range)) }
+        ensures error_kind { IfErr result (λ e. (e ≡ year_out_of_range) ⊎ (e ≡ day_out_of_range)) }
         ensures in_range { IsDate self }
-        ensures year { IsRefused year_out_of_range result ↔ ¬ IsYear year }
-        ensures day { IsRefused day_out_of_range result
+        ensures year { FailsWith year_out_of_range result ↔ ¬ IsYear year }
+        ensures day { FailsWith day_out_of_range result
             ↔ IsYear year × ¬ IsDayOfMonth year (month_at self) (day_of_month_at self) }
     {
         self.is_in_range();
         if !is_year(year) {
             return Err(ComponentRange::unconditional(Component::Year));
         }
-        let Some(ordinal) = self.ordinal_in(year) else {
+        let Some(ordinal) = self.ordinal_in_year(year) else {
             return Err(ComponentRange::conditional(Component::Day));
         };
         Ok(Date::at_ordinal(year, ordinal))
@@ -53,15 +53,15 @@ impl Date {
         ensures every { (n : ℕ) → IsDate n
             → HasCalendarDate (year_at self) (number month) (day_of_month_at self) n
             → result ≡ Ok n }
-        ensures has { IfOk result (λ n.
+        ensures value { IfOk result (λ n.
             IsDate n × HasCalendarDate (year_at self) (number month) (day_of_month_at self) n) }
 
         // It fails if and only if no day of the range has the calendar date.
-        ensures refused { IsErr result
+        ensures error { IsErr result
             ↔ NoDate (HasCalendarDate (year_at self) (number month) (day_of_month_at self)) }
-        ensures reason { IfErr result (λ e. e ≡ day_out_of_range) }
+        ensures error_kind { IfErr result (λ e. e ≡ day_out_of_range) }
         ensures in_range { IsDate self }
-        ensures day { IsRefused day_out_of_range result
+        ensures day { FailsWith day_out_of_range result
             ↔ ¬ IsDayOfMonth (year_at self) (number month) (day_of_month_at self) }
     {
         Self::from_calendar_date(self.year(), month, self.day())
@@ -73,15 +73,15 @@ impl Date {
     pub fn replace_day(self, day: u8) -> Result<Self, ComponentRange>
         ensures every { (n : ℕ) → IsDate n → HasCalendarDate (year_at self) (month_at self) day n
             → result ≡ Ok n }
-        ensures has { IfOk result (λ n.
+        ensures value { IfOk result (λ n.
             IsDate n × HasCalendarDate (year_at self) (month_at self) day n) }
 
         // It fails if and only if no day of the range has the calendar date.
-        ensures refused { IsErr result
+        ensures error { IsErr result
             ↔ NoDate (HasCalendarDate (year_at self) (month_at self) day) }
-        ensures reason { IfErr result (λ e. e ≡ day_out_of_range) }
+        ensures error_kind { IfErr result (λ e. e ≡ day_out_of_range) }
         ensures in_range { IsDate self }
-        ensures day { IsRefused day_out_of_range result
+        ensures day { FailsWith day_out_of_range result
             ↔ ¬ IsDayOfMonth (year_at self) (month_at self) day }
     {
         Self::from_calendar_date(self.year(), self.month(), day)
@@ -95,13 +95,13 @@ impl Date {
     pub fn replace_ordinal(self, ordinal: u16) -> Result<Self, ComponentRange>
         ensures every { (n : ℕ) → IsDate n → HasOrdinalDate (year_at self) ordinal n
             → result ≡ Ok n }
-        ensures has { IfOk result (λ n. IsDate n × HasOrdinalDate (year_at self) ordinal n) }
+        ensures value { IfOk result (λ n. IsDate n × HasOrdinalDate (year_at self) ordinal n) }
 
         // It fails if and only if no day of the range has the ordinal date.
-        ensures refused { IsErr result ↔ NoDate (HasOrdinalDate (year_at self) ordinal) }
-        ensures reason { IfErr result (λ e. e ≡ ordinal_out_of_range) }
+        ensures error { IsErr result ↔ NoDate (HasOrdinalDate (year_at self) ordinal) }
+        ensures error_kind { IfErr result (λ e. e ≡ ordinal_out_of_range) }
         ensures in_range { IsDate self }
-        ensures ordinal { IsRefused ordinal_out_of_range result
+        ensures ordinal { FailsWith ordinal_out_of_range result
             ↔ ¬ IsOrdinal (year_at self) ordinal }
     {
         let (year, _) = self.to_ordinal_date();
@@ -110,7 +110,7 @@ impl Date {
 
     /// Returns the ordinal of the same month and day in another year, or `None` for 29 February in
     /// a common year.
-    fn ordinal_in(self, year: i32) -> Option<u16>
+    fn ordinal_in_year(self, year: i32) -> Option<u16>
         ensures { SomeIff result (IsDayOfMonth year (month_at self) (day_of_month_at self))
             (days_of_months year (month_at self - 1) + day_of_month_at self) }
     {

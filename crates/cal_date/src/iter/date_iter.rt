@@ -63,8 +63,8 @@ impl DateIter {
     /// Returns `None` if `n` days or fewer are left; then the iterator is empty. From 2019-12-30 to
     /// 2020-01-02, `nth(2)` is 2020-01-01, and 2020-01-02 is left.
     pub fn nth(&mut self, n: usize) -> Option<Date>
-        ensures item { result ≡ slice_get (days_of self.old) n }
-        ensures left { self.new ≡ without_first (n + 1) self.old }
+        ensures value { result ≡ slice_get (days_of self.old) n }
+        ensures remaining { self.new ≡ without_first (n + 1) self.old }
 
         // If the front day and the back day are in one year, the ordinals give the result.
         ensures same_year { (back : ℕ) → IsInOneYear self.old back
@@ -79,8 +79,8 @@ impl DateIter {
             self.back = None;
             return None;
         }
-        let item = self.front.days_later(n as u32);
-        self.leave_after(item, back);
+        let item = self.front.add_days(n as u32);
+        self.advance_front_past(item, back);
         Some(item)
     }
 
@@ -90,8 +90,8 @@ impl DateIter {
     /// Returns `None` if `n` days or fewer are left; then the iterator is empty. From 2019-12-30 to
     /// 2020-01-02, `nth_back(2)` is 2019-12-31, and 2019-12-30 is left.
     pub fn nth_back(&mut self, n: usize) -> Option<Date>
-        ensures item { result ≡ slice_get (reverse (days_of self.old)) n }
-        ensures left { self.new ≡ without_last (n + 1) self.old }
+        ensures value { result ≡ slice_get (reverse (days_of self.old)) n }
+        ensures remaining { self.new ≡ without_last (n + 1) self.old }
 
         // If the front day and the back day are in one year, the ordinals give the result.
         ensures same_year { (back : ℕ) → IsInOneYear self.old back
@@ -106,16 +106,16 @@ impl DateIter {
             self.back = None;
             return None;
         }
-        let item = back.days_earlier(n as u32);
-        self.leave_before(item, back);
+        let item = back.sub_days(n as u32);
+        self.advance_back_past(item, back);
         Some(item)
     }
 
     /// Returns the number of days left, from 0 to 730484634.
     #[tactic(auto, using(crate::proofs::DateIters::lengths))]
     pub fn len(&self) -> usize
-        ensures count { result ≡ length (days_of self.now) }
-        ensures bound { result ≤ last_day + 1 }
+        ensures value { result ≡ length (days_of self.now) }
+        ensures max { result ≤ last_day + 1 }
         ensures same_year { (back : ℕ) → IsInOneYear self.now back
             → result + ordinal_at self.now.front ≡ ordinal_at back + 1 }
     {
@@ -184,7 +184,7 @@ impl DateIter {
 
     /// Removes the days up to `item`, which is one of them. `back` is the back day.
     #[tactic(auto, using(crate::proofs::DateIters::days_left_after))]
-    fn leave_after(&mut self, item: Date, back: Date)
+    fn advance_front_past(&mut self, item: Date, back: Date)
         requires back { self.old.back ≡ Some back }
         requires from_front { self.old.front ≤ item }
         requires to_back { item ≤ back }
@@ -199,7 +199,7 @@ impl DateIter {
 
     /// Removes the days from `item` on, which is one of them. `back` is the back day.
     #[tactic(auto, using(crate::proofs::DateIters::days_left_before))]
-    fn leave_before(&mut self, item: Date, back: Date)
+    fn advance_back_past(&mut self, item: Date, back: Date)
         requires back { self.old.back ≡ Some back }
         requires from_front { self.old.front ≤ item }
         requires to_back { item ≤ back }
@@ -240,7 +240,7 @@ impl Iterator for DateIter {
     fn next(&mut self) -> Option<Date> {
         let back = self.back?;
         let item = self.front;
-        self.leave_after(item, back);
+        self.advance_front_past(item, back);
         Some(item)
     }
 
@@ -263,7 +263,7 @@ impl DoubleEndedIterator for DateIter {
     /// Removes and returns the last day, or returns `None` if the iterator is empty.
     fn next_back(&mut self) -> Option<Date> {
         let item = self.back?;
-        self.leave_before(item, item);
+        self.advance_back_past(item, item);
         Some(item)
     }
 }

@@ -2,7 +2,7 @@
 ghost use Rattle.std.specs.Prelude.{ℕ, ◌-ℤ◌};
 ghost use Rattle.cal_date.specs.ClosedForms.{HasKernel};
 ghost use Rattle.cal_date.specs.Date.{first_julian_day, IsDate};
-ghost use Rattle.cal_date.specs.Move.{IsDateNumber};
+ghost use Rattle.cal_date.specs.Arithmetic.{IsDateNumber};
 
 use crate::tests::same;
 use cal_date::{JulianKernel, date_of_kernel, julian_kernel};

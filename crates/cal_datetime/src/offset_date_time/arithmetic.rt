@@ -1,11 +1,11 @@
 //! Date-times at an offset plus and minus durations, and the durations between them.
 ghost use Rattle.std.specs.Prelude.{◌≡◌, ◌+ℤ◌, ◌-ℤ◌, Some, IfSome, SomeIff};
 ghost use Rattle.cal_time.specs.SignedDuration.{IsDuration};
-ghost use Rattle.cal_datetime.specs.DateTime.{IsDateTime, nearest};
-ghost use Rattle.cal_datetime.specs.OffsetDateTime.{Shown, instant};
+ghost use Rattle.cal_datetime.specs.DateTime.{IsDateTime, clamped_date_time};
+ghost use Rattle.cal_datetime.specs.OffsetDateTime.{LocalAndOffset, instant};
 
 use crate::OffsetDateTime;
-use crate::offset_date_time::ahead;
+use crate::offset_date_time::offset_difference;
 use cal_time::SignedDuration;
 use std::ops::{Add, AddAssign, Sub, SubAssign};
 
@@ -15,7 +15,7 @@ impl OffsetDateTime {
     pub fn checked_add(self, duration: SignedDuration) -> Option<Self>
         ensures value { let local = self.local +ℤ duration
             in SomeIff result (IsDateTime local) (record { local = local; offset = self.offset }) }
-        ensures every { (to : Shown) → IsDateTime to.local → to.offset ≡ self.offset
+        ensures every { (to : LocalAndOffset) → IsDateTime to.local → to.offset ≡ self.offset
             → duration ≡ instant to -ℤ instant self
             → result ≡ Some to }
         ensures instant { IfSome result (λ later. instant later ≡ instant self +ℤ duration) }
@@ -32,7 +32,7 @@ impl OffsetDateTime {
     pub fn checked_sub(self, duration: SignedDuration) -> Option<Self>
         ensures value { let local = self.local -ℤ duration
             in SomeIff result (IsDateTime local) (record { local = local; offset = self.offset }) }
-        ensures every { (to : Shown) → IsDateTime to.local → to.offset ≡ self.offset
+        ensures every { (to : LocalAndOffset) → IsDateTime to.local → to.offset ≡ self.offset
             → duration ≡ instant self -ℤ instant to
             → result ≡ Some to }
         ensures instant { IfSome result (λ earlier. instant earlier ≡ instant self -ℤ duration) }
@@ -47,7 +47,7 @@ impl OffsetDateTime {
     /// the last date-time.
     pub fn saturating_add(self, duration: SignedDuration) -> Self
         ensures { result ≡ record {
-          local = nearest (self.local +ℤ duration);
+          local = clamped_date_time (self.local +ℤ duration);
           offset = self.offset;
         } }
     {
@@ -60,7 +60,7 @@ impl OffsetDateTime {
     /// first or the last date-time.
     pub fn saturating_sub(self, duration: SignedDuration) -> Self
         ensures { result ≡ record {
-          local = nearest (self.local -ℤ duration);
+          local = clamped_date_time (self.local -ℤ duration);
           offset = self.offset;
         } }
     {
@@ -133,6 +133,6 @@ impl Sub for OffsetDateTime {
     /// Returns the duration from the instant of `other` to this one, negative if `other` is later.
     #[tactic(auto, unfolding(crate::specs::OffsetDateTime::instant))]
     fn sub(self, other: Self) -> SignedDuration {
-        self.local() - other.local() + ahead(other.offset(), self.offset())
+        self.local() - other.local() + offset_difference(other.offset(), self.offset())
     }
 }

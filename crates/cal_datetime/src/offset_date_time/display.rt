@@ -12,8 +12,8 @@ impl OffsetDateTime {
     /// Returns the text that the date-time prints: the local date-time, a space and the offset. It
     /// is ASCII, with at most 42 bytes. An example is `2024-02-29 8:00:00.5 +01:00:00`.
     pub fn text(self) -> ShortText
-        ensures text { result ≡ text self }
-        ensures short { length result ≤ 42 }
+        ensures value { result ≡ text self }
+        ensures max_length { length result ≤ 42 }
         ensures ascii { IsAscii result }
     {
         let mut text = self.local().text();
@@ -37,7 +37,7 @@ impl fmt::Debug for OffsetDateTime {
     ghost debug_output = { λ m. Some (text m) };
 
     fn fmt<W: fmt::Write>(&self, f: &mut fmt::Formatter<W>) -> fmt::Result
-        ensures text { WritesOnOk W.write_str_gives f.old result (text self.now) f.new }
+        ensures value { WritesOnOk W.write_str_gives f.old result (text self.now) f.new }
         ensures styled { WritesStyledOnOk W.write_str_gives f.old result
             (padded (formatter_spec f.old) (text self.now)) f.new }
     {

@@ -66,11 +66,11 @@ impl Counted for OffsetDateTime {
 
     ghost number_of = { instant };
 
-    ghost ordered = { λ x y. refl };
+    ghost cmp_by_number = { λ x y. refl };
 
-    ghost alike = { λ x y. Prim.search rules };
+    ghost eq_by_number = { λ x y. Prim.search rules };
 
-    ghost hashed = { λ x y e. ap fed.i128 e };
+    ghost hash_by_number = { λ x y e. ap fed.i128 e };
 
     /// Returns the nanoseconds from the first date-time of the range, at UTC, to the instant.
     fn number(self) -> i128 {

@@ -1,10 +1,10 @@
 //! Unix times: the time since 1970-01-01 0:00 UTC, with 86400 seconds in each day.
 ghost use Rattle.std.specs.Prelude.{◌≡◌, ◌↔◌, ◌/◌, ◌^◌, ◌<◌, ◌<ℤ◌, ◌≤ℤ◌, unsigned_abs, ℤ, pos, neg_ℤ, ◌+ℤ◌, ◌-ℤ◌, ◌*ℤ◌, Ok, IfOk, IfErr, IsSome, IfSome};
 ghost use Rattle.cal_time.specs.Date.{first_julian_day};
-ghost use Rattle.cal_time.specs.Move.{IsDateNumber};
-ghost use Rattle.cal_time.specs.Refusal.{IsRefused};
+ghost use Rattle.cal_time.specs.Arithmetic.{IsDateNumber};
+ghost use Rattle.cal_time.specs.ComponentError.{FailsWith};
 ghost use Rattle.cal_time.specs.SignedDuration.{second};
-ghost use Rattle.cal_time.specs.UtcOffset.{greatest};
+ghost use Rattle.cal_time.specs.UtcOffset.{max_offset_seconds};
 ghost use Rattle.cal_datetime.specs.DateTime.{IsDateTime};
 ghost use Rattle.cal_datetime.specs.OffsetDateTime.{instant, IsInstant, epoch_day, unix_epoch, unix_nanoseconds, unix_seconds, timestamp_out_of_range};
 
@@ -28,7 +28,7 @@ impl OffsetDateTime {
         ensures value { result ≡ record { local = unix_epoch; offset = pos 0 } }
         ensures instant { instant result ≡ unix_epoch }
     {
-        Self::new_utc(date_of(0).unwrap(), Time::MIDNIGHT)
+        Self::new_utc(date_from_days(0).unwrap(), Time::MIDNIGHT)
     }
 
     /// Creates a date-time at UTC from a Unix timestamp in seconds, negative before 1970. Returns
@@ -37,11 +37,11 @@ impl OffsetDateTime {
         ensures value { let local = unix_epoch +ℤ timestamp *ℤ pos second
             in IsDateTime local → result ≡ Ok (record { local = local; offset = pos 0 }) }
         ensures instant { IfOk result (λ m. instant m ≡ unix_epoch +ℤ timestamp *ℤ pos second) }
-        ensures refused { IsRefused timestamp_out_of_range result
+        ensures error { FailsWith timestamp_out_of_range result
             ↔ ¬ IsDateTime (unix_epoch +ℤ timestamp *ℤ pos second) }
-        ensures reason { IfErr result (λ e. e ≡ timestamp_out_of_range) }
+        ensures error_kind { IfErr result (λ e. e ≡ timestamp_out_of_range) }
     {
-        at_utc(timestamp, 0)
+        date_time_at_utc(timestamp, 0)
     }
 
     /// Creates a date-time at UTC from a Unix timestamp in nanoseconds, negative before 1970.
@@ -50,13 +50,13 @@ impl OffsetDateTime {
         ensures value { let local = unix_epoch +ℤ timestamp
             in IsDateTime local → result ≡ Ok (record { local = local; offset = pos 0 }) }
         ensures instant { IfOk result (λ m. instant m ≡ unix_epoch +ℤ timestamp) }
-        ensures refused { IsRefused timestamp_out_of_range result
+        ensures error { FailsWith timestamp_out_of_range result
             ↔ ¬ IsDateTime (unix_epoch +ℤ timestamp) }
-        ensures reason { IfErr result (λ e. e ≡ timestamp_out_of_range) }
+        ensures error_kind { IfErr result (λ e. e ≡ timestamp_out_of_range) }
     {
         let nanoseconds = timestamp.rem_euclid(NANOSECONDS_PER_SECOND) as i32;
         match i64::try_from(timestamp.div_euclid(NANOSECONDS_PER_SECOND)) {
-            Ok(seconds) => at_utc(seconds, nanoseconds),
+            Ok(seconds) => date_time_at_utc(seconds, nanoseconds),
             Err(_) => Err(ComponentRange::unconditional(Component::Timestamp)),
         }
     }
@@ -67,8 +67,8 @@ impl OffsetDateTime {
         ensures whole { (seconds : ℤ) → instant self ≡ unix_epoch +ℤ seconds *ℤ pos second
             → result ≡ seconds }
     {
-        let seconds = days_since_epoch(self.date()) * SECONDS_PER_DAY + whole_seconds(self.time());
-        seconds - seconds_of(self.offset())
+        let seconds = days_since_epoch(self.date()) * SECONDS_PER_DAY + seconds_since_midnight(self.time());
+        seconds - offset_seconds(self.offset())
     }
 
     /// Returns the Unix timestamp in nanoseconds, negative before 1970.
@@ -91,7 +91,7 @@ impl OffsetDateTime {
 }
 
 /// Returns the date of a Julian day, or `None` if it is out of range.
-fn at_julian_day(julian_day: i32) -> Option<Date>
+fn checked_date_of_julian_day(julian_day: i32) -> Option<Date>
     ensures some { IsSome result ↔ IsDateNumber (julian_day -ℤ first_julian_day) }
     ensures number { IfSome result (λ n. pos n ≡ julian_day -ℤ first_julian_day) }
 {
@@ -102,13 +102,13 @@ fn at_julian_day(julian_day: i32) -> Option<Date>
 }
 
 /// Returns the date some days after 1970-01-01, or `None` if it is out of range.
-fn date_of(days: i64) -> Option<Date>
+fn date_from_days(days: i64) -> Option<Date>
     requires { unsigned_abs days < 2 ^ 62 }
     ensures some { IsSome result ↔ IsDateNumber (epoch_day +ℤ days) }
     ensures number { IfSome result (λ n. pos n ≡ epoch_day +ℤ days) }
 {
     match i32::try_from(days + EPOCH_DAY) {
-        Ok(julian_day) => at_julian_day(julian_day),
+        Ok(julian_day) => checked_date_of_julian_day(julian_day),
         Err(_) => None,
     }
 }
@@ -122,7 +122,7 @@ fn days_since_epoch(date: Date) -> i64
 }
 
 /// Returns the whole seconds since midnight.
-fn whole_seconds(time: Time) -> i64
+fn seconds_since_midnight(time: Time) -> i64
     ensures value { result ≡ pos (time / second) }
     ensures range { (pos 0 ≤ℤ result) × (result <ℤ pos 86_400) }
 {
@@ -131,16 +131,16 @@ fn whole_seconds(time: Time) -> i64
 }
 
 /// Returns the total seconds of an offset.
-fn seconds_of(offset: UtcOffset) -> i64
+fn offset_seconds(offset: UtcOffset) -> i64
     ensures value { result ≡ offset }
-    ensures least { neg_ℤ (pos greatest) ≤ℤ result }
-    ensures most { result ≤ℤ pos greatest }
+    ensures min { neg_ℤ (pos max_offset_seconds) ≤ℤ result }
+    ensures max { result ≤ℤ pos max_offset_seconds }
 {
     i64::from(offset.whole_seconds())
 }
 
 /// Creates a time of day from seconds since midnight and nanoseconds.
-fn time_of(seconds: i64, nanoseconds: i32) -> Time
+fn time_from_seconds(seconds: i64, nanoseconds: i32) -> Time
     requires not_before { pos 0 ≤ℤ seconds × pos 0 ≤ℤ nanoseconds }
     requires within_day { seconds <ℤ pos 86_400 }
     requires within_second { nanoseconds <ℤ pos second }
@@ -150,18 +150,18 @@ fn time_of(seconds: i64, nanoseconds: i32) -> Time
 }
 
 /// Creates the date-time at UTC some seconds and nanoseconds after 1970-01-01 0:00.
-fn at_utc(seconds: i64, nanoseconds: i32) -> Result<OffsetDateTime, ComponentRange>
+fn date_time_at_utc(seconds: i64, nanoseconds: i32) -> Result<OffsetDateTime, ComponentRange>
     requires { pos 0 ≤ℤ nanoseconds × nanoseconds <ℤ pos second }
     ensures value { let local = unix_epoch +ℤ (seconds *ℤ pos second +ℤ nanoseconds)
         in IsDateTime local → result ≡ Ok (record { local = local; offset = pos 0 }) }
     ensures instant { IfOk result (λ m.
         instant m ≡ unix_epoch +ℤ (seconds *ℤ pos second +ℤ nanoseconds)) }
-    ensures refused { IsRefused timestamp_out_of_range result
+    ensures error { FailsWith timestamp_out_of_range result
         ↔ ¬ IsDateTime (unix_epoch +ℤ (seconds *ℤ pos second +ℤ nanoseconds)) }
-    ensures reason { IfErr result (λ e. e ≡ timestamp_out_of_range) }
+    ensures error_kind { IfErr result (λ e. e ≡ timestamp_out_of_range) }
 {
-    let time = time_of(seconds.rem_euclid(SECONDS_PER_DAY), nanoseconds);
-    match date_of(seconds.div_euclid(SECONDS_PER_DAY)) {
+    let time = time_from_seconds(seconds.rem_euclid(SECONDS_PER_DAY), nanoseconds);
+    match date_from_days(seconds.div_euclid(SECONDS_PER_DAY)) {
         Some(date) => Ok(OffsetDateTime::new_utc(date, time)),
         None => Err(ComponentRange::unconditional(Component::Timestamp)),
     }

@@ -1,7 +1,7 @@
 //! Date-times plus and minus durations, and the durations between them.
 ghost use Rattle.std.specs.Prelude.{◌≡◌, ℤ, ◌+ℤ◌, ◌-ℤ◌, Some, SomeIff};
 ghost use Rattle.cal_time.specs.SignedDuration.{IsDuration};
-ghost use Rattle.cal_datetime.specs.DateTime.{IsDateTime, nearest};
+ghost use Rattle.cal_datetime.specs.DateTime.{IsDateTime, clamped_date_time};
 
 use crate::PlainDateTime;
 use crate::laws::{first, last};
@@ -37,7 +37,7 @@ impl PlainDateTime {
 
     /// Adds a duration. A result out of range is clamped to the first or the last date-time.
     pub fn saturating_add(self, duration: SignedDuration) -> Self
-        ensures { result ≡ nearest (self +ℤ duration) }
+        ensures { result ≡ clamped_date_time (self +ℤ duration) }
     {
         match self.checked_add(duration) {
             Some(moved) => moved,
@@ -48,7 +48,7 @@ impl PlainDateTime {
 
     /// Subtracts a duration. A result out of range is clamped to the first or the last date-time.
     pub fn saturating_sub(self, duration: SignedDuration) -> Self
-        ensures { result ≡ nearest (self -ℤ duration) }
+        ensures { result ≡ clamped_date_time (self -ℤ duration) }
     {
         match self.checked_sub(duration) {
             Some(moved) => moved,

@@ -13,8 +13,8 @@ impl PlainDateTime {
     /// with at most 32 bytes. For half a second past 8:00 on 29 February 2024 it is
     /// `2024-02-29 8:00:00.5`.
     pub fn text(self) -> ShortText
-        ensures text { result ≡ text self }
-        ensures short { length result ≤ 32 }
+        ensures value { result ≡ text self }
+        ensures max_length { length result ≤ 32 }
         ensures ascii { IsAscii result }
     {
         let mut text = self.date().text();
@@ -38,7 +38,7 @@ impl fmt::Debug for PlainDateTime {
     ghost debug_output = { λ m. Some (text m) };
 
     fn fmt<W: fmt::Write>(&self, f: &mut fmt::Formatter<W>) -> fmt::Result
-        ensures text { WritesOnOk W.write_str_gives f.old result (text self.now) f.new }
+        ensures value { WritesOnOk W.write_str_gives f.old result (text self.now) f.new }
         ensures styled { WritesStyledOnOk W.write_str_gives f.old result
             (padded (formatter_spec f.old) (text self.now)) f.new }
     {

@@ -72,11 +72,11 @@ impl Counted for PlainDateTime {
 
     ghost number_of = { λ m. m };
 
-    ghost ordered = { λ x y. refl };
+    ghost cmp_by_number = { λ x y. refl };
 
-    ghost alike = { λ x y. Prim.search rules };
+    ghost eq_by_number = { λ x y. Prim.search rules };
 
-    ghost hashed = { λ x y e. ap fed.i128 e };
+    ghost hash_by_number = { λ x y e. ap fed.i128 e };
 
     /// Returns the nanoseconds since the first date-time of the range. For 1970-01-01 0:00 it is
     /// 31619087596800000000000.

@@ -1,8 +1,8 @@
 //! Date-times with a component replaced, or truncated.
 ghost use Rattle.std.specs.Prelude.{◌≡◌, ℕ, ◌*◌, ◌<◌, ◌≤◌, ◌↔◌, ◌⊎◌, IfOk, IfErr, IsErr, Ok};
 ghost use Rattle.cal_time.specs.Month.{number};
-ghost use Rattle.cal_time.specs.Refusal.{IsRefused};
-ghost use Rattle.cal_time.specs.Refusals.{year_out_of_range, day_out_of_range, ordinal_out_of_range};
+ghost use Rattle.cal_time.specs.ComponentError.{FailsWith};
+ghost use Rattle.cal_time.specs.DateErrors.{year_out_of_range, day_out_of_range, ordinal_out_of_range};
 ghost use Rattle.cal_time.specs.Date.{year_at, month_at, day_of_month_at, IsDate, IsYear, IsDayOfMonth, IsOrdinal, HasCalendarDate, HasOrdinalDate, NoDate};
 ghost use Rattle.cal_time.specs.Time.{hour_out_of_range, minute_out_of_range, second_out_of_range, millisecond_out_of_range, microsecond_out_of_range, nanosecond_out_of_range, time_of, hour_of, minute_of, second_of, millisecond_of, microsecond_of, nanosecond_of};
 ghost use Rattle.cal_datetime.specs.DateTime.{date_time, date_at, time_at};
@@ -36,16 +36,16 @@ impl PlainDateTime {
         ensures every { (n : ℕ) → IsDate n
             → HasCalendarDate year (month_at (date_at self)) (day_of_month_at (date_at self)) n
             → result ≡ Ok (date_time n (time_at self)) }
-        ensures has { IfOk result (λ m.
+        ensures value { IfOk result (λ m.
             IsDate (date_at m) × HasCalendarDate year (month_at (date_at self))
             (day_of_month_at (date_at self)) (date_at m)
             × (m ≡ date_time (date_at m) (time_at self))) }
-        ensures refused { IsErr result
+        ensures error { IsErr result
             ↔ NoDate (HasCalendarDate year (month_at (date_at self))
             (day_of_month_at (date_at self))) }
-        ensures reason { IfErr result (λ e. (e ≡ year_out_of_range) ⊎ (e ≡ day_out_of_range)) }
-        ensures year { IsRefused year_out_of_range result ↔ ¬ IsYear year }
-        ensures day { IsRefused day_out_of_range result
+        ensures error_kind { IfErr result (λ e. (e ≡ year_out_of_range) ⊎ (e ≡ day_out_of_range)) }
+        ensures year { FailsWith year_out_of_range result ↔ ¬ IsYear year }
+        ensures day { FailsWith day_out_of_range result
             ↔ IsYear year × ¬ IsDayOfMonth year (month_at (date_at self))
             (day_of_month_at (date_at self)) }
     {
@@ -61,15 +61,15 @@ impl PlainDateTime {
         ensures every { (n : ℕ) → IsDate n
             → HasCalendarDate (year_at (date_at self)) (number month)
             (day_of_month_at (date_at self)) n → result ≡ Ok (date_time n (time_at self)) }
-        ensures has { IfOk result (λ m.
+        ensures value { IfOk result (λ m.
             IsDate (date_at m) × HasCalendarDate (year_at (date_at self)) (number month)
             (day_of_month_at (date_at self)) (date_at m)
             × (m ≡ date_time (date_at m) (time_at self))) }
-        ensures refused { IsErr result
+        ensures error { IsErr result
             ↔ NoDate (HasCalendarDate (year_at (date_at self)) (number month)
             (day_of_month_at (date_at self))) }
-        ensures reason { IfErr result (λ e. e ≡ day_out_of_range) }
-        ensures day { IsRefused day_out_of_range result
+        ensures error_kind { IfErr result (λ e. e ≡ day_out_of_range) }
+        ensures day { FailsWith day_out_of_range result
             ↔ ¬ IsDayOfMonth (year_at (date_at self)) (number month)
             (day_of_month_at (date_at self)) }
     {
@@ -85,14 +85,14 @@ impl PlainDateTime {
         ensures every { (n : ℕ) → IsDate n
             → HasCalendarDate (year_at (date_at self)) (month_at (date_at self)) day n
             → result ≡ Ok (date_time n (time_at self)) }
-        ensures has { IfOk result (λ m.
+        ensures value { IfOk result (λ m.
             IsDate (date_at m) × HasCalendarDate (year_at (date_at self))
             (month_at (date_at self)) day (date_at m)
             × (m ≡ date_time (date_at m) (time_at self))) }
-        ensures refused { IsErr result
+        ensures error { IsErr result
             ↔ NoDate (HasCalendarDate (year_at (date_at self)) (month_at (date_at self)) day) }
-        ensures reason { IfErr result (λ e. e ≡ day_out_of_range) }
-        ensures day { IsRefused day_out_of_range result
+        ensures error_kind { IfErr result (λ e. e ≡ day_out_of_range) }
+        ensures day { FailsWith day_out_of_range result
             ↔ ¬ IsDayOfMonth (year_at (date_at self)) (month_at (date_at self)) day }
     {
         match self.date().replace_day(day) {
@@ -106,12 +106,12 @@ impl PlainDateTime {
     pub fn replace_ordinal(self, ordinal: u16) -> Result<Self, ComponentRange>
         ensures every { (n : ℕ) → IsDate n → HasOrdinalDate (year_at (date_at self)) ordinal n
             → result ≡ Ok (date_time n (time_at self)) }
-        ensures has { IfOk result (λ m.
+        ensures value { IfOk result (λ m.
             IsDate (date_at m) × HasOrdinalDate (year_at (date_at self)) ordinal (date_at m)
             × (m ≡ date_time (date_at m) (time_at self))) }
-        ensures refused { IsErr result ↔ NoDate (HasOrdinalDate (year_at (date_at self)) ordinal) }
-        ensures reason { IfErr result (λ e. e ≡ ordinal_out_of_range) }
-        ensures ordinal { IsRefused ordinal_out_of_range result
+        ensures error { IsErr result ↔ NoDate (HasOrdinalDate (year_at (date_at self)) ordinal) }
+        ensures error_kind { IfErr result (λ e. e ≡ ordinal_out_of_range) }
+        ensures ordinal { FailsWith ordinal_out_of_range result
             ↔ ¬ IsOrdinal (year_at (date_at self)) ordinal }
     {
         match self.date().replace_ordinal(ordinal) {
@@ -122,8 +122,8 @@ impl PlainDateTime {
 
     /// Replaces the hour. Returns the error `hour` if it is above 23.
     pub fn replace_hour(self, hour: u8) -> Result<Self, ComponentRange>
-        ensures refused { IsRefused hour_out_of_range result ↔ (23 < hour) }
-        ensures reason { IfErr result (λ e. e ≡ hour_out_of_range) }
+        ensures error { FailsWith hour_out_of_range result ↔ (23 < hour) }
+        ensures error_kind { IfErr result (λ e. e ≡ hour_out_of_range) }
         ensures value { hour ≤ 23 → result
             ≡ Ok (date_time (date_at self)
             (time_of hour (minute_of (time_at self)) (second_of (time_at self))
@@ -137,8 +137,8 @@ impl PlainDateTime {
 
     /// Replaces the minute. Returns the error `minute` if it is above 59.
     pub fn replace_minute(self, minute: u8) -> Result<Self, ComponentRange>
-        ensures refused { IsRefused minute_out_of_range result ↔ (59 < minute) }
-        ensures reason { IfErr result (λ e. e ≡ minute_out_of_range) }
+        ensures error { FailsWith minute_out_of_range result ↔ (59 < minute) }
+        ensures error_kind { IfErr result (λ e. e ≡ minute_out_of_range) }
         ensures value { minute ≤ 59 → result
             ≡ Ok (date_time (date_at self)
             (time_of (hour_of (time_at self)) minute (second_of (time_at self))
@@ -152,8 +152,8 @@ impl PlainDateTime {
 
     /// Replaces the second. Returns the error `second` if it is above 59.
     pub fn replace_second(self, second: u8) -> Result<Self, ComponentRange>
-        ensures refused { IsRefused second_out_of_range result ↔ (59 < second) }
-        ensures reason { IfErr result (λ e. e ≡ second_out_of_range) }
+        ensures error { FailsWith second_out_of_range result ↔ (59 < second) }
+        ensures error_kind { IfErr result (λ e. e ≡ second_out_of_range) }
         ensures value { second ≤ 59 → result
             ≡ Ok (date_time (date_at self)
             (time_of (hour_of (time_at self)) (minute_of (time_at self)) second
@@ -167,8 +167,8 @@ impl PlainDateTime {
 
     /// Sets the fraction of the second in milliseconds. Returns the error `millisecond` above 999.
     pub fn replace_millisecond(self, millisecond: u16) -> Result<Self, ComponentRange>
-        ensures refused { IsRefused millisecond_out_of_range result ↔ (999 < millisecond) }
-        ensures reason { IfErr result (λ e. e ≡ millisecond_out_of_range) }
+        ensures error { FailsWith millisecond_out_of_range result ↔ (999 < millisecond) }
+        ensures error_kind { IfErr result (λ e. e ≡ millisecond_out_of_range) }
         ensures value { millisecond ≤ 999
             → result ≡ Ok (date_time (date_at self)
             (time_of (hour_of (time_at self)) (minute_of (time_at self)) (second_of (time_at self))
@@ -183,8 +183,8 @@ impl PlainDateTime {
     /// Sets the fraction of the second in microseconds. Returns the error `microsecond` above
     /// 999999.
     pub fn replace_microsecond(self, microsecond: u32) -> Result<Self, ComponentRange>
-        ensures refused { IsRefused microsecond_out_of_range result ↔ (999_999 < microsecond) }
-        ensures reason { IfErr result (λ e. e ≡ microsecond_out_of_range) }
+        ensures error { FailsWith microsecond_out_of_range result ↔ (999_999 < microsecond) }
+        ensures error_kind { IfErr result (λ e. e ≡ microsecond_out_of_range) }
         ensures value { microsecond ≤ 999_999
             → result ≡ Ok (date_time (date_at self)
             (time_of (hour_of (time_at self)) (minute_of (time_at self)) (second_of (time_at self))
@@ -199,8 +199,8 @@ impl PlainDateTime {
     /// Sets the fraction of the second in nanoseconds. Returns the error `nanosecond` above
     /// 999999999.
     pub fn replace_nanosecond(self, nanosecond: u32) -> Result<Self, ComponentRange>
-        ensures refused { IsRefused nanosecond_out_of_range result ↔ (999_999_999 < nanosecond) }
-        ensures reason { IfErr result (λ e. e ≡ nanosecond_out_of_range) }
+        ensures error { FailsWith nanosecond_out_of_range result ↔ (999_999_999 < nanosecond) }
+        ensures error_kind { IfErr result (λ e. e ≡ nanosecond_out_of_range) }
         ensures value { nanosecond ≤ 999_999_999
             → result ≡ Ok (date_time (date_at self)
             (time_of (hour_of (time_at self)) (minute_of (time_at self))

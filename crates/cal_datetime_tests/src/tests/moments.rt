@@ -6,7 +6,7 @@ use cal_datetime::laws::replacement::{
     own_month, own_nanosecond, own_ordinal, own_second, own_time, own_year,
 };
 use cal_datetime::laws::{
-    first, hash_of_instant, is_earlier, is_same_instant, last, order_of_instants, there_and_back,
+    first, hash_of_instant, is_earlier, is_same_instant, last, order_of_instants, round_trip,
 };
 use cal_time::{Date, Month, SignedDuration, Time, UtcOffset, extent};
 use std::cmp::Ordering;
@@ -50,7 +50,7 @@ fn one_instant_on_three_clocks(rt: HostRuntime) {
     same(&rt, hash_of_instant(night) == hash_of_instant(east), true);
     same(&rt, night.local() == east.local(), false);
     same(&rt, night - east, SignedDuration::ZERO);
-    same(&rt, there_and_back(night, hours(&rt, 2)).is_some(), true);
+    same(&rt, round_trip(night, hours(&rt, 2)).is_some(), true);
 }
 
 /// Of several date-times of one instant the first one is returned, whatever its offset.

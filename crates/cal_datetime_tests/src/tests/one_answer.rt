@@ -11,6 +11,6 @@ macro_rules! twice {
     };
 }
 
-mod making;
+mod constructors;
 mod moments;
 mod plain;

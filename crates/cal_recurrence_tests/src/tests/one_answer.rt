@@ -5,7 +5,7 @@
 //! fails.
 ghost use Rattle.std.specs.Prelude.{◌≡◌};
 
-use cal_recurrence::{Recurrence, RecurrenceText, RuleFault};
+use cal_recurrence::{Recurrence, RecurrenceText, ParseRuleError};
 use cal_schedule::{Rule, RuleDays};
 use cal_time::Date;
 
@@ -18,7 +18,7 @@ macro_rules! twice {
     };
 }
 
-fn parse(text: &[u8]) -> Twice<Result<Recurrence, RuleFault>>
+fn parse(text: &[u8]) -> Twice<Result<Recurrence, ParseRuleError>>
     ensures { result.0 ≡ result.1 }
 {
     twice!(cal_recurrence::parse(text))

@@ -4,10 +4,10 @@ ghost use Rattle.std.specs.Prelude.{◌≡◌, Ok};
 ghost use Rattle.cal_recurrence.specs.Spelled.{IsSpelled};
 ghost use Rattle.cal_recurrence.specs.Text.{recurrence_of};
 
-use cal_recurrence::{Recurrence, RuleFault, parse};
+use cal_recurrence::{Recurrence, ParseRuleError, parse};
 
 /// Formats and parses a recurrence that has a text.
-fn read_back(recurrence: &Recurrence) -> Result<Recurrence, RuleFault>
+fn read_back(recurrence: &Recurrence) -> Result<Recurrence, ParseRuleError>
     requires { IsSpelled recurrence.now }
     ensures { result ≡ Ok recurrence.now }
 {
@@ -15,7 +15,7 @@ fn read_back(recurrence: &Recurrence) -> Result<Recurrence, RuleFault>
 }
 
 /// Parses a text, formats the recurrence and parses it again.
-fn read_again(text: &[u8]) -> Result<Recurrence, RuleFault>
+fn read_again(text: &[u8]) -> Result<Recurrence, ParseRuleError>
     ensures { result ≡ recurrence_of text.now }
 {
     let recurrence = parse(text)?;

@@ -1,5 +1,5 @@
 //! Texts with errors, texts in any case and order, and the fields of recurrences.
-use cal_recurrence::{Recurrence, RuleEnd, RuleFault, RulePart, RuleReason, Values, parse};
+use cal_recurrence::{Recurrence, RuleEnd, ParseRuleError, RulePart, ParseRuleErrorKind, Values, parse};
 use cal_schedule::{ByDay, Frequency};
 use cal_time::{Date, Month, Weekday};
 use std::alloc::Global;
@@ -12,11 +12,11 @@ const TOO_MANY: &str =
     1,1,1,1,1,1,1,1,1,1,1,1,1,1,1,1,1,1,1,1,1,1,1,1,1,1,1,1,1,1,1,2;COUNT=1";
 
 /// Fails unless the text gives this error.
-fn refused(rt: &impl Abort, text: &str, position: usize, reason: RuleReason) {
+fn refused(rt: &impl Abort, text: &str, position: usize, reason: ParseRuleErrorKind) {
     match parse(text.as_bytes()) {
         Ok(_) => panic!(rt; "{text} is read"),
         Err(fault) => {
-            let wanted = RuleFault { position, reason };
+            let wanted = ParseRuleError { position, reason };
             assert!(rt; fault == wanted, "{fault:?} and not {wanted:?} in {text}");
         }
     }
@@ -25,60 +25,60 @@ fn refused(rt: &impl Abort, text: &str, position: usize, reason: RuleReason) {
 /// Fails unless each text gives an invalid value of the part after `FREQ=DAILY`.
 fn refused_value(rt: &impl Abort, part: RulePart, texts: &[&str]) {
     for text in texts {
-        refused(rt, text, 11, RuleReason::Value(part));
+        refused(rt, text, 11, ParseRuleErrorKind::Value(part));
     }
 }
 
 #[test]
 fn faults(rt: HostRuntime) {
     let rt = &rt;
-    refused(rt, "", 0, RuleReason::Unknown);
-    refused(rt, "=DAILY", 0, RuleReason::Unknown);
-    refused(rt, "FREQ =DAILY", 0, RuleReason::Unknown);
-    refused(rt, "FREQ=DAILY;", 11, RuleReason::Unknown);
+    refused(rt, "", 0, ParseRuleErrorKind::Unknown);
+    refused(rt, "=DAILY", 0, ParseRuleErrorKind::Unknown);
+    refused(rt, "FREQ =DAILY", 0, ParseRuleErrorKind::Unknown);
+    refused(rt, "FREQ=DAILY;", 11, ParseRuleErrorKind::Unknown);
     refused(
         rt,
         "FREQ=MONTHLY;BYSETPOS=-1;BYDAY=FR",
         13,
-        RuleReason::Unknown,
+        ParseRuleErrorKind::Unknown,
     );
-    refused(rt, "FREQ=YEARLY;BYWEEKNO=20", 12, RuleReason::Unknown);
+    refused(rt, "FREQ=YEARLY;BYWEEKNO=20", 12, ParseRuleErrorKind::Unknown);
     refused(
         rt,
         "FREQ=YEARLY;BYYEARDAY=1,100,200",
         12,
-        RuleReason::Unknown,
+        ParseRuleErrorKind::Unknown,
     );
-    refused(rt, "FREQ=DAILY;BYHOUR=9", 11, RuleReason::Unknown);
+    refused(rt, "FREQ=DAILY;BYHOUR=9", 11, ParseRuleErrorKind::Unknown);
     refused(
         rt,
         "FREQ=DAILY;FREQ=DAILY",
         11,
-        RuleReason::Twice(RulePart::Frequency),
+        ParseRuleErrorKind::Twice(RulePart::Frequency),
     );
     refused(
         rt,
         "FREQ=DAILY;byday=MO;BYDAY=TU",
         20,
-        RuleReason::Twice(RulePart::Weekdays),
+        ParseRuleErrorKind::Twice(RulePart::Weekdays),
     );
     refused(
         rt,
         "FREQ=DAILY;UNTIL=20241231;COUNT=3",
         26,
-        RuleReason::Twice(RulePart::Count),
+        ParseRuleErrorKind::Twice(RulePart::Count),
     );
     refused(
         rt,
         "COUNT=3;UNTIL=20241231;FREQ=DAILY",
         8,
-        RuleReason::Twice(RulePart::Until),
+        ParseRuleErrorKind::Twice(RulePart::Until),
     );
-    refused(rt, "BYDAY=MO", 8, RuleReason::Missing);
-    refused(rt, TOO_MANY, 11, RuleReason::TooMany(RulePart::MonthDays));
-    refused(rt, "FREQ", 0, RuleReason::Value(RulePart::Frequency));
-    refused(rt, "FREQ=HOURLY", 0, RuleReason::Value(RulePart::Frequency));
-    refused(rt, "FREQ=DAILY=", 0, RuleReason::Value(RulePart::Frequency));
+    refused(rt, "BYDAY=MO", 8, ParseRuleErrorKind::Missing);
+    refused(rt, TOO_MANY, 11, ParseRuleErrorKind::TooMany(RulePart::MonthDays));
+    refused(rt, "FREQ", 0, ParseRuleErrorKind::Value(RulePart::Frequency));
+    refused(rt, "FREQ=HOURLY", 0, ParseRuleErrorKind::Value(RulePart::Frequency));
+    refused(rt, "FREQ=DAILY=", 0, ParseRuleErrorKind::Value(RulePart::Frequency));
 }
 
 /// Fails unless the error of the text has these words.

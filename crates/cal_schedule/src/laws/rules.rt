@@ -1,10 +1,10 @@
 //! Laws of rules: periods and the numbers of weekdays agree with a count of the days.
 ghost use Rattle.std.specs.Prelude.{◌≡◌};
-ghost use Rattle.cal_schedule.specs.Rule.{is_nth_of, turn_at};
+ghost use Rattle.cal_schedule.specs.Rule.{is_nth_weekday, period_index};
 ghost use Rattle.cal_schedule.specs.RuleLaws.{NumbersByCount, RisesAtBeginning};
 
 use crate::Frequency;
-use crate::rule::{is_nth_of, turn_of};
+use crate::rule::{is_nth_in_period, period_of};
 use cal_time::{Date, Weekday};
 
 /// Returns the index of the day, week, month or year of a date, by which a rule counts its
@@ -14,18 +14,18 @@ use cal_time::{Date, Weekday};
 /// For example, from Sunday 2024-01-07 to Monday it rises if weeks begin on Monday, and stays if
 /// they begin on Sunday.
 pub fn period_index(frequency: Frequency, first: Weekday, date: Date) -> u32
-    ensures index { result ≡ turn_at frequency first date }
+    ensures value { result ≡ period_index frequency first date }
     ensures rises { RisesAtBeginning frequency first date }
 {
-    turn_of(frequency, first, date)
+    period_of(frequency, first, date)
 }
 
 /// Returns `true` if a date is the n-th of its weekday in its month or year, by the number of a
 /// rule. A positive n counts from the start, a negative one from the end: 31 May 2024 is the fifth
 /// Friday of its month, and by -1 the last.
 pub fn is_nth_weekday(of_year: bool, date: Date, n: i8) -> bool
-    ensures value { result ≡ is_nth_of of_year date n }
+    ensures value { result ≡ is_nth_weekday of_year date n }
     ensures counts { NumbersByCount date }
 {
-    is_nth_of(of_year, date, n)
+    is_nth_in_period(of_year, date, n)
 }

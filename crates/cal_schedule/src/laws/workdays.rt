@@ -10,7 +10,7 @@ pub fn stays(workdays: &Workdays<'_>, date: Date, convention: Convention) -> Opt
     requires { is_workday workdays.now date ≡ true }
     ensures { result ≡ Some date }
 {
-    workdays.adjusted(date, convention)
+    workdays.adjust(date, convention)
 }
 
 /// Counts the working days between three dates in any order. The number from the first to the third

@@ -3,7 +3,7 @@ ghost use Rattle.std.specs.Prelude.{◌≡◌, ◌<◌, length, slice_index, Som
 ghost use Rattle.cal_time.specs.Counted.{IsRising};
 ghost use Rattle.cal_time.specs.Date.{julian_day_at, IsDate};
 
-use crate::numbers::number;
+use crate::day_number::day_number;
 use cal_time::{Date, is_rising};
 use std::marker::Model;
 
@@ -45,8 +45,8 @@ impl<'a> Workdays<'a> {
     }
 
     /// Returns the number of holidays.
-    pub(super) fn holidays_len(&self) -> usize
-        ensures number { result ≡ length self.now.holidays }
+    pub(super) fn holiday_count(&self) -> usize
+        ensures value { result ≡ length self.now.holidays }
         ensures rising { IsRising julian_day_at self.now.holidays }
     {
         self.holidays.len()
@@ -55,10 +55,10 @@ impl<'a> Workdays<'a> {
     /// Returns the number of the holiday at an index.
     pub(super) fn holiday(&self, index: usize) -> u32
         requires { index < length self.now.holidays }
-        ensures number { result ≡ slice_index self.now.holidays index }
-        ensures in_range { IsDate result }
+        ensures value { result ≡ slice_index self.now.holidays index }
+        ensures range { IsDate result }
     {
         let holidays = self.holidays;
-        number(holidays[index])
+        day_number(holidays[index])
     }
 }

@@ -3,10 +3,10 @@ ghost use Rattle.std.specs.Prelude.{◌≡◌, ℕ, ◌+◌, ◌<◌, ◌≤◌,
 ghost use Rattle.cal_time.specs.Counted.{IsRising};
 ghost use Rattle.cal_time.specs.Date.{last_day, julian_day_at, IsDate};
 ghost use Rattle.cal_time.specs.IsoWeekDate.{count_before};
-ghost use Rattle.cal_schedule.specs.Workdays.{is_holiday, is_marked, is_workday, workdays_from, workdays_back, workdays_within};
-ghost use Rattle.cal_schedule.specs.WorkdaysSplit.{IsSplit, IsNthFrom, IsNthBack};
+ghost use Rattle.cal_schedule.specs.Workdays.{is_holiday, is_marked, is_workday, workdays_from, workdays_before, workdays_within};
+ghost use Rattle.cal_schedule.specs.WorkdaysSplit.{IsSplit, IsNthFrom, IsNthBefore};
 
-use crate::numbers::at_number;
+use crate::day_number::date_from_number;
 use crate::workdays::Workdays;
 use cal_time::Date;
 
@@ -16,7 +16,7 @@ impl Workdays<'_> {
         ensures split { IsSplit self.now.holidays result day }
         ensures rising { IsRising julian_day_at self.now.holidays }
     {
-        let (mut low, mut high) = (0, self.holidays_len());
+        let (mut low, mut high) = (0, self.holiday_count());
         while low < high {
             let middle = low + (high - low) / 2;
             if self.holiday(middle) < day {
@@ -33,14 +33,14 @@ impl Workdays<'_> {
         ensures { result ≡ is_holiday self.now day }
     {
         let index = self.holidays_before(day);
-        index < self.holidays_len() && self.holiday(index) == day
+        index < self.holiday_count() && self.holiday(index) == day
     }
 
     /// Counts the working days from one day on and before the other.
-    pub(super) fn count(&self, from: u32, to: u32) -> u32
+    pub(super) fn count_workdays(&self, from: u32, to: u32) -> u32
         requires { from ≤ to }
-        ensures number { result ≡ length (workdays_within self.now from to) }
-        ensures most { result ≤ to }
+        ensures value { result ≡ length (workdays_within self.now from to) }
+        ensures max { result ≤ to }
     {
         let (start, end) = (self.holidays_before(from), self.holidays_before(to));
         let mut held = 0;
@@ -53,13 +53,13 @@ impl Workdays<'_> {
     /// Returns the marked days before the working day after n others, counted from a day on: the
     /// marked days before this day, n more, and one for each marked holiday in between.
     fn marked_before_nth_from(&self, from: u32, n: u32) -> u64
-        ensures day { (x : ℕ) → is_marked self.now x ≡ true
+        ensures value { (x : ℕ) → is_marked self.now x ≡ true
             → count_before (is_marked self.now) x ≡ result → IsNthFrom self.now from n x }
-        ensures most { result ≤ from + n + last_day + 1 }
+        ensures max { result ≤ from + n + last_day + 1 }
     {
         let start = self.holidays_before(from);
         let mut before = u64::from(self.marked_before(from)) + u64::from(n);
-        for index in start..self.holidays_len() {
+        for index in start..self.holiday_count() {
             let holiday = self.holiday(index);
             if u64::from(self.marked_before(holiday)) > before {
                 return before;
@@ -73,10 +73,10 @@ impl Workdays<'_> {
     /// for each marked holiday in between. Returns `None` if there is no such day.
     fn marked_before_nth_back(&self, to: u32, n: u32) -> Option<u32>
         requires { to ≤ last_day + 1 }
-        ensures day { MatchOption result (count_before (is_workday self.now) to ≤ n)
+        ensures value { MatchOption result (count_before (is_workday self.now) to ≤ n)
             (λ before. (x : ℕ) → is_marked self.now x ≡ true
-            → count_before (is_marked self.now) x ≡ before → IsNthBack self.now to n x) }
-        ensures most { IfSome result (λ before. before < to) }
+            → count_before (is_marked self.now) x ≡ before → IsNthBefore self.now to n x) }
+        ensures max { IfSome result (λ before. before < to) }
     {
         let end = self.holidays_before(to);
         let marked = self.marked_before(to);
@@ -104,20 +104,20 @@ impl Workdays<'_> {
     /// Returns the working day at index n of those from a day on, or `None` past the range.
     pub(super) fn nth_from(&self, from: u32, n: u32) -> Option<Date>
         requires { from ≤ last_day + 1 }
-        ensures day { result ≡ slice_get (workdays_from self.now from) n }
+        ensures value { result ≡ slice_get (workdays_from self.now from) n }
         ensures found { IfSome result (λ day.
             (is_workday self.now day ≡ true) × (from ≤ day) × IsDate day) }
     {
         if self.marked_in_week(7) == 0 {
             return None;
         }
-        at_number(self.nth_marked(self.marked_before_nth_from(from, n)))
+        date_from_number(self.nth_marked(self.marked_before_nth_from(from, n)))
     }
 
     /// Returns the working day at index n of those before a day, from the nearest back, or `None`.
     pub(super) fn nth_before(&self, to: u32, n: u32) -> Option<Date>
         requires { to ≤ last_day + 1 }
-        ensures day { result ≡ slice_get (workdays_back self.now to) n }
+        ensures value { result ≡ slice_get (workdays_before self.now to) n }
         ensures found { IfSome result (λ day.
             (is_workday self.now day ≡ true) × (day < to) × IsDate day) }
     {
@@ -125,7 +125,7 @@ impl Workdays<'_> {
             return None;
         }
         match self.marked_before_nth_back(to, n) {
-            Some(before) => at_number(self.nth_marked(u64::from(before))),
+            Some(before) => date_from_number(self.nth_marked(u64::from(before))),
             None => None,
         }
     }

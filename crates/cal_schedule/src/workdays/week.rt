@@ -16,8 +16,8 @@ impl Workdays<'_> {
     /// Returns the number of marks before an index of the week.
     pub(super) fn marked_in_week(&self, index: u32) -> u32
         requires { index ≤ 7 }
-        ensures number { result ≡ count_before (is_marked self.now) index }
-        ensures most { result ≤ index }
+        ensures value { result ≡ count_before (is_marked self.now) index }
+        ensures max { result ≤ index }
     {
         let mut marked = 0;
         for day in 0..index {
@@ -28,8 +28,8 @@ impl Workdays<'_> {
 
     /// Returns the number of marked days before a day.
     pub(super) fn marked_before(&self, day: u32) -> u32
-        ensures number { result ≡ count_before (is_marked self.now) day }
-        ensures most { result ≤ day }
+        ensures value { result ≡ count_before (is_marked self.now) day }
+        ensures max { result ≤ day }
     {
         day / 7 * self.marked_in_week(7) + self.marked_in_week(day % 7)
     }
@@ -37,9 +37,9 @@ impl Workdays<'_> {
     /// Returns the index of the marked weekday with n marks before it.
     fn nth_index(&self, n: u32) -> u32
         requires { n < count_before (is_marked self.now) 7 }
-        ensures index { result < 7 }
+        ensures range { result < 7 }
         ensures marked { is_marked self.now result ≡ true }
-        ensures number { count_before (is_marked self.now) result ≡ n }
+        ensures value { count_before (is_marked self.now) result ≡ n }
     {
         let mut left = n;
         for day in 0..7 {
@@ -58,7 +58,7 @@ impl Workdays<'_> {
         requires some { 0 < count_before (is_marked self.now) 7 }
         requires fits { n < 2 ^ 60 }
         ensures marked { is_marked self.now result ≡ true }
-        ensures number { count_before (is_marked self.now) result ≡ n }
+        ensures value { count_before (is_marked self.now) result ≡ n }
     {
         let in_week = u64::from(self.marked_in_week(7));
         n / in_week * 7 + u64::from(self.nth_index((n % in_week) as u32))

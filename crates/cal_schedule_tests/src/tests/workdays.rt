@@ -127,7 +127,7 @@ fn conventions(rt: HostRuntime) {
         ((2024, 12, 24), Convention::Following, (2024, 12, 24)),
     ];
     for (from, convention, to) in rows {
-        let moved = workdays.adjusted(date(&rt, from), convention);
+        let moved = workdays.adjust(date(&rt, from), convention);
         same(&rt, moved, Some(date(&rt, to)));
     }
 }
@@ -233,20 +233,20 @@ fn ends(rt: HostRuntime) {
     let closed = workdays(&rt, OFFICE, &last);
     let thursday = Some(date(&rt, (999_999, 12, 30)));
     same(&rt, closed.is_workday(Date::MAX), false);
-    same(&rt, closed.adjusted(Date::MAX, Convention::Following), None);
+    same(&rt, closed.adjust(Date::MAX, Convention::Following), None);
     same(
         &rt,
-        closed.adjusted(Date::MAX, Convention::ModifiedFollowing),
+        closed.adjust(Date::MAX, Convention::ModifiedFollowing),
         thursday,
     );
     let first = [Date::MIN];
     let late = workdays(&rt, OFFICE, &first);
     let tuesday = Some(date(&rt, (-999_999, 1, 2)));
     same(&rt, late.is_workday(Date::MIN), false);
-    same(&rt, late.adjusted(Date::MIN, Convention::Preceding), None);
+    same(&rt, late.adjust(Date::MIN, Convention::Preceding), None);
     same(
         &rt,
-        late.adjusted(Date::MIN, Convention::ModifiedPreceding),
+        late.adjust(Date::MIN, Convention::ModifiedPreceding),
         tuesday,
     );
 }

@@ -2,7 +2,7 @@
 
 ghost use Rattle.std.specs.Prelude.{◌≡◌, ◌+◌, ◌*◌, ◌<◌, ◌≤◌, pos, neg_ℤ, ◌+ℤ◌, ◌-ℤ◌, ◌*ℤ◌, ◌≤ℤ◌, ◌<ℤ◌, unsigned_abs, FitsSigned, SomeIff};
 ghost use Rattle.std.specs.Int.{w64};
-ghost use Rattle.cal_span.specs.SignedDuration.{second, IsDuration, IsWithin, HasQuotient, HasSum, clamp, cut, past_second, sum_of, with_sign};
+ghost use Rattle.cal_span.specs.SignedDuration.{second, IsDuration, IsMagnitudeWithin, HasQuotient, HasSum, clamp, cut, subsec_nanoseconds, sum_of, with_sign};
 ghost use Rattle.cal_span.specs.Fields.{CanCarry, IsCarry};
 
 use crate::signed_duration::{NANOSECONDS_PER_SECOND, SignedDuration};
@@ -47,7 +47,7 @@ impl SignedDuration {
         ensures { SomeIff result (IsDuration (seconds *ℤ pos second +ℤ nanoseconds))
             (seconds *ℤ pos second +ℤ nanoseconds) }
     {
-        let carry = carry_of(seconds, nanoseconds);
+        let carry = carry_from_nanoseconds(seconds, nanoseconds);
         Some(Self {
             seconds: seconds.checked_add(i64::from(carry))?,
             nanoseconds: nanoseconds - carry * NANOSECONDS_PER_SECOND,
@@ -65,21 +65,21 @@ impl SignedDuration {
     /// Computes `self * factor`. Returns `None` if the product is out of range. The magnitude of
     /// the factor fits in a `u32`.
     pub(super) fn checked_product(self, factor: i64) -> Option<Self>
-        requires { IsWithin GREATEST_OPERAND factor }
+        requires { IsMagnitudeWithin GREATEST_OPERAND factor }
         ensures { SomeIff result (IsDuration (self *ℤ factor)) (self *ℤ factor) }
     {
-        let past = self.past_second_times(factor);
+        let past = self.subsec_nanoseconds_times(factor);
         Some(Self {
-            seconds: checked_times(self.seconds, factor, past.seconds)?,
+            seconds: checked_mul_add(self.seconds, factor, past.seconds)?,
             nanoseconds: past.nanoseconds,
         })
     }
 
     /// Computes the nanoseconds past the whole seconds, times `factor`, whose magnitude fits in a
     /// `u32`.
-    fn past_second_times(self, factor: i64) -> Self
-        requires { IsWithin GREATEST_OPERAND factor }
-        ensures { result ≡ past_second self *ℤ factor }
+    fn subsec_nanoseconds_times(self, factor: i64) -> Self
+        requires { IsMagnitudeWithin GREATEST_OPERAND factor }
+        ensures { result ≡ subsec_nanoseconds self *ℤ factor }
     {
         Self::nanoseconds(i64::from(self.subsec_nanoseconds()) * factor)
     }
@@ -95,7 +95,7 @@ impl SignedDuration {
     /// Computes `self / divisor`, truncated toward zero. Returns `None` if `divisor` is zero or the
     /// quotient is out of range. The magnitude of the divisor fits in a `u32`.
     pub(super) fn checked_quotient(self, divisor: i64) -> Option<Self>
-        requires { IsWithin GREATEST_OPERAND divisor }
+        requires { IsMagnitudeWithin GREATEST_OPERAND divisor }
         ensures { SomeIff result (HasQuotient self divisor) (cut self divisor) }
     {
         if divisor == 0 {
@@ -105,11 +105,11 @@ impl SignedDuration {
         let (seconds, nanoseconds) = self.unsigned_abs();
         let rest = seconds % size * NANOSECONDS_PER_SECOND as u64 + u64::from(nanoseconds);
         let is_negative = self.is_negative() != (divisor < 0);
-        Self::checked_of_magnitude(is_negative, seconds / size, (rest / size) as u32)
+        Self::checked_from_magnitude(is_negative, seconds / size, (rest / size) as u32)
     }
 
     /// Creates a duration from a sign and a magnitude. Returns `None` if it is out of range.
-    fn checked_of_magnitude(is_negative: bool, seconds: u64, nanoseconds: u32) -> Option<Self>
+    fn checked_from_magnitude(is_negative: bool, seconds: u64, nanoseconds: u32) -> Option<Self>
         requires { nanoseconds < second }
         ensures { SomeIff result (IsDuration
             (with_sign is_negative (seconds * second + nanoseconds))) (with_sign is_negative
@@ -197,7 +197,7 @@ impl SignedDuration {
 ///
 /// Two comparisons replace a branch, because a branch on a random sign is mispredicted half of the
 /// time.
-fn carry_of(seconds: i64, nanoseconds: i32) -> i32
+fn carry_from_nanoseconds(seconds: i64, nanoseconds: i32) -> i32
     requires { CanCarry seconds nanoseconds }
     ensures { IsCarry seconds nanoseconds result }
 {
@@ -210,7 +210,7 @@ fn carry_of(seconds: i64, nanoseconds: i32) -> i32
 ///
 /// For two factors of 32 bits nothing can overflow, and testing for this is cheaper than the
 /// checked operations.
-fn checked_times(seconds: i64, factor: i64, carry: i64) -> Option<i64>
+fn checked_mul_add(seconds: i64, factor: i64, carry: i64) -> Option<i64>
     requires small { unsigned_abs carry ≤ unsigned_abs factor }
     requires positive { pos 0 <ℤ (seconds *ℤ factor) → pos 0 ≤ℤ carry }
     requires negative { (seconds *ℤ factor) <ℤ pos 0 → carry ≤ℤ pos 0 }

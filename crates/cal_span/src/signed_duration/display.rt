@@ -2,7 +2,7 @@
 
 ghost use Rattle.std.specs.Prelude.{◌≡◌, ◌+◌, ◌*◌, ◌<◌, ◌≤◌, ◌++◌, Some, length};
 ghost use Rattle.cal_units.specs.ShortText.{HasRoom};
-ghost use Rattle.cal_span.specs.SignedDuration.{second, part, parts_text, text};
+ghost use Rattle.cal_span.specs.SignedDuration.{second, part_text, parts_text, text};
 
 use crate::signed_duration::{
     NANOSECONDS_PER_MICROSECOND, NANOSECONDS_PER_MILLISECOND, SECONDS_PER_DAY, SECONDS_PER_HOUR,
@@ -19,8 +19,8 @@ impl SignedDuration {
     /// are omitted; zero is `0s`. It has at most 42 bytes, all ASCII except the `µ` of
     /// microseconds.
     pub fn text(self) -> ShortText
-        ensures text { result ≡ text self }
-        ensures short { length result ≤ 42 }
+        ensures value { result ≡ text self }
+        ensures max_length { length result ≤ 42 }
     {
         let mut text = ShortText::new();
         if self.is_zero() {
@@ -42,8 +42,8 @@ fn push_parts(text: &mut ShortText, seconds: u64, nanoseconds: u32)
     requires room { HasRoom 41 text.old }
     requires fits { seconds < 9_223_372_036_854_775_809 }
     requires below_second { nanoseconds < 1_000_000_000 }
-    ensures text { text.new ≡ text.old ++ parts_text (seconds * second + nanoseconds) }
-    ensures short { length text.new ≤ length text.old + 41 }
+    ensures appended { text.new ≡ text.old ++ parts_text (seconds * second + nanoseconds) }
+    ensures max_length { length text.new ≤ length text.old + 41 }
 {
     let past_day = seconds % SECONDS_PER_DAY as u64;
     push_part(text, seconds / SECONDS_PER_DAY as u64, "d");
@@ -62,9 +62,9 @@ fn push_parts(text: &mut ShortText, seconds: u64, nanoseconds: u32)
 
 /// Appends a number and its unit, or nothing if the number is zero.
 fn push_part(text: &mut ShortText, number: u64, unit: &str)
-    requires { HasRoom (length (part number unit.now)) text.old }
-    ensures text { text.new ≡ text.old ++ part number unit.now }
-    ensures longer { length text.new ≡ length text.old + length (part number unit.now) }
+    requires { HasRoom (length (part_text number unit.now)) text.old }
+    ensures appended { text.new ≡ text.old ++ part_text number unit.now }
+    ensures length { length text.new ≡ length text.old + length (part_text number unit.now) }
 {
     if number == 0 {
         return;

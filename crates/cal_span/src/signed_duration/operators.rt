@@ -1,7 +1,7 @@
 //! The operators. The exact result must be a duration, and the divisor must not be zero.
 
 ghost use Rattle.std.specs.Prelude.{◌≡◌, pos, neg_ℤ, ◌+ℤ◌, ◌-ℤ◌, ◌*ℤ◌};
-ghost use Rattle.cal_span.specs.SignedDuration.{IsDuration, IsWithin, HasQuotient, cut};
+ghost use Rattle.cal_span.specs.SignedDuration.{IsDuration, IsMagnitudeWithin, HasQuotient, cut};
 
 use crate::SignedDuration;
 use crate::signed_duration::arithmetic::GREATEST_OPERAND;
@@ -10,7 +10,7 @@ use std::ops::{Add, AddAssign, Div, DivAssign, Mul, MulAssign, Neg, Sub, SubAssi
 impl SignedDuration {
     /// Computes `self * factor`. The magnitude of the factor fits in a `u32`.
     fn product(self, factor: i64) -> Self
-        requires small { IsWithin GREATEST_OPERAND factor }
+        requires small { IsMagnitudeWithin GREATEST_OPERAND factor }
         requires exact { IsDuration (self *ℤ factor) }
         ensures { result ≡ self *ℤ factor }
     {
@@ -20,7 +20,7 @@ impl SignedDuration {
     /// Computes `self / divisor`, truncated toward zero. The magnitude of the divisor fits in a
     /// `u32`.
     fn quotient(self, divisor: i64) -> Self
-        requires small { IsWithin GREATEST_OPERAND divisor }
+        requires small { IsMagnitudeWithin GREATEST_OPERAND divisor }
         requires exact { HasQuotient self divisor }
         ensures { result ≡ cut self divisor }
     {

@@ -72,11 +72,11 @@ impl Counted for SignedDuration {
 
     ghost number_of = { λ duration. duration };
 
-    ghost ordered = { λ x y. refl };
+    ghost cmp_by_number = { λ x y. refl };
 
-    ghost alike = { λ x y. Prim.search rules };
+    ghost eq_by_number = { λ x y. Prim.search rules };
 
-    ghost hashed = { λ x y e. ap hash_input_of e };
+    ghost hash_by_number = { λ x y e. ap hash_input_of e };
 
     /// Returns the number of nanoseconds. For 1 s it is 1000000000.
     fn number(self) -> i128 {

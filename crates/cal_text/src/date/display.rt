@@ -22,8 +22,8 @@ pub struct WeekText(pub Date);
 impl CalendarText {
     /// Returns the text, at most 13 bytes.
     pub fn text(self) -> ShortText
-        ensures text { result ≡ text self.0 }
-        ensures short { length result ≤ 13 }
+        ensures value { result ≡ text self.0 }
+        ensures max_length { length result ≤ 13 }
     {
         self.0.text()
     }
@@ -33,8 +33,8 @@ impl OrdinalText {
     /// Returns the text, at most 11 bytes.
     #[tactic(auto, using(cal_time::proofs::TextLengths::text_lengths))]
     pub fn text(self) -> ShortText
-        ensures text { result ≡ ordinal_text self.0 }
-        ensures short { length result ≤ 11 }
+        ensures value { result ≡ ordinal_text self.0 }
+        ensures max_length { length result ≤ 11 }
     {
         let (year, ordinal) = self.0.to_ordinal_date();
         let mut text = ShortText::new();
@@ -49,8 +49,8 @@ impl WeekText {
     /// Returns the text, at most 13 bytes.
     #[tactic(auto, using(crate::proofs::NumberTexts::week_digits, cal_time::proofs::TextLengths::text_lengths))]
     pub fn text(self) -> ShortText
-        ensures text { result ≡ week_text self.0 }
-        ensures short { length result ≤ 13 }
+        ensures value { result ≡ week_text self.0 }
+        ensures max_length { length result ≤ 13 }
     {
         let (year, week, weekday) = self.0.to_iso_week_date();
         let mut text = ShortText::new();

@@ -5,22 +5,22 @@ ghost use Rattle.cal_text.specs.declared.rfc3339.numbers.TimeOffset.{TimeOffset}
 ghost use Rattle.cal_text.specs.Rfc3339Form.{IsSeparator, IsTimeOffset, HasFractionBefore, HasMomentForm};
 ghost use Rattle.cal_text.specs.Shape.{Scans, ScansWhole, ScansLarge, Separator, Fraction, time_offset, moment};
 
-use crate::fraction::fraction;
+use crate::fraction::scan_fraction;
 use crate::rfc3339::numbers::{Numbers, TimeOffset};
 use crate::scanner::Scanner;
 
 /// Parses the numbers of a moment up to the end of the text.
 #[inline(always)]
-pub(super) fn numbers_of(scanner: &mut Scanner) -> Option<Numbers>
+pub(super) fn scan_numbers(scanner: &mut Scanner) -> Option<Numbers>
     ensures scans { ScansLarge moment scanner.old.rest.now scanner.new.rest.now result }
-    ensures has { IfSome result (HasMomentForm scanner.old.rest.now) }
+    ensures value { IfSome result (HasMomentForm scanner.old.rest.now) }
 {
     let year = scanner.four_digits()?;
     let (month, day) = scanner.two_numbers(b'-')?;
-    separator(scanner)?;
+    scan_separator(scanner)?;
     let hour = scanner.two_digits()?;
     let (minute, second) = scanner.two_numbers(b':')?;
-    let (nanosecond, offset) = fraction_and_offset(scanner)?;
+    let (nanosecond, offset) = scan_fraction_and_offset(scanner)?;
     Some(Numbers {
         year: year as u16,
         month,
@@ -35,9 +35,9 @@ pub(super) fn numbers_of(scanner: &mut Scanner) -> Option<Numbers>
 
 /// Parses the byte between the date and the time.
 #[inline(always)]
-fn separator(scanner: &mut Scanner) -> Option<()>
+fn scan_separator(scanner: &mut Scanner) -> Option<()>
     ensures scans { Scans Separator scanner.old.rest.now scanner.new.rest.now result }
-    ensures byte { IfSome result (λ _.
+    ensures value { IfSome result (λ _.
         (b : ℕ) × IsSeparator b × (scanner.old.rest.now ≡ b ∷ scanner.new.rest.now)) }
 {
     match scanner.byte(b'T') {
@@ -60,24 +60,24 @@ pub(crate) fn is_separator(byte: u8) -> bool
 
 /// Parses the fraction of a second, of any length, and the offset.
 #[inline(always)]
-fn fraction_and_offset(scanner: &mut Scanner) -> Option<(u32, TimeOffset)>
+fn scan_fraction_and_offset(scanner: &mut Scanner) -> Option<(u32, TimeOffset)>
     ensures scans { ScansLarge (λ more. Fraction more time_offset) scanner.old.rest.now
         scanner.new.rest.now result }
-    ensures has { IfSome result (λ found.
+    ensures value { IfSome result (λ found.
         (offset : List ℕ) × HasFractionBefore offset
         (length scanner.old.rest.now) scanner.old.rest.now found.0 × IsTimeOffset offset found.1) }
 {
     let most = scanner.rest.len();
-    let nanosecond = fraction(scanner, most)?;
-    let offset = time_offset(scanner)?;
+    let nanosecond = scan_fraction(scanner, most)?;
+    let offset = scan_time_offset(scanner)?;
     Some((nanosecond, offset))
 }
 
 /// Parses an offset up to the end of the text.
 #[inline(always)]
-fn time_offset(scanner: &mut Scanner) -> Option<TimeOffset>
+fn scan_time_offset(scanner: &mut Scanner) -> Option<TimeOffset>
     ensures scans { ScansWhole time_offset scanner.old.rest.now scanner.new.rest.now result }
-    ensures has { IfSome result (IsTimeOffset scanner.old.rest.now) }
+    ensures value { IfSome result (IsTimeOffset scanner.old.rest.now) }
 {
     match scanner.byte(b'Z') {
         Some(()) => {

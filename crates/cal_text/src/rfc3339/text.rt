@@ -5,7 +5,7 @@ ghost use Rattle.cal_time.specs.DateText.{digits_at_least};
 ghost use Rattle.cal_time.specs.Time.{hour_of, minute_of, second_of};
 ghost use Rattle.cal_time.specs.ShortText.{HasRoom};
 ghost use Rattle.cal_datetime.specs.DateTime.{date_at, time_at};
-ghost use Rattle.cal_text.specs.Rfc3339.{HasMomentText, offset_text, parts_text};
+ghost use Rattle.cal_text.specs.Rfc3339.{HasMomentText, offset_text, rfc3339_text};
 ghost use Rattle.cal_text.specs.Rfc3339Form.{IsMomentText};
 
 use crate::fraction::push_fraction;
@@ -27,7 +27,7 @@ impl Text {
     /// Creates the text of a moment. Returns `None` if RFC 3339 has no text for it: for a year
     /// outside 0 to 9999, or an offset of 24 hours or more or with seconds, such as `+05:30:15`.
     pub fn new(moment: OffsetDateTime) -> Option<Self>
-        ensures parts { SomeIff result (HasMomentText moment)
+        ensures value { SomeIff result (HasMomentText moment)
             (record {
               date = date_at moment.local;
               time = time_at moment.local;
@@ -36,7 +36,7 @@ impl Text {
 
         // The text parses as this moment.
         ensures text { IfSome result (λ text.
-            IsMomentText (parts_text text.date text.time text.offset) moment) }
+            IsMomentText (rfc3339_text text.date text.time text.offset) moment) }
     {
         let date = moment.date();
         let time = moment.time();
@@ -51,12 +51,12 @@ impl Text {
 
     /// Returns the text, at most 38 bytes.
     pub fn text(self) -> ShortText
-        ensures text { result ≡ parts_text self.date self.time self.offset }
-        ensures short { length result ≤ 38 }
+        ensures value { result ≡ rfc3339_text self.date self.time self.offset }
+        ensures max_length { length result ≤ 38 }
     {
         let mut text = self.date.text();
         text.push("T");
-        push_clock(&mut text, self.time);
+        push_time(&mut text, self.time);
         push_fraction(&mut text, self.time.nanosecond());
         push_offset(&mut text, self.offset);
         text
@@ -64,12 +64,12 @@ impl Text {
 }
 
 /// Appends the hour, the minute and the second.
-fn push_clock(text: &mut ShortText, time: Time)
+fn push_time(text: &mut ShortText, time: Time)
     requires { HasRoom 8 text.old }
-    ensures text { text.new ≡ text.old ++ digits_at_least 2 (hour_of time) ++ codes ":"
+    ensures appended { text.new ≡ text.old ++ digits_at_least 2 (hour_of time) ++ codes ":"
         ++ digits_at_least 2 (minute_of time)
         ++ codes ":" ++ digits_at_least 2 (second_of time) }
-    ensures longer { length text.new ≡ length text.old + 8 }
+    ensures length { length text.new ≡ length text.old + 8 }
 {
     text.push_two_digits(u32::from(time.hour()));
     text.push(":");
@@ -81,8 +81,8 @@ fn push_clock(text: &mut ShortText, time: Time)
 /// Appends the offset from UTC.
 fn push_offset(text: &mut ShortText, offset: UtcOffset)
     requires { HasRoom 6 text.old }
-    ensures text { text.new ≡ text.old ++ offset_text offset }
-    ensures short { length text.new ≤ length text.old + 6 }
+    ensures appended { text.new ≡ text.old ++ offset_text offset }
+    ensures max_length { length text.new ≤ length text.old + 6 }
 {
     if offset.is_utc() {
         text.push("Z");
@@ -96,9 +96,9 @@ fn push_offset(text: &mut ShortText, offset: UtcOffset)
 }
 
 impl fmt::Display for Text {
-    ghost output = { λ t. Some (parts_text t.date t.time t.offset) };
+    ghost output = { λ t. Some (rfc3339_text t.date t.time t.offset) };
 
-    ghost styled_output = { λ t spec. Some (padded spec (parts_text t.date t.time t.offset)) };
+    ghost styled_output = { λ t spec. Some (padded spec (rfc3339_text t.date t.time t.offset)) };
 
     fn fmt<W: fmt::Write>(&self, f: &mut fmt::Formatter<W>) -> fmt::Result {
         f.pad(self.text().as_str())

@@ -37,8 +37,8 @@ impl Text {
     /// Returns the text, at most 32 bytes.
     #[tactic(auto, using(crate::proofs::NumberTexts::few_digits))]
     pub fn text(self) -> ShortText
-        ensures text { result ≡ unix_text self.since_epoch }
-        ensures short { length result ≤ 32 }
+        ensures value { result ≡ unix_text self.since_epoch }
+        ensures max_length { length result ≤ 32 }
     {
         let (seconds, nanosecond) = self.since_epoch.unsigned_abs();
         let mut text = ShortText::new();

@@ -1,8 +1,8 @@
 //! Texts read in whichever form they come.
 use crate::tests::{out_of_range, reads};
 use cal_datetime::OffsetDateTime;
-use cal_text::Unreadable::{UnexpectedByte, UnexpectedEnd};
-use cal_text::{DateForm, DateOrMoment, MomentForm, read_any};
+use cal_text::ParseError::{UnexpectedByte, UnexpectedEnd};
+use cal_text::{DateForm, DateOrMoment, MomentForm, parse_any};
 use cal_time::{Date, Month, Time, UtcOffset};
 use std::test::Fail;
 
@@ -42,7 +42,7 @@ fn texts_in_any_form(rt: HostRuntime) -> Result<(), Fail> {
             DateOrMoment::Date(DateForm::Ordinal, Date::MIN),
         ),
     ] {
-        reads(&rt, text, &read_any(text.as_bytes()), &Ok(found));
+        reads(&rt, text, &parse_any(text.as_bytes()), &Ok(found));
     }
     Ok(())
 }
@@ -59,7 +59,7 @@ fn components_of_texts_in_any_form(rt: HostRuntime) {
         ("1990-12-31T23:59:60Z", "second", false),
         ("@-31619087596801", "timestamp", false),
     ] {
-        out_of_range(&rt, text, &read_any(text.as_bytes()), name, is_conditional);
+        out_of_range(&rt, text, &parse_any(text.as_bytes()), name, is_conditional);
     }
 }
 
@@ -81,6 +81,6 @@ fn texts_of_none_of_the_forms(rt: HostRuntime) {
         ("+999999-02T", UnexpectedByte(10)),
         ("+999999-0 T", UnexpectedByte(9)),
     ] {
-        reads(&rt, text, &read_any(text.as_bytes()), &Err(error));
+        reads(&rt, text, &parse_any(text.as_bytes()), &Err(error));
     }
 }

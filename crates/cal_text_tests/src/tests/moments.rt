@@ -1,8 +1,8 @@
 //! Moments of RFC 3339, read and printed.
 use crate::tests::{out_of_range, parts_of, reads, same};
 use cal_datetime::OffsetDateTime;
-use cal_text::Unreadable;
-use cal_text::Unreadable::{UnexpectedByte, UnexpectedEnd};
+use cal_text::ParseError;
+use cal_text::ParseError::{UnexpectedByte, UnexpectedEnd};
 use cal_text::rfc3339::{self, Text};
 use cal_time::{Date, Month, Time, UtcOffset};
 use std::process::Abort;
@@ -29,8 +29,8 @@ fn moment(rt: &impl Abort, numbers: Numbers) -> (Date, Time, UtcOffset) {
 }
 
 /// The three parts of a text.
-fn read(text: &[u8]) -> Result<(Date, Time, UtcOffset), Unreadable> {
-    parts_of(rfc3339::read(text))
+fn read(text: &[u8]) -> Result<(Date, Time, UtcOffset), ParseError> {
+    parts_of(rfc3339::parse(text))
 }
 
 /// The text of the moment that has the three parts.

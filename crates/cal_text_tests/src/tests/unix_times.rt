@@ -1,7 +1,7 @@
 //! Unix times, read and printed.
 use crate::tests::{out_of_range, parts_of, reads, same};
 use cal_datetime::OffsetDateTime;
-use cal_text::Unreadable::{UnexpectedByte, UnexpectedEnd};
+use cal_text::ParseError::{UnexpectedByte, UnexpectedEnd};
 use cal_text::unix;
 use cal_time::{Date, Month, Time, UtcOffset};
 use std::test::Fail;
@@ -43,7 +43,7 @@ fn unix_times(rt: HostRuntime) -> Result<(), Fail> {
         };
         let printed = unix::Text::new(OffsetDateTime::new_in_offset(date, time, offset));
         same(&rt, format!(in rt.alloc(); "{printed}")?.as_str(), text);
-        let Ok(moment) = unix::read(text.as_bytes()) else {
+        let Ok(moment) = unix::parse(text.as_bytes()) else {
             return Err(Fail::from("a moment"));
         };
         let Some(shown) = moment.checked_to_offset(offset) else {
@@ -76,7 +76,7 @@ fn unix_times_read(rt: HostRuntime) -> Result<(), Fail> {
         reads(
             &rt,
             text,
-            &parts_of(unix::read(text.as_bytes())),
+            &parts_of(unix::parse(text.as_bytes())),
             &parts_of(Ok(moment)),
         );
     }
@@ -86,7 +86,7 @@ fn unix_times_read(rt: HostRuntime) -> Result<(), Fail> {
         "@-31619087600400",
         "@999999999999999999",
     ] {
-        out_of_range(&rt, text, &unix::read(text.as_bytes()), "timestamp", false);
+        out_of_range(&rt, text, &unix::parse(text.as_bytes()), "timestamp", false);
     }
     Ok(())
 }
@@ -115,7 +115,7 @@ fn texts_of_no_unix_time(rt: HostRuntime) {
         ("@1709164800 ", UnexpectedByte(11)),
         ("@1000000000000000000", UnexpectedByte(19)),
     ] {
-        reads(&rt, text, &unix::read(text.as_bytes()), &Err(error));
+        reads(&rt, text, &unix::parse(text.as_bytes()), &Err(error));
     }
 }
 

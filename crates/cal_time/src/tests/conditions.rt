@@ -107,16 +107,16 @@ pub(super) fn scaled_by_u32(a: SignedDuration, b: SignedDuration, k: u32) -> [Si
     scaled!(a, b, k)
 }
 
-fn push_signed(text: &mut ShortText, number: i32)
+fn push_i32(text: &mut ShortText, number: i32)
     requires { HasRoom (length (signed_decimal number)) text.old }
 {
-    text.push_signed(number);
+    text.push_i32(number);
 }
 
-fn push_signed_wide(text: &mut ShortText, number: i128)
+fn push_i128(text: &mut ShortText, number: i128)
     requires { HasRoom (length (signed_decimal number)) text.old }
 {
-    text.push_signed_wide(number);
+    text.push_i128(number);
 }
 
 fn push_year(text: &mut ShortText, year: i32)
@@ -150,8 +150,8 @@ fn new_texts(
         ShortText::new(),
         ShortText::new(),
     );
-    push_signed(&mut texts.0, number);
-    push_signed_wide(&mut texts.1, wide);
+    push_i32(&mut texts.0, number);
+    push_i128(&mut texts.1, wide);
     push_year(&mut texts.2, year);
     push_decimals(&mut texts.3, nanoseconds);
     texts

@@ -12,11 +12,11 @@ impl Counted for Floor {
 
     ghost number_of = { λ floor. floor.0 };
 
-    ghost ordered = { λ x y. Prim.search rules };
+    ghost cmp_by_number = { λ x y. Prim.search rules };
 
-    ghost alike = { λ x y. Prim.search rules };
+    ghost eq_by_number = { λ x y. Prim.search rules };
 
-    ghost hashed = { λ x y e. Prim.search rules };
+    ghost hash_by_number = { λ x y e. Prim.search rules };
 
     fn number(self) -> i128 {
         self.0 as i128

@@ -15,7 +15,7 @@ mod cycles;
 mod dates;
 mod durations;
 mod months;
-mod moves;
+mod arithmetic;
 mod offsets;
 mod times;
 mod walks;

@@ -2,7 +2,7 @@
 ghost use Rattle.std.specs.Prelude.{◌≡◌, true, false, Some, IfSome, IsSomeAnd};
 ghost use Rattle.std.specs.Iterator.{UpTo, endless};
 ghost use Rattle.std.specs.Iterator.SizeHint.{IsWithinCount};
-ghost use Rattle.cal_units.specs.Walk.{IsBack, Asked};
+ghost use Rattle.cal_units.specs.CycleSteps.{IsBehind, ShortCircuits};
 
 use crate::cycle::Cycle;
 use crate::iter::forward::CycleIter;
@@ -50,7 +50,7 @@ impl<C: Cycle> Rev<CycleIter<C>> {
     /// June, `nth(2)` is April, and then `next()` is March.
     pub fn nth(&mut self, n: usize) -> Option<C>
         ensures { IsSomeAnd result (λ x.
-            IsBack C.Cycle n self.old x × IsBack C.Cycle 1 x self.new) }
+            IsBehind C.Cycle n self.old x × IsBehind C.Cycle 1 x self.new) }
     {
         let value = nth_back_in(self.forward.next, n);
         self.forward.next = nth_back_in(value, 1);
@@ -65,8 +65,8 @@ impl<C: Cycle> Rev<CycleIter<C>> {
     /// `false`.
     pub fn all_once<F: FnMut(C) -> bool>(&mut self, f: F) -> bool
         requires { F.IsAlwaysCallable f }
-        ensures asked { Asked C.Cycle F.step true 0 f result }
-        ensures unmoved { self.new ≡ self.old }
+        ensures value { ShortCircuits C.Cycle F.step true 0 f result }
+        ensures unchanged { self.new ≡ self.old }
     {
         all_in(f)
     }
@@ -78,8 +78,8 @@ impl<C: Cycle> Rev<CycleIter<C>> {
     /// `true`.
     pub fn any_once<F: FnMut(C) -> bool>(&mut self, f: F) -> bool
         requires { F.IsAlwaysCallable f }
-        ensures asked { Asked C.Cycle F.step false 0 f result }
-        ensures unmoved { self.new ≡ self.old }
+        ensures value { ShortCircuits C.Cycle F.step false 0 f result }
+        ensures unchanged { self.new ≡ self.old }
     {
         any_in(f)
     }
@@ -114,7 +114,7 @@ impl<C: Cycle> Iterator for Rev<CycleIter<C>> {
     type Item = C;
 
     // The call returns the next value and moves back by one place.
-    ghost next_gives = { λ old r new. (r ≡ Some old) × IsBack C.Cycle 1 old new };
+    ghost next_gives = { λ old r new. (r ≡ Some old) × IsBehind C.Cycle 1 old new };
 
     /// Returns the next value, always `Some`. From January it returns January, December, November
     /// and so on.

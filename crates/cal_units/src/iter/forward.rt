@@ -2,7 +2,7 @@
 ghost use Rattle.std.specs.Prelude.{◌≡◌, true, false, Some, IfSome, IsSomeAnd};
 ghost use Rattle.std.specs.Iterator.{UpTo, endless};
 ghost use Rattle.std.specs.Iterator.SizeHint.{IsWithinCount};
-ghost use Rattle.cal_units.specs.Walk.{IsAhead, Asked};
+ghost use Rattle.cal_units.specs.CycleSteps.{IsAhead, ShortCircuits};
 
 use crate::cycle::Cycle;
 use crate::iter::backward::Rev;
@@ -71,8 +71,8 @@ impl<C: Cycle> CycleIter<C> {
     /// `false`.
     pub fn all_once<F: FnMut(C) -> bool>(&mut self, f: F) -> bool
         requires { F.IsAlwaysCallable f }
-        ensures asked { Asked C.Cycle F.step true 0 f result }
-        ensures unmoved { self.new ≡ self.old }
+        ensures value { ShortCircuits C.Cycle F.step true 0 f result }
+        ensures unchanged { self.new ≡ self.old }
     {
         all_in(f)
     }
@@ -84,8 +84,8 @@ impl<C: Cycle> CycleIter<C> {
     /// `true`.
     pub fn any_once<F: FnMut(C) -> bool>(&mut self, f: F) -> bool
         requires { F.IsAlwaysCallable f }
-        ensures asked { Asked C.Cycle F.step false 0 f result }
-        ensures unmoved { self.new ≡ self.old }
+        ensures value { ShortCircuits C.Cycle F.step false 0 f result }
+        ensures unchanged { self.new ≡ self.old }
     {
         any_in(f)
     }

@@ -1,14 +1,14 @@
 //! Moments without an offset.
 ghost use Rattle.std.specs.Prelude.{◌≡◌, ◌+◌, ◌↔◌, ◌≤◌, ◌++◌, IfErr, IfOk, Ok, codes, length, take};
 ghost use Rattle.cal_time.specs.declared.error.ComponentRange.{ComponentRange};
-ghost use Rattle.cal_text.specs.Position.{IsAtStop};
-ghost use Rattle.cal_text.specs.Reading.{IsRefusedFor, IsRefusedForForm};
+ghost use Rattle.cal_text.specs.Position.{IsErrorAtStop};
+ghost use Rattle.cal_text.specs.Parsing.{FailsWithComponent, FailsWithSyntax};
 ghost use Rattle.cal_text.specs.declared.any.DateOrMoment.{DateOrMoment};
 ghost use Rattle.caldate_run.specs.Readings.{HasFormIn, IsFaultIn, IsTextIn, assumed};
 ghost use Rattle.caldate_run.specs.declared.reading.Reading.TheVariants.{Local};
 
 use crate::reading::template::{at_stop, wrong_at};
-use cal_text::{DateOrMoment, Unreadable, read_any};
+use cal_text::{DateOrMoment, ParseError, parse_any};
 use cal_time::UtcOffset;
 
 /// The length of a moment without its offset, with nine digits of a fraction.
@@ -18,20 +18,20 @@ const LONGEST: usize = 29;
 const TEMPLATE: &[u8] = b"dddd-dd-ddTdd:dd:dd.ddddddddd";
 
 /// Parses a moment without its offset, which is at `offset`.
-pub fn read_local(offset: UtcOffset, text: &[u8]) -> Result<DateOrMoment, Unreadable>
+pub fn read_local(offset: UtcOffset, text: &[u8]) -> Result<DateOrMoment, ParseError>
     ensures every { (found : DateOrMoment) → IsTextIn (Local offset) text.now found
         → result ≡ Ok found }
     ensures has { IfOk result (IsTextIn (Local offset) text.now) }
-    ensures form { IsRefusedForForm result ↔ ¬ HasFormIn (Local offset) text.now }
-    ensures position { IfErr result (IsAtStop (HasFormIn (Local offset)) text.now) }
+    ensures form { FailsWithSyntax result ↔ ¬ HasFormIn (Local offset) text.now }
+    ensures position { IfErr result (IsErrorAtStop (HasFormIn (Local offset)) text.now) }
     ensures component { (why : ComponentRange)
-        → IsRefusedFor why result ↔ IsFaultIn (Local offset) text.now why }
+        → FailsWithComponent why result ↔ IsFaultIn (Local offset) text.now why }
 {
     if text.len() > LONGEST {
         return Err(wrong_at(text, TEMPLATE));
     }
     let full = with_offset(text);
-    match read_any(&full[..text.len() + 1]) {
+    match parse_any(&full[..text.len() + 1]) {
         Ok(found) => Ok(assumed(offset, found)),
         Err(error) => Err(at_stop(error, text, TEMPLATE)),
     }

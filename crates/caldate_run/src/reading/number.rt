@@ -1,8 +1,8 @@
 //! Unix times in whole milliseconds, microseconds or nanoseconds.
 ghost use Rattle.std.specs.Prelude.{◌≡◌, ◌<◌, ◌↔◌, ◌≤◌, ℤ, IfErr, IfOk, IfSome, IsTrue, Ok, Some, length, slice_index};
 ghost use Rattle.cal_time.specs.declared.error.ComponentRange.{ComponentRange};
-ghost use Rattle.cal_text.specs.Position.{IsAtStop};
-ghost use Rattle.cal_text.specs.Reading.{IsRefusedFor, IsRefusedForForm};
+ghost use Rattle.cal_text.specs.Position.{IsErrorAtStop};
+ghost use Rattle.cal_text.specs.Parsing.{FailsWithComponent, FailsWithSyntax};
 ghost use Rattle.cal_text.specs.declared.any.DateOrMoment.{DateOrMoment};
 ghost use Rattle.caldate_run.specs.Readings.{HasFormIn, IsFaultIn, IsNumber, IsTextIn, nanoseconds_in};
 ghost use Rattle.caldate_run.specs.Templates.{IsTemplateFor};
@@ -13,28 +13,28 @@ use crate::reading::template::wrong_at;
 use crate::request::UnixUnit;
 use crate::signed::signed_text;
 use cal_datetime::OffsetDateTime;
-use cal_text::{DateOrMoment, MomentForm, Unreadable};
+use cal_text::{DateOrMoment, MomentForm, ParseError};
 use std::str;
 
 /// The smallest number with more than 27 digits, which are too many.
 const TOO_MANY: u128 = 1_000_000_000_000_000_000_000_000_000;
 
 /// Parses a number of units since 1970-01-01 UTC.
-pub fn read_number(unit: UnixUnit, text: &[u8]) -> Result<DateOrMoment, Unreadable>
+pub fn read_number(unit: UnixUnit, text: &[u8]) -> Result<DateOrMoment, ParseError>
     ensures every { (found : DateOrMoment) → IsTextIn (Unix unit) text.now found
         → result ≡ Ok found }
     ensures has { IfOk result (IsTextIn (Unix unit) text.now) }
-    ensures form { IsRefusedForForm result ↔ ¬ HasFormIn (Unix unit) text.now }
-    ensures position { IfErr result (IsAtStop (HasFormIn (Unix unit)) text.now) }
+    ensures form { FailsWithSyntax result ↔ ¬ HasFormIn (Unix unit) text.now }
+    ensures position { IfErr result (IsErrorAtStop (HasFormIn (Unix unit)) text.now) }
     ensures component { (why : ComponentRange)
-        → IsRefusedFor why result ↔ IsFaultIn (Unix unit) text.now why }
+        → FailsWithComponent why result ↔ IsFaultIn (Unix unit) text.now why }
 {
     let Some(number) = number_of(text) else {
         return Err(wrong_at(text, number_template(text)));
     };
     match OffsetDateTime::from_unix_timestamp_nanos(number * i128::from(nanoseconds_in(unit))) {
         Ok(moment) => Ok(DateOrMoment::Moment(MomentForm::Unix, moment)),
-        Err(error) => Err(Unreadable::OutOfRange(error)),
+        Err(error) => Err(ParseError::OutOfRange(error)),
     }
 }
 

@@ -1,16 +1,16 @@
 //! Dates with their parts in another order than in a calendar date.
 ghost use Rattle.std.specs.Prelude.{◌≡◌, ◌<◌, ◌↔◌, true, IfErr, IfOk, IsSomeAnd, Ok, length, slice_index};
 ghost use Rattle.cal_time.specs.declared.error.ComponentRange.{ComponentRange};
-ghost use Rattle.cal_text.specs.AnyForm.{HasAnyForm, IsFault, IsTextOf};
-ghost use Rattle.cal_text.specs.Position.{IsAtStop};
-ghost use Rattle.cal_text.specs.Reading.{IsRefusedFor, IsRefusedForForm};
+ghost use Rattle.cal_text.specs.AnyForm.{HasAnyForm, IsDateOrMomentError, IsTextOf};
+ghost use Rattle.cal_text.specs.Position.{IsErrorAtStop};
+ghost use Rattle.cal_text.specs.Parsing.{FailsWithComponent, FailsWithSyntax};
 ghost use Rattle.cal_text.specs.declared.any.DateOrMoment.{DateOrMoment};
 ghost use Rattle.caldate_run.specs.Readings.{HasFormIn, full_text, is_parted, is_separator};
 ghost use Rattle.caldate_run.specs.Templates.{Fits, IsTemplateFor};
 ghost use Rattle.caldate_run.specs.declared.reading.Reading.TheVariants as reading;
 
 use crate::reading::template::{at_stop, wrong_at};
-use cal_text::{DateOrMoment, Unreadable, read_any};
+use cal_text::{DateOrMoment, ParseError, parse_any};
 
 /// Converts `20240229` to a calendar date.
 pub fn basic_parts(text: &[u8]) -> Option<[u8; 10]>
@@ -89,19 +89,19 @@ pub fn read_parts(
     calendar: Option<[u8; 10]>,
     text: &[u8],
     template: &[u8],
-) -> Result<DateOrMoment, Unreadable>
+) -> Result<DateOrMoment, ParseError>
     ensures every { (found : DateOrMoment) → IsSomeAnd calendar (λ date. IsTextOf date found)
         → result ≡ Ok found }
     ensures has { IfOk result (λ found. IsSomeAnd calendar (λ date. IsTextOf date found)) }
-    ensures form { IsRefusedForForm result ↔ ¬ IsSomeAnd calendar HasAnyForm }
-    ensures position { IfErr result (IsAtStop (Fits template.now) text.now) }
+    ensures form { FailsWithSyntax result ↔ ¬ IsSomeAnd calendar HasAnyForm }
+    ensures position { IfErr result (IsErrorAtStop (Fits template.now) text.now) }
     ensures component { (why : ComponentRange)
-        → IsRefusedFor why result ↔ IsSomeAnd calendar (λ date. IsFault date why) }
+        → FailsWithComponent why result ↔ IsSomeAnd calendar (λ date. IsDateOrMomentError date why) }
 {
     let Some(date) = calendar else {
         return Err(wrong_at(text, template));
     };
-    match read_any(&date) {
+    match parse_any(&date) {
         Ok(found) => Ok(found),
         Err(error) => Err(at_stop(error, text, template)),
     }

@@ -1,28 +1,28 @@
 //! Templates: the bytes allowed at each place of a text.
 ghost use Rattle.std.specs.Prelude.{◌≡◌, None};
-ghost use Rattle.cal_text.specs.Position.{IsAtStop, IsPosition};
-ghost use Rattle.cal_text.specs.Reading.{component_of};
+ghost use Rattle.cal_text.specs.Position.{IsErrorAtStop, IsPosition};
+ghost use Rattle.cal_text.specs.Parsing.{component_of};
 ghost use Rattle.caldate_run.specs.Templates.{Fits, stands_at};
 
-use cal_text::Unreadable;
+use cal_text::ParseError;
 
 /// Replaces the position of the error, if it has one, by the first wrong byte.
-pub fn at_stop(error: Unreadable, text: &[u8], template: &[u8]) -> Unreadable
+pub fn at_stop(error: ParseError, text: &[u8], template: &[u8]) -> ParseError
     ensures component { component_of result ≡ component_of error }
-    ensures position { IsAtStop (Fits template.now) text.now result }
+    ensures position { IsErrorAtStop (Fits template.now) text.now result }
 {
     match error {
-        Unreadable::UnexpectedByte(_) | Unreadable::UnexpectedEnd(_) => wrong_at(text, template),
-        Unreadable::OutOfRange(component) => Unreadable::OutOfRange(component),
+        ParseError::UnexpectedByte(_) | ParseError::UnexpectedEnd(_) => wrong_at(text, template),
+        ParseError::OutOfRange(component) => ParseError::OutOfRange(component),
     }
 }
 
 /// Returns the error for a text that is not in the form, at the first wrong byte.
-pub fn wrong_at(text: &[u8], template: &[u8]) -> Unreadable
+pub fn wrong_at(text: &[u8], template: &[u8]) -> ParseError
     ensures form { component_of result ≡ None }
-    ensures position { IsAtStop (Fits template.now) text.now result }
+    ensures position { IsErrorAtStop (Fits template.now) text.now result }
 {
-    Unreadable::at(first_wrong_byte(text, template), text.len())
+    ParseError::unexpected(first_wrong_byte(text, template), text.len())
 }
 
 /// Returns the index of the first byte that doesn't fit the template, or the length if all fit.

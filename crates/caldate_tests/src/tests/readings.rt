@@ -1,7 +1,7 @@
 //! Texts in each reading. Python's `datetime` gives the same moments.
 use crate::tests::gives;
-use cal_text::Unreadable::{UnexpectedByte, UnexpectedEnd};
-use cal_text::{Unreadable, read_any};
+use cal_text::ParseError::{UnexpectedByte, UnexpectedEnd};
+use cal_text::{ParseError, parse_any};
 use cal_time::UtcOffset;
 use caldate_run::reading::{Reading, read_in};
 use caldate_run::request::UnixUnit;
@@ -16,7 +16,7 @@ const AT_UTC: Reading = Reading::Local(UtcOffset::UTC);
 
 /// Returns whether the text means the same in the reading as `same` does in its form.
 fn says(reading: Reading, text: &[u8], same: &[u8]) -> bool {
-    let other = read_any(same);
+    let other = parse_any(same);
     other.is_ok() && read_in(reading, text) == other
 }
 
@@ -100,7 +100,7 @@ fn moments_at_an_offset(rt: HostRuntime) {
 /// The position of the first wrong byte, or the end.
 #[test]
 fn texts_of_no_form(rt: HostRuntime) {
-    let cases: [(Reading, &[u8], Unreadable); 41] = [
+    let cases: [(Reading, &[u8], ParseError); 41] = [
         (Reading::Any, b"20240229", UnexpectedByte(4)),
         (Reading::Basic, b"", UnexpectedEnd(0)),
         (Reading::Basic, b"2024-02-29", UnexpectedByte(4)),
@@ -189,7 +189,7 @@ fn texts_of_no_value(rt: HostRuntime) {
     ];
     for (reading, text, name) in cases {
         match read_in(reading, text) {
-            Err(Unreadable::OutOfRange(component)) => assert_eq!(rt; component.name(), name),
+            Err(ParseError::OutOfRange(component)) => assert_eq!(rt; component.name(), name),
             _ => assert!(rt; false),
         }
     }

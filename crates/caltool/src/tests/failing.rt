@@ -1,6 +1,6 @@
 //! Runs over readers and writers that fail, and the words at the end.
 
-use crate::ending::end;
+use crate::outcome::report;
 use crate::fault::Fault;
 use crate::program::perform;
 use crate::run::run;
@@ -262,7 +262,7 @@ fn the_status_and_the_words_of_each_end(rt: HostRuntime) -> Result<(), Fail> {
         (Err(Fault::Write), 2, b"cannot write\n".as_slice()),
     ] {
         let mut told = Vec::new(rt.alloc());
-        assert_eq!(rt; end(outcome, &mut told), status);
+        assert_eq!(rt; report(outcome, &mut told), status);
         assert_eq!(rt; told.as_slice(), words);
     }
     Ok(())

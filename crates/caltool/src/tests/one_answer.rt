@@ -1,6 +1,6 @@
 //! Two runs with the same input and outcome write the same, except after a failed write.
 ghost use Rattle.std.specs.Prelude.{◌≡◌, List, ℕ, Some, IsErrOf};
-ghost use Rattle.caltool.specs.Runs.{Ended};
+ghost use Rattle.caltool.specs.Runs.{IsRunResult};
 
 use crate::fault::Fault;
 use crate::run::run;
@@ -22,7 +22,7 @@ fn runs<R: Read, W: Write>(
 }
 
 fn ended<R: Read, W: Write>(reader: &mut R, writer: &mut W) -> Result<(), Fault>
-    ensures { Ended result (R.remaining reader.old) (R.remaining reader.new) (W.contents writer.old)
+    ensures { IsRunResult result (R.remaining reader.old) (R.remaining reader.new) (W.contents writer.old)
         (W.contents writer.new) }
 {
     run(reader, writer)

@@ -2,7 +2,7 @@
 //! manual.
 
 use crate::fault::Fault;
-use crate::tests::{answers, manual};
+use crate::tests::{answers, reference};
 use std::test::Fail;
 
 /// One line of each command.

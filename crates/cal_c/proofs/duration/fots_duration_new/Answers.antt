@@ -1,7 +1,7 @@
 use Rattle.std.proofs.Common.{◌≡◌, ℤ, pos, ◌+ℤ◌, ◌*ℤ◌, SomeIff, sym, subst, arith}
 use Rattle.std.proofs.lemmas.Int.{ints, to_z-of_z}
 use Rattle.cal_time.specs.SignedDuration.{second, IsDuration}
-use Rattle.cal_c.specs.Results.{IsDurationIfAny}
+use Rattle.cal_c.specs.Results.{IsDurationOrOutOfRange}
 use Rattle.cal_c.proofs.Durations.{duration-if-any}
 use Rattle.cal_c.proofs.duration.fots_duration_new.Goals as goal
 
@@ -14,4 +14,4 @@ returns c =
     let P : ℤ → ℤ → Type 0 = λ v w. SomeIff c.checked_add.result (IsDuration (v +ℤ w)) (v +ℤ w) in
     let at : P (c.args.seconds *ℤ pos second) c.nanoseconds-past.result = subst (λ v. P v c.nanoseconds-past.result) a c.checked_add.ensures in
     let sum : P (c.args.seconds *ℤ pos second) c.args.nanoseconds = subst (P (c.args.seconds *ℤ pos second)) b at in
-    subst (IsDurationIfAny (c.args.seconds *ℤ pos second +ℤ c.args.nanoseconds)) (sym c.of_option.ensures) (duration-if-any _ _ sum)
+    subst (IsDurationOrOutOfRange (c.args.seconds *ℤ pos second +ℤ c.args.nanoseconds)) (sym c.from_option.ensures) (duration-if-any _ _ sum)

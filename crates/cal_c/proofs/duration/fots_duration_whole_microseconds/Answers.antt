@@ -2,11 +2,11 @@ use Rattle.std.proofs.Common.{pos, ap, ◌∙◌, subst, rules, FitsSigned}
 use Rattle.std.proofs.lemmas.Int.{to_z-of_z}
 use Rattle.std.specs.Int.{w128}
 use Rattle.cal_time.specs.SignedDuration.{microsecond, cut}
-use Rattle.cal_c.specs.Results.{IsLongIfAny}
+use Rattle.cal_c.specs.Results.{IsInt64OrOutOfRange}
 use Rattle.cal_c.proofs.duration.fots_duration_whole_microseconds.Goals as goal
 
 pub returns-clause-value : goal.returns-clause-value
 returns-clause-value c = λ d.
     let f : FitsSigned w128 c.whole_microseconds.result = search rules in
     let e = c.whole_microseconds.ensures ∙ ap (λ v. cut v (pos microsecond)) c.in-Some.ensures.1 in
-    subst (λ z. IsLongIfAny z c.of_wide.result) e (simp to_z-of_z at c.of_wide.ensures)
+    subst (λ z. IsInt64OrOutOfRange z c.from_i128.result) e (simp to_z-of_z at c.from_i128.ensures)

@@ -2,4 +2,4 @@ use Rattle.cal_c.proofs.Cases.{cases}
 use Rattle.cal_c.proofs.laws.unix_cases.Goals as goal
 
 pub returns : goal.returns
-returns c = let read = c.read.ensures in cases c.read.result read.has read.form read.component
+returns c = let read = c.parse.ensures in cases c.parse.result read.value read.syntax_error read.out_of_range

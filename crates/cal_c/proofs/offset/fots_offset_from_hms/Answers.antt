@@ -2,7 +2,7 @@ use Rattle.std.proofs.Common.{◌≤◌, ap, ◌∙◌, sym, subst, rules, arith
 use Rattle.std.specs.Prelude.{unsigned_abs}
 use Rattle.std.proofs.lemmas.Int.{to_z-of_z}
 use Rattle.cal_time.specs.declared.error.ComponentRange.{ComponentRange}
-use Rattle.cal_c.specs.Results.{offset_refused}
+use Rattle.cal_c.specs.Results.{offset_error}
 use Rattle.cal_c.specs.Statuses.{component_status}
 use Rattle.cal_c.proofs.offset.fots_offset_from_hms.Goals as goal
 
@@ -11,12 +11,12 @@ returns-in-Ok-clause-hour c = λ x.
     let f = c.ranges.hours in
     let g = c.ranges.minutes in
     let k = c.ranges.seconds in
-    let h = simp to_z-of_z at c.signed_byte_of.ensures in
-    let m = simp to_z-of_z at c.signed_byte_of-2.ensures in
-    let s = simp to_z-of_z at c.signed_byte_of-3.ensures in
-    let fh : FitsSigned w8 c.signed_byte_of.result = search rules in
-    let fm : FitsSigned w8 c.signed_byte_of-2.result = search rules in
-    let fs : FitsSigned w8 c.signed_byte_of-3.result = search rules in
+    let h = simp to_z-of_z at c.saturating_i8.ensures in
+    let m = simp to_z-of_z at c.saturating_i8-2.ensures in
+    let s = simp to_z-of_z at c.saturating_i8-3.ensures in
+    let fh : FitsSigned w8 c.saturating_i8.result = search rules in
+    let fm : FitsSigned w8 c.saturating_i8-2.result = search rules in
+    let fs : FitsSigned w8 c.saturating_i8-3.result = search rules in
     let hour = simp to_z-of_z at c.in-Ok.ensures.hour in
     absurd (hour.1 (h.above 25 (lit< tt) x))
 
@@ -25,12 +25,12 @@ returns-in-Ok-clause-minute c = λ y x.
     let f = c.ranges.hours in
     let g = c.ranges.minutes in
     let k = c.ranges.seconds in
-    let h = simp to_z-of_z at c.signed_byte_of.ensures in
-    let m = simp to_z-of_z at c.signed_byte_of-2.ensures in
-    let s = simp to_z-of_z at c.signed_byte_of-3.ensures in
-    let fh : FitsSigned w8 c.signed_byte_of.result = search rules in
-    let fm : FitsSigned w8 c.signed_byte_of-2.result = search rules in
-    let fs : FitsSigned w8 c.signed_byte_of-3.result = search rules in
+    let h = simp to_z-of_z at c.saturating_i8.ensures in
+    let m = simp to_z-of_z at c.saturating_i8-2.ensures in
+    let s = simp to_z-of_z at c.saturating_i8-3.ensures in
+    let fh : FitsSigned w8 c.saturating_i8.result = search rules in
+    let fm : FitsSigned w8 c.saturating_i8-2.result = search rules in
+    let fs : FitsSigned w8 c.saturating_i8-3.result = search rules in
     let minute = simp to_z-of_z at c.in-Ok.ensures.minute in
     absurd (minute.1 (subst (λ z. unsigned_abs z ≤ 25) (sym (h.same (omega arith))) y, m.above 59 (lit< tt) x))
 
@@ -39,12 +39,12 @@ returns-in-Ok-clause-second c = λ z y x.
     let f = c.ranges.hours in
     let g = c.ranges.minutes in
     let k = c.ranges.seconds in
-    let h = simp to_z-of_z at c.signed_byte_of.ensures in
-    let m = simp to_z-of_z at c.signed_byte_of-2.ensures in
-    let s = simp to_z-of_z at c.signed_byte_of-3.ensures in
-    let fh : FitsSigned w8 c.signed_byte_of.result = search rules in
-    let fm : FitsSigned w8 c.signed_byte_of-2.result = search rules in
-    let fs : FitsSigned w8 c.signed_byte_of-3.result = search rules in
+    let h = simp to_z-of_z at c.saturating_i8.ensures in
+    let m = simp to_z-of_z at c.saturating_i8-2.ensures in
+    let s = simp to_z-of_z at c.saturating_i8-3.ensures in
+    let fh : FitsSigned w8 c.saturating_i8.result = search rules in
+    let fm : FitsSigned w8 c.saturating_i8-2.result = search rules in
+    let fs : FitsSigned w8 c.saturating_i8-3.result = search rules in
     let second = simp to_z-of_z at c.in-Ok.ensures.second in
     absurd (second.1 (subst (λ w. unsigned_abs w ≤ 25) (sym (h.same (omega arith))) z, subst (λ w. unsigned_abs w ≤ 59) (sym (m.same (omega arith))) y, s.above 59 (lit< tt) x))
 
@@ -53,45 +53,45 @@ returns-in-Err-clause-hour c = λ x.
     let f = c.ranges.hours in
     let g = c.ranges.minutes in
     let k = c.ranges.seconds in
-    let h = simp to_z-of_z at c.signed_byte_of.ensures in
-    let m = simp to_z-of_z at c.signed_byte_of-2.ensures in
-    let s = simp to_z-of_z at c.signed_byte_of-3.ensures in
-    let fh : FitsSigned w8 c.signed_byte_of.result = search rules in
-    let fm : FitsSigned w8 c.signed_byte_of-2.result = search rules in
-    let fs : FitsSigned w8 c.signed_byte_of-3.result = search rules in
+    let h = simp to_z-of_z at c.saturating_i8.ensures in
+    let m = simp to_z-of_z at c.saturating_i8-2.ensures in
+    let s = simp to_z-of_z at c.saturating_i8-3.ensures in
+    let fh : FitsSigned w8 c.saturating_i8.result = search rules in
+    let fm : FitsSigned w8 c.saturating_i8-2.result = search rules in
+    let fs : FitsSigned w8 c.saturating_i8-3.result = search rules in
     let hour = simp to_z-of_z at c.in-Err.ensures.hour in
     let fr : FitsSigned w32 c.status_of.result = search rules in
-    let refused = simp to_z-of_z at c.refused.ensures in
-    refused ∙ ap offset_refused (c.status_of.ensures ∙ ap (λ (e : ComponentRange). component_status e.component) (hour.1 (h.above 25 (lit< tt) x)))
+    let refused = simp to_z-of_z at c.error.ensures in
+    refused ∙ ap offset_error (c.status_of.ensures ∙ ap (λ (e : ComponentRange). component_status e.component) (hour.1 (h.above 25 (lit< tt) x)))
 
 pub returns-in-Err-clause-minute : goal.returns-in-Err-clause-minute
 returns-in-Err-clause-minute c = λ y x.
     let f = c.ranges.hours in
     let g = c.ranges.minutes in
     let k = c.ranges.seconds in
-    let h = simp to_z-of_z at c.signed_byte_of.ensures in
-    let m = simp to_z-of_z at c.signed_byte_of-2.ensures in
-    let s = simp to_z-of_z at c.signed_byte_of-3.ensures in
-    let fh : FitsSigned w8 c.signed_byte_of.result = search rules in
-    let fm : FitsSigned w8 c.signed_byte_of-2.result = search rules in
-    let fs : FitsSigned w8 c.signed_byte_of-3.result = search rules in
+    let h = simp to_z-of_z at c.saturating_i8.ensures in
+    let m = simp to_z-of_z at c.saturating_i8-2.ensures in
+    let s = simp to_z-of_z at c.saturating_i8-3.ensures in
+    let fh : FitsSigned w8 c.saturating_i8.result = search rules in
+    let fm : FitsSigned w8 c.saturating_i8-2.result = search rules in
+    let fs : FitsSigned w8 c.saturating_i8-3.result = search rules in
     let minute = simp to_z-of_z at c.in-Err.ensures.minute in
     let fr : FitsSigned w32 c.status_of.result = search rules in
-    let refused = simp to_z-of_z at c.refused.ensures in
-    refused ∙ ap offset_refused (c.status_of.ensures ∙ ap (λ (e : ComponentRange). component_status e.component) (minute.1 (subst (λ z. unsigned_abs z ≤ 25) (sym (h.same (omega arith))) y, m.above 59 (lit< tt) x)))
+    let refused = simp to_z-of_z at c.error.ensures in
+    refused ∙ ap offset_error (c.status_of.ensures ∙ ap (λ (e : ComponentRange). component_status e.component) (minute.1 (subst (λ z. unsigned_abs z ≤ 25) (sym (h.same (omega arith))) y, m.above 59 (lit< tt) x)))
 
 pub returns-in-Err-clause-second : goal.returns-in-Err-clause-second
 returns-in-Err-clause-second c = λ z y x.
     let f = c.ranges.hours in
     let g = c.ranges.minutes in
     let k = c.ranges.seconds in
-    let h = simp to_z-of_z at c.signed_byte_of.ensures in
-    let m = simp to_z-of_z at c.signed_byte_of-2.ensures in
-    let s = simp to_z-of_z at c.signed_byte_of-3.ensures in
-    let fh : FitsSigned w8 c.signed_byte_of.result = search rules in
-    let fm : FitsSigned w8 c.signed_byte_of-2.result = search rules in
-    let fs : FitsSigned w8 c.signed_byte_of-3.result = search rules in
+    let h = simp to_z-of_z at c.saturating_i8.ensures in
+    let m = simp to_z-of_z at c.saturating_i8-2.ensures in
+    let s = simp to_z-of_z at c.saturating_i8-3.ensures in
+    let fh : FitsSigned w8 c.saturating_i8.result = search rules in
+    let fm : FitsSigned w8 c.saturating_i8-2.result = search rules in
+    let fs : FitsSigned w8 c.saturating_i8-3.result = search rules in
     let second = simp to_z-of_z at c.in-Err.ensures.second in
     let fr : FitsSigned w32 c.status_of.result = search rules in
-    let refused = simp to_z-of_z at c.refused.ensures in
-    refused ∙ ap offset_refused (c.status_of.ensures ∙ ap (λ (e : ComponentRange). component_status e.component) (second.1 (subst (λ w. unsigned_abs w ≤ 25) (sym (h.same (omega arith))) z, subst (λ w. unsigned_abs w ≤ 59) (sym (m.same (omega arith))) y, s.above 59 (lit< tt) x)))
+    let refused = simp to_z-of_z at c.error.ensures in
+    refused ∙ ap offset_error (c.status_of.ensures ∙ ap (λ (e : ComponentRange). component_status e.component) (second.1 (subst (λ w. unsigned_abs w ≤ 25) (sym (h.same (omega arith))) z, subst (λ w. unsigned_abs w ≤ 59) (sym (m.same (omega arith))) y, s.above 59 (lit< tt) x)))

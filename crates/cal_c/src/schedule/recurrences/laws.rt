@@ -2,8 +2,8 @@
 ghost use Rattle.std.specs.Prelude.{◌≡◌};
 
 use super::results::RecurrenceResult;
-use super::texts::fots_recurrence_days;
-use crate::values::date_of;
+use super::days::fots_recurrence_days;
+use crate::values::valid_date;
 
 /// Makes the same call over two equal arrays. The results and the arrays are equal afterwards.
 pub fn days_twice(
@@ -17,7 +17,7 @@ pub fn days_twice(
     ensures result { result.0 ≡ result.1 }
     ensures days { days.new ≡ others.new }
 {
-    let _ = (date_of(start), date_of(from));
+    let _ = (valid_date(start), valid_date(from));
     (
         fots_recurrence_days(text, start, from, days),
         fots_recurrence_days(text, start, from, others),

@@ -4,12 +4,12 @@ ghost use Rattle.cal_time.specs.Month.{number};
 ghost use Rattle.cal_recurrence.specs.Values.{most_values};
 ghost use Rattle.cal_c.specs.RecurrenceParts.{filled, no_weekday, parts_of_weekday};
 
-use super::parts::RuleWeekday;
+use super::rule_parts::RuleWeekday;
 use cal_schedule::ByDay;
 use cal_time::{Cycle, Month};
 
 /// The maximum number of values of a list.
-pub(super) const MOST: usize = 62;
+pub(super) const MAX: usize = 62;
 
 pub(super) const NO_WEEKDAY: RuleWeekday = RuleWeekday {
     number: 0,
@@ -17,11 +17,11 @@ pub(super) const NO_WEEKDAY: RuleWeekday = RuleWeekday {
 };
 
 /// Returns the numbers of months, from 1 for January.
-pub(super) fn numbers_of_months(months: &[Month]) -> [u8; MOST]
+pub(super) fn month_numbers(months: &[Month]) -> [u8; MAX]
     requires { length months.now ≤ most_values }
     ensures { result ≡ filled 0 (map number months.now) }
 {
-    let mut numbers = [0; MOST];
+    let mut numbers = [0; MAX];
     for index in 0..months.len() {
         numbers[index] = months[index].place() + 1;
     }
@@ -29,11 +29,11 @@ pub(super) fn numbers_of_months(months: &[Month]) -> [u8; MOST]
 }
 
 /// Returns the days of the month.
-pub(super) fn all_month_days(days: &[i8]) -> [i8; MOST]
+pub(super) fn all_month_days(days: &[i8]) -> [i8; MAX]
     requires { length days.now ≤ most_values }
     ensures { result ≡ filled (pos 0) days.now }
 {
-    let mut all = [0; MOST];
+    let mut all = [0; MAX];
     all[..days.len()].copy_from_slice(days);
     all
 }
@@ -55,11 +55,11 @@ fn parts_of_weekday(by: ByDay) -> RuleWeekday
 }
 
 /// Returns the parts of weekdays.
-pub(super) fn parts_of_weekdays(weekdays: &[ByDay]) -> [RuleWeekday; MOST]
+pub(super) fn parts_of_weekdays(weekdays: &[ByDay]) -> [RuleWeekday; MAX]
     requires { length weekdays.now ≤ most_values }
     ensures { result ≡ filled no_weekday (map parts_of_weekday weekdays.now) }
 {
-    let mut parts = [NO_WEEKDAY; MOST];
+    let mut parts = [NO_WEEKDAY; MAX];
     for index in 0..weekdays.len() {
         parts[index] = parts_of_weekday(weekdays[index]);
     }

@@ -1,17 +1,17 @@
 //! Parsing a recurrence to its parts.
 ghost use Rattle.std.specs.Prelude.{◌≡◌};
 ghost use Rattle.cal_recurrence.specs.Text.{recurrence_of};
-ghost use Rattle.cal_c.specs.RecurrenceParts.{parsed_as};
+ghost use Rattle.cal_c.specs.RecurrenceParts.{parse_recurrence_result};
 
-use super::parsed::RecurrenceParts;
-use super::results::{part_of, reason_status};
-use crate::status::DONE;
+use super::recurrence_parts::RecurrenceParts;
+use super::results::{error_part, reason_status};
+use crate::status::OK;
 use cal_recurrence::parse;
 
 /// A parsed recurrence, or the first wrong part of the text.
 #[repr(C)]
 #[derive(Clone, Copy)]
-pub struct ReadRecurrenceResult {
+pub struct ParseRecurrenceResult {
     pub status: i32,
     /// The number of the wrong part, from 1 for `FREQ`, or 0.
     pub part: u32,
@@ -23,21 +23,21 @@ pub struct ReadRecurrenceResult {
 /// Parses a recurrence. `FREQ=MONTHLY;BYDAY=-1FR;COUNT=3` gives the frequency 3, the interval 1,
 /// weeks from 1, no last day, the count 3, and one weekday, -1 and 5.
 #[unsafe(no_mangle)]
-pub extern "C" fn fots_recurrence_parse(text: &[u8]) -> ReadRecurrenceResult
-    ensures { result ≡ parsed_as (recurrence_of text.now) }
+pub extern "C" fn fots_recurrence_parse(text: &[u8]) -> ParseRecurrenceResult
+    ensures { result ≡ parse_recurrence_result (recurrence_of text.now) }
 {
     match parse(text) {
-        Ok(recurrence) => ReadRecurrenceResult {
-            status: DONE,
+        Ok(recurrence) => ParseRecurrenceResult {
+            status: OK,
             part: 0,
             position: usize::MAX,
-            recurrence: RecurrenceParts::of(&recurrence),
+            recurrence: RecurrenceParts::from_recurrence(&recurrence),
         },
-        Err(fault) => ReadRecurrenceResult {
+        Err(fault) => ParseRecurrenceResult {
             status: reason_status(fault.reason),
-            part: part_of(fault.reason),
+            part: error_part(fault.reason),
             position: fault.position,
-            recurrence: RecurrenceParts::none(),
+            recurrence: RecurrenceParts::empty(),
         },
     }
 }

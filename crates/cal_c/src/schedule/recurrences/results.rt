@@ -1,9 +1,9 @@
 //! Results of calls for recurrences in text.
 ghost use Rattle.std.specs.Prelude.{◌≡◌};
-ghost use Rattle.cal_c.specs.RecurrenceTexts.{recurrence_done, recurrence_refused, recurrence_unread, part_number, part_of, reason_status};
+ghost use Rattle.cal_c.specs.RecurrenceTexts.{recurrence_ok, recurrence_error, recurrence_parse_error, part_number, error_part, reason_status};
 
-use crate::status::{DONE, MANY_VALUES, NO_FREQUENCY, PART_TWICE, PART_VALUE, UNKNOWN_PART};
-use cal_recurrence::{RuleFault, RulePart, RuleReason};
+use crate::status::{OK, TOO_MANY_VALUES, MISSING_FREQUENCY, DUPLICATE_PART, INVALID_VALUE, UNKNOWN_PART};
+use cal_recurrence::{ParseRuleError, RulePart, ParseRuleErrorKind};
 
 /// The number of days written, or the first wrong part of the text.
 #[repr(C)]
@@ -32,43 +32,43 @@ fn part_number(part: RulePart) -> u32
     }
 }
 
-pub(super) fn reason_status(reason: RuleReason) -> i32
+pub(super) fn reason_status(reason: ParseRuleErrorKind) -> i32
     ensures { result ≡ reason_status reason }
 {
     match reason {
-        RuleReason::Unknown => UNKNOWN_PART,
-        RuleReason::Twice(_) => PART_TWICE,
-        RuleReason::TooMany(_) => MANY_VALUES,
-        RuleReason::Value(_) => PART_VALUE,
-        RuleReason::Missing => NO_FREQUENCY,
+        ParseRuleErrorKind::Unknown => UNKNOWN_PART,
+        ParseRuleErrorKind::Twice(_) => DUPLICATE_PART,
+        ParseRuleErrorKind::TooMany(_) => TOO_MANY_VALUES,
+        ParseRuleErrorKind::Value(_) => INVALID_VALUE,
+        ParseRuleErrorKind::Missing => MISSING_FREQUENCY,
     }
 }
 
-pub(super) fn part_of(reason: RuleReason) -> u32
-    ensures { result ≡ part_of reason }
+pub(super) fn error_part(reason: ParseRuleErrorKind) -> u32
+    ensures { result ≡ error_part reason }
 {
     match reason {
-        RuleReason::Twice(part) | RuleReason::TooMany(part) | RuleReason::Value(part) => {
+        ParseRuleErrorKind::Twice(part) | ParseRuleErrorKind::TooMany(part) | ParseRuleErrorKind::Value(part) => {
             part_number(part)
         }
-        RuleReason::Unknown | RuleReason::Missing => 0,
+        ParseRuleErrorKind::Unknown | ParseRuleErrorKind::Missing => 0,
     }
 }
 
 impl RecurrenceResult {
-    pub fn of(length: usize) -> Self
-        ensures { result ≡ recurrence_done length }
+    pub fn ok(length: usize) -> Self
+        ensures { result ≡ recurrence_ok length }
     {
         RecurrenceResult {
-            status: DONE,
+            status: OK,
             part: 0,
             length,
             position: usize::MAX,
         }
     }
 
-    pub fn refused(status: i32) -> Self
-        ensures { result ≡ recurrence_refused status }
+    pub fn error(status: i32) -> Self
+        ensures { result ≡ recurrence_error status }
     {
         RecurrenceResult {
             status,
@@ -78,12 +78,12 @@ impl RecurrenceResult {
         }
     }
 
-    pub fn unread(fault: RuleFault) -> Self
-        ensures { result ≡ recurrence_unread fault }
+    pub fn parse_error(fault: ParseRuleError) -> Self
+        ensures { result ≡ recurrence_parse_error fault }
     {
         RecurrenceResult {
             status: reason_status(fault.reason),
-            part: part_of(fault.reason),
+            part: error_part(fault.reason),
             length: 0,
             position: fault.position,
         }

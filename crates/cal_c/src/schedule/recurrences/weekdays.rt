@@ -1,41 +1,41 @@
 //! The weekdays of a rule.
 ghost use Rattle.std.specs.Prelude.{◌≡◌, ◌≤◌, SomeIff, length};
-ghost use Rattle.cal_c.specs.Recurrences.{weekday_in, weekdays_in, most_weekdays, AreWeekdays};
+ghost use Rattle.cal_c.specs.Recurrences.{weekday_in, weekdays_in, max_weekdays, AreWeekdays};
 ghost use Rattle.cal_c.specs.Values.{IsWeekday};
 
-use super::parts::RuleWeekday;
-use crate::values::weekday_of;
+use super::rule_parts::RuleWeekday;
+use crate::values::valid_weekday;
 use cal_schedule::ByDay;
 use cal_time::Weekday;
 use std::marker::Model;
 
 /// The maximum number of weekdays of a rule.
-pub(super) const MOST: usize = 64;
+pub(super) const MAX: usize = 64;
 
 /// A list of weekdays. Contracts see the list.
 #[derive(Drop)]
 pub(super) struct Weekdays {
-    weekdays: [ByDay; MOST],
+    weekdays: [ByDay; MAX],
     number: usize,
 }
 
 impl Model for Weekdays {
     ghost use Rattle.std.specs.Prelude.{◌≤◌, List, take};
-    ghost use Rattle.cal_schedule.specs.declared.rule.kinds.ByDay.{ByDay};
-    ghost use Rattle.cal_c.specs.Recurrences.{most_weekdays};
+    ghost use Rattle.cal_schedule.specs.declared.rule.rule.ByDay.{ByDay};
+    ghost use Rattle.cal_c.specs.Recurrences.{max_weekdays};
 
     ghost Value = { List ByDay };
 
     ghost view = { λ w. take w.number w.weekdays };
 
-    ghost invariant = { λ w. w.number ≤ most_weekdays };
+    ghost invariant = { λ w. w.number ≤ max_weekdays };
 }
 
 /// Returns the weekday with these parts, or `None` if it is invalid.
-fn by_day_of(parts: RuleWeekday) -> Option<ByDay>
+fn valid_by_day(parts: RuleWeekday) -> Option<ByDay>
     ensures { SomeIff result (IsWeekday parts.weekday) (weekday_in parts) }
 {
-    let weekday = weekday_of(u32::from(parts.weekday))?;
+    let weekday = valid_weekday(u32::from(parts.weekday))?;
     if parts.number == 0 {
         Some(ByDay::Every(weekday))
     } else {
@@ -45,13 +45,13 @@ fn by_day_of(parts: RuleWeekday) -> Option<ByDay>
 
 impl Weekdays {
     /// Returns the weekdays with these parts, or `None` if one is invalid.
-    pub(super) fn of(parts: &[RuleWeekday]) -> Option<Self>
-        requires { length parts.now ≤ most_weekdays }
+    pub(super) fn from_parts(parts: &[RuleWeekday]) -> Option<Self>
+        requires { length parts.now ≤ max_weekdays }
         ensures { SomeIff result (AreWeekdays parts.now) (weekdays_in parts.now) }
     {
-        let mut weekdays = [ByDay::Every(Weekday::Monday); MOST];
+        let mut weekdays = [ByDay::Every(Weekday::Monday); MAX];
         for index in 0..parts.len() {
-            weekdays[index] = by_day_of(parts[index])?;
+            weekdays[index] = valid_by_day(parts[index])?;
         }
         Some(Weekdays {
             weekdays,

@@ -1,10 +1,10 @@
 //! The working days that C passes.
 ghost use Rattle.std.specs.Prelude.{◌≡◌, ◌<◌, ◌≤◌, Ok, Err, SomeIff, length};
-ghost use Rattle.cal_c.specs.Statuses.{bad_holidays, bad_week, many_holidays};
-ghost use Rattle.cal_c.specs.Workweeks.{marks_in, most_holidays, work_week, AreHolidays, IsMarks};
+ghost use Rattle.cal_c.specs.Statuses.{invalid_holidays, invalid_weekmask, too_many_holidays};
+ghost use Rattle.cal_c.specs.Weekmasks.{weekmask_in, max_holidays, work_week, AreHolidays, IsWeekmask};
 
 use crate::schedule::workdays::holidays::Holidays;
-use crate::status::{BAD_HOLIDAYS, BAD_WEEK};
+use crate::status::{INVALID_HOLIDAYS, INVALID_WEEKMASK};
 use cal_schedule::Workdays;
 use cal_time::is_rising;
 use std::marker::Model;
@@ -29,8 +29,8 @@ impl Model for Calendar {
 }
 
 /// Returns the marks of a number, or `None` if it is above 127.
-fn marks_of(week: u32) -> Option<[bool; 7]>
-    ensures { SomeIff result (IsMarks week) (marks_in week) }
+fn valid_weekmask(week: u32) -> Option<[bool; 7]>
+    ensures { SomeIff result (IsWeekmask week) (weekmask_in week) }
 {
     if week >= 128 {
         return None;
@@ -48,19 +48,19 @@ fn marks_of(week: u32) -> Option<[bool; 7]>
 
 impl Calendar {
     /// Checks and converts the marks and the holidays, or returns the status of the first error.
-    pub fn of(week: u32, holidays: &[i32]) -> Result<Self, i32>
-        ensures bad_week { ¬ IsMarks week → result ≡ Err bad_week }
-        ensures many { IsMarks week → most_holidays < length holidays.now
-            → result ≡ Err many_holidays }
-        ensures bad { IsMarks week → length holidays.now ≤ most_holidays
-            → ¬ AreHolidays holidays.now → result ≡ Err bad_holidays }
-        ensures value { IsMarks week → length holidays.now ≤ most_holidays
+    pub fn from_c(week: u32, holidays: &[i32]) -> Result<Self, i32>
+        ensures invalid_weekmask { ¬ IsWeekmask week → result ≡ Err invalid_weekmask }
+        ensures too_many_holidays { IsWeekmask week → max_holidays < length holidays.now
+            → result ≡ Err too_many_holidays }
+        ensures invalid_holidays { IsWeekmask week → length holidays.now ≤ max_holidays
+            → ¬ AreHolidays holidays.now → result ≡ Err invalid_holidays }
+        ensures value { IsWeekmask week → length holidays.now ≤ max_holidays
             → AreHolidays holidays.now → result ≡ Ok (work_week week holidays.now) }
     {
-        let marks = or_return!(marks_of(week), Err(BAD_WEEK));
-        let holidays = Holidays::of(holidays)?;
+        let marks = or_return!(valid_weekmask(week), Err(INVALID_WEEKMASK));
+        let holidays = Holidays::from_julian_days(holidays)?;
         if !is_rising(holidays.as_slice()) {
-            return Err(BAD_HOLIDAYS);
+            return Err(INVALID_HOLIDAYS);
         }
         Ok(Calendar { marks, holidays })
     }

@@ -17,4 +17,4 @@ returns c = λ n h has.
     let at = in_range-kernel c.args.kernel n h has in
     let made = c.from_parts.ensures in
     let date = rw (c.year.ensures, c.ordinal.ensures, IsYear-i32 (year_of_kernel c.args.kernel) at.year) at made.date in
-    (in_range c.from_parts.result _ _ made.in_range date).number_is ∙ sym at.number_is
+    (in_range c.from_parts.result _ _ made.range date).number_is ∙ sym at.number_is

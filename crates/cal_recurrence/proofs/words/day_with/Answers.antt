@@ -11,4 +11,4 @@ returns c =
     let date = c.from_calendar_date.ensures in
     let small : c.args.number < 4294967296 = omega (arith, c.ranges.number.fits) in
     c.ok.ensures.value
-    ∙ found c.args.number _ c.in-Ok.month c.from_calendar_date.result (to_z_pos w32 (c.args.number / 10000) (omega (arith, small))) c.in-Ok.ensures date.every date.has date.refused.0
+    ∙ found c.args.number _ c.in-Ok.month c.from_calendar_date.result (to_z_pos w32 (c.args.number / 10000) (omega (arith, small))) c.in-Ok.ensures date.every date.value date.error.0

@@ -10,6 +10,6 @@ loop-value-preserved g c =
       search rules,
       one_more word _ c.args.text.now at.text at.mark.now c.push.new.self c.push-in-loop-value.new.self (length c.args.name.now) at.value-index c.value-item.result c.args.values.now
           at.invariant.1 c.loop-value-test.true c.value-item.is (omega (arith, c.word.ensures.short, ap length text))
-          c.push.ensures.appended (c.push-in-loop-value.ensures.appended ∙ ap (λ bytes. c.push.new.self ++ bytes) (c.as_str.ensures.text ∙ text)),
+          c.push.ensures.appended (c.push-in-loop-value.ensures.appended ∙ ap (λ bytes. c.push.new.self ++ bytes) (c.as_str.ensures.value ∙ text)),
       omega arith,
     )

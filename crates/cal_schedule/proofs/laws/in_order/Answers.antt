@@ -5,4 +5,4 @@ pub returns : goal.returns
 returns c =
     let one = c.in_ok-first.ensures in
     let other = c.in_ok-second.ensures in
-    order-kept _ _ _ _ _ one.in_range one.has.0 c.requires one.has.1 other.has.1
+    order-kept _ _ _ _ _ one.in_range one.value.0 c.requires one.value.1 other.value.1

@@ -9,8 +9,8 @@ returns-then-not-is_year-clause-every c k h is =
     let is_year = c.is_year.ensures.1 (omega (arith, ints, year.0), omega (arith, ints, year.1)) in
     absurd (cc)
 
-pub returns-then-not-is_year-clause-refused : goal.returns-then-not-is_year-clause-refused
-returns-then-not-is_year-clause-refused c = (
+pub returns-then-not-is_year-clause-error : goal.returns-then-not-is_year-clause-error
+returns-then-not-is_year-clause-error c = (
   λ _ k h is. let year = year_of _ _ _ k h is.is in
       let is_year = c.is_year.ensures.1 (omega (arith, ints, year.0), omega (arith, ints, year.1)) in cc,
   λ _. refl,

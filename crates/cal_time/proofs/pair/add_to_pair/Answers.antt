@@ -2,7 +2,7 @@ use Rattle.std.proofs.Common.{◌+ℤ◌, arith}
 use Rattle.std.proofs.lemmas.Int.{ints}
 use Rattle.cal_clock.specs.Time.{carry}
 use Rattle.cal_span.specs.SignedDuration.{whole_days}
-use Rattle.cal_date.proofs.Moves.{date_nearest-inside}
+use Rattle.cal_date.proofs.Moves.{clamped_date-inside}
 use Rattle.cal_time.proofs.Pairs.{lies_after, pair_at, no_pair, along-add, stays_outside}
 use Rattle.cal_time.proofs.pair.add_to_pair.Goals as goal
 
@@ -10,26 +10,26 @@ pub returns-in_err-checked_add : goal.returns-in_err-checked_add
 returns-in_err-checked_add c =
     let a = c.adjusting_add-adjustment in
     let k = whole_days c.args.duration +ℤ carry a.result.0 in
-    let at = lies_after c.args.date c.args.time c.args.duration k a.result.1 a.ensures.below_day a.ensures.equation in
+    let at = lies_after c.args.date c.args.time c.args.duration k a.result.1 a.ensures.range a.ensures.value in
     let along = along-add c.args.date c.args.duration (carry a.result.0) a.ensures.forward a.ensures.backward in
-    let outside = stays_outside _ _ _ c.checked_add.ensures.in_range along c.in_err-checked_add.ensures.day in
+    let outside = stays_outside _ _ _ c.checked_add.ensures.in_range along c.in_err-checked_add.ensures.value in
     rw c.from_residual.ensures (no_pair _ c.args.date k a.result.1 _ at (omega (arith, ints)) outside)
 
 pub returns-in_err-date : goal.returns-in_err-date
 returns-in_err-date c =
     let a = c.adjusting_add-adjustment in
     let k = whole_days c.args.duration +ℤ carry a.result.0 in
-    let at = lies_after c.args.date c.args.time c.args.duration k a.result.1 a.ensures.below_day a.ensures.equation in
-    let day = c.in_ok-checked_add.ensures.day in
-    let stop = date_nearest-inside _ day.0 in
+    let at = lies_after c.args.date c.args.time c.args.duration k a.result.1 a.ensures.range a.ensures.value in
+    let day = c.in_ok-checked_add.ensures.value in
+    let stop = clamped_date-inside _ day.0 in
     rw c.from_residual-in_err-date.ensures (no_pair _ c.args.date k a.result.1 _ at (omega (arith, ints, day.1, stop)) c.in_err-date.ensures)
 
 pub returns : goal.returns
 returns c =
     let a = c.adjusting_add-adjustment in
     let k = whole_days c.args.duration +ℤ carry a.result.0 in
-    let at = lies_after c.args.date c.args.time c.args.duration k a.result.1 a.ensures.below_day a.ensures.equation in
-    let day = c.in_ok-checked_add.ensures.day in
-    let stop = date_nearest-inside _ day.0 in
-    let end = date_nearest-inside _ c.in_ok-date.ensures.0 in
+    let at = lies_after c.args.date c.args.time c.args.duration k a.result.1 a.ensures.range a.ensures.value in
+    let day = c.in_ok-checked_add.ensures.value in
+    let stop = clamped_date-inside _ day.0 in
+    let end = clamped_date-inside _ c.in_ok-date.ensures.0 in
     pair_at _ c.args.date k a.result.1 c.in_ok-date.date at (omega (arith, ints, c.in_ok-date.ensures.1, c.in_ok-date.ensures.0, end)) (omega (arith, ints, day.1, stop, c.in_ok-date.ensures.1, end))

@@ -1,7 +1,7 @@
 //! Dates by what they have, and neighbours.
 ghost use Rattle.std.specs.Prelude.{◌≡◌, ◌+ℤ◌, ◌-ℤ◌, pos, Ok, IfOk, IfSome};
 ghost use Rattle.cal_date.specs.Date.{first_julian_day};
-ghost use Rattle.cal_date.specs.Move.{IsDateNumber};
+ghost use Rattle.cal_date.specs.Arithmetic.{IsDateNumber};
 
 use crate::error::ComponentRange;
 use crate::tests::range::{FIRST_JULIAN_DAY, FIRST_YEAR, LAST_JULIAN_DAY, LAST_YEAR};

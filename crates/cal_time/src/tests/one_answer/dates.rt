@@ -20,13 +20,13 @@ fn from_calendar_date(year: i32, month: Month, day: u8) -> Twice<Result<Date, Co
     twice!(Date::from_calendar_date(year, month, day))
 }
 
-fn at_month_index(year: i32, index: u8, day: u8) -> Twice<Date>
+fn from_month_index_clamped(year: i32, index: u8, day: u8) -> Twice<Date>
     requires year { IsYear year }
     requires index { index < 12 }
     requires day { 1 ≤ day }
     ensures { result.0 ≡ result.1 }
 {
-    twice!(Date::at_month_index(year, index, day))
+    twice!(Date::from_month_index_clamped(year, index, day))
 }
 
 fn from_iso_week_date(year: i32, week: u8, weekday: Weekday) -> Twice<Result<Date, ComponentRange>>

@@ -48,7 +48,7 @@ loop-item-preserved g c =
     let rest = c.in_ok-first.rest.now in
     let i = c.loop-item.item-index in
     let seen = first ∷ take i rest in
-    let compares : Compares number g.T.PartialOrd.partial_cmp = record { cmp = g.T.Ord.cmp; ordered = g.met.T.Counted.ordered; agrees = g.met.T.Ord.matches_partial_cmp } in
+    let compares : Compares number g.T.PartialOrd.partial_cmp = record { cmp = g.T.Ord.cmp; ordered = g.met.T.Counted.cmp_by_number; agrees = g.met.T.Ord.matches_partial_cmp } in
     let more : first ∷ take (i + 1) rest ≡ seen ++ item ∷ [] = ap (λ l. first ∷ l) (take_more rest i item c.loop-item-test.true ∙ ap (λ x. take i rest ++ x ∷ []) (sym c.item-item.is)) in
     let minimum : IsFirstMinimum number (seen ++ item ∷ []) c.if-lt.minimum = elim c.if-lt.branch [
       | then-lt w ↦ subst (IsFirstMinimum number (seen ++ item ∷ [])) (sym w.minimum-is) (minimum-takes number seen c.loop-item.minimum item old.minimum (less number _ compares _ _ (sym w.if-lt.ensures)))

@@ -1,5 +1,5 @@
 use Rattle.std.proofs.Common.{◌≡◌, arith, of_calls}
-use Rattle.cal_units.specs.Walk.{at_end, stops, goes_on}
+use Rattle.cal_units.specs.CycleSteps.{at_end, stops, goes_on}
 use Rattle.cal_units.proofs.steps.all_in.Goals as goal
 
 pub returns-then-not-f : goal.returns-then-not-f

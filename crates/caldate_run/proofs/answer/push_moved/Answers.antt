@@ -1,6 +1,6 @@
 use Rattle.std.proofs.Common.{◌∙◌, ap, sym, subst}
 use Rattle.cal_datetime.specs.DateTime.{date_at}
-use Rattle.cal_datetime.specs.OffsetDateTime.{Shown}
+use Rattle.cal_datetime.specs.OffsetDateTime.{LocalAndOffset}
 use Rattle.caldate_run.specs.Answers.{day_of, form_read, moment_of, on_day}
 use Rattle.caldate_run.specs.Forms.{IsInForm}
 use Rattle.caldate_run.specs.Moves.{LeadsTo}
@@ -13,9 +13,9 @@ returns-in-Some-clause-none c = λ no.
     let found = c.args.found.now in
     let day = c.in-Some.day in
     let none = c.push_in_form.ensures.none no in
-    let from = c.date.ensures.value ∙ ap (λ (m : Shown). date_at m.local) c.moment_of-moment.ensures in
+    let from = c.date.ensures.value ∙ ap (λ (m : LocalAndOffset). date_at m.local) c.moment_of-moment.ensures in
     let leads : LeadsTo by (day_of found) day = subst (λ n. LeadsTo by n day) from c.in-Some.ensures in
-    let there = c.on_day.ensures ∙ ap (λ (m : Shown). on_day m day) c.moment_of-moment.ensures in (
+    let there = c.on_day.ensures ∙ ap (λ (m : LocalAndOffset). on_day m day) c.moment_of-moment.ensures in (
       none.0,
       λ words h.
           let moment = ap (on_day (moment_of found)) (one_lead by (day_of found) h.0 day h.1 leads) ∙ sym there in

@@ -8,5 +8,5 @@ returns-then-is_conditional-clause-text c =
     let b = c.push-2.ensures.appended in
     let d = c.push-then-is_conditional.ensures.appended in
     let name = c.as_bytes.ensures.value in
-    let same = c.name.ensures.name in
+    let same = c.name.ensures.value in
     rw (conditional, d, b, a, name, same) (simp append_assoc)

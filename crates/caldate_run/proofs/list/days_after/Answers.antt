@@ -5,4 +5,4 @@ use Rattle.caldate_run.proofs.list.days_after.Goals as goal
 pub returns-in-Err-clause-day : goal.returns-in-Err-clause-day
 returns-in-Err-clause-day c = λ n h.
     let julian = c.to_julian_day.ensures in
-    c.in-Err.ensures.refused.0 refl n h.0 (omega (arith, ints, julian.day, julian.in_range, c.min.ensures, h.0, h.1))
+    c.in-Err.ensures.error.0 refl n h.0 (omega (arith, ints, julian.value, julian.in_range, c.min.ensures, h.0, h.1))

@@ -6,9 +6,9 @@ use Rattle.caldate_run.proofs.list.months_after.Goals as goal
 pub returns-clause-day : goal.returns-clause-day
 returns-clause-day c =
     let later = c.checked_add_months.ensures in
-    by_few c.args.date c.args.months _ c.checked_add_months.result later.in_range (omega (arith, ints, c.min.ensures)) later.every later.has
+    by_few c.args.date c.args.months _ c.checked_add_months.result later.in_range (omega (arith, ints, c.min.ensures)) later.every later.value
 
 pub returns-clause-near : goal.returns-clause-near
 returns-clause-near c =
     let later = c.checked_add_months.ensures in
-    near c.args.date c.args.months _ c.checked_add_months.result later.in_range (omega (arith, ints, c.min.ensures)) later.has
+    near c.args.date c.args.months _ c.checked_add_months.result later.in_range (omega (arith, ints, c.min.ensures)) later.value

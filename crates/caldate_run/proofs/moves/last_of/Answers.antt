@@ -11,4 +11,4 @@ returns-in-Week c =
     let r = c.last_of_iso_week.result in
     let last = c.last_of_iso_week.ensures in
     subst (λ period. MatchOption r ((s : ℕ) → ¬ (IsDate s × IsLastOf period n s)) (λ s. IsDate s × IsLastOf period n s)) (sym c.in-Week.is)
-    (week_end n r last.in_range last.day)
+    (week_end n r last.in_range last.value)

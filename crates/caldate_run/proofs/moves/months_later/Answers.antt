@@ -10,7 +10,7 @@ returns c =
     let near = c.nearest.ensures in
     let later = c.checked_add_months.ensures in
     let same : to_z w64 (of_z w64 z) ≡ z = to_z-of_z w64 z c.ranges.months in
-    by_nearest (IsMonthsLater c.args.date) z _ c.checked_add_months.result later.every later.has (months_inside c.args.date later.in_range)
+    by_nearest (IsMonthsLater c.args.date) z _ c.checked_add_months.result later.every later.value (months_inside c.args.date later.in_range)
     (record {
       below = λ h. omega (arith, ints, near.below (omega (arith, ints, same, h)));
       within = λ h i. omega (arith, ints, same, near.within (omega (arith, ints, same, h)) (omega (arith, ints, same, i)));

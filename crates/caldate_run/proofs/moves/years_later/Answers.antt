@@ -10,7 +10,7 @@ returns c =
     let near = c.nearest.ensures in
     let later = c.checked_add_years.ensures in
     let same : to_z w64 (of_z w64 z) ≡ z = to_z-of_z w64 z c.ranges.years in
-    by_nearest (λ y. IsMonthsLater c.args.date (pos 12 *ℤ y)) z (to_z w32 (of_z w32 c.nearest.result)) c.checked_add_years.result later.every later.has (years_inside c.args.date later.in_range)
+    by_nearest (λ y. IsMonthsLater c.args.date (pos 12 *ℤ y)) z (to_z w32 (of_z w32 c.nearest.result)) c.checked_add_years.result later.every later.value (years_inside c.args.date later.in_range)
     (record {
       below = λ h. omega (arith, ints, near.below (omega (arith, ints, same, h)));
       within = λ h i. omega (arith, ints, same, near.within (omega (arith, ints, same, h)) (omega (arith, ints, same, i)));

@@ -1,10 +1,10 @@
 use Rattle.std.proofs.Common.{◌≡◌, List, ℕ, Option, None, Some, sym, subst}
 use Rattle.std.specs.Prelude.{◌↔◌, IfErr, IsSomeAnd, Result}
 use Rattle.cal_text.specs.AnyForm.{IsTextOf}
-use Rattle.cal_text.specs.Position.{IsAtStop}
-use Rattle.cal_text.specs.Reading.{IsRefusedFor, IsRefusedForForm}
+use Rattle.cal_text.specs.Position.{IsErrorAtStop}
+use Rattle.cal_text.specs.Parsing.{FailsWithComponent, FailsWithSyntax}
 use Rattle.cal_text.specs.declared.any.DateOrMoment.{DateOrMoment}
-use Rattle.cal_text.specs.declared.error.Unreadable.{Unreadable}
+use Rattle.cal_text.specs.declared.error.ParseError.{ParseError}
 use Rattle.caldate_run.specs.Readings.{HasFormIn, IsFaultIn, IsTextIn}
 use Rattle.caldate_run.specs.Templates.{Fits, IsTemplateFor}
 use Rattle.caldate_run.specs.declared.reading.Reading.{Reading}
@@ -20,21 +20,21 @@ plain None found h = absurd h
 plain (Some t) found (other, is, e) = subst (λ f. IsTextOf t f) (sym e) is
 
 -- the text stops fitting the template and leaves the form of the reading at the same position
-stop : (named r : Reading) (template text : List ℕ) (result : Result DateOrMoment Unreadable) → named ≡ r → IsTemplateFor (HasFormIn r) text template
-    → IfErr result (IsAtStop (Fits template) text) → IfErr result (IsAtStop (HasFormIn named) text)
-stop named r template text result e is h = subst (λ r. IfErr result (IsAtStop (HasFormIn r) text)) (sym e) (stop_in (HasFormIn r) template text result is h)
+stop : (named r : Reading) (template text : List ℕ) (result : Result DateOrMoment ParseError) → named ≡ r → IsTemplateFor (HasFormIn r) text template
+    → IfErr result (IsErrorAtStop (Fits template) text) → IfErr result (IsErrorAtStop (HasFormIn named) text)
+stop named r template text result e is h = subst (λ r. IfErr result (IsErrorAtStop (HasFormIn r) text)) (sym e) (stop_in (HasFormIn r) template text result is h)
 
 pub returns-in-Any-clause-form : goal.returns-in-Any-clause-form
 returns-in-Any-clause-form c =
-    subst (λ r. IsRefusedForForm c.read_any.result ↔ ¬ HasFormIn r c.args.text.now) (sym c.in-Any.is) c.read_any.ensures.form
+    subst (λ r. FailsWithSyntax c.parse_any.result ↔ ¬ HasFormIn r c.args.text.now) (sym c.in-Any.is) c.parse_any.ensures.syntax_error
 
 pub returns-in-Any-clause-position : goal.returns-in-Any-clause-position
 returns-in-Any-clause-position c =
-    subst (λ r. IfErr c.read_any.result (IsAtStop (HasFormIn r) c.args.text.now)) (sym c.in-Any.is) c.read_any.ensures.position
+    subst (λ r. IfErr c.parse_any.result (IsErrorAtStop (HasFormIn r) c.args.text.now)) (sym c.in-Any.is) c.parse_any.ensures.position
 
 pub returns-in-Any-clause-component : goal.returns-in-Any-clause-component
 returns-in-Any-clause-component c why =
-    subst (λ r. IsRefusedFor why c.read_any.result ↔ IsFaultIn r c.args.text.now why) (sym c.in-Any.is) (c.read_any.ensures.component why)
+    subst (λ r. FailsWithComponent why c.parse_any.result ↔ IsFaultIn r c.args.text.now why) (sym c.in-Any.is) (c.parse_any.ensures.out_of_range why)
 
 pub returns-in-Basic-clause-every : goal.returns-in-Basic-clause-every
 returns-in-Basic-clause-every c found is =
@@ -71,4 +71,4 @@ returns-in-Unix-clause-every c found is =
 
 pub returns-in-Unix-clause-component : goal.returns-in-Unix-clause-component
 returns-in-Unix-clause-component c why =
-    subst (λ r. IsRefusedFor why c.read_number.result ↔ IsFaultIn r c.args.text.now why) (sym c.in-Unix.is) (c.read_number.ensures.component why)
+    subst (λ r. FailsWithComponent why c.read_number.result ↔ IsFaultIn r c.args.text.now why) (sym c.in-Unix.is) (c.read_number.ensures.component why)

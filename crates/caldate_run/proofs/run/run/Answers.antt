@@ -59,7 +59,7 @@ stands_kept filter input w0 w gathered bytes got kept left progress same e s =
 pub returns-then-branch-eq0-clause-ended : goal.returns-then-branch-eq0-clause-ended
 returns-then-branch-eq0-clause-ended g c =
     let s = stands_read c.args.filter _ _ _ _ _ [] c.loop-reads.input c.as_bytes.result.now c.read_more.new.self c.loop-reads.progress
-    refl c.as_bytes.ensures.bytes c.loop-reads.invariant.0 c.in_ok-read_more.ensures.given in
+    refl c.as_bytes.ensures.value c.loop-reads.invariant.0 c.in_ok-read_more.ensures.given in
     let end = c.in_ok-read_more.ensures.end c.if-branch-eq0.true in
     let all : EndsFrom c.args.filter (g.W.Sink.contents c.loop-reads.writer) (g.W.Sink.contents c.answer_last.new.writer) [] c.as_bytes.result.now c.loop-reads.progress
     → IsAtEnd (g.R.Source.remaining c.read_more.new.reader) × Gives (g.R.Source.remaining c.args.reader.now) (g.R.Source.remaining c.read_more.new.reader) (λ input. AnswersAll c.args.filter (lines_of input) (g.W.Sink.contents c.args.writer.now) (g.W.Sink.contents c.answer_last.new.writer))
@@ -72,7 +72,7 @@ returns-then-branch-eq0-clause-ended g c =
 pub returns-in-Err-clause-ended : goal.returns-in-Err-clause-ended
 returns-in-Err-clause-ended g c =
     let s = stands_read c.args.filter _ _ _ _ _ c.loop-reads.buffer c.loop-reads.input c.as_bytes-in-loop-reads.result.now c.read_more.new.self c.loop-reads.progress
-    c.loop-reads.invariant.2 c.as_bytes-in-loop-reads.ensures.bytes c.loop-reads.invariant.0 c.in_ok-read_more.ensures.given in
+    c.loop-reads.invariant.2 c.as_bytes-in-loop-reads.ensures.value c.loop-reads.invariant.0 c.in_ok-read_more.ensures.given in
     ended c.args.filter (Err c.in-Err.fault) _ _ _ _ tt
     (λ h. record { input = s.0; given = s.1; holds = inl (c.in-Err.ensures.write h s.0 _ s.2) })
     (λ h. c.in-Err.ensures.no_read (ap Err (same_fault c.in-Err.fault Read h)))
@@ -81,9 +81,9 @@ returns-in-Err-clause-ended g c =
 pub returns-in_err-flush-clause-ended : goal.returns-in_err-flush-clause-ended
 returns-in_err-flush-clause-ended g c =
     let s = stands_read c.args.filter _ _ _ _ _ c.loop-reads.buffer c.loop-reads.input c.as_bytes-in-loop-reads.result.now c.read_more.new.self c.loop-reads.progress
-    c.loop-reads.invariant.2 c.as_bytes-in-loop-reads.ensures.bytes c.loop-reads.invariant.0 c.in_ok-read_more.ensures.given in
+    c.loop-reads.invariant.2 c.as_bytes-in-loop-reads.ensures.value c.loop-reads.invariant.0 c.in_ok-read_more.ensures.given in
     let kept = stands_kept c.args.filter s.0 _ _ c.answer_lines.new.buffer c.as_bytes-in-loop-reads.result.now c.read_more.new.self c.keep_last.new.self c.in-Ok.left c.answer_lines.new.progress
-    c.as_bytes-in-loop-reads.ensures.bytes c.keep_last.ensures (c.in-Ok.ensures.ok s.0 _ s.2) in
+    c.as_bytes-in-loop-reads.ensures.value c.keep_last.ensures (c.in-Ok.ensures.ok s.0 _ s.2) in
     let went = c.let_go.ensures.advances c.args.filter _ c.answer_lines.new.buffer s.0 _ kept in
     let is : IsErrAnd c.from_residual-in_err-flush.result IsOfWrite = search rules in
     write_ended c.args.filter _ _ _ _ _ is
@@ -92,9 +92,9 @@ returns-in_err-flush-clause-ended g c =
 pub loop-reads-preserved : goal.loop-reads-preserved
 loop-reads-preserved g c =
     let s = stands_read c.args.filter _ _ _ _ _ c.loop-reads.buffer c.loop-reads.input c.as_bytes-in-loop-reads.result.now c.read_more.new.self c.loop-reads.progress
-    c.loop-reads.invariant.2 c.as_bytes-in-loop-reads.ensures.bytes c.loop-reads.invariant.0 c.in_ok-read_more.ensures.given in
+    c.loop-reads.invariant.2 c.as_bytes-in-loop-reads.ensures.value c.loop-reads.invariant.0 c.in_ok-read_more.ensures.given in
     let kept = stands_kept c.args.filter s.0 _ _ c.answer_lines.new.buffer c.as_bytes-in-loop-reads.result.now c.read_more.new.self c.keep_last.new.self c.in-Ok.left c.answer_lines.new.progress
-    c.as_bytes-in-loop-reads.ensures.bytes c.keep_last.ensures (c.in-Ok.ensures.ok s.0 _ s.2) in
+    c.as_bytes-in-loop-reads.ensures.value c.keep_last.ensures (c.in-Ok.ensures.ok s.0 _ s.2) in
     let went = c.let_go.ensures.advances c.args.filter _ c.answer_lines.new.buffer s.0 _ kept in
     let out = c.in_ok-flush.ensures.ok in (
       (s.0, s.1, gone (IsReplyTo c.args.filter) s.0 _ _ _ c.answer_lines.new.buffer [] c.answer_lines.new.buffer c.let_go.new.input c.let_go.new.progress (sym (append-nil c.answer_lines.new.buffer)) out.0 went),

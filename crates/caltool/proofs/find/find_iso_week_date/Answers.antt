@@ -1,11 +1,11 @@
 use Rattle.std.proofs.Common.{◌≡◌, to_z, of_z, w32}
 use Rattle.std.proofs.lemmas.Int.{to_z-of_z}
 use Rattle.cal_time.specs.Weekday.{index}
-use Rattle.caltool.proofs.Finds.{finds_iso_week_date}
+use Rattle.caltool.proofs.FindsDate.{finds_iso_week_date}
 use Rattle.caltool.proofs.find.find_iso_week_date.Goals as goal
 
 pub returns : goal.returns
 returns c =
     let same : to_z w32 (of_z w32 c.args.year) ≡ c.args.year = to_z-of_z w32 c.args.year c.ranges.year in
     let is = rw same at c.from_iso_week_date.ensures in
-    finds_iso_week_date c.args.year c.args.week (index c.args.weekday) c.from_iso_week_date.result is.every is.has is.reason is.year is.week is.weekday
+    finds_iso_week_date c.args.year c.args.week (index c.args.weekday) c.from_iso_week_date.result is.every is.value is.error_kind is.year is.week is.weekday

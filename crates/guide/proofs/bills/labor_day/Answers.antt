@@ -19,4 +19,4 @@ monday y is none =
 pub unreachable-requires : goal.unreachable-requires
 unreachable-requires c =
     let year : to_z w32 (of_z w32 c.args.year) ≡ c.args.year = omega (arith, ints) in
-    monday c.args.year c.requires (subst (λ y. NoDate (IsNthWeekday y 9 0 1)) year (c.in-Err.ensures.refused.0 refl))
+    monday c.args.year c.requires (subst (λ y. NoDate (IsNthWeekday y 9 0 1)) year (c.in-Err.ensures.error.0 refl))

@@ -2,7 +2,7 @@ use Rattle.std.proofs.Common.{arith, ℕ, ◌<◌, ◌≤◌, ◌≡◌, ◌⊎�
 use Rattle.std.proofs.lemmas.Int.{ints}
 use Rattle.std.proofs.lemmas.Bool.Decides.{nat_tests}
 use Rattle.cal_time.specs.Date.{month_at, day_of_month_at}
-use Rattle.cal_time.specs.Parts.{year_at-rises, year_at-later, year_at-later_in_month}
+use Rattle.cal_time.specs.Components.{year_at-rises, year_at-later, year_at-later_in_month}
 use Rattle.guide.proofs.callers.age.Goals as goal
 use Rattle.guide.proofs.callers.age.Goals.{then-lt, else-lt+then-eq, else-lt+else-eq}
 
@@ -24,8 +24,8 @@ returns-then-day-clause-since c since =
       | else-lt+else-eq w ↦ absurd (grind (arith, nat_tests))
     ]
 
-pub returns-then-day-clause-least : goal.returns-then-day-clause-least
-returns-then-day-clause-least c =
+pub returns-then-day-clause-min : goal.returns-then-day-clause-min
+returns-then-day-clause-min c =
     elim c.if-lt.branch [
       | then-lt w ↦ let month : month_at c.args.at < month_at c.args.born = grind (arith, nat_tests) in omega (arith, ints, year_at-later c.args.born c.args.at c.requires month)
       | else-lt+then-eq w ↦
@@ -48,5 +48,5 @@ returns-else-day-clause-before c before =
           absurd (apart _ _ (day_of_month_at c.args.born) _ (inl month) before)
     ]
 
-pub returns-else-day-clause-least : goal.returns-else-day-clause-least
-returns-else-day-clause-least c = omega (arith, ints, year_at-rises c.args.born c.args.at)
+pub returns-else-day-clause-min : goal.returns-else-day-clause-min
+returns-else-day-clause-min c = omega (arith, ints, year_at-rises c.args.born c.args.at)

@@ -1,5 +1,5 @@
 use Rattle.std.proofs.Common.{rules}
-use Rattle.cal_time.specs.Parts.{iso_week_date-same}
+use Rattle.cal_time.specs.Components.{iso_week_date-same}
 use Rattle.guide.proofs.callers.iso_week_date_through.Goals as goal
 
 pub returns-in-Ok : goal.returns-in-Ok

@@ -6,7 +6,7 @@ use Rattle.cal_time.specs.Days.{day_with, days-follow, month_at-range, year_at-r
 use Rattle.cal_time.specs.Laws.{prev_occurrence-some, weekday_at-is}
 use Rattle.cal_time.specs.Lengths.{days_in_month}
 use Rattle.cal_time.specs.Month.{number}
-use Rattle.cal_time.specs.Parts.{day_of_month_at-rises}
+use Rattle.cal_time.specs.Components.{day_of_month_at-rises}
 use Rattle.cal_schedule.proofs.Ends.{days_in_month-least}
 use Rattle.guide.proofs.callers.last_friday.Goals as goal
 
@@ -46,4 +46,4 @@ pub returns-else-eq-clause-none : goal.returns-else-eq-clause-none
 returns-else-eq-clause-none c =
     let has : HasCalendarDate c.args.year (number c.args.month) (days_in_month c.args.year (number c.args.month)) c.in-Ok.last = search rules in
     let most = late _ _ c.in-Ok.last c.weekday.ensures.in_range has in
-    there _ _ _ c.checked_prev_occurrence.ensures.day (prev_occurrence-some 4 c.in-Ok.last 1 (omega arith) (omega arith) (omega arith))
+    there _ _ _ c.checked_prev_occurrence.ensures.value (prev_occurrence-some 4 c.in-Ok.last 1 (omega arith) (omega arith) (omega arith))

@@ -1,6 +1,6 @@
 use Rattle.std.proofs.Common.{arith}
 use Rattle.std.proofs.lemmas.Int.{ints}
-use Rattle.cal_time.specs.Parts.{ordinals-apart_a_year}
+use Rattle.cal_time.specs.Components.{ordinals-apart_a_year}
 use Rattle.guide.proofs.days.days_to_next_new_year.Goals as goal
 
 pub returns : goal.returns

@@ -4,7 +4,7 @@ use Rattle.cal_time.specs.Date.{year_at, month_at, day_of_month_at}
 use Rattle.cal_time.specs.Lengths.{days_in_month}
 use Rattle.cal_schedule.specs.Months.{month_number_at, IsMonthsLater}
 use Rattle.cal_c.specs.Columns.{date_row}
-use Rattle.cal_c.specs.Results.{IsDayWith}
+use Rattle.cal_c.specs.Results.{IsDateWith}
 use Rattle.cal_c.specs.Values.{day_of}
 use Rattle.cal_c.proofs.columns.months.date_months_later.Goals as goal
 
@@ -13,8 +13,8 @@ returns-then-not-is_julian_day c =
     let f = c.ranges.date in
     let is = simp to_z-of_z at c.if-not-is_julian_day.ensures in
     record {
-      bad_date = search rules;
-      past_range = search rules;
+      invalid_date = search rules;
+      result_out_of_range = search rules;
       day = λ h k. let e = is.1 h in absurd (cc);
     }
 
@@ -22,10 +22,10 @@ pub returns-then-index-gt-LAST_MONTH : goal.returns-then-index-gt-LAST_MONTH
 returns-then-index-gt-LAST_MONTH c =
     let f = c.ranges.date in
     let g = c.ranges.months in
-    let first = simp to_z-of_z at c.index_and_day-index.ensures.index in
+    let first = simp to_z-of_z at c.month_number_and_day-index.ensures.index in
     record {
-      bad_date = search rules;
-      past_range = search rules;
+      invalid_date = search rules;
+      result_out_of_range = search rules;
       day = λ h k. absurd (omega (arith, ints, first h, k.not_before, k.not_after));
     }
 
@@ -33,18 +33,18 @@ pub returns-else-index-gt-LAST_MONTH : goal.returns-else-index-gt-LAST_MONTH
 returns-else-index-gt-LAST_MONTH c =
     let f = c.ranges.date in
     let g = c.ranges.months in
-    let fits : FitsSigned w32 c.day_in_month-later.result = search rules in
-    let first = simp to_z-of_z at c.index_and_day-index.ensures.index in
-    let same = simp to_z-of_z at c.index_and_day-index.ensures.day in
+    let fits : FitsSigned w32 c.clamped_date_in_month-later.result = search rules in
+    let first = simp to_z-of_z at c.month_number_and_day-index.ensures.index in
+    let same = simp to_z-of_z at c.month_number_and_day-index.ensures.day in
     let n = day_of c.args.date in
-    let r = day_of c.day_in_month-later.result in
+    let r = day_of c.clamped_date_in_month-later.result in
     record {
-      bad_date = search rules;
-      past_range = λ h out. absurd (out (record { not_before = omega (arith, ints, first h); not_after = omega (arith, ints, first h) }));
+      invalid_date = search rules;
+      result_out_of_range = λ h out. absurd (out (record { not_before = omega (arith, ints, first h); not_after = omega (arith, ints, first h) }));
       day = λ h k.
-          let month : month_number_at r ≡ month_number_at n +ℤ c.args.months = omega (arith, ints, first h, c.day_in_month-later.ensures.month) in
+          let month : month_number_at r ≡ month_number_at n +ℤ c.args.months = omega (arith, ints, first h, c.clamped_date_in_month-later.ensures.month) in
           let day : day_of_month_at r ≡ min (day_of_month_at n) (days_in_month (year_at r) (month_at r)) =
-          c.day_in_month-later.ensures.day ∙ ap (λ k. min k (days_in_month (year_at r) (month_at r))) (same h) in
-          let here : IsDayWith (IsMonthsLater n c.args.months) (date_row c.day_in_month-later.result 0) = record { status_is = refl; in_range = c.day_in_month-later.ensures.in_range; has = record { month = month; day = day } } in
+          c.clamped_date_in_month-later.ensures.day ∙ ap (λ k. min k (days_in_month (year_at r) (month_at r))) (same h) in
+          let here : IsDateWith (IsMonthsLater n c.args.months) (date_row c.clamped_date_in_month-later.result 0) = record { status_is = refl; in_range = c.clamped_date_in_month-later.ensures.range; has = record { month = month; day = day } } in
           simp to_z-of_z here;
     }

@@ -1,6 +1,6 @@
 use Rattle.std.proofs.Common.{ℤ, neg_ℤ, SomeIff, sym, subst}
 use Rattle.cal_time.specs.SignedDuration.{IsDuration}
-use Rattle.cal_c.specs.Results.{IsDurationIfAny}
+use Rattle.cal_c.specs.Results.{IsDurationOrOutOfRange}
 use Rattle.cal_c.specs.Values.{nanoseconds_in}
 use Rattle.cal_c.proofs.Durations.{duration-if-any}
 use Rattle.cal_c.proofs.duration.arithmetic.fots_duration_checked_neg.Goals as goal
@@ -9,4 +9,4 @@ pub returns-clause-value : goal.returns-clause-value
 returns-clause-value c = λ d.
     let P : ℤ → Type 0 = λ a. SomeIff c.checked_neg.result (IsDuration (neg_ℤ a)) (neg_ℤ a) in
     let found : P (nanoseconds_in c.args.duration) = subst P c.in-Some.ensures.1 c.checked_neg.ensures in
-    subst (IsDurationIfAny (neg_ℤ (nanoseconds_in c.args.duration))) (sym c.of_option.ensures) (duration-if-any _ _ found)
+    subst (IsDurationOrOutOfRange (neg_ℤ (nanoseconds_in c.args.duration))) (sym c.from_option.ensures) (duration-if-any _ _ found)

@@ -10,4 +10,4 @@ returns-clause-ascii c =
     let t = c.args.self in
     let last = subst (λ n. IsAscii (decimals n)) c.nanosecond.ensures c.push_decimals.ensures.ascii in
     let same : c.push_decimals.new.self ≡ text t = search rules in
-    subst IsAscii (sym same) (text-ascii t c.hour.ensures.range.below_day last)
+    subst IsAscii (sym same) (text-ascii t c.hour.ensures.in_range.below_day last)

@@ -9,10 +9,10 @@ pub returns-clause-same_year : goal.returns-clause-same_year
 returns-clause-same_year c = λ h.
     let fits : FitsSigned w64 c.whole_days.result = search rules in
     let days : to_z w64 (of_z w64 c.whole_days.result) ≡ whole_days c.args.duration = to_z-of_z w64 _ fits ∙ c.whole_days.ensures in
-    moved_in_year c.args.self (whole_days c.args.duration) c.moved.result c.moved.ensures.in_range (rw days at c.moved.ensures.day) h
+    moved_in_year c.args.self (whole_days c.args.duration) c.checked_add_days.result c.checked_add_days.ensures.in_range (rw days at c.checked_add_days.ensures.value) h
 
 pub returns-clause-number : goal.returns-clause-number
 returns-clause-number c =
     let fits : FitsSigned w64 c.whole_days.result = search rules in
     let days : to_z w64 (of_z w64 c.whole_days.result) ≡ whole_days c.args.duration = to_z-of_z w64 _ fits ∙ c.whole_days.ensures in
-    found_number (pos c.args.self +ℤ whole_days c.args.duration) c.moved.result (rw days at c.moved.ensures.day)
+    found_number (pos c.args.self +ℤ whole_days c.args.duration) c.checked_add_days.result (rw days at c.checked_add_days.ensures.value)

@@ -10,7 +10,7 @@ returns-clause-same_year c =
     let days : to_z w64 (of_z w64 c.whole_days.result) ≡ whole_days c.args.duration = to_z-of_z w64 _ fits ∙ c.whole_days.ensures in
     let found = rw days at c.in_ok-days.ensures in
     let back : to_z w64 (of_z w64 c.in_ok-days.days) ≡ neg_ℤ (whole_days c.args.duration) = rw found.1 (to_z-of_z w64 _ found.0) in
-    moved_back_in_year c.args.self (whole_days c.args.duration) _ c.moved.result c.moved.ensures.in_range back c.moved.ensures.day
+    moved_back_in_year c.args.self (whole_days c.args.duration) _ c.checked_add_days.result c.checked_add_days.ensures.in_range back c.checked_add_days.ensures.value
 
 pub returns-clause-number : goal.returns-clause-number
 returns-clause-number c =
@@ -18,4 +18,4 @@ returns-clause-number c =
     let days : to_z w64 (of_z w64 c.whole_days.result) ≡ whole_days c.args.duration = to_z-of_z w64 _ fits ∙ c.whole_days.ensures in
     let found = rw days at c.in_ok-days.ensures in
     let back : to_z w64 (of_z w64 c.in_ok-days.days) ≡ neg_ℤ (whole_days c.args.duration) = rw found.1 (to_z-of_z w64 _ found.0) in
-    found_back c.args.self (whole_days c.args.duration) _ c.moved.result back c.moved.ensures.day
+    found_back c.args.self (whole_days c.args.duration) _ c.checked_add_days.result back c.checked_add_days.ensures.value

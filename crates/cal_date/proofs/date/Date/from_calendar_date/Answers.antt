@@ -18,8 +18,8 @@ no_year c year = let is = rw (to_z-of_z w32 _ c.ranges.year) at c.is_year.ensure
 pub returns-then-not-is_year-clause-every : goal.returns-then-not-is_year-clause-every
 returns-then-not-is_year-clause-every c = λ n h has. absurd (no_year c (calendar_in_range n _ (index c.args.month) _ h has).year)
 
-pub returns-then-not-is_year-clause-refused : goal.returns-then-not-is_year-clause-refused
-returns-then-not-is_year-clause-refused c = (λ e. NoDate-calendar_date _ (index c.args.month) _ (λ h. no_year c h.0), λ none. refl)
+pub returns-then-not-is_year-clause-error : goal.returns-then-not-is_year-clause-error
+returns-then-not-is_year-clause-error c = (λ e. NoDate-calendar_date _ (index c.args.month) _ (λ h. no_year c h.0), λ none. refl)
 
 no_day : (c : goal.After-conditional) → ¬ IsDayOfMonth c.args.year (number c.args.month) c.args.day
 no_day c day =
@@ -30,8 +30,8 @@ no_day c day =
 pub returns-then-not-has_day-clause-every : goal.returns-then-not-has_day-clause-every
 returns-then-not-has_day-clause-every c = λ n h has. absurd (no_day c (calendar_in_range n _ (index c.args.month) _ h has).day)
 
-pub returns-then-not-has_day-clause-refused : goal.returns-then-not-has_day-clause-refused
-returns-then-not-has_day-clause-refused c = (λ e. NoDate-calendar_date _ (index c.args.month) _ (λ h. no_day c h.1), λ none. refl)
+pub returns-then-not-has_day-clause-error : goal.returns-then-not-has_day-clause-error
+returns-then-not-has_day-clause-error c = (λ e. NoDate-calendar_date _ (index c.args.month) _ (λ h. no_day c h.1), λ none. refl)
 
 -- After both tests the year and the day are in their ranges.
 record Fits (c : After-from) : Type 0 where
@@ -75,17 +75,17 @@ pub from_parts-requires-clause-leap : goal.from_parts-requires-clause-leap
 from_parts-requires-clause-leap c = let f = fits c in rw f.same f.leap
 
 number_is : (c : After-from_parts) → c.from_parts.result ≡ ordinal_number c.args.year (ordinal_in c.args.year (index c.args.month) c.args.day)
-number_is c = let f = fits c.before in rw (f.same, f.ordinal_is) at c.from_parts.ensures.number
+number_is c = let f = fits c.before in rw (f.same, f.ordinal_is) at c.from_parts.ensures.value
 
 pub returns-clause-every : goal.returns-clause-every
 returns-clause-every c = λ n h has. let f = fits c.before in ap Ok (number_is c ∙ sym (calendar_in_range n _ (index c.args.month) _ h has).number_is)
 
-pub returns-clause-has : goal.returns-clause-has
-returns-clause-has c =
+pub returns-clause-value : goal.returns-clause-value
+returns-clause-value c =
     let f = fits c.before in
     rw (number_is c) (IsDate-ordinal_number _ _ f.year f.ordinal, (stands_at c.args.year (index c.args.month) c.args.day f.year.0 (index-below c.args.month) f.day).has)
 
-pub returns-clause-refused : goal.returns-clause-refused
-returns-clause-refused c =
+pub returns-clause-error : goal.returns-clause-error
+returns-clause-error c =
     let f = fits c.before in
     (λ e. absurd (false≢true e), λ none. absurd (none _ (IsDate-ordinal_number _ _ f.year f.ordinal) (stands_at c.args.year (index c.args.month) c.args.day f.year.0 (index-below c.args.month) f.day).has))

@@ -5,7 +5,7 @@ use Rattle.cal_units.specs.Weekday.{index}
 use Rattle.cal_units.specs.WeekdayCycle.{index-below}
 use Rattle.cal_date.specs.Date.{IsYear, IsOrdinal, NoDate}
 use Rattle.cal_date.specs.IsoWeekDate.{IsWeek, HasIsoWeekDate}
-use Rattle.cal_date.specs.ClosedForms.{IsDayByForm, year_of_week, ordinal_of_week}
+use Rattle.cal_date.specs.ClosedForms.{IsDayByClosedForm, year_of_week, ordinal_of_week}
 use Rattle.cal_units.specs.declared.weekday.Weekday.{Weekday}
 use Rattle.cal_date.proofs.Dates.{IsYear-i32}
 use Rattle.cal_date.proofs.IsoWeeks.{in_weeks}
@@ -18,8 +18,8 @@ no_year c year = let is = rw (to_z-of_z w32 _ c.ranges.year) at c.is_year.ensure
 pub returns-then-not-is_year-clause-every : goal.returns-then-not-is_year-clause-every
 returns-then-not-is_year-clause-every c = λ n h has. absurd (no_year c (in_weeks n _ _ _ h has).year)
 
-pub returns-then-not-is_year-clause-refused : goal.returns-then-not-is_year-clause-refused
-returns-then-not-is_year-clause-refused c = (λ e n h has. no_year c (in_weeks n _ _ _ h has).year, λ none. refl)
+pub returns-then-not-is_year-clause-error : goal.returns-then-not-is_year-clause-error
+returns-then-not-is_year-clause-error c = (λ e n h has. no_year c (in_weeks n _ _ _ h has).year, λ none. refl)
 
 no_week : (c : goal.After-conditional) → ¬ IsWeek c.args.year c.args.week
 no_week c week =
@@ -30,8 +30,8 @@ no_week c week =
 pub returns-then-not-has_week-clause-every : goal.returns-then-not-has_week-clause-every
 returns-then-not-has_week-clause-every c = λ n h has. absurd (no_week c (in_weeks n _ _ _ h has).week)
 
-pub returns-then-not-has_week-clause-refused : goal.returns-then-not-has_week-clause-refused
-returns-then-not-has_week-clause-refused c = (λ e n h has. no_week c (in_weeks n _ _ _ h has).week, λ none. refl)
+pub returns-then-not-has_week-clause-error : goal.returns-then-not-has_week-clause-error
+returns-then-not-has_week-clause-error c = (λ e n h has. no_week c (in_weeks n _ _ _ h has).week, λ none. refl)
 
 -- After both tests the year and the week are in their ranges. z and o are the year and the ordinal
 -- of the closed forms.
@@ -55,22 +55,22 @@ fits y w weekday z o year week year_is ordinal_is =
     }
 
 -- If the year of the day is after the last year, no day has the ISO week date.
-after : (c : goal.After-conditional-then-calendar_year-gt-MAX_YEAR) → Fits c.args.year c.args.week (index c.args.weekday) c.ordinal_date_of-calendar_year.result.0 c.ordinal_date_of-calendar_year.result.1
+after : (c : goal.After-conditional-then-calendar_year-gt-MAX_YEAR) → Fits c.args.year c.args.week (index c.args.weekday) c.ordinal_date_from_week-calendar_year.result.0 c.ordinal_date_from_week-calendar_year.result.1
 after c =
-    let found = c.ordinal_date_of-calendar_year.ensures in
+    let found = c.ordinal_date_from_week-calendar_year.ensures in
     fits c.args.year c.args.week c.args.weekday _ _ (rw (to_z-of_z w32 _ c.ranges.year) at (c.is_year.ensures.0 c.if-not-is_year.false)) (c.has_week.ensures.0 c.if-not-has_week.false) found.year found.ordinal
 
 no_day : (c : goal.After-conditional-then-calendar_year-gt-MAX_YEAR) → NoDate (HasIsoWeekDate c.args.year c.args.week (index c.args.weekday))
 no_day c =
     let f = after c in
-    let small : FitsSigned w32 c.ordinal_date_of-calendar_year.result.0 = search rules in
+    let small : FitsSigned w32 c.ordinal_date_from_week-calendar_year.result.0 = search rules in
     NoDate-week_date c.args.year c.args.week (index c.args.weekday) f.year f.week f.below (let is = f.year_is in omega (arith, ints))
 
 pub returns-then-calendar_year-gt-MAX_YEAR-clause-every : goal.returns-then-calendar_year-gt-MAX_YEAR-clause-every
 returns-then-calendar_year-gt-MAX_YEAR-clause-every c = λ n h has. absurd (no_day c n h has)
 
-pub returns-then-calendar_year-gt-MAX_YEAR-clause-refused : goal.returns-then-calendar_year-gt-MAX_YEAR-clause-refused
-returns-then-calendar_year-gt-MAX_YEAR-clause-refused c = (λ e. no_day c, λ none. refl)
+pub returns-then-calendar_year-gt-MAX_YEAR-clause-error : goal.returns-then-calendar_year-gt-MAX_YEAR-clause-error
+returns-then-calendar_year-gt-MAX_YEAR-clause-error c = (λ e. no_day c, λ none. refl)
 
 pub returns-then-calendar_year-gt-MAX_YEAR-clause-weekday : goal.returns-then-calendar_year-gt-MAX_YEAR-clause-weekday
 returns-then-calendar_year-gt-MAX_YEAR-clause-weekday c =
@@ -79,15 +79,15 @@ returns-then-calendar_year-gt-MAX_YEAR-clause-weekday c =
 
 -- Else the day with this year and ordinal has it.
 record Found (c : goal.Else-calendar_year-gt-MAX_YEAR) : Type 0 where
-  same : to_z w32 (of_z w32 c.ordinal_date_of-calendar_year.result.0) ≡ c.ordinal_date_of-calendar_year.result.0
-  year : IsYear c.ordinal_date_of-calendar_year.result.0
-  ordinal : IsOrdinal c.ordinal_date_of-calendar_year.result.0 c.ordinal_date_of-calendar_year.result.1
+  same : to_z w32 (of_z w32 c.ordinal_date_from_week-calendar_year.result.0) ≡ c.ordinal_date_from_week-calendar_year.result.0
+  year : IsYear c.ordinal_date_from_week-calendar_year.result.0
+  ordinal : IsOrdinal c.ordinal_date_from_week-calendar_year.result.0 c.ordinal_date_from_week-calendar_year.result.1
 
 found : (c : goal.Else-calendar_year-gt-MAX_YEAR) → Found c
 found c =
-    let made = c.ordinal_date_of-calendar_year.ensures in
+    let made = c.ordinal_date_from_week-calendar_year.ensures in
     let f = fits c.args.year c.args.week c.args.weekday _ _ (rw (to_z-of_z w32 _ c.ranges.year) at (c.is_year.ensures.0 c.if-not-is_year.false)) (c.has_week.ensures.0 c.if-not-has_week.false) made.year made.ordinal in
-    let small : FitsSigned w32 c.ordinal_date_of-calendar_year.result.0 = search rules in
+    let small : FitsSigned w32 c.ordinal_date_from_week-calendar_year.result.0 = search rules in
     let is = day_of_week c.args.year c.args.week (index c.args.weekday) f.year.0 f.week f.below in
     let late = is.late in
     let year = f.year_is in
@@ -104,27 +104,27 @@ pub at_ordinal-requires-clause-ordinal : goal.at_ordinal-requires-clause-ordinal
 at_ordinal-requires-clause-ordinal c = let f = found c in rw f.same f.ordinal
 
 pub returns-clause-closed_form : goal.returns-clause-closed_form
-unfolding IsDayByForm
+unfolding IsDayByClosedForm
 returns-clause-closed_form c =
-    let made = c.ordinal_date_of-calendar_year.ensures in
+    let made = c.ordinal_date_from_week-calendar_year.ensures in
     let f = fits c.args.year c.args.week c.args.weekday _ _ (rw (to_z-of_z w32 _ c.ranges.year) at (c.is_year.ensures.0 c.if-not-is_year.false)) (c.has_week.ensures.0 c.if-not-has_week.false) made.year made.ordinal in
-    let small : FitsSigned w32 c.ordinal_date_of-calendar_year.result.0 = search rules in
+    let small : FitsSigned w32 c.ordinal_date_from_week-calendar_year.result.0 = search rules in
     rw (to_z-of_z w32 _ small, f.year_is, f.ordinal_is) at c.at_ordinal.ensures.date
 
-pub returns-clause-has : goal.returns-clause-has
-unfolding IsDayByForm
-returns-clause-has c =
-    let made = c.ordinal_date_of-calendar_year.ensures in
+pub returns-clause-value : goal.returns-clause-value
+unfolding IsDayByClosedForm
+returns-clause-value c =
+    let made = c.ordinal_date_from_week-calendar_year.ensures in
     let f = fits c.args.year c.args.week c.args.weekday _ _ (rw (to_z-of_z w32 _ c.ranges.year) at (c.is_year.ensures.0 c.if-not-is_year.false)) (c.has_week.ensures.0 c.if-not-has_week.false) made.year made.ordinal in
-    (c.at_ordinal.ensures.in_range, week_date_of_day c.args.year c.args.week (index c.args.weekday) _ f.year f.week f.below (returns-clause-closed_form c))
+    (c.at_ordinal.ensures.range, week_date_of_day c.args.year c.args.week (index c.args.weekday) _ f.year f.week f.below (returns-clause-closed_form c))
 
 pub returns-clause-every : goal.returns-clause-every
 returns-clause-every c = λ n h has.
-    let here = returns-clause-has c in
+    let here = returns-clause-value c in
     ap Ok (omega (arith, (in_weeks _ _ _ _ here.0 here.1).number_is, (in_weeks n _ _ _ h has).number_is))
 
-pub returns-clause-refused : goal.returns-clause-refused
-returns-clause-refused c = let here = returns-clause-has c in (λ e. absurd (false≢true e), λ none. absurd (none _ here.0 here.1))
+pub returns-clause-error : goal.returns-clause-error
+returns-clause-error c = let here = returns-clause-value c in (λ e. absurd (false≢true e), λ none. absurd (none _ here.0 here.1))
 
 pub returns-clause-weekday : goal.returns-clause-weekday
-returns-clause-weekday c = let here = returns-clause-has c in (λ e. absurd e, λ all. all.2 _ here.0 here.1)
+returns-clause-weekday c = let here = returns-clause-value c in (λ e. absurd e, λ all. all.2 _ here.0 here.1)

@@ -23,7 +23,7 @@ returns c =
     let o = c.args.ordinal in
     let number = number_of-packed y o c.requires.year c.requires.ordinal in
     rw (bits c) (record {
-      number = number;
+      value = number;
       date = subst (HasOrdinalDate y o) (sym number) (HasOrdinalDate-ordinal_number y o c.requires.year c.requires.ordinal);
-      in_range = subst IsDate (sym number) (IsDate-ordinal_number y o c.requires.year c.requires.ordinal);
+      range = subst IsDate (sym number) (IsDate-ordinal_number y o c.requires.year c.requires.ordinal);
     })

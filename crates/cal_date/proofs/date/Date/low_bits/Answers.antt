@@ -1,8 +1,8 @@
 use Rattle.cal_date.proofs.Packed.{at_number, low_bits}
 use Rattle.cal_date.proofs.date.Date.low_bits.Goals as goal
 
-pub returns-clause-bits : goal.returns-clause-bits
-returns-clause-bits c =
+pub returns-clause-value : goal.returns-clause-value
+returns-clause-value c =
     let at = at_number c.self.inside c.args.self c.self.invariant c.self.view_is in
     rw at.packed_is (low_bits _ _ at.year at.ordinal)
 

@@ -1,6 +1,6 @@
 use Rattle.std.proofs.Common.{◌≡◌, ◌+◌, ◌-◌, ◌∙◌, ap, arith}
 use Rattle.cal_units.specs.Month.{index}
-use Rattle.cal_units.specs.MonthCycle.{index-month_at}
+use Rattle.cal_units.specs.MonthCycle.{index-month_of_index}
 use Rattle.cal_date.specs.ClosedForms.{month_in_part}
 use Rattle.cal_date.proofs.Calendar.{day_of_month-range, day_of_month-most}
 use Rattle.cal_date.proofs.MonthForms.{in_part}
@@ -50,7 +50,7 @@ pub returns-clause-month : goal.returns-clause-month
 returns-clause-month c =
     let part = in_part _ _ _ c.index_in_part-days.ensures.days c.index_in_part-days.ensures.months in
     let k = month_in_part c.index_in_part-days.result.0 + c.index_in_part-days.result.1 - 1 in
-    let there : index c.at.result ≡ k = ap index c.at.ensures ∙ index-month_at k (omega arith) in
+    let there : index c.at.result ≡ k = ap index c.at.ensures ∙ index-month_of_index k (omega arith) in
     omega arith
 
 pub returns-clause-day : goal.returns-clause-day
@@ -60,7 +60,7 @@ pub returns-clause-closed_month : goal.returns-clause-closed_month
 returns-clause-closed_month c =
     let part = in_part _ _ _ c.index_in_part-days.ensures.days c.index_in_part-days.ensures.months in
     let k = month_in_part c.index_in_part-days.result.0 + c.index_in_part-days.result.1 - 1 in
-    let there : index c.at.result ≡ k = ap index c.at.ensures ∙ index-month_at k (omega arith) in
+    let there : index c.at.result ≡ k = ap index c.at.ensures ∙ index-month_of_index k (omega arith) in
     omega (arith, part.closed_month)
 
 pub returns-clause-closed_day : goal.returns-clause-closed_day
@@ -74,7 +74,7 @@ returns-clause-range c =
     let part = in_part _ _ _ c.index_in_part-days.ensures.days c.index_in_part-days.ensures.months in
     (omega (arith, part.day_is, is.0), omega (arith, part.day_is, is.1))
 
-pub returns-clause-most : goal.returns-clause-most
-returns-clause-most c =
+pub returns-clause-max : goal.returns-clause-max
+returns-clause-max c =
     let part = in_part _ _ _ c.index_in_part-days.ensures.days c.index_in_part-days.ensures.months in
     omega (arith, part.day_is, day_of_month-most c.args.self)

@@ -6,8 +6,8 @@ overflow_add-result c =
     let at = at_number c.self.inside c.args.self c.self.invariant c.self.view_is in
     rw (packed_at-i32 _ _ at, at.packed_is) (next-i32 _ _ at.year at.ordinal)
 
-pub returns-clause-next : goal.returns-clause-next
-returns-clause-next c =
+pub returns-clause-value : goal.returns-clause-value
+returns-clause-value c =
     let at = at_number c.self.inside c.args.self c.self.invariant c.self.view_is in
     rw (packed_at-i32 _ _ at, at.packed_is) (next-lowest_bits _ _ at.year at.ordinal)
 

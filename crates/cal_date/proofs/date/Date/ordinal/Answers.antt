@@ -4,18 +4,18 @@ use Rattle.cal_date.proofs.Dates.{ordinal-most}
 use Rattle.cal_date.proofs.Packed.{at_number, lowest_bits}
 use Rattle.cal_date.proofs.date.Date.ordinal.Goals as goal
 
-pub returns-clause-counted : goal.returns-clause-counted
-returns-clause-counted c =
+pub returns-clause-value : goal.returns-clause-value
+returns-clause-value c =
     let at = at_number c.self.inside c.args.self c.self.invariant c.self.view_is in
     rw at.packed_is (lowest_bits _ _ at.year at.ordinal)
 
 pub returns-clause-range : goal.returns-clause-range
 returns-clause-range c =
     let at = at_number c.self.inside c.args.self c.self.invariant c.self.view_is in
-    subst (IsOrdinal (year_at c.args.self)) (sym (returns-clause-counted c)) at.ordinal
+    subst (IsOrdinal (year_at c.args.self)) (sym (returns-clause-value c)) at.ordinal
 
-pub returns-clause-most : goal.returns-clause-most
-returns-clause-most c = omega (arith, returns-clause-counted c, ordinal-most c.args.self)
+pub returns-clause-max : goal.returns-clause-max
+returns-clause-max c = omega (arith, returns-clause-value c, ordinal-most c.args.self)
 
 pub returns-clause-in_range : goal.returns-clause-in_range
 returns-clause-in_range c = (at_number c.self.inside c.args.self c.self.invariant c.self.view_is).in_range

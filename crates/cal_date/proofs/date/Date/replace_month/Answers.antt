@@ -3,11 +3,11 @@ use Rattle.cal_date.proofs.date.Date.replace_month.Goals as goal
 
 pub returns-clause-day : goal.returns-clause-day
 returns-clause-day c =
-    let kept = year_kept _ _ c.day.ensures.in_range c.year.ensures.counted in
-    cause_left kept.year (rw (kept.same, c.day.ensures.counted) at c.from_calendar_date.ensures.day)
+    let kept = year_kept _ _ c.day.ensures.in_range c.year.ensures.value in
+    cause_left kept.year (rw (kept.same, c.day.ensures.value) at c.from_calendar_date.ensures.day)
 
-pub returns-clause-reason : goal.returns-clause-reason
-returns-clause-reason c =
-    let kept = year_kept _ _ c.day.ensures.in_range c.year.ensures.counted in
+pub returns-clause-error_kind : goal.returns-clause-error_kind
+returns-clause-error_kind c =
+    let kept = year_kept _ _ c.day.ensures.in_range c.year.ensures.value in
     let year = rw kept.same at c.from_calendar_date.ensures.year in
-    other_reason _ _ _ c.from_calendar_date.ensures.reason (λ e. year.0 e kept.year)
+    other_reason _ _ _ c.from_calendar_date.ensures.error_kind (λ e. year.0 e kept.year)

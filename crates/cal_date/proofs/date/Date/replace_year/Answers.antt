@@ -12,8 +12,8 @@ no_year c year = let is = rw (to_z-of_z w32 _ c.ranges.year) at c.is_year.ensure
 pub returns-then-not-is_year-clause-every : goal.returns-then-not-is_year-clause-every
 returns-then-not-is_year-clause-every c = λ n h has. absurd (no_year c (replaceable _ c.args.self n h has).year)
 
-pub returns-then-not-is_year-clause-refused : goal.returns-then-not-is_year-clause-refused
-returns-then-not-is_year-clause-refused c = (λ e n h has. no_year c (replaceable _ c.args.self n h has).year, λ none. refl)
+pub returns-then-not-is_year-clause-error : goal.returns-then-not-is_year-clause-error
+returns-then-not-is_year-clause-error c = (λ e n h has. no_year c (replaceable _ c.args.self n h has).year, λ none. refl)
 
 -- The ordinal that was found belongs to the only day with the month and the day of the month.
 pub at_ordinal-requires-clause-ordinal : goal.at_ordinal-requires-clause-ordinal
@@ -30,18 +30,18 @@ returns-clause-every c = λ n h has.
     let some = rw same at c.in-Some.ensures in
     let year = rw same at (c.is_year.ensures.0 c.if-not-is_year.false) in
     let is = replacement c.args.year c.args.self c.in-Some.ordinal year (record { day = some.0; ordinal_is = some.1 }) in
-    ap Ok ((rw same at c.at_ordinal.ensures.number) ∙ sym (is.only n h has))
+    ap Ok ((rw same at c.at_ordinal.ensures.value) ∙ sym (is.only n h has))
 
-pub returns-clause-has : goal.returns-clause-has
-returns-clause-has c =
+pub returns-clause-value : goal.returns-clause-value
+returns-clause-value c =
     let same : to_z w32 (of_z w32 c.args.year) ≡ c.args.year = to_z-of_z w32 _ c.ranges.year in
     let some = rw same at c.in-Some.ensures in
     let year = rw same at (c.is_year.ensures.0 c.if-not-is_year.false) in
     let is = replacement c.args.year c.args.self c.in-Some.ordinal year (record { day = some.0; ordinal_is = some.1 }) in
-    rw (c.at_ordinal.ensures.number, same) (is.in_range, is.has)
+    rw (c.at_ordinal.ensures.value, same) (is.in_range, is.has)
 
-pub returns-clause-refused : goal.returns-clause-refused
-returns-clause-refused c =
+pub returns-clause-error : goal.returns-clause-error
+returns-clause-error c =
     let same : to_z w32 (of_z w32 c.args.year) ≡ c.args.year = to_z-of_z w32 _ c.ranges.year in
     let some = rw same at c.in-Some.ensures in
     let year = rw same at (c.is_year.ensures.0 c.if-not-is_year.false) in
@@ -57,5 +57,5 @@ no_day c = λ n h has.
 pub returns-in_default-clause-every : goal.returns-in_default-clause-every
 returns-in_default-clause-every c = λ n h has. absurd (no_day c n h has)
 
-pub returns-in_default-clause-refused : goal.returns-in_default-clause-refused
-returns-in_default-clause-refused c = (λ e. no_day c, λ none. refl)
+pub returns-in_default-clause-error : goal.returns-in_default-clause-error
+returns-in_default-clause-error c = (λ e. no_day c, λ none. refl)

@@ -11,4 +11,4 @@ returns-clause-ascii c =
     let n = c.args.self in
     let parts = c.month_and_day-month.ensures in
     let same : c.push_two_digits-2.new.self ≡ text n = search rules in
-    subst IsAscii (sym same) (text-ascii n (omega (arith, ints, c.year.ensures.range, c.year.ensures.counted)) (omega (arith, parts.month, index-below c.month_and_day-month.result.0)) (omega (arith, parts.day, parts.most)))
+    subst IsAscii (sym same) (text-ascii n (omega (arith, ints, c.year.ensures.range, c.year.ensures.value)) (omega (arith, parts.month, index-below c.month_and_day-month.result.0)) (omega (arith, parts.day, parts.max)))

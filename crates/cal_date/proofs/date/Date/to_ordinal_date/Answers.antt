@@ -6,4 +6,4 @@ use Rattle.cal_date.proofs.date.Date.to_ordinal_date.Goals as goal
 
 pub returns-clause-order : goal.returns-clause-order
 returns-clause-order c = λ n _.
-    rw (IsYear-i32 _ c.year.ensures.range, c.year.ensures.counted, c.ordinal.ensures.counted) (in_order ordinal_date_at Rises-ordinal_date n c.args.self)
+    rw (IsYear-i32 _ c.year.ensures.range, c.year.ensures.value, c.ordinal.ensures.value) (in_order ordinal_date_at Rises-ordinal_date n c.args.self)

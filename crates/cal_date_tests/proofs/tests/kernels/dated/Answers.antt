@@ -8,5 +8,5 @@ use Rattle.cal_date_tests.proofs.tests.kernels.dated.Goals as goal
 pub ordinal_date-requires : goal.ordinal_date-requires
 ordinal_date-requires c =
     let j = c.args.julian_day in
-    let at = has_julian_kernel j c.julian_kernel-kernel.result c.requires (c.julian_kernel-kernel.ensures.kernel ∙ ap kernel_of (to_z-of_z w32 _ c.ranges.julian_day)) in
+    let at = has_julian_kernel j c.julian_kernel-kernel.result c.requires (c.julian_kernel-kernel.ensures.value ∙ ap kernel_of (to_z-of_z w32 _ c.ranges.julian_day)) in
     (number_at j, at.date, at.has_kernel)

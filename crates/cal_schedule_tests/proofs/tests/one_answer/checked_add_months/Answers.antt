@@ -5,4 +5,4 @@ pub returns : goal.returns
 returns c =
     let r = c.checked_add_months.ensures in
     let s = c.checked_add_months-2.ensures in
-    moved-one _ _ _ r.every r.has s.every s.has
+    moved-one _ _ _ r.every r.value s.every s.value

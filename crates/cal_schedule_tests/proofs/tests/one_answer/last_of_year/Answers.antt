@@ -5,4 +5,4 @@ pub returns : goal.returns
 returns c =
     let r = c.last_of_year.ensures in
     let s = c.last_of_year-2.ensures in
-    calendar_date-one _ _ _ _ _ r.in_range.1 s.in_range.1 r.date s.date
+    calendar_date-one _ _ _ _ _ r.in_range.1 s.in_range.1 r.value s.value

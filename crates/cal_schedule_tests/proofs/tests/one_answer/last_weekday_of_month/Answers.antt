@@ -5,4 +5,4 @@ pub returns : goal.returns
 returns c =
     let r = c.last_weekday_of_month.ensures in
     let s = c.last_weekday_of_month-2.ensures in
-    refused-one _ _ _ _ r.every r.has r.reason s.every s.has s.reason
+    refused-one _ _ _ _ r.every r.value r.error_kind s.every s.value s.error_kind

@@ -6,5 +6,5 @@ pub returns : goal.returns
 returns c =
     let r = c.months_until.ensures in
     let s = c.months_until-2.ensures in
-    let same : c.months_until.result ≡ c.months_until-2.result = until-one _ _ _ _ _ _ r.on r.back s.on s.back in
+    let same : c.months_until.result ≡ c.months_until-2.result = until-one _ _ _ _ _ _ r.value_forward r.value_backward s.value_forward s.value_backward in
     ap (λ z. to_z w32 (of_z w32 z)) same

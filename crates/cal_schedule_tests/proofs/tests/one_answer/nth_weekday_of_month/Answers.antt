@@ -5,4 +5,4 @@ pub returns : goal.returns
 returns c =
     let r = c.nth_weekday_of_month.ensures in
     let s = c.nth_weekday_of_month-2.ensures in
-    of_two_refusals-one _ _ _ _ _ _ _ r.every s.has s.reason r.year s.year r.weekday s.weekday
+    of_two_refusals-one _ _ _ _ _ _ _ r.every s.value s.error_kind r.year s.year r.weekday s.weekday

@@ -1,5 +1,5 @@
 use Rattle.cal_text.proofs.YearDigits.{two_and_two}
 use Rattle.cal_text.proofs.scanner.Scanner.four_digits.Goals as goal
 
-pub returns-clause-number : goal.returns-clause-number
-returns-clause-number c = two_and_two _ _ _ _ _ c.in_ok-front.ensures.number c.in_ok-back.ensures.number
+pub returns-clause-value : goal.returns-clause-value
+returns-clause-value c = two_and_two _ _ _ _ _ c.in_ok-front.ensures.value c.in_ok-back.ensures.value

@@ -1,7 +1,7 @@
 use Rattle.cal_text.proofs.ReadDigits.{one_more}
 use Rattle.cal_text.proofs.scanner.Scanner.three_digits.Goals as goal
 
-pub returns-clause-number : goal.returns-clause-number
-returns-clause-number c =
-    let b = c.in_ok-ones.ensures.digit in
-    one_more _ _ _ _ _ _ c.in_ok-tens.ensures.number b.0 b.1
+pub returns-clause-value : goal.returns-clause-value
+returns-clause-value c =
+    let b = c.in_ok-ones.ensures.value in
+    one_more _ _ _ _ _ _ c.in_ok-tens.ensures.value b.0 b.1

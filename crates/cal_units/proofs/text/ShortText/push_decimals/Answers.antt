@@ -38,15 +38,15 @@ returns-then-others-gt0-clause-appended c =
     c.push_digit.ensures.appended
     ∙ digit-more c.args.nanoseconds l.others c.args.self.now l.self (omega (arith, c.loop-others-test.false)) l.invariant.none l.invariant.all c.then-others-gt0.either
 
-pub returns-then-others-gt0-clause-longer : goal.returns-then-others-gt0-clause-longer
-returns-then-others-gt0-clause-longer c =
+pub returns-then-others-gt0-clause-length : goal.returns-then-others-gt0-clause-length
+returns-then-others-gt0-clause-length c =
     omega (arith, ap length (returns-then-others-gt0-clause-appended c), length-append c.args.self.now (decimals c.args.nanoseconds))
 
 pub returns-then-others-gt0-clause-ascii : goal.returns-then-others-gt0-clause-ascii
-returns-then-others-gt0-clause-ascii c = decimals-ascii c.args.nanoseconds c.requires.below
+returns-then-others-gt0-clause-ascii c = decimals-ascii c.args.nanoseconds c.requires.range
 
-pub returns-then-others-gt0-clause-short : goal.returns-then-others-gt0-clause-short
-returns-then-others-gt0-clause-short c =
+pub returns-then-others-gt0-clause-max_length : goal.returns-then-others-gt0-clause-max_length
+returns-then-others-gt0-clause-max_length c =
     omega (arith, ap length (returns-then-others-gt0-clause-appended c), length-append c.args.self.now (decimals c.args.nanoseconds), decimals-few c.args.nanoseconds)
 
 pub returns-else-nanoseconds-eq0-clause-appended : goal.returns-else-nanoseconds-eq0-clause-appended
@@ -54,13 +54,13 @@ returns-else-nanoseconds-eq0-clause-appended c =
     let l = c.loop-others in
     none-more c.args.nanoseconds l.others c.args.self.now l.self l.invariant.all (omega (arith, c.if-others-gt0.false)) c.if-nanoseconds-eq0.false
 
-pub returns-else-nanoseconds-eq0-clause-longer : goal.returns-else-nanoseconds-eq0-clause-longer
-returns-else-nanoseconds-eq0-clause-longer c =
+pub returns-else-nanoseconds-eq0-clause-length : goal.returns-else-nanoseconds-eq0-clause-length
+returns-else-nanoseconds-eq0-clause-length c =
     omega (arith, ap length (returns-else-nanoseconds-eq0-clause-appended c), length-append c.args.self.now (decimals c.args.nanoseconds))
 
 pub returns-else-nanoseconds-eq0-clause-ascii : goal.returns-else-nanoseconds-eq0-clause-ascii
-returns-else-nanoseconds-eq0-clause-ascii c = decimals-ascii c.args.nanoseconds c.requires.below
+returns-else-nanoseconds-eq0-clause-ascii c = decimals-ascii c.args.nanoseconds c.requires.range
 
-pub returns-else-nanoseconds-eq0-clause-short : goal.returns-else-nanoseconds-eq0-clause-short
-returns-else-nanoseconds-eq0-clause-short c =
+pub returns-else-nanoseconds-eq0-clause-max_length : goal.returns-else-nanoseconds-eq0-clause-max_length
+returns-else-nanoseconds-eq0-clause-max_length c =
     omega (arith, ap length (returns-else-nanoseconds-eq0-clause-appended c), length-append c.args.self.now (decimals c.args.nanoseconds), decimals-few c.args.nanoseconds)

@@ -27,7 +27,7 @@ returns-then-ne-clause-every c z n =
     let parsed = read_back c.args.text.now z c.parse.result c.ok.result n (rw c.in-Ok.ensures.cases.0 at c.parse.ensures.value.0) c.ok.ensures.value in
     let same = one_number c.ok.result c.in_ok-number.number z c.in_ok-number.was parsed in
     let number = wide c.in_ok-number.number (omega (arith, ap unsigned_abs same, n.few)) ∙ same in
-    let printed = c.as_bytes.ensures.bytes ∙ c.signed_text.ensures.text ∙ ap signed_decimal number ∙ sym n.bytes_are in
+    let printed = c.as_bytes.ensures.value ∙ c.signed_text.ensures.text ∙ ap signed_decimal number ∙ sym n.bytes_are in
     let alike = (bytes_eq-Decides c.as_bytes.result.now c.args.text.now).1 printed in
     absurd (false≢true (sym (ap not alike) ∙ sym c.ne.ensures ∙ c.if-ne.true))
 

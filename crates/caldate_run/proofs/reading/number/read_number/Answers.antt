@@ -10,14 +10,14 @@ returns-in-Ok-clause-has c =
     let unit = c.args.unit in
     let n = c.in-Some.ensures.has in
     let same = product unit c.in-Some.number c.from.result n.few (c.from.ensures ∙ ap pos c.nanoseconds_in.ensures.value) in
-    moment_of unit c.args.text.now c.in-Some.number _ c.in-Ok.moment n same c.in-Ok.ensures.value c.in-Ok.ensures.refused.1
+    moment_of unit c.args.text.now c.in-Some.number _ c.in-Ok.moment n same c.in-Ok.ensures.value c.in-Ok.ensures.error.1
 
 pub returns-in-Ok-clause-component : goal.returns-in-Ok-clause-component
 returns-in-Ok-clause-component c why =
     let unit = c.args.unit in
     let n = c.in-Some.ensures.has in
     let same = product unit c.in-Some.number c.from.result n.few (c.from.ensures ∙ ap pos c.nanoseconds_in.ensures.value) in
-    (λ e. absurd e, λ is. no_fault unit c.args.text.now c.in-Some.number _ why c.in-Some.ensures.every same c.in-Ok.ensures.refused.1 is)
+    (λ e. absurd e, λ is. no_fault unit c.args.text.now c.in-Some.number _ why c.in-Some.ensures.every same c.in-Ok.ensures.error.1 is)
 
 pub returns-in_default-clause-position : goal.returns-in_default-clause-position
 returns-in_default-clause-position c =

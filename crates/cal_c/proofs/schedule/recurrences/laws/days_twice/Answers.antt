@@ -12,10 +12,10 @@ both c =
     let from = to_z w32 (of_z w32 c.args.from) in
     let lengths : length one.new.days ≡ length other.new.days = omega (arith, one.auto.days, other.auto.days, ap length c.requires) in
     recurrence-one c.args.text.now start from c.args.days.now _ _ _ _ (recurrence_of c.args.text.now) refl
-    (decided _ _ c.date_of.ensures) (decided _ _ c.date_of-2.ensures) lengths
-    (record { unread = one.ensures.unread; bad_date = one.ensures.bad_date; days = one.ensures.days })
+    (decided _ _ c.valid_date.ensures) (decided _ _ c.valid_date-2.ensures) lengths
+    (record { unread = one.ensures.error; invalid_date = one.ensures.invalid_date; days = one.ensures.value })
     (subst (λ old. Clauses c.args.text.now start from old other.new.days other.result) (sym c.requires)
-    (record { unread = other.ensures.unread; bad_date = other.ensures.bad_date; days = other.ensures.days }))
+    (record { unread = other.ensures.error; invalid_date = other.ensures.invalid_date; days = other.ensures.value }))
 
 pub returns-clause-result : goal.returns-clause-result
 returns-clause-result c = (both c).0

@@ -7,4 +7,4 @@ use Rattle.cal_clock.proofs.time.arithmetic.TimeAddSignedDuration.add.Goals as g
 pub returns : goal.returns
 returns c =
     let moved = c.adjusting_add.ensures in
-    sym (modulo_day-is (pos c.args.self +ℤ c.args.duration) (whole_days c.args.duration +ℤ carry c.adjusting_add.result.0) c.adjusting_add.result.1 moved.equation moved.below_day)
+    sym (modulo_day-is (pos c.args.self +ℤ c.args.duration) (whole_days c.args.duration +ℤ carry c.adjusting_add.result.0) c.adjusting_add.result.1 moved.value moved.range)

@@ -7,4 +7,4 @@ use Rattle.cal_clock.proofs.time.arithmetic.TimeSubSignedDuration.sub.Goals as g
 pub returns : goal.returns
 returns c =
     let moved = c.adjusting_sub.ensures in
-    sym (modulo_day-is (pos c.args.self -ℤ c.args.duration) (carry c.adjusting_sub.result.0 -ℤ whole_days c.args.duration) c.adjusting_sub.result.1 moved.equation moved.below_day)
+    sym (modulo_day-is (pos c.args.self -ℤ c.args.duration) (carry c.adjusting_sub.result.0 -ℤ whole_days c.args.duration) c.adjusting_sub.result.1 moved.value moved.range)

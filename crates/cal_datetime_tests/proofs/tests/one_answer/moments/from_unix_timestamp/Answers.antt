@@ -5,4 +5,4 @@ pub returns : goal.returns
 returns c =
     let r = c.from_unix_timestamp.ensures in
     let s = c.from_unix_timestamp-2.ensures in
-    in_range-one _ _ _ _ r.value r.refused s.value s.refused
+    in_range-one _ _ _ _ r.value r.error s.value s.error

@@ -8,7 +8,7 @@ loop-low-preserved-then-holiday-day c =
     record {
       order = omega arith;
       most = c.loop-low.invariant.most;
-      before = low-more c.args.self.now.holidays (rises c.args.self.now.holidays c.holidays_len-high.ensures.rising) middle c.args.day (omega arith) (omega arith);
+      before = low-more c.args.self.now.holidays (rises c.args.self.now.holidays c.holiday_count-high.ensures.rising) middle c.args.day (omega arith) (omega arith);
       after = c.loop-low.invariant.after;
     }
 
@@ -19,5 +19,5 @@ loop-low-preserved c =
       order = omega arith;
       most = omega arith;
       before = c.loop-low.invariant.before;
-      after = high-less c.args.self.now.holidays (rises c.args.self.now.holidays c.holidays_len-high.ensures.rising) middle c.args.day (omega arith);
+      after = high-less c.args.self.now.holidays (rises c.args.self.now.holidays c.holiday_count-high.ensures.rising) middle c.args.day (omega arith);
     }

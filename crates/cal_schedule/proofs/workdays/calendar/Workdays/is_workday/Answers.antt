@@ -3,7 +3,7 @@ use Rattle.cal_schedule.proofs.workdays.calendar.Workdays.is_workday.Goals as go
 
 pub returns-then-is_marked-clause-value : goal.returns-then-is_marked-clause-value
 returns-then-is_marked-clause-value c =
-    workday-by_holiday c.args.self.now c.args.date _ _ _ c.number-day.ensures.number c.is_marked.ensures c.if-is_marked.true c.is_holiday.ensures
+    workday-by_holiday c.args.self.now c.args.date _ _ _ c.day_number-day.ensures.value c.is_marked.ensures c.if-is_marked.true c.is_holiday.ensures
 
 pub returns-else-is_marked-clause-value : goal.returns-else-is_marked-clause-value
-returns-else-is_marked-clause-value c = workday-by_mark c.args.self.now c.args.date _ _ c.number-day.ensures.number c.is_marked.ensures c.if-is_marked.false
+returns-else-is_marked-clause-value c = workday-by_mark c.args.self.now c.args.date _ _ c.day_number-day.ensures.value c.is_marked.ensures c.if-is_marked.false

@@ -8,29 +8,29 @@ use Rattle.cal_schedule.proofs.WorkdaysSearch.{passed-back, found-back, none-bac
 use Rattle.cal_schedule.proofs.workdays.calendar.Workdays.marked_before_nth_back.Goals as goal
 use Rattle.cal_schedule.proofs.workdays.calendar.Workdays.marked_before_nth_back.Goals.{then-is_marked+else-before-eq0, else-is_marked}
 
-pub returns-then-marked-n-clause-day : goal.returns-then-marked-n-clause-day
-returns-then-marked-n-clause-day c =
+pub returns-then-marked-n-clause-value : goal.returns-then-marked-n-clause-value
+returns-then-marked-n-clause-value c =
     let end = c.holidays_before-end.ensures in
     none-back_few c.args.self.now (rises _ end.rising) _ c.args.to c.args.n end.split (omega arith)
 
-pub returns-then-marked_before-before-clause-day : goal.returns-then-marked_before-before-clause-day
-returns-then-marked_before-before-clause-day c = λ x on e.
+pub returns-then-marked_before-before-clause-value : goal.returns-then-marked_before-before-clause-value
+returns-then-marked_before-before-clause-value c = λ x on e.
     let w = c.args.self.now in
     let end = c.holidays_before-end.ensures in
     let r = rises w.holidays end.rising in
     let loop = c.loop-index in
-    let after = ap (λ day. count_before (is_marked w) (day + 1)) c.holiday-holiday.ensures.number in
+    let after = ap (λ day. count_before (is_marked w) (day + 1)) c.holiday-holiday.ensures.value in
     found-back w r _ loop.index c.args.to c.args.n loop.before x end.split loop.invariant.within loop.invariant.number loop.invariant.most loop.invariant.passed
     (λ j h. passed-back w r (loop.index - 1) x (omega (arith, end.split.most)) (omega (arith, after)) on j (omega arith)) on e
 
-pub returns-then-before-eq0-clause-day : goal.returns-then-before-eq0-clause-day
-returns-then-before-eq0-clause-day c =
+pub returns-then-before-eq0-clause-value : goal.returns-then-before-eq0-clause-value
+returns-then-before-eq0-clause-value c =
     let w = c.args.self.now in
     let end = c.holidays_before-end.ensures in
     let loop = c.loop-index in
     let one : loop.index - 1 + 1 ≡ loop.index = omega arith in
     let on : is_marked w (get_or w.holidays (loop.index - 1) 0) ≡ true =
-    ap (is_marked w) (sym c.holiday-holiday.ensures.number) ∙ sym c.is_marked.ensures ∙ c.if-is_marked.true in
+    ap (is_marked w) (sym c.holiday-holiday.ensures.value) ∙ sym c.is_marked.ensures ∙ c.if-is_marked.true in
     none-back_held w (rises w.holidays end.rising) _ (loop.index - 1) c.args.to c.args.n end.split (omega (arith, end.split.most))
     (omega (arith, ap (marked_count w) one)) on
 
@@ -43,7 +43,7 @@ loop-index-preserved c =
     let one : i + 1 ≡ loop.index = omega arith in
     let all = ap (marked_count w) one in
     let low : i < length w.holidays = omega (arith, end.split.most) in
-    let number = c.holiday-holiday.ensures.number in
+    let number = c.holiday-holiday.ensures.value in
     let here : loop.before < count_before (is_marked w) (get_or w.holidays i 0 + 1) =
     omega (arith, ap (λ day. count_before (is_marked w) (day + 1)) number) in
     elim c.if-is_marked.branch [
@@ -69,8 +69,8 @@ loop-index-preserved c =
           }
     ]
 
-pub returns-clause-day : goal.returns-clause-day
-returns-clause-day c = λ x on e.
+pub returns-clause-value : goal.returns-clause-value
+returns-clause-value c = λ x on e.
     let w = c.args.self.now in
     let end = c.holidays_before-end.ensures in
     let r = rises w.holidays end.rising in

@@ -18,11 +18,11 @@ loop-index-init c =
       bound = omega arith;
     }
 
-pub returns-then-from-before-clause-day : goal.returns-then-from-before-clause-day
-returns-then-from-before-clause-day c = λ x on e.
+pub returns-then-from-before-clause-value : goal.returns-then-from-before-clause-value
+returns-then-from-before-clause-value c = λ x on e.
     let w = c.args.self.now in
     let r = rises w.holidays c.holidays_before-start.ensures.rising in
-    let here = ap (count_before (is_marked w)) c.holiday-holiday.ensures.number in
+    let here = ap (count_before (is_marked w)) c.holiday-holiday.ensures.value in
     found-from w r _ c.loop-index.index c.args.from c.args.n c.loop-index.before x c.holidays_before-start.ensures.split (omega arith)
     c.loop-index.invariant.number c.loop-index.invariant.least c.loop-index.invariant.passed
     (left-from w r c.loop-index.index c.loop-index.before (omega (arith, here))) on e
@@ -31,7 +31,7 @@ pub loop-index-preserved : goal.loop-index-preserved
 loop-index-preserved c =
     let w = c.args.self.now in
     let r = rises w.holidays c.holidays_before-start.ensures.rising in
-    let number = c.holiday-holiday.ensures.number in
+    let number = c.holiday-holiday.ensures.value in
     let here = ap (count_before (is_marked w)) number in
     let after = ap (λ day. count_before (is_marked w) (day + 1)) number in
     let step = count-next (is_marked w) c.holiday-holiday.result _ _ c.is_marked.ensures c.from-before.ensures in
@@ -50,8 +50,8 @@ loop-index-preserved c =
       bound = omega arith;
     }
 
-pub returns-clause-day : goal.returns-clause-day
-returns-clause-day c = λ x on e.
+pub returns-clause-value : goal.returns-clause-value
+returns-clause-value c = λ x on e.
     let w = c.args.self.now in
     let r = rises w.holidays c.holidays_before-start.ensures.rising in
     found-from w r _ c.loop-index.index c.args.from c.args.n c.loop-index.before x c.holidays_before-start.ensures.split

@@ -4,8 +4,8 @@ use Rattle.cal_schedule.proofs.workdays.calendar.Workdays.nth_marked.Goals as go
 
 pub returns-clause-marked : goal.returns-clause-marked
 returns-clause-marked c =
-    (marked-nth_of c.args.self.now c.args.n _ _ _ (c.from-in_week.ensures ∙ c.marked_in_week.ensures.number) c.nth_index.ensures.marked c.nth_index.ensures.number c.from.ensures).0
+    (marked-nth_of c.args.self.now c.args.n _ _ _ (c.from-in_week.ensures ∙ c.marked_in_week.ensures.value) c.nth_index.ensures.marked c.nth_index.ensures.value c.from.ensures).0
 
-pub returns-clause-number : goal.returns-clause-number
-returns-clause-number c =
-    (marked-nth_of c.args.self.now c.args.n _ _ _ (c.from-in_week.ensures ∙ c.marked_in_week.ensures.number) c.nth_index.ensures.marked c.nth_index.ensures.number c.from.ensures).1
+pub returns-clause-value : goal.returns-clause-value
+returns-clause-value c =
+    (marked-nth_of c.args.self.now c.args.n _ _ _ (c.from-in_week.ensures ∙ c.marked_in_week.ensures.value) c.nth_index.ensures.marked c.nth_index.ensures.value c.from.ensures).1

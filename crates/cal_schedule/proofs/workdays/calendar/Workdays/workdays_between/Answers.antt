@@ -4,14 +4,14 @@ use Rattle.cal_schedule.specs.WorkdaysLaws.{none-within}
 use Rattle.cal_schedule.proofs.WorkdaysSearch.{within-same}
 use Rattle.cal_schedule.proofs.workdays.calendar.Workdays.workdays_between.Goals as goal
 
-pub returns-then-first-last-clause-number : goal.returns-then-first-last-clause-number
-returns-then-first-last-clause-number c =
+pub returns-then-first-last-clause-value : goal.returns-then-first-last-clause-value
+returns-then-first-last-clause-value c =
     let w = c.args.self.now in
-    let same = within-same w _ _ c.args.from c.args.to c.number-first.ensures.number c.number-last.ensures.number in
+    let same = within-same w _ _ c.args.from c.args.to c.day_number-first.ensures.value c.day_number-last.ensures.value in
     omega (arith, ints, same, none-within w c.args.to c.args.from (omega arith))
 
-pub returns-else-first-last-clause-number : goal.returns-else-first-last-clause-number
-returns-else-first-last-clause-number c =
+pub returns-else-first-last-clause-value : goal.returns-else-first-last-clause-value
+returns-else-first-last-clause-value c =
     let w = c.args.self.now in
-    let same = within-same w _ _ c.args.to c.args.from c.number-last.ensures.number c.number-first.ensures.number in
+    let same = within-same w _ _ c.args.to c.args.from c.day_number-last.ensures.value c.day_number-first.ensures.value in
     omega (arith, ints, same, none-within w c.args.from c.args.to (omega arith))

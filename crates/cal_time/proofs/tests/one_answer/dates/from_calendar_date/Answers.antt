@@ -5,4 +5,4 @@ pub returns : goal.returns
 returns c =
     let r = c.from_calendar_date.ensures in
     let s = c.from_calendar_date-2.ensures in
-    of_two_refusals-one _ _ _ _ _ _ _ r.every s.has s.reason r.year s.year r.day s.day
+    of_two_refusals-one _ _ _ _ _ _ _ r.every s.value s.error_kind r.year s.year r.day s.day

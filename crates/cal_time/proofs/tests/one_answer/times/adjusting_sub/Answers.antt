@@ -9,4 +9,4 @@ pub returns : goal.returns
 returns c =
     let r = c.adjusting_sub.ensures in
     let s = c.adjusting_sub-2.ensures in
-    step-one (λ a. carry a -ℤ whole_days c.args.duration) (λ a b e. omega (arith, ints)) _ _ _ r.equation r.below_day s.equation s.below_day
+    step-one (λ a. carry a -ℤ whole_days c.args.duration) (λ a b e. omega (arith, ints)) _ _ _ r.value r.range s.value s.range

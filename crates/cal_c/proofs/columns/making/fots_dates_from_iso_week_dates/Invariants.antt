@@ -1,6 +1,0 @@
-use Rattle.std.proofs.Common.{ℕ, ◌<◌, pos, get_or}
-use Rattle.cal_c.specs.Columns.{IsDateOfIsoWeekDate, date_row}
-use Rattle.cal_c.proofs.columns.making.fots_dates_from_iso_week_dates.Given as goal
-
-abbrev pub invariant-loop-row : goal.invariant-loop-row
-invariant-loop-row l = (k : ℕ) → k < l.row → IsDateOfIsoWeekDate (get_or l.years k (pos 0)) (get_or l.weeks k 0) (get_or l.weekdays k 0) (date_row (get_or l.dates k (pos 0)) (get_or l.statuses k 0))

@@ -1,6 +1,0 @@
-use Rattle.std.proofs.Common.{ℕ, ◌<◌, pos, get_or}
-use Rattle.cal_c.specs.Columns.{IsIsoWeekDateOfCalendarDate, iso_week_date_row}
-use Rattle.cal_c.proofs.columns.parts.fots_calendar_dates_to_iso_week_dates.Given as goal
-
-abbrev pub invariant-loop-row : goal.invariant-loop-row
-invariant-loop-row l = (k : ℕ) → k < l.row → IsIsoWeekDateOfCalendarDate (get_or l.years k (pos 0)) (get_or l.months k 0) (get_or l.days k 0) (iso_week_date_row (get_or l.iso_years k (pos 0)) (get_or l.weeks k 0) (get_or l.weekdays k 0) (get_or l.statuses k 0))

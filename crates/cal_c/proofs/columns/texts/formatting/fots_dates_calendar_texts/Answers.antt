@@ -1,0 +1,29 @@
+use Rattle.std.proofs.Common.{◌≡◌, ◌≤◌, ◌<◌, ◌+◌, ◌*◌, get_or, pos, arith, rules, refl, ap, subst, sym, length, FitsSigned, w32, to_z}
+use Rattle.std.proofs.lemmas.List.{length-set}
+use Rattle.std.proofs.lemmas.Int.{to_z-of_z}
+use Rattle.cal_c.specs.TextColumns.{HasRoomFor, IsDateTextRow}
+use Rattle.cal_c.proofs.PrintedRows.{IsPut, one-more-at}
+use Rattle.cal_c.proofs.columns.texts.formatting.fots_dates_calendar_texts.Goals as goal
+
+pub loop-row-preserved : goal.loop-row-preserved
+loop-row-preserved c =
+    let text = c.as_bytes.result.now in
+    let next = c.put-end.result in
+    let put : IsPut c.loop-row.end text c.loop-row.bytes c.put-end.new.bytes = record {
+      as_long = c.put-end.ensures.length;
+      front = c.put-end.ensures.before;
+      put = c.put-end.ensures.text;
+      back = c.put-end.ensures.after;
+    } in
+    let f-dates : FitsSigned w32 (get_or c.args.dates.now c.loop-row.row (pos 0)) = search rules in
+    let same : text ≡ c.date_text_row-text.result.0 = c.as_bytes.ensures.value in
+    let as_long : length text ≡ length c.date_text_row-text.result.0 = ap length same in
+    let here : IsDateTextRow (get_or c.args.dates.now c.loop-row.row (pos 0)) c.date_text_row-text.result.0 c.date_text_row-text.result.1 = (simp to_z-of_z at c.date_text_row-text.ensures.value) in
+    let few : next ≤ (c.loop-row.row + 1) * 13 = omega (arith, c.put-end.ensures.value, c.loop-row.invariant.few, c.date_text_row-text.ensures.max_length, as_long) in
+    let bound : to_z w32 next ≡ pos next = search rules in
+    let hb : c.loop-row.row + 1 < length c.loop-row.bounds = omega (arith, simp length-set at c.loop-row.auto.bounds) in
+    let hs : c.loop-row.row < length c.loop-row.statuses = omega arith in
+    let all : HasRoomFor 13 (length c.args.dates.now) (length c.args.bytes.now) = c.if-not-has_room.ensures.0 refl in
+    let room : next ≤ length c.loop-row.bytes = omega (arith, few, all.room, c.loop-row.auto.bytes) in
+    one-more-at (λ k text status. IsDateTextRow (get_or c.args.dates.now k (pos 0)) text status) 13 c.args.bytes.now c.loop-row.bytes c.put-end.new.bytes c.loop-row.bounds c.loop-row.statuses c.loop-row.row c.loop-row.end text c.date_text_row-text.result.1 next (to_z w32 next) c.put-end.ensures.value bound hb hs room few c.loop-row.invariant put
+    (subst (λ t. IsDateTextRow (get_or c.args.dates.now c.loop-row.row (pos 0)) t c.date_text_row-text.result.1) (sym same) here)

@@ -1,0 +1,22 @@
+use Rattle.std.proofs.Common.{ap, ◌∙◌}
+use Rattle.cal_c.specs.Texts.{parsed_moment_ok}
+use Rattle.cal_c.proofs.Equals.{no_value, same_value}
+use Rattle.cal_c.proofs.Unreads.{refused_moment, unreadable_moment}
+use Rattle.cal_c.proofs.texts.parsing.fots_moment_parse.Goals as goal
+
+pub returns-clause-value : goal.returns-clause-value
+returns-clause-value c = λ m is_text. c.ok.ensures ∙ ap parsed_moment_ok (same_value _ _ (c.in-Ok.ensures.every m is_text))
+
+pub returns-in-Err-clause-value : goal.returns-in-Err-clause-value
+returns-in-Err-clause-value c = λ m is_text. absurd (no_value _ _ (c.in-Err.ensures.every m is_text))
+
+pub returns-in-Err-clause-syntax_error : goal.returns-in-Err-clause-syntax_error
+returns-in-Err-clause-syntax_error c none =
+    let is = c.in-Err.ensures in
+    unreadable_moment _ c.args.text.now c.in-Err.error _ (is.syntax_error.1 (λ m has. none (m, has))) is.position c.error.ensures
+
+pub returns-clause-out_of_range : goal.returns-clause-out_of_range
+returns-clause-out_of_range c why h = absurd ((c.in-Ok.ensures.out_of_range why).1 h)
+
+pub returns-in-Err-clause-out_of_range : goal.returns-in-Err-clause-out_of_range
+returns-in-Err-clause-out_of_range c why h = c.error.ensures ∙ refused_moment _ why ((c.in-Err.ensures.out_of_range why).1 h)

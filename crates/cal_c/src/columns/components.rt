@@ -1,0 +1,231 @@
+//! Columns of the components of dates.
+ghost use Rattle.std.specs.Prelude.{◌≡◌};
+ghost use Rattle.cal_c.specs.Columns.{int_at, nat_at, SameLength3, SameLength4, SameLength5, SameLength7, AreRows, calendar_date_row, ordinal_date_row, iso_week_date_row, IsCalendarDateOf, IsOrdinalDateOf, IsIsoWeekDateOf, IsWeekdayNumberOf, IsIsoWeekDateOfCalendarDate};
+
+use super::constructors::status_of_calendar_date;
+use super::statuses::{INVALID_DATE, OK};
+use super::{NO_VALUE, LENGTH_MISMATCH, count_errors};
+use crate::day_number::{is_julian_day, day_number, weekday_number};
+use crate::branchless::{calendar_date_at, iso_week_date_at, julian_day_from_calendar_date, clamped_number};
+use crate::values::valid_date;
+
+/// Converts dates to calendar dates, like `fots_date_to_calendar_date`.
+#[unsafe(no_mangle)]
+pub extern "C" fn fots_dates_to_calendar_dates(
+    dates: &[i32],
+    years: &mut [i32],
+    months: &mut [u8],
+    days: &mut [u8],
+    statuses: &mut [u8],
+) -> usize
+    ensures length_mismatch { ¬ SameLength5 dates.now years.old months.old days.old statuses.old
+        → (result ≡ usize.MAX) × (years.new ≡ years.old) × (months.new ≡ months.old)
+        × (days.new ≡ days.old) × (statuses.new ≡ statuses.old) }
+    ensures rows { SameLength5 dates.now years.old months.old days.old statuses.old
+        → AreRows statuses.new result (λ k. IsCalendarDateOf (int_at dates.now k)
+        (calendar_date_row (int_at years.new k) (nat_at months.new k) (nat_at days.new k)
+        (nat_at statuses.new k))) }
+{
+    let rows = dates.len();
+    if years.len() != rows || months.len() != rows || days.len() != rows || statuses.len() != rows {
+        return LENGTH_MISMATCH;
+    }
+    for row in 0..rows {
+        let (year, month, day, status) = calendar_date_row_of(dates[row]);
+        years[row] = year;
+        months[row] = month;
+        days[row] = day;
+        statuses[row] = status;
+    }
+    count_errors(statuses)
+}
+
+/// Converts dates to ordinal dates, like `fots_date_to_ordinal_date`.
+#[unsafe(no_mangle)]
+pub extern "C" fn fots_dates_to_ordinal_dates(
+    dates: &[i32],
+    years: &mut [i32],
+    ordinals: &mut [u16],
+    statuses: &mut [u8],
+) -> usize
+    ensures length_mismatch { ¬ SameLength4 dates.now years.old ordinals.old statuses.old
+        → (result ≡ usize.MAX) × (years.new ≡ years.old) × (ordinals.new ≡ ordinals.old)
+        × (statuses.new ≡ statuses.old) }
+    ensures rows { SameLength4 dates.now years.old ordinals.old statuses.old
+        → AreRows statuses.new result (λ k. IsOrdinalDateOf (int_at dates.now k)
+        (ordinal_date_row (int_at years.new k) (nat_at ordinals.new k) (nat_at statuses.new k))) }
+{
+    let rows = dates.len();
+    if years.len() != rows || ordinals.len() != rows || statuses.len() != rows {
+        return LENGTH_MISMATCH;
+    }
+    for row in 0..rows {
+        let (year, ordinal, status) = ordinal_date_row_of(dates[row]);
+        years[row] = year;
+        ordinals[row] = ordinal;
+        statuses[row] = status;
+    }
+    count_errors(statuses)
+}
+
+/// Converts dates to ISO week dates, like `fots_date_to_iso_week_date`.
+#[unsafe(no_mangle)]
+pub extern "C" fn fots_dates_to_iso_week_dates(
+    dates: &[i32],
+    years: &mut [i32],
+    weeks: &mut [u8],
+    weekdays: &mut [u8],
+    statuses: &mut [u8],
+) -> usize
+    ensures length_mismatch { ¬ SameLength5 dates.now years.old weeks.old weekdays.old statuses.old
+        → (result ≡ usize.MAX) × (years.new ≡ years.old) × (weeks.new ≡ weeks.old)
+        × (weekdays.new ≡ weekdays.old) × (statuses.new ≡ statuses.old) }
+    ensures rows { SameLength5 dates.now years.old weeks.old weekdays.old statuses.old
+        → AreRows statuses.new result (λ k. IsIsoWeekDateOf (int_at dates.now k)
+        (iso_week_date_row (int_at years.new k) (nat_at weeks.new k) (nat_at weekdays.new k)
+        (nat_at statuses.new k))) }
+{
+    let rows = dates.len();
+    if years.len() != rows
+        || weeks.len() != rows
+        || weekdays.len() != rows
+        || statuses.len() != rows
+    {
+        return LENGTH_MISMATCH;
+    }
+    for row in 0..rows {
+        let (year, week, weekday, status) = iso_week_date_row_of(dates[row]);
+        years[row] = year;
+        weeks[row] = week;
+        weekdays[row] = weekday;
+        statuses[row] = status;
+    }
+    count_errors(statuses)
+}
+
+/// Writes the weekdays of dates, like `fots_date_weekday`.
+#[unsafe(no_mangle)]
+pub extern "C" fn fots_dates_weekdays(
+    dates: &[i32],
+    weekdays: &mut [u8],
+    statuses: &mut [u8],
+) -> usize
+    ensures length_mismatch { ¬ SameLength3 dates.now weekdays.old statuses.old
+        → (result ≡ usize.MAX) × (weekdays.new ≡ weekdays.old) × (statuses.new ≡ statuses.old) }
+    ensures rows { SameLength3 dates.now weekdays.old statuses.old
+        → AreRows statuses.new result (λ k. IsWeekdayNumberOf (int_at dates.now k)
+        (nat_at weekdays.new k) (nat_at statuses.new k)) }
+{
+    let rows = dates.len();
+    if weekdays.len() != rows || statuses.len() != rows {
+        return LENGTH_MISMATCH;
+    }
+    for row in 0..rows {
+        let (weekday, status) = weekday_row(dates[row]);
+        weekdays[row] = weekday;
+        statuses[row] = status;
+    }
+    count_errors(statuses)
+}
+
+/// Converts calendar dates to ISO week dates, like the single calls for both.
+#[unsafe(no_mangle)]
+pub extern "C" fn fots_calendar_dates_to_iso_week_dates(
+    years: &[i32],
+    months: &[u8],
+    days: &[u8],
+    iso_years: &mut [i32],
+    weeks: &mut [u8],
+    weekdays: &mut [u8],
+    statuses: &mut [u8],
+) -> usize
+    ensures length_mismatch { ¬ SameLength7 years.now months.now days.now iso_years.old weeks.old weekdays.old
+        statuses.old
+        → (result ≡ usize.MAX) × (iso_years.new ≡ iso_years.old) × (weeks.new ≡ weeks.old)
+        × (weekdays.new ≡ weekdays.old) × (statuses.new ≡ statuses.old) }
+    ensures rows { SameLength7 years.now months.now days.now iso_years.old weeks.old weekdays.old
+        statuses.old
+        → AreRows statuses.new result (λ k. IsIsoWeekDateOfCalendarDate (int_at years.now k)
+        (nat_at months.now k) (nat_at days.now k) (iso_week_date_row (int_at iso_years.new k)
+        (nat_at weeks.new k) (nat_at weekdays.new k) (nat_at statuses.new k))) }
+{
+    let rows = years.len();
+    if months.len() != rows
+        || days.len() != rows
+        || iso_years.len() != rows
+        || weeks.len() != rows
+        || weekdays.len() != rows
+        || statuses.len() != rows
+    {
+        return LENGTH_MISMATCH;
+    }
+    for row in 0..rows {
+        let (iso_year, week, weekday, status) = iso_week_date_of_calendar_date(
+            years[row],
+            months[row],
+            days[row],
+        );
+        iso_years[row] = iso_year;
+        weeks[row] = week;
+        weekdays[row] = weekday;
+        statuses[row] = status;
+    }
+    count_errors(statuses)
+}
+
+/// Returns the calendar date of a date, and the status.
+fn calendar_date_row_of(date: i32) -> (i32, u8, u8, u8)
+    ensures { IsCalendarDateOf date (calendar_date_row result.0 result.1 result.2 result.3) }
+{
+    let (year, month, day) = calendar_date_at(clamped_number(date));
+    if is_julian_day(date) {
+        (year, month as u8, day as u8, OK)
+    } else {
+        (NO_VALUE, 0, 0, INVALID_DATE)
+    }
+}
+
+/// Returns the ordinal date of a date, and the status.
+fn ordinal_date_row_of(date: i32) -> (i32, u16, u8)
+    ensures { IsOrdinalDateOf date (ordinal_date_row result.0 result.1 result.2) }
+{
+    let date = or_return!(valid_date(date), (NO_VALUE, 0, INVALID_DATE));
+    let (year, ordinal) = date.to_ordinal_date();
+    (year, ordinal, OK)
+}
+
+/// Returns the ISO week date of a date, and the status.
+fn iso_week_date_row_of(date: i32) -> (i32, u8, u8, u8)
+    ensures { IsIsoWeekDateOf date (iso_week_date_row result.0 result.1 result.2 result.3) }
+{
+    let (year, week, weekday) = iso_week_date_at(date);
+    if is_julian_day(date) {
+        (year, week, weekday, OK)
+    } else {
+        (NO_VALUE, 0, 0, INVALID_DATE)
+    }
+}
+
+/// Returns the weekday of a date, from 1 for Monday, and the status.
+fn weekday_row(date: i32) -> (u8, u8)
+    ensures { IsWeekdayNumberOf date result.0 result.1 }
+{
+    match day_number(date) {
+        Some(number) => (weekday_number(number), OK),
+        None => (0, INVALID_DATE),
+    }
+}
+
+/// Returns the ISO week date of a calendar date, and the status.
+fn iso_week_date_of_calendar_date(year: i32, month: u8, day: u8) -> (i32, u8, u8, u8)
+    ensures { IsIsoWeekDateOfCalendarDate year month day
+        (iso_week_date_row result.0 result.1 result.2 result.3) }
+{
+    let (iso_year, week, weekday) = iso_week_date_at(julian_day_from_calendar_date(year, month, day));
+    let status = status_of_calendar_date(year, month, day);
+    if status == OK {
+        (iso_year, week, weekday, OK)
+    } else {
+        (NO_VALUE, 0, 0, status)
+    }
+}

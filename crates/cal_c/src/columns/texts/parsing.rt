@@ -1,0 +1,135 @@
+//! Columns of texts to parse.
+ghost use Rattle.std.specs.Prelude.{◌≡◌, ◌↔◌, ◌+◌, length, IsTrue, MatchOption};
+ghost use Rattle.cal_c.specs.Columns.{date_row, int_at, nat_at, AreRows};
+ghost use Rattle.cal_c.specs.TextColumns.{AreBoundsWithin, Bounded2, Bounded4, IsParsedDateRow, IsParsedDate, IsParsedMomentRow, IsParsedMoment, moment_row, bytes_between};
+
+use crate::columns::statuses::{INVALID_BOUNDS, byte_status};
+use crate::columns::{NO_VALUE, LENGTH_MISMATCH, count_errors};
+use crate::results::{Moment, MomentResult};
+use crate::texts::parsing::{fots_date_parse, fots_moment_parse};
+
+/// Parses dates, like `fots_date_parse`.
+#[unsafe(no_mangle)]
+pub extern "C" fn fots_dates_parse(
+    bytes: &[u8],
+    bounds: &[i32],
+    dates: &mut [i32],
+    statuses: &mut [u8],
+) -> usize
+    ensures length_mismatch { ¬ Bounded2 dates.old bounds.now statuses.old
+        → (result ≡ usize.MAX) × (dates.new ≡ dates.old) × (statuses.new ≡ statuses.old) }
+    ensures rows { Bounded2 dates.old bounds.now statuses.old
+        → AreRows statuses.new result (λ k. IsParsedDateRow bytes.now (int_at bounds.now k)
+        (int_at bounds.now (k + 1)) (date_row (int_at dates.new k) (nat_at statuses.new k))) }
+{
+    let rows = dates.len();
+    if !are_bounds(bounds, rows) || statuses.len() != rows {
+        return LENGTH_MISMATCH;
+    }
+    for row in 0..rows {
+        let (date, status) = parse_date_between(bytes, bounds[row], bounds[row + 1]);
+        dates[row] = date;
+        statuses[row] = status;
+    }
+    count_errors(statuses)
+}
+
+/// Parses dates, times and offsets, like `fots_moment_parse`.
+#[unsafe(no_mangle)]
+pub extern "C" fn fots_moments_parse(
+    bytes: &[u8],
+    bounds: &[i32],
+    dates: &mut [i32],
+    times: &mut [u64],
+    offsets: &mut [i32],
+    statuses: &mut [u8],
+) -> usize
+    ensures length_mismatch { ¬ Bounded4 dates.old bounds.now times.old offsets.old statuses.old
+        → (result ≡ usize.MAX) × (dates.new ≡ dates.old) × (times.new ≡ times.old)
+        × (offsets.new ≡ offsets.old) × (statuses.new ≡ statuses.old) }
+    ensures rows { Bounded4 dates.old bounds.now times.old offsets.old statuses.old
+        → AreRows statuses.new result (λ k. IsParsedMomentRow bytes.now (int_at bounds.now k)
+        (int_at bounds.now (k + 1)) (moment_row (int_at dates.new k) (nat_at times.new k)
+        (int_at offsets.new k) (nat_at statuses.new k))) }
+{
+    let rows = dates.len();
+    if !are_bounds(bounds, rows)
+        || times.len() != rows
+        || offsets.len() != rows
+        || statuses.len() != rows
+    {
+        return LENGTH_MISMATCH;
+    }
+    for row in 0..rows {
+        let (moment, status) = parse_moment_between(bytes, bounds[row], bounds[row + 1]);
+        dates[row] = moment.date;
+        times[row] = moment.time;
+        offsets[row] = moment.offset;
+        statuses[row] = status;
+    }
+    count_errors(statuses)
+}
+
+/// Returns `true` if there is one bound more than rows.
+pub(super) fn are_bounds(bounds: &[i32], rows: usize) -> bool
+    ensures { IsTrue result ↔ (length bounds.now ≡ rows + 1) }
+{
+    bounds.len() > rows && bounds.len() - 1 == rows
+}
+
+/// Returns the bytes between two bounds, or `None` if the bounds are invalid.
+fn bytes_between(bytes: &[u8], from: i32, to: i32) -> Option<&[u8]>
+    ensures { MatchOption result (¬ AreBoundsWithin bytes.now from to)
+        (λ text. AreBoundsWithin bytes.now from to × (text.now ≡ bytes_between bytes.now from to)) }
+{
+    let from = usize::try_from(from).ok()?;
+    let to = usize::try_from(to).ok()?;
+    if from <= to && to <= bytes.len() {
+        Some(&bytes[from..to])
+    } else {
+        None
+    }
+}
+
+/// Returns the row of the date between two bounds.
+fn parse_date_between(bytes: &[u8], from: i32, to: i32) -> (i32, u8)
+    ensures { IsParsedDateRow bytes.now from to (date_row result.0 result.1) }
+{
+    match bytes_between(bytes, from, to) {
+        Some(text) => parse_date_row(text),
+        None => (NO_VALUE, INVALID_BOUNDS),
+    }
+}
+
+/// Returns the row of a date in text.
+fn parse_date_row(text: &[u8]) -> (i32, u8)
+    ensures { IsParsedDate text.now (date_row result.0 result.1) }
+{
+    let read = fots_date_parse(text);
+    (read.date, byte_status(read.status))
+}
+
+/// Returns the row of the moment between two bounds.
+fn parse_moment_between(bytes: &[u8], from: i32, to: i32) -> (Moment, u8)
+    ensures { IsParsedMomentRow bytes.now from to
+        (moment_row result.0.date result.0.time result.0.offset result.1) }
+{
+    match bytes_between(bytes, from, to) {
+        Some(text) => parse_moment_row(text),
+        None => (MomentResult::error(0).moment, INVALID_BOUNDS),
+    }
+}
+
+/// Returns the row of a moment in text.
+fn parse_moment_row(text: &[u8]) -> (Moment, u8)
+    ensures { IsParsedMoment text.now
+        (moment_row result.0.date result.0.time result.0.offset result.1) }
+{
+    let read = fots_moment_parse(text);
+    let moment = Moment {
+        date: read.date,
+        offset: read.offset,
+        time: read.time,
+    };
+    (moment, byte_status(read.status))
+}

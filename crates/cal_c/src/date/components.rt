@@ -1,0 +1,140 @@
+//! The components of dates.
+ghost use Rattle.std.specs.Prelude.{◌≡◌, ◌+◌, pos};
+ghost use Rattle.cal_time.specs.Date.{year_at, month_at, day_of_month_at, ordinal_at, weekday_at};
+ghost use Rattle.cal_time.specs.IsoWeekDate.{iso_week_at, weekday_count};
+ghost use Rattle.cal_c.specs.Columns.{IsCalendarDateOf, IsOrdinalDateOf, IsIsoWeekDateOf};
+ghost use Rattle.cal_c.specs.Results.{number_ok, number_error};
+ghost use Rattle.cal_c.specs.Statuses.{invalid_date};
+ghost use Rattle.cal_c.specs.Values.{IsJulianDay, day_of};
+
+use crate::day_number::{is_julian_day, day_number, weekday_number};
+use crate::results::{CalendarDateResult, IsoWeekDateResult, NumberResult, OrdinalDateResult};
+use crate::status::{INVALID_DATE, OK};
+use crate::branchless::{calendar_date_at, iso_week_date_at};
+use crate::values::valid_date;
+
+/// Returns the year, the month and the day of the month. For 2451604 they are 2000, 2 and 29.
+#[unsafe(no_mangle)]
+pub extern "C" fn fots_date_to_calendar_date(date: i32) -> CalendarDateResult
+    ensures { IsCalendarDateOf date result }
+{
+    let number = or_return!(day_number(date), CalendarDateResult::error(INVALID_DATE));
+    let (year, month, day) = calendar_date_at(number);
+    CalendarDateResult {
+        status: OK,
+        year,
+        month,
+        day,
+    }
+}
+
+/// Returns the year and the ordinal. For 2451604 they are 2000 and 60.
+#[unsafe(no_mangle)]
+pub extern "C" fn fots_date_to_ordinal_date(date: i32) -> OrdinalDateResult
+    ensures { IsOrdinalDateOf date result }
+{
+    let date = or_return!(valid_date(date), OrdinalDateResult::error(INVALID_DATE));
+    let (year, ordinal) = date.to_ordinal_date();
+    OrdinalDateResult {
+        status: OK,
+        year,
+        ordinal: u32::from(ordinal),
+    }
+}
+
+/// Returns the ISO year, the week and the weekday. For 2451604 they are 2000, 9 and 2.
+#[unsafe(no_mangle)]
+pub extern "C" fn fots_date_to_iso_week_date(date: i32) -> IsoWeekDateResult
+    ensures { IsIsoWeekDateOf date result }
+{
+    if !is_julian_day(date) {
+        return IsoWeekDateResult::error(INVALID_DATE);
+    }
+    let (year, week, weekday) = iso_week_date_at(date);
+    IsoWeekDateResult {
+        status: OK,
+        year,
+        week: u32::from(week),
+        weekday: u32::from(weekday),
+    }
+}
+
+/// Returns the year, from -999999 to 999999. For 2451604 it is 2000.
+#[unsafe(no_mangle)]
+pub extern "C" fn fots_date_year(date: i32) -> NumberResult
+    ensures invalid_date { ¬ IsJulianDay date → result ≡ number_error invalid_date }
+    ensures value { IsJulianDay date → result ≡ number_ok (year_at (day_of date)) }
+{
+    let date = or_return!(valid_date(date), NumberResult::error(INVALID_DATE));
+    NumberResult::ok(date.year())
+}
+
+/// Returns the month, from 1 to 12. For 2451604 it is 2.
+#[unsafe(no_mangle)]
+pub extern "C" fn fots_date_month(date: i32) -> NumberResult
+    ensures invalid_date { ¬ IsJulianDay date → result ≡ number_error invalid_date }
+    ensures value { IsJulianDay date → result ≡ number_ok (pos (month_at (day_of date))) }
+{
+    let date = or_return!(valid_date(date), NumberResult::error(INVALID_DATE));
+    NumberResult::ok(i32::from(date.month() as u8))
+}
+
+/// Returns the day of the month, from 1 to 31. For 2451604 it is 29.
+#[unsafe(no_mangle)]
+pub extern "C" fn fots_date_day(date: i32) -> NumberResult
+    ensures invalid_date { ¬ IsJulianDay date → result ≡ number_error invalid_date }
+    ensures value { IsJulianDay date → result ≡ number_ok (pos (day_of_month_at (day_of date))) }
+{
+    let date = or_return!(valid_date(date), NumberResult::error(INVALID_DATE));
+    NumberResult::ok(i32::from(date.day()))
+}
+
+/// Returns the ordinal, from 1 to 366. For 2451604 it is 60.
+#[unsafe(no_mangle)]
+pub extern "C" fn fots_date_ordinal(date: i32) -> NumberResult
+    ensures invalid_date { ¬ IsJulianDay date → result ≡ number_error invalid_date }
+    ensures value { IsJulianDay date → result ≡ number_ok (pos (ordinal_at (day_of date))) }
+{
+    let date = or_return!(valid_date(date), NumberResult::error(INVALID_DATE));
+    NumberResult::ok(i32::from(date.ordinal()))
+}
+
+/// Returns the ISO week, from 1 to 53. For 2451604 it is 9.
+#[unsafe(no_mangle)]
+pub extern "C" fn fots_date_iso_week(date: i32) -> NumberResult
+    ensures invalid_date { ¬ IsJulianDay date → result ≡ number_error invalid_date }
+    ensures value { IsJulianDay date → result ≡ number_ok (pos (iso_week_at (day_of date))) }
+{
+    let date = or_return!(valid_date(date), NumberResult::error(INVALID_DATE));
+    NumberResult::ok(i32::from(date.iso_week()))
+}
+
+/// Returns the week, from 0 to 53. Week 1 begins on the first Sunday. For 2451604 it is 9.
+#[unsafe(no_mangle)]
+pub extern "C" fn fots_date_sunday_based_week(date: i32) -> NumberResult
+    ensures invalid_date { ¬ IsJulianDay date → result ≡ number_error invalid_date }
+    ensures value { IsJulianDay date → result ≡ number_ok (pos (weekday_count 6 (day_of date))) }
+{
+    let date = or_return!(valid_date(date), NumberResult::error(INVALID_DATE));
+    NumberResult::ok(i32::from(date.sunday_based_week()))
+}
+
+/// Returns the week, from 0 to 53. Week 1 begins on the first Monday. For 2451604 it is 9.
+#[unsafe(no_mangle)]
+pub extern "C" fn fots_date_monday_based_week(date: i32) -> NumberResult
+    ensures invalid_date { ¬ IsJulianDay date → result ≡ number_error invalid_date }
+    ensures value { IsJulianDay date → result ≡ number_ok (pos (weekday_count 0 (day_of date))) }
+{
+    let date = or_return!(valid_date(date), NumberResult::error(INVALID_DATE));
+    NumberResult::ok(i32::from(date.monday_based_week()))
+}
+
+/// Returns the weekday, from 1, Monday, to 7, Sunday. For 2451604 it is 2.
+#[unsafe(no_mangle)]
+pub extern "C" fn fots_date_weekday(date: i32) -> NumberResult
+    ensures invalid_date { ¬ IsJulianDay date → result ≡ number_error invalid_date }
+    ensures value { IsJulianDay date → result ≡ number_ok (pos (weekday_at (day_of date) + 1)) }
+{
+    let number = or_return!(day_number(date), NumberResult::error(INVALID_DATE));
+    NumberResult::ok(i32::from(weekday_number(number)))
+}

@@ -1,0 +1,133 @@
+//! Dates by number, for calls that need no component of a date.
+ghost use Rattle.std.specs.Prelude.{◌≡◌, ◌+◌, ◌%◌, ◌≤◌, IsTrue, ◌↔◌, ◌+ℤ◌, ◌-ℤ◌, ◌*ℤ◌, pos, Some, None, SomeIff, nat_le, if◌then◌else◌};
+ghost use Rattle.cal_time.specs.Date.{last_day, weekday_at};
+ghost use Rattle.cal_time.specs.SignedDuration.{day};
+ghost use Rattle.cal_c.specs.Results.{IsDateOrOutOfRange, date_ok, date_or_out_of_range};
+ghost use Rattle.cal_c.specs.Values.{IsJulianDay, day_of, clamped_julian_day};
+
+use crate::results::DateResult;
+use crate::status::{OK, RESULT_OUT_OF_RANGE};
+use cal_time::SignedDuration;
+use cal_time::limits::{LAST_DAY, MAX_JULIAN_DAY, MIN_JULIAN_DAY};
+
+/// The Julian days of the first and the last date.
+pub const FIRST_JULIAN_DAY: i64 = MIN_JULIAN_DAY as i64;
+
+pub const LAST_JULIAN_DAY: i64 = MAX_JULIAN_DAY as i64;
+
+/// The number of the day with the Julian day 0.
+pub const DAY_ZERO: i32 = -MIN_JULIAN_DAY;
+
+/// The number of the last day.
+pub const LAST_DAY_NUMBER: u32 = LAST_DAY as u32;
+
+/// 2^32 / 7, rounded up: a number of days times this is its weeks, times 2^32.
+const WEEK_FACTOR: u32 = 613_566_757;
+
+/// Returns `true` if a Julian day is in range.
+pub fn is_julian_day(julian_day: i32) -> bool
+    ensures { IsTrue result ↔ IsJulianDay julian_day }
+{
+    julian_day >= FIRST_JULIAN_DAY as i32 && julian_day <= LAST_JULIAN_DAY as i32
+}
+
+/// Returns the number of the day with a Julian day, or `None` if it is out of range.
+pub fn day_number(julian_day: i32) -> Option<u32>
+    ensures { SomeIff result (IsJulianDay julian_day) (day_of julian_day) }
+{
+    if !is_julian_day(julian_day) {
+        return None;
+    }
+    Some((i64::from(julian_day) - FIRST_JULIAN_DAY) as u32)
+}
+
+/// Returns the date with a Julian day, or fails if it is out of range.
+pub fn checked_date(julian_day: i64) -> DateResult
+    ensures { IsDateOrOutOfRange julian_day result }
+{
+    if julian_day < FIRST_JULIAN_DAY || julian_day > LAST_JULIAN_DAY {
+        return DateResult::error(RESULT_OUT_OF_RANGE);
+    }
+    DateResult {
+        status: OK,
+        date: julian_day as i32,
+    }
+}
+
+/// Adds days.
+pub fn checked_add_days(julian_day: i32, days: i64) -> DateResult
+    ensures { IsDateOrOutOfRange (julian_day +ℤ days) result }
+{
+    // A sum that overflows 64 bits wraps to another number out of range.
+    checked_date(i64::from(julian_day).wrapping_add(days))
+}
+
+/// Subtracts days.
+pub fn checked_sub_days(julian_day: i32, days: i64) -> DateResult
+    ensures { IsDateOrOutOfRange (julian_day -ℤ days) result }
+{
+    checked_date(i64::from(julian_day).wrapping_sub(days))
+}
+
+/// Adds days, and clamps the result.
+pub fn saturating_add_days(julian_day: i32, days: i64) -> DateResult
+    ensures { result ≡ date_ok (clamped_julian_day (julian_day +ℤ days)) }
+{
+    clamped_date(i64::from(julian_day).saturating_add(days))
+}
+
+/// Subtracts days, and clamps the result.
+pub fn saturating_sub_days(julian_day: i32, days: i64) -> DateResult
+    ensures { result ≡ date_ok (clamped_julian_day (julian_day -ℤ days)) }
+{
+    clamped_date(i64::from(julian_day).saturating_sub(days))
+}
+
+/// Clamps a Julian day to the range.
+pub fn clamped_date(julian_day: i64) -> DateResult
+    ensures { result ≡ date_ok (clamped_julian_day julian_day) }
+{
+    DateResult {
+        status: OK,
+        date: julian_day.max(FIRST_JULIAN_DAY).min(LAST_JULIAN_DAY) as i32,
+    }
+}
+
+/// Returns the date with a number, or fails after the last one.
+pub fn date_result_from_number(number: u32) -> DateResult
+    ensures { result ≡ date_or_out_of_range (if nat_le number last_day then Some number else None) }
+{
+    if number > LAST_DAY_NUMBER {
+        return DateResult::error(RESULT_OUT_OF_RANGE);
+    }
+    DateResult {
+        status: OK,
+        date: (i64::from(number) + FIRST_JULIAN_DAY) as i32,
+    }
+}
+
+/// Returns the duration between two dates.
+pub fn duration_between(from: i32, to: i32) -> SignedDuration
+    ensures { result ≡ (to -ℤ from) *ℤ pos day }
+{
+    SignedDuration::days(i64::from(to) - i64::from(from))
+}
+
+/// Returns the weekday of a day, from 1 for Monday.
+pub fn weekday_number(number: u32) -> u8
+    requires { number ≤ last_day }
+    ensures { result ≡ weekday_at number + 1 }
+{
+    days_since_monday(number) as u8 + 1
+}
+
+/// Returns the days from Monday to a day, from 0 to 6. Day 0 is a Monday.
+pub fn days_since_monday(number: u32) -> u32
+    requires { number ≤ last_day }
+    ensures { result ≡ number % 7 }
+{
+    // `part` is the part of the week that has passed, times 2^32, so 7/8 of it over 2^29 is the
+    // days.
+    let part = number.wrapping_mul(WEEK_FACTOR);
+    (part - part / 8) >> 29
+}

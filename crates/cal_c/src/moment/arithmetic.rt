@@ -1,0 +1,137 @@
+//! Moments plus and minus durations, comparison, and the durations between moments.
+ghost use Rattle.std.specs.Prelude.{◌≡◌, pos, neg_ℤ, ◌+ℤ◌, ◌-ℤ◌, ◌<ℤ◌};
+ghost use Rattle.cal_datetime.specs.DateTime.{clamped_date_time};
+ghost use Rattle.cal_datetime.specs.OffsetDateTime.{instant};
+ghost use Rattle.cal_c.specs.Moments.{IsMoment, IsMomentOrError, local_in, moment_ok, moment_error, local_and_offset_in};
+ghost use Rattle.cal_c.specs.Results.{duration_ok, duration_error, number_ok, number_error};
+ghost use Rattle.cal_c.specs.Statuses.{invalid_duration, invalid_moment, result_out_of_range};
+ghost use Rattle.cal_c.specs.Values.{IsDurationPair, nanoseconds_in};
+
+use crate::moment::valid_moment;
+use crate::results::{Duration, DurationResult, Moment, MomentResult, NumberResult};
+use crate::status::{INVALID_DURATION, INVALID_MOMENT, RESULT_OUT_OF_RANGE};
+use crate::values::valid_duration;
+use cal_datetime::OffsetDateTime;
+use cal_time::SignedDuration;
+
+/// Adds a duration and keeps the offset. Fails if the local result is out of range.
+#[unsafe(no_mangle)]
+pub extern "C" fn fots_moment_checked_add(moment: Moment, duration: Duration) -> MomentResult
+    ensures invalid_moment { ¬ IsMoment moment → result ≡ moment_error invalid_moment }
+    ensures invalid_duration { IsMoment moment → ¬ IsDurationPair duration
+        → result ≡ moment_error invalid_duration }
+    ensures value { IsMoment moment → IsDurationPair duration
+        → IsMomentOrError result_out_of_range (local_in moment +ℤ nanoseconds_in duration) moment.offset result }
+{
+    let moment = or_return!(valid_moment(moment), MomentResult::error(INVALID_MOMENT));
+    let duration = or_return!(valid_duration(duration), MomentResult::error(INVALID_DURATION));
+    add_duration(moment, duration)
+}
+
+/// Adds a duration.
+fn add_duration(moment: OffsetDateTime, duration: SignedDuration) -> MomentResult
+    ensures { IsMomentOrError result_out_of_range (moment.local +ℤ duration) moment.offset result }
+{
+    let moved = or_return!(
+        moment.checked_add(duration),
+        MomentResult::error(RESULT_OUT_OF_RANGE)
+    );
+    MomentResult::ok(moved)
+}
+
+/// Subtracts a duration and keeps the offset. Fails if the local result is out of range.
+#[unsafe(no_mangle)]
+pub extern "C" fn fots_moment_checked_sub(moment: Moment, duration: Duration) -> MomentResult
+    ensures invalid_moment { ¬ IsMoment moment → result ≡ moment_error invalid_moment }
+    ensures invalid_duration { IsMoment moment → ¬ IsDurationPair duration
+        → result ≡ moment_error invalid_duration }
+    ensures value { IsMoment moment → IsDurationPair duration
+        → IsMomentOrError result_out_of_range (local_in moment -ℤ nanoseconds_in duration) moment.offset result }
+{
+    let moment = or_return!(valid_moment(moment), MomentResult::error(INVALID_MOMENT));
+    let duration = or_return!(valid_duration(duration), MomentResult::error(INVALID_DURATION));
+    sub_duration(moment, duration)
+}
+
+/// Subtracts a duration.
+fn sub_duration(moment: OffsetDateTime, duration: SignedDuration) -> MomentResult
+    ensures { IsMomentOrError result_out_of_range (moment.local -ℤ duration) moment.offset result }
+{
+    let moved = or_return!(
+        moment.checked_sub(duration),
+        MomentResult::error(RESULT_OUT_OF_RANGE)
+    );
+    MomentResult::ok(moved)
+}
+
+/// Adds a duration and keeps the offset. A local result out of range is clamped.
+#[unsafe(no_mangle)]
+pub extern "C" fn fots_moment_saturating_add(moment: Moment, duration: Duration) -> MomentResult
+    ensures invalid_moment { ¬ IsMoment moment → result ≡ moment_error invalid_moment }
+    ensures invalid_duration { IsMoment moment → ¬ IsDurationPair duration
+        → result ≡ moment_error invalid_duration }
+    ensures value { IsMoment moment → IsDurationPair duration
+        → result ≡ moment_ok (record {
+          local = clamped_date_time (local_in moment +ℤ nanoseconds_in duration);
+          offset = moment.offset;
+        }) }
+{
+    let moment = or_return!(valid_moment(moment), MomentResult::error(INVALID_MOMENT));
+    let duration = or_return!(valid_duration(duration), MomentResult::error(INVALID_DURATION));
+    MomentResult::ok(moment.saturating_add(duration))
+}
+
+/// Subtracts a duration and keeps the offset. A local result out of range is clamped.
+#[unsafe(no_mangle)]
+pub extern "C" fn fots_moment_saturating_sub(moment: Moment, duration: Duration) -> MomentResult
+    ensures invalid_moment { ¬ IsMoment moment → result ≡ moment_error invalid_moment }
+    ensures invalid_duration { IsMoment moment → ¬ IsDurationPair duration
+        → result ≡ moment_error invalid_duration }
+    ensures value { IsMoment moment → IsDurationPair duration
+        → result ≡ moment_ok (record {
+          local = clamped_date_time (local_in moment -ℤ nanoseconds_in duration);
+          offset = moment.offset;
+        }) }
+{
+    let moment = or_return!(valid_moment(moment), MomentResult::error(INVALID_MOMENT));
+    let duration = or_return!(valid_duration(duration), MomentResult::error(INVALID_DURATION));
+    MomentResult::ok(moment.saturating_sub(duration))
+}
+
+/// Returns the duration from the instant of `other` to this one, negative if `other` is later.
+#[unsafe(no_mangle)]
+pub extern "C" fn fots_moment_duration_since(moment: Moment, other: Moment) -> DurationResult
+    ensures invalid_moment { ¬ (IsMoment moment × IsMoment other)
+        → result ≡ duration_error invalid_moment }
+    ensures value { IsMoment moment → IsMoment other
+        → result ≡ duration_ok (instant (local_and_offset_in moment) -ℤ instant (local_and_offset_in other)) }
+{
+    let moment = or_return!(valid_moment(moment), DurationResult::error(INVALID_MOMENT));
+    let other = or_return!(valid_moment(other), DurationResult::error(INVALID_MOMENT));
+    DurationResult::ok(moment - other)
+}
+
+/// Compares two moments by instant: -1 for earlier, 0 for equal, 1 for later.
+#[unsafe(no_mangle)]
+pub extern "C" fn fots_moment_compare(moment: Moment, other: Moment) -> NumberResult
+    ensures invalid_moment { ¬ (IsMoment moment × IsMoment other) → result ≡ number_error invalid_moment }
+    ensures less { IsMoment moment → IsMoment other
+        → instant (local_and_offset_in moment) <ℤ instant (local_and_offset_in other)
+        → result ≡ number_ok (neg_ℤ (pos 1)) }
+    ensures same { IsMoment moment → IsMoment other
+        → instant (local_and_offset_in moment) ≡ instant (local_and_offset_in other)
+        → result ≡ number_ok (pos 0) }
+    ensures greater { IsMoment moment → IsMoment other
+        → instant (local_and_offset_in other) <ℤ instant (local_and_offset_in moment)
+        → result ≡ number_ok (pos 1) }
+{
+    let moment = or_return!(valid_moment(moment), NumberResult::error(INVALID_MOMENT));
+    let other = or_return!(valid_moment(other), NumberResult::error(INVALID_MOMENT));
+    if moment < other {
+        NumberResult::ok(-1)
+    } else if other < moment {
+        NumberResult::ok(1)
+    } else {
+        NumberResult::ok(0)
+    }
+}

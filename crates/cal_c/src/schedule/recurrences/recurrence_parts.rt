@@ -1,0 +1,100 @@
+//! The parts of a recurrence, for C.
+ghost use Rattle.std.specs.Prelude.{◌≡◌};
+ghost use Rattle.cal_c.specs.RecurrenceParts.{count_in, no_parts, parts_of, until_in};
+ghost use Rattle.cal_c.specs.Recurrences.{frequency_number};
+
+use super::lists::{MAX, NO_WEEKDAY, all_month_days, month_numbers, parts_of_weekdays};
+use super::rule_parts::RuleWeekday;
+use cal_recurrence::{Recurrence, RuleEnd};
+use cal_schedule::Frequency;
+
+/// The parts of a recurrence. A list has as many values as its length says, then zeros.
+#[repr(C)]
+#[derive(Clone, Copy)]
+pub struct RecurrenceParts {
+    /// 1 for daily, 2 for weekly, 3 for monthly, 4 for yearly.
+    pub frequency: u32,
+    pub interval: u32,
+    pub week_start: u32,
+    /// The last day (`UNTIL`), or `i32::MIN`.
+    pub until: i32,
+    /// The number of days (`COUNT`), or 0.
+    pub count: u32,
+    pub months_length: u32,
+    pub month_days_length: u32,
+    pub weekdays_length: u32,
+    pub months: [u8; MAX],
+    pub month_days: [i8; MAX],
+    pub weekdays: [RuleWeekday; MAX],
+}
+
+fn frequency_number(frequency: Frequency) -> u32
+    ensures { result ≡ frequency_number frequency }
+{
+    match frequency {
+        Frequency::Daily => 1,
+        Frequency::Weekly => 2,
+        Frequency::Monthly => 3,
+        Frequency::Yearly => 4,
+    }
+}
+
+fn until_in(end: RuleEnd) -> i32
+    ensures { result ≡ until_in end }
+{
+    match end {
+        RuleEnd::Until(day) => day.to_julian_day(),
+        RuleEnd::Never | RuleEnd::Count(_) => i32::MIN,
+    }
+}
+
+fn count_in(end: RuleEnd) -> u32
+    ensures { result ≡ count_in end }
+{
+    match end {
+        RuleEnd::Count(count) => count,
+        RuleEnd::Never | RuleEnd::Until(_) => 0,
+    }
+}
+
+impl RecurrenceParts {
+    pub(super) fn from_recurrence(recurrence: &Recurrence) -> Self
+        ensures { result ≡ parts_of recurrence.now }
+    {
+        let months = recurrence.months.as_slice();
+        let month_days = recurrence.month_days.as_slice();
+        let weekdays = recurrence.weekdays.as_slice();
+        RecurrenceParts {
+            frequency: frequency_number(recurrence.frequency),
+            interval: recurrence.interval,
+            week_start: u32::from(recurrence.week_start.number_from_monday()),
+            until: until_in(recurrence.end),
+            count: count_in(recurrence.end),
+            months_length: months.len() as u32,
+            month_days_length: month_days.len() as u32,
+            weekdays_length: weekdays.len() as u32,
+            months: month_numbers(months),
+            month_days: all_month_days(month_days),
+            weekdays: parts_of_weekdays(weekdays),
+        }
+    }
+
+    /// Returns the parts for a text that is not a recurrence.
+    pub(super) fn empty() -> Self
+        ensures { result ≡ no_parts }
+    {
+        RecurrenceParts {
+            frequency: 0,
+            interval: 0,
+            week_start: 0,
+            until: i32::MIN,
+            count: 0,
+            months_length: 0,
+            month_days_length: 0,
+            weekdays_length: 0,
+            months: [0; MAX],
+            month_days: [0; MAX],
+            weekdays: [NO_WEEKDAY; MAX],
+        }
+    }
+}

@@ -1,0 +1,128 @@
+//! Parsing dates, moments and Unix times.
+ghost use Rattle.std.specs.Prelude.{◌≡◌, ◌+ℤ◌, ℕ};
+ghost use Rattle.cal_time.specs.Date.{IsDate};
+ghost use Rattle.cal_time.specs.Time.{IsTime};
+ghost use Rattle.cal_time.specs.UtcOffset.{IsOffset};
+ghost use Rattle.cal_time.specs.declared.error.ComponentRange.{ComponentRange};
+ghost use Rattle.cal_datetime.specs.DateTime.{IsDateTime};
+ghost use Rattle.cal_datetime.specs.OffsetDateTime.{LocalAndOffset, instant, local_at, unix_epoch, unix_nanoseconds};
+ghost use Rattle.cal_text.specs.DateForms.{IsDateText};
+ghost use Rattle.cal_text.specs.JulianForm.{julian_text, IsJulianForm, IsJulianDayError};
+ghost use Rattle.cal_text.specs.Position.{HasSome};
+ghost use Rattle.cal_text.specs.Parsing.{HasError};
+ghost use Rattle.cal_text.specs.Rfc3339Form.{IsMomentText};
+ghost use Rattle.cal_text.specs.UnixText.{HasUnixForm, IsUnixText, IsUnixTimeError};
+ghost use Rattle.cal_c.specs.Results.{duration_ok, duration_error, pair_at_local, pair_error};
+ghost use Rattle.cal_c.specs.Statuses.{invalid_date, invalid_time, invalid_offset, invalid_duration, result_out_of_range, component_status};
+ghost use Rattle.cal_c.specs.Texts.{parsed_date_ok, parsed_date_error, parsed_moment_ok, parsed_moment_error, HasDateSyntax, HasMomentSyntax, HasDateError, HasMomentError, IsDateSyntaxError, IsMomentSyntaxError};
+ghost use Rattle.cal_c.specs.Values.{IsDurationPair, IsJulianDay, moment_of, nanoseconds_in};
+
+use crate::results::{Duration, DurationResult, PairResult};
+use crate::status::{INVALID_DATE, INVALID_DURATION, INVALID_OFFSET, INVALID_TIME, RESULT_OUT_OF_RANGE};
+use crate::texts::{ParseDateResult, ParseMomentResult};
+use crate::values::{valid_date, valid_duration, valid_offset, valid_time};
+use cal_datetime::OffsetDateTime;
+use cal_text::{date, julian_day, rfc3339, unix};
+use cal_time::UtcOffset;
+
+/// Parses a calendar, ordinal or week date: `2024-02-29`, `2024-060` or `2024-W09-4`.
+#[unsafe(no_mangle)]
+pub extern "C" fn fots_date_parse(text: &[u8]) -> ParseDateResult
+    ensures value { (n : ℕ) → IsDate n → IsDateText text.now n → result ≡ parsed_date_ok n }
+    ensures syntax_error { ¬ HasDateSyntax text.now → IsDateSyntaxError HasDateSyntax text.now result }
+    ensures out_of_range { (why : ComponentRange) → HasDateError text.now why
+        → result ≡ parsed_date_error (component_status why.component) }
+{
+    let date = or_return!(date::parse(text), error => ParseDateResult::error(error));
+    ParseDateResult::ok(date)
+}
+
+/// Parses the letter J and a Julian day, such as `J2460370`.
+#[unsafe(no_mangle)]
+pub extern "C" fn fots_julian_day_parse(text: &[u8]) -> ParseDateResult
+    ensures value { (n : ℕ) → IsDate n → text.now ≡ julian_text n → result ≡ parsed_date_ok n }
+    ensures syntax_error { ¬ HasSome IsJulianForm text.now
+        → IsDateSyntaxError (HasSome IsJulianForm) text.now result }
+    ensures out_of_range { (why : ComponentRange) → HasError IsJulianForm IsJulianDayError text.now why
+        → result ≡ parsed_date_error (component_status why.component) }
+{
+    let date = or_return!(julian_day::parse(text), error => ParseDateResult::error(error));
+    ParseDateResult::ok(date)
+}
+
+/// Parses a date, a time and an offset in RFC 3339, such as `2024-02-29T23:59:59.25+01:00`.
+#[unsafe(no_mangle)]
+pub extern "C" fn fots_moment_parse(text: &[u8]) -> ParseMomentResult
+    ensures value { (m : LocalAndOffset) → IsMomentText text.now m → result ≡ parsed_moment_ok m }
+    ensures syntax_error { ¬ HasMomentSyntax text.now → IsMomentSyntaxError HasMomentSyntax text.now result }
+    ensures out_of_range { (why : ComponentRange) → HasMomentError text.now why
+        → result ≡ parsed_moment_error (component_status why.component) }
+{
+    let moment = or_return!(rfc3339::parse(text), error => ParseMomentResult::error(error));
+    ParseMomentResult::ok(moment)
+}
+
+/// Parses a Unix time, such as `@1709164800.5`, to a date and a time at UTC.
+#[unsafe(no_mangle)]
+pub extern "C" fn fots_unix_parse(text: &[u8]) -> ParseMomentResult
+    ensures value { (m : LocalAndOffset) → IsUnixText text.now m → result ≡ parsed_moment_ok m }
+    ensures syntax_error { ¬ HasSome HasUnixForm text.now
+        → IsMomentSyntaxError (HasSome HasUnixForm) text.now result }
+    ensures out_of_range { (why : ComponentRange) → HasError HasUnixForm IsUnixTimeError text.now why
+        → result ≡ parsed_moment_error (component_status why.component) }
+{
+    let moment = or_return!(unix::parse(text), error => ParseMomentResult::error(error));
+    ParseMomentResult::ok(moment)
+}
+
+/// Returns the Unix time of a local date and time at an offset.
+#[unsafe(no_mangle)]
+pub extern "C" fn fots_unix_time(date: i32, time: u64, offset: i32) -> DurationResult
+    ensures invalid_date { ¬ IsJulianDay date → result ≡ duration_error invalid_date }
+    ensures invalid_time { IsJulianDay date → ¬ IsTime time → result ≡ duration_error invalid_time }
+    ensures invalid_offset { IsJulianDay date → IsTime time → ¬ IsOffset offset
+        → result ≡ duration_error invalid_offset }
+    ensures value { IsJulianDay date → IsTime time → IsOffset offset
+        → result ≡ duration_ok (unix_nanoseconds (instant (moment_of date time offset))) }
+{
+    let date = or_return!(valid_date(date), DurationResult::error(INVALID_DATE));
+    let time = or_return!(valid_time(time), DurationResult::error(INVALID_TIME));
+    let offset = or_return!(valid_offset(offset), DurationResult::error(INVALID_OFFSET));
+    let moment = OffsetDateTime::new_in_offset(date, time, offset);
+    DurationResult::ok(moment - OffsetDateTime::unix_epoch())
+}
+
+/// Returns the local date and time of a Unix time at an offset. Fails if they are out of range.
+#[unsafe(no_mangle)]
+pub extern "C" fn fots_unix_pair(duration: Duration, offset: i32) -> PairResult
+    ensures invalid_duration { ¬ IsDurationPair duration → result ≡ pair_error invalid_duration }
+    ensures invalid_offset { IsDurationPair duration → ¬ IsOffset offset
+        → result ≡ pair_error invalid_offset }
+    ensures result_out_of_range { IsDurationPair duration → IsOffset offset
+        → ¬ IsDateTime (local_at unix_epoch offset +ℤ nanoseconds_in duration)
+        → result ≡ pair_error result_out_of_range }
+    ensures value { IsDurationPair duration → IsOffset offset
+        → IsDateTime (local_at unix_epoch offset +ℤ nanoseconds_in duration)
+        → result ≡ pair_at_local (local_at unix_epoch offset +ℤ nanoseconds_in duration) }
+{
+    let duration = or_return!(valid_duration(duration), PairResult::error(INVALID_DURATION));
+    let offset = or_return!(valid_offset(offset), PairResult::error(INVALID_OFFSET));
+    let moment = or_return!(
+        epoch_at_offset(offset).checked_add(duration),
+        PairResult::error(RESULT_OUT_OF_RANGE)
+    );
+    PairResult::from_option(Some((moment.date(), moment.time())))
+}
+
+/// Returns 1970-01-01 0:00 UTC at an offset.
+fn epoch_at_offset(offset: UtcOffset) -> OffsetDateTime
+    ensures { result ≡ record { local = local_at unix_epoch offset; offset = offset } }
+{
+    // This call states that the offset is in its range. It costs nothing.
+    let _ = offset.whole_seconds();
+    let epoch = OffsetDateTime::unix_epoch();
+    match epoch.checked_to_offset(offset) {
+        Some(shown) => shown,
+        None => epoch,
+    }
+}

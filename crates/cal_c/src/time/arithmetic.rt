@@ -1,0 +1,109 @@
+//! Times plus and minus durations, and the durations between times.
+ghost use Rattle.std.specs.Prelude.{◌≡◌, pos, ◌+ℤ◌, ◌-ℤ◌};
+ghost use Rattle.cal_time.specs.Time.{IsTime, modulo_day};
+ghost use Rattle.cal_c.specs.Results.{time_ok, time_error, duration_ok, duration_error, adjusted_time_error, IsAddAdjusted, IsSubAdjusted};
+ghost use Rattle.cal_c.specs.Statuses.{invalid_time, invalid_duration};
+ghost use Rattle.cal_c.specs.Values.{IsDurationPair, nanoseconds_in};
+
+use crate::results::{AdjustedTimeResult, Duration, DurationResult, TimeResult};
+use crate::status::{INVALID_DURATION, INVALID_TIME};
+use crate::values::{valid_duration, valid_time};
+
+/// Adds a duration, modulo a day.
+#[unsafe(no_mangle)]
+pub extern "C" fn fots_time_add(time: u64, duration: Duration) -> TimeResult
+    ensures invalid_time { ¬ IsTime time → result ≡ time_error invalid_time }
+    ensures invalid_duration { IsTime time → ¬ IsDurationPair duration
+        → result ≡ time_error invalid_duration }
+    ensures value { IsTime time → IsDurationPair duration
+        → result ≡ time_ok (modulo_day (pos time +ℤ nanoseconds_in duration)) }
+{
+    let time = or_return!(valid_time(time), TimeResult::error(INVALID_TIME));
+    let duration = or_return!(valid_duration(duration), TimeResult::error(INVALID_DURATION));
+    TimeResult::ok(time + duration)
+}
+
+/// Adds a duration. The carry is the days beyond the whole days of the duration.
+#[unsafe(no_mangle)]
+pub extern "C" fn fots_time_adjusting_add(time: u64, duration: Duration) -> AdjustedTimeResult
+    ensures invalid_time { ¬ IsTime time → result ≡ adjusted_time_error invalid_time }
+    ensures invalid_duration { IsTime time → ¬ IsDurationPair duration
+        → result ≡ adjusted_time_error invalid_duration }
+    ensures value { IsTime time → IsDurationPair duration
+        → IsAddAdjusted time (nanoseconds_in duration) result }
+{
+    let time = or_return!(valid_time(time), AdjustedTimeResult::error(INVALID_TIME));
+    let duration = or_return!(
+        valid_duration(duration),
+        AdjustedTimeResult::error(INVALID_DURATION)
+    );
+    let (adjustment, time) = time.adjusting_add(duration);
+    AdjustedTimeResult::ok(adjustment, time)
+}
+
+/// Subtracts a duration, modulo a day.
+#[unsafe(no_mangle)]
+pub extern "C" fn fots_time_sub(time: u64, duration: Duration) -> TimeResult
+    ensures invalid_time { ¬ IsTime time → result ≡ time_error invalid_time }
+    ensures invalid_duration { IsTime time → ¬ IsDurationPair duration
+        → result ≡ time_error invalid_duration }
+    ensures value { IsTime time → IsDurationPair duration
+        → result ≡ time_ok (modulo_day (pos time -ℤ nanoseconds_in duration)) }
+{
+    let time = or_return!(valid_time(time), TimeResult::error(INVALID_TIME));
+    let duration = or_return!(valid_duration(duration), TimeResult::error(INVALID_DURATION));
+    TimeResult::ok(time - duration)
+}
+
+/// Subtracts a duration. The carry is the days beyond the whole days of the duration.
+#[unsafe(no_mangle)]
+pub extern "C" fn fots_time_adjusting_sub(time: u64, duration: Duration) -> AdjustedTimeResult
+    ensures invalid_time { ¬ IsTime time → result ≡ adjusted_time_error invalid_time }
+    ensures invalid_duration { IsTime time → ¬ IsDurationPair duration
+        → result ≡ adjusted_time_error invalid_duration }
+    ensures value { IsTime time → IsDurationPair duration
+        → IsSubAdjusted time (nanoseconds_in duration) result }
+{
+    let time = or_return!(valid_time(time), AdjustedTimeResult::error(INVALID_TIME));
+    let duration = or_return!(
+        valid_duration(duration),
+        AdjustedTimeResult::error(INVALID_DURATION)
+    );
+    let (adjustment, time) = time.adjusting_sub(duration);
+    AdjustedTimeResult::ok(adjustment, time)
+}
+
+/// Returns the duration forward to the other time, from 0 to less than a day.
+#[unsafe(no_mangle)]
+pub extern "C" fn fots_time_duration_until(time: u64, other: u64) -> DurationResult
+    ensures invalid_time { ¬ (IsTime time × IsTime other) → result ≡ duration_error invalid_time }
+    ensures value { IsTime time → IsTime other
+        → result ≡ duration_ok (pos (modulo_day (pos other -ℤ pos time))) }
+{
+    let time = or_return!(valid_time(time), DurationResult::error(INVALID_TIME));
+    let other = or_return!(valid_time(other), DurationResult::error(INVALID_TIME));
+    DurationResult::ok(time.duration_until(other))
+}
+
+/// Returns the duration forward from the other time, from 0 to less than a day.
+#[unsafe(no_mangle)]
+pub extern "C" fn fots_time_duration_since(time: u64, other: u64) -> DurationResult
+    ensures invalid_time { ¬ (IsTime time × IsTime other) → result ≡ duration_error invalid_time }
+    ensures value { IsTime time → IsTime other
+        → result ≡ duration_ok (pos (modulo_day (pos time -ℤ pos other))) }
+{
+    let time = or_return!(valid_time(time), DurationResult::error(INVALID_TIME));
+    let other = or_return!(valid_time(other), DurationResult::error(INVALID_TIME));
+    DurationResult::ok(time.duration_since(other))
+}
+
+/// Returns the duration from `other` to this time on the same day, negative if `other` is later.
+#[unsafe(no_mangle)]
+pub extern "C" fn fots_time_difference(time: u64, other: u64) -> DurationResult
+    ensures invalid_time { ¬ (IsTime time × IsTime other) → result ≡ duration_error invalid_time }
+    ensures value { IsTime time → IsTime other → result ≡ duration_ok (pos time -ℤ pos other) }
+{
+    let time = or_return!(valid_time(time), DurationResult::error(INVALID_TIME));
+    let other = or_return!(valid_time(other), DurationResult::error(INVALID_TIME));
+    DurationResult::ok(time - other)
+}

@@ -1,8 +1,0 @@
-use Rattle.std.proofs.Common.{arith}
-use Rattle.std.proofs.lemmas.Int.{ints}
-use Rattle.cal_time.specs.Days.{month_at-range}
-use Rattle.cal_schedule.proofs.Ends.{first-least}
-use Rattle.cal_schedule.proofs.bounds.first_of_year.Goals as goal
-
-pub returns-clause-not_after : goal.returns-clause-not_after
-returns-clause-not_after c = first-least _ _ _ _ c.first_in.ensures.date (omega (arith, ints, month_at-range c.args.date))

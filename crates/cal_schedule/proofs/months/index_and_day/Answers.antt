@@ -1,6 +1,0 @@
-use Rattle.std.proofs.Common.{arith}
-use Rattle.std.proofs.lemmas.Int.{ints}
-use Rattle.cal_schedule.proofs.months.index_and_day.Goals as goal
-
-pub returns-clause-index : goal.returns-clause-index
-returns-clause-index c = omega (arith, ints, c.year.ensures.counted, c.year.ensures.range.0, c.month_index_and_day-month.ensures.month)

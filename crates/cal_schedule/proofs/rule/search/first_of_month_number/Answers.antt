@@ -1,0 +1,15 @@
+use Rattle.std.proofs.Common.{◌≤◌, arith}
+use Rattle.std.proofs.lemmas.Bool.Decides.{nat_tests}
+use Rattle.std.proofs.lemmas.Int.{ints}
+use Rattle.cal_schedule.proofs.Rules.{first_day-month, no_month}
+use Rattle.cal_schedule.proofs.rule.search.first_of_month_number.Goals as goal
+
+pub returns-then-index-lt-MONTHS : goal.returns-then-index-lt-MONTHS
+returns-then-index-lt-MONTHS c =
+    let first = c.clamped_date_in_month.ensures in
+    first_day-month c.args.first c.args.index c.clamped_date_in_month.result (omega (arith, ints, first.month)) first.range first.day
+
+pub returns-else-index-lt-MONTHS : goal.returns-else-index-lt-MONTHS
+returns-else-index-lt-MONTHS c =
+    let past : 23999988 ≤ c.args.index = grind (arith, nat_tests) in
+    no_month c.args.first c.args.index past

@@ -1,0 +1,205 @@
+//! Matching a day against a rule.
+ghost use Rattle.std.specs.Prelude.{◌≡◌, ◌<◌, ◌≤◌, ◌&&◌, ◌==◌};
+ghost use Rattle.std.specs.List.{list_any};
+ghost use Rattle.cal_time.specs.Date.{last_day, IsDate, month_at, ordinal_at, year_at};
+ghost use Rattle.cal_time.specs.Lengths.{days_in_year};
+ghost use Rattle.cal_time.specs.Month.{number as month_number};
+ghost use Rattle.cal_schedule.specs.Rule.{allows, matches_start, matches_until, is_empty, matches_months, is_month_day, is_nth, is_nth_weekday, is_occurrence, matches_days, matches_by_day, is_yearly, names_no_day, interval_or_1, period_index, periods_past};
+
+use crate::months::month_number_and_day;
+use crate::day_number::day_number;
+use crate::rule::rule::{ByDay, Frequency, Rule};
+use cal_time::limits::MIN_YEAR;
+use cal_time::util::{days_in_month, days_in_year};
+use cal_time::{Cycle, Date, Month, Weekday};
+
+/// Returns `true` if an item with this number from the start and this number from the end, both
+/// from 1, is the n-th. A negative n counts from the end.
+fn is_nth(n: i8, ahead: u16, back: u16) -> bool
+    ensures { result ≡ is_nth n ahead back }
+{
+    let n = i32::from(n);
+    if n < 0 {
+        i32::from(back) == -n
+    } else {
+        i32::from(ahead) == n
+    }
+}
+
+/// Returns the number of the month of a date.
+fn month_number_of(date: Date) -> u8
+    ensures { result ≡ month_at date }
+{
+    date.month().place() + 1
+}
+
+/// Returns `true` if one of the months has this number.
+fn any_month(months: &[Month], number: u8) -> bool
+    ensures { result ≡ list_any (λ m. month_number m == number) months.now }
+{
+    months.iter().any(|month| month.place() + 1 == number)
+}
+
+/// Returns `true` if the date is this day of its month.
+#[tactic(auto, unfolding(crate::specs::Rule::is_month_day))]
+fn is_month_day(date: Date, day: i8) -> bool
+    ensures { result ≡ is_month_day date day }
+{
+    let length = days_in_month(date.month(), date.year());
+    is_nth(
+        day,
+        u16::from(date.day()),
+        u16::from(length + 1 - date.day()),
+    )
+}
+
+fn any_month_day(days: &[i8], date: Date) -> bool
+    ensures { result ≡ list_any (is_month_day date) days.now }
+{
+    days.iter().any(|day| is_month_day(date, *day))
+}
+
+/// Returns `true` if the date is the n-th of its weekday in its year, or in its month.
+#[tactic(auto, unfolding(crate::specs::Rule::is_nth_weekday))]
+pub(crate) fn is_nth_in_period(of_year: bool, date: Date, n: i8) -> bool
+    ensures value { result ≡ is_nth_weekday of_year date n }
+    ensures in_range { IsDate date }
+{
+    let (index, length) = if of_year {
+        (date.ordinal(), days_in_year(date.year()))
+    } else {
+        (
+            u16::from(date.day()),
+            u16::from(days_in_month(date.month(), date.year())),
+        )
+    };
+    is_nth(n, (index + 6) / 7, (length - index) / 7 + 1)
+}
+
+/// Returns `true` if the date has this weekday, and its number if it has one.
+#[tactic(auto, unfolding(crate::specs::Rule::matches_by_day))]
+fn matches_by_day(of_year: bool, date: Date, by: ByDay) -> bool
+    ensures { result ≡ matches_by_day of_year date by }
+{
+    match by {
+        ByDay::Every(weekday) => date.weekday() == weekday,
+        ByDay::Nth(n, weekday) => date.weekday() == weekday && is_nth_in_period(of_year, date, n),
+    }
+}
+
+fn any_weekday(weekdays: &[ByDay], of_year: bool, date: Date) -> bool
+    ensures { result ≡ list_any (matches_by_day of_year date) weekdays.now }
+{
+    weekdays.iter().any(|by| matches_by_day(of_year, date, *by))
+}
+
+/// Returns the index of the day, week, month or year of a date, from 0 at the start of the range.
+#[tactic(auto, unfolding(crate::specs::Rule::period_index))]
+pub(crate) fn period_of(frequency: Frequency, first: Weekday, date: Date) -> u32
+    ensures value { result ≡ period_index frequency first date }
+    ensures max { result ≤ last_day }
+    ensures in_range { IsDate date }
+{
+    match frequency {
+        Frequency::Daily => day_number(date),
+        Frequency::Weekly => (day_number(date) + 7 - u32::from(first.place())) / 7,
+        Frequency::Monthly => month_number_and_day(date).0,
+        Frequency::Yearly => (date.year() - MIN_YEAR) as u32,
+    }
+}
+
+impl Rule<'_> {
+    /// Returns the interval, or 1 if it is 0.
+    pub(super) fn interval_or_1(&self) -> u32
+        ensures value { result ≡ interval_or_1 self.now }
+        ensures min { 1 ≤ result }
+    {
+        self.interval.max(1)
+    }
+
+    fn names_no_day(&self) -> bool
+        ensures { result ≡ names_no_day self.now }
+    {
+        self.month_days.is_empty() && self.weekdays.is_empty()
+    }
+
+    fn is_yearly(&self) -> bool
+        ensures { result ≡ is_yearly self.now.frequency }
+    {
+        matches!(self.frequency, Frequency::Yearly)
+    }
+
+    /// Returns `true` if the month of the date passes the rule.
+    #[tactic(auto, unfolding(crate::specs::Rule::matches_months))]
+    pub(super) fn matches_months(&self, date: Date) -> bool
+        ensures { result ≡ matches_months self.now date }
+    {
+        let month = month_number_of(date);
+        if self.months.is_empty() {
+            !(self.is_yearly() && self.names_no_day()) || month == month_number_of(self.start)
+        } else {
+            any_month(self.months, month)
+        }
+    }
+
+    /// Returns `true` if the date has the day of the start: its weekday in a weekly rule, its day
+    /// of the month in a monthly or yearly rule.
+    fn matches_start(&self, date: Date) -> bool
+        ensures { result ≡ matches_start self.now.frequency self.now.start date }
+    {
+        match self.frequency {
+            Frequency::Daily => true,
+            Frequency::Weekly => date.weekday() == self.start.weekday(),
+            Frequency::Monthly | Frequency::Yearly => date.day() == self.start.day(),
+        }
+    }
+
+    /// Returns `true` if the date passes the days of the month and the weekdays, or has the day of
+    /// the start if the rule names no day.
+    #[tactic(auto, unfolding(crate::specs::Rule::matches_days))]
+    fn matches_days(&self, date: Date) -> bool
+        ensures { result ≡ matches_days self.now date }
+    {
+        if self.names_no_day() {
+            return self.matches_start(date);
+        }
+        let of_year = self.is_yearly() && self.months.is_empty();
+        (self.month_days.is_empty() || any_month_day(self.month_days, date))
+            && (self.weekdays.is_empty() || any_weekday(self.weekdays, of_year, date))
+    }
+
+    fn matches_until(&self, date: Date) -> bool
+        ensures { result ≡ matches_until self.now.until date }
+    {
+        match self.until {
+            Some(last) => date <= last,
+            None => true,
+        }
+    }
+
+    /// Returns the number of periods since the last selected one, 0 if the period of the date is
+    /// selected.
+    #[tactic(auto, unfolding(crate::specs::Rule::periods_past))]
+    pub(super) fn periods_past(&self, date: Date) -> u32
+        requires { self.now.start ≤ date }
+        ensures value { result ≡ periods_past self.now date }
+        ensures range { result < interval_or_1 self.now }
+    {
+        let start = period_of(self.frequency, self.week_start, self.start);
+        (period_of(self.frequency, self.week_start, date) - start) % self.interval_or_1()
+    }
+
+    /// Returns `true` if the rule matches a date. A rule for the last Friday of each month matches
+    /// 26 January 2024, and not 19 January.
+    #[tactic(auto, unfolding(crate::specs::Rule::is_occurrence))]
+    pub fn contains(&self, date: Date) -> bool
+        ensures value { result ≡ is_occurrence self.now date }
+        ensures in_range { IsDate date }
+    {
+        day_number(date) >= day_number(self.start)
+            && self.matches_until(date)
+            && self.periods_past(date) == 0
+            && self.matches_months(date)
+            && self.matches_days(date)
+    }
+}

@@ -1,0 +1,4 @@
+use Rattle.cal_text.proofs.digits.+scan_more_digits.Given as goal
+
+abbrev pub decreases-scan_more_digits : goal.decreases-scan_more_digits
+decreases-scan_more_digits l = l.most

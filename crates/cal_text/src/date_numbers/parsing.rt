@@ -1,0 +1,61 @@
+//! Parsing the form of a date.
+ghost use Rattle.std.specs.Prelude.{◌≡◌, ◌∷◌, IfSome, IfOk, IfErr, Ok};
+ghost use Rattle.cal_text.specs.declared.date_numbers.DateNumbers.{DateNumbers};
+ghost use Rattle.cal_text.specs.DateForms.{IsPrintableYear, form_year, form_rest, DigitsFit, HasForm};
+ghost use Rattle.cal_text.specs.Position.{HasSome, IsPosition};
+ghost use Rattle.cal_text.specs.Shape.{ScansWhole, week_date, month_or_ordinal, after_year, date};
+
+use crate::date_numbers::DateNumbers;
+use crate::scanner::Scanner;
+use crate::year::scan_year;
+
+/// Returns the form of the text, or the position at which the text stops matching the forms.
+pub(crate) fn parse_numbers(text: &[u8]) -> Result<DateNumbers, usize>
+    ensures every { (form : DateNumbers) → HasForm text.now form → result ≡ Ok form }
+    ensures value { IfOk result (HasForm text.now) }
+    ensures position { IfErr result (IsPosition (HasSome HasForm) text.now) }
+{
+    // Most dates have a year of four digits. For these the length is tested once, not before each
+    // byte.
+    let mut scanner = Scanner { rest: text };
+    if let [_, _, _, _, b'-', _, _, b'-', _, _] = text
+        && let Some(year) = scanner.four_digits()
+        && let Some((month, day)) = scanner.two_numbers(b'-')
+        && let Some(()) = scanner.end()
+    {
+        return Ok(DateNumbers::Calendar(year as i32, month, day));
+    }
+    scanner.rest = text;
+    match scan_date(&mut scanner) {
+        Some(form) => Ok(form),
+        None => Err(text.len() - scanner.rest.len()),
+    }
+}
+
+/// Parses a year, a hyphen, and then a week and a weekday, a month and a day, or an ordinal.
+fn scan_date(scanner: &mut Scanner) -> Option<DateNumbers>
+    ensures scans { ScansWhole date scanner.old.rest.now scanner.new.rest.now result }
+    ensures value { IfSome result (HasForm scanner.old.rest.now) }
+{
+    let year = scan_year(scanner)?;
+    if let Some(()) = scanner.byte(b'W') {
+        let week = scanner.two_digits()?;
+        scanner.byte(b'-')?;
+        let weekday = scanner.byte_from(b'1', 6)?;
+        scanner.end()?;
+        return Some(DateNumbers::Week(year, week as u8, weekday - b'0'));
+    }
+    let front = scanner.two_digits()?;
+    match scanner.byte(b'-') {
+        Some(()) => {
+            let day = scanner.two_digits()?;
+            scanner.end()?;
+            Some(DateNumbers::Calendar(year, front as u8, day as u8))
+        }
+        None => {
+            let last = scanner.digit()?;
+            scanner.end()?;
+            Some(DateNumbers::Ordinal(year, (front * 10 + last) as u16))
+        }
+    }
+}

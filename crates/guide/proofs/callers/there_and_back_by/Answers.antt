@@ -1,6 +1,0 @@
-use Rattle.std.proofs.Common.{arith}
-use Rattle.std.proofs.lemmas.Int.{ints}
-use Rattle.guide.proofs.callers.there_and_back_by.Goals as goal
-
-pub returns : goal.returns
-returns c = omega (arith, ints, c.in_ok-there.ensures.number, c.in_ok-back.ensures.number)
