@@ -6,10 +6,10 @@
 ghost use Rattle.std.specs.Prelude.{◌≡◌, ◌≤◌, count_by, length, if◌then◌else◌};
 ghost use Rattle.cal_c.specs.Columns.{is_error};
 
-mod constructors;
-mod months;
 mod arithmetic;
 mod components;
+mod constructors;
+mod months;
 mod statuses;
 mod texts;
 mod workdays;

@@ -1,7 +1,7 @@
 //! Dates, which are Julian days.
 
-pub(crate) mod constructors;
 pub(crate) mod arithmetic;
-mod occurrences;
 pub(crate) mod components;
+pub(crate) mod constructors;
+mod occurrences;
 mod replacement;

@@ -36,19 +36,19 @@ macro_rules! ok_or_error {
     };
 }
 
+mod branchless;
 mod columns;
 mod cycle;
 mod date;
+mod day_number;
 mod duration;
 mod laws;
 mod moment;
-mod day_number;
 mod offset;
 mod pair;
 mod results;
 mod schedule;
 mod status;
-mod branchless;
 mod texts;
 mod time;
 mod values;

@@ -6,8 +6,8 @@ use crate::results::Moment;
 use crate::values::{valid_date, valid_offset, valid_time};
 use cal_datetime::OffsetDateTime;
 
-mod constructors;
 mod arithmetic;
+mod constructors;
 mod unix;
 
 /// Returns the moment of three numbers, or `None` if one of them is invalid.

@@ -6,7 +6,7 @@ ghost use Rattle.cal_c.specs.Statuses.{invalid_offset, offset_hour_status, offse
 
 use crate::results::{NumberResult, OffsetHmsResult, OffsetResult};
 use crate::status::{INVALID_OFFSET, OK, SECONDS_OUT_OF_RANGE};
-use crate::values::{valid_offset, saturating_i8};
+use crate::values::{saturating_i8, valid_offset};
 use cal_time::UtcOffset;
 
 /// Creates an offset from hours, minutes and seconds. The first that isn't 0 gives the sign of all.
@@ -38,8 +38,12 @@ pub extern "C" fn fots_offset_from_whole_seconds(seconds: i64) -> OffsetResult
     ensures seconds { ¬ IsOffset seconds → result ≡ offset_error seconds_status }
     ensures value { IsOffset seconds → result ≡ offset_ok seconds }
 {
-    let seconds = or_return!(i32::try_from(seconds), _ => OffsetResult::error(SECONDS_OUT_OF_RANGE));
-    let offset = or_return!(valid_offset(seconds), OffsetResult::error(SECONDS_OUT_OF_RANGE));
+    let seconds =
+        or_return!(i32::try_from(seconds), _ => OffsetResult::error(SECONDS_OUT_OF_RANGE));
+    let offset = or_return!(
+        valid_offset(seconds),
+        OffsetResult::error(SECONDS_OUT_OF_RANGE)
+    );
     OffsetResult::ok(offset)
 }
 

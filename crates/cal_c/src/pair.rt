@@ -23,7 +23,10 @@ pub extern "C" fn fots_add_to_pair(date: i32, time: u64, duration: Duration) -> 
 {
     let date = or_return!(valid_date(date), PairResult::error(INVALID_DATE));
     let time = or_return!(valid_time(time), PairResult::error(INVALID_TIME));
-    let duration = or_return!(valid_duration(duration), PairResult::error(INVALID_DURATION));
+    let duration = or_return!(
+        valid_duration(duration),
+        PairResult::error(INVALID_DURATION)
+    );
     PairResult::from_option(add_to_pair(date, time, duration))
 }
 
@@ -39,6 +42,9 @@ pub extern "C" fn fots_sub_from_pair(date: i32, time: u64, duration: Duration) -
 {
     let date = or_return!(valid_date(date), PairResult::error(INVALID_DATE));
     let time = or_return!(valid_time(time), PairResult::error(INVALID_TIME));
-    let duration = or_return!(valid_duration(duration), PairResult::error(INVALID_DURATION));
+    let duration = or_return!(
+        valid_duration(duration),
+        PairResult::error(INVALID_DURATION)
+    );
     PairResult::from_option(sub_from_pair(date, time, duration))
 }

@@ -166,10 +166,7 @@ impl NumberResult {
     pub fn ok(number: i32) -> Self
         ensures { result ≡ number_ok number }
     {
-        NumberResult {
-            status: OK,
-            number,
-        }
+        NumberResult { status: OK, number }
     }
 
     pub fn error(status: i32) -> Self
@@ -351,10 +348,7 @@ impl Int64Result {
     pub fn ok(number: i64) -> Self
         ensures { result ≡ int64_ok number }
     {
-        Int64Result {
-            status: OK,
-            number,
-        }
+        Int64Result { status: OK, number }
     }
 
     /// Returns the result of a number, or of an error if it doesn't fit in an `i64`.

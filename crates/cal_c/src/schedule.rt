@@ -1,10 +1,10 @@
 //! Months and years, ends of periods, weekdays of months, day counts, working days, recurrences.
 
-mod period_ends;
-mod year_fraction;
 mod months;
+mod period_ends;
 mod recurrences;
 mod results;
 mod until;
 mod weekdays;
 pub mod workdays;
+mod year_fraction;

@@ -3,7 +3,7 @@ ghost use Rattle.std.specs.Prelude.{◌≡◌, ◌≤◌, length};
 ghost use Rattle.cal_c.specs.Texts.{parsed_date_error_at, parsed_moment_error_at, parsed_date_ok, parsed_moment_ok, text_ok, text_error};
 ghost use Rattle.cal_c.specs.ParseErrors.{date_of_parse_error, moment_of_parse_error};
 
-use crate::status::{OK, UNEXPECTED_END, UNEXPECTED_BYTE, error_status};
+use crate::status::{OK, UNEXPECTED_BYTE, UNEXPECTED_END, error_status};
 use crate::values::nanoseconds_since_midnight;
 use cal_datetime::OffsetDateTime;
 use cal_text::ParseError;

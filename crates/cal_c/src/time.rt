@@ -1,7 +1,7 @@
 //! Times of day, in nanoseconds since midnight.
 
-mod constructors;
 mod arithmetic;
 mod components;
+mod constructors;
 mod replacement;
 mod truncation;

@@ -8,9 +8,9 @@ use cal_units::error::{Component, ComponentRange};
 use std::marker::Model;
 
 mod arithmetic;
+mod components;
 mod display;
 mod order;
-mod components;
 
 /// A time of day with nanosecond precision, without leap seconds: 0:00:00.0 to 23:59:59.999999999.
 ///

@@ -4,11 +4,13 @@
 //! instant.
 #![tactic(auto)]
 
-pub mod laws;
 mod constructors;
+pub mod laws;
 mod offset_date_time;
 mod plain_date_time;
 
-pub use constructors::{midnight, with_hms, with_hms_micro, with_hms_milli, with_hms_nano, with_time};
+pub use constructors::{
+    midnight, with_hms, with_hms_micro, with_hms_milli, with_hms_nano, with_time,
+};
 pub use offset_date_time::OffsetDateTime;
 pub use plain_date_time::PlainDateTime;

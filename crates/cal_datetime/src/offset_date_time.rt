@@ -12,9 +12,9 @@ use cal_time::{Date, SignedDuration, Time, UtcOffset};
 use std::marker::Model;
 
 mod arithmetic;
+mod components;
 mod display;
 mod order;
-mod components;
 mod replacement;
 mod unix;
 
@@ -152,7 +152,10 @@ impl OffsetDateTime {
             → result ≡ Some there }
         ensures in_range { IsDateTime self.local }
     {
-        match self.local().checked_add(offset_difference(offset, self.offset())) {
+        match self
+            .local()
+            .checked_add(offset_difference(offset, self.offset()))
+        {
             Some(local) => Some(local.assume_offset(offset)),
             None => None,
         }

@@ -8,9 +8,9 @@ use cal_time::{Date, Time};
 use std::marker::Model;
 
 mod arithmetic;
+mod components;
 mod display;
 mod order;
-mod components;
 mod replacement;
 
 /// A date and a time of day, in nanoseconds, from -999999-01-01 0:00:00.0 to 999999-12-31

@@ -4,7 +4,7 @@ ghost use Rattle.cal_recurrence.specs.Text.{finished, fresh, nothing, put, put_p
 ghost use Rattle.cal_recurrence.specs.Values.{most_values};
 ghost use Rattle.cal_recurrence.specs.Words.{parts_at};
 
-use crate::fault::{ParseRuleError, RulePart, ParseRuleErrorKind};
+use crate::fault::{ParseRuleError, ParseRuleErrorKind, RulePart};
 use crate::lists::{has_few_words, values_of};
 use crate::recurrence::{Recurrence, RuleEnd};
 use crate::values::Values;

@@ -14,7 +14,7 @@ mod values;
 mod words;
 mod writing;
 
-pub use fault::{ParseRuleError, RulePart, ParseRuleErrorKind};
+pub use fault::{ParseRuleError, ParseRuleErrorKind, RulePart};
 pub use reading::parse;
 pub use recurrence::{Recurrence, RuleEnd};
 pub use text::RecurrenceText;

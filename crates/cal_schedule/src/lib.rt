@@ -5,25 +5,25 @@
 //! result is out of range or doesn't exist.
 #![tactic(auto)]
 
-mod period_ends;
-pub mod laws;
-mod year_fraction;
-mod months;
 mod day_number;
+pub mod laws;
+mod months;
 mod period;
+mod period_ends;
 mod rule;
 mod until;
 mod weekdays;
 mod workdays;
+mod year_fraction;
 
+pub use months::{checked_add_months, checked_add_years, saturating_add_months};
+pub use period::Period;
 pub use period_ends::{
     first_of_iso_week, first_of_month, first_of_quarter, first_of_year, last_of_iso_week,
     last_of_month, last_of_quarter, last_of_year, quarter,
 };
-pub use year_fraction::{DayCount, YearFraction, day_count};
-pub use months::{checked_add_months, checked_add_years, saturating_add_months};
-pub use period::Period;
 pub use rule::{ByDay, Frequency, Rule, RuleDays};
 pub use until::{months_until, period_until, years_until};
 pub use weekdays::{last_weekday_of_month, nth_weekday_of_month, on_or_after, on_or_before};
 pub use workdays::{Convention, Workdays};
+pub use year_fraction::{DayCount, YearFraction, day_count};

@@ -14,8 +14,8 @@ use crate::scanner::Scanner;
 use cal_datetime::OffsetDateTime;
 
 mod form;
-mod numbers;
 mod from_numbers;
+mod numbers;
 mod text;
 
 pub(crate) use form::is_separator;

@@ -9,22 +9,22 @@ use std::fmt::Debug;
 use std::hash::{DefaultHasher, Hash, Hasher};
 use std::process::Abort;
 
+mod arithmetic;
+mod boundaries;
 mod closed_forms;
 mod conditions;
 mod counted;
 mod cycles;
 mod dates;
 mod durations;
-mod boundaries;
-mod trait_methods;
 mod laws;
-mod arithmetic;
 mod offsets;
 mod one_answer;
 mod pairs;
 mod range;
 mod texts;
 mod times;
+mod trait_methods;
 mod walks;
 
 /// The number of a value, or the name of an error and whether it is conditional.

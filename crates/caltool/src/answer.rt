@@ -106,14 +106,7 @@ fn push_add(buffer: &mut Buffer, julian_day: i32, seconds: i64)
     }
 }
 
-fn push_moment(
-    buffer: &mut Buffer,
-    julian_day: i32,
-    hour: u8,
-    minute: u8,
-    second: u8,
-    seconds: i64,
-)
+fn push_moment(buffer: &mut Buffer, julian_day: i32, hour: u8, minute: u8, second: u8, seconds: i64)
     requires { HasRoom longest_answer buffer.old }
     ensures appended { buffer.new ≡ buffer.old ++ moment_answer julian_day hour minute second seconds }
     ensures max_length { length buffer.new ≤ length buffer.old + longest_answer }

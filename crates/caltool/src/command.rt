@@ -81,7 +81,11 @@ fn parse_iso(words: &[u8]) -> Option<Command>
     let (year, words) = first_word(words)?;
     let (week, words) = first_word(words)?;
     let number = parse_u8(only_word(words)?)?;
-    Some(Command::Iso(parse_i32(year)?, parse_u8(week)?, weekday_from_number(number)?))
+    Some(Command::Iso(
+        parse_i32(year)?,
+        parse_u8(week)?,
+        weekday_from_number(number)?,
+    ))
 }
 
 fn parse_show(words: &[u8]) -> Option<Command>

@@ -4,12 +4,12 @@
 mod answer;
 mod buffer;
 mod command;
-mod outcome;
 mod fault;
 mod find;
 mod input;
 mod lines;
 mod number;
+mod outcome;
 mod output;
 mod program;
 mod retries;

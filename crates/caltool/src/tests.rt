@@ -9,9 +9,9 @@ use std::process::Abort;
 use std::test::Fail;
 
 mod failing;
-mod reference;
 mod one_answer;
 mod reading;
+mod reference;
 
 /// Eight lines, and the answers to them.
 const INPUT: &[u8] =

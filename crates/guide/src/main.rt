@@ -1,17 +1,17 @@
 //! The code of the guide for users of `cal_time`, a module for each task.
 #![tactic(auto)]
 
+mod arithmetic;
 mod bills;
 mod callers;
 mod clauses;
+mod components;
+mod constructors;
 mod datetimes;
 mod days;
 mod generic;
-mod constructors;
-mod arithmetic;
 mod names;
 mod order;
-mod components;
 mod printing;
 mod recurrences;
 mod refusals;

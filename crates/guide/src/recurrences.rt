@@ -5,7 +5,7 @@ ghost use Rattle.cal_recurrence.specs.Text.{recurrence_of};
 ghost use Rattle.cal_recurrence.specs.Written.{text_of};
 ghost use Rattle.cal_schedule.specs.Rule.{is_occurrence};
 
-use cal_recurrence::{RecurrenceText, ParseRuleError, parse};
+use cal_recurrence::{ParseRuleError, RecurrenceText, parse};
 use cal_schedule::{ByDay, Frequency, Rule};
 use cal_time::{Date, Month, Weekday};
 use std::io;

@@ -87,7 +87,11 @@ pub fn show(rt: &impl Print) -> io::Result<()> {
     describe(rt, 1_000_000, Month::February, 29)?;
     println!(rt; "{:?}", first_of_month_and_weekday(2019, Month::February))?;
     println!(rt; "{:?} {:?}", day_of_year(2020, 366), day_of_year(2019, 366))?;
-    println!(rt; "{:?} {}", weekday_of_julian_day(2_451_545), day_or_last(i32::MAX))?;
+    println!(rt;
+        "{:?} {}",
+        weekday_of_julian_day(2_451_545),
+        day_or_last(i32::MAX)
+    )?;
     println!(rt; "{:?}", booking(2024, Month::February, 29, 20))?;
     println!(rt; "{:?}", booking(2024, Month::February, 30, 20))?;
     println!(rt; "{:?}", booking(2024, Month::February, 29, 24))?;

@@ -6,9 +6,9 @@ ghost use Rattle.cal_time.specs.Arithmetic.{IsDateNumber};
 ghost use Rattle.cal_c.specs.Columns.{int_at, nat_at, SameLength4, AreRows, date_row, IsDateDaysLater};
 
 use super::statuses::{INVALID_DATE, OK, RESULT_OUT_OF_RANGE};
-use super::{NO_VALUE, LENGTH_MISMATCH, count_errors};
-use crate::day_number::{DAY_ZERO, LAST_DAY_NUMBER, is_julian_day};
+use super::{LENGTH_MISMATCH, NO_VALUE, count_errors};
 use crate::branchless::clamped_number;
+use crate::day_number::{DAY_ZERO, LAST_DAY_NUMBER, is_julian_day};
 
 /// Adds days to dates, like `fots_date_add_days`.
 #[unsafe(no_mangle)]

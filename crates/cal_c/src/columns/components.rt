@@ -4,9 +4,11 @@ ghost use Rattle.cal_c.specs.Columns.{int_at, nat_at, SameLength3, SameLength4, 
 
 use super::constructors::status_of_calendar_date;
 use super::statuses::{INVALID_DATE, OK};
-use super::{NO_VALUE, LENGTH_MISMATCH, count_errors};
-use crate::day_number::{is_julian_day, day_number, weekday_number};
-use crate::branchless::{calendar_date_at, iso_week_date_at, julian_day_from_calendar_date, clamped_number};
+use super::{LENGTH_MISMATCH, NO_VALUE, count_errors};
+use crate::branchless::{
+    calendar_date_at, clamped_number, iso_week_date_at, julian_day_from_calendar_date,
+};
+use crate::day_number::{day_number, is_julian_day, weekday_number};
 use crate::values::valid_date;
 
 /// Converts dates to calendar dates, like `fots_date_to_calendar_date`.
@@ -221,7 +223,9 @@ fn iso_week_date_of_calendar_date(year: i32, month: u8, day: u8) -> (i32, u8, u8
     ensures { IsIsoWeekDateOfCalendarDate year month day
         (iso_week_date_row result.0 result.1 result.2 result.3) }
 {
-    let (iso_year, week, weekday) = iso_week_date_at(julian_day_from_calendar_date(year, month, day));
+    let (iso_year, week, weekday) = iso_week_date_at(julian_day_from_calendar_date(
+        year, month, day,
+    ));
     let status = status_of_calendar_date(year, month, day);
     if status == OK {
         (iso_year, week, weekday, OK)

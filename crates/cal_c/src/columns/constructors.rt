@@ -6,10 +6,13 @@ ghost use Rattle.cal_c.specs.Results.{date_ok, date_or_out_of_range, date_error}
 ghost use Rattle.cal_c.specs.Statuses.{year_status, month_status, day_status};
 ghost use Rattle.cal_c.specs.Values.{IsMonth};
 
-use super::statuses::{INVALID_WEEKDAY, DAY_OUT_OF_RANGE, OK, JULIAN_DAY_OUT_OF_RANGE, MONTH_OUT_OF_RANGE, RESULT_OUT_OF_RANGE, YEAR_OUT_OF_RANGE, status_byte};
-use super::{NO_VALUE, LENGTH_MISMATCH, count_errors};
-use crate::day_number::{FIRST_JULIAN_DAY, LAST_JULIAN_DAY};
+use super::statuses::{
+    DAY_OUT_OF_RANGE, INVALID_WEEKDAY, JULIAN_DAY_OUT_OF_RANGE, MONTH_OUT_OF_RANGE, OK,
+    RESULT_OUT_OF_RANGE, YEAR_OUT_OF_RANGE, status_byte,
+};
+use super::{LENGTH_MISMATCH, NO_VALUE, count_errors};
 use crate::branchless::{is_day_of_month, julian_day_from_calendar_date};
+use crate::day_number::{FIRST_JULIAN_DAY, LAST_JULIAN_DAY};
 use crate::values::valid_weekday;
 use cal_time::Date;
 use cal_time::limits::{MAX_YEAR, MIN_YEAR};
@@ -211,7 +214,10 @@ fn row_from_ordinal_date(year: i32, ordinal: u16) -> (i32, u8)
 fn row_from_iso_week_date(year: i32, week: u8, weekday: u8) -> (i32, u8)
     ensures { IsDateOfIsoWeekDate year week weekday (date_row result.0 result.1) }
 {
-    let weekday = or_return!(valid_weekday(u32::from(weekday)), error_row(INVALID_WEEKDAY));
+    let weekday = or_return!(
+        valid_weekday(u32::from(weekday)),
+        error_row(INVALID_WEEKDAY)
+    );
     match Date::from_iso_week_date(year, week, weekday) {
         Ok(date) => ok_row(date),
         Err(error) => error_row(status_byte(error)),

@@ -9,8 +9,8 @@ ghost use Rattle.cal_c.specs.Values.{IsJulianDay, day_of};
 use super::constructors::error_row;
 use super::statuses::{INVALID_DATE, OK, RESULT_OUT_OF_RANGE};
 use super::{LENGTH_MISMATCH, count_errors};
-use crate::day_number::is_julian_day;
 use crate::branchless::{julian_day_from_calendar_date, month_length};
+use crate::day_number::is_julian_day;
 use crate::values::valid_date;
 use cal_time::Cycle;
 use cal_time::limits::MIN_YEAR;
@@ -95,5 +95,9 @@ fn clamped_date_in_month(index: u32, day: u8) -> i32
 {
     let year = (index / 12) as i32 + MIN_YEAR;
     let month = (index % 12) as u8 + 1;
-    julian_day_from_calendar_date(year, month, day.min(month_length(month, is_leap_year(year))))
+    julian_day_from_calendar_date(
+        year,
+        month,
+        day.min(month_length(month, is_leap_year(year))),
+    )
 }

@@ -7,9 +7,9 @@ ghost use Rattle.cal_c.specs.Statuses.{invalid_date};
 ghost use Rattle.cal_c.specs.Values.{IsJulianDay, day_of};
 ghost use Rattle.cal_c.specs.Weekmasks.{workdays_between};
 
-use super::constructors::{row_or_out_of_range, error_row};
+use super::constructors::{error_row, row_or_out_of_range};
 use super::statuses::{INVALID_DATE, OK, byte_status};
-use super::{NO_VALUE, LENGTH_MISMATCH, count_errors};
+use super::{LENGTH_MISMATCH, NO_VALUE, count_errors};
 use crate::schedule::workdays::calendar::{Calendar, workdays_of};
 use crate::values::valid_date;
 use cal_schedule::Workdays;

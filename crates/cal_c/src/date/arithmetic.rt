@@ -7,7 +7,8 @@ ghost use Rattle.cal_c.specs.Statuses.{invalid_date, invalid_duration};
 ghost use Rattle.cal_c.specs.Values.{IsJulianDay, clamped_julian_day, IsDurationPair, nanoseconds_in};
 
 use crate::day_number::{
-    duration_between, checked_sub_days, saturating_sub_days, checked_add_days, saturating_add_days, is_julian_day,
+    checked_add_days, checked_sub_days, duration_between, is_julian_day, saturating_add_days,
+    saturating_sub_days,
 };
 use crate::results::{DateResult, Duration, DurationResult};
 use crate::status::{INVALID_DATE, INVALID_DURATION};
@@ -50,7 +51,10 @@ pub extern "C" fn fots_date_checked_add(date: i32, duration: Duration) -> DateRe
     if !is_julian_day(date) {
         return DateResult::error(INVALID_DATE);
     }
-    let duration = or_return!(valid_duration(duration), DateResult::error(INVALID_DURATION));
+    let duration = or_return!(
+        valid_duration(duration),
+        DateResult::error(INVALID_DURATION)
+    );
     checked_add_days(date, duration.whole_days())
 }
 
@@ -66,7 +70,10 @@ pub extern "C" fn fots_date_saturating_add(date: i32, duration: Duration) -> Dat
     if !is_julian_day(date) {
         return DateResult::error(INVALID_DATE);
     }
-    let duration = or_return!(valid_duration(duration), DateResult::error(INVALID_DURATION));
+    let duration = or_return!(
+        valid_duration(duration),
+        DateResult::error(INVALID_DURATION)
+    );
     saturating_add_days(date, duration.whole_days())
 }
 
@@ -83,7 +90,10 @@ pub extern "C" fn fots_date_checked_sub(date: i32, duration: Duration) -> DateRe
     if !is_julian_day(date) {
         return DateResult::error(INVALID_DATE);
     }
-    let duration = or_return!(valid_duration(duration), DateResult::error(INVALID_DURATION));
+    let duration = or_return!(
+        valid_duration(duration),
+        DateResult::error(INVALID_DURATION)
+    );
     checked_sub_days(date, duration.whole_days())
 }
 
@@ -99,7 +109,10 @@ pub extern "C" fn fots_date_saturating_sub(date: i32, duration: Duration) -> Dat
     if !is_julian_day(date) {
         return DateResult::error(INVALID_DATE);
     }
-    let duration = or_return!(valid_duration(duration), DateResult::error(INVALID_DURATION));
+    let duration = or_return!(
+        valid_duration(duration),
+        DateResult::error(INVALID_DURATION)
+    );
     saturating_sub_days(date, duration.whole_days())
 }
 

@@ -7,10 +7,10 @@ ghost use Rattle.cal_c.specs.Results.{number_ok, number_error};
 ghost use Rattle.cal_c.specs.Statuses.{invalid_date};
 ghost use Rattle.cal_c.specs.Values.{IsJulianDay, day_of};
 
-use crate::day_number::{is_julian_day, day_number, weekday_number};
+use crate::branchless::{calendar_date_at, iso_week_date_at};
+use crate::day_number::{day_number, is_julian_day, weekday_number};
 use crate::results::{CalendarDateResult, IsoWeekDateResult, NumberResult, OrdinalDateResult};
 use crate::status::{INVALID_DATE, OK};
-use crate::branchless::{calendar_date_at, iso_week_date_at};
 use crate::values::valid_date;
 
 /// Returns the year, the month and the day of the month. For 2451604 they are 2000, 2 and 29.

@@ -1,10 +1,15 @@
 //! Constructors of dates.
 ghost use Rattle.cal_c.specs.Columns.{IsDateOfJulianDay, IsDateOfCalendarDate, IsDateOfOrdinalDate, IsDateOfIsoWeekDate};
 
-use crate::results::DateResult;
-use crate::status::{INVALID_WEEKDAY, DAY_OUT_OF_RANGE, OK, JULIAN_DAY_OUT_OF_RANGE, MONTH_OUT_OF_RANGE, YEAR_OUT_OF_RANGE};
 use crate::branchless::{is_day_of_month, julian_day_from_calendar_date};
-use crate::values::{valid_date_i64, day_or_invalid, ordinal_or_invalid, week_or_invalid, valid_weekday};
+use crate::results::DateResult;
+use crate::status::{
+    DAY_OUT_OF_RANGE, INVALID_WEEKDAY, JULIAN_DAY_OUT_OF_RANGE, MONTH_OUT_OF_RANGE, OK,
+    YEAR_OUT_OF_RANGE,
+};
+use crate::values::{
+    day_or_invalid, ordinal_or_invalid, valid_date_i64, valid_weekday, week_or_invalid,
+};
 use cal_time::Date;
 use cal_time::limits::{MAX_YEAR, MIN_YEAR};
 
@@ -14,7 +19,10 @@ use cal_time::limits::{MAX_YEAR, MIN_YEAR};
 pub extern "C" fn fots_date_from_julian_day(julian_day: i64) -> DateResult
     ensures { IsDateOfJulianDay julian_day result }
 {
-    let date = or_return!(valid_date_i64(julian_day), DateResult::error(JULIAN_DAY_OUT_OF_RANGE));
+    let date = or_return!(
+        valid_date_i64(julian_day),
+        DateResult::error(JULIAN_DAY_OUT_OF_RANGE)
+    );
     DateResult::ok(date)
 }
 

@@ -6,7 +6,7 @@ ghost use Rattle.cal_c.specs.Results.{date_error, date_or_out_of_range};
 ghost use Rattle.cal_c.specs.Statuses.{invalid_date, invalid_weekday, invalid_count};
 ghost use Rattle.cal_c.specs.Values.{IsJulianDay, IsWeekday, day_of};
 
-use crate::day_number::{date_result_from_number, days_since_monday, day_number};
+use crate::day_number::{date_result_from_number, day_number, days_since_monday};
 use crate::results::DateResult;
 use crate::status::{INVALID_COUNT, INVALID_DATE, INVALID_WEEKDAY, RESULT_OUT_OF_RANGE};
 

@@ -7,7 +7,7 @@ ghost use Rattle.cal_c.specs.Values.{IsJulianDay, IsMonth, day_of};
 
 use crate::results::DateResult;
 use crate::status::{INVALID_DATE, MONTH_OUT_OF_RANGE};
-use crate::values::{valid_date, day_or_invalid, valid_month, ordinal_or_invalid};
+use crate::values::{day_or_invalid, ordinal_or_invalid, valid_date, valid_month};
 
 /// Replaces the year. Returns the error `year`, or `day` for 29 February in a common year. 2451604
 /// with the year 2004 is 2453065.
@@ -69,5 +69,8 @@ pub extern "C" fn fots_date_replace_ordinal(date: i32, ordinal: u32) -> DateResu
         → IsDateWith (HasOrdinalDate (year_at n) ordinal) result }
 {
     let date = or_return!(valid_date(date), DateResult::error(INVALID_DATE));
-    ok_or_error!(DateResult, date.replace_ordinal(ordinal_or_invalid(ordinal)))
+    ok_or_error!(
+        DateResult,
+        date.replace_ordinal(ordinal_or_invalid(ordinal))
+    )
 }

@@ -17,8 +17,14 @@ pub extern "C" fn fots_duration_checked_add(duration: Duration, other: Duration)
     ensures value { IsDurationPair duration → IsDurationPair other
         → IsDurationOrOutOfRange (nanoseconds_in duration +ℤ nanoseconds_in other) result }
 {
-    let duration = or_return!(valid_duration(duration), DurationResult::error(INVALID_DURATION));
-    let other = or_return!(valid_duration(other), DurationResult::error(INVALID_DURATION));
+    let duration = or_return!(
+        valid_duration(duration),
+        DurationResult::error(INVALID_DURATION)
+    );
+    let other = or_return!(
+        valid_duration(other),
+        DurationResult::error(INVALID_DURATION)
+    );
     DurationResult::from_option(duration.checked_add(other))
 }
 
@@ -33,8 +39,14 @@ pub extern "C" fn fots_duration_saturating_add(
     ensures value { IsDurationPair duration → IsDurationPair other
         → result ≡ duration_ok (clamp (nanoseconds_in duration +ℤ nanoseconds_in other)) }
 {
-    let duration = or_return!(valid_duration(duration), DurationResult::error(INVALID_DURATION));
-    let other = or_return!(valid_duration(other), DurationResult::error(INVALID_DURATION));
+    let duration = or_return!(
+        valid_duration(duration),
+        DurationResult::error(INVALID_DURATION)
+    );
+    let other = or_return!(
+        valid_duration(other),
+        DurationResult::error(INVALID_DURATION)
+    );
     DurationResult::ok(duration.saturating_add(other))
 }
 
@@ -46,8 +58,14 @@ pub extern "C" fn fots_duration_checked_sub(duration: Duration, other: Duration)
     ensures value { IsDurationPair duration → IsDurationPair other
         → IsDurationOrOutOfRange (nanoseconds_in duration -ℤ nanoseconds_in other) result }
 {
-    let duration = or_return!(valid_duration(duration), DurationResult::error(INVALID_DURATION));
-    let other = or_return!(valid_duration(other), DurationResult::error(INVALID_DURATION));
+    let duration = or_return!(
+        valid_duration(duration),
+        DurationResult::error(INVALID_DURATION)
+    );
+    let other = or_return!(
+        valid_duration(other),
+        DurationResult::error(INVALID_DURATION)
+    );
     DurationResult::from_option(duration.checked_sub(other))
 }
 
@@ -62,8 +80,14 @@ pub extern "C" fn fots_duration_saturating_sub(
     ensures value { IsDurationPair duration → IsDurationPair other
         → result ≡ duration_ok (clamp (nanoseconds_in duration -ℤ nanoseconds_in other)) }
 {
-    let duration = or_return!(valid_duration(duration), DurationResult::error(INVALID_DURATION));
-    let other = or_return!(valid_duration(other), DurationResult::error(INVALID_DURATION));
+    let duration = or_return!(
+        valid_duration(duration),
+        DurationResult::error(INVALID_DURATION)
+    );
+    let other = or_return!(
+        valid_duration(other),
+        DurationResult::error(INVALID_DURATION)
+    );
     DurationResult::ok(duration.saturating_sub(other))
 }
 
@@ -74,7 +98,10 @@ pub extern "C" fn fots_duration_checked_mul(duration: Duration, factor: i32) -> 
     ensures value { IsDurationPair duration
         → IsDurationOrOutOfRange (nanoseconds_in duration *ℤ factor) result }
 {
-    let duration = or_return!(valid_duration(duration), DurationResult::error(INVALID_DURATION));
+    let duration = or_return!(
+        valid_duration(duration),
+        DurationResult::error(INVALID_DURATION)
+    );
     DurationResult::from_option(duration.checked_mul(factor))
 }
 
@@ -87,7 +114,10 @@ pub extern "C" fn fots_duration_checked_div(duration: Duration, divisor: i32) ->
     ensures value { IsDurationPair duration → HasQuotient (nanoseconds_in duration) divisor
         → result ≡ duration_ok (cut (nanoseconds_in duration) divisor) }
 {
-    let duration = or_return!(valid_duration(duration), DurationResult::error(INVALID_DURATION));
+    let duration = or_return!(
+        valid_duration(duration),
+        DurationResult::error(INVALID_DURATION)
+    );
     DurationResult::from_option(duration.checked_div(divisor))
 }
 
@@ -98,7 +128,10 @@ pub extern "C" fn fots_duration_checked_neg(duration: Duration) -> DurationResul
     ensures value { IsDurationPair duration
         → IsDurationOrOutOfRange (neg_ℤ (nanoseconds_in duration)) result }
 {
-    let duration = or_return!(valid_duration(duration), DurationResult::error(INVALID_DURATION));
+    let duration = or_return!(
+        valid_duration(duration),
+        DurationResult::error(INVALID_DURATION)
+    );
     DurationResult::from_option(duration.checked_neg())
 }
 
@@ -109,7 +142,10 @@ pub extern "C" fn fots_duration_saturating_mul(duration: Duration, factor: i32) 
     ensures value { IsDurationPair duration
         → result ≡ duration_ok (clamp (nanoseconds_in duration *ℤ factor)) }
 {
-    let duration = or_return!(valid_duration(duration), DurationResult::error(INVALID_DURATION));
+    let duration = or_return!(
+        valid_duration(duration),
+        DurationResult::error(INVALID_DURATION)
+    );
     DurationResult::ok(duration.saturating_mul(factor))
 }
 
@@ -120,7 +156,10 @@ pub extern "C" fn fots_duration_abs(duration: Duration) -> DurationResult
     ensures value { IsDurationPair duration
         → result ≡ duration_ok (clamp (pos (unsigned_abs (nanoseconds_in duration)))) }
 {
-    let duration = or_return!(valid_duration(duration), DurationResult::error(INVALID_DURATION));
+    let duration = or_return!(
+        valid_duration(duration),
+        DurationResult::error(INVALID_DURATION)
+    );
     DurationResult::ok(duration.abs())
 }
 
@@ -139,7 +178,10 @@ pub extern "C" fn fots_duration_compare(duration: Duration, other: Duration) -> 
         → nanoseconds_in other <ℤ nanoseconds_in duration
         → result ≡ number_ok (pos 1) }
 {
-    let duration = or_return!(valid_duration(duration), NumberResult::error(INVALID_DURATION));
+    let duration = or_return!(
+        valid_duration(duration),
+        NumberResult::error(INVALID_DURATION)
+    );
     let other = or_return!(valid_duration(other), NumberResult::error(INVALID_DURATION));
     if duration < other {
         NumberResult::ok(-1)

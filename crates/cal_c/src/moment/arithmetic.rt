@@ -24,7 +24,10 @@ pub extern "C" fn fots_moment_checked_add(moment: Moment, duration: Duration) ->
         → IsMomentOrError result_out_of_range (local_in moment +ℤ nanoseconds_in duration) moment.offset result }
 {
     let moment = or_return!(valid_moment(moment), MomentResult::error(INVALID_MOMENT));
-    let duration = or_return!(valid_duration(duration), MomentResult::error(INVALID_DURATION));
+    let duration = or_return!(
+        valid_duration(duration),
+        MomentResult::error(INVALID_DURATION)
+    );
     add_duration(moment, duration)
 }
 
@@ -49,7 +52,10 @@ pub extern "C" fn fots_moment_checked_sub(moment: Moment, duration: Duration) ->
         → IsMomentOrError result_out_of_range (local_in moment -ℤ nanoseconds_in duration) moment.offset result }
 {
     let moment = or_return!(valid_moment(moment), MomentResult::error(INVALID_MOMENT));
-    let duration = or_return!(valid_duration(duration), MomentResult::error(INVALID_DURATION));
+    let duration = or_return!(
+        valid_duration(duration),
+        MomentResult::error(INVALID_DURATION)
+    );
     sub_duration(moment, duration)
 }
 
@@ -77,7 +83,10 @@ pub extern "C" fn fots_moment_saturating_add(moment: Moment, duration: Duration)
         }) }
 {
     let moment = or_return!(valid_moment(moment), MomentResult::error(INVALID_MOMENT));
-    let duration = or_return!(valid_duration(duration), MomentResult::error(INVALID_DURATION));
+    let duration = or_return!(
+        valid_duration(duration),
+        MomentResult::error(INVALID_DURATION)
+    );
     MomentResult::ok(moment.saturating_add(duration))
 }
 
@@ -94,7 +103,10 @@ pub extern "C" fn fots_moment_saturating_sub(moment: Moment, duration: Duration)
         }) }
 {
     let moment = or_return!(valid_moment(moment), MomentResult::error(INVALID_MOMENT));
-    let duration = or_return!(valid_duration(duration), MomentResult::error(INVALID_DURATION));
+    let duration = or_return!(
+        valid_duration(duration),
+        MomentResult::error(INVALID_DURATION)
+    );
     MomentResult::ok(moment.saturating_sub(duration))
 }
 

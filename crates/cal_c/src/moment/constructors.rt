@@ -9,7 +9,9 @@ ghost use Rattle.cal_c.specs.Values.{IsJulianDay, moment_of};
 
 use crate::moment::valid_moment;
 use crate::results::{Moment, MomentResult};
-use crate::status::{INVALID_DATE, INVALID_MOMENT, INVALID_OFFSET, INVALID_TIME, RESULT_OUT_OF_RANGE};
+use crate::status::{
+    INVALID_DATE, INVALID_MOMENT, INVALID_OFFSET, INVALID_TIME, RESULT_OUT_OF_RANGE,
+};
 use crate::values::{valid_date, valid_offset, valid_time};
 use cal_datetime::OffsetDateTime;
 use cal_time::UtcOffset;

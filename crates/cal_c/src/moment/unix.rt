@@ -31,7 +31,10 @@ pub extern "C" fn fots_moment_from_unix_time(duration: Duration) -> MomentResult
     ensures value { IsDurationPair duration
         → IsMomentOrError timestamp_status (unix_epoch +ℤ nanoseconds_in duration) (pos 0) result }
 {
-    let duration = or_return!(valid_duration(duration), MomentResult::error(INVALID_DURATION));
+    let duration = or_return!(
+        valid_duration(duration),
+        MomentResult::error(INVALID_DURATION)
+    );
     moment_at_unix_time(duration)
 }
 

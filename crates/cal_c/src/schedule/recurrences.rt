@@ -9,17 +9,17 @@ ghost use Rattle.cal_c.specs.Results.{date_or_out_of_range, date_error, number_o
 ghost use Rattle.cal_c.specs.Statuses.{invalid_date};
 ghost use Rattle.cal_c.specs.Values.{IsJulianDay, day_of};
 
+mod days;
+mod formatting;
 mod laws;
 mod lists;
 mod months;
-mod recurrence_parts;
-mod parsing;
-mod rule_parts;
 mod owned_rule;
+mod parsing;
+mod recurrence_parts;
 mod results;
-mod days;
+mod rule_parts;
 mod weekdays;
-mod formatting;
 
 use crate::results::{DateResult, NumberResult};
 use crate::schedule::results::DaysResult;
@@ -27,8 +27,8 @@ use crate::status::INVALID_DATE;
 use crate::values::valid_date;
 use cal_schedule::Rule;
 use cal_time::Date;
-use rule_parts::RuleParts;
 use owned_rule::OwnedRule;
+use rule_parts::RuleParts;
 
 /// Returns the first day of a rule. Fails if the range has none. For the last Friday of each month
 /// from 2460311, 2024-01-01, it is 2460336, 2024-01-26.

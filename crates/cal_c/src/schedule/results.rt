@@ -37,10 +37,7 @@ impl DaysResult {
     pub fn ok(length: usize) -> Self
         ensures { result ≡ days_ok length }
     {
-        DaysResult {
-            status: OK,
-            length,
-        }
+        DaysResult { status: OK, length }
     }
 
     pub fn error(status: i32) -> Self

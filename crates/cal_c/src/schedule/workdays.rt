@@ -58,7 +58,8 @@ pub extern "C" fn fots_date_next_workday(date: i32, week: u32, holidays: &[i32])
         (workdays_from (work_week week holidays.now) (day_of date + 1)) 0) }
 {
     let date = or_return!(valid_date(date), DateResult::error(INVALID_DATE));
-    let calendar = or_return!(Calendar::from_c(week, holidays), status => DateResult::error(status));
+    let calendar =
+        or_return!(Calendar::from_c(week, holidays), status => DateResult::error(status));
     DateResult::from_option(calendar.workdays().next_workday(date))
 }
 
@@ -78,7 +79,8 @@ pub extern "C" fn fots_date_previous_workday(date: i32, week: u32, holidays: &[i
         (workdays_before (work_week week holidays.now) (day_of date)) 0) }
 {
     let date = or_return!(valid_date(date), DateResult::error(INVALID_DATE));
-    let calendar = or_return!(Calendar::from_c(week, holidays), status => DateResult::error(status));
+    let calendar =
+        or_return!(Calendar::from_c(week, holidays), status => DateResult::error(status));
     DateResult::from_option(calendar.workdays().previous_workday(date))
 }
 
@@ -189,6 +191,7 @@ pub extern "C" fn fots_date_adjust(
         valid_convention(convention),
         DateResult::error(INVALID_CONVENTION)
     );
-    let calendar = or_return!(Calendar::from_c(week, holidays), status => DateResult::error(status));
+    let calendar =
+        or_return!(Calendar::from_c(week, holidays), status => DateResult::error(status));
     DateResult::from_option(calendar.workdays().adjust(date, convention))
 }

@@ -12,7 +12,10 @@ ghost use Rattle.cal_c.specs.Statuses.{invalid_date, invalid_time, invalid_offse
 ghost use Rattle.cal_c.specs.Texts.{month_name, text_ok, text_error, weekday_name};
 ghost use Rattle.cal_c.specs.Values.{IsJulianDay, IsMonth, IsWeekday, day_of, moment_of};
 
-use crate::status::{INVALID_DATE, INVALID_OFFSET, INVALID_TIME, INVALID_WEEKDAY, MONTH_OUT_OF_RANGE, RESULT_OUT_OF_RANGE};
+use crate::status::{
+    INVALID_DATE, INVALID_OFFSET, INVALID_TIME, INVALID_WEEKDAY, MONTH_OUT_OF_RANGE,
+    RESULT_OUT_OF_RANGE,
+};
 use crate::texts::TextResult;
 use crate::values::{valid_date, valid_month, valid_offset, valid_time, valid_weekday};
 use cal_datetime::OffsetDateTime;
@@ -86,7 +89,10 @@ fn moment_text_result(moment: OffsetDateTime) -> TextResult
     ensures result_out_of_range { ¬ HasMomentText moment → result ≡ text_error result_out_of_range }
     ensures value { HasMomentText moment → result ≡ text_ok (moment_text moment) }
 {
-    let text = or_return!(rfc3339::Text::new(moment), TextResult::error(RESULT_OUT_OF_RANGE));
+    let text = or_return!(
+        rfc3339::Text::new(moment),
+        TextResult::error(RESULT_OUT_OF_RANGE)
+    );
     TextResult::ok(text.text().as_bytes())
 }
 

@@ -18,7 +18,9 @@ ghost use Rattle.cal_c.specs.Texts.{parsed_date_ok, parsed_date_error, parsed_mo
 ghost use Rattle.cal_c.specs.Values.{IsDurationPair, IsJulianDay, moment_of, nanoseconds_in};
 
 use crate::results::{Duration, DurationResult, PairResult};
-use crate::status::{INVALID_DATE, INVALID_DURATION, INVALID_OFFSET, INVALID_TIME, RESULT_OUT_OF_RANGE};
+use crate::status::{
+    INVALID_DATE, INVALID_DURATION, INVALID_OFFSET, INVALID_TIME, RESULT_OUT_OF_RANGE,
+};
 use crate::texts::{ParseDateResult, ParseMomentResult};
 use crate::values::{valid_date, valid_duration, valid_offset, valid_time};
 use cal_datetime::OffsetDateTime;
@@ -105,7 +107,10 @@ pub extern "C" fn fots_unix_pair(duration: Duration, offset: i32) -> PairResult
         → IsDateTime (local_at unix_epoch offset +ℤ nanoseconds_in duration)
         → result ≡ pair_at_local (local_at unix_epoch offset +ℤ nanoseconds_in duration) }
 {
-    let duration = or_return!(valid_duration(duration), PairResult::error(INVALID_DURATION));
+    let duration = or_return!(
+        valid_duration(duration),
+        PairResult::error(INVALID_DURATION)
+    );
     let offset = or_return!(valid_offset(offset), PairResult::error(INVALID_OFFSET));
     let moment = or_return!(
         epoch_at_offset(offset).checked_add(duration),

@@ -19,7 +19,10 @@ pub extern "C" fn fots_time_add(time: u64, duration: Duration) -> TimeResult
         → result ≡ time_ok (modulo_day (pos time +ℤ nanoseconds_in duration)) }
 {
     let time = or_return!(valid_time(time), TimeResult::error(INVALID_TIME));
-    let duration = or_return!(valid_duration(duration), TimeResult::error(INVALID_DURATION));
+    let duration = or_return!(
+        valid_duration(duration),
+        TimeResult::error(INVALID_DURATION)
+    );
     TimeResult::ok(time + duration)
 }
 
@@ -51,7 +54,10 @@ pub extern "C" fn fots_time_sub(time: u64, duration: Duration) -> TimeResult
         → result ≡ time_ok (modulo_day (pos time -ℤ nanoseconds_in duration)) }
 {
     let time = or_return!(valid_time(time), TimeResult::error(INVALID_TIME));
-    let duration = or_return!(valid_duration(duration), TimeResult::error(INVALID_DURATION));
+    let duration = or_return!(
+        valid_duration(duration),
+        TimeResult::error(INVALID_DURATION)
+    );
     TimeResult::ok(time - duration)
 }
 

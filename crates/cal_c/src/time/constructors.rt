@@ -20,7 +20,11 @@ pub extern "C" fn fots_time_from_hms(hour: u32, minute: u32, second: u32) -> Tim
 {
     ok_or_error!(
         TimeResult,
-        Time::from_hms(saturating_u8(hour), saturating_u8(minute), saturating_u8(second))
+        Time::from_hms(
+            saturating_u8(hour),
+            saturating_u8(minute),
+            saturating_u8(second)
+        )
     )
 }
 
@@ -71,7 +75,12 @@ pub extern "C" fn fots_time_from_hms_micro(
 {
     ok_or_error!(
         TimeResult,
-        Time::from_hms_micro(saturating_u8(hour), saturating_u8(minute), saturating_u8(second), microsecond)
+        Time::from_hms_micro(
+            saturating_u8(hour),
+            saturating_u8(minute),
+            saturating_u8(second),
+            microsecond
+        )
     )
 }
 
@@ -94,6 +103,11 @@ pub extern "C" fn fots_time_from_hms_nano(
 {
     ok_or_error!(
         TimeResult,
-        Time::from_hms_nano(saturating_u8(hour), saturating_u8(minute), saturating_u8(second), nanosecond)
+        Time::from_hms_nano(
+            saturating_u8(hour),
+            saturating_u8(minute),
+            saturating_u8(second),
+            nanosecond
+        )
     )
 }

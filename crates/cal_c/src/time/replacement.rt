@@ -55,7 +55,10 @@ pub extern "C" fn fots_time_replace_millisecond(time: u64, millisecond: u32) -> 
         (millisecond * 1_000_000)) }
 {
     let time = or_return!(valid_time(time), TimeResult::error(INVALID_TIME));
-    ok_or_error!(TimeResult, time.replace_millisecond(saturating_u16(millisecond)))
+    ok_or_error!(
+        TimeResult,
+        time.replace_millisecond(saturating_u16(millisecond))
+    )
 }
 
 /// Sets the fraction of the second in microseconds. Returns the error `microsecond` above 999999.

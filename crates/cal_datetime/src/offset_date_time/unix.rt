@@ -67,7 +67,8 @@ impl OffsetDateTime {
         ensures whole { (seconds : ℤ) → instant self ≡ unix_epoch +ℤ seconds *ℤ pos second
             → result ≡ seconds }
     {
-        let seconds = days_since_epoch(self.date()) * SECONDS_PER_DAY + seconds_since_midnight(self.time());
+        let seconds = days_since_epoch(self.date()) * SECONDS_PER_DAY
+            + seconds_since_midnight(self.time());
         seconds - offset_seconds(self.offset())
     }
 

@@ -5,7 +5,7 @@
 //! fails.
 ghost use Rattle.std.specs.Prelude.{◌≡◌};
 
-use cal_recurrence::{Recurrence, RecurrenceText, ParseRuleError};
+use cal_recurrence::{ParseRuleError, Recurrence, RecurrenceText};
 use cal_schedule::{Rule, RuleDays};
 use cal_time::Date;
 

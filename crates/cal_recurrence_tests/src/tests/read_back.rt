@@ -4,7 +4,7 @@ ghost use Rattle.std.specs.Prelude.{◌≡◌, Ok};
 ghost use Rattle.cal_recurrence.specs.Spelled.{IsSpelled};
 ghost use Rattle.cal_recurrence.specs.Text.{recurrence_of};
 
-use cal_recurrence::{Recurrence, ParseRuleError, parse};
+use cal_recurrence::{ParseRuleError, Recurrence, parse};
 
 /// Formats and parses a recurrence that has a text.
 fn read_back(recurrence: &Recurrence) -> Result<Recurrence, ParseRuleError>

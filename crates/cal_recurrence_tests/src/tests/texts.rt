@@ -1,5 +1,7 @@
 //! Texts with errors, texts in any case and order, and the fields of recurrences.
-use cal_recurrence::{Recurrence, RuleEnd, ParseRuleError, RulePart, ParseRuleErrorKind, Values, parse};
+use cal_recurrence::{
+    ParseRuleError, ParseRuleErrorKind, Recurrence, RuleEnd, RulePart, Values, parse,
+};
 use cal_schedule::{ByDay, Frequency};
 use cal_time::{Date, Month, Weekday};
 use std::alloc::Global;
@@ -42,7 +44,12 @@ fn faults(rt: HostRuntime) {
         13,
         ParseRuleErrorKind::Unknown,
     );
-    refused(rt, "FREQ=YEARLY;BYWEEKNO=20", 12, ParseRuleErrorKind::Unknown);
+    refused(
+        rt,
+        "FREQ=YEARLY;BYWEEKNO=20",
+        12,
+        ParseRuleErrorKind::Unknown,
+    );
     refused(
         rt,
         "FREQ=YEARLY;BYYEARDAY=1,100,200",
@@ -75,10 +82,30 @@ fn faults(rt: HostRuntime) {
         ParseRuleErrorKind::Twice(RulePart::Until),
     );
     refused(rt, "BYDAY=MO", 8, ParseRuleErrorKind::Missing);
-    refused(rt, TOO_MANY, 11, ParseRuleErrorKind::TooMany(RulePart::MonthDays));
-    refused(rt, "FREQ", 0, ParseRuleErrorKind::Value(RulePart::Frequency));
-    refused(rt, "FREQ=HOURLY", 0, ParseRuleErrorKind::Value(RulePart::Frequency));
-    refused(rt, "FREQ=DAILY=", 0, ParseRuleErrorKind::Value(RulePart::Frequency));
+    refused(
+        rt,
+        TOO_MANY,
+        11,
+        ParseRuleErrorKind::TooMany(RulePart::MonthDays),
+    );
+    refused(
+        rt,
+        "FREQ",
+        0,
+        ParseRuleErrorKind::Value(RulePart::Frequency),
+    );
+    refused(
+        rt,
+        "FREQ=HOURLY",
+        0,
+        ParseRuleErrorKind::Value(RulePart::Frequency),
+    );
+    refused(
+        rt,
+        "FREQ=DAILY=",
+        0,
+        ParseRuleErrorKind::Value(RulePart::Frequency),
+    );
 }
 
 /// Fails unless the error of the text has these words.

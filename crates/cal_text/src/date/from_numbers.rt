@@ -30,7 +30,11 @@ pub(crate) fn date_from_numbers(form: DateNumbers) -> Result<Date, ComponentRang
 
 /// Returns the date of a year, the number of a month and a day of the month. Returns the first
 /// error that applies: `month`, `year` or `day`.
-pub(crate) fn calendar_date_from_numbers(year: i32, month: u8, day: u8) -> Result<Date, ComponentRange>
+pub(crate) fn calendar_date_from_numbers(
+    year: i32,
+    month: u8,
+    day: u8,
+) -> Result<Date, ComponentRange>
     ensures every { (n : ℕ) → IsDate n → HasCalendarDate year month day n → result ≡ Ok n }
     ensures value { IfOk result (λ n. IsDate n × HasCalendarDate year month day n) }
     ensures error_kind { IfErr result (λ e.

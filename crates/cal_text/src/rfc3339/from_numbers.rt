@@ -40,7 +40,11 @@ pub(super) fn moment_from_numbers(numbers: Numbers) -> Result<OffsetDateTime, Co
     ensures offset_minute { FailsWith offset_minute_out_of_range result
         ↔ HasClock numbers × ExceedsMinutes numbers.offset }
 {
-    let date = match calendar_date_from_numbers(i32::from(numbers.year), numbers.month, numbers.day) {
+    let date = match calendar_date_from_numbers(
+        i32::from(numbers.year),
+        numbers.month,
+        numbers.day,
+    ) {
         Ok(date) => date,
         Err(error) => return Err(error),
     };

@@ -5,7 +5,7 @@ ghost use Rattle.cal_text.specs.Shape.{ScansWhole, unix_time, seconds, seconds_a
 ghost use Rattle.cal_text.specs.UnixText.{HasUnixForm, HasSeconds};
 
 use crate::digits::scan_positive_number;
-use crate::fraction::{scan_positive_decimals, scan_fraction};
+use crate::fraction::{scan_fraction, scan_positive_decimals};
 use crate::scanner::Scanner;
 
 const NANOSECONDS_PER_SECOND: i128 = 1_000_000_000;

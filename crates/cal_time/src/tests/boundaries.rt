@@ -1,12 +1,12 @@
 //! Each call at the minimum and the maximum of each of its parameters. The expected results are
 //! constants, or the test computes them in 128-bit integers.
 
+mod arithmetic;
 mod cycles;
 mod dates;
-mod exhausted;
 mod durations;
+mod exhausted;
 mod four_years;
-mod arithmetic;
 mod offsets;
 mod pairs;
 mod times;

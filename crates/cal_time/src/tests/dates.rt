@@ -130,7 +130,11 @@ fn days_in_other_months(rt: HostRuntime) {
         let (_, day) = date(&rt, year, month, day).month_index_and_day();
         let other = date(&rt, other_year, other_month, found);
         let (index, _) = other.month_index_and_day();
-        same(&rt, Date::from_month_index_clamped(other.year(), index, day), other);
+        same(
+            &rt,
+            Date::from_month_index_clamped(other.year(), index, day),
+            other,
+        );
     }
 }
 

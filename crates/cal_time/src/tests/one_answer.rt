@@ -10,12 +10,12 @@ macro_rules! twice {
     };
 }
 
+mod arithmetic;
 mod counted;
 mod cycles;
 mod dates;
 mod durations;
 mod months;
-mod arithmetic;
 mod offsets;
 mod times;
 mod walks;

@@ -1,7 +1,7 @@
 //! Runs over readers and writers that fail, and the words at the end.
 
-use crate::outcome::report;
 use crate::fault::Fault;
+use crate::outcome::report;
 use crate::program::perform;
 use crate::run::run;
 use crate::tests::{ANSWERS, INPUT};

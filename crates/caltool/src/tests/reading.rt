@@ -27,7 +27,7 @@ fn each_byte_in_the_index_of_each_byte(rt: HostRuntime) -> Result<(), Fail> {
                 }
                 let (outcome, written) = answers(rt.alloc(), &input)?;
                 assert_eq!(rt; outcome, Ok(()));
-                let expected = manual::answers(rt.alloc(), &input)?;
+                let expected = reference::answers(rt.alloc(), &input)?;
                 assert_eq!(rt;
                     written.as_slice(),
                     expected.as_slice(),
@@ -50,7 +50,7 @@ fn inputs_of_every_length(rt: HostRuntime) -> Result<(), Fail> {
         input.push(*byte)?;
         begun.push(*byte)?;
         let mut whole = expected.to_vec(rt.alloc())?;
-        whole.extend_from_slice(&manual::answers(rt.alloc(), &begun)?)?;
+        whole.extend_from_slice(&reference::answers(rt.alloc(), &begun)?)?;
         if *byte == b'\n' {
             expected = whole.to_vec(rt.alloc())?;
             begun.clear();
@@ -88,16 +88,16 @@ fn lines_of_every_length(rt: HostRuntime) -> Result<(), Fail> {
 // step of the days divides a century or a month, so each month and each number of a day occurs.
 #[test]
 fn days_of_every_century(rt: HostRuntime) -> Result<(), Fail> {
-    let mut year = manual::FIRST_YEAR;
+    let mut year = reference::FIRST_YEAR;
     let mut day = 1i64;
-    for _ in manual::FIRST_YEAR..manual::LAST_YEAR {
+    for _ in reference::FIRST_YEAR..reference::LAST_YEAR {
         for month in 1..=12 {
             day = day % 31 + 1;
             year = year.saturating_add(97);
-            if year > manual::LAST_YEAR {
+            if year > reference::LAST_YEAR {
                 return Ok(());
             }
-            let julian_day = manual::julian_day_of(year, month, day);
+            let julian_day = reference::julian_day_of(year, month, day);
             let input = format!(in rt.alloc();
                 "calendar {year} {month} {day}\njulian {julian_day}\nshow {julian_day}\nadd {julian_day} -86399\nmoment {julian_day} {day} 0 0 -1\niso {year} {day} 7\nordinal {year} {julian_day}\n"
             )?;
@@ -105,7 +105,7 @@ fn days_of_every_century(rt: HostRuntime) -> Result<(), Fail> {
             assert_eq!(rt; outcome, Ok(()));
             assert_eq!(rt;
                 written.as_slice(),
-                manual::answers(rt.alloc(), input.as_bytes())?.as_slice(),
+                reference::answers(rt.alloc(), input.as_bytes())?.as_slice(),
                 "{input}"
             );
         }

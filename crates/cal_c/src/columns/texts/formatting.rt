@@ -7,7 +7,9 @@ ghost use Rattle.cal_c.specs.Statuses.{ok_status, result_out_of_range};
 ghost use Rattle.cal_c.specs.TextColumns.{ArePrinted, Bounded2, Bounded4, HasRoomFor, IsDateTextRow, IsMomentTextRow};
 
 use super::parsing::are_bounds;
-use crate::columns::statuses::{INVALID_DATE, INVALID_OFFSET, INVALID_TIME, OK, RESULT_OUT_OF_RANGE};
+use crate::columns::statuses::{
+    INVALID_DATE, INVALID_OFFSET, INVALID_TIME, OK, RESULT_OUT_OF_RANGE,
+};
 use crate::columns::{LENGTH_MISMATCH, count_errors};
 use crate::values::{valid_date, valid_offset, valid_time};
 use cal_datetime::OffsetDateTime;
@@ -39,7 +41,10 @@ pub extern "C" fn fots_dates_calendar_texts(
         (λ k. IsDateTextRow (int_at dates.now k)) }
 {
     let rows = dates.len();
-    if !are_bounds(bounds, rows) || statuses.len() != rows || !has_room(rows, MAX_DATE_LENGTH, bytes) {
+    if !are_bounds(bounds, rows)
+        || statuses.len() != rows
+        || !has_room(rows, MAX_DATE_LENGTH, bytes)
+    {
         return LENGTH_MISMATCH;
     }
     let mut end = 0;

@@ -4,7 +4,7 @@ ghost use Rattle.cal_c.specs.Columns.{date_row, int_at, nat_at, AreRows};
 ghost use Rattle.cal_c.specs.TextColumns.{AreBoundsWithin, Bounded2, Bounded4, IsParsedDateRow, IsParsedDate, IsParsedMomentRow, IsParsedMoment, moment_row, bytes_between};
 
 use crate::columns::statuses::{INVALID_BOUNDS, byte_status};
-use crate::columns::{NO_VALUE, LENGTH_MISMATCH, count_errors};
+use crate::columns::{LENGTH_MISMATCH, NO_VALUE, count_errors};
 use crate::results::{Moment, MomentResult};
 use crate::texts::parsing::{fots_date_parse, fots_moment_parse};
 

@@ -1,8 +1,8 @@
 //! Laws: the clauses of the call for recurrences in text allow only one result.
 ghost use Rattle.std.specs.Prelude.{◌≡◌};
 
-use super::results::RecurrenceResult;
 use super::days::fots_recurrence_days;
+use super::results::RecurrenceResult;
 use crate::values::valid_date;
 
 /// Makes the same call over two equal arrays. The results and the arrays are equal afterwards.

@@ -6,7 +6,9 @@ ghost use Rattle.cal_c.specs.declared.schedule.recurrences.rule_parts.RuleParts.
 use super::months::{self, Months};
 use super::rule_parts::RuleParts;
 use super::weekdays::{self, Weekdays};
-use crate::status::{INVALID_DATE, INVALID_FREQUENCY, INVALID_WEEKDAY, TOO_MANY_PARTS, MONTH_OUT_OF_RANGE};
+use crate::status::{
+    INVALID_DATE, INVALID_FREQUENCY, INVALID_WEEKDAY, MONTH_OUT_OF_RANGE, TOO_MANY_PARTS,
+};
 use crate::values::{valid_date, valid_weekday};
 use cal_schedule::{Frequency, Rule};
 

@@ -2,8 +2,10 @@
 ghost use Rattle.std.specs.Prelude.{◌≡◌};
 ghost use Rattle.cal_c.specs.RecurrenceTexts.{recurrence_ok, recurrence_error, recurrence_parse_error, part_number, error_part, reason_status};
 
-use crate::status::{OK, TOO_MANY_VALUES, MISSING_FREQUENCY, DUPLICATE_PART, INVALID_VALUE, UNKNOWN_PART};
-use cal_recurrence::{ParseRuleError, RulePart, ParseRuleErrorKind};
+use crate::status::{
+    DUPLICATE_PART, INVALID_VALUE, MISSING_FREQUENCY, OK, TOO_MANY_VALUES, UNKNOWN_PART,
+};
+use cal_recurrence::{ParseRuleError, ParseRuleErrorKind, RulePart};
 
 /// The number of days written, or the first wrong part of the text.
 #[repr(C)]
@@ -48,9 +50,9 @@ pub(super) fn error_part(reason: ParseRuleErrorKind) -> u32
     ensures { result ≡ error_part reason }
 {
     match reason {
-        ParseRuleErrorKind::Twice(part) | ParseRuleErrorKind::TooMany(part) | ParseRuleErrorKind::Value(part) => {
-            part_number(part)
-        }
+        ParseRuleErrorKind::Twice(part)
+        | ParseRuleErrorKind::TooMany(part)
+        | ParseRuleErrorKind::Value(part) => { part_number(part) }
         ParseRuleErrorKind::Unknown | ParseRuleErrorKind::Missing => 0,
     }
 }

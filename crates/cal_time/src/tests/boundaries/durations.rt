@@ -1,6 +1,6 @@
 //! Durations at both ends of the range and at both ends of the types of their parts.
-use crate::tests::conditions::scaled_by_u32;
 use crate::tests::boundaries::{DAY, HOUR, MINUTE, SECOND};
+use crate::tests::conditions::scaled_by_u32;
 use crate::tests::{same, same_at};
 use crate::{Counted, SignedDuration, extent, is_rising};
 use std::process::Abort;
