@@ -16,10 +16,11 @@
  * {3600}, 47 h for {169200, 0}.
  *
  * Most calls return a struct that starts with a status. The first invalid argument is reported as
- * FOTS_INVALID_DATE, FOTS_INVALID_TIME, FOTS_INVALID_OFFSET, FOTS_INVALID_DURATION, FOTS_INVALID_WEEKDAY,
- * FOTS_INVALID_MOMENT or FOTS_MONTH_OUT_OF_RANGE. Then come the errors that a call lists, in their order. After an
- * error each number is outside its type, such as FOTS_NO_VALUE for a date, so that the next call
- * rejects it. The manual lists the calls that accept every number.
+ * FOTS_INVALID_DATE, FOTS_INVALID_TIME, FOTS_INVALID_OFFSET, FOTS_INVALID_DURATION,
+ * FOTS_INVALID_WEEKDAY, FOTS_INVALID_MOMENT or FOTS_MONTH_OUT_OF_RANGE. Then come the errors that a
+ * call lists, in their order. After an error each number is outside its type, such as FOTS_NO_VALUE
+ * for a date, so that the next call rejects it. The manual lists the calls that accept every
+ * number.
  *
  * No call allocates, keeps a pointer or has state, so any thread can make any call at any time.
  * Only calls with texts, holidays, rules or columns take pointers. None may be null, even for a
@@ -92,13 +93,14 @@ typedef struct fots_recurrence {
 #define FOTS_MAX_TIME UINT64_C(86399999999999)
 #define FOTS_MAX_OFFSET_SECONDS 93599
 
-/* Numbers after an error: for dates, offsets and years; for unsigned parts; for times. */
+/* Numbers after an error: for dates, offsets and years; for unsigned components; for times. */
 #define FOTS_NO_VALUE INT32_MIN
 #define FOTS_NO_COMPONENT UINT32_C(2147483648)
 #define FOTS_NO_TIME UINT64_MAX
 
-/* The status of a call. FOTS_YEAR_OUT_OF_RANGE to FOTS_TIMESTAMP_OUT_OF_RANGE and FOTS_DAY_OUT_OF_RANGE to FOTS_WEEKDAY_OUT_OF_RANGE name a component
- * that is out of range; the range of the latter depends on other components. */
+/* The status of a call. FOTS_YEAR_OUT_OF_RANGE to FOTS_TIMESTAMP_OUT_OF_RANGE and
+ * FOTS_DAY_OUT_OF_RANGE to FOTS_WEEKDAY_OUT_OF_RANGE name a component that is out of range; the
+ * range of the latter depends on other components. */
 enum fots_status {
     FOTS_OK = 0,
     FOTS_RESULT_OUT_OF_RANGE = 1, /* the result does not exist, or is outside its type */
@@ -113,7 +115,7 @@ enum fots_status {
     FOTS_INVALID_FREQUENCY = 10, /* not a fots_frequency */
     FOTS_TOO_MANY_PARTS = 11, /* a rule has more than 64 months or 64 weekdays */
     FOTS_INVALID_CONVENTION = 12, /* not a fots_convention or fots_day_count */
-    FOTS_INVALID_WEEKMASK = 13, /* a week is above 127 */
+    FOTS_INVALID_WEEKMASK = 13, /* a weekmask is above 127 */
     FOTS_INVALID_HOLIDAYS = 14, /* holidays are not dates in strictly ascending order */
     FOTS_TOO_MANY_HOLIDAYS = 15, /* there are more than 1024 holidays */
     FOTS_YEAR_OUT_OF_RANGE = 16,
@@ -143,8 +145,8 @@ enum fots_status {
     FOTS_WEEKDAY_OUT_OF_RANGE = 67
 };
 
-/* Returns the name of a status: the component, such as "day", or words such as "result out of range";
- * "unknown" for other numbers. */
+/* Returns the name of a status: the component, such as "day", or words such as "result out of
+ * range"; "unknown" for other numbers. */
 static inline const char *fots_status_name(int32_t status)
 {
     switch (status) {
@@ -178,7 +180,7 @@ static inline const char *fots_status_name(int32_t status)
     case FOTS_OFFSET_SECOND_OUT_OF_RANGE: return "offset second";
     case FOTS_SECONDS_OUT_OF_RANGE: return "seconds";
     case FOTS_TIMESTAMP_OUT_OF_RANGE: return "timestamp";
-    case FOTS_INVALID_BOUNDS: return "bounds";
+    case FOTS_INVALID_BOUNDS: return "invalid bounds";
     case FOTS_UNEXPECTED_END: return "unexpected end";
     case FOTS_UNKNOWN_PART: return "unknown part";
     case FOTS_DUPLICATE_PART: return "duplicate part";
@@ -193,7 +195,8 @@ static inline const char *fots_status_name(int32_t status)
     }
 }
 
-/* Returns 1 if the range of the component depends on other components, as for FOTS_DAY_OUT_OF_RANGE, else 0. */
+/* Returns 1 if the range of the component depends on other components, as for
+ * FOTS_DAY_OUT_OF_RANGE, else 0. */
 static inline int fots_status_is_conditional(int32_t status)
 {
     return status >= FOTS_DAY_OUT_OF_RANGE && status <= FOTS_WEEKDAY_OUT_OF_RANGE;
@@ -206,13 +209,13 @@ typedef struct fots_date_result {
     fots_date date; /* or {FOTS_NO_VALUE} */
 } fots_date_result;
 
-/* An unsigned part of a value, such as a month. */
+/* An unsigned component of a value, such as a month. */
 typedef struct fots_component_result {
     int32_t status;
     uint32_t number; /* or FOTS_NO_COMPONENT */
 } fots_component_result;
 
-/* A year, a part of an offset or a duration, or a sign. */
+/* A year, a component of an offset or a duration, or a sign. */
 typedef struct fots_number_result {
     int32_t status;
     int32_t number; /* or FOTS_NO_VALUE */
@@ -327,8 +330,8 @@ typedef struct fots_days_result {
 } fots_days_result;
 
 /* The number of dates that were written. After an error of the text, part is a fots_rule_part, or 0
- * for FOTS_UNKNOWN_PART and FOTS_MISSING_FREQUENCY, and position is its start, from 0, or the length for
- * FOTS_MISSING_FREQUENCY. Else they are 0 and SIZE_MAX. */
+ * for FOTS_UNKNOWN_PART and FOTS_MISSING_FREQUENCY, and position is its start, from 0, or the
+ * length for FOTS_MISSING_FREQUENCY. Else they are 0 and SIZE_MAX. */
 typedef struct fots_recurrence_result {
     int32_t status;
     uint32_t part;
@@ -368,7 +371,8 @@ uint32_t fots_version(void);
 fots_date_result fots_date_from_julian_day(int64_t julian_day);
 
 /* Returns the date of a year (-999999 to 999999), a month and a day of the month. Errors:
- * FOTS_MONTH_OUT_OF_RANGE, FOTS_YEAR_OUT_OF_RANGE, FOTS_DAY_OUT_OF_RANGE. 2000, 2, 29 is 2000-02-29; 1900, 2, 29 is FOTS_DAY_OUT_OF_RANGE. */
+ * FOTS_MONTH_OUT_OF_RANGE, FOTS_YEAR_OUT_OF_RANGE, FOTS_DAY_OUT_OF_RANGE. 2000, 2, 29 is
+ * 2000-02-29; 1900, 2, 29 is FOTS_DAY_OUT_OF_RANGE. */
 fots_date_result fots_date_from_calendar_date(int32_t year, uint32_t month, uint32_t day);
 
 /* Returns the date of a year (-999999 to 999999) and an ordinal (1 to 365, or 366 in a leap year).
@@ -376,11 +380,12 @@ fots_date_result fots_date_from_calendar_date(int32_t year, uint32_t month, uint
 fots_date_result fots_date_from_ordinal_date(int32_t year, uint32_t ordinal);
 
 /* Returns the date of an ISO 8601 week date: an ISO year (-999999 to 999999), a week (1 to 52, or
- * 53 in a long year) and a weekday. Errors: FOTS_YEAR_OUT_OF_RANGE, FOTS_WEEK_OUT_OF_RANGE, and FOTS_WEEKDAY_OUT_OF_RANGE after the last
- * date, which is Friday of 999999-W52. 2000, 9, 2 is 2000-02-29. */
+ * 53 in a long year) and a weekday. Errors: FOTS_YEAR_OUT_OF_RANGE, FOTS_WEEK_OUT_OF_RANGE, and
+ * FOTS_WEEKDAY_OUT_OF_RANGE after the last date, which is Friday of 999999-W52. 2000, 9, 2 is
+ * 2000-02-29. */
 fots_date_result fots_date_from_iso_week_date(int32_t year, uint32_t week, uint32_t weekday);
 
-/* ---- parts of a date */
+/* ---- components of a date */
 
 /* Returns the year, the month and the day of the month. For 2000-02-29: 2000, 2, 29. */
 fots_calendar_date_result fots_date_to_calendar_date(fots_date date);
@@ -407,12 +412,13 @@ fots_component_result fots_date_monday_based_week(fots_date date);
 
 /* ---- move dates */
 
-/* Return the next or previous day, or FOTS_RESULT_OUT_OF_RANGE. For 2000-02-29: 2000-03-01, 2000-02-28. */
+/* Return the next or previous day, or FOTS_RESULT_OUT_OF_RANGE. For 2000-02-29: 2000-03-01,
+ * 2000-02-28. */
 fots_date_result fots_date_next_day(fots_date date);
 fots_date_result fots_date_previous_day(fots_date date);
 
-/* Returns the date `days` later, or earlier if negative; FOTS_RESULT_OUT_OF_RANGE. 366 days after 2000-02-29
- * is 2001-03-01. */
+/* Returns the date `days` later, or earlier if negative; FOTS_RESULT_OUT_OF_RANGE. 366 days after
+ * 2000-02-29 is 2001-03-01. */
 fots_date_result fots_date_add_days(fots_date date, int64_t days);
 
 /* Return the date later or earlier by the whole days of a duration, truncated toward zero;
@@ -428,13 +434,14 @@ fots_date_result fots_date_saturating_sub(fots_date date, fots_duration duration
  * 2000-01-01 to 2000-02-29: {5097600, 0}, which is 59 days. */
 fots_duration_result fots_date_duration_since(fots_date date, fots_date other);
 
-/* Return the first date after this one with a weekday, or the last one before it; FOTS_RESULT_OUT_OF_RANGE.
- * The first Monday after 2023-06-28 is 2023-07-03. */
+/* Return the first date after this one with a weekday, or the last one before it;
+ * FOTS_RESULT_OUT_OF_RANGE. The first Monday after 2023-06-28 is 2023-07-03. */
 fots_date_result fots_date_next_occurrence(fots_date date, uint32_t weekday);
 fots_date_result fots_date_prev_occurrence(fots_date date, uint32_t weekday);
 
 /* Return the n-th date after or before this one with a weekday. n is 1 to 255: above is
- * FOTS_INVALID_COUNT, 0 is FOTS_RESULT_OUT_OF_RANGE. The fifth Monday after 2023-06-25 is 2023-07-24. */
+ * FOTS_INVALID_COUNT, 0 is FOTS_RESULT_OUT_OF_RANGE. The fifth Monday after 2023-06-25 is
+ * 2023-07-24. */
 fots_date_result fots_date_nth_next_occurrence(fots_date date, uint32_t weekday, uint32_t n);
 fots_date_result fots_date_nth_prev_occurrence(fots_date date, uint32_t weekday, uint32_t n);
 
@@ -442,8 +449,8 @@ fots_date_result fots_date_nth_prev_occurrence(fots_date date, uint32_t weekday,
 
 /* Return the date some months or years later, or earlier if negative: the same day of the month, or
  * the last day of a shorter month. A year is 12 months. If the month is out of range, the
- * saturating call returns the nearest end of the range, and the others FOTS_RESULT_OUT_OF_RANGE. One month
- * after 2000-01-31 is 2000-02-29; one year after that is 2001-02-28. */
+ * saturating call returns the nearest end of the range, and the others FOTS_RESULT_OUT_OF_RANGE.
+ * One month after 2000-01-31 is 2000-02-29; one year after that is 2001-02-28. */
 fots_date_result fots_date_add_months(fots_date date, int32_t months);
 fots_date_result fots_date_saturating_add_months(fots_date date, int32_t months);
 fots_date_result fots_date_add_years(fots_date date, int32_t years);
@@ -459,8 +466,8 @@ fots_number_result fots_date_years_until(fots_date date, fots_date other);
 fots_period_result fots_date_period_until(fots_date date, fots_date other);
 
 /* Return the first or last day of the month, quarter, year or ISO week, and the quarter (1 to 4).
- * Only the Sunday of the last ISO week is FOTS_RESULT_OUT_OF_RANGE. For 2000-02-29: 2000-02-01, 2000-02-29,
- * 2000-01-01, 2000-03-31, 2000-01-01, 2000-12-31, 2000-02-28, 2000-03-05, 1. */
+ * Only the Sunday of the last ISO week is FOTS_RESULT_OUT_OF_RANGE. For 2000-02-29: 2000-02-01,
+ * 2000-02-29, 2000-01-01, 2000-03-31, 2000-01-01, 2000-12-31, 2000-02-28, 2000-03-05, 1. */
 fots_date_result fots_date_first_of_month(fots_date date);
 fots_date_result fots_date_last_of_month(fots_date date);
 fots_date_result fots_date_first_of_quarter(fots_date date);
@@ -471,9 +478,9 @@ fots_date_result fots_date_first_of_iso_week(fots_date date);
 fots_date_result fots_date_last_of_iso_week(fots_date date);
 fots_component_result fots_date_quarter(fots_date date);
 
-/* Return the n-th (1 to 255), or the last, date with a weekday in a month. Errors: FOTS_INVALID_COUNT,
- * FOTS_YEAR_OUT_OF_RANGE, and FOTS_WEEKDAY_OUT_OF_RANGE if the month has no such date. In 2000-02, the fifth Tuesday is
- * 2000-02-29, and the last Friday is 2000-02-25. */
+/* Return the n-th (1 to 255), or the last, date with a weekday in a month. Errors:
+ * FOTS_INVALID_COUNT, FOTS_YEAR_OUT_OF_RANGE, and FOTS_WEEKDAY_OUT_OF_RANGE if the month has no
+ * such date. In 2000-02, the fifth Tuesday is 2000-02-29, and the last Friday is 2000-02-25. */
 fots_date_result fots_date_nth_weekday_of_month(int32_t year, uint32_t month, uint32_t weekday, uint32_t n);
 fots_date_result fots_date_last_weekday_of_month(int32_t year, uint32_t month, uint32_t weekday);
 
@@ -484,28 +491,30 @@ fots_date_result fots_date_on_or_before(fots_date date, uint32_t weekday);
 
 /* ---- working days
  *
- * A week is the sum of its working days: 1 for Monday, 2 for Tuesday, 4, 8, 16, 32, and 64 for
- * Sunday. After the errors of other arguments come FOTS_INVALID_WEEKMASK for a week above 127, and
- * FOTS_TOO_MANY_HOLIDAYS and FOTS_INVALID_HOLIDAYS unless the holidays are at most FOTS_MAX_HOLIDAYS dates
- * in strictly ascending order. The examples have FOTS_MONDAY_TO_FRIDAY and no holidays. */
+ * A weekmask is the sum of its working days: 1 for Monday, 2 for Tuesday, 4, 8, 16, 32, and 64 for
+ * Sunday. After the errors of other arguments come FOTS_INVALID_WEEKMASK for a weekmask above 127,
+ * and FOTS_TOO_MANY_HOLIDAYS and FOTS_INVALID_HOLIDAYS unless the holidays are at most
+ * FOTS_MAX_HOLIDAYS dates in strictly ascending order. The examples have FOTS_MONDAY_TO_FRIDAY and
+ * no holidays. */
 #define FOTS_MONDAY_TO_FRIDAY 31u
 #define FOTS_MAX_HOLIDAYS 1024
 
 /* Returns 1 if the date is a working day, else 0. Tuesday 2000-02-29 is 1. */
-fots_component_result fots_date_is_workday(fots_date date, uint32_t week, const fots_date *holidays, size_t holidays_length);
+fots_component_result fots_date_is_workday(fots_date date, uint32_t weekmask, const fots_date *holidays, size_t holidays_length);
 
-/* Return the first working day after the date, or the last one before it; FOTS_RESULT_OUT_OF_RANGE. For
- * Friday 2000-03-03: 2000-03-06 and 2000-03-02. */
-fots_date_result fots_date_next_workday(fots_date date, uint32_t week, const fots_date *holidays, size_t holidays_length);
-fots_date_result fots_date_previous_workday(fots_date date, uint32_t week, const fots_date *holidays, size_t holidays_length);
+/* Return the first working day after the date, or the last one before it; FOTS_RESULT_OUT_OF_RANGE.
+ * For Friday 2000-03-03: 2000-03-06 and 2000-03-02. */
+fots_date_result fots_date_next_workday(fots_date date, uint32_t weekmask, const fots_date *holidays, size_t holidays_length);
+fots_date_result fots_date_previous_workday(fots_date date, uint32_t weekmask, const fots_date *holidays, size_t holidays_length);
 
 /* Returns the n-th working day after the date, or before it if `days` is negative; for 0 the date
- * itself, or the first working day after it; FOTS_RESULT_OUT_OF_RANGE. 2000-02-29 and 10 is 2000-03-14. */
-fots_date_result fots_date_add_workdays(fots_date date, int32_t days, uint32_t week, const fots_date *holidays, size_t holidays_length);
+ * itself, or the first working day after it; FOTS_RESULT_OUT_OF_RANGE. 2000-02-29 and 10 is
+ * 2000-03-14. */
+fots_date_result fots_date_add_workdays(fots_date date, int32_t days, uint32_t weekmask, const fots_date *holidays, size_t holidays_length);
 
 /* Returns the number of working days from the earlier date on, without the later date; negative or
  * 0 if `other` is earlier. From 2000-01-01 to 2001-01-01 it is 260, and back -260. */
-fots_number_result fots_date_workdays_between(fots_date date, fots_date other, uint32_t week, const fots_date *holidays,
+fots_number_result fots_date_workdays_between(fots_date date, fots_date other, uint32_t weekmask, const fots_date *holidays,
     size_t holidays_length);
 
 /* How a date moves to a working day, with the names of the ISDA Definitions. */
@@ -518,9 +527,9 @@ enum fots_convention {
 };
 
 /* Returns the working day that the date moves to. Errors: FOTS_INVALID_CONVENTION, and at last
- * FOTS_RESULT_OUT_OF_RANGE. Saturday 2000-04-29 moves to 2000-05-01 by FOTS_FOLLOWING, and to 2000-04-28 by
- * FOTS_MODIFIED_FOLLOWING. */
-fots_date_result fots_date_adjust(fots_date date, uint32_t convention, uint32_t week, const fots_date *holidays, size_t holidays_length);
+ * FOTS_RESULT_OUT_OF_RANGE. Saturday 2000-04-29 moves to 2000-05-01 by FOTS_FOLLOWING, and to
+ * 2000-04-28 by FOTS_MODIFIED_FOLLOWING. */
+fots_date_result fots_date_adjust(fots_date date, uint32_t convention, uint32_t weekmask, const fots_date *holidays, size_t holidays_length);
 
 /* ---- recurrences */
 
@@ -566,11 +575,12 @@ static inline fots_rule fots_rule_new(fots_date start, uint32_t frequency)
 }
 
 /* The calls check the rule first: FOTS_INVALID_DATE for start and until, FOTS_INVALID_FREQUENCY,
- * FOTS_INVALID_WEEKDAY for week_start, FOTS_TOO_MANY_PARTS, FOTS_MONTH_OUT_OF_RANGE, FOTS_INVALID_WEEKDAY; then
- * FOTS_INVALID_DATE for `date`. The examples have the last Fridays from 2024-01-01 on. */
+ * FOTS_INVALID_WEEKDAY for week_start, FOTS_TOO_MANY_PARTS, FOTS_MONTH_OUT_OF_RANGE,
+ * FOTS_INVALID_WEEKDAY; then FOTS_INVALID_DATE for `date`. The examples have the last Fridays from
+ * 2024-01-01 on. */
 
-/* Return the first day of the rule, or the first one after a date; FOTS_RESULT_OUT_OF_RANGE if none follows.
- * The first is 2024-01-26, and the next one 2024-02-23. */
+/* Return the first day of the rule, or the first one after a date; FOTS_RESULT_OUT_OF_RANGE if none
+ * follows. The first is 2024-01-26, and the next one 2024-02-23. */
 fots_date_result fots_rule_first(const fots_rule *rule);
 fots_date_result fots_rule_next_after(const fots_rule *rule, fots_date date);
 
@@ -594,9 +604,9 @@ enum fots_rule_part {
 };
 
 /* Parses the text of a recurrence, as RFC 5545 has it after RRULE:. Calls with such a text return
- * its first wrong part as FOTS_UNKNOWN_PART, FOTS_TOO_MANY_VALUES, FOTS_DUPLICATE_PART, FOTS_INVALID_VALUE or
- * FOTS_MISSING_FREQUENCY. "FREQ=MONTHLY;BYDAY=-1FR;COUNT=3" has FOTS_MONTHLY, the interval 1, the week
- * start 1, the count 3 and the weekday {-1, 5}. */
+ * its first wrong part as FOTS_UNKNOWN_PART, FOTS_TOO_MANY_VALUES, FOTS_DUPLICATE_PART,
+ * FOTS_INVALID_VALUE or FOTS_MISSING_FREQUENCY. "FREQ=MONTHLY;BYDAY=-1FR;COUNT=3" has FOTS_MONTHLY,
+ * the interval 1, the week start 1, the count 3 and the weekday {-1, 5}. */
 fots_parse_recurrence_result fots_recurrence_parse(const char *text, size_t text_length);
 
 /* Returns the text of the same recurrence with its parts in one order.
@@ -640,13 +650,14 @@ enum fots_day_count {
     FOTS_ACTUAL_ACTUAL = 5 /* ISDA; the denominator is 365 * 366 */
 };
 
-/* Returns the fraction of a year from `date` to `other`; FOTS_INVALID_CONVENTION. From 2003-11-01 to
- * 2004-05-01 by FOTS_ACTUAL_ACTUAL it is 66491 / 133590. */
+/* Returns the fraction of a year from `date` to `other`; FOTS_INVALID_CONVENTION. From 2003-11-01
+ * to 2004-05-01 by FOTS_ACTUAL_ACTUAL it is 66491 / 133590. */
 fots_year_fraction_result fots_date_day_count(fots_date date, fots_date other, uint32_t convention);
 
 /* ---- replace a component of a date; the others stay as they are */
 
-/* Replaces the year; FOTS_YEAR_OUT_OF_RANGE; FOTS_DAY_OUT_OF_RANGE for 29 February in a common year. */
+/* Replaces the year; FOTS_YEAR_OUT_OF_RANGE; FOTS_DAY_OUT_OF_RANGE for 29 February in a common
+ * year. */
 fots_date_result fots_date_replace_year(fots_date date, int32_t year);
 
 /* Replaces the month; FOTS_DAY_OUT_OF_RANGE. 2000-02-29 and 3 is 2000-03-29. */
@@ -661,14 +672,15 @@ fots_date_result fots_date_replace_ordinal(fots_date date, uint32_t ordinal);
 /* ---- create times of day */
 
 /* Return the time of an hour (0 to 23), a minute and a second (0 to 59), and milliseconds (0 to
- * 999), microseconds (0 to 999999) or nanoseconds (0 to 999999999). Errors: FOTS_HOUR_OUT_OF_RANGE, FOTS_MINUTE_OUT_OF_RANGE,
- * FOTS_SECOND_OUT_OF_RANGE; FOTS_MILLISECOND_OUT_OF_RANGE, FOTS_MICROSECOND_OUT_OF_RANGE, FOTS_NANOSECOND_OUT_OF_RANGE. 1, 2, 3, 4 ms: 1:02:03.004. */
+ * 999), microseconds (0 to 999999) or nanoseconds (0 to 999999999). Errors: FOTS_HOUR_OUT_OF_RANGE,
+ * FOTS_MINUTE_OUT_OF_RANGE, FOTS_SECOND_OUT_OF_RANGE; FOTS_MILLISECOND_OUT_OF_RANGE,
+ * FOTS_MICROSECOND_OUT_OF_RANGE, FOTS_NANOSECOND_OUT_OF_RANGE. 1, 2, 3, 4 ms: 1:02:03.004. */
 fots_time_result fots_time_from_hms(uint32_t hour, uint32_t minute, uint32_t second);
 fots_time_result fots_time_from_hms_milli(uint32_t hour, uint32_t minute, uint32_t second, uint32_t millisecond);
 fots_time_result fots_time_from_hms_micro(uint32_t hour, uint32_t minute, uint32_t second, uint32_t microsecond);
 fots_time_result fots_time_from_hms_nano(uint32_t hour, uint32_t minute, uint32_t second, uint32_t nanosecond);
 
-/* ---- parts of a time of day */
+/* ---- components of a time of day */
 
 /* Returns the hour, minute, second and nanosecond. For 1:02:03.004005006: 1, 2, 3, 4005006. */
 fots_hms_nano_result fots_time_as_hms_nano(fots_time time);
@@ -719,11 +731,12 @@ fots_duration_result fots_time_difference(fots_time time, fots_time other);
 /* ---- offsets */
 
 /* Returns the offset of hours (-25 to 25), minutes and seconds (-59 to 59). The first one that is
- * not zero gives the sign of all. Errors: FOTS_OFFSET_HOUR_OUT_OF_RANGE, FOTS_OFFSET_MINUTE_OUT_OF_RANGE, FOTS_OFFSET_SECOND_OUT_OF_RANGE.
- * -1, 30, 0 is -01:30. */
+ * not zero gives the sign of all. Errors: FOTS_OFFSET_HOUR_OUT_OF_RANGE,
+ * FOTS_OFFSET_MINUTE_OUT_OF_RANGE, FOTS_OFFSET_SECOND_OUT_OF_RANGE. -1, 30, 0 is -01:30. */
 fots_offset_result fots_offset_from_hms(int32_t hours, int32_t minutes, int32_t seconds);
 
-/* Returns the offset of seconds, or FOTS_SECONDS_OUT_OF_RANGE outside -93599 to 93599. -5400 is -01:30. */
+/* Returns the offset of seconds, or FOTS_SECONDS_OUT_OF_RANGE outside -93599 to 93599. -5400 is
+ * -01:30. */
 fots_offset_result fots_offset_from_whole_seconds(int64_t seconds);
 
 /* Returns the hours, minutes and seconds, with one sign. For -01:30: -1, -30, 0. */
@@ -741,11 +754,12 @@ fots_offset_result fots_offset_neg(fots_offset offset);
 
 /* ---- create durations */
 
-/* Returns the sum of seconds and nanoseconds; FOTS_RESULT_OUT_OF_RANGE. -1 and 1 is {0, -999999999}. */
+/* Returns the sum of seconds and nanoseconds; FOTS_RESULT_OUT_OF_RANGE. -1 and 1 is
+ * {0, -999999999}. */
 fots_duration_result fots_duration_new(int64_t seconds, int32_t nanoseconds);
 
-/* Return the duration of weeks of 7 days, days of 24 hours, hours or minutes; FOTS_RESULT_OUT_OF_RANGE.
- * -3 days is {-259200, 0}. */
+/* Return the duration of weeks of 7 days, days of 24 hours, hours or minutes;
+ * FOTS_RESULT_OUT_OF_RANGE. -3 days is {-259200, 0}. */
 fots_duration_result fots_duration_weeks(int64_t weeks);
 fots_duration_result fots_duration_days(int64_t days);
 fots_duration_result fots_duration_hours(int64_t hours);
@@ -757,7 +771,7 @@ fots_duration_result fots_duration_milliseconds(int64_t milliseconds);
 fots_duration_result fots_duration_microseconds(int64_t microseconds);
 fots_duration_result fots_duration_nanoseconds(int64_t nanoseconds);
 
-/* ---- parts of a duration, truncated toward zero */
+/* ---- components of a duration, truncated toward zero */
 
 /* Return the whole weeks, days, hours, minutes and seconds. -47 h: 0, -1, -47, -2820, -169200. */
 fots_int64_result fots_duration_whole_weeks(fots_duration duration);
@@ -766,8 +780,8 @@ fots_int64_result fots_duration_whole_hours(fots_duration duration);
 fots_int64_result fots_duration_whole_minutes(fots_duration duration);
 fots_int64_result fots_duration_whole_seconds(fots_duration duration);
 
-/* Return the whole milliseconds, microseconds and nanoseconds; FOTS_RESULT_OUT_OF_RANGE outside int64_t. For
- * -1.5 s: -1500, -1500000, -1500000000. */
+/* Return the whole milliseconds, microseconds and nanoseconds; FOTS_RESULT_OUT_OF_RANGE outside
+ * int64_t. For -1.5 s: -1500, -1500000, -1500000000. */
 fots_int64_result fots_duration_whole_milliseconds(fots_duration duration);
 fots_int64_result fots_duration_whole_microseconds(fots_duration duration);
 fots_int64_result fots_duration_whole_nanoseconds(fots_duration duration);
@@ -819,8 +833,8 @@ uint32_t fots_weeks_in_year(int32_t year);
 
 /* ---- date and time of day together */
 
-/* Return the date and time a duration later or earlier; FOTS_RESULT_OUT_OF_RANGE. 2 h after 2000-02-29 23:00
- * is 2000-03-01 1:00. */
+/* Return the date and time a duration later or earlier; FOTS_RESULT_OUT_OF_RANGE. 2 h after
+ * 2000-02-29 23:00 is 2000-03-01 1:00. */
 fots_pair_result fots_add_to_pair(fots_date date, fots_time time, fots_duration duration);
 fots_pair_result fots_sub_from_pair(fots_date date, fots_time time, fots_duration duration);
 
@@ -830,8 +844,8 @@ fots_pair_result fots_sub_from_pair(fots_date date, fots_time time, fots_duratio
  * {1709164800, 500000000}. */
 fots_duration_result fots_unix_time(fots_date date, fots_time time, fots_offset offset);
 
-/* Returns the date and time of a Unix time at an offset; FOTS_RESULT_OUT_OF_RANGE. {1709164800, 0} at +01:00
- * is 2024-02-29 1:00. */
+/* Returns the date and time of a Unix time at an offset; FOTS_RESULT_OUT_OF_RANGE. {1709164800, 0}
+ * at +01:00 is 2024-02-29 1:00. */
 fots_pair_result fots_unix_pair(fots_duration duration, fots_offset offset);
 
 /* ---- moments: a date and a time of day at an offset
@@ -839,17 +853,18 @@ fots_pair_result fots_unix_pair(fots_duration duration, fots_offset offset);
  * Moments at different offsets can be the same instant. Use offset 0 for a date and time without
  * one. The examples have 2024-02-29 23:59:59.25 +01:00, {2460370, 3600, 86399250000000}. */
 
-/* Returns the moment of its parts. */
+/* Returns the moment of these components. */
 fots_moment_result fots_moment_new(fots_date date, fots_time time, fots_offset offset);
 
-/* Returns the same instant at another offset; FOTS_RESULT_OUT_OF_RANGE. At UTC: 2024-02-29 22:59:59.25. */
+/* Returns the same instant at another offset; FOTS_RESULT_OUT_OF_RANGE. At UTC: 2024-02-29
+ * 22:59:59.25. */
 fots_moment_result fots_moment_to_offset(fots_moment moment, fots_offset offset);
 
 /* Returns the same date and time of day at another offset, which is another instant. */
 fots_moment_result fots_moment_replace_offset(fots_moment moment, fots_offset offset);
 
-/* Return the moment a duration later or earlier, at the same offset; FOTS_RESULT_OUT_OF_RANGE. 2 h later:
- * 2024-03-01 1:59:59.25 +01:00. */
+/* Return the moment a duration later or earlier, at the same offset; FOTS_RESULT_OUT_OF_RANGE. 2 h
+ * later: 2024-03-01 1:59:59.25 +01:00. */
 fots_moment_result fots_moment_checked_add(fots_moment moment, fots_duration duration);
 fots_moment_result fots_moment_checked_sub(fots_moment moment, fots_duration duration);
 
@@ -864,8 +879,8 @@ fots_duration_result fots_moment_duration_since(fots_moment moment, fots_moment 
 /* Returns -1, 0 or 1 if the instant is before, the same as or after the other one. */
 fots_number_result fots_moment_compare(fots_moment moment, fots_moment other);
 
-/* Return the moment at UTC of a Unix time; FOTS_TIMESTAMP_OUT_OF_RANGE outside the range. 1709247599 is
- * 2024-02-29 22:59:59. fots_duration_new makes a Unix time of a struct timespec. */
+/* Return the moment at UTC of a Unix time; FOTS_TIMESTAMP_OUT_OF_RANGE outside the range.
+ * 1709247599 is 2024-02-29 22:59:59. fots_duration_new makes a Unix time of a struct timespec. */
 fots_moment_result fots_moment_from_unix_timestamp(int64_t seconds);
 fots_moment_result fots_moment_from_unix_time(fots_duration duration);
 
@@ -884,8 +899,8 @@ fots_text_result fots_date_week_text(fots_date date);
 fots_text_result fots_date_julian_text(fots_date date);
 
 /* Returns the moment as in RFC 3339: "2024-02-29T23:59:59.25+01:00". The fraction has no trailing
- * zeros, and UTC is "Z". FOTS_RESULT_OUT_OF_RANGE for a year outside 0 to 9999, and for an offset with
- * seconds or of 24 hours or more. */
+ * zeros, and UTC is "Z". FOTS_RESULT_OUT_OF_RANGE for a year outside 0 to 9999, and for an offset
+ * with seconds or of 24 hours or more. */
 fots_text_result fots_moment_text(fots_date date, fots_time time, fots_offset offset);
 
 /* Returns the Unix time, such as "@1709164800.5" or "@-0.000000001". */
@@ -901,16 +916,19 @@ fots_text_result fots_weekday_name(uint32_t weekday);
  * FOTS_UNEXPECTED_BYTE and FOTS_UNEXPECTED_END, then the first component out of range. */
 
 /* Parses a calendar date, an ordinal date or a week date of ISO 8601, as they are printed. Errors:
- * FOTS_MONTH_OUT_OF_RANGE, FOTS_YEAR_OUT_OF_RANGE, FOTS_DAY_OUT_OF_RANGE, FOTS_ORDINAL_OUT_OF_RANGE, FOTS_WEEK_OUT_OF_RANGE; FOTS_WEEKDAY_OUT_OF_RANGE after the last date.
- * "2024x" is FOTS_UNEXPECTED_BYTE at 4, "2024-02-3" FOTS_UNEXPECTED_END, and "2023-02-29" FOTS_DAY_OUT_OF_RANGE. */
+ * FOTS_MONTH_OUT_OF_RANGE, FOTS_YEAR_OUT_OF_RANGE, FOTS_DAY_OUT_OF_RANGE,
+ * FOTS_ORDINAL_OUT_OF_RANGE, FOTS_WEEK_OUT_OF_RANGE; FOTS_WEEKDAY_OUT_OF_RANGE after the last date.
+ * "2024x" is FOTS_UNEXPECTED_BYTE at 4, "2024-02-3" FOTS_UNEXPECTED_END, and "2023-02-29"
+ * FOTS_DAY_OUT_OF_RANGE. */
 fots_parse_date_result fots_date_parse(const char *text, size_t length);
 
 /* Parses a Julian day, such as "J2460370" or "J-1". Error: FOTS_JULIAN_DAY_OUT_OF_RANGE. */
 fots_parse_date_result fots_julian_day_parse(const char *text, size_t length);
 
 /* Parses a moment of RFC 3339, such as "2024-02-29T23:59:59.25+01:00". T may be t or a space, and Z
- * may be z. Digits after the ninth of a fraction are ignored. Errors: FOTS_MONTH_OUT_OF_RANGE, FOTS_DAY_OUT_OF_RANGE,
- * FOTS_HOUR_OUT_OF_RANGE, FOTS_MINUTE_OUT_OF_RANGE, FOTS_SECOND_OUT_OF_RANGE (also 60), FOTS_OFFSET_HOUR_OUT_OF_RANGE above 23, FOTS_OFFSET_MINUTE_OUT_OF_RANGE. */
+ * may be z. Digits after the ninth of a fraction are ignored. Errors: FOTS_MONTH_OUT_OF_RANGE,
+ * FOTS_DAY_OUT_OF_RANGE, FOTS_HOUR_OUT_OF_RANGE, FOTS_MINUTE_OUT_OF_RANGE, FOTS_SECOND_OUT_OF_RANGE
+ * (also 60), FOTS_OFFSET_HOUR_OUT_OF_RANGE above 23, FOTS_OFFSET_MINUTE_OUT_OF_RANGE. */
 fots_parse_moment_result fots_moment_parse(const char *text, size_t length);
 
 /* Parses a Unix time, such as "@1709164800.5", to a moment at UTC: @, a minus sign if negative, at
@@ -919,13 +937,14 @@ fots_parse_moment_result fots_unix_parse(const char *text, size_t length);
 
 /* ---- whole columns
  *
- * A column is one array for each part of a value: Julian days and years as int32_t, ordinals as
- * uint16_t, months, days, weeks and weekdays as uint8_t. Each row has the result and the status of
- * the single call. After an error it has FOTS_NO_VALUE for a date, a year, an offset or a count,
- * FOTS_NO_TIME for a time, and 0 for a part with 8 or 16 bits, which the next call rejects.
+ * A column is one array for each component of a value: Julian days and years as int32_t, ordinals
+ * as uint16_t, months, days, weeks and weekdays as uint8_t. Each row has the result and the status
+ * of the single call. After an error it has FOTS_NO_VALUE for a date, a year, an offset or a count,
+ * FOTS_NO_TIME for a time, and 0 for a component with 8 or 16 bits, which the next call rejects.
  *
  * A call returns the number of rows without a result. Each array is followed by its length. If the
- * lengths differ, it writes nothing and returns FOTS_LENGTH_MISMATCH. Written arrays overlap no others. */
+ * lengths differ, it writes nothing and returns FOTS_LENGTH_MISMATCH. Written arrays overlap no
+ * others. */
 #define FOTS_LENGTH_MISMATCH SIZE_MAX
 
 size_t fots_dates_from_julian_days(const int64_t *julian_days, size_t julian_days_length, int32_t *dates, size_t dates_length,
@@ -963,11 +982,11 @@ size_t fots_dates_add_days(const int32_t *dates, size_t dates_length, const int6
 size_t fots_dates_add_months(const int32_t *dates, size_t dates_length, const int32_t *months, size_t months_length, int32_t *moved,
     size_t moved_length, uint8_t *statuses, size_t length);
 
-/* These take one week and one list of holidays, of any length, for all rows. */
-size_t fots_dates_add_workdays(const int32_t *dates, size_t dates_length, const int32_t *days, size_t days_length, uint32_t week,
+/* These take one weekmask and one list of holidays, of any length, for all rows. */
+size_t fots_dates_add_workdays(const int32_t *dates, size_t dates_length, const int32_t *days, size_t days_length, uint32_t weekmask,
     const fots_date *holidays, size_t holidays_length, int32_t *moved, size_t moved_length, uint8_t *statuses, size_t length);
 
-size_t fots_dates_workdays_between(const int32_t *dates, size_t dates_length, const int32_t *others, size_t others_length, uint32_t week,
+size_t fots_dates_workdays_between(const int32_t *dates, size_t dates_length, const int32_t *others, size_t others_length, uint32_t weekmask,
     const fots_date *holidays, size_t holidays_length, int32_t *numbers, size_t numbers_length, uint8_t *statuses, size_t length);
 
 /* ---- columns of texts
@@ -975,8 +994,8 @@ size_t fots_dates_workdays_between(const int32_t *dates, size_t dates_length, co
  * One array has the bytes of all texts, and another their bounds, one more than rows, as in Arrow:
  * text k is the bytes from bounds[k] to bounds[k + 1]. Times are uint64_t, and offsets int32_t. */
 
-/* Parses like fots_date_parse, without positions. FOTS_INVALID_BOUNDS if the bounds of a row are out of
- * range or descend. */
+/* Parses like fots_date_parse, without positions. FOTS_INVALID_BOUNDS if the bounds of a row are
+ * out of range or descend. */
 size_t fots_dates_parse(const char *bytes, size_t bytes_length, const int32_t *bounds, size_t bounds_length, int32_t *dates,
     size_t dates_length, uint8_t *statuses, size_t length);
 

@@ -43,8 +43,8 @@ public:
     // Returns whether the range of the component depends on other components.
     bool is_conditional() const noexcept { return fots_status_is_conditional(status_) != 0; }
 
-    // Returns the position of the first wrong byte for FOTS_UNEXPECTED_BYTE, the length of the text for
-    // FOTS_UNEXPECTED_END, and the position of the part for a rule_fault.
+    // Returns the position of the first wrong byte for FOTS_UNEXPECTED_BYTE, the length of the text
+    // for FOTS_UNEXPECTED_END, and the position of the part for a parse_rule_error.
     std::size_t position() const noexcept { return position_; }
 
 private:
@@ -59,7 +59,9 @@ private:
         if (status >= FOTS_UNKNOWN_PART && status <= FOTS_MISSING_FREQUENCY) {
             return fots_status_name(status) + (" at " + std::to_string(position));
         }
-        return status >= FOTS_YEAR_OUT_OF_RANGE ? std::string(fots_status_name(status)) + " was not in range" : fots_status_name(status);
+        const bool is_component = (status >= FOTS_YEAR_OUT_OF_RANGE && status <= FOTS_TIMESTAMP_OUT_OF_RANGE)
+            || fots_status_is_conditional(status) != 0;
+        return fots_status_name(status) + std::string(is_component ? " was not in range" : "");
     }
 
     std::int32_t status_;
@@ -71,7 +73,8 @@ class parse_rule_error : public error {
 public:
     parse_rule_error(std::int32_t status, std::size_t position, std::uint32_t part) : error(status, position), part_(part) {}
 
-    // Returns the part, such as FOTS_RULE_BYDAY, or 0 for FOTS_UNKNOWN_PART and FOTS_MISSING_FREQUENCY.
+    // Returns the part, such as FOTS_RULE_BYDAY, or 0 for FOTS_UNKNOWN_PART and
+    // FOTS_MISSING_FREQUENCY.
     std::uint32_t part() const noexcept { return part_; }
 
 private:
@@ -92,6 +95,7 @@ template <class Result> Result value_or_throw(Result result)
     return result;
 }
 
+// Returns the result of a call that parses a text, or throws an error with its position.
 template <class Result> Result parsed_or_throw(Result result)
 {
     if (result.status != FOTS_OK) {
@@ -100,7 +104,7 @@ template <class Result> Result parsed_or_throw(Result result)
     return result;
 }
 
-// Returns the result of a call that parses a recurrence, or throws a rule_fault.
+// Returns the result of a call that parses a recurrence, or throws a parse_rule_error.
 template <class Result> Result recurrence_or_throw(Result result)
 {
     if (result.status != FOTS_OK) {
@@ -241,8 +245,8 @@ public:
     // Returns the hours, minutes and seconds, with one sign.
     std::tuple<std::int32_t, std::int32_t, std::int32_t> as_hms() const
     {
-        const fots_offset_hms_result parts = detail::value_or_throw(fots_offset_as_hms(value_));
-        return {parts.hours, parts.minutes, parts.seconds};
+        const fots_offset_hms_result components = detail::value_or_throw(fots_offset_as_hms(value_));
+        return {components.hours, components.minutes, components.seconds};
     }
     UtcOffset operator-() const { return UtcOffset(detail::value_or_throw(fots_offset_neg(value_)).offset, {}); }
 
@@ -453,10 +457,10 @@ public:
     // Takes Monday to Friday.
     explicit Workdays(const std::vector<Date> &holidays = {}) : Workdays({true, true, true, true, true, false, false}, holidays) {}
     // Takes the days that are marked, from Monday to Sunday.
-    Workdays(std::array<bool, 7> marks, const std::vector<Date> &holidays) : week_(0)
+    Workdays(std::array<bool, 7> marks, const std::vector<Date> &holidays) : weekmask_(0)
     {
         for (std::size_t index = 0; index < marks.size(); ++index) {
-            week_ |= std::uint32_t{marks[index]} << index;
+            weekmask_ |= std::uint32_t{marks[index]} << index;
         }
         // One more than needed, so that data() is not null.
         holidays_.reserve(holidays.size() + 1);
@@ -468,32 +472,32 @@ public:
 
     bool is_workday(Date date) const
     {
-        return detail::value_or_throw(fots_date_is_workday(date.c(), week_, holidays_.data(), holidays_.size())).number == 1;
+        return detail::value_or_throw(fots_date_is_workday(date.c(), weekmask_, holidays_.data(), holidays_.size())).number == 1;
     }
     std::optional<Date> next_workday(Date date) const
     {
-        return Date::if_any(fots_date_next_workday(date.c(), week_, holidays_.data(), holidays_.size()));
+        return Date::if_any(fots_date_next_workday(date.c(), weekmask_, holidays_.data(), holidays_.size()));
     }
     std::optional<Date> previous_workday(Date date) const
     {
-        return Date::if_any(fots_date_previous_workday(date.c(), week_, holidays_.data(), holidays_.size()));
+        return Date::if_any(fots_date_previous_workday(date.c(), weekmask_, holidays_.data(), holidays_.size()));
     }
     std::optional<Date> checked_add_workdays(Date date, std::int32_t days) const
     {
-        return Date::if_any(fots_date_add_workdays(date.c(), days, week_, holidays_.data(), holidays_.size()));
+        return Date::if_any(fots_date_add_workdays(date.c(), days, weekmask_, holidays_.data(), holidays_.size()));
     }
     std::int32_t workdays_between(Date from, Date to) const
     {
-        return detail::value_or_throw(fots_date_workdays_between(from.c(), to.c(), week_, holidays_.data(), holidays_.size())).number;
+        return detail::value_or_throw(fots_date_workdays_between(from.c(), to.c(), weekmask_, holidays_.data(), holidays_.size())).number;
     }
     std::optional<Date> adjust(Date date, Convention convention) const
     {
         return Date::if_any(
-            fots_date_adjust(date.c(), static_cast<std::uint32_t>(convention), week_, holidays_.data(), holidays_.size()));
+            fots_date_adjust(date.c(), static_cast<std::uint32_t>(convention), weekmask_, holidays_.data(), holidays_.size()));
     }
 
 private:
-    std::uint32_t week_;
+    std::uint32_t weekmask_;
     std::vector<fots_date> holidays_;
 };
 
@@ -604,7 +608,7 @@ private:
 // The text of a rule in RFC 5545, such as "FREQ=MONTHLY;BYDAY=-1FR;COUNT=12".
 class Recurrence {
 public:
-    // Parses a text, or throws a rule_fault.
+    // Parses a text, or throws a parse_rule_error.
     static Recurrence parse(std::string_view text) { return Recurrence(std::string(text)); }
 
     // Returns the text with its parts in one order.

@@ -39,9 +39,9 @@ static int64_t drawn_bits(void)
 }
 
 /* Returns a number from 0 to `most`, or any bits. */
-static uint16_t part(int value, uint16_t most)
+static uint16_t part(int value, uint16_t max)
 {
-    return (uint16_t)(value ? drawn() % (most + 1u) : drawn());
+    return (uint16_t)(value ? drawn() % (max + 1u) : drawn());
 }
 
 /* Moves both ends of the range past them and to them. */
@@ -88,18 +88,18 @@ static void draw(void)
     do { \
         check(statuses[k] == (status_of_one), call, (long long)k, statuses[k]); \
         check(parts, call, (long long)k, statuses[k]); \
-        refused += statuses[k] == FOTS_OK ? 0 : 1; \
+        errors += statuses[k] == FOTS_OK ? 0 : 1; \
     } while (0)
 
 /* Checks each row against the single call, and the number of rows without a result. */
 #define COLUMN(call, one, parts) \
     do { \
-        size_t refused = 0, counted = call; \
+        size_t errors = 0, counted = call; \
         for (size_t k = 0; k < n; k++) { \
             one; \
             SAME(#call, single.status, parts); \
         } \
-        check(counted == refused, "the rows with no answer", (long long)counted, (long long)refused); \
+        check(counted == errors, "the rows without a result", (long long)counted, (long long)errors); \
     } while (0)
 
 #define DATES_FOUND found[k] == single.date.julian_day
@@ -171,10 +171,10 @@ static void chained(size_t n)
     static int32_t iso_years[ROWS];
     static uint8_t first_statuses[ROWS], chained_weeks[ROWS], chained_weekdays[ROWS];
     size_t made = fots_dates_from_calendar_dates(years, n, months, n, month_days, n, found, n, first_statuses, n);
-    size_t refused = fots_dates_to_iso_week_dates(found, n, iso_years, n, firsts, n, seconds, n, statuses, n);
+    size_t errors = fots_dates_to_iso_week_dates(found, n, iso_years, n, firsts, n, seconds, n, statuses, n);
     size_t at_once = fots_calendar_dates_to_iso_week_dates(years, n, months, n, month_days, n, found, n, chained_weeks, n,
         chained_weekdays, n, statuses, n);
-    check(made == refused && refused == at_once, "the rows with no answer", (long long)made, (long long)at_once);
+    check(made == errors && errors == at_once, "the rows without a result", (long long)made, (long long)at_once);
     for (size_t k = 0; k < n; k++) {
         check(statuses[k] == first_statuses[k], "the status of a chained row", (long long)k, statuses[k]);
         check(found[k] == iso_years[k] && chained_weeks[k] == firsts[k] && chained_weekdays[k] == seconds[k], "a chained row",
@@ -183,7 +183,7 @@ static void chained(size_t n)
 }
 
 /* Checks that different lengths write nothing. */
-static void unlike(void)
+static void different_lengths(void)
 {
     found[0] = 77;
     statuses[0] = 77;
@@ -213,22 +213,22 @@ static size_t same_text(size_t k, fots_text_result single)
 /* Parses texts one after another and at once. */
 static void read_back(size_t n, size_t bytes_length)
 {
-    size_t refused = 0, counted = fots_dates_parse(bytes, bytes_length, bounds, n + 1, found, n, statuses, n);
+    size_t errors = 0, counted = fots_dates_parse(bytes, bytes_length, bounds, n + 1, found, n, statuses, n);
     for (size_t k = 0; k < n; k++) {
         fots_parse_date_result single = fots_date_parse(bytes + bounds[k], (size_t)(bounds[k + 1] - bounds[k]));
         check(statuses[k] == single.status && found[k] == single.date.julian_day, "a date that is read", (long long)k, statuses[k]);
-        refused += single.status == FOTS_OK ? 0 : 1;
+        errors += single.status == FOTS_OK ? 0 : 1;
     }
-    check(counted == refused, "the texts of no date", (long long)counted, (long long)refused);
-    refused = 0;
+    check(counted == errors, "the texts of no date", (long long)counted, (long long)errors);
+    errors = 0;
     counted = fots_moments_parse(bytes, bytes_length, bounds, n + 1, found, n, found_times, n, found_offsets, n, statuses, n);
     for (size_t k = 0; k < n; k++) {
         fots_parse_moment_result single = fots_moment_parse(bytes + bounds[k], (size_t)(bounds[k + 1] - bounds[k]));
         check(statuses[k] == single.status && found[k] == single.date.julian_day && found_times[k] == single.time
             && found_offsets[k] == single.offset.seconds, "a moment that is read", (long long)k, statuses[k]);
-        refused += single.status == FOTS_OK ? 0 : 1;
+        errors += single.status == FOTS_OK ? 0 : 1;
     }
-    check(counted == refused, "the texts of no moment", (long long)counted, (long long)refused);
+    check(counted == errors, "the texts of no moment", (long long)counted, (long long)errors);
 }
 
 /* Changes a byte in some texts. */
@@ -244,11 +244,11 @@ static void spoil(size_t bytes_length)
 static void texts(size_t n)
 {
     bytes[n * FOTS_MAX_DATE_LENGTH] = 77;
-    size_t refused = 0, counted = fots_dates_calendar_texts(dates, n, bytes, n * FOTS_MAX_DATE_LENGTH, bounds, n + 1, statuses, n);
+    size_t errors = 0, counted = fots_dates_calendar_texts(dates, n, bytes, n * FOTS_MAX_DATE_LENGTH, bounds, n + 1, statuses, n);
     for (size_t k = 0; k < n; k++) {
-        refused += same_text(k, fots_date_calendar_text(date_at(dates[k])));
+        errors += same_text(k, fots_date_calendar_text(date_at(dates[k])));
     }
-    check(bounds[0] == 0 && counted == refused, "dates with no text", (long long)counted, (long long)refused);
+    check(bounds[0] == 0 && counted == errors, "dates with no text", (long long)counted, (long long)errors);
     check(bytes[n * FOTS_MAX_DATE_LENGTH] == 77, "the byte after the texts", 0, 0);
     read_back(n, (size_t)bounds[n]);
     for (size_t k = 0; k < n; k++) {
@@ -257,19 +257,19 @@ static void texts(size_t n)
         times[k] -= drawn() % 2 == 0 ? 0 : times[k] % 1000000000;
         offsets[k] = drawn() % 8 == 0 ? (int32_t)drawn_bits() : 60 * ((int32_t)(drawn() % 2879) - 1439);
     }
-    refused = 0;
+    errors = 0;
     counted = fots_moments_texts(dates, n, times, n, offsets, n, bytes, n * FOTS_MAX_MOMENT_LENGTH, bounds, n + 1, statuses, n);
     for (size_t k = 0; k < n; k++) {
-        refused += same_text(k, fots_moment_text(date_at(dates[k]), times[k], offset_at(offsets[k])));
+        errors += same_text(k, fots_moment_text(date_at(dates[k]), times[k], offset_at(offsets[k])));
     }
-    check(bounds[0] == 0 && counted == refused, "moments with no text", (long long)counted, (long long)refused);
+    check(bounds[0] == 0 && counted == errors, "moments with no text", (long long)counted, (long long)errors);
     read_back(n, (size_t)bounds[n]);
     spoil((size_t)bounds[n]);
     read_back(n, (size_t)bounds[n]);
 }
 
 /* Takes bounds out of range, descending bounds, and columns without room. */
-static void bad_texts(void)
+static void invalid_texts(void)
 {
     static const char text[] = "2024-02-292024-02-30";
     const int32_t wrong[] = {0, 10, 20, 10, 21, -1, 10, INT32_MIN, INT32_MAX, 0, 0};
@@ -304,9 +304,9 @@ int main(void)
     columns(1);
     workdays();
     chained(ROWS);
-    unlike();
+    different_lengths();
     texts(ROWS);
     texts(1);
-    bad_texts();
+    invalid_texts();
     return ended("columns");
 }

@@ -86,19 +86,19 @@ static int is_number(fots_number_result result, int32_t number)
     return result.status == FOTS_OK && result.number == number;
 }
 
-static int is_part(fots_component_result result, uint32_t number)
+static int is_component(fots_component_result result, uint32_t number)
 {
     return result.status == FOTS_OK && result.number == number;
 }
 
 /* Checks the parts one by one, only for some days, because each is a conversion. */
-static int has_parts(struct day it)
+static int has_components(struct day it)
 {
     fots_date date = date_at(it.julian_day);
-    return is_number(fots_date_year(date), it.year) && is_part(fots_date_month(date), it.month)
-        && is_part(fots_date_day(date), it.day) && is_part(fots_date_ordinal(date), it.ordinal)
-        && is_part(fots_date_iso_week(date), it.iso_week) && is_part(fots_date_weekday(date), it.weekday)
-        && is_part(fots_date_sunday_based_week(date), it.sundays) && is_part(fots_date_monday_based_week(date), it.mondays);
+    return is_number(fots_date_year(date), it.year) && is_component(fots_date_month(date), it.month)
+        && is_component(fots_date_day(date), it.day) && is_component(fots_date_ordinal(date), it.ordinal)
+        && is_component(fots_date_iso_week(date), it.iso_week) && is_component(fots_date_weekday(date), it.weekday)
+        && is_component(fots_date_sunday_based_week(date), it.sundays) && is_component(fots_date_monday_based_week(date), it.mondays);
 }
 
 /* Checks the next and the previous day, if the range has them. */
@@ -112,7 +112,7 @@ static int has_neighbours(struct day it)
 }
 
 /* Checks that the days past the end of a month and a year are errors. */
-static int refuses_beside(struct day it)
+static int rejects_days_beside(struct day it)
 {
     if (it.day == 1 || it.ordinal == 1) {
         fots_date_result day = fots_date_from_calendar_date(it.year, it.month, length_of_month(it.year, it.month) + 1);
@@ -126,13 +126,13 @@ static int refuses_beside(struct day it)
     return 1;
 }
 
-static void check_day(struct day it, int in_parts)
+static void check_day(struct day it, int all_components)
 {
     check(has_all(it), "what a day has", it.julian_day, it.year);
     check(is_made(it), "what a day is made of", it.julian_day, it.year);
-    check(refuses_beside(it), "what no day has", it.julian_day, it.year);
-    if (in_parts) {
-        check(has_parts(it), "the parts of a day", it.julian_day, it.year);
+    check(rejects_days_beside(it), "what no day has", it.julian_day, it.year);
+    if (all_components) {
+        check(has_components(it), "the parts of a day", it.julian_day, it.year);
         check(has_neighbours(it), "the days beside a day", it.julian_day, it.year);
     }
 }

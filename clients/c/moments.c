@@ -28,7 +28,7 @@ static fots_duration duration_of(int64_t seconds, int32_t nanoseconds)
 }
 
 /* Returns the moment of a calendar date, a time and whole hours from UTC. */
-static fots_moment shown(int32_t year, uint32_t month, uint32_t day, uint32_t hour, uint32_t minute, uint32_t second, uint32_t nanosecond,
+static fots_moment moment_on(int32_t year, uint32_t month, uint32_t day, uint32_t hour, uint32_t minute, uint32_t second, uint32_t nanosecond,
     int32_t hours)
 {
     fots_date_result date = fots_date_from_calendar_date(year, month, day);
@@ -80,32 +80,32 @@ static void is_order(fots_moment one, fots_moment other, int32_t order, const ch
 
 static void a_leap_night(void)
 {
-    fots_moment night = shown(2024, 2, 29, 23, 59, 59, 250000000, 1);
-    fots_moment at_utc = shown(2024, 2, 29, 22, 59, 59, 250000000, 0);
-    fots_moment further_east = shown(2024, 3, 1, 0, 59, 59, 250000000, 2);
+    fots_moment night = moment_on(2024, 2, 29, 23, 59, 59, 250000000, 1);
+    fots_moment at_utc = moment_on(2024, 2, 29, 22, 59, 59, 250000000, 0);
+    fots_moment east_of_it = moment_on(2024, 3, 1, 0, 59, 59, 250000000, 2);
     fots_int64_result seconds = fots_moment_unix_timestamp(night);
     check(is_same(night, moment_at(2460370, 3600, UINT64_C(86399250000000))), "the numbers", night.date.julian_day, night.offset.seconds);
     check(seconds.status == FOTS_OK && seconds.number == 1709247599, "whole seconds", seconds.status, seconds.number);
     is_duration(fots_moment_unix_time(night), duration_of(1709247599, 250000000), "Unix time");
     is_moment(fots_moment_from_unix_time(duration_of(1709247599, 250000000)), at_utc, "of a Unix time");
-    is_moment(fots_moment_from_unix_timestamp(1709247599), shown(2024, 2, 29, 22, 59, 59, 0, 0), "of whole seconds");
+    is_moment(fots_moment_from_unix_timestamp(1709247599), moment_on(2024, 2, 29, 22, 59, 59, 0, 0), "of whole seconds");
     is_moment(fots_moment_to_offset(night, offset_at(0)), at_utc, "at UTC");
-    is_moment(fots_moment_to_offset(night, offset_at(7200)), further_east, "further east");
-    is_moment(fots_moment_replace_offset(night, offset_at(0)), shown(2024, 2, 29, 23, 59, 59, 250000000, 0), "another offset");
+    is_moment(fots_moment_to_offset(night, offset_at(7200)), east_of_it, "further east");
+    is_moment(fots_moment_replace_offset(night, offset_at(0)), moment_on(2024, 2, 29, 23, 59, 59, 250000000, 0), "another offset");
     is_order(night, at_utc, 0, "the same instant");
-    is_order(night, further_east, 0, "the same instant, on another day");
-    is_order(night, shown(2024, 2, 29, 23, 59, 59, 250000000, 0), -1, "the same clock, further east");
-    is_duration(fots_moment_duration_since(night, further_east), duration_of(0, 0), "since the same instant");
-    is_moment(fots_moment_checked_add(night, duration_of(7200, 0)), shown(2024, 3, 1, 1, 59, 59, 250000000, 1), "two hours later");
-    is_moment(fots_moment_checked_sub(night, duration_of(86400, 250000000)), shown(2024, 2, 28, 23, 59, 59, 0, 1), "earlier");
-    is_duration(fots_moment_duration_since(shown(2024, 2, 29, 0, 0, 0, 0, 0), shown(2024, 2, 29, 0, 0, 0, 0, 1)), duration_of(3600, 0),
+    is_order(night, east_of_it, 0, "the same instant, on another day");
+    is_order(night, moment_on(2024, 2, 29, 23, 59, 59, 250000000, 0), -1, "the same clock, further east");
+    is_duration(fots_moment_duration_since(night, east_of_it), duration_of(0, 0), "since the same instant");
+    is_moment(fots_moment_checked_add(night, duration_of(7200, 0)), moment_on(2024, 3, 1, 1, 59, 59, 250000000, 1), "two hours later");
+    is_moment(fots_moment_checked_sub(night, duration_of(86400, 250000000)), moment_on(2024, 2, 28, 23, 59, 59, 0, 1), "earlier");
+    is_duration(fots_moment_duration_since(moment_on(2024, 2, 29, 0, 0, 0, 0, 0), moment_on(2024, 2, 29, 0, 0, 0, 0, 1)), duration_of(3600, 0),
         "since the same clock, further east");
 }
 
 static void before_the_epoch(void)
 {
-    fots_moment epoch = shown(1970, 1, 1, 0, 0, 0, 0, 0);
-    fots_moment half = shown(1969, 12, 31, 23, 59, 59, 500000000, 0);
+    fots_moment epoch = moment_on(1970, 1, 1, 0, 0, 0, 0, 0);
+    fots_moment half = moment_on(1969, 12, 31, 23, 59, 59, 500000000, 0);
     fots_int64_result seconds = fots_moment_unix_timestamp(half);
     check(seconds.status == FOTS_OK && seconds.number == -1, "half a second before", seconds.status, seconds.number);
     is_duration(fots_moment_unix_time(half), duration_of(0, -500000000), "half a second before, exactly");
@@ -116,27 +116,27 @@ static void before_the_epoch(void)
 
 static void ends_of_the_range(void)
 {
-    fots_moment last = shown(999999, 12, 31, 23, 59, 59, 999999999, 0);
-    fots_moment first = shown(-999999, 1, 1, 0, 0, 0, 0, 0);
-    fots_moment west = shown(999999, 12, 31, 23, 0, 0, 0, -2);
-    fots_moment east = shown(-999999, 1, 1, 0, 0, 0, 0, 1);
-    fots_duration greatest = duration_of(INT64_MAX, 999999999), least = duration_of(INT64_MIN, -999999999);
+    fots_moment last = moment_on(999999, 12, 31, 23, 59, 59, 999999999, 0);
+    fots_moment first = moment_on(-999999, 1, 1, 0, 0, 0, 0, 0);
+    fots_moment west = moment_on(999999, 12, 31, 23, 0, 0, 0, -2);
+    fots_moment east = moment_on(-999999, 1, 1, 0, 0, 0, 0, 1);
+    fots_duration max_duration = duration_of(INT64_MAX, 999999999), min_duration = duration_of(INT64_MIN, -999999999);
     is_no_moment(fots_moment_to_offset(west, offset_at(0)), FOTS_RESULT_OUT_OF_RANGE, "at no date at UTC");
-    is_order(west, shown(999999, 12, 31, 23, 59, 59, 0, 0), 1, "later than the last day at UTC");
+    is_order(west, moment_on(999999, 12, 31, 23, 59, 59, 0, 0), 1, "later than the last day at UTC");
     is_order(west, last, 1, "later than the last moment at UTC");
     is_duration(fots_moment_duration_since(west, last), duration_of(3600, 1), "since the last moment at UTC");
     is_no_moment(fots_moment_to_offset(east, offset_at(0)), FOTS_RESULT_OUT_OF_RANGE, "before the first day at UTC");
     is_order(east, first, -1, "earlier than the first moment at UTC");
     is_no_moment(fots_moment_checked_add(last, duration_of(0, 1)), FOTS_RESULT_OUT_OF_RANGE, "after the last");
     is_no_moment(fots_moment_checked_sub(first, duration_of(0, 1)), FOTS_RESULT_OUT_OF_RANGE, "before the first");
-    is_no_moment(fots_moment_checked_add(first, greatest), FOTS_RESULT_OUT_OF_RANGE, "the greatest move");
-    is_moment(fots_moment_saturating_add(first, greatest), last, "the greatest move, held");
-    is_moment(fots_moment_saturating_add(first, least), first, "the least move, held");
-    is_moment(fots_moment_saturating_sub(last, greatest), first, "the greatest move back, held");
-    is_moment(fots_moment_saturating_sub(east, least), moment_at(last.date.julian_day, 3600, last.time), "held at its offset");
-    is_no_moment(fots_moment_from_unix_timestamp(INT64_MAX), FOTS_TIMESTAMP_OUT_OF_RANGE, "the greatest seconds");
-    is_no_moment(fots_moment_from_unix_timestamp(INT64_MIN), FOTS_TIMESTAMP_OUT_OF_RANGE, "the least seconds");
-    is_no_moment(fots_moment_from_unix_time(greatest), FOTS_TIMESTAMP_OUT_OF_RANGE, "the greatest Unix time");
+    is_no_moment(fots_moment_checked_add(first, max_duration), FOTS_RESULT_OUT_OF_RANGE, "the maximum move");
+    is_moment(fots_moment_saturating_add(first, max_duration), last, "the maximum move, clamped");
+    is_moment(fots_moment_saturating_add(first, min_duration), first, "the minimum move, clamped");
+    is_moment(fots_moment_saturating_sub(last, max_duration), first, "the maximum move back, clamped");
+    is_moment(fots_moment_saturating_sub(east, min_duration), moment_at(last.date.julian_day, 3600, last.time), "clamped to its offset");
+    is_no_moment(fots_moment_from_unix_timestamp(INT64_MAX), FOTS_TIMESTAMP_OUT_OF_RANGE, "the maximum seconds");
+    is_no_moment(fots_moment_from_unix_timestamp(INT64_MIN), FOTS_TIMESTAMP_OUT_OF_RANGE, "the minimum seconds");
+    is_no_moment(fots_moment_from_unix_time(max_duration), FOTS_TIMESTAMP_OUT_OF_RANGE, "the maximum Unix time");
     is_moment(fots_moment_from_unix_timestamp(fots_moment_unix_timestamp(first).number), first, "the first seconds");
     is_no_moment(fots_moment_from_unix_timestamp(fots_moment_unix_timestamp(first).number - 1), FOTS_TIMESTAMP_OUT_OF_RANGE, "before the first");
     is_moment(fots_moment_from_unix_time(fots_moment_unix_time(last).duration), last, "the last Unix time");
@@ -199,8 +199,8 @@ static void wrong_values(void)
     for (int k = 0; k < COUNT(no_durations); k++) {
         is_no_moment(fots_moment_checked_add(right, no_durations[k]), FOTS_INVALID_DURATION, "later by no duration");
         is_no_moment(fots_moment_checked_sub(right, no_durations[k]), FOTS_INVALID_DURATION, "earlier by no duration");
-        is_no_moment(fots_moment_saturating_add(right, no_durations[k]), FOTS_INVALID_DURATION, "held, later by no duration");
-        is_no_moment(fots_moment_saturating_sub(right, no_durations[k]), FOTS_INVALID_DURATION, "held, earlier by no duration");
+        is_no_moment(fots_moment_saturating_add(right, no_durations[k]), FOTS_INVALID_DURATION, "clamped, later by no duration");
+        is_no_moment(fots_moment_saturating_sub(right, no_durations[k]), FOTS_INVALID_DURATION, "clamped, earlier by no duration");
         is_no_moment(fots_moment_from_unix_time(no_durations[k]), FOTS_INVALID_DURATION, "of no Unix time");
     }
 }
@@ -268,31 +268,31 @@ static wide last_local(void)
 }
 
 /* Checks that the result is the moment of this local date-time, or an error if there is none. */
-static void is_at(fots_moment_result result, wide local, int32_t offset, int32_t refused, const char *what)
+static void is_at(fots_moment_result result, wide local, int32_t offset, int32_t error, const char *what)
 {
     if (local < 0 || local > last_local()) {
-        is_no_moment(result, refused, what);
+        is_no_moment(result, error, what);
     } else {
         is_moment(result, moment_at((int32_t)(FOTS_MIN_JULIAN_DAY + (int64_t)(local / DAY)), offset, (fots_time)(local % DAY)), what);
     }
 }
 
-static wide nearest(wide local)
+static wide clamped(wide local)
 {
     return local < 0 ? 0 : local > last_local() ? last_local() : local;
 }
 
-static void moved(fots_moment moment, fots_duration duration)
+static void add_and_sub(fots_moment moment, fots_duration duration)
 {
     const wide local = local_of(moment), by = nanoseconds_of(duration);
     const int32_t offset = moment.offset.seconds;
     is_at(fots_moment_checked_add(moment, duration), local + by, offset, FOTS_RESULT_OUT_OF_RANGE, "drawn, later");
     is_at(fots_moment_checked_sub(moment, duration), local - by, offset, FOTS_RESULT_OUT_OF_RANGE, "drawn, earlier");
-    is_at(fots_moment_saturating_add(moment, duration), nearest(local + by), offset, FOTS_OK, "drawn, later and held");
-    is_at(fots_moment_saturating_sub(moment, duration), nearest(local - by), offset, FOTS_OK, "drawn, earlier and held");
+    is_at(fots_moment_saturating_add(moment, duration), clamped(local + by), offset, FOTS_OK, "drawn, later and clamped");
+    is_at(fots_moment_saturating_sub(moment, duration), clamped(local - by), offset, FOTS_OK, "drawn, earlier and clamped");
 }
 
-static void compared(fots_moment moment, fots_moment other)
+static void compare(fots_moment moment, fots_moment other)
 {
     const wide one = instant_of(moment), two = instant_of(other), between = one - two;
     is_order(moment, other, one < two ? -1 : one > two ? 1 : 0, "drawn, compared");
@@ -328,11 +328,11 @@ static void drawn_values(void)
         fots_moment moment = drawn_moment();
         fots_duration duration = drawn_duration();
         fots_moment_result same = fots_moment_to_offset(moment, offset_at((int32_t)below(7) * 3600));
-        moved(moment, duration);
-        compared(moment, drawn_moment());
+        add_and_sub(moment, duration);
+        compare(moment, drawn_moment());
         unix_times(moment, duration);
         if (same.status == FOTS_OK) {
-            compared(moment, same.moment);
+            compare(moment, same.moment);
         }
     }
 }

@@ -8,8 +8,8 @@
 #define DAY 86400LL
 
 static const fots_duration zero = {0, 0};
-static const fots_duration least = {INT64_MIN, -999999999};
-static const fots_duration greatest = {INT64_MAX, 999999999};
+static const fots_duration min_duration = {INT64_MIN, -999999999};
+static const fots_duration max_duration = {INT64_MAX, 999999999};
 
 static fots_duration seconds(int64_t seconds)
 {
@@ -33,7 +33,7 @@ static fots_duration both(int64_t seconds, int32_t nanoseconds)
     return duration;
 }
 
-static fots_date day_of(int32_t year, uint32_t month, uint32_t day)
+static fots_date date_of(int32_t year, uint32_t month, uint32_t day)
 {
     fots_date_result result = fots_date_from_calendar_date(year, month, day);
     check(result.status == FOTS_OK, "a day of a row", year, month * 100 + day);
@@ -72,7 +72,7 @@ static void is_number(fots_number_result result, int32_t number, const char *wha
     check(result.status == FOTS_OK && result.number == number, what, result.status, result.number);
 }
 
-static void is_part(fots_component_result result, uint32_t number, const char *what)
+static void is_component(fots_component_result result, uint32_t number, const char *what)
 {
     check(result.status == FOTS_OK && result.number == number, what, result.status, result.number);
 }
@@ -95,14 +95,14 @@ static void is_no_text(fots_text_result result, int32_t status, const char *what
         result.length);
 }
 
-static void is_read(fots_parse_date_result result, fots_date date, const char *what)
+static void is_parsed(fots_parse_date_result result, fots_date date, const char *what)
 {
     check(result.status == FOTS_OK && result.date.julian_day == date.julian_day && result.position == SIZE_MAX, what, result.status,
         result.date.julian_day);
 }
 
 /* Checks an error, with the position of FOTS_UNEXPECTED_BYTE and FOTS_UNEXPECTED_END. */
-static void is_not_read(fots_parse_date_result result, int32_t status, size_t position, const char *what)
+static void is_parse_error(fots_parse_date_result result, int32_t status, size_t position, const char *what)
 {
     check(result.status == status && result.date.julian_day == FOTS_NO_VALUE && result.position == position, what, result.status,
         (long long)result.position);
@@ -120,7 +120,7 @@ static void is_no_moment(fots_parse_moment_result result, int32_t status, size_t
         && result.offset.seconds == FOTS_NO_VALUE && result.position == position, what, result.status, (long long)result.position);
 }
 
-static fots_time clock_of(uint32_t hour, uint32_t minute, uint32_t second, uint32_t nanosecond)
+static fots_time time_of(uint32_t hour, uint32_t minute, uint32_t second, uint32_t nanosecond)
 {
     return ((hour * 60ULL + minute) * 60ULL + second) * 1000000000ULL + nanosecond;
 }
@@ -169,20 +169,20 @@ static void days(void)
         is_date(fots_date_from_iso_week_date(rows[k].iso_year, rows[k].week, rows[k].weekday), date, "a row by week date");
         is_date(fots_date_from_julian_day(julian_day), date, "a row by Julian day");
         is_number(fots_date_year(date), rows[k].year, "the year of a row");
-        is_part(fots_date_month(date), rows[k].month, "the month of a row");
-        is_part(fots_date_day(date), rows[k].day, "the day of a row");
-        is_part(fots_date_ordinal(date), rows[k].ordinal, "the ordinal of a row");
-        is_part(fots_date_iso_week(date), rows[k].week, "the week of a row");
-        is_part(fots_date_weekday(date), rows[k].weekday, "the weekday of a row");
+        is_component(fots_date_month(date), rows[k].month, "the month of a row");
+        is_component(fots_date_day(date), rows[k].day, "the day of a row");
+        is_component(fots_date_ordinal(date), rows[k].ordinal, "the ordinal of a row");
+        is_component(fots_date_iso_week(date), rows[k].week, "the week of a row");
+        is_component(fots_date_weekday(date), rows[k].weekday, "the weekday of a row");
     }
-    is_part(fots_date_sunday_based_week(day_of(2019, 1, 1)), 0, "Sundays");
-    is_part(fots_date_monday_based_week(day_of(2019, 1, 1)), 0, "Mondays");
-    is_part(fots_date_sunday_based_week(day_of(2020, 12, 31)), 52, "Sundays");
-    is_part(fots_date_monday_based_week(day_of(2020, 12, 31)), 52, "Mondays");
+    is_component(fots_date_sunday_based_week(date_of(2019, 1, 1)), 0, "Sundays");
+    is_component(fots_date_monday_based_week(date_of(2019, 1, 1)), 0, "Mondays");
+    is_component(fots_date_sunday_based_week(date_of(2020, 12, 31)), 52, "Sundays");
+    is_component(fots_date_monday_based_week(date_of(2020, 12, 31)), 52, "Mondays");
 }
 
 /* Errors with their names. */
-static void refusals(void)
+static void errors(void)
 {
     is_no_date(fots_date_from_julian_day(-363521075), FOTS_JULIAN_DAY_OUT_OF_RANGE, "before the first day");
     is_no_date(fots_date_from_julian_day(366963560), FOTS_JULIAN_DAY_OUT_OF_RANGE, "after the last day");
@@ -203,24 +203,24 @@ static void refusals(void)
     is_no_date(fots_date_from_iso_week_date(2019, 53, 1), FOTS_WEEK_OUT_OF_RANGE, "2019-W53-1");
     is_no_date(fots_date_from_iso_week_date(2020, 257, 1), FOTS_WEEK_OUT_OF_RANGE, "2020-W257-1");
     is_no_date(fots_date_from_iso_week_date(1000000, 0, 0), FOTS_INVALID_WEEKDAY, "1000000-W00-0");
-    is_no_date(fots_date_replace_year(day_of(2024, 2, 29), 2023), FOTS_DAY_OUT_OF_RANGE, "29 February of 2023");
-    is_no_date(fots_date_replace_year(day_of(2024, 2, 29), 1000000), FOTS_YEAR_OUT_OF_RANGE, "29 February of 1000000");
-    is_no_date(fots_date_replace_month(day_of(2022, 1, 30), 2), FOTS_DAY_OUT_OF_RANGE, "30 February");
-    is_no_date(fots_date_replace_month(day_of(2022, 1, 30), 0), FOTS_MONTH_OUT_OF_RANGE, "month 0");
-    is_no_date(fots_date_replace_day(day_of(2022, 2, 18), 30), FOTS_DAY_OUT_OF_RANGE, "30 February");
-    is_no_date(fots_date_replace_day(day_of(2022, 2, 18), 0), FOTS_DAY_OUT_OF_RANGE, "0 February");
-    is_no_date(fots_date_replace_ordinal(day_of(2022, 2, 18), 366), FOTS_ORDINAL_OUT_OF_RANGE, "ordinal 366 of 2022");
-    is_date(fots_date_replace_year(day_of(2024, 2, 29), 10000), day_of(10000, 2, 29), "29 February of 10000");
-    is_date(fots_date_replace_year(day_of(2024, 3, 1), 2023), day_of(2023, 3, 1), "1 March of 2023");
-    is_date(fots_date_replace_year(day_of(2023, 3, 1), 2024), day_of(2024, 3, 1), "1 March of 2024");
-    is_date(fots_date_replace_year(day_of(2022, 2, 18), 2019), day_of(2019, 2, 18), "18 February of 2019");
-    is_date(fots_date_replace_month(day_of(2022, 2, 18), 3), day_of(2022, 3, 18), "18 March");
-    is_date(fots_date_replace_day(day_of(2022, 2, 18), 1), day_of(2022, 2, 1), "1 February");
-    is_date(fots_date_replace_ordinal(day_of(2022, 2, 18), 1), day_of(2022, 1, 1), "1 January");
+    is_no_date(fots_date_replace_year(date_of(2024, 2, 29), 2023), FOTS_DAY_OUT_OF_RANGE, "29 February of 2023");
+    is_no_date(fots_date_replace_year(date_of(2024, 2, 29), 1000000), FOTS_YEAR_OUT_OF_RANGE, "29 February of 1000000");
+    is_no_date(fots_date_replace_month(date_of(2022, 1, 30), 2), FOTS_DAY_OUT_OF_RANGE, "30 February");
+    is_no_date(fots_date_replace_month(date_of(2022, 1, 30), 0), FOTS_MONTH_OUT_OF_RANGE, "month 0");
+    is_no_date(fots_date_replace_day(date_of(2022, 2, 18), 30), FOTS_DAY_OUT_OF_RANGE, "30 February");
+    is_no_date(fots_date_replace_day(date_of(2022, 2, 18), 0), FOTS_DAY_OUT_OF_RANGE, "0 February");
+    is_no_date(fots_date_replace_ordinal(date_of(2022, 2, 18), 366), FOTS_ORDINAL_OUT_OF_RANGE, "ordinal 366 of 2022");
+    is_date(fots_date_replace_year(date_of(2024, 2, 29), 10000), date_of(10000, 2, 29), "29 February of 10000");
+    is_date(fots_date_replace_year(date_of(2024, 3, 1), 2023), date_of(2023, 3, 1), "1 March of 2023");
+    is_date(fots_date_replace_year(date_of(2023, 3, 1), 2024), date_of(2024, 3, 1), "1 March of 2024");
+    is_date(fots_date_replace_year(date_of(2022, 2, 18), 2019), date_of(2019, 2, 18), "18 February of 2019");
+    is_date(fots_date_replace_month(date_of(2022, 2, 18), 3), date_of(2022, 3, 18), "18 March");
+    is_date(fots_date_replace_day(date_of(2022, 2, 18), 1), date_of(2022, 2, 1), "1 February");
+    is_date(fots_date_replace_ordinal(date_of(2022, 2, 18), 1), date_of(2022, 1, 1), "1 January");
 }
 
 /* Moved days. */
-static void moves(void)
+static void arithmetic(void)
 {
     fots_date first = date_at(FOTS_MIN_JULIAN_DAY), last = date_at(FOTS_MAX_JULIAN_DAY);
     is_date(fots_date_checked_add(first, seconds(-23 * 3600)), first, "23 hours before the first day");
@@ -228,31 +228,31 @@ static void moves(void)
     is_date(fots_date_checked_sub(first, seconds(23 * 3600)), first, "23 hours before the first day");
     is_date(fots_date_checked_add(last, seconds(23 * 3600)), last, "23 hours after the last day");
     is_no_date(fots_date_checked_add(last, seconds(DAY)), FOTS_RESULT_OUT_OF_RANGE, "a day after the last day");
-    is_date(fots_date_saturating_add(last, seconds(DAY)), last, "held at the last day");
-    is_date(fots_date_saturating_sub(first, seconds(DAY)), first, "held at the first day");
-    is_date(fots_date_saturating_sub(first, least), last, "held at the last day");
-    is_date(fots_date_saturating_add(last, least), first, "held at the first day");
-    is_date(fots_date_checked_add(day_of(2020, 12, 31), seconds(47 * 3600)), day_of(2021, 1, 1), "47 hours after");
-    is_date(fots_date_checked_sub(day_of(2020, 12, 31), seconds(47 * 3600)), day_of(2020, 12, 30), "47 hours before");
-    is_date(fots_date_next_day(day_of(2019, 12, 31)), day_of(2020, 1, 1), "the day after");
-    is_date(fots_date_previous_day(day_of(2020, 1, 1)), day_of(2019, 12, 31), "the day before");
-    is_date(fots_date_next_day(day_of(9999, 12, 31)), day_of(10000, 1, 1), "the day after");
+    is_date(fots_date_saturating_add(last, seconds(DAY)), last, "clamped to the last day");
+    is_date(fots_date_saturating_sub(first, seconds(DAY)), first, "clamped to the first day");
+    is_date(fots_date_saturating_sub(first, min_duration), last, "clamped to the last day");
+    is_date(fots_date_saturating_add(last, min_duration), first, "clamped to the first day");
+    is_date(fots_date_checked_add(date_of(2020, 12, 31), seconds(47 * 3600)), date_of(2021, 1, 1), "47 hours after");
+    is_date(fots_date_checked_sub(date_of(2020, 12, 31), seconds(47 * 3600)), date_of(2020, 12, 30), "47 hours before");
+    is_date(fots_date_next_day(date_of(2019, 12, 31)), date_of(2020, 1, 1), "the day after");
+    is_date(fots_date_previous_day(date_of(2020, 1, 1)), date_of(2019, 12, 31), "the day before");
+    is_date(fots_date_next_day(date_of(9999, 12, 31)), date_of(10000, 1, 1), "the day after");
     is_no_date(fots_date_next_day(last), FOTS_RESULT_OUT_OF_RANGE, "after the last day");
     is_no_date(fots_date_previous_day(first), FOTS_RESULT_OUT_OF_RANGE, "before the first day");
     is_date(fots_date_add_days(first, 730484633), last, "the last day from the first");
     is_date(fots_date_add_days(last, -730484633), first, "the first day from the last");
     is_no_date(fots_date_add_days(last, INT64_MAX), FOTS_RESULT_OUT_OF_RANGE, "days past an i64");
     is_no_date(fots_date_add_days(first, INT64_MIN), FOTS_RESULT_OUT_OF_RANGE, "days past an i64");
-    is_duration(fots_date_duration_since(day_of(2020, 1, 1), day_of(2019, 12, 31)), seconds(DAY), "a day between");
+    is_duration(fots_date_duration_since(date_of(2020, 1, 1), date_of(2019, 12, 31)), seconds(DAY), "a day between");
     is_duration(fots_date_duration_since(first, last), seconds(-730484633 * DAY), "the whole range");
-    is_date(fots_date_next_occurrence(day_of(2023, 6, 28), 1), day_of(2023, 7, 3), "the next Monday");
-    is_date(fots_date_prev_occurrence(day_of(2023, 6, 19), 1), day_of(2023, 6, 12), "the Monday before");
-    is_date(fots_date_nth_next_occurrence(day_of(2023, 6, 25), 1, 5), day_of(2023, 7, 24), "the fifth Monday after");
-    is_date(fots_date_nth_next_occurrence(day_of(2023, 6, 26), 1, 5), day_of(2023, 7, 31), "the fifth Monday after a Monday");
-    is_date(fots_date_nth_prev_occurrence(day_of(2023, 6, 27), 1, 3), day_of(2023, 6, 12), "the third Monday before");
-    is_date(fots_date_nth_prev_occurrence(day_of(2023, 6, 26), 1, 3), day_of(2023, 6, 5), "the third Monday before a Monday");
-    is_no_date(fots_date_nth_next_occurrence(day_of(2023, 6, 26), 1, 0), FOTS_RESULT_OUT_OF_RANGE, "the Monday of count 0");
-    is_no_date(fots_date_nth_next_occurrence(day_of(2023, 6, 26), 1, 257), FOTS_INVALID_COUNT, "count 257");
+    is_date(fots_date_next_occurrence(date_of(2023, 6, 28), 1), date_of(2023, 7, 3), "the next Monday");
+    is_date(fots_date_prev_occurrence(date_of(2023, 6, 19), 1), date_of(2023, 6, 12), "the Monday before");
+    is_date(fots_date_nth_next_occurrence(date_of(2023, 6, 25), 1, 5), date_of(2023, 7, 24), "the fifth Monday after");
+    is_date(fots_date_nth_next_occurrence(date_of(2023, 6, 26), 1, 5), date_of(2023, 7, 31), "the fifth Monday after a Monday");
+    is_date(fots_date_nth_prev_occurrence(date_of(2023, 6, 27), 1, 3), date_of(2023, 6, 12), "the third Monday before");
+    is_date(fots_date_nth_prev_occurrence(date_of(2023, 6, 26), 1, 3), date_of(2023, 6, 5), "the third Monday before a Monday");
+    is_no_date(fots_date_nth_next_occurrence(date_of(2023, 6, 26), 1, 0), FOTS_RESULT_OUT_OF_RANGE, "the Monday of count 0");
+    is_no_date(fots_date_nth_next_occurrence(date_of(2023, 6, 26), 1, 257), FOTS_INVALID_COUNT, "count 257");
     for (uint32_t weekday = 1; weekday <= 7; weekday++) {
         is_no_date(fots_date_next_occurrence(last, weekday), FOTS_RESULT_OUT_OF_RANGE, "a weekday after the last day");
         is_no_date(fots_date_prev_occurrence(first, weekday), FOTS_RESULT_OUT_OF_RANGE, "a weekday before the first day");
@@ -266,30 +266,30 @@ static void durations(void)
     fots_int64_result whole;
     is_duration(fots_duration_new(1, 2000000000), seconds(3), "1 s and 2000000000 ns");
     is_duration(fots_duration_new(-1, 1), nanoseconds(-999999999), "-1 s and 1 ns");
-    is_no_duration(fots_duration_new(INT64_MAX, 1000000000), FOTS_RESULT_OUT_OF_RANGE, "past the greatest");
-    is_duration(fots_duration_new(INT64_MIN, 1), both(INT64_MIN + 1, -999999999), "the least and 1 ns");
-    is_duration(fots_duration_saturating_sub(zero, least), greatest, "zero less the least");
-    is_duration(fots_duration_checked_sub(nanoseconds(-1), seconds(INT64_MIN)), greatest, "-1 ns less the least seconds");
-    is_no_duration(fots_duration_checked_sub(least, nanoseconds(1)), FOTS_RESULT_OUT_OF_RANGE, "the least less 1 ns");
-    is_duration(fots_duration_checked_add(greatest, least), seconds(-1), "the greatest and the least");
-    is_no_duration(fots_duration_checked_add(greatest, nanoseconds(1)), FOTS_RESULT_OUT_OF_RANGE, "the greatest and 1 ns");
-    is_duration(fots_duration_saturating_add(greatest, nanoseconds(1)), greatest, "held at the greatest");
-    is_duration(fots_duration_saturating_mul(long_one, -3), greatest, "a product held at the greatest");
-    is_no_duration(fots_duration_checked_mul(long_one, -3), FOTS_RESULT_OUT_OF_RANGE, "a product past the greatest");
-    is_duration(fots_duration_saturating_mul(least, -2), greatest, "the least times -2");
-    is_duration(fots_duration_saturating_mul(greatest, -2), least, "the greatest times -2");
+    is_no_duration(fots_duration_new(INT64_MAX, 1000000000), FOTS_RESULT_OUT_OF_RANGE, "past the maximum");
+    is_duration(fots_duration_new(INT64_MIN, 1), both(INT64_MIN + 1, -999999999), "the minimum and 1 ns");
+    is_duration(fots_duration_saturating_sub(zero, min_duration), max_duration, "zero less the minimum");
+    is_duration(fots_duration_checked_sub(nanoseconds(-1), seconds(INT64_MIN)), max_duration, "-1 ns less the minimum seconds");
+    is_no_duration(fots_duration_checked_sub(min_duration, nanoseconds(1)), FOTS_RESULT_OUT_OF_RANGE, "the minimum less 1 ns");
+    is_duration(fots_duration_checked_add(max_duration, min_duration), seconds(-1), "the maximum and the minimum");
+    is_no_duration(fots_duration_checked_add(max_duration, nanoseconds(1)), FOTS_RESULT_OUT_OF_RANGE, "the maximum and 1 ns");
+    is_duration(fots_duration_saturating_add(max_duration, nanoseconds(1)), max_duration, "clamped to the maximum");
+    is_duration(fots_duration_saturating_mul(long_one, -3), max_duration, "a product clamped to the maximum");
+    is_no_duration(fots_duration_checked_mul(long_one, -3), FOTS_RESULT_OUT_OF_RANGE, "a product past the maximum");
+    is_duration(fots_duration_saturating_mul(min_duration, -2), max_duration, "the minimum times -2");
+    is_duration(fots_duration_saturating_mul(max_duration, -2), min_duration, "the maximum times -2");
     is_duration(fots_duration_checked_mul(seconds(1), 200), seconds(200), "200 s");
     is_duration(fots_duration_checked_div(both(-7, -500000000), 2), both(-3, -750000000), "half of -7.5 s");
     is_duration(fots_duration_checked_div(nanoseconds(-1), 2), zero, "half of -1 ns");
     is_no_duration(fots_duration_checked_div(seconds(1), 0), FOTS_RESULT_OUT_OF_RANGE, "a second by 0");
-    is_no_duration(fots_duration_checked_div(seconds(INT64_MIN), -1), FOTS_RESULT_OUT_OF_RANGE, "the least seconds by -1");
-    is_no_duration(fots_duration_checked_neg(least), FOTS_RESULT_OUT_OF_RANGE, "the least negated");
+    is_no_duration(fots_duration_checked_div(seconds(INT64_MIN), -1), FOTS_RESULT_OUT_OF_RANGE, "the minimum seconds by -1");
+    is_no_duration(fots_duration_checked_neg(min_duration), FOTS_RESULT_OUT_OF_RANGE, "the minimum negated");
     is_duration(fots_duration_checked_neg(seconds(1)), seconds(-1), "a second negated");
-    is_duration(fots_duration_abs(least), greatest, "the magnitude of the least");
+    is_duration(fots_duration_abs(min_duration), max_duration, "the magnitude of the minimum");
     is_duration(fots_duration_days(-3), seconds(-259200), "-3 days");
     is_duration(fots_duration_days(106751991167300), seconds(106751991167300 * DAY), "the most days");
     is_no_duration(fots_duration_days(106751991167301), FOTS_RESULT_OUT_OF_RANGE, "one day more");
-    is_duration(fots_duration_weeks(-15250284452471), seconds(-15250284452471 * 7 * DAY), "the least weeks");
+    is_duration(fots_duration_weeks(-15250284452471), seconds(-15250284452471 * 7 * DAY), "the minimum weeks");
     is_no_duration(fots_duration_weeks(-15250284452472), FOTS_RESULT_OUT_OF_RANGE, "one week less");
     is_no_duration(fots_duration_hours(2562047788015216), FOTS_RESULT_OUT_OF_RANGE, "too many hours");
     is_no_duration(fots_duration_minutes(-153722867280912931), FOTS_RESULT_OUT_OF_RANGE, "too few minutes");
@@ -308,7 +308,7 @@ static void durations(void)
     check(whole.status == FOTS_RESULT_OUT_OF_RANGE && whole.number == INT64_MIN, "one second more", whole.status, whole.number);
     is_number(fots_duration_subsec_milliseconds(both(-1, -500000000)), -500, "-500 ms past the second");
     is_number(fots_duration_subsec_microseconds(both(1, 2500)), 2, "2 us past the second");
-    is_number(fots_duration_compare(least, greatest), -1, "the least and the greatest");
+    is_number(fots_duration_compare(min_duration, max_duration), -1, "the minimum and the maximum");
     is_number(fots_duration_compare(zero, zero), 0, "zero and zero");
     is_number(fots_duration_compare(nanoseconds(1), nanoseconds(-1)), 1, "1 ns and -1 ns");
 }
@@ -316,7 +316,7 @@ static void durations(void)
 /* Times of day, and dates with times. */
 static void times(void)
 {
-    fots_time noon = clock_of(12, 0, 0, 0), one = clock_of(1, 2, 3, 4005006);
+    fots_time noon = time_of(12, 0, 0, 0), one = time_of(1, 2, 3, 4005006);
     fots_adjusted_time_result adjusted;
     fots_pair_result pair;
     check(fots_time_from_hms_micro(0, 0, 0, 4294968).status == FOTS_MICROSECOND_OUT_OF_RANGE, "4294968 us", 0, 0);
@@ -327,40 +327,40 @@ static void times(void)
     check(fots_time_from_hms_nano(23, 59, 59, 1000000000).status == FOTS_NANOSECOND_OUT_OF_RANGE, "1000000000 ns", 0, 0);
     is_time(fots_time_from_hms_nano(23, 59, 59, 999999999), FOTS_MAX_TIME, "the last nanosecond");
     is_time(fots_time_from_hms_nano(1, 2, 3, 4005006), one, "1:02:03.004005006");
-    is_duration(fots_time_duration_until(clock_of(23, 59, 59, 500000000), 200000000), nanoseconds(700000000), "until 0:00:00.2");
-    is_duration(fots_time_duration_until(clock_of(23, 0, 0, 0), clock_of(1, 0, 0, 0)), seconds(7200), "until 1:00");
-    is_duration(fots_time_duration_since(0, clock_of(23, 0, 0, 0)), seconds(3600), "since 23:00");
-    adjusted = fots_time_adjusting_add(0, least);
-    check(adjusted.status == FOTS_OK && adjusted.carry == -1 && adjusted.time == clock_of(8, 29, 51, 1),
-        "midnight and the least duration", adjusted.carry, (long long)adjusted.time);
-    adjusted = fots_time_adjusting_sub(0, least);
-    check(adjusted.status == FOTS_OK && adjusted.carry == 0 && adjusted.time == clock_of(15, 30, 8, 999999999),
-        "midnight less the least duration", adjusted.carry, (long long)adjusted.time);
-    is_time(fots_time_sub(clock_of(0, 0, 1, 0), seconds(2)), clock_of(23, 59, 59, 0), "two seconds before 0:00:01");
-    is_time(fots_time_add(clock_of(23, 0, 0, 0), seconds(26 * 3600)), clock_of(1, 0, 0, 0), "26 hours after 23:00");
-    is_time(fots_time_replace_microsecond(one, 7008), clock_of(1, 2, 3, 7008000), "7008 us");
-    is_time(fots_time_replace_hour(one, 7), clock_of(7, 2, 3, 4005006), "hour 7");
-    is_time(fots_time_truncate_to_hour(one), clock_of(1, 0, 0, 0), "cut to the hour");
-    is_time(fots_time_truncate_to_minute(one), clock_of(1, 2, 0, 0), "cut to the minute");
-    is_time(fots_time_truncate_to_second(one), clock_of(1, 2, 3, 0), "cut to the second");
-    is_time(fots_time_truncate_to_millisecond(one), clock_of(1, 2, 3, 4000000), "cut to the millisecond");
-    is_time(fots_time_truncate_to_microsecond(one), clock_of(1, 2, 3, 4005000), "cut to the microsecond");
-    is_time(fots_time_truncate_to_hour(FOTS_MAX_TIME), clock_of(23, 0, 0, 0), "the last hour");
-    is_duration(fots_time_difference(0, clock_of(23, 0, 0, 0)), seconds(-23 * 3600), "0:00 less 23:00");
+    is_duration(fots_time_duration_until(time_of(23, 59, 59, 500000000), 200000000), nanoseconds(700000000), "until 0:00:00.2");
+    is_duration(fots_time_duration_until(time_of(23, 0, 0, 0), time_of(1, 0, 0, 0)), seconds(7200), "until 1:00");
+    is_duration(fots_time_duration_since(0, time_of(23, 0, 0, 0)), seconds(3600), "since 23:00");
+    adjusted = fots_time_adjusting_add(0, min_duration);
+    check(adjusted.status == FOTS_OK && adjusted.carry == -1 && adjusted.time == time_of(8, 29, 51, 1),
+        "midnight and the minimum duration", adjusted.carry, (long long)adjusted.time);
+    adjusted = fots_time_adjusting_sub(0, min_duration);
+    check(adjusted.status == FOTS_OK && adjusted.carry == 0 && adjusted.time == time_of(15, 30, 8, 999999999),
+        "midnight less the minimum duration", adjusted.carry, (long long)adjusted.time);
+    is_time(fots_time_sub(time_of(0, 0, 1, 0), seconds(2)), time_of(23, 59, 59, 0), "two seconds before 0:00:01");
+    is_time(fots_time_add(time_of(23, 0, 0, 0), seconds(26 * 3600)), time_of(1, 0, 0, 0), "26 hours after 23:00");
+    is_time(fots_time_replace_microsecond(one, 7008), time_of(1, 2, 3, 7008000), "7008 us");
+    is_time(fots_time_replace_hour(one, 7), time_of(7, 2, 3, 4005006), "hour 7");
+    is_time(fots_time_truncate_to_hour(one), time_of(1, 0, 0, 0), "truncated to the hour");
+    is_time(fots_time_truncate_to_minute(one), time_of(1, 2, 0, 0), "truncated to the minute");
+    is_time(fots_time_truncate_to_second(one), time_of(1, 2, 3, 0), "truncated to the second");
+    is_time(fots_time_truncate_to_millisecond(one), time_of(1, 2, 3, 4000000), "truncated to the millisecond");
+    is_time(fots_time_truncate_to_microsecond(one), time_of(1, 2, 3, 4005000), "truncated to the microsecond");
+    is_time(fots_time_truncate_to_hour(FOTS_MAX_TIME), time_of(23, 0, 0, 0), "the last hour");
+    is_duration(fots_time_difference(0, time_of(23, 0, 0, 0)), seconds(-23 * 3600), "0:00 less 23:00");
     is_duration(fots_time_difference(FOTS_MAX_TIME, 0), both(86399, 999999999), "the last nanosecond less midnight");
     is_duration(fots_time_difference(one, one), zero, "a time less itself");
-    is_part(fots_time_millisecond(one), 4, "the millisecond");
-    is_part(fots_time_microsecond(one), 4005, "the microsecond");
-    is_part(fots_time_nanosecond(one), 4005006, "the nanosecond");
+    is_component(fots_time_millisecond(one), 4, "the millisecond");
+    is_component(fots_time_microsecond(one), 4005, "the microsecond");
+    is_component(fots_time_nanosecond(one), 4005006, "the nanosecond");
     check(fots_add_to_pair(date_at(FOTS_MAX_JULIAN_DAY), FOTS_MAX_TIME, nanoseconds(1)).status == FOTS_RESULT_OUT_OF_RANGE,
         "past the last moment", 0, 0);
     check(fots_sub_from_pair(date_at(FOTS_MIN_JULIAN_DAY), noon, seconds(13 * 3600)).status == FOTS_RESULT_OUT_OF_RANGE,
         "before the first moment", 0, 0);
-    pair = fots_add_to_pair(day_of(2020, 12, 31), clock_of(23, 0, 0, 0), seconds(7200));
-    check(pair.status == FOTS_OK && pair.date.julian_day == 2459216 && pair.time == clock_of(1, 0, 0, 0), "two hours later",
+    pair = fots_add_to_pair(date_of(2020, 12, 31), time_of(23, 0, 0, 0), seconds(7200));
+    check(pair.status == FOTS_OK && pair.date.julian_day == 2459216 && pair.time == time_of(1, 0, 0, 0), "two hours later",
         pair.date.julian_day, (long long)pair.time);
-    pair = fots_sub_from_pair(day_of(2021, 1, 1), clock_of(1, 0, 0, 0), seconds(7200));
-    check(pair.status == FOTS_OK && pair.date.julian_day == 2459215 && pair.time == clock_of(23, 0, 0, 0), "two hours earlier",
+    pair = fots_sub_from_pair(date_of(2021, 1, 1), time_of(1, 0, 0, 0), seconds(7200));
+    check(pair.status == FOTS_OK && pair.date.julian_day == 2459215 && pair.time == time_of(23, 0, 0, 0), "two hours earlier",
         pair.date.julian_day, (long long)pair.time);
 }
 
@@ -400,16 +400,16 @@ static void offsets(void)
 /* Months, weekdays and years. */
 static void cycles(void)
 {
-    is_part(fots_month_length(2, 2000), 29, "February of 2000");
-    is_part(fots_month_length(2, 1900), 28, "February of 1900");
-    is_part(fots_month_nth_next(7, 9), 4, "nine months after July");
-    is_part(fots_month_nth_next(1, 255), 4, "255 months after January");
-    is_part(fots_month_nth_prev(7, 9), 10, "nine months before July");
-    is_part(fots_month_nth_prev(1, 4), 9, "four months before January");
-    is_part(fots_weekday_nth_next(7, 10), 3, "ten days after Sunday");
-    is_part(fots_weekday_nth_prev(7, 10), 4, "ten days before Sunday");
-    is_part(fots_weekday_number_from_sunday(5), 6, "Friday from Sunday");
-    is_part(fots_weekday_number_from_sunday(7), 1, "Sunday from Sunday");
+    is_component(fots_month_length(2, 2000), 29, "February of 2000");
+    is_component(fots_month_length(2, 1900), 28, "February of 1900");
+    is_component(fots_month_nth_next(7, 9), 4, "nine months after July");
+    is_component(fots_month_nth_next(1, 255), 4, "255 months after January");
+    is_component(fots_month_nth_prev(7, 9), 10, "nine months before July");
+    is_component(fots_month_nth_prev(1, 4), 9, "four months before January");
+    is_component(fots_weekday_nth_next(7, 10), 3, "ten days after Sunday");
+    is_component(fots_weekday_nth_prev(7, 10), 4, "ten days before Sunday");
+    is_component(fots_weekday_number_from_sunday(5), 6, "Friday from Sunday");
+    is_component(fots_weekday_number_from_sunday(7), 1, "Sunday from Sunday");
     check(fots_month_nth_next(0, 1).status == FOTS_MONTH_OUT_OF_RANGE && fots_month_nth_next(13, 1).status == FOTS_MONTH_OUT_OF_RANGE, "no month", 0, 0);
     check(fots_is_leap_year(2000) == 1 && fots_is_leap_year(1900) == 0 && fots_is_leap_year(INT32_MIN) == 1, "leap years", 0, 0);
     check(fots_days_in_year(2020) == 366 && fots_days_in_year(2019) == 365, "days of a year", 0, 0);
@@ -439,17 +439,17 @@ static void texts_of_days(void)
         is_text(fots_date_ordinal_text(date), rows[k].ordinal, rows[k].ordinal);
         is_text(fots_date_week_text(date), rows[k].week, rows[k].week);
         is_text(fots_date_julian_text(date), rows[k].julian, rows[k].julian);
-        is_read(fots_date_parse(rows[k].calendar, strlen(rows[k].calendar)), date, rows[k].calendar);
-        is_read(fots_date_parse(rows[k].ordinal, strlen(rows[k].ordinal)), date, rows[k].ordinal);
-        is_read(fots_date_parse(rows[k].week, strlen(rows[k].week)), date, rows[k].week);
-        is_read(fots_julian_day_parse(rows[k].julian, strlen(rows[k].julian)), date, rows[k].julian);
+        is_parsed(fots_date_parse(rows[k].calendar, strlen(rows[k].calendar)), date, rows[k].calendar);
+        is_parsed(fots_date_parse(rows[k].ordinal, strlen(rows[k].ordinal)), date, rows[k].ordinal);
+        is_parsed(fots_date_parse(rows[k].week, strlen(rows[k].week)), date, rows[k].week);
+        is_parsed(fots_julian_day_parse(rows[k].julian, strlen(rows[k].julian)), date, rows[k].julian);
     }
-    is_read(fots_date_parse("2024-060-", 8), date_at(2460370), "no byte after the length is looked at");
+    is_parsed(fots_date_parse("2024-060-", 8), date_at(2460370), "no byte after the length is looked at");
     is_no_text(fots_date_calendar_text(date_at(FOTS_MAX_JULIAN_DAY + 1)), FOTS_INVALID_DATE, "the text of no date");
 }
 
 /* Texts that are not days, with the position or the component. */
-static void refused_texts_of_days(void)
+static void invalid_texts_of_days(void)
 {
     static const struct {
         const char *text;
@@ -475,11 +475,11 @@ static void refused_texts_of_days(void)
         {"J2460370 ", FOTS_UNEXPECTED_BYTE, 8}, {"J366963560", FOTS_JULIAN_DAY_OUT_OF_RANGE, SIZE_MAX}, {"J-363521075", FOTS_JULIAN_DAY_OUT_OF_RANGE, SIZE_MAX},
     };
     for (int k = 0; k < COUNT(rows); k++) {
-        is_not_read(fots_date_parse(rows[k].text, strlen(rows[k].text)), rows[k].status, rows[k].position, rows[k].text);
+        is_parse_error(fots_date_parse(rows[k].text, strlen(rows[k].text)), rows[k].status, rows[k].position, rows[k].text);
     }
     for (int k = 0; k < COUNT(julian_days); k++) {
         const char *text = julian_days[k].text;
-        is_not_read(fots_julian_day_parse(text, strlen(text)), julian_days[k].status, julian_days[k].position, text);
+        is_parse_error(fots_julian_day_parse(text, strlen(text)), julian_days[k].status, julian_days[k].position, text);
     }
 }
 
@@ -504,7 +504,7 @@ static void texts_of_moments(void)
         const char *text;
         int32_t status;
         size_t position;
-    } refused[] = {
+    } invalid[] = {
         {"1990-12-31T23:59:60Z", FOTS_SECOND_OUT_OF_RANGE, SIZE_MAX}, {"1990-12-31T15:59:60-08:00", FOTS_SECOND_OUT_OF_RANGE, SIZE_MAX},
         {"2024-00-99T99:99:99Z", FOTS_MONTH_OUT_OF_RANGE, SIZE_MAX}, {"2023-02-29T24:00:00Z", FOTS_DAY_OUT_OF_RANGE, SIZE_MAX},
         {"2024-02-29T24:60:60Z", FOTS_HOUR_OUT_OF_RANGE, SIZE_MAX}, {"2024-02-29T23:60:60+24:00", FOTS_MINUTE_OUT_OF_RANGE, SIZE_MAX},
@@ -515,20 +515,20 @@ static void texts_of_moments(void)
         {"2024-02-29T00:00:00Z ", FOTS_UNEXPECTED_BYTE, 20}, {"2024-02-29T00:00:00+0100", FOTS_UNEXPECTED_BYTE, 22},
     };
     for (int k = 0; k < COUNT(rows); k++) {
-        fots_date date = day_of(rows[k].year, rows[k].month, rows[k].day);
+        fots_date date = date_of(rows[k].year, rows[k].month, rows[k].day);
         fots_offset offset = offset_at(rows[k].offset);
-        fots_time time = clock_of(rows[k].hour, rows[k].minute, rows[k].second, rows[k].nanosecond);
+        fots_time time = time_of(rows[k].hour, rows[k].minute, rows[k].second, rows[k].nanosecond);
         is_moment(fots_moment_parse(rows[k].text, strlen(rows[k].text)), date, time, offset, rows[k].text);
         is_text(fots_moment_text(date, time, offset), rows[k].printed, rows[k].printed);
     }
-    for (int k = 0; k < COUNT(refused); k++) {
-        const char *text = refused[k].text;
-        is_no_moment(fots_moment_parse(text, strlen(text)), refused[k].status, refused[k].position, text);
+    for (int k = 0; k < COUNT(invalid); k++) {
+        const char *text = invalid[k].text;
+        is_no_moment(fots_moment_parse(text, strlen(text)), invalid[k].status, invalid[k].position, text);
     }
-    is_no_text(fots_moment_text(day_of(10000, 1, 1), 0, offset_at(0)), FOTS_RESULT_OUT_OF_RANGE, "a moment of the year 10000");
-    is_no_text(fots_moment_text(day_of(-1, 12, 31), 0, offset_at(0)), FOTS_RESULT_OUT_OF_RANGE, "a moment of the year -1");
-    is_no_text(fots_moment_text(day_of(2024, 2, 29), 0, offset_at(86400)), FOTS_RESULT_OUT_OF_RANGE, "an offset of a day");
-    is_no_text(fots_moment_text(day_of(2024, 2, 29), 0, offset_at(-1)), FOTS_RESULT_OUT_OF_RANGE, "an offset with seconds");
+    is_no_text(fots_moment_text(date_of(10000, 1, 1), 0, offset_at(0)), FOTS_RESULT_OUT_OF_RANGE, "a moment of the year 10000");
+    is_no_text(fots_moment_text(date_of(-1, 12, 31), 0, offset_at(0)), FOTS_RESULT_OUT_OF_RANGE, "a moment of the year -1");
+    is_no_text(fots_moment_text(date_of(2024, 2, 29), 0, offset_at(86400)), FOTS_RESULT_OUT_OF_RANGE, "an offset of a day");
+    is_no_text(fots_moment_text(date_of(2024, 2, 29), 0, offset_at(-1)), FOTS_RESULT_OUT_OF_RANGE, "an offset with seconds");
     is_no_text(fots_moment_text(date_at(FOTS_NO_VALUE), FOTS_NO_TIME, offset_at(FOTS_NO_VALUE)), FOTS_INVALID_DATE, "no date first");
     is_no_text(fots_moment_text(date_at(2460370), FOTS_NO_TIME, offset_at(FOTS_NO_VALUE)), FOTS_INVALID_TIME, "no time second");
     is_no_text(fots_moment_text(date_at(FOTS_MAX_JULIAN_DAY), 0, offset_at(FOTS_NO_VALUE)), FOTS_INVALID_OFFSET,
@@ -560,7 +560,7 @@ static void unix_times(void)
         const char *text;
         int32_t status;
         size_t position;
-    } refused[] = {
+    } invalid[] = {
         {"@31494784780800", FOTS_TIMESTAMP_OUT_OF_RANGE, SIZE_MAX}, {"@-31619087596800.000000001", FOTS_TIMESTAMP_OUT_OF_RANGE, SIZE_MAX},
         {"@999999999999999999", FOTS_TIMESTAMP_OUT_OF_RANGE, SIZE_MAX}, {"", FOTS_UNEXPECTED_END, 0}, {"@", FOTS_UNEXPECTED_END, 1},
         {"@+1", FOTS_UNEXPECTED_BYTE, 1}, {"@01", FOTS_UNEXPECTED_BYTE, 2}, {"@-0", FOTS_UNEXPECTED_END, 3}, {"@-0.0", FOTS_UNEXPECTED_END, 5},
@@ -582,15 +582,15 @@ static void unix_times(void)
         }
     }
     is_moment(fots_unix_parse("@1709164800.50", 14), date_at(2460370), 500000000, offset_at(0), "a zero at the end");
-    for (int k = 0; k < COUNT(refused); k++) {
-        const char *text = refused[k].text;
-        is_no_moment(fots_unix_parse(text, strlen(text)), refused[k].status, refused[k].position, text);
+    for (int k = 0; k < COUNT(invalid); k++) {
+        const char *text = invalid[k].text;
+        is_no_moment(fots_unix_parse(text, strlen(text)), invalid[k].status, invalid[k].position, text);
     }
     pair = fots_unix_pair(seconds(31494784780799), offset_at(3600));
     check(pair.status == FOTS_RESULT_OUT_OF_RANGE && pair.date.julian_day == FOTS_NO_VALUE && pair.time == FOTS_NO_TIME, "past the last day",
         pair.date.julian_day, 0);
     check(fots_unix_pair(both(1, -1), offset_at(FOTS_NO_VALUE)).status == FOTS_INVALID_DURATION, "no duration first", 0, 0);
-    check(fots_unix_pair(greatest, offset_at(FOTS_NO_VALUE)).status == FOTS_INVALID_OFFSET, "no offset before the range", 0, 0);
+    check(fots_unix_pair(max_duration, offset_at(FOTS_NO_VALUE)).status == FOTS_INVALID_OFFSET, "no offset before the range", 0, 0);
     is_no_duration(fots_unix_time(date_at(FOTS_NO_VALUE), FOTS_NO_TIME, offset_at(0)), FOTS_INVALID_DATE, "the Unix time of no date");
 }
 
@@ -615,19 +615,20 @@ static void names_of_cycles(void)
 /* Names of statuses. */
 static void names(void)
 {
-    check(strcmp(fots_status_name(FOTS_DAY_OUT_OF_RANGE), "day") == 0, "the name of a refusal", FOTS_DAY_OUT_OF_RANGE, 0);
-    check(strcmp(fots_status_name(FOTS_OFFSET_HOUR_OUT_OF_RANGE), "offset hour") == 0, "the name of a refusal", FOTS_OFFSET_HOUR_OUT_OF_RANGE, 0);
+    check(strcmp(fots_status_name(FOTS_DAY_OUT_OF_RANGE), "day") == 0, "the name of a component", FOTS_DAY_OUT_OF_RANGE, 0);
+    check(strcmp(fots_status_name(FOTS_OFFSET_HOUR_OUT_OF_RANGE), "offset hour") == 0, "the name of a component", FOTS_OFFSET_HOUR_OUT_OF_RANGE, 0);
     check(strcmp(fots_status_name(FOTS_RESULT_OUT_OF_RANGE), "result out of range") == 0, "the name of a status", FOTS_RESULT_OUT_OF_RANGE, 0);
     check(strcmp(fots_status_name(FOTS_UNEXPECTED_BYTE), "unexpected byte") == 0, "the name of a status", FOTS_UNEXPECTED_BYTE, 0);
     check(strcmp(fots_status_name(FOTS_UNEXPECTED_END), "unexpected end") == 0, "the name of a status", FOTS_UNEXPECTED_END, 0);
-    check(strcmp(fots_status_name(FOTS_TIMESTAMP_OUT_OF_RANGE), "timestamp") == 0, "the name of a refusal", FOTS_TIMESTAMP_OUT_OF_RANGE, 0);
+    check(strcmp(fots_status_name(FOTS_TIMESTAMP_OUT_OF_RANGE), "timestamp") == 0, "the name of a component", FOTS_TIMESTAMP_OUT_OF_RANGE, 0);
+    check(strcmp(fots_status_name(FOTS_INVALID_BOUNDS), "invalid bounds") == 0, "the name of a status", FOTS_INVALID_BOUNDS, 0);
     check(!fots_status_is_conditional(FOTS_TIMESTAMP_OUT_OF_RANGE) && !fots_status_is_conditional(FOTS_UNEXPECTED_BYTE), "the marks", 0, 0);
     check(strcmp(fots_status_name(-1), "unknown") == 0, "the name of no status", -1, 0);
     check(fots_status_is_conditional(FOTS_WEEK_OUT_OF_RANGE) && !fots_status_is_conditional(FOTS_YEAR_OUT_OF_RANGE), "the marks", 0, 0);
 }
 
 /* Error results that are passed on. */
-static void refused_next(void)
+static void errors_passed_on(void)
 {
     fots_calendar_date_result calendar = fots_date_to_calendar_date(fots_date_from_calendar_date(2023, 2, 29).date);
     fots_hms_nano_result clock = fots_time_as_hms_nano(fots_time_from_hms(24, 0, 0).time);
@@ -647,30 +648,30 @@ static void refused_next(void)
         "no hour",
         0, 0);
     check(fots_offset_from_hms(parts.hours, 0, 0).status == FOTS_OFFSET_HOUR_OUT_OF_RANGE, "no hours of an offset", 0, 0);
-    is_part(fots_month_length(2, calendar.year), 29, "a year of no date, which each year call takes");
+    is_component(fots_month_length(2, calendar.year), 29, "a year of no date, which each year call takes");
     check(fots_duration_compare(fots_duration_days(INT64_MAX).duration, zero).number < 0, "no duration, which is below as less is", 0,
         0);
     is_date(fots_date_saturating_add_months(date_at(0), fots_date_months_until(date_at(FOTS_NO_VALUE), date_at(0)).number),
-        date_at(FOTS_MIN_JULIAN_DAY), "months of no date, which lead to the first day");
+        date_at(FOTS_MIN_JULIAN_DAY), "months of no date, and then the first day");
     is_date(fots_date_next_day(date_at(0)), date_at(1), "a date of zero bytes, which is one");
 }
 
 int main(void)
 {
     days();
-    refusals();
-    moves();
+    errors();
+    arithmetic();
     durations();
     times();
     offsets();
     cycles();
     texts_of_days();
-    refused_texts_of_days();
+    invalid_texts_of_days();
     texts_of_moments();
     unix_times();
     names_of_cycles();
     names();
-    refused_next();
+    errors_passed_on();
     check(fots_version() == 1000000 * FOTS_VERSION_MAJOR + 1000 * FOTS_VERSION_MINOR + FOTS_VERSION_PATCH, "the version",
         fots_version(), 0);
     return ended("rows");

@@ -28,7 +28,7 @@ static void is_day(fots_date_result result, fots_date wanted, const char *what)
     check(result.status == FOTS_OK && result.date.julian_day == wanted.julian_day, what, wanted.julian_day, result.date.julian_day);
 }
 
-static void refuses(fots_date_result result, int32_t status, const char *what)
+static void is_error(fots_date_result result, int32_t status, const char *what)
 {
     check(result.status == status && result.date.julian_day == FOTS_NO_VALUE, what, status, result.status);
 }
@@ -42,9 +42,9 @@ static void months(void)
     is_day(fots_date_add_months(day(2023, 12, 15), 1), day(2024, 1, 15), "a month after 15 December 2023");
     is_day(fots_date_add_years(day(2024, 2, 29), 1), day(2025, 2, 28), "a year after 29 February 2024");
     is_day(fots_date_add_years(day(2024, 2, 29), 4), day(2028, 2, 29), "four years after it");
-    refuses(fots_date_add_months(day(999999, 12, 1), 1), FOTS_RESULT_OUT_OF_RANGE, "a month after the last one");
-    refuses(fots_date_add_months(day(-999999, 1, 31), -1), FOTS_RESULT_OUT_OF_RANGE, "a month before the first one");
-    refuses(fots_date_add_years(day(2024, 2, 29), INT32_MAX), FOTS_RESULT_OUT_OF_RANGE, "as many years as there are");
+    is_error(fots_date_add_months(day(999999, 12, 1), 1), FOTS_RESULT_OUT_OF_RANGE, "a month after the last one");
+    is_error(fots_date_add_months(day(-999999, 1, 31), -1), FOTS_RESULT_OUT_OF_RANGE, "a month before the first one");
+    is_error(fots_date_add_years(day(2024, 2, 29), INT32_MAX), FOTS_RESULT_OUT_OF_RANGE, "as many years as there are");
     is_day(fots_date_saturating_add_months(day(999999, 12, 1), 1), date_at(FOTS_MAX_JULIAN_DAY), "the last day in place of the next month");
     is_day(fots_date_saturating_add_months(day(-999999, 1, 1), INT32_MIN), date_at(FOTS_MIN_JULIAN_DAY), "the first day");
 
@@ -68,7 +68,7 @@ static void ends(void)
     is_day(fots_date_last_of_year(leap), day(2024, 12, 31), "the last of the year");
     is_day(fots_date_first_of_iso_week(day(2021, 1, 1)), day(2020, 12, 28), "the Monday of the week");
     is_day(fots_date_last_of_iso_week(day(2021, 1, 1)), day(2021, 1, 3), "the Sunday of the week");
-    refuses(fots_date_last_of_iso_week(date_at(FOTS_MAX_JULIAN_DAY)), FOTS_RESULT_OUT_OF_RANGE, "the Sunday past the last day");
+    is_error(fots_date_last_of_iso_week(date_at(FOTS_MAX_JULIAN_DAY)), FOTS_RESULT_OUT_OF_RANGE, "the Sunday past the last day");
     check(fots_date_quarter(day(2024, 3, 31)).number == 1 && fots_date_quarter(day(2024, 4, 1)).number == 2, "the quarter", 0, 0);
 
     /* The last Fridays of 2024 and Thanksgivings, from a calendar. */
@@ -78,16 +78,16 @@ static void ends(void)
     }
     is_day(fots_date_nth_weekday_of_month(2023, 11, 4, 4), day(2023, 11, 23), "Thanksgiving of 2023");
     is_day(fots_date_nth_weekday_of_month(2024, 11, 4, 4), day(2024, 11, 28), "Thanksgiving of 2024");
-    refuses(fots_date_nth_weekday_of_month(2024, 11, 4, 5), FOTS_WEEKDAY_OUT_OF_RANGE, "a fifth Thursday");
-    refuses(fots_date_nth_weekday_of_month(2024, 13, 8, 256), FOTS_MONTH_OUT_OF_RANGE, "a month past the last");
-    refuses(fots_date_nth_weekday_of_month(2024, 11, 8, 256), FOTS_INVALID_WEEKDAY, "a weekday past the last");
-    refuses(fots_date_nth_weekday_of_month(1000000, 11, 4, 256), FOTS_INVALID_COUNT, "a count past 255");
-    refuses(fots_date_nth_weekday_of_month(1000000, 11, 4, 4), FOTS_YEAR_OUT_OF_RANGE, "a year past the last");
-    refuses(fots_date_last_weekday_of_month(-1000000, 11, 4), FOTS_YEAR_OUT_OF_RANGE, "a year before the first");
+    is_error(fots_date_nth_weekday_of_month(2024, 11, 4, 5), FOTS_WEEKDAY_OUT_OF_RANGE, "a fifth Thursday");
+    is_error(fots_date_nth_weekday_of_month(2024, 13, 8, 256), FOTS_MONTH_OUT_OF_RANGE, "a month past the last");
+    is_error(fots_date_nth_weekday_of_month(2024, 11, 8, 256), FOTS_INVALID_WEEKDAY, "a weekday past the last");
+    is_error(fots_date_nth_weekday_of_month(1000000, 11, 4, 256), FOTS_INVALID_COUNT, "a count past 255");
+    is_error(fots_date_nth_weekday_of_month(1000000, 11, 4, 4), FOTS_YEAR_OUT_OF_RANGE, "a year past the last");
+    is_error(fots_date_last_weekday_of_month(-1000000, 11, 4), FOTS_YEAR_OUT_OF_RANGE, "a year before the first");
     is_day(fots_date_on_or_after(day(2024, 3, 1), 1), day(2024, 3, 4), "the Monday on or after");
     is_day(fots_date_on_or_before(day(2024, 3, 1), 1), day(2024, 2, 26), "the Monday on or before");
     is_day(fots_date_on_or_after(day(2024, 3, 1), 5), day(2024, 3, 1), "the Friday itself");
-    refuses(fots_date_on_or_after(date_at(FOTS_MAX_JULIAN_DAY), 6), FOTS_RESULT_OUT_OF_RANGE, "a Saturday past the last day, a Friday");
+    is_error(fots_date_on_or_after(date_at(FOTS_MAX_JULIAN_DAY), 6), FOTS_RESULT_OUT_OF_RANGE, "a Saturday past the last day, a Friday");
 }
 
 /* The examples of ISDA's memorandum on actual/actual, and 31sts in the 30-day conventions. */
@@ -132,8 +132,8 @@ static void drawn_months(void)
         const int32_t index = parts.year * 12 + (int32_t)parts.month - 1 + count;
         const int32_t year = index >= 0 ? index / 12 : -((11 - index) / 12);
         const uint32_t month = (uint32_t)(index - year * 12) + 1;
-        const uint32_t most = fots_month_length(month, year).number;
-        is_day(fots_date_add_months(date, count), day(year, month, parts.day < most ? parts.day : most), "drawn months");
+        const uint32_t month_length = fots_month_length(month, year).number;
+        is_day(fots_date_add_months(date, count), day(year, month, parts.day < month_length ? parts.day : month_length), "drawn months");
         const fots_date other = date_at((int32_t)(drawn() % 4000000));
         const fots_period_result period = fots_date_period_until(date, other);
         const fots_date later = fots_date_add_months(date, period.years * 12 + period.months).date;
@@ -163,20 +163,20 @@ static void workdays(void)
     is_day(fots_date_adjust(day(2024, 9, 1), FOTS_PRECEDING, week, holidays, 10), day(2024, 8, 30), "preceding");
     is_day(fots_date_adjust(day(2024, 9, 1), FOTS_MODIFIED_PRECEDING, week, holidays, 10), day(2024, 9, 3), "modified preceding");
     is_day(fots_date_adjust(day(2024, 9, 1), FOTS_UNADJUSTED, week, holidays, 10), day(2024, 9, 1), "unadjusted");
-    refuses(fots_date_next_workday(day(2024, 8, 30), 0, holidays, 10), FOTS_RESULT_OUT_OF_RANGE, "a week with no working day");
-    refuses(fots_date_next_workday(date_at(INT32_MAX), 128, holidays, 10), FOTS_INVALID_DATE, "no date");
-    refuses(fots_date_next_workday(day(2024, 8, 30), 128, holidays, SIZE_MAX / 8), FOTS_INVALID_WEEKMASK, "an eighth mark");
-    refuses(fots_date_adjust(day(2024, 8, 30), 5, 128, holidays, 10), FOTS_INVALID_CONVENTION, "no convention");
+    is_error(fots_date_next_workday(day(2024, 8, 30), 0, holidays, 10), FOTS_RESULT_OUT_OF_RANGE, "a week with no working day");
+    is_error(fots_date_next_workday(date_at(INT32_MAX), 128, holidays, 10), FOTS_INVALID_DATE, "no date");
+    is_error(fots_date_next_workday(day(2024, 8, 30), 128, holidays, SIZE_MAX / 8), FOTS_INVALID_WEEKMASK, "an eighth mark");
+    is_error(fots_date_adjust(day(2024, 8, 30), 5, 128, holidays, 10), FOTS_INVALID_CONVENTION, "no convention");
     static fots_date many[FOTS_MAX_HOLIDAYS + 1];
     for (int row = 0; row <= FOTS_MAX_HOLIDAYS; row++) {
         many[row] = date_at(2460000 + row);
     }
-    refuses(fots_date_next_workday(day(2024, 8, 30), week, many, FOTS_MAX_HOLIDAYS + 1), FOTS_TOO_MANY_HOLIDAYS, "a holiday too many");
+    is_error(fots_date_next_workday(day(2024, 8, 30), week, many, FOTS_MAX_HOLIDAYS + 1), FOTS_TOO_MANY_HOLIDAYS, "a holiday too many");
     is_day(fots_date_add_workdays(date_at(2459999), 1, 127, many, FOTS_MAX_HOLIDAYS), date_at(2460000 + FOTS_MAX_HOLIDAYS), "past as many as there can be");
     many[7] = many[6];
-    refuses(fots_date_next_workday(day(2024, 8, 30), week, many, 8), FOTS_INVALID_HOLIDAYS, "a holiday twice");
+    is_error(fots_date_next_workday(day(2024, 8, 30), week, many, 8), FOTS_INVALID_HOLIDAYS, "a holiday twice");
     many[7] = date_at(INT32_MAX);
-    refuses(fots_date_next_workday(day(2024, 8, 30), week, many, 8), FOTS_INVALID_HOLIDAYS, "a holiday that is no date");
+    is_error(fots_date_next_workday(day(2024, 8, 30), week, many, 8), FOTS_INVALID_HOLIDAYS, "a holiday that is no date");
 
     /* Compares random weeks and moves with a count of one day at a time. */
     for (int turn = 0; turn < DRAWN; turn++) {
@@ -335,20 +335,20 @@ static void recurrences_of_the_rfc(void)
             next = after;
         }
         if (its->ends) {
-            refuses(next, FOTS_RESULT_OUT_OF_RANGE, its->text);
+            is_error(next, FOTS_RESULT_OUT_OF_RANGE, its->text);
             check(written.length == index, its->text, row, (long long)written.length);
         }
     }
 }
 
-static void recurrences_refused(void)
+static void rule_errors(void)
 {
     const fots_rule daily = fots_rule_new(day(2024, 1, 1), FOTS_DAILY);
     fots_date days[3] = {{1}, {2}, {3}};
     check(fots_rule_days_after(&daily, daily.start, days, 0).length == 0 && days[0].julian_day == 1, "no room", 0, 0);
     check(fots_rule_days_after(&daily, daily.start, days, 2).length == 2 && days[2].julian_day == 3, "room for two", 0, 0);
     is_day(fots_rule_next_after(&daily, date_at(FOTS_MIN_JULIAN_DAY)), day(2024, 1, 1), "the start, from long before");
-    refuses(fots_rule_next_after(&daily, date_at(FOTS_MAX_JULIAN_DAY)), FOTS_RESULT_OUT_OF_RANGE, "past the last day");
+    is_error(fots_rule_next_after(&daily, date_at(FOTS_MAX_JULIAN_DAY)), FOTS_RESULT_OUT_OF_RANGE, "past the last day");
     check(fots_rule_days_after(&daily, date_at(FOTS_MAX_JULIAN_DAY - 2), days, 3).length == 2, "the last two days", 0, 0);
     const uint8_t february = 2;
     const int8_t the_30th = 30;
@@ -357,7 +357,7 @@ static void recurrences_refused(void)
     never.months_length = 1;
     never.month_days = &the_30th;
     never.month_days_length = 1;
-    refuses(fots_rule_first(&never), FOTS_RESULT_OUT_OF_RANGE, "30 February");
+    is_error(fots_rule_first(&never), FOTS_RESULT_OUT_OF_RANGE, "30 February");
     check(fots_rule_days_after(&never, never.start, days, 3).length == 0, "30 February", 0, 0);
 
     static uint8_t months[65];
@@ -375,31 +375,31 @@ static void recurrences_refused(void)
     is_day(fots_rule_first(&rule), day(2024, 1, 1), "as many parts as there can be");
     /* From the last part to the first, each is wrong before the parts that are wrong already. */
     weekdays[63].weekday = 8;
-    refuses(fots_rule_first(&rule), FOTS_INVALID_WEEKDAY, "weekday 8");
+    is_error(fots_rule_first(&rule), FOTS_INVALID_WEEKDAY, "weekday 8");
     weekdays[63].weekday = 0;
-    refuses(fots_rule_first(&rule), FOTS_INVALID_WEEKDAY, "weekday 0");
+    is_error(fots_rule_first(&rule), FOTS_INVALID_WEEKDAY, "weekday 0");
     months[63] = 13;
-    refuses(fots_rule_first(&rule), FOTS_MONTH_OUT_OF_RANGE, "month 13");
+    is_error(fots_rule_first(&rule), FOTS_MONTH_OUT_OF_RANGE, "month 13");
     months[63] = 0;
-    refuses(fots_rule_first(&rule), FOTS_MONTH_OUT_OF_RANGE, "month 0");
+    is_error(fots_rule_first(&rule), FOTS_MONTH_OUT_OF_RANGE, "month 0");
     rule.months_length = 65;
-    refuses(fots_rule_first(&rule), FOTS_TOO_MANY_PARTS, "65 months");
+    is_error(fots_rule_first(&rule), FOTS_TOO_MANY_PARTS, "65 months");
     rule.months_length = 64;
     rule.weekdays_length = 65;
-    refuses(fots_rule_first(&rule), FOTS_TOO_MANY_PARTS, "65 weekdays");
+    is_error(fots_rule_first(&rule), FOTS_TOO_MANY_PARTS, "65 weekdays");
     rule.week_start = 8;
-    refuses(fots_rule_first(&rule), FOTS_INVALID_WEEKDAY, "a week that begins with weekday 8");
+    is_error(fots_rule_first(&rule), FOTS_INVALID_WEEKDAY, "a week that begins with weekday 8");
     rule.frequency = 5;
-    refuses(fots_rule_first(&rule), FOTS_INVALID_FREQUENCY, "frequency 5");
+    is_error(fots_rule_first(&rule), FOTS_INVALID_FREQUENCY, "frequency 5");
     rule.frequency = 0;
-    refuses(fots_rule_first(&rule), FOTS_INVALID_FREQUENCY, "frequency 0");
+    is_error(fots_rule_first(&rule), FOTS_INVALID_FREQUENCY, "frequency 0");
     rule.until = date_at(FOTS_MAX_JULIAN_DAY + 1);
-    refuses(fots_rule_first(&rule), FOTS_INVALID_DATE, "until no date");
-    refuses(fots_rule_next_after(&rule, date_at(0)), FOTS_INVALID_DATE, "until no date");
+    is_error(fots_rule_first(&rule), FOTS_INVALID_DATE, "until no date");
+    is_error(fots_rule_next_after(&rule, date_at(0)), FOTS_INVALID_DATE, "until no date");
     rule = daily;
     rule.start = date_at(FOTS_NO_VALUE);
-    refuses(fots_rule_next_after(&rule, date_at(0)), FOTS_INVALID_DATE, "from no date");
-    refuses(fots_rule_next_after(&daily, date_at(FOTS_NO_VALUE)), FOTS_INVALID_DATE, "after no date");
+    is_error(fots_rule_next_after(&rule, date_at(0)), FOTS_INVALID_DATE, "from no date");
+    is_error(fots_rule_next_after(&daily, date_at(FOTS_NO_VALUE)), FOTS_INVALID_DATE, "after no date");
     check(fots_rule_contains(&daily, date_at(FOTS_NO_VALUE)).number == FOTS_NO_COMPONENT, "no date of a rule", 0, 0);
     days[0].julian_day = 1;
     const fots_days_result none = fots_rule_days_after(&daily, date_at(FOTS_NO_VALUE), days, 3);
@@ -446,11 +446,11 @@ static void texts_in_one_order(void)
     const fots_parse_recurrence_result longest = fots_recurrence_parse(words, strlen(words));
     const fots_rule rule = fots_recurrence_rule(&longest.recurrence, day(2024, 1, 1));
     check(rule.months_length == 62 && rule.months[61] == 12 && rule.month_days[61] == -31 && rule.weekdays[61].number == -53, "full lists", 0, 0);
-    refuses(fots_rule_first(&rule), FOTS_RESULT_OUT_OF_RANGE, "no 53rd Wednesday of a month");
+    is_error(fots_rule_first(&rule), FOTS_RESULT_OUT_OF_RANGE, "no 53rd Wednesday of a month");
 }
 
 /* Checks the first wrong part, its position and its reason, and one value too many. */
-static void texts_refused(void)
+static void text_errors(void)
 {
     static const struct {
         const char *text;
@@ -498,27 +498,27 @@ static void texts_refused(void)
     const char *daily = "FREQ=DAILY";
     days[0].julian_day = 1;
     check(of_text(daily, start, date_at(FOTS_NO_VALUE), days, 2).status == FOTS_INVALID_DATE, "from no date", 0, 0);
-    const fots_recurrence_result bad = of_text(daily, date_at(FOTS_MAX_JULIAN_DAY + 1), start, days, 2);
-    check(bad.status == FOTS_INVALID_DATE && bad.position == SIZE_MAX && bad.length == 0 && days[0].julian_day == 1, "no start", bad.status, 0);
+    const fots_recurrence_result invalid = of_text(daily, date_at(FOTS_MAX_JULIAN_DAY + 1), start, days, 2);
+    check(invalid.status == FOTS_INVALID_DATE && invalid.position == SIZE_MAX && invalid.length == 0 && days[0].julian_day == 1, "no start", invalid.status, 0);
     check(of_text(daily, start, start, days, 0).status == FOTS_OK && days[0].julian_day == 1, "no room", 0, 0);
     check(of_text(daily, start, date_at(FOTS_MIN_JULIAN_DAY), days, 1).length == 1 && days[0].julian_day == start.julian_day, "before the start", 0, 0);
     check(of_text(daily, date_at(FOTS_MAX_JULIAN_DAY), date_at(FOTS_MAX_JULIAN_DAY), days, 2).length == 1, "the last day", 0, 0);
     check(of_text("FREQ=YEARLY;BYMONTH=2;BYMONTHDAY=30", start, start, days, 2).length == 0, "30 February", 0, 0);
 }
 
-static void bad_dates(void)
+static void invalid_dates(void)
 {
-    static const int32_t bad[] = {FOTS_MIN_JULIAN_DAY - 1, FOTS_MAX_JULIAN_DAY + 1, INT32_MIN, INT32_MAX};
-    for (int row = 0; row < COUNT(bad); row++) {
-        const fots_date date = date_at(bad[row]);
-        refuses(fots_date_add_months(date, 0), FOTS_INVALID_DATE, "no date and months");
-        refuses(fots_date_add_years(date, 0), FOTS_INVALID_DATE, "no date and years");
-        refuses(fots_date_first_of_month(date), FOTS_INVALID_DATE, "the first of no date");
-        refuses(fots_date_on_or_after(date, 8), FOTS_INVALID_DATE, "no date and no weekday");
-        check(fots_date_months_until(date_at(0), date).status == FOTS_INVALID_DATE, "months until no date", bad[row], 0);
-        check(fots_date_period_until(date, date_at(0)).years == FOTS_NO_VALUE, "the period from no date", bad[row], 0);
-        check(fots_date_quarter(date).number == FOTS_NO_COMPONENT, "the quarter of no date", bad[row], 0);
-        check(fots_date_day_count(date, date, 9).status == FOTS_INVALID_DATE, "the day count of no date", bad[row], 0);
+    static const int32_t invalid[] = {FOTS_MIN_JULIAN_DAY - 1, FOTS_MAX_JULIAN_DAY + 1, INT32_MIN, INT32_MAX};
+    for (int row = 0; row < COUNT(invalid); row++) {
+        const fots_date date = date_at(invalid[row]);
+        is_error(fots_date_add_months(date, 0), FOTS_INVALID_DATE, "no date and months");
+        is_error(fots_date_add_years(date, 0), FOTS_INVALID_DATE, "no date and years");
+        is_error(fots_date_first_of_month(date), FOTS_INVALID_DATE, "the first of no date");
+        is_error(fots_date_on_or_after(date, 8), FOTS_INVALID_DATE, "no date and no weekday");
+        check(fots_date_months_until(date_at(0), date).status == FOTS_INVALID_DATE, "months until no date", invalid[row], 0);
+        check(fots_date_period_until(date, date_at(0)).years == FOTS_NO_VALUE, "the period from no date", invalid[row], 0);
+        check(fots_date_quarter(date).number == FOTS_NO_COMPONENT, "the quarter of no date", invalid[row], 0);
+        check(fots_date_day_count(date, date, 9).status == FOTS_INVALID_DATE, "the day count of no date", invalid[row], 0);
     }
 }
 
@@ -530,9 +530,9 @@ int main(void)
     workdays();
     drawn_months();
     recurrences_of_the_rfc();
-    recurrences_refused();
+    rule_errors();
     texts_in_one_order();
-    texts_refused();
-    bad_dates();
+    text_errors();
+    invalid_dates();
     return ended("schedule");
 }

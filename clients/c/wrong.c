@@ -111,12 +111,12 @@ static int bytes_of_text(const fots_text_result *result)
         fots_number_result result = call; \
         status_is(wanted, result.status, result.number != FOTS_NO_VALUE, #call, (long long)(first), result.status); \
     } while (0)
-#define PART(wanted, call, first) \
+#define COMPONENT(wanted, call, first) \
     do { \
         fots_component_result result = call; \
         status_is(wanted, result.status, result.number != FOTS_NO_COMPONENT, #call, (long long)(first), result.status); \
     } while (0)
-#define LONG(wanted, call) \
+#define INT64(wanted, call) \
     do { \
         fots_int64_result result = call; \
         int fits = wanted != FOTS_OK ? result.status == wanted : result.status == FOTS_OK || result.status == FOTS_RESULT_OUT_OF_RANGE; \
@@ -185,13 +185,13 @@ static void dates(int32_t julian_day, uint32_t number, fots_duration duration)
     status_is(wrong, ordinal.status, ordinal.ordinal != 0, "to_ordinal_date", julian_day, ordinal.year);
     status_is(wrong, week.status, week.week != 0, "to_iso_week_date", julian_day, week.year);
     NUMBER(wrong, fots_date_year(date), julian_day);
-    PART(wrong, fots_date_month(date), julian_day);
-    PART(wrong, fots_date_day(date), julian_day);
-    PART(wrong, fots_date_ordinal(date), julian_day);
-    PART(wrong, fots_date_iso_week(date), julian_day);
-    PART(wrong, fots_date_weekday(date), julian_day);
-    PART(wrong, fots_date_sunday_based_week(date), julian_day);
-    PART(wrong, fots_date_monday_based_week(date), julian_day);
+    COMPONENT(wrong, fots_date_month(date), julian_day);
+    COMPONENT(wrong, fots_date_day(date), julian_day);
+    COMPONENT(wrong, fots_date_ordinal(date), julian_day);
+    COMPONENT(wrong, fots_date_iso_week(date), julian_day);
+    COMPONENT(wrong, fots_date_weekday(date), julian_day);
+    COMPONENT(wrong, fots_date_sunday_based_week(date), julian_day);
+    COMPONENT(wrong, fots_date_monday_based_week(date), julian_day);
     TEXT(wrong, fots_date_calendar_text(date), julian_day);
     TEXT(wrong, fots_date_ordinal_text(date), julian_day);
     TEXT(wrong, fots_date_week_text(date), julian_day);
@@ -242,7 +242,7 @@ static void months(int32_t julian_day, uint32_t number, int32_t count)
     DATE(wrong, fots_date_last_of_year(date));
     DATE(wrong, fots_date_first_of_iso_week(date));
     DATE(wrong, fots_date_last_of_iso_week(date));
-    PART(wrong, fots_date_quarter(date), julian_day);
+    COMPONENT(wrong, fots_date_quarter(date), julian_day);
     DATE(first_of(wrong, no_weekday), fots_date_on_or_after(date, number));
     DATE(first_of(wrong, no_weekday), fots_date_on_or_before(date, number));
     DATE(is_month((uint32_t)count) ? no_weekday : FOTS_MONTH_OUT_OF_RANGE, fots_date_last_weekday_of_month(julian_day, (uint32_t)count, number));
@@ -256,7 +256,7 @@ static void workdays(int32_t julian_day, uint32_t number, int32_t count)
     fots_date date = date_at(julian_day), other = date_at(count);
     int32_t no_week = number < 128 ? FOTS_OK : FOTS_INVALID_WEEKMASK, wrong = first_of(of_date(date), no_week);
     int32_t no_convention = (uint32_t)count <= 4 ? FOTS_OK : FOTS_INVALID_CONVENTION;
-    PART(wrong, fots_date_is_workday(date, number, rising, 2), julian_day);
+    COMPONENT(wrong, fots_date_is_workday(date, number, rising, 2), julian_day);
     DATE(wrong, fots_date_next_workday(date, number, rising, 2));
     DATE(wrong, fots_date_previous_workday(date, number, rising, 2));
     DATE(wrong, fots_date_add_workdays(date, count, number, rising, 2));
@@ -284,7 +284,7 @@ static void rules(int32_t julian_day, uint32_t number, int32_t count)
     with_other = first_of(wrong, of_date(other));
     DATE(wrong, fots_rule_first(&rule));
     DATE(with_other, fots_rule_next_after(&rule, other));
-    PART(with_other, fots_rule_contains(&rule, other), julian_day);
+    COMPONENT(with_other, fots_rule_contains(&rule, other), julian_day);
     written = fots_rule_days_after(&rule, other, days, 3);
     check(written.status == with_other && written.length <= (with_other == FOTS_OK ? 3 : 0), "days_after", julian_day,
         (long long)written.length);
@@ -320,12 +320,12 @@ static void times(fots_time time, uint32_t number, fots_duration duration)
         after.date.julian_day);
     status_is(of_pair, before.status, is_date(before.date) && is_time(before.time), "sub_from_pair", (long long)time,
         before.date.julian_day);
-    PART(wrong, fots_time_hour(time), time);
-    PART(wrong, fots_time_minute(time), time);
-    PART(wrong, fots_time_second(time), time);
-    PART(wrong, fots_time_millisecond(time), time);
-    PART(wrong, fots_time_microsecond(time), time);
-    PART(wrong, fots_time_nanosecond(time), time);
+    COMPONENT(wrong, fots_time_hour(time), time);
+    COMPONENT(wrong, fots_time_minute(time), time);
+    COMPONENT(wrong, fots_time_second(time), time);
+    COMPONENT(wrong, fots_time_millisecond(time), time);
+    COMPONENT(wrong, fots_time_microsecond(time), time);
+    COMPONENT(wrong, fots_time_nanosecond(time), time);
     TIME(wrong, fots_time_replace_hour(time, number));
     TIME(wrong, fots_time_replace_minute(time, number));
     TIME(wrong, fots_time_replace_second(time, number));
@@ -369,14 +369,14 @@ static void offsets(int32_t seconds, int32_t number)
 static void durations(fots_duration duration, fots_duration other, int32_t number)
 {
     int32_t wrong = of_duration(duration), with_other = first_of(wrong, of_duration(other));
-    LONG(wrong, fots_duration_whole_weeks(duration));
-    LONG(wrong, fots_duration_whole_days(duration));
-    LONG(wrong, fots_duration_whole_hours(duration));
-    LONG(wrong, fots_duration_whole_minutes(duration));
-    LONG(wrong, fots_duration_whole_seconds(duration));
-    LONG(wrong, fots_duration_whole_milliseconds(duration));
-    LONG(wrong, fots_duration_whole_microseconds(duration));
-    LONG(wrong, fots_duration_whole_nanoseconds(duration));
+    INT64(wrong, fots_duration_whole_weeks(duration));
+    INT64(wrong, fots_duration_whole_days(duration));
+    INT64(wrong, fots_duration_whole_hours(duration));
+    INT64(wrong, fots_duration_whole_minutes(duration));
+    INT64(wrong, fots_duration_whole_seconds(duration));
+    INT64(wrong, fots_duration_whole_milliseconds(duration));
+    INT64(wrong, fots_duration_whole_microseconds(duration));
+    INT64(wrong, fots_duration_whole_nanoseconds(duration));
     NUMBER(wrong, fots_duration_subsec_milliseconds(duration), duration.seconds);
     NUMBER(wrong, fots_duration_subsec_microseconds(duration), duration.seconds);
     NUMBER(with_other, fots_duration_compare(duration, other), duration.seconds);
@@ -404,12 +404,12 @@ static void cycles(uint32_t number, uint32_t count)
 {
     int32_t no_month = is_month(number) ? FOTS_OK : FOTS_MONTH_OUT_OF_RANGE, no_weekday = is_weekday(number) ? FOTS_OK : FOTS_INVALID_WEEKDAY;
     int32_t year = (int32_t)count;
-    PART(no_month, fots_month_length(number, year), number);
-    PART(no_month, fots_month_nth_next(number, count), number);
-    PART(no_month, fots_month_nth_prev(number, count), number);
-    PART(no_weekday, fots_weekday_nth_next(number, count), number);
-    PART(no_weekday, fots_weekday_nth_prev(number, count), number);
-    PART(no_weekday, fots_weekday_number_from_sunday(number), number);
+    COMPONENT(no_month, fots_month_length(number, year), number);
+    COMPONENT(no_month, fots_month_nth_next(number, count), number);
+    COMPONENT(no_month, fots_month_nth_prev(number, count), number);
+    COMPONENT(no_weekday, fots_weekday_nth_next(number, count), number);
+    COMPONENT(no_weekday, fots_weekday_nth_prev(number, count), number);
+    COMPONENT(no_weekday, fots_weekday_number_from_sunday(number), number);
     TEXT(no_month, fots_month_name(number), number);
     TEXT(no_weekday, fots_weekday_name(number), number);
     check(fots_is_leap_year(year) == (year % 4 == 0 && (year % 100 != 0 || year % 400 == 0) ? 1 : 0), "is_leap_year", year, 0);

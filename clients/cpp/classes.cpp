@@ -24,7 +24,7 @@ void check(bool holds, const char *what)
     }
 }
 
-// Checks the error of a call: its status and its words.
+// Checks the error of a call: its status and its message.
 template <class Call> void throws(Call call, std::int32_t status, const std::string &message, const char *what)
 {
     try {
@@ -57,7 +57,7 @@ void dates()
     check(Date::min().checked_sub(Duration::days(1)) == std::nullopt, "none");
     check(Date::max().saturating_add(Duration::days(1)) == Date::max()
         && Date::min().saturating_sub(Duration::days(1)) == Date::min(),
-        "held");
+        "clamped");
     check(day.checked_next_occurrence(Weekday::Monday) == Date::parse("2024-03-04"), "the next Monday");
     check(day.checked_prev_occurrence(Weekday::Monday) == Date::parse("2024-02-26"), "the Monday before");
     check(day.replace_year(2020) == Date::parse("2020-02-29") && day.replace_month(Month::May) == Date::parse("2024-05-29"),
@@ -70,7 +70,7 @@ void dates()
     check(std::map<Date, int>{{day, 1}}.count(day) == 1 && std::unordered_set<Date>{day}.count(day) == 1, "as keys");
 }
 
-void refusals()
+void errors()
 {
     throws([] { Date::from_calendar_date(2023, 2, 29); }, FOTS_DAY_OUT_OF_RANGE, "day was not in range", "29 February of 2023");
     throws([] { Date::parse("2024-02-3"); }, FOTS_UNEXPECTED_END, "unexpected end at 9", "a text that ends too early");
@@ -143,10 +143,10 @@ void moments()
     const OffsetDateTime first = OffsetDateTime::new_utc(Date::min(), Time(0));
     check(later > last && later.checked_to_utc() == std::nullopt, "at no date at UTC");
     check(OffsetDateTime::new_in_offset(Date::min(), Time(0), east) < first, "before the first at UTC");
-    check(first.checked_add(Duration::seconds(INT64_MAX)) == std::nullopt, "result out of range");
-    check(first.saturating_add(Duration::seconds(INT64_MAX)) == last && last.saturating_sub(Duration::seconds(INT64_MAX)) == first, "held");
+    check(first.checked_add(Duration::seconds(INT64_MAX)) == std::nullopt, "past the last moment");
+    check(first.saturating_add(Duration::seconds(INT64_MAX)) == last && last.saturating_sub(Duration::seconds(INT64_MAX)) == first, "clamped");
     check(last.checked_sub(Duration::days(1)) == last - Duration::days(1), "a day before");
-    throws([&] { later.to_utc(); }, FOTS_RESULT_OUT_OF_RANGE, "result out of range", "result out of range");
+    throws([&] { later.to_utc(); }, FOTS_RESULT_OUT_OF_RANGE, "result out of range", "no date at UTC");
     throws([&] { first - Duration::nanoseconds(1); }, FOTS_RESULT_OUT_OF_RANGE, "result out of range", "before the first");
     throws([] { OffsetDateTime::from_unix_timestamp(INT64_MAX); }, FOTS_TIMESTAMP_OUT_OF_RANGE, "timestamp was not in range", "no timestamp");
     throws([] { OffsetDateTime(fots_moment{{0}, {0}, FOTS_NO_TIME}); }, FOTS_INVALID_MOMENT, "invalid moment", "no moment");
@@ -246,8 +246,8 @@ void recurrences()
     try {
         Recurrence::parse("FREQ=DAILY;BYDAY=XX");
         check(false, "no weekday");
-    } catch (const parse_rule_error &fault) {
-        check(fault.part() == FOTS_RULE_BYDAY && fault.position() == 11 && fault.status() == FOTS_INVALID_VALUE, "the part at fault");
+    } catch (const parse_rule_error &thrown) {
+        check(thrown.part() == FOTS_RULE_BYDAY && thrown.position() == 11 && thrown.status() == FOTS_INVALID_VALUE, "the part at fault");
     }
 }
 
@@ -297,7 +297,7 @@ static_assert(sizeof(Date) == sizeof(fots_date) && std::is_trivially_copyable_v<
 int main()
 {
     dates();
-    refusals();
+    errors();
     others();
     moments();
     schedule();
