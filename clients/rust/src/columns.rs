@@ -1,10 +1,10 @@
 //! Calls over whole columns, with the result and the status of the single call for each row.
 //!
-//! A column is a slice for each part of a value: Julian days and years as `i32`, ordinals as `u16`,
+//! A column is a slice for each component of a value: Julian days and years as `i32`, ordinals as `u16`,
 //! months, days of the month, weeks and weekdays as `u8`. A call writes into your slices, and
 //! returns the number of rows without a result. These have numbers that the next call rejects:
 //! `i32::MIN` for a date, a year, an offset or a count of working days, `u64::MAX` for a time, and
-//! 0 for a part with 8 or 16 bits. [`row_error`] explains a status.
+//! 0 for a component with 8 or 16 bits. [`row_error`] explains a status.
 //!
 //! ```
 //! use fotsevindre::columns::{self, RowError};
@@ -19,7 +19,7 @@
 //! let mut weekdays = [0; 3];
 //! assert_eq!(columns::dates_weekdays(&dates, &mut weekdays, &mut statuses), 2);
 //! assert_eq!(weekdays, [4, 0, 0]);
-//! assert_eq!(columns::row_error(statuses[1]), Some(RowError::NoDate));
+//! assert_eq!(columns::row_error(statuses[1]), Some(RowError::InvalidDate));
 //! ```
 //!
 //! # Panics
@@ -34,17 +34,19 @@ use crate::{Date, Workdays};
 #[derive(Clone, Copy, Debug, PartialEq, Eq, Hash)]
 pub enum RowError {
     /// The number is not a date.
-    NoDate,
-    /// The date is out of range.
-    PastRange,
+    InvalidDate,
+    /// The result is out of range.
+    ResultOutOfRange,
     /// The component is out of range.
     OutOfRange(ComponentRange),
     /// The number is not a time of day.
-    NoTime,
+    InvalidTime,
     /// The number is not an offset.
-    NoOffset,
+    InvalidOffset,
+    /// The bounds of the text are out of range or descend.
+    InvalidBounds,
     /// The text has a byte that no text of the form has there.
-    ParseError,
+    UnexpectedByte,
     /// The text ends too early: more bytes could complete it.
     UnexpectedEnd,
 }
@@ -148,7 +150,7 @@ pub fn dates_add_months(dates: &[i32], months: &[i32], moved: &mut [i32], status
 /// Adds working days, like [`Workdays::checked_add_workdays`].
 #[track_caller]
 pub fn dates_add_workdays(dates: &[i32], days: &[i32], workdays: &Workdays, moved: &mut [i32], statuses: &mut [u8]) -> usize {
-    ffi::fots_dates_add_workdays(dates, days, workdays.week, workdays.holidays, moved, statuses)
+    ffi::fots_dates_add_workdays(dates, days, workdays.weekmask, workdays.holidays, moved, statuses)
 }
 
 /// Counts working days, like [`Workdays::workdays_between`].
@@ -160,7 +162,7 @@ pub fn dates_workdays_between(
     numbers: &mut [i32],
     statuses: &mut [u8],
 ) -> usize {
-    ffi::fots_dates_workdays_between(dates, others, workdays.week, workdays.holidays, numbers, statuses)
+    ffi::fots_dates_workdays_between(dates, others, workdays.weekmask, workdays.holidays, numbers, statuses)
 }
 
 /// The bytes for each row of [`dates_calendar_texts`].
@@ -169,10 +171,10 @@ pub const MAX_DATE_LENGTH: usize = 13;
 /// The bytes for each row of [`moments_texts`].
 pub const MAX_MOMENT_LENGTH: usize = 38;
 
-/// Parses texts, like [`text::date::read`](crate::text::date::read).
+/// Parses texts, like [`text::date::parse`](crate::text::date::parse).
 ///
 /// The text of row `k` is `bytes[bounds[k]..bounds[k + 1]]`, so there is one bound more than rows.
-/// If the bounds of a row are out of range or descend, its error is `bounds`.
+/// If these bounds are out of range or descend, the error is [`RowError::InvalidBounds`].
 ///
 /// ```
 /// use fotsevindre::columns;
@@ -186,7 +188,7 @@ pub fn dates_parse(bytes: &[u8], bounds: &[i32], dates: &mut [i32], statuses: &m
     ffi::fots_dates_parse(bytes, bounds, dates, statuses)
 }
 
-/// Parses texts, like [`text::rfc3339::read`](crate::text::rfc3339::read), to dates, nanoseconds
+/// Parses texts, like [`text::rfc3339::parse`](crate::text::rfc3339::parse), to dates, nanoseconds
 /// since midnight and offsets in seconds.
 #[track_caller]
 pub fn moments_parse(
@@ -212,8 +214,8 @@ pub fn dates_calendar_texts(dates: &[i32], bytes: &mut [u8], bounds: &mut [i32],
     ffi::fots_dates_calendar_texts(dates, bytes, bounds, statuses)
 }
 
-/// Writes moments in RFC 3339, in the same way, with [`MAX_MOMENT_LENGTH`] bytes for each row. A moment
-/// without a text is [`RowError::PastRange`].
+/// Writes moments in RFC 3339, in the same way, with [`MAX_MOMENT_LENGTH`] bytes for each row. A
+/// moment without a text is [`RowError::ResultOutOfRange`].
 #[track_caller]
 pub fn moments_texts(
     dates: &[i32],

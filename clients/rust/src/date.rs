@@ -1,5 +1,5 @@
 use crate::error::{ComponentRange, ParseError};
-use crate::ffi::{self, expect_answer, or_none, or_error, Answer};
+use crate::ffi::{self, expect_answer, or_error, or_none, Answer};
 use crate::iter::DateIter;
 use crate::text::date::{self, CalendarText};
 use crate::{Month, SignedDuration, Weekday};
@@ -20,13 +20,13 @@ pub struct Date {
 
 /// Returns the date, or the component that is out of range.
 #[inline]
-fn made(answer: Answer<i32>) -> Result<Date, ComponentRange> {
+fn date_or_error(answer: Answer<i32>) -> Result<Date, ComponentRange> {
     or_error(answer).map(Date::from_c)
 }
 
 /// Returns the date, or `None` if it is out of range.
 #[inline]
-fn moved(answer: Answer<i32>) -> Option<Date> {
+fn date_or_none(answer: Answer<i32>) -> Option<Date> {
     or_none(answer).map(Date::from_c)
 }
 
@@ -54,8 +54,8 @@ impl Date {
 
     /// Returns the date `days` later, or earlier if negative.
     #[inline]
-    pub(crate) fn days_later(self, days: i64) -> Option<Self> {
-        moved(ffi::fots_date_add_days(self.julian_day, days))
+    pub(crate) fn checked_add_days(self, days: i64) -> Option<Self> {
+        date_or_none(ffi::fots_date_add_days(self.julian_day, days))
     }
 
     /// Creates a date from a year (-999999 to 999999), a month and a day of the month.
@@ -65,7 +65,7 @@ impl Date {
     /// `year`, or conditionally `day`: 1900 has no 29 February.
     #[inline]
     pub fn from_calendar_date(year: i32, month: Month, day: u8) -> Result<Self, ComponentRange> {
-        made(ffi::fots_date_from_calendar_date(year, month.number(), day.into()))
+        date_or_error(ffi::fots_date_from_calendar_date(year, month.number(), day.into()))
     }
 
     /// Creates a date from a year (-999999 to 999999) and an ordinal (1 to 365, or 366 in a leap
@@ -76,7 +76,7 @@ impl Date {
     /// `year`, or conditionally `ordinal`.
     #[inline]
     pub fn from_ordinal_date(year: i32, ordinal: u16) -> Result<Self, ComponentRange> {
-        made(ffi::fots_date_from_ordinal_date(year, ordinal.into()))
+        date_or_error(ffi::fots_date_from_ordinal_date(year, ordinal.into()))
     }
 
     /// Creates a date from an ISO 8601 week date: an ISO year (-999999 to 999999), a week (1 to 52,
@@ -87,7 +87,7 @@ impl Date {
     /// `year`, or conditionally `week`, or conditionally `weekday` after [`Self::MAX`], a Friday.
     #[inline]
     pub fn from_iso_week_date(year: i32, week: u8, weekday: Weekday) -> Result<Self, ComponentRange> {
-        made(ffi::fots_date_from_iso_week_date(year, week.into(), weekday.number()))
+        date_or_error(ffi::fots_date_from_iso_week_date(year, week.into(), weekday.number()))
     }
 
     /// Creates a date from a Julian day: 2451545 is 2000-01-01.
@@ -97,7 +97,7 @@ impl Date {
     /// `julian_day` outside -363521074 to 366963559.
     #[inline]
     pub fn from_julian_day(julian_day: i32) -> Result<Self, ComponentRange> {
-        made(ffi::fots_date_from_julian_day(julian_day.into()))
+        date_or_error(ffi::fots_date_from_julian_day(julian_day.into()))
     }
 
     /// Returns the year, from -999999 to 999999.
@@ -177,27 +177,27 @@ impl Date {
     /// Returns the next day, or `None` for [`Self::MAX`].
     #[inline]
     pub fn next_day(self) -> Option<Self> {
-        moved(ffi::fots_date_next_day(self.julian_day))
+        date_or_none(ffi::fots_date_next_day(self.julian_day))
     }
 
     /// Returns the previous day, or `None` for [`Self::MIN`].
     #[inline]
     pub fn previous_day(self) -> Option<Self> {
-        moved(ffi::fots_date_previous_day(self.julian_day))
+        date_or_none(ffi::fots_date_previous_day(self.julian_day))
     }
 
     /// Adds the whole days of a duration, truncated toward zero, or returns `None` if the date is
     /// out of range. 2020-12-31 plus 47 hours is 2021-01-01.
     #[inline]
     pub fn checked_add(self, duration: SignedDuration) -> Option<Self> {
-        moved(ffi::fots_date_checked_add(self.julian_day, duration.to_c()))
+        date_or_none(ffi::fots_date_checked_add(self.julian_day, duration.to_c()))
     }
 
     /// Subtracts the whole days of a duration, truncated toward zero, or returns `None` if the date
     /// is out of range. 2020-12-31 minus 47 hours is 2020-12-30.
     #[inline]
     pub fn checked_sub(self, duration: SignedDuration) -> Option<Self> {
-        moved(ffi::fots_date_checked_sub(self.julian_day, duration.to_c()))
+        date_or_none(ffi::fots_date_checked_sub(self.julian_day, duration.to_c()))
     }
 
     /// Adds the whole days of a duration, clamped to the range.
@@ -215,27 +215,27 @@ impl Date {
     /// Returns the first date after this one with the weekday, or `None` out of range.
     #[inline]
     pub fn checked_next_occurrence(self, weekday: Weekday) -> Option<Self> {
-        moved(ffi::fots_date_next_occurrence(self.julian_day, weekday.number()))
+        date_or_none(ffi::fots_date_next_occurrence(self.julian_day, weekday.number()))
     }
 
     /// Returns the last date before this one with the weekday, or `None` out of range.
     #[inline]
     pub fn checked_prev_occurrence(self, weekday: Weekday) -> Option<Self> {
-        moved(ffi::fots_date_prev_occurrence(self.julian_day, weekday.number()))
+        date_or_none(ffi::fots_date_prev_occurrence(self.julian_day, weekday.number()))
     }
 
     /// Returns the `n`-th date after this one with the weekday, or `None` out of range and for 0.
     /// The fifth Monday after 2023-06-25 is 2023-07-24.
     #[inline]
     pub fn checked_nth_next_occurrence(self, weekday: Weekday, n: u8) -> Option<Self> {
-        moved(ffi::fots_date_nth_next_occurrence(self.julian_day, weekday.number(), n.into()))
+        date_or_none(ffi::fots_date_nth_next_occurrence(self.julian_day, weekday.number(), n.into()))
     }
 
     /// Returns the `n`-th date before this one with the weekday, or `None` out of range and for 0.
     /// The third Monday before 2023-06-27 is 2023-06-12.
     #[inline]
     pub fn checked_nth_prev_occurrence(self, weekday: Weekday, n: u8) -> Option<Self> {
-        moved(ffi::fots_date_nth_prev_occurrence(self.julian_day, weekday.number(), n.into()))
+        date_or_none(ffi::fots_date_nth_prev_occurrence(self.julian_day, weekday.number(), n.into()))
     }
 
     /// Returns the first date after this one with the weekday. For Monday and 2023-06-28:
@@ -291,7 +291,7 @@ impl Date {
     /// `year`, or conditionally `day` for 29 February in a common year.
     #[inline]
     pub fn replace_year(self, year: i32) -> Result<Self, ComponentRange> {
-        made(ffi::fots_date_replace_year(self.julian_day, year))
+        date_or_error(ffi::fots_date_replace_year(self.julian_day, year))
     }
 
     /// Replaces the month. For 2022-02-18 and March: 2022-03-18.
@@ -301,7 +301,7 @@ impl Date {
     /// Conditionally `day`, if the month has no such day.
     #[inline]
     pub fn replace_month(self, month: Month) -> Result<Self, ComponentRange> {
-        made(ffi::fots_date_replace_month(self.julian_day, month.number()))
+        date_or_error(ffi::fots_date_replace_month(self.julian_day, month.number()))
     }
 
     /// Replaces the day of the month. For 2022-02-18 and 1: 2022-02-01.
@@ -311,7 +311,7 @@ impl Date {
     /// Conditionally `day`, if the month has no such day.
     #[inline]
     pub fn replace_day(self, day: u8) -> Result<Self, ComponentRange> {
-        made(ffi::fots_date_replace_day(self.julian_day, day.into()))
+        date_or_error(ffi::fots_date_replace_day(self.julian_day, day.into()))
     }
 
     /// Replaces the ordinal. For 2022-02-18 and 1: 2022-01-01.
@@ -321,7 +321,7 @@ impl Date {
     /// Conditionally `ordinal`, if the year has no such day.
     #[inline]
     pub fn replace_ordinal(self, ordinal: u16) -> Result<Self, ComponentRange> {
-        made(ffi::fots_date_replace_ordinal(self.julian_day, ordinal.into()))
+        date_or_error(ffi::fots_date_replace_ordinal(self.julian_day, ordinal.into()))
     }
 
     /// Returns the days from this one to `end`, both included. From 2019-12-30 to 2020-01-02 there
@@ -393,8 +393,8 @@ impl FromStr for Date {
     type Err = ParseError;
 
     /// Parses a calendar date, an ordinal date or a week date, like
-    /// [`text::date::read`](date::read).
+    /// [`text::date::parse`](date::parse).
     fn from_str(text: &str) -> Result<Self, ParseError> {
-        date::read(text.as_bytes())
+        date::parse(text.as_bytes())
     }
 }

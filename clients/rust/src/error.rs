@@ -43,7 +43,6 @@ impl ComponentRange {
             27 => "offset second",
             28 => "seconds",
             29 => "timestamp",
-            30 => "bounds",
             64 => "day",
             65 => "ordinal",
             66 => "week",

@@ -24,6 +24,8 @@ const INVALID_OFFSET: i32 = 4;
 const INVALID_WEEKDAY: i32 = 6;
 /// A byte of a text is wrong.
 const UNEXPECTED_BYTE: i32 = 8;
+/// The bounds of a text in a column are out of range or descend.
+const INVALID_BOUNDS: i32 = 30;
 /// A text ends too early.
 const UNEXPECTED_END: i32 = 31;
 
@@ -340,34 +342,34 @@ calls! {
     fots_moment_unix_time(moment: CMoment) -> DurationResult;
 }
 
-/// Defines calls of working days, with a week and holidays.
+/// Defines calls of working days, with a weekmask and holidays.
 macro_rules! calls_of_workdays {
-    ($($name:ident($($argument:ident: $kind:ty),*; week, holidays) -> $result:ident;)*) => {
+    ($($name:ident($($argument:ident: $kind:ty),*; weekmask, holidays) -> $result:ident;)*) => {
         mod declared_of_workdays {
             use super::*;
 
             extern "C" {
-                $(pub(super) fn $name($($argument: $kind,)* week: u32, holidays: *const i32, length: usize) -> $result;)*
+                $(pub(super) fn $name($($argument: $kind,)* weekmask: u32, holidays: *const i32, length: usize) -> $result;)*
             }
         }
 
         $(
             #[inline]
-            pub(crate) fn $name($($argument: $kind,)* week: u32, holidays: &[Date]) -> Answer<<$result as Returned>::Value> {
+            pub(crate) fn $name($($argument: $kind,)* weekmask: u32, holidays: &[Date]) -> Answer<<$result as Returned>::Value> {
                 let holidays = julian_days(holidays);
-                unsafe { declared_of_workdays::$name($($argument,)* week, holidays.as_ptr(), holidays.len()) }.answer()
+                unsafe { declared_of_workdays::$name($($argument,)* weekmask, holidays.as_ptr(), holidays.len()) }.answer()
             }
         )*
     };
 }
 
 calls_of_workdays! {
-    fots_date_is_workday(date: i32; week, holidays) -> ComponentResult;
-    fots_date_next_workday(date: i32; week, holidays) -> DateResult;
-    fots_date_previous_workday(date: i32; week, holidays) -> DateResult;
-    fots_date_add_workdays(date: i32, days: i32; week, holidays) -> DateResult;
-    fots_date_workdays_between(date: i32, other: i32; week, holidays) -> NumberResult;
-    fots_date_adjust(date: i32, convention: u32; week, holidays) -> DateResult;
+    fots_date_is_workday(date: i32; weekmask, holidays) -> ComponentResult;
+    fots_date_next_workday(date: i32; weekmask, holidays) -> DateResult;
+    fots_date_previous_workday(date: i32; weekmask, holidays) -> DateResult;
+    fots_date_add_workdays(date: i32, days: i32; weekmask, holidays) -> DateResult;
+    fots_date_workdays_between(date: i32, other: i32; weekmask, holidays) -> NumberResult;
+    fots_date_adjust(date: i32, convention: u32; weekmask, holidays) -> DateResult;
 }
 
 mod declared_alone {
@@ -555,13 +557,13 @@ macro_rules! calls_over_columns {
             #[track_caller]
             #[inline]
             pub(crate) fn $name($($column: &[$kind],)* $($written: &mut [$to]),*) -> usize {
-                let refused = unsafe {
+                let errors = unsafe {
                     declared_over_columns::$name(
                         $($column.as_ptr(), $column.len(),)* $($written.as_mut_ptr(), $written.len()),*
                     )
                 };
-                assert!(refused != LENGTH_MISMATCH, "columns are not of one length, or have no room");
-                refused
+                assert!(errors != LENGTH_MISMATCH, "columns are not of one length, or have no room");
+                errors
             }
         )*
     };
@@ -585,13 +587,13 @@ calls_over_columns! {
     fots_moments_texts(dates: i32, times: u64, offsets: i32) -> (bytes: u8, bounds: i32, statuses: u8);
 }
 
-/// Defines column calls of working days, with a week and holidays after the columns.
+/// Defines column calls of working days, with a weekmask and holidays after the columns.
 macro_rules! calls_over_columns_of_workdays {
-    ($($name:ident($($column:ident: $kind:ty),*; week, holidays) -> ($($written:ident: $to:ty),*);)*) => {
+    ($($name:ident($($column:ident: $kind:ty),*; weekmask, holidays) -> ($($written:ident: $to:ty),*);)*) => {
         mod declared_over_columns_of_workdays {
             extern "C" {
                 $(pub(super) fn $name(
-                    $($column: *const $kind, _: usize,)* week: u32, holidays: *const i32, length: usize, $($written: *mut $to, _: usize),*
+                    $($column: *const $kind, _: usize,)* weekmask: u32, holidays: *const i32, length: usize, $($written: *mut $to, _: usize),*
                 ) -> usize;)*
             }
         }
@@ -600,27 +602,27 @@ macro_rules! calls_over_columns_of_workdays {
             /// Returns the number of rows without a result.
             #[track_caller]
             #[inline]
-            pub(crate) fn $name($($column: &[$kind],)* week: u32, holidays: &[Date], $($written: &mut [$to]),*) -> usize {
+            pub(crate) fn $name($($column: &[$kind],)* weekmask: u32, holidays: &[Date], $($written: &mut [$to]),*) -> usize {
                 let holidays = julian_days(holidays);
-                let refused = unsafe {
+                let errors = unsafe {
                     declared_over_columns_of_workdays::$name(
                         $($column.as_ptr(), $column.len(),)*
-                        week,
+                        weekmask,
                         holidays.as_ptr(),
                         holidays.len(),
                         $($written.as_mut_ptr(), $written.len()),*
                     )
                 };
-                assert!(refused != LENGTH_MISMATCH, "columns are not of one length");
-                refused
+                assert!(errors != LENGTH_MISMATCH, "columns are not of one length");
+                errors
             }
         )*
     };
 }
 
 calls_over_columns_of_workdays! {
-    fots_dates_add_workdays(dates: i32, days: i32; week, holidays) -> (moved: i32, statuses: u8);
-    fots_dates_workdays_between(dates: i32, others: i32; week, holidays) -> (numbers: i32, statuses: u8);
+    fots_dates_add_workdays(dates: i32, days: i32; weekmask, holidays) -> (moved: i32, statuses: u8);
+    fots_dates_workdays_between(dates: i32, others: i32; weekmask, holidays) -> (numbers: i32, statuses: u8);
 }
 
 /// Returns the Julian days of dates. A `Date` is one, so they have the same layout.
@@ -632,12 +634,13 @@ pub(crate) fn julian_days(dates: &[Date]) -> &[i32] {
 pub(crate) fn row_error_of_status(status: i32) -> Option<RowError> {
     match status {
         OK => None,
-        INVALID_DATE => Some(RowError::NoDate),
-        RESULT_OUT_OF_RANGE => Some(RowError::PastRange),
+        INVALID_DATE => Some(RowError::InvalidDate),
+        RESULT_OUT_OF_RANGE => Some(RowError::ResultOutOfRange),
         INVALID_WEEKDAY => Some(RowError::OutOfRange(ComponentRange::WEEKDAY)),
-        INVALID_TIME => Some(RowError::NoTime),
-        INVALID_OFFSET => Some(RowError::NoOffset),
-        UNEXPECTED_BYTE => Some(RowError::ParseError),
+        INVALID_TIME => Some(RowError::InvalidTime),
+        INVALID_OFFSET => Some(RowError::InvalidOffset),
+        INVALID_BOUNDS => Some(RowError::InvalidBounds),
+        UNEXPECTED_BYTE => Some(RowError::UnexpectedByte),
         UNEXPECTED_END => Some(RowError::UnexpectedEnd),
         status => Some(RowError::OutOfRange(ComponentRange::from_status(status))),
     }

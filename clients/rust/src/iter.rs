@@ -46,7 +46,7 @@ impl Iterator for DateIter {
             self.back = None;
             return None;
         }
-        let item = self.front.days_later(n as i64)?;
+        let item = self.front.checked_add_days(n as i64)?;
         if item == back {
             self.back = None;
         } else {
@@ -88,7 +88,7 @@ impl DoubleEndedIterator for DateIter {
             self.back = None;
             return None;
         }
-        let item = back.days_later(-(n as i64))?;
+        let item = back.checked_add_days(-(n as i64))?;
         self.back = if item == self.front { None } else { item.previous_day() };
         Some(item)
     }

@@ -1,9 +1,9 @@
 use crate::date_time::date_time;
 use crate::error::{ComponentRange, ParseError};
-use crate::ffi::{self, expect_answer, or_none, or_error, CMoment};
+use crate::ffi::{self, expect_answer, or_error, or_none, CMoment};
 use crate::reader::both;
-use crate::short_text::ShortText;
 use crate::text::rfc3339;
+use crate::text_buffer::TextBuffer;
 use crate::{Date, Month, PlainDateTime, SignedDuration, Time, UtcOffset, Weekday};
 use core::cmp::Ordering;
 use core::fmt::{self, Write};
@@ -183,7 +183,7 @@ impl Hash for OffsetDateTime {
 
 impl fmt::Display for OffsetDateTime {
     fn fmt(&self, f: &mut fmt::Formatter<'_>) -> fmt::Result {
-        let mut text = ShortText::default();
+        let mut text = TextBuffer::default();
         write!(text, "{} {} {}", self.date, self.time, self.offset)?;
         text.pad(f)
     }
@@ -192,7 +192,7 @@ impl fmt::Display for OffsetDateTime {
 impl FromStr for OffsetDateTime {
     type Err = ParseError;
 
-    /// Parses RFC 3339, like [`text::rfc3339::read`](rfc3339::read), or a [`PlainDateTime`], a
+    /// Parses RFC 3339, like [`text::rfc3339::parse`](rfc3339::parse), or a [`PlainDateTime`], a
     /// space and a [`UtcOffset`].
     ///
     /// # Errors
@@ -200,7 +200,7 @@ impl FromStr for OffsetDateTime {
     /// `UnexpectedByte` or `UnexpectedEnd`, else `OutOfRange` for the first component out of range.
     fn from_str(text: &str) -> Result<Self, ParseError> {
         if text.matches(' ').count() < 2 {
-            let (date, time, offset) = rfc3339::read(text.as_bytes())?;
+            let (date, time, offset) = rfc3339::parse(text.as_bytes())?;
             return Ok(Self::new_in_offset(date, time, offset));
         }
         let (local, offset): (PlainDateTime, _) = both(text, text.rfind(' '))?;

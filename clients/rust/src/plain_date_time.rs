@@ -2,7 +2,7 @@ use crate::date_time::date_time;
 use crate::error::{ComponentRange, ParseError};
 use crate::ffi::{self, expect_answer, or_none, CMoment};
 use crate::reader::both;
-use crate::short_text::ShortText;
+use crate::text_buffer::TextBuffer;
 use crate::{Date, Month, OffsetDateTime, SignedDuration, Time, UtcOffset, Weekday};
 use core::fmt::{self, Write};
 use core::str::FromStr;
@@ -124,7 +124,7 @@ date_time!(PlainDateTime);
 
 impl fmt::Display for PlainDateTime {
     fn fmt(&self, f: &mut fmt::Formatter<'_>) -> fmt::Result {
-        let mut text = ShortText::default();
+        let mut text = TextBuffer::default();
         write!(text, "{} {}", self.date, self.time)?;
         text.pad(f)
     }

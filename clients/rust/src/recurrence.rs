@@ -172,7 +172,7 @@ impl fmt::Display for Recurrence<'_> {
 impl<'a> Recurrence<'a> {
     /// Returns the text with its parts in one order: `FREQ=MONTHLY;COUNT=3;BYDAY=-1FR`.
     pub fn text(&self) -> RecurrenceText {
-        RecurrenceText::from_c(ffi::fots_recurrence_text(self.text).expect("the text was read"))
+        RecurrenceText::from_c(ffi::fots_recurrence_text(self.text).expect("the text was parsed"))
     }
 
     /// Returns the rule from a start, without `COUNT`.
@@ -257,7 +257,7 @@ impl Iterator for RecurrenceDays<'_> {
         if self.next == self.length {
             let from = self.from.take()?;
             let written = ffi::fots_recurrence_days(self.text, self.start.to_c(), from.to_c(), &mut self.days);
-            self.length = written.expect("the text was read");
+            self.length = written.expect("the text was parsed");
             self.next = 0;
             if self.length == AT_ONCE {
                 self.from = Date::from_c(self.days[AT_ONCE - 1]).next_day();

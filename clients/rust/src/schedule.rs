@@ -1,7 +1,7 @@
 //! Months, periods, weekdays of a month, and day counts.
 
 use crate::error::ComponentRange;
-use crate::ffi::{self, expect_answer, or_none, or_error};
+use crate::ffi::{self, expect_answer, or_error, or_none};
 use crate::{Date, Month, Weekday};
 
 /// Years, months and days, all positive or 0, or all negative or 0.

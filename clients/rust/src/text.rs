@@ -1,7 +1,7 @@
 //! Texts of dates and moments, with the names of the crate `cal_text`.
 //!
-//! `read` parses the bytes of a text. A type that prints has a call `line` for the text in place,
-//! and a width pads the whole text.
+//! `parse` takes the bytes of a text. A type that prints has a call `text` for the text in place, and
+//! a width pads the whole text.
 //!
 //! ```
 //! use fotsevindre::text::{date, rfc3339, unix};
@@ -10,9 +10,9 @@
 //! let day: Date = "2024-060".parse()?;
 //! assert_eq!(date::WeekText(day).to_string(), "2024-W09-4");
 //!
-//! let (day, time, offset) = rfc3339::read(b"2024-02-29T23:59:59.25+01:00")?;
+//! let (day, time, offset) = rfc3339::parse(b"2024-02-29T23:59:59.25+01:00")?;
 //! assert_eq!(unix::Text::new(day, time, offset).to_string(), "@1709247599.25");
-//! let (day, time) = unix::read(b"@1709247599.25")?;
+//! let (day, time) = unix::parse(b"@1709247599.25")?;
 //! assert_eq!(rfc3339::Text::new(day, time, UtcOffset::UTC).unwrap().to_string(), "2024-02-29T22:59:59.25Z");
 //! # Ok::<(), fotsevindre::error::ParseError>(())
 //! ```
@@ -28,17 +28,17 @@ pub mod rfc3339;
 pub mod unix;
 
 pub use crate::error::ParseError;
-pub use any::{read_any, DateOrMoment};
+pub use any::{parse_any, DateOrMoment};
 
-/// A text of a date or a moment in place: at most 38 ASCII bytes. `WeekText(date).line().as_str()`
+/// A text of a date or a moment in place: at most 38 ASCII bytes. `WeekText(date).text().as_str()`
 /// is `2024-W09-4`.
 #[derive(Clone, Copy, PartialEq, Eq)]
-pub struct Line {
+pub struct ShortText {
     length: u32,
     bytes: [u8; 40],
 }
 
-impl Line {
+impl ShortText {
     /// Converts from the result of C.
     pub(crate) fn from_c((length, bytes): (u32, [u8; 40])) -> Self {
         Self { length, bytes }
@@ -60,7 +60,7 @@ impl Line {
     }
 }
 
-impl fmt::Debug for Line {
+impl fmt::Debug for ShortText {
     fn fmt(&self, f: &mut fmt::Formatter<'_>) -> fmt::Result {
         self.as_str().fmt(f)
     }

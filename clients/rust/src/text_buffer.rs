@@ -6,18 +6,18 @@ use core::fmt;
 const CAPACITY: usize = 42;
 
 /// A text of at most `CAPACITY` bytes.
-pub(crate) struct ShortText {
+pub(crate) struct TextBuffer {
     bytes: [u8; CAPACITY],
     length: usize,
 }
 
-impl Default for ShortText {
+impl Default for TextBuffer {
     fn default() -> Self {
         Self { bytes: [0; CAPACITY], length: 0 }
     }
 }
 
-impl ShortText {
+impl TextBuffer {
     /// Writes the text with the padding of the formatter.
     pub(crate) fn pad(&self, f: &mut fmt::Formatter<'_>) -> fmt::Result {
         let text = core::str::from_utf8(&self.bytes[..self.length]).map_err(|_| fmt::Error)?;
@@ -25,7 +25,7 @@ impl ShortText {
     }
 }
 
-impl fmt::Write for ShortText {
+impl fmt::Write for TextBuffer {
     fn write_str(&mut self, text: &str) -> fmt::Result {
         let end = self.length + text.len();
         let room = self.bytes.get_mut(self.length..end).ok_or(fmt::Error)?;

@@ -1,7 +1,7 @@
 use crate::error::{ComponentRange, ParseError};
 use crate::ffi::{self, expect_answer, or_error, Answer};
 use crate::reader::Reader;
-use crate::short_text::ShortText;
+use crate::text_buffer::TextBuffer;
 use crate::util::DateAdjustment;
 use crate::SignedDuration;
 use core::fmt::{self, Write};
@@ -17,7 +17,7 @@ pub struct Time {
 }
 
 /// Returns the time, or the component that is out of range.
-fn made(answer: Answer<u64>) -> Result<Time, ComponentRange> {
+fn time_or_error(answer: Answer<u64>) -> Result<Time, ComponentRange> {
     or_error(answer).map(Time::from_c)
 }
 
@@ -53,7 +53,7 @@ impl Time {
     ///
     /// `hour` above 23, `minute` above 59 or `second` above 59.
     pub fn from_hms(hour: u8, minute: u8, second: u8) -> Result<Self, ComponentRange> {
-        made(ffi::fots_time_from_hms(hour.into(), minute.into(), second.into()))
+        time_or_error(ffi::fots_time_from_hms(hour.into(), minute.into(), second.into()))
     }
 
     /// Creates a time with milliseconds. `from_hms_milli(1, 2, 3, 4)` is 1:02:03.004.
@@ -62,7 +62,7 @@ impl Time {
     ///
     /// The errors of [`Self::from_hms`], and `millisecond` above 999.
     pub fn from_hms_milli(hour: u8, minute: u8, second: u8, millisecond: u16) -> Result<Self, ComponentRange> {
-        made(ffi::fots_time_from_hms_milli(hour.into(), minute.into(), second.into(), millisecond.into()))
+        time_or_error(ffi::fots_time_from_hms_milli(hour.into(), minute.into(), second.into(), millisecond.into()))
     }
 
     /// Creates a time with microseconds. `from_hms_micro(1, 2, 3, 4_005)` is 1:02:03.004005.
@@ -71,7 +71,7 @@ impl Time {
     ///
     /// The errors of [`Self::from_hms`], and `microsecond` above 999999.
     pub fn from_hms_micro(hour: u8, minute: u8, second: u8, microsecond: u32) -> Result<Self, ComponentRange> {
-        made(ffi::fots_time_from_hms_micro(hour.into(), minute.into(), second.into(), microsecond))
+        time_or_error(ffi::fots_time_from_hms_micro(hour.into(), minute.into(), second.into(), microsecond))
     }
 
     /// Creates a time with nanoseconds. `from_hms_nano(1, 2, 3, 4_005_006)` is 1:02:03.004005006.
@@ -80,7 +80,7 @@ impl Time {
     ///
     /// The errors of [`Self::from_hms`], and `nanosecond` above 999999999.
     pub fn from_hms_nano(hour: u8, minute: u8, second: u8, nanosecond: u32) -> Result<Self, ComponentRange> {
-        made(ffi::fots_time_from_hms_nano(hour.into(), minute.into(), second.into(), nanosecond))
+        time_or_error(ffi::fots_time_from_hms_nano(hour.into(), minute.into(), second.into(), nanosecond))
     }
 
     /// Returns the hour, minute and second. For 1:02:03.004005006: 1, 2, 3.
@@ -143,7 +143,7 @@ impl Time {
     ///
     /// `hour` above 23.
     pub fn replace_hour(self, hour: u8) -> Result<Self, ComponentRange> {
-        made(ffi::fots_time_replace_hour(self.nanoseconds, hour.into()))
+        time_or_error(ffi::fots_time_replace_hour(self.nanoseconds, hour.into()))
     }
 
     /// Replaces the minute. For 1:02:03.5 and 7: 1:07:03.5.
@@ -152,7 +152,7 @@ impl Time {
     ///
     /// `minute` above 59.
     pub fn replace_minute(self, minute: u8) -> Result<Self, ComponentRange> {
-        made(ffi::fots_time_replace_minute(self.nanoseconds, minute.into()))
+        time_or_error(ffi::fots_time_replace_minute(self.nanoseconds, minute.into()))
     }
 
     /// Replaces the second. For 1:02:03.5 and 7: 1:02:07.5.
@@ -161,7 +161,7 @@ impl Time {
     ///
     /// `second` above 59.
     pub fn replace_second(self, second: u8) -> Result<Self, ComponentRange> {
-        made(ffi::fots_time_replace_second(self.nanoseconds, second.into()))
+        time_or_error(ffi::fots_time_replace_second(self.nanoseconds, second.into()))
     }
 
     /// Replaces all below the second. For 1:02:03.004005006 and 7: 1:02:03.007.
@@ -170,7 +170,7 @@ impl Time {
     ///
     /// `millisecond` above 999.
     pub fn replace_millisecond(self, millisecond: u16) -> Result<Self, ComponentRange> {
-        made(ffi::fots_time_replace_millisecond(self.nanoseconds, millisecond.into()))
+        time_or_error(ffi::fots_time_replace_millisecond(self.nanoseconds, millisecond.into()))
     }
 
     /// Replaces all below the second. For 1:02:03.004005006 and 7008: 1:02:03.007008.
@@ -179,7 +179,7 @@ impl Time {
     ///
     /// `microsecond` above 999999.
     pub fn replace_microsecond(self, microsecond: u32) -> Result<Self, ComponentRange> {
-        made(ffi::fots_time_replace_microsecond(self.nanoseconds, microsecond))
+        time_or_error(ffi::fots_time_replace_microsecond(self.nanoseconds, microsecond))
     }
 
     /// Replaces all below the second. For 1:02:03.004005006 and 7: 1:02:03.000000007.
@@ -188,7 +188,7 @@ impl Time {
     ///
     /// `nanosecond` above 999999999.
     pub fn replace_nanosecond(self, nanosecond: u32) -> Result<Self, ComponentRange> {
-        made(ffi::fots_time_replace_nanosecond(self.nanoseconds, nanosecond))
+        time_or_error(ffi::fots_time_replace_nanosecond(self.nanoseconds, nanosecond))
     }
 
     /// Sets all below the hour to zero. 1:02:03.004005006 becomes 1:00:00.0.
@@ -288,7 +288,7 @@ impl fmt::Display for Time {
             decimals /= 10;
             width -= 1;
         }
-        let mut text = ShortText::default();
+        let mut text = TextBuffer::default();
         write!(text, "{hour}:{minute:02}:{second:02}.{decimals:0width$}")?;
         text.pad(f)
     }

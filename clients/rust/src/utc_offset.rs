@@ -1,7 +1,7 @@
 use crate::error::{ComponentRange, ParseError};
 use crate::ffi::{self, expect_answer, or_error};
 use crate::reader::Reader;
-use crate::short_text::ShortText;
+use crate::text_buffer::TextBuffer;
 use core::fmt::{self, Write};
 use core::ops::Neg;
 use core::str::FromStr;
@@ -103,7 +103,7 @@ impl fmt::Display for UtcOffset {
     fn fmt(&self, f: &mut fmt::Formatter<'_>) -> fmt::Result {
         let (hours, minutes, seconds) = self.as_hms();
         let sign = if self.is_negative() { '-' } else { '+' };
-        let mut text = ShortText::default();
+        let mut text = TextBuffer::default();
         write!(text, "{sign}{:02}:{:02}:{:02}", hours.unsigned_abs(), minutes.unsigned_abs(), seconds.unsigned_abs())?;
         text.pad(f)
     }

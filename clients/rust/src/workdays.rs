@@ -30,7 +30,7 @@ pub enum Convention {
 #[derive(Clone, Copy, Debug)]
 pub struct Workdays<'a> {
     /// 1 for Monday, 2 for Tuesday, up to 64 for Sunday, added up.
-    pub(crate) week: u32,
+    pub(crate) weekmask: u32,
     pub(crate) holidays: &'a [Date],
 }
 
@@ -47,38 +47,38 @@ impl<'a> Workdays<'a> {
         if holidays.len() > Self::MAX_HOLIDAYS || holidays.windows(2).any(|next| next[0] >= next[1]) {
             return None;
         }
-        let week = marks.iter().rev().fold(0, |week, marked| 2 * week + u32::from(*marked));
-        Some(Self { week, holidays })
+        let weekmask = marks.iter().rev().fold(0, |weekmask, marked| 2 * weekmask + u32::from(*marked));
+        Some(Self { weekmask, holidays })
     }
 
     /// Returns whether a date is a working day.
     pub fn is_workday(&self, date: Date) -> bool {
-        expect_answer(ffi::fots_date_is_workday(date.to_c(), self.week, self.holidays)) == 1
+        expect_answer(ffi::fots_date_is_workday(date.to_c(), self.weekmask, self.holidays)) == 1
     }
 
     /// Returns the first working day after a date, or `None` out of range.
     pub fn next_workday(&self, date: Date) -> Option<Date> {
-        or_none(ffi::fots_date_next_workday(date.to_c(), self.week, self.holidays)).map(Date::from_c)
+        or_none(ffi::fots_date_next_workday(date.to_c(), self.weekmask, self.holidays)).map(Date::from_c)
     }
 
     /// Returns the last working day before a date, or `None` out of range.
     pub fn previous_workday(&self, date: Date) -> Option<Date> {
-        or_none(ffi::fots_date_previous_workday(date.to_c(), self.week, self.holidays)).map(Date::from_c)
+        or_none(ffi::fots_date_previous_workday(date.to_c(), self.weekmask, self.holidays)).map(Date::from_c)
     }
 
     /// Returns the n-th working day after a date, or before it if negative; for 0 the date itself,
     /// or the first working day after it. Returns `None` out of range.
     pub fn checked_add_workdays(&self, date: Date, days: i32) -> Option<Date> {
-        or_none(ffi::fots_date_add_workdays(date.to_c(), days, self.week, self.holidays)).map(Date::from_c)
+        or_none(ffi::fots_date_add_workdays(date.to_c(), days, self.weekmask, self.holidays)).map(Date::from_c)
     }
 
     /// Counts the working days from the earlier date, without the later; negative if `to` is first.
     pub fn workdays_between(&self, from: Date, to: Date) -> i32 {
-        expect_answer(ffi::fots_date_workdays_between(from.to_c(), to.to_c(), self.week, self.holidays))
+        expect_answer(ffi::fots_date_workdays_between(from.to_c(), to.to_c(), self.weekmask, self.holidays))
     }
 
     /// Returns the working day that a date moves to, or `None` out of range.
     pub fn adjust(&self, date: Date, convention: Convention) -> Option<Date> {
-        or_none(ffi::fots_date_adjust(date.to_c(), convention as u32, self.week, self.holidays)).map(Date::from_c)
+        or_none(ffi::fots_date_adjust(date.to_c(), convention as u32, self.weekmask, self.holidays)).map(Date::from_c)
     }
 }

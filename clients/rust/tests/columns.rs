@@ -16,34 +16,34 @@ impl Draw {
         self.0 ^ self.0 >> 29
     }
 
-    fn from(&mut self, least: i64, greatest: i64) -> i64 {
-        least + (self.word() % (greatest - least + 1) as u64) as i64
+    fn from(&mut self, min: i64, max: i64) -> i64 {
+        min + (self.word() % (max - min + 1) as u64) as i64
     }
 }
 
 /// A column of numbers, half of them of the range and a little beside it, and half of them of any bits.
-fn column<T>(seed: u64, least: i64, greatest: i64, of_word: impl Fn(i64) -> T) -> Vec<T> {
+fn column<T>(seed: u64, min: i64, max: i64, of_word: impl Fn(i64) -> T) -> Vec<T> {
     let mut draw = Draw(seed);
-    (0..ROWS).map(|row| of_word(if row % 2 == 0 { draw.from(least, greatest) } else { draw.word() as i64 })).collect()
+    (0..ROWS).map(|row| of_word(if row % 2 == 0 { draw.from(min, max) } else { draw.word() as i64 })).collect()
 }
 
-/// What stands for the date or the year of a row that has none.
-const NOTHING: i32 = i32::MIN;
+/// The number of a date or a year after an error.
+const NO_VALUE: i32 = i32::MIN;
 
 /// Compares rows of made dates and their statuses with what the calls of one value make, and the count of those with none.
 #[track_caller]
-fn same(dates: &[i32], statuses: &[u8], refused: usize, one_by_one: impl Iterator<Item = Result<Date, ComponentRange>>) {
+fn same(dates: &[i32], statuses: &[u8], errors: usize, one_by_one: impl Iterator<Item = Result<Date, ComponentRange>>) {
     let one_by_one: Vec<_> = one_by_one.collect();
     assert_eq!(one_by_one.len(), dates.len());
     for (row, answer) in one_by_one.iter().enumerate() {
-        assert_eq!(dates[row], answer.map_or(NOTHING, Date::to_julian_day), "{row}");
+        assert_eq!(dates[row], answer.map_or(NO_VALUE, Date::to_julian_day), "{row}");
         assert_eq!(row_error(statuses[row]), answer.err().map(RowError::OutOfRange), "{row}");
     }
-    assert_eq!(refused, one_by_one.iter().filter(|answer| answer.is_err()).count());
-    assert!(refused > 0 && refused < dates.len());
+    assert_eq!(errors, one_by_one.iter().filter(|answer| answer.is_err()).count());
+    assert!(errors > 0 && errors < dates.len());
 }
 
-/// What a column refuses under this name.
+/// Returns the component of a row that is out of range.
 fn component(status: u8) -> (&'static str, bool) {
     match row_error(status) {
         Some(RowError::OutOfRange(error)) => (error.name(), error.is_conditional()),
@@ -56,17 +56,17 @@ fn worked_rows() {
     let (mut dates, mut statuses) = ([0; 6], [0; 6]);
     let (years, weeks, weekdays) = ([2020, 2019, 999_999, 999_999, 2020, 1_000_000], [53, 53, 52, 52, 1, 1], [5, 1, 5, 6, 0, 8]);
     assert_eq!(columns::dates_from_iso_week_dates(&years, &weeks, &weekdays, &mut dates, &mut statuses), 4);
-    assert_eq!(dates, [2_459_216, NOTHING, 366_963_559, NOTHING, NOTHING, NOTHING]);
+    assert_eq!(dates, [2_459_216, NO_VALUE, 366_963_559, NO_VALUE, NO_VALUE, NO_VALUE]);
     assert_eq!((row_error(statuses[0]), row_error(statuses[2])), (None, None));
-    let refusals = [1, 3, 4, 5].map(|row| component(statuses[row]));
-    assert_eq!(refusals, [("week", true), ("weekday", true), ("weekday", false), ("weekday", false)]);
+    let row_errors = [1, 3, 4, 5].map(|row| component(statuses[row]));
+    assert_eq!(row_errors, [("week", true), ("weekday", true), ("weekday", false), ("weekday", false)]);
 
     let (mut moved, mut statuses) = ([0; 4], [0; 4]);
     let dates = [366_963_559, -363_521_074, 2_460_370, 366_963_560];
     assert_eq!(columns::dates_add_days(&dates, &[1, -1, 366, 0], &mut moved, &mut statuses), 3);
-    assert_eq!(moved, [NOTHING, NOTHING, 2_460_736, NOTHING]);
-    let refusals = statuses.map(row_error);
-    assert_eq!(refusals, [Some(RowError::PastRange), Some(RowError::PastRange), None, Some(RowError::NoDate)]);
+    assert_eq!(moved, [NO_VALUE, NO_VALUE, 2_460_736, NO_VALUE]);
+    let row_errors = statuses.map(row_error);
+    assert_eq!(row_errors, [Some(RowError::ResultOutOfRange), Some(RowError::ResultOutOfRange), None, Some(RowError::InvalidDate)]);
 }
 
 #[test]
@@ -78,25 +78,25 @@ fn dates_made() {
     let (mut dates, mut statuses) = (vec![0; ROWS], vec![0; ROWS]);
     let one_of = |number: i64| i32::try_from(number).map(Date::from_julian_day);
     let none = Date::from_julian_day(i32::MAX);
-    let refused = columns::dates_from_julian_days(&julian_days, &mut dates, &mut statuses);
-    same(&dates, &statuses, refused, julian_days.iter().map(|number| one_of(*number).unwrap_or(none)));
+    let errors = columns::dates_from_julian_days(&julian_days, &mut dates, &mut statuses);
+    same(&dates, &statuses, errors, julian_days.iter().map(|number| one_of(*number).unwrap_or(none)));
 
-    let refused = columns::dates_from_calendar_dates(&years, &small, &greater, &mut dates, &mut statuses);
+    let errors = columns::dates_from_calendar_dates(&years, &small, &greater, &mut dates, &mut statuses);
     let one_of = |row| Month::try_from(small[row]).and_then(|month| Date::from_calendar_date(years[row], month, greater[row]));
-    same(&dates, &statuses, refused, (0..ROWS).map(one_of));
-    let refused = columns::dates_from_ordinal_dates(&years, &ordinals, &mut dates, &mut statuses);
-    same(&dates, &statuses, refused, (0..ROWS).map(|row| Date::from_ordinal_date(years[row], ordinals[row])));
+    same(&dates, &statuses, errors, (0..ROWS).map(one_of));
+    let errors = columns::dates_from_ordinal_dates(&years, &ordinals, &mut dates, &mut statuses);
+    same(&dates, &statuses, errors, (0..ROWS).map(|row| Date::from_ordinal_date(years[row], ordinals[row])));
 
-    let refused = columns::dates_from_iso_week_dates(&years, &greater, &small, &mut dates, &mut statuses);
-    assert_eq!(refused, statuses.iter().filter(|status| **status != 0).count());
+    let errors = columns::dates_from_iso_week_dates(&years, &greater, &small, &mut dates, &mut statuses);
+    assert_eq!(errors, statuses.iter().filter(|status| **status != 0).count());
     for row in 0..ROWS {
         let weekday = Weekday::iter_from(Weekday::Monday).take(7).find(|weekday| weekday.number_from_monday() == small[row]);
         match weekday.map(|weekday| Date::from_iso_week_date(years[row], greater[row], weekday)) {
             Some(answer) => {
-                assert_eq!(dates[row], answer.map_or(NOTHING, Date::to_julian_day));
+                assert_eq!(dates[row], answer.map_or(NO_VALUE, Date::to_julian_day));
                 assert_eq!(row_error(statuses[row]), answer.err().map(RowError::OutOfRange));
             }
-            None => assert_eq!((dates[row], component(statuses[row])), (NOTHING, ("weekday", false))),
+            None => assert_eq!((dates[row], component(statuses[row])), (NO_VALUE, ("weekday", false))),
         }
     }
 }
@@ -115,13 +115,13 @@ fn what_dates_have() {
         columns::dates_to_iso_week_dates(&dates, &mut iso_years, &mut weeks, &mut week_weekdays, &mut statuses),
         columns::dates_weekdays(&dates, &mut weekdays, &mut statuses),
     ];
-    let none = statuses.iter().filter(|status| row_error(**status) == Some(RowError::NoDate)).count();
+    let none = statuses.iter().filter(|status| row_error(**status) == Some(RowError::InvalidDate)).count();
     assert!(counts == [none; 4] && none > 0);
     for row in 0..ROWS {
         let Ok(date) = Date::from_julian_day(dates[row]) else {
-            assert_eq!((years[row], months[row], month_days[row]), (NOTHING, 0, 0));
-            assert_eq!((ordinal_years[row], ordinals[row]), (NOTHING, 0));
-            assert_eq!((iso_years[row], weeks[row], week_weekdays[row], weekdays[row]), (NOTHING, 0, 0, 0));
+            assert_eq!((years[row], months[row], month_days[row]), (NO_VALUE, 0, 0));
+            assert_eq!((ordinal_years[row], ordinals[row]), (NO_VALUE, 0));
+            assert_eq!((iso_years[row], weeks[row], week_weekdays[row], weekdays[row]), (NO_VALUE, 0, 0, 0));
             continue;
         };
         let (year, month, day) = date.to_calendar_date();
@@ -131,27 +131,27 @@ fn what_dates_have() {
         assert_eq!((iso_years[row], weeks[row], week_weekdays[row]), (iso_year, week, weekday.number_from_monday()));
         assert_eq!(weekdays[row], weekday.number_from_monday());
     }
-    let refused = columns::dates_add_days(&dates, &days, &mut moved, &mut statuses);
+    let errors = columns::dates_add_days(&dates, &days, &mut moved, &mut statuses);
     for row in 0..ROWS {
         let later =
             i32::try_from(i64::from(dates[row]).saturating_add(days[row])).ok().filter(|day| Date::from_julian_day(*day).is_ok());
         let expected = match Date::from_julian_day(dates[row]) {
             Ok(_) if later.is_some() => None,
-            Ok(_) => Some(RowError::PastRange),
-            Err(_) => Some(RowError::NoDate),
+            Ok(_) => Some(RowError::ResultOutOfRange),
+            Err(_) => Some(RowError::InvalidDate),
         };
         assert_eq!(row_error(statuses[row]), expected);
-        assert_eq!(moved[row], if expected.is_none() { later.unwrap() } else { NOTHING });
+        assert_eq!(moved[row], if expected.is_none() { later.unwrap() } else { NO_VALUE });
     }
-    assert_eq!(refused, statuses.iter().filter(|status| **status != 0).count());
+    assert_eq!(errors, statuses.iter().filter(|status| **status != 0).count());
 }
 
-/// What a move by months or working days answers: a date, none past the range, or none as the row has no date.
-fn moved_row(date: i32, moved: impl Fn(Date) -> Option<Date>) -> (i32, Option<RowError>) {
+/// Returns the row of a call that adds months or working days, and its error.
+fn row_after_move(date: i32, moved: impl Fn(Date) -> Option<Date>) -> (i32, Option<RowError>) {
     match Date::from_julian_day(date).map(moved) {
         Ok(Some(later)) => (later.to_julian_day(), None),
-        Ok(None) => (NOTHING, Some(RowError::PastRange)),
-        Err(_) => (NOTHING, Some(RowError::NoDate)),
+        Ok(None) => (NO_VALUE, Some(RowError::ResultOutOfRange)),
+        Err(_) => (NO_VALUE, Some(RowError::InvalidDate)),
     }
 }
 
@@ -165,29 +165,29 @@ fn dates_of_the_schedule() {
     others[..6].copy_from_slice(&[-363_521_074, 366_963_559, 0, 366_963_559, -363_521_074, 0]);
     moves[..6].copy_from_slice(&[0, -1, 23_999_987, 0, 1, -23_999_987]);
     let (mut moved, mut statuses) = (vec![0; ROWS], vec![0; ROWS]);
-    let refused = columns::dates_add_months(&dates, &moves, &mut moved, &mut statuses);
-    assert_eq!(refused, statuses.iter().filter(|status| **status != 0).count());
+    let errors = columns::dates_add_months(&dates, &moves, &mut moved, &mut statuses);
+    assert_eq!(errors, statuses.iter().filter(|status| **status != 0).count());
     for row in 0..ROWS {
-        let expected = moved_row(dates[row], |date| date.checked_add_months(moves[row]));
+        let expected = row_after_move(dates[row], |date| date.checked_add_months(moves[row]));
         assert_eq!((moved[row], row_error(statuses[row])), expected, "{row}");
     }
 
     let holidays = [-363_521_073, 2_451_545, 366_963_557, 366_963_558].map(|day| Date::from_julian_day(day).unwrap());
     let workdays = Workdays::new(Workdays::MONDAY_TO_FRIDAY, &holidays).unwrap();
-    let refused = columns::dates_add_workdays(&dates, &moves, &workdays, &mut moved, &mut statuses);
-    assert_eq!(refused, statuses.iter().filter(|status| **status != 0).count());
+    let errors = columns::dates_add_workdays(&dates, &moves, &workdays, &mut moved, &mut statuses);
+    assert_eq!(errors, statuses.iter().filter(|status| **status != 0).count());
     for row in 0..ROWS {
-        let expected = moved_row(dates[row], |date| workdays.checked_add_workdays(date, moves[row]));
+        let expected = row_after_move(dates[row], |date| workdays.checked_add_workdays(date, moves[row]));
         assert_eq!((moved[row], row_error(statuses[row])), expected, "{row}");
     }
 
     let mut numbers = vec![0; ROWS];
-    let refused = columns::dates_workdays_between(&dates, &others, &workdays, &mut numbers, &mut statuses);
-    assert_eq!(refused, statuses.iter().filter(|status| **status != 0).count());
+    let errors = columns::dates_workdays_between(&dates, &others, &workdays, &mut numbers, &mut statuses);
+    assert_eq!(errors, statuses.iter().filter(|status| **status != 0).count());
     for row in 0..ROWS {
         let expected = match (Date::from_julian_day(dates[row]), Date::from_julian_day(others[row])) {
             (Ok(date), Ok(other)) => (workdays.workdays_between(date, other), None),
-            _ => (NOTHING, Some(RowError::NoDate)),
+            _ => (NO_VALUE, Some(RowError::InvalidDate)),
         };
         assert_eq!((numbers[row], row_error(statuses[row])), expected, "{row}");
     }
@@ -201,8 +201,8 @@ fn columns_chain() {
     let (mut dates, mut made, mut statuses) = (vec![0; ROWS], vec![0; ROWS], vec![0; ROWS]);
     let (mut iso_years, mut weeks, mut weekdays) = (vec![0; ROWS], vec![0; ROWS], vec![0; ROWS]);
     let (mut at_once_years, mut at_once_weeks, mut at_once_weekdays) = (vec![0; ROWS], vec![0; ROWS], vec![0; ROWS]);
-    let refused = columns::dates_from_calendar_dates(&years, &months, &days, &mut dates, &mut made);
-    assert_eq!(columns::dates_to_iso_week_dates(&dates, &mut iso_years, &mut weeks, &mut weekdays, &mut statuses), refused);
+    let errors = columns::dates_from_calendar_dates(&years, &months, &days, &mut dates, &mut made);
+    assert_eq!(columns::dates_to_iso_week_dates(&dates, &mut iso_years, &mut weeks, &mut weekdays, &mut statuses), errors);
     let at_once = columns::calendar_dates_to_iso_week_dates(
         &years,
         &months,
@@ -212,10 +212,10 @@ fn columns_chain() {
         &mut at_once_weekdays,
         &mut statuses,
     );
-    assert_eq!((at_once, &statuses), (refused, &made));
+    assert_eq!((at_once, &statuses), (errors, &made));
     assert_eq!((&at_once_years, &at_once_weeks, &at_once_weekdays), (&iso_years, &weeks, &weekdays));
     let mut back = vec![0; ROWS];
-    assert_eq!(columns::dates_from_iso_week_dates(&iso_years, &weeks, &weekdays, &mut back, &mut statuses), refused);
+    assert_eq!(columns::dates_from_iso_week_dates(&iso_years, &weeks, &weekdays, &mut back, &mut statuses), errors);
     assert_eq!(back, dates);
     assert_eq!(columns::julian_days(&[Date::MIN, Date::MAX]), [-363_521_074, 366_963_559]);
 }
@@ -265,17 +265,17 @@ fn columns_of_other_lengths() {
 fn texts() {
     let dates = column(8, -363_600_000, 367_000_000, |number| number as i32);
     let (mut bytes, mut bounds, mut statuses) = (vec![77; ROWS * columns::MAX_DATE_LENGTH], vec![0; ROWS + 1], vec![0; ROWS]);
-    let refused = columns::dates_calendar_texts(&dates, &mut bytes, &mut bounds, &mut statuses);
-    let (mut read, mut read_statuses) = (vec![0; ROWS], vec![0; ROWS]);
-    assert_eq!(columns::dates_parse(&bytes, &bounds, &mut read, &mut read_statuses), refused);
+    let errors = columns::dates_calendar_texts(&dates, &mut bytes, &mut bounds, &mut statuses);
+    let (mut parsed, mut parsed_statuses) = (vec![0; ROWS], vec![0; ROWS]);
+    assert_eq!(columns::dates_parse(&bytes, &bounds, &mut parsed, &mut parsed_statuses), errors);
     assert!(bounds[0] == 0 && bytes[bounds[ROWS] as usize..].iter().all(|byte| *byte == 77));
     for row in 0..ROWS {
         let text = std::str::from_utf8(&bytes[bounds[row] as usize..bounds[row + 1] as usize]).unwrap();
         match Date::from_julian_day(dates[row]) {
-            Ok(date) => assert_eq!((text, read[row], statuses[row]), (date.to_string().as_str(), dates[row], 0)),
+            Ok(date) => assert_eq!((text, parsed[row], statuses[row]), (date.to_string().as_str(), dates[row], 0)),
             Err(_) => {
-                assert_eq!((text, read[row], row_error(statuses[row])), ("", NOTHING, Some(RowError::NoDate)));
-                assert_eq!(row_error(read_statuses[row]), Some(RowError::UnexpectedEnd));
+                assert_eq!((text, parsed[row], row_error(statuses[row])), ("", NO_VALUE, Some(RowError::InvalidDate)));
+                assert_eq!(row_error(parsed_statuses[row]), Some(RowError::UnexpectedEnd));
             }
         }
     }
@@ -288,17 +288,20 @@ fn texts_of_moments() {
     let (mut dates, mut times, mut offsets, mut statuses) = ([0; 5], [0; 5], [0; 5], [0; 5]);
     assert_eq!(columns::moments_parse(text, &bounds, &mut dates, &mut times, &mut offsets, &mut statuses), 3);
     assert_eq!((dates[0], times[0], offsets[0]), (2_460_370, 86_399_250_000_000, 3600));
-    assert_eq!((dates[2], times[2], offsets[2]), (NOTHING, u64::MAX, NOTHING));
+    assert_eq!((dates[2], times[2], offsets[2]), (NO_VALUE, u64::MAX, NO_VALUE));
     assert_eq!(component(statuses[2]), ("day", true));
-    assert_eq!([3, 4].map(|row| component(statuses[row])), [("bounds", false); 2]);
+    assert_eq!([3, 4].map(|row| row_error(statuses[row])), [Some(RowError::InvalidBounds); 2]);
 
     (times[1], offsets[2], dates[2]) = (86_400_000_000_000, 93_600, 0);
     (times[2], dates[3], times[3], offsets[3]) = (0, 5_373_485, 0, 0);
     let (mut bytes, mut bounds) = ([0; 5 * columns::MAX_MOMENT_LENGTH], [0; 6]);
     assert_eq!(columns::moments_texts(&dates, &times, &offsets, &mut bytes, &mut bounds, &mut statuses), 4);
     assert_eq!((&bytes[..28], bounds), (&text[..28], [0, 28, 28, 28, 28, 28]));
-    let refusals = [1, 2, 3, 4].map(|row| row_error(statuses[row]));
-    assert_eq!(refusals, [RowError::NoTime, RowError::NoOffset, RowError::PastRange, RowError::NoDate].map(Some));
+    let row_errors = [1, 2, 3, 4].map(|row| row_error(statuses[row]));
+    assert_eq!(
+        row_errors,
+        [RowError::InvalidTime, RowError::InvalidOffset, RowError::ResultOutOfRange, RowError::InvalidDate].map(Some)
+    );
 }
 
 #[test]

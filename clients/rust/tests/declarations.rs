@@ -76,8 +76,8 @@ fn calls_of_header() -> HashMap<String, (String, String)> {
     calls.collect()
 }
 
-/// What stands for the marks of a week and the holidays.
-const WORKDAYS: &str = ", week: u32, holidays: *const i32, length: usize";
+/// The arguments of C for a weekmask and the holidays.
+const WORKDAYS: &str = ", weekmask: u32, holidays: *const i32, length: usize";
 
 /// What a call over columns takes: each slice that it reads, and each that it writes, with its length, and in between what is no slice.
 fn over_columns(columns: &[&str], written: &str) -> String {
@@ -105,7 +105,7 @@ fn calls_are_those_of_the_header() {
             continue;
         };
         let (arguments, result) = rest.split_once(") -> ").unwrap();
-        let arguments = arguments.replace("; week, holidays", WORKDAYS);
+        let arguments = arguments.replace("; weekmask, holidays", WORKDAYS);
         let kinds: Vec<_> = arguments.split(", ").map(|argument| argument.split_once(": ").unwrap().1).collect();
         let declared = if result.starts_with('(') {
             (over_columns(&kinds, result), "usize".into())
@@ -155,7 +155,7 @@ fn structs_are_those_of_the_header() {
 }
 
 #[test]
-fn refusals_are_those_of_the_header() {
+fn components_are_those_of_the_header() {
     let plain = plain();
     let mut count = 0;
     for part in plain.split("case FOTS_").skip(1) {
@@ -168,8 +168,8 @@ fn refusals_are_those_of_the_header() {
             // The client names the part, as in `duplicate BYDAY`.
             let reason = text.trim_end_matches(" part");
             assert!(RECURRENCES.contains(&format!(" => (\"{reason}")), "{name}");
-        } else if number >= 16 && name != "UNEXPECTED_END" {
-            // An unexpected end is no refusal of a component.
+        } else if number >= 16 && !matches!(name, "UNEXPECTED_END" | "INVALID_BOUNDS") {
+            // The others name a component.
             assert!(ERRORS.contains(&format!("            {number} => \"{text}\",\n")), "{name}");
             count += 1;
         }

@@ -1,4 +1,4 @@
-//! Every refusal, by its name and its mark, and where calls panic.
+//! Every error, by its name and its mark, and when calls panic.
 
 use fotsevindre::error::ComponentRange;
 use fotsevindre::{Date, Duration, Month, Time, UtcOffset, Weekday};
@@ -6,7 +6,7 @@ use std::fmt::Debug;
 use std::panic::{catch_unwind, UnwindSafe};
 
 #[track_caller]
-fn refused<T: Debug + PartialEq>(result: Result<T, ComponentRange>, name: &str, is_conditional: bool) {
+fn is_error<T: Debug + PartialEq>(result: Result<T, ComponentRange>, name: &str, is_conditional: bool) {
     let error = result.unwrap_err();
     assert_eq!((error.name(), error.is_conditional()), (name, is_conditional));
     assert_eq!(error.to_string(), format!("{name} was not in range"));
@@ -25,36 +25,36 @@ fn day(year: i32, month: Month, day: u8) -> Date {
 #[test]
 fn of_dates() {
     for julian_day in [-363_521_075, 366_963_560, i32::MIN, i32::MAX] {
-        refused(Date::from_julian_day(julian_day), "julian_day", false);
+        is_error(Date::from_julian_day(julian_day), "julian_day", false);
     }
     for year in [-1_000_000, 1_000_000, i32::MIN, i32::MAX] {
-        refused(Date::from_calendar_date(year, Month::January, 32), "year", false);
-        refused(Date::from_ordinal_date(year, 0), "year", false);
-        refused(Date::from_iso_week_date(year, 53, Weekday::Monday), "year", false);
-        refused(day(2024, Month::February, 29).replace_year(year), "year", false);
+        is_error(Date::from_calendar_date(year, Month::January, 32), "year", false);
+        is_error(Date::from_ordinal_date(year, 0), "year", false);
+        is_error(Date::from_iso_week_date(year, 53, Weekday::Monday), "year", false);
+        is_error(day(2024, Month::February, 29).replace_year(year), "year", false);
     }
     for (year, month, day) in [(1900, 2, 29), (2000, 2, 0), (2000, 2, 30), (2000, 1, 32), (2000, 4, 31), (2000, 1, 255)] {
-        refused(Date::from_calendar_date(year, Month::try_from(month).unwrap(), day), "day", true);
+        is_error(Date::from_calendar_date(year, Month::try_from(month).unwrap(), day), "day", true);
     }
     for (year, ordinal) in [(1900, 366), (2000, 367), (2000, 0), (2000, u16::MAX)] {
-        refused(Date::from_ordinal_date(year, ordinal), "ordinal", true);
+        is_error(Date::from_ordinal_date(year, ordinal), "ordinal", true);
     }
     for (year, week) in [(2019, 53), (2020, 54), (2020, 0), (2020, 255), (999_999, 53)] {
-        refused(Date::from_iso_week_date(year, week, Weekday::Monday), "week", true);
+        is_error(Date::from_iso_week_date(year, week, Weekday::Monday), "week", true);
     }
     for weekday in [Weekday::Saturday, Weekday::Sunday] {
-        refused(Date::from_iso_week_date(999_999, 52, weekday), "weekday", true);
+        is_error(Date::from_iso_week_date(999_999, 52, weekday), "weekday", true);
     }
-    refused(day(2024, Month::February, 29).replace_year(2023), "day", true);
-    refused(day(2022, Month::January, 30).replace_month(Month::February), "day", true);
+    is_error(day(2024, Month::February, 29).replace_year(2023), "day", true);
+    is_error(day(2022, Month::January, 30).replace_month(Month::February), "day", true);
     for number in [0, 29, 30, 255] {
-        refused(day(2022, Month::February, 18).replace_day(number), "day", true);
+        is_error(day(2022, Month::February, 18).replace_day(number), "day", true);
     }
     for number in [0, 366, u16::MAX] {
-        refused(day(2022, Month::February, 18).replace_ordinal(number), "ordinal", true);
+        is_error(day(2022, Month::February, 18).replace_ordinal(number), "ordinal", true);
     }
     for number in [0, 13, 255] {
-        refused(Month::try_from(number), "month", false);
+        is_error(Month::try_from(number), "month", false);
     }
 }
 
@@ -62,41 +62,41 @@ fn of_dates() {
 fn of_times() {
     let midnight = Time::MIDNIGHT;
     for number in [24, 60, 255] {
-        refused(Time::from_hms(number, 60, 60), "hour", false);
-        refused(midnight.replace_hour(number), "hour", false);
+        is_error(Time::from_hms(number, 60, 60), "hour", false);
+        is_error(midnight.replace_hour(number), "hour", false);
     }
     for number in [60, 255] {
-        refused(Time::from_hms(23, number, 60), "minute", false);
-        refused(midnight.replace_minute(number), "minute", false);
-        refused(Time::from_hms(23, 59, number), "second", false);
-        refused(Time::from_hms_nano(23, 59, number, u32::MAX), "second", false);
-        refused(midnight.replace_second(number), "second", false);
+        is_error(Time::from_hms(23, number, 60), "minute", false);
+        is_error(midnight.replace_minute(number), "minute", false);
+        is_error(Time::from_hms(23, 59, number), "second", false);
+        is_error(Time::from_hms_nano(23, 59, number, u32::MAX), "second", false);
+        is_error(midnight.replace_second(number), "second", false);
     }
     for number in [1_000, u16::MAX] {
-        refused(Time::from_hms_milli(0, 0, 0, number), "millisecond", false);
-        refused(midnight.replace_millisecond(number), "millisecond", false);
+        is_error(Time::from_hms_milli(0, 0, 0, number), "millisecond", false);
+        is_error(midnight.replace_millisecond(number), "millisecond", false);
     }
     for number in [1_000_000, 4_294_968, u32::MAX] {
-        refused(Time::from_hms_micro(0, 0, 0, number), "microsecond", false);
-        refused(midnight.replace_microsecond(number), "microsecond", false);
+        is_error(Time::from_hms_micro(0, 0, 0, number), "microsecond", false);
+        is_error(midnight.replace_microsecond(number), "microsecond", false);
     }
     for number in [1_000_000_000, u32::MAX] {
-        refused(Time::from_hms_nano(0, 0, 0, number), "nanosecond", false);
-        refused(midnight.replace_nanosecond(number), "nanosecond", false);
+        is_error(Time::from_hms_nano(0, 0, 0, number), "nanosecond", false);
+        is_error(midnight.replace_nanosecond(number), "nanosecond", false);
     }
 }
 
 #[test]
 fn of_offsets() {
     for number in [26, -26, i8::MIN, i8::MAX] {
-        refused(UtcOffset::from_hms(number, 99, 0), "offset hour", false);
+        is_error(UtcOffset::from_hms(number, 99, 0), "offset hour", false);
     }
     for number in [60, -60, i8::MIN, i8::MAX] {
-        refused(UtcOffset::from_hms(0, number, 99), "offset minute", false);
-        refused(UtcOffset::from_hms(0, 0, number), "offset second", false);
+        is_error(UtcOffset::from_hms(0, number, 99), "offset minute", false);
+        is_error(UtcOffset::from_hms(0, 0, number), "offset second", false);
     }
     for number in [93_600, -93_600, i32::MIN, i32::MAX] {
-        refused(UtcOffset::from_whole_seconds(number), "seconds", false);
+        is_error(UtcOffset::from_whole_seconds(number), "seconds", false);
     }
 }
 
@@ -125,10 +125,10 @@ fn panics_past_the_range() {
     panics(|| [Duration::MAX, Duration::NANOSECOND].iter().sum::<Duration>());
 }
 
-/// A call that makes a duration, the greatest number that it takes, and the seconds of its unit.
+/// A constructor of durations, the maximum number that it accepts, and the seconds of its unit.
 type Maker = (fn(i64) -> Duration, i64, i64);
 
-/// The greatest number of each unit that is a duration, and one past it.
+/// The maximum number of each unit, and one more.
 #[test]
 fn makers_of_durations_end_where_durations_do() {
     let makers: [Maker; 4] = [

@@ -184,13 +184,13 @@ fn dates_with_times() {
     for (value, text) in made {
         assert_eq!(value, Ok(plain(text)));
     }
-    let refused = [
+    let errors = [
         (day.with_hms(24, 60, 60), "hour"),
         (day.with_hms_milli(23, 59, 59, 1_000), "millisecond"),
         (day.with_hms_micro(23, 59, 59, 1_000_000), "microsecond"),
         (day.with_hms_nano(23, 59, 59, 1_000_000_000), "nanosecond"),
     ];
-    for (value, name) in refused {
+    for (value, name) in errors {
         assert_eq!(value.unwrap_err().name(), name);
     }
 }

@@ -260,26 +260,26 @@ fn offsets() {
 
 #[test]
 fn durations() {
-    let (least, greatest, zero) = (Duration::MIN, Duration::MAX, Duration::ZERO);
+    let (min, max, zero) = (Duration::MIN, Duration::MAX, Duration::ZERO);
     let long_one = Duration::new(-3_074_457_345_618_258_602, -999_999_999);
     assert_eq!(Duration::new(1, 2_000_000_000), Duration::seconds(3));
     assert_eq!(Duration::new(-1, 1), Duration::nanoseconds(-999_999_999));
-    assert_eq!(zero.saturating_sub(least), greatest);
-    assert_eq!(Duration::nanoseconds(-1).checked_sub(Duration::seconds(i64::MIN)), Some(greatest));
-    assert_eq!(least.checked_sub(Duration::NANOSECOND), None);
-    assert_eq!(greatest.checked_add(least), Some(Duration::seconds(-1)));
-    assert_eq!(greatest.checked_add(Duration::NANOSECOND), None);
-    assert_eq!(greatest.saturating_add(Duration::NANOSECOND), greatest);
-    assert_eq!((long_one.saturating_mul(-3), long_one.checked_mul(-3)), (greatest, None));
-    assert_eq!((least.saturating_mul(-2), greatest.saturating_mul(-2)), (greatest, least));
+    assert_eq!(zero.saturating_sub(min), max);
+    assert_eq!(Duration::nanoseconds(-1).checked_sub(Duration::seconds(i64::MIN)), Some(max));
+    assert_eq!(min.checked_sub(Duration::NANOSECOND), None);
+    assert_eq!(max.checked_add(min), Some(Duration::seconds(-1)));
+    assert_eq!(max.checked_add(Duration::NANOSECOND), None);
+    assert_eq!(max.saturating_add(Duration::NANOSECOND), max);
+    assert_eq!((long_one.saturating_mul(-3), long_one.checked_mul(-3)), (max, None));
+    assert_eq!((min.saturating_mul(-2), max.saturating_mul(-2)), (max, min));
     assert_eq!(Duration::new(-7, -500_000_000).checked_div(2), Some(Duration::new(-3, -750_000_000)));
     assert_eq!(Duration::nanoseconds(-1).checked_div(2), Some(zero));
     assert_eq!(Duration::SECOND.checked_div(0), None);
     assert_eq!(Duration::seconds(i64::MIN).checked_div(-1), None);
-    assert_eq!((least.checked_neg(), Duration::SECOND.checked_neg()), (None, Some(Duration::seconds(-1))));
-    assert_eq!((least.abs(), Duration::seconds(-5).abs()), (greatest, Duration::seconds(5)));
-    assert_eq!(Duration::try_sum(&[greatest, Duration::NANOSECOND, Duration::nanoseconds(-1)]), None);
-    assert_eq!(Duration::try_sum(&[greatest, Duration::nanoseconds(-1), Duration::NANOSECOND]), Some(greatest));
+    assert_eq!((min.checked_neg(), Duration::SECOND.checked_neg()), (None, Some(Duration::seconds(-1))));
+    assert_eq!((min.abs(), Duration::seconds(-5).abs()), (max, Duration::seconds(5)));
+    assert_eq!(Duration::try_sum(&[max, Duration::NANOSECOND, Duration::nanoseconds(-1)]), None);
+    assert_eq!(Duration::try_sum(&[max, Duration::nanoseconds(-1), Duration::NANOSECOND]), Some(max));
     assert_eq!(Duration::try_sum(&[]), Some(zero));
     assert_eq!([Duration::HOUR, Duration::MINUTE].iter().sum::<Duration>(), Duration::minutes(61));
     assert_eq!([Duration::HOUR, Duration::MINUTE].into_iter().sum::<Duration>(), Duration::minutes(61));

@@ -1,6 +1,6 @@
 //! Recurrences, by examples of RFC 5545 with their first days.
 
-use fotsevindre::recurrence::{parse, RuleEnd, ParseRuleError, RulePart, ParseRuleErrorKind};
+use fotsevindre::recurrence::{parse, ParseRuleError, ParseRuleErrorKind, RuleEnd, RulePart};
 use fotsevindre::ByDay::{Every, Nth};
 use fotsevindre::Frequency::{Daily, Monthly, Weekly, Yearly};
 use fotsevindre::Month::{December, February, January, July, June, November};

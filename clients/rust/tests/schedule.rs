@@ -39,8 +39,8 @@ fn ends() {
 fn weekdays() {
     let thanksgiving = Date::nth_weekday_of_month(2024, Month::November, Weekday::Thursday, 4);
     assert_eq!(thanksgiving, Ok(day(2024, Month::November, 28)));
-    let refused = |year, n| Date::nth_weekday_of_month(year, Month::November, Weekday::Thursday, n).unwrap_err().name();
-    assert_eq!((refused(2024, 5), refused(2024, 0), refused(1_000_000, 1)), ("weekday", "weekday", "year"));
+    let error_name = |year, n| Date::nth_weekday_of_month(year, Month::November, Weekday::Thursday, n).unwrap_err().name();
+    assert_eq!((error_name(2024, 5), error_name(2024, 0), error_name(1_000_000, 1)), ("weekday", "weekday", "year"));
     assert_eq!(Date::last_weekday_of_month(2024, Month::May, Weekday::Friday), Ok(day(2024, Month::May, 31)));
     let friday = day(2024, Month::March, 1);
     assert_eq!(friday.on_or_after(Weekday::Monday), Some(day(2024, Month::March, 4)));

@@ -1,9 +1,10 @@
-//! Texts: worked rows, the examples of RFC 3339, what is refused and where, and days and moments printed and read back.
+//! Texts: worked rows, the examples of RFC 3339, errors and their positions, and days and moments
+//! printed and parsed.
 
 use fotsevindre::error::ParseError::{self, UnexpectedByte, UnexpectedEnd};
 use fotsevindre::text::date::{CalendarText, OrdinalText, WeekText};
 use fotsevindre::text::julian_day::JulianText;
-use fotsevindre::text::{date, julian_day, read_any, rfc3339, unix, DateOrMoment};
+use fotsevindre::text::{date, julian_day, parse_any, rfc3339, unix, DateOrMoment};
 use fotsevindre::{Date, Duration, Month, Time, UtcOffset};
 
 fn day(year: i32, month: u8, day: u8) -> Date {
@@ -27,25 +28,25 @@ const DAYS: [(i32, &str, &str, &str, &str); 9] = [
 fn days_in_text() {
     for (number, calendar, ordinal, week, julian) in DAYS {
         let date = Date::from_julian_day(number).unwrap();
-        let lines = [CalendarText(date).line(), OrdinalText(date).line(), WeekText(date).line(), JulianText(date).line()];
+        let lines = [CalendarText(date).text(), OrdinalText(date).text(), WeekText(date).text(), JulianText(date).text()];
         assert_eq!(lines.map(|line| line.as_str().to_string()), [calendar, ordinal, week, julian]);
         assert_eq!(lines[2].as_bytes(), week.as_bytes());
         assert_eq!((CalendarText(date).to_string(), OrdinalText(date).to_string()), (calendar.into(), ordinal.into()));
         assert_eq!((WeekText(date).to_string(), JulianText(date).to_string()), (week.into(), julian.into()));
         for text in [calendar, ordinal, week] {
-            assert_eq!((text.parse(), date::read(text.as_bytes())), (Ok(date), Ok(date)));
+            assert_eq!((text.parse(), date::parse(text.as_bytes())), (Ok(date), Ok(date)));
         }
-        assert_eq!(julian_day::read(julian.as_bytes()), Ok(date));
+        assert_eq!(julian_day::parse(julian.as_bytes()), Ok(date));
     }
     assert_eq!(format!("{:>13}|{:*<14}|", OrdinalText(Date::MIN), WeekText(Date::MIN)), "  -999999-001|-999999-W01-1*|");
-    assert_eq!(format!("{:?}", WeekText(Date::MAX).line()), "\"+999999-W52-5\"");
+    assert_eq!(format!("{:?}", WeekText(Date::MAX).text()), "\"+999999-W52-5\"");
     assert_eq!("-12345-W01-1".parse(), Ok(day(-12_345, 1, 4)));
 }
 
 /// The error prints as said, is one of std, and has the name and the mark of the component.
 #[track_caller]
-fn is_out_of_range<T: std::fmt::Debug>(text: &str, read: Result<T, ParseError>, name: &str, is_conditional: bool) {
-    let error = read.unwrap_err();
+fn is_out_of_range<T: std::fmt::Debug>(text: &str, parsed: Result<T, ParseError>, name: &str, is_conditional: bool) {
+    let error = parsed.unwrap_err();
     let _: &dyn std::error::Error = &error;
     assert_eq!(error.to_string(), format!("{name} was not in range"), "{text}");
     let ParseError::OutOfRange(component) = error else { panic!("{text}: {error}") };
@@ -73,7 +74,7 @@ fn components_out_of_range() {
         is_out_of_range(text, text.parse::<Date>(), name, is_conditional);
     }
     for text in ["J366963560", "J-363521075", "J999999999"] {
-        is_out_of_range(text, julian_day::read(text.as_bytes()), "julian_day", false);
+        is_out_of_range(text, julian_day::parse(text.as_bytes()), "julian_day", false);
     }
     // The leap seconds of the examples of the standard come first.
     let moments = [
@@ -89,10 +90,10 @@ fn components_out_of_range() {
         ("2024-02-29T23:59:59-23:60", "offset minute", false),
     ];
     for (text, name, is_conditional) in moments {
-        is_out_of_range(text, rfc3339::read(text.as_bytes()), name, is_conditional);
+        is_out_of_range(text, rfc3339::parse(text.as_bytes()), name, is_conditional);
     }
     for text in ["@31494784780800", "@-31619087596800.000000001", "@999999999999999999"] {
-        is_out_of_range(text, unix::read(text.as_bytes()), "timestamp", false);
+        is_out_of_range(text, unix::parse(text.as_bytes()), "timestamp", false);
     }
 }
 
@@ -138,7 +139,7 @@ fn texts_of_no_form() {
         ("J-0", UnexpectedByte(2)),
         ("J02", UnexpectedByte(2)),
     ] {
-        assert_eq!(julian_day::read(text.as_bytes()), Err(error), "{text}");
+        assert_eq!(julian_day::parse(text.as_bytes()), Err(error), "{text}");
     }
     let moments = [
         ("", UnexpectedEnd(0)),
@@ -157,7 +158,7 @@ fn texts_of_no_form() {
         ("2024-02-29T00:00:00+01:00:00", UnexpectedByte(25)),
     ];
     for (text, error) in moments {
-        assert_eq!(rfc3339::read(text.as_bytes()), Err(error), "{text}");
+        assert_eq!(rfc3339::parse(text.as_bytes()), Err(error), "{text}");
     }
     let unix_times = [
         ("", UnexpectedEnd(0)),
@@ -173,7 +174,7 @@ fn texts_of_no_form() {
         ("@1000000000000000000", UnexpectedByte(19)),
     ];
     for (text, error) in unix_times {
-        assert_eq!(unix::read(text.as_bytes()), Err(error), "{text}");
+        assert_eq!(unix::parse(text.as_bytes()), Err(error), "{text}");
     }
 }
 
@@ -199,19 +200,19 @@ fn moments_in_text() {
     ];
     for (text, numbers) in printed {
         let (date, time, offset) = moment(numbers);
-        let line = rfc3339::Text::new(date, time, offset).unwrap().line();
+        let line = rfc3339::Text::new(date, time, offset).unwrap().text();
         assert_eq!((line.as_str(), line.as_bytes()), (text, text.as_bytes()));
-        assert_eq!(rfc3339::read(text.as_bytes()), Ok((date, time, offset)), "{text}");
+        assert_eq!(rfc3339::parse(text.as_bytes()), Ok((date, time, offset)), "{text}");
     }
-    let read = [
+    let parsed = [
         ("0000-01-01t00:00:00z", ((0, 1, 1), (0, 0, 0, 0), 0)),
         ("2024-02-29 00:00:00-00:00", ((2024, 2, 29), (0, 0, 0, 0), 0)),
         ("2024-02-29T00:00:00.0Z", ((2024, 2, 29), (0, 0, 0, 0), 0)),
         ("2024-02-29T00:00:00.9999999999999Z", ((2024, 2, 29), (0, 0, 0, 999_999_999), 0)),
         ("2024-02-29T00:00:00.0000000019Z", ((2024, 2, 29), (0, 0, 0, 1), 0)),
     ];
-    for (text, numbers) in read {
-        assert_eq!(rfc3339::read(text.as_bytes()), Ok(moment(numbers)), "{text}");
+    for (text, numbers) in parsed {
+        assert_eq!(rfc3339::parse(text.as_bytes()), Ok(moment(numbers)), "{text}");
     }
     let (date, time, utc) = moment(((2024, 2, 29), (0, 0, 0, 0), 0));
     let text = rfc3339::Text::new(date, time, utc).unwrap();
@@ -247,10 +248,10 @@ fn unix_times() {
         assert_eq!(unix::duration_of(date, time, offset), duration);
         assert_eq!(unix::pair_of(duration, offset), Some((date, time)));
         let printed = unix::Text::new(date, time, offset);
-        assert_eq!((printed.to_string().as_str(), printed.line().as_str()), (text, text));
-        assert_eq!(unix::read(text.as_bytes()).ok(), unix::pair_of(duration, UtcOffset::UTC));
+        assert_eq!((printed.to_string().as_str(), printed.text().as_str()), (text, text));
+        assert_eq!(unix::parse(text.as_bytes()).ok(), unix::pair_of(duration, UtcOffset::UTC));
     }
-    assert_eq!(unix::read(b"@1709164800.50"), unix::read(b"@1709164800.5"));
+    assert_eq!(unix::parse(b"@1709164800.50"), unix::parse(b"@1709164800.5"));
     assert_eq!(format!("{:>14}", unix::Text::new(day(1970, 1, 2), Time::MIDNIGHT, UtcOffset::UTC)), "        @86400");
     let last = unix::duration_of(Date::MAX, Time::MAX, UtcOffset::UTC);
     assert_eq!(unix::pair_of(last + Duration::NANOSECOND, UtcOffset::UTC), None);
@@ -259,7 +260,7 @@ fn unix_times() {
 
 /// Every day of four years at each end of the range, and of two at the years 0 and 9999, in all forms.
 #[test]
-fn days_printed_and_read() {
+fn days_printed_and_parsed() {
     for first in [-363_521_074, 366_963_559 - 1_460, 1_721_060 - 730, 5_373_484 - 730] {
         for number in first..=first + 1_460 {
             let date = Date::from_julian_day(number).unwrap();
@@ -274,29 +275,29 @@ fn days_printed_and_read() {
             assert_eq!((OrdinalText(date).to_string(), WeekText(date).to_string()), (ordinal.clone(), week.clone()));
             assert_eq!([calendar.parse(), ordinal.parse(), week.parse()], [Ok(date); 3]);
             assert_eq!(JulianText(date).to_string(), format!("J{number}"));
-            assert_eq!(julian_day::read(format!("J{number}").as_bytes()), Ok(date));
+            assert_eq!(julian_day::parse(format!("J{number}").as_bytes()), Ok(date));
         }
     }
 }
 
 /// At each offset of whole quarters of an hour, with fractions of several lengths.
 #[test]
-fn moments_printed_and_read() {
+fn moments_printed_and_parsed() {
     for quarters in -95i32..96 {
         let offset = UtcOffset::from_whole_seconds(quarters * 900).unwrap();
         for nanosecond in [0, 500_000_000, 250_000_000, 120_000_001, 1, 10, 999_999_990, 123_456_789] {
             let time = Time::from_hms_nano((quarters.unsigned_abs() % 24) as u8, 59, 7, nanosecond).unwrap();
             let date = Date::from_julian_day(2_460_370 + quarters * 300).unwrap();
             let text = rfc3339::Text::new(date, time, offset).unwrap().to_string();
-            assert_eq!(rfc3339::read(text.as_bytes()), Ok((date, time, offset)), "{text}");
+            assert_eq!(rfc3339::parse(text.as_bytes()), Ok((date, time, offset)), "{text}");
             let unix_text = unix::Text::new(date, time, offset).to_string();
-            let (utc_date, utc_time) = unix::read(unix_text.as_bytes()).unwrap();
+            let (utc_date, utc_time) = unix::parse(unix_text.as_bytes()).unwrap();
             assert_eq!(unix::duration_of(utc_date, utc_time, UtcOffset::UTC), unix::duration_of(date, time, offset));
         }
     }
 }
 
-/// Times and offsets that are read: how they print, which reads as the same, and other texts of theirs.
+/// Times and offsets: their printed texts, and other texts that parse as the same value.
 #[test]
 fn times_and_offsets_in_text() {
     let times = [
@@ -360,12 +361,12 @@ fn times_and_offsets_in_text() {
     }
 }
 
-/// What is read in any form, and which form it has.
+/// Texts of each form, and the form that is found.
 #[test]
 fn any_form() {
     let date = day(2024, 2, 29);
-    let (_, time, offset) = rfc3339::read(b"2024-02-29T23:59:59.25+01:00").unwrap();
-    let (utc_date, utc_time) = unix::read(b"@1709247599.25").unwrap();
+    let (_, time, offset) = rfc3339::parse(b"2024-02-29T23:59:59.25+01:00").unwrap();
+    let (utc_date, utc_time) = unix::parse(b"@1709247599.25").unwrap();
     let rows = [
         ("2024-02-29", DateOrMoment::Calendar(date)),
         ("2024-060", DateOrMoment::Ordinal(date)),
@@ -380,7 +381,7 @@ fn any_form() {
         ("-0001-W52-6", DateOrMoment::Week(day(0, 1, 1))),
     ];
     for (text, found) in rows {
-        assert_eq!(read_any(text.as_bytes()), Ok(found), "{text}");
+        assert_eq!(parse_any(text.as_bytes()), Ok(found), "{text}");
     }
     for (text, error) in [
         ("", UnexpectedEnd(0)),
@@ -391,11 +392,11 @@ fn any_form() {
         ("@", UnexpectedEnd(1)),
         ("2024-02-29x", UnexpectedByte(10)),
     ] {
-        assert_eq!(read_any(text.as_bytes()), Err(error), "{text}");
+        assert_eq!(parse_any(text.as_bytes()), Err(error), "{text}");
     }
     for (text, name) in
         [("2023-02-29", "day"), ("2024-13-01T00:00:00Z", "month"), ("J999999999", "julian_day"), ("@99999999999999", "timestamp")]
     {
-        assert_eq!(read_any(text.as_bytes()).unwrap_err().to_string(), format!("{name} was not in range"));
+        assert_eq!(parse_any(text.as_bytes()).unwrap_err().to_string(), format!("{name} was not in range"));
     }
 }

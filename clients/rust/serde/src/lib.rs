@@ -58,14 +58,14 @@ impl<T: Text> Visitor<'_> for OfText<T> {
     }
 }
 
-/// Parses a text, or nothing.
+/// Parses a text, or `None`.
 struct OfOption<T>(PhantomData<T>);
 
 impl<'de, T: Text> Visitor<'de> for OfOption<T> {
     type Value = Option<T>;
 
     fn expecting(&self, f: &mut fmt::Formatter<'_>) -> fmt::Result {
-        f.write_str("a text or nothing")
+        f.write_str("a text or none")
     }
 
     fn visit_none<E: Error>(self) -> Result<Option<T>, E> {

@@ -1,4 +1,4 @@
-//! Values in JSON, and what is refused there.
+//! Values in JSON, and errors.
 
 use fotsevindre::{Date, Month, OffsetDateTime, PlainDateTime, Time, UtcOffset, Weekday};
 use serde::{Deserialize, Serialize};
@@ -46,7 +46,7 @@ struct Day {
 }
 
 #[test]
-fn refusals() {
+fn errors() {
     for (text, words) in [
         (r#"{"day":"2023-02-29"}"#, "day was not in range"),
         (r#"{"day":"2024-02-3"}"#, "unexpected end at 9"),

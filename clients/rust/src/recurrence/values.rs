@@ -3,20 +3,20 @@
 use core::fmt;
 
 /// The maximum number of values.
-const MOST: usize = 62;
+const MAX_VALUES: usize = 62;
 
 /// Values in place, with unused ones after them.
 #[derive(Clone, Copy)]
 pub(super) struct Values<T> {
-    items: [T; MOST],
+    items: [T; MAX_VALUES],
     length: usize,
 }
 
 impl<T: Copy> Values<T> {
     /// Converts the first items of an array of C.
-    pub(super) fn from_c<C: Copy>(items: [C; MOST], length: u32, from_c: impl Fn(C) -> T, filler: T) -> Self {
+    pub(super) fn from_c<C: Copy>(items: [C; MAX_VALUES], length: u32, from_c: impl Fn(C) -> T, filler: T) -> Self {
         let length = length as usize;
-        let mut values = Self { items: [filler; MOST], length };
+        let mut values = Self { items: [filler; MAX_VALUES], length };
         for (value, item) in values.items[..length].iter_mut().zip(items) {
             *value = from_c(item);
         }

@@ -21,19 +21,19 @@ pub enum DateOrMoment {
     Unix(Date, Time),
 }
 
-/// Parses a text that [`date::read`], [`julian_day::read`], [`rfc3339::read`] or [`unix::read`]
+/// Parses a text that [`date::parse`], [`julian_day::parse`], [`rfc3339::parse`] or [`unix::parse`]
 /// accepts.
 ///
 /// # Errors
 ///
 /// `UnexpectedByte` or `UnexpectedEnd` if the text has none of these forms, else the error of its
 /// form.
-pub fn read_any(text: &[u8]) -> Result<DateOrMoment, ParseError> {
+pub fn parse_any(text: &[u8]) -> Result<DateOrMoment, ParseError> {
     match (text.first(), text.get(10)) {
-        (Some(b'J'), _) => julian_day::read(text).map(DateOrMoment::JulianDay),
-        (Some(b'@'), _) => unix::read(text).map(|(date, time)| DateOrMoment::Unix(date, time)),
-        (_, Some(b'T' | b't' | b' ')) => rfc3339::read(text).map(|(date, time, offset)| DateOrMoment::Rfc3339(date, time, offset)),
-        _ => date::read(text).map(|date| match text {
+        (Some(b'J'), _) => julian_day::parse(text).map(DateOrMoment::JulianDay),
+        (Some(b'@'), _) => unix::parse(text).map(|(date, time)| DateOrMoment::Unix(date, time)),
+        (_, Some(b'T' | b't' | b' ')) => rfc3339::parse(text).map(|(date, time, offset)| DateOrMoment::Rfc3339(date, time, offset)),
+        _ => date::parse(text).map(|date| match text {
             // Only week dates have a W, and only ordinal dates end with three digits.
             [.., b'W', _, _, b'-', _] => DateOrMoment::Week(date),
             [.., b'-', _, _, _] => DateOrMoment::Ordinal(date),

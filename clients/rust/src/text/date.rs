@@ -2,7 +2,7 @@
 
 use crate::error::ParseError;
 use crate::ffi;
-use crate::text::Line;
+use crate::text::ShortText;
 use crate::Date;
 use core::fmt;
 
@@ -16,14 +16,14 @@ macro_rules! texts {
 
             impl $text {
                 /// Returns the text.
-                pub fn line(self) -> Line {
-                    Line::expect_answer(ffi::$call(self.0.to_c()))
+                pub fn text(self) -> ShortText {
+                    ShortText::expect_answer(ffi::$call(self.0.to_c()))
                 }
             }
 
             impl fmt::Display for $text {
                 fn fmt(&self, f: &mut fmt::Formatter<'_>) -> fmt::Result {
-                    f.pad(self.line().as_str())
+                    f.pad(self.text().as_str())
                 }
             }
         )*
@@ -46,6 +46,6 @@ texts! {
 ///
 /// `UnexpectedByte` or `UnexpectedEnd`, else `OutOfRange` for the first component out of range:
 /// `month`, `year`, `day`, `ordinal`, `week`, or `weekday` after [`Date::MAX`].
-pub fn read(text: &[u8]) -> Result<Date, ParseError> {
+pub fn parse(text: &[u8]) -> Result<Date, ParseError> {
     ffi::fots_date_parse(text).map(|(date, _)| Date::from_c(date))
 }

@@ -2,7 +2,7 @@
 
 use crate::error::ParseError;
 use crate::ffi;
-use crate::text::Line;
+use crate::text::ShortText;
 use crate::Date;
 use core::fmt;
 
@@ -12,14 +12,14 @@ pub struct JulianText(pub Date);
 
 impl JulianText {
     /// Returns the text.
-    pub fn line(self) -> Line {
-        Line::expect_answer(ffi::fots_date_julian_text(self.0.to_c()))
+    pub fn text(self) -> ShortText {
+        ShortText::expect_answer(ffi::fots_date_julian_text(self.0.to_c()))
     }
 }
 
 impl fmt::Display for JulianText {
     fn fmt(&self, f: &mut fmt::Formatter<'_>) -> fmt::Result {
-        f.pad(self.line().as_str())
+        f.pad(self.text().as_str())
     }
 }
 
@@ -28,6 +28,6 @@ impl fmt::Display for JulianText {
 /// # Errors
 ///
 /// `UnexpectedByte` or `UnexpectedEnd`, else `OutOfRange` for `julian_day`.
-pub fn read(text: &[u8]) -> Result<Date, ParseError> {
+pub fn parse(text: &[u8]) -> Result<Date, ParseError> {
     ffi::fots_julian_day_parse(text).map(|(date, _)| Date::from_c(date))
 }

@@ -2,7 +2,7 @@
 
 use crate::error::ParseError;
 use crate::ffi::{self, or_none};
-use crate::text::Line;
+use crate::text::ShortText;
 use crate::{Date, Time, UtcOffset};
 use core::fmt;
 
@@ -10,7 +10,7 @@ use core::fmt;
 /// and UTC is `Z`. A width pads the whole text.
 #[derive(Clone, Copy, Debug, PartialEq, Eq)]
 pub struct Text {
-    line: Line,
+    text: ShortText,
 }
 
 impl Text {
@@ -18,18 +18,18 @@ impl Text {
     /// and for an offset with seconds or of 24 hours or more.
     pub fn new(date: Date, time: Time, offset: UtcOffset) -> Option<Self> {
         let text = or_none(ffi::fots_moment_text(date.to_c(), time.to_c(), offset.whole_seconds()))?;
-        Some(Self { line: Line::from_c(text) })
+        Some(Self { text: ShortText::from_c(text) })
     }
 
     /// Returns the text.
-    pub fn line(self) -> Line {
-        self.line
+    pub fn text(self) -> ShortText {
+        self.text
     }
 }
 
 impl fmt::Display for Text {
     fn fmt(&self, f: &mut fmt::Formatter<'_>) -> fmt::Result {
-        f.pad(self.line.as_str())
+        f.pad(self.text.as_str())
     }
 }
 
@@ -41,7 +41,7 @@ impl fmt::Display for Text {
 /// `UnexpectedByte` or `UnexpectedEnd`, else `OutOfRange` for the first component out of range:
 /// `month`, `day`, `hour`, `minute`, `second` (also 60), `offset hour` above 23, or `offset
 /// minute`.
-pub fn read(text: &[u8]) -> Result<(Date, Time, UtcOffset), ParseError> {
+pub fn parse(text: &[u8]) -> Result<(Date, Time, UtcOffset), ParseError> {
     let (date, time, offset, _) = ffi::fots_moment_parse(text)?;
     Ok((Date::from_c(date), Time::from_c(time), UtcOffset::from_c(offset)))
 }

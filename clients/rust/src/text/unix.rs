@@ -2,7 +2,7 @@
 
 use crate::error::ParseError;
 use crate::ffi::{self, expect_answer, or_none};
-use crate::text::Line;
+use crate::text::ShortText;
 use crate::{Date, SignedDuration, Time, UtcOffset};
 use core::fmt;
 
@@ -22,24 +22,24 @@ pub fn pair_of(duration: SignedDuration, offset: UtcOffset) -> Option<(Date, Tim
 /// pads the whole text.
 #[derive(Clone, Copy, Debug, PartialEq, Eq)]
 pub struct Text {
-    line: Line,
+    text: ShortText,
 }
 
 impl Text {
     /// Takes a date and a time of day at an offset.
     pub fn new(date: Date, time: Time, offset: UtcOffset) -> Self {
-        Self { line: Line::expect_answer(ffi::fots_unix_text(date.to_c(), time.to_c(), offset.whole_seconds())) }
+        Self { text: ShortText::expect_answer(ffi::fots_unix_text(date.to_c(), time.to_c(), offset.whole_seconds())) }
     }
 
     /// Returns the text.
-    pub fn line(self) -> Line {
-        self.line
+    pub fn text(self) -> ShortText {
+        self.text
     }
 }
 
 impl fmt::Display for Text {
     fn fmt(&self, f: &mut fmt::Formatter<'_>) -> fmt::Result {
-        f.pad(self.line.as_str())
+        f.pad(self.text.as_str())
     }
 }
 
@@ -49,7 +49,7 @@ impl fmt::Display for Text {
 /// # Errors
 ///
 /// `UnexpectedByte` or `UnexpectedEnd`, else `OutOfRange` for `timestamp`.
-pub fn read(text: &[u8]) -> Result<(Date, Time), ParseError> {
+pub fn parse(text: &[u8]) -> Result<(Date, Time), ParseError> {
     let (date, time, _, _) = ffi::fots_unix_parse(text)?;
     Ok((Date::from_c(date), Time::from_c(time)))
 }
