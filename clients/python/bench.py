@@ -26,7 +26,7 @@ moves = array.array("q", (number % 20001 - 10000 for number in range(VALUES)))
 
 LOOPS = [
     ("no call", lambda: [offset for offset in offsets]),
-    ("fots_offset_neg by ctypes", lambda: [fotsevindre._C.offset_negated(number) for number in numbers]),
+    ("fots_offset_neg by ctypes", lambda: [fotsevindre._C.offset_neg(number) for number in numbers]),
     ("-offset", lambda: [-offset for offset in offsets]),
     ("Date.next_day", lambda: [date.next_day() for date in dates]),
     ("Date.weekday", lambda: [date.weekday() for date in dates]),

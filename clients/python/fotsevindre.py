@@ -323,7 +323,7 @@ _UNEXPECTED_END = 31
 _REFUSALS = {
     16: "year", 17: "month", 18: "julian_day", 19: "hour", 20: "minute", 21: "second", 22: "millisecond", 23: "microsecond",
     24: "nanosecond", 25: "offset hour", 26: "offset minute", 27: "offset second", 28: "seconds", 29: "timestamp",
-    30: "bounds", 64: "day", 65: "ordinal", 66: "week", 67: "weekday",
+    64: "day", 65: "ordinal", 66: "week", 67: "weekday",
 }
 _FIRST_CONDITIONAL = 64
 # What each other status says.
@@ -341,6 +341,7 @@ _MESSAGES = {
     13: "invalid weekmask; expected 0 to 127, with a bit for each weekday",
     14: "holidays must be in ascending order, without duplicates",
     15: "too many holidays; expected at most 1024",
+    30: "invalid bounds; expected ascending positions in the texts",
     _UNEXPECTED_END: "unexpected end of the text",
     32: "unknown part in a recurrence",
     33: "duplicate part in a recurrence",

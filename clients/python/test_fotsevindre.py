@@ -855,7 +855,7 @@ class Columns(Cases):
         self.assertEqual((dates.refused, moments.refused), (5, 6))
         wrong = fotsevindre.dates_read(b"2024-02-29", array.array("i", [0, 10, 11, 4, -1]))
         self.assertEqual((list(wrong.statuses), wrong.refused), ([0, 30, 30, 30], 3))
-        self.assertEqual(repr(fotsevindre.status_error(30)), "ComponentRange('bounds', False)")
+        self.assertEqual(repr(fotsevindre.status_error(30)), "ValueError('invalid bounds; expected ascending positions in the texts')")
         with self.assertRaises(ValueError):
             fotsevindre.dates_read(b"", array.array("i"))
         with self.assertRaises(TypeError):
@@ -1035,7 +1035,8 @@ class Header(Cases):
 
     def test_statuses(self):
         unexpected_end = self.statuses["FOTS_UNEXPECTED_END"]
-        refusals = {number: self.names[name] for name, number in self.statuses.items() if number >= 16 and number != unexpected_end}
+        no_components = {unexpected_end, self.statuses["FOTS_INVALID_BOUNDS"]}
+        refusals = {number: self.names[name] for name, number in self.statuses.items() if number >= 16 and number not in no_components}
         reasons = {number: refusals.pop(number) for number in fotsevindre._REASONS}
         self.assertEqual({number: reason.value for number, reason in fotsevindre._REASONS.items()}, reasons)
         self.assertEqual(fotsevindre._PARTS[1:], tuple(re.findall(r"FOTS_RULE_(\w+) = \d", self.TEXT)))
