@@ -3,7 +3,7 @@ use Rattle.std.proofs.Common.{◌≡◌, ◌≢◌, refl, ℕ, ◌+◌, ◌-◌,
 use Rattle.std.proofs.Math.ListN.{set}
 use Rattle.std.proofs.lemmas.List.{map_more, take_more_set}
 use Rattle.cal_time.specs.Date.{last_day}
-use Rattle.cal_time.specs.Filters.{IsFirstDay, filter-first, first_passing}
+use Rattle.cal_time.specs.Filters.{IsFirstDay, filter-first, first_matching}
 use Rattle.cal_time.specs.Month.{month_of_index, number}
 use Rattle.cal_time.specs.Occurrences.{days_from}
 use Rattle.cal_time.specs.declared.Month.{Month}
@@ -88,7 +88,7 @@ after_first rule n x h =
     filter-first (is_occurrence rule) (n + 1) (last_day - n) x h ∙ ap (λ c. x ∷ filter (is_occurrence rule) (days_from (x + 1) c)) count
 
 pub after_next : (rule : Rule) (n x : ℕ) → Some x ≡ slice_get (occurrences_after rule n) 0 → occurrences_after rule n ≡ x ∷ occurrences_after rule x
-after_next rule n x e = after_first rule n x (first_passing (is_occurrence rule) (n + 1) (last_day - n) (Some x) e)
+after_next rule n x e = after_first rule n x (first_matching (is_occurrence rule) (n + 1) (last_day - n) (Some x) e)
 
 pub none_first : (xs : List ℕ) → None ≡ slice_get xs 0 → xs ≡ []
 none_first [] e = refl

@@ -59,7 +59,7 @@ pub fn valid_weekday(weekday: u32) -> Option<Weekday>
 #[tactic(auto, using(crate::proofs::Days::days_in_month_most))]
 pub fn day_or_invalid(day: u32) -> u8
     ensures value { (y : ℤ) (m : ℕ) → IsDayOfMonth y m day → result ≡ day }
-    ensures none { (y : ℤ) (m : ℕ) → ¬ IsDayOfMonth y m day → ¬ IsDayOfMonth y m result }
+    ensures invalid { (y : ℤ) (m : ℕ) → ¬ IsDayOfMonth y m day → ¬ IsDayOfMonth y m result }
 {
     saturating_u8(day)
 }
@@ -67,7 +67,7 @@ pub fn day_or_invalid(day: u32) -> u8
 /// Returns the ordinal in 16 bits. An invalid ordinal becomes one that no year has.
 pub fn ordinal_or_invalid(ordinal: u32) -> u16
     ensures value { (y : ℤ) → IsOrdinal y ordinal → result ≡ ordinal }
-    ensures none { (y : ℤ) → ¬ IsOrdinal y ordinal → ¬ IsOrdinal y result }
+    ensures invalid { (y : ℤ) → ¬ IsOrdinal y ordinal → ¬ IsOrdinal y result }
 {
     saturating_u16(ordinal)
 }
@@ -89,7 +89,7 @@ pub fn saturating_u16(number: u32) -> u16
 /// Returns the week, or 0 if the year doesn't have it.
 pub fn week_or_invalid(year: i32, week: u32) -> u8
     ensures value { IsWeek year week → result ≡ week }
-    ensures none { ¬ IsWeek year week → ¬ IsWeek year result }
+    ensures invalid { ¬ IsWeek year week → ¬ IsWeek year result }
 {
     if week <= 52 || week <= u32::from(weeks_in_year(year)) {
         week as u8
@@ -156,8 +156,8 @@ pub fn valid_offset(seconds: i32) -> Option<UtcOffset>
 
 /// Clamps a number to 8 bits with a sign. No component of an offset is at either end.
 pub fn saturating_i8(number: i32) -> i8
-    ensures same { unsigned_abs number ≤ 127 → result ≡ number }
-    ensures above { (n : ℕ) → n < 127 → n < unsigned_abs number → n < unsigned_abs result }
+    ensures value { unsigned_abs number ≤ 127 → result ≡ number }
+    ensures saturated { (n : ℕ) → n < 127 → n < unsigned_abs number → n < unsigned_abs result }
 {
     i8::try_from(number).unwrap_or(i8::MAX)
 }

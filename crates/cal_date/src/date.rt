@@ -271,12 +271,12 @@ impl Date {
         ensures date { HasOrdinalDate year ordinal result }
         ensures range { IsDate result }
     {
-        Date::from_parts(year, is_leap_year(year), ordinal)
+        Date::pack(year, is_leap_year(year), ordinal)
     }
 
     /// Creates a date from a year of the range, whether it is a leap year, and an ordinal of this
     /// year.
-    pub(crate) fn from_parts(year: i32, leap: bool, ordinal: u16) -> Self
+    pub(crate) fn pack(year: i32, leap: bool, ordinal: u16) -> Self
         requires year { IsYear year }
         requires leap { leap ≡ is_leap_year year }
         requires ordinal { IsOrdinal year ordinal }

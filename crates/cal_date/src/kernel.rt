@@ -103,7 +103,7 @@ pub fn date_of_kernel(kernel: JulianKernel) -> Date
     requires { (n : ℕ) × IsDate n × HasKernel kernel n }
     ensures { (n : ℕ) → IsDate n → HasKernel kernel n → result ≡ n }
 {
-    Date::from_parts(kernel.year(), kernel.is_leap_year(), kernel.ordinal())
+    Date::pack(kernel.year(), kernel.is_leap_year(), kernel.ordinal())
 }
 
 /// Returns the day of a Julian day, counted from 1 January -2379600.

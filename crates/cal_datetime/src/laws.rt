@@ -17,14 +17,14 @@ use std::hash::{DefaultHasher, Hash, Hasher};
 pub mod replacement;
 
 /// Returns the first date-time.
-pub fn first() -> PlainDateTime
+pub fn min_date_time() -> PlainDateTime
     ensures { result ≡ pos 0 }
 {
     PlainDateTime::MIN
 }
 
 /// Returns the last date-time.
-pub fn last() -> PlainDateTime
+pub fn max_date_time() -> PlainDateTime
     ensures { result ≡ pos last_date_time }
 {
     PlainDateTime::MAX
@@ -85,8 +85,8 @@ pub fn order_of_instants(a: OffsetDateTime, b: OffsetDateTime) -> Ordering
 /// Converts to `offset` and back, which gives `moment` again. Only the first conversion can return
 /// `None`.
 pub fn round_trip(moment: OffsetDateTime, offset: UtcOffset) -> Option<OffsetDateTime>
-    ensures there { IsSome result ↔ IsDateTime (local_at (instant moment) offset) }
-    ensures back { IfSome result (λ back. back ≡ moment) }
+    ensures some { IsSome result ↔ IsDateTime (local_at (instant moment) offset) }
+    ensures value { IfSome result (λ back. back ≡ moment) }
 {
     let _ = moment.local();
     match moment.checked_to_offset(offset) {

@@ -9,7 +9,7 @@ use Rattle.std.proofs.lemmas.Bool.Decides.{nat_tests}
 use Rattle.std.proofs.lemmas.Int.{ints}
 use Rattle.std.proofs.lemmas.Str.Parse.{digits_value_short}
 use Rattle.cal_time.specs.Date.{last_day, year_at}
-use Rattle.cal_time.specs.Filters.{IsFirstDay, first_passing}
+use Rattle.cal_time.specs.Filters.{IsFirstDay, first_matching}
 use Rattle.cal_time.specs.declared.Weekday.{Weekday}
 use Rattle.cal_schedule.specs.declared.rule.rule.Frequency.{Frequency}
 use Rattle.cal_schedule.specs.declared.rule.rule.ByDay.TheVariants.{Every, Nth}
@@ -111,7 +111,7 @@ year-within z n e h = subst (λ y. (pos 0 ≤ℤ y) × (y ≤ℤ pos 9999)) (sym
 
 day-within : (n : ℕ) → n < 100000000 → IfSome (day_with n) (λ day. IsEnd (Until day))
 unfolding day_with
-day-within n small = within (day_with n) (first_passing (has_digits n) 0 (last_day + 1) (day_with n) refl)
+day-within n small = within (day_with n) (first_matching (has_digits n) 0 (last_day + 1) (day_with n) refl)
   where
     within : (o : Option ℕ) → IfSome o (IsFirstDay (has_digits n) 0 (last_day + 1)) → IfSome o (λ day. IsEnd (Until day))
     within None h = tt

@@ -10,7 +10,7 @@ use Rattle.std.proofs.lemmas.Nat.{div-add-mod'}
 use Rattle.std.proofs.Math.Nat.{mul-le-mul_left}
 use Rattle.cal_time.specs.Date.{last_day, IsDate, year_at, month_at, day_of_month_at, weekday_at}
 use Rattle.cal_time.specs.Days.{day_of_month_at-range, month_at-range}
-use Rattle.cal_time.specs.Filters.{IsFirstDay, filter-first, filter-none, first_passing, none_passing}
+use Rattle.cal_time.specs.Filters.{IsFirstDay, filter-first, filter-none, first_matching, none_matching}
 use Rattle.cal_time.specs.Laws.{weekday_at-is}
 use Rattle.cal_time.specs.Lengths.{days_in_month}
 use Rattle.cal_time.specs.Occurrences.{days_from}
@@ -229,8 +229,8 @@ left_of rule n x h =
     filter-first (is_occurrence rule) (n + 1) (last_day - n) x h ∙ ap (λ c. x ∷ filter (is_occurrence rule) (days_from (x + 1) c)) count
 
 pub left_after : (rule : Rule) (n : ℕ) (r : Option ℕ) → r ≡ slice_get (occurrences_after rule n) 0 → occurrences_left rule r ≡ occurrences_after rule n
-left_after rule n None e = sym (filter-none (is_occurrence rule) (n + 1) (last_day - n) (none_passing (is_occurrence rule) (n + 1) (last_day - n) (sym e)))
-left_after rule n (Some x) e = sym (left_of rule n x (first_passing (is_occurrence rule) (n + 1) (last_day - n) (Some x) e))
+left_after rule n None e = sym (filter-none (is_occurrence rule) (n + 1) (last_day - n) (none_matching (is_occurrence rule) (n + 1) (last_day - n) (sym e)))
+left_after rule n (Some x) e = sym (left_of rule n x (first_matching (is_occurrence rule) (n + 1) (last_day - n) (Some x) e))
 
 -- and all of them, from the first one on
 pub left_from_start : (rule : Rule) (r : Option ℕ) → IsNextFrom rule rule.start r → occurrences_left rule r ≡ occurrences rule

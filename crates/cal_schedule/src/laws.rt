@@ -51,7 +51,7 @@ pub fn one_more(from: Date, to: Date) -> Option<Date>
 }
 
 /// Adds months and subtracts them again, which gives the same date if its day is 28 or less.
-pub fn round_trip(date: Date, months: i32) -> Option<Date>
+pub fn months_round_trip(date: Date, months: i32) -> Option<Date>
     requires { day_of_month_at date ≤ 28 }
     ensures { IfSome result (λ back. back ≡ date) }
 {

@@ -12,7 +12,7 @@ const MONTHS: i64 = 12 * (MAX_YEAR - MIN_YEAR + 1) as i64;
 
 /// Returns the index of the month, from 0 for the first one of the range, and the day of the month.
 pub(crate) fn month_number_and_day(date: Date) -> (u32, u8)
-    ensures index { pos result.0 ≡ month_number_at date +ℤ pos 11_999_988 }
+    ensures month { pos result.0 ≡ month_number_at date +ℤ pos 11_999_988 }
     ensures max { result.0 < 23_999_988 }
     ensures day { result.1 ≡ day_of_month_at date }
     ensures first { 1 ≤ result.1 }
@@ -25,7 +25,7 @@ pub(crate) fn month_number_and_day(date: Date) -> (u32, u8)
 /// Returns the year and the month, from 0 for January, of the month with this index.
 fn year_and_month(index: u32) -> (i32, u8)
     requires { index < 23_999_988 }
-    ensures index { result.0 *ℤ pos 12 +ℤ pos result.1 ≡ pos index -ℤ pos 11_999_988 }
+    ensures value { result.0 *ℤ pos 12 +ℤ pos result.1 ≡ pos index -ℤ pos 11_999_988 }
     ensures month { result.1 < 12 }
     ensures year { IsYear result.0 }
 {
@@ -80,7 +80,7 @@ pub fn checked_add_months(date: Date, months: i32) -> Option<Date>
 /// Adds months like [`checked_add_months`], but returns the first or the last date of the range if
 /// the resulting month is out of range. A month after [`Date::MAX`] is `Date::MAX`.
 pub fn saturating_add_months(date: Date, months: i32) -> Date
-    ensures within { IsMonthNumber (month_number_at date +ℤ months)
+    ensures value { IsMonthNumber (month_number_at date +ℤ months)
         → IsMonthsLater date months result }
     ensures before { (month_number_at date +ℤ months) <ℤ (first_year *ℤ pos 12) → result ≡ 0 }
     ensures past { ((last_year +ℤ pos 1) *ℤ pos 12) ≤ℤ (month_number_at date +ℤ months)

@@ -67,7 +67,7 @@ pub fn quarter(date: Date) -> u8
 /// Returns the first day of the quarter. For 29 February 2024 it is 1 January 2024.
 pub fn first_of_quarter(date: Date) -> Date
     ensures value { HasCalendarDate (year_at date) (3 * quarter_at date - 2) 1 result }
-    ensures not_after { result ≤ date }
+    ensures max { result ≤ date }
     ensures in_range { IsDate date × IsDate result }
 {
     let index = date.month().place();
@@ -78,7 +78,7 @@ pub fn first_of_quarter(date: Date) -> Date
 pub fn last_of_quarter(date: Date) -> Date
     ensures value { HasCalendarDate (year_at date) (3 * quarter_at date)
         (days_in_month (year_at date) (3 * quarter_at date)) result }
-    ensures not_before { date ≤ result }
+    ensures min { date ≤ result }
     ensures in_range { IsDate date × IsDate result }
 {
     let index = date.month().place();
@@ -88,7 +88,7 @@ pub fn last_of_quarter(date: Date) -> Date
 /// Returns the first day of the year. For 29 February 2024 it is 1 January 2024.
 pub fn first_of_year(date: Date) -> Date
     ensures value { HasCalendarDate (year_at date) 1 1 result }
-    ensures not_after { result ≤ date }
+    ensures max { result ≤ date }
     ensures in_range { IsDate date × IsDate result }
 {
     first_in_month(date.year(), Month::January)
@@ -97,7 +97,7 @@ pub fn first_of_year(date: Date) -> Date
 /// Returns the last day of the year. For 29 February 2024 it is 31 December 2024.
 pub fn last_of_year(date: Date) -> Date
     ensures value { HasCalendarDate (year_at date) 12 31 result }
-    ensures not_before { date ≤ result }
+    ensures min { date ≤ result }
     ensures in_range { IsDate date × IsDate result }
 {
     last_in_month(date.year(), Month::December)

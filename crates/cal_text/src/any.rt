@@ -6,7 +6,7 @@ ghost use Rattle.cal_text.specs.AnyForm.{IsTextOf, IsDateOrMomentError, HasAnyFo
 ghost use Rattle.cal_text.specs.Position.{IsErrorAtStop};
 ghost use Rattle.cal_text.specs.Parsing.{FailsWithComponent, FailsWithSyntax};
 
-use crate::any::dates::{furthest_error, parse_date};
+use crate::any::dates::{furthest_error, parse_any_date};
 use crate::error::ParseError;
 use crate::rfc3339::is_separator;
 use crate::{julian_day, rfc3339, unix};
@@ -76,7 +76,7 @@ pub fn parse_any(text: &[u8]) -> Result<DateOrMoment, ParseError>
             Err(error) => Err(furthest_error(error, text)),
         }
     } else {
-        parse_date(text)
+        parse_any_date(text)
     }
 }
 

@@ -95,15 +95,15 @@ one_first test n count x y h k =
     ]
 
 -- The first item of the list is the first day that passes. Without a first item, no day passes.
-pub first_passing : (test : ℕ → Bool) (n count : ℕ) (r : Option ℕ) → r ≡ slice_get (filter test (days_from n count)) 0 → IfSome r (IsFirstDay test n count)
-first_passing test n count r e =
+pub first_matching : (test : ℕ → Bool) (n count : ℕ) (r : Option ℕ) → r ≡ slice_get (filter test (days_from n count)) 0 → IfSome r (IsFirstDay test n count)
+first_matching test n count r e =
     elim (begins test n count) [
       | inl h ↦ rw (e, h.days) tt
       | inr h ↦ rw (e, h.days) h.first
     ]
 
-pub none_passing : (test : ℕ → Bool) (n count : ℕ) → slice_get (filter test (days_from n count)) 0 ≡ None → NoDayMatches test n count
-none_passing test n count e =
+pub none_matching : (test : ℕ → Bool) (n count : ℕ) → slice_get (filter test (days_from n count)) 0 ≡ None → NoDayMatches test n count
+none_matching test n count e =
     elim (begins test n count) [
       | inl h ↦ h.none
       | inr h ↦ let some = rw h.days at e in absurd (cc)

@@ -6,7 +6,7 @@ ghost use Rattle.caltool.specs.Answers.{answer_of, add_answer, calendar_answer, 
 ghost use Rattle.caltool.specs.Room.{HasRoom, longest_answer, longest_reply};
 
 use crate::buffer::Buffer;
-use crate::command::{Command, parse};
+use crate::command::{Command, parse_command};
 use crate::find::{find_calendar_date, find_iso_week_date, find_julian_day, find_ordinal_date};
 use cal_time::error::ComponentRange;
 use cal_time::{Date, ShortText, SignedDuration, Time, Weekday, add_to_pair};
@@ -16,7 +16,7 @@ pub fn reply(buffer: &mut Buffer, line: &[u8])
     requires { HasRoom longest_reply buffer.old }
     ensures { buffer.new ≡ buffer.old ++ reply_to line.now }
 {
-    push_answer(buffer, parse(line));
+    push_answer(buffer, parse_command(line));
     buffer.push(b"\n");
 }
 

@@ -27,7 +27,7 @@ pub enum Command {
 }
 
 /// Parses a line as a command. All words are parsed before any is used.
-pub fn parse(line: &[u8]) -> Option<Command>
+pub fn parse_command(line: &[u8]) -> Option<Command>
     ensures { result ≡ command_of (words_of line.now) }
 {
     let (name, words) = first_word(line)?;

@@ -34,9 +34,9 @@ impl Retries {
 
     /// Returns `true` if the error is an interruption and a retry is left, which is then used.
     pub fn allows(&mut self, error: &io::Error) -> bool
-        ensures allowed { IsTrue result
+        ensures value { IsTrue result
             ↔ (error_kind error.now ≡ ErrorKind.Interrupted) × (0 < self.old) }
-        ensures left { self.old ≡ (if result then self.new + 1 else self.new) }
+        ensures remaining { self.old ≡ (if result then self.new + 1 else self.new) }
     {
         if error.kind() != ErrorKind::Interrupted || self.left == 0 {
             return false;

@@ -3,7 +3,7 @@ use cal_time::{Date, Month, SignedDuration, Time, Weekday};
 use std::io;
 
 /// Returns the day 100 days later, or the last day of the range if that comes first.
-fn due(date: Date) -> Date {
+fn in_100_days(date: Date) -> Date {
     date.saturating_add(SignedDuration::days(100))
 }
 
@@ -24,7 +24,7 @@ pub fn show(rt: &impl Print) -> io::Result<()> {
     let Ok(day) = Date::from_calendar_date(2023, Month::June, 26) else {
         return Ok(());
     };
-    println!(rt; "{}", due(day))?;
+    println!(rt; "{}", in_100_days(day))?;
     println!(rt; "{:?}", third_thursday(day))?;
     println!(rt; "{:?}", in_march(day))?;
     println!(rt; "{:?}", Date::MAX.checked_add(SignedDuration::DAY))?;

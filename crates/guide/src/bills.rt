@@ -19,7 +19,7 @@ use std::io;
 
 /// Returns the last day of the next month, or `None` if that month is out of range.
 fn end_of_next_month(date: Date) -> Option<Date>
-    ensures day { IfSome result (λ end. (later : ℕ) × IsMonthsLater date (pos 1) later
+    ensures found { IfSome result (λ end. (later : ℕ) × IsMonthsLater date (pos 1) later
         × HasCalendarDate (year_at later) (month_at later)
         (days_in_month (year_at later) (month_at later)) end) }
     ensures some { IfSome result (λ _. IsMonthNumber (month_number_at date +ℤ pos 1)) }
@@ -31,12 +31,12 @@ fn end_of_next_month(date: Date) -> Option<Date>
 
 /// Returns the day on which a bill is due: the last working day up to the end of the next month.
 fn due(workdays: &Workdays<'_>, billed: Date) -> Option<Date>
-    ensures within { IsMonthNumber (month_number_at billed +ℤ pos 1)
+    ensures value { IsMonthNumber (month_number_at billed +ℤ pos 1)
         → (later : ℕ) × IsMonthsLater billed (pos 1) later
         × (end : ℕ) × HasCalendarDate (year_at later) (month_at later)
         (days_in_month (year_at later) (month_at later)) end
         × (result ≡ adjusted_date workdays.now ModifiedFollowing end) }
-    ensures past { ¬ IsMonthNumber (month_number_at billed +ℤ pos 1) → result ≡ None }
+    ensures none { ¬ IsMonthNumber (month_number_at billed +ℤ pos 1) → result ≡ None }
 {
     let end = end_of_next_month(billed)?;
     workdays.adjust(end, Convention::ModifiedFollowing)

@@ -41,7 +41,7 @@ fn through_julian_day(date: Date) -> Date
 
 /// Converts a Julian day to its date and back. Returns `None` if it is out of range.
 fn julian_day_through(julian_day: i32) -> Option<i32>
-    ensures same { IfSome result (λ same. same ≡ julian_day) }
+    ensures value { IfSome result (λ same. same ≡ julian_day) }
     ensures none { IsNone result ↔ NoDate (HasJulianDay julian_day) }
 {
     match Date::from_julian_day(julian_day) {
@@ -63,7 +63,7 @@ fn through_ordinal_date(date: Date) -> Date
 
 /// Converts an ordinal date to its date and back. Returns `None` if no date has it.
 fn ordinal_date_through(year: i32, ordinal: u16) -> Option<(i32, u16)>
-    ensures same { IfSome result (λ same. same ≡ (year, ordinal)) }
+    ensures value { IfSome result (λ same. same ≡ (year, ordinal)) }
     ensures none { IsNone result ↔ NoDate (HasOrdinalDate year ordinal) }
 {
     match Date::from_ordinal_date(year, ordinal) {
@@ -85,7 +85,7 @@ fn through_calendar_date(date: Date) -> Date
 
 /// Converts a calendar date to its date and back. Returns `None` if no date has it.
 fn calendar_date_through(year: i32, month: Month, day: u8) -> Option<(i32, Month, u8)>
-    ensures same { IfSome result (λ same. same ≡ (year, month, day)) }
+    ensures value { IfSome result (λ same. same ≡ (year, month, day)) }
     ensures none { IsNone result ↔ NoDate (HasCalendarDate year (number month) day) }
 {
     match Date::from_calendar_date(year, month, day) {
@@ -107,7 +107,7 @@ fn through_iso_week_date(date: Date) -> Date
 
 /// Converts a week date to its date and back. Returns `None` if no date has it.
 fn iso_week_date_through(year: i32, week: u8, weekday: Weekday) -> Option<(i32, u8, Weekday)>
-    ensures same { IfSome result (λ same. same ≡ (year, week, weekday)) }
+    ensures value { IfSome result (λ same. same ≡ (year, week, weekday)) }
     ensures none { IsNone result ↔ NoDate (HasIsoWeekDate year week (index weekday)) }
 {
     match Date::from_iso_week_date(year, week, weekday) {
@@ -149,7 +149,7 @@ fn weeks_gone(date: Date) -> u8 {
 
 /// Returns the last Friday of the month, or `None` if the year is out of range.
 fn last_friday(year: i32, month: Month) -> Option<Date>
-    ensures day { IfSome result (λ day. (weekday_at day ≡ 4) × (end : ℕ)
+    ensures found { IfSome result (λ day. (weekday_at day ≡ 4) × (end : ℕ)
         × HasCalendarDate year (number month) (days_in_month year (number month)) end
         × (day ≤ end) × (end < day + 7)) }
     ensures none { IfNone result (¬ IsYear year) }
@@ -183,14 +183,14 @@ fn add_zero(date: Date, time: Time) -> Option<(Date, Time)>
 
 /// Returns the date a week earlier, or `None` if it is out of range.
 fn week_before(date: Date) -> Option<Date>
-    ensures back { IfSome result (λ day. day + 7 ≡ date) }
+    ensures value { IfSome result (λ day. day + 7 ≡ date) }
     ensures none { IsNone result ↔ (date < 7) }
 {
     date.checked_sub(SignedDuration::WEEK)
 }
 
 /// Returns the due date of a bill, 30 days later, and the ISO week of the due date.
-fn due(date: Date) -> Option<(Date, u8)>
+fn due_in_30_days(date: Date) -> Option<(Date, u8)>
     ensures { IfSome result (λ due. due.0 ≡ date + 30) }
 {
     let due = date.checked_add(SignedDuration::days(30))?;
@@ -272,7 +272,7 @@ pub fn show(rt: &impl Print) -> io::Result<()> {
     println!(rt; "{:?}", last_friday(2024, Month::February))?;
     println!(rt; "{:?}", round_trip_by(day, SignedDuration::DAY))?;
     println!(rt; "{:?}", add_zero(day, Time::MAX))?;
-    println!(rt; "{:?} {:?}", week_before(day), due(day))?;
+    println!(rt; "{:?} {:?}", week_before(day), due_in_30_days(day))?;
     println!(rt; "{:?} {}", next_thursday(day), not_before(day, 1))?;
     println!(rt; "{} {}", is_last(day), working_days(born, day))
 }

@@ -27,7 +27,7 @@ fn month_start(date: Date) -> Date
 }
 
 /// Returns the same day, by way of the next one.
-fn round_trip(date: Date) -> Option<Date>
+fn next_day_round_trip(date: Date) -> Option<Date>
     ensures { IfSome result (λ same. same ≡ date) }
 {
     date.next_day()?.previous_day()
@@ -50,7 +50,7 @@ fn last_day() -> Date
 
 pub fn show(rt: &impl Print) -> io::Result<()> {
     if let Ok(date) = last_of_month(2020, Month::February) {
-        println!(rt; "{} {date} {:?}", month_start(date), round_trip(date))?;
+        println!(rt; "{} {date} {:?}", month_start(date), next_day_round_trip(date))?;
         if date.checked_add(SignedDuration::days(7)).is_some() {
             println!(rt; "{}", week_after(date))?;
         }

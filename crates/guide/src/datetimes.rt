@@ -40,7 +40,7 @@ fn from_own_numbers(plain: PlainDateTime) -> Result<PlainDateTime, ComponentRang
 /// Returns the date, the hour and the minute that a date-time was made from.
 fn hms_round_trip(date: Date, hour: u8, minute: u8) -> Option<(Date, u8, u8)>
     ensures some { IsSome result ↔ (hour ≤ 23) × (minute ≤ 59) }
-    ensures same { IfSome result (λ same. same ≡ (date, hour, minute)) }
+    ensures value { IfSome result (λ same. same ≡ (date, hour, minute)) }
 {
     let plain = with_hms(date, hour, minute, 0).ok()?;
     Some((plain.date(), plain.hour(), plain.minute()))
@@ -103,7 +103,7 @@ fn local_ranges(moment: OffsetDateTime) -> (PlainDateTime, Date, Time, UtcOffset
 /// Adds a duration and subtracts it again, which gives the same date-time.
 fn add_then_sub(plain: PlainDateTime, duration: SignedDuration) -> Option<PlainDateTime>
     ensures some { IsSome result ↔ IsDateTime (plain +ℤ duration) }
-    ensures same { IfSome result (λ same. same ≡ plain) }
+    ensures value { IfSome result (λ same. same ≡ plain) }
 {
     plain.checked_add(duration)?.checked_sub(duration)
 }
@@ -172,7 +172,7 @@ fn elsewhere(moment: OffsetDateTime, offset: UtcOffset) -> Option<OffsetDateTime
 /// Converts a moment to another offset and back, which gives the same value.
 fn round_trip(moment: OffsetDateTime, offset: UtcOffset) -> Option<OffsetDateTime>
     ensures some { IsSome result ↔ IsDateTime (local_at (instant moment) offset) }
-    ensures same { IfSome result (λ same. same ≡ moment) }
+    ensures value { IfSome result (λ same. same ≡ moment) }
 {
     moment
         .checked_to_offset(offset)?
@@ -222,7 +222,7 @@ fn duration_between(a: OffsetDateTime, b: OffsetDateTime) -> SignedDuration
 fn moved_to(from: OffsetDateTime, to: OffsetDateTime) -> Option<OffsetDateTime>
     ensures instant { IfSome result (λ moved. instant moved ≡ instant to) }
     ensures offset { IfSome result (λ moved. moved.offset ≡ from.offset) }
-    ensures same { to.offset ≡ from.offset → result ≡ Some to }
+    ensures same_offset { to.offset ≡ from.offset → result ≡ Some to }
 {
     from.checked_add(to - from)
 }

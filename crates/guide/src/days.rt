@@ -11,7 +11,7 @@ use std::io;
 /// Returns `true` if two dates are the same.
 fn is_same(one: Date, other: Date) -> bool
     ensures value { result ≡ (one == other) }
-    ensures same { IsTrue result ↔ (one ≡ other) }
+    ensures equal { IsTrue result ↔ (one ≡ other) }
 {
     one == other
 }
@@ -82,7 +82,7 @@ fn first_of_walk(from: Date, to: Date) -> Option<Date>
 }
 
 /// Returns the next Friday. No day before it is a Friday.
-#[tactic(auto, using(cal_time::specs::Filters::first_passing))]
+#[tactic(auto, using(cal_time::specs::Filters::first_matching))]
 fn next_friday(date: Date) -> Option<Date>
     ensures { IfSome result (IsFirstDay (has_weekday 4) (date + 1) (last_day - date)) }
 {

@@ -13,7 +13,7 @@ use std::io;
 /// Returns the next two days of a rule after a date.
 fn next_two(rule: &Rule<'_>, date: Date) -> Option<(Date, Date)>
     ensures order { IfSome result (λ days. (date < days.0) × (days.0 < days.1)) }
-    ensures on { IfSome result (λ days.
+    ensures found { IfSome result (λ days.
         (is_occurrence rule.now days.0 ≡ true) × (is_occurrence rule.now days.1 ≡ true)) }
 {
     let first = rule.next_after(date)?;

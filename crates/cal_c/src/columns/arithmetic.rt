@@ -68,7 +68,7 @@ fn date_days_later(date: i32, days: i32) -> (i32, u8)
 /// Returns the number of a day plus days, or a number after the last day if it is out of range.
 fn wrapped_day_number(number: u32, days: i32) -> u32
     requires { number ≤ last_day }
-    ensures within { IsDateNumber (pos number +ℤ days) → pos result ≡ pos number +ℤ days }
+    ensures value { IsDateNumber (pos number +ℤ days) → pos result ≡ pos number +ℤ days }
     ensures past { ¬ IsDateNumber (pos number +ℤ days) → last_day < result }
 {
     // A negative sum wraps to a number far above the last day.

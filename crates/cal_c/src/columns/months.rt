@@ -65,7 +65,7 @@ fn date_months_later(date: i32, months: i32) -> (i32, u8)
 /// Returns the index of the month from the start of the range, and the day of the month.
 #[inline(always)]
 fn month_number_and_day(date: i32) -> (u32, u8)
-    ensures index { IsJulianDay date
+    ensures month { IsJulianDay date
         → pos result.0 ≡ month_number_at (day_of date) +ℤ pos 11_999_988 }
     ensures day { IsJulianDay date → result.1 ≡ day_of_month_at (day_of date) }
     ensures max { result.0 ≤ 23_999_987 }

@@ -171,7 +171,7 @@ pub extern "C" fn fots_duration_compare(duration: Duration, other: Duration) -> 
     ensures less { IsDurationPair duration → IsDurationPair other
         → nanoseconds_in duration <ℤ nanoseconds_in other
         → result ≡ number_ok (neg_ℤ (pos 1)) }
-    ensures same { IsDurationPair duration → IsDurationPair other
+    ensures equal { IsDurationPair duration → IsDurationPair other
         → nanoseconds_in duration ≡ nanoseconds_in other
         → result ≡ number_ok (pos 0) }
     ensures greater { IsDurationPair duration → IsDurationPair other

@@ -130,7 +130,7 @@ pub extern "C" fn fots_moment_compare(moment: Moment, other: Moment) -> NumberRe
     ensures less { IsMoment moment → IsMoment other
         → instant (local_and_offset_in moment) <ℤ instant (local_and_offset_in other)
         → result ≡ number_ok (neg_ℤ (pos 1)) }
-    ensures same { IsMoment moment → IsMoment other
+    ensures equal { IsMoment moment → IsMoment other
         → instant (local_and_offset_in moment) ≡ instant (local_and_offset_in other)
         → result ≡ number_ok (pos 0) }
     ensures greater { IsMoment moment → IsMoment other

@@ -74,9 +74,9 @@ fn subday_nanoseconds(duration: SignedDuration) -> i64
 /// Returns the day of nanoseconds since midnight, relative to today: -1, 0 or 1. The sign of a step
 /// is often random, so the comparisons are subtracted, which needs no branch.
 fn day_carry(nanoseconds: i64) -> i64
-    ensures before { nanoseconds <ℤ pos 0 → result ≡ negsuc 0 }
-    ensures same { pos 0 ≤ℤ nanoseconds → nanoseconds <ℤ pos day → result ≡ pos 0 }
-    ensures after { pos day ≤ℤ nanoseconds → result ≡ pos 1 }
+    ensures previous_day { nanoseconds <ℤ pos 0 → result ≡ negsuc 0 }
+    ensures same_day { pos 0 ≤ℤ nanoseconds → nanoseconds <ℤ pos day → result ≡ pos 0 }
+    ensures next_day { pos day ≤ℤ nanoseconds → result ≡ pos 1 }
 {
     i64::from(nanoseconds >= NANOSECONDS_PER_DAY as i64) - i64::from(nanoseconds < 0)
 }

@@ -16,7 +16,7 @@ impl Date {
     pub fn checked_add(self, duration: SignedDuration) -> Option<Self>
         ensures value { SomeIff result (IsDateNumber (pos self +ℤ whole_days duration))
             (clamped_date (pos self +ℤ whole_days duration)) }
-        ensures number { IfSome result (λ n. pos n ≡ pos self +ℤ whole_days duration) }
+        ensures found { IfSome result (λ n. pos n ≡ pos self +ℤ whole_days duration) }
         ensures same_year { IsOrdinalNumber (year_at self)
             (pos (ordinal_at self) +ℤ whole_days duration)
             → IsSomeAnd result (λ n. (year_at n ≡ year_at self)
@@ -31,7 +31,7 @@ impl Date {
     pub fn checked_sub(self, duration: SignedDuration) -> Option<Self>
         ensures value { SomeIff result (IsDateNumber (pos self -ℤ whole_days duration))
             (clamped_date (pos self -ℤ whole_days duration)) }
-        ensures number { IfSome result (λ n. pos n ≡ pos self -ℤ whole_days duration) }
+        ensures found { IfSome result (λ n. pos n ≡ pos self -ℤ whole_days duration) }
         ensures same_year { IsOrdinalNumber (year_at self)
             (pos (ordinal_at self) -ℤ whole_days duration)
             → IsSomeAnd result (λ n. (year_at n ≡ year_at self)
@@ -83,7 +83,7 @@ impl Date {
         if let Some(date) = self.at_index_in_year(index) {
             return Some(date);
         }
-        Self::checked_from_number(days.wrapping_add(u64::from(self.number())))
+        Self::checked_from_number(days.wrapping_add(u64::from(self.day_number())))
     }
 }
 

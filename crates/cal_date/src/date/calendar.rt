@@ -94,7 +94,7 @@ impl Date {
             return Err(ComponentRange::conditional(Component::Day));
         }
         let ordinal = days_before_month(month.place(), leap) + u16::from(day);
-        Ok(Date::from_parts(year, leap, ordinal))
+        Ok(Date::pack(year, leap, ordinal))
     }
 
     /// Creates a date from a year, a month index and a day, clamped to the last day of the month.
@@ -111,7 +111,7 @@ impl Date {
     {
         let leap = is_leap_year(year);
         let ordinal = days_before_month(index, leap) + u16::from(day);
-        Date::from_parts(year, leap, ordinal.min(days_before_month(index + 1, leap)))
+        Date::pack(year, leap, ordinal.min(days_before_month(index + 1, leap)))
     }
 
     /// Returns the month. For 2020-02-29 it is February.

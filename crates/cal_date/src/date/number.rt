@@ -15,7 +15,7 @@ impl Date {
     }
 
     /// Returns the number of the date: the number of days of the range before it.
-    pub(super) fn number(self) -> u32
+    pub(super) fn day_number(self) -> u32
         ensures value { result ≡ self }
         ensures in_range { IsDate self }
     {
@@ -49,7 +49,7 @@ impl Date {
         if self.year() == later.year() {
             return u32::from(later.ordinal() - self.ordinal());
         }
-        later.number() - self.number()
+        later.day_number() - self.day_number()
     }
 
     /// Returns the date `days` days later, which must be in the range.
@@ -60,7 +60,7 @@ impl Date {
     {
         match self.at_index_in_year(u64::from(self.ordinal()) - 1 + u64::from(days)) {
             Some(date) => date,
-            None => Self::from_number(self.number() + days),
+            None => Self::from_number(self.day_number() + days),
         }
     }
 
@@ -74,7 +74,7 @@ impl Date {
         // year.
         match self.at_index_in_year((u64::from(self.ordinal()) - 1).wrapping_sub(u64::from(days))) {
             Some(date) => date,
-            None => Self::from_number(self.number() - days),
+            None => Self::from_number(self.day_number() - days),
         }
     }
 }

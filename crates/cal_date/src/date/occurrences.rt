@@ -19,7 +19,7 @@ impl Date {
     pub fn checked_next_occurrence(self, weekday: Weekday) -> Option<Self>
         ensures value { result ≡ kth 1 (next_occurrences (index weekday) self) }
         ensures weekday { IfSome result (λ n. weekday_at n ≡ index weekday) }
-        ensures within { IfSome result (λ n. (self < n) × (n ≤ self + 7) × IsDate n) }
+        ensures range { IfSome result (λ n. (self < n) × (n ≤ self + 7) × IsDate n) }
         ensures in_range { IsDate self }
     {
         self.checked_nth_next_occurrence(weekday, 1)
@@ -30,7 +30,7 @@ impl Date {
     pub fn checked_prev_occurrence(self, weekday: Weekday) -> Option<Self>
         ensures value { result ≡ kth 1 (prev_occurrences (index weekday) self) }
         ensures weekday { IfSome result (λ n. weekday_at n ≡ index weekday) }
-        ensures within { IfSome result (λ n. (n < self) × (self ≤ n + 7)) }
+        ensures range { IfSome result (λ n. (n < self) × (self ≤ n + 7)) }
         ensures in_range { IsDate self }
     {
         self.checked_nth_prev_occurrence(weekday, 1)
@@ -43,11 +43,11 @@ impl Date {
 
         // It is in the n-th week after the date.
         ensures weekday { IfSome result (λ later. weekday_at later ≡ index weekday) }
-        ensures within { IfSome result
+        ensures range { IfSome result
             (λ later. (self + 7 * (n - 1) < later) × (later ≤ self + 7 * n) × IsDate later) }
         ensures in_range { IsDate self }
     {
-        let from = self.number();
+        let from = self.day_number();
         if n == 0 {
             return None;
         }
@@ -67,11 +67,11 @@ impl Date {
 
         // It is in the n-th week before the date.
         ensures weekday { IfSome result (λ earlier. weekday_at earlier ≡ index weekday) }
-        ensures within { IfSome result
+        ensures range { IfSome result
             (λ earlier. (earlier + 7 * (n - 1) < self) × (self ≤ earlier + 7 * n)) }
         ensures in_range { IsDate self }
     {
-        let number = self.number();
+        let number = self.day_number();
         if n == 0 {
             return None;
         }
@@ -91,7 +91,7 @@ impl Date {
         requires { IsSome (kth 1 (next_occurrences (index weekday) self)) }
         ensures value { kth 1 (next_occurrences (index weekday) self) ≡ Some result }
         ensures weekday { weekday_at result ≡ index weekday }
-        ensures within { (self < result) × (result ≤ self + 7) }
+        ensures range { (self < result) × (result ≤ self + 7) }
         ensures in_range { IsDate self }
     {
         self.checked_next_occurrence(weekday).unwrap()
@@ -103,7 +103,7 @@ impl Date {
         requires { IsSome (kth 1 (prev_occurrences (index weekday) self)) }
         ensures value { kth 1 (prev_occurrences (index weekday) self) ≡ Some result }
         ensures weekday { weekday_at result ≡ index weekday }
-        ensures within { (result < self) × (self ≤ result + 7) }
+        ensures range { (result < self) × (self ≤ result + 7) }
         ensures in_range { IsDate self }
     {
         self.checked_prev_occurrence(weekday).unwrap()
@@ -115,7 +115,7 @@ impl Date {
         requires { IsSome (kth n (next_occurrences (index weekday) self)) }
         ensures value { kth n (next_occurrences (index weekday) self) ≡ Some result }
         ensures weekday { weekday_at result ≡ index weekday }
-        ensures within { (self + 7 * (n - 1) < result) × (result ≤ self + 7 * n) }
+        ensures range { (self + 7 * (n - 1) < result) × (result ≤ self + 7 * n) }
         ensures in_range { IsDate self }
     {
         self.checked_nth_next_occurrence(weekday, n).unwrap()
@@ -127,7 +127,7 @@ impl Date {
         requires { IsSome (kth n (prev_occurrences (index weekday) self)) }
         ensures value { kth n (prev_occurrences (index weekday) self) ≡ Some result }
         ensures weekday { weekday_at result ≡ index weekday }
-        ensures within { (result + 7 * (n - 1) < self) × (self ≤ result + 7 * n) }
+        ensures range { (result + 7 * (n - 1) < self) × (self ≤ result + 7 * n) }
         ensures in_range { IsDate self }
     {
         self.checked_nth_prev_occurrence(weekday, n).unwrap()

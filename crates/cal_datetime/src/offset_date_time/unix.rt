@@ -64,7 +64,7 @@ impl OffsetDateTime {
     /// Returns the Unix timestamp in seconds, rounded down. Half a second before 1970 it is -1.
     pub fn unix_timestamp(self) -> i64
         ensures value { result ≡ unix_seconds (instant self) }
-        ensures whole { (seconds : ℤ) → instant self ≡ unix_epoch +ℤ seconds *ℤ pos second
+        ensures every { (seconds : ℤ) → instant self ≡ unix_epoch +ℤ seconds *ℤ pos second
             → result ≡ seconds }
     {
         let seconds = days_since_epoch(self.date()) * SECONDS_PER_DAY
@@ -94,7 +94,7 @@ impl OffsetDateTime {
 /// Returns the date of a Julian day, or `None` if it is out of range.
 fn checked_date_of_julian_day(julian_day: i32) -> Option<Date>
     ensures some { IsSome result ↔ IsDateNumber (julian_day -ℤ first_julian_day) }
-    ensures number { IfSome result (λ n. pos n ≡ julian_day -ℤ first_julian_day) }
+    ensures value { IfSome result (λ n. pos n ≡ julian_day -ℤ first_julian_day) }
 {
     match Date::from_julian_day(julian_day) {
         Ok(date) => Some(date),
@@ -106,7 +106,7 @@ fn checked_date_of_julian_day(julian_day: i32) -> Option<Date>
 fn date_from_days(days: i64) -> Option<Date>
     requires { unsigned_abs days < 2 ^ 62 }
     ensures some { IsSome result ↔ IsDateNumber (epoch_day +ℤ days) }
-    ensures number { IfSome result (λ n. pos n ≡ epoch_day +ℤ days) }
+    ensures value { IfSome result (λ n. pos n ≡ epoch_day +ℤ days) }
 {
     match i32::try_from(days + EPOCH_DAY) {
         Ok(julian_day) => checked_date_of_julian_day(julian_day),

@@ -4,7 +4,7 @@ ghost use Rattle.cal_time.specs.SignedDuration.{IsDuration};
 ghost use Rattle.cal_datetime.specs.DateTime.{IsDateTime, clamped_date_time};
 
 use crate::PlainDateTime;
-use crate::laws::{first, last};
+use crate::laws::{min_date_time, max_date_time};
 use cal_time::{SignedDuration, add_to_pair, sub_from_pair};
 use std::ops::{Add, AddAssign, Sub, SubAssign};
 
@@ -41,8 +41,8 @@ impl PlainDateTime {
     {
         match self.checked_add(duration) {
             Some(moved) => moved,
-            None if duration.is_negative() => first(),
-            None => last(),
+            None if duration.is_negative() => min_date_time(),
+            None => max_date_time(),
         }
     }
 
@@ -52,8 +52,8 @@ impl PlainDateTime {
     {
         match self.checked_sub(duration) {
             Some(moved) => moved,
-            None if duration.is_negative() => last(),
-            None => first(),
+            None if duration.is_negative() => max_date_time(),
+            None => min_date_time(),
         }
     }
 }

@@ -6,7 +6,7 @@ use cal_datetime::laws::replacement::{
     own_month, own_nanosecond, own_ordinal, own_second, own_time, own_year,
 };
 use cal_datetime::laws::{
-    first, hash_of_instant, is_earlier, is_same_instant, last, order_of_instants, round_trip,
+    min_date_time, hash_of_instant, is_earlier, is_same_instant, max_date_time, order_of_instants, round_trip,
 };
 use cal_time::{Date, Month, SignedDuration, Time, UtcOffset, extent};
 use std::cmp::Ordering;
@@ -78,14 +78,14 @@ fn at_the_ends_of_the_range(rt: HostRuntime) {
     let utc = date_time(&rt, (999_999, Month::December, 31), (23, 59, 59, 0)).assume_utc();
     same(&rt, evening.checked_to_utc(), None);
     same(&rt, (utc < evening, utc == evening), (true, false));
-    let earliest = first().assume_offset(hours(&rt, 1));
-    same(&rt, earliest < first().assume_utc(), true);
+    let earliest = min_date_time().assume_offset(hours(&rt, 1));
+    same(&rt, earliest < min_date_time().assume_utc(), true);
     same(&rt, evening.checked_add(SignedDuration::MAX), None);
     same(&rt, evening.checked_sub(SignedDuration::MAX), None);
     same(
         &rt,
         evening.saturating_add(SignedDuration::MAX).local(),
-        last(),
+        max_date_time(),
     );
     same(
         &rt,
@@ -95,7 +95,7 @@ fn at_the_ends_of_the_range(rt: HostRuntime) {
     same(
         &rt,
         evening.saturating_sub(SignedDuration::MAX).local(),
-        first(),
+        min_date_time(),
     );
 }
 
@@ -133,7 +133,7 @@ fn unix_times(rt: HostRuntime) {
             Some(date_time(&rt, (999_999, Month::December, 31), (23, 59, 59, 0))),
         ),
         (31_494_784_780_800, None),
-        (-31_619_087_596_800, Some(first())),
+        (-31_619_087_596_800, Some(min_date_time())),
         (-31_619_087_596_801, None),
         (i64::MAX, None),
         (i64::MIN, None),
@@ -161,7 +161,7 @@ fn unix_times(rt: HostRuntime) {
 #[test]
 fn texts_of_moments(rt: HostRuntime) -> Result<(), Fail> {
     let night = leap_night(&rt);
-    let longest = last().assume_offset(hours(&rt, -25));
+    let longest = max_date_time().assume_offset(hours(&rt, -25));
     for (moment, text) in [
         (night, "2024-02-29 23:59:59.25 +01:00:00"),
         (longest, "+999999-12-31 23:59:59.999999999 -25:00:00"),
@@ -226,14 +226,14 @@ fn moved_and_replaced_at_an_offset(rt: HostRuntime) {
         night.replace_offset(UtcOffset::UTC) - night,
         SignedDuration::hours(1),
     );
-    same(&rt, night.replace_date_time(first()).offset(), one);
+    same(&rt, night.replace_date_time(min_date_time()).offset(), one);
     same(
         &rt,
         night
             .replace_date(Date::MIN)
             .replace_time(Time::MIDNIGHT)
             .local(),
-        first(),
+        min_date_time(),
     );
     same(&rt, night.replace_year(2023).is_err(), true);
     same(
@@ -252,7 +252,7 @@ fn moved_and_replaced_at_an_offset(rt: HostRuntime) {
     same(
         &rt,
         OffsetDateTime::new_utc(Date::MIN, Time::MIDNIGHT).local(),
-        first(),
+        min_date_time(),
     );
     same(&rt, later.partial_cmp(&night), Some(Ordering::Greater));
 }

@@ -1,6 +1,6 @@
 //! Date-times without an offset.
 use crate::tests::{date_time, same};
-use cal_datetime::laws::{clones, first, hash_of, is_before, is_same, last, order};
+use cal_datetime::laws::{clones, min_date_time, hash_of, is_before, is_same, max_date_time, order};
 use cal_datetime::{PlainDateTime, midnight, with_hms, with_hms_micro, with_hms_milli, with_time};
 use cal_time::{Counted, Date, Month, SignedDuration, Time, Weekday};
 use std::cmp::Ordering;
@@ -65,11 +65,11 @@ fn moved_date_times(rt: HostRuntime) {
     );
     same(&rt, late.checked_add(SignedDuration::MAX), None);
     same(&rt, late.checked_sub(SignedDuration::MAX), None);
-    same(&rt, late.saturating_add(SignedDuration::MAX), last());
-    same(&rt, late.saturating_sub(SignedDuration::MAX), first());
-    same(&rt, late.saturating_add(SignedDuration::MIN), first());
-    same(&rt, last().checked_add(SignedDuration::NANOSECOND), None);
-    same(&rt, first().checked_sub(SignedDuration::NANOSECOND), None);
+    same(&rt, late.saturating_add(SignedDuration::MAX), max_date_time());
+    same(&rt, late.saturating_sub(SignedDuration::MAX), min_date_time());
+    same(&rt, late.saturating_add(SignedDuration::MIN), min_date_time());
+    same(&rt, max_date_time().checked_add(SignedDuration::NANOSECOND), None);
+    same(&rt, min_date_time().checked_sub(SignedDuration::NANOSECOND), None);
 }
 
 #[test]
@@ -96,7 +96,7 @@ fn replaced_components(rt: HostRuntime) {
     }
     same(&rt, night.replace_year(2023).is_err(), true);
     let (date, time) = (Date::MIN, Time::MIDNIGHT);
-    same(&rt, night.replace_date(date).replace_time(time), first());
+    same(&rt, night.replace_date(date).replace_time(time), min_date_time());
 }
 
 #[test]
@@ -138,7 +138,7 @@ fn made_and_compared(rt: HostRuntime) -> Result<(), Fail> {
     same(&rt, noon.partial_cmp(&noon), Some(Ordering::Equal));
     same(
         &rt,
-        (first().number(), last().number()),
+        (min_date_time().number(), max_date_time().number()),
         (0, 63_113_872_377_599_999_999_999),
     );
     let utc = noon.assume_utc();
@@ -151,8 +151,8 @@ fn texts_of_date_times(rt: HostRuntime) -> Result<(), Fail> {
     let night = date_time(&rt, (2024, Month::February, 29), (23, 59, 59, 250_000_000));
     for (plain, text) in [
         (night, "2024-02-29 23:59:59.25"),
-        (first(), "-999999-01-01 0:00:00.0"),
-        (last(), "+999999-12-31 23:59:59.999999999"),
+        (min_date_time(), "-999999-01-01 0:00:00.0"),
+        (max_date_time(), "+999999-12-31 23:59:59.999999999"),
     ] {
         same(&rt, plain.text().as_str(), text);
         same(&rt, format!(in rt.alloc(); "{plain}")?.as_str(), text);

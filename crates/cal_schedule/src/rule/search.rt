@@ -73,7 +73,7 @@ impl Rule<'_> {
     fn days_to_skip(&self, day: Date) -> u8
         ensures min { 1 ≤ result }
         ensures max { result ≤ 7 }
-        ensures none { (k : ℕ) → day < k → k < day + result
+        ensures skipped { (k : ℕ) → day < k → k < day + result
             → may_fall_on self.now (weekday_at k) ≡ false }
     {
         let mut days = 1;

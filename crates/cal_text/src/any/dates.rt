@@ -32,7 +32,7 @@ pub(super) fn furthest_error(error: ParseError, text: &[u8]) -> ParseError
 }
 
 /// Parses a date in one of the three forms of ISO 8601.
-pub(super) fn parse_date(text: &[u8]) -> Result<DateOrMoment, ParseError>
+pub(super) fn parse_any_date(text: &[u8]) -> Result<DateOrMoment, ParseError>
     requires first { (get_or text.now 0 0 ≢ 74) × (get_or text.now 0 0 ≢ 64) }
     requires separator { ¬ IsSeparator (get_or text.now 10 0) }
     ensures every { (found : DateOrMoment) → IsTextOf text.now found → result ≡ Ok found }

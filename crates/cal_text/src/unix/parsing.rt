@@ -61,7 +61,7 @@ fn scan_seconds(scanner: &mut Scanner) -> Option<(u64, u32)>
 fn scan_positive_seconds(scanner: &mut Scanner) -> Option<(u64, u32)>
     ensures scans { ScansWhole seconds_above_0 scanner.old.rest.now scanner.new.rest.now result }
     ensures value { IfSome result (λ found. HasSeconds scanner.old.rest.now found.0 found.1) }
-    ensures some { IfSome result (λ found. 0 < found.0 + found.1) }
+    ensures found { IfSome result (λ found. 0 < found.0 + found.1) }
 {
     match scanner.byte(b'0') {
         Some(()) => {
@@ -78,7 +78,7 @@ fn scan_positive_seconds(scanner: &mut Scanner) -> Option<(u64, u32)>
 fn scan_seconds_from_1(scanner: &mut Scanner) -> Option<(u64, u32)>
     ensures scans { ScansWhole from_one scanner.old.rest.now scanner.new.rest.now result }
     ensures value { IfSome result (λ found. HasSeconds scanner.old.rest.now found.0 found.1) }
-    ensures some { IfSome result (λ found. 0 < found.0) }
+    ensures found { IfSome result (λ found. 0 < found.0) }
 {
     let seconds = scan_positive_number(scanner, 17)?;
     let nanosecond = scan_fraction(scanner, 8)?;

@@ -18,7 +18,7 @@ returns-in-Ok-clause-hour c = λ x.
     let fm : FitsSigned w8 c.saturating_i8-2.result = search rules in
     let fs : FitsSigned w8 c.saturating_i8-3.result = search rules in
     let hour = simp to_z-of_z at c.in-Ok.ensures.hour in
-    absurd (hour.1 (h.above 25 (lit< tt) x))
+    absurd (hour.1 (h.saturated 25 (lit< tt) x))
 
 pub returns-in-Ok-clause-minute : goal.returns-in-Ok-clause-minute
 returns-in-Ok-clause-minute c = λ y x.
@@ -32,7 +32,7 @@ returns-in-Ok-clause-minute c = λ y x.
     let fm : FitsSigned w8 c.saturating_i8-2.result = search rules in
     let fs : FitsSigned w8 c.saturating_i8-3.result = search rules in
     let minute = simp to_z-of_z at c.in-Ok.ensures.minute in
-    absurd (minute.1 (subst (λ z. unsigned_abs z ≤ 25) (sym (h.same (omega arith))) y, m.above 59 (lit< tt) x))
+    absurd (minute.1 (subst (λ z. unsigned_abs z ≤ 25) (sym (h.value (omega arith))) y, m.saturated 59 (lit< tt) x))
 
 pub returns-in-Ok-clause-second : goal.returns-in-Ok-clause-second
 returns-in-Ok-clause-second c = λ z y x.
@@ -46,7 +46,7 @@ returns-in-Ok-clause-second c = λ z y x.
     let fm : FitsSigned w8 c.saturating_i8-2.result = search rules in
     let fs : FitsSigned w8 c.saturating_i8-3.result = search rules in
     let second = simp to_z-of_z at c.in-Ok.ensures.second in
-    absurd (second.1 (subst (λ w. unsigned_abs w ≤ 25) (sym (h.same (omega arith))) z, subst (λ w. unsigned_abs w ≤ 59) (sym (m.same (omega arith))) y, s.above 59 (lit< tt) x))
+    absurd (second.1 (subst (λ w. unsigned_abs w ≤ 25) (sym (h.value (omega arith))) z, subst (λ w. unsigned_abs w ≤ 59) (sym (m.value (omega arith))) y, s.saturated 59 (lit< tt) x))
 
 pub returns-in-Err-clause-hour : goal.returns-in-Err-clause-hour
 returns-in-Err-clause-hour c = λ x.
@@ -62,7 +62,7 @@ returns-in-Err-clause-hour c = λ x.
     let hour = simp to_z-of_z at c.in-Err.ensures.hour in
     let fr : FitsSigned w32 c.status_of.result = search rules in
     let refused = simp to_z-of_z at c.error.ensures in
-    refused ∙ ap offset_error (c.status_of.ensures ∙ ap (λ (e : ComponentRange). component_status e.component) (hour.1 (h.above 25 (lit< tt) x)))
+    refused ∙ ap offset_error (c.status_of.ensures ∙ ap (λ (e : ComponentRange). component_status e.component) (hour.1 (h.saturated 25 (lit< tt) x)))
 
 pub returns-in-Err-clause-minute : goal.returns-in-Err-clause-minute
 returns-in-Err-clause-minute c = λ y x.
@@ -78,7 +78,7 @@ returns-in-Err-clause-minute c = λ y x.
     let minute = simp to_z-of_z at c.in-Err.ensures.minute in
     let fr : FitsSigned w32 c.status_of.result = search rules in
     let refused = simp to_z-of_z at c.error.ensures in
-    refused ∙ ap offset_error (c.status_of.ensures ∙ ap (λ (e : ComponentRange). component_status e.component) (minute.1 (subst (λ z. unsigned_abs z ≤ 25) (sym (h.same (omega arith))) y, m.above 59 (lit< tt) x)))
+    refused ∙ ap offset_error (c.status_of.ensures ∙ ap (λ (e : ComponentRange). component_status e.component) (minute.1 (subst (λ z. unsigned_abs z ≤ 25) (sym (h.value (omega arith))) y, m.saturated 59 (lit< tt) x)))
 
 pub returns-in-Err-clause-second : goal.returns-in-Err-clause-second
 returns-in-Err-clause-second c = λ z y x.
@@ -94,4 +94,4 @@ returns-in-Err-clause-second c = λ z y x.
     let second = simp to_z-of_z at c.in-Err.ensures.second in
     let fr : FitsSigned w32 c.status_of.result = search rules in
     let refused = simp to_z-of_z at c.error.ensures in
-    refused ∙ ap offset_error (c.status_of.ensures ∙ ap (λ (e : ComponentRange). component_status e.component) (second.1 (subst (λ w. unsigned_abs w ≤ 25) (sym (h.same (omega arith))) z, subst (λ w. unsigned_abs w ≤ 59) (sym (m.same (omega arith))) y, s.above 59 (lit< tt) x)))
+    refused ∙ ap offset_error (c.status_of.ensures ∙ ap (λ (e : ComponentRange). component_status e.component) (second.1 (subst (λ w. unsigned_abs w ≤ 25) (sym (h.value (omega arith))) z, subst (λ w. unsigned_abs w ≤ 59) (sym (m.value (omega arith))) y, s.saturated 59 (lit< tt) x)))

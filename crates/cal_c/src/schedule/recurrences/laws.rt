@@ -14,7 +14,7 @@ pub fn days_twice(
     others: &mut [i32],
 ) -> (RecurrenceResult, RecurrenceResult)
     requires { days.old ≡ others.old }
-    ensures result { result.0 ≡ result.1 }
+    ensures value { result.0 ≡ result.1 }
     ensures days { days.new ≡ others.new }
 {
     let _ = (valid_date(start), valid_date(from));

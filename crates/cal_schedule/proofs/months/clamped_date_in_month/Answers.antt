@@ -14,7 +14,7 @@ has c =
     rw same at c.from_month_index_clamped.ensures.value
 
 pub returns-clause-month : goal.returns-clause-month
-returns-clause-month c = has_index _ _ _ _ _ (has c) (omega (arith, ints, c.year_and_month-year.ensures.index))
+returns-clause-month c = has_index _ _ _ _ _ (has c) (omega (arith, ints, c.year_and_month-year.ensures.value))
 
 pub returns-clause-day : goal.returns-clause-day
 returns-clause-day c =

@@ -4,5 +4,5 @@ use Rattle.cal_time.specs.Days.{month_at-range}
 use Rattle.cal_schedule.proofs.Ends.{first-least}
 use Rattle.cal_schedule.proofs.period_ends.first_of_year.Goals as goal
 
-pub returns-clause-not_after : goal.returns-clause-not_after
-returns-clause-not_after c = first-least _ _ _ _ c.first_in_month.ensures.value (omega (arith, ints, month_at-range c.args.date))
+pub returns-clause-max : goal.returns-clause-max
+returns-clause-max c = first-least _ _ _ _ c.first_in_month.ensures.value (omega (arith, ints, month_at-range c.args.date))

@@ -9,6 +9,6 @@ pub returns-clause-value : goal.returns-clause-value
 returns-clause-value c =
     last-same _ _ _ _ _ (omega (arith, ints)) (rw c.at.ensures (omega (arith, month_at-range c.args.date, index-month_of_index (c.place-index.result - c.place-index.result % 3 + 2) (omega (arith, month_at-range c.args.date))))) c.last_in_month.ensures.value
 
-pub returns-clause-not_before : goal.returns-clause-not_before
-returns-clause-not_before c =
+pub returns-clause-min : goal.returns-clause-min
+returns-clause-min c =
     last-greatest _ _ _ _ c.last_in_month.ensures.value (rw c.at.ensures (omega (arith, ints, month_at-range c.args.date, index-month_of_index (c.place-index.result - c.place-index.result % 3 + 2) (omega (arith, month_at-range c.args.date)))))

@@ -10,5 +10,5 @@ pub returns-clause-value : goal.returns-clause-value
 returns-clause-value c =
     last-same _ (year_at c.args.date) 12 12 _ (omega (arith, ints)) (omega arith) c.last_in_month.ensures.value ∙ ap (calendar_day (year_at c.args.date) 12) (december (year_at c.args.date))
 
-pub returns-clause-not_before : goal.returns-clause-not_before
-returns-clause-not_before c = last-greatest _ _ _ _ c.last_in_month.ensures.value (omega (arith, ints, month_at-range c.args.date))
+pub returns-clause-min : goal.returns-clause-min
+returns-clause-min c = last-greatest _ _ _ _ c.last_in_month.ensures.value (omega (arith, ints, month_at-range c.args.date))

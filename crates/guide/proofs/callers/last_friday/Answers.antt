@@ -36,11 +36,11 @@ there P None None e some = search rules
 there P None (Some n) e some = absurd (cc)
 there P (Some m) s e some = search rules
 
-pub returns-else-eq-clause-day : goal.returns-else-eq-clause-day
-returns-else-eq-clause-day c =
+pub returns-else-eq-clause-found : goal.returns-else-eq-clause-found
+returns-else-eq-clause-found c =
     let has : HasCalendarDate c.args.year (number c.args.month) (days_in_month c.args.year (number c.args.month)) c.in-Ok.last = search rules in
     let other : ¬ (weekday_at c.in-Ok.last ≡ 4) = search rules in
-    before _ _ _ _ _ has other c.checked_prev_occurrence.ensures.weekday c.checked_prev_occurrence.ensures.within
+    before _ _ _ _ _ has other c.checked_prev_occurrence.ensures.weekday c.checked_prev_occurrence.ensures.range
 
 pub returns-else-eq-clause-none : goal.returns-else-eq-clause-none
 returns-else-eq-clause-none c =

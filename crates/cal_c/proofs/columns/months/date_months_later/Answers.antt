@@ -22,7 +22,7 @@ pub returns-then-index-gt-LAST_MONTH : goal.returns-then-index-gt-LAST_MONTH
 returns-then-index-gt-LAST_MONTH c =
     let f = c.ranges.date in
     let g = c.ranges.months in
-    let first = simp to_z-of_z at c.month_number_and_day-index.ensures.index in
+    let first = simp to_z-of_z at c.month_number_and_day-index.ensures.month in
     record {
       invalid_date = search rules;
       result_out_of_range = search rules;
@@ -34,7 +34,7 @@ returns-else-index-gt-LAST_MONTH c =
     let f = c.ranges.date in
     let g = c.ranges.months in
     let fits : FitsSigned w32 c.clamped_date_in_month-later.result = search rules in
-    let first = simp to_z-of_z at c.month_number_and_day-index.ensures.index in
+    let first = simp to_z-of_z at c.month_number_and_day-index.ensures.month in
     let same = simp to_z-of_z at c.month_number_and_day-index.ensures.day in
     let n = day_of c.args.date in
     let r = day_of c.clamped_date_in_month-later.result in

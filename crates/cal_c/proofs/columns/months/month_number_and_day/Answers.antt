@@ -6,8 +6,8 @@ use Rattle.cal_schedule.specs.Months.{month_number_at}
 use Rattle.cal_schedule.proofs.MonthMoves.{has_index}
 use Rattle.cal_c.proofs.columns.months.month_number_and_day.Goals as goal
 
-pub returns-in-Some-clause-index : goal.returns-in-Some-clause-index
-returns-in-Some-clause-index c = λ h.
+pub returns-in-Some-clause-month : goal.returns-in-Some-clause-month
+returns-in-Some-clause-month c = λ h.
     let f = c.ranges.date in
     let at = simp to_z-of_z at c.in-Some.ensures in
     has_index _ _ _ _ _ c.to_calendar_date-year.ensures.value (omega (arith, ints, c.to_calendar_date-year.ensures.range.0)) ∙ ap (λ n. month_number_at n +ℤ pos 11999988) at.1

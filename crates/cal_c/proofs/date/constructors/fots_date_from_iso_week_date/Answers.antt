@@ -15,7 +15,7 @@ returns-in-Ok c =
     let every = simp to_z-of_z at c.in-Ok.ensures.every in
     let has = simp to_z-of_z at c.in-Ok.ensures.value in
     let same = simp to_z-of_z at c.week_or_invalid.ensures.value in
-    let none = simp to_z-of_z at c.week_or_invalid.ensures.none in
+    let none = simp to_z-of_z at c.week_or_invalid.ensures.invalid in
     record {
       invalid_weekday = λ out. absurd (out c.in-Some.ensures.0);
       no_year = λ w out. absurd (year.1 out);

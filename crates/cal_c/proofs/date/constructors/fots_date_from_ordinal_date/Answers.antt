@@ -14,7 +14,7 @@ returns-in-Ok c =
     let Has = HasOrdinalDate c.args.year c.args.ordinal in
     record {
       no_year = λ out. absurd (year.1 out);
-      no_ordinal = λ y out. absurd (ordinal.1 (y, c.ordinal_or_invalid.ensures.none c.args.year out));
+      no_ordinal = λ y out. absurd (ordinal.1 (y, c.ordinal_or_invalid.ensures.invalid c.args.year out));
       date = λ y o. subst (IsDateWith Has) (sym c.ok.ensures)
           (IsDateWith-at Has c.in-Ok.made has.0 (has.1.0, has.1.1 ∙ c.ordinal_or_invalid.ensures.value c.args.year o));
     }

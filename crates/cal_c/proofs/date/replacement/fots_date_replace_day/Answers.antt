@@ -11,7 +11,7 @@ pub returns-in-Ok-clause-day : goal.returns-in-Ok-clause-day
 returns-in-Ok-clause-day c = λ h out.
     let f = c.ranges.date in let at = simp to_z-of_z at c.in-Some.ensures in
     let at_day = subst (λ n. IsDayOfMonth (year_at n) (month_at n) c.args.day → ⊥) (sym at.1) out in
-    absurd (c.in-Ok.ensures.day.1 (c.day_or_invalid.ensures.none _ _ at_day))
+    absurd (c.in-Ok.ensures.day.1 (c.day_or_invalid.ensures.invalid _ _ at_day))
 
 pub returns-in-Ok-clause-value : goal.returns-in-Ok-clause-value
 returns-in-Ok-clause-value c = λ h d.

@@ -8,7 +8,7 @@ in_day : (c : goal.After-day_carry-days) → IsInDay c.args.nanoseconds c.day_ca
 in_day c =
     let n = c.ranges.nanoseconds in
     let counted = simp to_z-of_z at c.day_carry-days.ensures in
-    IsInDay-counted c.args.nanoseconds c.day_carry-days.result c.requires.min c.requires.max counted.before counted.same counted.after
+    IsInDay-counted c.args.nanoseconds c.day_carry-days.result c.requires.min c.requires.max counted.previous_day counted.same_day counted.next_day
 
 pub overflow_cast-nanoseconds-2 : goal.overflow_cast-nanoseconds-2
 overflow_cast-nanoseconds-2 c =

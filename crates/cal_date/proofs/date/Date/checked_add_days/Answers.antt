@@ -21,6 +21,6 @@ pub returns-clause-value : goal.returns-clause-value
 returns-clause-value c =
     let days : FitsSigned w64 c.args.days = c.ranges.days in
     let cast : c.cast_unsigned-days.result ≡ of_z w64 c.args.days = c.cast_unsigned-days.ensures ∙ ap (of_z w64) (to_z-of_z w64 _ days) in
-    let from : c.from-2.result ≡ c.args.self = c.from-2.ensures ∙ c.number.ensures.value in
+    let from : c.from-2.result ≡ c.args.self = c.from-2.ensures ∙ c.day_number.ensures.value in
     let found = rw (cast, from) at c.checked_from_number.ensures in
-    moved_by_number c.args.self _ c.args.days c.checked_from_number.result days c.number.ensures.in_range refl found
+    moved_by_number c.args.self _ c.args.days c.checked_from_number.result days c.day_number.ensures.in_range refl found

@@ -10,7 +10,7 @@ use Rattle.cal_date.specs.PackedDate.{ordinal_number}
 use Rattle.cal_date.proofs.Dates.{IsDate-ordinal_number}
 use Rattle.cal_date.proofs.Calendar.{ordinal_in, stands_at, calendar_in_range, IsOrdinal-ordinal_in, NoDate-calendar_date}
 use Rattle.cal_date.proofs.date.Date.from_calendar_date.Goals as goal
-use Rattle.cal_date.proofs.date.Date.from_calendar_date.Goals.{After-from, After-from_parts}
+use Rattle.cal_date.proofs.date.Date.from_calendar_date.Goals.{After-from, After-pack}
 
 no_year : (c : goal.After-unconditional) → ¬ IsYear c.args.year
 no_year c year = let is = rw (to_z-of_z w32 _ c.ranges.year) at c.is_year.ensures in false≢true (sym c.if-not-is_year.true ∙ is.1 year)
@@ -65,17 +65,17 @@ overflow_add-ordinal c =
     let most : days_in_year c.args.year ≤ 366 = grind (arith, nat_tests) in
     omega (arith, f.ordinal.1, f.ordinal_is)
 
-pub from_parts-requires-clause-year : goal.from_parts-requires-clause-year
-from_parts-requires-clause-year c = let f = fits c in rw f.same f.year
+pub pack-requires-clause-year : goal.pack-requires-clause-year
+pack-requires-clause-year c = let f = fits c in rw f.same f.year
 
-pub from_parts-requires-clause-ordinal : goal.from_parts-requires-clause-ordinal
-from_parts-requires-clause-ordinal c = let f = fits c in rw (f.same, f.ordinal_is) f.ordinal
+pub pack-requires-clause-ordinal : goal.pack-requires-clause-ordinal
+pack-requires-clause-ordinal c = let f = fits c in rw (f.same, f.ordinal_is) f.ordinal
 
-pub from_parts-requires-clause-leap : goal.from_parts-requires-clause-leap
-from_parts-requires-clause-leap c = let f = fits c in rw f.same f.leap
+pub pack-requires-clause-leap : goal.pack-requires-clause-leap
+pack-requires-clause-leap c = let f = fits c in rw f.same f.leap
 
-number_is : (c : After-from_parts) → c.from_parts.result ≡ ordinal_number c.args.year (ordinal_in c.args.year (index c.args.month) c.args.day)
-number_is c = let f = fits c.before in rw (f.same, f.ordinal_is) at c.from_parts.ensures.value
+number_is : (c : After-pack) → c.pack.result ≡ ordinal_number c.args.year (ordinal_in c.args.year (index c.args.month) c.args.day)
+number_is c = let f = fits c.before in rw (f.same, f.ordinal_is) at c.pack.ensures.value
 
 pub returns-clause-every : goal.returns-clause-every
 returns-clause-every c = λ n h has. let f = fits c.before in ap Ok (number_is c ∙ sym (calendar_in_range n _ (index c.args.month) _ h has).number_is)

@@ -32,11 +32,11 @@ fits c =
       ordinal = IsOrdinal-ordinal_in c.args.year c.args.index _ c.requires.year.0 c.requires.index day;
     }
 
-pub from_parts-requires-clause-ordinal : goal.from_parts-requires-clause-ordinal
-from_parts-requires-clause-ordinal c = let f = fits c in rw (f.same, f.ordinal_is) f.ordinal
+pub pack-requires-clause-ordinal : goal.pack-requires-clause-ordinal
+pack-requires-clause-ordinal c = let f = fits c in rw (f.same, f.ordinal_is) f.ordinal
 
 pub returns-clause-value : goal.returns-clause-value
 returns-clause-value c =
     let f = fits c.before in
-    let number = rw (f.same, f.ordinal_is) at c.from_parts.ensures.value in
+    let number = rw (f.same, f.ordinal_is) at c.pack.ensures.value in
     rw number (stands_at c.args.year c.args.index _ c.requires.year.0 c.requires.index f.day).has

@@ -21,8 +21,8 @@ returns-clause-value c =
     (rw (c.date.ensures.value, c.time.ensures.value) c.time.ensures.whole)
     (omega (arith, ints, day.value, clock.value, offset.value, c.offset.ensures.value)))
 
-pub returns-clause-whole : goal.returns-clause-whole
-returns-clause-whole c = λ seconds e. returns-clause-value c ∙ unix_seconds-whole _ seconds e
+pub returns-clause-every : goal.returns-clause-every
+returns-clause-every c = λ seconds e. returns-clause-value c ∙ unix_seconds-whole _ seconds e
 
 pub overflow_sub-result : goal.overflow_sub-result
 overflow_sub-result c =

@@ -13,7 +13,7 @@ returns-in-Some-clause-instant c =
     let y = simp to_z-of_z at c.rem_euclid.ensures.value in
     let d : FitsSigned w64 c.div_euclid.result = omega (arith, ints, cut, f.sfits) in
     let r : FitsSigned w64 c.rem_euclid.result = omega (arith, ints, c.rem_euclid.ensures.lower_bound, c.rem_euclid.ensures.upper_bound) in
-    let number = simp to_z-of_z at c.in-Some.ensures.number in
+    let number = simp to_z-of_z at c.in-Some.ensures.value in
     let time = simp to_z-of_z at c.time_from_seconds-time.ensures in
     c.new_utc.ensures.instant ∙ unix_date_time c.args.seconds c.div_euclid.result c.rem_euclid.result c.args.nanoseconds _ _ (omega (arith, ints, cut, x, y)) number time
 

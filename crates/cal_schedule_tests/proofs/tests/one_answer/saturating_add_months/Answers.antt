@@ -5,4 +5,4 @@ pub returns : goal.returns
 returns c =
     let r = c.saturating_add_months.ensures in
     let s = c.saturating_add_months-2.ensures in
-    held-one _ _ _ _ r.within r.before r.past s.within s.before s.past
+    held-one _ _ _ _ r.value r.before r.past s.value s.before s.past

@@ -7,8 +7,8 @@ pub returns-in_ok-end-in-Some-clause-value : goal.returns-in_ok-end-in-Some-clau
 returns-in_ok-end-in-Some-clause-value c =
     (put_decimals _ _ _ _ _ c.in-Some.ensures.value c.in_ok-byte-in-Some.ensures.value c.in_ok-nanosecond-in-Some.ensures.value c.in_ok-end-in-Some.ensures.value).0
 
-pub returns-in_ok-end-in-Some-clause-some : goal.returns-in_ok-end-in-Some-clause-some
-returns-in_ok-end-in-Some-clause-some c =
+pub returns-in_ok-end-in-Some-clause-found : goal.returns-in_ok-end-in-Some-clause-found
+returns-in_ok-end-in-Some-clause-found c =
     let found = put_decimals _ _ _ _ _ c.in-Some.ensures.value c.in_ok-byte-in-Some.ensures.value c.in_ok-nanosecond-in-Some.ensures.value c.in_ok-end-in-Some.ensures.value in
     omega (arith, found.1)
 

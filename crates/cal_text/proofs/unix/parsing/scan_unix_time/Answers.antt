@@ -9,7 +9,7 @@ returns-in_ok-scan_seconds-in-Some-clause-value c =
     let text = c.args.scanner.now.rest.now in
     let number = c.in_ok-scan_seconds-in-Some.ensures in
     let has = subst (HasUnixForm text) (sym c.negated_nanoseconds.ensures)
-    (put_negative text _ _ _ (c.in_ok-byte.ensures.value ∙ ap (λ r. 64 ∷ r) c.in-Some.ensures.value) number.value number.some) in
+    (put_negative text _ _ _ (c.in_ok-byte.ensures.value ∙ ap (λ r. 64 ∷ r) c.in-Some.ensures.value) number.value number.found) in
     subst (HasUnixForm text) (sym (wide-form text c.negated_nanoseconds.result has)) has
 
 pub returns-in_ok-scan_seconds-in-None-clause-value : goal.returns-in_ok-scan_seconds-in-None-clause-value

@@ -17,8 +17,8 @@ both c =
     (subst (λ old. Clauses c.args.text.now start from old other.new.days other.result) (sym c.requires)
     (record { unread = other.ensures.error; invalid_date = other.ensures.invalid_date; days = other.ensures.value }))
 
-pub returns-clause-result : goal.returns-clause-result
-returns-clause-result c = (both c).0
+pub returns-clause-value : goal.returns-clause-value
+returns-clause-value c = (both c).0
 
 pub returns-clause-days : goal.returns-clause-days
 returns-clause-days c = (both c).1

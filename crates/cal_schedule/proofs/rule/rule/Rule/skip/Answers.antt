@@ -16,10 +16,10 @@ returns-then-past-ne0 c =
 pub returns-then-matches_months : goal.returns-then-matches_months
 returns-then-matches_months c =
     let on = c.days_to_skip.ensures in
-    skip-day c.args.self.now c.args.day c.days_to_skip.result _ c.date_from_number.result c.requires.off (omega arith) on.min on.none c.date_from_number.ensures
+    skip-day c.args.self.now c.args.day c.days_to_skip.result _ c.date_from_number.result c.requires.off (omega arith) on.min on.skipped c.date_from_number.ensures
 
 pub returns : goal.returns
 returns c =
     let rule = c.args.self.now in
     let off : matches_months rule c.args.day ≡ false = sym c.matches_months.ensures ∙ c.if-matches_months.false in
-    skip-month rule rule.week_start c.args.day _ c.first_of_month_number.result off (omega (arith, ints, pos-months rule.week_start c.args.day, c.month_number_and_day-index.ensures.index)) c.first_of_month_number.ensures
+    skip-month rule rule.week_start c.args.day _ c.first_of_month_number.result off (omega (arith, ints, pos-months rule.week_start c.args.day, c.month_number_and_day-index.ensures.month)) c.first_of_month_number.ensures

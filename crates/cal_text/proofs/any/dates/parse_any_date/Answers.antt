@@ -10,7 +10,7 @@ use Rattle.cal_text.proofs.Faults.{not_refused, refused_for, no_form}
 use Rattle.cal_text.proofs.Positions.{named}
 use Rattle.cal_text.proofs.Results.{one, not_ok}
 use Rattle.cal_text.proofs.AnyPositions as positions
-use Rattle.cal_text.proofs.any.dates.parse_date.Goals as goal
+use Rattle.cal_text.proofs.any.dates.parse_any_date.Goals as goal
 
 pub returns-in-Ok-date_from_numbers-clause-every : goal.returns-in-Ok-date_from_numbers-clause-every
 returns-in-Ok-date_from_numbers-clause-every c =

@@ -4,7 +4,7 @@ use Rattle.cal_date.specs.Date.{IsDate, HasOrdinalDate}
 use Rattle.cal_date.specs.PackedDate.{packed, HasOrdinalDate-ordinal_number}
 use Rattle.cal_date.proofs.Dates.{IsDate-ordinal_number}
 use Rattle.cal_date.proofs.Packed.{IsPackedDate-packed, number_of-packed, packed-bits}
-use Rattle.cal_date.proofs.date.Date.from_parts.Goals as goal
+use Rattle.cal_date.proofs.date.Date.pack.Goals as goal
 use mir.Val.{bool_byte}
 
 -- The bits are the packed value.

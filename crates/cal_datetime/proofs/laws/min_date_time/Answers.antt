@@ -1,7 +1,7 @@
 use Rattle.std.proofs.Common.{ap, arith}
 use Rattle.cal_time.specs.DateLimits.{MIN-number}
 use Rattle.cal_datetime.specs.DateTime.{date_time}
-use Rattle.cal_datetime.proofs.laws.first.Goals as goal
+use Rattle.cal_datetime.proofs.laws.min_date_time.Goals as goal
 
 pub returns : goal.returns
 returns c = ap (λ n. date_time n 0) MIN-number
