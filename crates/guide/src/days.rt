@@ -32,7 +32,7 @@ fn later_year(date: Date, days: u32) -> i32
 }
 
 /// Counts the days from one day to another of the same year, which must not be earlier.
-#[tactic(auto, using(cal_time::specs::Parts::days_apart))]
+#[tactic(auto, using(cal_time::specs::Components::days_apart))]
 fn days_between_in_year(from: Date, to: Date) -> u16
     requires order { from ≤ to }
     requires year { year_at from ≡ year_at to }
