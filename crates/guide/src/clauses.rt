@@ -50,7 +50,11 @@ fn last_day() -> Date
 
 pub fn show(rt: &impl Print) -> io::Result<()> {
     if let Ok(date) = last_of_month(2020, Month::February) {
-        println!(rt; "{} {date} {:?}", month_start(date), next_day_round_trip(date))?;
+        println!(rt;
+            "{} {date} {:?}",
+            month_start(date),
+            next_day_round_trip(date)
+        )?;
         if date.checked_add(SignedDuration::days(7)).is_some() {
             println!(rt; "{}", week_after(date))?;
         }

@@ -4,7 +4,7 @@ ghost use Rattle.cal_time.specs.SignedDuration.{IsDuration};
 ghost use Rattle.cal_datetime.specs.DateTime.{IsDateTime, clamped_date_time};
 
 use crate::PlainDateTime;
-use crate::laws::{min_date_time, max_date_time};
+use crate::laws::{max_date_time, min_date_time};
 use cal_time::{SignedDuration, add_to_pair, sub_from_pair};
 use std::ops::{Add, AddAssign, Sub, SubAssign};
 

@@ -6,7 +6,8 @@ use cal_datetime::laws::replacement::{
     own_month, own_nanosecond, own_ordinal, own_second, own_time, own_year,
 };
 use cal_datetime::laws::{
-    min_date_time, hash_of_instant, is_earlier, is_same_instant, max_date_time, order_of_instants, round_trip,
+    hash_of_instant, is_earlier, is_same_instant, max_date_time, min_date_time, order_of_instants,
+    round_trip,
 };
 use cal_time::{Date, Month, SignedDuration, Time, UtcOffset, extent};
 use std::cmp::Ordering;

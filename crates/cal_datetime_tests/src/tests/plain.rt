@@ -1,6 +1,8 @@
 //! Date-times without an offset.
 use crate::tests::{date_time, same};
-use cal_datetime::laws::{clones, min_date_time, hash_of, is_before, is_same, max_date_time, order};
+use cal_datetime::laws::{
+    clones, hash_of, is_before, is_same, max_date_time, min_date_time, order,
+};
 use cal_datetime::{PlainDateTime, midnight, with_hms, with_hms_micro, with_hms_milli, with_time};
 use cal_time::{Counted, Date, Month, SignedDuration, Time, Weekday};
 use std::cmp::Ordering;
@@ -65,11 +67,31 @@ fn moved_date_times(rt: HostRuntime) {
     );
     same(&rt, late.checked_add(SignedDuration::MAX), None);
     same(&rt, late.checked_sub(SignedDuration::MAX), None);
-    same(&rt, late.saturating_add(SignedDuration::MAX), max_date_time());
-    same(&rt, late.saturating_sub(SignedDuration::MAX), min_date_time());
-    same(&rt, late.saturating_add(SignedDuration::MIN), min_date_time());
-    same(&rt, max_date_time().checked_add(SignedDuration::NANOSECOND), None);
-    same(&rt, min_date_time().checked_sub(SignedDuration::NANOSECOND), None);
+    same(
+        &rt,
+        late.saturating_add(SignedDuration::MAX),
+        max_date_time(),
+    );
+    same(
+        &rt,
+        late.saturating_sub(SignedDuration::MAX),
+        min_date_time(),
+    );
+    same(
+        &rt,
+        late.saturating_add(SignedDuration::MIN),
+        min_date_time(),
+    );
+    same(
+        &rt,
+        max_date_time().checked_add(SignedDuration::NANOSECOND),
+        None,
+    );
+    same(
+        &rt,
+        min_date_time().checked_sub(SignedDuration::NANOSECOND),
+        None,
+    );
 }
 
 #[test]
@@ -96,7 +118,11 @@ fn replaced_components(rt: HostRuntime) {
     }
     same(&rt, night.replace_year(2023).is_err(), true);
     let (date, time) = (Date::MIN, Time::MIDNIGHT);
-    same(&rt, night.replace_date(date).replace_time(time), min_date_time());
+    same(
+        &rt,
+        night.replace_date(date).replace_time(time),
+        min_date_time(),
+    );
 }
 
 #[test]
