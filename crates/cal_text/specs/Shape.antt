@@ -10,8 +10,8 @@ pub data Shape : Type 0 where
   ByteRange : (low above : ℕ) → Shape → Shape
   Branch : (low above : ℕ) → Shape → Shape → Shape
 
--- `unmatched_bytes f bytes` is 0 if the bytes have the shape f. Otherwise it is 1 plus the number of bytes
--- from the position on at which they stop matching f.
+-- `unmatched_bytes f bytes` is 0 if the bytes have the shape f. Otherwise it is 1 plus the number
+-- of bytes from the position on at which they stop matching f.
 unfoldable pub unmatched_bytes : Shape → List ℕ → ℕ
 unmatched_bytes End [] = 0
 unmatched_bytes End (x ∷ xs) = suc (length (x ∷ xs))
