@@ -36,7 +36,7 @@ returns-in-Ok-clause-every c n date e =
 pub returns-in-Ok-clause-out_of_range : goal.returns-in-Ok-clause-out_of_range
 returns-in-Ok-clause-out_of_range c =
     let r : Result ℕ ComponentRange = Ok c.in-Ok.date in
-    let j = c.in-Some.scan_julian_day in
+    let j = c.in-Some.julian_day in
     let refused = rw (written-cast j c.in-Some.ensures.value.digits) at c.in-Ok.ensures.julian_day in
     not_refused IsJulianForm IsJulianDayError c.args.text.now j (only _ j c.in-Some.ensures.value) (all r (last r julian_day_out_of_range _ refused) tt)
 
@@ -46,7 +46,7 @@ returns-in-Err-clause-every c n date e = absurd (not_ok _ _ (c.in-Err.ensures.ev
 pub returns-in-Err-clause-out_of_range : goal.returns-in-Err-clause-out_of_range
 returns-in-Err-clause-out_of_range c =
     let r : Result ℕ ComponentRange = Err c.in-Err.error in
-    let j = c.in-Some.scan_julian_day in
+    let j = c.in-Some.julian_day in
     let refused = rw (written-cast j c.in-Some.ensures.value.digits) at c.in-Err.ensures.julian_day in
     refused_for IsJulianForm IsJulianDayError c.args.text.now j c.in-Err.error (only _ j c.in-Some.ensures.value) c.in-Some.ensures.value
     (all r (last r julian_day_out_of_range _ refused) c.in-Err.ensures.error_kind)

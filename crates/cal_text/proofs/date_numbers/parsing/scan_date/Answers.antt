@@ -6,27 +6,27 @@ use Rattle.cal_text.proofs.date_numbers.parsing.scan_date.Goals as goal
 -- a week date
 pub returns-in-Some-clause-value : goal.returns-in-Some-clause-value
 returns-in-Some-clause-value c =
-    let year = c.in_ok-scan_year.ensures.value in
-    let here = to_z w32 (of_z w32 c.in_ok-scan_year.scan_year) in
-    let same : here ≡ c.in_ok-scan_year.scan_year = search rules in
+    let year = c.in_ok-year.ensures.value in
+    let here = to_z w32 (of_z w32 c.in_ok-year.year) in
+    let same : here ≡ c.in_ok-year.year = search rules in
     let found = put_week here _ _ _ _ _ _ (subst IsPrintableYear (sym same) year.0) c.in_ok-week.ensures.value c.in_ok-byte.ensures.value c.in_ok-weekday.ensures.value c.in_ok-end.ensures.value in
     put_form _ _ _ _ year.1 found.0 same (c.in-Some.ensures.value ∙ found.1)
 
 -- a calendar date
 pub returns-in_ok-end-in-Some-byte-clause-value : goal.returns-in_ok-end-in-Some-byte-clause-value
 returns-in_ok-end-in-Some-byte-clause-value c =
-    let year = c.in_ok-scan_year.ensures.value in
-    let here = to_z w32 (of_z w32 c.in_ok-scan_year.scan_year) in
-    let same : here ≡ c.in_ok-scan_year.scan_year = search rules in
+    let year = c.in_ok-year.ensures.value in
+    let here = to_z w32 (of_z w32 c.in_ok-year.year) in
+    let same : here ≡ c.in_ok-year.year = search rules in
     let found = put_calendar here _ _ _ _ _ _ (subst IsPrintableYear (sym same) year.0) c.in_ok-front.ensures.value c.in-Some-byte.ensures.value c.in_ok-day-in-Some-byte.ensures.value c.in_ok-end-in-Some-byte.ensures.value in
     put_form _ _ _ _ year.1 found.0 same (sym c.in_default.ensures.unchanged ∙ found.1)
 
 -- an ordinal date
 pub returns-in_ok-end-in-None-clause-value : goal.returns-in_ok-end-in-None-clause-value
 returns-in_ok-end-in-None-clause-value c =
-    let year = c.in_ok-scan_year.ensures.value in
-    let here = to_z w32 (of_z w32 c.in_ok-scan_year.scan_year) in
-    let same : here ≡ c.in_ok-scan_year.scan_year = search rules in
+    let year = c.in_ok-year.ensures.value in
+    let here = to_z w32 (of_z w32 c.in_ok-year.year) in
+    let same : here ≡ c.in_ok-year.year = search rules in
     let last = c.in_ok-last-in-None.ensures.value in
     let found = put_ordinal here _ _ _ _ _ (subst IsPrintableYear (sym same) year.0) c.in_ok-front.ensures.value (last.0, sym c.in-None.ensures.unchanged ∙ last.1) c.in_ok-end-in-None.ensures.value in
     put_form _ _ _ _ year.1 found.0 same (sym c.in_default.ensures.unchanged ∙ found.1)
