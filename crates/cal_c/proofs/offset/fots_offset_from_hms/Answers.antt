@@ -60,9 +60,9 @@ returns-in-Err-clause-hour c = λ x.
     let fm : FitsSigned w8 c.saturating_i8-2.result = search rules in
     let fs : FitsSigned w8 c.saturating_i8-3.result = search rules in
     let hour = simp to_z-of_z at c.in-Err.ensures.hour in
-    let fr : FitsSigned w32 c.status_of.result = search rules in
+    let fr : FitsSigned w32 c.error_status.result = search rules in
     let refused = simp to_z-of_z at c.error.ensures in
-    refused ∙ ap offset_error (c.status_of.ensures ∙ ap (λ (e : ComponentRange). component_status e.component) (hour.1 (h.saturated 25 (lit< tt) x)))
+    refused ∙ ap offset_error (c.error_status.ensures ∙ ap (λ (e : ComponentRange). component_status e.component) (hour.1 (h.saturated 25 (lit< tt) x)))
 
 pub returns-in-Err-clause-minute : goal.returns-in-Err-clause-minute
 returns-in-Err-clause-minute c = λ y x.
@@ -76,9 +76,9 @@ returns-in-Err-clause-minute c = λ y x.
     let fm : FitsSigned w8 c.saturating_i8-2.result = search rules in
     let fs : FitsSigned w8 c.saturating_i8-3.result = search rules in
     let minute = simp to_z-of_z at c.in-Err.ensures.minute in
-    let fr : FitsSigned w32 c.status_of.result = search rules in
+    let fr : FitsSigned w32 c.error_status.result = search rules in
     let refused = simp to_z-of_z at c.error.ensures in
-    refused ∙ ap offset_error (c.status_of.ensures ∙ ap (λ (e : ComponentRange). component_status e.component) (minute.1 (subst (λ z. unsigned_abs z ≤ 25) (sym (h.value (omega arith))) y, m.saturated 59 (lit< tt) x)))
+    refused ∙ ap offset_error (c.error_status.ensures ∙ ap (λ (e : ComponentRange). component_status e.component) (minute.1 (subst (λ z. unsigned_abs z ≤ 25) (sym (h.value (omega arith))) y, m.saturated 59 (lit< tt) x)))
 
 pub returns-in-Err-clause-second : goal.returns-in-Err-clause-second
 returns-in-Err-clause-second c = λ z y x.
@@ -92,6 +92,6 @@ returns-in-Err-clause-second c = λ z y x.
     let fm : FitsSigned w8 c.saturating_i8-2.result = search rules in
     let fs : FitsSigned w8 c.saturating_i8-3.result = search rules in
     let second = simp to_z-of_z at c.in-Err.ensures.second in
-    let fr : FitsSigned w32 c.status_of.result = search rules in
+    let fr : FitsSigned w32 c.error_status.result = search rules in
     let refused = simp to_z-of_z at c.error.ensures in
-    refused ∙ ap offset_error (c.status_of.ensures ∙ ap (λ (e : ComponentRange). component_status e.component) (second.1 (subst (λ w. unsigned_abs w ≤ 25) (sym (h.value (omega arith))) z, subst (λ w. unsigned_abs w ≤ 59) (sym (m.value (omega arith))) y, s.saturated 59 (lit< tt) x)))
+    refused ∙ ap offset_error (c.error_status.ensures ∙ ap (λ (e : ComponentRange). component_status e.component) (second.1 (subst (λ w. unsigned_abs w ≤ 25) (sym (h.value (omega arith))) z, subst (λ w. unsigned_abs w ≤ 59) (sym (m.value (omega arith))) y, s.saturated 59 (lit< tt) x)))

@@ -19,4 +19,4 @@ returns-in-Ok-clause-value c = λ h d.
     let Has = HasCalendarDate (year_at (day_of c.args.date)) (month_at (day_of c.args.date)) c.args.day in
     let at_day = subst (λ n. HasCalendarDate (year_at n) (month_at n) c.day_or_invalid.result c.in-Ok.made) at.1 c.in-Ok.ensures.value.1 in
     let same = at_day ∙ ap (calendar_day (year_at (day_of c.args.date)) (month_at (day_of c.args.date))) (c.day_or_invalid.ensures.value _ _ d) in
-    subst (IsDateWith Has) (sym c.from_recurrence.ensures) (IsDateWith-at Has c.in-Ok.made c.in-Ok.ensures.value.0 same)
+    subst (IsDateWith Has) (sym c.ok.ensures) (IsDateWith-at Has c.in-Ok.made c.in-Ok.ensures.value.0 same)

@@ -20,4 +20,4 @@ returns-in-Ok-clause-value c = λ h m d.
     let Has = HasCalendarDate (year_at (day_of c.args.date)) c.args.month (day_of_month_at (day_of c.args.date)) in
     let at_day = subst (λ n. HasCalendarDate (year_at n) (number c.in-Some-valid_month.value) (day_of_month_at n) c.in-Ok.made) at.1 c.in-Ok.ensures.value.1 in
     let same = at_day ∙ ap (λ k. calendar_day (year_at (day_of c.args.date)) k (day_of_month_at (day_of c.args.date))) c.in-Some-valid_month.ensures.1 in
-    subst (IsDateWith Has) (sym c.from_recurrence.ensures) (IsDateWith-at Has c.in-Ok.made c.in-Ok.ensures.value.0 same)
+    subst (IsDateWith Has) (sym c.ok.ensures) (IsDateWith-at Has c.in-Ok.made c.in-Ok.ensures.value.0 same)

@@ -20,5 +20,5 @@ returns-in-Ok-clause-value c = λ h o.
     let f = c.ranges.date in let at = simp to_z-of_z at c.in-Some.ensures in
     let Has = HasOrdinalDate (year_at (day_of c.args.date)) c.args.ordinal in
     let has = c.in-Ok.ensures.value in
-    subst (IsDateWith Has) (sym c.from_recurrence.ensures)
+    subst (IsDateWith Has) (sym c.ok.ensures)
     (IsDateWith-at Has c.in-Ok.made has.0 (has.1.0 ∙ ap year_at at.1, has.1.1 ∙ c.ordinal_or_invalid.ensures.value (year_at (day_of c.args.date)) o))

@@ -24,7 +24,7 @@ returns-in-Ok-clause-value c = λ h y d.
     let found = simp to_z-of_z at c.in-Ok.ensures.value in
     let Has = HasCalendarDate c.args.year (month_at (day_of c.args.date)) (day_of_month_at (day_of c.args.date)) in
     let has = subst (λ n. HasCalendarDate c.args.year (month_at n) (day_of_month_at n) c.in-Ok.made) at.1 found.1 in
-    subst (IsDateWith Has) (sym c.from_recurrence.ensures) (IsDateWith-at Has c.in-Ok.made found.0 has)
+    subst (IsDateWith Has) (sym c.ok.ensures) (IsDateWith-at Has c.in-Ok.made found.0 has)
 
 pub returns-in-Err-clause-value : goal.returns-in-Err-clause-value
 returns-in-Err-clause-value c = λ h y d.

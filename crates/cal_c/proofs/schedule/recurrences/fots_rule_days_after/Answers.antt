@@ -10,12 +10,12 @@ returns-clause-value c = λ h k.
     let at = simp to_z-of_z at c.in-Some.ensures in
     let read = c.in-Ok.ensures.value in
     let its = c.rule.result in
-    let count = ap (λ r. r.length) c.ok-2.ensures in
+    let count = ap (λ r. r.length) c.ok.ensures in
     let old = c.args.days.now in
     let new = c.write_days.new.days in (
       its,
       c.rule.ensures c.args.rule.now read.1 read.2 read.3,
-      c.ok-2.ensures ∙ ap days_ok (sym count),
-      subst (λ n. AreDatesWritten (occurrences_after its n) old new c.ok-2.result.length) at.1
+      c.ok.ensures ∙ ap days_ok (sym count),
+      subst (λ n. AreDatesWritten (occurrences_after its n) old new c.ok.result.length) at.1
           (subst (AreDatesWritten (occurrences_after its c.in-Some.value) old new) (sym count) c.write_days.ensures),
     )

@@ -25,4 +25,4 @@ returns-in-Ok-clause-value c = λ m w k n h is.
     let every = simp to_z-of_z at c.in-Ok.ensures.every in
     let its-weekday = subst (λ q. IsNthWeekday c.args.year c.args.month q c.args.n n) (sym p) is in
     let found = every n h (subst (λ q. IsNthWeekday c.args.year q (index c.in-Some-valid_weekday.value) c.args.n n) (sym c.in-Some.ensures.1) its-weekday) in
-    c.from_recurrence.ensures ∙ ap (λ d. date_ok (julian_day_at d)) (same_ok c.nth_weekday_of_month.result c.in-Ok.made n c.in-Ok.is (c.in-Ok.is ∙ found))
+    c.ok.ensures ∙ ap (λ d. date_ok (julian_day_at d)) (same_ok c.nth_weekday_of_month.result c.in-Ok.made n c.in-Ok.is (c.in-Ok.is ∙ found))
