@@ -6,13 +6,13 @@ use Rattle.std.proofs.lemmas.Bool.Decides.{nat_tests}
 use Rattle.cal_units.specs.Lengths.{days_in_year}
 use Rattle.cal_units.specs.Weeks.{weeks_in_year}
 use Rattle.cal_units.proofs.Weeks.{weeks_in_year-is}
-use Rattle.cal_date.specs.Date.{first_year, year_at, ordinal_at, weekday_at, IsYear, IsDate}
+use Rattle.cal_date.specs.Date.{first_year, year_at, ordinal_at, weekday_at, IsYear, IsDate, HasOrdinalDate}
 use Rattle.cal_date.specs.CountLaws.{days_of_years, days_before, in_year, year_start-days_before}
 use Rattle.cal_date.specs.PackedDate.{ordinal_number}
 use Rattle.cal_date.specs.IsoWeekDate.{weekday_count, thursday_of, iso_year_at, iso_week_at, IsWeek, HasIsoWeekDate}
 use Rattle.cal_date.specs.Order.{IsBefore, iso_week_date_at}
 use Rattle.cal_date.proofs.Years.{days_before-next}
-use Rattle.cal_date.proofs.Dates.{stands, in_range}
+use Rattle.cal_date.proofs.Dates.{StandsAt, stands, in_range}
 use Rattle.cal_date.proofs.Order.{Rises, in_order}
 use Rattle.cal_date.proofs.Weekdays.{weekday_at-is, weekday_count-is, weeks_in_year-days_before}
 
@@ -107,6 +107,12 @@ HasIsoWeekDate-thursday y o n h low high e =
     let number : n ≡ iso_number y w (n % 7) = omega arith in
     let week : IsWeek y w = (omega arith, omega arith) in
     subst (HasIsoWeekDate y w (n % 7)) (sym number) (HasIsoWeekDate-iso_number y w (n % 7) h week (omega arith))
+
+pub week_of_thursday : (n : ℕ) (y : ℤ) (o : ℕ) → HasOrdinalDate y o (n - n % 7 + 3) → (iso_year_at n ≡ y) × (iso_week_at n ≡ (o + 6) / 7)
+week_of_thursday n y o has =
+    let at : StandsAt y o (n - n % 7 + 3) = rw (has.0, has.1) at (stands (n - n % 7 + 3)) in
+    let date = HasIsoWeekDate-thursday y o n at.year at.ordinal.0 at.ordinal.1 (omega (arith, at.number_is, at.ordinal.0)) in
+    (date.0, date.1)
 
 -- The Thursday is in the year of the day, in the year before, or in the next year.
 pub HasIsoWeekDate-same_year : (y : ℤ) (o n : ℕ) → first_year ≤ℤ y → 1 ≤ o → n ≡ ordinal_number y o → n % 7 < o + 3 → o + 3 - n % 7 ≤ days_in_year y

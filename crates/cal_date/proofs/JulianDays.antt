@@ -1,10 +1,11 @@
 -- The closed form of the Julian day, from the year of a day.
 use Rattle.std.proofs.Common.{◌≡◌, ℕ, suc, ◌+◌, ◌-◌, ◌*◌, ◌/◌, ◌≤◌, ap, arith, ℤ, pos, ◌+ℤ◌, ◌-ℤ◌, unsigned_abs}
 use Rattle.std.proofs.lemmas.Int.{ints}
+use Rattle.std.proofs.lemmas.Bool.Decides.{nat_tests}
 use Rattle.cal_units.specs.Lengths.{days_in_year}
 use Rattle.cal_date.specs.Date.{first_year, first_julian_day, year_at, ordinal_at, julian_day_at}
 use Rattle.cal_date.specs.CountLaws.{days_of_years, years_before, days_of_years-closed, days_of_years-suc}
-use Rattle.cal_date.specs.ClosedForms.{years_counted, julian_day_of}
+use Rattle.cal_date.specs.ClosedForms.{julian_day_of}
 use Rattle.cal_date.proofs.Dates.{stands}
 
 -- Day n has this ordinal in the year after the first k years. The numbers of days are closed forms.
@@ -42,11 +43,11 @@ julian_day_of-is n =
     let late = (stands n).year in
     omega (arith, ints)
 
--- The sum before the subtraction.
-pub julian_day_of-sum : (y : ℤ) (o : ℕ)
-    → julian_day_of y o +ℤ pos 363521075 ≡ pos (1461 * years_counted y / 4 - years_counted y / 100 + years_counted y / 100 / 4 + o)
-unfolding julian_day_of
-julian_day_of-sum y o = omega (arith, ints)
+-- The number of days of the first years of the range.
+pub days_of_years-sum : (k : ℕ) → days_of_years k ≡ 1461 * k / 4 - k / 100 + k / 100 / 4
+days_of_years-sum k = omega (arith, days_of_years-closed k)
+
+pub ruleset days_of_years_closed = (days_of_years-sum, nat_tests)
 
 -- The number of the day with a Julian day.
 abbrev pub number_at : ℤ → ℕ

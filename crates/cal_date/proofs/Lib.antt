@@ -7,10 +7,11 @@ pub mod DistinctTexts
 pub mod IsoForms
 pub mod IsoWeeks
 pub mod MonthForms
-pub mod MonthIndexes
 pub mod Months
 pub mod JulianDays
 pub mod Kernels
+pub mod MarchDays
+pub mod MarchYears
 pub mod Moves
 pub mod Neighbours
 pub mod Occurrences

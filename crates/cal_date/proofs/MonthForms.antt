@@ -53,8 +53,6 @@ pub record IsInPart (n days months : ℕ) : Type 0 where
   pub month : month_at n ≤ 12
   pub month_is : month_in_part days + months ≡ month_at n
   pub day_is : days - days_before_month_in_part (month_in_part days) ≡ day_of_month_at n
-  pub closed_month : month_at n ≡ month_of_ordinal (is_leap_year (year_at n)) (ordinal_at n)
-  pub closed_day : day_of_month_at n ≡ day_of_ordinal (is_leap_year (year_at n)) (ordinal_at n)
 
 pub in_part : (n days months : ℕ) → days ≡ days_in_part (is_leap_year (year_at n)) (ordinal_at n) → months ≡ months_before_part (is_leap_year (year_at n)) (ordinal_at n)
     → IsInPart n days months
@@ -75,6 +73,6 @@ in_part n days months e f =
       month = omega (arith, at.month_is, at.stands.month);
       month_is = month;
       day_is = day;
-      closed_month = sym (month_of_ordinal-is n);
-      closed_day = sym (day_of_ordinal-is n);
     }
+
+pub ruleset closed_months = (month_of_ordinal-is, day_of_ordinal-is, nat_tests)

@@ -1,11 +1,18 @@
 -- A property of each of the twelve months is a property of every month.
-use Rattle.std.proofs.Common.{◌≡◌, ℕ, List, pos, zero, suc, ◌+◌, ◌<◌, ◌≤◌, [], ◌∷◌, slice_index_or, arith, add-one, refl, lit≤, ℤ, Bool, true, false, sym, subst, inl, inr}
+use Rattle.std.proofs.Common.{◌≡◌, ◌≢◌, ℕ, List, pos, zero, suc, ◌+◌, ◌-◌, ◌*◌, ◌/◌, ◌%◌, ◌<◌, ◌≤◌, [], ◌∷◌, slice_index_or, arith, add-one, refl, lit≤, ℤ, Bool, true, false, sym, subst, inl, inr}
 use Rattle.std.proofs.lemmas.Bool.{cases_lt}
-use Rattle.std.proofs.lemmas.Bool.Decides.{nat_tests}
 use mir.Val.{bool_byte}
-use Rattle.cal_units.specs.Lengths.{is_leap_year, days_in_month}
-use Rattle.cal_date.specs.CountLaws.{days_of_months}
+use Rattle.std.proofs.lemmas.Bool.Decides.{nat_tests}
 use Rattle.std.proofs.lemmas.Int.{ints}
+use Rattle.cal_units.specs.Lengths.{is_leap_year, days_in_year, days_in_month}
+use Rattle.cal_date.specs.ClosedForms.{days_before_month_in_part}
+use Rattle.cal_date.specs.CountLaws.{days_of_months}
+use Rattle.cal_date.proofs.Dates.{year-most}
+use Rattle.cal_date.proofs.Neighbours.{year_length}
+
+-- m is a month, from 1 for January to 12 for December.
+abbrev pub IsMonth : ℕ → Type 0
+IsMonth m = (1 ≤ m) × (m ≤ 12)
 
 -- The months by their indexes.
 pub each_month : (P : ℕ → Type 0) → P 0 → P 1 → P 2 → P 3 → P 4 → P 5 → P 6 → P 7 → P 8 → P 9 → P 10 → P 11 → (i : ℕ) → i < 12 → P i
@@ -74,6 +81,59 @@ pub days_of_months-next : (y : ℤ) (i : ℕ) → days_of_months y (i + 1) ≡ d
 unfolding days_of_months
 days_of_months-next y i = rw add-one refl
 
+-- A month other than February has 30 days, and one more if it is odd up to July, or even from
+-- August on.
+pub other_month : (y : ℤ) (m : ℕ) → IsMonth m → m ≢ 2 → 30 + (m + m / 8) % 2 ≡ days_in_month y m
+unfolding days_in_month
+other_month y m month other =
+    let low : 1 ≤ m = month.0 in
+    let high : m ≤ 12 = month.1 in
+    let same : m - 1 + 1 ≡ m = omega arith in
+    let at = each_month (λ k. k + 1 ≢ 2 → 30 + (k + 1 + (k + 1) / 8) % 2 ≡ days_in_month y (k + 1))
+    (λ h. grind (arith, nat_tests))
+    (λ h. absurd (h (omega arith)))
+    (λ h. grind (arith, nat_tests))
+    (λ h. grind (arith, nat_tests))
+    (λ h. grind (arith, nat_tests))
+    (λ h. grind (arith, nat_tests))
+    (λ h. grind (arith, nat_tests))
+    (λ h. grind (arith, nat_tests))
+    (λ h. grind (arith, nat_tests))
+    (λ h. grind (arith, nat_tests))
+    (λ h. grind (arith, nat_tests))
+    (λ h. grind (arith, nat_tests))
+    (m - 1) (omega arith) (omega arith) in
+    subst (λ k. 30 + (k + k / 8) % 2 ≡ days_in_month y k) same at
+
+-- The days before January and February, and before the other months and the end of the year.
+pub before_early : (y : ℤ) (i : ℕ) → i < 2 → 31 * i ≡ days_of_months y i
+unfolding days_of_months days_in_month
+before_early y zero low = refl
+before_early y (suc zero) low = grind (arith, nat_tests)
+before_early y (suc (suc i)) low = absurd (omega arith)
+
+pub before_late : (y : ℤ) (i : ℕ) → 2 ≤ i → i ≤ 12 → days_before_month_in_part (i - 1) + days_in_year y ≡ days_of_months y i + 306
+unfolding days_of_months days_in_month
+before_late y zero late low = absurd (omega arith)
+before_late y (suc j) late low =
+    let same : j ≡ suc j - 1 = omega arith in
+    subst (λ k. days_before_month_in_part k + days_in_year y ≡ days_of_months y (suc j) + 306) same (each_month (λ k. 1 ≤ k → days_before_month_in_part k + days_in_year y ≡ days_of_months y (suc k) + 306)
+    (λ h. absurd (omega arith))
+    (λ h. grind (arith, nat_tests))
+    (λ h. grind (arith, nat_tests))
+    (λ h. grind (arith, nat_tests))
+    (λ h. grind (arith, nat_tests))
+    (λ h. grind (arith, nat_tests))
+    (λ h. grind (arith, nat_tests))
+    (λ h. grind (arith, nat_tests))
+    (λ h. grind (arith, nat_tests))
+    (λ h. grind (arith, nat_tests))
+    (λ h. grind (arith, nat_tests))
+    (λ h. grind (arith, nat_tests))
+    j (omega arith) (omega arith))
+
 pub ruleset lengths_of_months = (days_of_months-next, nat_tests)
 
 pub ruleset days_before_months = (before_month-is, before_month-most, ints, nat_tests)
+
+pub ruleset parts_of_years = (before_early, before_late, year_length, year-most, ints, nat_tests)

@@ -1,5 +1,5 @@
 -- The days with a weekday come every seven days, forward and backward.
-use Rattle.std.proofs.Common.{◌≡◌, ◌≢◌, ℕ, zero, suc, ◌+◌, ◌-◌, ◌*◌, ◌%◌, ◌<◌, ◌≤◌, refl, ◌∙◌, arith, List, [], ◌∷◌, filter, slice_get, Some, None, true, false, if◌then◌else◌, nat_lt, nat_le, Option, SomeIff, IfSome}
+use Rattle.std.proofs.Common.{◌≡◌, ◌≢◌, ℕ, zero, suc, ◌+◌, ◌-◌, ◌*◌, ◌%◌, ◌<◌, ◌≤◌, refl, ◌∙◌, arith, List, [], ◌∷◌, filter, slice_get, Some, None, true, false, if◌then◌else◌, nat_lt, nat_le}
 use Rattle.std.proofs.lemmas.Bool.Decides.{nat_tests}
 use Rattle.cal_date.specs.Date.{last_day, weekday_at}
 use Rattle.cal_date.specs.Occurrences.{days_from, days_back_from, has_weekday, next_occurrences, prev_occurrences, kth}
@@ -87,23 +87,10 @@ days_to_next w n p below h past whole = let is = weekday_at-is n in omega arith
 pub days_to_prev : (w n : ℕ) → w < 7 → (w + ((n + 6 - w) % 7 + 1)) % 7 ≡ weekday_at n
 days_to_prev w n below = let is = weekday_at-is n in omega arith
 
--- The day at this distance is the occurrence, and has the weekday.
-pub next_found : (w n m k p : ℕ) (r : Option ℕ) → w < 7 → n ≤ last_day → last_day < p → p % 7 ≡ 0 → k ≡ n + ((w + p - 1 - n) % 7 + 1 + 7 * m)
-    → SomeIff r (k ≤ last_day) k → r ≡ kth (suc m) (next_occurrences w n)
-next_found w n m k p None below h past whole e none =
-    let law = kth-next_occurrences w n ((w + p - 1 - n) % 7 + 1) m (omega arith) (omega arith) (days_to_next w n p below h past whole) in
-    rw law (grind (arith, nat_tests))
-next_found w n m k p (Some x) below h past whole e some =
-    let law = kth-next_occurrences w n ((w + p - 1 - n) % 7 + 1) m (omega arith) (omega arith) (days_to_next w n p below h past whole) in
-    rw law (grind (arith, nat_tests))
-
-pub next_weekday : (w n m k p : ℕ) (r : Option ℕ) → w < 7 → n ≤ last_day → last_day < p → p % 7 ≡ 0 → k ≡ n + ((w + p - 1 - n) % 7 + 1 + 7 * m)
-    → SomeIff r (k ≤ last_day) k → IfSome r (λ later. weekday_at later ≡ w)
-next_weekday w n m k p None below h past whole e none = tt
-next_weekday w n m k p (Some x) below h past whole e some =
-    let is = weekday_at-is x in
-    let same = some.1 in
-    omega arith
+-- The day at this distance is the occurrence.
+pub next_found : (w n m p : ℕ) → w < 7 → n ≤ last_day → last_day < p → p % 7 ≡ 0
+    → kth (suc m) (next_occurrences w n) ≡ (if nat_le (n + ((w + p - 1 - n) % 7 + 1 + 7 * m)) last_day then Some (n + ((w + p - 1 - n) % 7 + 1 + 7 * m)) else None)
+next_found w n m p below h past whole = kth-next_occurrences w n ((w + p - 1 - n) % 7 + 1) m (omega arith) (omega arith) (days_to_next w n p below h past whole)
 
 pub prev_found : (w n m : ℕ) → w < 7
     → kth (suc m) (prev_occurrences w n) ≡ (if nat_le ((n + 6 - w) % 7 + 1 + 7 * m) n then Some (n - ((n + 6 - w) % 7 + 1 + 7 * m)) else None)

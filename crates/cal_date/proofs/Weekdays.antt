@@ -1,6 +1,6 @@
 -- The weekday of a day by a remainder, and the number of days with a weekday at the start of a
 -- year.
-use Rattle.std.proofs.Common.{◌≡◌, ℕ, zero, suc, ◌+◌, ◌-◌, ◌*◌, ◌/◌, ◌%◌, ◌<◌, ◌≤◌, refl, sym, ap, ◌∙◌, arith, ℤ, pos, ◌+ℤ◌, ◌-ℤ◌, ◌≤ℤ◌, unsigned_abs, Bool, false, add-zero, inl, inr, lit<}
+use Rattle.std.proofs.Common.{◌≡◌, ℕ, zero, suc, ◌+◌, ◌-◌, ◌*◌, ◌/◌, ◌%◌, ◌^◌, ◌<◌, ◌≤◌, refl, sym, ap, ◌∙◌, arith, ℤ, pos, ◌+ℤ◌, ◌-ℤ◌, ◌≤ℤ◌, unsigned_abs, Bool, false, add-zero, inl, inr, lit<}
 use Rattle.std.specs.Prelude.{if◌then◌else◌, ◌==◌}
 use Rattle.std.specs.Ordering.{int_eq}
 use Rattle.std.proofs.lemmas.Bool.{cases_Bool}
@@ -149,3 +149,15 @@ weeks_in_year-count y h =
 pub ruleset weeks_begun = (ordinal-most, weekday_at-is, weekday_count-ordinal, days_from_sunday-index, ints, nat_tests)
 
 pub ruleset weeks_of_years = (IsYear-i32, weeks_in_year-count, ints, nat_tests)
+
+-- The days of a week that has begun, from the fraction of it that has passed, times 2^32.
+part_of_week : (n : ℕ) → n < 2 ^ 30 → (n * 613_566_757) % 2 ^ 32 ≡ 3 * (n / 7) + 613_566_757 * (n % 7)
+part_of_week n h = omega arith
+
+days_of_part : (p q r : ℕ) → p ≡ 3 * q + 613_566_757 * r → q < 2 ^ 28 → r < 7 → 21 * q < 2 ^ 32 - 100 → (p - p / 8) / 2 ^ 29 ≡ r
+days_of_part p q r e hq hr fits = omega arith
+
+pub days_into_week : (n : ℕ) → n < 2 ^ 30 → ((n * 613_566_757) % 2 ^ 32 - (n * 613_566_757) % 2 ^ 32 / 8) / 2 ^ 29 ≡ n % 7
+days_into_week n h = days_of_part _ (n / 7) (n % 7) (part_of_week n h) (omega arith) (omega arith) (omega arith)
+
+pub ruleset remainders = (days_into_week, weekday_at-is, nat_tests)

@@ -1,5 +1,5 @@
 //! Dates.
-ghost use Rattle.std.specs.Prelude.{◌≡◌, ℕ, ◌+◌, ◌-◌, ◌<◌, ◌≤◌, pos, ◌+ℤ◌, ◌<ℤ◌, ◌≤ℤ◌, ◌↔◌, IfOk, IfErr, IsErr, IsTrue, SomeIff, ◌⊎◌, Ok, [], ◌∷◌};
+ghost use Rattle.std.specs.Prelude.{◌≡◌, ℕ, true, ◌+◌, ◌-◌, ◌<◌, ◌≤◌, pos, ◌+ℤ◌, ◌<ℤ◌, ◌≤ℤ◌, ◌↔◌, IfOk, IfErr, IsErr, IsTrue, SomeIff, ◌⊎◌, Ok, [], ◌∷◌};
 ghost use Rattle.cal_date.specs.Date.{last_day, year_at, ordinal_at, julian_day_at, IsDate, IsYear, IsOrdinal, HasOrdinalDate, HasJulianDay, NoDate};
 ghost use Rattle.cal_date.specs.Order.{IsBefore, ordinal_date_at};
 ghost use Rattle.cal_date.specs.ClosedForms.{julian_day_of, kernel_of, year_of_kernel, ordinal_of_kernel};
@@ -8,16 +8,17 @@ ghost use Rattle.cal_units.specs.Lengths.{days_in_year, is_leap_year};
 ghost use Rattle.cal_units.specs.ComponentError.{FailsWith};
 ghost use Rattle.cal_date.specs.DateErrors.{year_out_of_range, ordinal_out_of_range, julian_day_out_of_range};
 
+use crate::day_number::days_of_years;
 use crate::error::{Component, ComponentRange};
 use crate::kernel::date_of_julian_day;
-use crate::limits::{MAX_YEAR, MIN_YEAR};
+use crate::limits::{MAX_YEAR, MIN_JULIAN_DAY, MIN_YEAR};
 use cal_units::util::is_leap_year;
 use std::marker::Model;
 
 mod arithmetic;
 mod calendar;
 mod display;
-mod iso_week;
+pub(crate) mod iso_week;
 mod number;
 mod occurrences;
 mod order;
@@ -50,6 +51,16 @@ fn has_ordinal(year: i32, ordinal: u16) -> bool
     if u32::from(ordinal).wrapping_sub(1) < MIN_DAYS_IN_YEAR {
         return true;
     }
+    is_last_of_leap_year(year, ordinal)
+}
+
+/// Returns `true` if the ordinal is 366 and the year has it. It isn't inlined, so the code for
+/// every other ordinal stays short.
+#[cold]
+#[inline(never)]
+fn is_last_of_leap_year(year: i32, ordinal: u16) -> bool
+    ensures { IsTrue result ↔ (ordinal ≡ 366) × (is_leap_year year ≡ true) }
+{
     ordinal == 366 && is_leap_year(year)
 }
 
@@ -178,10 +189,9 @@ impl Date {
         ensures in_range { IsDate self }
         ensures closed_form { result ≡ julian_day_of (year_at self) (ordinal_at self) }
     {
-        let years = (self.year() + 999_999) as u32;
-        let centuries = years / 100;
-        let days = 1461 * years / 4 - centuries + centuries / 4 + u32::from(self.ordinal());
-        days as i32 - 363_521_075
+        let years = (self.year() - MIN_YEAR) as u32;
+        let days = days_of_years(years) + u32::from(self.ordinal());
+        days as i32 - 1 + MIN_JULIAN_DAY
     }
 
     /// Returns the next day, or `None` for [`Self::MAX`]. For 2019-12-31 it is 2020-01-01.

@@ -5,6 +5,7 @@
 #![tactic(auto)]
 
 mod date;
+pub mod day_number;
 pub mod error;
 pub mod iter;
 pub mod kernel;

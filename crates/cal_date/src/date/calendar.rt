@@ -10,6 +10,7 @@ ghost use Rattle.cal_date.specs.Order.{IsBefore, calendar_date_at};
 ghost use Rattle.cal_date.specs.DateErrors.{year_out_of_range, day_out_of_range};
 
 use crate::date::{Date, is_year};
+use crate::day_number::{days_before_month_in_part, month_length};
 use crate::error::{Component, ComponentRange};
 use cal_units::util::is_leap_year;
 use cal_units::{Cycle, Month};
@@ -30,40 +31,6 @@ const DAYS_BEFORE_MONTH: [[u16; 2]; 13] = [
     [304, 305],
     [334, 335],
     [365, 366],
-];
-
-/// The index of the month by the leap mark and the ordinal: from 1 to 365 in a common year, from
-/// 513 to 878 in a leap year. The other entries aren't used.
-const MONTH_INDEXES: [u8; 879] = [
-    0, 0, 0, 0, 0, 0, 0, 0, 0, 0, 0, 0, 0, 0, 0, 0, 0, 0, 0, 0, 0, 0, 0, 0, 0, 0, 0, 0, 0, 0, 0, 0,
-    1, 1, 1, 1, 1, 1, 1, 1, 1, 1, 1, 1, 1, 1, 1, 1, 1, 1, 1, 1, 1, 1, 1, 1, 1, 1, 1, 1, 2, 2, 2, 2,
-    2, 2, 2, 2, 2, 2, 2, 2, 2, 2, 2, 2, 2, 2, 2, 2, 2, 2, 2, 2, 2, 2, 2, 2, 2, 2, 2, 3, 3, 3, 3, 3,
-    3, 3, 3, 3, 3, 3, 3, 3, 3, 3, 3, 3, 3, 3, 3, 3, 3, 3, 3, 3, 3, 3, 3, 3, 3, 4, 4, 4, 4, 4, 4, 4,
-    4, 4, 4, 4, 4, 4, 4, 4, 4, 4, 4, 4, 4, 4, 4, 4, 4, 4, 4, 4, 4, 4, 4, 4, 5, 5, 5, 5, 5, 5, 5, 5,
-    5, 5, 5, 5, 5, 5, 5, 5, 5, 5, 5, 5, 5, 5, 5, 5, 5, 5, 5, 5, 5, 5, 6, 6, 6, 6, 6, 6, 6, 6, 6, 6,
-    6, 6, 6, 6, 6, 6, 6, 6, 6, 6, 6, 6, 6, 6, 6, 6, 6, 6, 6, 6, 6, 7, 7, 7, 7, 7, 7, 7, 7, 7, 7, 7,
-    7, 7, 7, 7, 7, 7, 7, 7, 7, 7, 7, 7, 7, 7, 7, 7, 7, 7, 7, 7, 8, 8, 8, 8, 8, 8, 8, 8, 8, 8, 8, 8,
-    8, 8, 8, 8, 8, 8, 8, 8, 8, 8, 8, 8, 8, 8, 8, 8, 8, 8, 9, 9, 9, 9, 9, 9, 9, 9, 9, 9, 9, 9, 9, 9,
-    9, 9, 9, 9, 9, 9, 9, 9, 9, 9, 9, 9, 9, 9, 9, 9, 9, 10, 10, 10, 10, 10, 10, 10, 10, 10, 10, 10,
-    10, 10, 10, 10, 10, 10, 10, 10, 10, 10, 10, 10, 10, 10, 10, 10, 10, 10, 10, 11, 11, 11, 11, 11,
-    11, 11, 11, 11, 11, 11, 11, 11, 11, 11, 11, 11, 11, 11, 11, 11, 11, 11, 11, 11, 11, 11, 11, 11,
-    11, 11, 0, 0, 0, 0, 0, 0, 0, 0, 0, 0, 0, 0, 0, 0, 0, 0, 0, 0, 0, 0, 0, 0, 0, 0, 0, 0, 0, 0, 0,
-    0, 0, 0, 0, 0, 0, 0, 0, 0, 0, 0, 0, 0, 0, 0, 0, 0, 0, 0, 0, 0, 0, 0, 0, 0, 0, 0, 0, 0, 0, 0, 0,
-    0, 0, 0, 0, 0, 0, 0, 0, 0, 0, 0, 0, 0, 0, 0, 0, 0, 0, 0, 0, 0, 0, 0, 0, 0, 0, 0, 0, 0, 0, 0, 0,
-    0, 0, 0, 0, 0, 0, 0, 0, 0, 0, 0, 0, 0, 0, 0, 0, 0, 0, 0, 0, 0, 0, 0, 0, 0, 0, 0, 0, 0, 0, 0, 0,
-    0, 0, 0, 0, 0, 0, 0, 0, 0, 0, 0, 0, 0, 0, 0, 0, 0, 0, 0, 0, 0, 0, 0, 0, 0, 0, 0, 0, 0, 0, 0, 0,
-    0, 0, 0, 0, 0, 0, 0, 0, 0, 0, 0, 0, 0, 0, 0, 0, 0, 0, 0, 0, 0, 1, 1, 1, 1, 1, 1, 1, 1, 1, 1, 1,
-    1, 1, 1, 1, 1, 1, 1, 1, 1, 1, 1, 1, 1, 1, 1, 1, 1, 1, 2, 2, 2, 2, 2, 2, 2, 2, 2, 2, 2, 2, 2, 2,
-    2, 2, 2, 2, 2, 2, 2, 2, 2, 2, 2, 2, 2, 2, 2, 2, 2, 3, 3, 3, 3, 3, 3, 3, 3, 3, 3, 3, 3, 3, 3, 3,
-    3, 3, 3, 3, 3, 3, 3, 3, 3, 3, 3, 3, 3, 3, 3, 4, 4, 4, 4, 4, 4, 4, 4, 4, 4, 4, 4, 4, 4, 4, 4, 4,
-    4, 4, 4, 4, 4, 4, 4, 4, 4, 4, 4, 4, 4, 4, 5, 5, 5, 5, 5, 5, 5, 5, 5, 5, 5, 5, 5, 5, 5, 5, 5, 5,
-    5, 5, 5, 5, 5, 5, 5, 5, 5, 5, 5, 5, 6, 6, 6, 6, 6, 6, 6, 6, 6, 6, 6, 6, 6, 6, 6, 6, 6, 6, 6, 6,
-    6, 6, 6, 6, 6, 6, 6, 6, 6, 6, 6, 7, 7, 7, 7, 7, 7, 7, 7, 7, 7, 7, 7, 7, 7, 7, 7, 7, 7, 7, 7, 7,
-    7, 7, 7, 7, 7, 7, 7, 7, 7, 7, 8, 8, 8, 8, 8, 8, 8, 8, 8, 8, 8, 8, 8, 8, 8, 8, 8, 8, 8, 8, 8, 8,
-    8, 8, 8, 8, 8, 8, 8, 8, 9, 9, 9, 9, 9, 9, 9, 9, 9, 9, 9, 9, 9, 9, 9, 9, 9, 9, 9, 9, 9, 9, 9, 9,
-    9, 9, 9, 9, 9, 9, 9, 10, 10, 10, 10, 10, 10, 10, 10, 10, 10, 10, 10, 10, 10, 10, 10, 10, 10,
-    10, 10, 10, 10, 10, 10, 10, 10, 10, 10, 10, 10, 11, 11, 11, 11, 11, 11, 11, 11, 11, 11, 11, 11,
-    11, 11, 11, 11, 11, 11, 11, 11, 11, 11, 11, 11, 11, 11, 11, 11, 11, 11, 11,
 ];
 
 impl Date {
@@ -110,11 +77,13 @@ impl Date {
         ensures range { IsDate result }
     {
         let leap = is_leap_year(year);
-        let ordinal = days_before_month(index, leap) + u16::from(day);
-        Date::pack(year, leap, ordinal.min(days_before_month(index + 1, leap)))
+        let day = day.min(month_length(index + 1, leap));
+        let ordinal = days_before_month_index(index, leap) + u32::from(day);
+        Date::pack(year, leap, ordinal as u16)
     }
 
     /// Returns the month. For 2020-02-29 it is February.
+    #[tactic(auto, using(crate::proofs::MonthForms::closed_months))]
     pub fn month(self) -> Month
         ensures value { number result ≡ month_at self }
         ensures range { (1 ≤ month_at self) × (month_at self ≤ 12) }
@@ -127,6 +96,7 @@ impl Date {
     }
 
     /// Returns the day of the month, from 1 to the length of the month. For 2020-02-29 it is 29.
+    #[tactic(auto, using(crate::proofs::MonthForms::closed_months))]
     pub fn day(self) -> u8
         ensures value { result ≡ day_of_month_at self }
         ensures range { IsDayOfMonth (year_at self) (month_at self) result }
@@ -156,7 +126,10 @@ impl Date {
 
     /// Returns the month index, counted from 0, and the day of the month: (1, 29) for 2020-02-29.
     /// [`Self::to_calendar_date`] returns a `Month`, which costs a jump. This call has no jump.
-    #[tactic(auto, using(crate::proofs::MonthIndexes::days_of_the_month))]
+    ///
+    /// In each part of the year the months begin on the same days of the part every year. So a
+    /// quotient by 8192 gives the month of the part, and a quotient by 128 the days of the part
+    /// before this month.
     pub fn month_index_and_day(self) -> (u8, u8)
         ensures month { result.0 + 1 ≡ month_at self }
         ensures day { result.1 ≡ day_of_month_at self }
@@ -165,39 +138,22 @@ impl Date {
         ensures max { result.1 ≤ 31 }
         ensures in_range { IsDate self }
     {
-        let index = self.month_index();
-        let before = days_before_month(index, self.is_in_leap_year());
-        (index, (self.ordinal() - before) as u8)
+        let (days, months) = self.index_in_part();
+        let month = (days * 268 + 8031) >> 13;
+        let day = days - days_before_month_in_part(month);
+        ((month + months - 1) as u8, day as u8)
     }
 
-    /// Returns the index of the month, from 0 at January.
-    fn month_index(self) -> u8
-        ensures value { result + 1 ≡ month_at self }
-        ensures range { result < 12 }
-    {
-        MONTH_INDEXES[self.low_bits() as usize]
-    }
-
-    /// Returns the month and the day of the month, from the leap mark and the ordinal.
-    ///
-    /// In each part of the year the months begin on the same days of the part every year. So a
-    /// quotient by 8192 gives the month of the part, and a quotient by 128 the days of the part
-    /// before this month.
+    /// Returns the month and the day of the month.
     pub(super) fn month_and_day(self) -> (Month, u8)
         ensures month { number result.0 ≡ month_at self }
         ensures day { result.1 ≡ day_of_month_at self }
         ensures range { IsDayOfMonth (year_at self) (month_at self) result.1 }
         ensures max { result.1 ≤ 31 }
-        ensures closed_month { number result.0
-            ≡ month_of_ordinal (is_leap_year (year_at self)) (ordinal_at self) }
-        ensures closed_day { result.1 ≡ day_of_ordinal (is_leap_year (year_at self))
-            (ordinal_at self) }
         ensures in_range { IsDate self }
     {
-        let (days, months) = self.index_in_part();
-        let month = (days * 268 + 8031) >> 13;
-        let day = days - ((month * 3917 - 3866) >> 7);
-        (Month::at((month + months - 1) as u8), day as u8)
+        let (index, day) = self.month_index_and_day();
+        (Month::at(index), day)
     }
 
     /// Returns the day of the part of the year, and the number of months before the part. January
@@ -239,4 +195,20 @@ fn days_before_month(index: u8, leap: bool) -> u16
     ensures max { result ≤ 366 }
 {
     DAYS_BEFORE_MONTH[usize::from(index)][usize::from(leap)]
+}
+
+/// Returns the number of days before the month with this index, in a leap year or in a common year.
+/// Unlike [`days_before_month`] it reads no table, so a loop takes several dates at a time.
+#[tactic(auto, using(crate::proofs::Months::parts_of_years))]
+fn days_before_month_index(index: u8, leap: bool) -> u32
+    requires { index < 12 }
+    ensures value { (year : ℤ) → leap ≡ is_leap_year year → result ≡ days_of_months year index }
+    ensures max { result ≤ 366 }
+{
+    let index = u32::from(index);
+    if index < 2 {
+        31 * index
+    } else {
+        days_before_month_in_part(index - 1) + 59 + u32::from(leap)
+    }
 }

@@ -16,7 +16,7 @@ use cal_units::util::{days_in_year, weeks_in_year};
 use cal_units::{Cycle, Weekday};
 
 /// 2^32 / 7, rounded up: a number of days times this is its weeks, with 32 fractional bits.
-const SEVENTH: u32 = 613_566_757;
+pub(crate) const SEVENTH: u32 = 613_566_757;
 
 impl Date {
     /// Creates a date from an ISO year, a week and a weekday: the week date of ISO 8601.
@@ -153,11 +153,12 @@ fn weekday_index(year: i32, ordinal: u16) -> u8
 }
 
 /// Returns the whole weeks of a number of days.
-fn div_7(days: u16) -> u8
+pub(crate) fn div_7(days: u16) -> u8
     requires { days < 7 * 256 }
     ensures { result ≡ days / 7 }
 {
-    (u64::from(days) * u64::from(SEVENTH) >> 32) as u8
+    // 2^16 / 7, rounded up, is 9363.
+    (u32::from(days) * 9363 >> 16) as u8
 }
 
 /// Returns the days past the whole weeks of a number of days: the fraction of a week times 7.

@@ -15,7 +15,7 @@ impl Date {
     }
 
     /// Returns the number of the date: the number of days of the range before it.
-    pub(super) fn day_number(self) -> u32
+    pub(crate) fn day_number(self) -> u32
         ensures value { result ≡ self }
         ensures in_range { IsDate self }
     {
@@ -23,7 +23,7 @@ impl Date {
     }
 
     /// Creates a date from its number.
-    pub(super) fn from_number(number: u32) -> Self
+    pub(crate) fn from_number(number: u32) -> Self
         requires { IsDate number }
         ensures { result ≡ number }
     {
@@ -31,7 +31,7 @@ impl Date {
     }
 
     /// Creates a date from its number. Returns `None` if the number is past the last day.
-    pub(super) fn checked_from_number(number: u64) -> Option<Self>
+    pub(crate) fn checked_from_number(number: u64) -> Option<Self>
         ensures { SomeIff result (IsDate number) number }
     {
         if number <= LAST_DAY as u64 {

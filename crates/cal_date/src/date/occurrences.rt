@@ -5,11 +5,8 @@ ghost use Rattle.cal_date.specs.Date.{weekday_at, IsDate};
 ghost use Rattle.cal_date.specs.Occurrences.{next_occurrences, prev_occurrences, kth};
 
 use crate::date::Date;
-use crate::limits::LAST_DAY;
+use crate::day_number::{nth_next_occurrence, nth_prev_occurrence};
 use cal_units::Weekday;
-
-/// Whole weeks, in days, that reach past the last day.
-const PAST_LAST_DAY: u32 = 7 * (LAST_DAY as u32 / 7 + 1);
 
 impl Date {
     /// Returns the first date after this one with the weekday, or `None` if it is after
@@ -47,21 +44,15 @@ impl Date {
             (λ later. (self + 7 * (n - 1) < later) × (later ≤ self + 7 * n) × IsDate later) }
         ensures in_range { IsDate self }
     {
-        let from = self.day_number();
-        if n == 0 {
-            return None;
-        }
         let weekday = u32::from(weekday.number_days_from_monday());
-
-        // The first day of the range is a Monday.
-        let first = (weekday + PAST_LAST_DAY - 1 - from) % 7 + 1;
-        let days = first + 7 * (u32::from(n) - 1);
-        Self::checked_from_number(u64::from(from + days))
+        match nth_next_occurrence(self.day_number(), weekday, n) {
+            Some(number) => Some(Self::from_number(number)),
+            None => None,
+        }
     }
 
     /// Returns the `n`-th date before this one with the weekday, counted from 1. Returns `None` if
     /// it is before [`Self::MIN`] or `n` is 0. The third Monday before 2023-06-27 is 2023-06-12.
-    #[tactic(auto, using(crate::proofs::Occurrences::days_before))]
     pub fn checked_nth_prev_occurrence(self, weekday: Weekday, n: u8) -> Option<Self>
         ensures value { result ≡ kth n (prev_occurrences (index weekday) self) }
 
@@ -71,17 +62,10 @@ impl Date {
             (λ earlier. (earlier + 7 * (n - 1) < self) × (self ≤ earlier + 7 * n)) }
         ensures in_range { IsDate self }
     {
-        let number = self.day_number();
-        if n == 0 {
-            return None;
-        }
         let weekday = u32::from(weekday.number_days_from_monday());
-        let first = (number + 6 - weekday) % 7 + 1;
-        let days = first + 7 * (u32::from(n) - 1);
-        if days <= number {
-            Some(Self::from_number(number - days))
-        } else {
-            None
+        match nth_prev_occurrence(self.day_number(), weekday, n) {
+            Some(number) => Some(Self::from_number(number)),
+            None => None,
         }
     }
 

@@ -1,0 +1,219 @@
+//! Conversions and moves of days by their numbers, without tables or branches, so that a loop takes
+//! several days at a time. For invalid components the result is some number, to be ignored.
+//!
+//! Day 0 is -999999-01-01, a Monday, and the last day has the number 730484633. Years begin on 1
+//! March here, so a leap day is the last day of its year. The first year begins in -1000000.
+ghost use Rattle.std.specs.Prelude.{◌≡◌, ◌+◌, ◌-◌, ◌*◌, ◌%◌, ◌^◌, ◌<◌, ◌≤◌, ℤ, ◌↔◌, IfSome, IsTrue, SomeIff};
+ghost use Rattle.cal_units.specs.Lengths.{is_leap_year, days_in_month};
+ghost use Rattle.cal_date.specs.ClosedForms.{days_before_month_in_part};
+ghost use Rattle.cal_date.specs.CountLaws.{days_of_years};
+ghost use Rattle.cal_date.specs.Date.{weekday_at, IsDate, IsYear, IsDayOfMonth, HasCalendarDate};
+ghost use Rattle.cal_date.specs.IsoWeekDate.{iso_year_at, iso_week_at};
+ghost use Rattle.cal_date.specs.Occurrences.{next_occurrences, prev_occurrences, kth};
+
+use crate::date::Date;
+use crate::date::iso_week::{SEVENTH, div_7};
+use crate::limits::{LAST_DAY, MAX_YEAR, MIN_YEAR};
+use cal_units::util::is_leap_year;
+
+/// The number of years that begin on 1 March and have a day of the range, less 1.
+const LAST_MARCH_YEAR: u32 = (MAX_YEAR - MIN_YEAR + 1) as u32;
+
+/// The days from 1 March to 1 January.
+const MARCH_TO_JANUARY: u32 = 306;
+
+/// Whole weeks, in days, that reach past the last day.
+const PAST_LAST_DAY: u32 = 7 * (LAST_DAY as u32 / 7 + 1);
+
+/// Returns the number of a date.
+pub fn day_number(date: Date) -> u32
+    ensures value { result ≡ date }
+    ensures in_range { IsDate date }
+{
+    date.day_number()
+}
+
+/// Returns the date of a day of the range.
+#[inline(always)]
+pub fn to_date(number: u32) -> Date
+    requires { IsDate number }
+    ensures { result ≡ number }
+{
+    Date::from_number(number)
+}
+
+/// Returns the date with a number, or `None` past the last day.
+pub fn date_from_number(number: u64) -> Option<Date>
+    ensures { SomeIff result (IsDate number) number }
+{
+    Date::checked_from_number(number)
+}
+
+/// Returns the year, the month from 1 and the day of the month of a day of the range.
+#[inline(always)]
+pub fn to_calendar_date(number: u32) -> (i32, u32, u32)
+    requires { IsDate number }
+    ensures value { HasCalendarDate result.0 result.1 result.2 number }
+    ensures month { result.1 ≤ 12 }
+    ensures day { result.2 ≤ 31 }
+{
+    let days = number + MARCH_TO_JANUARY;
+    let century = (4 * days + 3) / 146_097;
+    let julian = days + century - century / 4;
+    let years = (4 * julian + 3) / 1461;
+    let past = julian - 1461 * years / 4;
+
+    // The month of this year, from 3 to 14, times 2^16.
+    let months = 2141 * past + 197_913;
+    let month = months / 65_536;
+    let day = months % 65_536 / 2141 + 1;
+    let is_late = u32::from(month > 12);
+    (
+        (years + is_late) as i32 + MIN_YEAR - 1,
+        month - 12 * is_late,
+        day,
+    )
+}
+
+/// Returns the number of the day with a year, a month from 1 and a day of the month.
+#[inline(always)]
+pub fn from_calendar_date(year: i32, month: u8, day: u8) -> u32
+    ensures value { IsYear year → (1 ≤ month) × (month ≤ 12) → IsDayOfMonth year month day
+        → HasCalendarDate year month day result }
+    ensures range { IsYear year → (1 ≤ month) × (month ≤ 12) → IsDayOfMonth year month day → IsDate result }
+{
+    let is_early = u32::from(month <= 2);
+    let years = (year.wrapping_sub(MIN_YEAR).cast_unsigned())
+        .wrapping_add(1 - is_early)
+        .min(LAST_MARCH_YEAR);
+    let month = u32::from(month) + 12 * is_early;
+    let past = days_before_month_in_part(month - 2) + u32::from(day);
+    (days_of_years(years) + past).wrapping_sub(MARCH_TO_JANUARY + 1)
+}
+
+/// Returns the ISO year, the week and the weekday, from 1 for Monday, of a day of the range. A week
+/// is in the year of its Thursday.
+#[inline(always)]
+pub fn to_iso_week_date(number: u32) -> (i32, u8, u8)
+    requires { IsDate number }
+    ensures year { result.0 ≡ iso_year_at number }
+    ensures week { result.1 ≡ iso_week_at number }
+    ensures weekday { result.2 ≡ weekday_at number + 1 }
+{
+    let weekday = days_since_monday(number);
+    let (year, ordinal) = Date::from_number(number - u32::from(weekday) + 3).to_ordinal_date();
+    (year, div_7(ordinal + 6), weekday + 1)
+}
+
+/// Returns the days from Monday to a day of the range, from 0 to 6.
+#[tactic(auto, using(crate::proofs::Weekdays::remainders))]
+pub fn days_since_monday(number: u32) -> u8
+    requires { IsDate number }
+    ensures { result ≡ weekday_at number }
+{
+    rem_7(number)
+}
+
+/// Returns the days past the whole weeks of a number of days.
+#[tactic(auto, using(crate::proofs::Weekdays::remainders))]
+fn rem_7(days: u32) -> u8
+    requires { days < 2 ^ 30 }
+    ensures { result ≡ days % 7 }
+{
+    // `part` is the fraction of a week that has passed, times 2^32, so 7/8 of it over 2^29 is the
+    // days. A product of 64 bits is faster for one number, and this form for several at a time.
+    let part = days.wrapping_mul(SEVENTH);
+    ((part - part / 8) >> 29) as u8
+}
+
+/// Returns the `n`-th day after a day of the range with a weekday, from 0 for Monday, or `None` if
+/// it is past the last day or `n` is 0.
+pub fn nth_next_occurrence(number: u32, weekday: u32, n: u8) -> Option<u32>
+    requires in_range { IsDate number }
+    requires weekday { weekday < 7 }
+    ensures value { result ≡ kth n (next_occurrences weekday number) }
+    ensures weekday { IfSome result (λ later. weekday_at later ≡ weekday) }
+    ensures within { IfSome result
+        (λ later. (number + 7 * (n - 1) < later) × (later ≤ number + 7 * n) × IsDate later) }
+{
+    if n == 0 {
+        return None;
+    }
+    let first = u32::from(rem_7(weekday + PAST_LAST_DAY - 1 - number)) + 1;
+    let later = number + first + 7 * (u32::from(n) - 1);
+    if later <= LAST_DAY as u32 {
+        Some(later)
+    } else {
+        None
+    }
+}
+
+/// Returns the `n`-th day before a day of the range with a weekday, from 0 for Monday, or `None` if
+/// it is before day 0 or `n` is 0.
+#[tactic(auto, using(crate::proofs::Occurrences::days_before))]
+pub fn nth_prev_occurrence(number: u32, weekday: u32, n: u8) -> Option<u32>
+    requires in_range { IsDate number }
+    requires weekday { weekday < 7 }
+    ensures value { result ≡ kth n (prev_occurrences weekday number) }
+    ensures weekday { IfSome result (λ earlier. weekday_at earlier ≡ weekday) }
+    ensures within { IfSome result
+        (λ earlier. (earlier + 7 * (n - 1) < number) × (number ≤ earlier + 7 * n)) }
+{
+    if n == 0 {
+        return None;
+    }
+    let first = u32::from(rem_7(number + 6 - weekday)) + 1;
+    let days = first + 7 * (u32::from(n) - 1);
+    if days <= number {
+        Some(number - days)
+    } else {
+        None
+    }
+}
+
+/// Returns `true` if the month of the year has the day. Months are numbered from 1.
+#[inline(always)]
+pub fn is_day_of_month(year: i32, month: u8, day: u8) -> bool
+    ensures { (1 ≤ month) × (month ≤ 12) → IsTrue result ↔ IsDayOfMonth year month day }
+{
+    // A day of 0 wraps to a number far above the length of a month.
+    u32::from(day).wrapping_sub(1) < u32::from(month_length(month, is_leap_year(year)))
+}
+
+/// Returns the number of days of a month, numbered from 1, in a leap year or a common year.
+#[inline(always)]
+pub fn month_length(month: u8, leap: bool) -> u8
+    ensures value { (year : ℤ) → (1 ≤ month) × (month ≤ 12) → leap ≡ is_leap_year year
+        → result ≡ days_in_month year month }
+    ensures min { 28 ≤ result }
+    ensures max { result ≤ 31 }
+{
+    let month = u32::from(month);
+    if month == 2 {
+        if leap { 29 } else { 28 }
+    } else {
+        30 + ((month + month / 8) % 2) as u8
+    }
+}
+
+/// Returns the number of days of a part of the year before one of its months, counted from 1.
+/// January and February are one part of the year, the months from March on are the other. Counted
+/// from March, the form also holds for January and February, as months 11 and 12.
+pub(crate) fn days_before_month_in_part(month: u32) -> u32
+    requires min { 1 ≤ month }
+    requires max { month ≤ 2 ^ 10 }
+    ensures { result ≡ days_before_month_in_part month }
+{
+    (month * 3917 - 3866) >> 7
+}
+
+/// Returns the number of days of the first years of the range.
+#[tactic(auto, using(crate::proofs::JulianDays::days_of_years_closed))]
+pub(crate) fn days_of_years(years: u32) -> u32
+    requires { years ≤ 1_999_999 }
+    ensures value { result ≡ days_of_years years }
+    ensures max { result < 2 ^ 30 }
+{
+    let centuries = years / 100;
+    1461 * years / 4 - centuries + centuries / 4
+}
