@@ -8,10 +8,11 @@ use cal_time::Date;
 use cal_time::limits::{MAX_YEAR, MIN_YEAR};
 
 /// The number of months in the range.
-const MONTHS: i64 = 12 * (MAX_YEAR - MIN_YEAR + 1) as i64;
+pub(crate) const MONTHS: i64 = 12 * (MAX_YEAR - MIN_YEAR + 1) as i64;
 
-/// Returns the index of the month, from 0 for the first one of the range, and the day of the month.
-pub(crate) fn month_number_and_day(date: Date) -> (u32, u8)
+/// Returns the index of the month, from 0 for January of -999999, and the day of the month. No call
+/// here has a table or a branch, so a loop takes several dates at a time.
+pub fn month_number_and_day(date: Date) -> (u32, u8)
     ensures month { pos result.0 ≡ month_number_at date +ℤ pos 11_999_988 }
     ensures max { result.0 < 23_999_988 }
     ensures day { result.1 ≡ day_of_month_at date }
@@ -32,8 +33,9 @@ fn year_and_month(index: u32) -> (i32, u8)
     ((index / 12) as i32 + MIN_YEAR, (index % 12) as u8)
 }
 
-/// Returns the date in a month with this day, or the last day of the month if it is shorter.
-pub(crate) fn clamped_date_in_month(index: u32, day: u8) -> Date
+/// Returns the date in a month, by its index, with this day, or the last day of the month if it is
+/// shorter. The index is below 23999988, and the day 1 or more.
+pub fn clamped_date_in_month(index: u32, day: u8) -> Date
     requires month { index < 23_999_988 }
     requires day { 1 ≤ day }
     ensures month { pos index ≡ month_number_at result +ℤ pos 11_999_988 }

@@ -9,7 +9,7 @@ mod convention;
 mod search;
 mod week;
 
-use crate::day_number::day_number;
+use cal_time::day_number::day_number;
 use cal_time::Date;
 pub use calendar::Workdays;
 pub use convention::Convention;
