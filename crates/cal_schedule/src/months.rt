@@ -10,8 +10,9 @@ use cal_time::limits::{MAX_YEAR, MIN_YEAR};
 /// The number of months in the range.
 pub(crate) const MONTHS: i64 = 12 * (MAX_YEAR - MIN_YEAR + 1) as i64;
 
-/// Returns the index of the month, from 0 for January of -999999, and the day of the month. No call
-/// here has a table or a branch, so a loop takes several dates at a time.
+/// Returns the index of the month, from 0 for January of -999999, and the day of the month.
+/// Neither this call nor [`clamped_date_in_month`] has a table or a branch, so a loop takes several
+/// dates at a time.
 pub fn month_number_and_day(date: Date) -> (u32, u8)
     ensures month { pos result.0 ≡ month_number_at date +ℤ pos 11_999_988 }
     ensures max { result.0 < 23_999_988 }
