@@ -1,17 +1,12 @@
 pub mod Counts
 pub mod Days
 pub mod Durations
-pub mod MarchYears
-pub mod MarchDays
 pub mod Rows
-pub mod WeekParts
 pub mod HeldDays
 pub mod TextBytes
 pub mod Filled
-pub mod Thursdays
 pub mod Equals
 pub mod Cases
-pub mod Occurrences
 pub mod Schedules
 pub mod Holidays
 pub mod PrintedRows

@@ -1,6 +1,6 @@
 //! Dates by number, for calls that need no component of a date.
-ghost use Rattle.std.specs.Prelude.{◌≡◌, ◌+◌, ◌%◌, ◌≤◌, IsTrue, ◌↔◌, ◌+ℤ◌, ◌-ℤ◌, ◌*ℤ◌, pos, Some, None, SomeIff, nat_le, if◌then◌else◌};
-ghost use Rattle.cal_time.specs.Date.{last_day, weekday_at};
+ghost use Rattle.std.specs.Prelude.{◌≡◌, IsTrue, ◌↔◌, ◌+ℤ◌, ◌-ℤ◌, ◌*ℤ◌, pos, IfSome, SomeIff};
+ghost use Rattle.cal_time.specs.Date.{julian_day_at, IsDate};
 ghost use Rattle.cal_time.specs.SignedDuration.{day};
 ghost use Rattle.cal_c.specs.Results.{IsDateOrOutOfRange, date_ok, date_or_out_of_range};
 ghost use Rattle.cal_c.specs.Values.{IsJulianDay, day_of, clamped_julian_day};
@@ -20,9 +20,6 @@ pub const DAY_ZERO: i32 = -MIN_JULIAN_DAY;
 
 /// The number of the last day.
 pub const LAST_DAY_NUMBER: u32 = LAST_DAY as u32;
-
-/// 2^32 / 7, rounded up: a number of days times this is its weeks, times 2^32.
-const WEEK_FACTOR: u32 = 613_566_757;
 
 /// Returns `true` if a Julian day is in range.
 pub fn is_julian_day(julian_day: i32) -> bool
@@ -93,17 +90,37 @@ pub fn clamped_date(julian_day: i64) -> DateResult
     }
 }
 
-/// Returns the date with a number, or fails after the last one.
-pub fn date_result_from_number(number: u32) -> DateResult
-    ensures { result ≡ date_or_out_of_range (if nat_le number last_day then Some number else None) }
+/// Returns the date with a number, or fails if there is none.
+pub fn date_result(number: Option<u32>) -> DateResult
+    requires { IfSome number IsDate }
+    ensures { result ≡ date_or_out_of_range number }
 {
-    if number > LAST_DAY_NUMBER {
-        return DateResult::error(RESULT_OUT_OF_RANGE);
+    match number {
+        Some(number) => DateResult {
+            status: OK,
+            date: julian_day(number),
+        },
+        None => DateResult::error(RESULT_OUT_OF_RANGE),
     }
-    DateResult {
-        status: OK,
-        date: (i64::from(number) + FIRST_JULIAN_DAY) as i32,
-    }
+}
+
+/// Returns the Julian day of a day, or some number if the day is out of range.
+#[inline(always)]
+pub fn julian_day(number: u32) -> i32
+    ensures { IsDate number → result ≡ julian_day_at number }
+{
+    number.cast_signed().wrapping_sub(DAY_ZERO)
+}
+
+/// Returns the number of a date, or some number in range if the date is invalid.
+#[inline(always)]
+pub fn clamped_number(date: i32) -> u32
+    ensures value { IsJulianDay date → result ≡ day_of date }
+    ensures max { IsDate result }
+{
+    date.cast_unsigned()
+        .wrapping_add(DAY_ZERO.cast_unsigned())
+        .min(LAST_DAY_NUMBER)
 }
 
 /// Returns the duration between two dates.
@@ -111,23 +128,4 @@ pub fn duration_between(from: i32, to: i32) -> SignedDuration
     ensures { result ≡ (to -ℤ from) *ℤ pos day }
 {
     SignedDuration::days(i64::from(to) - i64::from(from))
-}
-
-/// Returns the weekday of a day, from 1 for Monday.
-pub fn weekday_number(number: u32) -> u8
-    requires { number ≤ last_day }
-    ensures { result ≡ weekday_at number + 1 }
-{
-    days_since_monday(number) as u8 + 1
-}
-
-/// Returns the days from Monday to a day, from 0 to 6. Day 0 is a Monday.
-pub fn days_since_monday(number: u32) -> u32
-    requires { number ≤ last_day }
-    ensures { result ≡ number % 7 }
-{
-    // `part` is the part of the week that has passed, times 2^32, so 7/8 of it over 2^29 is the
-    // days.
-    let part = number.wrapping_mul(WEEK_FACTOR);
-    (part - part / 8) >> 29
 }

@@ -36,7 +36,6 @@ macro_rules! ok_or_error {
     };
 }
 
-mod branchless;
 mod columns;
 mod cycle;
 mod date;

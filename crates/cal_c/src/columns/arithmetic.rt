@@ -7,8 +7,7 @@ ghost use Rattle.cal_c.specs.Columns.{int_at, nat_at, SameLength4, AreRows, date
 
 use super::statuses::{INVALID_DATE, OK, RESULT_OUT_OF_RANGE};
 use super::{LENGTH_MISMATCH, NO_VALUE, count_errors};
-use crate::branchless::clamped_number;
-use crate::day_number::{DAY_ZERO, LAST_DAY_NUMBER, is_julian_day};
+use crate::day_number::{LAST_DAY_NUMBER, clamped_number, is_julian_day, julian_day};
 
 /// Adds days to dates, like `fots_date_add_days`.
 #[unsafe(no_mangle)]
@@ -61,7 +60,7 @@ fn date_days_later(date: i32, days: i32) -> (i32, u8)
     } else if moved > LAST_DAY_NUMBER {
         (NO_VALUE, RESULT_OUT_OF_RANGE)
     } else {
-        (moved as i32 - DAY_ZERO, OK)
+        (julian_day(moved), OK)
     }
 }
 

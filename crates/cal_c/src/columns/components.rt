@@ -5,11 +5,11 @@ ghost use Rattle.cal_c.specs.Columns.{int_at, nat_at, SameLength3, SameLength4, 
 use super::constructors::status_of_calendar_date;
 use super::statuses::{INVALID_DATE, OK};
 use super::{LENGTH_MISMATCH, NO_VALUE, count_errors};
-use crate::branchless::{
-    calendar_date_at, clamped_number, iso_week_date_at, julian_day_from_calendar_date,
-};
-use crate::day_number::{day_number, is_julian_day, weekday_number};
+use crate::day_number::{LAST_DAY_NUMBER, clamped_number, day_number, is_julian_day};
 use crate::values::valid_date;
+use cal_time::day_number::{
+    days_since_monday, from_calendar_date, to_calendar_date, to_iso_week_date,
+};
 
 /// Converts dates to calendar dates, like `fots_date_to_calendar_date`.
 #[unsafe(no_mangle)]
@@ -179,7 +179,7 @@ pub extern "C" fn fots_calendar_dates_to_iso_week_dates(
 fn calendar_date_row_of(date: i32) -> (i32, u8, u8, u8)
     ensures { IsCalendarDateOf date (calendar_date_row result.0 result.1 result.2 result.3) }
 {
-    let (year, month, day) = calendar_date_at(clamped_number(date));
+    let (year, month, day) = to_calendar_date(clamped_number(date));
     if is_julian_day(date) {
         (year, month as u8, day as u8, OK)
     } else {
@@ -200,7 +200,7 @@ fn ordinal_date_row_of(date: i32) -> (i32, u16, u8)
 fn iso_week_date_row_of(date: i32) -> (i32, u8, u8, u8)
     ensures { IsIsoWeekDateOf date (iso_week_date_row result.0 result.1 result.2 result.3) }
 {
-    let (year, week, weekday) = iso_week_date_at(date);
+    let (year, week, weekday) = to_iso_week_date(clamped_number(date));
     if is_julian_day(date) {
         (year, week, weekday, OK)
     } else {
@@ -213,7 +213,7 @@ fn weekday_row(date: i32) -> (u8, u8)
     ensures { IsWeekdayNumberOf date result.0 result.1 }
 {
     match day_number(date) {
-        Some(number) => (weekday_number(number), OK),
+        Some(number) => (days_since_monday(number) + 1, OK),
         None => (0, INVALID_DATE),
     }
 }
@@ -223,9 +223,8 @@ fn iso_week_date_of_calendar_date(year: i32, month: u8, day: u8) -> (i32, u8, u8
     ensures { IsIsoWeekDateOfCalendarDate year month day
         (iso_week_date_row result.0 result.1 result.2 result.3) }
 {
-    let (iso_year, week, weekday) = iso_week_date_at(julian_day_from_calendar_date(
-        year, month, day,
-    ));
+    let number = from_calendar_date(year, month, day).min(LAST_DAY_NUMBER);
+    let (iso_year, week, weekday) = to_iso_week_date(number);
     let status = status_of_calendar_date(year, month, day);
     if status == OK {
         (iso_year, week, weekday, OK)

@@ -11,10 +11,10 @@ use super::statuses::{
     RESULT_OUT_OF_RANGE, YEAR_OUT_OF_RANGE, status_byte,
 };
 use super::{LENGTH_MISMATCH, NO_VALUE, count_errors};
-use crate::branchless::{is_day_of_month, julian_day_from_calendar_date};
-use crate::day_number::{FIRST_JULIAN_DAY, LAST_JULIAN_DAY};
+use crate::day_number::{FIRST_JULIAN_DAY, LAST_JULIAN_DAY, julian_day};
 use crate::values::valid_weekday;
 use cal_time::Date;
+use cal_time::day_number::{from_calendar_date, is_day_of_month};
 use cal_time::limits::{MAX_YEAR, MIN_YEAR};
 
 /// Creates dates from Julian days, like `fots_date_from_julian_day`.
@@ -130,7 +130,7 @@ pub extern "C" fn fots_dates_from_iso_week_dates(
 
 /// Returns the row of a date.
 #[inline(always)]
-fn ok_row(date: Date) -> (i32, u8)
+pub(super) fn ok_row(date: Date) -> (i32, u8)
     ensures { date_row result.0 result.1 ≡ date_ok (julian_day_at date) }
 {
     (date.to_julian_day(), OK)
@@ -170,7 +170,7 @@ fn row_from_julian_day(julian_day: i64) -> (i32, u8)
 fn row_from_calendar_date(year: i32, month: u8, day: u8) -> (i32, u8)
     ensures { IsDateOfCalendarDate year month day (date_row result.0 result.1) }
 {
-    let date = julian_day_from_calendar_date(year, month, day);
+    let date = julian_day(from_calendar_date(year, month, day));
     let status = status_of_calendar_date(year, month, day);
     if status == OK {
         (date, OK)

@@ -7,11 +7,11 @@ ghost use Rattle.cal_c.specs.Results.{number_ok, number_error};
 ghost use Rattle.cal_c.specs.Statuses.{invalid_date};
 ghost use Rattle.cal_c.specs.Values.{IsJulianDay, day_of};
 
-use crate::branchless::{calendar_date_at, iso_week_date_at};
-use crate::day_number::{day_number, is_julian_day, weekday_number};
+use crate::day_number::day_number;
 use crate::results::{CalendarDateResult, IsoWeekDateResult, NumberResult, OrdinalDateResult};
 use crate::status::{INVALID_DATE, OK};
 use crate::values::valid_date;
+use cal_time::day_number::{days_since_monday, to_calendar_date, to_iso_week_date};
 
 /// Returns the year, the month and the day of the month. For 2451604 they are 2000, 2 and 29.
 #[unsafe(no_mangle)]
@@ -19,7 +19,7 @@ pub extern "C" fn fots_date_to_calendar_date(date: i32) -> CalendarDateResult
     ensures { IsCalendarDateOf date result }
 {
     let number = or_return!(day_number(date), CalendarDateResult::error(INVALID_DATE));
-    let (year, month, day) = calendar_date_at(number);
+    let (year, month, day) = to_calendar_date(number);
     CalendarDateResult {
         status: OK,
         year,
@@ -47,10 +47,8 @@ pub extern "C" fn fots_date_to_ordinal_date(date: i32) -> OrdinalDateResult
 pub extern "C" fn fots_date_to_iso_week_date(date: i32) -> IsoWeekDateResult
     ensures { IsIsoWeekDateOf date result }
 {
-    if !is_julian_day(date) {
-        return IsoWeekDateResult::error(INVALID_DATE);
-    }
-    let (year, week, weekday) = iso_week_date_at(date);
+    let number = or_return!(day_number(date), IsoWeekDateResult::error(INVALID_DATE));
+    let (year, week, weekday) = to_iso_week_date(number);
     IsoWeekDateResult {
         status: OK,
         year,
@@ -136,5 +134,5 @@ pub extern "C" fn fots_date_weekday(date: i32) -> NumberResult
     ensures value { IsJulianDay date → result ≡ number_ok (pos (weekday_at (day_of date) + 1)) }
 {
     let number = or_return!(day_number(date), NumberResult::error(INVALID_DATE));
-    NumberResult::ok(i32::from(weekday_number(number)))
+    NumberResult::ok(i32::from(days_since_monday(number)) + 1)
 }

@@ -1,7 +1,7 @@
 //! Constructors of dates.
 ghost use Rattle.cal_c.specs.Columns.{IsDateOfJulianDay, IsDateOfCalendarDate, IsDateOfOrdinalDate, IsDateOfIsoWeekDate};
 
-use crate::branchless::{is_day_of_month, julian_day_from_calendar_date};
+use crate::day_number::julian_day;
 use crate::results::DateResult;
 use crate::status::{
     DAY_OUT_OF_RANGE, INVALID_WEEKDAY, JULIAN_DAY_OUT_OF_RANGE, MONTH_OUT_OF_RANGE, OK,
@@ -11,6 +11,7 @@ use crate::values::{
     day_or_invalid, ordinal_or_invalid, valid_date_i64, valid_weekday, week_or_invalid,
 };
 use cal_time::Date;
+use cal_time::day_number::{from_calendar_date, is_day_of_month};
 use cal_time::limits::{MAX_YEAR, MIN_YEAR};
 
 /// Creates a date from a Julian day, from -363521074 to 366963559. Returns the error `julian_day`
@@ -44,7 +45,7 @@ pub extern "C" fn fots_date_from_calendar_date(year: i32, month: u32, day: u32) 
     }
     DateResult {
         status: OK,
-        date: julian_day_from_calendar_date(year, month, day),
+        date: julian_day(from_calendar_date(year, month, day)),
     }
 }
 

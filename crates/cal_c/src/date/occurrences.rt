@@ -6,9 +6,10 @@ ghost use Rattle.cal_c.specs.Results.{date_error, date_or_out_of_range};
 ghost use Rattle.cal_c.specs.Statuses.{invalid_date, invalid_weekday, invalid_count};
 ghost use Rattle.cal_c.specs.Values.{IsJulianDay, IsWeekday, day_of};
 
-use crate::day_number::{date_result_from_number, day_number, days_since_monday};
+use crate::day_number::{date_result, day_number};
 use crate::results::DateResult;
-use crate::status::{INVALID_COUNT, INVALID_DATE, INVALID_WEEKDAY, RESULT_OUT_OF_RANGE};
+use crate::status::{INVALID_COUNT, INVALID_DATE, INVALID_WEEKDAY};
+use cal_time::day_number::{nth_next_occurrence, nth_prev_occurrence};
 
 /// Returns the `count`-th day with a weekday after a date, from 1 to 255. Fails if it is out of
 /// range, or for 0. The fifth Monday after 2460121 is 2460150.
@@ -29,7 +30,7 @@ pub extern "C" fn fots_date_nth_next_occurrence(date: i32, weekday: u32, count: 
     if count > 255 {
         return DateResult::error(INVALID_COUNT);
     }
-    occurrence_after(number, weekday, count)
+    date_result(nth_next_occurrence(number, weekday - 1, count as u8))
 }
 
 /// Returns the `count`-th day with a weekday before a date, from 1 to 255. Fails if it is out of
@@ -51,7 +52,7 @@ pub extern "C" fn fots_date_nth_prev_occurrence(date: i32, weekday: u32, count: 
     if count > 255 {
         return DateResult::error(INVALID_COUNT);
     }
-    occurrence_before(number, weekday, count)
+    date_result(nth_prev_occurrence(number, weekday - 1, count as u8))
 }
 
 /// Returns the first day with a weekday after a date. Fails if it is out of range. The Monday after
@@ -68,7 +69,7 @@ pub extern "C" fn fots_date_next_occurrence(date: i32, weekday: u32) -> DateResu
     if weekday == 0 || weekday > 7 {
         return DateResult::error(INVALID_WEEKDAY);
     }
-    occurrence_after(number, weekday, 1)
+    date_result(nth_next_occurrence(number, weekday - 1, 1))
 }
 
 /// Returns the last day with a weekday before a date. Fails if it is out of range. The Monday
@@ -85,51 +86,5 @@ pub extern "C" fn fots_date_prev_occurrence(date: i32, weekday: u32) -> DateResu
     if weekday == 0 || weekday > 7 {
         return DateResult::error(INVALID_WEEKDAY);
     }
-    occurrence_before(number, weekday, 1)
-}
-
-/// Returns the `count`-th day with a weekday after a day.
-fn occurrence_after(number: u32, weekday: u32, count: u32) -> DateResult
-    requires in_range { IsDate number }
-    requires is_weekday { IsWeekday weekday }
-    requires is_count { count ≤ 255 }
-    ensures { result ≡ date_or_out_of_range (kth count (next_occurrences (weekday - 1) number)) }
-{
-    if count == 0 {
-        return DateResult::error(RESULT_OUT_OF_RANGE);
-    }
-
-    let first = days_to_next_weekday(days_since_monday(number) + 1, weekday);
-    date_result_from_number(number + first + 7 * (count - 1))
-}
-
-/// Returns the `count`-th day with a weekday before a day.
-fn occurrence_before(number: u32, weekday: u32, count: u32) -> DateResult
-    requires in_range { IsDate number }
-    requires is_weekday { IsWeekday weekday }
-    requires is_count { count ≤ 255 }
-    ensures { result ≡ date_or_out_of_range (kth count (prev_occurrences (weekday - 1) number)) }
-{
-    if count == 0 {
-        return DateResult::error(RESULT_OUT_OF_RANGE);
-    }
-    let first = days_to_next_weekday(weekday, days_since_monday(number) + 1);
-    let number = or_return!(
-        number.checked_sub(first + 7 * (count - 1)),
-        DateResult::error(RESULT_OUT_OF_RANGE)
-    );
-    date_result_from_number(number)
-}
-
-/// Returns the days from one weekday to the next day with another, from 1 to 7.
-fn days_to_next_weekday(weekday: u32, other: u32) -> u32
-    requires is_weekday { IsWeekday weekday }
-    requires is_other { IsWeekday other }
-    ensures { result ≡ (other + 6 - weekday) % 7 + 1 }
-{
-    if other > weekday {
-        other - weekday
-    } else {
-        other + 7 - weekday
-    }
+    date_result(nth_prev_occurrence(number, weekday - 1, 1))
 }
