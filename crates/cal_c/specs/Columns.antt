@@ -131,20 +131,20 @@ pub record IsDateMonthsLater (date : ℤ) (months : ℤ) (r : DateResult) : Type
   pub day : IsJulianDay date → IsMonthNumber (month_number_at (day_of date) +ℤ months) → IsDateWith (IsMonthsLater (day_of date) months) r
 
 -- The result of `fots_date_add_workdays`.
-pub record IsDateWorkdaysLater (date : ℤ) (days : ℤ) (week : ℕ) (holidays : List ℤ) (r : DateResult) : Type 0 where
+pub record IsDateWorkdaysLater (date : ℤ) (days : ℤ) (weekmask : ℕ) (holidays : List ℤ) (r : DateResult) : Type 0 where
   pub invalid_date : (IsJulianDay date → ⊥) → r ≡ date_error invalid_date
-  pub invalid_weekmask : IsJulianDay date → (IsWeekmask week → ⊥) → r ≡ date_error invalid_weekmask
-  pub too_many_holidays : IsJulianDay date → IsWeekmask week → max_holidays < length holidays → r ≡ date_error too_many_holidays
-  pub invalid_holidays : IsJulianDay date → IsWeekmask week → length holidays ≤ max_holidays → (AreHolidays holidays → ⊥) → r ≡ date_error invalid_holidays
-  pub day : IsJulianDay date → IsWeekmask week → length holidays ≤ max_holidays → AreHolidays holidays
-      → r ≡ date_or_out_of_range (nth_workday (work_week week holidays) days (day_of date))
+  pub invalid_weekmask : IsJulianDay date → (IsWeekmask weekmask → ⊥) → r ≡ date_error invalid_weekmask
+  pub too_many_holidays : IsJulianDay date → IsWeekmask weekmask → max_holidays < length holidays → r ≡ date_error too_many_holidays
+  pub invalid_holidays : IsJulianDay date → IsWeekmask weekmask → length holidays ≤ max_holidays → (AreHolidays holidays → ⊥) → r ≡ date_error invalid_holidays
+  pub day : IsJulianDay date → IsWeekmask weekmask → length holidays ≤ max_holidays → AreHolidays holidays
+      → r ≡ date_or_out_of_range (nth_workday (work_week weekmask holidays) days (day_of date))
 
 -- The result of `fots_date_workdays_between`.
-pub record IsWorkdaysBetween (date : ℤ) (other : ℤ) (week : ℕ) (holidays : List ℤ) (r : NumberResult) : Type 0 where
+pub record IsWorkdaysBetween (date : ℤ) (other : ℤ) (weekmask : ℕ) (holidays : List ℤ) (r : NumberResult) : Type 0 where
   pub invalid_date : (IsJulianDay date × IsJulianDay other → ⊥) → r ≡ number_error invalid_date
-  pub invalid_weekmask : IsJulianDay date → IsJulianDay other → (IsWeekmask week → ⊥) → r ≡ number_error invalid_weekmask
-  pub too_many_holidays : IsJulianDay date → IsJulianDay other → IsWeekmask week → max_holidays < length holidays → r ≡ number_error too_many_holidays
-  pub invalid_holidays : IsJulianDay date → IsJulianDay other → IsWeekmask week → length holidays ≤ max_holidays → (AreHolidays holidays → ⊥)
+  pub invalid_weekmask : IsJulianDay date → IsJulianDay other → (IsWeekmask weekmask → ⊥) → r ≡ number_error invalid_weekmask
+  pub too_many_holidays : IsJulianDay date → IsJulianDay other → IsWeekmask weekmask → max_holidays < length holidays → r ≡ number_error too_many_holidays
+  pub invalid_holidays : IsJulianDay date → IsJulianDay other → IsWeekmask weekmask → length holidays ≤ max_holidays → (AreHolidays holidays → ⊥)
       → r ≡ number_error invalid_holidays
-  pub value : IsJulianDay date → IsJulianDay other → IsWeekmask week → length holidays ≤ max_holidays → AreHolidays holidays
-      → r ≡ number_ok (workdays_between (work_week week holidays) (day_of date) (day_of other))
+  pub value : IsJulianDay date → IsJulianDay other → IsWeekmask weekmask → length holidays ≤ max_holidays → AreHolidays holidays
+      → r ≡ number_ok (workdays_between (work_week weekmask holidays) (day_of date) (day_of other))

@@ -1,4 +1,4 @@
--- The working days that C passes: the marks of a week as a number, and the holidays as Julian days.
+-- The working days that C passes: a weekmask, and the holidays as Julian days.
 use Rattle.std.specs.Prelude.{ℕ, ◌/◌, ◌%◌, ◌<◌, ◌≤◌, ◌==◌, Bool, List, [], ◌∷◌, All, length, map, ℤ, pos, ◌-ℤ◌}
 use Rattle.cal_time.specs.Counted.{IsRising}
 use Rattle.cal_time.specs.Date.{julian_day_at}
@@ -7,7 +7,7 @@ use Rattle.cal_schedule.specs.declared.workdays.convention.Convention.{Conventio
 use Rattle.cal_schedule.specs.declared.workdays.convention.Convention.TheVariants.{Unadjusted, Following, ModifiedFollowing, Preceding, ModifiedPreceding}
 use Rattle.cal_c.specs.Values.{IsJulianDay, day_of}
 
--- The marks of a week are a sum of 1 for Monday, 2 for Tuesday, up to 64 for Sunday.
+-- A weekmask is a sum of 1 for Monday, 2 for Tuesday, up to 64 for Sunday.
 abbrev pub IsWeekmask : ℕ → Type 0
 IsWeekmask k = k < 128
 

@@ -9,12 +9,12 @@ mod components;
 mod constructors;
 mod datetimes;
 mod days;
+mod errors;
 mod generic;
 mod names;
 mod order;
 mod printing;
 mod recurrences;
-mod refusals;
 mod texts;
 mod walking;
 
@@ -22,7 +22,7 @@ use std::io;
 
 fn main(rt: HostRuntime) -> io::Result<()> {
     constructors::show(&rt)?;
-    refusals::show(&rt)?;
+    errors::show(&rt)?;
     components::show(&rt)?;
     arithmetic::show(&rt)?;
     datetimes::show(&rt)?;

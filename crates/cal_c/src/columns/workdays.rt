@@ -19,7 +19,7 @@ use cal_schedule::Workdays;
 pub extern "C" fn fots_dates_add_workdays(
     dates: &[i32],
     days: &[i32],
-    week: u32,
+    weekmask: u32,
     holidays: &[i32],
     moved: &mut [i32],
     statuses: &mut [u8],
@@ -28,14 +28,14 @@ pub extern "C" fn fots_dates_add_workdays(
         → (result ≡ usize.MAX) × (moved.new ≡ moved.old) × (statuses.new ≡ statuses.old) }
     ensures rows { SameLength4 dates.now days.now moved.old statuses.old
         → AreRows statuses.new result (λ k. IsDateWorkdaysLater (int_at dates.now k)
-        (int_at days.now k) week holidays.now (date_row (int_at moved.new k)
+        (int_at days.now k) weekmask holidays.now (date_row (int_at moved.new k)
         (nat_at statuses.new k))) }
 {
     let rows = dates.len();
     if days.len() != rows || moved.len() != rows || statuses.len() != rows {
         return LENGTH_MISMATCH;
     }
-    let calendar = Calendar::from_c(week, holidays);
+    let calendar = Calendar::from_c(weekmask, holidays);
     let workdays = workdays_of(&calendar);
     for row in 0..rows {
         let (date, status) = date_workdays_later(dates[row], days[row], &workdays);
@@ -50,7 +50,7 @@ pub extern "C" fn fots_dates_add_workdays(
 pub extern "C" fn fots_dates_workdays_between(
     dates: &[i32],
     others: &[i32],
-    week: u32,
+    weekmask: u32,
     holidays: &[i32],
     numbers: &mut [i32],
     statuses: &mut [u8],
@@ -59,14 +59,14 @@ pub extern "C" fn fots_dates_workdays_between(
         → (result ≡ usize.MAX) × (numbers.new ≡ numbers.old) × (statuses.new ≡ statuses.old) }
     ensures rows { SameLength4 dates.now others.now numbers.old statuses.old
         → AreRows statuses.new result (λ k. IsWorkdaysBetween (int_at dates.now k)
-        (int_at others.now k) week holidays.now (number_row (int_at numbers.new k)
+        (int_at others.now k) weekmask holidays.now (number_row (int_at numbers.new k)
         (nat_at statuses.new k))) }
 {
     let rows = dates.len();
     if others.len() != rows || numbers.len() != rows || statuses.len() != rows {
         return LENGTH_MISMATCH;
     }
-    let calendar = Calendar::from_c(week, holidays);
+    let calendar = Calendar::from_c(weekmask, holidays);
     let workdays = workdays_of(&calendar);
     for row in 0..rows {
         let (number, status) = workdays_between_row(dates[row], others[row], &workdays);

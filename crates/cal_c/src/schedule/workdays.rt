@@ -1,6 +1,6 @@
 //! Working days: the days with a marked weekday, except the holidays.
 //!
-//! The marks of a week are a sum of 1 for Monday, 2 for Tuesday, 4, 8, 16, 32, and 64 for Sunday;
+//! A weekmask is a sum of 1 for Monday, 2 for Tuesday, 4, 8, 16, 32, and 64 for Sunday;
 //! 31 is Monday to Friday. The holidays are dates in ascending order, at most 1024.
 ghost use Rattle.std.specs.Prelude.{◌≡◌, ◌+◌, ◌<◌, ◌≤◌, length, pos, slice_get, IfErr, IfOk, MatchOption, if◌then◌else◌};
 ghost use Rattle.cal_schedule.specs.declared.workdays.convention.Convention.{Convention};
@@ -24,63 +24,67 @@ use calendar::Calendar;
 /// Returns 1 if a date is a working day, else 0. For 2451604, a Tuesday, it is 1 with the marks 31
 /// and without holidays.
 #[unsafe(no_mangle)]
-pub extern "C" fn fots_date_is_workday(date: i32, week: u32, holidays: &[i32]) -> NumberResult
+pub extern "C" fn fots_date_is_workday(date: i32, weekmask: u32, holidays: &[i32]) -> NumberResult
     ensures invalid_date { ¬ IsJulianDay date → result ≡ number_error invalid_date }
-    ensures invalid_weekmask { IsJulianDay date → ¬ IsWeekmask week → result ≡ number_error invalid_weekmask }
-    ensures too_many_holidays { IsJulianDay date → IsWeekmask week → max_holidays < length holidays.now
+    ensures invalid_weekmask { IsJulianDay date → ¬ IsWeekmask weekmask → result ≡ number_error invalid_weekmask }
+    ensures too_many_holidays { IsJulianDay date → IsWeekmask weekmask → max_holidays < length holidays.now
         → result ≡ number_error too_many_holidays }
-    ensures invalid_holidays { IsJulianDay date → IsWeekmask week → length holidays.now ≤ max_holidays
+    ensures invalid_holidays { IsJulianDay date → IsWeekmask weekmask → length holidays.now ≤ max_holidays
         → ¬ AreHolidays holidays.now → result ≡ number_error invalid_holidays }
-    ensures value { IsJulianDay date → IsWeekmask week → length holidays.now ≤ max_holidays
+    ensures value { IsJulianDay date → IsWeekmask weekmask → length holidays.now ≤ max_holidays
         → AreHolidays holidays.now
-        → result ≡ number_ok (if is_workday (work_week week holidays.now)
+        → result ≡ number_ok (if is_workday (work_week weekmask holidays.now)
         (day_of date) then pos 1 else pos 0) }
 {
     let date = or_return!(valid_date(date), NumberResult::error(INVALID_DATE));
     let calendar =
-        or_return!(Calendar::from_c(week, holidays), status => NumberResult::error(status));
+        or_return!(Calendar::from_c(weekmask, holidays), status => NumberResult::error(status));
     NumberResult::ok(i32::from(calendar.workdays().is_workday(date)))
 }
 
 /// Returns the first working day after a date. Fails if the range has none. For 2451607, a Friday,
 /// it is 2451610 with the marks 31 and without holidays.
 #[unsafe(no_mangle)]
-pub extern "C" fn fots_date_next_workday(date: i32, week: u32, holidays: &[i32]) -> DateResult
+pub extern "C" fn fots_date_next_workday(date: i32, weekmask: u32, holidays: &[i32]) -> DateResult
     ensures invalid_date { ¬ IsJulianDay date → result ≡ date_error invalid_date }
-    ensures invalid_weekmask { IsJulianDay date → ¬ IsWeekmask week → result ≡ date_error invalid_weekmask }
-    ensures too_many_holidays { IsJulianDay date → IsWeekmask week → max_holidays < length holidays.now
+    ensures invalid_weekmask { IsJulianDay date → ¬ IsWeekmask weekmask → result ≡ date_error invalid_weekmask }
+    ensures too_many_holidays { IsJulianDay date → IsWeekmask weekmask → max_holidays < length holidays.now
         → result ≡ date_error too_many_holidays }
-    ensures invalid_holidays { IsJulianDay date → IsWeekmask week → length holidays.now ≤ max_holidays
+    ensures invalid_holidays { IsJulianDay date → IsWeekmask weekmask → length holidays.now ≤ max_holidays
         → ¬ AreHolidays holidays.now → result ≡ date_error invalid_holidays }
-    ensures value { IsJulianDay date → IsWeekmask week → length holidays.now ≤ max_holidays
+    ensures value { IsJulianDay date → IsWeekmask weekmask → length holidays.now ≤ max_holidays
         → AreHolidays holidays.now
         → result ≡ date_or_out_of_range (slice_get
-        (workdays_from (work_week week holidays.now) (day_of date + 1)) 0) }
+        (workdays_from (work_week weekmask holidays.now) (day_of date + 1)) 0) }
 {
     let date = or_return!(valid_date(date), DateResult::error(INVALID_DATE));
     let calendar =
-        or_return!(Calendar::from_c(week, holidays), status => DateResult::error(status));
+        or_return!(Calendar::from_c(weekmask, holidays), status => DateResult::error(status));
     DateResult::from_option(calendar.workdays().next_workday(date))
 }
 
 /// Returns the last working day before a date. Fails if the range has none. For 2451610, a Monday,
 /// it is 2451607 with the marks 31 and without holidays.
 #[unsafe(no_mangle)]
-pub extern "C" fn fots_date_previous_workday(date: i32, week: u32, holidays: &[i32]) -> DateResult
+pub extern "C" fn fots_date_previous_workday(
+    date: i32,
+    weekmask: u32,
+    holidays: &[i32],
+) -> DateResult
     ensures invalid_date { ¬ IsJulianDay date → result ≡ date_error invalid_date }
-    ensures invalid_weekmask { IsJulianDay date → ¬ IsWeekmask week → result ≡ date_error invalid_weekmask }
-    ensures too_many_holidays { IsJulianDay date → IsWeekmask week → max_holidays < length holidays.now
+    ensures invalid_weekmask { IsJulianDay date → ¬ IsWeekmask weekmask → result ≡ date_error invalid_weekmask }
+    ensures too_many_holidays { IsJulianDay date → IsWeekmask weekmask → max_holidays < length holidays.now
         → result ≡ date_error too_many_holidays }
-    ensures invalid_holidays { IsJulianDay date → IsWeekmask week → length holidays.now ≤ max_holidays
+    ensures invalid_holidays { IsJulianDay date → IsWeekmask weekmask → length holidays.now ≤ max_holidays
         → ¬ AreHolidays holidays.now → result ≡ date_error invalid_holidays }
-    ensures value { IsJulianDay date → IsWeekmask week → length holidays.now ≤ max_holidays
+    ensures value { IsJulianDay date → IsWeekmask weekmask → length holidays.now ≤ max_holidays
         → AreHolidays holidays.now
         → result ≡ date_or_out_of_range (slice_get
-        (workdays_before (work_week week holidays.now) (day_of date)) 0) }
+        (workdays_before (work_week weekmask holidays.now) (day_of date)) 0) }
 {
     let date = or_return!(valid_date(date), DateResult::error(INVALID_DATE));
     let calendar =
-        or_return!(Calendar::from_c(week, holidays), status => DateResult::error(status));
+        or_return!(Calendar::from_c(weekmask, holidays), status => DateResult::error(status));
     DateResult::from_option(calendar.workdays().previous_workday(date))
 }
 
@@ -91,12 +95,12 @@ pub extern "C" fn fots_date_previous_workday(date: i32, week: u32, holidays: &[i
 pub extern "C" fn fots_date_add_workdays(
     date: i32,
     days: i32,
-    week: u32,
+    weekmask: u32,
     holidays: &[i32],
 ) -> DateResult
-    ensures { IsDateWorkdaysLater date days week holidays.now result }
+    ensures { IsDateWorkdaysLater date days weekmask holidays.now result }
 {
-    workdays_later_result(date, days, &Calendar::from_c(week, holidays))
+    workdays_later_result(date, days, &Calendar::from_c(weekmask, holidays))
 }
 
 /// Adds working days of a calendar.
@@ -123,12 +127,12 @@ fn workdays_later_result(date: i32, days: i32, calendar: &Result<Calendar, i32>)
 pub extern "C" fn fots_date_workdays_between(
     date: i32,
     other: i32,
-    week: u32,
+    weekmask: u32,
     holidays: &[i32],
 ) -> NumberResult
-    ensures { IsWorkdaysBetween date other week holidays.now result }
+    ensures { IsWorkdaysBetween date other weekmask holidays.now result }
 {
-    workdays_between_result(date, other, &Calendar::from_c(week, holidays))
+    workdays_between_result(date, other, &Calendar::from_c(weekmask, holidays))
 }
 
 /// Counts the working days of a calendar from `date` to `other`.
@@ -168,23 +172,23 @@ fn valid_convention(number: u32) -> Option<Convention>
 pub extern "C" fn fots_date_adjust(
     date: i32,
     convention: u32,
-    week: u32,
+    weekmask: u32,
     holidays: &[i32],
 ) -> DateResult
     ensures invalid_date { ¬ IsJulianDay date → result ≡ date_error invalid_date }
     ensures invalid_convention { IsJulianDay date → ¬ IsConvention convention
         → result ≡ date_error invalid_convention }
-    ensures invalid_weekmask { IsJulianDay date → IsConvention convention → ¬ IsWeekmask week
+    ensures invalid_weekmask { IsJulianDay date → IsConvention convention → ¬ IsWeekmask weekmask
         → result ≡ date_error invalid_weekmask }
-    ensures too_many_holidays { IsJulianDay date → IsConvention convention → IsWeekmask week
+    ensures too_many_holidays { IsJulianDay date → IsConvention convention → IsWeekmask weekmask
         → max_holidays < length holidays.now → result ≡ date_error too_many_holidays }
-    ensures invalid_holidays { IsJulianDay date → IsConvention convention → IsWeekmask week
+    ensures invalid_holidays { IsJulianDay date → IsConvention convention → IsWeekmask weekmask
         → length holidays.now ≤ max_holidays → ¬ AreHolidays holidays.now
         → result ≡ date_error invalid_holidays }
-    ensures value { IsJulianDay date → IsWeekmask week → length holidays.now ≤ max_holidays
+    ensures value { IsJulianDay date → IsWeekmask weekmask → length holidays.now ≤ max_holidays
         → AreHolidays holidays.now
         → (c : Convention) → convention_number c ≡ convention
-        → result ≡ date_or_out_of_range (adjusted_date (work_week week holidays.now) c (day_of date)) }
+        → result ≡ date_or_out_of_range (adjusted_date (work_week weekmask holidays.now) c (day_of date)) }
 {
     let date = or_return!(valid_date(date), DateResult::error(INVALID_DATE));
     let convention = or_return!(
@@ -192,6 +196,6 @@ pub extern "C" fn fots_date_adjust(
         DateResult::error(INVALID_CONVENTION)
     );
     let calendar =
-        or_return!(Calendar::from_c(week, holidays), status => DateResult::error(status));
+        or_return!(Calendar::from_c(weekmask, holidays), status => DateResult::error(status));
     DateResult::from_option(calendar.workdays().adjust(date, convention))
 }

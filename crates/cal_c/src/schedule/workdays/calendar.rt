@@ -29,35 +29,35 @@ impl Model for Calendar {
 }
 
 /// Returns the marks of a number, or `None` if it is above 127.
-fn valid_weekmask(week: u32) -> Option<[bool; 7]>
-    ensures { SomeIff result (IsWeekmask week) (weekmask_in week) }
+fn valid_weekmask(weekmask: u32) -> Option<[bool; 7]>
+    ensures { SomeIff result (IsWeekmask weekmask) (weekmask_in weekmask) }
 {
-    if week >= 128 {
+    if weekmask >= 128 {
         return None;
     }
     Some([
-        week % 2 == 1,
-        week / 2 % 2 == 1,
-        week / 4 % 2 == 1,
-        week / 8 % 2 == 1,
-        week / 16 % 2 == 1,
-        week / 32 % 2 == 1,
-        week / 64 % 2 == 1,
+        weekmask % 2 == 1,
+        weekmask / 2 % 2 == 1,
+        weekmask / 4 % 2 == 1,
+        weekmask / 8 % 2 == 1,
+        weekmask / 16 % 2 == 1,
+        weekmask / 32 % 2 == 1,
+        weekmask / 64 % 2 == 1,
     ])
 }
 
 impl Calendar {
     /// Checks and converts the marks and the holidays, or returns the status of the first error.
-    pub fn from_c(week: u32, holidays: &[i32]) -> Result<Self, i32>
-        ensures invalid_weekmask { ¬ IsWeekmask week → result ≡ Err invalid_weekmask }
-        ensures too_many_holidays { IsWeekmask week → max_holidays < length holidays.now
+    pub fn from_c(weekmask: u32, holidays: &[i32]) -> Result<Self, i32>
+        ensures invalid_weekmask { ¬ IsWeekmask weekmask → result ≡ Err invalid_weekmask }
+        ensures too_many_holidays { IsWeekmask weekmask → max_holidays < length holidays.now
             → result ≡ Err too_many_holidays }
-        ensures invalid_holidays { IsWeekmask week → length holidays.now ≤ max_holidays
+        ensures invalid_holidays { IsWeekmask weekmask → length holidays.now ≤ max_holidays
             → ¬ AreHolidays holidays.now → result ≡ Err invalid_holidays }
-        ensures value { IsWeekmask week → length holidays.now ≤ max_holidays
-            → AreHolidays holidays.now → result ≡ Ok (work_week week holidays.now) }
+        ensures value { IsWeekmask weekmask → length holidays.now ≤ max_holidays
+            → AreHolidays holidays.now → result ≡ Ok (work_week weekmask holidays.now) }
     {
-        let marks = or_return!(valid_weekmask(week), Err(INVALID_WEEKMASK));
+        let marks = or_return!(valid_weekmask(weekmask), Err(INVALID_WEEKMASK));
         let holidays = Holidays::from_julian_days(holidays)?;
         if !is_rising(holidays.as_slice()) {
             return Err(INVALID_HOLIDAYS);

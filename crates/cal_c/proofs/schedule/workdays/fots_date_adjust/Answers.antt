@@ -11,7 +11,7 @@ pub returns-clause-value : goal.returns-clause-value
 returns-clause-value c = λ h m l a by number.
     let f = c.ranges.date in
     let at = simp to_z-of_z at c.in-Some.ensures in
-    let week = work_week c.args.week c.args.holidays.now in
+    let week = work_week c.args.weekmask c.args.holidays.now in
     let its = c.in-Some-valid_convention.value in
     let same = same_convention its by (c.in-Some-valid_convention.ensures.1 ∙ sym number) in
     let work = c.workdays.ensures ∙ same_value c.in-Ok.value week (c.in-Ok.ensures.value m l a) in
