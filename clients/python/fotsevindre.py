@@ -73,6 +73,14 @@ _I64 = ctypes.c_int64
 _U64 = ctypes.c_uint64
 
 
+def _result(*fields: Tuple[str, Any]) -> Type[_Result]:
+    """Return the class of a result with a status and these fields."""
+    return cast(Type[_Result], type("_Result", (_Result,), {"_fields_": [("status", _I32), *fields]}))
+
+
+# ---- declarations, which tools/declarations writes from include/fotsevindre.h
+
+
 class _CDuration(ctypes.Structure):
     _fields_ = [("seconds", _I64), ("nanoseconds", _I32)]
 
@@ -95,20 +103,11 @@ class _CRuleWeekday(ctypes.Structure):
     weekday: int
 
 
-class _CRule(ctypes.Structure):
-    _fields_ = [
-        ("start", _I32), ("until", _I32), ("frequency", _U32), ("interval", _U32), ("week_start", _U32),
-        ("months", ctypes.POINTER(_U8)), ("months_length", ctypes.c_size_t),
-        ("month_days", ctypes.POINTER(_I8)), ("month_days_length", ctypes.c_size_t),
-        ("weekdays", ctypes.POINTER(_CRuleWeekday)), ("weekdays_length", ctypes.c_size_t),
-    ]
-
-
 class _CRecurrence(ctypes.Structure):
     _fields_ = [
-        ("frequency", _U32), ("interval", _U32), ("week_start", _U32), ("until", _I32), ("count", _U32),
-        ("months_length", _U32), ("month_days_length", _U32), ("weekdays_length", _U32),
-        ("months", _U8 * 62), ("month_days", _I8 * 62), ("weekdays", _CRuleWeekday * 62),
+        ("frequency", _U32), ("interval", _U32), ("week_start", _U32), ("until", _I32), ("count", _U32), ("months_length", _U32),
+        ("month_days_length", _U32), ("weekdays_length", _U32), ("months", _U8 * 62), ("month_days", _I8 * 62),
+        ("weekdays", _CRuleWeekday * 62),
     ]
 
     frequency: int
@@ -124,15 +123,19 @@ class _CRecurrence(ctypes.Structure):
     weekdays: Sequence[_CRuleWeekday]
 
 
+class _CRule(ctypes.Structure):
+    _fields_ = [
+        ("start", _I32), ("until", _I32), ("frequency", _U32), ("interval", _U32), ("week_start", _U32), ("months", ctypes.POINTER(_U8)),
+        ("months_length", ctypes.c_size_t), ("month_days", ctypes.POINTER(_I8)), ("month_days_length", ctypes.c_size_t),
+        ("weekdays", ctypes.POINTER(_CRuleWeekday)), ("weekdays_length", ctypes.c_size_t),
+    ]
+
+
 class _Result(ctypes.Structure):
-    """What a call returns: a status, and then its own of these fields."""
+    """The result of a call: a status, and then its own ones of these fields."""
 
     status: int
     date: int
-    time: int
-    offset: int
-    duration: _CDuration
-    moment: _CMoment
     number: int
     year: int
     month: int
@@ -140,139 +143,193 @@ class _Result(ctypes.Structure):
     ordinal: int
     week: int
     weekday: int
+    time: int
     carry: int
     hour: int
     minute: int
     second: int
     nanosecond: int
+    offset: int
     hours: int
     minutes: int
     seconds: int
+    duration: _CDuration
+    moment: _CMoment
     length: int
     bytes: bytes
-    part: int
     position: int
-    recurrence: _CRecurrence
     years: int
     months: int
     days: int
+    part: int
+    recurrence: _CRecurrence
     denominator: int
     numerator: int
 
 
-def _result(*fields: Tuple[str, Any]) -> Type[_Result]:
-    """The struct that a call returns: a status, and then these."""
-    return cast(Type[_Result], type("_Result", (_Result,), {"_fields_": [("status", _I32), *fields]}))
+_DateResult = _result(("date", _I32))
+_ComponentResult = _result(("number", _U32))
+_NumberResult = _result(("number", _I32))
+_Int64Result = _result(("number", _I64))
+_CalendarDateResult = _result(("year", _I32), ("month", _U32), ("day", _U32))
+_OrdinalDateResult = _result(("year", _I32), ("ordinal", _U32))
+_IsoWeekDateResult = _result(("year", _I32), ("week", _U32), ("weekday", _U32))
+_TimeResult = _result(("time", _U64))
+_AdjustedTimeResult = _result(("carry", _I32), ("time", _U64))
+_HmsNanoResult = _result(("hour", _U32), ("minute", _U32), ("second", _U32), ("nanosecond", _U32))
+_OffsetResult = _result(("offset", _I32))
+_OffsetHmsResult = _result(("hours", _I32), ("minutes", _I32), ("seconds", _I32))
+_DurationResult = _result(("duration", _CDuration))
+_PairResult = _result(("date", _I32), ("time", _U64))
+_MomentResult = _result(("moment", _CMoment))
+_TextResult = _result(("length", _U32), ("bytes", ctypes.c_char * 40))
+_ParseDateResult = _result(("date", _I32), ("position", ctypes.c_size_t))
+_ParseMomentResult = _result(("date", _I32), ("time", _U64), ("offset", _I32), ("position", ctypes.c_size_t))
+_PeriodResult = _result(("years", _I32), ("months", _I32), ("days", _I32))
+_DaysResult = _result(("length", ctypes.c_size_t))
+_RecurrenceResult = _result(("part", _U32), ("length", ctypes.c_size_t), ("position", ctypes.c_size_t))
+_ParseRecurrenceResult = _result(("part", _U32), ("position", ctypes.c_size_t), ("recurrence", _CRecurrence))
+_RecurrenceTextResult = _result(("part", _U32), ("position", ctypes.c_size_t), ("length", _U32), ("bytes", ctypes.c_char * 1404))
+_YearFractionResult = _result(("denominator", _U32), ("numerator", _I64))
 
-
-_DATE = _result(("date", _I32))
-_NUMBER = _result(("number", _I32))
-_PART = _result(("number", _U32))
-_LONG = _result(("number", _I64))
-_CALENDAR_DATE = _result(("year", _I32), ("month", _U32), ("day", _U32))
-_ORDINAL_DATE = _result(("year", _I32), ("ordinal", _U32))
-_ISO_WEEK_DATE = _result(("year", _I32), ("week", _U32), ("weekday", _U32))
-_TIME = _result(("time", _U64))
-_ADJUSTED_TIME = _result(("carry", _I32), ("time", _U64))
-_CLOCK = _result(("hour", _U32), ("minute", _U32), ("second", _U32), ("nanosecond", _U32))
-_OFFSET = _result(("offset", _I32))
-_OFFSET_PARTS = _result(("hours", _I32), ("minutes", _I32), ("seconds", _I32))
-_DURATION = _result(("duration", _CDuration))
-_PAIR = _result(("date", _I32), ("time", _U64))
-_MOMENT = _result(("moment", _CMoment))
-_PERIOD = _result(("years", _I32), ("months", _I32), ("days", _I32))
-_YEAR_FRACTION = _result(("denominator", _U32), ("numerator", _I64))
-_DAYS = _result(("length", ctypes.c_size_t))
-_TEXT = _result(("length", _U32), ("bytes", ctypes.c_char * 40))
-_RECURRENCE = _result(("part", _U32), ("length", ctypes.c_size_t), ("position", ctypes.c_size_t))
-_READ_RECURRENCE = _result(("part", _U32), ("position", ctypes.c_size_t), ("recurrence", _CRecurrence))
-_RECURRENCE_TEXT = _result(("part", _U32), ("position", ctypes.c_size_t), ("length", _U32), ("bytes", ctypes.c_char * 1404))
-_READ_DATE = _result(("date", _I32), ("position", ctypes.c_size_t))
-_READ_MOMENT = _result(("date", _I32), ("time", _U64), ("offset", _I32), ("position", ctypes.c_size_t))
-
-# What each call returns, what it takes, and the calls of that form.
+# What calls return, what they take, and their names.
 _FORMS: List[Tuple[Any, List[Any], str]] = [
-    (_DATE, [_I64], "date_from_julian_day"),
-    (_DATE, [_I32, _U32, _U32], "date_from_calendar_date date_from_iso_week_date"),
-    (_DATE, [_I32, _U32], "date_from_ordinal_date date_next_occurrence date_prev_occurrence date_replace_month date_replace_day "
-        "date_replace_ordinal"),
-    (_DATE, [_I32, _U32, _U32], "date_nth_next_occurrence date_nth_prev_occurrence"),
-    (_DATE, [_I32, _I32], "date_replace_year"),
-    (_DATE, [_I32], "date_next_day date_previous_day"),
-    (_DATE, [_I32, _CDuration], "date_checked_add date_checked_sub date_saturating_add date_saturating_sub"),
-    (_CALENDAR_DATE, [_I32], "date_to_calendar_date"),
-    (_ORDINAL_DATE, [_I32], "date_to_ordinal_date"),
-    (_ISO_WEEK_DATE, [_I32], "date_to_iso_week_date"),
-    (_NUMBER, [_I32], "date_year offset_whole_hours offset_whole_minutes offset_minutes_past_hour offset_seconds_past_minute"),
-    (_PART, [_I32], "date_month date_day date_ordinal date_iso_week date_weekday date_sunday_based_week date_monday_based_week"),
-    (_DURATION, [_I32, _I32], "date_duration_since"),
-    (_TIME, [_U32, _U32, _U32], "time_from_hms"),
-    (_TIME, [_U32, _U32, _U32, _U32], "time_from_hms_milli time_from_hms_micro time_from_hms_nano"),
-    (_CLOCK, [_U64], "time_as_hms_nano"),
-    (_PART, [_U64], "time_hour time_minute time_second time_millisecond time_microsecond time_nanosecond"),
-    (_TIME, [_U64, _U32], "time_replace_hour time_replace_minute time_replace_second time_replace_millisecond "
+    (_U32, [], "version"),
+    (_DateResult, [_I64], "date_from_julian_day"),
+    (_DateResult, [_I32, _U32, _U32], "date_from_calendar_date date_from_iso_week_date date_nth_next_occurrence date_nth_prev_occurrence "
+        "date_last_weekday_of_month"),
+    (_DateResult, [_I32, _U32], "date_from_ordinal_date date_next_occurrence date_prev_occurrence date_on_or_after date_on_or_before "
+        "date_replace_month date_replace_day date_replace_ordinal"),
+    (_CalendarDateResult, [_I32], "date_to_calendar_date"),
+    (_OrdinalDateResult, [_I32], "date_to_ordinal_date"),
+    (_IsoWeekDateResult, [_I32], "date_to_iso_week_date"),
+    (_NumberResult, [_I32], "date_year offset_whole_hours offset_whole_minutes offset_minutes_past_hour offset_seconds_past_minute"),
+    (_ComponentResult, [_I32], "date_month date_day date_ordinal date_iso_week date_weekday date_sunday_based_week "
+        "date_monday_based_week date_quarter"),
+    (_DateResult, [_I32], "date_next_day date_previous_day date_first_of_month date_last_of_month date_first_of_quarter "
+        "date_last_of_quarter date_first_of_year date_last_of_year date_first_of_iso_week date_last_of_iso_week"),
+    (_DateResult, [_I32, _I64], "date_add_days"),
+    (_DateResult, [_I32, _CDuration], "date_checked_add date_checked_sub date_saturating_add date_saturating_sub"),
+    (_DurationResult, [_I32, _I32], "date_duration_since"),
+    (_DateResult, [_I32, _I32], "date_add_months date_saturating_add_months date_add_years date_replace_year"),
+    (_NumberResult, [_I32, _I32], "date_months_until date_years_until"),
+    (_PeriodResult, [_I32, _I32], "date_period_until"),
+    (_DateResult, [_I32, _U32, _U32, _U32], "date_nth_weekday_of_month"),
+    (_ComponentResult, [_I32, _U32, ctypes.POINTER(_I32), ctypes.c_size_t], "date_is_workday"),
+    (_DateResult, [_I32, _U32, ctypes.POINTER(_I32), ctypes.c_size_t], "date_next_workday date_previous_workday"),
+    (_DateResult, [_I32, _I32, _U32, ctypes.POINTER(_I32), ctypes.c_size_t], "date_add_workdays"),
+    (_NumberResult, [_I32, _I32, _U32, ctypes.POINTER(_I32), ctypes.c_size_t], "date_workdays_between"),
+    (_DateResult, [_I32, _U32, _U32, ctypes.POINTER(_I32), ctypes.c_size_t], "date_adjust"),
+    (_DateResult, [ctypes.POINTER(_CRule)], "rule_first"),
+    (_DateResult, [ctypes.POINTER(_CRule), _I32], "rule_next_after"),
+    (_ComponentResult, [ctypes.POINTER(_CRule), _I32], "rule_contains"),
+    (_DaysResult, [ctypes.POINTER(_CRule), _I32, ctypes.POINTER(_I32), ctypes.c_size_t], "rule_days_after"),
+    (_ParseRecurrenceResult, [ctypes.c_char_p, ctypes.c_size_t], "recurrence_parse"),
+    (_RecurrenceTextResult, [ctypes.c_char_p, ctypes.c_size_t], "recurrence_text"),
+    (_RecurrenceResult, [ctypes.c_char_p, ctypes.c_size_t, _I32, _I32, ctypes.POINTER(_I32), ctypes.c_size_t], "recurrence_days"),
+    (_YearFractionResult, [_I32, _I32, _U32], "date_day_count"),
+    (_TimeResult, [_U32, _U32, _U32], "time_from_hms"),
+    (_TimeResult, [_U32, _U32, _U32, _U32], "time_from_hms_milli time_from_hms_micro time_from_hms_nano"),
+    (_HmsNanoResult, [_U64], "time_as_hms_nano"),
+    (_ComponentResult, [_U64], "time_hour time_minute time_second time_millisecond time_microsecond time_nanosecond"),
+    (_TimeResult, [_U64, _U32], "time_replace_hour time_replace_minute time_replace_second time_replace_millisecond "
         "time_replace_microsecond time_replace_nanosecond"),
-    (_TIME, [_U64], "time_truncate_to_hour time_truncate_to_minute time_truncate_to_second time_truncate_to_millisecond "
+    (_TimeResult, [_U64], "time_truncate_to_hour time_truncate_to_minute time_truncate_to_second time_truncate_to_millisecond "
         "time_truncate_to_microsecond"),
-    (_TIME, [_U64, _CDuration], "time_add time_sub"),
-    (_ADJUSTED_TIME, [_U64, _CDuration], "time_adjusting_add time_adjusting_sub"),
-    (_DURATION, [_U64, _U64], "time_duration_until time_duration_since time_difference"),
-    (_OFFSET, [_I32, _I32, _I32], "offset_from_hms"),
-    (_OFFSET, [_I64], "offset_from_whole_seconds"),
-    (_OFFSET_PARTS, [_I32], "offset_as_hms"),
-    (_OFFSET, [_I32], "offset_neg"),
-    (_DURATION, [_I64, _I32], "duration_new"),
-    (_DURATION, [_I64], "duration_weeks duration_days duration_hours duration_minutes duration_seconds duration_milliseconds "
+    (_TimeResult, [_U64, _CDuration], "time_add time_sub"),
+    (_AdjustedTimeResult, [_U64, _CDuration], "time_adjusting_add time_adjusting_sub"),
+    (_DurationResult, [_U64, _U64], "time_duration_until time_duration_since time_difference"),
+    (_OffsetResult, [_I32, _I32, _I32], "offset_from_hms"),
+    (_OffsetResult, [_I64], "offset_from_whole_seconds"),
+    (_OffsetHmsResult, [_I32], "offset_as_hms"),
+    (_OffsetResult, [_I32], "offset_neg"),
+    (_DurationResult, [_I64, _I32], "duration_new"),
+    (_DurationResult, [_I64], "duration_weeks duration_days duration_hours duration_minutes duration_seconds duration_milliseconds "
         "duration_microseconds duration_nanoseconds"),
-    (_LONG, [_CDuration], "duration_whole_weeks duration_whole_days duration_whole_hours duration_whole_minutes "
-        "duration_whole_seconds"),
-    (_NUMBER, [_CDuration], "duration_subsec_milliseconds duration_subsec_microseconds"),
-    (_DURATION, [_CDuration], "duration_abs duration_checked_neg"),
-    (_DURATION, [_CDuration, _CDuration], "duration_checked_add duration_checked_sub duration_saturating_add "
+    (_Int64Result, [_CDuration], "duration_whole_weeks duration_whole_days duration_whole_hours duration_whole_minutes "
+        "duration_whole_seconds duration_whole_milliseconds duration_whole_microseconds duration_whole_nanoseconds"),
+    (_NumberResult, [_CDuration], "duration_subsec_milliseconds duration_subsec_microseconds"),
+    (_DurationResult, [_CDuration], "duration_abs duration_checked_neg"),
+    (_NumberResult, [_CDuration, _CDuration], "duration_compare"),
+    (_DurationResult, [_CDuration, _CDuration], "duration_checked_add duration_checked_sub duration_saturating_add "
         "duration_saturating_sub"),
-    (_DURATION, [_CDuration, _I32], "duration_checked_mul duration_checked_div duration_saturating_mul"),
-    (_PART, [_U32, _I32], "month_length"),
-    (_PART, [_U32, _U32], "month_nth_next month_nth_prev weekday_nth_next weekday_nth_prev"),
-    (_PART, [_U32], "weekday_number_from_sunday"),
+    (_DurationResult, [_CDuration, _I32], "duration_checked_mul duration_checked_div duration_saturating_mul"),
+    (_ComponentResult, [_U32, _I32], "month_length"),
+    (_ComponentResult, [_U32, _U32], "month_nth_next month_nth_prev weekday_nth_next weekday_nth_prev"),
+    (_ComponentResult, [_U32], "weekday_number_from_sunday"),
     (_U32, [_I32], "is_leap_year days_in_year weeks_in_year"),
-    (_PAIR, [_I32, _U64, _CDuration], "add_to_pair sub_from_pair"),
-    (_DURATION, [_I32, _U64, _I32], "unix_time"),
-    (_PAIR, [_CDuration, _I32], "unix_pair"),
-    (_TEXT, [_I32], "date_calendar_text date_ordinal_text date_week_text date_julian_text"),
-    (_TEXT, [_I32, _U64, _I32], "moment_text unix_text"),
-    (_READ_DATE, [ctypes.c_char_p, ctypes.c_size_t], "date_parse julian_day_parse"),
-    (_READ_MOMENT, [ctypes.c_char_p, ctypes.c_size_t], "moment_parse unix_parse"),
-    (_MOMENT, [_I32, _U64, _I32], "moment_new"),
-    (_MOMENT, [_CMoment, _I32], "moment_to_offset moment_replace_offset"),
-    (_MOMENT, [_CMoment, _CDuration], "moment_checked_add moment_checked_sub moment_saturating_add moment_saturating_sub"),
-    (_DURATION, [_CMoment, _CMoment], "moment_duration_since"),
-    (_MOMENT, [_I64], "moment_from_unix_timestamp"),
-    (_MOMENT, [_CDuration], "moment_from_unix_time"),
-    (_LONG, [_CMoment], "moment_unix_timestamp"),
-    (_DURATION, [_CMoment], "moment_unix_time"),
-    (_DATE, [_I32, _I32], "date_add_months date_saturating_add_months date_add_years"),
-    (_NUMBER, [_I32, _I32], "date_months_until date_years_until"),
-    (_PERIOD, [_I32, _I32], "date_period_until"),
-    (_DATE, [_I32], "date_first_of_month date_last_of_month date_first_of_quarter date_last_of_quarter date_first_of_year "
-        "date_last_of_year date_first_of_iso_week date_last_of_iso_week"),
-    (_PART, [_I32], "date_quarter"),
-    (_DATE, [_I32, _U32, _U32, _U32], "date_nth_weekday_of_month"),
-    (_DATE, [_I32, _U32, _U32], "date_last_weekday_of_month"),
-    (_DATE, [_I32, _U32], "date_on_or_after date_on_or_before"),
-    (_YEAR_FRACTION, [_I32, _I32, _U32], "date_day_count"),
-    (_PART, [_I32, _U32, ctypes.POINTER(_I32), ctypes.c_size_t], "date_is_workday"),
-    (_DATE, [_I32, _U32, ctypes.POINTER(_I32), ctypes.c_size_t], "date_next_workday date_previous_workday"),
-    (_DATE, [_I32, _I32, _U32, ctypes.POINTER(_I32), ctypes.c_size_t], "date_add_workdays"),
-    (_NUMBER, [_I32, _I32, _U32, ctypes.POINTER(_I32), ctypes.c_size_t], "date_workdays_between"),
-    (_DATE, [_I32, _U32, _U32, ctypes.POINTER(_I32), ctypes.c_size_t], "date_adjust"),
-    (_DATE, [ctypes.POINTER(_CRule)], "rule_first"),
-    (_DATE, [ctypes.POINTER(_CRule), _I32], "rule_next_after"),
-    (_PART, [ctypes.POINTER(_CRule), _I32], "rule_contains"),
-    (_DAYS, [ctypes.POINTER(_CRule), _I32, ctypes.POINTER(_I32), ctypes.c_size_t], "rule_days_after"),
-    (_READ_RECURRENCE, [ctypes.c_char_p, ctypes.c_size_t], "recurrence_parse"),
-    (_RECURRENCE_TEXT, [ctypes.c_char_p, ctypes.c_size_t], "recurrence_text"),
-    (_RECURRENCE, [ctypes.c_char_p, ctypes.c_size_t, _I32, _I32, ctypes.POINTER(_I32), ctypes.c_size_t], "recurrence_days"),
+    (_PairResult, [_I32, _U64, _CDuration], "add_to_pair sub_from_pair"),
+    (_DurationResult, [_I32, _U64, _I32], "unix_time"),
+    (_PairResult, [_CDuration, _I32], "unix_pair"),
+    (_MomentResult, [_I32, _U64, _I32], "moment_new"),
+    (_MomentResult, [_CMoment, _I32], "moment_to_offset moment_replace_offset"),
+    (_MomentResult, [_CMoment, _CDuration], "moment_checked_add moment_checked_sub moment_saturating_add moment_saturating_sub"),
+    (_DurationResult, [_CMoment, _CMoment], "moment_duration_since"),
+    (_NumberResult, [_CMoment, _CMoment], "moment_compare"),
+    (_MomentResult, [_I64], "moment_from_unix_timestamp"),
+    (_MomentResult, [_CDuration], "moment_from_unix_time"),
+    (_Int64Result, [_CMoment], "moment_unix_timestamp"),
+    (_DurationResult, [_CMoment], "moment_unix_time"),
+    (_TextResult, [_I32], "date_calendar_text date_ordinal_text date_week_text date_julian_text"),
+    (_TextResult, [_I32, _U64, _I32], "moment_text unix_text"),
+    (_TextResult, [_U32], "month_name weekday_name"),
+    (_ParseDateResult, [ctypes.c_char_p, ctypes.c_size_t], "date_parse julian_day_parse"),
+    (_ParseMomentResult, [ctypes.c_char_p, ctypes.c_size_t], "moment_parse unix_parse"),
 ]
+
+# Calls over columns: what they read, other arguments, and what they write.
+_COLUMNS: Dict[str, Tuple[List[Any], List[Any], List[Any]]] = {
+    "dates_from_julian_days": ([_I64], [], [_I32, _U8]),
+    "dates_from_calendar_dates": ([_I32, _U8, _U8], [], [_I32, _U8]),
+    "dates_from_ordinal_dates": ([_I32, _U16], [], [_I32, _U8]),
+    "dates_from_iso_week_dates": ([_I32, _U8, _U8], [], [_I32, _U8]),
+    "dates_to_calendar_dates": ([_I32], [], [_I32, _U8, _U8, _U8]),
+    "dates_to_ordinal_dates": ([_I32], [], [_I32, _U16, _U8]),
+    "dates_to_iso_week_dates": ([_I32], [], [_I32, _U8, _U8, _U8]),
+    "dates_weekdays": ([_I32], [], [_U8, _U8]),
+    "calendar_dates_to_iso_week_dates": ([_I32, _U8, _U8], [], [_I32, _U8, _U8, _U8]),
+    "dates_add_days": ([_I32, _I64], [], [_I32, _U8]),
+    "dates_add_months": ([_I32, _I32], [], [_I32, _U8]),
+    "dates_add_workdays": ([_I32, _I32], [_U32, ctypes.POINTER(_I32), ctypes.c_size_t], [_I32, _U8]),
+    "dates_workdays_between": ([_I32, _I32], [_U32, ctypes.POINTER(_I32), ctypes.c_size_t], [_I32, _U8]),
+    "dates_parse": ([_U8, _I32], [], [_I32, _U8]),
+    "moments_parse": ([_U8, _I32], [], [_I32, _U64, _I32, _U8]),
+    "dates_calendar_texts": ([_I32], [], [_U8, _I32, _U8]),
+    "moments_texts": ([_I32, _U64, _I32], [], [_U8, _I32, _U8]),
+}
+
+_RESULT_OUT_OF_RANGE = 1
+_INVALID_DATE = 2
+_INVALID_TIME = 3
+_INVALID_OFFSET = 4
+_INVALID_DURATION = 5
+_INVALID_WEEKDAY = 6
+_INVALID_COUNT = 7
+_UNEXPECTED_BYTE = 8
+_INVALID_MOMENT = 9
+_INVALID_FREQUENCY = 10
+_TOO_MANY_PARTS = 11
+_INVALID_CONVENTION = 12
+_INVALID_WEEKMASK = 13
+_INVALID_HOLIDAYS = 14
+_TOO_MANY_HOLIDAYS = 15
+_INVALID_BOUNDS = 30
+_UNEXPECTED_END = 31
+_UNKNOWN_PART = 32
+_DUPLICATE_PART = 33
+_TOO_MANY_VALUES = 34
+_INVALID_VALUE = 35
+_MISSING_FREQUENCY = 36
+_DAY_OUT_OF_RANGE = 64
+
+# The components, by their statuses, and the names of the parts of a recurrence, by their numbers from 1.
+_COMPONENTS = {
+    16: "year", 17: "month", 18: "julian_day", 19: "hour", 20: "minute", 21: "second", 22: "millisecond", 23: "microsecond",
+    24: "nanosecond", 25: "offset hour", 26: "offset minute", 27: "offset second", 28: "seconds", 29: "timestamp", 64: "day", 65: "ordinal",
+    66: "week", 67: "weekday",
+}
+_PARTS = (None, "FREQ", "INTERVAL", "WKST", "BYMONTH", "BYMONTHDAY", "BYDAY", "UNTIL", "COUNT")
+# ---- end of the declarations
 
 _library = _load()
 _calls: Dict[str, Callable[..., Any]] = {}
@@ -282,33 +339,12 @@ for _returned, _taken, _names in _FORMS:
         _call.restype = _returned
         _call.argtypes = _taken
         _calls[_name] = _call
-
-# The calls over columns: the numbers of each column that goes in, and of each that comes out before the statuses.
-_COLUMNS: Dict[str, Tuple[List[Any], List[Any]]] = {
-    "dates_from_julian_days": ([_I64], [_I32]),
-    "dates_from_calendar_dates": ([_I32, _U8, _U8], [_I32]),
-    "dates_from_ordinal_dates": ([_I32, _U16], [_I32]),
-    "dates_from_iso_week_dates": ([_I32, _U8, _U8], [_I32]),
-    "dates_to_calendar_dates": ([_I32], [_I32, _U8, _U8]),
-    "dates_to_ordinal_dates": ([_I32], [_I32, _U16]),
-    "dates_to_iso_week_dates": ([_I32], [_I32, _U8, _U8]),
-    "dates_weekdays": ([_I32], [_U8]),
-    "calendar_dates_to_iso_week_dates": ([_I32, _U8, _U8], [_I32, _U8, _U8]),
-    "dates_add_days": ([_I32, _I64], [_I32]),
-    "dates_add_months": ([_I32, _I32], [_I32]),
-    "dates_add_workdays": ([_I32, _I32], [_I32]),
-    "dates_workdays_between": ([_I32, _I32], [_I32]),
-    "dates_parse": ([_U8, _I32], [_I32]),
-    "moments_parse": ([_U8, _I32], [_I32, _U64, _I32]),
-    "dates_calendar_texts": ([_I32], [_U8, _I32]),
-    "moments_texts": ([_I32, _U64, _I32], [_U8, _I32]),
-}
-for _name, (_taken, _given) in _COLUMNS.items():
+for _name, (_reads, _others, _writes) in _COLUMNS.items():
     _call = getattr(_library, "fots_" + _name)
     _call.restype = ctypes.c_size_t
-    # Each array is a pointer and a length, and the statuses are the last one. The marks of a week and the holidays stand before the answer.
-    _takes, _gives = ([_part for _kind in _kinds for _part in (ctypes.POINTER(_kind), ctypes.c_size_t)] for _kinds in (_taken, [*_given, _U8]))
-    _call.argtypes = [*_takes, *([_U32, ctypes.POINTER(_I32), ctypes.c_size_t] if "workdays" in _name else []), *_gives]
+    # Each column is a pointer and a length.
+    _before, _after = ([_part for _kind in _kinds for _part in (ctypes.POINTER(_kind), ctypes.c_size_t)] for _kinds in (_reads, _writes))
+    _call.argtypes = [*_before, *_others, *_after]
     _calls[_name] = _call
 
 # Each call by its name, as an attribute of a class: the quickest way to it.
@@ -316,38 +352,28 @@ _C: Any = type("_C", (), _calls)
 
 # ---- statuses
 
-_PAST_RANGE = 1
-_BAD_COUNT = 7
-_UNREADABLE = 8
-_UNEXPECTED_END = 31
-_REFUSALS = {
-    16: "year", 17: "month", 18: "julian_day", 19: "hour", 20: "minute", 21: "second", 22: "millisecond", 23: "microsecond",
-    24: "nanosecond", 25: "offset hour", 26: "offset minute", 27: "offset second", 28: "seconds", 29: "timestamp",
-    64: "day", 65: "ordinal", 66: "week", 67: "weekday",
-}
-_FIRST_CONDITIONAL = 64
-# What each other status says.
+# The messages of the other statuses.
 _MESSAGES = {
-    2: "invalid date; expected a Julian day from -363521074 to 366963559",
-    3: "invalid time; expected 0 to 86399999999999 nanoseconds since midnight",
-    4: "invalid offset; expected -93599 to 93599 seconds",
-    5: "invalid duration; expected -999999999 to 999999999 nanoseconds with the sign of the seconds",
-    6: "invalid weekday; expected 1 (Monday) to 7 (Sunday)",
-    _UNREADABLE: "unexpected byte in the text",
-    9: "invalid moment; expected a valid date, time and offset",
-    10: "invalid frequency; expected 1 (Daily) to 4 (Yearly)",
-    11: "too many parts in a rule; expected at most 64 months and 64 weekdays",
-    12: "invalid convention; expected a Convention or a DayCount",
-    13: "invalid weekmask; expected 0 to 127, with a bit for each weekday",
-    14: "holidays must be in ascending order, without duplicates",
-    15: "too many holidays; expected at most 1024",
-    30: "invalid bounds; expected ascending positions in the texts",
+    _INVALID_DATE: "invalid date; expected a Julian day from -363521074 to 366963559",
+    _INVALID_TIME: "invalid time; expected 0 to 86399999999999 nanoseconds since midnight",
+    _INVALID_OFFSET: "invalid offset; expected -93599 to 93599 seconds",
+    _INVALID_DURATION: "invalid duration; expected -999999999 to 999999999 nanoseconds with the sign of the seconds",
+    _INVALID_WEEKDAY: "invalid weekday; expected 1 (Monday) to 7 (Sunday)",
+    _UNEXPECTED_BYTE: "unexpected byte in the text",
+    _INVALID_MOMENT: "invalid moment; expected a valid date, time and offset",
+    _INVALID_FREQUENCY: "invalid frequency; expected 1 (Daily) to 4 (Yearly)",
+    _TOO_MANY_PARTS: "too many parts in a rule; expected at most 64 months and 64 weekdays",
+    _INVALID_CONVENTION: "invalid convention; expected a Convention or a DayCount",
+    _INVALID_WEEKMASK: "invalid weekmask; expected 0 to 127, with a bit for each weekday",
+    _INVALID_HOLIDAYS: "holidays must be in ascending order, without duplicates",
+    _TOO_MANY_HOLIDAYS: "too many holidays; expected at most 1024",
+    _INVALID_BOUNDS: "invalid bounds; expected ascending positions in the texts",
     _UNEXPECTED_END: "unexpected end of the text",
-    32: "unknown part in a recurrence",
-    33: "duplicate part in a recurrence",
-    34: "too many values in a part of a recurrence; expected at most 62",
-    35: "invalid value in a part of a recurrence",
-    36: "missing FREQ in a recurrence",
+    _UNKNOWN_PART: "unknown part in a recurrence",
+    _DUPLICATE_PART: "duplicate part in a recurrence",
+    _TOO_MANY_VALUES: "too many values in a part of a recurrence; expected at most 62",
+    _INVALID_VALUE: "invalid value in a part of a recurrence",
+    _MISSING_FREQUENCY: "missing FREQ in a recurrence",
 }
 
 
@@ -402,11 +428,11 @@ class Unreadable(ValueError):
 
 def _error(status: int) -> Exception:
     """Return the exception for a status other than 0."""
-    if status in _REFUSALS:
-        return ComponentRange(_REFUSALS[status], status >= _FIRST_CONDITIONAL)
-    if status == _PAST_RANGE:
+    if status in _COMPONENTS:
+        return ComponentRange(_COMPONENTS[status], status >= _DAY_OUT_OF_RANGE)
+    if status == _RESULT_OUT_OF_RANGE:
         return OverflowError("the result is out of range")
-    if status == _BAD_COUNT:
+    if status == _INVALID_COUNT:
         return OverflowError("invalid count of occurrences; expected 0 to 255")
     return ValueError(_MESSAGES.get(status, f"unknown status {status}"))
 
@@ -430,7 +456,7 @@ def _read(call: Callable[..., _Result], text: str) -> _Result:
     # Every byte before the first wrong one is ASCII, so its position is the same among the characters. A lone surrogate is a wrong byte.
     encoded = _is(text, str).encode("utf-8", "surrogatepass")
     result = call(encoded, len(encoded))
-    if result.status in (_UNREADABLE, _UNEXPECTED_END):
+    if result.status in (_UNEXPECTED_BYTE, _UNEXPECTED_END):
         raise Unreadable(result.position, result.status == _UNEXPECTED_END)
     return _done(result)
 
@@ -750,7 +776,7 @@ def _duration(result: _Result) -> SignedDuration:
 
 
 def _duration_or_none(result: _Result) -> Optional[SignedDuration]:
-    return None if result.status == _PAST_RANGE else _duration(result)
+    return None if result.status == _RESULT_OUT_OF_RANGE else _duration(result)
 
 
 def _time(result: _Result) -> Time:
@@ -783,7 +809,7 @@ def _date(result: _Result) -> Date:
 def _date_or_none(result: _Result) -> Optional[Date]:
     key = result.date
     if key == _NOTHING:
-        return None if result.status == _PAST_RANGE else _date(result)
+        return None if result.status == _RESULT_OUT_OF_RANGE else _date(result)
     value = _new(Date)
     value._key = key
     return value
@@ -794,11 +820,11 @@ def _pair(result: _Result) -> Tuple[Date, Time]:
 
 
 def _pair_or_none(result: _Result) -> Optional[Tuple[Date, Time]]:
-    return None if result.status == _PAST_RANGE else _pair(result)
+    return None if result.status == _RESULT_OUT_OF_RANGE else _pair(result)
 
 
 def _text_or_none(result: _Result) -> Optional[str]:
-    return None if result.status == _PAST_RANGE else _text(result)
+    return None if result.status == _RESULT_OUT_OF_RANGE else _text(result)
 
 
 class SignedDuration(_Value):
@@ -1982,10 +2008,9 @@ class RuleReason(enum.Enum):
     Missing = "missing FREQ"
 
 
-# The reason of each status, the text of each reason, and the name of each part.
-_REASONS = dict(zip(range(32, 37), RuleReason))
+# The reason of each status, and the text of each reason.
+_REASONS = dict(zip((_UNKNOWN_PART, _DUPLICATE_PART, _TOO_MANY_VALUES, _INVALID_VALUE, _MISSING_FREQUENCY), RuleReason))
 _REASON_TEXTS = dict(zip(RuleReason, ("unknown part", "duplicate {}", "too many values in {}", "invalid value of {}", "missing FREQ")))
-_PARTS = (None, "FREQ", "INTERVAL", "WKST", "BYMONTH", "BYMONTHDAY", "BYDAY", "UNTIL", "COUNT")
 
 
 class RuleFault(ValueError):
@@ -2189,7 +2214,7 @@ def _made(kind: Type[_D], result: _Result) -> _D:
 
 
 def _made_or_none(kind: Type[_D], result: _Result) -> Optional[_D]:
-    return None if result.status == _PAST_RANGE else _made(kind, result)
+    return None if result.status == _RESULT_OUT_OF_RANGE else _made(kind, result)
 
 
 class _DateTime(_Value):
@@ -2670,19 +2695,19 @@ def _column(values: Any, kind: Any, of_dates: bool) -> Any:
 
 def _over_columns(name: str, *columns: object, workdays: Optional[Workdays] = None) -> Tuple[Any, ...]:
     """The columns of the answer, the statuses, and how many rows have none."""
-    kinds, kinds_given = _COLUMNS[name]
+    kinds, _, written = _COLUMNS[name]
     of_dates = 2 if name == "dates_workdays_between" else int(name.startswith("dates_") and not name.startswith("dates_from_"))
     found = [_column(values, kind, index < of_dates) for index, (values, kind) in enumerate(zip(columns, kinds))]
     length = len(found[0])
     if any(len(column) != length for column in found):
         raise ValueError("expected columns of the same length")
     between = () if workdays is None else (workdays._week, workdays._holidays, len(workdays._holidays))
-    return _answers(name, columns, found, [length] * (len(kinds_given) + 1), between)
+    return _answers(name, columns, found, [length] * len(written), between)
 
 
 def _answers(name: str, columns: Tuple[object, ...], found: List[Any], lengths: List[int], between: Tuple[Any, ...] = ()) -> Tuple[Any, ...]:
     """What a call gives for columns as C has them: the columns of these lengths, the statuses last, and how many rows have no answer."""
-    kinds = (*_COLUMNS[name][1], _U8)
+    kinds = _COLUMNS[name][2]
     made = [array.array(_CODES[kind], [0]) * length for kind, length in zip(kinds, lengths)]
     written = [_column(column, kind, False) for column, kind in zip(made, kinds)]
     taken, given = ([part for column in parts for part in (column, len(column))] for parts in (found, written))
@@ -2856,7 +2881,7 @@ def _over_texts(name: str, texts: object, bounds: object) -> Tuple[Any, ...]:
     rows = len(found[1]) - 1
     if rows < 0:
         raise ValueError("no bounds; expected one more than there are texts")
-    return _answers(name, (texts, bounds), found, [rows] * (len(_COLUMNS[name][1]) + 1))
+    return _answers(name, (texts, bounds), found, [rows] * len(_COLUMNS[name][2]))
 
 
 def dates_read(texts: object, bounds: object) -> DateColumns:

@@ -2,14 +2,11 @@
 library of Python and from whole numbers of any size."""
 
 import copy
-import ctypes
 import datetime
 import itertools
 import operator
-import pathlib
 import pickle
 import random
-import re
 import unittest
 
 import fotsevindre
@@ -351,18 +348,6 @@ class Documentation(Cases):
         for name, member in vars(fotsevindre._DateTime).items():
             if not name.startswith("_"):
                 self.assertTrue(member.__doc__, name)
-
-
-class Header(Cases):
-    """The struct of a moment against that of the header."""
-
-    def test_fields(self):
-        text = (pathlib.Path(__file__).resolve().parents[2] / "include" / "fotsevindre.h").read_text(encoding="utf-8")
-        fields = re.search(r"typedef struct fots_moment \{([^}]*)\}", text)[1].split(";")
-        numbers = {"fots_date": ctypes.c_int32, "fots_offset": ctypes.c_int32, "fots_time": ctypes.c_uint64}
-        wanted = [(name, numbers[kind]) for kind, name in (field.split() for field in fields if field.strip())]
-        self.assertEqual(fotsevindre._CMoment._fields_, wanted)
-        self.assertEqual(ctypes.sizeof(fotsevindre._CMoment), 16)
 
 
 if __name__ == "__main__":

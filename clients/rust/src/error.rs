@@ -1,6 +1,6 @@
 //! Errors of calls.
 
-use crate::ffi::unexpected;
+use crate::ffi::{component, unexpected, Status, DAY_OUT_OF_RANGE};
 use core::fmt;
 
 /// A component, such as a month or an hour, is out of range.
@@ -21,36 +21,12 @@ pub struct ComponentRange {
     is_conditional: bool,
 }
 
-/// The minimum status of a component with a range that depends on others.
-const FIRST_CONDITIONAL: i32 = 64;
-
 impl ComponentRange {
     /// Returns the error of a status.
     #[cold]
-    pub(crate) fn from_status(status: i32) -> Self {
-        let name = match status {
-            16 => "year",
-            17 => "month",
-            18 => "julian_day",
-            19 => "hour",
-            20 => "minute",
-            21 => "second",
-            22 => "millisecond",
-            23 => "microsecond",
-            24 => "nanosecond",
-            25 => "offset hour",
-            26 => "offset minute",
-            27 => "offset second",
-            28 => "seconds",
-            29 => "timestamp",
-            64 => "day",
-            65 => "ordinal",
-            66 => "week",
-            67 => "weekday",
-            _ => unexpected(status),
-        };
-        let is_conditional = status >= FIRST_CONDITIONAL;
-        Self { name, is_conditional }
+    pub(crate) fn from_status(status: Status) -> Self {
+        let name = component(status).unwrap_or_else(|| unexpected(status));
+        Self { name, is_conditional: status >= DAY_OUT_OF_RANGE }
     }
 
     /// An invalid month number.

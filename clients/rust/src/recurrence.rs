@@ -52,7 +52,7 @@ impl RulePart {
 
     /// Returns the name, such as `BYDAY`.
     fn name(self) -> &'static str {
-        ["FREQ", "INTERVAL", "WKST", "BYMONTH", "BYMONTHDAY", "BYDAY", "UNTIL", "COUNT"][self as usize - 1]
+        ffi::PARTS[self as usize - 1]
     }
 }
 
@@ -82,14 +82,14 @@ pub struct ParseRuleError {
 
 impl ParseRuleError {
     /// Converts from a status and the number of a part.
-    pub(crate) fn from_status(status: i32, part: u32, position: usize) -> Self {
+    pub(crate) fn from_status(status: ffi::Status, part: u32, position: usize) -> Self {
         let part = || RulePart::ALL[part as usize - 1];
         let reason = match status {
-            32 => ParseRuleErrorKind::Unknown,
-            33 => ParseRuleErrorKind::Twice(part()),
-            34 => ParseRuleErrorKind::TooMany(part()),
-            35 => ParseRuleErrorKind::Value(part()),
-            36 => ParseRuleErrorKind::Missing,
+            ffi::UNKNOWN_PART => ParseRuleErrorKind::Unknown,
+            ffi::DUPLICATE_PART => ParseRuleErrorKind::Twice(part()),
+            ffi::TOO_MANY_VALUES => ParseRuleErrorKind::TooMany(part()),
+            ffi::INVALID_VALUE => ParseRuleErrorKind::Value(part()),
+            ffi::MISSING_FREQUENCY => ParseRuleErrorKind::Missing,
             status => unexpected(status),
         };
         Self { position, reason }
@@ -234,7 +234,7 @@ impl<'a> Recurrence<'a> {
 
     /// Returns an iterator over the days from a start that are not before `from`.
     pub fn days_from(self, start: Date, from: Date) -> RecurrenceDays<'a> {
-        RecurrenceDays { text: self.text, start, from: Some(from), days: [0; AT_ONCE], next: 0, length: 0 }
+        RecurrenceDays { text: self.text, start, from: Some(from), days: [Date::MIN; AT_ONCE], next: 0, length: 0 }
     }
 }
 
@@ -245,7 +245,7 @@ pub struct RecurrenceDays<'a> {
     start: Date,
     /// The start of the next call, if there may be more days.
     from: Option<Date>,
-    days: [i32; AT_ONCE],
+    days: [Date; AT_ONCE],
     next: usize,
     length: usize,
 }
@@ -257,15 +257,15 @@ impl Iterator for RecurrenceDays<'_> {
         if self.next == self.length {
             let from = self.from.take()?;
             let written = ffi::fots_recurrence_days(self.text, self.start.to_c(), from.to_c(), &mut self.days);
-            self.length = written.expect("the text was parsed");
+            (_, self.length, _) = written.expect("the text was parsed");
             self.next = 0;
             if self.length == AT_ONCE {
-                self.from = Date::from_c(self.days[AT_ONCE - 1]).next_day();
+                self.from = self.days[AT_ONCE - 1].next_day();
             }
         }
         let day = *self.days[..self.length].get(self.next)?;
         self.next += 1;
-        Some(Date::from_c(day))
+        Some(day)
     }
 }
 

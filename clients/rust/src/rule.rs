@@ -1,6 +1,6 @@
 //! Recurrence rules of RFC 5545.
 
-use crate::ffi::{self, expect_answer, or_none};
+use crate::ffi::{self, expect_answer, or_none, with_parts};
 use crate::{Date, Month, Weekday};
 use core::iter::{FusedIterator, Take};
 
@@ -91,17 +91,17 @@ impl<'a> Rule<'a> {
 
     /// Returns whether a date is a day of the rule.
     pub fn contains(&self, date: Date) -> bool {
-        expect_answer(ffi::fots_rule_contains(self, date.to_c())) == 1
+        expect_answer(with_parts(self, |rule| ffi::fots_rule_contains(rule, date.to_c()))) == 1
     }
 
     /// Returns the first day of the rule after a date, or `None` if none follows.
     pub fn next_after(&self, date: Date) -> Option<Date> {
-        or_none(ffi::fots_rule_next_after(self, date.to_c())).map(Date::from_c)
+        or_none(with_parts(self, |rule| ffi::fots_rule_next_after(rule, date.to_c()))).map(Date::from_c)
     }
 
     /// Returns an iterator over the days of the rule.
     pub fn days<'r>(&'r self) -> RuleDays<'r, 'a> {
-        RuleDays { rule: self, front: or_none(ffi::fots_rule_first(self)).map(Date::from_c) }
+        RuleDays { rule: self, front: or_none(with_parts(self, ffi::fots_rule_first)).map(Date::from_c) }
     }
 
     /// Returns an iterator over the first `count` days of the rule.

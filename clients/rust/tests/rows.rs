@@ -469,3 +469,9 @@ fn lengths() {
         assert_eq!(weeks_in_year(year), if thursdays { 53 } else { 52 }, "{year}");
     }
 }
+
+#[test]
+fn version_is_that_of_the_library() {
+    let (major, minor, patch) = fotsevindre::version();
+    assert_eq!(format!("{major}.{minor}.{patch}"), env!("CARGO_PKG_VERSION"));
+}
