@@ -1,4 +1,5 @@
 pub mod Counts
+pub mod Needs
 pub mod Days
 pub mod Durations
 pub mod Rows

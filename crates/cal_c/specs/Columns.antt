@@ -1,5 +1,5 @@
 -- The results of calls, and of calls for columns, row by row.
-use Rattle.std.specs.Prelude.{◌≡◌, ℕ, ℤ, pos, ◌+◌, ◌-◌, ◌<◌, ◌≤◌, ◌+ℤ◌, ◌≤ℤ◌, Bool, not, ◌==◌, List, length, get_or, count_by}
+use Rattle.std.specs.Prelude.{⊤, ◌≡◌, ℕ, ℤ, pos, ◌+◌, ◌-◌, ◌<◌, ◌≤◌, ◌+ℤ◌, ◌≤ℤ◌, Bool, not, ◌==◌, List, [], ◌∷◌, length, get_or, count_by}
 use Rattle.cal_time.specs.Date.{julian_day_at, weekday_at, IsDate, IsYear, IsDayOfMonth, IsOrdinal, HasCalendarDate, HasOrdinalDate, NoDate}
 use Rattle.cal_time.specs.IsoWeekDate.{IsWeek, HasIsoWeekDate}
 use Rattle.cal_schedule.specs.Months.{month_number_at, IsMonthNumber, IsMonthsLater}
@@ -22,20 +22,10 @@ is_error status = not (status == 0)
 abbrev pub IsByte : ℤ → Type 0
 IsByte status = (pos 0 ≤ℤ status) × (status ≤ℤ pos 255)
 
--- The arrays have the same length.
-abbrev pub SameLength3 : {A B C : Type 0} → List A → List B → List C → Type 0
-SameLength3 a b c = (length b ≡ length a) × (length c ≡ length a)
-
-abbrev pub SameLength4 : {A B C D : Type 0} → List A → List B → List C → List D → Type 0
-SameLength4 a b c d = (length b ≡ length a) × (length c ≡ length a) × (length d ≡ length a)
-
-abbrev pub SameLength5 : {A B C D E : Type 0} → List A → List B → List C → List D → List E → Type 0
-SameLength5 a b c d e = (length b ≡ length a) × (length c ≡ length a) × (length d ≡ length a) × (length e ≡ length a)
-
-abbrev pub SameLength7 : {A B C D E F G : Type 0} → List A → List B → List C → List D → List E → List F → List G → Type 0
-SameLength7 a b c d e f g =
-    (length b ≡ length a) × (length c ≡ length a) × (length d ≡ length a) × (length e ≡ length a) × (length f ≡ length a)
-    × (length g ≡ length a)
+-- Each of the lengths is n.
+abbrev pub SameLength : ℕ → List ℕ → Type 0
+SameLength n [] = ⊤
+SameLength n (m ∷ ms) = (m ≡ n) × SameLength n ms
 
 -- The value of row k in an array, or 0 after its end.
 abbrev pub int_at : List ℤ → ℕ → ℤ

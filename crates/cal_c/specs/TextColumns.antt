@@ -34,13 +34,6 @@ bytes_between bytes from to = between (unsigned_abs from) (unsigned_abs to) byte
 abbrev pub text_at : List ℕ → List ℤ → ℕ → List ℕ
 text_at bytes bounds k = bytes_between bytes (int_at bounds k) (int_at bounds (k + 1))
 
--- The arrays have the same length, except that there is one bound more than rows.
-abbrev pub Bounded2 : {A B C : Type 0} → List A → List B → List C → Type 0
-Bounded2 rows bounds a = (length bounds ≡ length rows + 1) × (length a ≡ length rows)
-
-abbrev pub Bounded4 : {A B C D E : Type 0} → List A → List B → List C → List D → List E → Type 0
-Bounded4 rows bounds a b c = (length bounds ≡ length rows + 1) × (length a ≡ length rows) × (length b ≡ length rows) × (length c ≡ length rows)
-
 -- The bytes have room for rows of this length, and the last bound fits in 32 bits.
 pub record HasRoomFor (longest rows bytes : ℕ) : Type 0 where
   pub room : rows * longest ≤ bytes

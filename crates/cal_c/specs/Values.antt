@@ -43,3 +43,9 @@ nanoseconds_in d = d.seconds *ℤ pos second +ℤ d.nanoseconds
 -- A moment is a date and a time of day at an offset.
 abbrev pub moment_of : ℤ → ℕ → ℤ → LocalAndOffset
 moment_of date time offset = record { local = date_time (day_of date) time; offset = offset }
+
+-- A call that needs a condition: one result if it doesn't hold, and another if it does.
+infix 1 need◌else◌then◌
+pub record need◌else◌then◌ (Is Else Then : Type 0) : Type 0 where
+  pub error : (Is → ⊥) → Else
+  pub value : Is → Then

@@ -4,7 +4,7 @@ ghost use Rattle.cal_time.specs.Pair.{pair_number};
 ghost use Rattle.cal_time.specs.Time.{IsTime};
 ghost use Rattle.cal_c.specs.Results.{pair_error, IsPairOrOutOfRange};
 ghost use Rattle.cal_c.specs.Statuses.{invalid_date, invalid_time, invalid_duration};
-ghost use Rattle.cal_c.specs.Values.{IsJulianDay, IsDurationPair, day_of, nanoseconds_in};
+ghost use Rattle.cal_c.specs.Values.{need◌else◌then◌, IsJulianDay, IsDurationPair, day_of, nanoseconds_in};
 
 use crate::results::{Duration, PairResult};
 use crate::status::{INVALID_DATE, INVALID_DURATION, INVALID_TIME};
@@ -12,14 +12,13 @@ use crate::values::{valid_date, valid_duration, valid_time};
 use cal_time::{add_to_pair, sub_from_pair};
 
 /// Adds a duration to a date and a time. Fails if the resulting date is out of range.
+#[tactic(auto, using(crate::proofs::Needs::met))]
 #[unsafe(no_mangle)]
 pub extern "C" fn fots_add_to_pair(date: i32, time: u64, duration: Duration) -> PairResult
-    ensures invalid_date { ¬ IsJulianDay date → result ≡ pair_error invalid_date }
-    ensures invalid_time { IsJulianDay date → ¬ IsTime time → result ≡ pair_error invalid_time }
-    ensures invalid_duration { IsJulianDay date → IsTime time → ¬ IsDurationPair duration
-        → result ≡ pair_error invalid_duration }
-    ensures value { IsJulianDay date → IsTime time → IsDurationPair duration
-        → IsPairOrOutOfRange (pair_number (day_of date) time +ℤ nanoseconds_in duration) result }
+    ensures { need IsJulianDay date else result ≡ pair_error invalid_date then
+        need IsTime time else result ≡ pair_error invalid_time then
+        need IsDurationPair duration else result ≡ pair_error invalid_duration then
+        IsPairOrOutOfRange (pair_number (day_of date) time +ℤ nanoseconds_in duration) result }
 {
     let date = or_return!(valid_date(date), PairResult::error(INVALID_DATE));
     let time = or_return!(valid_time(time), PairResult::error(INVALID_TIME));
@@ -31,14 +30,13 @@ pub extern "C" fn fots_add_to_pair(date: i32, time: u64, duration: Duration) -> 
 }
 
 /// Subtracts a duration from a date and a time. Fails if the resulting date is out of range.
+#[tactic(auto, using(crate::proofs::Needs::met))]
 #[unsafe(no_mangle)]
 pub extern "C" fn fots_sub_from_pair(date: i32, time: u64, duration: Duration) -> PairResult
-    ensures invalid_date { ¬ IsJulianDay date → result ≡ pair_error invalid_date }
-    ensures invalid_time { IsJulianDay date → ¬ IsTime time → result ≡ pair_error invalid_time }
-    ensures invalid_duration { IsJulianDay date → IsTime time → ¬ IsDurationPair duration
-        → result ≡ pair_error invalid_duration }
-    ensures value { IsJulianDay date → IsTime time → IsDurationPair duration
-        → IsPairOrOutOfRange (pair_number (day_of date) time -ℤ nanoseconds_in duration) result }
+    ensures { need IsJulianDay date else result ≡ pair_error invalid_date then
+        need IsTime time else result ≡ pair_error invalid_time then
+        need IsDurationPair duration else result ≡ pair_error invalid_duration then
+        IsPairOrOutOfRange (pair_number (day_of date) time -ℤ nanoseconds_in duration) result }
 {
     let date = or_return!(valid_date(date), PairResult::error(INVALID_DATE));
     let time = or_return!(valid_time(time), PairResult::error(INVALID_TIME));

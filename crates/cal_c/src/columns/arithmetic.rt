@@ -1,9 +1,10 @@
 //! Columns of dates plus days.
-ghost use Rattle.std.specs.Prelude.{◌≡◌, ℕ, ◌<◌, ◌≤◌, ◌+ℤ◌, length, get_or, pos};
+ghost use Rattle.std.specs.Prelude.{◌≡◌, ℕ, ◌<◌, ◌≤◌, ◌+ℤ◌, length, get_or, pos, ◌∷◌, []};
 ghost use Rattle.std.specs.Int.{int_min, int_max};
 ghost use Rattle.cal_time.specs.Date.{last_day};
 ghost use Rattle.cal_time.specs.Arithmetic.{IsDateNumber};
-ghost use Rattle.cal_c.specs.Columns.{int_at, nat_at, SameLength4, AreRows, date_row, IsDateDaysLater};
+ghost use Rattle.cal_c.specs.Columns.{int_at, nat_at, SameLength, AreRows, date_row, IsDateDaysLater};
+ghost use Rattle.cal_c.specs.Values.{need◌else◌then◌};
 
 use super::statuses::{INVALID_DATE, OK, RESULT_OUT_OF_RANGE};
 use super::{LENGTH_MISMATCH, NO_VALUE, count_errors};
@@ -17,10 +18,9 @@ pub extern "C" fn fots_dates_add_days(
     moved: &mut [i32],
     statuses: &mut [u8],
 ) -> usize
-    ensures length_mismatch { ¬ SameLength4 dates.now days.now moved.old statuses.old
-        → (result ≡ usize.MAX) × (moved.new ≡ moved.old) × (statuses.new ≡ statuses.old) }
-    ensures rows { SameLength4 dates.now days.now moved.old statuses.old
-        → AreRows statuses.new result (λ k. IsDateDaysLater (int_at dates.now k) (int_at days.now k)
+    ensures { need SameLength (length dates.now) (length days.now ∷ length moved.old ∷ length statuses.old ∷ [])
+        else (result ≡ usize.MAX) × (moved.new ≡ moved.old) × (statuses.new ≡ statuses.old) then
+        AreRows statuses.new result (λ k. IsDateDaysLater (int_at dates.now k) (int_at days.now k)
         (date_row (int_at moved.new k) (nat_at statuses.new k))) }
 {
     let rows = dates.len();
@@ -29,9 +29,7 @@ pub extern "C" fn fots_dates_add_days(
     }
     clamp_days(days, moved);
     for row in 0..rows {
-        let (date, status) = date_days_later(dates[row], moved[row]);
-        moved[row] = date;
-        statuses[row] = status;
+        (moved[row], statuses[row]) = date_days_later(dates[row], moved[row]);
     }
     count_errors(statuses)
 }

@@ -1,6 +1,7 @@
 //! Columns of the components of dates.
-ghost use Rattle.std.specs.Prelude.{◌≡◌};
-ghost use Rattle.cal_c.specs.Columns.{int_at, nat_at, SameLength3, SameLength4, SameLength5, SameLength7, AreRows, calendar_date_row, ordinal_date_row, iso_week_date_row, IsCalendarDateOf, IsOrdinalDateOf, IsIsoWeekDateOf, IsWeekdayNumberOf, IsIsoWeekDateOfCalendarDate};
+ghost use Rattle.std.specs.Prelude.{◌≡◌, length, ◌∷◌, []};
+ghost use Rattle.cal_c.specs.Columns.{int_at, nat_at, SameLength, AreRows, calendar_date_row, ordinal_date_row, iso_week_date_row, IsCalendarDateOf, IsOrdinalDateOf, IsIsoWeekDateOf, IsWeekdayNumberOf, IsIsoWeekDateOfCalendarDate};
+ghost use Rattle.cal_c.specs.Values.{need◌else◌then◌};
 
 use super::constructors::status_of_calendar_date;
 use super::statuses::{INVALID_DATE, OK};
@@ -20,26 +21,15 @@ pub extern "C" fn fots_dates_to_calendar_dates(
     days: &mut [u8],
     statuses: &mut [u8],
 ) -> usize
-    ensures length_mismatch { ¬ SameLength5 dates.now years.old months.old days.old statuses.old
-        → (result ≡ usize.MAX) × (years.new ≡ years.old) × (months.new ≡ months.old)
-        × (days.new ≡ days.old) × (statuses.new ≡ statuses.old) }
-    ensures rows { SameLength5 dates.now years.old months.old days.old statuses.old
-        → AreRows statuses.new result (λ k. IsCalendarDateOf (int_at dates.now k)
+    ensures { need SameLength (length dates.now)
+        (length years.old ∷ length months.old ∷ length days.old ∷ length statuses.old ∷ [])
+        else (result ≡ usize.MAX) × (years.new ≡ years.old) × (months.new ≡ months.old)
+        × (days.new ≡ days.old) × (statuses.new ≡ statuses.old) then
+        AreRows statuses.new result (λ k. IsCalendarDateOf (int_at dates.now k)
         (calendar_date_row (int_at years.new k) (nat_at months.new k) (nat_at days.new k)
         (nat_at statuses.new k))) }
 {
-    let rows = dates.len();
-    if years.len() != rows || months.len() != rows || days.len() != rows || statuses.len() != rows {
-        return LENGTH_MISMATCH;
-    }
-    for row in 0..rows {
-        let (year, month, day, status) = calendar_date_row_of(dates[row]);
-        years[row] = year;
-        months[row] = month;
-        days[row] = day;
-        statuses[row] = status;
-    }
-    count_errors(statuses)
+    write_rows!(calendar_date_row_of(dates) => years, months, days; statuses)
 }
 
 /// Converts dates to ordinal dates, like `fots_date_to_ordinal_date`.
@@ -50,24 +40,13 @@ pub extern "C" fn fots_dates_to_ordinal_dates(
     ordinals: &mut [u16],
     statuses: &mut [u8],
 ) -> usize
-    ensures length_mismatch { ¬ SameLength4 dates.now years.old ordinals.old statuses.old
-        → (result ≡ usize.MAX) × (years.new ≡ years.old) × (ordinals.new ≡ ordinals.old)
-        × (statuses.new ≡ statuses.old) }
-    ensures rows { SameLength4 dates.now years.old ordinals.old statuses.old
-        → AreRows statuses.new result (λ k. IsOrdinalDateOf (int_at dates.now k)
+    ensures { need SameLength (length dates.now) (length years.old ∷ length ordinals.old ∷ length statuses.old ∷ [])
+        else (result ≡ usize.MAX) × (years.new ≡ years.old) × (ordinals.new ≡ ordinals.old)
+        × (statuses.new ≡ statuses.old) then
+        AreRows statuses.new result (λ k. IsOrdinalDateOf (int_at dates.now k)
         (ordinal_date_row (int_at years.new k) (nat_at ordinals.new k) (nat_at statuses.new k))) }
 {
-    let rows = dates.len();
-    if years.len() != rows || ordinals.len() != rows || statuses.len() != rows {
-        return LENGTH_MISMATCH;
-    }
-    for row in 0..rows {
-        let (year, ordinal, status) = ordinal_date_row_of(dates[row]);
-        years[row] = year;
-        ordinals[row] = ordinal;
-        statuses[row] = status;
-    }
-    count_errors(statuses)
+    write_rows!(ordinal_date_row_of(dates) => years, ordinals; statuses)
 }
 
 /// Converts dates to ISO week dates, like `fots_date_to_iso_week_date`.
@@ -79,30 +58,15 @@ pub extern "C" fn fots_dates_to_iso_week_dates(
     weekdays: &mut [u8],
     statuses: &mut [u8],
 ) -> usize
-    ensures length_mismatch { ¬ SameLength5 dates.now years.old weeks.old weekdays.old statuses.old
-        → (result ≡ usize.MAX) × (years.new ≡ years.old) × (weeks.new ≡ weeks.old)
-        × (weekdays.new ≡ weekdays.old) × (statuses.new ≡ statuses.old) }
-    ensures rows { SameLength5 dates.now years.old weeks.old weekdays.old statuses.old
-        → AreRows statuses.new result (λ k. IsIsoWeekDateOf (int_at dates.now k)
+    ensures { need SameLength (length dates.now)
+        (length years.old ∷ length weeks.old ∷ length weekdays.old ∷ length statuses.old ∷ [])
+        else (result ≡ usize.MAX) × (years.new ≡ years.old) × (weeks.new ≡ weeks.old)
+        × (weekdays.new ≡ weekdays.old) × (statuses.new ≡ statuses.old) then
+        AreRows statuses.new result (λ k. IsIsoWeekDateOf (int_at dates.now k)
         (iso_week_date_row (int_at years.new k) (nat_at weeks.new k) (nat_at weekdays.new k)
         (nat_at statuses.new k))) }
 {
-    let rows = dates.len();
-    if years.len() != rows
-        || weeks.len() != rows
-        || weekdays.len() != rows
-        || statuses.len() != rows
-    {
-        return LENGTH_MISMATCH;
-    }
-    for row in 0..rows {
-        let (year, week, weekday, status) = iso_week_date_row_of(dates[row]);
-        years[row] = year;
-        weeks[row] = week;
-        weekdays[row] = weekday;
-        statuses[row] = status;
-    }
-    count_errors(statuses)
+    write_rows!(iso_week_date_row_of(dates) => years, weeks, weekdays; statuses)
 }
 
 /// Writes the weekdays of dates, like `fots_date_weekday`.
@@ -112,22 +76,12 @@ pub extern "C" fn fots_dates_weekdays(
     weekdays: &mut [u8],
     statuses: &mut [u8],
 ) -> usize
-    ensures length_mismatch { ¬ SameLength3 dates.now weekdays.old statuses.old
-        → (result ≡ usize.MAX) × (weekdays.new ≡ weekdays.old) × (statuses.new ≡ statuses.old) }
-    ensures rows { SameLength3 dates.now weekdays.old statuses.old
-        → AreRows statuses.new result (λ k. IsWeekdayNumberOf (int_at dates.now k)
+    ensures { need SameLength (length dates.now) (length weekdays.old ∷ length statuses.old ∷ [])
+        else (result ≡ usize.MAX) × (weekdays.new ≡ weekdays.old) × (statuses.new ≡ statuses.old) then
+        AreRows statuses.new result (λ k. IsWeekdayNumberOf (int_at dates.now k)
         (nat_at weekdays.new k) (nat_at statuses.new k)) }
 {
-    let rows = dates.len();
-    if weekdays.len() != rows || statuses.len() != rows {
-        return LENGTH_MISMATCH;
-    }
-    for row in 0..rows {
-        let (weekday, status) = weekday_row(dates[row]);
-        weekdays[row] = weekday;
-        statuses[row] = status;
-    }
-    count_errors(statuses)
+    write_rows!(weekday_row(dates) => weekdays; statuses)
 }
 
 /// Converts calendar dates to ISO week dates, like the single calls for both.
@@ -141,38 +95,16 @@ pub extern "C" fn fots_calendar_dates_to_iso_week_dates(
     weekdays: &mut [u8],
     statuses: &mut [u8],
 ) -> usize
-    ensures length_mismatch { ¬ SameLength7 years.now months.now days.now iso_years.old weeks.old weekdays.old
-        statuses.old
-        → (result ≡ usize.MAX) × (iso_years.new ≡ iso_years.old) × (weeks.new ≡ weeks.old)
-        × (weekdays.new ≡ weekdays.old) × (statuses.new ≡ statuses.old) }
-    ensures rows { SameLength7 years.now months.now days.now iso_years.old weeks.old weekdays.old
-        statuses.old
-        → AreRows statuses.new result (λ k. IsIsoWeekDateOfCalendarDate (int_at years.now k)
+    ensures { need SameLength (length years.now)
+        (length months.now ∷ length days.now ∷ length iso_years.old ∷ length weeks.old
+        ∷ length weekdays.old ∷ length statuses.old ∷ [])
+        else (result ≡ usize.MAX) × (iso_years.new ≡ iso_years.old) × (weeks.new ≡ weeks.old)
+        × (weekdays.new ≡ weekdays.old) × (statuses.new ≡ statuses.old) then
+        AreRows statuses.new result (λ k. IsIsoWeekDateOfCalendarDate (int_at years.now k)
         (nat_at months.now k) (nat_at days.now k) (iso_week_date_row (int_at iso_years.new k)
         (nat_at weeks.new k) (nat_at weekdays.new k) (nat_at statuses.new k))) }
 {
-    let rows = years.len();
-    if months.len() != rows
-        || days.len() != rows
-        || iso_years.len() != rows
-        || weeks.len() != rows
-        || weekdays.len() != rows
-        || statuses.len() != rows
-    {
-        return LENGTH_MISMATCH;
-    }
-    for row in 0..rows {
-        let (iso_year, week, weekday, status) = iso_week_date_of_calendar_date(
-            years[row],
-            months[row],
-            days[row],
-        );
-        iso_years[row] = iso_year;
-        weeks[row] = week;
-        weekdays[row] = weekday;
-        statuses[row] = status;
-    }
-    count_errors(statuses)
+    write_rows!(iso_week_date_of_calendar_date(years, months, days) => iso_years, weeks, weekdays; statuses)
 }
 
 /// Returns the calendar date of a date, and the status.

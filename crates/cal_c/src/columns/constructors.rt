@@ -1,10 +1,10 @@
 //! Columns of dates from their parts.
-ghost use Rattle.std.specs.Prelude.{◌≡◌, pos};
+ghost use Rattle.std.specs.Prelude.{◌≡◌, pos, length, ◌∷◌, []};
 ghost use Rattle.cal_time.specs.Date.{julian_day_at, IsYear, IsDayOfMonth};
-ghost use Rattle.cal_c.specs.Columns.{int_at, nat_at, SameLength3, SameLength4, SameLength5, AreRows, date_row, IsDateOfJulianDay, IsDateOfCalendarDate, IsDateOfOrdinalDate, IsDateOfIsoWeekDate};
+ghost use Rattle.cal_c.specs.Columns.{int_at, nat_at, SameLength, AreRows, date_row, IsDateOfJulianDay, IsDateOfCalendarDate, IsDateOfOrdinalDate, IsDateOfIsoWeekDate};
 ghost use Rattle.cal_c.specs.Results.{date_ok, date_or_out_of_range, date_error};
 ghost use Rattle.cal_c.specs.Statuses.{year_status, month_status, day_status};
-ghost use Rattle.cal_c.specs.Values.{IsMonth};
+ghost use Rattle.cal_c.specs.Values.{need◌else◌then◌, IsMonth};
 
 use super::statuses::{
     DAY_OUT_OF_RANGE, INVALID_WEEKDAY, JULIAN_DAY_OUT_OF_RANGE, MONTH_OUT_OF_RANGE, OK,
@@ -24,22 +24,12 @@ pub extern "C" fn fots_dates_from_julian_days(
     dates: &mut [i32],
     statuses: &mut [u8],
 ) -> usize
-    ensures length_mismatch { ¬ SameLength3 julian_days.now dates.old statuses.old
-        → (result ≡ usize.MAX) × (dates.new ≡ dates.old) × (statuses.new ≡ statuses.old) }
-    ensures rows { SameLength3 julian_days.now dates.old statuses.old
-        → AreRows statuses.new result (λ k. IsDateOfJulianDay (int_at julian_days.now k)
+    ensures { need SameLength (length julian_days.now) (length dates.old ∷ length statuses.old ∷ [])
+        else (result ≡ usize.MAX) × (dates.new ≡ dates.old) × (statuses.new ≡ statuses.old) then
+        AreRows statuses.new result (λ k. IsDateOfJulianDay (int_at julian_days.now k)
         (date_row (int_at dates.new k) (nat_at statuses.new k))) }
 {
-    let rows = julian_days.len();
-    if dates.len() != rows || statuses.len() != rows {
-        return LENGTH_MISMATCH;
-    }
-    for row in 0..rows {
-        let (date, status) = row_from_julian_day(julian_days[row]);
-        dates[row] = date;
-        statuses[row] = status;
-    }
-    count_errors(statuses)
+    write_rows!(row_from_julian_day(julian_days) => dates; statuses)
 }
 
 /// Creates dates from years, months and days, like `fots_date_from_calendar_date`.
@@ -51,23 +41,14 @@ pub extern "C" fn fots_dates_from_calendar_dates(
     dates: &mut [i32],
     statuses: &mut [u8],
 ) -> usize
-    ensures length_mismatch { ¬ SameLength5 years.now months.now days.now dates.old statuses.old
-        → (result ≡ usize.MAX) × (dates.new ≡ dates.old) × (statuses.new ≡ statuses.old) }
-    ensures rows { SameLength5 years.now months.now days.now dates.old statuses.old
-        → AreRows statuses.new result (λ k. IsDateOfCalendarDate (int_at years.now k)
+    ensures { need SameLength (length years.now)
+        (length months.now ∷ length days.now ∷ length dates.old ∷ length statuses.old ∷ [])
+        else (result ≡ usize.MAX) × (dates.new ≡ dates.old) × (statuses.new ≡ statuses.old) then
+        AreRows statuses.new result (λ k. IsDateOfCalendarDate (int_at years.now k)
         (nat_at months.now k) (nat_at days.now k) (date_row (int_at dates.new k)
         (nat_at statuses.new k))) }
 {
-    let rows = years.len();
-    if months.len() != rows || days.len() != rows || dates.len() != rows || statuses.len() != rows {
-        return LENGTH_MISMATCH;
-    }
-    for row in 0..rows {
-        let (date, status) = row_from_calendar_date(years[row], months[row], days[row]);
-        dates[row] = date;
-        statuses[row] = status;
-    }
-    count_errors(statuses)
+    write_rows!(row_from_calendar_date(years, months, days) => dates; statuses)
 }
 
 /// Creates dates from years and ordinals, like `fots_date_from_ordinal_date`.
@@ -78,22 +59,12 @@ pub extern "C" fn fots_dates_from_ordinal_dates(
     dates: &mut [i32],
     statuses: &mut [u8],
 ) -> usize
-    ensures length_mismatch { ¬ SameLength4 years.now ordinals.now dates.old statuses.old
-        → (result ≡ usize.MAX) × (dates.new ≡ dates.old) × (statuses.new ≡ statuses.old) }
-    ensures rows { SameLength4 years.now ordinals.now dates.old statuses.old
-        → AreRows statuses.new result (λ k. IsDateOfOrdinalDate (int_at years.now k)
+    ensures { need SameLength (length years.now) (length ordinals.now ∷ length dates.old ∷ length statuses.old ∷ [])
+        else (result ≡ usize.MAX) × (dates.new ≡ dates.old) × (statuses.new ≡ statuses.old) then
+        AreRows statuses.new result (λ k. IsDateOfOrdinalDate (int_at years.now k)
         (nat_at ordinals.now k) (date_row (int_at dates.new k) (nat_at statuses.new k))) }
 {
-    let rows = years.len();
-    if ordinals.len() != rows || dates.len() != rows || statuses.len() != rows {
-        return LENGTH_MISMATCH;
-    }
-    for row in 0..rows {
-        let (date, status) = row_from_ordinal_date(years[row], ordinals[row]);
-        dates[row] = date;
-        statuses[row] = status;
-    }
-    count_errors(statuses)
+    write_rows!(row_from_ordinal_date(years, ordinals) => dates; statuses)
 }
 
 /// Creates dates from ISO years, weeks and weekdays, like `fots_date_from_iso_week_date`.
@@ -105,27 +76,14 @@ pub extern "C" fn fots_dates_from_iso_week_dates(
     dates: &mut [i32],
     statuses: &mut [u8],
 ) -> usize
-    ensures length_mismatch { ¬ SameLength5 years.now weeks.now weekdays.now dates.old statuses.old
-        → (result ≡ usize.MAX) × (dates.new ≡ dates.old) × (statuses.new ≡ statuses.old) }
-    ensures rows { SameLength5 years.now weeks.now weekdays.now dates.old statuses.old
-        → AreRows statuses.new result (λ k. IsDateOfIsoWeekDate (int_at years.now k)
+    ensures { need SameLength (length years.now)
+        (length weeks.now ∷ length weekdays.now ∷ length dates.old ∷ length statuses.old ∷ [])
+        else (result ≡ usize.MAX) × (dates.new ≡ dates.old) × (statuses.new ≡ statuses.old) then
+        AreRows statuses.new result (λ k. IsDateOfIsoWeekDate (int_at years.now k)
         (nat_at weeks.now k) (nat_at weekdays.now k) (date_row (int_at dates.new k)
         (nat_at statuses.new k))) }
 {
-    let rows = years.len();
-    if weeks.len() != rows
-        || weekdays.len() != rows
-        || dates.len() != rows
-        || statuses.len() != rows
-    {
-        return LENGTH_MISMATCH;
-    }
-    for row in 0..rows {
-        let (date, status) = row_from_iso_week_date(years[row], weeks[row], weekdays[row]);
-        dates[row] = date;
-        statuses[row] = status;
-    }
-    count_errors(statuses)
+    write_rows!(row_from_iso_week_date(years, weeks, weekdays) => dates; statuses)
 }
 
 /// Returns the row of a date.

@@ -1,6 +1,7 @@
 //! Columns of dates plus months.
-ghost use Rattle.std.specs.Prelude.{◌≡◌};
-ghost use Rattle.cal_c.specs.Columns.{int_at, nat_at, SameLength4, AreRows, date_row, IsDateMonthsLater};
+ghost use Rattle.std.specs.Prelude.{◌≡◌, length, ◌∷◌, []};
+ghost use Rattle.cal_c.specs.Columns.{int_at, nat_at, SameLength, AreRows, date_row, IsDateMonthsLater};
+ghost use Rattle.cal_c.specs.Values.{need◌else◌then◌};
 
 use super::constructors::{error_row, ok_row};
 use super::statuses::{INVALID_DATE, RESULT_OUT_OF_RANGE};
@@ -21,22 +22,12 @@ pub extern "C" fn fots_dates_add_months(
     moved: &mut [i32],
     statuses: &mut [u8],
 ) -> usize
-    ensures length_mismatch { ¬ SameLength4 dates.now months.now moved.old statuses.old
-        → (result ≡ usize.MAX) × (moved.new ≡ moved.old) × (statuses.new ≡ statuses.old) }
-    ensures rows { SameLength4 dates.now months.now moved.old statuses.old
-        → AreRows statuses.new result (λ k. IsDateMonthsLater (int_at dates.now k)
+    ensures { need SameLength (length dates.now) (length months.now ∷ length moved.old ∷ length statuses.old ∷ [])
+        else (result ≡ usize.MAX) × (moved.new ≡ moved.old) × (statuses.new ≡ statuses.old) then
+        AreRows statuses.new result (λ k. IsDateMonthsLater (int_at dates.now k)
         (int_at months.now k) (date_row (int_at moved.new k) (nat_at statuses.new k))) }
 {
-    let rows = dates.len();
-    if months.len() != rows || moved.len() != rows || statuses.len() != rows {
-        return LENGTH_MISMATCH;
-    }
-    for row in 0..rows {
-        let (date, status) = date_months_later(dates[row], months[row]);
-        moved[row] = date;
-        statuses[row] = status;
-    }
-    count_errors(statuses)
+    write_rows!(date_months_later(dates, months) => moved; statuses)
 }
 
 /// Returns the row of a date plus months.

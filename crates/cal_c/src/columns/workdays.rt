@@ -1,10 +1,10 @@
 //! Columns of dates plus working days, and of working days between dates.
-ghost use Rattle.std.specs.Prelude.{◌≡◌, IfErr, IfOk};
+ghost use Rattle.std.specs.Prelude.{◌≡◌, IfErr, IfOk, length, ◌∷◌, []};
 ghost use Rattle.cal_schedule.specs.Workdays.{nth_workday};
-ghost use Rattle.cal_c.specs.Columns.{int_at, nat_at, SameLength4, AreRows, date_row, number_row, IsByte, IsDateWorkdaysLater, IsWorkdaysBetween};
+ghost use Rattle.cal_c.specs.Columns.{int_at, nat_at, SameLength, AreRows, date_row, number_row, IsByte, IsDateWorkdaysLater, IsWorkdaysBetween};
 ghost use Rattle.cal_c.specs.Results.{date_or_out_of_range, date_error, number_ok, number_error};
 ghost use Rattle.cal_c.specs.Statuses.{invalid_date};
-ghost use Rattle.cal_c.specs.Values.{IsJulianDay, day_of};
+ghost use Rattle.cal_c.specs.Values.{need◌else◌then◌, IsJulianDay, day_of};
 ghost use Rattle.cal_c.specs.Weekmasks.{workdays_between};
 
 use super::constructors::{error_row, row_or_out_of_range};
@@ -24,25 +24,15 @@ pub extern "C" fn fots_dates_add_workdays(
     moved: &mut [i32],
     statuses: &mut [u8],
 ) -> usize
-    ensures length_mismatch { ¬ SameLength4 dates.now days.now moved.old statuses.old
-        → (result ≡ usize.MAX) × (moved.new ≡ moved.old) × (statuses.new ≡ statuses.old) }
-    ensures rows { SameLength4 dates.now days.now moved.old statuses.old
-        → AreRows statuses.new result (λ k. IsDateWorkdaysLater (int_at dates.now k)
+    ensures { need SameLength (length dates.now) (length days.now ∷ length moved.old ∷ length statuses.old ∷ [])
+        else (result ≡ usize.MAX) × (moved.new ≡ moved.old) × (statuses.new ≡ statuses.old) then
+        AreRows statuses.new result (λ k. IsDateWorkdaysLater (int_at dates.now k)
         (int_at days.now k) weekmask holidays.now (date_row (int_at moved.new k)
         (nat_at statuses.new k))) }
 {
-    let rows = dates.len();
-    if days.len() != rows || moved.len() != rows || statuses.len() != rows {
-        return LENGTH_MISMATCH;
-    }
     let calendar = Calendar::from_c(weekmask, holidays);
     let workdays = workdays_of(&calendar);
-    for row in 0..rows {
-        let (date, status) = date_workdays_later(dates[row], days[row], &workdays);
-        moved[row] = date;
-        statuses[row] = status;
-    }
-    count_errors(statuses)
+    write_rows!(date_workdays_later(dates, days; &workdays) => moved; statuses)
 }
 
 /// Counts the working days between dates, like `fots_date_workdays_between`.
@@ -55,25 +45,15 @@ pub extern "C" fn fots_dates_workdays_between(
     numbers: &mut [i32],
     statuses: &mut [u8],
 ) -> usize
-    ensures length_mismatch { ¬ SameLength4 dates.now others.now numbers.old statuses.old
-        → (result ≡ usize.MAX) × (numbers.new ≡ numbers.old) × (statuses.new ≡ statuses.old) }
-    ensures rows { SameLength4 dates.now others.now numbers.old statuses.old
-        → AreRows statuses.new result (λ k. IsWorkdaysBetween (int_at dates.now k)
+    ensures { need SameLength (length dates.now) (length others.now ∷ length numbers.old ∷ length statuses.old ∷ [])
+        else (result ≡ usize.MAX) × (numbers.new ≡ numbers.old) × (statuses.new ≡ statuses.old) then
+        AreRows statuses.new result (λ k. IsWorkdaysBetween (int_at dates.now k)
         (int_at others.now k) weekmask holidays.now (number_row (int_at numbers.new k)
         (nat_at statuses.new k))) }
 {
-    let rows = dates.len();
-    if others.len() != rows || numbers.len() != rows || statuses.len() != rows {
-        return LENGTH_MISMATCH;
-    }
     let calendar = Calendar::from_c(weekmask, holidays);
     let workdays = workdays_of(&calendar);
-    for row in 0..rows {
-        let (number, status) = workdays_between_row(dates[row], others[row], &workdays);
-        numbers[row] = number;
-        statuses[row] = status;
-    }
-    count_errors(statuses)
+    write_rows!(workdays_between_row(dates, others; &workdays) => numbers; statuses)
 }
 
 /// Returns the row of a date plus working days.

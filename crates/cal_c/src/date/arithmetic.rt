@@ -4,7 +4,7 @@ ghost use Rattle.cal_time.specs.SignedDuration.{day, whole_days};
 ghost use Rattle.cal_c.specs.Columns.{IsDateDaysLater};
 ghost use Rattle.cal_c.specs.Results.{IsDateOrOutOfRange, date_ok, date_error, duration_ok, duration_error};
 ghost use Rattle.cal_c.specs.Statuses.{invalid_date, invalid_duration};
-ghost use Rattle.cal_c.specs.Values.{IsJulianDay, clamped_julian_day, IsDurationPair, nanoseconds_in};
+ghost use Rattle.cal_c.specs.Values.{need◌else◌then◌, IsJulianDay, clamped_julian_day, IsDurationPair, nanoseconds_in};
 
 use crate::day_number::{
     checked_add_days, checked_sub_days, duration_between, is_julian_day, saturating_add_days,
@@ -42,11 +42,9 @@ pub extern "C" fn fots_date_previous_day(date: i32) -> DateResult
 /// 2020-12-31 plus 47 hours is 2021-01-01.
 #[unsafe(no_mangle)]
 pub extern "C" fn fots_date_checked_add(date: i32, duration: Duration) -> DateResult
-    ensures invalid_date { ¬ IsJulianDay date → result ≡ date_error invalid_date }
-    ensures invalid_duration { IsJulianDay date → ¬ IsDurationPair duration
-        → result ≡ date_error invalid_duration }
-    ensures value { IsJulianDay date → IsDurationPair duration
-        → IsDateOrOutOfRange (date +ℤ whole_days (nanoseconds_in duration)) result }
+    ensures { need IsJulianDay date else result ≡ date_error invalid_date then
+        need IsDurationPair duration else result ≡ date_error invalid_duration then
+        IsDateOrOutOfRange (date +ℤ whole_days (nanoseconds_in duration)) result }
 {
     if !is_julian_day(date) {
         return DateResult::error(INVALID_DATE);
@@ -61,11 +59,9 @@ pub extern "C" fn fots_date_checked_add(date: i32, duration: Duration) -> DateRe
 /// Adds the whole days of a duration, truncated toward zero. A result out of range is clamped.
 #[unsafe(no_mangle)]
 pub extern "C" fn fots_date_saturating_add(date: i32, duration: Duration) -> DateResult
-    ensures invalid_date { ¬ IsJulianDay date → result ≡ date_error invalid_date }
-    ensures invalid_duration { IsJulianDay date → ¬ IsDurationPair duration
-        → result ≡ date_error invalid_duration }
-    ensures value { IsJulianDay date → IsDurationPair duration
-        → result ≡ date_ok (clamped_julian_day (date +ℤ whole_days (nanoseconds_in duration))) }
+    ensures { need IsJulianDay date else result ≡ date_error invalid_date then
+        need IsDurationPair duration else result ≡ date_error invalid_duration then
+        result ≡ date_ok (clamped_julian_day (date +ℤ whole_days (nanoseconds_in duration))) }
 {
     if !is_julian_day(date) {
         return DateResult::error(INVALID_DATE);
@@ -81,11 +77,9 @@ pub extern "C" fn fots_date_saturating_add(date: i32, duration: Duration) -> Dat
 /// range. 2020-12-31 minus 47 hours is 2020-12-30.
 #[unsafe(no_mangle)]
 pub extern "C" fn fots_date_checked_sub(date: i32, duration: Duration) -> DateResult
-    ensures invalid_date { ¬ IsJulianDay date → result ≡ date_error invalid_date }
-    ensures invalid_duration { IsJulianDay date → ¬ IsDurationPair duration
-        → result ≡ date_error invalid_duration }
-    ensures value { IsJulianDay date → IsDurationPair duration
-        → IsDateOrOutOfRange (date -ℤ whole_days (nanoseconds_in duration)) result }
+    ensures { need IsJulianDay date else result ≡ date_error invalid_date then
+        need IsDurationPair duration else result ≡ date_error invalid_duration then
+        IsDateOrOutOfRange (date -ℤ whole_days (nanoseconds_in duration)) result }
 {
     if !is_julian_day(date) {
         return DateResult::error(INVALID_DATE);
@@ -100,11 +94,9 @@ pub extern "C" fn fots_date_checked_sub(date: i32, duration: Duration) -> DateRe
 /// Subtracts the whole days of a duration, truncated toward zero. A result out of range is clamped.
 #[unsafe(no_mangle)]
 pub extern "C" fn fots_date_saturating_sub(date: i32, duration: Duration) -> DateResult
-    ensures invalid_date { ¬ IsJulianDay date → result ≡ date_error invalid_date }
-    ensures invalid_duration { IsJulianDay date → ¬ IsDurationPair duration
-        → result ≡ date_error invalid_duration }
-    ensures value { IsJulianDay date → IsDurationPair duration
-        → result ≡ date_ok (clamped_julian_day (date -ℤ whole_days (nanoseconds_in duration))) }
+    ensures { need IsJulianDay date else result ≡ date_error invalid_date then
+        need IsDurationPair duration else result ≡ date_error invalid_duration then
+        result ≡ date_ok (clamped_julian_day (date -ℤ whole_days (nanoseconds_in duration))) }
 {
     if !is_julian_day(date) {
         return DateResult::error(INVALID_DATE);

@@ -4,7 +4,7 @@ ghost use Rattle.cal_time.specs.Date.{IsDate};
 ghost use Rattle.cal_time.specs.Occurrences.{next_occurrences, prev_occurrences, kth};
 ghost use Rattle.cal_c.specs.Results.{date_error, date_or_out_of_range};
 ghost use Rattle.cal_c.specs.Statuses.{invalid_date, invalid_weekday, invalid_count};
-ghost use Rattle.cal_c.specs.Values.{IsJulianDay, IsWeekday, day_of};
+ghost use Rattle.cal_c.specs.Values.{need◌else◌then◌, IsJulianDay, IsWeekday, day_of};
 
 use crate::day_number::{date_result, day_number};
 use crate::results::DateResult;
@@ -15,13 +15,10 @@ use cal_time::day_number::{nth_next_occurrence, nth_prev_occurrence};
 /// range, or for 0. The fifth Monday after 2460121 is 2460150.
 #[unsafe(no_mangle)]
 pub extern "C" fn fots_date_nth_next_occurrence(date: i32, weekday: u32, count: u32) -> DateResult
-    ensures invalid_date { ¬ IsJulianDay date → result ≡ date_error invalid_date }
-    ensures invalid_weekday { IsJulianDay date → ¬ IsWeekday weekday
-        → result ≡ date_error invalid_weekday }
-    ensures invalid_count { IsJulianDay date → IsWeekday weekday → 255 < count
-        → result ≡ date_error invalid_count }
-    ensures value { IsJulianDay date → IsWeekday weekday → count ≤ 255
-        → result ≡ date_or_out_of_range (kth count (next_occurrences (weekday - 1) (day_of date))) }
+    ensures { need IsJulianDay date else result ≡ date_error invalid_date then
+        need IsWeekday weekday else result ≡ date_error invalid_weekday then
+        need count ≤ 255 else result ≡ date_error invalid_count then
+        result ≡ date_or_out_of_range (kth count (next_occurrences (weekday - 1) (day_of date))) }
 {
     let number = or_return!(day_number(date), DateResult::error(INVALID_DATE));
     if weekday == 0 || weekday > 7 {
@@ -37,13 +34,10 @@ pub extern "C" fn fots_date_nth_next_occurrence(date: i32, weekday: u32, count: 
 /// range, or for 0. The third Monday before 2460123 is 2460108.
 #[unsafe(no_mangle)]
 pub extern "C" fn fots_date_nth_prev_occurrence(date: i32, weekday: u32, count: u32) -> DateResult
-    ensures invalid_date { ¬ IsJulianDay date → result ≡ date_error invalid_date }
-    ensures invalid_weekday { IsJulianDay date → ¬ IsWeekday weekday
-        → result ≡ date_error invalid_weekday }
-    ensures invalid_count { IsJulianDay date → IsWeekday weekday → 255 < count
-        → result ≡ date_error invalid_count }
-    ensures value { IsJulianDay date → IsWeekday weekday → count ≤ 255
-        → result ≡ date_or_out_of_range (kth count (prev_occurrences (weekday - 1) (day_of date))) }
+    ensures { need IsJulianDay date else result ≡ date_error invalid_date then
+        need IsWeekday weekday else result ≡ date_error invalid_weekday then
+        need count ≤ 255 else result ≡ date_error invalid_count then
+        result ≡ date_or_out_of_range (kth count (prev_occurrences (weekday - 1) (day_of date))) }
 {
     let number = or_return!(day_number(date), DateResult::error(INVALID_DATE));
     if weekday == 0 || weekday > 7 {
@@ -59,11 +53,9 @@ pub extern "C" fn fots_date_nth_prev_occurrence(date: i32, weekday: u32, count: 
 /// 2460124 is 2460129.
 #[unsafe(no_mangle)]
 pub extern "C" fn fots_date_next_occurrence(date: i32, weekday: u32) -> DateResult
-    ensures invalid_date { ¬ IsJulianDay date → result ≡ date_error invalid_date }
-    ensures invalid_weekday { IsJulianDay date → ¬ IsWeekday weekday
-        → result ≡ date_error invalid_weekday }
-    ensures value { IsJulianDay date → IsWeekday weekday
-        → result ≡ date_or_out_of_range (kth 1 (next_occurrences (weekday - 1) (day_of date))) }
+    ensures { need IsJulianDay date else result ≡ date_error invalid_date then
+        need IsWeekday weekday else result ≡ date_error invalid_weekday then
+        result ≡ date_or_out_of_range (kth 1 (next_occurrences (weekday - 1) (day_of date))) }
 {
     let number = or_return!(day_number(date), DateResult::error(INVALID_DATE));
     if weekday == 0 || weekday > 7 {
@@ -76,11 +68,9 @@ pub extern "C" fn fots_date_next_occurrence(date: i32, weekday: u32) -> DateResu
 /// before 2460115 is 2460108.
 #[unsafe(no_mangle)]
 pub extern "C" fn fots_date_prev_occurrence(date: i32, weekday: u32) -> DateResult
-    ensures invalid_date { ¬ IsJulianDay date → result ≡ date_error invalid_date }
-    ensures invalid_weekday { IsJulianDay date → ¬ IsWeekday weekday
-        → result ≡ date_error invalid_weekday }
-    ensures value { IsJulianDay date → IsWeekday weekday
-        → result ≡ date_or_out_of_range (kth 1 (prev_occurrences (weekday - 1) (day_of date))) }
+    ensures { need IsJulianDay date else result ≡ date_error invalid_date then
+        need IsWeekday weekday else result ≡ date_error invalid_weekday then
+        result ≡ date_or_out_of_range (kth 1 (prev_occurrences (weekday - 1) (day_of date))) }
 {
     let number = or_return!(day_number(date), DateResult::error(INVALID_DATE));
     if weekday == 0 || weekday > 7 {

@@ -3,7 +3,7 @@ ghost use Rattle.std.specs.Prelude.{◌≡◌};
 ghost use Rattle.cal_time.specs.Date.{year_at, month_at, day_of_month_at, IsYear, IsDayOfMonth, IsOrdinal, HasCalendarDate, HasOrdinalDate};
 ghost use Rattle.cal_c.specs.Results.{date_error, IsDateWith};
 ghost use Rattle.cal_c.specs.Statuses.{invalid_date, year_status, month_status, day_status, ordinal_status};
-ghost use Rattle.cal_c.specs.Values.{IsJulianDay, IsMonth, day_of};
+ghost use Rattle.cal_c.specs.Values.{need◌else◌then◌, IsJulianDay, IsMonth, day_of};
 
 use crate::results::DateResult;
 use crate::status::{INVALID_DATE, MONTH_OUT_OF_RANGE};
@@ -13,14 +13,11 @@ use crate::values::{day_or_invalid, ordinal_or_invalid, valid_date, valid_month}
 /// with the year 2004 is 2453065.
 #[unsafe(no_mangle)]
 pub extern "C" fn fots_date_replace_year(date: i32, year: i32) -> DateResult
-    ensures invalid_date { ¬ IsJulianDay date → result ≡ date_error invalid_date }
-    ensures year { IsJulianDay date → ¬ IsYear year → result ≡ date_error year_status }
-    ensures day { let n = day_of date in IsJulianDay date → IsYear year
-        → ¬ IsDayOfMonth year (month_at n) (day_of_month_at n)
-        → result ≡ date_error day_status }
-    ensures value { let n = day_of date in IsJulianDay date → IsYear year
-        → IsDayOfMonth year (month_at n) (day_of_month_at n)
-        → IsDateWith (HasCalendarDate year (month_at n) (day_of_month_at n)) result }
+    ensures { let n = day_of date in
+        need IsJulianDay date else result ≡ date_error invalid_date then
+        need IsYear year else result ≡ date_error year_status then
+        need IsDayOfMonth year (month_at n) (day_of_month_at n) else result ≡ date_error day_status then
+        IsDateWith (HasCalendarDate year (month_at n) (day_of_month_at n)) result }
 {
     let date = or_return!(valid_date(date), DateResult::error(INVALID_DATE));
     ok_or_error!(DateResult, date.replace_year(year))
@@ -30,14 +27,11 @@ pub extern "C" fn fots_date_replace_year(date: i32, year: i32) -> DateResult
 /// the month 3 is 2451633.
 #[unsafe(no_mangle)]
 pub extern "C" fn fots_date_replace_month(date: i32, month: u32) -> DateResult
-    ensures invalid_date { ¬ IsJulianDay date → result ≡ date_error invalid_date }
-    ensures month { IsJulianDay date → ¬ IsMonth month → result ≡ date_error month_status }
-    ensures day { let n = day_of date in IsJulianDay date → IsMonth month
-        → ¬ IsDayOfMonth (year_at n) month (day_of_month_at n)
-        → result ≡ date_error day_status }
-    ensures value { let n = day_of date in IsJulianDay date → IsMonth month
-        → IsDayOfMonth (year_at n) month (day_of_month_at n)
-        → IsDateWith (HasCalendarDate (year_at n) month (day_of_month_at n)) result }
+    ensures { let n = day_of date in
+        need IsJulianDay date else result ≡ date_error invalid_date then
+        need IsMonth month else result ≡ date_error month_status then
+        need IsDayOfMonth (year_at n) month (day_of_month_at n) else result ≡ date_error day_status then
+        IsDateWith (HasCalendarDate (year_at n) month (day_of_month_at n)) result }
 {
     let date = or_return!(valid_date(date), DateResult::error(INVALID_DATE));
     let month = or_return!(valid_month(month), DateResult::error(MONTH_OUT_OF_RANGE));
@@ -47,13 +41,10 @@ pub extern "C" fn fots_date_replace_month(date: i32, month: u32) -> DateResult
 /// Replaces the day of the month. Returns the error `day` out of range. 2451604 with 1 is 2451576.
 #[unsafe(no_mangle)]
 pub extern "C" fn fots_date_replace_day(date: i32, day: u32) -> DateResult
-    ensures invalid_date { ¬ IsJulianDay date → result ≡ date_error invalid_date }
-    ensures day { let n = day_of date in IsJulianDay date
-        → ¬ IsDayOfMonth (year_at n) (month_at n) day
-        → result ≡ date_error day_status }
-    ensures value { let n = day_of date in IsJulianDay date
-        → IsDayOfMonth (year_at n) (month_at n) day
-        → IsDateWith (HasCalendarDate (year_at n) (month_at n) day) result }
+    ensures { let n = day_of date in
+        need IsJulianDay date else result ≡ date_error invalid_date then
+        need IsDayOfMonth (year_at n) (month_at n) day else result ≡ date_error day_status then
+        IsDateWith (HasCalendarDate (year_at n) (month_at n) day) result }
 {
     let date = or_return!(valid_date(date), DateResult::error(INVALID_DATE));
     ok_or_error!(DateResult, date.replace_day(day_or_invalid(day)))
@@ -62,11 +53,10 @@ pub extern "C" fn fots_date_replace_day(date: i32, day: u32) -> DateResult
 /// Replaces the ordinal. Returns the error `ordinal` out of range. 2451604 with 1 is 2451545.
 #[unsafe(no_mangle)]
 pub extern "C" fn fots_date_replace_ordinal(date: i32, ordinal: u32) -> DateResult
-    ensures invalid_date { ¬ IsJulianDay date → result ≡ date_error invalid_date }
-    ensures ordinal { let n = day_of date in IsJulianDay date → ¬ IsOrdinal (year_at n) ordinal
-        → result ≡ date_error ordinal_status }
-    ensures value { let n = day_of date in IsJulianDay date → IsOrdinal (year_at n) ordinal
-        → IsDateWith (HasOrdinalDate (year_at n) ordinal) result }
+    ensures { let n = day_of date in
+        need IsJulianDay date else result ≡ date_error invalid_date then
+        need IsOrdinal (year_at n) ordinal else result ≡ date_error ordinal_status then
+        IsDateWith (HasOrdinalDate (year_at n) ordinal) result }
 {
     let date = or_return!(valid_date(date), DateResult::error(INVALID_DATE));
     ok_or_error!(

@@ -3,7 +3,7 @@ ghost use Rattle.std.specs.Prelude.{◌≡◌, pos, neg_ℤ, ◌+ℤ◌, ◌-ℤ
 ghost use Rattle.cal_time.specs.SignedDuration.{HasQuotient, clamp, cut};
 ghost use Rattle.cal_c.specs.Results.{IsDurationOrOutOfRange, duration_ok, duration_error, number_ok, number_error};
 ghost use Rattle.cal_c.specs.Statuses.{result_out_of_range, invalid_duration};
-ghost use Rattle.cal_c.specs.Values.{IsDurationPair, nanoseconds_in};
+ghost use Rattle.cal_c.specs.Values.{need◌else◌then◌, IsDurationPair, nanoseconds_in};
 
 use crate::results::{Duration, DurationResult, NumberResult};
 use crate::status::INVALID_DURATION;
@@ -108,11 +108,9 @@ pub extern "C" fn fots_duration_checked_mul(duration: Duration, factor: i32) -> 
 /// Divides a duration, truncating toward zero. Fails for 0, and if the result is out of range.
 #[unsafe(no_mangle)]
 pub extern "C" fn fots_duration_checked_div(duration: Duration, divisor: i32) -> DurationResult
-    ensures invalid_duration { ¬ IsDurationPair duration → result ≡ duration_error invalid_duration }
-    ensures result_out_of_range { IsDurationPair duration → ¬ HasQuotient (nanoseconds_in duration) divisor
-        → result ≡ duration_error result_out_of_range }
-    ensures value { IsDurationPair duration → HasQuotient (nanoseconds_in duration) divisor
-        → result ≡ duration_ok (cut (nanoseconds_in duration) divisor) }
+    ensures { need IsDurationPair duration else result ≡ duration_error invalid_duration then
+        need HasQuotient (nanoseconds_in duration) divisor else result ≡ duration_error result_out_of_range then
+        result ≡ duration_ok (cut (nanoseconds_in duration) divisor) }
 {
     let duration = or_return!(
         valid_duration(duration),

@@ -5,7 +5,7 @@ ghost use Rattle.cal_datetime.specs.OffsetDateTime.{instant};
 ghost use Rattle.cal_c.specs.Moments.{IsMoment, IsMomentOrError, local_in, moment_ok, moment_error, local_and_offset_in};
 ghost use Rattle.cal_c.specs.Results.{duration_ok, duration_error, number_ok, number_error};
 ghost use Rattle.cal_c.specs.Statuses.{invalid_duration, invalid_moment, result_out_of_range};
-ghost use Rattle.cal_c.specs.Values.{IsDurationPair, nanoseconds_in};
+ghost use Rattle.cal_c.specs.Values.{need◌else◌then◌, IsDurationPair, nanoseconds_in};
 
 use crate::moment::valid_moment;
 use crate::results::{Duration, DurationResult, Moment, MomentResult, NumberResult};
@@ -17,11 +17,9 @@ use cal_time::SignedDuration;
 /// Adds a duration and keeps the offset. Fails if the local result is out of range.
 #[unsafe(no_mangle)]
 pub extern "C" fn fots_moment_checked_add(moment: Moment, duration: Duration) -> MomentResult
-    ensures invalid_moment { ¬ IsMoment moment → result ≡ moment_error invalid_moment }
-    ensures invalid_duration { IsMoment moment → ¬ IsDurationPair duration
-        → result ≡ moment_error invalid_duration }
-    ensures value { IsMoment moment → IsDurationPair duration
-        → IsMomentOrError result_out_of_range (local_in moment +ℤ nanoseconds_in duration) moment.offset result }
+    ensures { need IsMoment moment else result ≡ moment_error invalid_moment then
+        need IsDurationPair duration else result ≡ moment_error invalid_duration then
+        IsMomentOrError result_out_of_range (local_in moment +ℤ nanoseconds_in duration) moment.offset result }
 {
     let moment = or_return!(valid_moment(moment), MomentResult::error(INVALID_MOMENT));
     let duration = or_return!(
@@ -45,11 +43,9 @@ fn add_duration(moment: OffsetDateTime, duration: SignedDuration) -> MomentResul
 /// Subtracts a duration and keeps the offset. Fails if the local result is out of range.
 #[unsafe(no_mangle)]
 pub extern "C" fn fots_moment_checked_sub(moment: Moment, duration: Duration) -> MomentResult
-    ensures invalid_moment { ¬ IsMoment moment → result ≡ moment_error invalid_moment }
-    ensures invalid_duration { IsMoment moment → ¬ IsDurationPair duration
-        → result ≡ moment_error invalid_duration }
-    ensures value { IsMoment moment → IsDurationPair duration
-        → IsMomentOrError result_out_of_range (local_in moment -ℤ nanoseconds_in duration) moment.offset result }
+    ensures { need IsMoment moment else result ≡ moment_error invalid_moment then
+        need IsDurationPair duration else result ≡ moment_error invalid_duration then
+        IsMomentOrError result_out_of_range (local_in moment -ℤ nanoseconds_in duration) moment.offset result }
 {
     let moment = or_return!(valid_moment(moment), MomentResult::error(INVALID_MOMENT));
     let duration = or_return!(
@@ -71,13 +67,12 @@ fn sub_duration(moment: OffsetDateTime, duration: SignedDuration) -> MomentResul
 }
 
 /// Adds a duration and keeps the offset. A local result out of range is clamped.
+#[tactic(auto, using(crate::proofs::Needs::met))]
 #[unsafe(no_mangle)]
 pub extern "C" fn fots_moment_saturating_add(moment: Moment, duration: Duration) -> MomentResult
-    ensures invalid_moment { ¬ IsMoment moment → result ≡ moment_error invalid_moment }
-    ensures invalid_duration { IsMoment moment → ¬ IsDurationPair duration
-        → result ≡ moment_error invalid_duration }
-    ensures value { IsMoment moment → IsDurationPair duration
-        → result ≡ moment_ok (record {
+    ensures { need IsMoment moment else result ≡ moment_error invalid_moment then
+        need IsDurationPair duration else result ≡ moment_error invalid_duration then
+        result ≡ moment_ok (record {
           local = clamped_date_time (local_in moment +ℤ nanoseconds_in duration);
           offset = moment.offset;
         }) }
@@ -91,13 +86,12 @@ pub extern "C" fn fots_moment_saturating_add(moment: Moment, duration: Duration)
 }
 
 /// Subtracts a duration and keeps the offset. A local result out of range is clamped.
+#[tactic(auto, using(crate::proofs::Needs::met))]
 #[unsafe(no_mangle)]
 pub extern "C" fn fots_moment_saturating_sub(moment: Moment, duration: Duration) -> MomentResult
-    ensures invalid_moment { ¬ IsMoment moment → result ≡ moment_error invalid_moment }
-    ensures invalid_duration { IsMoment moment → ¬ IsDurationPair duration
-        → result ≡ moment_error invalid_duration }
-    ensures value { IsMoment moment → IsDurationPair duration
-        → result ≡ moment_ok (record {
+    ensures { need IsMoment moment else result ≡ moment_error invalid_moment then
+        need IsDurationPair duration else result ≡ moment_error invalid_duration then
+        result ≡ moment_ok (record {
           local = clamped_date_time (local_in moment -ℤ nanoseconds_in duration);
           offset = moment.offset;
         }) }

@@ -5,7 +5,7 @@ ghost use Rattle.cal_time.specs.UtcOffset.{IsOffset};
 ghost use Rattle.cal_datetime.specs.OffsetDateTime.{instant, local_at};
 ghost use Rattle.cal_c.specs.Moments.{IsMoment, IsMomentOrError, local_in, moment_ok, moment_error, local_and_offset_in};
 ghost use Rattle.cal_c.specs.Statuses.{invalid_date, invalid_moment, invalid_offset, invalid_time, result_out_of_range};
-ghost use Rattle.cal_c.specs.Values.{IsJulianDay, moment_of};
+ghost use Rattle.cal_c.specs.Values.{need◌else◌then◌, IsJulianDay, moment_of};
 
 use crate::moment::valid_moment;
 use crate::results::{Moment, MomentResult};
@@ -17,14 +17,13 @@ use cal_datetime::OffsetDateTime;
 use cal_time::UtcOffset;
 
 /// Creates a moment from a local date, a local time of day and an offset.
+#[tactic(auto, using(crate::proofs::Needs::met))]
 #[unsafe(no_mangle)]
 pub extern "C" fn fots_moment_new(date: i32, time: u64, offset: i32) -> MomentResult
-    ensures invalid_date { ¬ IsJulianDay date → result ≡ moment_error invalid_date }
-    ensures invalid_time { IsJulianDay date → ¬ IsTime time → result ≡ moment_error invalid_time }
-    ensures invalid_offset { IsJulianDay date → IsTime time → ¬ IsOffset offset
-        → result ≡ moment_error invalid_offset }
-    ensures value { IsJulianDay date → IsTime time → IsOffset offset
-        → result ≡ moment_ok (moment_of date time offset) }
+    ensures { need IsJulianDay date else result ≡ moment_error invalid_date then
+        need IsTime time else result ≡ moment_error invalid_time then
+        need IsOffset offset else result ≡ moment_error invalid_offset then
+        result ≡ moment_ok (moment_of date time offset) }
 {
     let date = or_return!(valid_date(date), MomentResult::error(INVALID_DATE));
     let time = or_return!(valid_time(time), MomentResult::error(INVALID_TIME));
@@ -35,10 +34,9 @@ pub extern "C" fn fots_moment_new(date: i32, time: u64, offset: i32) -> MomentRe
 /// Converts to another offset, at the same instant. Fails if the local result is out of range.
 #[unsafe(no_mangle)]
 pub extern "C" fn fots_moment_to_offset(moment: Moment, offset: i32) -> MomentResult
-    ensures invalid_moment { ¬ IsMoment moment → result ≡ moment_error invalid_moment }
-    ensures invalid_offset { IsMoment moment → ¬ IsOffset offset → result ≡ moment_error invalid_offset }
-    ensures value { IsMoment moment → IsOffset offset
-        → IsMomentOrError result_out_of_range (local_at (instant (local_and_offset_in moment)) offset) offset result }
+    ensures { need IsMoment moment else result ≡ moment_error invalid_moment then
+        need IsOffset offset else result ≡ moment_error invalid_offset then
+        IsMomentOrError result_out_of_range (local_at (instant (local_and_offset_in moment)) offset) offset result }
 {
     let moment = or_return!(valid_moment(moment), MomentResult::error(INVALID_MOMENT));
     let offset = or_return!(valid_offset(offset), MomentResult::error(INVALID_OFFSET));
@@ -59,10 +57,9 @@ fn at_offset(moment: OffsetDateTime, offset: UtcOffset) -> MomentResult
 /// Replaces the offset and keeps the local date and time of day.
 #[unsafe(no_mangle)]
 pub extern "C" fn fots_moment_replace_offset(moment: Moment, offset: i32) -> MomentResult
-    ensures invalid_moment { ¬ IsMoment moment → result ≡ moment_error invalid_moment }
-    ensures invalid_offset { IsMoment moment → ¬ IsOffset offset → result ≡ moment_error invalid_offset }
-    ensures value { IsMoment moment → IsOffset offset
-        → result ≡ moment_ok (record { local = local_in moment; offset = offset }) }
+    ensures { need IsMoment moment else result ≡ moment_error invalid_moment then
+        need IsOffset offset else result ≡ moment_error invalid_offset then
+        result ≡ moment_ok (record { local = local_in moment; offset = offset }) }
 {
     let moment = or_return!(valid_moment(moment), MomentResult::error(INVALID_MOMENT));
     let offset = or_return!(valid_offset(offset), MomentResult::error(INVALID_OFFSET));

@@ -5,7 +5,7 @@ ghost use Rattle.cal_schedule.specs.Months.{month_number_at, IsMonthNumber, IsMo
 ghost use Rattle.cal_c.specs.Columns.{IsDateMonthsLater};
 ghost use Rattle.cal_c.specs.Results.{date_ok, date_error, IsDateWith};
 ghost use Rattle.cal_c.specs.Statuses.{invalid_date, result_out_of_range};
-ghost use Rattle.cal_c.specs.Values.{IsJulianDay, day_of};
+ghost use Rattle.cal_c.specs.Values.{need◌else◌then◌, IsJulianDay, day_of};
 
 use crate::results::DateResult;
 use crate::status::INVALID_DATE;
@@ -45,11 +45,9 @@ pub extern "C" fn fots_date_saturating_add_months(date: i32, months: i32) -> Dat
 /// 2451969, 2001-02-28.
 #[unsafe(no_mangle)]
 pub extern "C" fn fots_date_add_years(date: i32, years: i32) -> DateResult
-    ensures invalid_date { ¬ IsJulianDay date → result ≡ date_error invalid_date }
-    ensures result_out_of_range { IsJulianDay date → ¬ IsYear (year_at (day_of date) +ℤ years)
-        → result ≡ date_error result_out_of_range }
-    ensures value { IsJulianDay date → IsYear (year_at (day_of date) +ℤ years)
-        → IsDateWith (IsMonthsLater (day_of date) (pos 12 *ℤ years)) result }
+    ensures { need IsJulianDay date else result ≡ date_error invalid_date then
+        need IsYear (year_at (day_of date) +ℤ years) else result ≡ date_error result_out_of_range then
+        IsDateWith (IsMonthsLater (day_of date) (pos 12 *ℤ years)) result }
 {
     let date = or_return!(valid_date(date), DateResult::error(INVALID_DATE));
     DateResult::from_option(checked_add_years(date, years))

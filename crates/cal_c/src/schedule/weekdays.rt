@@ -4,7 +4,7 @@ ghost use Rattle.cal_time.specs.Date.{julian_day_at, IsDate, IsYear, NoDate};
 ghost use Rattle.cal_schedule.specs.Weekdays.{IsNthWeekday, IsLastWeekday, occurrences_from, occurrences_upto};
 ghost use Rattle.cal_c.specs.Results.{date_ok, date_error, date_or_out_of_range};
 ghost use Rattle.cal_c.specs.Statuses.{invalid_count, invalid_date, invalid_weekday, month_status, weekday_status, year_status};
-ghost use Rattle.cal_c.specs.Values.{IsJulianDay, IsMonth, IsWeekday, day_of};
+ghost use Rattle.cal_c.specs.Values.{need◌else◌then◌, IsJulianDay, IsMonth, IsWeekday, day_of};
 
 use crate::results::DateResult;
 use crate::status::{INVALID_COUNT, INVALID_DATE, INVALID_WEEKDAY, MONTH_OUT_OF_RANGE};
@@ -65,11 +65,9 @@ pub extern "C" fn fots_date_last_weekday_of_month(year: i32, month: u32, weekday
 /// on or after 2451604, 2000-02-29, is 2451607.
 #[unsafe(no_mangle)]
 pub extern "C" fn fots_date_on_or_after(date: i32, weekday: u32) -> DateResult
-    ensures invalid_date { ¬ IsJulianDay date → result ≡ date_error invalid_date }
-    ensures invalid_weekday { IsJulianDay date → ¬ IsWeekday weekday
-        → result ≡ date_error invalid_weekday }
-    ensures value { IsJulianDay date → IsWeekday weekday
-        → result ≡ date_or_out_of_range (slice_get (occurrences_from (weekday - 1) (day_of date)) 0) }
+    ensures { need IsJulianDay date else result ≡ date_error invalid_date then
+        need IsWeekday weekday else result ≡ date_error invalid_weekday then
+        result ≡ date_or_out_of_range (slice_get (occurrences_from (weekday - 1) (day_of date)) 0) }
 {
     let date = or_return!(valid_date(date), DateResult::error(INVALID_DATE));
     let weekday = or_return!(valid_weekday(weekday), DateResult::error(INVALID_WEEKDAY));
@@ -80,11 +78,9 @@ pub extern "C" fn fots_date_on_or_after(date: i32, weekday: u32) -> DateResult
 /// on or before 2451604, 2000-02-29, is 2451600.
 #[unsafe(no_mangle)]
 pub extern "C" fn fots_date_on_or_before(date: i32, weekday: u32) -> DateResult
-    ensures invalid_date { ¬ IsJulianDay date → result ≡ date_error invalid_date }
-    ensures invalid_weekday { IsJulianDay date → ¬ IsWeekday weekday
-        → result ≡ date_error invalid_weekday }
-    ensures value { IsJulianDay date → IsWeekday weekday
-        → result ≡ date_or_out_of_range (slice_get (occurrences_upto (weekday - 1) (day_of date)) 0) }
+    ensures { need IsJulianDay date else result ≡ date_error invalid_date then
+        need IsWeekday weekday else result ≡ date_error invalid_weekday then
+        result ≡ date_or_out_of_range (slice_get (occurrences_upto (weekday - 1) (day_of date)) 0) }
 {
     let date = or_return!(valid_date(date), DateResult::error(INVALID_DATE));
     let weekday = or_return!(valid_weekday(weekday), DateResult::error(INVALID_WEEKDAY));

@@ -15,7 +15,7 @@ ghost use Rattle.cal_text.specs.UnixText.{HasUnixForm, IsUnixText, IsUnixTimeErr
 ghost use Rattle.cal_c.specs.Results.{duration_ok, duration_error, pair_at_local, pair_error};
 ghost use Rattle.cal_c.specs.Statuses.{invalid_date, invalid_time, invalid_offset, invalid_duration, result_out_of_range, component_status};
 ghost use Rattle.cal_c.specs.Texts.{parsed_date_ok, parsed_date_error, parsed_moment_ok, parsed_moment_error, HasDateSyntax, HasMomentSyntax, HasDateError, HasMomentError, IsDateSyntaxError, IsMomentSyntaxError};
-ghost use Rattle.cal_c.specs.Values.{IsDurationPair, IsJulianDay, moment_of, nanoseconds_in};
+ghost use Rattle.cal_c.specs.Values.{need◌else◌then◌, IsDurationPair, IsJulianDay, moment_of, nanoseconds_in};
 
 use crate::results::{Duration, DurationResult, PairResult};
 use crate::status::{
@@ -80,12 +80,10 @@ pub extern "C" fn fots_unix_parse(text: &[u8]) -> ParseMomentResult
 /// Returns the Unix time of a local date and time at an offset.
 #[unsafe(no_mangle)]
 pub extern "C" fn fots_unix_time(date: i32, time: u64, offset: i32) -> DurationResult
-    ensures invalid_date { ¬ IsJulianDay date → result ≡ duration_error invalid_date }
-    ensures invalid_time { IsJulianDay date → ¬ IsTime time → result ≡ duration_error invalid_time }
-    ensures invalid_offset { IsJulianDay date → IsTime time → ¬ IsOffset offset
-        → result ≡ duration_error invalid_offset }
-    ensures value { IsJulianDay date → IsTime time → IsOffset offset
-        → result ≡ duration_ok (unix_nanoseconds (instant (moment_of date time offset))) }
+    ensures { need IsJulianDay date else result ≡ duration_error invalid_date then
+        need IsTime time else result ≡ duration_error invalid_time then
+        need IsOffset offset else result ≡ duration_error invalid_offset then
+        result ≡ duration_ok (unix_nanoseconds (instant (moment_of date time offset))) }
 {
     let date = or_return!(valid_date(date), DurationResult::error(INVALID_DATE));
     let time = or_return!(valid_time(time), DurationResult::error(INVALID_TIME));
@@ -97,15 +95,11 @@ pub extern "C" fn fots_unix_time(date: i32, time: u64, offset: i32) -> DurationR
 /// Returns the local date and time of a Unix time at an offset. Fails if they are out of range.
 #[unsafe(no_mangle)]
 pub extern "C" fn fots_unix_pair(duration: Duration, offset: i32) -> PairResult
-    ensures invalid_duration { ¬ IsDurationPair duration → result ≡ pair_error invalid_duration }
-    ensures invalid_offset { IsDurationPair duration → ¬ IsOffset offset
-        → result ≡ pair_error invalid_offset }
-    ensures result_out_of_range { IsDurationPair duration → IsOffset offset
-        → ¬ IsDateTime (local_at unix_epoch offset +ℤ nanoseconds_in duration)
-        → result ≡ pair_error result_out_of_range }
-    ensures value { IsDurationPair duration → IsOffset offset
-        → IsDateTime (local_at unix_epoch offset +ℤ nanoseconds_in duration)
-        → result ≡ pair_at_local (local_at unix_epoch offset +ℤ nanoseconds_in duration) }
+    ensures { let local = local_at unix_epoch offset +ℤ nanoseconds_in duration in
+        need IsDurationPair duration else result ≡ pair_error invalid_duration then
+        need IsOffset offset else result ≡ pair_error invalid_offset then
+        need IsDateTime local else result ≡ pair_error result_out_of_range then
+        result ≡ pair_at_local local }
 {
     let duration = or_return!(
         valid_duration(duration),

@@ -3,7 +3,7 @@ ghost use Rattle.std.specs.Prelude.{◌≡◌, pos, ◌+ℤ◌, ◌-ℤ◌};
 ghost use Rattle.cal_time.specs.Time.{IsTime, modulo_day};
 ghost use Rattle.cal_c.specs.Results.{time_ok, time_error, duration_ok, duration_error, adjusted_time_error, IsAddAdjusted, IsSubAdjusted};
 ghost use Rattle.cal_c.specs.Statuses.{invalid_time, invalid_duration};
-ghost use Rattle.cal_c.specs.Values.{IsDurationPair, nanoseconds_in};
+ghost use Rattle.cal_c.specs.Values.{need◌else◌then◌, IsDurationPair, nanoseconds_in};
 
 use crate::results::{AdjustedTimeResult, Duration, DurationResult, TimeResult};
 use crate::status::{INVALID_DURATION, INVALID_TIME};
@@ -12,11 +12,9 @@ use crate::values::{valid_duration, valid_time};
 /// Adds a duration, modulo a day.
 #[unsafe(no_mangle)]
 pub extern "C" fn fots_time_add(time: u64, duration: Duration) -> TimeResult
-    ensures invalid_time { ¬ IsTime time → result ≡ time_error invalid_time }
-    ensures invalid_duration { IsTime time → ¬ IsDurationPair duration
-        → result ≡ time_error invalid_duration }
-    ensures value { IsTime time → IsDurationPair duration
-        → result ≡ time_ok (modulo_day (pos time +ℤ nanoseconds_in duration)) }
+    ensures { need IsTime time else result ≡ time_error invalid_time then
+        need IsDurationPair duration else result ≡ time_error invalid_duration then
+        result ≡ time_ok (modulo_day (pos time +ℤ nanoseconds_in duration)) }
 {
     let time = or_return!(valid_time(time), TimeResult::error(INVALID_TIME));
     let duration = or_return!(
@@ -29,11 +27,9 @@ pub extern "C" fn fots_time_add(time: u64, duration: Duration) -> TimeResult
 /// Adds a duration. The carry is the days beyond the whole days of the duration.
 #[unsafe(no_mangle)]
 pub extern "C" fn fots_time_adjusting_add(time: u64, duration: Duration) -> AdjustedTimeResult
-    ensures invalid_time { ¬ IsTime time → result ≡ adjusted_time_error invalid_time }
-    ensures invalid_duration { IsTime time → ¬ IsDurationPair duration
-        → result ≡ adjusted_time_error invalid_duration }
-    ensures value { IsTime time → IsDurationPair duration
-        → IsAddAdjusted time (nanoseconds_in duration) result }
+    ensures { need IsTime time else result ≡ adjusted_time_error invalid_time then
+        need IsDurationPair duration else result ≡ adjusted_time_error invalid_duration then
+        IsAddAdjusted time (nanoseconds_in duration) result }
 {
     let time = or_return!(valid_time(time), AdjustedTimeResult::error(INVALID_TIME));
     let duration = or_return!(
@@ -47,11 +43,9 @@ pub extern "C" fn fots_time_adjusting_add(time: u64, duration: Duration) -> Adju
 /// Subtracts a duration, modulo a day.
 #[unsafe(no_mangle)]
 pub extern "C" fn fots_time_sub(time: u64, duration: Duration) -> TimeResult
-    ensures invalid_time { ¬ IsTime time → result ≡ time_error invalid_time }
-    ensures invalid_duration { IsTime time → ¬ IsDurationPair duration
-        → result ≡ time_error invalid_duration }
-    ensures value { IsTime time → IsDurationPair duration
-        → result ≡ time_ok (modulo_day (pos time -ℤ nanoseconds_in duration)) }
+    ensures { need IsTime time else result ≡ time_error invalid_time then
+        need IsDurationPair duration else result ≡ time_error invalid_duration then
+        result ≡ time_ok (modulo_day (pos time -ℤ nanoseconds_in duration)) }
 {
     let time = or_return!(valid_time(time), TimeResult::error(INVALID_TIME));
     let duration = or_return!(
@@ -64,11 +58,9 @@ pub extern "C" fn fots_time_sub(time: u64, duration: Duration) -> TimeResult
 /// Subtracts a duration. The carry is the days beyond the whole days of the duration.
 #[unsafe(no_mangle)]
 pub extern "C" fn fots_time_adjusting_sub(time: u64, duration: Duration) -> AdjustedTimeResult
-    ensures invalid_time { ¬ IsTime time → result ≡ adjusted_time_error invalid_time }
-    ensures invalid_duration { IsTime time → ¬ IsDurationPair duration
-        → result ≡ adjusted_time_error invalid_duration }
-    ensures value { IsTime time → IsDurationPair duration
-        → IsSubAdjusted time (nanoseconds_in duration) result }
+    ensures { need IsTime time else result ≡ adjusted_time_error invalid_time then
+        need IsDurationPair duration else result ≡ adjusted_time_error invalid_duration then
+        IsSubAdjusted time (nanoseconds_in duration) result }
 {
     let time = or_return!(valid_time(time), AdjustedTimeResult::error(INVALID_TIME));
     let duration = or_return!(

@@ -1,8 +1,9 @@
 //! Times of day with a component replaced.
-ghost use Rattle.std.specs.Prelude.{◌≡◌, ◌*◌, ◌<◌, ◌≤◌};
+ghost use Rattle.std.specs.Prelude.{◌≡◌, ◌*◌, ◌≤◌};
 ghost use Rattle.cal_time.specs.Time.{IsTime, time_of, hour_of, minute_of, second_of, nanosecond_of};
 ghost use Rattle.cal_c.specs.Results.{time_ok, time_error};
 ghost use Rattle.cal_c.specs.Statuses.{invalid_time, hour_status, minute_status, second_status, millisecond_status, microsecond_status, nanosecond_status};
+ghost use Rattle.cal_c.specs.Values.{need◌else◌then◌};
 
 use crate::results::TimeResult;
 use crate::status::INVALID_TIME;
@@ -11,10 +12,9 @@ use crate::values::{saturating_u8, saturating_u16, valid_time};
 /// Replaces the hour. Returns the error `hour` above 23.
 #[unsafe(no_mangle)]
 pub extern "C" fn fots_time_replace_hour(time: u64, hour: u32) -> TimeResult
-    ensures invalid_time { ¬ IsTime time → result ≡ time_error invalid_time }
-    ensures hour { IsTime time → 23 < hour → result ≡ time_error hour_status }
-    ensures value { IsTime time → hour ≤ 23
-        → result ≡ time_ok (time_of hour (minute_of time) (second_of time) (nanosecond_of time)) }
+    ensures { need IsTime time else result ≡ time_error invalid_time then
+        need hour ≤ 23 else result ≡ time_error hour_status then
+        result ≡ time_ok (time_of hour (minute_of time) (second_of time) (nanosecond_of time)) }
 {
     let time = or_return!(valid_time(time), TimeResult::error(INVALID_TIME));
     ok_or_error!(TimeResult, time.replace_hour(saturating_u8(hour)))
@@ -23,10 +23,9 @@ pub extern "C" fn fots_time_replace_hour(time: u64, hour: u32) -> TimeResult
 /// Replaces the minute. Returns the error `minute` above 59.
 #[unsafe(no_mangle)]
 pub extern "C" fn fots_time_replace_minute(time: u64, minute: u32) -> TimeResult
-    ensures invalid_time { ¬ IsTime time → result ≡ time_error invalid_time }
-    ensures minute { IsTime time → 59 < minute → result ≡ time_error minute_status }
-    ensures value { IsTime time → minute ≤ 59
-        → result ≡ time_ok (time_of (hour_of time) minute (second_of time) (nanosecond_of time)) }
+    ensures { need IsTime time else result ≡ time_error invalid_time then
+        need minute ≤ 59 else result ≡ time_error minute_status then
+        result ≡ time_ok (time_of (hour_of time) minute (second_of time) (nanosecond_of time)) }
 {
     let time = or_return!(valid_time(time), TimeResult::error(INVALID_TIME));
     ok_or_error!(TimeResult, time.replace_minute(saturating_u8(minute)))
@@ -35,10 +34,9 @@ pub extern "C" fn fots_time_replace_minute(time: u64, minute: u32) -> TimeResult
 /// Replaces the second. Returns the error `second` above 59.
 #[unsafe(no_mangle)]
 pub extern "C" fn fots_time_replace_second(time: u64, second: u32) -> TimeResult
-    ensures invalid_time { ¬ IsTime time → result ≡ time_error invalid_time }
-    ensures second { IsTime time → 59 < second → result ≡ time_error second_status }
-    ensures value { IsTime time → second ≤ 59
-        → result ≡ time_ok (time_of (hour_of time) (minute_of time) second (nanosecond_of time)) }
+    ensures { need IsTime time else result ≡ time_error invalid_time then
+        need second ≤ 59 else result ≡ time_error second_status then
+        result ≡ time_ok (time_of (hour_of time) (minute_of time) second (nanosecond_of time)) }
 {
     let time = or_return!(valid_time(time), TimeResult::error(INVALID_TIME));
     ok_or_error!(TimeResult, time.replace_second(saturating_u8(second)))
@@ -47,11 +45,9 @@ pub extern "C" fn fots_time_replace_second(time: u64, second: u32) -> TimeResult
 /// Sets the fraction of the second in milliseconds. Returns the error `millisecond` above 999.
 #[unsafe(no_mangle)]
 pub extern "C" fn fots_time_replace_millisecond(time: u64, millisecond: u32) -> TimeResult
-    ensures invalid_time { ¬ IsTime time → result ≡ time_error invalid_time }
-    ensures millisecond { IsTime time → 999 < millisecond
-        → result ≡ time_error millisecond_status }
-    ensures value { IsTime time → millisecond ≤ 999
-        → result ≡ time_ok (time_of (hour_of time) (minute_of time) (second_of time)
+    ensures { need IsTime time else result ≡ time_error invalid_time then
+        need millisecond ≤ 999 else result ≡ time_error millisecond_status then
+        result ≡ time_ok (time_of (hour_of time) (minute_of time) (second_of time)
         (millisecond * 1_000_000)) }
 {
     let time = or_return!(valid_time(time), TimeResult::error(INVALID_TIME));
@@ -64,11 +60,9 @@ pub extern "C" fn fots_time_replace_millisecond(time: u64, millisecond: u32) -> 
 /// Sets the fraction of the second in microseconds. Returns the error `microsecond` above 999999.
 #[unsafe(no_mangle)]
 pub extern "C" fn fots_time_replace_microsecond(time: u64, microsecond: u32) -> TimeResult
-    ensures invalid_time { ¬ IsTime time → result ≡ time_error invalid_time }
-    ensures microsecond { IsTime time → 999_999 < microsecond
-        → result ≡ time_error microsecond_status }
-    ensures value { IsTime time → microsecond ≤ 999_999
-        → result ≡ time_ok (time_of (hour_of time) (minute_of time) (second_of time)
+    ensures { need IsTime time else result ≡ time_error invalid_time then
+        need microsecond ≤ 999_999 else result ≡ time_error microsecond_status then
+        result ≡ time_ok (time_of (hour_of time) (minute_of time) (second_of time)
         (microsecond * 1_000)) }
 {
     let time = or_return!(valid_time(time), TimeResult::error(INVALID_TIME));
@@ -78,11 +72,9 @@ pub extern "C" fn fots_time_replace_microsecond(time: u64, microsecond: u32) -> 
 /// Sets the fraction of the second in nanoseconds. Returns the error `nanosecond` above 999999999.
 #[unsafe(no_mangle)]
 pub extern "C" fn fots_time_replace_nanosecond(time: u64, nanosecond: u32) -> TimeResult
-    ensures invalid_time { ¬ IsTime time → result ≡ time_error invalid_time }
-    ensures nanosecond { IsTime time → 999_999_999 < nanosecond
-        → result ≡ time_error nanosecond_status }
-    ensures value { IsTime time → nanosecond ≤ 999_999_999
-        → result ≡ time_ok (time_of (hour_of time) (minute_of time) (second_of time) nanosecond) }
+    ensures { need IsTime time else result ≡ time_error invalid_time then
+        need nanosecond ≤ 999_999_999 else result ≡ time_error nanosecond_status then
+        result ≡ time_ok (time_of (hour_of time) (minute_of time) (second_of time) nanosecond) }
 {
     let time = or_return!(valid_time(time), TimeResult::error(INVALID_TIME));
     ok_or_error!(TimeResult, time.replace_nanosecond(nanosecond))

@@ -1,10 +1,11 @@
 //! Columns of values in text.
-ghost use Rattle.std.specs.Prelude.{◌≡◌, ◌+◌, ◌≤◌, ◌<◌, ◌↔◌, IsTrue, length, take, drop, [], pos};
+ghost use Rattle.std.specs.Prelude.{◌≡◌, ◌+◌, ◌≤◌, ◌<◌, ◌↔◌, IsTrue, length, take, drop, [], pos, ◌∷◌};
 ghost use Rattle.std.specs.List.{between};
 ghost use Rattle.cal_text.specs.Rfc3339.{HasMomentText, moment_text};
-ghost use Rattle.cal_c.specs.Columns.{int_at, nat_at};
+ghost use Rattle.cal_c.specs.Columns.{int_at, nat_at, SameLength};
 ghost use Rattle.cal_c.specs.Statuses.{ok_status, result_out_of_range};
-ghost use Rattle.cal_c.specs.TextColumns.{ArePrinted, Bounded2, Bounded4, HasRoomFor, IsDateTextRow, IsMomentTextRow};
+ghost use Rattle.cal_c.specs.TextColumns.{ArePrinted, HasRoomFor, IsDateTextRow, IsMomentTextRow};
+ghost use Rattle.cal_c.specs.Values.{need◌else◌then◌};
 
 use super::parsing::are_bounds;
 use crate::columns::statuses::{
@@ -31,13 +32,11 @@ pub extern "C" fn fots_dates_calendar_texts(
     bounds: &mut [i32],
     statuses: &mut [u8],
 ) -> usize
-    ensures length_mismatch { ¬ (Bounded2 dates.now bounds.old statuses.old
-        × HasRoomFor 13 (length dates.now) (length bytes.old))
-        → (result ≡ usize.MAX) × (bytes.new ≡ bytes.old) × (bounds.new ≡ bounds.old)
-        × (statuses.new ≡ statuses.old) }
-    ensures rows { Bounded2 dates.now bounds.old statuses.old
-        × HasRoomFor 13 (length dates.now) (length bytes.old)
-        → ArePrinted bytes.old bytes.new bounds.new statuses.new result
+    ensures { need (length bounds.old ≡ length dates.now + 1)
+        × (length statuses.old ≡ length dates.now) × HasRoomFor 13 (length dates.now) (length bytes.old)
+        else (result ≡ usize.MAX) × (bytes.new ≡ bytes.old) × (bounds.new ≡ bounds.old)
+        × (statuses.new ≡ statuses.old) then
+        ArePrinted bytes.old bytes.new bounds.new statuses.new result
         (λ k. IsDateTextRow (int_at dates.now k)) }
 {
     let rows = dates.len();
@@ -103,13 +102,12 @@ pub extern "C" fn fots_moments_texts(
     bounds: &mut [i32],
     statuses: &mut [u8],
 ) -> usize
-    ensures length_mismatch { ¬ (Bounded4 dates.now bounds.old times.now offsets.now statuses.old
-        × HasRoomFor 38 (length dates.now) (length bytes.old))
-        → (result ≡ usize.MAX) × (bytes.new ≡ bytes.old) × (bounds.new ≡ bounds.old)
-        × (statuses.new ≡ statuses.old) }
-    ensures rows { Bounded4 dates.now bounds.old times.now offsets.now statuses.old
+    ensures { need (length bounds.old ≡ length dates.now + 1)
+        × SameLength (length dates.now) (length times.now ∷ length offsets.now ∷ length statuses.old ∷ [])
         × HasRoomFor 38 (length dates.now) (length bytes.old)
-        → ArePrinted bytes.old bytes.new bounds.new statuses.new result
+        else (result ≡ usize.MAX) × (bytes.new ≡ bytes.old) × (bounds.new ≡ bounds.old)
+        × (statuses.new ≡ statuses.old) then
+        ArePrinted bytes.old bytes.new bounds.new statuses.new result
         (λ k. IsMomentTextRow (int_at dates.now k) (nat_at times.now k) (int_at offsets.now k)) }
 {
     let rows = dates.len();

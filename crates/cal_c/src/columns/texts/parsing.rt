@@ -1,7 +1,8 @@
 //! Columns of texts to parse.
-ghost use Rattle.std.specs.Prelude.{◌≡◌, ◌↔◌, ◌+◌, length, IsTrue, MatchOption};
-ghost use Rattle.cal_c.specs.Columns.{date_row, int_at, nat_at, AreRows};
-ghost use Rattle.cal_c.specs.TextColumns.{AreBoundsWithin, Bounded2, Bounded4, IsParsedDateRow, IsParsedDate, IsParsedMomentRow, IsParsedMoment, moment_row, bytes_between};
+ghost use Rattle.std.specs.Prelude.{◌≡◌, ◌↔◌, ◌+◌, length, IsTrue, MatchOption, ◌∷◌, []};
+ghost use Rattle.cal_c.specs.Columns.{date_row, int_at, SameLength, nat_at, AreRows};
+ghost use Rattle.cal_c.specs.TextColumns.{AreBoundsWithin, IsParsedDateRow, IsParsedDate, IsParsedMomentRow, IsParsedMoment, moment_row, bytes_between};
+ghost use Rattle.cal_c.specs.Values.{need◌else◌then◌};
 
 use crate::columns::statuses::{INVALID_BOUNDS, byte_status};
 use crate::columns::{LENGTH_MISMATCH, NO_VALUE, count_errors};
@@ -16,10 +17,9 @@ pub extern "C" fn fots_dates_parse(
     dates: &mut [i32],
     statuses: &mut [u8],
 ) -> usize
-    ensures length_mismatch { ¬ Bounded2 dates.old bounds.now statuses.old
-        → (result ≡ usize.MAX) × (dates.new ≡ dates.old) × (statuses.new ≡ statuses.old) }
-    ensures rows { Bounded2 dates.old bounds.now statuses.old
-        → AreRows statuses.new result (λ k. IsParsedDateRow bytes.now (int_at bounds.now k)
+    ensures { need (length bounds.now ≡ length dates.old + 1) × (length statuses.old ≡ length dates.old)
+        else (result ≡ usize.MAX) × (dates.new ≡ dates.old) × (statuses.new ≡ statuses.old) then
+        AreRows statuses.new result (λ k. IsParsedDateRow bytes.now (int_at bounds.now k)
         (int_at bounds.now (k + 1)) (date_row (int_at dates.new k) (nat_at statuses.new k))) }
 {
     let rows = dates.len();
@@ -27,9 +27,7 @@ pub extern "C" fn fots_dates_parse(
         return LENGTH_MISMATCH;
     }
     for row in 0..rows {
-        let (date, status) = parse_date_between(bytes, bounds[row], bounds[row + 1]);
-        dates[row] = date;
-        statuses[row] = status;
+        (dates[row], statuses[row]) = parse_date_between(bytes, bounds[row], bounds[row + 1]);
     }
     count_errors(statuses)
 }
@@ -44,11 +42,11 @@ pub extern "C" fn fots_moments_parse(
     offsets: &mut [i32],
     statuses: &mut [u8],
 ) -> usize
-    ensures length_mismatch { ¬ Bounded4 dates.old bounds.now times.old offsets.old statuses.old
-        → (result ≡ usize.MAX) × (dates.new ≡ dates.old) × (times.new ≡ times.old)
-        × (offsets.new ≡ offsets.old) × (statuses.new ≡ statuses.old) }
-    ensures rows { Bounded4 dates.old bounds.now times.old offsets.old statuses.old
-        → AreRows statuses.new result (λ k. IsParsedMomentRow bytes.now (int_at bounds.now k)
+    ensures { need (length bounds.now ≡ length dates.old + 1)
+        × SameLength (length dates.old) (length times.old ∷ length offsets.old ∷ length statuses.old ∷ [])
+        else (result ≡ usize.MAX) × (dates.new ≡ dates.old) × (times.new ≡ times.old)
+        × (offsets.new ≡ offsets.old) × (statuses.new ≡ statuses.old) then
+        AreRows statuses.new result (λ k. IsParsedMomentRow bytes.now (int_at bounds.now k)
         (int_at bounds.now (k + 1)) (moment_row (int_at dates.new k) (nat_at times.new k)
         (int_at offsets.new k) (nat_at statuses.new k))) }
 {

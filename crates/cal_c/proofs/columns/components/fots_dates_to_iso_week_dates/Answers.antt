@@ -7,6 +7,6 @@ use Rattle.cal_c.proofs.columns.components.fots_dates_to_iso_week_dates.Goals as
 pub loop-row-preserved : goal.loop-row-preserved
 loop-row-preserved c =
     let f-dates : FitsSigned w32 (get_or c.args.dates.now c.loop-row.row (pos 0)) = search rules in
-    let fits : FitsSigned w32 c.iso_week_date_row_of-year.result.0 = search rules in
-    let here : IsIsoWeekDateOf (get_or c.args.dates.now c.loop-row.row (pos 0)) (iso_week_date_row c.iso_week_date_row_of-year.result.0 c.iso_week_date_row_of-year.result.1 c.iso_week_date_row_of-year.result.2 c.iso_week_date_row_of-year.result.3) = simp to_z-of_z at c.iso_week_date_row_of-year.ensures in
-    rows_four (λ k year week weekday status. IsIsoWeekDateOf (get_or c.args.dates.now k (pos 0)) (iso_week_date_row year week weekday status)) c.loop-row.years c.loop-row.weeks c.loop-row.weekdays c.loop-row.statuses c.loop-row.row (to_z w32 (of_z w32 c.iso_week_date_row_of-year.result.0)) (pos 0) c.iso_week_date_row_of-year.result.1 0 c.iso_week_date_row_of-year.result.2 0 c.iso_week_date_row_of-year.result.3 0 (omega arith) (omega arith) (omega arith) (omega arith) c.loop-row.invariant (simp to_z-of_z here)
+    let fits : FitsSigned w32 c.iso_week_date_row_of.result.0 = search rules in
+    let here : IsIsoWeekDateOf (get_or c.args.dates.now c.loop-row.row (pos 0)) (iso_week_date_row c.iso_week_date_row_of.result.0 c.iso_week_date_row_of.result.1 c.iso_week_date_row_of.result.2 c.iso_week_date_row_of.result.3) = simp to_z-of_z at c.iso_week_date_row_of.ensures in
+    rows_four (λ k year week weekday status. IsIsoWeekDateOf (get_or c.args.dates.now k (pos 0)) (iso_week_date_row year week weekday status)) c.loop-row.years c.loop-row.weeks c.loop-row.weekdays c.loop-row.statuses c.loop-row.row (to_z w32 (of_z w32 c.iso_week_date_row_of.result.0)) (pos 0) c.iso_week_date_row_of.result.1 0 c.iso_week_date_row_of.result.2 0 c.iso_week_date_row_of.result.3 0 (omega arith) (omega arith) (omega arith) (omega arith) c.loop-row.invariant (simp to_z-of_z here)

@@ -7,6 +7,6 @@ use Rattle.cal_c.proofs.columns.constructors.fots_dates_from_ordinal_dates.Goals
 pub loop-row-preserved : goal.loop-row-preserved
 loop-row-preserved c =
     let f-years : FitsSigned w32 (get_or c.args.years.now c.loop-row.row (pos 0)) = search rules in
-    let fits : FitsSigned w32 c.row_from_ordinal_date-date.result.0 = search rules in
-    let here : IsDateOfOrdinalDate (get_or c.args.years.now c.loop-row.row (pos 0)) (get_or c.args.ordinals.now c.loop-row.row 0) (date_row c.row_from_ordinal_date-date.result.0 c.row_from_ordinal_date-date.result.1) = simp to_z-of_z at c.row_from_ordinal_date-date.ensures in
-    rows_two (λ k date status. IsDateOfOrdinalDate (get_or c.args.years.now k (pos 0)) (get_or c.args.ordinals.now k 0) (date_row date status)) c.loop-row.dates c.loop-row.statuses c.loop-row.row (to_z w32 (of_z w32 c.row_from_ordinal_date-date.result.0)) (pos 0) c.row_from_ordinal_date-date.result.1 0 (omega arith) (omega arith) c.loop-row.invariant (simp to_z-of_z here)
+    let fits : FitsSigned w32 c.row_from_ordinal_date.result.0 = search rules in
+    let here : IsDateOfOrdinalDate (get_or c.args.years.now c.loop-row.row (pos 0)) (get_or c.args.ordinals.now c.loop-row.row 0) (date_row c.row_from_ordinal_date.result.0 c.row_from_ordinal_date.result.1) = simp to_z-of_z at c.row_from_ordinal_date.ensures in
+    rows_two (λ k date status. IsDateOfOrdinalDate (get_or c.args.years.now k (pos 0)) (get_or c.args.ordinals.now k 0) (date_row date status)) c.loop-row.dates c.loop-row.statuses c.loop-row.row (to_z w32 (of_z w32 c.row_from_ordinal_date.result.0)) (pos 0) c.row_from_ordinal_date.result.1 0 (omega arith) (omega arith) c.loop-row.invariant (simp to_z-of_z here)

@@ -4,13 +4,14 @@ use Rattle.cal_time.specs.Weekday.{index}
 use Rattle.cal_schedule.specs.Weekdays.{occurrences_from}
 use Rattle.cal_c.specs.Results.{date_or_out_of_range}
 use Rattle.cal_c.specs.Values.{day_of}
+use Rattle.cal_c.proofs.Needs.{met}
 use Rattle.cal_c.proofs.schedule.weekdays.fots_date_on_or_after.Goals as goal
 
-pub returns-clause-value : goal.returns-clause-value
-returns-clause-value c = λ h w.
+pub returns : goal.returns
+returns c =
     let f = c.ranges.date in
     let at = simp to_z-of_z at c.in-Some.ensures in
     let p : index c.in-Some-valid_weekday.value ≡ c.args.weekday - 1 = omega (arith, c.in-Some-valid_weekday.ensures.1) in
     let same = ap (λ n. slice_get (occurrences_from (index c.in-Some-valid_weekday.value) n) 0) at.1
     ∙ ap (λ q. slice_get (occurrences_from q (day_of c.args.date)) 0) p in
-    c.from_option.ensures ∙ ap date_or_out_of_range (c.on_or_after.ensures.value ∙ same)
+    met at.0 (met c.in-Some-valid_weekday.ensures.0 (c.from_option.ensures ∙ ap date_or_out_of_range (c.on_or_after.ensures.value ∙ same)))

@@ -2,10 +2,11 @@ use Rattle.std.proofs.Common.{refl, sym, subst}
 use Rattle.cal_time.specs.Time.{carry}
 use Rattle.cal_c.specs.Values.{nanoseconds_in}
 use Rattle.cal_c.specs.Results.{adjusted_time_ok, IsAddAdjusted}
+use Rattle.cal_c.proofs.Needs.{met}
 use Rattle.cal_c.proofs.time.arithmetic.fots_time_adjusting_add.Goals as goal
 
-pub returns-clause-value : goal.returns-clause-value
-returns-clause-value c = λ h d.
+pub returns : goal.returns
+returns c =
     let e = c.adjusting_add-adjustment.ensures in
     let t = c.in-Some.value in
     let v = c.in-Some-valid_duration.value in
@@ -13,4 +14,4 @@ returns-clause-value c = λ h d.
     let found : IsAddAdjusted t v r = record { status_is = refl; is_time = record { below_day = e.range }; equation = e.value; forward = e.forward; backward = e.backward } in
     let at_time : IsAddAdjusted c.args.time v r = subst (λ s. IsAddAdjusted s v r) c.in-Some.ensures.1 found in
     let both : IsAddAdjusted c.args.time (nanoseconds_in c.args.duration) r = subst (λ w. IsAddAdjusted c.args.time w r) c.in-Some-valid_duration.ensures.1 at_time in
-    subst (IsAddAdjusted c.args.time (nanoseconds_in c.args.duration)) (sym c.ok.ensures) both
+    met c.in-Some.ensures.0 (met c.in-Some-valid_duration.ensures.0 (subst (IsAddAdjusted c.args.time (nanoseconds_in c.args.duration)) (sym c.ok.ensures) both))
