@@ -96,6 +96,10 @@ fn durations(rt: &impl Print, duration: SignedDuration) -> io::Result<()> {
         "{:?}",
         SignedDuration::try_sum(&made).map(|sum| sum.whole_seconds())
     )?;
+    parts_of_a_duration(rt, duration)
+}
+
+fn parts_of_a_duration(rt: &impl Print, duration: SignedDuration) -> io::Result<()> {
     println!(rt;
         "{} {} {}",
         duration.is_zero(),

@@ -113,12 +113,6 @@ fn unix_times(rt: HostRuntime) {
         (epoch.unix_timestamp(), epoch.unix_timestamp_nanos()),
         (0, 0),
     );
-    let before = back(&rt, epoch, SignedDuration::milliseconds(500));
-    same(
-        &rt,
-        (before.unix_timestamp(), before.unix_timestamp_nanos()),
-        (-1, -500_000_000),
-    );
     for (seconds, wanted) in [
         (0, Some(epoch.local())),
         (
@@ -142,6 +136,16 @@ fn unix_times(rt: HostRuntime) {
         let found = OffsetDateTime::from_unix_timestamp(seconds).ok();
         same(&rt, found.map(|moment| moment.local()), wanted);
     }
+}
+
+#[test]
+fn unix_times_in_nanoseconds(rt: HostRuntime) {
+    let before = back(&rt, OffsetDateTime::unix_epoch(), SignedDuration::milliseconds(500));
+    same(
+        &rt,
+        (before.unix_timestamp(), before.unix_timestamp_nanos()),
+        (-1, -500_000_000),
+    );
     same(
         &rt,
         OffsetDateTime::from_unix_timestamp_nanos(-500_000_000).ok(),
@@ -205,7 +209,7 @@ fn replaced_by_their_own(rt: HostRuntime) {
 }
 
 #[test]
-fn moved_and_replaced_at_an_offset(rt: HostRuntime) {
+fn moved_at_an_offset(rt: HostRuntime) {
     let (night, one) = (leap_night(&rt), hours(&rt, 1));
     let two = SignedDuration::hours(2);
     let later = date_time(&rt, (2024, Month::March, 1), (1, 59, 59, 250_000_000)).assume_offset(
@@ -227,6 +231,12 @@ fn moved_and_replaced_at_an_offset(rt: HostRuntime) {
         night.replace_offset(UtcOffset::UTC) - night,
         SignedDuration::hours(1),
     );
+    same(&rt, later.partial_cmp(&night), Some(Ordering::Greater));
+}
+
+#[test]
+fn replaced_at_an_offset(rt: HostRuntime) {
+    let (night, one) = (leap_night(&rt), hours(&rt, 1));
     same(&rt, night.replace_date_time(min_date_time()).offset(), one);
     same(
         &rt,
@@ -255,7 +265,6 @@ fn moved_and_replaced_at_an_offset(rt: HostRuntime) {
         OffsetDateTime::new_utc(Date::MIN, Time::MIDNIGHT).local(),
         min_date_time(),
     );
-    same(&rt, later.partial_cmp(&night), Some(Ordering::Greater));
 }
 
 /// The date-time moved on, by `+=` and by `+`.
