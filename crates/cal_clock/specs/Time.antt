@@ -1,7 +1,7 @@
 -- A time of day is a whole number of nanoseconds since midnight, less than a day of 24 hours (a
 -- local time of day of ISO 8601, without leap seconds). The results of its calls are functions of
 -- this number.
-use Rattle.std.specs.Prelude.{◌≡◌, ℕ, ◌+◌, ◌*◌, ◌/◌, ◌%◌, ◌<◌, ◌≤◌, ◌↔◌, ℤ, pos, negsuc, ◌+ℤ◌, ◌*ℤ◌, ◌≤ℤ◌, unsigned_abs, List, ◌++◌, codes, Result}
+use Rattle.std.specs.Prelude.{◌≡◌, ℕ, ◌+◌, ◌*◌, ◌/◌, ◌%◌, ◌<◌, ◌≤◌, ◌↔◌, ℤ, pos, negsuc, ◌+ℤ◌, ◌*ℤ◌, ◌≤ℤ◌, unsigned_abs, List, ◌++◌, codes, Result, Ok, IfErr}
 use Rattle.std.specs.Int.{int_rem_euclid}
 use Rattle.std.specs.Fmt.{decimal}
 use Rattle.cal_units.specs.declared.error.Component.TheVariants as component
@@ -64,6 +64,38 @@ microsecond_of t = t / microsecond % 1_000_000
 
 abbrev pub nanosecond_of : ℕ → ℕ
 nanosecond_of t = t % second
+
+-- The hour, the minute and the second; then with the parts of the second in one unit.
+abbrev pub hms_of : ℕ → ℕ × ℕ × ℕ
+hms_of t = (hour_of t, minute_of t, second_of t)
+
+abbrev pub hms_milli_of : ℕ → ℕ × ℕ × ℕ × ℕ
+hms_milli_of t = (hour_of t, minute_of t, second_of t, millisecond_of t)
+
+abbrev pub hms_micro_of : ℕ → ℕ × ℕ × ℕ × ℕ
+hms_micro_of t = (hour_of t, minute_of t, second_of t, microsecond_of t)
+
+abbrev pub hms_nano_of : ℕ → ℕ × ℕ × ℕ × ℕ
+hms_nano_of t = (hour_of t, minute_of t, second_of t, nanosecond_of t)
+
+-- The time of day with one part replaced. The last definition replaces everything past the second.
+abbrev pub with_hour : ℕ → ℕ → ℕ
+with_hour t hours = time_of hours (minute_of t) (second_of t) (nanosecond_of t)
+
+abbrev pub with_minute : ℕ → ℕ → ℕ
+with_minute t minutes = time_of (hour_of t) minutes (second_of t) (nanosecond_of t)
+
+abbrev pub with_second : ℕ → ℕ → ℕ
+with_second t seconds = time_of (hour_of t) (minute_of t) seconds (nanosecond_of t)
+
+abbrev pub with_nanoseconds : ℕ → ℕ → ℕ
+with_nanoseconds t nanoseconds = time_of (hour_of t) (minute_of t) (second_of t) nanoseconds
+
+-- The result is the new value if the component is up to its maximum, else this error.
+pub record ReplacesComponent {T : Type 0} (component maximum : ℕ) (why : ComponentRange) (new : T) (result : Result T ComponentRange) : Type 0 where
+  pub error : FailsWith why result ↔ (maximum < component)
+  pub error_kind : IfErr result (λ e. e ≡ why)
+  pub value : component ≤ maximum → result ≡ Ok new
 
 -- ---- days
 -- The remainder of a number of nanoseconds by a day, from 0 to less than a day.

@@ -86,10 +86,7 @@ impl Time {
         ensures value { hour ≤ 23 → minute ≤ 59 → second ≤ 59 → millisecond ≤ 999
             → result ≡ Ok (time_of hour minute second (millisecond * 1_000_000)) }
     {
-        match Self::from_hms(hour, minute, second) {
-            Ok(time) => time.replace_millisecond(millisecond),
-            Err(error) => Err(error),
-        }
+        Self::from_hms(hour, minute, second)?.replace_millisecond(millisecond)
     }
 
     /// Creates a time from an hour, a minute, a second and a microsecond.
@@ -109,10 +106,7 @@ impl Time {
         ensures value { hour ≤ 23 → minute ≤ 59 → second ≤ 59 → microsecond ≤ 999_999
             → result ≡ Ok (time_of hour minute second (microsecond * 1_000)) }
     {
-        match Self::from_hms(hour, minute, second) {
-            Ok(time) => time.replace_microsecond(microsecond),
-            Err(error) => Err(error),
-        }
+        Self::from_hms(hour, minute, second)?.replace_microsecond(microsecond)
     }
 
     /// Creates a time from an hour, a minute, a second and a nanosecond.
@@ -132,9 +126,6 @@ impl Time {
         ensures value { hour ≤ 23 → minute ≤ 59 → second ≤ 59 → nanosecond ≤ 999_999_999
             → result ≡ Ok (time_of hour minute second nanosecond) }
     {
-        match Self::from_hms(hour, minute, second) {
-            Ok(time) => time.replace_nanosecond(nanosecond),
-            Err(error) => Err(error),
-        }
+        Self::from_hms(hour, minute, second)?.replace_nanosecond(nanosecond)
     }
 }

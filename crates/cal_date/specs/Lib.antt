@@ -11,5 +11,6 @@ pub mod Arithmetic
 pub mod Occurrences
 pub mod Order
 pub mod DateErrors
+pub mod DateResults
 -- The errors, for higher crates.
 pub use Rattle.cal_units.specs.ComponentError

@@ -30,6 +30,13 @@ date_at z = unsigned_abs z / day
 unfoldable pub time_at : ℤ → ℕ
 time_at z = unsigned_abs z % day
 
+-- The date-time on another day, and at another time of day.
+abbrev pub with_date : ℤ → ℕ → ℤ
+with_date z n = date_time n (time_at z)
+
+abbrev pub with_time : ℤ → ℕ → ℤ
+with_time z t = date_time (date_at z) t
+
 -- The text of a date-time is the text of its day, a space and the text of its time of day.
 abbrev pub text : ℤ → List ℕ
 text z = date.text (date_at z) ++ codes " " ++ clock.text (time_at z)

@@ -2,3 +2,4 @@ pub mod DateTime
 pub mod DateTimeLaws
 pub mod OffsetDateTime
 pub mod OffsetDateTimeLaws
+pub mod Replacement

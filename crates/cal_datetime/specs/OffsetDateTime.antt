@@ -13,12 +13,22 @@ use Rattle.cal_time.specs.UtcOffset as offset
 use Rattle.cal_time.specs.UtcOffset.{max_offset_seconds}
 use Rattle.cal_time.specs.DateText as date
 use Rattle.cal_time.specs.Time as clock
-use Rattle.cal_datetime.specs.DateTime.{last_date_time, date_at, time_at}
+use Rattle.cal_datetime.specs.DateTime.{last_date_time, date_at, time_at, with_date, with_time}
 
 -- A date-time at an offset, with the offset in seconds.
 pub record LocalAndOffset : Type 0 where
   pub local : ℤ
   pub offset : ℤ
+
+-- The local day; the date-time on another local day, and at another local time of day.
+abbrev pub local_date : LocalAndOffset → ℕ
+local_date m = date_at m.local
+
+abbrev pub with_local_date : LocalAndOffset → ℕ → LocalAndOffset
+with_local_date m n = record { local = with_date m.local n; offset = m.offset }
+
+abbrev pub with_local_time : LocalAndOffset → ℕ → LocalAndOffset
+with_local_time m t = record { local = with_time m.local t; offset = m.offset }
 
 -- The instant is the nanoseconds at UTC since the first date-time of the range. It may lie outside
 -- the range.

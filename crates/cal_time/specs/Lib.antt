@@ -31,3 +31,4 @@ pub use Rattle.cal_date.specs.Arithmetic
 pub use Rattle.cal_date.specs.Occurrences
 pub use Rattle.cal_date.specs.Order
 pub use Rattle.cal_date.specs.DateErrors
+pub use Rattle.cal_date.specs.DateResults

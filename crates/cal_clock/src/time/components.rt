@@ -1,9 +1,8 @@
 //! The parts of times: returned, replaced and truncated.
 
-ghost use Rattle.std.specs.Prelude.{◌≡◌, ◌↔◌, ◌*◌, ◌/◌, ◌<◌, ◌≤◌};
-ghost use Rattle.cal_units.specs.ComponentError.{FailsWith};
+ghost use Rattle.std.specs.Prelude.{◌≡◌, ◌*◌, ◌/◌};
 ghost use Rattle.cal_span.specs.SignedDuration.{second};
-ghost use Rattle.cal_clock.specs.Time.{hour_out_of_range, minute_out_of_range, second_out_of_range, millisecond_out_of_range, microsecond_out_of_range, nanosecond_out_of_range, time_of, IsTime, hour_of, minute_of, second_of, millisecond_of, microsecond_of, nanosecond_of};
+ghost use Rattle.cal_clock.specs.Time.{hour_out_of_range, minute_out_of_range, second_out_of_range, millisecond_out_of_range, microsecond_out_of_range, nanosecond_out_of_range, time_of, IsTime, ReplacesComponent, with_hour, with_minute, with_second, with_nanoseconds, hour_of, minute_of, second_of, millisecond_of, microsecond_of, nanosecond_of, hms_of, hms_milli_of, hms_micro_of, hms_nano_of};
 
 use crate::Time;
 use crate::units::{
@@ -15,14 +14,14 @@ use cal_units::error::{Component, ComponentRange};
 impl Time {
     /// Returns the hour, minute and second: 1, 2 and 3 for 1:02:03.004005006.
     pub fn as_hms(self) -> (u8, u8, u8)
-        ensures { result ≡ (hour_of self, minute_of self, second_of self) }
+        ensures { result ≡ hms_of self }
     {
         (self.hour(), self.minute(), self.second())
     }
 
     /// Returns the hour, minute, second and millisecond: 1, 2, 3 and 4 for 1:02:03.0049.
     pub fn as_hms_milli(self) -> (u8, u8, u8, u16)
-        ensures { result ≡ (hour_of self, minute_of self, second_of self, millisecond_of self) }
+        ensures { result ≡ hms_milli_of self }
     {
         (
             self.hour(),
@@ -34,7 +33,7 @@ impl Time {
 
     /// Returns the hour, minute, second and microsecond: 1, 2, 3 and 4005 for 1:02:03.004005.
     pub fn as_hms_micro(self) -> (u8, u8, u8, u32)
-        ensures { result ≡ (hour_of self, minute_of self, second_of self, microsecond_of self) }
+        ensures { result ≡ hms_micro_of self }
     {
         (
             self.hour(),
@@ -46,7 +45,7 @@ impl Time {
 
     /// Returns the hour, minute, second and nanosecond: 1, 2, 3 and 4005006 for 1:02:03.004005006.
     pub fn as_hms_nano(self) -> (u8, u8, u8, u32)
-        ensures { result ≡ (hour_of self, minute_of self, second_of self, nanosecond_of self) }
+        ensures { result ≡ hms_nano_of self }
     {
         (self.hour(), self.minute(), self.second(), self.nanosecond())
     }
@@ -104,9 +103,7 @@ impl Time {
     /// Replaces the hour. 1:02:03.5 with the hour 7 is 7:02:03.5. Returns the unconditional error
     /// `hour` if it is above 23.
     pub fn replace_hour(self, hour: u8) -> Result<Self, ComponentRange>
-        ensures error { FailsWith hour_out_of_range result ↔ (23 < hour) }
-        ensures value { hour ≤ 23 → result
-            ≡ Ok (time_of hour (minute_of self) (second_of self) (nanosecond_of self)) }
+        ensures { ReplacesComponent hour 23 hour_out_of_range (with_hour self hour) result }
     {
         if hour > 23 {
             return Err(ComponentRange::unconditional(Component::Hour));
@@ -120,9 +117,7 @@ impl Time {
     /// Replaces the minute. 1:02:03.5 with the minute 7 is 1:07:03.5. Returns the unconditional
     /// error `minute` if it is above 59.
     pub fn replace_minute(self, minute: u8) -> Result<Self, ComponentRange>
-        ensures error { FailsWith minute_out_of_range result ↔ (59 < minute) }
-        ensures value { minute ≤ 59
-            → result ≡ Ok (time_of (hour_of self) minute (second_of self) (nanosecond_of self)) }
+        ensures { ReplacesComponent minute 59 minute_out_of_range (with_minute self minute) result }
     {
         if minute > 59 {
             return Err(ComponentRange::unconditional(Component::Minute));
@@ -137,9 +132,7 @@ impl Time {
     /// Replaces the second. 1:02:03.5 with the second 7 is 1:02:07.5. Returns the unconditional
     /// error `second` if it is above 59.
     pub fn replace_second(self, second: u8) -> Result<Self, ComponentRange>
-        ensures error { FailsWith second_out_of_range result ↔ (59 < second) }
-        ensures value { second ≤ 59
-            → result ≡ Ok (time_of (hour_of self) (minute_of self) second (nanosecond_of self)) }
+        ensures { ReplacesComponent second 59 second_out_of_range (with_second self second) result }
     {
         if second > 59 {
             return Err(ComponentRange::unconditional(Component::Second));
@@ -154,10 +147,8 @@ impl Time {
     /// Replaces the decimals of the second by milliseconds. 1:02:03.5 with 7 milliseconds is
     /// 1:02:03.007. Returns the unconditional error `millisecond` if it is above 999.
     pub fn replace_millisecond(self, millisecond: u16) -> Result<Self, ComponentRange>
-        ensures error { FailsWith millisecond_out_of_range result ↔ (999 < millisecond) }
-        ensures value { millisecond ≤ 999
-            → result ≡ Ok (time_of (hour_of self) (minute_of self) (second_of self)
-            (millisecond * 1_000_000)) }
+        ensures { ReplacesComponent millisecond 999 millisecond_out_of_range
+            (with_nanoseconds self (millisecond * 1_000_000)) result }
     {
         if millisecond > 999 {
             return Err(ComponentRange::unconditional(Component::Millisecond));
@@ -171,10 +162,8 @@ impl Time {
     /// Replaces the decimals of the second by microseconds. 1:02:03.5 with 7008 microseconds is
     /// 1:02:03.007008. Returns the unconditional error `microsecond` if it is above 999999.
     pub fn replace_microsecond(self, microsecond: u32) -> Result<Self, ComponentRange>
-        ensures error { FailsWith microsecond_out_of_range result ↔ (999_999 < microsecond) }
-        ensures value { microsecond ≤ 999_999
-            → result ≡ Ok (time_of (hour_of self) (minute_of self) (second_of self)
-            (microsecond * 1_000)) }
+        ensures { ReplacesComponent microsecond 999_999 microsecond_out_of_range
+            (with_nanoseconds self (microsecond * 1_000)) result }
     {
         if microsecond > 999_999 {
             return Err(ComponentRange::unconditional(Component::Microsecond));
@@ -188,9 +177,8 @@ impl Time {
     /// Replaces the decimals of the second by nanoseconds. 1:02:03.5 with 7 nanoseconds is
     /// 1:02:03.000000007. Returns the unconditional error `nanosecond` if it is above 999999999.
     pub fn replace_nanosecond(self, nanosecond: u32) -> Result<Self, ComponentRange>
-        ensures error { FailsWith nanosecond_out_of_range result ↔ (999_999_999 < nanosecond) }
-        ensures value { nanosecond ≤ 999_999_999
-            → result ≡ Ok (time_of (hour_of self) (minute_of self) (second_of self) nanosecond) }
+        ensures { ReplacesComponent nanosecond 999_999_999 nanosecond_out_of_range
+            (with_nanoseconds self nanosecond) result }
     {
         if nanosecond > 999_999_999 {
             return Err(ComponentRange::unconditional(Component::Nanosecond));
@@ -221,7 +209,7 @@ impl Time {
 
     /// Truncates the time to the second. 1:02:03.004005006 becomes 1:02:03.0.
     pub fn truncate_to_second(self) -> Self
-        ensures { result ≡ time_of (hour_of self) (minute_of self) (second_of self) 0 }
+        ensures { result ≡ with_nanoseconds self 0 }
     {
         Self {
             nanoseconds: self.nanoseconds - self.nanoseconds % NANOSECONDS_PER_SECOND,
@@ -230,8 +218,7 @@ impl Time {
 
     /// Truncates the time to the millisecond. 1:02:03.004005006 becomes 1:02:03.004.
     pub fn truncate_to_millisecond(self) -> Self
-        ensures { result ≡ time_of (hour_of self) (minute_of self) (second_of self)
-            (millisecond_of self * 1_000_000) }
+        ensures { result ≡ with_nanoseconds self (millisecond_of self * 1_000_000) }
     {
         Self {
             nanoseconds: self.nanoseconds - self.nanoseconds % NANOSECONDS_PER_MILLISECOND,
@@ -240,8 +227,7 @@ impl Time {
 
     /// Truncates the time to the microsecond. 1:02:03.004005006 becomes 1:02:03.004005.
     pub fn truncate_to_microsecond(self) -> Self
-        ensures { result ≡ time_of (hour_of self) (minute_of self) (second_of self)
-            (microsecond_of self * 1_000) }
+        ensures { result ≡ with_nanoseconds self (microsecond_of self * 1_000) }
     {
         Self {
             nanoseconds: self.nanoseconds - self.nanoseconds % NANOSECONDS_PER_MICROSECOND,

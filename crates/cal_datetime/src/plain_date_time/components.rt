@@ -4,7 +4,7 @@ ghost use Rattle.cal_time.specs.Month.{number};
 ghost use Rattle.cal_time.specs.Weekday.{index};
 ghost use Rattle.cal_time.specs.Date.{year_at, month_at, day_of_month_at, ordinal_at, weekday_at, julian_day_at, IsDate, IsYear, IsOrdinal, IsDayOfMonth, HasOrdinalDate, HasCalendarDate};
 ghost use Rattle.cal_time.specs.IsoWeekDate.{iso_year_at, iso_week_at, weekday_count, IsWeek, HasIsoWeekDate};
-ghost use Rattle.cal_time.specs.Time.{hour_of, minute_of, second_of, millisecond_of, microsecond_of, nanosecond_of};
+ghost use Rattle.cal_time.specs.Time.{hour_of, minute_of, second_of, millisecond_of, microsecond_of, nanosecond_of, hms_of, hms_milli_of, hms_micro_of, hms_nano_of};
 ghost use Rattle.cal_datetime.specs.DateTime.{date_at, time_at};
 
 use crate::PlainDateTime;
@@ -127,47 +127,28 @@ impl PlainDateTime {
 
     /// Returns the hour, minute and second: (23, 59, 59) at 23:59:59.25.
     pub fn as_hms(self) -> (u8, u8, u8)
-        ensures { result ≡ (
-          hour_of (time_at self),
-          minute_of (time_at self),
-          second_of (time_at self),
-        ) }
+        ensures { result ≡ hms_of (time_at self) }
     {
         self.time().as_hms()
     }
 
     /// Returns the hour, minute, second and millisecond: (23, 59, 59, 250) at 23:59:59.25.
     pub fn as_hms_milli(self) -> (u8, u8, u8, u16)
-        ensures { result ≡ (
-          hour_of (time_at self),
-          minute_of (time_at self),
-          second_of (time_at self),
-          millisecond_of (time_at self),
-        ) }
+        ensures { result ≡ hms_milli_of (time_at self) }
     {
         self.time().as_hms_milli()
     }
 
     /// Returns the hour, minute, second and microsecond: (23, 59, 59, 250000) at 23:59:59.25.
     pub fn as_hms_micro(self) -> (u8, u8, u8, u32)
-        ensures { result ≡ (
-          hour_of (time_at self),
-          minute_of (time_at self),
-          second_of (time_at self),
-          microsecond_of (time_at self),
-        ) }
+        ensures { result ≡ hms_micro_of (time_at self) }
     {
         self.time().as_hms_micro()
     }
 
     /// Returns the hour, minute, second and nanosecond: (23, 59, 59, 250000000) at 23:59:59.25.
     pub fn as_hms_nano(self) -> (u8, u8, u8, u32)
-        ensures { result ≡ (
-          hour_of (time_at self),
-          minute_of (time_at self),
-          second_of (time_at self),
-          nanosecond_of (time_at self),
-        ) }
+        ensures { result ≡ hms_nano_of (time_at self) }
     {
         self.time().as_hms_nano()
     }

@@ -1,13 +1,15 @@
+use Rattle.std.proofs.Common.{rules}
 use Rattle.cal_date.proofs.Replacements.{year_kept, cause_left, other_reason}
 use Rattle.cal_date.proofs.date.Date.replace_month.Goals as goal
 
-pub returns-clause-day : goal.returns-clause-day
-returns-clause-day c =
-    let kept = year_kept _ _ c.day.ensures.in_range c.year.ensures.value in
-    cause_left kept.year (rw (kept.same, c.day.ensures.value) at c.from_calendar_date.ensures.day)
+pub returns-clause-value : goal.returns-clause-value
+returns-clause-value c = record { every = search rules; value = search rules; error = search rules }
 
-pub returns-clause-error_kind : goal.returns-clause-error_kind
-returns-clause-error_kind c =
+pub returns-clause-error : goal.returns-clause-error
+returns-clause-error c =
     let kept = year_kept _ _ c.day.ensures.in_range c.year.ensures.value in
     let year = rw kept.same at c.from_calendar_date.ensures.year in
-    other_reason _ _ _ c.from_calendar_date.ensures.error_kind (λ e. year.0 e kept.year)
+    record {
+      error_kind = other_reason _ _ _ c.from_calendar_date.ensures.error_kind (λ e. year.0 e kept.year);
+      day = cause_left kept.year (rw (kept.same, c.day.ensures.value) at c.from_calendar_date.ensures.day);
+    }
