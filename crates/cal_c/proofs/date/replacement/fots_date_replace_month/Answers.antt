@@ -12,12 +12,12 @@ pub returns-in-Ok-clause-day : goal.returns-in-Ok-clause-day
 returns-in-Ok-clause-day c = λ h m out.
     let f = c.ranges.date in let at = simp to_z-of_z at c.in-Some.ensures in
     let at_day = subst (λ n. IsDayOfMonth (year_at n) c.args.month (day_of_month_at n) → ⊥) (sym at.1) out in
-    absurd (c.in-Ok.ensures.day.1 (subst (λ k. IsDayOfMonth (year_at c.in-Some.value) k (day_of_month_at c.in-Some.value) → ⊥) (sym c.in-Some-valid_month.ensures.1) at_day))
+    absurd (c.in-Ok.ensures.error.day.1 (subst (λ k. IsDayOfMonth (year_at c.in-Some.value) k (day_of_month_at c.in-Some.value) → ⊥) (sym c.in-Some-valid_month.ensures.1) at_day))
 
 pub returns-in-Ok-clause-value : goal.returns-in-Ok-clause-value
 returns-in-Ok-clause-value c = λ h m d.
     let f = c.ranges.date in let at = simp to_z-of_z at c.in-Some.ensures in
     let Has = HasCalendarDate (year_at (day_of c.args.date)) c.args.month (day_of_month_at (day_of c.args.date)) in
-    let at_day = subst (λ n. HasCalendarDate (year_at n) (number c.in-Some-valid_month.value) (day_of_month_at n) c.in-Ok.made) at.1 c.in-Ok.ensures.value.1 in
+    let at_day = subst (λ n. HasCalendarDate (year_at n) (number c.in-Some-valid_month.value) (day_of_month_at n) c.in-Ok.made) at.1 c.in-Ok.ensures.value.value.1 in
     let same = at_day ∙ ap (λ k. calendar_day (year_at (day_of c.args.date)) k (day_of_month_at (day_of c.args.date))) c.in-Some-valid_month.ensures.1 in
-    subst (IsDateWith Has) (sym c.ok.ensures) (IsDateWith-at Has c.in-Ok.made c.in-Ok.ensures.value.0 same)
+    subst (IsDateWith Has) (sym c.ok.ensures) (IsDateWith-at Has c.in-Ok.made c.in-Ok.ensures.value.value.0 same)

@@ -13,12 +13,12 @@ pub returns-in-Ok-clause-ordinal : goal.returns-in-Ok-clause-ordinal
 returns-in-Ok-clause-ordinal c = λ h out.
     let f = c.ranges.date in let at = simp to_z-of_z at c.in-Some.ensures in
     let at_day = subst (λ n. IsOrdinal (year_at n) c.args.ordinal → ⊥) (sym at.1) out in
-    absurd (c.in-Ok.ensures.ordinal.1 (c.ordinal_or_invalid.ensures.invalid (year_at c.in-Some.value) at_day))
+    absurd (c.in-Ok.ensures.error.ordinal.1 (c.ordinal_or_invalid.ensures.invalid (year_at c.in-Some.value) at_day))
 
 pub returns-in-Ok-clause-value : goal.returns-in-Ok-clause-value
 returns-in-Ok-clause-value c = λ h o.
     let f = c.ranges.date in let at = simp to_z-of_z at c.in-Some.ensures in
     let Has = HasOrdinalDate (year_at (day_of c.args.date)) c.args.ordinal in
-    let has = c.in-Ok.ensures.value in
+    let has = c.in-Ok.ensures.value.value in
     subst (IsDateWith Has) (sym c.ok.ensures)
     (IsDateWith-at Has c.in-Ok.made has.0 (has.1.0 ∙ ap year_at at.1, has.1.1 ∙ c.ordinal_or_invalid.ensures.value (year_at (day_of c.args.date)) o))
