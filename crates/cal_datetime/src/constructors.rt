@@ -39,10 +39,7 @@ pub fn with_hms(
     ensures value { hour ≤ 23 → minute ≤ 59 → second ≤ 59
         → result ≡ Ok (date_time date (time_of hour minute second 0)) }
 {
-    match Time::from_hms(hour, minute, second) {
-        Ok(time) => Ok(PlainDateTime::new(date, time)),
-        Err(error) => Err(error),
-    }
+    Ok(PlainDateTime::new(date, Time::from_hms(hour, minute, second)?))
 }
 
 /// Creates a date-time from a date, an hour, a minute, a second and a millisecond. Returns the
@@ -60,10 +57,10 @@ pub fn with_hms_milli(
     ensures value { hour ≤ 23 → minute ≤ 59 → second ≤ 59 → millisecond ≤ 999
         → result ≡ Ok (date_time date (time_of hour minute second (millisecond * 1_000_000))) }
 {
-    match Time::from_hms_milli(hour, minute, second, millisecond) {
-        Ok(time) => Ok(PlainDateTime::new(date, time)),
-        Err(error) => Err(error),
-    }
+    Ok(PlainDateTime::new(
+        date,
+        Time::from_hms_milli(hour, minute, second, millisecond)?,
+    ))
 }
 
 /// Creates a date-time from a date, an hour, a minute, a second and a microsecond. Returns the
@@ -81,10 +78,10 @@ pub fn with_hms_micro(
     ensures value { hour ≤ 23 → minute ≤ 59 → second ≤ 59 → microsecond ≤ 999_999
         → result ≡ Ok (date_time date (time_of hour minute second (microsecond * 1_000))) }
 {
-    match Time::from_hms_micro(hour, minute, second, microsecond) {
-        Ok(time) => Ok(PlainDateTime::new(date, time)),
-        Err(error) => Err(error),
-    }
+    Ok(PlainDateTime::new(
+        date,
+        Time::from_hms_micro(hour, minute, second, microsecond)?,
+    ))
 }
 
 /// Creates a date-time from a date, an hour, a minute, a second and a nanosecond. Returns the
@@ -102,8 +99,5 @@ pub fn with_hms_nano(
     ensures value { hour ≤ 23 → minute ≤ 59 → second ≤ 59 → nanosecond ≤ 999_999_999
         → result ≡ Ok (date_time date (time_of hour minute second nanosecond)) }
 {
-    match Time::from_hms_nano(hour, minute, second, nanosecond) {
-        Ok(time) => Ok(PlainDateTime::new(date, time)),
-        Err(error) => Err(error),
-    }
+    Ok(PlainDateTime::new(date, Time::from_hms_nano(hour, minute, second, nanosecond)?))
 }

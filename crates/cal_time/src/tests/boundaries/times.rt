@@ -41,14 +41,12 @@ fn clock(hour: u8, minute: u8, second: u8) -> Told {
 
 /// Adds a part of a second to a time, or returns the first error. A second has `count` parts.
 fn with_part(clock: &Told, part: u32, count: u32, name: &'static str) -> Told {
-    match *clock {
-        Err(refusal) => Err(refusal),
-        Ok(_) if part >= count => Err((name, false)),
-        Ok(nanoseconds) => {
-            let unit = SECOND / i128::from(count);
-            Ok(nanoseconds.saturating_add(i128::from(part).saturating_mul(unit)))
-        }
+    let nanoseconds = (*clock)?;
+    if part >= count {
+        return Err((name, false));
     }
+    let unit = SECOND / i128::from(count);
+    Ok(nanoseconds.saturating_add(i128::from(part).saturating_mul(unit)))
 }
 
 /// Checks the times with milliseconds, microseconds and nanoseconds, or their errors.

@@ -55,28 +55,19 @@ fn julian_day(julian_day: i32) -> Result<i32, ComponentRange>
     requires { IsDateNumber (julian_day -ℤ first_julian_day) }
     ensures { result ≡ Ok julian_day }
 {
-    match Date::from_julian_day(julian_day) {
-        Ok(date) => Ok(date.to_julian_day()),
-        Err(error) => Err(error),
-    }
+    Ok(Date::from_julian_day(julian_day)?.to_julian_day())
 }
 
 fn ordinal_date(year: i32, ordinal: u16) -> Result<(i32, u16), ComponentRange>
     ensures { IfOk result (λ has. has ≡ (year, ordinal)) }
 {
-    match Date::from_ordinal_date(year, ordinal) {
-        Ok(date) => Ok(date.to_ordinal_date()),
-        Err(error) => Err(error),
-    }
+    Ok(Date::from_ordinal_date(year, ordinal)?.to_ordinal_date())
 }
 
 fn calendar_date(year: i32, month: Month, day: u8) -> Result<(i32, Month, u8), ComponentRange>
     ensures { IfOk result (λ has. has ≡ (year, month, day)) }
 {
-    match Date::from_calendar_date(year, month, day) {
-        Ok(date) => Ok(date.to_calendar_date()),
-        Err(error) => Err(error),
-    }
+    Ok(Date::from_calendar_date(year, month, day)?.to_calendar_date())
 }
 
 fn iso_week_date(
@@ -86,10 +77,7 @@ fn iso_week_date(
 ) -> Result<(i32, u8, Weekday), ComponentRange>
     ensures { IfOk result (λ has. has ≡ (year, week, weekday)) }
 {
-    match Date::from_iso_week_date(year, week, weekday) {
-        Ok(date) => Ok(date.to_iso_week_date()),
-        Err(error) => Err(error),
-    }
+    Ok(Date::from_iso_week_date(year, week, weekday)?.to_iso_week_date())
 }
 
 #[test]
