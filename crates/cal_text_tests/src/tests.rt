@@ -24,10 +24,8 @@ fn same<T: Copy + Debug + PartialEq>(rt: &impl Abort, found: T, wanted: T) {
 fn parts_of(
     found: Result<OffsetDateTime, ParseError>,
 ) -> Result<(Date, Time, UtcOffset), ParseError> {
-    match found {
-        Ok(moment) => Ok((moment.date(), moment.time(), moment.offset())),
-        Err(error) => Err(error),
-    }
+    let moment = found?;
+    Ok((moment.date(), moment.time(), moment.offset()))
 }
 
 /// Stops the test unless this is the result for the row, which is a text or a change of one.

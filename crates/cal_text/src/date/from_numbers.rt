@@ -44,8 +44,5 @@ pub(crate) fn calendar_date_from_numbers(
     ensures day { FailsWith day_out_of_range result
         ↔ IsMonth month × IsYear year × ¬ IsDayOfMonth year month day }
 {
-    match Month::try_from(month) {
-        Ok(month) => Date::from_calendar_date(year, month, day),
-        Err(error) => Err(error),
-    }
+    Date::from_calendar_date(year, Month::try_from(month)?, day)
 }

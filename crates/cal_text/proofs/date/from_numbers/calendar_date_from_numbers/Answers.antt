@@ -6,16 +6,16 @@ use Rattle.cal_time.specs.MonthCycle.{index-below}
 use Rattle.cal_text.proofs.Ranges.{month_at-range}
 use Rattle.cal_text.proofs.date.from_numbers.calendar_date_from_numbers.Goals as goal
 
-pub returns-in-Ok-clause-year : goal.returns-in-Ok-clause-year
-returns-in-Ok-clause-year c =
-    let below = index-below c.in-Ok.month in
+pub returns-clause-year : goal.returns-clause-year
+returns-clause-year c =
+    let below = index-below c.in_ok-try_from.field-0 in
     let year = to_z-of_z w32 c.args.year c.ranges.year in (
-      λ r. ((omega (arith, c.in-Ok.ensures), omega (arith, c.in-Ok.ensures)), subst (λ y. IsYear y → ⊥) year (c.from_calendar_date.ensures.year.0 r)),
+      λ r. ((omega (arith, c.in_ok-try_from.ensures), omega (arith, c.in_ok-try_from.ensures)), subst (λ y. IsYear y → ⊥) year (c.from_calendar_date.ensures.year.0 r)),
       λ h. c.from_calendar_date.ensures.year.1 (subst (λ y. IsYear y → ⊥) (sym year) h.1),
     )
 
-pub returns-in-Err-clause-every : goal.returns-in-Err-clause-every
-returns-in-Err-clause-every c n date e =
+pub returns-in_err-try_from-clause-every : goal.returns-in_err-try_from-clause-every
+returns-in_err-try_from-clause-every c n date e =
     let range = month_at-range n in
     let month = ap (λ (d : CalendarDay). d.month) e in
-    absurd (elim c.in-Err.ensures.1 [ inl zero ↦ omega (arith, month, range.0, zero) | inr more ↦ omega (arith, month, range.1, more) ])
+    absurd (elim c.in_err-try_from.ensures.1 [ inl zero ↦ omega (arith, month, range.0, zero) | inr more ↦ omega (arith, month, range.1, more) ])
