@@ -40,27 +40,15 @@ pub(super) fn moment_from_numbers(numbers: Numbers) -> Result<OffsetDateTime, Co
     ensures offset_minute { FailsWith offset_minute_out_of_range result
         ↔ HasClock numbers × ExceedsMinutes numbers.offset }
 {
-    let date = match calendar_date_from_numbers(
-        i32::from(numbers.year),
-        numbers.month,
-        numbers.day,
-    ) {
-        Ok(date) => date,
-        Err(error) => return Err(error),
-    };
-    let time = match Time::from_hms_nano(
+    let date = calendar_date_from_numbers(i32::from(numbers.year), numbers.month, numbers.day)?;
+    let time = Time::from_hms_nano(
         numbers.hour,
         numbers.minute,
         numbers.second,
         numbers.nanosecond,
-    ) {
-        Ok(time) => time,
-        Err(error) => return Err(error),
-    };
-    match offset_from_numbers(numbers.offset) {
-        Ok(offset) => Ok(OffsetDateTime::new_in_offset(date, time, offset)),
-        Err(error) => Err(error),
-    }
+    )?;
+    let offset = offset_from_numbers(numbers.offset)?;
+    Ok(OffsetDateTime::new_in_offset(date, time, offset))
 }
 
 /// Returns the offset, or the error `offset hour` above 23, or else `offset minute` above 59.
