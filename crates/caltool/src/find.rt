@@ -26,10 +26,7 @@ pub fn find_ordinal_date(year: i32, ordinal: u16) -> Result<Date, ComponentRange
 pub fn find_calendar_date(year: i32, month: u8, day: u8) -> Result<Date, ComponentRange>
     ensures { FindsDate (day_of_calendar_date year month day) (calendar_date_refusal year month) result }
 {
-    match Month::try_from(month) {
-        Ok(month) => find_date_of_month(year, month, day),
-        Err(error) => Err(error),
-    }
+    find_date_of_month(year, Month::try_from(month)?, day)
 }
 
 fn find_date_of_month(year: i32, month: Month, day: u8) -> Result<Date, ComponentRange>
