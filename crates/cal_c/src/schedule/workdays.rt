@@ -23,6 +23,7 @@ use calendar::Calendar;
 
 /// Returns 1 if a date is a working day, else 0. For 2451604, a Tuesday, it is 1 with the marks 31
 /// and without holidays.
+#[tactic(auto, using(crate::proofs::Needs::met))]
 #[unsafe(no_mangle)]
 pub extern "C" fn fots_date_is_workday(date: i32, weekmask: u32, holidays: &[i32]) -> NumberResult
     ensures { need IsJulianDay date else result ≡ number_error invalid_date then
@@ -40,6 +41,7 @@ pub extern "C" fn fots_date_is_workday(date: i32, weekmask: u32, holidays: &[i32
 
 /// Returns the first working day after a date. Fails if the range has none. For 2451607, a Friday,
 /// it is 2451610 with the marks 31 and without holidays.
+#[tactic(auto, using(crate::proofs::Needs::met))]
 #[unsafe(no_mangle)]
 pub extern "C" fn fots_date_next_workday(date: i32, weekmask: u32, holidays: &[i32]) -> DateResult
     ensures { need IsJulianDay date else result ≡ date_error invalid_date then
@@ -57,6 +59,7 @@ pub extern "C" fn fots_date_next_workday(date: i32, weekmask: u32, holidays: &[i
 
 /// Returns the last working day before a date. Fails if the range has none. For 2451610, a Monday,
 /// it is 2451607 with the marks 31 and without holidays.
+#[tactic(auto, using(crate::proofs::Needs::met))]
 #[unsafe(no_mangle)]
 pub extern "C" fn fots_date_previous_workday(date: i32, weekmask: u32, holidays: &[i32]) -> DateResult
     ensures { need IsJulianDay date else result ≡ date_error invalid_date then

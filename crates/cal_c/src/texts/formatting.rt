@@ -65,6 +65,7 @@ pub extern "C" fn fots_date_julian_text(date: i32) -> TextResult
 
 /// Returns a date, a time and an offset in RFC 3339, such as `2024-02-29T23:59:59.25+01:00`. Fails
 /// for a year outside 0 to 9999, and for an offset of 24 hours or more or with seconds.
+#[tactic(auto, using(crate::proofs::Needs::met))]
 #[unsafe(no_mangle)]
 pub extern "C" fn fots_moment_text(date: i32, time: u64, offset: i32) -> TextResult
     ensures { need IsJulianDay date else result ≡ text_error invalid_date then
@@ -92,6 +93,7 @@ fn moment_text_result(moment: OffsetDateTime) -> TextResult
 }
 
 /// Returns the Unix time of a date and a time at an offset, such as `@1709164800.5`.
+#[tactic(auto, using(crate::proofs::Needs::met))]
 #[unsafe(no_mangle)]
 pub extern "C" fn fots_unix_text(date: i32, time: u64, offset: i32) -> TextResult
     ensures { need IsJulianDay date else result ≡ text_error invalid_date then

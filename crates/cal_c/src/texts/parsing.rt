@@ -78,6 +78,7 @@ pub extern "C" fn fots_unix_parse(text: &[u8]) -> ParseMomentResult
 }
 
 /// Returns the Unix time of a local date and time at an offset.
+#[tactic(auto, using(crate::proofs::Needs::met))]
 #[unsafe(no_mangle)]
 pub extern "C" fn fots_unix_time(date: i32, time: u64, offset: i32) -> DurationResult
     ensures { need IsJulianDay date else result ≡ duration_error invalid_date then
