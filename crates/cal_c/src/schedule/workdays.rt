@@ -61,7 +61,11 @@ pub extern "C" fn fots_date_next_workday(date: i32, weekmask: u32, holidays: &[i
 /// it is 2451607 with the marks 31 and without holidays.
 #[tactic(auto, using(crate::proofs::Needs::met))]
 #[unsafe(no_mangle)]
-pub extern "C" fn fots_date_previous_workday(date: i32, weekmask: u32, holidays: &[i32]) -> DateResult
+pub extern "C" fn fots_date_previous_workday(
+    date: i32,
+    weekmask: u32,
+    holidays: &[i32],
+) -> DateResult
     ensures { need IsJulianDay date else result ≡ date_error invalid_date then
         need IsWeekmask weekmask else result ≡ date_error invalid_weekmask then
         need length holidays.now ≤ max_holidays else result ≡ date_error too_many_holidays then

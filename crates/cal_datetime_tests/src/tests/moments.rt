@@ -140,7 +140,11 @@ fn unix_times(rt: HostRuntime) {
 
 #[test]
 fn unix_times_in_nanoseconds(rt: HostRuntime) {
-    let before = back(&rt, OffsetDateTime::unix_epoch(), SignedDuration::milliseconds(500));
+    let before = back(
+        &rt,
+        OffsetDateTime::unix_epoch(),
+        SignedDuration::milliseconds(500),
+    );
     same(
         &rt,
         (before.unix_timestamp(), before.unix_timestamp_nanos()),

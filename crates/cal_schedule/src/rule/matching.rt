@@ -6,9 +6,9 @@ ghost use Rattle.cal_time.specs.Lengths.{days_in_year};
 ghost use Rattle.cal_time.specs.Month.{number as month_number};
 ghost use Rattle.cal_schedule.specs.Rule.{allows, matches_start, matches_until, is_empty, matches_months, is_month_day, is_nth, is_nth_weekday, is_occurrence, matches_days, matches_by_day, is_yearly, names_no_day, interval_or_1, period_index, periods_past};
 
-use cal_time::day_number::day_number;
 use crate::months::month_number_and_day;
 use crate::rule::rule::{ByDay, Frequency, Rule};
+use cal_time::day_number::day_number;
 use cal_time::limits::MIN_YEAR;
 use cal_time::util::{days_in_month, days_in_year};
 use cal_time::{Cycle, Date, Month, Weekday};

@@ -7,10 +7,10 @@ ghost use Rattle.cal_schedule.specs.Rule.{occurrences_after, is_occurrence};
 ghost use Rattle.cal_schedule.specs.RuleSearch.{may_fall_on, by_day_weekday, IsFirstOfPeriod, IsNextFrom, IsSkip};
 ghost use Rattle.cal_schedule.specs.declared.rule.rule.Frequency.TheVariants.{Monthly};
 
-use cal_time::day_number::{date_from_number, day_number};
 use crate::months::{clamped_date_in_month, month_number_and_day};
 use crate::rule::matching::period_of;
 use crate::rule::rule::{ByDay, Frequency, Rule};
+use cal_time::day_number::{date_from_number, day_number};
 use cal_time::{Cycle, Date, Weekday};
 
 /// The number of months in the range.

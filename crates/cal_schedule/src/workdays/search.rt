@@ -6,9 +6,9 @@ ghost use Rattle.cal_time.specs.IsoWeekDate.{count_before};
 ghost use Rattle.cal_schedule.specs.Workdays.{is_holiday, is_marked, is_workday, workdays_from, workdays_before, workdays_within};
 ghost use Rattle.cal_schedule.specs.WorkdaysSplit.{IsSplit, IsNthFrom, IsNthBefore};
 
-use cal_time::day_number::date_from_number;
 use crate::workdays::Workdays;
 use cal_time::Date;
+use cal_time::day_number::date_from_number;
 
 impl Workdays<'_> {
     /// Returns the number of holidays before a day.
