@@ -8,9 +8,9 @@ returns-then-status-eq-OK c =
     let out : FitsSigned w32 c.to_iso_week_date-iso_year.result.0 = search rules in
     let has = simp to_z-of_z at c.from_calendar_date.ensures.value in
     let is = simp to_z-of_z at c.from_calendar_date.ensures.range in
-    let year = simp to_z-of_z at c.to_iso_week_date-iso_year.ensures.year in
-    let week = simp to_z-of_z at c.to_iso_week_date-iso_year.ensures.week in
-    let weekday = simp to_z-of_z at c.to_iso_week_date-iso_year.ensures.weekday in
+    let year = c.to_iso_week_date-iso_year.ensures.year in
+    let week = c.to_iso_week_date-iso_year.ensures.week in
+    let weekday = c.to_iso_week_date-iso_year.ensures.weekday in
     record {
       no_month = search rules;
       no_year = search rules;

@@ -8,12 +8,6 @@ use Rattle.cal_c.specs.Values.{IsJulianDay, day_of}
 use Rattle.cal_c.proofs.Days.{IsDateWith-at}
 use Rattle.cal_c.proofs.columns.months.date_months_later.Goals as goal
 
-day : (c : goal.After-clamped_date_in_month-later) → IsJulianDay c.args.date → c.to_date.result ≡ day_of c.args.date
-day c h = let f = c.ranges.date in c.to_date.ensures ∙ (simp to_z-of_z at c.clamped_number.ensures.value) h
-
-first : (c : goal.After-clamped_date_in_month-later) → IsJulianDay c.args.date → pos c.month_number_and_day-index.result.0 ≡ month_number_at (day_of c.args.date) +ℤ pos 11999988
-first c h = c.month_number_and_day-index.ensures.month ∙ ap (λ n. month_number_at n +ℤ pos 11999988) (day c h)
-
 pub returns-then-not-is_julian_day : goal.returns-then-not-is_julian_day
 returns-then-not-is_julian_day c =
     let f = c.ranges.date in
@@ -28,24 +22,30 @@ pub returns-then-index-gt-LAST_MONTH : goal.returns-then-index-gt-LAST_MONTH
 returns-then-index-gt-LAST_MONTH c =
     let f = c.ranges.date in
     let g = c.ranges.months in
+    let number = simp to_z-of_z at c.clamped_number.ensures.value in
+    let first : IsJulianDay c.args.date → pos c.month_number_and_day-index.result.0 ≡ month_number_at (day_of c.args.date) +ℤ pos 11999988 =
+    λ h. c.month_number_and_day-index.ensures.month ∙ ap (λ n. month_number_at n +ℤ pos 11999988) (c.to_date.ensures ∙ number h) in
     record {
       invalid_date = search rules;
       result_out_of_range = search rules;
-      day = λ h k. absurd (omega (arith, ints, first _ h, k.not_before, k.not_after));
+      day = λ h k. absurd (omega (arith, ints, first h, k.not_before, k.not_after));
     }
 
 pub returns-else-index-gt-LAST_MONTH : goal.returns-else-index-gt-LAST_MONTH
 returns-else-index-gt-LAST_MONTH c =
     let f = c.ranges.date in
     let g = c.ranges.months in
+    let number = simp to_z-of_z at c.clamped_number.ensures.value in
+    let first : IsJulianDay c.args.date → pos c.month_number_and_day-index.result.0 ≡ month_number_at (day_of c.args.date) +ℤ pos 11999988 =
+    λ h. c.month_number_and_day-index.ensures.month ∙ ap (λ n. month_number_at n +ℤ pos 11999988) (c.to_date.ensures ∙ number h) in
     let n = day_of c.args.date in
     let r = c.clamped_date_in_month-later.result in
     record {
       invalid_date = search rules;
-      result_out_of_range = λ h out. absurd (out (record { not_before = omega (arith, ints, first _ h); not_after = omega (arith, ints, first _ h) }));
+      result_out_of_range = λ h out. absurd (out (record { not_before = omega (arith, ints, first h); not_after = omega (arith, ints, first h) }));
       day = λ h k.
-          let month : month_number_at r ≡ month_number_at n +ℤ c.args.months = omega (arith, ints, first _ h, c.clamped_date_in_month-later.ensures.month) in
-          let same : c.month_number_and_day-index.result.1 ≡ day_of_month_at n = c.month_number_and_day-index.ensures.day ∙ ap day_of_month_at (day _ h) in
+          let month : month_number_at r ≡ month_number_at n +ℤ c.args.months = omega (arith, ints, first h, c.clamped_date_in_month-later.ensures.month) in
+          let same : c.month_number_and_day-index.result.1 ≡ day_of_month_at n = c.month_number_and_day-index.ensures.day ∙ ap day_of_month_at (c.to_date.ensures ∙ number h) in
           let day : day_of_month_at r ≡ min (day_of_month_at n) (days_in_month (year_at r) (month_at r)) =
           c.clamped_date_in_month-later.ensures.day ∙ ap (λ k. min k (days_in_month (year_at r) (month_at r))) same in
           subst (IsDateWith (IsMonthsLater n c.args.months)) (sym c.ok_row.ensures) (IsDateWith-at (IsMonthsLater n c.args.months) r c.clamped_date_in_month-later.ensures.range (record { month = month; day = day }));
