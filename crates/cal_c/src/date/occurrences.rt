@@ -1,5 +1,5 @@
 //! The days with a weekday after a date, and before it.
-ghost use Rattle.std.specs.Prelude.{◌≡◌, ◌+◌, ◌-◌, ◌%◌, ◌<◌, ◌≤◌};
+ghost use Rattle.std.specs.Prelude.{◌≡◌, ◌+◌, ◌-◌, ◌%◌, ◌≤◌};
 ghost use Rattle.cal_time.specs.Date.{IsDate};
 ghost use Rattle.cal_time.specs.Occurrences.{next_occurrences, prev_occurrences, kth};
 ghost use Rattle.cal_c.specs.Results.{date_error, date_or_out_of_range};
