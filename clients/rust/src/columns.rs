@@ -1,8 +1,8 @@
 //! Calls over whole columns, with the result and the status of the single call for each row.
 //!
-//! A column is a slice for each component of a value: Julian days and years as `i32`, ordinals as `u16`,
-//! months, days of the month, weeks and weekdays as `u8`. A call writes into your slices, and
-//! returns the number of rows without a result. These have numbers that the next call rejects:
+//! A column is a slice for each component of a value: Julian days and years as `i32`, ordinals as
+//! `u16`, months, days of the month, weeks and weekdays as `u8`. A call writes into your slices,
+//! and returns the number of rows without a result. These have numbers that the next call rejects:
 //! `i32::MIN` for a date, a year, an offset or a count of working days, `u64::MAX` for a time, and
 //! 0 for a component with 8 or 16 bits. [`row_error`] explains a status.
 //!

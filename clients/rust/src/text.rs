@@ -1,7 +1,7 @@
 //! Texts of dates and moments, with the names of the crate `cal_text`.
 //!
-//! `parse` takes the bytes of a text. A type that prints has a call `text` for the text in place, and
-//! a width pads the whole text.
+//! `parse` takes the bytes of a text. A type that prints has a call `text` for the text in place,
+//! and a width pads the whole text.
 //!
 //! ```
 //! use fotsevindre::text::{date, rfc3339, unix};
