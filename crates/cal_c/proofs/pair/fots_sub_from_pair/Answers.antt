@@ -1,4 +1,4 @@
-use Rattle.std.proofs.Common.{◌-ℤ◌, subst}
+use Rattle.std.proofs.Common.{rules, ◌-ℤ◌, subst}
 use Rattle.std.proofs.lemmas.Int.{to_z-of_z}
 use Rattle.cal_time.specs.Pair.{pair_number, IsPairWithNumber}
 use Rattle.cal_c.specs.Values.{day_of}
@@ -14,3 +14,9 @@ returns c =
     let two = subst (λ s. IsPairWithNumber (pair_number (day_of c.args.date) s -ℤ c.in-Some-valid_duration.value) r) c.in-Some-valid_time.ensures.1 one in
     let three = subst (λ v. IsPairWithNumber (pair_number (day_of c.args.date) c.args.time -ℤ v) r) c.in-Some-valid_duration.ensures.1 two in
     met at.0 (met c.in-Some-valid_time.ensures.0 (met c.in-Some-valid_duration.ensures.0 (r, three, c.from_option.ensures)))
+
+pub returns-in-None-valid_duration : goal.returns-in-None-valid_duration
+returns-in-None-valid_duration c =
+    let f = c.ranges.date in
+    let at = simp to_z-of_z at c.in-Some.ensures in
+    met at.0 (met c.in-Some-valid_time.ensures.0 (search rules))

@@ -1,4 +1,4 @@
-use Rattle.std.proofs.Common.{ap, ◌∙◌, sym, subst}
+use Rattle.std.proofs.Common.{rules, ap, ◌∙◌, sym, subst}
 use Rattle.std.proofs.lemmas.Int.{to_z-of_z}
 use Rattle.cal_time.specs.Date.{year_at, IsOrdinal, HasOrdinalDate}
 use Rattle.cal_c.specs.Results.{IsDateWith}
@@ -21,3 +21,9 @@ returns-in-Ok c =
           let ordinal = c.ordinal_or_invalid.ensures.value (year_at (day_of c.args.date)) o in
           subst (IsDateWith Has) (sym c.ok.ensures) (IsDateWith-at Has c.in-Ok.made has.0 (has.1.0 ∙ ap year_at at.1, has.1.1 ∙ ordinal));
     })
+
+pub returns-in-Err : goal.returns-in-Err
+returns-in-Err c =
+    let f = c.ranges.date in
+    let at = simp to_z-of_z at c.in-Some.ensures in
+    met at.0 (search rules)

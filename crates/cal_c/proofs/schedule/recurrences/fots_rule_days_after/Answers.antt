@@ -1,4 +1,4 @@
-use Rattle.std.proofs.Common.{ap, ◌∙◌, subst, sym}
+use Rattle.std.proofs.Common.{rules, ap, ◌∙◌, subst, sym}
 use Rattle.std.proofs.lemmas.Int.{to_z-of_z}
 use Rattle.cal_schedule.specs.Rule.{occurrences_after}
 use Rattle.cal_c.specs.Recurrences.{days_ok, AreDatesWritten}
@@ -21,3 +21,6 @@ returns c =
       subst (λ n. AreDatesWritten (occurrences_after its n) old new c.ok.result.length) at.1
           (subst (AreDatesWritten (occurrences_after its c.in-Some.value) old new) (sym count) c.write_days.ensures),
     ))
+
+pub returns-in-None : goal.returns-in-None
+returns-in-None c = met c.in-Ok.ensures.value.0 (search rules)

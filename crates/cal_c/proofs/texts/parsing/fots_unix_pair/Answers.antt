@@ -1,4 +1,4 @@
-use Rattle.std.proofs.Common.{◌+ℤ◌, ap, subst, sym, ◌∙◌}
+use Rattle.std.proofs.Common.{rules, ◌+ℤ◌, ap, subst, sym, ◌∙◌}
 use Rattle.std.proofs.lemmas.Int.{to_z-of_z}
 use Rattle.cal_datetime.specs.DateTime.{IsDateTime}
 use Rattle.cal_datetime.specs.OffsetDateTime.{LocalAndOffset, local_at, unix_epoch}
@@ -22,3 +22,6 @@ returns-in-None-checked_add c =
     let same = ap (λ (m : LocalAndOffset). m.local +ℤ duration) c.epoch_at_offset.ensures ∙ ap (λ o. local_at unix_epoch o +ℤ duration) at.1
     ∙ ap (λ v. local_at unix_epoch c.args.offset +ℤ v) c.in-Some.ensures.1 in
     met c.in-Some.ensures.0 (met at.0 (record { error = search rules; value = λ is. absurd (c.in-None-checked_add.ensures.value (subst IsDateTime (sym same) is)) }))
+
+pub returns-in-None-valid_offset : goal.returns-in-None-valid_offset
+returns-in-None-valid_offset c = met c.in-Some.ensures.0 (search rules)
