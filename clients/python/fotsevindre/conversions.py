@@ -1,0 +1,370 @@
+"""Methods that need no speed: conversions from and to `datetime`, texts of ISO 8601, units of durations, replacements of date-times."""
+
+from __future__ import annotations
+
+import datetime
+import operator
+import re
+from typing import Any, Callable, Iterable, SupportsIndex
+
+from . import _core
+from ._core import Date, OffsetDateTime, PlainDateTime, SignedDuration, Time, UtcOffset
+from .errors import ParseError
+from .sequences import Days
+
+
+def _adds_to(*kinds: type) -> Callable[[type], None]:
+    """Adds the functions of a class to types of C."""
+
+    def add(methods: type) -> None:
+        for kind in kinds:
+            for name, member in vars(methods).items():
+                if name != "__doc__" and not name.startswith("__"):
+                    setattr(kind, name, member)
+
+    return add
+
+
+def _is(value: Any, kind: type) -> Any:
+    if not isinstance(value, kind):
+        raise TypeError(f"expected {kind.__name__}, not {type(value).__name__}")
+    return value
+
+
+def _cut(number: int, divisor: int) -> tuple[int, int]:
+    """Returns the quotient truncated toward zero, and what is left of the number, with its sign."""
+    quotient, rest = divmod(abs(number), divisor)
+    return (quotient, rest) if number >= 0 else (-quotient, -rest)
+
+
+def _whole_microseconds(nanoseconds: int, name: str) -> int:
+    if nanoseconds % 1000:
+        raise ValueError(f"{name} has no nanoseconds; truncate {nanoseconds} ns to microseconds first")
+    return nanoseconds // 1000
+
+
+# ---- durations
+
+
+def _like_timedelta(duration: SignedDuration, name: str) -> int:
+    """Returns what a timedelta has by a name, which rounds down."""
+    if name not in ("days", "seconds", "microseconds", "nanoseconds"):
+        raise AttributeError(f"a SignedDuration has no {name}; use whole_{name}()")
+    seconds, nanoseconds = divmod(duration.whole_nanoseconds(), 10**9)
+    return {"days": seconds // 86400, "seconds": seconds % 86400, "microseconds": nanoseconds // 1000, "nanoseconds": nanoseconds % 1000}[name]
+
+
+class _Unit:
+    """A class method of a unit. A duration has the numbers of a `timedelta` by these names, so `(b - a).days == 1` is right."""
+
+    def __init__(self, name: str) -> None:
+        self.name = name
+        self.make: Callable[[SupportsIndex], SignedDuration] = getattr(_core, name)
+        self.__doc__ = self.make.__doc__
+
+    def __get__(self, duration: SignedDuration | None, _kind: object = None) -> Any:
+        return self.make if duration is None else _like_timedelta(duration, self.name)
+
+
+for _name in ("weeks", "days", "hours", "minutes", "seconds", "milliseconds", "microseconds", "nanoseconds"):
+    setattr(SignedDuration, _name, _Unit(_name))
+
+
+@_adds_to(SignedDuration)
+class _Durations:
+    @staticmethod
+    def nanoseconds_i128(nanoseconds: SupportsIndex) -> SignedDuration:
+        """Creates a duration of nanoseconds, from those of `MIN` to those of `MAX`."""
+        return SignedDuration.new(*_cut(operator.index(nanoseconds), 10**9))
+
+    def whole_nanoseconds(self: Any) -> int:
+        """Returns the nanoseconds, as an int of any size."""
+        return self.whole_seconds() * 10**9 + self.subsec_nanoseconds()
+
+    def whole_microseconds(self: Any) -> int:
+        """Returns the whole microseconds, truncated toward zero, as an int of any size."""
+        return self.whole_seconds() * 10**6 + self.subsec_microseconds()
+
+    def whole_milliseconds(self: Any) -> int:
+        """Returns the whole milliseconds, truncated toward zero, as an int of any size."""
+        return self.whole_seconds() * 10**3 + self.subsec_milliseconds()
+
+    def unsigned_abs(self: Any) -> tuple[int, int]:
+        """Returns the seconds and nanoseconds of the absolute value, as ints of any size."""
+        return abs(self.whole_seconds()), abs(self.subsec_nanoseconds())
+
+    @staticmethod
+    def try_sum(durations: Iterable[SignedDuration]) -> SignedDuration | None:
+        """Returns the sum, `ZERO` of none, or `None` if a sum of the first ones is out of range."""
+        total = SignedDuration.ZERO
+        for duration in durations:
+            found = total.checked_add(duration)
+            if found is None:
+                return None
+            total = found
+        return total
+
+    @staticmethod
+    def from_timedelta(delta: datetime.timedelta) -> SignedDuration:
+        """Converts a `datetime.timedelta`, exactly."""
+        seconds, rest = _cut(_is(delta, datetime.timedelta) // datetime.timedelta(microseconds=1), 10**6)
+        return SignedDuration.new(seconds, rest * 1000)
+
+    def to_timedelta(self: Any) -> datetime.timedelta:
+        """Converts to a `datetime.timedelta`. Raises `OverflowError` out of its range, and `ValueError` for nanoseconds."""
+        return datetime.timedelta(seconds=self.whole_seconds(), microseconds=_whole_microseconds(self.subsec_nanoseconds(), "datetime.timedelta"))
+
+
+# ---- dates
+
+
+@_adds_to(Date)
+class _Date:
+    @staticmethod
+    def from_date(date: datetime.date) -> Date:
+        """Converts a `datetime.date`. Of a `datetime.datetime`, take its `date()`."""
+        if isinstance(_is(date, datetime.date), datetime.datetime):
+            raise TypeError("expected datetime.date, not datetime; use its date()")
+        return Date.from_calendar_date(date.year, date.month, date.day)
+
+    def to_date(self: Any) -> datetime.date:
+        """Converts to a `datetime.date`, which has the years 1 to 9999, or raises `OverflowError`."""
+        year, month, day = self.to_calendar_date()
+        if not datetime.MINYEAR <= year <= datetime.MAXYEAR:
+            raise OverflowError(f"year {year} is out of range of datetime.date; expected {datetime.MINYEAR} to {datetime.MAXYEAR}")
+        return datetime.date(year, month, day)
+
+    @staticmethod
+    def today() -> Date:
+        """Returns the date of the system's local clock."""
+        return Date.from_date(datetime.date.today())
+
+    def iter_to(self: Any, end: Date) -> Days:
+        """Returns the days from this one to `end`, both included, as a sequence; none if this one is later."""
+        return Days(range(self.to_julian_day(), _is(end, Date).to_julian_day() + 1))
+
+
+# ---- times and offsets
+
+
+@_adds_to(Time)
+class _Time:
+    @staticmethod
+    def from_time(time: datetime.time) -> Time:
+        """Converts a `datetime.time` without a time zone, or raises `ValueError`."""
+        if _is(time, datetime.time).tzinfo is not None:
+            raise ValueError("expected a datetime.time without tzinfo")
+        return Time.from_hms_micro(time.hour, time.minute, time.second, time.microsecond)
+
+    def to_time(self: Any) -> datetime.time:
+        """Converts to a `datetime.time`, or raises `ValueError` for nanoseconds."""
+        return datetime.time(*self.as_hms(), _whole_microseconds(self.nanosecond, "datetime.time"))
+
+
+@_adds_to(UtcOffset)
+class _UtcOffset:
+    @staticmethod
+    def from_timezone(timezone: datetime.timezone) -> UtcOffset:
+        """Converts a `datetime.timezone`, or raises `ValueError` for parts of a second."""
+        delta = _is(timezone, datetime.timezone).utcoffset(None)
+        if delta.microseconds:
+            raise ValueError(f"expected an offset of whole seconds, not {delta}")
+        return UtcOffset.from_whole_seconds(delta // datetime.timedelta(seconds=1))
+
+    def to_timezone(self: Any) -> datetime.timezone:
+        """Converts to a `datetime.timezone`, or raises `ValueError` from 24 hours on."""
+        return datetime.timezone(datetime.timedelta(seconds=self.whole_seconds()))
+
+
+# ---- date-times
+
+
+def _parts(self: Any, date: dict[str, Any], time: dict[str, Any]) -> Any:
+    """Returns a date-time with other components of its date and time."""
+    return self.replace_date(self.date().replace(**date)).replace_time(self.time().replace(**time))
+
+
+@_adds_to(PlainDateTime, OffsetDateTime)
+class _PlainDateTimeCommon:
+    def replace(self: Any, *, year: SupportsIndex | None = None, month: SupportsIndex | None = None, day: SupportsIndex | None = None,
+                hour: SupportsIndex | None = None, minute: SupportsIndex | None = None, second: SupportsIndex | None = None,
+                nanosecond: SupportsIndex | None = None) -> Any:
+        """Replaces the components that are given by name."""
+        return _parts(self, {"year": year, "month": month, "day": day}, {"hour": hour, "minute": minute, "second": second, "nanosecond": nanosecond})
+
+
+def _through(name: str, part: str) -> None:
+    """Adds a method of a date or a time to date-times, which replace that part."""
+    get, put = operator.methodcaller(part), f"replace_{part}"
+
+    def call(self: Any, *arguments: Any) -> Any:
+        return getattr(self, put)(getattr(get(self), name)(*arguments))
+
+    call.__name__ = name
+    call.__doc__ = getattr(Date if part == "date" else Time, name).__doc__
+    for kind in (PlainDateTime, OffsetDateTime):
+        setattr(kind, name, call)
+
+
+for _name in ("year", "month", "day", "ordinal"):
+    _through(f"replace_{_name}", "date")
+for _name in ("hour", "minute", "second", "millisecond", "microsecond", "nanosecond"):
+    _through(f"replace_{_name}", "time")
+    if _name != "nanosecond":
+        _through(f"truncate_to_{_name}", "time")
+
+
+def _to_datetime(self: Any, timezone: datetime.timezone | None) -> datetime.datetime:
+    return datetime.datetime.combine(self.date().to_date(), self.time().to_time(), timezone)
+
+
+@_adds_to(PlainDateTime)
+class _PlainDateTime:
+    def to_datetime(self: Any) -> datetime.datetime:
+        """Converts to a `datetime.datetime` without a time zone; errors like `Date.to_date` and `Time.to_time`."""
+        return _to_datetime(self, None)
+
+
+@_adds_to(OffsetDateTime)
+class _OffsetDateTime:
+    def to_datetime(self: Any) -> datetime.datetime:
+        """Converts to a `datetime.datetime` in the `datetime.timezone` of the offset; errors like its parts."""
+        return _to_datetime(self, self.offset.to_timezone())
+
+
+@_adds_to(PlainDateTime)
+class _PlainDateTime:
+    @staticmethod
+    def from_datetime(value: datetime.datetime) -> PlainDateTime:
+        """Converts a `datetime.datetime` without a time zone, or raises `ValueError`."""
+        if _is(value, datetime.datetime).tzinfo is not None:
+            raise ValueError("expected a datetime.datetime without tzinfo")
+        return PlainDateTime(Date.from_date(value.date()), Time.from_time(value.time()))
+
+
+@_adds_to(OffsetDateTime)
+class _OffsetDateTime:
+    @staticmethod
+    def from_datetime(value: datetime.datetime) -> OffsetDateTime:
+        """Converts a `datetime.datetime` with an offset of whole seconds, or raises `ValueError`."""
+        delta = _is(value, datetime.datetime).utcoffset()
+        if delta is None:
+            raise ValueError("expected a datetime.datetime with a UTC offset")
+        return PlainDateTime.from_datetime(value.replace(tzinfo=None)).assume_offset(UtcOffset.from_timezone(datetime.timezone(delta)))
+
+    @staticmethod
+    def from_unix_timestamp_nanos(timestamp: SupportsIndex) -> OffsetDateTime:
+        """Creates the date-time at UTC of Unix nanoseconds, or raises `ComponentRange` as `timestamp`."""
+        seconds, rest = _cut(operator.index(timestamp), 10**9)
+        return OffsetDateTime.from_unix_duration(SignedDuration.new(max(-2**62, min(seconds, 2**62)), rest))
+
+    def unix_timestamp_nanos(self: Any) -> int:
+        """Returns the Unix time in nanoseconds, as an int of any size."""
+        return self.unix_duration().whole_nanoseconds()
+
+
+# ---- texts
+
+
+def _within(parse: Callable[[str], Any], text: str, start: int, end: int | None = None) -> Any:
+    """Parses a part of a text, with positions in the whole."""
+    try:
+        return parse(text[start:end])
+    except ParseError as error:
+        position = start + error.position
+        raise ParseError(position, position == len(text)) from None
+
+
+def _time(text: str) -> Time:
+    """Parses 9:05, 09:05:00 or 09:05:00.25, by a moment of RFC 3339."""
+    digits = re.match(r"[0-9:.]*", text)
+    length = digits.end() if digits else 0
+    clock = text[:length]
+    added = clock[1:2] == ":"
+    full = "0" * added + clock
+    if len(full) == 5 and length == len(text):
+        full += ":00"
+    try:
+        time = _core.parse_rfc3339(f"1970-01-01T{full}Z")[1]
+    except ParseError as error:
+        position = error.position - 11 - added
+        raise ParseError(min(position, length), min(position, length) == len(text)) from None
+    if length < len(text):
+        raise ParseError(length, False)
+    return time
+
+
+@_adds_to(Time)
+class _Time:
+    @staticmethod
+    def parse(text: str) -> Time:
+        """Parses a time, such as 9:05, 09:05:00 or 9:05:00.25, or raises `ParseError` or `ComponentRange`."""
+        return _time(_is(text, str))
+
+
+def _offset(text: str) -> UtcOffset:
+    """Parses Z, +01:00 or -05:30:00."""
+    if text in ("Z", "z"):
+        return UtcOffset.UTC
+    for position, character in enumerate(text[:9]):
+        if not ("+-" if position == 0 else ":" if position % 3 == 0 else "0123456789").count(character):
+            raise ParseError(position, False)
+    if len(text) not in (6, 9):
+        raise ParseError(min(len(text), 9), len(text) < 9)
+    sign = -1 if text[0] == "-" else 1
+    return UtcOffset.from_whole_seconds(0) if not text.strip("+-0:") else UtcOffset.from_hms(*(sign * int(part) for part in text[1:].split(":")), *[0] * (len(text) == 6))
+
+
+@_adds_to(UtcOffset)
+class _UtcOffset:
+    @staticmethod
+    def parse(text: str) -> UtcOffset:
+        """Parses an offset, such as Z, +01:00 or -05:30:00, or raises `ParseError` or `ComponentRange`."""
+        return _offset(_is(text, str))
+
+
+def _separator(text: str) -> int:
+    """Returns the position of the T or the space between a date and a time."""
+    found = re.search("[Tt ]", _is(text, str))
+    return found.start() if found else len(text)
+
+
+def _plain(text: str, end: int) -> PlainDateTime:
+    at = _separator(text[:end])
+    date = _within(Date.parse, text, 0, at)
+    if at >= end:
+        raise ParseError(at, at == len(text))
+    return PlainDateTime(date, _within(_time, text, at + 1, end))
+
+
+@_adds_to(PlainDateTime)
+class _PlainDateTime:
+    @staticmethod
+    def parse(text: str) -> PlainDateTime:
+        """Parses a date, T or a space, and a time, such as 2024-02-29T23:59:59.25; errors like `Date.parse` and `Time.parse`."""
+        return _plain(text, len(_is(text, str)))
+
+
+@_adds_to(OffsetDateTime)
+class _OffsetDateTime:
+    @staticmethod
+    def parse(text: str) -> OffsetDateTime:
+        """Parses a date-time and an offset, such as 2024-02-29T23:59:59.25+01:00; a space may come before the offset."""
+        at = _separator(text)
+        found = re.search("[ Zz+-]", text[at + 1:])
+        end = at + 1 + found.start() if found else len(text)
+        local = _plain(text, end)
+        end += text[end:end + 1] == " "
+        return local.assume_offset(_within(_offset, text, end))
+
+
+@_adds_to(PlainDateTime, OffsetDateTime)
+class _PlainDateTimeCommon:
+    def isoformat(self: Any) -> str:
+        """Returns the text of `datetime.isoformat`, with nine digits if there are nanoseconds."""
+        offset = str(self.offset) if isinstance(self, OffsetDateTime) else ""
+        return f"{self.date()}T{self.time().isoformat()}{offset.removesuffix(':00') if len(offset) == 9 else offset}"
+
+
+for _kind in (Time, UtcOffset, PlainDateTime, OffsetDateTime):
+    setattr(_kind, "fromisoformat", _kind.parse)

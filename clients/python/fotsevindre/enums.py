@@ -1,0 +1,163 @@
+"""Months, weekdays, and what schedules are counted by."""
+
+from __future__ import annotations
+
+import enum
+from typing import NamedTuple, SupportsIndex
+
+from . import _core
+from .errors import ComponentRange
+
+
+class Month(enum.IntEnum):
+    """A month of the year, from `January`, 1, to `December`, 12.
+
+    A month is an int: `f"{month:02}"` and `str(month)` are its number. `repr(month)` and `month.name` are its name.
+
+    >>> Month(5), Month.July.nth_next(9), Month.February.length(2020), f"{Month.May:02}"
+    (May, April, 29, '05')
+    """
+
+    January = 1
+    February = 2
+    March = 3
+    April = 4
+    May = 5
+    June = 6
+    July = 7
+    August = 8
+    September = 9
+    October = 10
+    November = 11
+    December = 12
+
+    @classmethod
+    def _missing_(cls, value: object) -> None:
+        if isinstance(value, int):
+            raise ComponentRange("month", False)
+
+    def length(self, year: SupportsIndex) -> int:
+        """Returns the number of days of the month in a year, from 28 to 31."""
+        return _core.days_in_month(self, year)
+
+    def previous(self) -> Month:
+        """Returns the month before. Before January it is December."""
+        return _core.month_nth_prev(self, 1)
+
+    def next(self) -> Month:
+        """Returns the month after. After December it is January."""
+        return _core.month_nth_next(self, 1)
+
+    def nth_next(self, n: SupportsIndex) -> Month:
+        """Returns the month `n` months after. Nine months after July it is April."""
+        return _core.month_nth_next(self, n)
+
+    def nth_prev(self, n: SupportsIndex) -> Month:
+        """Returns the month `n` months before. Nine months before July it is October."""
+        return _core.month_nth_prev(self, n)
+
+    def __str__(self) -> str:
+        return int.__repr__(self)
+
+    def __repr__(self) -> str:
+        return self.name
+
+    __format__ = int.__format__
+
+
+class Weekday(enum.IntEnum):
+    """A day of the week, from `Monday`, 0, to `Sunday`, 6, as `datetime.date.weekday` counts.
+
+    A weekday is an int, like a `Month`. Calls that take a weekday take only a `Weekday`.
+
+    >>> Weekday(4), Weekday.Sunday.nth_next(10), Weekday.Friday.number_from_sunday(), Weekday.Saturday in {5, 6}
+    (Friday, Wednesday, 6, True)
+    """
+
+    Monday = 0
+    Tuesday = 1
+    Wednesday = 2
+    Thursday = 3
+    Friday = 4
+    Saturday = 5
+    Sunday = 6
+
+    def previous(self) -> Weekday:
+        """Returns the weekday before. Before Monday it is Sunday."""
+        return _core.weekday_nth_prev(self, 1)
+
+    def next(self) -> Weekday:
+        """Returns the weekday after. After Sunday it is Monday."""
+        return _core.weekday_nth_next(self, 1)
+
+    def nth_next(self, n: SupportsIndex) -> Weekday:
+        """Returns the weekday `n` days after. Ten days after Sunday it is Wednesday."""
+        return _core.weekday_nth_next(self, n)
+
+    def nth_prev(self, n: SupportsIndex) -> Weekday:
+        """Returns the weekday `n` days before. Ten days before Sunday it is Thursday."""
+        return _core.weekday_nth_prev(self, n)
+
+    def number_from_monday(self) -> int:
+        """Returns the number from 1 (Monday) to 7 (Sunday)."""
+        return int(self) + 1
+
+    def number_from_sunday(self) -> int:
+        """Returns the number from 1 (Sunday) to 7 (Saturday)."""
+        return (int(self) + 1) % 7 + 1
+
+    def number_days_from_monday(self) -> int:
+        """Returns the number of days since Monday, from 0 to 6."""
+        return int(self)
+
+    def number_days_from_sunday(self) -> int:
+        """Returns the number of days since Sunday, from 0 to 6."""
+        return (int(self) + 1) % 7
+
+    __str__ = Month.__str__
+    __repr__ = Month.__repr__
+    __format__ = int.__format__
+
+
+class Period(NamedTuple):
+    """Years, months and days, all of one sign, with fewer than 12 months."""
+
+    years: int
+    months: int
+    days: int
+
+
+class YearFraction(NamedTuple):
+    """A fraction of a year: what was counted, over what a year counts."""
+
+    numerator: int
+    denominator: int
+
+
+class DayCount(enum.IntEnum):
+    """How the days of interest are counted, by the names of the 2006 ISDA Definitions."""
+
+    Actual360 = 1
+    Actual365Fixed = 2
+    Thirty360 = 3
+    ThirtyE360 = 4
+    ActualActual = 5
+
+
+class Convention(enum.IntEnum):
+    """How a day moves to a working day, with the names of the ISDA Definitions."""
+
+    Unadjusted = 0
+    Following = 1
+    ModifiedFollowing = 2
+    Preceding = 3
+    ModifiedPreceding = 4
+
+
+class Frequency(enum.IntEnum):
+    """The unit of the interval of a rule."""
+
+    Daily = 1
+    Weekly = 2
+    Monthly = 3
+    Yearly = 4

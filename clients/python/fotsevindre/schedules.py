@@ -1,0 +1,213 @@
+"""Working days and recurrences."""
+
+from __future__ import annotations
+
+import array
+import dataclasses
+import itertools
+import operator
+from typing import Any, Iterable, Iterator, Sequence, SupportsIndex
+
+from . import _core
+from ._core import Date
+from .enums import Frequency, Month, Weekday
+from .sequences import refuse_datetime
+
+
+def _is(value: Any, kind: type) -> Any:
+    if type(value) is not kind:
+        raise TypeError(f"expected {kind.__name__}, not {type(value).__name__}")
+    return value
+
+
+class Workdays(_core.Workdays):
+    """The given weekdays without holidays, by default Monday to Friday. The holidays are any dates, at most 1024, and are sorted once.
+
+    >>> Workdays().add_workdays(Date(2024, 2, 29), 10), Workdays(holidays=[Date(2024, 3, 1)]).next_workday(Date(2024, 2, 29))
+    (2024-03-14, 2024-03-04)
+    """
+
+    __slots__ = ()
+
+    def __new__(cls, weekdays: Iterable[Weekday] = tuple(Weekday)[:5], holidays: Iterable[Date] = ()) -> Workdays:
+        """Checks the weekdays and the holidays."""
+        weekmask = sum({1 << _is(weekday, Weekday) for weekday in weekdays})
+        julian_days = sorted({_is(holiday, Date).to_julian_day() for holiday in holidays})
+        return super().__new__(cls, weekmask, array.array("i", julian_days).tobytes())
+
+    @property
+    def weekdays(self) -> tuple[Weekday, ...]:
+        """The working weekdays, from Monday."""
+        return tuple(weekday for weekday in Weekday if self._weekmask >> weekday & 1)
+
+    @property
+    def holidays(self) -> tuple[Date, ...]:
+        """The holidays, in order."""
+        return tuple(self._holidays)
+
+    def __eq__(self, other: object) -> bool:
+        if not isinstance(other, Workdays):
+            return NotImplemented
+        return self._weekmask == other._weekmask and self._holidays == other._holidays
+
+    def __hash__(self) -> int:
+        return hash((self._weekmask, self.holidays))
+
+    def __repr__(self) -> str:
+        return f"Workdays(weekdays={list(self.weekdays)}, holidays={self._holidays})"
+
+    def __reduce__(self) -> tuple[Any, ...]:
+        return Workdays, (self.weekdays, self.holidays)
+
+
+def _fit(number: SupportsIndex, least: int, greatest: int) -> int:
+    number = operator.index(number)
+    if not least <= number <= greatest:
+        raise OverflowError(f"{number} is out of range; expected {least} to {greatest}")
+    return number
+
+
+def _rule_weekday(weekday: Weekday | tuple[int, Weekday]) -> bytes:
+    """Returns a weekday of a rule, as C has it: its number, 0 for every one, and that of the weekday from 1."""
+    number = 0
+    if not isinstance(weekday, Weekday):
+        number, weekday = weekday
+        if operator.index(number) == 0:
+            raise ValueError("invalid number 0 of a weekday; use the Weekday without a number for every one")
+    return bytes((_fit(number, -128, 127) % 256, _is(weekday, Weekday) + 1))
+
+
+@dataclasses.dataclass(frozen=True)
+class Rule:
+    """A recurrence rule in a subset of RFC 5545. An iteration returns its days in order.
+
+    A day is in every n-th day, week, month or year from the start, and in each list that isn't empty: `months`, `month_days`, where -1 is
+    the last day of the month, and `weekdays`. A `Weekday` is every one, and `(-1, Weekday.Friday)` the last Friday of the month, or of the
+    year in a yearly rule without months. `ValueError` for more than 64 months or 64 weekdays.
+
+    >>> last_fridays = Rule(Date(2024, 1, 1), Frequency.Monthly, weekdays=[(-1, Weekday.Friday)])
+    >>> last_fridays.first_days(2), last_fridays.next_after(Date(2024, 8, 30)), Date(2024, 5, 31) in last_fridays
+    ([2024-01-26, 2024-02-23], 2024-09-27, True)
+    """
+
+    start: Date
+    frequency: Frequency
+    interval: int = 1
+    week_start: Weekday = Weekday.Monday
+    months: Sequence[int] = ()
+    month_days: Sequence[int] = ()
+    weekdays: Sequence[Weekday | tuple[int, Weekday]] = ()
+    until: Date | None = None
+
+    def __post_init__(self) -> None:
+        for name in ("months", "month_days", "weekdays"):
+            object.__setattr__(self, name, tuple(getattr(self, name)))
+        parts = (
+            _is(self.start, Date), Date.MAX if self.until is None else _is(self.until, Date), int(_is(self.frequency, Frequency)),
+            _fit(self.interval, 0, 2**32 - 1), _is(self.week_start, Weekday),
+            bytes(number if 0 <= number <= 255 else 255 for number in map(operator.index, self.months)),
+            bytes(_fit(day, -128, 127) % 256 for day in self.month_days), b"".join(map(_rule_weekday, self.weekdays)))
+        object.__setattr__(self, "_parts", parts)
+        _core.rule_contains(parts, self.start)
+
+    def next_after(self, date: Date) -> Date | None:
+        """Returns the first day of the rule after the day, or `None` if no more follow."""
+        return _core.rule_next_after(getattr(self, "_parts"), date)
+
+    def days_after(self, date: Date) -> Iterator[Date]:
+        """Iterates over the days of the rule after the day, in order."""
+        return self._walk(_is(date, Date))
+
+    def first_days(self, count: SupportsIndex) -> list[Date]:
+        """Returns the first `count` days of the rule."""
+        return list(itertools.islice(self, operator.index(count)))
+
+    def __iter__(self) -> Iterator[Date]:
+        first = _core.rule_first(getattr(self, "_parts"))
+        return iter(()) if first is None else itertools.chain((first,), self._walk(first))
+
+    def __contains__(self, date: object) -> bool:
+        refuse_datetime(date)
+        return isinstance(date, Date) and _core.rule_contains(getattr(self, "_parts"), date)
+
+    def __reduce__(self) -> tuple[Any, ...]:
+        return Rule, tuple(getattr(self, field.name) for field in dataclasses.fields(self))
+
+    def _walk(self, date: Date) -> Iterator[Date]:
+        days = [date] * 64
+        while len(days) == 64:
+            days = _core.rule_days_after(getattr(self, "_parts"), days[-1])
+            yield from days
+
+
+@dataclasses.dataclass(frozen=True)
+class Recurrence:
+    """A recurrence in the text of RFC 5545 after `RRULE:`, and its parts.
+
+    `text` has the parts in one order. Recurrences with the same parts are equal. An empty list excludes no day. `until` is the last day and
+    `count` the number of times, if given.
+
+    >>> last_fridays = Recurrence.parse("byday=-1fr;count=3;freq=monthly")
+    >>> list(last_fridays.days(Date(2024, 1, 1)))
+    [2024-01-26, 2024-02-23, 2024-03-29]
+    >>> print(last_fridays)
+    FREQ=MONTHLY;COUNT=3;BYDAY=-1FR
+    >>> last_fridays.count, last_fridays.weekdays
+    (3, ((-1, Friday),))
+    """
+
+    text: str
+    frequency: Frequency = dataclasses.field(init=False, repr=False, compare=False)
+    interval: int = dataclasses.field(init=False, repr=False, compare=False)
+    week_start: Weekday = dataclasses.field(init=False, repr=False, compare=False)
+    months: tuple[Month, ...] = dataclasses.field(init=False, repr=False, compare=False)
+    month_days: tuple[int, ...] = dataclasses.field(init=False, repr=False, compare=False)
+    weekdays: tuple[Weekday | tuple[int, Weekday], ...] = dataclasses.field(init=False, repr=False, compare=False)
+    until: Date | None = dataclasses.field(init=False, repr=False, compare=False)
+    count: int | None = dataclasses.field(init=False, repr=False, compare=False)
+
+    def __post_init__(self) -> None:
+        frequency, interval, week_start, until, count, months, month_days, weekdays = _core.recurrence_parse(self.text)
+        pairs = list(zip(array.array("b", weekdays[::2]), (Weekday(number - 1) for number in weekdays[1::2])))
+        for name, value in {
+            "text": _core.recurrence_text(self.text),
+            "frequency": Frequency(frequency),
+            "interval": interval,
+            "week_start": week_start,
+            "months": tuple(map(Month, months)),
+            "month_days": tuple(array.array("b", month_days)),
+            "weekdays": tuple((number, weekday) if number else weekday for number, weekday in pairs),
+            "until": until,
+            "count": count or None,
+        }.items():
+            object.__setattr__(self, name, value)
+
+    def __str__(self) -> str:
+        return self.text
+
+    def __format__(self, specification: str) -> str:
+        return format(str(self), specification)
+
+    @classmethod
+    def parse(cls, text: str) -> Recurrence:
+        """Parses a text, or raises `ParseRuleError`."""
+        return cls(text)
+
+    def rule(self, start: Date) -> Rule:
+        """Returns the rule from a start, without the number of times."""
+        return Rule(start, self.frequency, self.interval, self.week_start, self.months, self.month_days, self.weekdays, self.until)
+
+    def days(self, start: Date) -> Iterator[Date]:
+        """Iterates over the days from a start to the end."""
+        return self.days_from(start, start)
+
+    def days_from(self, start: Date, date: Date) -> Iterator[Date]:
+        """Iterates over the days from a start, without the days before the date."""
+        return self._walk(_is(start, Date), _is(date, Date))
+
+    def _walk(self, start: Date, date: Date | None) -> Iterator[Date]:
+        days = [start] * 64
+        while len(days) == 64 and date is not None:
+            days = _core.recurrence_days(self.text, start, date)
+            yield from days
+            date = days[-1].next_day() if days else None
