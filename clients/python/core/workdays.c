@@ -15,7 +15,7 @@ static PyObject *workdays_new(PyTypeObject *type, PyObject *arguments, PyObject 
     Py_ssize_t size;
     WorkdaysObject *workdays;
     int32_t status;
-    if (!PyArg_ParseTuple(arguments, "Iy#", &weekmask, &bytes, &size) || !(workdays = PyObject_New(WorkdaysObject, type))) {
+    if (!PyArg_ParseTuple(arguments, "Iy#", &weekmask, &bytes, &size) || !(workdays = (WorkdaysObject *)((allocfunc)PyType_GetSlot(type, Py_tp_alloc))(type, 0))) {
         return NULL;
     }
     workdays->weekmask = weekmask;
@@ -36,8 +36,10 @@ static PyObject *workdays_new(PyTypeObject *type, PyObject *arguments, PyObject 
 
 static void workdays_free(PyObject *self)
 {
+    PyTypeObject *type = Py_TYPE(self);
     PyMem_Free(WORKDAYS(self)->holidays);
-    value_free(self);
+    ((freefunc)PyType_GetSlot(type, Py_tp_free))(self);
+    Py_DECREF(type);
 }
 
 /* ---- the holidays that a call needs
