@@ -87,6 +87,8 @@ static const struct Call {
 
 static Py_ssize_t size_of(char kind) { return kind == 'q' || kind == 'Q' ? 8 : kind == 'i' ? 4 : kind == 'H' ? 2 : 1; }
 
+static uint64_t nothing;
+
 /* Gets the buffer of a column with numbers of a kind. */
 static int get_column(Columns *columns, PyObject *object, char kind, int flags)
 {
@@ -95,6 +97,8 @@ static int get_column(Columns *columns, PyObject *object, char kind, int flags)
         return 0;
     }
     columns->count++;
+    /* An empty array can point to anything. */
+    view->buf = view->len ? view->buf : &nothing;
     if (view->itemsize != size_of(kind) || view->ndim != 1 || (uintptr_t)view->buf % (uintptr_t)view->itemsize) {
         PyErr_SetString(PyExc_TypeError, "a column has other numbers than the call takes");
         return 0;
@@ -185,7 +189,7 @@ static PyObject *is_aligned(UNUSED(module), PyObject *object)
     if (PyObject_GetBuffer(object, &view, PyBUF_C_CONTIGUOUS)) {
         return NULL;
     }
-    result = (uintptr_t)view.buf % (uintptr_t)view.itemsize == 0;
+    result = !view.len || (uintptr_t)view.buf % (uintptr_t)view.itemsize == 0;
     PyBuffer_Release(&view);
     return PyBool_FromLong(result);
 }

@@ -10,7 +10,7 @@ import pickle
 import random
 import unittest
 
-from fotsevindre import ComponentRange, Convention, Date, DayCount, Frequency, Month, Recurrence, Rule, RuleFault, RuleReason, SignedDuration, Weekday, Workdays
+from fotsevindre import ComponentRange, Convention, Date, DayCount, Frequency, Month, Recurrence, Rule, ParseRuleError, ParseRuleErrorKind, SignedDuration, Weekday, Workdays
 
 
 def day(year, month, day_of_month):
@@ -51,7 +51,7 @@ class Months(unittest.TestCase):
     def test_ends(self):
         leap = day(2024, 2, 29)
         self.assertEqual((leap.first_of_month(), leap.last_of_month()), (day(2024, 2, 1), leap))
-        self.assertEqual((leap.first_of_quarter(), leap.last_of_quarter(), leap.quarter()), (day(2024, 1, 1), day(2024, 3, 31), 1))
+        self.assertEqual((leap.first_of_quarter(), leap.last_of_quarter(), leap.quarter), (day(2024, 1, 1), day(2024, 3, 31), 1))
         self.assertEqual((leap.first_of_year(), leap.last_of_year()), (day(2024, 1, 1), day(2024, 12, 31)))
         self.assertEqual((day(2021, 1, 1).first_of_iso_week(), day(2021, 1, 1).last_of_iso_week()), (day(2020, 12, 28), day(2021, 1, 3)))
         self.assertIsNone(Date.MAX.last_of_iso_week())
@@ -59,7 +59,7 @@ class Months(unittest.TestCase):
     def test_weekdays(self):
         self.assertEqual(Date.nth_weekday_of_month(2024, Month.November, Weekday.Thursday, 4), day(2024, 11, 28))
         fridays = [26, 23, 29, 26, 31, 28, 26, 30, 27, 25, 29, 27]
-        self.assertEqual([Date.last_weekday_of_month(2024, month, Weekday.Friday).day() for month in range(1, 13)], fridays)
+        self.assertEqual([Date.last_weekday_of_month(2024, month, Weekday.Friday).day for month in range(1, 13)], fridays)
         self.assertEqual(day(2024, 3, 1).on_or_after(Weekday.Monday), day(2024, 3, 4))
         self.assertEqual(day(2024, 3, 1).on_or_before(Weekday.Monday), day(2024, 2, 26))
         self.assertIsNone(Date.MAX.on_or_after(Weekday.Saturday))
@@ -87,10 +87,10 @@ class WorkingDays(unittest.TestCase):
         self.assertFalse(work.is_workday(day(2024, 7, 4)))
         self.assertEqual(work.next_workday(day(2024, 8, 30)), day(2024, 9, 3))
         self.assertEqual(work.previous_workday(day(2024, 9, 3)), day(2024, 8, 30))
-        self.assertEqual(work.adjusted(day(2024, 8, 31), Convention.Following), day(2024, 9, 3))
-        self.assertEqual(work.adjusted(day(2024, 8, 31), Convention.ModifiedFollowing), day(2024, 8, 30))
-        self.assertEqual(work.adjusted(day(2024, 9, 1), Convention.Preceding), day(2024, 8, 30))
-        self.assertEqual(work.adjusted(day(2024, 9, 1), Convention.ModifiedPreceding), day(2024, 9, 3))
+        self.assertEqual(work.adjust(day(2024, 8, 31), Convention.Following), day(2024, 9, 3))
+        self.assertEqual(work.adjust(day(2024, 8, 31), Convention.ModifiedFollowing), day(2024, 8, 30))
+        self.assertEqual(work.adjust(day(2024, 9, 1), Convention.Preceding), day(2024, 8, 30))
+        self.assertEqual(work.adjust(day(2024, 9, 1), Convention.ModifiedPreceding), day(2024, 9, 3))
         self.assertIsNone(Workdays([]).next_workday(day(2024, 1, 1)))
 
     def test_one_at_a_time(self):
@@ -104,9 +104,8 @@ class WorkingDays(unittest.TestCase):
         self.assertIsNone(work.checked_add_workdays(start, 2**31))
 
     def test_refusals(self):
-        self.assertRaises(ValueError, Workdays, holidays=HOLIDAYS[::-1])
-        self.assertRaises(ValueError, Workdays, holidays=HOLIDAYS[:1] * 2)
-        self.assertRaises(ValueError, Workdays, holidays=day(2000, 1, 1).iter_to(day(2010, 1, 1)))
+        with self.assertRaisesRegex(ValueError, "too many holidays; expected at most 1024"):
+            Workdays(holidays=day(2000, 1, 1).iter_to(day(2010, 1, 1)))
         self.assertRaises(TypeError, Workdays, holidays=[1])
         self.assertRaises(TypeError, Workdays, [1])
 
@@ -178,7 +177,7 @@ class Recurrences(unittest.TestCase):
 
     def test_ends(self):
         rule = Rule(numbered(19970902), Frequency.Weekly, week_start=SU, weekdays=[TU, TH], until=numbered(19971006))
-        self.assertEqual([date.day() for date in rule], [2, 4, 9, 11, 16, 18, 23, 25, 30, 2])
+        self.assertEqual([date.day for date in rule], [2, 4, 9, 11, 16, 18, 23, 25, 30, 2])
         never = Rule(day(2024, 1, 1), Frequency.Yearly, months=[2], month_days=[30])
         self.assertEqual((list(never), never.first_days(3), never.next_after(Date.MIN)), ([], [], None))
         daily = Rule(day(999999, 12, 30), Frequency.Daily)
@@ -186,7 +185,8 @@ class Recurrences(unittest.TestCase):
         self.assertEqual(list(Recurrence.parse("freq=daily").days(Date.MAX - SignedDuration.days(63)))[-1], Date.MAX)
         self.assertEqual(list(Recurrence.parse("FREQ=DAILY;UNTIL=20231231").days(day(2024, 1, 1))), [])
         self.assertEqual(list(daily), [day(999999, 12, 30), Date.MAX])
-        self.assertNotIn(datetime.date(2024, 1, 1), daily)
+        self.assertNotIn(5, daily)
+        self.assertRaises(TypeError, lambda: datetime.date(2024, 1, 1) in daily)
 
     def test_long_walks(self):
         rule = Rule(day(2000, 1, 1), Frequency.Daily, interval=3)
@@ -221,16 +221,16 @@ class Recurrences(unittest.TestCase):
         for parts in ({"weekdays": [5]}, {"months": ["1"]}, {"until": 1}, {"week_start": 1}, {"weekdays": [(1, 5)]}):
             self.assertRaises(TypeError, Rule, start, Frequency.Yearly, **parts)
         for text, wanted in {
-            "FREQ=MONTHLY;BYSETPOS=-1;BYDAY=FR": (13, RuleReason.Unknown, None, "unknown part at 13"),
-            "FREQ=DAILY;UNTIL=20241231;COUNT=3": (26, RuleReason.Twice, "COUNT", "duplicate COUNT at 26"),
-            "FREQ=DAILY;BYMONTHDAY=1" + ",1" * 62: (11, RuleReason.TooMany, "BYMONTHDAY", "too many values in BYMONTHDAY at 11"),
-            "FREQ=DAILY;UNTIL=20241231T000000Z": (11, RuleReason.Value, "UNTIL", "invalid value of UNTIL at 11"),
-            "INTERVAL=2;FREQ=\ud800": (11, RuleReason.Value, "FREQ", "invalid value of FREQ at 11"),
-            "BYDAY=MO": (8, RuleReason.Missing, None, "missing FREQ at 8"),
+            "FREQ=MONTHLY;BYSETPOS=-1;BYDAY=FR": (13, ParseRuleErrorKind.Unknown, None, "unknown part at 13"),
+            "FREQ=DAILY;UNTIL=20241231;COUNT=3": (26, ParseRuleErrorKind.Twice, "COUNT", "duplicate COUNT at 26"),
+            "FREQ=DAILY;BYMONTHDAY=1" + ",1" * 62: (11, ParseRuleErrorKind.TooMany, "BYMONTHDAY", "too many values in BYMONTHDAY at 11"),
+            "FREQ=DAILY;UNTIL=20241231T000000Z": (11, ParseRuleErrorKind.Value, "UNTIL", "invalid value of UNTIL at 11"),
+            "INTERVAL=2;FREQ=\ud800": (11, ParseRuleErrorKind.Value, "FREQ", "invalid value of FREQ at 11"),
+            "BYDAY=MO": (8, ParseRuleErrorKind.Missing, None, "missing FREQ at 8"),
         }.items():
-            with self.assertRaises(RuleFault) as fault:
+            with self.assertRaises(ParseRuleError) as fault:
                 Recurrence.parse(text)
-            self.assertEqual((fault.exception.position, fault.exception.reason, fault.exception.part, str(fault.exception)), wanted, text)
+            self.assertEqual((fault.exception.position, fault.exception.kind, fault.exception.part, str(fault.exception)), wanted, text)
             self.assertEqual(str(pickle.loads(pickle.dumps(fault.exception))), wanted[-1])
         daily = Recurrence.parse("FREQ=DAILY")
         self.assertEqual(pickle.loads(pickle.dumps(daily)), daily)

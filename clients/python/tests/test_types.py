@@ -3,7 +3,7 @@
 import datetime
 from typing import List, Optional, Tuple
 
-from fotsevindre import Frequency, OffsetDateTime, PlainDateTime, Recurrence, Rule, RuleFault, RuleReason
+from fotsevindre import Frequency, OffsetDateTime, PlainDateTime, Recurrence, Rule, ParseRuleError, ParseRuleErrorKind
 from fotsevindre import Date, Days, Month, SignedDuration, Time, UtcOffset, Weekday, add_to_pair, rfc3339_text
 
 day: Date = Date.from_calendar_date(2024, Month.February, 29)
@@ -16,7 +16,7 @@ next_day: Optional[Date] = day.next_day()
 parts: Tuple[int, Month, int] = day.to_calendar_date()
 days: Days = day.iter_to(last)
 first: Date = days[0]
-count: int = len(days[1:]) + day.year() + day.month()
+count: int = len(days[1:]) + day.year + day.month
 is_less: bool = day < last and day.weekday() == Weekday.Friday and UtcOffset.UTC >= UtcOffset.UTC
 pair: Optional[Tuple[Date, Time]] = add_to_pair(day, Time.MIDNIGHT, no_time * 2 / 3)
 text: Optional[str] = rfc3339_text(day, Time.MAX, UtcOffset.UTC)
@@ -33,7 +33,7 @@ by_text: List[Date] = list(Recurrence.parse("FREQ=DAILY;COUNT=2").days(day)) + l
 recurrence: Recurrence = Recurrence.parse("FREQ=DAILY;COUNT=2")
 of_text: Tuple[str, Rule, Optional[int], Optional[Date]] = (recurrence.text, recurrence.rule(day), recurrence.count, recurrence.until)
 lists: Tuple[Tuple[Month, ...], Tuple[int, ...]] = (recurrence.months, recurrence.month_days)
-fault: Tuple[int, Optional[str]] = (RuleFault(1, RuleReason.Missing).position, RuleFault(1, RuleReason.Missing).part)
+fault: Tuple[int, Optional[str]] = (ParseRuleError(1, ParseRuleErrorKind.Missing).position, ParseRuleError(1, ParseRuleErrorKind.Missing).part)
 
 Date.from_calendar_date("2024", 2, 29)  # refused
 Date.from_calendar_date(2024.0, 2, 29)  # refused
@@ -42,7 +42,7 @@ Date.from_iso_week_date(2024, 9, 4)  # refused
 day + 1  # refused
 day < Time.MIDNIGHT  # refused
 day.year == 2024  # refused
-day.next_day().year()  # refused
+day.next_day().year  # refused
 day.next_occurrence(1)  # refused
 SignedDuration.days(1.5)  # refused
 Time.MIDNIGHT + datetime.timedelta(hours=1)  # refused
@@ -54,7 +54,7 @@ moment.replace(hour="1")  # refused
 moment.to_offset(3600)  # refused
 Rule(day, 3)  # refused
 Rule(day, Frequency.Monthly, weekdays=[5])  # refused
-rule.next_after(day).year()  # refused
+rule.next_after(day).year  # refused
 Recurrence.parse(b"FREQ=DAILY")  # refused
 recurrence.rule(1)  # refused
 recurrence.count + 1  # refused

@@ -15,9 +15,10 @@ import re
 import unittest
 
 import fotsevindre
+from fotsevindre import columns, enums, errors, schedules, sequences
 from fotsevindre import (
-    ComponentRange, Date, Month, SignedDuration, Time, Unreadable, UtcOffset, Weekday, add_to_pair, days_in_month, days_in_year,
-    days_in_year_month, is_leap_year, read_rfc3339, read_unix, rfc3339_text, sub_from_pair, unix_duration, unix_pair, unix_text,
+    ComponentRange, Date, Month, SignedDuration, Time, ParseError, UtcOffset, Weekday, add_to_pair, days_in_month, days_in_year,
+    days_in_year_month, is_leap_year, parse_rfc3339, parse_unix, rfc3339_text, sub_from_pair, unix_duration, unix_pair, unix_text,
     weeks_in_year,
 )
 
@@ -36,6 +37,16 @@ def day(year, month, day_of_month):
 
 def span(seconds, nanoseconds=0):
     return SignedDuration.new(seconds, nanoseconds)
+
+
+class Unpickled:
+    """What unpickles by a call."""
+
+    def __init__(self, *parts):
+        self.parts = parts
+
+    def __reduce__(self):
+        return self.parts
 
 
 class Cases(unittest.TestCase):
@@ -80,14 +91,14 @@ class Days(Cases):
                 self.assertEqual(date, Date.from_calendar_date(*calendar))
                 self.assertEqual(date, Date.from_calendar_date(calendar[0], Month(calendar[1]), calendar[2]))
                 self.assertEqual(date, Date.from_ordinal_date(calendar[0], ordinal))
-                self.assertEqual(date, Date.from_iso_week_date(iso_year, week, Weekday(weekday)))
+                self.assertEqual(date, Date.from_iso_week_date(iso_year, week, Weekday(weekday - 1)))
                 self.assertEqual(date.to_julian_day(), julian_day)
                 self.assertEqual(date.to_calendar_date(), (calendar[0], Month(calendar[1]), calendar[2]))
-                self.assertEqual((date.year(), date.month(), date.day()), calendar)
+                self.assertEqual((date.year, date.month, date.day), calendar)
                 self.assertEqual(date.to_ordinal_date(), (calendar[0], ordinal))
-                self.assertEqual(date.ordinal(), ordinal)
-                self.assertEqual(date.to_iso_week_date(), (iso_year, week, Weekday(weekday)))
-                self.assertEqual((date.iso_week(), date.weekday()), (week, Weekday(weekday)))
+                self.assertEqual(date.ordinal, ordinal)
+                self.assertEqual(date.to_iso_week_date(), (iso_year, week, Weekday(weekday - 1)))
+                self.assertEqual((date.iso_week, date.weekday()), (week, Weekday(weekday - 1)))
                 self.assertEqual((str(date), repr(date), f"{date}"), (text, text, text))
 
     def test_text_under_a_width(self):
@@ -95,7 +106,7 @@ class Days(Cases):
 
     def test_week_counts(self):
         for date, count in [(day(2019, 1, 1), 0), (day(2020, 12, 31), 52)]:
-            self.assertEqual((date.sunday_based_week(), date.monday_based_week()), (count, count))
+            self.assertEqual((date.sunday_based_week, date.monday_based_week), (count, count))
 
     def test_refusals(self):
         make = Date.from_julian_day
@@ -199,8 +210,8 @@ class Days(Cases):
     def test_occurrences_one_day_at_a_time(self):
         for weekday in Weekday:
             for first in range(2460000, 2460007):
-                ahead = [n for n in range(first + 1, first + 50) if n % 7 + 1 == weekday.value]
-                back = [n for n in range(first - 1, first - 50, -1) if n % 7 + 1 == weekday.value]
+                ahead = [n for n in range(first + 1, first + 50) if n % 7 == weekday.value]
+                back = [n for n in range(first - 1, first - 50, -1) if n % 7 == weekday.value]
                 date = Date.from_julian_day(first)
                 self.assertEqual(date.checked_next_occurrence(weekday), Date.from_julian_day(ahead[0]))
                 self.assertEqual(date.checked_prev_occurrence(weekday), Date.from_julian_day(back[0]))
@@ -222,7 +233,7 @@ class StandardLibrary(Cases):
         self.assertEqual(date.to_julian_day(), other.toordinal() + 1721425)
         self.assertEqual(date.to_calendar_date(), (other.year, other.month, other.day))
         iso_year, week, weekday = other.isocalendar()
-        self.assertEqual(date.to_iso_week_date(), (iso_year, week, Weekday(weekday)))
+        self.assertEqual(date.to_iso_week_date(), (iso_year, week, Weekday(weekday - 1)))
         ordinal = other.timetuple().tm_yday
         self.assertEqual(date.to_ordinal_date(), (other.year, ordinal))
         self.assertEqual(date, Date.from_ordinal_date(other.year, ordinal))
@@ -245,8 +256,8 @@ class StandardLibrary(Cases):
         for number in range(1, datetime.date.max.toordinal() + 1, 997):
             other = datetime.date.fromordinal(number)
             date = Date.from_date(other)
-            self.assertEqual(date.sunday_based_week(), int(other.strftime("%U")))
-            self.assertEqual(date.monday_based_week(), int(other.strftime("%W")))
+            self.assertEqual(date.sunday_based_week, int(other.strftime("%U")))
+            self.assertEqual(date.monday_based_week, int(other.strftime("%W")))
 
     def test_only_years_that_it_has(self):
         for date in (day(0, 12, 31), day(10000, 1, 1), Date.MIN, Date.MAX):
@@ -263,8 +274,8 @@ class Times(Cases):
         self.assertEqual(one.as_hms_milli(), (1, 2, 3, 4))
         self.assertEqual(one.as_hms_micro(), (1, 2, 3, 4005))
         self.assertEqual(one.as_hms_nano(), (1, 2, 3, 4005006))
-        self.assertEqual((one.hour(), one.minute(), one.second()), (1, 2, 3))
-        self.assertEqual((one.millisecond(), one.microsecond(), one.nanosecond()), (4, 4005, 4005006))
+        self.assertEqual((one.hour, one.minute, one.second), (1, 2, 3))
+        self.assertEqual((one.millisecond, one.microsecond, one.nanosecond), (4, 4005, 4005006))
         self.assertEqual(one.replace_microsecond(7008), Time.from_hms_micro(1, 2, 3, 7008))
         self.assertEqual(one.replace_hour(7), Time.from_hms_nano(7, 2, 3, 4005006))
         self.assertEqual(one.replace_minute(7), Time.from_hms_nano(1, 7, 3, 4005006))
@@ -372,7 +383,7 @@ class Texts(Cases):
     ]
 
     def unreadable(self, position, call, text):
-        with self.assertRaises(Unreadable, msg=text) as caught:
+        with self.assertRaises(ParseError, msg=text) as caught:
             call(text)
         is_end = position == len(text)
         found = (caught.exception.position, caught.exception.is_end, str(caught.exception))
@@ -384,8 +395,8 @@ class Texts(Cases):
             date = Date.from_julian_day(julian_day)
             self.assertEqual((date.calendar_text(), date.ordinal_text(), date.week_text()), (calendar, ordinal, week))
             self.assertEqual((str(date), date.julian_text()), (calendar, julian))
-            self.assertEqual([Date.read(text) for text in (calendar, ordinal, week)], [date] * 3)
-            self.assertEqual(Date.read_julian_day(julian), date)
+            self.assertEqual([Date.parse(text) for text in (calendar, ordinal, week)], [date] * 3)
+            self.assertEqual(Date.parse_julian_day(julian), date)
 
     def test_days_of_the_standard_library(self):
         for number in itertools.chain(range(1, 800), range(738000, 739000), range(datetime.date.max.toordinal() - 800,
@@ -395,7 +406,7 @@ class Texts(Cases):
             iso_year, week, weekday = other.isocalendar()
             texts = [other.isoformat(), f"{other.year:04}-{other.timetuple().tm_yday:03}", f"{iso_year:04}-W{week:02}-{weekday}"]
             self.assertEqual([date.calendar_text(), date.ordinal_text(), date.week_text()], texts)
-            self.assertEqual([Date.read(text) for text in texts], [date] * 3)
+            self.assertEqual([Date.parse(text) for text in texts], [date] * 3)
 
     def test_every_day_of_four_years_at_each_end(self):
         for first in (-363521074, 366963559 - 1460):
@@ -404,11 +415,11 @@ class Texts(Cases):
                 year, month, day_of_month = date.to_calendar_date()
                 sign = "-" if year < 0 else "+"
                 self.assertEqual(date.calendar_text(), f"{sign}{abs(year)}-{int(month):02}-{day_of_month:02}")
-                self.assertEqual(date.ordinal_text(), f"{sign}{abs(year)}-{date.ordinal():03}")
+                self.assertEqual(date.ordinal_text(), f"{sign}{abs(year)}-{date.ordinal:03}")
                 for text in (date.calendar_text(), date.ordinal_text(), date.week_text()):
-                    self.assertEqual(Date.read(text), date)
+                    self.assertEqual(Date.parse(text), date)
                 self.assertEqual(date.julian_text(), f"J{number}")
-                self.assertEqual(Date.read_julian_day(date.julian_text()), date)
+                self.assertEqual(Date.parse_julian_day(date.julian_text()), date)
 
     def test_refused_days(self):
         rows = [
@@ -418,9 +429,9 @@ class Texts(Cases):
             ("2021-W00-1", "week", True), ("+999999-W52-6", "weekday", True),
         ]
         for text, name, is_conditional in rows:
-            self.refused(name, is_conditional, Date.read, text)
+            self.refused(name, is_conditional, Date.parse, text)
         for text in ("J366963560", "J-363521075", "J999999999"):
-            self.refused("julian_day", False, Date.read_julian_day, text)
+            self.refused("julian_day", False, Date.parse_julian_day, text)
         rows = [
             ("", 0), ("x024-02-29", 0), ("2024x", 4), ("2024", 4), ("20240229", 4), ("12345-01-01", 4), ("+2024-01-01", 5),
             ("+02024-01-01", 1), ("-0000-01-01", 4), ("-12345678901-001", 10), ("2024-60", 7), ("2024-02-2", 9), ("2024-02-29 ", 10),
@@ -428,9 +439,9 @@ class Texts(Cases):
             ("2024-\ud800", 5), ("\0" * 50, 0),
         ]
         for text, position in rows:
-            self.unreadable(position, Date.read, text)
+            self.unreadable(position, Date.parse, text)
         for text, position in [("", 0), ("2460370", 0), ("J", 1), ("J-", 2), ("J+1", 1), ("J-0", 2), ("J02", 2), ("J24603700000", 10)]:
-            self.unreadable(position, Date.read_julian_day, text)
+            self.unreadable(position, Date.parse_julian_day, text)
 
     # The examples of the standard come first.
     MOMENTS = [
@@ -449,14 +460,14 @@ class Texts(Cases):
     def test_moments(self):
         for text, *numbers in self.MOMENTS:
             moment = self.moment(*numbers)
-            self.assertEqual((rfc3339_text(*moment), read_rfc3339(text)), (text, moment))
+            self.assertEqual((rfc3339_text(*moment), parse_rfc3339(text)), (text, moment))
         rows = [
             ("0000-01-01t00:00:00z", (0, 1, 1), (0, 0, 0, 0), 0), ("2024-02-29 00:00:00-00:00", (2024, 2, 29), (0, 0, 0, 0), 0),
             ("2024-02-29T00:00:00.9999999999999Z", (2024, 2, 29), (0, 0, 0, 999999999), 0),
             ("2024-02-29T00:00:00.0000000019Z", (2024, 2, 29), (0, 0, 0, 1), 0),
         ]
         for text, *numbers in rows:
-            self.assertEqual(read_rfc3339(text), self.moment(*numbers))
+            self.assertEqual(parse_rfc3339(text), self.moment(*numbers))
         for date in (day(10000, 1, 1), day(-1, 12, 31)):
             self.assertIsNone(rfc3339_text(date, Time.MIDNIGHT, UtcOffset.UTC))
         for seconds in (86400, -86400, 1, -1, 3601, 93599):
@@ -470,14 +481,14 @@ class Texts(Cases):
             ("2024-02-29T23:59:59-23:60", "offset minute", False),
         ]
         for text, name, is_conditional in rows:
-            self.refused(name, is_conditional, read_rfc3339, text)
+            self.refused(name, is_conditional, parse_rfc3339, text)
         rows = [
             ("", 0), ("-2024-02-29T00:00:00Z", 0), ("2024-02-29", 10), ("2024-02-29  00:00:00Z", 11), ("2024-02-29T00:00Z", 16),
             ("2024-02-29T00:00:00.Z", 20), ("2024-02-29T00:00:00.5", 21), ("2024-02-29T00:00:00Z ", 20),
             ("2024-02-29T00:00:00+0100", 22),
         ]
         for text, position in rows:
-            self.unreadable(position, read_rfc3339, text)
+            self.unreadable(position, parse_rfc3339, text)
 
     def test_moments_of_the_standard_library(self):
         draw = random.Random(3339)
@@ -489,7 +500,7 @@ class Texts(Cases):
                 draw.choice([0, draw.randrange(10**6)]))
             date, time = Date.from_date(other.date()), Time.from_hms_micro(other.hour, other.minute, other.second, other.microsecond)
             moment = date, time, UtcOffset.from_whole_seconds(60 * minutes)
-            self.assertEqual(read_rfc3339(other.isoformat()), moment)
+            self.assertEqual(parse_rfc3339(other.isoformat()), moment)
             text = other.isoformat()
             if other.microsecond:
                 text = re.sub(r"(\.\d*?)0+(?=[+-]\d\d:\d\d$)", r"\1", text)
@@ -500,7 +511,7 @@ class Texts(Cases):
             whole, part = divmod(abs(since), 10**6)
             text = f"@{'-' if since < 0 else ''}{whole}" + (f".{part:06}".rstrip("0") if part else "")
             self.assertEqual(unix_text(*moment), text)
-            self.assertEqual(read_unix(text), unix_pair(SignedDuration.microseconds(since), UtcOffset.UTC))
+            self.assertEqual(parse_unix(text), unix_pair(SignedDuration.microseconds(since), UtcOffset.UTC))
 
     def test_unix_times(self):
         rows = [
@@ -509,22 +520,22 @@ class Texts(Cases):
             ("@-31619087596800", span(-31619087596800)),
         ]
         for text, duration in rows:
-            pair = read_unix(text)
+            pair = parse_unix(text)
             self.assertEqual(pair, unix_pair(duration, UtcOffset.UTC))
             self.assertEqual((unix_text(*pair, UtcOffset.UTC), unix_duration(*pair, UtcOffset.UTC)), (text, duration))
-        self.assertEqual(read_unix("@1709164800.50"), (day(2024, 2, 29), Time.from_hms_milli(0, 0, 0, 500)))
+        self.assertEqual(parse_unix("@1709164800.50"), (day(2024, 2, 29), Time.from_hms_milli(0, 0, 0, 500)))
         self.assertEqual(unix_text(Date.MIN, Time.MIDNIGHT, UtcOffset.from_hms(1, 0, 0)), "@-31619087600400")
         self.assertIsNone(unix_pair(span(31494784780800), UtcOffset.UTC))
         self.assertIsNone(unix_pair(GREATEST, UtcOffset.UTC))
         self.assertIsNone(unix_pair(LEAST, UtcOffset.from_hms(-1, 0, 0)))
         for text in ("@31494784780800", "@-31619087596800.000000001", "@999999999999999999"):
-            self.refused("timestamp", False, read_unix, text)
+            self.refused("timestamp", False, parse_unix, text)
         for text, position in [("", 0), ("@", 1), ("@+1", 1), ("@01", 2), ("@-0", 3), ("@-0.0", 5), ("@1.", 3), ("@1.1234567890", 12)]:
-            self.unreadable(position, read_unix, text)
+            self.unreadable(position, parse_unix, text)
 
     def test_wrong_kinds(self):
         moment = day(2024, 2, 29), Time.MIDNIGHT, UtcOffset.UTC
-        for call in (Date.read, Date.read_julian_day, read_rfc3339, read_unix):
+        for call in (Date.parse, Date.parse_julian_day, parse_rfc3339, parse_unix):
             for wrong in (None, 1, 1.0, b"2024-02-29", ["2024-02-29"], *moment):
                 with self.assertRaises(TypeError):
                     call(wrong)
@@ -541,7 +552,7 @@ class Texts(Cases):
                 unix_pair(*arguments)
 
     def test_copies_of_the_error(self):
-        error = pickle.loads(pickle.dumps(Unreadable(4, False)))
+        error = pickle.loads(pickle.dumps(ParseError(4, False)))
         self.assertEqual((error.position, error.is_end, str(error)), (4, False, "unexpected byte at 4"))
 
 
@@ -714,8 +725,9 @@ class Cycles(Cases):
         self.assertEqual((Month.December.next(), Month.January.previous()), (Month.January, Month.December))
         self.assertEqual((Month.February.length(2000), Month.February.length(1900), Month.April.length(-1)), (29, 28, 30))
         names = "January February March April May June July August September October November December"
-        self.assertEqual(" ".join(str(Month(number)) for number in range(1, 13)), names)
-        self.assertEqual((repr(Month.May), f"{Month.May:>5}", Month["March"]), ("May", "  May", Month.March))
+        self.assertEqual(" ".join(repr(Month(number)) for number in range(1, 13)), names)
+        self.assertEqual((repr(Month.May), f"{Month.May.name:>5}", Month["March"]), ("May", "  May", Month.March))
+        self.assertEqual((str(Month.May), f"{Month.May}", f"{Month.May:02}", "%02d" % Month.May), ("5", "5", "05", "05"))
         self.assertLess(Month.January, Month.February)
         for number in (0, 13, -1, 257, 2**32 + 1):
             self.refused("month", False, Month, number)
@@ -741,13 +753,13 @@ class Cycles(Cases):
         self.assertEqual((friday.number_days_from_monday(), friday.number_days_from_sunday()), (4, 5))
         self.assertEqual(Weekday.Sunday.number_from_sunday(), 1)
         names = "Monday Tuesday Wednesday Thursday Friday Saturday Sunday"
-        self.assertEqual(" ".join(str(Weekday(number)) for number in range(1, 8)), names)
-        self.assertEqual((str(friday), repr(friday), f"{friday:<8}"), ("Friday", "Friday", "Friday  "))
+        self.assertEqual(" ".join(repr(Weekday(number)) for number in range(7)), names)
+        self.assertEqual((str(friday), repr(friday), f"{friday.name:<8}"), ("4", "Friday", "Friday  "))
         for weekday in Weekday:
             for n in (0, 1, 6, 7, 8, 255):
-                self.assertEqual(weekday.nth_next(n).value, (weekday.value - 1 + n) % 7 + 1)
-                self.assertEqual(weekday.nth_prev(n).value, (weekday.value - 1 - n) % 7 + 1)
-        for number in (0, 8, -1, 257):
+                self.assertEqual(weekday.nth_next(n).value, (weekday.value + n) % 7)
+                self.assertEqual(weekday.nth_prev(n).value, (weekday.value - n) % 7)
+        for number in (7, 8, -1, 257):
             with self.assertRaises(ValueError):
                 Weekday(number)
         for n in (-1, 2**32, 10**30):
@@ -783,6 +795,7 @@ class Columns(Cases):
     def row_by_row(self, found, expected):
         """Compares the columns of a call with what the call of one value answers for each row."""
         *parts, statuses, refused = found
+        weekdays = getattr(found, "weekdays", None)
         self.assertEqual({len(column) for column in (*parts, statuses)}, {len(expected)})
         self.assertEqual(refused, sum(status != 0 for status in statuses))
         for row, status, (call, fields) in zip(zip(*parts), statuses, expected):
@@ -791,7 +804,7 @@ class Columns(Cases):
                 answer = call()
             except (ValueError, OverflowError) as raised:
                 self.assertEqual((type(error), str(error)), (type(raised), str(raised)))
-                self.assertEqual(row, tuple(-2**31 if column.typecode == "i" else 0 for column in parts))
+                self.assertEqual(row, tuple(-2**31 if column.typecode == "i" else 255 if column is weekdays else 0 for column in parts))
             else:
                 self.assertIsNone(error)
                 self.assertEqual(row, fields(answer))
@@ -813,11 +826,17 @@ class Columns(Cases):
             [(lambda row=row: Date.from_ordinal_date(*row), made) for row in zip(years, ordinals)])
         years = array.array("i", [2020, 2019, 999999, 10**6, 999999])
         weeks = array.array("B", [53, 53, 52, 0, 52])
-        weekdays = array.array("B", [5, 1, 6, 1, 5])
+        weekdays = array.array("B", [4, 0, 5, 0, 4])
         self.row_by_row(fotsevindre.dates_from_iso_week_dates(years, weeks, weekdays),
             [(lambda row=row: Date.from_iso_week_date(*row[:2], Weekday(row[2])), made) for row in zip(years, weeks, weekdays)])
-        found = fotsevindre.dates_from_iso_week_dates(years, weeks, array.array("B", [0, 8, 255, 9, 10]))
+        found = fotsevindre.dates_from_iso_week_dates(years, weeks, array.array("B", [255, 7, 254, 8, 9]))
         self.assertEqual((found.refused, {type(fotsevindre.status_error(status)) for status in found.statuses}), (5, {ValueError}))
+
+    def date_of(self, number):
+        """Returns the date of a row, or raises the error that its status names."""
+        if not -363521074 <= number <= 366963559:
+            raise fotsevindre.status_error(2)
+        return Date.from_julian_day(number)
 
     def test_what_dates_have(self):
         calls = [
@@ -827,7 +846,7 @@ class Columns(Cases):
             (fotsevindre.dates_weekdays, Date.weekday, lambda found: (found.value,)),
         ]
         for over_columns, of_one, fields in calls:
-            self.row_by_row(over_columns(self.DATES), [(lambda n=n: of_one(Date._of(n)), fields) for n in self.DATES])
+            self.row_by_row(over_columns(self.DATES), [(lambda n=n: of_one(self.date_of(n)), fields) for n in self.DATES])
 
     def bounds_of(self, texts):
         """The texts in one buffer, and their bounds."""
@@ -835,13 +854,13 @@ class Columns(Cases):
 
     def test_texts_read(self):
         texts = ["2024-02-29", "2024-060", "", "2024-02-30", "2024-W09-4", "2024-02-29T23:59:59.25+01:00", "0001-01-01T00:00:00Z", "24"]
-        dates, moments = fotsevindre.dates_read(*self.bounds_of(texts)), fotsevindre.moments_read(*self.bounds_of(texts))
+        dates, moments = fotsevindre.dates_parse(*self.bounds_of(texts)), fotsevindre.moments_parse(*self.bounds_of(texts))
         for row, text in enumerate(texts):
-            for column, read in ((dates, Date.read), (moments, fotsevindre.read_rfc3339)):
+            for column, read in ((dates, Date.parse), (moments, fotsevindre.parse_rfc3339)):
                 error = fotsevindre.status_error(column.statuses[row])
                 try:
                     answer = read(text)
-                except fotsevindre.Unreadable as raised:
+                except fotsevindre.ParseError as raised:
                     words = "unexpected end of the text" if raised.is_end else "unexpected byte in the text"
                     self.assertEqual(str(error), words)
                 except fotsevindre.ComponentRange as raised:
@@ -853,17 +872,17 @@ class Columns(Cases):
                     rest = rest and [(rest[0] - Time.MIDNIGHT).whole_nanoseconds(), rest[1].whole_seconds()]
                     self.assertEqual(found, [date.to_julian_day(), *rest])
         self.assertEqual((dates.refused, moments.refused), (5, 6))
-        wrong = fotsevindre.dates_read(b"2024-02-29", array.array("i", [0, 10, 11, 4, -1]))
+        wrong = fotsevindre.dates_parse(b"2024-02-29", array.array("i", [0, 10, 11, 4, -1]))
         self.assertEqual((list(wrong.statuses), wrong.refused), ([0, 30, 30, 30], 3))
         self.assertEqual(repr(fotsevindre.status_error(30)), "ValueError('invalid bounds; expected ascending positions in the texts')")
         with self.assertRaises(ValueError):
-            fotsevindre.dates_read(b"", array.array("i"))
+            fotsevindre.dates_parse(b"", array.array("i"))
         with self.assertRaises(TypeError):
-            fotsevindre.dates_read("2024-02-29", array.array("i", [0, 10]))
+            fotsevindre.dates_parse("2024-02-29", array.array("i", [0, 10]))
 
     def test_texts_printed(self):
         printed = fotsevindre.dates_calendar_texts(self.DATES)
-        read = fotsevindre.dates_read(printed.texts, printed.bounds)
+        read = fotsevindre.dates_parse(printed.texts, printed.bounds)
         self.assertEqual((printed.refused, len(printed.bounds)), (read.refused, len(self.DATES) + 1))
         for row, number in enumerate(self.DATES):
             text = printed.texts[printed.bounds[row]:printed.bounds[row + 1]].decode()
@@ -871,7 +890,7 @@ class Columns(Cases):
                 self.assertEqual((text, read.dates[row]), (str(Date.from_julian_day(number)), number))
             else:
                 self.assertEqual((text, printed.statuses[row], read.statuses[row]), ("", 2, 31))
-        read = fotsevindre.moments_read(*self.bounds_of(["2024-02-29T23:59:59.25+01:00", "2024-02-29t00:00:00z", "24"]))
+        read = fotsevindre.moments_parse(*self.bounds_of(["2024-02-29T23:59:59.25+01:00", "2024-02-29t00:00:00z", "24"]))
         printed = fotsevindre.moments_texts(*read[:3])
         self.assertEqual((printed.texts, list(printed.bounds), list(printed.statuses)),
             (b"2024-02-29T23:59:59.25+01:002024-02-29T00:00:00Z", [0, 28, 48, 48], [0, 0, 2]))
@@ -887,9 +906,8 @@ class Columns(Cases):
             back = {3: fotsevindre.dates_from_ordinal_dates}.get(len(found) - 1, fotsevindre.dates_from_calendar_dates)
             back = fotsevindre.dates_from_iso_week_dates if hasattr(found, "weeks") else back
             self.assertEqual(back(*found[:-2]).dates, made.dates)
-        kinds = [(made.dates, ctypes.c_int32), *zip(fotsevindre.dates_to_calendar_dates(made.dates)[1:3], [ctypes.c_uint8] * 2)]
-        for column, kind in kinds:
-            self.assertEqual(ctypes.addressof(fotsevindre._column(column, kind, False)), column.buffer_info()[0])
+        for column, code in [(made.dates, "i"), *zip(fotsevindre.dates_to_calendar_dates(made.dates)[1:3], "BB")]:
+            self.assertIs(columns._column(column, code, False).obj, column)
 
     def test_many_refusals_are_counted(self):
         found = fotsevindre.dates_from_julian_days(array.array("q", [2**40] * 100_000))
@@ -949,10 +967,9 @@ class Columns(Cases):
             self.assertEqual((found.refused, list(found.dates)), (0, list(values)))
         self.assertEqual(list(whole), list(range(2451545, 2451550)))
         self.assertEqual([column.typecode for column in fotsevindre.dates_from_julian_days(whole)[:2]], ["i", "B"])
-        for values in (array.array("q"), unaligned):
-            address = ctypes.addressof(fotsevindre._column(values, ctypes.c_int64, False))
-            self.assertTrue(address and address % 8 == 0)
-        self.assertEqual(ctypes.addressof(fotsevindre._column(whole, ctypes.c_int64, False)), whole.buffer_info()[0])
+        copied = columns._column(unaligned, "q", False)
+        self.assertEqual((type(copied), copied.buffer_info()[0] % 8), (array.array, 0))
+        self.assertIs(columns._column(whole, "q", False).obj, whole)
 
     def test_other_buffers(self):
         """Whole numbers of other bits, and in other steps, are taken where they fit."""
@@ -971,7 +988,7 @@ class Columns(Cases):
 
     def test_wrong_buffers(self):
         wrong = [
-            [2451545], 2451545, None, "2451545", array.array("d", [1.0]), memoryview(bytes(32)).cast("q", (2, 2)),
+            ["2451545"], [1.0], [None], 2451545, Date.MAX, None, "2451545", array.array("d", [1.0]), memoryview(bytes(32)).cast("q", (2, 2)),
                 memoryview(b"12").cast("c"),
         ]
         for values in wrong:
@@ -1034,19 +1051,17 @@ class Values(Cases):
                 with self.assertRaises((AttributeError, TypeError)):
                     setattr(value, name, 1)
             with self.assertRaises(TypeError):
-                type(value)(1)
+                type(value)("1")
 
-    def test_forged_values_are_refused(self):
-        for forged in (Date._of(-363521075), Date._of(366963560), Date._of(-2**31)):
-            with self.assertRaises(ValueError):
-                forged.year()
-        with self.assertRaises(ValueError):
-            Time._of(DAY * 10**9).hour()
-        with self.assertRaises(ValueError):
-            UtcOffset._of(93600).whole_hours()
-        for key in ((1, -1), (-1, 1), (0, 10**9), (0, -10**9)):
-            with self.assertRaises(ValueError):
-                SignedDuration._of(fotsevindre._CDuration(*key)).whole_days()
+    def test_values_cannot_be_forged(self):
+        for value in self.values():
+            kind = type(value)
+            for call in (lambda: object.__new__(kind), lambda: type("Sub", (kind,), {}), lambda: setattr(value, "__class__", int)):
+                with self.assertRaises(TypeError, msg=kind):
+                    call()
+        for make, arguments in [(Date, (2023, 2, 29)), (Time, (24, 0, 0, 0)), (UtcOffset, (26, 0, 0))]:
+            with self.assertRaises(ComponentRange):
+                pickle.loads(pickle.dumps(Unpickled(make, arguments)))
 
     def test_wrong_kinds(self):
         date, time, offset, duration = self.values()
@@ -1064,7 +1079,7 @@ class Values(Cases):
             (days_in_year_month, 2),
         ]
         for call, count in number_calls:
-            for index, wrong in itertools.product(range(count), NO_NUMBERS + self.values() + [Weekday.Monday]):
+            for index, wrong in itertools.product(range(count), NO_NUMBERS + self.values()):
                 arguments = [1] * count
                 arguments[index] = wrong
                 with self.assertRaises(TypeError, msg=(call, arguments)):
@@ -1125,7 +1140,7 @@ class Values(Cases):
         ]
         for call, number in itertools.product(calls, WIDE):
             if abs(number) <= 999999:
-                self.assertEqual(call(number).year(), number)
+                self.assertEqual(call(number).year, number)
             else:
                 self.refused("year", False, call, number)
         for number in WIDE:
@@ -1145,15 +1160,12 @@ class Habits(Cases):
         ]
         for own, other in values:
             for one, another in ((own, other), (other, own)):
-                for compare in (operator.eq, operator.ne, operator.lt, operator.ge):
-                    if compare in (operator.lt, operator.ge) and isinstance(other, datetime.tzinfo):
-                        continue
+                self.assertEqual((one == another, one != another), (False, True))
+                for compare in (operator.lt, operator.le, operator.gt, operator.ge):
                     with self.assertRaises(TypeError, msg=(one, another)):
                         compare(one, another)
         friday = day(2021, 1, 1).weekday()
-        for call in (lambda: friday == 4, lambda: 4 == friday, lambda: friday != 5, lambda: friday in (4, 5)):
-            with self.assertRaises(TypeError):
-                call()
+        self.assertTrue(friday == 4 and 4 == friday and friday != 5 and friday in (4, 5) and friday not in {5, 6})
         self.assertTrue(friday == Weekday.Friday and friday != Weekday.Monday and friday in {Weekday.Friday} and friday != "Friday")
 
     def test_timedelta(self):
@@ -1196,9 +1208,8 @@ class Habits(Cases):
         self.assertEqual([time.replace(), time.replace(hour=5), time.replace(minute=6, second=7, nanosecond=0)],
             [time, Time.from_hms_nano(5, 2, 3, 4), Time.from_hms(1, 6, 7)])
         self.refused("hour", False, lambda: time.replace(hour=24))
-        for call in (lambda: date.replace(2020), lambda: date.strftime("%Y"), lambda: Date.today()):
-            with self.assertRaises((TypeError, AttributeError)):
-                call()
+        with self.assertRaises(TypeError):
+            date.replace(2020)
 
     def test_timezones(self):
         for seconds in (0, -86399, 86399, 3600, -19800):
@@ -1222,12 +1233,13 @@ class Habits(Cases):
             days[4]
 
     def test_version(self):
-        self.assertEqual(fotsevindre.__version__, (pathlib.Path(__file__).resolve().parents[2] / "VERSION").read_text().strip())
+        self.assertEqual(fotsevindre.__version__, (pathlib.Path(__file__).resolve().parents[3] / "VERSION").read_text().strip())
 
 
 def load_tests(loader, tests, _pattern):
-    tests.addTests(doctest.DocTestSuite(fotsevindre))
-    tests.addTests(doctest.DocFileSuite("../../README.md", "../../docs/PYTHON.md", encoding="utf-8"))
+    for module in (fotsevindre, columns, enums, errors, schedules, sequences):
+        tests.addTests(doctest.DocTestSuite(module))
+    tests.addTests(doctest.DocFileSuite("../../../README.md", encoding="utf-8"))
     return tests
 
 

@@ -22,7 +22,7 @@ LEAST = SignedDuration.MIN
 
 
 def plain(text, hour=0, minute=0, second=0, nanosecond=0):
-    return PlainDateTime.new(Date.read(text), Time.from_hms_nano(hour, minute, second, nanosecond))
+    return PlainDateTime.new(Date.parse(text), Time.from_hms_nano(hour, minute, second, nanosecond))
 
 
 def at(hours, *parts):
@@ -39,7 +39,7 @@ def local_of(moment):
 
 
 def instant_of(moment):
-    return local_of(moment) - moment.offset().whole_seconds() * SECOND
+    return local_of(moment) - moment.offset.whole_seconds() * SECOND
 
 
 def plain_at(local):
@@ -54,7 +54,7 @@ def plain_at(local):
 
 def shows(moment):
     """All that a date-time at an offset shows, which its equality does not tell."""
-    return moment and (local_of(moment), moment.offset().whole_seconds())
+    return moment and (local_of(moment), moment.offset.whole_seconds())
 
 
 class Cases(unittest.TestCase):
@@ -129,16 +129,16 @@ class Rows(Cases):
 
     def test_parts(self):
         for value in (NIGHT, NIGHT.local()):
-            self.assertEqual((value.year(), value.month(), value.day(), value.ordinal()), (2024, 2, 29, 60))
-            self.assertEqual((value.iso_week(), value.sunday_based_week(), value.monday_based_week()), (9, 8, 9))
+            self.assertEqual((value.year, value.month, value.day, value.ordinal), (2024, 2, 29, 60))
+            self.assertEqual((value.iso_week, value.sunday_based_week, value.monday_based_week), (9, 8, 9))
             self.assertEqual((value.weekday().name, value.to_julian_day()), ("Thursday", 2460370))
             self.assertEqual((value.to_calendar_date(), value.to_ordinal_date()), ((2024, 2, 29), (2024, 60)))
             self.assertEqual(value.to_iso_week_date()[:2], (2024, 9))
-            self.assertEqual((value.hour(), value.minute(), value.second()), (23, 59, 59))
-            self.assertEqual((value.millisecond(), value.microsecond(), value.nanosecond()), (250, 250_000, 250_000_000))
+            self.assertEqual((value.hour, value.minute, value.second), (23, 59, 59))
+            self.assertEqual((value.millisecond, value.microsecond, value.nanosecond), (250, 250_000, 250_000_000))
             self.assertEqual((value.as_hms(), value.as_hms_milli()), ((23, 59, 59), (23, 59, 59, 250)))
             self.assertEqual((value.as_hms_micro(), value.as_hms_nano()), ((23, 59, 59, 250_000), (23, 59, 59, 250_000_000)))
-            self.assertEqual((value.date(), value.time()), (Date.read("2024-02-29"), Time.from_hms_milli(23, 59, 59, 250)))
+            self.assertEqual((value.date(), value.time()), (Date.parse("2024-02-29"), Time.from_hms_milli(23, 59, 59, 250)))
 
     def test_replacements(self):
         rows = [
@@ -147,7 +147,7 @@ class Rows(Cases):
             ("replace_hour", 1, "2024-02-29 1:59:59.25"), ("replace_minute", 1, "2024-02-29 23:01:59.25"),
             ("replace_second", 1, "2024-02-29 23:59:01.25"), ("replace_millisecond", 1, "2024-02-29 23:59:59.001"),
             ("replace_microsecond", 1, "2024-02-29 23:59:59.000001"), ("replace_nanosecond", 1, "2024-02-29 23:59:59.000000001"),
-            ("replace_date", Date.read("2023-05-01"), "2023-05-01 23:59:59.25"), ("replace_time", Time.MIDNIGHT, "2024-02-29 0:00:00.0"),
+            ("replace_date", Date.parse("2023-05-01"), "2023-05-01 23:59:59.25"), ("replace_time", Time.MIDNIGHT, "2024-02-29 0:00:00.0"),
         ]
         for name, argument, text in rows:
             self.assertEqual(str(getattr(NIGHT.local(), name)(argument)), text)
@@ -187,8 +187,8 @@ class Drawn(Cases):
                 self.assertEqual(getattr(value, "checked_" + name)(duration), wanted)
                 self.assertEqual(getattr(value, "saturating_" + name)(duration), held)
                 moved = getattr(moment, "checked_" + name)(duration)
-                self.assertEqual(shows(moved), shows(wanted and wanted.assume_offset(moment.offset())))
-                held = held.assume_offset(moment.offset())
+                self.assertEqual(shows(moved), shows(wanted and wanted.assume_offset(moment.offset)))
+                held = held.assume_offset(moment.offset)
                 self.assertEqual(shows(getattr(moment, "saturating_" + name)(duration)), shows(held))
 
     def test_instants(self):
@@ -199,12 +199,12 @@ class Drawn(Cases):
             self.assertEqual(one - other, SignedDuration.nanoseconds_i128(instant - wanted))
             self.assertEqual(one.local() - other.local(), SignedDuration.nanoseconds_i128(local_of(one) - local_of(other)))
             self.assertEqual(one.local() < other.local(), local_of(one) < local_of(other))
-            there = one.checked_to_offset(other.offset())
-            shown = plain_at(instant + other.offset().whole_seconds() * SECOND)
-            self.assertEqual(shows(there), shows(shown and shown.assume_offset(other.offset())))
+            there = one.checked_to_offset(other.offset)
+            shown = plain_at(instant + other.offset.whole_seconds() * SECOND)
+            self.assertEqual(shows(there), shows(shown and shown.assume_offset(other.offset)))
             if there is not None:
                 self.assertTrue(there == one and hash(there) == hash(one))
-                self.assertEqual(shows(there.to_offset(one.offset())), shows(one))
+                self.assertEqual(shows(there.to_offset(one.offset)), shows(one))
 
     def test_unix_times(self):
         for moment, by in self.values():
@@ -241,7 +241,7 @@ class OfTheStandardLibrary(Cases):
             value = datetime.datetime(2024, 2, 29, 23, 59, 59, 250_000) + datetime.timedelta(days=draw.randrange(400))
             parts = {name: draw.randint(*ranges[name]) for name in draw.sample(sorted(ranges), draw.randint(0, 3))}
             own = PlainDateTime.from_datetime(value)
-            moment = own.assume_offset(NIGHT.offset())
+            moment = own.assume_offset(NIGHT.offset)
             try:
                 wanted = value.replace(**parts)
             except ValueError:
@@ -250,7 +250,7 @@ class OfTheStandardLibrary(Cases):
                 self.assertRaises(ComponentRange, moment.replace, **parts)
                 continue
             self.assertEqual(own.replace(**parts).to_datetime(), wanted)
-            self.assertEqual(shows(moment.replace(**parts)), shows(PlainDateTime.from_datetime(wanted).assume_offset(NIGHT.offset())))
+            self.assertEqual(shows(moment.replace(**parts)), shows(PlainDateTime.from_datetime(wanted).assume_offset(NIGHT.offset)))
         self.assertGreater(refused, 50)
 
     def test_what_does_not_fit(self):
@@ -277,8 +277,9 @@ class OfTheStandardLibrary(Cases):
     def test_comparison(self):
         aware = datetime.datetime(2024, 2, 29, tzinfo=datetime.timezone.utc)
         for own, other in [(plain("2024-02-29"), aware.replace(tzinfo=None)), (at(0, "2024-02-29"), aware)]:
-            for compare in (operator.eq, operator.ne, operator.lt, operator.ge):
-                for one, another in ((own, other), (other, own)):
+            for one, another in ((own, other), (other, own)):
+                self.assertEqual((one == another, one != another), (False, True))
+                for compare in (operator.lt, operator.ge):
                     with self.assertRaises(TypeError):
                         compare(one, another)
 
@@ -315,12 +316,10 @@ class Values(Cases):
         with self.assertRaises(TypeError):
             NIGHT - NIGHT.local()
 
-    def test_forged_values_are_refused(self):
-        for key in ((-363521075, 0, 0), (-2**31, 0, 0), (0, 93600, 0), (0, -2**31, 0), (0, 0, DAY), (0, 0, 2**64 - 1)):
-            forged = OffsetDateTime._of(fotsevindre._CMoment(*key))
-            for call in (forged.unix_timestamp, forged.unix_duration, forged.to_utc, lambda: forged + SignedDuration.ZERO,
-                    lambda: forged - NIGHT, lambda: NIGHT - forged, lambda: forged == NIGHT, lambda: hash(forged)):
-                with self.assertRaises(ValueError):
+    def test_values_cannot_be_forged(self):
+        for value in self.values():
+            for call in (lambda: object.__new__(type(value)), lambda: type("Sub", (type(value),), {})):
+                with self.assertRaises(TypeError):
                     call()
 
     def test_wrong_kinds(self):
@@ -345,9 +344,10 @@ class Values(Cases):
 
 class Documentation(Cases):
     def test_what_date_times_have_in_common_is_documented(self):
-        for name, member in vars(fotsevindre._DateTime).items():
-            if not name.startswith("_"):
-                self.assertTrue(member.__doc__, name)
+        for kind in (PlainDateTime, OffsetDateTime):
+            for name, member in vars(kind).items():
+                if not name.startswith("_"):
+                    self.assertTrue(member.__doc__, name)
 
 
 if __name__ == "__main__":
