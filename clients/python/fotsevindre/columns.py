@@ -47,6 +47,8 @@ def _of_array(values: Any, code: str, of_dates: bool) -> Any:
 
 def _of_series(values: Any) -> Any:
     """Returns the array of a series of pandas. Its times are dates if all are midnights, at which pandas keeps dates."""
+    if getattr(values.dtype, "tz", None) is not None:
+        raise ValueError("expected a column without a time zone; .dt.tz_localize(None) removes it")
     found = values.to_numpy()
     if found.dtype.kind == "M":
         days = found.astype("datetime64[D]")

@@ -1,12 +1,11 @@
 """Tests of the columns with arrays of numpy: days of numpy, whole numbers of any bits, arrays in steps, and what is refused."""
 
-import ctypes
 import unittest
 
 import numpy
 
 import fotsevindre
-from fotsevindre import Date
+from fotsevindre import Date, columns
 
 EPOCH = 2440588
 
@@ -31,9 +30,32 @@ class Numpy(unittest.TestCase):
     def test_days_moved(self):
         days = numpy.array(["2024-02-29", "2024-12-31"], dtype="datetime64[D]")
         moved, statuses, refused = fotsevindre.dates_add_days(days, numpy.array([1, -366], dtype="timedelta64[D]"))
-        self.assertEqual((refused, [str(Date.from_julian_day(date)) for date in moved]), (0, ["2024-03-01", "2023-12-31"]))
-        found = (moved.astype("int64") - EPOCH).view("datetime64[D]")
-        self.assertTrue((found == days + numpy.array([1, -366])).all())
+        self.assertEqual((refused, moved.dtype, [str(date) for date in moved]), (0, "datetime64[D]", ["2024-03-01", "2023-12-31"]))
+        self.assertTrue((moved == days + numpy.array([1, -366])).all())
+        numbers = days.astype("int64") + EPOCH
+        found = fotsevindre.dates_add_days(numbers, numpy.array([1, -366])).dates
+        self.assertEqual((found.dtype, list(found)), ("int32", list(moved.astype("int64") + EPOCH)))
+
+    def test_rejected_rows_are_no_times(self):
+        days = numpy.array(["2024-02-29", "NaT", "999999-12-31"], dtype="datetime64[D]")
+        for found in (fotsevindre.dates_add_days(days, 1), fotsevindre.dates_add_months(days, numpy.array([1, 1, 1])),
+                fotsevindre.dates_add_workdays(days, [1, 1, 1], fotsevindre.Workdays())):
+            self.assertEqual((found.dates.dtype, list(numpy.isnat(found.dates)), found.refused), ("datetime64[D]", [False, True, True], 2))
+            self.assertEqual(list(found.statuses), [0, 2, 1])
+
+    def test_masks(self):
+        days = numpy.ma.array(["2024-02-29", "2024-03-01"], dtype="datetime64[D]", mask=[False, True])
+        found = fotsevindre.dates_add_days(days, numpy.array([1, 1]))
+        self.assertEqual((str(found.dates[0]), found.dates.mask.tolist(), found.statuses.mask.tolist()), ("2024-03-01", [False, True], [False, True]))
+        years = fotsevindre.dates_to_calendar_dates(days).years
+        self.assertEqual((years.mask.tolist(), years[0]), ([False, True], 2024))
+
+    def test_scalars(self):
+        days = numpy.array(["2024-02-29", "2024-03-01"], dtype="datetime64[D]")
+        for one in (1, numpy.int64(1), numpy.array(1)):
+            self.assertEqual(list(fotsevindre.dates_add_days(days, one).dates), list(days + 1))
+        between = fotsevindre.dates_workdays_between(days, Date(2024, 3, 8), fotsevindre.Workdays())
+        self.assertEqual(list(between.numbers), [6, 5])
 
     def test_schedule(self):
         """Months by numpy's months, and working days by its `busday_offset` and `busday_count`."""
@@ -44,7 +66,7 @@ class Numpy(unittest.TestCase):
         lasts = (starts + 1).astype("datetime64[D]") - 1
         wanted = numpy.minimum(starts.astype("datetime64[D]") + (days - days.astype("datetime64[M]")), lasts)
         self.assertEqual((refused, bool(statuses.any())), (0, False))
-        self.assertTrue(((moved.astype("int64") - EPOCH).view("datetime64[D]") == wanted).all())
+        self.assertTrue((moved == wanted).all())
 
         holidays = numpy.arange("1995-01-03", "2025-01-01", 30, dtype="datetime64[D]")
         workdays = fotsevindre.Workdays(holidays=[Date.from_julian_day(int(day) + EPOCH) for day in holidays.view("int64")])
@@ -52,7 +74,7 @@ class Numpy(unittest.TestCase):
         for roll, back in (("backward", False), ("forward", True)):
             rows = months < 0 if back else months > 0
             wanted = numpy.busday_offset(days[rows], months[rows], roll=roll, holidays=holidays)
-            self.assertTrue(((moved[rows].astype("int64") - EPOCH).view("datetime64[D]") == wanted).all())
+            self.assertTrue((moved[rows] == wanted).all())
         self.assertEqual(refused, 0)
         numbers, statuses, refused = fotsevindre.dates_workdays_between(days, days + 1000, workdays)
         self.assertTrue((numbers == numpy.busday_count(days, days + 1000, holidays=holidays)).all())
@@ -61,16 +83,16 @@ class Numpy(unittest.TestCase):
     def test_columns_chain(self):
         """What one call gives is an array of numpy that the next one takes as it lies, also of a refused row."""
         years, months, days = numpy.array([2024, 2021], dtype="int32"), numpy.array([13, 1], dtype="uint8"), numpy.array([1, 1], dtype="uint8")
-        for column, bits in zip((years, months, days), (fotsevindre._I32, fotsevindre._U8, fotsevindre._U8)):
-            self.assertEqual(ctypes.addressof(fotsevindre._column(column, bits, False)), column.ctypes.data)
+        for column, code in zip((years, months, days), "iBB"):
+            self.assertTrue(numpy.shares_memory(numpy.asarray(columns._column(column, code, False)), column))
         made = fotsevindre.dates_from_calendar_dates(years, months, days)
         weeks = fotsevindre.dates_to_iso_week_dates(made.dates)
         self.assertEqual([column.dtype for column in weeks[:-1]], ["int32", "uint8", "uint8", "uint8"])
-        self.assertEqual(([*zip(*weeks[:3])], weeks.refused), ([(-2**31, 0, 0), (2020, 53, 5)], 1))
+        self.assertEqual(([*zip(*weeks[:3])], weeks.refused), ([(-2**31, 0, 255), (2020, 53, 4)], 1))
         at_once = fotsevindre.calendar_dates_to_iso_week_dates(years, months, days)
         self.assertTrue(all((one == other).all() for one, other in zip(weeks[:3], at_once[:3])))
         self.assertEqual((list(at_once.statuses), at_once.refused), (list(made.statuses), 1))
-        self.assertEqual(ctypes.addressof(fotsevindre._column(made.dates, fotsevindre._I32, True)), made.dates.ctypes.data)
+        self.assertTrue(numpy.shares_memory(numpy.asarray(columns._column(made.dates, "i", True)), made.dates))
 
     def test_whole_numbers_of_any_bits(self):
         for bits in ("int8", "uint8", "int16", "uint16", "int32", "uint32", "int64", "uint64", ">i4", ">u8"):

@@ -323,7 +323,7 @@ class Times(Cases):
             for number in (limit, 2**32 - 1, -1, 2**32, 2**32 + 1, 10**30):
                 self.refused(unit, False, make, 0, 0, 0, number)
                 self.refused(unit, False, getattr(Time.MIDNIGHT, "replace_" + unit), number)
-            self.assertEqual(getattr(make(0, 0, 0, limit - 1), unit)(), limit - 1)
+            self.assertEqual(getattr(make(0, 0, 0, limit - 1), unit), limit - 1)
         self.refused("microsecond", False, Time.from_hms_micro, 0, 0, 0, 4294968)
         self.refused("hour", False, Time.from_hms, 24, 60, 60)
 

@@ -1,0 +1,247 @@
+"""Tests of what users of `datetime` write: it does what they mean, or raises. No answer is wrong without a word."""
+
+import copy
+import datetime
+import itertools
+import json
+import pickle
+import random
+import sys
+import unittest
+
+import fotsevindre
+from fotsevindre import (
+    ComponentRange, Convention, Date, Frequency, Month, OffsetDateTime, ParseError, PlainDateTime, Rule, SignedDuration, Time, UtcOffset, Weekday, Workdays,
+)
+
+LEAP_DAY = Date(2024, 2, 29)
+
+
+class SilentlyWrong(unittest.TestCase):
+    """Each of these gave a wrong answer without an error before."""
+
+    def test_months_and_weekdays_in_texts(self):
+        year, month, day = LEAP_DAY.to_calendar_date()
+        self.assertEqual((f"{year}-{month:02}-{day:02}", "%d-%02d-%02d" % (year, month, day)), ("2024-02-29",) * 2)
+        self.assertEqual((f"{LEAP_DAY.year}-{LEAP_DAY.month}-{LEAP_DAY.day}", "{:>3}".format(month)), ("2024-2-29", "  2"))
+        self.assertEqual((f"{LEAP_DAY.weekday()}", json.dumps([month, LEAP_DAY.weekday()])), ("3", "[2, 3]"))
+
+    def test_weekdays_are_numbers_of_datetime(self):
+        for number in range(7):
+            other = datetime.date(2024, 2, 26) + datetime.timedelta(number)
+            weekday = Date.from_date(other).weekday()
+            self.assertTrue(weekday == other.weekday() and weekday is Weekday(number) and (weekday in {5, 6}) == (other.weekday() in {5, 6}))
+            self.assertEqual(["mon", "tue", "wed", "thu", "fri", "sat", "sun"][weekday], weekday.name[:3].lower())
+
+    def test_what_is_in_a_rule_and_a_walk(self):
+        days, rule = LEAP_DAY.iter_to(Date(2024, 3, 2)), Rule(LEAP_DAY, Frequency.Daily)
+        for other in (datetime.date(2024, 2, 29), datetime.datetime(2024, 2, 29)):
+            for container in (days, rule):
+                with self.assertRaises(TypeError):
+                    other in container
+        self.assertTrue(LEAP_DAY in days and LEAP_DAY in rule and "2024-02-29" not in days and None not in rule)
+
+    def test_components_of_differences(self):
+        self.assertTrue((Date(2024, 3, 1) - LEAP_DAY).days == 1 and (LEAP_DAY - Date(2024, 3, 1)).days == -1)
+        draw = random.Random(7)
+        for _ in range(500):
+            delta = datetime.timedelta(draw.randint(-10**6, 10**6), draw.randint(-10**5, 10**5), draw.randint(-10**6, 10**6))
+            duration = SignedDuration.from_timedelta(delta)
+            self.assertEqual((duration.days, duration.seconds, duration.microseconds), (delta.days, delta.seconds, delta.microseconds))
+        self.assertEqual((SignedDuration.MIN.days, SignedDuration.MIN.seconds, SignedDuration.MIN.nanoseconds), (-106751991167301, 30591, 1))
+        for name in ("weeks", "hours", "minutes", "milliseconds"):
+            with self.assertRaisesRegex(AttributeError, f"use whole_{name}"):
+                getattr(SignedDuration.DAY, name)
+
+    def test_components_are_attributes(self):
+        moment = OffsetDateTime(LEAP_DAY, Time(1, 2, 3, 4005006), UtcOffset(1))
+        self.assertTrue(LEAP_DAY.year == 2024 and LEAP_DAY.month == 2 and LEAP_DAY.day == 29 and LEAP_DAY.ordinal == 60 and LEAP_DAY.quarter == 1)
+        self.assertTrue(moment.year == 2024 and moment.month is Month.February and moment.hour == 1 and moment.microsecond == 4005)
+        self.assertTrue(moment.offset == UtcOffset(1) and moment.time().minute == 2)
+        for value, name in ((LEAP_DAY, "year"), (moment, "hour"), (moment.time(), "second")):
+            self.assertRaises(AttributeError, setattr, value, name, 1)
+
+    def test_truth(self):
+        self.assertFalse(SignedDuration.ZERO or LEAP_DAY - LEAP_DAY)
+        self.assertTrue(SignedDuration.NANOSECOND and -SignedDuration.NANOSECOND and Time() and UtcOffset.UTC and LEAP_DAY)
+
+    def test_comparison(self):
+        others = [datetime.date(2024, 2, 29), datetime.datetime(2024, 2, 29), None, 2460370, "2024-02-29"]
+        for other in others:
+            self.assertEqual((LEAP_DAY == other, other == LEAP_DAY, LEAP_DAY != other), (False, False, True))
+            with self.assertRaises(TypeError):
+                LEAP_DAY < other
+            with self.assertRaises(TypeError):
+                other >= LEAP_DAY
+        self.assertTrue(LEAP_DAY in [*others, LEAP_DAY] and datetime.date(2024, 2, 29) in [LEAP_DAY, *others] and LEAP_DAY not in others)
+
+    def test_no_date_in_a_column(self):
+        self.assertEqual(list(fotsevindre.dates_weekdays([LEAP_DAY, Date(2024, 3, 3)]).weekdays), [Weekday.Thursday, Weekday.Sunday])
+        found = fotsevindre.dates_weekdays([-2**31])
+        self.assertEqual((list(found.weekdays), found.refused), ([255], 1))
+        with self.assertRaises(ValueError):
+            Weekday(found.weekdays[0])
+
+
+class Construction(unittest.TestCase):
+    def test_constructors(self):
+        rows = [
+            (Date(2024, 2, 29), Date.from_calendar_date(2024, 2, 29)), (Date(year=2024, month=Month.February, day=29), LEAP_DAY),
+            (Time(), Time.MIDNIGHT), (Time(10, 30), Time.from_hms(10, 30, 0)), (Time(1, 2, 3, nanosecond=4), Time.from_hms_nano(1, 2, 3, 4)),
+            (UtcOffset(-5, 30), UtcOffset.from_hms(-5, 30, 0)), (UtcOffset(), UtcOffset.UTC), (SignedDuration(), SignedDuration.ZERO),
+            (SignedDuration(days=1), SignedDuration.days(1)), (SignedDuration(weeks=1, days=-7, hours=1, nanoseconds=5), SignedDuration.new(3600, 5)),
+            (PlainDateTime(LEAP_DAY, Time()), PlainDateTime.new(LEAP_DAY, Time.MIDNIGHT)),
+            (OffsetDateTime(LEAP_DAY, Time(), UtcOffset(1)), OffsetDateTime.new_in_offset(LEAP_DAY, Time(), UtcOffset(1))),
+        ]
+        for found, wanted in rows:
+            self.assertEqual((found, type(found)), (wanted, type(wanted)))
+        for call in (lambda: Date(2024, 2), lambda: Date(2024, 2.0, 1), lambda: Date("2024-02-29"), lambda: SignedDuration(1), lambda: SignedDuration(years=1),
+                lambda: PlainDateTime(2024, 2), lambda: Time("1"), lambda: SignedDuration(days="1"), lambda: Date(2024, 2, 29, tzinfo=None)):
+            self.assertRaises(TypeError, call)
+        self.assertRaises(ComponentRange, Date, 2023, 2, 29)
+        self.assertRaises(OverflowError, lambda: SignedDuration(weeks=2**62))
+
+    def test_today(self):
+        before, found, after = datetime.date.today(), Date.today(), datetime.date.today()
+        self.assertTrue(before <= found.to_date() <= after)
+
+    def test_sizes(self):
+        sizes = [sys.getsizeof(value) for value in (LEAP_DAY, Time(), UtcOffset(), SignedDuration(), PlainDateTime.MIN, OffsetDateTime.UNIX_EPOCH)]
+        self.assertLessEqual(max(sizes), 32)
+
+    def test_months_out_of_range(self):
+        for call in (Date.MAX.add_months, Date.MAX.add_years):
+            self.assertRaises(OverflowError, call, 1)
+        self.assertEqual((Date(2024, 1, 31).add_months(1), LEAP_DAY.add_years(1)), (LEAP_DAY, Date(2025, 2, 28)))
+        self.assertEqual((Date.MAX.checked_add_months(1), Date.MAX.saturating_add_months(1)), (None, Date.MAX))
+
+    def test_references_are_counted(self):
+        calls = [
+            lambda: Date(2024, 2, 29), lambda: LEAP_DAY.to_iso_week_date(), lambda: LEAP_DAY.replace(day=1), lambda: str(SignedDuration.MIN),
+            lambda: Workdays(holidays=[LEAP_DAY]).holidays, lambda: SignedDuration(days=1, hours=2), lambda: OffsetDateTime.UNIX_EPOCH.isoformat(),
+            lambda: LEAP_DAY + datetime.timedelta(1), lambda: Rule(LEAP_DAY, Frequency.Daily).first_days(70), lambda: fotsevindre.dates_weekdays([LEAP_DAY]),
+            lambda: Date.parse("2024-02-29"),
+        ]
+        singles = [None, Date, Time, UtcOffset, SignedDuration, PlainDateTime, OffsetDateTime, Workdays, *Month, *Weekday, NotImplemented, LEAP_DAY]
+        for call in calls:
+            for _ in range(100):
+                call()
+            before = [sys.getrefcount(single) for single in singles]
+            for _ in range(1000):
+                call()
+            self.assertLess(max(abs(sys.getrefcount(single) - count) for single, count in zip(singles, before)), 500)
+
+
+class Texts(unittest.TestCase):
+    def test_times(self):
+        rows = [("9:05", Time(9, 5)), ("09:05:07", Time(9, 5, 7)), ("9:05:00.12", Time(9, 5, 0, 120_000_000)), ("23:59:59.999999999", Time.MAX)]
+        for text, time in rows:
+            self.assertEqual((Time.parse(text), Time.fromisoformat(text), Time.parse(str(time)), Time.parse(time.isoformat())), (time,) * 4)
+        rows = [("", 0, True), ("9", 1, True), ("9:0", 3, True), ("9:05:", 5, True), ("x", 0, False), ("9:05:00Z", 7, False), ("9:05x", 4, False),
+            ("09:5", 4, True), ("9:5:00", 3, False), ("9:05:00.", 8, True), ("9:05:00.1 ", 9, False), ("10:30+01:00", 5, False)]
+        self.errors(Time.parse, rows)
+        for text, name in (("24:00", "hour"), ("23:60", "minute"), ("23:59:60", "second")):
+            with self.assertRaisesRegex(ComponentRange, name):
+                Time.parse(text)
+
+    def errors(self, parse, rows):
+        for text, position, is_end in rows:
+            with self.assertRaises(ParseError, msg=text) as caught:
+                parse(text)
+            self.assertEqual((caught.exception.position, caught.exception.is_end), (position, is_end), text)
+        for wrong in (None, 1, b"1"):
+            self.assertRaises(TypeError, parse, wrong)
+
+    def test_offsets(self):
+        rows = [("Z", 0), ("+00:00", 0), ("-00:00:00", 0), ("+01:00", 3600), ("-05:30:00", -19800), ("-25:59:59", -93599), ("-00:00:01", -1)]
+        for text, seconds in rows:
+            self.assertEqual(UtcOffset.parse(text).whole_seconds(), seconds, text)
+        for seconds in range(-93599, 93600, 977):
+            self.assertEqual(UtcOffset.parse(str(UtcOffset.from_whole_seconds(seconds))).whole_seconds(), seconds)
+        self.errors(UtcOffset.parse, [("", 0, True), ("1", 0, False), ("+1:00", 2, False), ("+01", 3, True), ("+01:0", 5, True), ("+01:00:", 7, True),
+            ("+01:00:00x", 9, False), ("z ", 0, False), ("+0100", 3, False)])
+        for text, name in (("+26:00", "offset hour"), ("+00:60", "offset minute"), ("+00:00:60", "offset second")):
+            with self.assertRaisesRegex(ComponentRange, name):
+                UtcOffset.parse(text)
+
+    def test_date_times(self):
+        draw = random.Random(8)
+        for _ in range(500):
+            value = PlainDateTime(Date.from_julian_day(draw.randint(-363521074, 366963559)), Time.from_hms_nano(*map(draw.randrange, (24, 60, 60, 10**9))))
+            moment = value.assume_offset(UtcOffset.from_whole_seconds(draw.randint(-93599, 93599)))
+            for text in (str(value), value.isoformat()):
+                self.assertEqual(PlainDateTime.parse(text), value, text)
+            for text in (str(moment), moment.isoformat()):
+                self.assertEqual((OffsetDateTime.parse(text), OffsetDateTime.parse(text).offset), (moment, moment.offset), text)
+        for other in (datetime.datetime(2024, 2, 29, 1, 2, 3), datetime.datetime(2024, 2, 29, 1, 2, 3, 4)):
+            self.assertEqual(PlainDateTime.from_datetime(other).isoformat(), other.isoformat())
+            aware = other.replace(tzinfo=datetime.timezone(datetime.timedelta(hours=-5, minutes=-30)))
+            self.assertEqual(OffsetDateTime.from_datetime(aware).isoformat(), aware.isoformat())
+            self.assertEqual(OffsetDateTime.fromisoformat(aware.isoformat()).to_datetime(), aware)
+        self.assertEqual(OffsetDateTime.parse("2024-W09-4t23:59:59.25z"), OffsetDateTime.new_utc(LEAP_DAY, Time(23, 59, 59, 250_000_000)))
+        self.errors(PlainDateTime.parse, [("", 0, True), ("2024-02-29", 10, True), ("2024-02-29T", 11, True), ("2024-02-2T9:05", 9, False),
+            ("2024-02-29T9:05Z", 15, False), ("2024-02-29T9:0", 14, True), ("2024x02-29T9:05", 4, False)])
+        self.errors(OffsetDateTime.parse, [("", 0, True), ("2024-02-29", 10, True), ("2024-02-29T9:05", 15, True), ("2024-02-29T9:05+1", 17, True),
+            ("2024-02-29T9:05 ", 16, True), ("2024-02-29T9:05:00Zx", 18, False), ("2024-02-29T9:05x+01:00", 15, False)])
+
+
+class WorkingDays(unittest.TestCase):
+    HOLIDAYS = [Date(2024, month, of_month) for month, of_month in ((12, 25), (1, 1), (7, 4), (1, 1))]
+
+    def test_values(self):
+        work = Workdays(holidays=iter(self.HOLIDAYS))
+        self.assertEqual(work, Workdays(holidays=sorted(set(self.HOLIDAYS))))
+        self.assertEqual((work.holidays, work.weekdays), (tuple(sorted(set(self.HOLIDAYS))), tuple(Weekday)[:5]))
+        for same in (copy.copy(work), copy.deepcopy(work), pickle.loads(pickle.dumps(work)), Workdays(work.weekdays, work.holidays)):
+            self.assertEqual((same, hash(same)), (work, hash(work)))
+        self.assertTrue(work != Workdays() and work != Workdays(tuple(Weekday), self.HOLIDAYS) and work != 1)
+        self.assertEqual(repr(Workdays([Weekday.Friday], [LEAP_DAY])), "Workdays(weekdays=[Friday], holidays=[2024-02-29])")
+        self.assertRaises(AttributeError, setattr, work, "other", 1)
+        self.assertRaises(TypeError, Workdays, holidays=[datetime.date(2024, 1, 1)])
+        self.assertRaises(OverflowError, work.add_workdays, Date.MAX, 1)
+
+    def test_many_holidays_change_nothing_far_away(self):
+        """Calls pass only holidays near their days. The answers are those of counting one by one."""
+        draw = random.Random(9)
+        first = LEAP_DAY.to_julian_day()
+        for _ in range(20):
+            weekdays = draw.sample(tuple(Weekday), draw.randint(1, 7))
+            free = set(draw.sample(range(first - 700, first + 700), draw.choice([0, 50, 1000])))
+            free |= set(range(first + 50, first + 50 + draw.choice([0, 100])))
+            free = set(sorted(free)[:1024])
+            work = Workdays(weekdays, map(Date.from_julian_day, free))
+            working = [number for number in range(first - 3000, first + 3000) if number not in free and number % 7 in weekdays]
+            for _ in range(40):
+                number = first + draw.randint(-200, 200)
+                date = Date.from_julian_day(number)
+                after, before = [day for day in working if day > number], [day for day in working if day < number]
+                self.assertEqual((work.is_workday(date), work.next_workday(date), work.previous_workday(date)),
+                    (number in working, Date.from_julian_day(after[0]), Date.from_julian_day(before[-1])))
+                n = draw.randint(1, 150)
+                self.assertEqual((work.add_workdays(date, n), work.add_workdays(date, -n)), (Date.from_julian_day(after[n - 1]), Date.from_julian_day(before[-n])))
+                other = Date.from_julian_day(first + draw.randint(-900, 900))
+                low, high = sorted((number, other.to_julian_day()))
+                between = sum(low <= day < high for day in working)
+                self.assertEqual(work.workdays_between(date, other), between if low == number else -between)
+                following, preceding = (date if number in working else Date.from_julian_day(near) for near in (after[0], before[-1]))
+                self.assertEqual([work.adjust(date, convention) for convention in Convention], [
+                    date, following, following if following.month == date.month else preceding, preceding,
+                    preceding if preceding.month == date.month else following])
+
+
+class Columns(unittest.TestCase):
+    def test_lists_and_scalars(self):
+        self.assertEqual(list(fotsevindre.dates_add_days([LEAP_DAY, 2451545], 1).dates), [2460371, 2451546])
+        self.assertEqual(list(fotsevindre.dates_from_calendar_dates(2024, [1, 2, 13], 29).statuses), [0, 0, 17])
+        self.assertEqual(list(fotsevindre.dates_parse(b"2024-02-29", (0, 10)).dates), [2460370])
+        for wrong, words in ((["x"], "str"), ([1.5], "float"), ([[1]], "list"), ({1}, "set"), (1.5, "float")):
+            with self.assertRaisesRegex(TypeError, words):
+                fotsevindre.dates_add_days(wrong, 1)
+        with self.assertRaisesRegex(TypeError, "a method of Date"):
+            fotsevindre.dates_add_days(LEAP_DAY, 1)
+        with self.assertRaises(OverflowError):
+            fotsevindre.dates_from_calendar_dates([2024], 256, 1)
+
+
+if __name__ == "__main__":
+    unittest.main()

@@ -1,0 +1,45 @@
+"""Tests of the columns with series of pandas."""
+
+import unittest
+
+import numpy
+import pandas
+
+import fotsevindre
+from fotsevindre import Date, Workdays
+
+
+class Pandas(unittest.TestCase):
+    DAYS = pandas.Series(pandas.to_datetime(["2024-02-29", None, "2024-12-31"]), index=["a", "b", "c"])
+
+    def test_series_in_and_out(self):
+        found = fotsevindre.dates_to_calendar_dates(self.DAYS)
+        self.assertEqual((list(found.years.index), list(found.years), list(found.months), list(found.days), found.refused),
+            (["a", "b", "c"], [2024, -2**31, 2024], [2, 0, 12], [29, 0, 31], 1))
+        moved = fotsevindre.dates_add_months(self.DAYS, 1)
+        self.assertEqual((moved.dates.dtype, list(moved.dates.index), moved.refused), ("datetime64[ns]", ["a", "b", "c"], 1))
+        self.assertTrue(moved.dates.equals(pandas.Series(pandas.to_datetime(["2024-03-29", None, "2025-01-31"]), index=["a", "b", "c"])))
+
+    def test_other_columns(self):
+        frame = pandas.DataFrame({"year": [2024, 2023], "month": [2, 2], "day": [29, 29]}, index=[5, 6])
+        made = fotsevindre.dates_from_calendar_dates(frame.year, frame.month, frame.day)
+        self.assertEqual((list(made.dates), list(made.statuses), list(made.dates.index)), ([2460370, -2**31], [0, 64], [5, 6]))
+        deltas = pandas.Series(pandas.to_timedelta([1, 2, 3], unit="D"), index=self.DAYS.index)
+        self.assertEqual([str(day)[:10] for day in fotsevindre.dates_add_days(self.DAYS, deltas).dates], ["2024-03-01", "NaT", "2025-01-03"])
+        between = fotsevindre.dates_workdays_between(self.DAYS, Date(2025, 1, 1), Workdays())
+        wanted = numpy.busday_count(self.DAYS.dropna().to_numpy().astype("datetime64[D]"), numpy.datetime64("2025-01-01"))
+        self.assertEqual((list(between.numbers[["a", "c"]]), between.numbers["b"]), (list(wanted), -2**31))
+
+    def test_what_is_refused(self):
+        noon = pandas.Series(pandas.to_datetime(["2024-02-29 12:00"]))
+        with self.assertRaisesRegex(ValueError, "times of day"):
+            fotsevindre.dates_weekdays(noon)
+        for wrong in (pandas.Series([1.5]), pandas.Series(["2024-02-29"]), pandas.Series([True])):
+            with self.assertRaisesRegex(TypeError, "expected a column of integers"):
+                fotsevindre.dates_weekdays(wrong)
+        with self.assertRaisesRegex(ValueError, "time zone"):
+            fotsevindre.dates_weekdays(self.DAYS.dt.tz_localize("UTC"))
+
+
+if __name__ == "__main__":
+    unittest.main()
