@@ -45,10 +45,10 @@ done
 archive=crates/cal_c/out/libcal_c.a
 warnings=(-Wall -Wextra -pedantic -Wconversion -Wsign-conversion -Werror)
 
-# Prefers a Python with numpy and mypy.
+# Prefers a Python with numpy, pandas and mypy.
 PYTHON=python3
 for python in /usr/bin/python3 python3; do
-    if has "$python" && "$python" -c 'import numpy, mypy' 2>/dev/null; then
+    if has "$python" && "$python" -c 'import numpy, pandas, mypy' 2>/dev/null; then
         PYTHON=$python
     fi
 done

@@ -1,7 +1,6 @@
-"""What calls from Python cost: one value at a time, and a row of a column. It prints the least of the rounds, in nanoseconds of
-processor time a value.
+"""Times calls from Python beside `datetime`, and rows of columns. It prints the minimum of the rounds, in nanoseconds of processor time.
 
-Nothing tests what it prints.
+Nothing tests the output.
 """
 
 import array
@@ -10,36 +9,46 @@ import time
 import timeit
 
 import fotsevindre
-from fotsevindre import Date, SignedDuration, UtcOffset
+from fotsevindre import Date, SignedDuration, Workdays
 
 VALUES = 4096
-ROUNDS = 7
+ROUNDS = 9
 
 julian_days = array.array("i", (1721426 + 891 * number for number in range(VALUES)))
-dates = [Date.from_julian_day(number) for number in julian_days]
-offsets = [UtcOffset.from_whole_seconds(number * 45 - 92160) for number in range(VALUES)]
-numbers = [offset.whole_seconds() for offset in offsets]
-calendar = [date.to_calendar_date() for date in dates]
-others = [date.to_date() for date in dates]
-day, delta = SignedDuration.DAY, datetime.timedelta(days=1)
 moves = array.array("q", (number % 20001 - 10000 for number in range(VALUES)))
+later = array.array("i", (number + 1000 for number in julian_days))
+dates = [Date.from_julian_day(number) for number in julian_days]
+others = [date.to_date() for date in dates]
+calendar = [date.to_calendar_date() for date in dates]
+texts = [str(date) for date in dates]
+day, delta = SignedDuration.DAY, datetime.timedelta(days=1)
+many = Workdays(holidays=[Date.from_julian_day(2451545 + 9 * number) for number in range(1024)])
+none = Workdays()
+eighty = Workdays(holidays=many.holidays[:80])
 
 LOOPS = [
-    ("no call", lambda: [offset for offset in offsets]),
-    ("fots_offset_neg by ctypes", lambda: [fotsevindre._C.offset_neg(number) for number in numbers]),
-    ("-offset", lambda: [-offset for offset in offsets]),
-    ("Date.next_day", lambda: [date.next_day() for date in dates]),
-    ("Date.weekday", lambda: [date.weekday() for date in dates]),
-    ("Date.to_calendar_date", lambda: [date.to_calendar_date() for date in dates]),
-    ("Date.from_calendar_date", lambda: [Date.from_calendar_date(*parts) for parts in calendar]),
-    ("Date + SignedDuration", lambda: [date + day for date in dates]),
-    ("datetime.date + timedelta", lambda: [date + delta for date in others]),
-    ("datetime.date.weekday", lambda: [date.weekday() for date in others]),
-    ("datetime.date", lambda: [datetime.date(*parts) for parts in calendar]),
-    ("dates_to_calendar_dates, a row", lambda: fotsevindre.dates_to_calendar_dates(julian_days)),
-    ("dates_add_days, a row", lambda: fotsevindre.dates_add_days(julian_days, moves)),
+    ("a date of a year, a month and a day", lambda: [Date.from_calendar_date(*parts) for parts in calendar], lambda: [datetime.date(*parts) for parts in calendar]),
+    ("weekday", lambda: [date.weekday() for date in dates], lambda: [date.weekday() for date in others]),
+    ("to_calendar_date", lambda: [date.to_calendar_date() for date in dates], lambda: [(date.year, date.month, date.day) for date in others]),
+    ("+ a day", lambda: [date + day for date in dates], lambda: [date + delta for date in others]),
+    ("==", lambda: [date == dates[7] for date in dates], lambda: [date == others[7] for date in others]),
+    ("<", lambda: [date < dates[7] for date in dates], lambda: [date < others[7] for date in others]),
+    ("hash", lambda: [hash(date) for date in dates], lambda: [hash(date) for date in others]),
+    ("str", lambda: [str(date) for date in dates], lambda: [str(date) for date in others]),
+    ("parse", lambda: [Date.parse(text) for text in texts], lambda: [datetime.date.fromisoformat(text) for text in texts]),
+    ("next_day", lambda: [date.next_day() for date in dates], None),
+    ("next_workday, no holidays", lambda: [none.next_workday(date) for date in dates], None),
+    ("next_workday, 1024 holidays", lambda: [many.next_workday(date) for date in dates], None),
+    ("dates_to_calendar_dates, a row", lambda: fotsevindre.dates_to_calendar_dates(julian_days), None),
+    ("dates_add_days, a row", lambda: fotsevindre.dates_add_days(julian_days, moves), None),
+    ("dates_workdays_between, 80 holidays, a row", lambda: fotsevindre.dates_workdays_between(julian_days, later, eighty), None),
 ]
 
-print(f"nanoseconds a value, least of {ROUNDS} rounds")
-for name, loop in LOOPS:
-    print(f"{name:<38}{min(timeit.repeat(loop, timer=time.process_time, number=3, repeat=ROUNDS)) / 3 / VALUES * 1e9:7.1f}")
+
+def least(loop):
+    return min(timeit.repeat(loop, timer=time.process_time, number=3, repeat=ROUNDS)) / 3 / VALUES * 1e9
+
+
+print(f"nanoseconds a value, minimum of {ROUNDS} rounds, here and by datetime")
+for name, loop, other in LOOPS:
+    print(f"{name:<46}{least(loop):7.1f}" + (f"{least(other):9.1f}" if other else ""))

@@ -210,8 +210,8 @@ static PyObject *columns_of(UNUSED(module), UNUSED(none))
 }
 
 PyMethodDef column_functions[] = {
-    METHOD("over_columns", over_columns, METH_VARARGS, ""),
-    METHOD("is_aligned", is_aligned, METH_O, ""),
-    METHOD("columns_of", columns_of, METH_NOARGS, ""),
+    METHOD("over_columns", over_columns, METH_VARARGS, "(name: str, columns: tuple[Any, ...], workdays: Workdays | None) -> int\n"),
+    METHOD("is_aligned", is_aligned, METH_O, "(column: Any) -> bool\n"),
+    METHOD("columns_of", columns_of, METH_NOARGS, "() -> dict[str, tuple[str, str]]\n"),
     LAST_METHOD,
 };

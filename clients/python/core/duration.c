@@ -22,7 +22,7 @@
         return to_number(object, INT64_MIN, INT64_MAX, &number) ? of_duration(fots_duration_##unit(number)) : NULL; \
     }
 UNITS(UNIT_FUNCTION)
-#define UNIT_ENTRY(unit, doc) METHOD(#unit, unit, METH_O, doc),
+#define UNIT_ENTRY(unit, doc) METHOD(#unit, unit, METH_O, "(number: SupportsIndex) -> SignedDuration\n" doc),
 PyMethodDef unit_functions[] = {UNITS(UNIT_ENTRY) LAST_METHOD};
 
 static PyObject *from_parts(UNUSED(type), PyObject *const *given, Py_ssize_t count)
@@ -178,8 +178,8 @@ static PyObject *reduce(PyObject *self, UNUSED(none))
 
 static PyMethodDef methods[] = {
     METHODS(ENTRY)
-    METHOD("abs", absolute_value, METH_NOARGS, "Returns the absolute value, at most MAX."),
-    METHOD("new", from_parts, METH_FASTCALL | METH_STATIC, "Creates the sum of seconds, in 64 bits, and nanoseconds, in 32 bits."),
+    METHOD("abs", absolute_value, METH_NOARGS, "(self) -> SignedDuration\nReturns the absolute value, at most MAX."),
+    METHOD("new", from_parts, METH_FASTCALL | METH_STATIC, "(seconds: SupportsIndex, nanoseconds: SupportsIndex) -> SignedDuration\nCreates the sum of seconds, in 64 bits, and nanoseconds, in 32 bits."),
     FORMAT,
     REDUCE(reduce),
     LAST_METHOD,

@@ -30,7 +30,7 @@ static PyObject *setup(UNUSED(module), PyObject *const *given, Py_ssize_t count)
     return members(month_type, months, 1, 12, 0) && members(weekday_type, weekdays, 1, 7, 1) ? new_reference(Py_None) : NULL;
 }
 
-static PyMethodDef own_functions[] = {METHOD("setup", setup, METH_FASTCALL, ""), LAST_METHOD};
+static PyMethodDef own_functions[] = {METHOD("setup", setup, METH_FASTCALL, "(*types: Any) -> None"), LAST_METHOD};
 
 static struct PyModuleDef definition = {PyModuleDef_HEAD_INIT, "fotsevindre._core", NULL, -1, own_functions, NULL, NULL, NULL, NULL};
 

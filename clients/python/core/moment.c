@@ -124,9 +124,9 @@ static PyObject *reduce(PyObject *self, UNUSED(none))
 }
 
 #define OTHER_METHODS \
-    COMMON_METHODS(ENTRY) METHOD("time", time_of_day, METH_NOARGS, "Returns the time of day."), \
-    METHOD("replace_date", replace_date, METH_O, "Replaces the date."), \
-    METHOD("replace_time", replace_time, METH_O, "Replaces the time of day."), FORMAT, REDUCE(reduce)
+    COMMON_METHODS(ENTRY) METHOD("time", time_of_day, METH_NOARGS, "(self) -> Time\nReturns the time of day."), \
+    METHOD("replace_date", replace_date, METH_O, "(self, date: Date) -> Self\nReplaces the date."), \
+    METHOD("replace_time", replace_time, METH_O, "(self, time: Time) -> Self\nReplaces the time of day."), FORMAT, REDUCE(reduce)
 
 #define COMMON_SLOTS \
     {Py_tp_dealloc, value_free}, {Py_tp_str, text}, {Py_tp_repr, text}, {Py_tp_hash, hash}, {Py_tp_richcompare, compare}, {Py_nb_add, add}, \
@@ -161,9 +161,9 @@ static PyObject *assume_utc(PyObject *self, UNUSED(none)) { return new_moment(mo
 
 static PyMethodDef plain_methods[] = {
     OTHER_METHODS,
-    METHOD("new", plain_from, METH_FASTCALL | METH_STATIC, "Creates the date-time of a date and a time of day."),
-    METHOD("assume_utc", assume_utc, METH_NOARGS, "Returns the same date and time at UTC."),
-    METHOD("assume_offset", assume_offset, METH_O, "Returns the same date and time at an offset."),
+    METHOD("new", plain_from, METH_FASTCALL | METH_STATIC, "(date: Date, time: Time) -> PlainDateTime\nCreates the date-time of a date and a time of day."),
+    METHOD("assume_utc", assume_utc, METH_NOARGS, "(self) -> OffsetDateTime\nReturns the same date and time at UTC."),
+    METHOD("assume_offset", assume_offset, METH_O, "(self, offset: UtcOffset) -> OffsetDateTime\nReturns the same date and time at an offset."),
     LAST_METHOD,
 };
 
@@ -253,25 +253,25 @@ DEFINE(NONE, unix_duration, MOMENT, fots_moment_unix_time, of_duration, )
 
 static PyMethodDef moment_methods[] = {
     OTHER_METHODS,
-    METHOD("new_in_offset", new_in_offset, METH_FASTCALL | METH_STATIC, "Creates the date-time of a date, a time of day and an offset."),
-    METHOD("new_utc", new_utc, METH_FASTCALL | METH_STATIC, "Creates the date-time of a date and a time of day at UTC."),
-    METHOD("from_unix_timestamp", from_unix_timestamp, METH_O | METH_STATIC, "Creates the date-time at UTC of Unix seconds."),
-    METHOD("from_unix_duration", from_unix_duration, METH_O | METH_STATIC, "Creates the date-time at UTC of a Unix time."),
-    METHOD("to_offset", to_offset, METH_O, "Returns the same instant at another offset, or raises OverflowError."),
-    METHOD("checked_to_offset", checked_to_offset, METH_O, "Returns the same instant at another offset, or None out of range."),
-    METHOD("to_utc", to_utc, METH_NOARGS, "Returns the same instant at UTC, or raises OverflowError."),
-    METHOD("checked_to_utc", checked_to_utc, METH_NOARGS, "Returns the same instant at UTC, or None out of range."),
-    METHOD("replace_offset", replace_offset, METH_O, "Returns the same date and time at another offset, which is another instant."),
-    METHOD("replace_date_time", replace_date_time, METH_O, "Returns another date and time at the same offset."),
-    METHOD("local", local, METH_NOARGS, "Returns the date and time without the offset."),
-    METHOD("unix_timestamp", unix_timestamp, METH_NOARGS, "Returns the Unix time in whole seconds, rounded down."),
-    METHOD("unix_duration", unix_duration, METH_NOARGS, "Returns the Unix time as a duration."),
+    METHOD("new_in_offset", new_in_offset, METH_FASTCALL | METH_STATIC, "(date: Date, time: Time, offset: UtcOffset) -> OffsetDateTime\nCreates the date-time of a date, a time of day and an offset."),
+    METHOD("new_utc", new_utc, METH_FASTCALL | METH_STATIC, "(date: Date, time: Time) -> OffsetDateTime\nCreates the date-time of a date and a time of day at UTC."),
+    METHOD("from_unix_timestamp", from_unix_timestamp, METH_O | METH_STATIC, "(timestamp: SupportsIndex) -> OffsetDateTime\nCreates the date-time at UTC of Unix seconds."),
+    METHOD("from_unix_duration", from_unix_duration, METH_O | METH_STATIC, "(duration: SignedDuration) -> OffsetDateTime\nCreates the date-time at UTC of a Unix time."),
+    METHOD("to_offset", to_offset, METH_O, "(self, offset: UtcOffset) -> OffsetDateTime\nReturns the same instant at another offset, or raises OverflowError."),
+    METHOD("checked_to_offset", checked_to_offset, METH_O, "(self, offset: UtcOffset) -> OffsetDateTime | None\nReturns the same instant at another offset, or None out of range."),
+    METHOD("to_utc", to_utc, METH_NOARGS, "(self) -> OffsetDateTime\nReturns the same instant at UTC, or raises OverflowError."),
+    METHOD("checked_to_utc", checked_to_utc, METH_NOARGS, "(self) -> OffsetDateTime | None\nReturns the same instant at UTC, or None out of range."),
+    METHOD("replace_offset", replace_offset, METH_O, "(self, offset: UtcOffset) -> OffsetDateTime\nReturns the same date and time at another offset, which is another instant."),
+    METHOD("replace_date_time", replace_date_time, METH_O, "(self, date_time: PlainDateTime) -> OffsetDateTime\nReturns another date and time at the same offset."),
+    METHOD("local", local, METH_NOARGS, "(self) -> PlainDateTime\nReturns the date and time without the offset."),
+    METHOD("unix_timestamp", unix_timestamp, METH_NOARGS, "(self) -> int\nReturns the Unix time in whole seconds, rounded down."),
+    METHOD("unix_duration", unix_duration, METH_NOARGS, "(self) -> SignedDuration\nReturns the Unix time as a duration."),
     LAST_METHOD,
 };
 
 int add_moments(PyObject *module)
 {
-    static PyGetSetDef properties[] = {PROPERTIES(GETTER_ENTRY) GETTER("offset", offset, "The offset from UTC."), LAST_GETTER};
+    static PyGetSetDef properties[] = {PROPERTIES(GETTER_ENTRY) GETTER("offset", offset, "-> UtcOffset\nThe offset from UTC."), LAST_GETTER};
     static PyType_Slot slots[] = {
         {Py_tp_doc, "OffsetDateTime(date, time, offset): a date and a time of day at an offset from UTC.\n\n"
                     "Values compare and hash by instant, regardless of offset. + and - with a SignedDuration keep the offset."},

@@ -119,12 +119,12 @@ static PyObject *recurrence_days(UNUSED(module), PyObject *const *given, Py_ssiz
 }
 
 PyMethodDef recurrence_functions[] = {
-    METHOD("rule_first", rule_first, METH_O, ""),
-    METHOD("rule_next_after", rule_next_after, METH_FASTCALL, ""),
-    METHOD("rule_contains", rule_contains, METH_FASTCALL, ""),
-    METHOD("rule_days_after", rule_days_after, METH_FASTCALL, ""),
-    METHOD("recurrence_parse", recurrence_parse, METH_O, ""),
-    METHOD("recurrence_text", recurrence_text, METH_O, ""),
-    METHOD("recurrence_days", recurrence_days, METH_FASTCALL, ""),
+    METHOD("rule_first", rule_first, METH_O, "(rule: tuple[Any, ...]) -> Date | None\n"),
+    METHOD("rule_next_after", rule_next_after, METH_FASTCALL, "(rule: tuple[Any, ...], date: Date) -> Date | None\n"),
+    METHOD("rule_contains", rule_contains, METH_FASTCALL, "(rule: tuple[Any, ...], date: Date) -> bool\n"),
+    METHOD("rule_days_after", rule_days_after, METH_FASTCALL, "(rule: tuple[Any, ...], date: Date) -> list[Date]\n"),
+    METHOD("recurrence_parse", recurrence_parse, METH_O, "(text: str) -> tuple[int, int, Weekday, Date | None, int, bytes, bytes, bytes]\n"),
+    METHOD("recurrence_text", recurrence_text, METH_O, "(text: str) -> str\n"),
+    METHOD("recurrence_days", recurrence_days, METH_FASTCALL, "(text: str, start: Date, date: Date) -> list[Date]\n"),
     LAST_METHOD,
 };

@@ -184,16 +184,16 @@ static PyObject *get_holidays(PyObject *self, void *none)
 int add_workdays_type(PyObject *module)
 {
     static PyGetSetDef properties[] = {
-        GETTER("_weekmask", get_weekmask, NULL), GETTER("_holidays", get_holidays, NULL), LAST_GETTER,
+        GETTER("_weekmask", get_weekmask, "-> int"), GETTER("_holidays", get_holidays, "-> list[Date]"), LAST_GETTER,
     };
     static PyMethodDef methods[] = {
-        METHOD("is_workday", is_workday, METH_O, "Returns whether the day is a working day."),
-        METHOD("next_workday", next_workday, METH_O, "Returns the first working day after the day, or None out of range."),
-        METHOD("previous_workday", previous_workday, METH_O, "Returns the last working day before the day, or None out of range."),
-        METHOD("add_workdays", add_workdays, METH_FASTCALL, "Returns the n-th working day after the day, or before it for a negative number; for 0 the day or the first one after it."),
-        METHOD("checked_add_workdays", checked_add_workdays, METH_FASTCALL, "Returns the same, or None out of range."),
-        METHOD("workdays_between", workdays_between, METH_FASTCALL, "Returns the number of working days from the earlier day on, without the later; negative if the other day is earlier."),
-        METHOD("adjust", adjust, METH_FASTCALL, "Returns the working day that the day moves to by a Convention, or None out of range."),
+        METHOD("is_workday", is_workday, METH_O, "(self, date: Date) -> bool\nReturns whether the day is a working day."),
+        METHOD("next_workday", next_workday, METH_O, "(self, date: Date) -> Date | None\nReturns the first working day after the day, or None out of range."),
+        METHOD("previous_workday", previous_workday, METH_O, "(self, date: Date) -> Date | None\nReturns the last working day before the day, or None out of range."),
+        METHOD("add_workdays", add_workdays, METH_FASTCALL, "(self, date: Date, days: SupportsIndex) -> Date\nReturns the n-th working day after the day, or before it for a negative number; for 0 the day or the first one after it."),
+        METHOD("checked_add_workdays", checked_add_workdays, METH_FASTCALL, "(self, date: Date, days: SupportsIndex) -> Date | None\nReturns the same, or None out of range."),
+        METHOD("workdays_between", workdays_between, METH_FASTCALL, "(self, start: Date, end: Date) -> int\nReturns the number of working days from the earlier day on, without the later; negative if the other day is earlier."),
+        METHOD("adjust", adjust, METH_FASTCALL, "(self, date: Date, convention: Convention) -> Date | None\nReturns the working day that the day moves to by a Convention, or None out of range."),
         LAST_METHOD,
     };
     static PyType_Slot slots[] = {

@@ -123,7 +123,7 @@ def _called(name: str, columns: tuple[Any, ...], lengths: tuple[int, ...] | None
     dates = 2 if name == "dates_workdays_between" else int(name.startswith(("dates_to", "dates_add", "dates_weekdays", "dates_calendar")))
     if all(map(_is_scalar, columns)):
         raise TypeError("expected a column; call a method of Date for one value")
-    found = [None if _is_scalar(values) else _column(values, code.replace("W", "B"), index < dates)
+    found: list[Any] = [None if _is_scalar(values) else _column(values, code.replace("W", "B"), index < dates)
         for index, (values, code) in enumerate(zip(columns, reads))]
     rows = next(len(column) for column in found if column is not None)
     for index, code in enumerate(reads):

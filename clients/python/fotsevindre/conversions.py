@@ -1,5 +1,6 @@
 """Methods that need no speed: conversions from and to `datetime`, texts of ISO 8601, units of durations, replacements of date-times."""
 
+# mypy: no-warn-return-any
 from __future__ import annotations
 
 import datetime
@@ -71,7 +72,7 @@ for _name in ("weeks", "days", "hours", "minutes", "seconds", "milliseconds", "m
 
 
 @_adds_to(SignedDuration)
-class _Durations:
+class _DurationMethods:
     @staticmethod
     def nanoseconds_i128(nanoseconds: SupportsIndex) -> SignedDuration:
         """Creates a duration of nanoseconds, from those of `MIN` to those of `MAX`."""
@@ -119,7 +120,7 @@ class _Durations:
 
 
 @_adds_to(Date)
-class _Date:
+class _DateMethods:
     @staticmethod
     def from_date(date: datetime.date) -> Date:
         """Converts a `datetime.date`. Of a `datetime.datetime`, take its `date()`."""
@@ -148,7 +149,7 @@ class _Date:
 
 
 @_adds_to(Time)
-class _Time:
+class _TimeMethods:
     @staticmethod
     def from_time(time: datetime.time) -> Time:
         """Converts a `datetime.time` without a time zone, or raises `ValueError`."""
@@ -158,11 +159,16 @@ class _Time:
 
     def to_time(self: Any) -> datetime.time:
         """Converts to a `datetime.time`, or raises `ValueError` for nanoseconds."""
-        return datetime.time(*self.as_hms(), _whole_microseconds(self.nanosecond, "datetime.time"))
+        return datetime.time(self.hour, self.minute, self.second, _whole_microseconds(self.nanosecond, "datetime.time"))
+
+    @staticmethod
+    def parse(text: str) -> Time:
+        """Parses a time, such as 9:05, 09:05:00 or 9:05:00.25, or raises `ParseError` or `ComponentRange`."""
+        return _time(_is(text, str))
 
 
 @_adds_to(UtcOffset)
-class _UtcOffset:
+class _OffsetMethods:
     @staticmethod
     def from_timezone(timezone: datetime.timezone) -> UtcOffset:
         """Converts a `datetime.timezone`, or raises `ValueError` for parts of a second."""
@@ -175,6 +181,11 @@ class _UtcOffset:
         """Converts to a `datetime.timezone`, or raises `ValueError` from 24 hours on."""
         return datetime.timezone(datetime.timedelta(seconds=self.whole_seconds()))
 
+    @staticmethod
+    def parse(text: str) -> UtcOffset:
+        """Parses an offset, such as Z, +01:00 or -05:30:00, or raises `ParseError` or `ComponentRange`."""
+        return _offset(_is(text, str))
+
 
 # ---- date-times
 
@@ -185,12 +196,17 @@ def _parts(self: Any, date: dict[str, Any], time: dict[str, Any]) -> Any:
 
 
 @_adds_to(PlainDateTime, OffsetDateTime)
-class _PlainDateTimeCommon:
+class _DateTimeMethods:
     def replace(self: Any, *, year: SupportsIndex | None = None, month: SupportsIndex | None = None, day: SupportsIndex | None = None,
                 hour: SupportsIndex | None = None, minute: SupportsIndex | None = None, second: SupportsIndex | None = None,
                 nanosecond: SupportsIndex | None = None) -> Any:
         """Replaces the components that are given by name."""
         return _parts(self, {"year": year, "month": month, "day": day}, {"hour": hour, "minute": minute, "second": second, "nanosecond": nanosecond})
+
+    def isoformat(self: Any) -> str:
+        """Returns the text of `datetime.isoformat`, with nine digits if there are nanoseconds."""
+        offset = str(self.offset) if isinstance(self, OffsetDateTime) else ""
+        return f"{self.date()}T{self.time().isoformat()}{offset.removesuffix(':00') if len(offset) == 9 else offset}"
 
 
 def _through(name: str, part: str) -> None:
@@ -219,21 +235,11 @@ def _to_datetime(self: Any, timezone: datetime.timezone | None) -> datetime.date
 
 
 @_adds_to(PlainDateTime)
-class _PlainDateTime:
+class _PlainMethods:
     def to_datetime(self: Any) -> datetime.datetime:
         """Converts to a `datetime.datetime` without a time zone; errors like `Date.to_date` and `Time.to_time`."""
         return _to_datetime(self, None)
 
-
-@_adds_to(OffsetDateTime)
-class _OffsetDateTime:
-    def to_datetime(self: Any) -> datetime.datetime:
-        """Converts to a `datetime.datetime` in the `datetime.timezone` of the offset; errors like its parts."""
-        return _to_datetime(self, self.offset.to_timezone())
-
-
-@_adds_to(PlainDateTime)
-class _PlainDateTime:
     @staticmethod
     def from_datetime(value: datetime.datetime) -> PlainDateTime:
         """Converts a `datetime.datetime` without a time zone, or raises `ValueError`."""
@@ -241,9 +247,18 @@ class _PlainDateTime:
             raise ValueError("expected a datetime.datetime without tzinfo")
         return PlainDateTime(Date.from_date(value.date()), Time.from_time(value.time()))
 
+    @staticmethod
+    def parse(text: str) -> PlainDateTime:
+        """Parses a date, T or a space, and a time, such as 2024-02-29T23:59:59.25; errors like `Date.parse` and `Time.parse`."""
+        return _plain(text, len(_is(text, str)))
+
 
 @_adds_to(OffsetDateTime)
-class _OffsetDateTime:
+class _MomentMethods:
+    def to_datetime(self: Any) -> datetime.datetime:
+        """Converts to a `datetime.datetime` in the `datetime.timezone` of the offset; errors like its parts."""
+        return _to_datetime(self, self.offset.to_timezone())
+
     @staticmethod
     def from_datetime(value: datetime.datetime) -> OffsetDateTime:
         """Converts a `datetime.datetime` with an offset of whole seconds, or raises `ValueError`."""
@@ -261,6 +276,16 @@ class _OffsetDateTime:
     def unix_timestamp_nanos(self: Any) -> int:
         """Returns the Unix time in nanoseconds, as an int of any size."""
         return self.unix_duration().whole_nanoseconds()
+
+    @staticmethod
+    def parse(text: str) -> OffsetDateTime:
+        """Parses a date-time and an offset, such as 2024-02-29T23:59:59.25+01:00; a space may come before the offset."""
+        at = _separator(text)
+        found = re.search("[ Zz+-]", text[at + 1:])
+        end = at + 1 + found.start() if found else len(text)
+        local = _plain(text, end)
+        end += text[end:end + 1] == " "
+        return local.assume_offset(_within(_offset, text, end))
 
 
 # ---- texts
@@ -294,14 +319,6 @@ def _time(text: str) -> Time:
     return time
 
 
-@_adds_to(Time)
-class _Time:
-    @staticmethod
-    def parse(text: str) -> Time:
-        """Parses a time, such as 9:05, 09:05:00 or 9:05:00.25, or raises `ParseError` or `ComponentRange`."""
-        return _time(_is(text, str))
-
-
 def _offset(text: str) -> UtcOffset:
     """Parses Z, +01:00 or -05:30:00."""
     if text in ("Z", "z"):
@@ -313,14 +330,6 @@ def _offset(text: str) -> UtcOffset:
         raise ParseError(min(len(text), 9), len(text) < 9)
     sign = -1 if text[0] == "-" else 1
     return UtcOffset.from_whole_seconds(0) if not text.strip("+-0:") else UtcOffset.from_hms(*(sign * int(part) for part in text[1:].split(":")), *[0] * (len(text) == 6))
-
-
-@_adds_to(UtcOffset)
-class _UtcOffset:
-    @staticmethod
-    def parse(text: str) -> UtcOffset:
-        """Parses an offset, such as Z, +01:00 or -05:30:00, or raises `ParseError` or `ComponentRange`."""
-        return _offset(_is(text, str))
 
 
 def _separator(text: str) -> int:
@@ -337,34 +346,6 @@ def _plain(text: str, end: int) -> PlainDateTime:
     return PlainDateTime(date, _within(_time, text, at + 1, end))
 
 
-@_adds_to(PlainDateTime)
-class _PlainDateTime:
-    @staticmethod
-    def parse(text: str) -> PlainDateTime:
-        """Parses a date, T or a space, and a time, such as 2024-02-29T23:59:59.25; errors like `Date.parse` and `Time.parse`."""
-        return _plain(text, len(_is(text, str)))
-
-
-@_adds_to(OffsetDateTime)
-class _OffsetDateTime:
-    @staticmethod
-    def parse(text: str) -> OffsetDateTime:
-        """Parses a date-time and an offset, such as 2024-02-29T23:59:59.25+01:00; a space may come before the offset."""
-        at = _separator(text)
-        found = re.search("[ Zz+-]", text[at + 1:])
-        end = at + 1 + found.start() if found else len(text)
-        local = _plain(text, end)
-        end += text[end:end + 1] == " "
-        return local.assume_offset(_within(_offset, text, end))
-
-
-@_adds_to(PlainDateTime, OffsetDateTime)
-class _PlainDateTimeCommon:
-    def isoformat(self: Any) -> str:
-        """Returns the text of `datetime.isoformat`, with nine digits if there are nanoseconds."""
-        offset = str(self.offset) if isinstance(self, OffsetDateTime) else ""
-        return f"{self.date()}T{self.time().isoformat()}{offset.removesuffix(':00') if len(offset) == 9 else offset}"
-
-
-for _kind in (Time, UtcOffset, PlainDateTime, OffsetDateTime):
-    setattr(_kind, "fromisoformat", _kind.parse)
+_kinds: tuple[Any, ...] = (Time, UtcOffset, PlainDateTime, OffsetDateTime)
+for _kind in _kinds:
+    _kind.fromisoformat = staticmethod(_kind.parse)

@@ -3,13 +3,45 @@
 from __future__ import annotations
 
 import enum
-from typing import NamedTuple, SupportsIndex
+from typing import NamedTuple, SupportsIndex, TypeVar
 
 from . import _core
 from .errors import ComponentRange
 
 
-class Month(enum.IntEnum):
+class _Cycle(enum.IntEnum):
+    """What months and weekdays have in common: they are ints, go round, and show their names only in `repr`."""
+
+    def previous(self: _C) -> _C:
+        """Returns the one before. Before January it is December, and before Monday Sunday."""
+        return self.nth_prev(1)
+
+    def next(self: _C) -> _C:
+        """Returns the one after. After December it is January, and after Sunday Monday."""
+        return self.nth_next(1)
+
+    def nth_next(self: _C, n: SupportsIndex) -> _C:
+        """Returns the one `n` places after. Nine months after July it is April."""
+        raise NotImplementedError
+
+    def nth_prev(self: _C, n: SupportsIndex) -> _C:
+        """Returns the one `n` places before. Nine months before July it is October."""
+        raise NotImplementedError
+
+    def __str__(self) -> str:
+        return int.__repr__(self)
+
+    def __repr__(self) -> str:
+        return self.name
+
+    def __format__(self, specification: str) -> str:
+        return format(int(self), specification)
+
+
+_C = TypeVar("_C", bound=_Cycle)
+
+
+class Month(_Cycle):
     """A month of the year, from `January`, 1, to `December`, 12.
 
     A month is an int: `f"{month:02}"` and `str(month)` are its number. `repr(month)` and `month.name` are its name.
@@ -40,14 +72,6 @@ class Month(enum.IntEnum):
         """Returns the number of days of the month in a year, from 28 to 31."""
         return _core.days_in_month(self, year)
 
-    def previous(self) -> Month:
-        """Returns the month before. Before January it is December."""
-        return _core.month_nth_prev(self, 1)
-
-    def next(self) -> Month:
-        """Returns the month after. After December it is January."""
-        return _core.month_nth_next(self, 1)
-
     def nth_next(self, n: SupportsIndex) -> Month:
         """Returns the month `n` months after. Nine months after July it is April."""
         return _core.month_nth_next(self, n)
@@ -56,16 +80,8 @@ class Month(enum.IntEnum):
         """Returns the month `n` months before. Nine months before July it is October."""
         return _core.month_nth_prev(self, n)
 
-    def __str__(self) -> str:
-        return int.__repr__(self)
 
-    def __repr__(self) -> str:
-        return self.name
-
-    __format__ = int.__format__
-
-
-class Weekday(enum.IntEnum):
+class Weekday(_Cycle):
     """A day of the week, from `Monday`, 0, to `Sunday`, 6, as `datetime.date.weekday` counts.
 
     A weekday is an int, like a `Month`. Calls that take a weekday take only a `Weekday`.
@@ -81,14 +97,6 @@ class Weekday(enum.IntEnum):
     Friday = 4
     Saturday = 5
     Sunday = 6
-
-    def previous(self) -> Weekday:
-        """Returns the weekday before. Before Monday it is Sunday."""
-        return _core.weekday_nth_prev(self, 1)
-
-    def next(self) -> Weekday:
-        """Returns the weekday after. After Sunday it is Monday."""
-        return _core.weekday_nth_next(self, 1)
 
     def nth_next(self, n: SupportsIndex) -> Weekday:
         """Returns the weekday `n` days after. Ten days after Sunday it is Wednesday."""
@@ -113,10 +121,6 @@ class Weekday(enum.IntEnum):
     def number_days_from_sunday(self) -> int:
         """Returns the number of days since Sunday, from 0 to 6."""
         return (int(self) + 1) % 7
-
-    __str__ = Month.__str__
-    __repr__ = Month.__repr__
-    __format__ = int.__format__
 
 
 class Period(NamedTuple):

@@ -3,12 +3,19 @@
 import datetime
 from typing import List, Optional, Tuple
 
-from fotsevindre import Frequency, OffsetDateTime, PlainDateTime, Recurrence, Rule, ParseRuleError, ParseRuleErrorKind
+from fotsevindre import Frequency, OffsetDateTime, ParseRuleError, ParseRuleErrorKind, PlainDateTime, Recurrence, Rule, Workdays
 from fotsevindre import Date, Days, Month, SignedDuration, Time, UtcOffset, Weekday, add_to_pair, rfc3339_text
 
 day: Date = Date.from_calendar_date(2024, Month.February, 29)
 same: Date = Date.from_calendar_date(2024, 2, 29)
 last: Date = Date.MAX
+made: Tuple[Date, Time, UtcOffset, SignedDuration] = (Date(2024, 2, 29), Time(10, 30), UtcOffset(-5, 30), SignedDuration(days=1, hours=2))
+is_one_day: bool = (last - day).days == 1 and day.year == 2024 and day.weekday() in {5, 6} and day.month == 2
+parsed: Tuple[Time, UtcOffset, PlainDateTime, OffsetDateTime] = (
+    Time.parse("9:05"), UtcOffset.parse("Z"), PlainDateTime.parse("2024-02-29T9:05"), OffsetDateTime.fromisoformat("2024-02-29T09:05Z"))
+next_month: Date = day.add_months(1)
+work: Workdays = Workdays(holidays={day})
+working: Tuple[Tuple[Weekday, ...], Date, int] = (work.weekdays, work.add_workdays(day, 3), work.workdays_between(day, last))
 no_time: SignedDuration = SignedDuration.ZERO
 later: Date = day + SignedDuration.days(366) + datetime.timedelta(days=1)
 between: SignedDuration = last - day
@@ -41,7 +48,10 @@ Date.from_calendar_date(2024, 2)  # refused
 Date.from_iso_week_date(2024, 9, 4)  # refused
 day + 1  # refused
 day < Time.MIDNIGHT  # refused
-day.year == 2024  # refused
+day.year() == 2024  # refused
+may: Month = 5  # refused
+monday: Weekday = 0  # refused
+(last - day).hours  # refused
 day.next_day().year  # refused
 day.next_occurrence(1)  # refused
 SignedDuration.days(1.5)  # refused
