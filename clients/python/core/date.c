@@ -19,7 +19,11 @@ static PyObject *from_calendar_date(UNUSED(type), PyObject *const *given, Py_ssi
 {
     int32_t year;
     uint32_t month, day;
-    return take("from_calendar_date", given, count, "suu", &year, &month, &day) ? of_date(fots_date_from_calendar_date(year, month, day)) : NULL;
+    /* This is the most frequent call, and quicker without take. */
+    if (count == 3 && to_signed(given[0], &year) && to_component(given[1], &month) && to_component(given[2], &day)) {
+        return of_date(fots_date_from_calendar_date(year, month, day));
+    }
+    return PyErr_Occurred() ? NULL : (take("from_calendar_date", given, count, "suu", &year, &month, &day), NULL);
 }
 
 static PyObject *from_ordinal_date(UNUSED(type), PyObject *const *given, Py_ssize_t count)

@@ -1239,7 +1239,7 @@ class Habits(Cases):
 def load_tests(loader, tests, _pattern):
     for module in (fotsevindre, columns, enums, errors, schedules, sequences):
         tests.addTests(doctest.DocTestSuite(module))
-    tests.addTests(doctest.DocFileSuite("../../../README.md", encoding="utf-8"))
+    tests.addTests(doctest.DocFileSuite("../../../README.md", "../../../docs/PYTHON.md", encoding="utf-8"))
     return tests
 
 
