@@ -146,7 +146,7 @@ extern PyMethodDef functions[], unit_functions[], column_functions[], recurrence
 #define REDUCE(function) METHOD("__reduce__", function, METH_NOARGS, "Returns what pickle needs.")
 
 #define DEFINE(form, name, value, call, make, doc) DEFINE_##form(name, value, call, make)
-#define ENTRY(form, name, value, call, make, doc) METHOD(#name, name, FLAGS_##form, "(self" TAKES_##form ") -> " GIVES_##make "\n" doc),
+#define ENTRY(form, name, value, call, make, doc) METHOD(#name, name, FLAGS_##form, doc),
 #define DEFINE_NONE(name, value, call, make) \
     static PyObject *name(PyObject *self, UNUSED(none)) { return make(call(value(self))); }
 #define DEFINE_KIND(name, value, type, other, call, make) \
@@ -182,48 +182,9 @@ extern PyMethodDef functions[], unit_functions[], column_functions[], recurrence
 #define FLAGS_FACTOR METH_O
 #define FLAGS_NTH METH_FASTCALL
 
-#define TAKES_NONE ""
-#define TAKES_DATE ", other: Date"
-#define TAKES_TIME ", other: Time"
-#define TAKES_DURATION ", duration: SignedDuration"
-#define TAKES_WEEKDAY ", weekday: Weekday"
-#define TAKES_COMPONENT ", number: SupportsIndex"
-#define TAKES_SIGNED ", number: SupportsIndex"
-#define TAKES_NEAREST ", number: SupportsIndex"
-#define TAKES_FACTOR ", number: SupportsIndex"
-#define TAKES_NTH ", weekday: Weekday, n: SupportsIndex"
-#define GIVES_of_date "Date"
-#define GIVES_of_date_or_none "Date | None"
-#define GIVES_of_time "Time"
-#define GIVES_of_offset "UtcOffset"
-#define GIVES_of_duration "SignedDuration"
-#define GIVES_of_duration_or_none "SignedDuration | None"
-#define GIVES_of_number "int"
-#define GIVES_of_int64 "int"
-#define GIVES_of_component "int"
-#define GIVES_of_bool "bool"
-#define GIVES_of_month "Month"
-#define GIVES_of_weekday "Weekday"
-#define GIVES_of_text "str"
-#define GIVES_of_text_or_none "str | None"
-#define GIVES_of_calendar_date "tuple[int, Month, int]"
-#define GIVES_of_ordinal_date "tuple[int, int]"
-#define GIVES_of_iso_week_date "tuple[int, int, Weekday]"
-#define GIVES_of_adjusted "tuple[int, Time]"
-#define GIVES_of_parts "tuple[int, int, int]"
-#define GIVES_PyLong_FromLong "int"
-#define GIVES_PyBool_FromLong "bool"
-#define GIVES_new_date "Date"
-#define GIVES_hms "tuple[int, int, int]"
-#define GIVES_hms_milli "tuple[int, int, int, int]"
-#define GIVES_hms_micro "tuple[int, int, int, int]"
-#define GIVES_hms_nano "tuple[int, int, int, int]"
-#define GIVES_MOVED "Self"
-#define GIVES_MOVED_OR_NONE "Self | None"
-
 /* A list of properties: P(name, value, call, make, doc). */
 #define DEFINE_GETTER(name, value, call, make, doc) \
     static PyObject *name(PyObject *self, void *none) { (void)none; return make(call(value(self))); }
-#define GETTER_ENTRY(name, value, call, make, doc) GETTER(#name, name, "-> " GIVES_##make "\n" doc),
+#define GETTER_ENTRY(name, value, call, make, doc) GETTER(#name, name, doc),
 
 #endif

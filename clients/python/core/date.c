@@ -96,14 +96,14 @@ static PyObject *parse_julian_day(UNUSED(type), PyObject *text)
 /* ---- components */
 
 #define PROPERTIES(P) \
-    P(year, DATE, fots_date_year, of_number, "The year, from -999999 to 999999.") \
-    P(month, DATE, fots_date_month, of_month, "The Month.") \
-    P(day, DATE, fots_date_day, of_component, "The day of the month, from 1 to 31.") \
-    P(ordinal, DATE, fots_date_ordinal, of_component, "The day of the year, from 1 to 366.") \
-    P(iso_week, DATE, fots_date_iso_week, of_component, "The week of the ISO week date, from 1 to 53.") \
-    P(sunday_based_week, DATE, fots_date_sunday_based_week, of_component, "The Sundays of the year up to the day, from 0 to 53.") \
-    P(monday_based_week, DATE, fots_date_monday_based_week, of_component, "The Mondays of the year up to the day, from 0 to 53.") \
-    P(quarter, DATE, fots_date_quarter, of_component, "The quarter of the year, from 1 to 4.")
+    P(year, DATE, fots_date_year, of_number, "-> int\nThe year, from -999999 to 999999.") \
+    P(month, DATE, fots_date_month, of_month, "-> Month\nThe Month.") \
+    P(day, DATE, fots_date_day, of_component, "-> int\nThe day of the month, from 1 to 31.") \
+    P(ordinal, DATE, fots_date_ordinal, of_component, "-> int\nThe day of the year, from 1 to 366.") \
+    P(iso_week, DATE, fots_date_iso_week, of_component, "-> int\nThe week of the ISO week date, from 1 to 53.") \
+    P(sunday_based_week, DATE, fots_date_sunday_based_week, of_component, "-> int\nThe Sundays of the year up to the day, from 0 to 53.") \
+    P(monday_based_week, DATE, fots_date_monday_based_week, of_component, "-> int\nThe Mondays of the year up to the day, from 0 to 53.") \
+    P(quarter, DATE, fots_date_quarter, of_component, "-> int\nThe quarter of the year, from 1 to 4.")
 PROPERTIES(DEFINE_GETTER)
 
 static int32_t julian_day(fots_date date) { return date.julian_day; }
@@ -111,50 +111,50 @@ static int32_t julian_day(fots_date date) { return date.julian_day; }
 /* ---- methods that pass the date to a call */
 
 #define METHODS(M) \
-    M(NONE, weekday, DATE, fots_date_weekday, of_weekday, "Returns the Weekday.") \
-    M(NONE, to_calendar_date, DATE, fots_date_to_calendar_date, of_calendar_date, "Returns the year, the Month and the day of the month.") \
-    M(NONE, to_ordinal_date, DATE, fots_date_to_ordinal_date, of_ordinal_date, "Returns the year and the ordinal.") \
-    M(NONE, to_iso_week_date, DATE, fots_date_to_iso_week_date, of_iso_week_date, "Returns the ISO year, the week and the Weekday.") \
-    M(NONE, calendar_text, DATE, fots_date_calendar_text, of_text, "Returns the calendar date, such as 2024-02-29, like str.") \
-    M(NONE, ordinal_text, DATE, fots_date_ordinal_text, of_text, "Returns the ordinal date, such as 2024-060.") \
-    M(NONE, week_text, DATE, fots_date_week_text, of_text, "Returns the ISO week date, such as 2024-W09-4.") \
-    M(NONE, julian_text, DATE, fots_date_julian_text, of_text, "Returns the Julian day, such as J2460370.") \
-    M(NONE, next_day, DATE, fots_date_next_day, of_date_or_none, "Returns the next day, or None after MAX.") \
-    M(NONE, previous_day, DATE, fots_date_previous_day, of_date_or_none, "Returns the previous day, or None before MIN.") \
-    M(DURATION, checked_add, DATE, fots_date_checked_add, of_date_or_none, "Returns the day later by the whole days of a duration, or None out of range.") \
-    M(DURATION, checked_sub, DATE, fots_date_checked_sub, of_date_or_none, "Returns the day earlier by the whole days of a duration, or None out of range.") \
-    M(DURATION, saturating_add, DATE, fots_date_saturating_add, of_date, "Returns the day later by a duration, or the nearest end of the range.") \
-    M(DURATION, saturating_sub, DATE, fots_date_saturating_sub, of_date, "Returns the day earlier by a duration, or the nearest end of the range.") \
-    M(WEEKDAY, next_occurrence, DATE, fots_date_next_occurrence, of_date, "Returns the first day after this one with a Weekday, or raises OverflowError.") \
-    M(WEEKDAY, prev_occurrence, DATE, fots_date_prev_occurrence, of_date, "Returns the last day before this one with a Weekday, or raises OverflowError.") \
-    M(WEEKDAY, checked_next_occurrence, DATE, fots_date_next_occurrence, of_date_or_none, "Returns the first day after this one with a Weekday, or None.") \
-    M(WEEKDAY, checked_prev_occurrence, DATE, fots_date_prev_occurrence, of_date_or_none, "Returns the last day before this one with a Weekday, or None.") \
-    M(NTH, nth_next_occurrence, DATE, fots_date_nth_next_occurrence, of_date, "Returns the n-th day after this one with a Weekday, n from 1 to 255.") \
-    M(NTH, nth_prev_occurrence, DATE, fots_date_nth_prev_occurrence, of_date, "Returns the n-th day before this one with a Weekday, n from 1 to 255.") \
-    M(NTH, checked_nth_next_occurrence, DATE, fots_date_nth_next_occurrence, of_date_or_none, "Returns the same, or None out of range and for 0.") \
-    M(NTH, checked_nth_prev_occurrence, DATE, fots_date_nth_prev_occurrence, of_date_or_none, "Returns the same, or None out of range and for 0.") \
-    M(SIGNED, replace_year, DATE, fots_date_replace_year, of_date, "Replaces the year.") \
-    M(COMPONENT, replace_month, DATE, fots_date_replace_month, of_date, "Replaces the month.") \
-    M(COMPONENT, replace_day, DATE, fots_date_replace_day, of_date, "Replaces the day of the month.") \
-    M(COMPONENT, replace_ordinal, DATE, fots_date_replace_ordinal, of_date, "Replaces the ordinal.") \
-    M(NONE, to_julian_day, DATE, julian_day, PyLong_FromLong, "Returns the Julian day.") \
-    M(NEAREST, checked_add_months, DATE, fots_date_add_months, of_date_or_none, "Returns the day some months later, or None out of range.") \
-    M(NEAREST, add_months, DATE, fots_date_add_months, of_date, "Returns the day some months later, the last one in a shorter month, or raises OverflowError.") \
-    M(NEAREST, saturating_add_months, DATE, fots_date_saturating_add_months, of_date, "Returns the day some months later, or the nearest end of the range.") \
-    M(NEAREST, checked_add_years, DATE, fots_date_add_years, of_date_or_none, "Returns the day some years later, or None out of range.") \
-    M(NEAREST, add_years, DATE, fots_date_add_years, of_date, "Returns the day some years later, 28 February for the 29th in a common year, or raises OverflowError.") \
-    M(DATE, months_until, DATE, fots_date_months_until, of_number, "Returns the largest number of months that doesn't pass the other day; negative back.") \
-    M(DATE, years_until, DATE, fots_date_years_until, of_number, "Returns the largest number of years that doesn't pass the other day: an age.") \
-    M(NONE, first_of_month, DATE, fots_date_first_of_month, of_date, "Returns the first day of the month.") \
-    M(NONE, last_of_month, DATE, fots_date_last_of_month, of_date, "Returns the last day of the month.") \
-    M(NONE, first_of_quarter, DATE, fots_date_first_of_quarter, of_date, "Returns the first day of the quarter.") \
-    M(NONE, last_of_quarter, DATE, fots_date_last_of_quarter, of_date, "Returns the last day of the quarter.") \
-    M(NONE, first_of_year, DATE, fots_date_first_of_year, of_date, "Returns the first day of the year.") \
-    M(NONE, last_of_year, DATE, fots_date_last_of_year, of_date, "Returns the last day of the year.") \
-    M(NONE, first_of_iso_week, DATE, fots_date_first_of_iso_week, of_date, "Returns the Monday of the ISO week.") \
-    M(NONE, last_of_iso_week, DATE, fots_date_last_of_iso_week, of_date_or_none, "Returns the Sunday of the ISO week, or None past MAX.") \
-    M(WEEKDAY, on_or_after, DATE, fots_date_on_or_after, of_date_or_none, "Returns the first day from this one on with a Weekday, or None out of range.") \
-    M(WEEKDAY, on_or_before, DATE, fots_date_on_or_before, of_date_or_none, "Returns the last day up to this one with a Weekday, or None out of range.")
+    M(NONE, weekday, DATE, fots_date_weekday, of_weekday, "(self) -> Weekday\nReturns the Weekday.") \
+    M(NONE, to_calendar_date, DATE, fots_date_to_calendar_date, of_calendar_date, "(self) -> tuple[int, Month, int]\nReturns the year, the Month and the day of the month.") \
+    M(NONE, to_ordinal_date, DATE, fots_date_to_ordinal_date, of_ordinal_date, "(self) -> tuple[int, int]\nReturns the year and the ordinal.") \
+    M(NONE, to_iso_week_date, DATE, fots_date_to_iso_week_date, of_iso_week_date, "(self) -> tuple[int, int, Weekday]\nReturns the ISO year, the week and the Weekday.") \
+    M(NONE, calendar_text, DATE, fots_date_calendar_text, of_text, "(self) -> str\nReturns the calendar date, such as 2024-02-29, like str.") \
+    M(NONE, ordinal_text, DATE, fots_date_ordinal_text, of_text, "(self) -> str\nReturns the ordinal date, such as 2024-060.") \
+    M(NONE, week_text, DATE, fots_date_week_text, of_text, "(self) -> str\nReturns the ISO week date, such as 2024-W09-4.") \
+    M(NONE, julian_text, DATE, fots_date_julian_text, of_text, "(self) -> str\nReturns the Julian day, such as J2460370.") \
+    M(NONE, next_day, DATE, fots_date_next_day, of_date_or_none, "(self) -> Date | None\nReturns the next day, or None after MAX.") \
+    M(NONE, previous_day, DATE, fots_date_previous_day, of_date_or_none, "(self) -> Date | None\nReturns the previous day, or None before MIN.") \
+    M(DURATION, checked_add, DATE, fots_date_checked_add, of_date_or_none, "(self, duration: SignedDuration) -> Date | None\nReturns the day later by the whole days of a duration, or None out of range.") \
+    M(DURATION, checked_sub, DATE, fots_date_checked_sub, of_date_or_none, "(self, duration: SignedDuration) -> Date | None\nReturns the day earlier by the whole days of a duration, or None out of range.") \
+    M(DURATION, saturating_add, DATE, fots_date_saturating_add, of_date, "(self, duration: SignedDuration) -> Date\nReturns the day later by a duration, or the nearest end of the range.") \
+    M(DURATION, saturating_sub, DATE, fots_date_saturating_sub, of_date, "(self, duration: SignedDuration) -> Date\nReturns the day earlier by a duration, or the nearest end of the range.") \
+    M(WEEKDAY, next_occurrence, DATE, fots_date_next_occurrence, of_date, "(self, weekday: Weekday) -> Date\nReturns the first day after this one with a Weekday, or raises OverflowError.") \
+    M(WEEKDAY, prev_occurrence, DATE, fots_date_prev_occurrence, of_date, "(self, weekday: Weekday) -> Date\nReturns the last day before this one with a Weekday, or raises OverflowError.") \
+    M(WEEKDAY, checked_next_occurrence, DATE, fots_date_next_occurrence, of_date_or_none, "(self, weekday: Weekday) -> Date | None\nReturns the first day after this one with a Weekday, or None.") \
+    M(WEEKDAY, checked_prev_occurrence, DATE, fots_date_prev_occurrence, of_date_or_none, "(self, weekday: Weekday) -> Date | None\nReturns the last day before this one with a Weekday, or None.") \
+    M(NTH, nth_next_occurrence, DATE, fots_date_nth_next_occurrence, of_date, "(self, weekday: Weekday, n: SupportsIndex) -> Date\nReturns the n-th day after this one with a Weekday, n from 1 to 255.") \
+    M(NTH, nth_prev_occurrence, DATE, fots_date_nth_prev_occurrence, of_date, "(self, weekday: Weekday, n: SupportsIndex) -> Date\nReturns the n-th day before this one with a Weekday, n from 1 to 255.") \
+    M(NTH, checked_nth_next_occurrence, DATE, fots_date_nth_next_occurrence, of_date_or_none, "(self, weekday: Weekday, n: SupportsIndex) -> Date | None\nReturns the same, or None out of range and for 0.") \
+    M(NTH, checked_nth_prev_occurrence, DATE, fots_date_nth_prev_occurrence, of_date_or_none, "(self, weekday: Weekday, n: SupportsIndex) -> Date | None\nReturns the same, or None out of range and for 0.") \
+    M(SIGNED, replace_year, DATE, fots_date_replace_year, of_date, "(self, number: SupportsIndex) -> Date\nReplaces the year.") \
+    M(COMPONENT, replace_month, DATE, fots_date_replace_month, of_date, "(self, number: SupportsIndex) -> Date\nReplaces the month.") \
+    M(COMPONENT, replace_day, DATE, fots_date_replace_day, of_date, "(self, number: SupportsIndex) -> Date\nReplaces the day of the month.") \
+    M(COMPONENT, replace_ordinal, DATE, fots_date_replace_ordinal, of_date, "(self, number: SupportsIndex) -> Date\nReplaces the ordinal.") \
+    M(NONE, to_julian_day, DATE, julian_day, PyLong_FromLong, "(self) -> int\nReturns the Julian day.") \
+    M(NEAREST, checked_add_months, DATE, fots_date_add_months, of_date_or_none, "(self, number: SupportsIndex) -> Date | None\nReturns the day some months later, or None out of range.") \
+    M(NEAREST, add_months, DATE, fots_date_add_months, of_date, "(self, number: SupportsIndex) -> Date\nReturns the day some months later, the last one in a shorter month, or raises OverflowError.") \
+    M(NEAREST, saturating_add_months, DATE, fots_date_saturating_add_months, of_date, "(self, number: SupportsIndex) -> Date\nReturns the day some months later, or the nearest end of the range.") \
+    M(NEAREST, checked_add_years, DATE, fots_date_add_years, of_date_or_none, "(self, number: SupportsIndex) -> Date | None\nReturns the day some years later, or None out of range.") \
+    M(NEAREST, add_years, DATE, fots_date_add_years, of_date, "(self, number: SupportsIndex) -> Date\nReturns the day some years later, 28 February for the 29th in a common year, or raises OverflowError.") \
+    M(DATE, months_until, DATE, fots_date_months_until, of_number, "(self, other: Date) -> int\nReturns the largest number of months that doesn't pass the other day; negative back.") \
+    M(DATE, years_until, DATE, fots_date_years_until, of_number, "(self, other: Date) -> int\nReturns the largest number of years that doesn't pass the other day: an age.") \
+    M(NONE, first_of_month, DATE, fots_date_first_of_month, of_date, "(self) -> Date\nReturns the first day of the month.") \
+    M(NONE, last_of_month, DATE, fots_date_last_of_month, of_date, "(self) -> Date\nReturns the last day of the month.") \
+    M(NONE, first_of_quarter, DATE, fots_date_first_of_quarter, of_date, "(self) -> Date\nReturns the first day of the quarter.") \
+    M(NONE, last_of_quarter, DATE, fots_date_last_of_quarter, of_date, "(self) -> Date\nReturns the last day of the quarter.") \
+    M(NONE, first_of_year, DATE, fots_date_first_of_year, of_date, "(self) -> Date\nReturns the first day of the year.") \
+    M(NONE, last_of_year, DATE, fots_date_last_of_year, of_date, "(self) -> Date\nReturns the last day of the year.") \
+    M(NONE, first_of_iso_week, DATE, fots_date_first_of_iso_week, of_date, "(self) -> Date\nReturns the Monday of the ISO week.") \
+    M(NONE, last_of_iso_week, DATE, fots_date_last_of_iso_week, of_date_or_none, "(self) -> Date | None\nReturns the Sunday of the ISO week, or None past MAX.") \
+    M(WEEKDAY, on_or_after, DATE, fots_date_on_or_after, of_date_or_none, "(self, weekday: Weekday) -> Date | None\nReturns the first day from this one on with a Weekday, or None out of range.") \
+    M(WEEKDAY, on_or_before, DATE, fots_date_on_or_before, of_date_or_none, "(self, weekday: Weekday) -> Date | None\nReturns the last day up to this one with a Weekday, or None out of range.")
 METHODS(DEFINE)
 
 static PyObject *text(PyObject *self) { return of_text(fots_date_calendar_text(DATE(self))); }

@@ -71,25 +71,25 @@ static long is_positive_of(fots_duration duration) { return sign_of(duration) > 
 static long nanoseconds_of(fots_duration duration) { return duration.nanoseconds; }
 
 #define METHODS(M) \
-    M(NONE, is_zero, DURATION, is_zero_of, PyBool_FromLong, "Returns whether the duration is zero.") \
-    M(NONE, is_negative, DURATION, is_negative_of, PyBool_FromLong, "Returns whether the duration is negative.") \
-    M(NONE, is_positive, DURATION, is_positive_of, PyBool_FromLong, "Returns whether the duration is positive.") \
-    M(NONE, subsec_nanoseconds, DURATION, nanoseconds_of, PyLong_FromLong, "Returns the nanoseconds below the second, from -999999999 to 999999999.") \
-    M(NONE, whole_weeks, DURATION, fots_duration_whole_weeks, of_int64, "Returns the whole weeks, truncated toward zero.") \
-    M(NONE, whole_days, DURATION, fots_duration_whole_days, of_int64, "Returns the whole days, truncated toward zero.") \
-    M(NONE, whole_hours, DURATION, fots_duration_whole_hours, of_int64, "Returns the whole hours, truncated toward zero.") \
-    M(NONE, whole_minutes, DURATION, fots_duration_whole_minutes, of_int64, "Returns the whole minutes, truncated toward zero.") \
-    M(NONE, whole_seconds, DURATION, fots_duration_whole_seconds, of_int64, "Returns the whole seconds, truncated toward zero.") \
-    M(NONE, subsec_milliseconds, DURATION, fots_duration_subsec_milliseconds, of_number, "Returns the milliseconds below the second, from -999 to 999.") \
-    M(NONE, subsec_microseconds, DURATION, fots_duration_subsec_microseconds, of_number, "Returns the microseconds below the second, from -999999 to 999999.") \
-    M(NONE, checked_neg, DURATION, fots_duration_checked_neg, of_duration_or_none, "Returns the duration with the other sign, or None out of range.") \
-    M(DURATION, checked_add, DURATION, fots_duration_checked_add, of_duration_or_none, "Returns the sum, or None out of range.") \
-    M(DURATION, checked_sub, DURATION, fots_duration_checked_sub, of_duration_or_none, "Returns the difference, or None out of range.") \
-    M(FACTOR, checked_mul, DURATION, fots_duration_checked_mul, of_duration_or_none, "Returns the product with an int of 32 bits, or None out of range.") \
-    M(FACTOR, checked_div, DURATION, fots_duration_checked_div, of_duration_or_none, "Returns the quotient truncated toward zero, or None for 0 and out of range.") \
-    M(DURATION, saturating_add, DURATION, fots_duration_saturating_add, of_duration, "Returns the sum, or the nearest limit.") \
-    M(DURATION, saturating_sub, DURATION, fots_duration_saturating_sub, of_duration, "Returns the difference, or the nearest limit.") \
-    M(FACTOR, saturating_mul, DURATION, fots_duration_saturating_mul, of_duration, "Returns the product with an int of 32 bits, or the nearest limit.")
+    M(NONE, is_zero, DURATION, is_zero_of, PyBool_FromLong, "(self) -> bool\nReturns whether the duration is zero.") \
+    M(NONE, is_negative, DURATION, is_negative_of, PyBool_FromLong, "(self) -> bool\nReturns whether the duration is negative.") \
+    M(NONE, is_positive, DURATION, is_positive_of, PyBool_FromLong, "(self) -> bool\nReturns whether the duration is positive.") \
+    M(NONE, subsec_nanoseconds, DURATION, nanoseconds_of, PyLong_FromLong, "(self) -> int\nReturns the nanoseconds below the second, from -999999999 to 999999999.") \
+    M(NONE, whole_weeks, DURATION, fots_duration_whole_weeks, of_int64, "(self) -> int\nReturns the whole weeks, truncated toward zero.") \
+    M(NONE, whole_days, DURATION, fots_duration_whole_days, of_int64, "(self) -> int\nReturns the whole days, truncated toward zero.") \
+    M(NONE, whole_hours, DURATION, fots_duration_whole_hours, of_int64, "(self) -> int\nReturns the whole hours, truncated toward zero.") \
+    M(NONE, whole_minutes, DURATION, fots_duration_whole_minutes, of_int64, "(self) -> int\nReturns the whole minutes, truncated toward zero.") \
+    M(NONE, whole_seconds, DURATION, fots_duration_whole_seconds, of_int64, "(self) -> int\nReturns the whole seconds, truncated toward zero.") \
+    M(NONE, subsec_milliseconds, DURATION, fots_duration_subsec_milliseconds, of_number, "(self) -> int\nReturns the milliseconds below the second, from -999 to 999.") \
+    M(NONE, subsec_microseconds, DURATION, fots_duration_subsec_microseconds, of_number, "(self) -> int\nReturns the microseconds below the second, from -999999 to 999999.") \
+    M(NONE, checked_neg, DURATION, fots_duration_checked_neg, of_duration_or_none, "(self) -> SignedDuration | None\nReturns the duration with the other sign, or None out of range.") \
+    M(DURATION, checked_add, DURATION, fots_duration_checked_add, of_duration_or_none, "(self, duration: SignedDuration) -> SignedDuration | None\nReturns the sum, or None out of range.") \
+    M(DURATION, checked_sub, DURATION, fots_duration_checked_sub, of_duration_or_none, "(self, duration: SignedDuration) -> SignedDuration | None\nReturns the difference, or None out of range.") \
+    M(FACTOR, checked_mul, DURATION, fots_duration_checked_mul, of_duration_or_none, "(self, number: SupportsIndex) -> SignedDuration | None\nReturns the product with an int of 32 bits, or None out of range.") \
+    M(FACTOR, checked_div, DURATION, fots_duration_checked_div, of_duration_or_none, "(self, number: SupportsIndex) -> SignedDuration | None\nReturns the quotient truncated toward zero, or None for 0 and out of range.") \
+    M(DURATION, saturating_add, DURATION, fots_duration_saturating_add, of_duration, "(self, duration: SignedDuration) -> SignedDuration\nReturns the sum, or the nearest limit.") \
+    M(DURATION, saturating_sub, DURATION, fots_duration_saturating_sub, of_duration, "(self, duration: SignedDuration) -> SignedDuration\nReturns the difference, or the nearest limit.") \
+    M(FACTOR, saturating_mul, DURATION, fots_duration_saturating_mul, of_duration, "(self, number: SupportsIndex) -> SignedDuration\nReturns the product with an int of 32 bits, or the nearest limit.")
 METHODS(DEFINE)
 DEFINE(NONE, absolute_value, DURATION, fots_duration_abs, of_duration, )
 

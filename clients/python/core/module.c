@@ -19,7 +19,14 @@ static PyObject *setup(UNUSED(module), PyObject *const *given, Py_ssize_t count)
 {
     PyObject **const held[] = {&month_type, &weekday_type, &convention_type, &day_count_type, &period_type, &fraction_type, &status_error,
         &timedelta_type};
+    static int64_t owner = -1;
+    int64_t interpreter = PyInterpreterState_GetID(PyInterpreterState_Get());
     size_t index;
+    if (owner >= 0 && owner != interpreter) {
+        PyErr_SetString(PyExc_ImportError, "fotsevindre is in use by another interpreter of this process");
+        return NULL;
+    }
+    owner = interpreter;
     if (count != sizeof held / sizeof held[0]) {
         PyErr_BadArgument();
         return NULL;

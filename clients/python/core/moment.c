@@ -14,19 +14,19 @@ static PyObject *moment_with(PyObject *self, fots_date date, fots_time time)
 #define TIME_OF(self) (MOMENT(self).time)
 
 #define PROPERTIES(P) \
-    P(year, DATE_OF, fots_date_year, of_number, "The year.") \
-    P(month, DATE_OF, fots_date_month, of_month, "The Month.") \
-    P(day, DATE_OF, fots_date_day, of_component, "The day of the month.") \
-    P(ordinal, DATE_OF, fots_date_ordinal, of_component, "The day of the year.") \
-    P(iso_week, DATE_OF, fots_date_iso_week, of_component, "The week of the ISO week date.") \
-    P(sunday_based_week, DATE_OF, fots_date_sunday_based_week, of_component, "The Sundays of the year up to the day.") \
-    P(monday_based_week, DATE_OF, fots_date_monday_based_week, of_component, "The Mondays of the year up to the day.") \
-    P(hour, TIME_OF, fots_time_hour, of_component, "The hour.") \
-    P(minute, TIME_OF, fots_time_minute, of_component, "The minute of the hour.") \
-    P(second, TIME_OF, fots_time_second, of_component, "The second of the minute.") \
-    P(millisecond, TIME_OF, fots_time_millisecond, of_component, "The whole milliseconds of the second.") \
-    P(microsecond, TIME_OF, fots_time_microsecond, of_component, "The whole microseconds of the second.") \
-    P(nanosecond, TIME_OF, fots_time_nanosecond, of_component, "The nanoseconds of the second.")
+    P(year, DATE_OF, fots_date_year, of_number, "-> int\nThe year.") \
+    P(month, DATE_OF, fots_date_month, of_month, "-> Month\nThe Month.") \
+    P(day, DATE_OF, fots_date_day, of_component, "-> int\nThe day of the month.") \
+    P(ordinal, DATE_OF, fots_date_ordinal, of_component, "-> int\nThe day of the year.") \
+    P(iso_week, DATE_OF, fots_date_iso_week, of_component, "-> int\nThe week of the ISO week date.") \
+    P(sunday_based_week, DATE_OF, fots_date_sunday_based_week, of_component, "-> int\nThe Sundays of the year up to the day.") \
+    P(monday_based_week, DATE_OF, fots_date_monday_based_week, of_component, "-> int\nThe Mondays of the year up to the day.") \
+    P(hour, TIME_OF, fots_time_hour, of_component, "-> int\nThe hour.") \
+    P(minute, TIME_OF, fots_time_minute, of_component, "-> int\nThe minute of the hour.") \
+    P(second, TIME_OF, fots_time_second, of_component, "-> int\nThe second of the minute.") \
+    P(millisecond, TIME_OF, fots_time_millisecond, of_component, "-> int\nThe whole milliseconds of the second.") \
+    P(microsecond, TIME_OF, fots_time_microsecond, of_component, "-> int\nThe whole microseconds of the second.") \
+    P(nanosecond, TIME_OF, fots_time_nanosecond, of_component, "-> int\nThe nanoseconds of the second.")
 PROPERTIES(DEFINE_GETTER)
 
 static int32_t julian_day(fots_date date) { return date.julian_day; }
@@ -39,20 +39,20 @@ static PyObject *hms_nano(fots_time clock) { return of_clock(clock, 1); }
 #define MOVED(result) of_moment(Py_TYPE(self), result)
 #define MOVED_OR_NONE(result) of_moment_or_none(Py_TYPE(self), result)
 #define COMMON_METHODS(M) \
-    M(NONE, date, DATE_OF, ITSELF, new_date, "Returns the date.") \
-    M(NONE, weekday, DATE_OF, fots_date_weekday, of_weekday, "Returns the Weekday.") \
-    M(NONE, to_calendar_date, DATE_OF, fots_date_to_calendar_date, of_calendar_date, "Returns the year, the Month and the day of the month.") \
-    M(NONE, to_ordinal_date, DATE_OF, fots_date_to_ordinal_date, of_ordinal_date, "Returns the year and the ordinal.") \
-    M(NONE, to_iso_week_date, DATE_OF, fots_date_to_iso_week_date, of_iso_week_date, "Returns the ISO year, the week and the Weekday.") \
-    M(NONE, to_julian_day, DATE_OF, julian_day, PyLong_FromLong, "Returns the Julian day of the date.") \
-    M(NONE, as_hms, TIME_OF, ITSELF, hms, "Returns the hour, minute and second.") \
-    M(NONE, as_hms_milli, TIME_OF, ITSELF, hms_milli, "Returns the hour, minute, second and millisecond.") \
-    M(NONE, as_hms_micro, TIME_OF, ITSELF, hms_micro, "Returns the hour, minute, second and microsecond.") \
-    M(NONE, as_hms_nano, TIME_OF, ITSELF, hms_nano, "Returns the hour, minute, second and nanosecond.") \
-    M(DURATION, checked_add, MOMENT, fots_moment_checked_add, MOVED_OR_NONE, "Returns the date-time a duration later, at the same offset, or None out of range.") \
-    M(DURATION, checked_sub, MOMENT, fots_moment_checked_sub, MOVED_OR_NONE, "Returns the date-time a duration earlier, at the same offset, or None out of range.") \
-    M(DURATION, saturating_add, MOMENT, fots_moment_saturating_add, MOVED, "Returns the date-time a duration later, or the nearest end of the range.") \
-    M(DURATION, saturating_sub, MOMENT, fots_moment_saturating_sub, MOVED, "Returns the date-time a duration earlier, or the nearest end of the range.")
+    M(NONE, date, DATE_OF, ITSELF, new_date, "(self) -> Date\nReturns the date.") \
+    M(NONE, weekday, DATE_OF, fots_date_weekday, of_weekday, "(self) -> Weekday\nReturns the Weekday.") \
+    M(NONE, to_calendar_date, DATE_OF, fots_date_to_calendar_date, of_calendar_date, "(self) -> tuple[int, Month, int]\nReturns the year, the Month and the day of the month.") \
+    M(NONE, to_ordinal_date, DATE_OF, fots_date_to_ordinal_date, of_ordinal_date, "(self) -> tuple[int, int]\nReturns the year and the ordinal.") \
+    M(NONE, to_iso_week_date, DATE_OF, fots_date_to_iso_week_date, of_iso_week_date, "(self) -> tuple[int, int, Weekday]\nReturns the ISO year, the week and the Weekday.") \
+    M(NONE, to_julian_day, DATE_OF, julian_day, PyLong_FromLong, "(self) -> int\nReturns the Julian day of the date.") \
+    M(NONE, as_hms, TIME_OF, ITSELF, hms, "(self) -> tuple[int, int, int]\nReturns the hour, minute and second.") \
+    M(NONE, as_hms_milli, TIME_OF, ITSELF, hms_milli, "(self) -> tuple[int, int, int, int]\nReturns the hour, minute, second and millisecond.") \
+    M(NONE, as_hms_micro, TIME_OF, ITSELF, hms_micro, "(self) -> tuple[int, int, int, int]\nReturns the hour, minute, second and microsecond.") \
+    M(NONE, as_hms_nano, TIME_OF, ITSELF, hms_nano, "(self) -> tuple[int, int, int, int]\nReturns the hour, minute, second and nanosecond.") \
+    M(DURATION, checked_add, MOMENT, fots_moment_checked_add, MOVED_OR_NONE, "(self, duration: SignedDuration) -> Self | None\nReturns the date-time a duration later, at the same offset, or None out of range.") \
+    M(DURATION, checked_sub, MOMENT, fots_moment_checked_sub, MOVED_OR_NONE, "(self, duration: SignedDuration) -> Self | None\nReturns the date-time a duration earlier, at the same offset, or None out of range.") \
+    M(DURATION, saturating_add, MOMENT, fots_moment_saturating_add, MOVED, "(self, duration: SignedDuration) -> Self\nReturns the date-time a duration later, or the nearest end of the range.") \
+    M(DURATION, saturating_sub, MOMENT, fots_moment_saturating_sub, MOVED, "(self, duration: SignedDuration) -> Self\nReturns the date-time a duration earlier, or the nearest end of the range.")
 COMMON_METHODS(DEFINE)
 DEFINE(NONE, time_of_day, TIME_OF, ITSELF, new_time, )
 

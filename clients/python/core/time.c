@@ -56,12 +56,12 @@ static PyObject *time_replace(PyObject *self, PyObject *arguments, PyObject *nam
 }
 
 #define PROPERTIES(P) \
-    P(hour, TIME, fots_time_hour, of_component, "The hour, from 0 to 23.") \
-    P(minute, TIME, fots_time_minute, of_component, "The minute of the hour, from 0 to 59.") \
-    P(second, TIME, fots_time_second, of_component, "The second of the minute, from 0 to 59.") \
-    P(millisecond, TIME, fots_time_millisecond, of_component, "The whole milliseconds of the second, from 0 to 999.") \
-    P(microsecond, TIME, fots_time_microsecond, of_component, "The whole microseconds of the second, from 0 to 999999.") \
-    P(nanosecond, TIME, fots_time_nanosecond, of_component, "The nanoseconds of the second, from 0 to 999999999.")
+    P(hour, TIME, fots_time_hour, of_component, "-> int\nThe hour, from 0 to 23.") \
+    P(minute, TIME, fots_time_minute, of_component, "-> int\nThe minute of the hour, from 0 to 59.") \
+    P(second, TIME, fots_time_second, of_component, "-> int\nThe second of the minute, from 0 to 59.") \
+    P(millisecond, TIME, fots_time_millisecond, of_component, "-> int\nThe whole milliseconds of the second, from 0 to 999.") \
+    P(microsecond, TIME, fots_time_microsecond, of_component, "-> int\nThe whole microseconds of the second, from 0 to 999999.") \
+    P(nanosecond, TIME, fots_time_nanosecond, of_component, "-> int\nThe nanoseconds of the second, from 0 to 999999999.")
 PROPERTIES(DEFINE_GETTER)
 
 static PyGetSetDef time_properties[] = {PROPERTIES(GETTER_ENTRY) LAST_GETTER};
@@ -77,21 +77,21 @@ static PyObject *of_adjusted(fots_adjusted_time_result result)
 }
 
 #define TIME_METHODS(M) \
-    M(COMPONENT, replace_hour, TIME, fots_time_replace_hour, of_time, "Replaces the hour.") \
-    M(COMPONENT, replace_minute, TIME, fots_time_replace_minute, of_time, "Replaces the minute.") \
-    M(COMPONENT, replace_second, TIME, fots_time_replace_second, of_time, "Replaces the second.") \
-    M(COMPONENT, replace_millisecond, TIME, fots_time_replace_millisecond, of_time, "Replaces all below the second by milliseconds.") \
-    M(COMPONENT, replace_microsecond, TIME, fots_time_replace_microsecond, of_time, "Replaces all below the second by microseconds.") \
-    M(COMPONENT, replace_nanosecond, TIME, fots_time_replace_nanosecond, of_time, "Replaces all below the second by nanoseconds.") \
-    M(NONE, truncate_to_hour, TIME, fots_time_truncate_to_hour, of_time, "Sets all below the hour to zero.") \
-    M(NONE, truncate_to_minute, TIME, fots_time_truncate_to_minute, of_time, "Sets all below the minute to zero.") \
-    M(NONE, truncate_to_second, TIME, fots_time_truncate_to_second, of_time, "Sets all below the second to zero.") \
-    M(NONE, truncate_to_millisecond, TIME, fots_time_truncate_to_millisecond, of_time, "Sets all below the millisecond to zero.") \
-    M(NONE, truncate_to_microsecond, TIME, fots_time_truncate_to_microsecond, of_time, "Sets all below the microsecond to zero.") \
-    M(TIME, duration_until, TIME, fots_time_duration_until, of_duration, "Returns the duration forward to the other time, below 24 hours.") \
-    M(TIME, duration_since, TIME, fots_time_duration_since, of_duration, "Returns the duration forward from the other time, below 24 hours.") \
-    M(DURATION, adjusting_add, TIME, fots_time_adjusting_add, of_adjusted, "Returns a carry of -1, 0 or 1 days beyond whole days, and the time a duration later.") \
-    M(DURATION, adjusting_sub, TIME, fots_time_adjusting_sub, of_adjusted, "Returns a carry of -1, 0 or 1 days beyond whole days, and the time a duration earlier.")
+    M(COMPONENT, replace_hour, TIME, fots_time_replace_hour, of_time, "(self, number: SupportsIndex) -> Time\nReplaces the hour.") \
+    M(COMPONENT, replace_minute, TIME, fots_time_replace_minute, of_time, "(self, number: SupportsIndex) -> Time\nReplaces the minute.") \
+    M(COMPONENT, replace_second, TIME, fots_time_replace_second, of_time, "(self, number: SupportsIndex) -> Time\nReplaces the second.") \
+    M(COMPONENT, replace_millisecond, TIME, fots_time_replace_millisecond, of_time, "(self, number: SupportsIndex) -> Time\nReplaces all below the second by milliseconds.") \
+    M(COMPONENT, replace_microsecond, TIME, fots_time_replace_microsecond, of_time, "(self, number: SupportsIndex) -> Time\nReplaces all below the second by microseconds.") \
+    M(COMPONENT, replace_nanosecond, TIME, fots_time_replace_nanosecond, of_time, "(self, number: SupportsIndex) -> Time\nReplaces all below the second by nanoseconds.") \
+    M(NONE, truncate_to_hour, TIME, fots_time_truncate_to_hour, of_time, "(self) -> Time\nSets all below the hour to zero.") \
+    M(NONE, truncate_to_minute, TIME, fots_time_truncate_to_minute, of_time, "(self) -> Time\nSets all below the minute to zero.") \
+    M(NONE, truncate_to_second, TIME, fots_time_truncate_to_second, of_time, "(self) -> Time\nSets all below the second to zero.") \
+    M(NONE, truncate_to_millisecond, TIME, fots_time_truncate_to_millisecond, of_time, "(self) -> Time\nSets all below the millisecond to zero.") \
+    M(NONE, truncate_to_microsecond, TIME, fots_time_truncate_to_microsecond, of_time, "(self) -> Time\nSets all below the microsecond to zero.") \
+    M(TIME, duration_until, TIME, fots_time_duration_until, of_duration, "(self, other: Time) -> SignedDuration\nReturns the duration forward to the other time, below 24 hours.") \
+    M(TIME, duration_since, TIME, fots_time_duration_since, of_duration, "(self, other: Time) -> SignedDuration\nReturns the duration forward from the other time, below 24 hours.") \
+    M(DURATION, adjusting_add, TIME, fots_time_adjusting_add, of_adjusted, "(self, duration: SignedDuration) -> tuple[int, Time]\nReturns a carry of -1, 0 or 1 days beyond whole days, and the time a duration later.") \
+    M(DURATION, adjusting_sub, TIME, fots_time_adjusting_sub, of_adjusted, "(self, duration: SignedDuration) -> tuple[int, Time]\nReturns a carry of -1, 0 or 1 days beyond whole days, and the time a duration earlier.")
 TIME_METHODS(DEFINE)
 
 static PyObject *time_add(PyObject *self, PyObject *other)
@@ -216,10 +216,10 @@ static PyObject *from_whole_seconds(UNUSED(type), PyObject *object)
 static PyObject *of_parts(fots_offset_hms_result parts) { return Py_BuildValue("iii", (int)parts.hours, (int)parts.minutes, (int)parts.seconds); }
 
 #define OFFSET_METHODS(M) \
-    M(NONE, whole_hours, OFFSET, fots_offset_whole_hours, of_number, "Returns the whole hours, truncated toward zero.") \
-    M(NONE, whole_minutes, OFFSET, fots_offset_whole_minutes, of_number, "Returns the whole minutes, truncated toward zero.") \
-    M(NONE, minutes_past_hour, OFFSET, fots_offset_minutes_past_hour, of_number, "Returns the minutes past the whole hours, from -59 to 59.") \
-    M(NONE, seconds_past_minute, OFFSET, fots_offset_seconds_past_minute, of_number, "Returns the seconds past the whole minutes, from -59 to 59.")
+    M(NONE, whole_hours, OFFSET, fots_offset_whole_hours, of_number, "(self) -> int\nReturns the whole hours, truncated toward zero.") \
+    M(NONE, whole_minutes, OFFSET, fots_offset_whole_minutes, of_number, "(self) -> int\nReturns the whole minutes, truncated toward zero.") \
+    M(NONE, minutes_past_hour, OFFSET, fots_offset_minutes_past_hour, of_number, "(self) -> int\nReturns the minutes past the whole hours, from -59 to 59.") \
+    M(NONE, seconds_past_minute, OFFSET, fots_offset_seconds_past_minute, of_number, "(self) -> int\nReturns the seconds past the whole minutes, from -59 to 59.")
 OFFSET_METHODS(DEFINE)
 DEFINE(NONE, offset_as_hms, OFFSET, fots_offset_as_hms, of_parts, )
 

@@ -144,57 +144,18 @@ def _over_columns(name: str, *columns: Any, workdays: Workdays | None = None) ->
     return [*(like.made(column, dates and index == 0) for index, column in enumerate(made)), refused]
 
 
-class DateColumns(NamedTuple):
-    """Dates: Julian days in 32 bits, or `datetime64[D]` if the dates were. A status for each row, and the number of rows without a date."""
-
-    dates: Any
-    statuses: Any
-    refused: int
-
-
-class CalendarDateColumns(NamedTuple):
-    """Years in 32 bits, months and days in 8, a status for each row, and the number of rows without a result."""
-
-    years: Any
-    months: Any
-    days: Any
-    statuses: Any
-    refused: int
-
-
-class OrdinalDateColumns(NamedTuple):
-    """Years in 32 bits, ordinals in 16, a status for each row, and the number of rows without a result."""
-
-    years: Any
-    ordinals: Any
-    statuses: Any
-    refused: int
-
-
-class IsoWeekDateColumns(NamedTuple):
-    """ISO years in 32 bits, weeks and weekdays in 8, a status for each row, and the number of rows without a result."""
-
-    years: Any
-    weeks: Any
-    weekdays: Any
-    statuses: Any
-    refused: int
-
-
-class WeekdayColumns(NamedTuple):
-    """Weekdays from Monday, 0, in 8 bits, a status for each row, and the number of rows without a result, which have 255."""
-
-    weekdays: Any
-    statuses: Any
-    refused: int
-
-
-class NumberColumns(NamedTuple):
-    """Numbers in 32 bits, a status for each row, and the number of rows without a result, which have -2147483648."""
-
-    numbers: Any
-    statuses: Any
-    refused: int
+DateColumns = NamedTuple("DateColumns", [("dates", Any), ("statuses", Any), ("refused", int)])
+DateColumns.__doc__ = """Dates: Julian days in 32 bits, or `datetime64[D]` if the dates were. A status for each row, and the number of rows without a date."""
+CalendarDateColumns = NamedTuple("CalendarDateColumns", [("years", Any), ("months", Any), ("days", Any), ("statuses", Any), ("refused", int)])
+CalendarDateColumns.__doc__ = """Years in 32 bits, months and days in 8, a status for each row, and the number of rows without a result."""
+OrdinalDateColumns = NamedTuple("OrdinalDateColumns", [("years", Any), ("ordinals", Any), ("statuses", Any), ("refused", int)])
+OrdinalDateColumns.__doc__ = """Years in 32 bits, ordinals in 16, a status for each row, and the number of rows without a result."""
+IsoWeekDateColumns = NamedTuple("IsoWeekDateColumns", [("years", Any), ("weeks", Any), ("weekdays", Any), ("statuses", Any), ("refused", int)])
+IsoWeekDateColumns.__doc__ = """ISO years in 32 bits, weeks and weekdays in 8, a status for each row, and the number of rows without a result."""
+WeekdayColumns = NamedTuple("WeekdayColumns", [("weekdays", Any), ("statuses", Any), ("refused", int)])
+WeekdayColumns.__doc__ = """Weekdays from Monday, 0, in 8 bits, a status for each row, and the number of rows without a result, which have 255."""
+NumberColumns = NamedTuple("NumberColumns", [("numbers", Any), ("statuses", Any), ("refused", int)])
+NumberColumns.__doc__ = """Numbers in 32 bits, a status for each row, and the number of rows without a result, which have -2147483648."""
 
 
 def dates_from_julian_days(julian_days: object) -> DateColumns:
@@ -280,25 +241,12 @@ def dates_workdays_between(dates: object, others: object, workdays: Workdays) ->
 # ---- columns of texts
 
 
-class MomentColumns(NamedTuple):
-    """Dates in 32 bits, nanoseconds since midnight in 64, seconds of offsets in 32, a status for each row, and the number of rows without
+MomentColumns = NamedTuple("MomentColumns", [("dates", Any), ("times", Any), ("offsets", Any), ("statuses", Any), ("refused", int)])
+MomentColumns.__doc__ = """Dates in 32 bits, nanoseconds since midnight in 64, seconds of offsets in 32, a status for each row, and the number of rows without
     a result."""
-
-    dates: Any
-    times: Any
-    offsets: Any
-    statuses: Any
-    refused: int
-
-
-class TextColumns(NamedTuple):
-    """The bytes of texts, one after another, and their bounds, one more than rows: a text is `texts[bounds[k]:bounds[k + 1]]`. A status for
+TextColumns = NamedTuple("TextColumns", [("texts", bytes), ("bounds", Any), ("statuses", Any), ("refused", int)])
+TextColumns.__doc__ = """The bytes of texts, one after another, and their bounds, one more than rows: a text is `texts[bounds[k]:bounds[k + 1]]`. A status for
     each row, and the number of rows without a text, which have no bytes."""
-
-    texts: bytes
-    bounds: Any
-    statuses: Any
-    refused: int
 
 
 def _over_texts(name: str, texts: Any, bounds: Any) -> list[Any]:

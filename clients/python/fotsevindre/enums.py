@@ -123,19 +123,10 @@ class Weekday(_Cycle):
         return (int(self) + 1) % 7
 
 
-class Period(NamedTuple):
-    """Years, months and days, all of one sign, with fewer than 12 months."""
-
-    years: int
-    months: int
-    days: int
-
-
-class YearFraction(NamedTuple):
-    """A fraction of a year: what was counted, over what a year counts."""
-
-    numerator: int
-    denominator: int
+Period = NamedTuple("Period", [("years", int), ("months", int), ("days", int)])
+Period.__doc__ = """Years, months and days, all of one sign, with fewer than 12 months."""
+YearFraction = NamedTuple("YearFraction", [("numerator", int), ("denominator", int)])
+YearFraction.__doc__ = """A fraction of a year: what was counted, over what a year counts."""
 
 
 class DayCount(enum.IntEnum):

@@ -132,6 +132,18 @@ class Construction(unittest.TestCase):
             self.assertLess(max(abs(sys.getrefcount(single) - count) for single, count in zip(singles, before)), 500)
 
 
+    def test_one_interpreter(self):
+        try:
+            import _xxsubinterpreters as interpreters
+        except ImportError:
+            self.skipTest("no subinterpreters")
+        other = interpreters.create()
+        with self.assertRaises(interpreters.RunFailedError):
+            interpreters.run_string(other, "import fotsevindre")
+        interpreters.destroy(other)
+        self.assertEqual((str(LEAP_DAY.month), LEAP_DAY.weekday()), ("2", Weekday.Thursday))
+
+
 class Texts(unittest.TestCase):
     def test_times(self):
         rows = [("9:05", Time(9, 5)), ("09:05:07", Time(9, 5, 7)), ("9:05:00.12", Time(9, 5, 0, 120_000_000)), ("23:59:59.999999999", Time.MAX)]
