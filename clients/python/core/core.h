@@ -116,8 +116,12 @@ PyObject *list_of(const fots_date *days, size_t length);
 /* ---- what all values have */
 
 PyObject *new_reference(PyObject *object);
-PyObject *ordered(int order, int operation);
-Py_hash_t hash_of(uint64_t number, uint64_t kind);
+PyObject *value_compare(PyObject *self, PyObject *other, int operation);
+Py_hash_t value_hash(PyObject *self);
+PyObject *value_add(PyObject *self, PyObject *other);
+PyObject *value_subtract(PyObject *self, PyObject *other);
+#define OPERATORS \
+    {Py_tp_richcompare, value_compare}, {Py_tp_hash, value_hash}, {Py_nb_add, value_add}, {Py_nb_subtract, value_subtract}
 PyObject *value_format(PyObject *self, PyObject *specification);
 void value_free(PyObject *self);
 PyTypeObject *add_type(PyObject *module, const char *name, PyType_Spec *spec);

@@ -196,45 +196,6 @@ static PyObject *day_count(PyObject *self, PyObject *const *given, Py_ssize_t co
     return PyObject_CallFunction(fraction_type, "LI", (long long)result.numerator, (unsigned)result.denominator);
 }
 
-/* ---- operators */
-
-static PyObject *move(PyObject *self, PyObject *other, fots_date_result call(fots_date, fots_duration))
-{
-    fots_duration duration;
-    int found = Py_TYPE(self) == date_type ? to_duration(other, &duration) : 0;
-    if (found <= 0) {
-        return found ? NULL : new_reference(Py_NotImplemented);
-    }
-    if (Py_TYPE(other) != duration_type && duration.seconds % 86400 + duration.nanoseconds) {
-        PyErr_SetString(PyExc_ValueError, "expected a timedelta of whole days; convert others with SignedDuration.from_timedelta");
-        return NULL;
-    }
-    return of_date(call(DATE(self), duration));
-}
-
-static PyObject *add(PyObject *self, PyObject *other) { return move(self, other, fots_date_checked_add); }
-
-static PyObject *subtract(PyObject *self, PyObject *other)
-{
-    if (Py_TYPE(self) == date_type && Py_TYPE(other) == date_type) {
-        return of_duration(fots_date_duration_since(DATE(self), DATE(other)));
-    }
-    return move(self, other, fots_date_checked_sub);
-}
-
-static PyObject *compare(PyObject *self, PyObject *other, int operation)
-{
-    int32_t one, two;
-    if (Py_TYPE(other) != date_type) {
-        return new_reference(Py_NotImplemented);
-    }
-    one = DATE(self).julian_day;
-    two = DATE(other).julian_day;
-    return ordered((one > two) - (one < two), operation);
-}
-
-static Py_hash_t hash(PyObject *self) { return hash_of((uint64_t)DATE(self).julian_day, 1); }
-
 static PyObject *reduce(PyObject *self, UNUSED(none))
 {
     return Py_BuildValue("ON", date_type, of_calendar_date(fots_date_to_calendar_date(DATE(self))));
@@ -267,7 +228,7 @@ int add_date(PyObject *module)
         {Py_tp_doc, "Date(year, month, day): a day of the proleptic Gregorian calendar, from MIN, -999999-01-01, to MAX, 999999-12-31.\n\n"
                     "+ and - with a SignedDuration move by its whole days; dates have a SignedDuration between them."},
         {Py_tp_new, date_new}, {Py_tp_dealloc, value_free}, {Py_tp_methods, methods}, {Py_tp_getset, properties}, {Py_tp_str, text},
-        {Py_tp_repr, text}, {Py_tp_hash, hash}, {Py_tp_richcompare, compare}, {Py_nb_add, add}, {Py_nb_subtract, subtract}, {0, NULL},
+        {Py_tp_repr, text}, OPERATORS, {0, NULL},
     };
     static PyType_Spec spec = {"fotsevindre.Date", sizeof(DateObject), 0, Py_TPFLAGS_DEFAULT, slots};
     fots_date least = {FOTS_MIN_JULIAN_DAY}, greatest = {FOTS_MAX_JULIAN_DAY};

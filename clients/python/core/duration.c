@@ -102,22 +102,6 @@ static uint64_t magnitude(int64_t number) { return number < 0 ? -(uint64_t)numbe
 static PyObject *negative(PyObject *self) { return of_duration(fots_duration_checked_neg(DURATION(self))); }
 static PyObject *absolute(PyObject *self) { return of_duration(fots_duration_abs(DURATION(self))); }
 
-static PyObject *add(PyObject *self, PyObject *other)
-{
-    if (Py_TYPE(self) != duration_type || Py_TYPE(other) != duration_type) {
-        return new_reference(Py_NotImplemented);
-    }
-    return of_duration(fots_duration_checked_add(DURATION(self), DURATION(other)));
-}
-
-static PyObject *subtract(PyObject *self, PyObject *other)
-{
-    if (Py_TYPE(self) != duration_type || Py_TYPE(other) != duration_type) {
-        return new_reference(Py_NotImplemented);
-    }
-    return of_duration(fots_duration_checked_sub(DURATION(self), DURATION(other)));
-}
-
 static PyObject *multiply(PyObject *self, PyObject *other)
 {
     PyObject *duration = Py_TYPE(self) == duration_type ? self : other, *factor = duration == self ? other : self;
@@ -143,16 +127,6 @@ static PyObject *divide(PyObject *self, PyObject *other)
     }
     return of_duration(fots_duration_checked_div(DURATION(self), number));
 }
-
-static PyObject *compare(PyObject *self, PyObject *other, int operation)
-{
-    if (Py_TYPE(other) != duration_type) {
-        return new_reference(Py_NotImplemented);
-    }
-    return ordered(fots_duration_compare(DURATION(self), DURATION(other)).number, operation);
-}
-
-static Py_hash_t hash(PyObject *self) { return hash_of((uint64_t)DURATION(self).seconds * 1000000007 + (uint64_t)DURATION(self).nanoseconds, 4); }
 
 /* Returns the text, such as -1d2h3m4s5ms. */
 static PyObject *text(PyObject *self)
@@ -207,7 +181,7 @@ int add_duration(PyObject *module)
         {Py_tp_doc, "SignedDuration(*, weeks, days, hours, minutes, seconds, milliseconds, microseconds, nanoseconds): a signed length of time.\n\n"
                     "It has whole seconds in 64 bits and nanoseconds, and is exact. * and / take an int of 32 bits."},
         {Py_tp_new, duration_new}, {Py_tp_dealloc, value_free}, {Py_tp_methods, methods}, {Py_tp_str, text}, {Py_tp_repr, text},
-        {Py_tp_hash, hash}, {Py_tp_richcompare, compare}, {Py_nb_add, add}, {Py_nb_subtract, subtract}, {Py_nb_multiply, multiply},
+        OPERATORS, {Py_nb_multiply, multiply},
         {Py_nb_true_divide, divide}, {Py_nb_negative, negative}, {Py_nb_absolute, absolute}, {Py_nb_bool, is_true}, {0, NULL},
     };
     static PyType_Spec spec = {"fotsevindre.SignedDuration", sizeof(DurationObject), 0, Py_TPFLAGS_DEFAULT, slots};

@@ -66,42 +66,6 @@ static PyObject *replace_time(PyObject *self, PyObject *object)
     return is_kind(object, time_type) ? moment_with(self, DATE_OF(self), TIME(object)) : NULL;
 }
 
-static int is_moment(PyObject *object) { return Py_TYPE(object) == plain_type || Py_TYPE(object) == moment_type; }
-
-static PyObject *add(PyObject *self, PyObject *other)
-{
-    if (!is_moment(self) || Py_TYPE(other) != duration_type) {
-        return new_reference(Py_NotImplemented);
-    }
-    return of_moment(Py_TYPE(self), fots_moment_checked_add(MOMENT(self), DURATION(other)));
-}
-
-static PyObject *subtract(PyObject *self, PyObject *other)
-{
-    if (is_moment(self) && Py_TYPE(other) == Py_TYPE(self)) {
-        return of_duration(fots_moment_duration_since(MOMENT(self), MOMENT(other)));
-    }
-    if (!is_moment(self) || Py_TYPE(other) != duration_type) {
-        return new_reference(Py_NotImplemented);
-    }
-    return of_moment(Py_TYPE(self), fots_moment_checked_sub(MOMENT(self), DURATION(other)));
-}
-
-static PyObject *compare(PyObject *self, PyObject *other, int operation)
-{
-    if (Py_TYPE(other) != Py_TYPE(self)) {
-        return new_reference(Py_NotImplemented);
-    }
-    return ordered(fots_moment_compare(MOMENT(self), MOMENT(other)).number, operation);
-}
-
-/* Hashes the instant. */
-static Py_hash_t hash(PyObject *self)
-{
-    fots_duration since = fots_moment_unix_time(MOMENT(self)).duration;
-    return hash_of((uint64_t)since.seconds * 1000000007 + (uint64_t)since.nanoseconds, Py_TYPE(self) == plain_type ? 5 : 6);
-}
-
 /* Returns a text of the date, of the time, and of the offset if it is one. */
 static PyObject *text(PyObject *self)
 {
@@ -129,27 +93,18 @@ static PyObject *reduce(PyObject *self, UNUSED(none))
     METHOD("replace_time", replace_time, METH_O, "(self, time: Time) -> Self\nReplaces the time of day."), FORMAT, REDUCE(reduce)
 
 #define COMMON_SLOTS \
-    {Py_tp_dealloc, value_free}, {Py_tp_str, text}, {Py_tp_repr, text}, {Py_tp_hash, hash}, {Py_tp_richcompare, compare}, {Py_nb_add, add}, \
-    {Py_nb_subtract, subtract}
+    {Py_tp_dealloc, value_free}, {Py_tp_str, text}, {Py_tp_repr, text}, OPERATORS
 
 /* ---- PlainDateTime */
-
-static PyObject *plain_of(PyObject *day, PyObject *clock)
-{
-    return is_kind(day, date_type) && is_kind(clock, time_type) ? of_moment(plain_type, fots_moment_new(DATE(day), TIME(clock), utc)) : NULL;
-}
 
 static PyObject *plain_new(PyTypeObject *Py_UNUSED(type), PyObject *arguments, PyObject *named)
 {
     static char *names[] = {"date", "time", NULL};
-    PyObject *day, *clock;
-    return PyArg_ParseTupleAndKeywords(arguments, named, "OO:PlainDateTime", names, &day, &clock) ? plain_of(day, clock) : NULL;
-}
-
-static PyObject *plain_from(UNUSED(type), PyObject *const *given, Py_ssize_t count)
-{
-    PyObject *day, *clock;
-    return take("new", given, count, "OO", &day, &clock) ? plain_of(day, clock) : NULL;
+    PyObject *given[2];
+    fots_date day;
+    fots_time clock;
+    return PyArg_ParseTupleAndKeywords(arguments, named, "OO:PlainDateTime", names, &given[0], &given[1]) &&
+            take("PlainDateTime", given, 2, "dt", &day, &clock) ? of_moment(plain_type, fots_moment_new(day, clock, utc)) : NULL;
 }
 
 static PyObject *assume_offset(PyObject *self, PyObject *object)
@@ -161,7 +116,6 @@ static PyObject *assume_utc(PyObject *self, UNUSED(none)) { return new_moment(mo
 
 static PyMethodDef plain_methods[] = {
     OTHER_METHODS,
-    METHOD("new", plain_from, METH_FASTCALL | METH_STATIC, "(date: Date, time: Time) -> PlainDateTime\nCreates the date-time of a date and a time of day."),
     METHOD("assume_utc", assume_utc, METH_NOARGS, "(self) -> OffsetDateTime\nReturns the same date and time at UTC."),
     METHOD("assume_offset", assume_offset, METH_O, "(self, offset: UtcOffset) -> OffsetDateTime\nReturns the same date and time at an offset."),
     LAST_METHOD,
@@ -184,32 +138,15 @@ static int add_plain(PyObject *module)
 
 /* ---- OffsetDateTime */
 
-static PyObject *moment_of(PyObject *day, PyObject *clock, PyObject *at)
-{
-    if (!is_kind(day, date_type) || !is_kind(clock, time_type) || !is_kind(at, offset_type)) {
-        return NULL;
-    }
-    return of_moment(moment_type, fots_moment_new(DATE(day), TIME(clock), OFFSET(at)));
-}
-
 static PyObject *moment_new(PyTypeObject *Py_UNUSED(type), PyObject *arguments, PyObject *named)
 {
     static char *names[] = {"date", "time", "offset", NULL};
-    PyObject *day, *clock, *at;
-    return PyArg_ParseTupleAndKeywords(arguments, named, "OOO:OffsetDateTime", names, &day, &clock, &at) ? moment_of(day, clock, at) : NULL;
-}
-
-static PyObject *new_in_offset(UNUSED(type), PyObject *const *given, Py_ssize_t count)
-{
-    PyObject *day, *clock, *at;
-    return take("new_in_offset", given, count, "OOO", &day, &clock, &at) ? moment_of(day, clock, at) : NULL;
-}
-
-static PyObject *new_utc(UNUSED(type), PyObject *const *given, Py_ssize_t count)
-{
+    PyObject *given[3];
     fots_date day;
     fots_time clock;
-    return take("new_utc", given, count, "dt", &day, &clock) ? of_moment(moment_type, fots_moment_new(day, clock, utc)) : NULL;
+    fots_offset at;
+    return PyArg_ParseTupleAndKeywords(arguments, named, "OOO:OffsetDateTime", names, &given[0], &given[1], &given[2]) &&
+            take("OffsetDateTime", given, 3, "dto", &day, &clock, &at) ? of_moment(moment_type, fots_moment_new(day, clock, at)) : NULL;
 }
 
 static PyObject *from_unix_timestamp(UNUSED(type), PyObject *object)
@@ -253,8 +190,6 @@ DEFINE(NONE, unix_duration, MOMENT, fots_moment_unix_time, of_duration, )
 
 static PyMethodDef moment_methods[] = {
     OTHER_METHODS,
-    METHOD("new_in_offset", new_in_offset, METH_FASTCALL | METH_STATIC, "(date: Date, time: Time, offset: UtcOffset) -> OffsetDateTime\nCreates the date-time of a date, a time of day and an offset."),
-    METHOD("new_utc", new_utc, METH_FASTCALL | METH_STATIC, "(date: Date, time: Time) -> OffsetDateTime\nCreates the date-time of a date and a time of day at UTC."),
     METHOD("from_unix_timestamp", from_unix_timestamp, METH_O | METH_STATIC, "(timestamp: SupportsIndex) -> OffsetDateTime\nCreates the date-time at UTC of Unix seconds."),
     METHOD("from_unix_duration", from_unix_duration, METH_O | METH_STATIC, "(duration: SignedDuration) -> OffsetDateTime\nCreates the date-time at UTC of a Unix time."),
     METHOD("to_offset", to_offset, METH_O, "(self, offset: UtcOffset) -> OffsetDateTime\nReturns the same instant at another offset, or raises OverflowError."),

@@ -94,35 +94,6 @@ static PyObject *of_adjusted(fots_adjusted_time_result result)
     M(DURATION, adjusting_sub, TIME, fots_time_adjusting_sub, of_adjusted, "(self, duration: SignedDuration) -> tuple[int, Time]\nReturns a carry of -1, 0 or 1 days beyond whole days, and the time a duration earlier.")
 TIME_METHODS(DEFINE)
 
-static PyObject *time_add(PyObject *self, PyObject *other)
-{
-    if (Py_TYPE(self) != time_type || Py_TYPE(other) != duration_type) {
-        return new_reference(Py_NotImplemented);
-    }
-    return of_time(fots_time_add(TIME(self), DURATION(other)));
-}
-
-static PyObject *time_subtract(PyObject *self, PyObject *other)
-{
-    if (Py_TYPE(self) == time_type && Py_TYPE(other) == time_type) {
-        return of_duration(fots_time_difference(TIME(self), TIME(other)));
-    }
-    if (Py_TYPE(self) != time_type || Py_TYPE(other) != duration_type) {
-        return new_reference(Py_NotImplemented);
-    }
-    return of_time(fots_time_sub(TIME(self), DURATION(other)));
-}
-
-static PyObject *time_compare(PyObject *self, PyObject *other, int operation)
-{
-    if (Py_TYPE(other) != time_type) {
-        return new_reference(Py_NotImplemented);
-    }
-    return ordered((TIME(self) > TIME(other)) - (TIME(self) < TIME(other)), operation);
-}
-
-static Py_hash_t time_hash(PyObject *self) { return hash_of(TIME(self), 2); }
-
 /* Returns the text, such as 9:05:00.12. */
 static PyObject *time_text(PyObject *self)
 {
@@ -174,8 +145,7 @@ int add_time(PyObject *module)
         {Py_tp_doc, "Time(hour=0, minute=0, second=0, nanosecond=0): a time of day, from MIDNIGHT to MAX, 23:59:59.999999999.\n\n"
                     "+ and - with a SignedDuration wrap around midnight; times have a SignedDuration between them."},
         {Py_tp_new, time_new}, {Py_tp_dealloc, value_free}, {Py_tp_methods, time_methods}, {Py_tp_getset, time_properties},
-        {Py_tp_str, time_text}, {Py_tp_repr, time_text}, {Py_tp_hash, time_hash}, {Py_tp_richcompare, time_compare},
-        {Py_nb_add, time_add}, {Py_nb_subtract, time_subtract}, {0, NULL},
+        {Py_tp_str, time_text}, {Py_tp_repr, time_text}, OPERATORS, {0, NULL},
     };
     static PyType_Spec spec = {"fotsevindre.Time", sizeof(TimeObject), 0, Py_TPFLAGS_DEFAULT, slots};
     time_type = add_type(module, "Time", &spec);
@@ -229,16 +199,6 @@ static PyObject *is_positive(PyObject *self, UNUSED(none)) { return PyBool_FromL
 static PyObject *is_negative(PyObject *self, UNUSED(none)) { return PyBool_FromLong(OFFSET(self).seconds < 0); }
 static PyObject *negative(PyObject *self) { return of_offset(fots_offset_neg(OFFSET(self))); }
 
-static PyObject *offset_compare(PyObject *self, PyObject *other, int operation)
-{
-    if (Py_TYPE(other) != offset_type) {
-        return new_reference(Py_NotImplemented);
-    }
-    return ordered((OFFSET(self).seconds > OFFSET(other).seconds) - (OFFSET(self).seconds < OFFSET(other).seconds), operation);
-}
-
-static Py_hash_t offset_hash(PyObject *self) { return hash_of((uint64_t)OFFSET(self).seconds, 3); }
-
 /* Returns the text, such as -05:30:00. */
 static PyObject *offset_text(PyObject *self)
 {
@@ -269,7 +229,7 @@ int add_offset(PyObject *module)
     static PyType_Slot slots[] = {
         {Py_tp_doc, "UtcOffset(hours=0, minutes=0, seconds=0): an offset from UTC, from -25:59:59 to +25:59:59, positive to the east."},
         {Py_tp_new, offset_new}, {Py_tp_dealloc, value_free}, {Py_tp_methods, offset_methods}, {Py_tp_str, offset_text},
-        {Py_tp_repr, offset_text}, {Py_tp_hash, offset_hash}, {Py_tp_richcompare, offset_compare}, {Py_nb_negative, negative}, {0, NULL},
+        {Py_tp_repr, offset_text}, OPERATORS, {Py_nb_negative, negative}, {0, NULL},
     };
     static PyType_Spec spec = {"fotsevindre.UtcOffset", sizeof(OffsetObject), 0, Py_TPFLAGS_DEFAULT, slots};
     fots_offset zero = {0};

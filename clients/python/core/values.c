@@ -298,29 +298,6 @@ PyObject *list_of(const fots_date *days, size_t length)
 
 /* ---- what all values have */
 
-/* Returns the result of a comparison for the order -1, 0 or 1. */
-PyObject *ordered(int order, int operation)
-{
-    int result = 0;
-    switch (operation) {
-    case Py_EQ: result = order == 0; break;
-    case Py_NE: result = order != 0; break;
-    case Py_LT: result = order < 0; break;
-    case Py_LE: result = order <= 0; break;
-    case Py_GT: result = order > 0; break;
-    case Py_GE: result = order >= 0; break;
-    }
-    return PyBool_FromLong(result);
-}
-
-/* Mixes the bits of a number. The kind keeps values of other types apart. */
-Py_hash_t hash_of(uint64_t number, uint64_t kind)
-{
-    uint64_t mixed = (number ^ kind << 56) * UINT64_C(0x9e3779b97f4a7c15);
-    Py_hash_t hash = (Py_hash_t)(mixed ^ mixed >> 32);
-    return hash == -1 ? -2 : hash;
-}
-
 PyObject *value_format(PyObject *self, PyObject *specification)
 {
     PyObject *text = PyObject_Str(self), *formatted = text ? PyObject_Format(text, specification) : NULL;

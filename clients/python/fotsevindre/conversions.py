@@ -236,6 +236,11 @@ def _to_datetime(self: Any, timezone: datetime.timezone | None) -> datetime.date
 
 @_adds_to(PlainDateTime)
 class _PlainMethods:
+    @staticmethod
+    def new(date: Date, time: Time) -> PlainDateTime:
+        """Creates the date-time of a date and a time of day."""
+        return PlainDateTime(date, time)
+
     def to_datetime(self: Any) -> datetime.datetime:
         """Converts to a `datetime.datetime` without a time zone; errors like `Date.to_date` and `Time.to_time`."""
         return _to_datetime(self, None)
@@ -255,6 +260,16 @@ class _PlainMethods:
 
 @_adds_to(OffsetDateTime)
 class _MomentMethods:
+    @staticmethod
+    def new_in_offset(date: Date, time: Time, offset: UtcOffset) -> OffsetDateTime:
+        """Creates the date-time of a date, a time of day and an offset."""
+        return OffsetDateTime(date, time, offset)
+
+    @staticmethod
+    def new_utc(date: Date, time: Time) -> OffsetDateTime:
+        """Creates the date-time of a date and a time of day at UTC."""
+        return OffsetDateTime(date, time, UtcOffset.UTC)
+
     def to_datetime(self: Any) -> datetime.datetime:
         """Converts to a `datetime.datetime` in the `datetime.timezone` of the offset; errors like its parts."""
         return _to_datetime(self, self.offset.to_timezone())
