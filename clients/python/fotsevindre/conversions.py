@@ -190,18 +190,14 @@ class _OffsetMethods:
 # ---- date-times
 
 
-def _parts(self: Any, date: dict[str, Any], time: dict[str, Any]) -> Any:
-    """Returns a date-time with other components of its date and time."""
-    return self.replace_date(self.date().replace(**date)).replace_time(self.time().replace(**time))
-
-
 @_adds_to(PlainDateTime, OffsetDateTime)
 class _DateTimeMethods:
     def replace(self: Any, *, year: SupportsIndex | None = None, month: SupportsIndex | None = None, day: SupportsIndex | None = None,
                 hour: SupportsIndex | None = None, minute: SupportsIndex | None = None, second: SupportsIndex | None = None,
                 nanosecond: SupportsIndex | None = None) -> Any:
         """Replaces the components that are given by name."""
-        return _parts(self, {"year": year, "month": month, "day": day}, {"hour": hour, "minute": minute, "second": second, "nanosecond": nanosecond})
+        date = self.date().replace(year=year, month=month, day=day)
+        return self.replace_date(date).replace_time(self.time().replace(hour=hour, minute=minute, second=second, nanosecond=nanosecond))
 
     def isoformat(self: Any) -> str:
         """Returns the text of `datetime.isoformat`, with nine digits if there are nanoseconds."""
@@ -344,7 +340,7 @@ def _offset(text: str) -> UtcOffset:
     if len(text) not in (6, 9):
         raise ParseError(min(len(text), 9), len(text) < 9)
     sign = -1 if text[0] == "-" else 1
-    return UtcOffset.from_whole_seconds(0) if not text.strip("+-0:") else UtcOffset.from_hms(*(sign * int(part) for part in text[1:].split(":")), *[0] * (len(text) == 6))
+    return UtcOffset(*(sign * int(part) for part in text[1:].split(":")))
 
 
 def _separator(text: str) -> int:
