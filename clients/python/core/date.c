@@ -67,7 +67,7 @@ static PyObject *parsed(PyObject *text, fots_parse_date_result call(const char *
 {
     Py_ssize_t size = 0;
     size_t length;
-    const char *start = Py_TYPE(text) == &PyUnicode_Type ? PyUnicode_AsUTF8AndSize(text, &size) : NULL;
+    const char *start = PyUnicode_Check(text) ? PyUnicode_AsUTF8AndSize(text, &size) : NULL;
     PyObject *bytes = NULL;
     fots_parse_date_result result;
     length = (size_t)size;

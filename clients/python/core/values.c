@@ -143,7 +143,7 @@ static int read_number(PyObject *object, const char *name, int64_t *number)
 
 int to_duration(PyObject *object, fots_duration *duration)
 {
-    int64_t days, seconds, microseconds;
+    int64_t days, seconds, microseconds, nanoseconds = 0;
     if (Py_TYPE(object) == duration_type) {
         *duration = DURATION(object);
         return 1;
@@ -151,10 +151,12 @@ int to_duration(PyObject *object, fots_duration *duration)
     if (PyObject_IsInstance(object, timedelta_type) != 1) {
         return PyErr_Occurred() ? -1 : 0;
     }
-    if (!read_number(object, "days", &days) || !read_number(object, "seconds", &seconds) || !read_number(object, "microseconds", &microseconds)) {
+    if (!read_number(object, "days", &days) || !read_number(object, "seconds", &seconds) || !read_number(object, "microseconds", &microseconds) ||
+        /* A timedelta of pandas has nanoseconds, too. */
+        (PyObject_HasAttrString(object, "nanoseconds") && !read_number(object, "nanoseconds", &nanoseconds))) {
         return -1;
     }
-    *duration = fots_duration_new(days * 86400 + seconds, (int32_t)microseconds * 1000).duration;
+    *duration = fots_duration_new(days * 86400 + seconds, (int32_t)microseconds * 1000 + (int32_t)nanoseconds).duration;
     return 1;
 }
 
@@ -178,7 +180,7 @@ PyObject *raise_position(int32_t status, size_t position, uint32_t part)
 
 PyObject *bytes_of(PyObject *text, const char **start, size_t *length)
 {
-    PyObject *bytes = is_kind(text, &PyUnicode_Type) ? PyUnicode_AsEncodedString(text, "utf-8", "surrogatepass") : NULL;
+    PyObject *bytes = PyUnicode_Check(text) || is_kind(text, &PyUnicode_Type) ? PyUnicode_AsEncodedString(text, "utf-8", "surrogatepass") : NULL;
     *start = bytes ? PyBytes_AsString(bytes) : NULL;
     *length = bytes ? (size_t)PyBytes_Size(bytes) : 0;
     return bytes;

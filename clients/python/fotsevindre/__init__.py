@@ -7,7 +7,7 @@ The names are those of the Rust crate `time`. The results come from a proved lib
     2025-03-01
     >>> Date(2023, 2, 29)
     Traceback (most recent call last):
-    fotsevindre.errors.ComponentRange: day was not in range
+    fotsevindre.ComponentRange: day was not in range
 
 A component out of range raises `ComponentRange`, an invalid text `ParseError` or `ParseRuleError`. If a result is out of range, calls named
 `checked_*`, and others that say so, return `None`, and operators and other calls raise `OverflowError`. A value of the wrong type raises
@@ -48,3 +48,7 @@ __all__ = [
     "moments_texts", "parse_rfc3339", "parse_unix", "rfc3339_text", "status_error", "sub_from_pair", "unix_duration", "unix_pair",
     "unix_text", "weeks_in_year",
 ]
+
+# Names in errors and pickles are those of the package.
+for _name in __all__:
+    globals()[_name].__module__ = __name__

@@ -109,7 +109,7 @@ class _DurationMethods:
     def from_timedelta(delta: datetime.timedelta) -> SignedDuration:
         """Converts a `datetime.timedelta`, exactly."""
         seconds, rest = _cut(_is(delta, datetime.timedelta) // datetime.timedelta(microseconds=1), 10**6)
-        return SignedDuration.new(seconds, rest * 1000)
+        return SignedDuration.new(seconds, rest * 1000 + getattr(delta, "nanoseconds", 0))
 
     def to_timedelta(self: Any) -> datetime.timedelta:
         """Converts to a `datetime.timedelta`. Raises `OverflowError` out of its range, and `ValueError` for nanoseconds."""

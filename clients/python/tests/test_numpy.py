@@ -134,6 +134,7 @@ class Numpy(unittest.TestCase):
     def test_numbers_of_numpy(self):
         date = Date.from_calendar_date(numpy.int32(2024), numpy.uint8(2), numpy.int64(29))
         self.assertEqual((date, date.replace_day(numpy.int16(1))), (Date.parse("2024-02-29"), Date.parse("2024-02-01")))
+        self.assertEqual(Date.parse(numpy.str_("2024-02-29")), date)
 
 
 if __name__ == "__main__":

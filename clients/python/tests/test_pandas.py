@@ -6,7 +6,7 @@ import numpy
 import pandas
 
 import fotsevindre
-from fotsevindre import Date, Workdays
+from fotsevindre import Date, SignedDuration, Workdays
 
 
 class Pandas(unittest.TestCase):
@@ -29,6 +29,12 @@ class Pandas(unittest.TestCase):
         between = fotsevindre.dates_workdays_between(self.DAYS, Date(2025, 1, 1), Workdays())
         wanted = numpy.busday_count(self.DAYS.dropna().to_numpy().astype("datetime64[D]"), numpy.datetime64("2025-01-01"))
         self.assertEqual((list(between.numbers[["a", "c"]]), between.numbers["b"]), (list(wanted), -2**31))
+
+    def test_timedeltas(self):
+        self.assertEqual(Date(2024, 2, 29) + pandas.Timedelta(days=1), Date(2024, 3, 1))
+        self.assertEqual(SignedDuration.from_timedelta(pandas.Timedelta(nanoseconds=-1)), -SignedDuration.NANOSECOND)
+        with self.assertRaises(ValueError):
+            Date(2024, 2, 29) + pandas.Timedelta(days=1, nanoseconds=1)
 
     def test_what_is_refused(self):
         noon = pandas.Series(pandas.to_datetime(["2024-02-29 12:00"]))

@@ -15,7 +15,7 @@ import re
 import unittest
 
 import fotsevindre
-from fotsevindre import columns, enums, errors, schedules, sequences
+from fotsevindre import columns
 from fotsevindre import (
     ComponentRange, Date, Month, SignedDuration, Time, ParseError, UtcOffset, Weekday, add_to_pair, days_in_month, days_in_year,
     days_in_year_month, is_leap_year, parse_rfc3339, parse_unix, rfc3339_text, sub_from_pair, unix_duration, unix_pair, unix_text,
@@ -1237,8 +1237,7 @@ class Habits(Cases):
 
 
 def load_tests(loader, tests, _pattern):
-    for module in (fotsevindre, columns, enums, errors, schedules, sequences):
-        tests.addTests(doctest.DocTestSuite(module))
+    tests.addTests(doctest.DocTestSuite(fotsevindre))
     tests.addTests(doctest.DocFileSuite("../../../README.md", "../../../docs/PYTHON.md", encoding="utf-8"))
     return tests
 
