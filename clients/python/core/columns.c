@@ -1,10 +1,12 @@
-/* Calls over whole columns. The file columns.py prepares them; this file checks that each has the numbers that C expects. */
+/* Calls over whole columns. The file columns.py prepares them; this file checks that each has
+ * the numbers that C expects. */
 #include <string.h>
 
 #include "core.h"
 
 #if Py_LIMITED_API < 0x030B0000
-/* These are in the limited API from 3.11 on. Python 3.10 has the same ones, with the same struct. */
+/* These are in the limited API from 3.11 on. Python 3.10 has the same ones, with the same
+ * struct. */
 typedef struct {
     void *buf;
     PyObject *obj;
@@ -59,8 +61,8 @@ CALL(moments_parse, IN(0, char), IN(1, int32_t), OUT(2, int32_t), OUT(3, uint64_
 CALL(dates_calendar_texts, IN(0, int32_t), OUT(1, char), OUT(2, int32_t), OUT(3, uint8_t))
 CALL(moments_texts, IN(0, int32_t), IN(1, uint64_t), IN(2, int32_t), OUT(3, char), OUT(4, int32_t), OUT(5, uint8_t))
 
-/* The calls, and the numbers of the columns that they read and write, by the letters of the module array. A "W" is a column of
- * weekdays: Monday is 0 in Python, and 1 in C. */
+/* The calls, and the numbers of the columns that they read and write, by the letters of the
+ * module array. A "W" is a column of weekdays: Monday is 0 in Python, and 1 in C. */
 static const struct Call {
     const char *name, *reads, *writes;
     size_t (*call)(const Columns *columns);

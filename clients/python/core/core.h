@@ -1,4 +1,5 @@
-/* What the files of the extension share: the values of Python, and what converts from and to them. */
+/* What the files of the extension share: the values of Python, and what converts from and to
+ * them. */
 #ifndef FOTSEVINDRE_CORE_H
 #define FOTSEVINDRE_CORE_H
 
@@ -58,22 +59,25 @@ extern PyObject *month_type, *weekday_type, *months[13], *weekdays[8], *status_e
 
 int is_kind(PyObject *object, PyTypeObject *type);
 int is_member(PyObject *object, PyObject *type);
-/* Converts the arguments of a call by letters: s for a year or a part of an offset, u for a component, l for a number of 64 bits, x and y
- * for an int of 64 and 32 bits, n for one of 32 without a sign, w for a Weekday; d, t, o, D for a Date, a Time, an UtcOffset, a SignedDuration; O for any
- * object. */
+/* Converts the arguments of a call by letters: s for a year or a part of an offset, u for a
+ * component, l for a number of 64 bits, x and y for an int of 64 and 32 bits, n for one of 32
+ * without a sign, w for a Weekday; d, t, o, D for a Date, a Time, an UtcOffset, a
+ * SignedDuration; O for any object. */
 int take(const char *name, PyObject *const *given, Py_ssize_t count, const char *letters, ...);
-/* Converts an int. One that the bits of C don't hold becomes a number that each call rejects by its name, or the nearest one. */
+/* Converts an int. One that the bits of C don't hold becomes a number that each call rejects by
+ * its name, or the nearest one. */
 int to_component(PyObject *object, uint32_t *number);
 int to_signed(PyObject *object, int32_t *number);
 int to_long(PyObject *object, int64_t *number);
 int to_nearest(PyObject *object, int32_t *number);
-/* Converts an int from least to greatest, or raises OverflowError. */
-int to_number(PyObject *object, int64_t least, int64_t greatest, int64_t *number);
+/* Converts an int from minimum to maximum, or raises OverflowError. */
+int to_number(PyObject *object, int64_t minimum, int64_t maximum, int64_t *number);
 int to_int32(PyObject *object, int32_t *number);
 int to_weekday(PyObject *object, uint32_t *number);
 /* Changes each component that is given, and not None. */
 int change(PyObject *object, uint32_t *number);
-/* Returns 1 and the duration of a SignedDuration or a timedelta, 0 for others, or -1 after an error. */
+/* Returns 1 and the duration of a SignedDuration or a timedelta, 0 for others, or -1 after an
+ * error. */
 int to_duration(PyObject *object, fots_duration *duration);
 
 /* ---- results: each returns a new reference, or raises the error of the status */
@@ -81,8 +85,8 @@ int to_duration(PyObject *object, fots_duration *duration);
 PyObject *raise_status(int32_t status);
 /* Raises the error of a text at a position, in a part of a recurrence. */
 PyObject *raise_position(int32_t status, size_t position, uint32_t part);
-/* Returns the bytes of a str, of which a lone surrogate is a wrong one. Every byte before the first wrong one is ASCII, so its position
- * is the same among the characters. */
+/* Returns the bytes of a str, of which a lone surrogate is a wrong one. Every byte before the
+ * first wrong one is ASCII, so its position is the same among the characters. */
 PyObject *bytes_of(PyObject *text, const char **start, size_t *length);
 PyObject *new_date(fots_date date);
 PyObject *new_time(fots_time time);
@@ -137,9 +141,10 @@ extern PyMethodDef functions[], unit_functions[], column_functions[], recurrence
 
 /* ---- tables of methods
  *
- * A list of methods is a macro with a line for each: M(FORM, name, value, call, make, doc) passes what `self` holds, and what its
- * form says, to a call of C. It is expanded twice: by DEFINE to functions, by ENTRY to rows of the table. Each
- * doc starts with a line of types, from which clients/python/stubs makes the stub of the module. */
+ * A list of methods is a macro with a line for each: M(FORM, name, value, call, make, doc)
+ * passes what `self` holds, and what its form says, to a call of C. It is expanded twice: by
+ * DEFINE to functions, by ENTRY to rows of the table. Each doc starts with a line of types, from
+ * which clients/python/stubs makes the stub of the module. */
 
 #define UNUSED(name) PyObject *Py_UNUSED(name)
 #define METHOD(name, function, flags, doc) {name, (PyCFunction)(void (*)(void))function, flags, doc}

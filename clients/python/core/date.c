@@ -231,7 +231,7 @@ int add_date(PyObject *module)
         {Py_tp_repr, text}, OPERATORS, {0, NULL},
     };
     static PyType_Spec spec = {"fotsevindre.Date", sizeof(DateObject), 0, Py_TPFLAGS_DEFAULT, slots};
-    fots_date least = {FOTS_MIN_JULIAN_DAY}, greatest = {FOTS_MAX_JULIAN_DAY};
+    fots_date minimum = {FOTS_MIN_JULIAN_DAY}, maximum = {FOTS_MAX_JULIAN_DAY};
     date_type = add_type(module, "Date", &spec);
-    return date_type && set_constant(date_type, "MIN", new_date(least)) && set_constant(date_type, "MAX", new_date(greatest));
+    return date_type && set_constant(date_type, "MIN", new_date(minimum)) && set_constant(date_type, "MAX", new_date(maximum));
 }

@@ -79,12 +79,12 @@ static PyObject *days_in_year_month(UNUSED(module), PyObject *const *given, Py_s
 }
 
 /* Returns the month (12) or the weekday (7) some places after or before. */
-#define NTH(function, make, least, call) \
+#define NTH(function, make, minimum, call) \
     static PyObject *function(UNUSED(module), PyObject *const *given, Py_ssize_t count) \
     { \
         uint32_t number; \
         int64_t n; \
-        return take(#function, given, count, "un", &number, &n) ? make(call(number + least, (uint32_t)n)) : NULL; \
+        return take(#function, given, count, "un", &number, &n) ? make(call(number + minimum, (uint32_t)n)) : NULL; \
     }
 NTH(month_nth_next, of_month, 0, fots_month_nth_next)
 NTH(month_nth_prev, of_month, 0, fots_month_nth_prev)

@@ -14,7 +14,8 @@ static int members(PyObject *type, PyObject **into, long first, long last, long 
     return 1;
 }
 
-/* Takes what is in Python: Month, Weekday, Convention, DayCount, Period, YearFraction, status_error and timedelta. */
+/* Takes what is in Python: Month, Weekday, Convention, DayCount, Period, YearFraction,
+ * status_error and timedelta. */
 static PyObject *setup(UNUSED(module), PyObject *const *given, Py_ssize_t count)
 {
     PyObject **const held[] = {&month_type, &weekday_type, &convention_type, &day_count_type, &period_type, &fraction_type, &status_error,

@@ -130,10 +130,10 @@ static int add_plain(PyObject *module)
         {Py_tp_new, plain_new}, {Py_tp_methods, plain_methods}, {Py_tp_getset, properties}, COMMON_SLOTS, {0, NULL},
     };
     static PyType_Spec spec = {"fotsevindre.PlainDateTime", sizeof(MomentObject), 0, Py_TPFLAGS_DEFAULT, slots};
-    fots_moment least = {{FOTS_MIN_JULIAN_DAY}, {0}, 0}, greatest = {{FOTS_MAX_JULIAN_DAY}, {0}, FOTS_MAX_TIME};
+    fots_moment minimum = {{FOTS_MIN_JULIAN_DAY}, {0}, 0}, maximum = {{FOTS_MAX_JULIAN_DAY}, {0}, FOTS_MAX_TIME};
     plain_type = add_type(module, "PlainDateTime", &spec);
-    return plain_type && set_constant(plain_type, "MIN", new_moment(plain_type, least)) &&
-        set_constant(plain_type, "MAX", new_moment(plain_type, greatest));
+    return plain_type && set_constant(plain_type, "MIN", new_moment(plain_type, minimum)) &&
+        set_constant(plain_type, "MAX", new_moment(plain_type, maximum));
 }
 
 /* ---- OffsetDateTime */

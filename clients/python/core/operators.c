@@ -40,7 +40,8 @@ PyObject *value_compare(PyObject *self, PyObject *other, int operation)
 
 static uint64_t mixed(fots_duration duration) { return (uint64_t)duration.seconds * 1000000007 + (uint64_t)duration.nanoseconds; }
 
-/* Mixes the bits of the number of a value; a date-time has that of its instant. Values of other types have other hashes. */
+/* Mixes the bits of the number of a value; a date-time has that of its instant. Values of other
+ * types have other hashes. */
 Py_hash_t value_hash(PyObject *self)
 {
     PyTypeObject *type = Py_TYPE(self);

@@ -3,8 +3,8 @@
 
 /* ---- rules
  *
- * A rule crosses as a tuple: start, until, frequency, interval, week_start, and for months, month_days and weekdays bytes as C
- * has them. */
+ * A rule crosses as a tuple: start, until, frequency, interval, week_start, and for months,
+ * month_days and weekdays bytes as C has them. */
 
 static int rule_of(PyObject *tuple, fots_rule *rule)
 {
@@ -65,7 +65,8 @@ static PyObject *rule_days_after(UNUSED(module), PyObject *const *given, Py_ssiz
 
 /* ---- texts */
 
-/* Returns the numbers of a recurrence: frequency, interval, week_start, until, count, and bytes for its lists. */
+/* Returns the numbers of a recurrence: frequency, interval, week_start, until, count, and bytes
+ * for its lists. */
 static PyObject *recurrence_parse(UNUSED(module), PyObject *text)
 {
     const char *start;

@@ -49,8 +49,8 @@ static int to_int64(PyObject *object, int64_t *number, int *overflow)
     return *number != -1 || *overflow || !PyErr_Occurred();
 }
 
-/* A conversion of an int: of one below least to low, and of one above greatest to high. */
-#define TO(name, type, least, greatest, low, high) \
+/* A conversion of an int: of one below minimum to low, and of one above maximum to high. */
+#define TO(name, type, minimum, maximum, low, high) \
     int name(PyObject *object, type *number) \
     { \
         int64_t wide; \
@@ -58,7 +58,7 @@ static int to_int64(PyObject *object, int64_t *number, int *overflow)
         if (!to_int64(object, &wide, &overflow)) { \
             return 0; \
         } \
-        *number = overflow < 0 || (!overflow && wide < least) ? low : overflow || wide > greatest ? high : (type)wide; \
+        *number = overflow < 0 || (!overflow && wide < minimum) ? low : overflow || wide > maximum ? high : (type)wide; \
         return 1; \
     }
 TO(to_component, uint32_t, 0, UINT32_MAX, UINT32_MAX, UINT32_MAX)
@@ -68,14 +68,14 @@ TO(to_long, int64_t, INT64_MIN, INT64_MAX, INT64_MIN, INT64_MIN)
 
 int change(PyObject *object, uint32_t *number) { return !object || object == Py_None || to_component(object, number); }
 
-int to_number(PyObject *object, int64_t least, int64_t greatest, int64_t *number)
+int to_number(PyObject *object, int64_t minimum, int64_t maximum, int64_t *number)
 {
     int overflow = 0;
     if (!to_int64(object, number, &overflow)) {
         return 0;
     }
-    if (overflow || *number < least || *number > greatest) {
-        PyErr_Format(PyExc_OverflowError, "%S is out of range; expected %lld to %lld", object, (long long)least, (long long)greatest);
+    if (overflow || *number < minimum || *number > maximum) {
+        PyErr_Format(PyExc_OverflowError, "%S is out of range; expected %lld to %lld", object, (long long)minimum, (long long)maximum);
         return 0;
     }
     return 1;

@@ -7,7 +7,8 @@
 
 /* ---- the constructor */
 
-/* Takes a weekmask and the bytes of holidays, which a call of C checks once. Workdays in schedules.py sorts them. */
+/* Takes a weekmask and the bytes of holidays, which a call of C checks once. Workdays in
+ * schedules.py sorts them. */
 static PyObject *workdays_new(PyTypeObject *type, PyObject *arguments, PyObject *Py_UNUSED(named))
 {
     unsigned weekmask;
@@ -44,8 +45,8 @@ static void workdays_free(PyObject *self)
 
 /* ---- the holidays that a call needs
  *
- * C checks all holidays of each call. A call gets only those around its days: if its result is inside that window, the others
- * can't change it. If not, the call is made with all. */
+ * C checks all holidays of each call. A call gets only those around its days: if its result is
+ * inside that window, the others can't change it. If not, the call is made with all. */
 
 typedef struct Window {
     const fots_date *holidays;
@@ -159,8 +160,8 @@ static PyObject *adjust(PyObject *self, PyObject *const *given, Py_ssize_t count
         return NULL;
     }
     convention = (uint32_t)PyLong_AsLong(member);
-    /* A modified convention goes the other way if the first working day is in another month. One outside the window is in
-     * another month, with all holidays too. */
+    /* A modified convention goes the other way if the first working day is in another month. One
+     * outside the window is in another month, with all holidays too. */
     window = window_of(workdays, date.julian_day - NEAR, date.julian_day + NEAR);
     result = fots_date_adjust(date, convention, workdays->weekmask, window.holidays, window.length);
     if (!is_inside(window, result)) {

@@ -31,7 +31,7 @@ def _of_array(values: Any, code: str, of_dates: bool) -> Any:
     """Returns the numbers of an array of numpy, in one piece and in the bits of the code."""
     letter = values.dtype.kind
     if letter == "M" and of_dates:
-        # Not a time is the least number, which is no date.
+        # Not a time is the minimum number, which is no date.
         days = _days_of(values, "datetime")
         values = days + _UNIX_EPOCH
         values[(days < -2**40) | (days > 2**40)] = _NO_DATE
@@ -39,9 +39,9 @@ def _of_array(values: Any, code: str, of_dates: bool) -> Any:
         values = _days_of(values, "timedelta")
     elif letter not in "iu":
         raise TypeError(f"expected a column of integers, not {values.dtype}")
-    least, greatest = _LIMITS[code]
-    if values.ndim == 1 and len(values) and not least <= int(values.min()) <= int(values.max()) <= greatest:
-        raise OverflowError(f"a number in a column is out of range; expected {least} to {greatest}")
+    minimum, maximum = _LIMITS[code]
+    if values.ndim == 1 and len(values) and not minimum <= int(values.min()) <= int(values.max()) <= maximum:
+        raise OverflowError(f"a number in a column is out of range; expected {minimum} to {maximum}")
     return values.astype(code, order="C", copy=False)
 
 

@@ -60,10 +60,10 @@ class Workdays(_core.Workdays):
         return Workdays, (self.weekdays, self.holidays)
 
 
-def _fit(number: SupportsIndex, least: int, greatest: int) -> int:
+def _fit(number: SupportsIndex, minimum: int, maximum: int) -> int:
     number = operator.index(number)
-    if not least <= number <= greatest:
-        raise OverflowError(f"{number} is out of range; expected {least} to {greatest}")
+    if not minimum <= number <= maximum:
+        raise OverflowError(f"{number} is out of range; expected {minimum} to {maximum}")
     return number
 
 
