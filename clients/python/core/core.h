@@ -11,6 +11,9 @@
 
 #include "fotsevindre.h"
 
+/* Names of the extension are seen in it only, so its calls and variables are reached directly. */
+#pragma GCC visibility push(hidden)
+
 typedef struct DateObject {
     PyObject_HEAD
     fots_date value;
@@ -119,7 +122,11 @@ PyObject *list_of(const fots_date *days, size_t length);
 
 /* ---- what all values have */
 
-PyObject *new_reference(PyObject *object);
+static inline PyObject *new_reference(PyObject *object)
+{
+    Py_INCREF(object);
+    return object;
+}
 PyObject *value_compare(PyObject *self, PyObject *other, int operation);
 Py_hash_t value_hash(PyObject *self);
 PyObject *value_add(PyObject *self, PyObject *other);
@@ -139,12 +146,14 @@ int add_moments(PyObject *module);
 int add_workdays_type(PyObject *module);
 extern PyMethodDef functions[], unit_functions[], column_functions[], recurrence_functions[];
 
+#pragma GCC visibility pop
+
 /* ---- tables of methods
  *
  * A list of methods is a macro with a line for each: M(FORM, name, value, call, make, doc)
  * passes what `self` holds, and what its form says, to a call of C. It is expanded twice: by
  * DEFINE to functions, by ENTRY to rows of the table. Each doc starts with a line of types, from
- * which clients/python/stubs makes the stub of the module. */
+ * which `stubs` makes the stub of the module. */
 
 #define UNUSED(name) PyObject *Py_UNUSED(name)
 #define METHOD(name, function, flags, doc) {name, (PyCFunction)(void (*)(void))function, flags, doc}

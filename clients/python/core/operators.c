@@ -3,13 +3,10 @@
 
 #define SIGN(one, other) (((one) > (other)) - ((one) < (other)))
 
-/* Returns -1, 0 or 1 for two values of one type. */
+/* Returns -1, 0 or 1 for two values of one type other than Date. */
 static int order_of(PyObject *one, PyObject *other)
 {
     PyTypeObject *type = Py_TYPE(one);
-    if (type == date_type) {
-        return SIGN(DATE(one).julian_day, DATE(other).julian_day);
-    }
     if (type == time_type) {
         return SIGN(TIME(one), TIME(other));
     }
@@ -22,20 +19,13 @@ static int order_of(PyObject *one, PyObject *other)
 
 PyObject *value_compare(PyObject *self, PyObject *other, int operation)
 {
-    int order, result = 0;
     if (Py_TYPE(other) != Py_TYPE(self)) {
         return new_reference(Py_NotImplemented);
     }
-    order = order_of(self, other);
-    switch (operation) {
-    case Py_EQ: result = order == 0; break;
-    case Py_NE: result = order != 0; break;
-    case Py_LT: result = order < 0; break;
-    case Py_LE: result = order <= 0; break;
-    case Py_GT: result = order > 0; break;
-    case Py_GE: result = order >= 0; break;
+    if (Py_TYPE(self) == date_type) {
+        Py_RETURN_RICHCOMPARE(DATE(self).julian_day, DATE(other).julian_day, operation);
     }
-    return PyBool_FromLong(result);
+    Py_RETURN_RICHCOMPARE(order_of(self, other), 0, operation);
 }
 
 static uint64_t mixed(fots_duration duration) { return (uint64_t)duration.seconds * 1000000007 + (uint64_t)duration.nanoseconds; }

@@ -8,12 +8,6 @@ PyTypeObject *date_type, *time_type, *offset_type, *duration_type, *plain_type, 
 PyObject *month_type, *weekday_type, *months[13], *weekdays[8], *status_error, *timedelta_type, *period_type, *fraction_type,
     *convention_type, *day_count_type;
 
-PyObject *new_reference(PyObject *object)
-{
-    Py_INCREF(object);
-    return object;
-}
-
 /* ---- arguments */
 
 static int wrong_kind(PyObject *object, PyObject *type)
