@@ -1,10 +1,10 @@
-/* Times the cheapest calls and the rows of columns beside a loop without a call. Prints the
- * median in nanoseconds of processor time for each value. Nothing tests it. */
+/* Times the cheapest calls, their inline functions and the rows of columns beside a loop without a
+ * call. Prints the median in nanoseconds of processor time for each value. Nothing tests it. */
 #include <stdio.h>
 #include <stdlib.h>
 #include <time.h>
 
-#include "fotsevindre.h"
+#include "fotsevindre_inline.h"
 
 #define VALUES 4096
 #define PASSES 50
@@ -15,7 +15,8 @@ static fots_offset offsets[VALUES];
 static int64_t days[VALUES];
 static fots_date_result made[VALUES];
 static fots_component_result numbers[VALUES];
-static fots_calendar_date_result calendars[VALUES];
+static fots_calendar_date_result calendars[VALUES], shown[VALUES];
+static fots_iso_week_date_result week_dates[VALUES];
 
 /* Columns. */
 static int32_t julian_days[VALUES], years[VALUES], found[VALUES];
@@ -44,6 +45,9 @@ static void draw(void)
         julian_days[k] = dates[k].julian_day;
         offsets[k].seconds = (int32_t)(drawn() % 187199) - FOTS_MAX_OFFSET_SECONDS;
         days[k] = (int64_t)(drawn() % 20001) - 10000;
+    }
+    for (int k = 0; k < VALUES; k++) {
+        calendars[k] = fots_date_to_calendar_date(dates[k]);
     }
     fots_dates_to_calendar_dates(julian_days, VALUES, years, VALUES, months, VALUES, month_days, VALUES, statuses, VALUES);
 }
@@ -98,9 +102,9 @@ static void column_of_added_days(void)
 static void one_calendar_date(void)
 {
     for (int k = 0; k < VALUES; k++) {
-        calendars[k] = fots_date_to_calendar_date(dates[k]);
+        shown[k] = fots_date_to_calendar_date(dates[k]);
     }
-    keep(calendars[0].year);
+    keep(shown[0].year);
 }
 
 static void column_of_calendar_dates(void)
@@ -124,6 +128,32 @@ static void column_of_calendar_to_week_dates(void)
         weekdays, VALUES, statuses, VALUES));
 }
 
+/* Loops over a call and over its inline function, which store each result. */
+#define PAIR(name, results, call, inlined) \
+    static void name##_called(void) \
+    { \
+        for (int k = 0; k < VALUES; k++) { \
+            results[k] = call; \
+        } \
+        __asm__ volatile("" : : "r"(results) : "memory"); \
+    } \
+    static void name##_inlined(void) \
+    { \
+        for (int k = 0; k < VALUES; k++) { \
+            results[k] = inlined; \
+        } \
+        __asm__ volatile("" : : "r"(results) : "memory"); \
+    }
+
+PAIR(next_day, made, fots_date_next_day(dates[k]), fots_date_next_day_inline(dates[k]))
+PAIR(add_days, made, fots_date_add_days(dates[k], days[k]), fots_date_add_days_inline(dates[k], days[k]))
+PAIR(weekday, numbers, fots_date_weekday(dates[k]), fots_date_weekday_inline(dates[k]))
+PAIR(month, numbers, fots_date_month(dates[k]), fots_date_month_inline(dates[k]))
+PAIR(calendar, shown, fots_date_to_calendar_date(dates[k]), fots_date_to_calendar_date_inline(dates[k]))
+PAIR(week, week_dates, fots_date_to_iso_week_date(dates[k]), fots_date_to_iso_week_date_inline(dates[k]))
+PAIR(date, made, fots_date_from_calendar_date(calendars[k].year, calendars[k].month, calendars[k].day),
+    fots_date_from_calendar_date_inline(calendars[k].year, calendars[k].month, calendars[k].day))
+
 static const struct {
     const char *name;
     void (*run)(void);
@@ -140,6 +170,20 @@ static const struct {
     {"fots_dates_from_calendar_dates, a row", column_from_calendar_dates},
     {"fots_dates_to_iso_week_dates, a row", column_of_week_dates},
     {"fots_calendar_dates_to_iso_week_dates, a row", column_of_calendar_to_week_dates},
+    {"fots_date_next_day, stored", next_day_called},
+    {"the same inlined", next_day_inlined},
+    {"fots_date_add_days, stored", add_days_called},
+    {"the same inlined", add_days_inlined},
+    {"fots_date_weekday, stored", weekday_called},
+    {"the same inlined", weekday_inlined},
+    {"fots_date_month, stored", month_called},
+    {"the same inlined", month_inlined},
+    {"fots_date_to_calendar_date, stored", calendar_called},
+    {"the same inlined", calendar_inlined},
+    {"fots_date_to_iso_week_date, stored", week_called},
+    {"the same inlined", week_inlined},
+    {"fots_date_from_calendar_date, stored", date_called},
+    {"the same inlined", date_inlined},
 };
 
 #define LOOPS ((int)(sizeof(loops) / sizeof(loops)[0]))

@@ -1,8 +1,9 @@
-// Checks the C header in C++: some calls, and an error by its name.
+// Checks the C headers in C++: some calls, an error by its name, and the inline functions.
 #include <cstdio>
 #include <cstring>
 
 #include "fotsevindre.h"
+#include "fotsevindre_inline.h"
 
 namespace {
 
@@ -49,6 +50,21 @@ void chained()
     check(fots_duration_new(duration.seconds, duration.nanoseconds).status == FOTS_OK, "a duration by its numbers");
 }
 
+// Calls each inline function.
+void inlined()
+{
+    const fots_date date = fots_date_from_calendar_date_inline(2024, 2, 29).date;
+    const fots_calendar_date_result calendar = fots_date_to_calendar_date_inline(date);
+    const fots_iso_week_date_result week = fots_date_to_iso_week_date_inline(date);
+    check(date.julian_day == 2460370 && calendar.year == 2024 && calendar.month == 2 && calendar.day == 29, "inline, the calendar");
+    check(week.year == 2024 && week.week == 9 && week.weekday == fots_date_weekday_inline(date).number, "inline, the week");
+    check(fots_date_year_inline(date).number == 2024 && fots_date_month_inline(date).number == 2 && fots_date_day_inline(date).number == 29,
+        "inline, the components");
+    check(fots_date_next_day_inline(date).date.julian_day == 2460371 && fots_date_previous_day_inline(date).date.julian_day == 2460369
+        && fots_date_add_days_inline(date, -366).date.julian_day == 2460004, "inline, moves");
+    check(fots_date_weekday_inline(fots_date_from_calendar_date_inline(2023, 2, 29).date).status == FOTS_INVALID_DATE, "inline, no date");
+}
+
 } // namespace
 
 int main()
@@ -68,6 +84,7 @@ int main()
     const fots_text_result text = fots_date_week_text(parse.date);
     check(text.length == 10 && std::strcmp(text.bytes, "2024-W09-4") == 0, "a week date printed");
     chained();
+    inlined();
     std::printf("calendar in C++: %d failed\n", failed);
     return failed != 0;
 }
