@@ -4,7 +4,7 @@ ghost use Rattle.cal_format.specs.declared.item.Part.{Part};
 ghost use Rattle.cal_format.specs.declared.item.Item.{Item};
 ghost use Rattle.cal_format.specs.Spelling.{part_spelling, percent_spelling, part_description, description, spelling, IsStuck};
 
-use crate::read::after;
+use crate::date_format::after;
 
 /// A part of a date that a format names.
 #[derive(Clone, Copy, Debug, PartialEq, Eq)]

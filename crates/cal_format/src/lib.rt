@@ -6,13 +6,13 @@
 //! after the date.
 #![tactic(auto)]
 
+mod date_format;
 mod fields;
 mod format;
 mod item;
 mod names;
 mod print;
-mod read;
 
+pub use date_format::DateFormat;
 pub use format::{Format, FormatError};
 pub use item::{Item, Part};
-pub use read::DateFormat;

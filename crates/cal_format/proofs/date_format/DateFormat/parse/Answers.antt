@@ -6,8 +6,8 @@ use Rattle.cal_format.specs.declared.item.Item.{Item}
 use Rattle.cal_format.specs.Reading.{are_apart}
 use Rattle.cal_format.specs.Text.{text_of}
 use Rattle.cal_format.proofs.Readings.{found}
-use Rattle.cal_format.proofs.read.DateFormat.parse.Goals as goal
-use Rattle.cal_format.proofs.read.DateFormat.parse.Goals.{then-year-lt0-via-then-year-lt0, then-year-lt0-via-else-year-lt0+then-year-gt9999, then-year-lt0-via-else-year-lt0+else-year-gt9999+then-not-is_text_of}
+use Rattle.cal_format.proofs.date_format.DateFormat.parse.Goals as goal
+use Rattle.cal_format.proofs.date_format.DateFormat.parse.Goals.{then-year-lt0-via-then-year-lt0, then-year-lt0-via-else-year-lt0+then-year-gt9999, then-year-lt0-via-else-year-lt0+else-year-gt9999+then-not-is_text_of}
 
 pub returns-in_err-date-clause-every : goal.returns-in_err-date-clause-every
 returns-in_err-date-clause-every c n date four e =
