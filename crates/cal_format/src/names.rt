@@ -1,0 +1,81 @@
+//! Names of three letters.
+ghost use Rattle.std.specs.Prelude.{◌≡◌, ◌≢◌, ◌≤◌, ◌-◌, ◌∷◌, [], MatchOption, length, take};
+ghost use Rattle.std.specs.Str.{IsAscii};
+ghost use Rattle.cal_time.specs.declared.Month.{Month};
+ghost use Rattle.cal_time.specs.Month.{month_of_index};
+ghost use Rattle.cal_time.specs.Weekday.{weekday_of_index};
+ghost use Rattle.cal_time.specs.Date.{month_at as month_at_day, weekday_at as weekday_at_day};
+ghost use Rattle.cal_format.specs.Names.{short_month, short_weekday};
+
+use cal_time::{Date, Month, Weekday};
+
+/// Returns the month of a date.
+pub(crate) fn month_of_date(date: Date) -> Month
+    ensures { result ≡ month_of_index (month_at_day date - 1) }
+{
+    date.month()
+}
+
+/// Returns the weekday of a date.
+pub(crate) fn weekday_of_date(date: Date) -> Weekday
+    ensures { result ≡ weekday_of_index (weekday_at_day date) }
+{
+    date.weekday()
+}
+
+/// Returns the first three letters of the name of a month, such as `Feb`.
+pub(crate) fn short_month(month: Month) -> &'static [u8; 3]
+    ensures { result.now ≡ short_month month }
+{
+    match month {
+        Month::January => b"Jan",
+        Month::February => b"Feb",
+        Month::March => b"Mar",
+        Month::April => b"Apr",
+        Month::May => b"May",
+        Month::June => b"Jun",
+        Month::July => b"Jul",
+        Month::August => b"Aug",
+        Month::September => b"Sep",
+        Month::October => b"Oct",
+        Month::November => b"Nov",
+        Month::December => b"Dec",
+    }
+}
+
+/// Returns the first three letters of the name of a weekday, such as `Thu`.
+pub(crate) fn short_weekday(weekday: Weekday) -> &'static [u8; 3]
+    ensures { result.now ≡ short_weekday weekday }
+{
+    match weekday {
+        Weekday::Monday => b"Mon",
+        Weekday::Tuesday => b"Tue",
+        Weekday::Wednesday => b"Wed",
+        Weekday::Thursday => b"Thu",
+        Weekday::Friday => b"Fri",
+        Weekday::Saturday => b"Sat",
+        Weekday::Sunday => b"Sun",
+    }
+}
+
+/// Returns the month whose name begins with these letters.
+pub(crate) fn month_of(first: u8, second: u8, third: u8) -> Option<Month>
+    ensures { MatchOption result ((m : Month) → short_month m ≢ first ∷ second ∷ third ∷ [])
+        (λ m. short_month m ≡ first ∷ second ∷ third ∷ []) }
+{
+    match (first, second, third) {
+        (b'J', b'a', b'n') => Some(Month::January),
+        (b'F', b'e', b'b') => Some(Month::February),
+        (b'M', b'a', b'r') => Some(Month::March),
+        (b'A', b'p', b'r') => Some(Month::April),
+        (b'M', b'a', b'y') => Some(Month::May),
+        (b'J', b'u', b'n') => Some(Month::June),
+        (b'J', b'u', b'l') => Some(Month::July),
+        (b'A', b'u', b'g') => Some(Month::August),
+        (b'S', b'e', b'p') => Some(Month::September),
+        (b'O', b'c', b't') => Some(Month::October),
+        (b'N', b'o', b'v') => Some(Month::November),
+        (b'D', b'e', b'c') => Some(Month::December),
+        _ => None,
+    }
+}
