@@ -1,31 +1,42 @@
--- What a format prints of a day.
-use Rattle.std.specs.Prelude.{decimal, ℕ, ◌-◌, List, [], ◌∷◌}
+-- What a format prints of a moment.
+use Rattle.std.specs.Prelude.{decimal, ℕ, ◌-◌, List, [], ◌∷◌, ◌++◌, take, length, replicate}
 use Rattle.std.specs.List.{flat_map}
-use Rattle.cal_time.specs.Date.{year_at, month_at, day_of_month_at, ordinal_at, weekday_at}
-use Rattle.cal_time.specs.DateText.{digits_at_least, year_text}
-use Rattle.cal_time.specs.Month as month
-use Rattle.cal_time.specs.Weekday as weekday
+use Rattle.cal_time.specs.Date.{year_at}
+use Rattle.cal_time.specs.IsoWeekDate.{iso_year_at}
+use Rattle.cal_time.specs.DateText.{digits_at_least, sign_text}
+use Rattle.cal_time.specs.Digits.{nine_digits}
+use Rattle.cal_time.specs.Time.{nanosecond_of}
+use Rattle.cal_time.specs.UtcOffset as offset
 use Rattle.cal_format.specs.declared.item.Item.{Item}
 use Rattle.cal_format.specs.declared.item.Item.TheVariants as item
-use Rattle.cal_format.specs.declared.item.Part.{Part}
-use Rattle.cal_format.specs.declared.item.Part.TheVariants.{Year, Month, Day, UnpaddedDay, Ordinal, MonthName, ShortMonth, ShortWeekday}
-use Rattle.cal_format.specs.Names.{short_month, short_weekday}
+use Rattle.cal_format.specs.declared.item.Padding.{Padding}
+use Rattle.cal_format.specs.declared.item.Padding.TheVariants as padding
+use Rattle.cal_format.specs.declared.item.Component.{Component}
+use Rattle.cal_format.specs.declared.item.Component.TheVariants.{Year, Century, IsoYear}
+use Rattle.cal_format.specs.declared.moment.Moment.{Moment}
+use Rattle.cal_format.specs.Moment.{number, width}
+use Rattle.cal_format.specs.Names.{name_text}
 
--- of a part, on day n
-abbrev pub part_text : Part → ℕ → List ℕ
-part_text Year n = year_text (year_at n)
-part_text Month n = digits_at_least 2 (month_at n)
-part_text Day n = digits_at_least 2 (day_of_month_at n)
-part_text UnpaddedDay n = decimal (day_of_month_at n)
-part_text Ordinal n = digits_at_least 3 (ordinal_at n)
-part_text MonthName n = month.name (month.month_of_index (month_at n - 1))
-part_text ShortMonth n = short_month (month.month_of_index (month_at n - 1))
-part_text ShortWeekday n = short_weekday (weekday.weekday_of_index (weekday_at n))
+-- A year outside 0 to 9999 has a sign before its digits.
+abbrev pub sign : Component → Moment → List ℕ
+sign Year v = sign_text (year_at v.date)
+sign Century v = sign_text (year_at v.date)
+sign IsoYear v = sign_text (iso_year_at v.date)
+sign _ v = []
 
-abbrev pub item_text : ℕ → Item → List ℕ
-item_text n (item.Byte b) = b ∷ []
-item_text n (item.Part p) = part_text p n
+-- A number with fewer digits than its width has zeros before it, or spaces, or nothing.
+abbrev pub padded : Padding → ℕ → ℕ → List ℕ
+padded padding.Zero w n = digits_at_least w n
+padded padding.Space w n = replicate (w - length (decimal n)) 32 ++ decimal n
+padded padding.None w n = decimal n
 
--- of items in a row
-abbrev pub text_of : List Item → ℕ → List ℕ
-text_of items n = flat_map (item_text n) items
+abbrev pub item_text : Moment → Item → List ℕ
+item_text v (item.Literal b) = b ∷ []
+item_text v (item.Number c p) = sign c v ++ padded p (width c) (number c v)
+item_text v (item.Name k) = name_text k v
+item_text v (item.Fraction d) = take d (nine_digits (nanosecond_of v.time))
+item_text v item.OffsetSign = offset.sign v.offset
+
+-- Items print one after the other.
+abbrev pub text_of : List Item → Moment → List ℕ
+text_of items v = flat_map (item_text v) items

@@ -1,232 +1,295 @@
-//! The numbers of a text.
-ghost use Rattle.std.specs.Prelude.{◌≡◌, ◌≢◌, ℕ, ◌+◌, ◌<◌, ◌≤◌, ◌*◌, ◌/◌, ◌%◌, ◌++◌, ◌∷◌, [], List, Some, IfSome, length, fold, get_or, decimal, IsTrue, SomeIff, ◌-◌};
-ghost use Rattle.cal_time.specs.DateText.{digits_at_least};
-ghost use Rattle.cal_time.specs.Month.{number};
+//! The numbers that a text has for components.
+ghost use Rattle.std.specs.Prelude.{◌≡◌, ℕ, ◌+◌, ◌-◌, ◌<◌, ◌≤◌, ◌^◌, ◌==◌, ◌++◌, ◌∷◌, [], List, length, take, fold, get_or, decimal, replicate, min, Some, IsTrue, if◌then◌else◌};
 ghost use Rattle.cal_time.specs.declared.Month.{Month};
-ghost use Rattle.cal_format.specs.Names.{short_month};
-ghost use Rattle.cal_format.specs.Text.{text_of};
-ghost use Rattle.cal_format.specs.Reading.{noted_item, HasFourDigits, BeginsApart, are_apart};
+ghost use Rattle.cal_time.specs.declared.Weekday.{Weekday};
+ghost use Rattle.cal_time.specs.Month.{number as month_number, name as month_name};
+ghost use Rattle.cal_time.specs.Weekday.{index as weekday_index, name as weekday_name};
+ghost use Rattle.cal_format.specs.declared.item.Component.{Component};
+ghost use Rattle.cal_format.specs.declared.item.Padding.TheVariants as paddings;
+ghost use Rattle.cal_format.specs.declared.moment.Moment.{Moment};
+ghost use Rattle.cal_format.specs.Moment.{number, IsMoment};
+ghost use Rattle.cal_format.specs.Names.{short_month, short_weekday, name_text};
+ghost use Rattle.cal_format.specs.Text.{padded, item_text, text_of};
+ghost use Rattle.cal_format.specs.Reading.{index, name_component, shows, any_shows, varies, are_apart};
+ghost use Rattle.cal_format.specs.Scanning.{number_at, step, BeginsApart, AreDigits, IsHeld, AreHeld};
 
-use crate::item::{Item, Part};
-use crate::names::month_of;
-use cal_time::Month;
+use crate::item::{Component, Item, Name, Padding};
+use crate::names::{month_of, weekday_of};
+use cal_time::{Month, Weekday};
 
-/// The numbers of a text, the last one for each part of a date. All have one width, so that the four
-/// are moved at once.
-#[derive(Clone, Copy)]
+/// The numbers that a text has for components, and 0 for each component without a number.
+#[derive(Drop)]
 pub(crate) struct Fields {
-    pub(crate) year: u16,
-    pub(crate) month: u16,
-    pub(crate) day: u16,
-    pub(crate) ordinal: u16,
+    numbers: [u32; 23],
 }
 
 impl Fields {
-    /// Fields without numbers.
-    pub(crate) const NONE: Fields = Fields {
-        year: 0,
-        month: 0,
-        day: 0,
-        ordinal: 0,
-    };
-
-    ghost use Rattle.cal_format.specs.Text.{part_text, item_text};
-    ghost use Rattle.cal_format.specs.Reading.{noted, noted_item, HasFourDigits, EndsBefore, ItemEndsBefore};
-
-    /// Returns the fields with the number at the front of the text, and the number of its bytes.
-    #[inline(always)]
-    pub(crate) fn with(self, part: Part, text: &[u8]) -> Option<(Fields, usize)>
-        ensures { (n : ℕ) (after : List ℕ) → HasFourDigits n → EndsBefore part after
-            → text.now ≡ part_text part n ++ after
-            → result ≡ Some (noted part n self, length (part_text part n)) }
+    /// Creates fields without numbers.
+    pub(crate) fn new() -> Fields
+        ensures { (c : Component) → number_at c result ≡ 0 }
     {
-        match part {
-            Part::Year => {
-                let year = four_digits(text)?;
-                Some((Fields { year, ..self }, 4))
-            }
-            Part::Month => {
-                let month = two_digits(text)?;
-                Some((Fields { month, ..self }, 2))
-            }
-            Part::Day => {
-                let day = two_digits(text)?;
-                Some((Fields { day, ..self }, 2))
-            }
-            Part::UnpaddedDay => {
-                let (day, used) = one_or_two_digits(text)?;
-                Some((Fields { day, ..self }, used))
-            }
-            Part::Ordinal => {
-                let ordinal = three_digits(text)?;
-                Some((Fields { ordinal, ..self }, 3))
-            }
-            Part::MonthName => {
-                let month = month_at_front(text)?;
-                let number = number_of(month);
-                Some((
-                    Fields {
-                        month: number,
-                        ..self
-                    },
-                    month.name().len(),
-                ))
-            }
-            Part::ShortMonth => {
-                let month = month_at_front(text)?;
-                let number = number_of(month);
-                Some((
-                    Fields {
-                        month: number,
-                        ..self
-                    },
-                    3,
-                ))
-            }
-            Part::ShortWeekday => Some((self, 3)),
-        }
+        Fields { numbers: [0; 23] }
     }
 
-    /// Returns the fields with the number at the front of the text, and the number of bytes of the
-    /// item.
+    /// Returns the number of a component.
     #[inline(always)]
-    fn with_item(self, item: Item, text: &[u8]) -> Option<(Fields, usize)>
-        ensures { (n : ℕ) (after : List ℕ) → HasFourDigits n → ItemEndsBefore item after
-            → text.now ≡ item_text n item ++ after
-            → result ≡ Some (noted_item n self item, length (item_text n item)) }
+    pub(crate) fn get(&self, component: Component) -> u32
+        ensures { result ≡ number_at component self.now }
+    {
+        self.numbers[component.index()]
+    }
+
+    #[inline(always)]
+    fn set(&mut self, component: Component, number: u32)
+        ensures { (c : Component) → number_at c self.new
+            ≡ (if index component == index c then number else number_at c self.old) }
+    {
+        self.numbers[component.index()] = number;
+    }
+
+    /// Sets the number of the item's component, and returns the number of bytes that the text has
+    /// for the item.
+    #[inline(always)]
+    fn set_item(&mut self, item: Item, text: &[u8]) -> usize
+        ensures length { (v : Moment) (after : List ℕ) → IsMoment v → IsHeld v item
+            → (IsTrue (varies item) → BeginsApart after)
+            → text.now ≡ item_text v item ++ after
+            → result ≡ length (item_text v item) }
+        ensures value { (v : Moment) (after : List ℕ) → IsMoment v → IsHeld v item
+            → (IsTrue (varies item) → BeginsApart after)
+            → text.now ≡ item_text v item ++ after
+            → (c : Component) → number_at c self.new
+            ≡ (if shows c item then number c v else number_at c self.old) }
     {
         match item {
-            Item::Byte(_) => Some((self, 1)),
-            Item::Part(part) => self.with(part, text),
+            Item::Literal(_) => 1,
+            Item::Number(component, padding) => {
+                let used = number_length(padding, component.width(), text);
+                self.set(component, value_of(front(text, used), 0));
+                used
+            }
+            Item::Name(name) => {
+                self.set(name.component(), name_number(name, text));
+                name_length(name, text)
+            }
+            Item::Fraction(digits) => {
+                let used = fraction_length(digits);
+                self.set(Component::Nanosecond, fraction_value(front(text, used)));
+                used
+            }
+            Item::OffsetSign => {
+                self.set(Component::OffsetSign, sign_number(text));
+                1
+            }
         }
     }
 }
 
-/// Returns the fields with the numbers of the text.
-pub(crate) fn numbers_of(items: &[Item], text: &[u8], fields: Fields) -> Option<Fields>
-    ensures { (n : ℕ) → HasFourDigits n → IsTrue (are_apart items.now)
-        → text.now ≡ text_of items.now n
-        → result ≡ Some (fold (noted_item n) fields items.now) }
+/// Sets the numbers that the text has for the items. Returns `false` if the text is too short.
+pub(crate) fn set_items(items: &[Item], text: &[u8], fields: &mut Fields) -> bool
+    ensures { (v : Moment) → IsMoment v → AreHeld v items.now → IsTrue (are_apart items.now)
+        → text.now ≡ text_of items.now v
+        → IsTrue result × ((c : Component) → number_at c fields.new
+        ≡ (if any_shows c items.now then number c v else number_at c fields.old)) }
 {
     match items {
-        [] => Some(fields),
+        [] => true,
         [item, others @ ..] => {
-            let (fields, used) = fields.with_item(*item, text)?;
+            let used = fields.set_item(*item, text);
             if used > text.len() {
-                return None;
+                return false;
             }
-            numbers_of(others, &text[used..], fields)
+            set_items(others, &text[used..], fields)
         }
     }
 }
 
-/// Returns the number of a digit.
+/// Returns the first bytes, or all if there are fewer.
 #[inline(always)]
-fn number_of_digit(byte: u8) -> Option<u8>
-    ensures digit { (d : ℕ) → d < 10 → byte ≡ 48 + d → result ≡ Some d }
-    ensures below { IfSome result (λ d. d < 10) }
+fn front(text: &[u8], count: usize) -> &[u8]
+    ensures { result.now ≡ take count text.now }
 {
-    let number = byte.wrapping_sub(48);
-    if number > 9 {
-        return None;
-    }
-    Some(number)
-}
-
-/// Returns the number of two digits.
-#[inline(always)]
-fn number_of_two(tens: u8, ones: u8) -> Option<u16>
-    ensures digits { (m : ℕ) → m < 100 → tens ≡ 48 + m / 10 → ones ≡ 48 + m % 10
-        → result ≡ Some m }
-    ensures below { IfSome result (λ m. m < 100) }
-{
-    let tens = number_of_digit(tens)?;
-    let ones = number_of_digit(ones)?;
-    Some(u16::from(tens) * 10 + u16::from(ones))
-}
-
-/// Returns the number of the digit at a place, or `None` if no digit is there.
-#[inline(always)]
-fn digit_at(text: &[u8], place: usize) -> Option<u8>
-    ensures { SomeIff result ((48 ≤ get_or text.now place 0) × (get_or text.now place 0 ≤ 57))
-        (get_or text.now place 0 - 48) }
-{
-    if place >= text.len() || text[place] < 48 || text[place] > 57 {
-        return None;
-    }
-    Some(text[place] - 48)
-}
-
-/// Returns the number of the first one or two digits, and how many they are.
-fn one_or_two_digits(text: &[u8]) -> Option<(u16, usize)>
-    ensures { (m : ℕ) (after : List ℕ) → m < 100 → BeginsApart after → text.now ≡ decimal m ++ after
-        → result ≡ Some (m, length (decimal m)) }
-{
-    let first = digit_at(text, 0)?;
-    match digit_at(text, 1) {
-        Some(second) => Some((u16::from(first) * 10 + u16::from(second), 2)),
-        None => Some((u16::from(first), 1)),
+    if count < text.len() {
+        &text[..count]
+    } else {
+        text
     }
 }
 
-/// Returns the number of the first two bytes.
+/// Returns the number that digits and spaces spell.
+fn value_of(digits: &[u8], number: u32) -> u32
+    ensures { result ≡ fold step number digits.now }
+{
+    match digits {
+        [] => number,
+        [first, others @ ..] => value_of(
+            others,
+            number.wrapping_mul(10).wrapping_add(u32::from(*first % 16)),
+        ),
+    }
+}
+
+/// Returns the number of bytes of a number at the front of the text.
 #[inline(always)]
-fn two_digits(text: &[u8]) -> Option<u16>
-    ensures { (m : ℕ) (after : List ℕ) → m < 100 → text.now ≡ digits_at_least 2 m ++ after
-        → result ≡ Some m }
+fn number_length(padding: Padding, width: u8, text: &[u8]) -> usize
+    requires { (1 ≤ width) × (width ≤ 9) }
+    ensures value { (n : ℕ) (after : List ℕ) → n < 10 ^ width → n < 2 ^ 32
+        → (padding ≡ paddings.None → BeginsApart after)
+        → text.now ≡ padded padding width n ++ after
+        → result ≡ length (padded padding width n) }
+    ensures max { result ≤ 9 }
+{
+    match padding {
+        Padding::None => digit_count(text, width),
+        Padding::Zero => usize::from(width),
+        Padding::Space => usize::from(width),
+    }
+}
+
+/// Returns the number of digits at the front of the text, at most this many.
+fn digit_count(text: &[u8], most: u8) -> usize
+    ensures digits { (digits after : List ℕ) → AreDigits digits → BeginsApart after
+        → length digits ≤ most → text.now ≡ digits ++ after
+        → result ≡ length digits }
+    ensures max { result ≤ most }
 {
     match text {
-        [tens, ones, ..] => number_of_two(*tens, *ones),
-        _ => None,
-    }
-}
-
-/// Returns the number of the first three bytes.
-#[inline(always)]
-fn three_digits(text: &[u8]) -> Option<u16>
-    ensures { (m : ℕ) (after : List ℕ) → m < 1000 → text.now ≡ digits_at_least 3 m ++ after
-        → result ≡ Some m }
-{
-    match text {
-        [hundreds, tens, ones, ..] => {
-            let front = number_of_digit(*hundreds)?;
-            let back = number_of_two(*tens, *ones)?;
-            Some(u16::from(front) * 100 + back)
+        [] => 0,
+        [first, others @ ..] => {
+            if most == 0 || *first < b'0' || *first > b'9' {
+                return 0;
+            }
+            1 + digit_count(others, most - 1)
         }
-        _ => None,
     }
 }
 
-/// Returns the number of the first four bytes.
-#[inline(always)]
-fn four_digits(text: &[u8]) -> Option<u16>
-    ensures { (m : ℕ) (after : List ℕ) → m < 10000 → text.now ≡ digits_at_least 4 m ++ after
-        → result ≡ Some m }
+fn name_number(name: Name, text: &[u8]) -> u32
+    ensures { (v : Moment) (after : List ℕ) → IsMoment v → text.now ≡ name_text name v ++ after
+        → result ≡ number (name_component name) v }
 {
-    match text {
-        [thousands, hundreds, tens, ones, ..] => {
-            let front = number_of_two(*thousands, *hundreds)?;
-            let back = number_of_two(*tens, *ones)?;
-            Some(front * 100 + back)
-        }
-        _ => None,
+    match name {
+        Name::Month => month_number(text),
+        Name::ShortMonth => month_number(text),
+        Name::Weekday => weekday_number(text),
+        Name::ShortWeekday => weekday_number(text),
+        Name::Period => period_number(text),
     }
 }
 
-fn number_of(month: Month) -> u16
-    ensures { result ≡ number month }
+fn name_length(name: Name, text: &[u8]) -> usize
+    ensures { (v : Moment) (after : List ℕ) → text.now ≡ name_text name v ++ after
+        → result ≡ length (name_text name v) }
 {
-    u16::from(u8::from(month))
+    match name {
+        Name::Month => month_length(text),
+        Name::ShortMonth => 3,
+        Name::Weekday => weekday_length(text),
+        Name::ShortWeekday => 3,
+        Name::Period => 2,
+    }
+}
+
+/// Returns the number of the month whose name the text begins with, or 0.
+fn month_number(text: &[u8]) -> u32
+    ensures { (m : Month) (after : List ℕ) → text.now ≡ short_month m ++ after
+        → result ≡ month_number m }
+{
+    match month_at_front(text) {
+        Some(month) => u32::from(u8::from(month)),
+        None => 0,
+    }
+}
+
+/// Returns the length of the name of the month that the text begins with, or 0.
+fn month_length(text: &[u8]) -> usize
+    ensures { (m : Month) (after : List ℕ) → text.now ≡ short_month m ++ after
+        → result ≡ length (month_name m) }
+{
+    match month_at_front(text) {
+        Some(month) => month.name().len(),
+        None => 0,
+    }
+}
+
+/// Returns the number of the weekday whose name the text begins with, or 0.
+fn weekday_number(text: &[u8]) -> u32
+    ensures { (w : Weekday) (after : List ℕ) → text.now ≡ short_weekday w ++ after
+        → result ≡ weekday_index w + 1 }
+{
+    match weekday_at_front(text) {
+        Some(weekday) => u32::from(weekday.number_days_from_monday()) + 1,
+        None => 0,
+    }
+}
+
+/// Returns the length of the name of the weekday that the text begins with, or 0.
+fn weekday_length(text: &[u8]) -> usize
+    ensures { (w : Weekday) (after : List ℕ) → text.now ≡ short_weekday w ++ after
+        → result ≡ length (weekday_name w) }
+{
+    match weekday_at_front(text) {
+        Some(weekday) => weekday.name().len(),
+        None => 0,
+    }
 }
 
 /// Returns the month whose name begins with the first three bytes.
 #[inline(always)]
 fn month_at_front(text: &[u8]) -> Option<Month>
-    ensures { (m : Month) (after : List ℕ) → text.now ≡ short_month m ++ after
-        → result ≡ Some m }
+    ensures { (m : Month) (after : List ℕ) → text.now ≡ short_month m ++ after → result ≡ Some m }
 {
     match text {
         [first, second, third, ..] => month_of(*first, *second, *third),
         _ => None,
     }
+}
+
+/// Returns the weekday whose name begins with the first three bytes.
+#[inline(always)]
+fn weekday_at_front(text: &[u8]) -> Option<Weekday>
+    ensures { (w : Weekday) (after : List ℕ) → text.now ≡ short_weekday w ++ after
+        → result ≡ Some w }
+{
+    match text {
+        [first, second, third, ..] => weekday_of(*first, *second, *third),
+        _ => None,
+    }
+}
+
+/// Returns 1 if the text begins with a `P`, as `PM` does.
+fn period_number(text: &[u8]) -> u32
+    ensures { result ≡ (if get_or text.now 0 0 == 80 then 1 else 0) }
+{
+    match text {
+        [first, ..] => u32::from(*first == b'P'),
+        [] => 0,
+    }
+}
+
+/// Returns 1 if the text begins with a minus sign.
+fn sign_number(text: &[u8]) -> u32
+    ensures { result ≡ (if get_or text.now 0 0 == 45 then 1 else 0) }
+{
+    match text {
+        [first, ..] => u32::from(*first == b'-'),
+        [] => 0,
+    }
+}
+
+/// Returns the number of digits of a fraction, which is at most 9.
+fn fraction_length(digits: u8) -> usize
+    ensures value { result ≡ min digits 9 }
+    ensures max { result ≤ 9 }
+{
+    usize::from(digits).min(9)
+}
+
+/// Returns the nanoseconds of a fraction with these digits: zeros come after them.
+fn fraction_value(digits: &[u8]) -> u32
+    requires { length digits.now ≤ 9 }
+    ensures { result ≡ fold step 0 (digits.now ++ replicate (9 - length digits.now) 48) }
+{
+    let number = value_of(digits, 0);
+    value_of(&[b'0'; 9][digits.len()..], number)
 }

@@ -1,141 +1,180 @@
 //! The items of a format.
-ghost use Rattle.std.specs.Prelude.{◌≡◌, ◌≢◌, ◌∷◌, [], ◌++◌, MatchOption, IfSome, IfNone, List, ℕ};
-ghost use Rattle.cal_format.specs.declared.item.Part.{Part};
-ghost use Rattle.cal_format.specs.declared.item.Item.{Item};
-ghost use Rattle.cal_format.specs.Spelling.{part_spelling, percent_spelling, part_description, description, spelling, IsStuck};
+ghost use Rattle.std.specs.Prelude.{◌≡◌, ◌<◌, ◌≤◌};
+ghost use Rattle.cal_format.specs.Moment.{width};
+ghost use Rattle.cal_format.specs.Reading.{index, name_component, shows};
 
-use crate::read::after;
-
-/// A part of a date that a format names.
+/// A number that a format shows of a value.
 #[derive(Clone, Copy, Debug, PartialEq, Eq)]
-pub enum Part {
-    /// `%Y`: the year.
+pub enum Component {
+    /// The year.
     Year,
-    /// `%m`: the number of the month, in two digits.
+    /// The year divided by 100.
+    Century,
+    /// The last two digits of the year.
+    YearOfCentury,
+    /// The ISO year.
+    IsoYear,
+    /// The month, from 1.
     Month,
-    /// `%d`: the day of the month, in two digits.
+    /// The day of the month.
     Day,
-    /// `%-d`: the day of the month, without a zero before it.
-    UnpaddedDay,
-    /// `%j`: the day of the year, in three digits.
+    /// The day of the year.
     Ordinal,
-    /// `%B`: the English name of the month.
-    MonthName,
-    /// `%b`: the first three letters of that name.
+    /// The ISO week.
+    IsoWeek,
+    /// The weekday, from 1 for Monday.
+    Weekday,
+    /// The weekday, from 0 for Sunday.
+    DaysFromSunday,
+    /// The weekday, from 1 for Sunday.
+    SundayWeekday,
+    /// The week of the year, from Sunday on.
+    SundayWeek,
+    /// The week of the year, from Monday on.
+    MondayWeek,
+    /// The hour, from 0 to 23.
+    Hour,
+    /// The hour, from 1 to 12.
+    Hour12,
+    /// The minute.
+    Minute,
+    /// The second.
+    Second,
+    /// The hours of the offset.
+    OffsetHour,
+    /// The minutes of the offset.
+    OffsetMinute,
+    /// The seconds of the offset.
+    OffsetSecond,
+    /// The half of the day: 0 or 1.
+    Period,
+    /// The nanosecond of the second.
+    Nanosecond,
+    /// The sign of the offset: 1 for minus.
+    OffsetSign,
+}
+
+/// The bytes before a number with fewer digits than its width.
+#[derive(Clone, Copy, Debug, PartialEq, Eq)]
+pub enum Padding {
+    /// Zeros.
+    Zero,
+    /// Spaces.
+    Space,
+    /// No bytes.
+    None,
+}
+
+/// A name.
+#[derive(Clone, Copy, Debug, PartialEq, Eq)]
+pub enum Name {
+    /// The English name of the month.
+    Month,
+    /// The first three letters of the name of the month.
     ShortMonth,
-    /// `%a`: the first three letters of the English name of the weekday.
+    /// The English name of the weekday.
+    Weekday,
+    /// The first three letters of the name of the weekday.
     ShortWeekday,
+    /// `AM` or `PM`.
+    Period,
 }
 
 /// An item of a format.
 #[derive(Clone, Copy, Debug, PartialEq, Eq)]
 pub enum Item {
-    /// This byte. A percent sign is spelled `%%`.
-    Byte(u8),
-    /// A part of the date.
-    Part(Part),
+    /// This byte.
+    Literal(u8),
+    /// The number of a component.
+    Number(Component, Padding),
+    /// A name.
+    Name(Name),
+    /// This number of digits of the fraction of the second.
+    Fraction(u8),
+    /// The sign of the offset.
+    OffsetSign,
 }
 
-impl Part {
-    /// Returns the part for this letter after a percent sign.
-    pub(crate) fn of_letter(letter: u8) -> Option<Part>
-        ensures { MatchOption result ((p : Part) → part_spelling p ≢ 37 ∷ letter ∷ [])
-            (λ p. part_spelling p ≡ 37 ∷ letter ∷ []) }
+impl Component {
+    /// Returns the number of its digits.
+    pub(crate) fn width(self) -> u8
+        ensures value { result ≡ width self }
+        ensures range { (1 ≤ result) × (result ≤ 9) }
     {
-        match letter {
-            b'Y' => Some(Part::Year),
-            b'm' => Some(Part::Month),
-            b'd' => Some(Part::Day),
-            b'j' => Some(Part::Ordinal),
-            b'B' => Some(Part::MonthName),
-            b'b' => Some(Part::ShortMonth),
-            b'a' => Some(Part::ShortWeekday),
-            _ => None,
+        match self {
+            Component::Year => 4,
+            Component::IsoYear => 4,
+            Component::Ordinal => 3,
+            Component::Weekday => 1,
+            Component::DaysFromSunday => 1,
+            Component::SundayWeekday => 1,
+            Component::Period => 1,
+            Component::OffsetSign => 1,
+            Component::Nanosecond => 9,
+            _ => 2,
+        }
+    }
+
+    /// Returns its place among the components.
+    #[inline(always)]
+    pub(crate) fn index(self) -> usize
+        ensures value { result ≡ index self }
+        ensures range { result < 23 }
+    {
+        match self {
+            Component::Year => 0,
+            Component::Century => 1,
+            Component::YearOfCentury => 2,
+            Component::IsoYear => 3,
+            Component::Month => 4,
+            Component::Day => 5,
+            Component::Ordinal => 6,
+            Component::IsoWeek => 7,
+            Component::Weekday => 8,
+            Component::DaysFromSunday => 9,
+            Component::SundayWeekday => 10,
+            Component::SundayWeek => 11,
+            Component::MondayWeek => 12,
+            Component::Hour => 13,
+            Component::Hour12 => 14,
+            Component::Minute => 15,
+            Component::Second => 16,
+            Component::OffsetHour => 19,
+            Component::OffsetMinute => 20,
+            Component::OffsetSecond => 21,
+            Component::Period => 17,
+            Component::Nanosecond => 18,
+            Component::OffsetSign => 22,
         }
     }
 }
 
-/// The syntax of a format.
-#[derive(Clone, Copy)]
-pub(crate) enum Syntax {
-    /// With percent signs and letters.
-    Percent,
-    /// With words in brackets.
-    Brackets,
-}
-
-/// Returns the first item of the text, and the rest of the text.
-pub(crate) fn next_item(text: &[u8], syntax: Syntax) -> Option<(Item, &[u8])>
-    ensures item { IfSome result (λ r. text.now ≡ spelling syntax r.0 ++ r.1.now) }
-    ensures none { IfNone result (IsStuck syntax text.now) }
-{
-    match syntax {
-        Syntax::Percent => item_by_percent(text),
-        Syntax::Brackets => item_by_bracket(text),
+impl Item {
+    /// Returns `true` if the item shows the component.
+    pub(crate) fn shows(self, component: Component) -> bool
+        ensures { result ≡ shows component self }
+    {
+        match self {
+            Item::Literal(_) => false,
+            Item::Number(shown, _) => shown.index() == component.index(),
+            Item::Name(name) => name.component().index() == component.index(),
+            Item::Fraction(_) => Component::Nanosecond.index() == component.index(),
+            Item::OffsetSign => Component::OffsetSign.index() == component.index(),
+        }
     }
 }
 
-fn item_by_bracket(text: &[u8]) -> Option<(Item, &[u8])>
-    ensures item { IfSome result (λ r. text.now ≡ description r.0 ++ r.1.now) }
-    ensures none { IfNone result ((i : Item) (after : List ℕ) → text.now ≢ description i ++ after) }
-{
-    match text {
-        [] => None,
-        [b'[', b'[', others @ ..] => Some((Item::Byte(b'['), others)),
-        [b'[', ..] => match part_in_brackets(text) {
-            Some((part, others)) => Some((Item::Part(part), others)),
-            None => None,
-        },
-        [byte, others @ ..] => Some((Item::Byte(*byte), others)),
-    }
-}
-
-/// Returns the part in brackets at the front of the text, and the rest of the text.
-fn part_in_brackets(text: &[u8]) -> Option<(Part, &[u8])>
-    ensures part { IfSome result (λ r. text.now ≡ part_description r.0 ++ r.1.now) }
-    ensures none { IfNone result ((p : Part) (after : List ℕ) → text.now ≢ part_description p ++ after) }
-{
-    if let Some(others) = after(b"[year]", text) {
-        return Some((Part::Year, others));
-    }
-    if let Some(others) = after(b"[month]", text) {
-        return Some((Part::Month, others));
-    }
-    if let Some(others) = after(b"[day]", text) {
-        return Some((Part::Day, others));
-    }
-    if let Some(others) = after(b"[day padding:none]", text) {
-        return Some((Part::UnpaddedDay, others));
-    }
-    if let Some(others) = after(b"[ordinal]", text) {
-        return Some((Part::Ordinal, others));
-    }
-    if let Some(others) = after(b"[month repr:long]", text) {
-        return Some((Part::MonthName, others));
-    }
-    if let Some(others) = after(b"[month repr:short]", text) {
-        return Some((Part::ShortMonth, others));
-    }
-    if let Some(others) = after(b"[weekday repr:short]", text) {
-        return Some((Part::ShortWeekday, others));
-    }
-    None
-}
-
-fn item_by_percent(text: &[u8]) -> Option<(Item, &[u8])>
-    ensures item { IfSome result (λ r. text.now ≡ percent_spelling r.0 ++ r.1.now) }
-    ensures none { IfNone result ((i : Item) (after : List ℕ) → text.now ≢ percent_spelling i ++ after) }
-{
-    match text {
-        [] => None,
-        [b'%'] => None,
-        [b'%', b'-', b'd', others @ ..] => Some((Item::Part(Part::UnpaddedDay), others)),
-        [b'%', b'-', ..] => None,
-        [b'%', b'%', others @ ..] => Some((Item::Byte(b'%'), others)),
-        [b'%', letter, others @ ..] => match Part::of_letter(*letter) {
-            Some(part) => Some((Item::Part(part), others)),
-            None => None,
-        },
-        [byte, others @ ..] => Some((Item::Byte(*byte), others)),
+impl Name {
+    /// Returns the component that the name shows.
+    pub(crate) fn component(self) -> Component
+        ensures { result ≡ name_component self }
+    {
+        match self {
+            Name::Month => Component::Month,
+            Name::ShortMonth => Component::Month,
+            Name::Weekday => Component::Weekday,
+            Name::ShortWeekday => Component::Weekday,
+            Name::Period => Component::Period,
+        }
     }
 }

@@ -2,26 +2,10 @@
 ghost use Rattle.std.specs.Prelude.{◌≡◌, ◌≢◌, ◌≤◌, ◌-◌, ◌∷◌, [], MatchOption, length, take};
 ghost use Rattle.std.specs.Str.{IsAscii};
 ghost use Rattle.cal_time.specs.declared.Month.{Month};
-ghost use Rattle.cal_time.specs.Month.{month_of_index};
-ghost use Rattle.cal_time.specs.Weekday.{weekday_of_index};
-ghost use Rattle.cal_time.specs.Date.{month_at as month_at_day, weekday_at as weekday_at_day};
+ghost use Rattle.cal_time.specs.declared.Weekday.{Weekday};
 ghost use Rattle.cal_format.specs.Names.{short_month, short_weekday};
 
-use cal_time::{Date, Month, Weekday};
-
-/// Returns the month of a date.
-pub(crate) fn month_of_date(date: Date) -> Month
-    ensures { result ≡ month_of_index (month_at_day date - 1) }
-{
-    date.month()
-}
-
-/// Returns the weekday of a date.
-pub(crate) fn weekday_of_date(date: Date) -> Weekday
-    ensures { result ≡ weekday_of_index (weekday_at_day date) }
-{
-    date.weekday()
-}
+use cal_time::{Month, Weekday};
 
 /// Returns the first three letters of the name of a month, such as `Feb`.
 pub(crate) fn short_month(month: Month) -> &'static [u8; 3]
@@ -76,6 +60,23 @@ pub(crate) fn month_of(first: u8, second: u8, third: u8) -> Option<Month>
         (b'O', b'c', b't') => Some(Month::October),
         (b'N', b'o', b'v') => Some(Month::November),
         (b'D', b'e', b'c') => Some(Month::December),
+        _ => None,
+    }
+}
+
+/// Returns the weekday whose name begins with these letters.
+pub(crate) fn weekday_of(first: u8, second: u8, third: u8) -> Option<Weekday>
+    ensures { MatchOption result ((w : Weekday) → short_weekday w ≢ first ∷ second ∷ third ∷ [])
+        (λ w. short_weekday w ≡ first ∷ second ∷ third ∷ []) }
+{
+    match (first, second, third) {
+        (b'M', b'o', b'n') => Some(Weekday::Monday),
+        (b'T', b'u', b'e') => Some(Weekday::Tuesday),
+        (b'W', b'e', b'd') => Some(Weekday::Wednesday),
+        (b'T', b'h', b'u') => Some(Weekday::Thursday),
+        (b'F', b'r', b'i') => Some(Weekday::Friday),
+        (b'S', b'a', b't') => Some(Weekday::Saturday),
+        (b'S', b'u', b'n') => Some(Weekday::Sunday),
         _ => None,
     }
 }

@@ -1,151 +1,228 @@
-//! Texts of dates.
-ghost use Rattle.std.specs.Prelude.{◌≡◌, ℕ, ◌+◌, ◌<◌, ◌≤◌, ◌/◌, ◌%◌, ◌++◌, ◌∷◌, [], ◌↔◌, IsSome, IfSome, length, take, decimal, unsigned_abs};
-ghost use Rattle.std.specs.List.{flat_map};
-ghost use Rattle.cal_format.specs.declared.item.Item.{Item};
-ghost use Rattle.cal_time.specs.DateText.{digits_at_least, year_text};
-ghost use Rattle.cal_format.specs.Text.{part_text, item_text, text_of};
+//! What a format prints.
+ghost use Rattle.std.specs.Prelude.{◌≡◌, ℕ, ◌+◌, ◌-◌, ◌<◌, ◌≤◌, ◌/◌, ◌%◌, ◌^◌, ◌++◌, ◌∷◌, [], ◌↔◌, IsSome, IfSome, length, take, decimal, replicate, unsigned_abs};
+ghost use Rattle.cal_time.specs.Digits.{nine_digits};
+ghost use Rattle.cal_time.specs.Time.{nanosecond_of};
+ghost use Rattle.cal_time.specs.UtcOffset as offset;
+ghost use Rattle.cal_time.specs.DateText.{digits_at_least, sign_text};
+ghost use Rattle.cal_format.specs.Names.{name_text};
+ghost use Rattle.cal_format.specs.Moment.{number, width};
+ghost use Rattle.cal_format.specs.Text.{sign, padded, item_text, text_of};
 
-use crate::format::Format;
-use crate::item::{Item, Part};
-use crate::names::{month_of_date, short_month, short_weekday, weekday_of_date};
-use cal_time::{Date, ShortText};
+use crate::item::{Component, Item, Name, Padding};
+use crate::moment::{Moment, iso_year};
+use crate::names::{short_month, short_weekday};
+use cal_time::ShortText;
 
-impl Format {
-    /// Writes the text of a date to the front of the buffer, and returns the number of bytes. Returns
-    /// `None` if the buffer is too short.
-    pub fn print(&self, date: Date, buffer: &mut [u8]) -> Option<usize>
-        ensures room { IsSome result ↔ (length (text_of self.now date) ≤ length buffer.old) }
-        ensures text { IfSome result (λ end. take end buffer.new ≡ text_of self.now date) }
-        ensures end { IfSome result (λ end. end ≡ length (text_of self.now date)) }
-    {
-        print_items(self.items(), date, buffer, 0)
-    }
-}
-
-/// Writes the text of a date to the buffer from this position on.
-fn print_items(items: &[Item], date: Date, buffer: &mut [u8], at: usize) -> Option<usize>
+/// Writes what the items print of a moment to the buffer, from this position on. Returns the end,
+/// or `None` if the buffer is too short.
+pub(crate) fn print_items(items: &[Item], moment: &Moment, buffer: &mut [u8], at: usize) -> Option<usize>
     requires { at ≤ length buffer.old }
     ensures room { IsSome result
-        ↔ (at + length (text_of items.now date) ≤ length buffer.old) }
+        ↔ (at + length (text_of items.now moment.now) ≤ length buffer.old) }
     ensures text { IfSome result (λ end.
-        take end buffer.new ≡ take at buffer.old ++ text_of items.now date) }
-    ensures end { IfSome result (λ end. end ≡ at + length (text_of items.now date)) }
+        take end buffer.new ≡ take at buffer.old ++ text_of items.now moment.now) }
+    ensures end { IfSome result (λ end. end ≡ at + length (text_of items.now moment.now)) }
 {
     match items {
         [] => Some(at),
         [item, others @ ..] => {
-            let next = print_item(*item, date, buffer, at)?;
-            print_items(others, date, buffer, next)
+            let next = print_item(*item, moment, buffer, at)?;
+            print_items(others, moment, buffer, next)
         }
     }
 }
 
 #[inline(always)]
-fn print_item(item: Item, date: Date, buffer: &mut [u8], at: usize) -> Option<usize>
+fn print_item(item: Item, moment: &Moment, buffer: &mut [u8], at: usize) -> Option<usize>
     requires { at ≤ length buffer.old }
-    ensures room { IsSome result ↔ (at + length (item_text date item) ≤ length buffer.old) }
+    ensures room { IsSome result ↔ (at + length (item_text moment.now item) ≤ length buffer.old) }
     ensures text { IfSome result (λ end.
-        take end buffer.new ≡ take at buffer.old ++ item_text date item) }
-    ensures end { IfSome result (λ end. end ≡ at + length (item_text date item)) }
+        take end buffer.new ≡ take at buffer.old ++ item_text moment.now item) }
+    ensures end { IfSome result (λ end. end ≡ at + length (item_text moment.now item)) }
 {
     match item {
-        Item::Byte(byte) => put(buffer, at, &[byte]),
-        Item::Part(part) => print_part(part, date, buffer, at),
+        Item::Literal(byte) => put(buffer, at, &[byte]),
+        Item::Number(component, padding) => print_number(component, padding, moment, buffer, at),
+        Item::Name(name) => print_name(name, moment, buffer, at),
+        Item::Fraction(digits) => print_fraction(digits, moment, buffer, at),
+        Item::OffsetSign => print_sign(moment, buffer, at),
     }
 }
 
-fn print_part(part: Part, date: Date, buffer: &mut [u8], at: usize) -> Option<usize>
+fn print_number(component: Component, padding: Padding, moment: &Moment, buffer: &mut [u8], at: usize) -> Option<usize>
     requires { at ≤ length buffer.old }
-    ensures room { IsSome result ↔ (at + length (part_text part date) ≤ length buffer.old) }
-    ensures text { IfSome result (λ end.
-        take end buffer.new ≡ take at buffer.old ++ part_text part date) }
-    ensures end { IfSome result (λ end. end ≡ at + length (part_text part date)) }
+    ensures room { IsSome result ↔ (at + length (sign component moment.now
+        ++ padded padding (width component) (number component moment.now)) ≤ length buffer.old) }
+    ensures text { IfSome result (λ end. take end buffer.new ≡ take at buffer.old
+        ++ (sign component moment.now ++ padded padding (width component) (number component moment.now))) }
+    ensures end { IfSome result (λ end. end ≡ at + length (sign component moment.now
+        ++ padded padding (width component) (number component moment.now))) }
 {
-    match part {
-        Part::Year => print_year(date.year(), buffer, at),
-        Part::Month => put(buffer, at, &two_digits(date.month() as u8)),
-        Part::Day => put(buffer, at, &two_digits(date.day())),
-        Part::UnpaddedDay => print_unpadded(date.day(), buffer, at),
-        Part::Ordinal => put(buffer, at, &three_digits(date.ordinal())),
-        Part::MonthName => put(buffer, at, month_of_date(date).name().as_bytes()),
-        Part::ShortMonth => put(buffer, at, short_month(month_of_date(date))),
-        Part::ShortWeekday => put(buffer, at, short_weekday(weekday_of_date(date))),
+    let next = put(buffer, at, sign_of(component, moment))?;
+    put_padded(moment.number(component), component.width(), padding, buffer, next)
+}
+
+/// Returns the sign before the digits of a component.
+#[inline(always)]
+fn sign_of(component: Component, moment: &Moment) -> &'static [u8]
+    ensures { result.now ≡ sign component moment.now }
+{
+    match component {
+        Component::Year => year_sign(moment.date.year()),
+        Component::Century => year_sign(moment.date.year()),
+        Component::IsoYear => year_sign(iso_year(moment.date)),
+        _ => b"",
     }
 }
 
 #[inline(always)]
-#[tactic(auto, using(crate::proofs::Fronts::years))]
-fn print_year(year: i32, buffer: &mut [u8], at: usize) -> Option<usize>
-    requires at { at ≤ length buffer.old }
-    requires year { unsigned_abs year < 1_000_000 }
-    ensures room { IsSome result ↔ (at + length (year_text year) ≤ length buffer.old) }
-    ensures text { IfSome result (λ end.
-        take end buffer.new ≡ take at buffer.old ++ year_text year) }
-    ensures end { IfSome result (λ end. end ≡ at + length (year_text year)) }
+fn year_sign(year: i32) -> &'static [u8]
+    ensures { result.now ≡ sign_text year }
 {
-    if year >= 0 && year <= 9999 {
-        return put(buffer, at, &four_digits(year as u16));
-    }
-    let mut text = ShortText::new();
-    text.push_year(year);
-    put(buffer, at, text.as_bytes())
-}
-
-#[inline(always)]
-fn print_unpadded(day: u8, buffer: &mut [u8], at: usize) -> Option<usize>
-    requires at { at ≤ length buffer.old }
-    requires day { day < 100 }
-    ensures room { IsSome result ↔ (at + length (decimal day) ≤ length buffer.old) }
-    ensures text { IfSome result (λ end. take end buffer.new ≡ take at buffer.old ++ decimal day) }
-    ensures end { IfSome result (λ end. end ≡ at + length (decimal day)) }
-{
-    if day < 10 {
-        put(buffer, at, &one_digit(day))
+    if year < 0 {
+        b"-"
+    } else if year > 9999 {
+        b"+"
     } else {
-        put(buffer, at, &two_digits(day))
+        b""
     }
 }
 
-/// Returns the digit of a number below 10.
+/// Writes the digits of a number.
 #[inline(always)]
-#[tactic(auto, using(crate::proofs::Fronts::digits))]
-pub(crate) fn one_digit(number: u8) -> [u8; 1]
-    requires { number < 10 }
-    ensures { result ≡ decimal number }
+#[tactic(auto, using(crate::proofs::Digits::digits))]
+fn put_padded(number: u32, width: u8, padding: Padding, buffer: &mut [u8], at: usize) -> Option<usize>
+    requires at { at ≤ length buffer.old }
+    requires width { width ≤ 9 }
+    ensures room { IsSome result ↔ (at + length (padded padding width number) ≤ length buffer.old) }
+    ensures text { IfSome result (λ end.
+        take end buffer.new ≡ take at buffer.old ++ padded padding width number) }
+    ensures end { IfSome result (λ end. end ≡ at + length (padded padding width number)) }
 {
-    [b'0' + number]
+    match padding {
+        Padding::Zero => put_with_zeros(number, width, buffer, at),
+        Padding::Space => put_filled(b' ', number, width, buffer, at),
+        Padding::None => put_decimal(number, buffer, at),
+    }
+}
+
+#[inline(always)]
+#[tactic(auto, using(crate::proofs::Digits::digits))]
+fn put_with_zeros(number: u32, width: u8, buffer: &mut [u8], at: usize) -> Option<usize>
+    requires at { at ≤ length buffer.old }
+    requires width { width ≤ 9 }
+    ensures room { IsSome result ↔ (at + length (digits_at_least width number) ≤ length buffer.old) }
+    ensures text { IfSome result (λ end.
+        take end buffer.new ≡ take at buffer.old ++ digits_at_least width number) }
+    ensures end { IfSome result (λ end. end ≡ at + length (digits_at_least width number)) }
+{
+    if width == 2 && number < 100 {
+        return put(buffer, at, &two_digits(number as u8));
+    }
+    if width == 4 && number < 10_000 {
+        return put(buffer, at, &four_digits(number as u16));
+    }
+    put_filled(b'0', number, width, buffer, at)
+}
+
+/// Writes the digits of a number, with this byte before them up to the width.
+#[tactic(auto, using(crate::proofs::Digits::short_decimals))]
+fn put_filled(byte: u8, number: u32, width: u8, buffer: &mut [u8], at: usize) -> Option<usize>
+    requires at { at ≤ length buffer.old }
+    requires width { width ≤ 9 }
+    ensures room { IsSome result ↔ (at + length (replicate (width - length (decimal number)) byte
+        ++ decimal number) ≤ length buffer.old) }
+    ensures text { IfSome result (λ end. take end buffer.new ≡ take at buffer.old
+        ++ (replicate (width - length (decimal number)) byte ++ decimal number)) }
+    ensures end { IfSome result (λ end. end ≡ at
+        + length (replicate (width - length (decimal number)) byte ++ decimal number)) }
+{
+    let mut digits = ShortText::new();
+    digits.push_number(u64::from(number));
+    let fill = usize::from(width).saturating_sub(digits.len());
+    let next = put(buffer, at, &[byte; 9][..fill])?;
+    put(buffer, next, digits.as_bytes())
+}
+
+#[tactic(auto, using(crate::proofs::Digits::short_decimals))]
+fn put_decimal(number: u32, buffer: &mut [u8], at: usize) -> Option<usize>
+    requires { at ≤ length buffer.old }
+    ensures room { IsSome result ↔ (at + length (decimal number) ≤ length buffer.old) }
+    ensures text { IfSome result (λ end. take end buffer.new ≡ take at buffer.old ++ decimal number) }
+    ensures end { IfSome result (λ end. end ≡ at + length (decimal number)) }
+{
+    let mut digits = ShortText::new();
+    digits.push_number(u64::from(number));
+    put(buffer, at, digits.as_bytes())
+}
+
+fn print_name(name: Name, moment: &Moment, buffer: &mut [u8], at: usize) -> Option<usize>
+    requires { at ≤ length buffer.old }
+    ensures room { IsSome result ↔ (at + length (name_text name moment.now) ≤ length buffer.old) }
+    ensures text { IfSome result (λ end.
+        take end buffer.new ≡ take at buffer.old ++ name_text name moment.now) }
+    ensures end { IfSome result (λ end. end ≡ at + length (name_text name moment.now)) }
+{
+    match name {
+        Name::Month => put(buffer, at, moment.month().name().as_bytes()),
+        Name::ShortMonth => put(buffer, at, short_month(moment.month())),
+        Name::Weekday => put(buffer, at, moment.weekday().name().as_bytes()),
+        Name::ShortWeekday => put(buffer, at, short_weekday(moment.weekday())),
+        Name::Period => {
+            if moment.time.hour() < 12 {
+                put(buffer, at, b"AM")
+            } else {
+                put(buffer, at, b"PM")
+            }
+        }
+    }
+}
+
+fn print_fraction(digits: u8, moment: &Moment, buffer: &mut [u8], at: usize) -> Option<usize>
+    requires { at ≤ length buffer.old }
+    ensures room { IsSome result
+        ↔ (at + length (take digits (nine_digits (nanosecond_of moment.now.time))) ≤ length buffer.old) }
+    ensures text { IfSome result (λ end. take end buffer.new
+        ≡ take at buffer.old ++ take digits (nine_digits (nanosecond_of moment.now.time))) }
+    ensures end { IfSome result (λ end. end
+        ≡ at + length (take digits (nine_digits (nanosecond_of moment.now.time)))) }
+{
+    let all = nine_digits(moment.time.nanosecond());
+    let count = usize::from(digits);
+    if count >= 9 {
+        return put(buffer, at, &all);
+    }
+    put(buffer, at, &all[..count])
+}
+
+fn print_sign(moment: &Moment, buffer: &mut [u8], at: usize) -> Option<usize>
+    requires { at ≤ length buffer.old }
+    ensures room { IsSome result ↔ (at + length (offset.sign moment.now.offset) ≤ length buffer.old) }
+    ensures text { IfSome result (λ end.
+        take end buffer.new ≡ take at buffer.old ++ offset.sign moment.now.offset) }
+    ensures end { IfSome result (λ end. end ≡ at + length (offset.sign moment.now.offset)) }
+{
+    if moment.offset.whole_seconds() < 0 {
+        put(buffer, at, b"-")
+    } else {
+        put(buffer, at, b"+")
+    }
 }
 
 /// Returns the two digits of a number below 100: `07` for 7.
 #[inline(always)]
-#[tactic(auto, using(crate::proofs::Fronts::digits))]
-pub(crate) fn two_digits(number: u8) -> [u8; 2]
+#[tactic(auto, using(crate::proofs::Digits::digits))]
+fn two_digits(number: u8) -> [u8; 2]
     requires { number < 100 }
-    ensures padded { result ≡ digits_at_least 2 number }
-    ensures plain { 10 ≤ number → result ≡ decimal number }
+    ensures { result ≡ digits_at_least 2 number }
 {
     [b'0' + number / 10, b'0' + number % 10]
 }
 
-/// Returns the three digits of a number below 1000.
-#[inline(always)]
-#[tactic(auto, using(crate::proofs::Fronts::digits))]
-pub(crate) fn three_digits(number: u16) -> [u8; 3]
-    requires { number < 1000 }
-    ensures { result ≡ digits_at_least 3 number }
-{
-    let back = (number % 100) as u8;
-    [
-        b'0' + (number / 100) as u8,
-        b'0' + back / 10,
-        b'0' + back % 10,
-    ]
-}
-
 /// Returns the four digits of a number below 10000.
 #[inline(always)]
-#[tactic(auto, using(crate::proofs::Fronts::digits))]
-pub(crate) fn four_digits(number: u16) -> [u8; 4]
+#[tactic(auto, using(crate::proofs::Digits::digits))]
+fn four_digits(number: u16) -> [u8; 4]
     requires { number < 10000 }
     ensures { result ≡ digits_at_least 4 number }
 {
@@ -159,9 +236,27 @@ pub(crate) fn four_digits(number: u16) -> [u8; 4]
     ]
 }
 
-/// Writes bytes to the buffer from this position on.
+/// Returns the nine digits of a number of nanoseconds.
+fn nine_digits(number: u32) -> [u8; 9]
+    requires { number < 1_000_000_000 }
+    ensures { result ≡ nine_digits number }
+{
+    [
+        b'0' + (number / 100_000_000) as u8,
+        b'0' + (number / 10_000_000 % 10) as u8,
+        b'0' + (number / 1_000_000 % 10) as u8,
+        b'0' + (number / 100_000 % 10) as u8,
+        b'0' + (number / 10_000 % 10) as u8,
+        b'0' + (number / 1_000 % 10) as u8,
+        b'0' + (number / 100 % 10) as u8,
+        b'0' + (number / 10 % 10) as u8,
+        b'0' + (number % 10) as u8,
+    ]
+}
+
+/// Writes bytes to the buffer, from this position on.
 #[inline(always)]
-pub(crate) fn put(buffer: &mut [u8], at: usize, bytes: &[u8]) -> Option<usize>
+fn put(buffer: &mut [u8], at: usize, bytes: &[u8]) -> Option<usize>
     requires { at ≤ length buffer.old }
     ensures room { IsSome result ↔ (at + length bytes.now ≤ length buffer.old) }
     ensures text { IfSome result (λ end. take end buffer.new ≡ take at buffer.old ++ bytes.now) }
