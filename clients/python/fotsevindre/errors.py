@@ -1,4 +1,4 @@
-"""The exceptions, and the one for each status of a call."""
+"""The exceptions, and which status of a call raises which."""
 
 from __future__ import annotations
 
@@ -78,7 +78,7 @@ class ParseRuleErrorKind(enum.Enum):
 
 
 class ParseRuleError(ValueError):
-    """The text of a recurrence is invalid. `kind` and `position`, from 0, are those of the first wrong part.
+    """The text of a recurrence is invalid. `kind` and `position`, from 0, describe the first wrong part.
 
     `part` is its name, or `None` for the kinds `Unknown` and `Missing`.
     """
