@@ -71,7 +71,11 @@ typedef struct fots_rule_weekday {
     uint8_t weekday;
 } fots_rule_weekday;
 
-/* A recurrence of RFC 5545 without its start. An empty list excludes no day. */
+/* The maximum number of values of a list of a recurrence. */
+#define FOTS_MAX_VALUES 62
+
+/* A recurrence of RFC 5545 without its start. An empty list excludes no day. A list has as many
+ * values as its length says, at most FOTS_MAX_VALUES, and then zeros. */
 typedef struct fots_recurrence {
     uint32_t frequency; /* a fots_frequency */
     uint32_t interval;
@@ -81,9 +85,9 @@ typedef struct fots_recurrence {
     uint32_t months_length;
     uint32_t month_days_length;
     uint32_t weekdays_length;
-    uint8_t months[62]; /* the first months_length values, then zeros; the next lists likewise */
-    int8_t month_days[62];
-    fots_rule_weekday weekdays[62];
+    uint8_t months[FOTS_MAX_VALUES];
+    int8_t month_days[FOTS_MAX_VALUES];
+    fots_rule_weekday weekdays[FOTS_MAX_VALUES];
 } fots_recurrence;
 
 #define FOTS_MIN_JULIAN_DAY (-363521074)
@@ -614,7 +618,8 @@ fots_parse_recurrence_result fots_recurrence_parse(const char *text, size_t text
 fots_recurrence_text_result fots_recurrence_text(const char *text, size_t text_length);
 
 /* Returns the rule of a recurrence from a start, without its count. It uses the lists of the
- * recurrence, so keep that for as long as you use the rule. */
+ * recurrence, so keep that for as long as you use the rule. If a length is above FOTS_MAX_VALUES,
+ * each call rejects the rule with FOTS_TOO_MANY_PARTS. */
 static inline fots_rule fots_recurrence_rule(const fots_recurrence *recurrence, fots_date start)
 {
     fots_rule rule = fots_rule_new(start, recurrence->frequency);
@@ -624,6 +629,12 @@ static inline fots_rule fots_recurrence_rule(const fots_recurrence *recurrence, 
     rule.interval = recurrence->interval;
     rule.week_start = recurrence->week_start;
     rule.months = recurrence->months;
+    if (recurrence->months_length > FOTS_MAX_VALUES || recurrence->month_days_length > FOTS_MAX_VALUES
+        || recurrence->weekdays_length > FOTS_MAX_VALUES) {
+        /* More than a rule may have, and still inside the struct. */
+        rule.months_length = FOTS_MAX_MONTHS + 1;
+        return rule;
+    }
     rule.months_length = recurrence->months_length;
     rule.month_days = recurrence->month_days;
     rule.month_days_length = recurrence->month_days_length;

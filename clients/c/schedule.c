@@ -407,6 +407,41 @@ static void rule_errors(void)
     check(fots_rule_days_after(&rule, daily.start, days, 3).status == FOTS_INVALID_DATE && days[0].julian_day == 1, "days from no date", 0, 0);
 }
 
+/* Fills the lists of a recurrence of every day, and checks lengths of each list around its limit. */
+static void filled_by_hand(void)
+{
+    static const uint32_t lengths[] = {0, 61, 62, 63, 64, 65, 100000, UINT32_MAX - 1, (uint32_t)SIZE_MAX};
+    fots_recurrence *const recurrence = calloc(1, sizeof *recurrence);
+    const fots_date start = day(2024, 1, 1);
+    fots_date days[2] = {{1}, {2}};
+    if (recurrence == NULL) {
+        check(0, "memory", 0, 0);
+        return;
+    }
+    *recurrence = fots_recurrence_parse("FREQ=DAILY", 10).recurrence;
+    for (int index = 0; index < 62; index++) {
+        recurrence->months[index] = (uint8_t)(index % 12 + 1);
+        recurrence->month_days[index] = (int8_t)(index < 31 ? index + 1 : 30 - index);
+        recurrence->weekdays[index].weekday = (uint8_t)(index % 7 + 1);
+    }
+    for (int row = 0; row < COUNT(lengths); row++) {
+        for (int lists = 1; lists < 8; lists++) {
+            recurrence->months_length = (lists & 1) == 0 ? 0 : lengths[row];
+            recurrence->month_days_length = (lists & 2) == 0 ? 0 : lengths[row];
+            recurrence->weekdays_length = (lists & 4) == 0 ? 0 : lengths[row];
+            const fots_rule rule = fots_recurrence_rule(recurrence, start);
+            const int32_t status = lengths[row] <= 62 ? FOTS_OK : FOTS_TOO_MANY_PARTS;
+            check(fots_rule_first(&rule).status == status, "by hand: first", lengths[row], lists);
+            check(fots_rule_next_after(&rule, start).status == status, "by hand: next_after", lengths[row], lists);
+            check(fots_rule_contains(&rule, start).status == status, "by hand: contains", lengths[row], lists);
+            days[0].julian_day = 1;
+            const fots_days_result written = fots_rule_days_after(&rule, start, days, 1);
+            check(written.status == status && (days[0].julian_day == 1) == (status != FOTS_OK) && days[1].julian_day == 2, "by hand: days_after", lengths[row], lists);
+        }
+    }
+    free(recurrence);
+}
+
 /* Checks the written text, which parses as the same. The last one has full lists. */
 static void texts_in_one_order(void)
 {
@@ -531,6 +566,7 @@ int main(void)
     drawn_months();
     recurrences_of_the_rfc();
     rule_errors();
+    filled_by_hand();
     texts_in_one_order();
     text_errors();
     invalid_dates();
