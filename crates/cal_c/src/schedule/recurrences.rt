@@ -1,6 +1,6 @@
 //! Recurrence rules of RFC 5545.
 //!
-//! A rule is a struct of its parts. It has at most 64 months and at most 64 weekdays.
+//! A rule is a struct of its parts. Each of its lists has at most 62 values.
 ghost use Rattle.std.specs.Prelude.{◌≡◌, pos, slice_get, if◌then◌else◌};
 ghost use Rattle.cal_schedule.specs.Rule.{occurrences_after, occurrences, is_occurrence};
 ghost use Rattle.cal_schedule.specs.declared.rule.rule.Rule.{Rule};
