@@ -71,7 +71,11 @@ typedef struct fots_rule_weekday {
     uint8_t weekday;
 } fots_rule_weekday;
 
-/* A recurrence of RFC 5545 without its start. An empty list excludes no day. */
+/* The maximum number of values of a list of a rule or a recurrence. */
+#define FOTS_MAX_VALUES 62
+
+/* A recurrence of RFC 5545 without its start. An empty list excludes no day. A list has as many
+ * values as its length says, at most FOTS_MAX_VALUES, and then zeros. */
 typedef struct fots_recurrence {
     uint32_t frequency; /* a fots_frequency */
     uint32_t interval;
@@ -81,9 +85,9 @@ typedef struct fots_recurrence {
     uint32_t months_length;
     uint32_t month_days_length;
     uint32_t weekdays_length;
-    uint8_t months[62]; /* the first months_length values, then zeros; the next lists likewise */
-    int8_t month_days[62];
-    fots_rule_weekday weekdays[62];
+    uint8_t months[FOTS_MAX_VALUES];
+    int8_t month_days[FOTS_MAX_VALUES];
+    fots_rule_weekday weekdays[FOTS_MAX_VALUES];
 } fots_recurrence;
 
 #define FOTS_MIN_JULIAN_DAY (-363521074)
@@ -113,7 +117,7 @@ enum fots_status {
     FOTS_UNEXPECTED_BYTE = 8, /* a text has a byte that no text of the form has there */
     FOTS_INVALID_MOMENT = 9,
     FOTS_INVALID_FREQUENCY = 10, /* not a fots_frequency */
-    FOTS_TOO_MANY_PARTS = 11, /* a rule has more than 64 months or 64 weekdays */
+    FOTS_TOO_MANY_PARTS = 11, /* a list of a rule has more than 62 values */
     FOTS_INVALID_CONVENTION = 12, /* not a fots_convention or fots_day_count */
     FOTS_INVALID_WEEKMASK = 13, /* a weekmask is above 127 */
     FOTS_INVALID_HOLIDAYS = 14, /* holidays are not dates in strictly ascending order */
@@ -537,7 +541,8 @@ fots_date_result fots_date_adjust(fots_date date, uint32_t convention, uint32_t 
 enum fots_frequency { FOTS_DAILY = 1, FOTS_WEEKLY = 2, FOTS_MONTHLY = 3, FOTS_YEARLY = 4 };
 
 /* A recurrence rule in a subset of RFC 5545. A day matches if it matches all parts; an empty list
- * excludes no day. A rule without days of the month and weekdays takes the day of its start. */
+ * excludes no day. A list has at most FOTS_MAX_VALUES values. A rule without days of the month and
+ * weekdays takes the day of its start. */
 typedef struct fots_rule {
     fots_date start; /* the first possible day; it counts only if it matches */
     fots_date until; /* the last possible day; {FOTS_MAX_JULIAN_DAY} for no end */
@@ -545,15 +550,12 @@ typedef struct fots_rule {
     uint32_t interval; /* every n-th period, counted from the start; 0 counts as 1 */
     uint32_t week_start; /* the first weekday of a week */
     const uint8_t *months;
-    size_t months_length; /* at most FOTS_MAX_MONTHS */
+    size_t months_length;
     const int8_t *month_days; /* from 1, or from -1 at the end of the month; 0 matches no day */
     size_t month_days_length;
     const fots_rule_weekday *weekdays;
-    size_t weekdays_length; /* at most FOTS_MAX_WEEKDAYS */
+    size_t weekdays_length;
 } fots_rule;
-
-#define FOTS_MAX_MONTHS 64
-#define FOTS_MAX_WEEKDAYS 64
 
 /* Returns the rule of every day, or the same day of every week (from Monday), month or year. */
 static inline fots_rule fots_rule_new(fots_date start, uint32_t frequency)
@@ -614,7 +616,8 @@ fots_parse_recurrence_result fots_recurrence_parse(const char *text, size_t text
 fots_recurrence_text_result fots_recurrence_text(const char *text, size_t text_length);
 
 /* Returns the rule of a recurrence from a start, without its count. It uses the lists of the
- * recurrence, so keep that for as long as you use the rule. */
+ * recurrence, so keep that for as long as you use the rule. If a length is above FOTS_MAX_VALUES,
+ * each call rejects the rule with FOTS_TOO_MANY_PARTS. */
 static inline fots_rule fots_recurrence_rule(const fots_recurrence *recurrence, fots_date start)
 {
     fots_rule rule = fots_rule_new(start, recurrence->frequency);
@@ -624,6 +627,12 @@ static inline fots_rule fots_recurrence_rule(const fots_recurrence *recurrence, 
     rule.interval = recurrence->interval;
     rule.week_start = recurrence->week_start;
     rule.months = recurrence->months;
+    if (recurrence->months_length > FOTS_MAX_VALUES || recurrence->month_days_length > FOTS_MAX_VALUES
+        || recurrence->weekdays_length > FOTS_MAX_VALUES) {
+        /* One month too many, and still inside the struct. */
+        rule.months_length = FOTS_MAX_VALUES + 1;
+        return rule;
+    }
     rule.months_length = recurrence->months_length;
     rule.month_days = recurrence->month_days;
     rule.month_days_length = recurrence->month_days_length;

@@ -527,8 +527,8 @@ struct ByDay {
     Weekday weekday;
 };
 
-// A recurrence rule of RFC 5545, with at most FOTS_MAX_MONTHS months and FOTS_MAX_WEEKDAYS
-// weekdays; else the calls throw FOTS_TOO_MANY_PARTS. An empty list excludes no day.
+// A recurrence rule of RFC 5545. An empty list excludes no day. If a list has more than
+// FOTS_MAX_VALUES values, the calls throw FOTS_TOO_MANY_PARTS.
 class Rule {
 public:
     Rule(Date its_start, Frequency its_frequency) : start(its_start), frequency(its_frequency) {}

@@ -360,33 +360,40 @@ static void rule_errors(void)
     is_error(fots_rule_first(&never), FOTS_RESULT_OUT_OF_RANGE, "30 February");
     check(fots_rule_days_after(&never, never.start, days, 3).length == 0, "30 February", 0, 0);
 
-    static uint8_t months[65];
-    static fots_rule_weekday weekdays[65];
-    for (int index = 0; index < 65; index++) {
+    static uint8_t months[FOTS_MAX_VALUES + 1];
+    static int8_t month_days[FOTS_MAX_VALUES + 1];
+    static fots_rule_weekday weekdays[FOTS_MAX_VALUES + 1];
+    for (int index = 0; index <= FOTS_MAX_VALUES; index++) {
         months[index] = (uint8_t)(index % 12 + 1);
+        month_days[index] = (int8_t)(index - 31);
         weekdays[index].number = (int8_t)(index / 7 - 4);
         weekdays[index].weekday = (uint8_t)(index % 7 + 1);
     }
     fots_rule rule = daily;
     rule.months = months;
+    rule.month_days = month_days;
     rule.weekdays = weekdays;
-    rule.months_length = 64;
-    rule.weekdays_length = 64;
+    rule.months_length = 62;
+    rule.month_days_length = 62;
+    rule.weekdays_length = 62;
     is_day(fots_rule_first(&rule), day(2024, 1, 1), "as many parts as there can be");
     /* From the last part to the first, each is wrong before the parts that are wrong already. */
-    weekdays[63].weekday = 8;
+    weekdays[61].weekday = 8;
     is_error(fots_rule_first(&rule), FOTS_INVALID_WEEKDAY, "weekday 8");
-    weekdays[63].weekday = 0;
+    weekdays[61].weekday = 0;
     is_error(fots_rule_first(&rule), FOTS_INVALID_WEEKDAY, "weekday 0");
-    months[63] = 13;
+    months[61] = 13;
     is_error(fots_rule_first(&rule), FOTS_MONTH_OUT_OF_RANGE, "month 13");
-    months[63] = 0;
+    months[61] = 0;
     is_error(fots_rule_first(&rule), FOTS_MONTH_OUT_OF_RANGE, "month 0");
-    rule.months_length = 65;
-    is_error(fots_rule_first(&rule), FOTS_TOO_MANY_PARTS, "65 months");
-    rule.months_length = 64;
-    rule.weekdays_length = 65;
-    is_error(fots_rule_first(&rule), FOTS_TOO_MANY_PARTS, "65 weekdays");
+    rule.months_length = 63;
+    is_error(fots_rule_first(&rule), FOTS_TOO_MANY_PARTS, "63 months");
+    rule.months_length = 62;
+    rule.month_days_length = 63;
+    is_error(fots_rule_first(&rule), FOTS_TOO_MANY_PARTS, "63 days of the month");
+    rule.month_days_length = 62;
+    rule.weekdays_length = 63;
+    is_error(fots_rule_first(&rule), FOTS_TOO_MANY_PARTS, "63 weekdays");
     rule.week_start = 8;
     is_error(fots_rule_first(&rule), FOTS_INVALID_WEEKDAY, "a week that begins with weekday 8");
     rule.frequency = 5;
@@ -405,6 +412,72 @@ static void rule_errors(void)
     const fots_days_result none = fots_rule_days_after(&daily, date_at(FOTS_NO_VALUE), days, 3);
     check(none.status == FOTS_INVALID_DATE && none.length == 0 && days[0].julian_day == 1, "days after no date", none.status, 0);
     check(fots_rule_days_after(&rule, daily.start, days, 3).status == FOTS_INVALID_DATE && days[0].julian_day == 1, "days from no date", 0, 0);
+}
+
+/* Checks that each call accepts a rule of every day with lists of this length, or rejects it as too long. */
+static void accepts_up_to_62(const fots_rule *rule, const char *made, long long length, int lists)
+{
+    const int32_t status = length <= 62 ? FOTS_OK : FOTS_TOO_MANY_PARTS;
+    fots_date days[2] = {{1}, {2}};
+    const fots_days_result written = fots_rule_days_after(rule, rule->start, days, 1);
+    check(fots_rule_first(rule).status == status, made, length, lists);
+    check(fots_rule_next_after(rule, rule->start).status == status, made, length, lists);
+    check(fots_rule_contains(rule, rule->start).status == status, made, length, lists);
+    check(written.status == status && (days[0].julian_day == 1) == (status != FOTS_OK) && days[1].julian_day == 2, made, length, lists);
+}
+
+/* Checks lengths of each list around the limit. */
+static void long_lists(void)
+{
+    static const size_t lengths[] = {0, 1, 61, 62, 63, 64, 65, 100000};
+    static uint8_t months[100000];
+    static int8_t month_days[100000];
+    static fots_rule_weekday weekdays[100000];
+    for (int index = 0; index < COUNT(months); index++) {
+        months[index] = (uint8_t)(index % 12 + 1);
+        month_days[index] = (int8_t)(index % 31 + 1);
+        weekdays[index].weekday = (uint8_t)(index % 7 + 1);
+    }
+    for (int row = 0; row < COUNT(lengths); row++) {
+        for (int lists = 1; lists < 8; lists++) {
+            fots_rule rule = fots_rule_new(day(2024, 1, 1), FOTS_DAILY);
+            rule.months = months;
+            rule.month_days = month_days;
+            rule.weekdays = weekdays;
+            rule.months_length = (lists & 1) == 0 ? 0 : lengths[row];
+            rule.month_days_length = (lists & 2) == 0 ? 0 : lengths[row];
+            rule.weekdays_length = (lists & 4) == 0 ? 0 : lengths[row];
+            accepts_up_to_62(&rule, "a list of a rule", (long long)lengths[row], lists);
+        }
+    }
+}
+
+/* Fills the lists of a recurrence of every day, and checks lengths of each list around the limit. */
+static void filled_by_hand(void)
+{
+    static const uint32_t lengths[] = {0, 1, 61, 62, 63, 64, 65, 100000, UINT32_MAX - 1, (uint32_t)SIZE_MAX};
+    fots_recurrence *const recurrence = calloc(1, sizeof *recurrence);
+    if (recurrence == NULL) {
+        check(0, "memory", 0, 0);
+        return;
+    }
+    *recurrence = fots_recurrence_parse("FREQ=DAILY", 10).recurrence;
+    for (int index = 0; index < 62; index++) {
+        recurrence->months[index] = (uint8_t)(index % 12 + 1);
+        recurrence->month_days[index] = (int8_t)(index < 31 ? index + 1 : 30 - index);
+        recurrence->weekdays[index].weekday = (uint8_t)(index % 7 + 1);
+    }
+    for (int row = 0; row < COUNT(lengths); row++) {
+        for (int lists = 1; lists < 8; lists++) {
+            recurrence->months_length = (lists & 1) == 0 ? 0 : lengths[row];
+            recurrence->month_days_length = (lists & 2) == 0 ? 0 : lengths[row];
+            recurrence->weekdays_length = (lists & 4) == 0 ? 0 : lengths[row];
+            const fots_rule rule = fots_recurrence_rule(recurrence, day(2024, 1, 1));
+            check(rule.months_length <= 63 && rule.month_days_length <= 62 && rule.weekdays_length <= 62, "inside the struct", lengths[row], lists);
+            accepts_up_to_62(&rule, "a recurrence filled by hand", lengths[row], lists);
+        }
+    }
+    free(recurrence);
 }
 
 /* Checks the written text, which parses as the same. The last one has full lists. */
@@ -531,6 +604,8 @@ int main(void)
     drawn_months();
     recurrences_of_the_rfc();
     rule_errors();
+    long_lists();
+    filled_by_hand();
     texts_in_one_order();
     text_errors();
     invalid_dates();

@@ -288,9 +288,17 @@ static void rules(int32_t julian_day, uint32_t number, int32_t count)
     written = fots_rule_days_after(&rule, other, days, 3);
     check(written.status == with_other && written.length <= (with_other == FOTS_OK ? 3 : 0), "days_after", julian_day,
         (long long)written.length);
-    rule.months_length = FOTS_MAX_MONTHS + 1;
+    /* Their number is checked before they are read, so the arrays may be shorter. */
+    rule.months_length = FOTS_MAX_VALUES + 1;
     wrong = first_of(first_of(of_date(date), no_frequency), is_weekday(rule.week_start) ? FOTS_OK : FOTS_INVALID_WEEKDAY);
-    DATE(first_of(wrong, FOTS_TOO_MANY_PARTS), fots_rule_first(&rule));
+    wrong = first_of(wrong, FOTS_TOO_MANY_PARTS);
+    DATE(wrong, fots_rule_first(&rule));
+    rule.months_length = 1;
+    rule.month_days_length = FOTS_MAX_VALUES + 1;
+    DATE(wrong, fots_rule_first(&rule));
+    rule.month_days_length = 0;
+    rule.weekdays_length = FOTS_MAX_VALUES + 1;
+    DATE(wrong, fots_rule_first(&rule));
 }
 
 /* A daily rule has the date as its first day from there on, or the start if that is later. */

@@ -221,8 +221,19 @@ void recurrences()
     check(weeks.first_days(4) == dates({"1997-08-05", "1997-08-17"}), "an end");
     weeks.until = Date::min();
     check(weeks.first() == std::nullopt && weeks.first_days(4).empty(), "no day");
-    weeks.weekdays.assign(65, Weekday::Sunday);
-    throws([&] { weeks.first(); }, FOTS_TOO_MANY_PARTS, "too many parts", "65 weekdays");
+    for (const std::size_t length : std::initializer_list<std::size_t>{FOTS_MAX_VALUES + 1, 64, 100000}) {
+        Rule many(Date::parse("1997-08-05"), Frequency::Weekly);
+        many.months.assign(length, Month::August);
+        throws([&] { many.first(); }, FOTS_TOO_MANY_PARTS, "too many parts", "months");
+        many.months.resize(FOTS_MAX_VALUES, Month::August);
+        many.month_days.assign(length, 5);
+        throws([&] { many.contains(many.start); }, FOTS_TOO_MANY_PARTS, "too many parts", "days of the month");
+        many.month_days.resize(FOTS_MAX_VALUES);
+        many.weekdays.assign(length, Weekday::Tuesday);
+        throws([&] { many.next_after(many.start); }, FOTS_TOO_MANY_PARTS, "too many parts", "weekdays");
+        many.weekdays.resize(FOTS_MAX_VALUES, Weekday::Tuesday);
+        check(many.first() == many.start, "62 values");
+    }
 
     const Recurrence by_text = Recurrence::parse("FREQ=MONTHLY;COUNT=6;BYDAY=-2MO");
     const Date start = Date::parse("1997-09-22");

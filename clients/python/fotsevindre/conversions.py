@@ -75,7 +75,7 @@ for _name in ("weeks", "days", "hours", "minutes", "seconds", "milliseconds", "m
 class _DurationMethods:
     @staticmethod
     def nanoseconds_i128(nanoseconds: SupportsIndex) -> SignedDuration:
-        """Creates a duration of nanoseconds, from those of `MIN` to those of `MAX`."""
+        """Creates a duration of nanoseconds, from `MIN` to `MAX`."""
         return SignedDuration.new(*_cut(operator.index(nanoseconds), 10**9))
 
     def whole_nanoseconds(self: Any) -> int:

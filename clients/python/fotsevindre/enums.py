@@ -13,19 +13,19 @@ class _Cycle(enum.IntEnum):
     """What months and weekdays have in common: they are ints, go round, and show their names only in `repr`."""
 
     def previous(self: _C) -> _C:
-        """Returns the one before. Before January it is December, and before Monday Sunday."""
+        """Returns the value before. Before January it is December, and before Monday Sunday."""
         return self.nth_prev(1)
 
     def next(self: _C) -> _C:
-        """Returns the one after. After December it is January, and after Sunday Monday."""
+        """Returns the value after. After December it is January, and after Sunday Monday."""
         return self.nth_next(1)
 
     def nth_next(self: _C, n: SupportsIndex) -> _C:
-        """Returns the one `n` places after. Nine months after July it is April."""
+        """Returns the value `n` places after. Nine months after July it is April."""
         raise NotImplementedError
 
     def nth_prev(self: _C, n: SupportsIndex) -> _C:
-        """Returns the one `n` places before. Nine months before July it is October."""
+        """Returns the value `n` places before. Nine months before July it is October."""
         raise NotImplementedError
 
     def __str__(self) -> str:

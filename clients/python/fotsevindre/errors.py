@@ -1,4 +1,4 @@
-"""The exceptions, and the one for each status of a call."""
+"""The exceptions, and which status of a call raises which."""
 
 from __future__ import annotations
 
@@ -21,7 +21,7 @@ _MESSAGES = {
     8: "unexpected byte in the text",
     9: "invalid moment; expected a valid date, time and offset",
     10: "invalid frequency; expected 1 (Daily) to 4 (Yearly)",
-    11: "too many parts in a rule; expected at most 64 months and 64 weekdays",
+    11: "too many values in a list of a rule; expected at most 62",
     12: "invalid convention; expected a Convention or a DayCount",
     13: "invalid weekmask; expected 0 to 127, with a bit for each weekday",
     14: "holidays must be in ascending order, without duplicates",
@@ -78,7 +78,7 @@ class ParseRuleErrorKind(enum.Enum):
 
 
 class ParseRuleError(ValueError):
-    """The text of a recurrence is invalid. `kind` and `position`, from 0, are those of the first wrong part.
+    """The text of a recurrence is invalid. `kind` and `position`, from 0, describe the first wrong part.
 
     `part` is its name, or `None` for the kinds `Unknown` and `Missing`.
     """

@@ -83,7 +83,7 @@ class Rule:
 
     A day is in every n-th day, week, month or year from the start, and in each list that isn't empty: `months`, `month_days`, where -1 is
     the last day of the month, and `weekdays`. A `Weekday` is every one, and `(-1, Weekday.Friday)` the last Friday of the month, or of the
-    year in a yearly rule without months. `ValueError` for more than 64 months or 64 weekdays.
+    year in a yearly rule without months. `ValueError` for more than 62 values in a list.
 
     >>> last_fridays = Rule(Date(2024, 1, 1), Frequency.Monthly, weekdays=[(-1, Weekday.Friday)])
     >>> last_fridays.first_days(2), last_fridays.next_after(Date(2024, 8, 30)), Date(2024, 5, 31) in last_fridays

@@ -212,8 +212,13 @@ class Recurrences(unittest.TestCase):
         with self.assertRaises(ComponentRange) as refused:
             Rule(start, Frequency.Yearly, months=[13])
         self.assertEqual(refused.exception.name, "month")
-        for parts in ({"months": [300]}, {"months": [1] * 65}, {"weekdays": [FR] * 65}, {"weekdays": [(0, FR)]}):
+        for parts in ({"months": [300]}, {"weekdays": [(0, FR)]}):
             self.assertRaises(ValueError, Rule, start, Frequency.Yearly, **parts)
+        for name, value in (("months", 1), ("month_days", 1), ("weekdays", FR)):
+            self.assertEqual(Rule(start, Frequency.Yearly, **{name: [value] * 62}).next_after(start).year, 2025 if name == "months" else 2024)
+            for length in (63, 64, 100_000):
+                with self.assertRaisesRegex(ValueError, "^too many values in a list of a rule; expected at most 62$"):
+                    Rule(start, Frequency.Yearly, **{name: [value] * length})
         for parts in ({"month_days": [128]}, {"weekdays": [(-129, FR)]}, {"interval": -1}, {"interval": 2**32}):
             self.assertRaises(OverflowError, Rule, start, Frequency.Yearly, **parts)
         for arguments in ((start, 4), (datetime.date(2024, 1, 1), Frequency.Daily), (start, Frequency.Daily, 1.0)):

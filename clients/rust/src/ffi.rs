@@ -184,13 +184,16 @@ impl ParseError {
 
 /// Calls with the parts of a rule, which live until the call returns. Panics with too many of them.
 pub(crate) fn with_parts<T>(rule: &Rule<'_>, call: impl FnOnce(CRulePointer) -> T) -> T {
-    assert!(rule.months.len() <= Rule::MAX_MONTHS, "a rule has more than {} months", Rule::MAX_MONTHS);
-    assert!(rule.weekdays.len() <= Rule::MAX_WEEKDAYS, "a rule has more than {} weekdays", Rule::MAX_WEEKDAYS);
-    let mut months = [0; Rule::MAX_MONTHS];
+    for (length, name) in
+        [(rule.months.len(), "months"), (rule.month_days.len(), "days of the month"), (rule.weekdays.len(), "weekdays")]
+    {
+        assert!(length <= Rule::MAX_VALUES, "too many {name} in a rule: {length}; expected at most {}", Rule::MAX_VALUES);
+    }
+    let mut months = [0; Rule::MAX_VALUES];
     for (number, month) in months.iter_mut().zip(rule.months) {
         *number = *month as u8;
     }
-    let mut weekdays = [CRuleWeekday { number: 0, weekday: 0 }; Rule::MAX_WEEKDAYS];
+    let mut weekdays = [CRuleWeekday { number: 0, weekday: 0 }; Rule::MAX_VALUES];
     for (parts, by) in weekdays.iter_mut().zip(rule.weekdays) {
         *parts = match by {
             ByDay::Every(weekday) => CRuleWeekday { number: 0, weekday: weekday.number_from_monday() },

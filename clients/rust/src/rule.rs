@@ -37,7 +37,7 @@ pub enum ByDay {
 /// A recurrence rule in a subset of RFC 5545. A day matches if it matches all parts; an empty slice
 /// excludes no day. A rule without days of the month and weekdays takes the day of its start.
 ///
-/// Calls panic with more than [`Rule::MAX_MONTHS`] months or [`Rule::MAX_WEEKDAYS`] weekdays.
+/// Calls panic if a slice has more than [`Rule::MAX_VALUES`] values.
 ///
 /// ```
 /// use fotsevindre::{ByDay, Date, Frequency, Month, Rule, Weekday};
@@ -69,11 +69,8 @@ pub struct Rule<'a> {
 }
 
 impl<'a> Rule<'a> {
-    /// The maximum number of months.
-    pub const MAX_MONTHS: usize = 64;
-
-    /// The maximum number of weekdays.
-    pub const MAX_WEEKDAYS: usize = 64;
+    /// The maximum number of months, of days of the month, and of weekdays.
+    pub const MAX_VALUES: usize = 62;
 
     /// Creates the rule of every day, or the same day of every week (from Monday), month or year.
     pub fn new(start: Date, frequency: Frequency) -> Self {

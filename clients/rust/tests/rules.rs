@@ -187,22 +187,31 @@ fn texts_at_fault() {
 
 #[test]
 fn as_many_parts_as_there_can_be() {
-    let rule =
-        Rule { months: &[January; Rule::MAX_MONTHS], weekdays: &[Every(Monday); Rule::MAX_WEEKDAYS], ..rule(Yearly, 2024_01_01) };
-    assert_eq!(rule.days().nth(5), Some(date(2025_01_06)));
+    let rule = Rule {
+        months: &[January; Rule::MAX_VALUES],
+        month_days: &[6; Rule::MAX_VALUES],
+        weekdays: &[Every(Monday); Rule::MAX_VALUES],
+        ..rule(Yearly, 2024_01_01)
+    };
+    assert_eq!(rule.days().next(), Some(date(2025_01_06)));
     let header = include_str!("../../../include/fotsevindre.h");
-    assert!(header.contains(&format!("#define FOTS_MAX_MONTHS {}", Rule::MAX_MONTHS)));
-    assert!(header.contains(&format!("#define FOTS_MAX_WEEKDAYS {}", Rule::MAX_WEEKDAYS)));
+    assert!(header.contains(&format!("#define FOTS_MAX_VALUES {}\n", Rule::MAX_VALUES)));
 }
 
 #[test]
-#[should_panic = "more than 64 months"]
+#[should_panic = "too many months in a rule: 63; expected at most 62"]
 fn months_past_them() {
-    Rule { months: &[January; 65], ..rule(Daily, 2024_01_01) }.days();
+    Rule { months: &[January; 63], ..rule(Daily, 2024_01_01) }.days();
 }
 
 #[test]
-#[should_panic = "more than 64 weekdays"]
+#[should_panic = "too many days of the month in a rule: 100000; expected at most 62"]
+fn month_days_past_them() {
+    Rule { month_days: &[1; 100_000], ..rule(Daily, 2024_01_01) }.next_after(Date::MAX);
+}
+
+#[test]
+#[should_panic = "too many weekdays in a rule: 64; expected at most 62"]
 fn weekdays_past_them() {
-    Rule { weekdays: &[Every(Monday); 65], ..rule(Daily, 2024_01_01) }.contains(Date::MAX);
+    Rule { weekdays: &[Every(Monday); 64], ..rule(Daily, 2024_01_01) }.contains(Date::MAX);
 }

@@ -6,6 +6,7 @@ use Rattle.cal_schedule.specs.declared.rule.rule.ByDay.TheVariants.{Every, Nth}
 use Rattle.cal_schedule.specs.declared.rule.rule.Frequency.{Frequency}
 use Rattle.cal_schedule.specs.declared.rule.rule.Frequency.TheVariants.{Daily, Weekly, Monthly, Yearly}
 use Rattle.cal_schedule.specs.declared.rule.rule.Rule.{Rule}
+use Rattle.cal_recurrence.specs.Values.{most_values}
 use Rattle.cal_time.specs.Month.{month_of_index}
 use Rattle.cal_time.specs.Weekday.{index, weekday_of_index}
 use Rattle.cal_time.specs.declared.Month.{Month}
@@ -26,13 +27,6 @@ frequency_number Yearly = 4
 abbrev pub IsFrequency : ℕ → Type 0
 IsFrequency k = (1 ≤ k) × (k ≤ 4)
 
--- A rule has at most 64 months and 64 weekdays.
-abbrev pub max_months : ℕ
-max_months = 64
-
-abbrev pub max_weekdays : ℕ
-max_weekdays = 64
-
 -- The months with these numbers.
 abbrev pub months_in : List ℕ → List Month
 months_in ms = map (λ m. month_of_index (m - 1)) ms
@@ -52,9 +46,10 @@ weekdays_in ws = map weekday_in ws
 abbrev pub AreDates : RuleParts → Type 0
 AreDates p = IsJulianDay p.start × IsJulianDay p.until
 
--- The parts have few enough months and weekdays.
+-- No list has more than 62 values, the limit of a recurrence in text.
 abbrev pub AreListsShort : RuleParts → Type 0
-AreListsShort p = (length p.months.now ≤ max_months) × (length p.weekdays.now ≤ max_weekdays)
+AreListsShort p =
+    (length p.months.now ≤ most_values) × (length p.month_days.now ≤ most_values) × (length p.weekdays.now ≤ most_values)
 
 -- Each number is the number of a month.
 abbrev pub AreMonths : List ℕ → Type 0

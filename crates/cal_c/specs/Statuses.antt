@@ -42,7 +42,7 @@ invalid_moment = pos 9
 abbrev pub invalid_frequency : ℤ
 invalid_frequency = pos 10
 
--- The rule has too many months or weekdays.
+-- A list of the rule has more than 62 values.
 abbrev pub too_many_parts : ℤ
 too_many_parts = pos 11
 

@@ -12,7 +12,6 @@ use crate::values::{valid_date, valid_duration, valid_time};
 use cal_time::{add_to_pair, sub_from_pair};
 
 /// Adds a duration to a date and a time. Fails if the resulting date is out of range.
-#[tactic(auto, using(crate::proofs::Needs::met))]
 #[unsafe(no_mangle)]
 pub extern "C" fn fots_add_to_pair(date: i32, time: u64, duration: Duration) -> PairResult
     ensures { need IsJulianDay date else result ≡ pair_error invalid_date then
@@ -30,7 +29,6 @@ pub extern "C" fn fots_add_to_pair(date: i32, time: u64, duration: Duration) -> 
 }
 
 /// Subtracts a duration from a date and a time. Fails if the resulting date is out of range.
-#[tactic(auto, using(crate::proofs::Needs::met))]
 #[unsafe(no_mangle)]
 pub extern "C" fn fots_sub_from_pair(date: i32, time: u64, duration: Duration) -> PairResult
     ensures { need IsJulianDay date else result ≡ pair_error invalid_date then

@@ -29,7 +29,7 @@ pub const INVALID_MOMENT: i32 = 9;
 /// The number of the frequency is invalid.
 pub const INVALID_FREQUENCY: i32 = 10;
 
-/// The rule has too many months or weekdays.
+/// A list of the rule has more than 62 values.
 pub const TOO_MANY_PARTS: i32 = 11;
 
 /// The number of the day count or business day convention is invalid.

@@ -1,9 +1,10 @@
 //! The values of a part of a recurrence.
 
+use crate::Rule;
 use core::fmt;
 
 /// The maximum number of values.
-const MAX_VALUES: usize = 62;
+const MAX_VALUES: usize = Rule::MAX_VALUES;
 
 /// Values in place, with unused ones after them.
 #[derive(Clone, Copy)]

@@ -67,12 +67,13 @@ fn sub_duration(moment: OffsetDateTime, duration: SignedDuration) -> MomentResul
 }
 
 /// Adds a duration and keeps the offset. A local result out of range is clamped.
-#[tactic(auto, using(crate::proofs::Needs::met))]
 #[unsafe(no_mangle)]
 pub extern "C" fn fots_moment_saturating_add(moment: Moment, duration: Duration) -> MomentResult
-    ensures { need IsMoment moment else result ≡ moment_error invalid_moment then
-        need IsDurationPair duration else result ≡ moment_error invalid_duration then
-        result ≡ moment_ok (record {
+    ensures invalid_moment { ¬ IsMoment moment → result ≡ moment_error invalid_moment }
+    ensures invalid_duration { IsMoment moment → ¬ IsDurationPair duration
+        → result ≡ moment_error invalid_duration }
+    ensures value { IsMoment moment → IsDurationPair duration
+        → result ≡ moment_ok (record {
           local = clamped_date_time (local_in moment +ℤ nanoseconds_in duration);
           offset = moment.offset;
         }) }
@@ -86,12 +87,13 @@ pub extern "C" fn fots_moment_saturating_add(moment: Moment, duration: Duration)
 }
 
 /// Subtracts a duration and keeps the offset. A local result out of range is clamped.
-#[tactic(auto, using(crate::proofs::Needs::met))]
 #[unsafe(no_mangle)]
 pub extern "C" fn fots_moment_saturating_sub(moment: Moment, duration: Duration) -> MomentResult
-    ensures { need IsMoment moment else result ≡ moment_error invalid_moment then
-        need IsDurationPair duration else result ≡ moment_error invalid_duration then
-        result ≡ moment_ok (record {
+    ensures invalid_moment { ¬ IsMoment moment → result ≡ moment_error invalid_moment }
+    ensures invalid_duration { IsMoment moment → ¬ IsDurationPair duration
+        → result ≡ moment_error invalid_duration }
+    ensures value { IsMoment moment → IsDurationPair duration
+        → result ≡ moment_ok (record {
           local = clamped_date_time (local_in moment -ℤ nanoseconds_in duration);
           offset = moment.offset;
         }) }

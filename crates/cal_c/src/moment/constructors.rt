@@ -17,13 +17,14 @@ use cal_datetime::OffsetDateTime;
 use cal_time::UtcOffset;
 
 /// Creates a moment from a local date, a local time of day and an offset.
-#[tactic(auto, using(crate::proofs::Needs::met))]
 #[unsafe(no_mangle)]
 pub extern "C" fn fots_moment_new(date: i32, time: u64, offset: i32) -> MomentResult
-    ensures { need IsJulianDay date else result ≡ moment_error invalid_date then
-        need IsTime time else result ≡ moment_error invalid_time then
-        need IsOffset offset else result ≡ moment_error invalid_offset then
-        result ≡ moment_ok (moment_of date time offset) }
+    ensures invalid_date { ¬ IsJulianDay date → result ≡ moment_error invalid_date }
+    ensures invalid_time { IsJulianDay date → ¬ IsTime time → result ≡ moment_error invalid_time }
+    ensures invalid_offset { IsJulianDay date → IsTime time → ¬ IsOffset offset
+        → result ≡ moment_error invalid_offset }
+    ensures value { IsJulianDay date → IsTime time → IsOffset offset
+        → result ≡ moment_ok (moment_of date time offset) }
 {
     let date = or_return!(valid_date(date), MomentResult::error(INVALID_DATE));
     let time = or_return!(valid_time(time), MomentResult::error(INVALID_TIME));

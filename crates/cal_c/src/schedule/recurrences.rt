@@ -1,13 +1,13 @@
 //! Recurrence rules of RFC 5545.
 //!
-//! A rule is a struct of its parts. It has at most 64 months and at most 64 weekdays.
+//! A rule is a struct of its parts. Each of its lists has at most 62 values.
 ghost use Rattle.std.specs.Prelude.{◌≡◌, pos, slice_get, if◌then◌else◌};
 ghost use Rattle.cal_schedule.specs.Rule.{occurrences_after, occurrences, is_occurrence};
 ghost use Rattle.cal_schedule.specs.declared.rule.rule.Rule.{Rule};
 ghost use Rattle.cal_c.specs.Recurrences.{days_ok, days_error, AreDatesWritten, IsRule, IsRuleFromParts, IsRuleStatus};
 ghost use Rattle.cal_c.specs.Results.{date_or_out_of_range, date_error, number_ok, number_error};
 ghost use Rattle.cal_c.specs.Statuses.{invalid_date};
-ghost use Rattle.cal_c.specs.Values.{need◌else◌then◌, IsJulianDay, day_of};
+ghost use Rattle.cal_c.specs.Values.{IsJulianDay, day_of};
 
 mod days;
 mod formatting;
@@ -47,10 +47,11 @@ pub extern "C" fn fots_rule_first(rule: &RuleParts<'_>) -> DateResult
 /// of each month after 2460336, 2024-01-26, it is 2460364, 2024-02-23.
 #[unsafe(no_mangle)]
 pub extern "C" fn fots_rule_next_after(rule: &RuleParts<'_>, date: i32) -> DateResult
-    ensures { need IsRule rule.now
-        else IsRuleStatus rule.now result.status × (result ≡ date_error result.status) then
-        need IsJulianDay date else result ≡ date_error invalid_date then
-        ((its : Rule) × IsRuleFromParts rule.now its
+    ensures error { ¬ IsRule rule.now
+        → IsRuleStatus rule.now result.status × (result ≡ date_error result.status) }
+    ensures invalid_date { IsRule rule.now → ¬ IsJulianDay date → result ≡ date_error invalid_date }
+    ensures value { IsRule rule.now → IsJulianDay date
+        → ((its : Rule) × IsRuleFromParts rule.now its
         × (result ≡ date_or_out_of_range (slice_get (occurrences_after its (day_of date)) 0))) }
 {
     let found = or_return!(OwnedRule::from_parts(rule), status => DateResult::error(status));
@@ -61,10 +62,11 @@ pub extern "C" fn fots_rule_next_after(rule: &RuleParts<'_>, date: i32) -> DateR
 /// Returns 1 if a date is a day of the rule, else 0.
 #[unsafe(no_mangle)]
 pub extern "C" fn fots_rule_contains(rule: &RuleParts<'_>, date: i32) -> NumberResult
-    ensures { need IsRule rule.now
-        else IsRuleStatus rule.now result.status × (result ≡ number_error result.status) then
-        need IsJulianDay date else result ≡ number_error invalid_date then
-        ((its : Rule) × IsRuleFromParts rule.now its
+    ensures error { ¬ IsRule rule.now
+        → IsRuleStatus rule.now result.status × (result ≡ number_error result.status) }
+    ensures invalid_date { IsRule rule.now → ¬ IsJulianDay date → result ≡ number_error invalid_date }
+    ensures value { IsRule rule.now → IsJulianDay date
+        → ((its : Rule) × IsRuleFromParts rule.now its
         × (result ≡ number_ok (if is_occurrence its (day_of date) then pos 1 else pos 0))) }
 {
     let found = or_return!(OwnedRule::from_parts(rule), status => NumberResult::error(status));
@@ -80,11 +82,13 @@ pub extern "C" fn fots_rule_days_after(
     date: i32,
     days: &mut [i32],
 ) -> DaysResult
-    ensures { need IsRule rule.now
-        else IsRuleStatus rule.now result.status × (result ≡ days_error result.status)
-        × (days.new ≡ days.old) then
-        need IsJulianDay date else (result ≡ days_error invalid_date) × (days.new ≡ days.old) then
-        ((its : Rule) × IsRuleFromParts rule.now its × (result ≡ days_ok result.length)
+    ensures error { ¬ IsRule rule.now
+        → IsRuleStatus rule.now result.status × (result ≡ days_error result.status)
+        × (days.new ≡ days.old) }
+    ensures invalid_date { IsRule rule.now → ¬ IsJulianDay date
+        → (result ≡ days_error invalid_date) × (days.new ≡ days.old) }
+    ensures value { IsRule rule.now → IsJulianDay date
+        → ((its : Rule) × IsRuleFromParts rule.now its × (result ≡ days_ok result.length)
         × AreDatesWritten (occurrences_after its (day_of date)) days.old days.new result.length) }
 {
     let found = or_return!(OwnedRule::from_parts(rule), status => DaysResult::error(status));

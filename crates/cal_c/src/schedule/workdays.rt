@@ -9,7 +9,7 @@ ghost use Rattle.cal_schedule.specs.WorkdaysConvention.{adjusted_date};
 ghost use Rattle.cal_c.specs.Columns.{IsDateWorkdaysLater, IsWorkdaysBetween};
 ghost use Rattle.cal_c.specs.Results.{date_or_out_of_range, date_error, number_ok, number_error};
 ghost use Rattle.cal_c.specs.Statuses.{invalid_convention, invalid_date, invalid_holidays, invalid_weekmask, too_many_holidays};
-ghost use Rattle.cal_c.specs.Values.{need◌else◌then◌, IsJulianDay, day_of};
+ghost use Rattle.cal_c.specs.Values.{IsJulianDay, day_of};
 ghost use Rattle.cal_c.specs.Weekmasks.{convention_number, max_holidays, work_week, workdays_between, AreHolidays, IsConvention, IsWeekmask};
 
 pub mod calendar;
@@ -23,14 +23,17 @@ use calendar::Calendar;
 
 /// Returns 1 if a date is a working day, else 0. For 2451604, a Tuesday, it is 1 with the marks 31
 /// and without holidays.
-#[tactic(auto, using(crate::proofs::Needs::met))]
 #[unsafe(no_mangle)]
 pub extern "C" fn fots_date_is_workday(date: i32, weekmask: u32, holidays: &[i32]) -> NumberResult
-    ensures { need IsJulianDay date else result ≡ number_error invalid_date then
-        need IsWeekmask weekmask else result ≡ number_error invalid_weekmask then
-        need length holidays.now ≤ max_holidays else result ≡ number_error too_many_holidays then
-        need AreHolidays holidays.now else result ≡ number_error invalid_holidays then
-        result ≡ number_ok (if is_workday (work_week weekmask holidays.now)
+    ensures invalid_date { ¬ IsJulianDay date → result ≡ number_error invalid_date }
+    ensures invalid_weekmask { IsJulianDay date → ¬ IsWeekmask weekmask → result ≡ number_error invalid_weekmask }
+    ensures too_many_holidays { IsJulianDay date → IsWeekmask weekmask → max_holidays < length holidays.now
+        → result ≡ number_error too_many_holidays }
+    ensures invalid_holidays { IsJulianDay date → IsWeekmask weekmask → length holidays.now ≤ max_holidays
+        → ¬ AreHolidays holidays.now → result ≡ number_error invalid_holidays }
+    ensures value { IsJulianDay date → IsWeekmask weekmask → length holidays.now ≤ max_holidays
+        → AreHolidays holidays.now
+        → result ≡ number_ok (if is_workday (work_week weekmask holidays.now)
         (day_of date) then pos 1 else pos 0) }
 {
     let date = or_return!(valid_date(date), NumberResult::error(INVALID_DATE));
@@ -41,14 +44,17 @@ pub extern "C" fn fots_date_is_workday(date: i32, weekmask: u32, holidays: &[i32
 
 /// Returns the first working day after a date. Fails if the range has none. For 2451607, a Friday,
 /// it is 2451610 with the marks 31 and without holidays.
-#[tactic(auto, using(crate::proofs::Needs::met))]
 #[unsafe(no_mangle)]
 pub extern "C" fn fots_date_next_workday(date: i32, weekmask: u32, holidays: &[i32]) -> DateResult
-    ensures { need IsJulianDay date else result ≡ date_error invalid_date then
-        need IsWeekmask weekmask else result ≡ date_error invalid_weekmask then
-        need length holidays.now ≤ max_holidays else result ≡ date_error too_many_holidays then
-        need AreHolidays holidays.now else result ≡ date_error invalid_holidays then
-        result ≡ date_or_out_of_range (slice_get
+    ensures invalid_date { ¬ IsJulianDay date → result ≡ date_error invalid_date }
+    ensures invalid_weekmask { IsJulianDay date → ¬ IsWeekmask weekmask → result ≡ date_error invalid_weekmask }
+    ensures too_many_holidays { IsJulianDay date → IsWeekmask weekmask → max_holidays < length holidays.now
+        → result ≡ date_error too_many_holidays }
+    ensures invalid_holidays { IsJulianDay date → IsWeekmask weekmask → length holidays.now ≤ max_holidays
+        → ¬ AreHolidays holidays.now → result ≡ date_error invalid_holidays }
+    ensures value { IsJulianDay date → IsWeekmask weekmask → length holidays.now ≤ max_holidays
+        → AreHolidays holidays.now
+        → result ≡ date_or_out_of_range (slice_get
         (workdays_from (work_week weekmask holidays.now) (day_of date + 1)) 0) }
 {
     let date = or_return!(valid_date(date), DateResult::error(INVALID_DATE));
@@ -59,18 +65,21 @@ pub extern "C" fn fots_date_next_workday(date: i32, weekmask: u32, holidays: &[i
 
 /// Returns the last working day before a date. Fails if the range has none. For 2451610, a Monday,
 /// it is 2451607 with the marks 31 and without holidays.
-#[tactic(auto, using(crate::proofs::Needs::met))]
 #[unsafe(no_mangle)]
 pub extern "C" fn fots_date_previous_workday(
     date: i32,
     weekmask: u32,
     holidays: &[i32],
 ) -> DateResult
-    ensures { need IsJulianDay date else result ≡ date_error invalid_date then
-        need IsWeekmask weekmask else result ≡ date_error invalid_weekmask then
-        need length holidays.now ≤ max_holidays else result ≡ date_error too_many_holidays then
-        need AreHolidays holidays.now else result ≡ date_error invalid_holidays then
-        result ≡ date_or_out_of_range (slice_get
+    ensures invalid_date { ¬ IsJulianDay date → result ≡ date_error invalid_date }
+    ensures invalid_weekmask { IsJulianDay date → ¬ IsWeekmask weekmask → result ≡ date_error invalid_weekmask }
+    ensures too_many_holidays { IsJulianDay date → IsWeekmask weekmask → max_holidays < length holidays.now
+        → result ≡ date_error too_many_holidays }
+    ensures invalid_holidays { IsJulianDay date → IsWeekmask weekmask → length holidays.now ≤ max_holidays
+        → ¬ AreHolidays holidays.now → result ≡ date_error invalid_holidays }
+    ensures value { IsJulianDay date → IsWeekmask weekmask → length holidays.now ≤ max_holidays
+        → AreHolidays holidays.now
+        → result ≡ date_or_out_of_range (slice_get
         (workdays_before (work_week weekmask holidays.now) (day_of date)) 0) }
 {
     let date = or_return!(valid_date(date), DateResult::error(INVALID_DATE));

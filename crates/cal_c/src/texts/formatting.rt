@@ -10,7 +10,7 @@ ghost use Rattle.cal_text.specs.Rfc3339.{HasMomentText, moment_text};
 ghost use Rattle.cal_text.specs.UnixText.{unix_text};
 ghost use Rattle.cal_c.specs.Statuses.{invalid_date, invalid_time, invalid_offset, invalid_weekday, month_status, result_out_of_range};
 ghost use Rattle.cal_c.specs.Texts.{month_name, text_ok, text_error, weekday_name};
-ghost use Rattle.cal_c.specs.Values.{need◌else◌then◌, IsJulianDay, IsMonth, IsWeekday, day_of, moment_of};
+ghost use Rattle.cal_c.specs.Values.{IsJulianDay, IsMonth, IsWeekday, day_of, moment_of};
 
 use crate::status::{
     INVALID_DATE, INVALID_OFFSET, INVALID_TIME, INVALID_WEEKDAY, MONTH_OUT_OF_RANGE,
@@ -65,14 +65,18 @@ pub extern "C" fn fots_date_julian_text(date: i32) -> TextResult
 
 /// Returns a date, a time and an offset in RFC 3339, such as `2024-02-29T23:59:59.25+01:00`. Fails
 /// for a year outside 0 to 9999, and for an offset of 24 hours or more or with seconds.
-#[tactic(auto, using(crate::proofs::Needs::met))]
 #[unsafe(no_mangle)]
 pub extern "C" fn fots_moment_text(date: i32, time: u64, offset: i32) -> TextResult
-    ensures { need IsJulianDay date else result ≡ text_error invalid_date then
-        need IsTime time else result ≡ text_error invalid_time then
-        need IsOffset offset else result ≡ text_error invalid_offset then
-        need HasMomentText (moment_of date time offset) else result ≡ text_error result_out_of_range then
-        result ≡ text_ok (moment_text (moment_of date time offset)) }
+    ensures invalid_date { ¬ IsJulianDay date → result ≡ text_error invalid_date }
+    ensures invalid_time { IsJulianDay date → ¬ IsTime time → result ≡ text_error invalid_time }
+    ensures invalid_offset { IsJulianDay date → IsTime time → ¬ IsOffset offset
+        → result ≡ text_error invalid_offset }
+    ensures result_out_of_range { IsJulianDay date → IsTime time → IsOffset offset
+        → ¬ HasMomentText (moment_of date time offset)
+        → result ≡ text_error result_out_of_range }
+    ensures value { IsJulianDay date → IsTime time → IsOffset offset
+        → HasMomentText (moment_of date time offset)
+        → result ≡ text_ok (moment_text (moment_of date time offset)) }
 {
     let date = or_return!(valid_date(date), TextResult::error(INVALID_DATE));
     let time = or_return!(valid_time(time), TextResult::error(INVALID_TIME));
@@ -93,13 +97,14 @@ fn moment_text_result(moment: OffsetDateTime) -> TextResult
 }
 
 /// Returns the Unix time of a date and a time at an offset, such as `@1709164800.5`.
-#[tactic(auto, using(crate::proofs::Needs::met))]
 #[unsafe(no_mangle)]
 pub extern "C" fn fots_unix_text(date: i32, time: u64, offset: i32) -> TextResult
-    ensures { need IsJulianDay date else result ≡ text_error invalid_date then
-        need IsTime time else result ≡ text_error invalid_time then
-        need IsOffset offset else result ≡ text_error invalid_offset then
-        result ≡ text_ok (unix_text (unix_nanoseconds (instant (moment_of date time offset)))) }
+    ensures invalid_date { ¬ IsJulianDay date → result ≡ text_error invalid_date }
+    ensures invalid_time { IsJulianDay date → ¬ IsTime time → result ≡ text_error invalid_time }
+    ensures invalid_offset { IsJulianDay date → IsTime time → ¬ IsOffset offset
+        → result ≡ text_error invalid_offset }
+    ensures value { IsJulianDay date → IsTime time → IsOffset offset
+        → result ≡ text_ok (unix_text (unix_nanoseconds (instant (moment_of date time offset)))) }
 {
     let date = or_return!(valid_date(date), TextResult::error(INVALID_DATE));
     let time = or_return!(valid_time(time), TextResult::error(INVALID_TIME));

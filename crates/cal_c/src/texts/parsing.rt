@@ -78,13 +78,14 @@ pub extern "C" fn fots_unix_parse(text: &[u8]) -> ParseMomentResult
 }
 
 /// Returns the Unix time of a local date and time at an offset.
-#[tactic(auto, using(crate::proofs::Needs::met))]
 #[unsafe(no_mangle)]
 pub extern "C" fn fots_unix_time(date: i32, time: u64, offset: i32) -> DurationResult
-    ensures { need IsJulianDay date else result ≡ duration_error invalid_date then
-        need IsTime time else result ≡ duration_error invalid_time then
-        need IsOffset offset else result ≡ duration_error invalid_offset then
-        result ≡ duration_ok (unix_nanoseconds (instant (moment_of date time offset))) }
+    ensures invalid_date { ¬ IsJulianDay date → result ≡ duration_error invalid_date }
+    ensures invalid_time { IsJulianDay date → ¬ IsTime time → result ≡ duration_error invalid_time }
+    ensures invalid_offset { IsJulianDay date → IsTime time → ¬ IsOffset offset
+        → result ≡ duration_error invalid_offset }
+    ensures value { IsJulianDay date → IsTime time → IsOffset offset
+        → result ≡ duration_ok (unix_nanoseconds (instant (moment_of date time offset))) }
 {
     let date = or_return!(valid_date(date), DurationResult::error(INVALID_DATE));
     let time = or_return!(valid_time(time), DurationResult::error(INVALID_TIME));

@@ -8,7 +8,7 @@ use super::rule_parts::RuleWeekday;
 use cal_schedule::ByDay;
 use cal_time::{Cycle, Month};
 
-/// The maximum number of values of a list.
+/// The maximum number of values of a list of a rule or a recurrence.
 pub(super) const MAX: usize = 62;
 
 pub(super) const NO_WEEKDAY: RuleWeekday = RuleWeekday {

@@ -1,13 +1,12 @@
 //! The months of a rule.
 ghost use Rattle.std.specs.Prelude.{◌≡◌, ◌≤◌, SomeIff, length};
-ghost use Rattle.cal_c.specs.Recurrences.{months_in, max_months, AreMonths};
+ghost use Rattle.cal_recurrence.specs.Values.{most_values};
+ghost use Rattle.cal_c.specs.Recurrences.{months_in, AreMonths};
 
+use super::lists::MAX;
 use crate::values::valid_month;
 use cal_time::Month;
 use std::marker::Model;
-
-/// The maximum number of months of a rule.
-pub(super) const MAX: usize = 64;
 
 /// A list of months. Contracts see the list.
 #[derive(Drop)]
@@ -19,19 +18,19 @@ pub(super) struct Months {
 impl Model for Months {
     ghost use Rattle.std.specs.Prelude.{◌≤◌, List, take};
     ghost use Rattle.cal_time.specs.declared.Month.{Month};
-    ghost use Rattle.cal_c.specs.Recurrences.{max_months};
+    ghost use Rattle.cal_recurrence.specs.Values.{most_values};
 
     ghost Value = { List Month };
 
     ghost view = { λ m. take m.number m.months };
 
-    ghost invariant = { λ m. m.number ≤ max_months };
+    ghost invariant = { λ m. m.number ≤ most_values };
 }
 
 impl Months {
     /// Returns the months with these numbers, from 1 for January, or `None` if one is invalid.
     pub(super) fn from_numbers(numbers: &[u8]) -> Option<Self>
-        requires { length numbers.now ≤ max_months }
+        requires { length numbers.now ≤ most_values }
         ensures { SomeIff result (AreMonths numbers.now) (months_in numbers.now) }
     {
         let mut months = [Month::January; MAX];

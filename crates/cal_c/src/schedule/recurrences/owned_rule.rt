@@ -3,9 +3,10 @@ ghost use Rattle.std.specs.Prelude.{◌≡◌, IfErr, IfOk, MatchOption};
 ghost use Rattle.cal_c.specs.Recurrences.{frequency_number, months_in, weekdays_in, ArePlain, IsFrequency, IsPlainRuleFromParts, IsRule, IsRuleFromParts, IsRuleStatus};
 ghost use Rattle.cal_c.specs.declared.schedule.recurrences.rule_parts.RuleParts.{RuleParts};
 
-use super::months::{self, Months};
+use super::lists::MAX;
+use super::months::Months;
 use super::rule_parts::RuleParts;
-use super::weekdays::{self, Weekdays};
+use super::weekdays::Weekdays;
 use crate::status::{
     INVALID_DATE, INVALID_FREQUENCY, INVALID_WEEKDAY, MONTH_OUT_OF_RANGE, TOO_MANY_PARTS,
 };
@@ -67,7 +68,7 @@ impl<'a> OwnedRule<'a> {
             × (found.weekdays ≡ weekdays_in parts.now.weekdays.now)) }
     {
         let plain = or_return!(plain_rule_from_parts(parts), status => Err(status));
-        if parts.months.len() > months::MAX || parts.weekdays.len() > weekdays::MAX {
+        if parts.months.len() > MAX || parts.month_days.len() > MAX || parts.weekdays.len() > MAX {
             return Err(TOO_MANY_PARTS);
         }
         let months = or_return!(Months::from_numbers(parts.months), Err(MONTH_OUT_OF_RANGE));

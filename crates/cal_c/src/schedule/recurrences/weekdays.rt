@@ -1,16 +1,15 @@
 //! The weekdays of a rule.
 ghost use Rattle.std.specs.Prelude.{◌≡◌, ◌≤◌, SomeIff, length};
-ghost use Rattle.cal_c.specs.Recurrences.{weekday_in, weekdays_in, max_weekdays, AreWeekdays};
+ghost use Rattle.cal_recurrence.specs.Values.{most_values};
+ghost use Rattle.cal_c.specs.Recurrences.{weekday_in, weekdays_in, AreWeekdays};
 ghost use Rattle.cal_c.specs.Values.{IsWeekday};
 
+use super::lists::MAX;
 use super::rule_parts::RuleWeekday;
 use crate::values::valid_weekday;
 use cal_schedule::ByDay;
 use cal_time::Weekday;
 use std::marker::Model;
-
-/// The maximum number of weekdays of a rule.
-pub(super) const MAX: usize = 64;
 
 /// A list of weekdays. Contracts see the list.
 #[derive(Drop)]
@@ -22,13 +21,13 @@ pub(super) struct Weekdays {
 impl Model for Weekdays {
     ghost use Rattle.std.specs.Prelude.{◌≤◌, List, take};
     ghost use Rattle.cal_schedule.specs.declared.rule.rule.ByDay.{ByDay};
-    ghost use Rattle.cal_c.specs.Recurrences.{max_weekdays};
+    ghost use Rattle.cal_recurrence.specs.Values.{most_values};
 
     ghost Value = { List ByDay };
 
     ghost view = { λ w. take w.number w.weekdays };
 
-    ghost invariant = { λ w. w.number ≤ max_weekdays };
+    ghost invariant = { λ w. w.number ≤ most_values };
 }
 
 /// Returns the weekday with these parts, or `None` if it is invalid.
@@ -46,7 +45,7 @@ fn valid_by_day(parts: RuleWeekday) -> Option<ByDay>
 impl Weekdays {
     /// Returns the weekdays with these parts, or `None` if one is invalid.
     pub(super) fn from_parts(parts: &[RuleWeekday]) -> Option<Self>
-        requires { length parts.now ≤ max_weekdays }
+        requires { length parts.now ≤ most_values }
         ensures { SomeIff result (AreWeekdays parts.now) (weekdays_in parts.now) }
     {
         let mut weekdays = [ByDay::Every(Weekday::Monday); MAX];

@@ -2,20 +2,15 @@ use Rattle.std.proofs.Common.{◌≡◌, ap, ◌∙◌, rules, if◌then◌else�
 use Rattle.std.proofs.lemmas.Int.{to_z-of_z}
 use Rattle.cal_schedule.specs.Rule.{is_occurrence}
 use Rattle.cal_c.specs.Results.{number_ok}
-use Rattle.cal_c.proofs.Needs.{met}
 use Rattle.cal_c.proofs.schedule.recurrences.fots_rule_contains.Goals as goal
 
-pub returns : goal.returns
-returns c =
+pub returns-clause-value : goal.returns-clause-value
+returns-clause-value c = λ h k.
     let f = c.ranges.date in
     let at = simp to_z-of_z at c.in-Some.ensures in
     let read = c.in-Ok.ensures.value in
-    let number : c.ok.result ≡ number_ok (if c.contains.result then pos 1 else pos 0) = search rules in
-    met read.0 (met at.0 (
+    let number : c.ok.result ≡ number_ok (if c.contains.result then pos 1 else pos 0) = search rules in (
       c.rule.result,
       c.rule.ensures c.args.rule.now read.1 read.2 read.3,
       number ∙ ap (λ on. number_ok (if on then pos 1 else pos 0)) (c.contains.ensures.value ∙ ap (is_occurrence c.rule.result) at.1),
-    ))
-
-pub returns-in-None : goal.returns-in-None
-returns-in-None c = met c.in-Ok.ensures.value.0 (search rules)
+    )

@@ -1,26 +1,21 @@
-use Rattle.std.proofs.Common.{rules, ap, ◌∙◌, subst, sym}
+use Rattle.std.proofs.Common.{ap, ◌∙◌, subst, sym}
 use Rattle.std.proofs.lemmas.Int.{to_z-of_z}
 use Rattle.cal_schedule.specs.Rule.{occurrences_after}
 use Rattle.cal_c.specs.Recurrences.{days_ok, AreDatesWritten}
-use Rattle.cal_c.proofs.Needs.{met}
 use Rattle.cal_c.proofs.schedule.recurrences.fots_rule_days_after.Goals as goal
 
-pub returns : goal.returns
-returns c =
+pub returns-clause-value : goal.returns-clause-value
+returns-clause-value c = λ h k.
     let f = c.ranges.date in
     let at = simp to_z-of_z at c.in-Some.ensures in
     let read = c.in-Ok.ensures.value in
     let its = c.rule.result in
     let count = ap (λ r. r.length) c.ok.ensures in
     let old = c.args.days.now in
-    let new = c.write_days.new.days in
-    met read.0 (met at.0 (
+    let new = c.write_days.new.days in (
       its,
       c.rule.ensures c.args.rule.now read.1 read.2 read.3,
       c.ok.ensures ∙ ap days_ok (sym count),
       subst (λ n. AreDatesWritten (occurrences_after its n) old new c.ok.result.length) at.1
           (subst (AreDatesWritten (occurrences_after its c.in-Some.value) old new) (sym count) c.write_days.ensures),
-    ))
-
-pub returns-in-None : goal.returns-in-None
-returns-in-None c = met c.in-Ok.ensures.value.0 (search rules)
+    )
