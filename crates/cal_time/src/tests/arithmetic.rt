@@ -1,7 +1,9 @@
 //! Dates moved by durations and to weekdays, and dates with one component replaced.
+use crate::error::ComponentRange;
 use crate::tests::range::{DAYS, LAST_YEAR};
-use crate::tests::{date, same, same_at, told};
-use crate::{Counted, Date, Month, SignedDuration, Weekday};
+use crate::tests::{date, same, told};
+use crate::{Date, Month, SignedDuration, Weekday};
+use std::process::Abort;
 
 /// Returns the date plus a duration: checked, by `+` and by `+=`.
 fn sums(date: Date, duration: SignedDuration) -> Option<[Date; 3]> {
@@ -19,35 +21,52 @@ fn differences(date: Date, duration: SignedDuration) -> Option<[Date; 3]> {
     Some([checked, date - duration, moved])
 }
 
-// The columns: the date, the hours, and the moved dates, checked and clamped.
+/// Checks that the date plus the duration is this date.
+fn check_sum(rt: &impl Abort, from: Date, duration: SignedDuration, wanted: Date) {
+    same(rt, sums(from, duration), Some([wanted, wanted, wanted]));
+    same(rt, from.saturating_add(duration), wanted);
+}
+
+/// Checks that the date plus the duration is out of range, and what it is clamped to.
+fn check_no_sum(rt: &impl Abort, from: Date, duration: SignedDuration, nearest: Date) {
+    same(rt, sums(from, duration), None);
+    same(rt, from.saturating_add(duration), nearest);
+}
+
 #[test]
-fn dates_moved(rt: HostRuntime) {
+fn dates_moved_later(rt: HostRuntime) {
     let (first, last, evening) = (Date::MIN, Date::MAX, date(&rt, 2020, 12, 31));
-    let (eve, new_year) = (date(&rt, 2020, 12, 30), date(&rt, 2021, 1, 1));
-    let (least, greatest) = (SignedDuration::MIN, SignedDuration::MAX);
-    for (from, duration, wanted, nearest) in [
-        (first, SignedDuration::hours(-23), Some(first), first),
-        (first, SignedDuration::hours(-24), None, first),
-        (first, least, None, first),
-        (last, SignedDuration::hours(23), Some(last), last),
-        (last, SignedDuration::DAY, None, last),
-        (last, greatest, None, last),
-        (evening, SignedDuration::hours(47), Some(new_year), new_year),
-    ] {
-        let wanted = wanted.map(|day| [day, day, day]);
-        same_at(&rt, (from, duration), sums(from, duration), wanted);
-        same(&rt, from.saturating_add(duration), nearest);
-    }
-    for (from, duration, wanted, nearest) in [
-        (first, SignedDuration::hours(23), Some(first), first),
-        (first, SignedDuration::DAY, None, first),
-        (last, least, None, last),
-        (evening, SignedDuration::hours(47), Some(eve), eve),
-    ] {
-        let wanted = wanted.map(|day| [day, day, day]);
-        same_at(&rt, (from, duration), differences(from, duration), wanted);
-        same(&rt, from.saturating_sub(duration), nearest);
-    }
+    check_sum(&rt, first, SignedDuration::hours(-23), first);
+    check_no_sum(&rt, first, SignedDuration::hours(-24), first);
+    check_no_sum(&rt, first, SignedDuration::MIN, first);
+    check_sum(&rt, last, SignedDuration::hours(23), last);
+    check_no_sum(&rt, last, SignedDuration::DAY, last);
+    check_no_sum(&rt, last, SignedDuration::MAX, last);
+    let new_year = date(&rt, 2021, 1, 1);
+    check_sum(&rt, evening, SignedDuration::hours(47), new_year);
+}
+
+/// Checks that the date minus the duration is this date.
+fn check_difference(rt: &impl Abort, from: Date, duration: SignedDuration, wanted: Date) {
+    let found = differences(from, duration);
+    same(rt, found, Some([wanted, wanted, wanted]));
+    same(rt, from.saturating_sub(duration), wanted);
+}
+
+/// Checks that the date minus the duration is out of range, and what it is clamped to.
+fn check_no_difference(rt: &impl Abort, from: Date, duration: SignedDuration, nearest: Date) {
+    same(rt, differences(from, duration), None);
+    same(rt, from.saturating_sub(duration), nearest);
+}
+
+#[test]
+fn dates_moved_earlier(rt: HostRuntime) {
+    let (first, last, evening) = (Date::MIN, Date::MAX, date(&rt, 2020, 12, 31));
+    check_difference(&rt, first, SignedDuration::hours(23), first);
+    check_no_difference(&rt, first, SignedDuration::DAY, first);
+    check_no_difference(&rt, last, SignedDuration::MIN, last);
+    let eve = date(&rt, 2020, 12, 30);
+    check_difference(&rt, evening, SignedDuration::hours(47), eve);
 }
 
 #[test]
@@ -84,7 +103,7 @@ fn nearest_mondays(date: Date) -> Option<[Date; 4]> {
 // The columns: the date, n, and the n-th Mondays after and before it.
 #[test]
 fn nth_mondays(rt: HostRuntime) {
-    for ((year, month, day), n, after, before) in [
+    for &((year, month, day), n, after, before) in &[
         ((2023, 6, 25), 5, (2023, 7, 24), (2023, 5, 22)),
         ((2023, 6, 26), 5, (2023, 7, 31), (2023, 5, 22)),
         ((2023, 6, 26), 255, (2028, 5, 15), (2018, 8, 6)),
@@ -122,7 +141,7 @@ fn nearest_occurrences(rt: HostRuntime) {
 
 #[test]
 fn replaced_years(rt: HostRuntime) {
-    for ((year, month, day), new_year, ordinal) in [
+    for &((year, month, day), new_year, ordinal) in &[
         ((2022, 2, 18), 2019, 49),
         ((2024, 3, 1), 2023, 60),
         ((2023, 3, 1), 2024, 61),
@@ -136,24 +155,27 @@ fn replaced_years(rt: HostRuntime) {
 }
 
 #[test]
-fn replaced_parts_and_refusals(rt: HostRuntime) {
+fn replaced_months_days_and_ordinals(rt: HostRuntime) {
+    let old = date(&rt, 2022, 2, 18);
+    let (january, february) = (date(&rt, 2022, 1, 18), date(&rt, 2022, 2, 28));
+    same(&rt, old.replace_month(Month::January), Ok(january));
+    same(&rt, old.replace_day(28), Ok(february));
+    same(&rt, old.replace_ordinal(365), Ok(date(&rt, 2022, 12, 31)));
+}
+
+/// Checks that a replacement has this error.
+fn check_error(rt: &impl Abort, answer: Result<Date, ComponentRange>, error: (&'static str, bool)) {
+    same(rt, told(&answer), Err(error));
+}
+
+#[test]
+fn replacements_out_of_range(rt: HostRuntime) {
     let (old, leap_day) = (date(&rt, 2022, 2, 18), date(&rt, 2024, 2, 29));
-    let (january, no_day) = (date(&rt, 2022, 1, 18), Err(("day", true)));
-    let (february, december) = (date(&rt, 2022, 2, 28), date(&rt, 2022, 12, 31));
-    for (answer, wanted) in [
-        (old.replace_month(Month::January), Ok(january.number())),
-        (old.replace_day(28), Ok(february.number())),
-        (old.replace_ordinal(365), Ok(december.number())),
-        (
-            date(&rt, 2022, 1, 30).replace_month(Month::February),
-            no_day,
-        ),
-        (old.replace_day(30), no_day),
-        (old.replace_day(0), no_day),
-        (old.replace_ordinal(366), Err(("ordinal", true))),
-        (leap_day.replace_year(2023), no_day),
-        (leap_day.replace_year(LAST_YEAR + 1), Err(("year", false))),
-    ] {
-        same(&rt, told(&answer), wanted);
-    }
+    let january = date(&rt, 2022, 1, 30);
+    check_error(&rt, january.replace_month(Month::February), ("day", true));
+    check_error(&rt, old.replace_day(30), ("day", true));
+    check_error(&rt, old.replace_day(0), ("day", true));
+    check_error(&rt, old.replace_ordinal(366), ("ordinal", true));
+    check_error(&rt, leap_day.replace_year(2023), ("day", true));
+    check_error(&rt, leap_day.replace_year(LAST_YEAR + 1), ("year", false));
 }

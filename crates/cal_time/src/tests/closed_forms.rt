@@ -18,7 +18,7 @@ fn julian_day_of(years: u64, ordinal: u16) -> i64
 // years, and the Julian day.
 #[test]
 fn julian_days(rt: HostRuntime) {
-    for (calendar, years, centuries, days, julian_day) in [
+    for &(calendar, years, centuries, days, julian_day) in &[
         ((FIRST_YEAR, 1, 1), 0, 0, 0, FIRST_JULIAN_DAY),
         ((-9999, 1, 1), 990_000, 9_900, 361_597_500, -1_930_999),
         ((-4713, 11, 24), 995_286, 9_952, 363_528_211, 0),
@@ -57,7 +57,7 @@ fn iso_week(year: i32, week: u16) -> (i32, u16) {
 // The columns: the date, its ordinal o, its weekday w from 1 for Monday, and (o + 10 - w) / 7.
 #[test]
 fn iso_weeks(rt: HostRuntime) {
-    for (calendar, ordinal, weekday, week) in [
+    for &(calendar, ordinal, weekday, week) in &[
         ((2019, 10, 4), 277, 5, 40),
         ((2020, 1, 1), 1, 3, 1),
         ((2020, 12, 31), 366, 4, 53),

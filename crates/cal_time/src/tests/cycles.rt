@@ -8,7 +8,7 @@ use std::process::Abort;
 
 #[test]
 fn years_have_their_lengths(rt: HostRuntime) {
-    for (year, is_leap, days, weeks) in [
+    for &(year, is_leap, days, weeks) in &[
         (i32::MIN, true, 366, 52),
         (1900, false, 365, 52),
         (2000, true, 366, 52),
@@ -26,23 +26,24 @@ fn years_have_their_lengths(rt: HostRuntime) {
 
 /// Checks the number of days of a month in common years and in leap years.
 fn check_lengths(rt: &impl Abort, month: Month, common: u8, leap: u8) {
-    for (year, length) in [
-        (1900, common),
-        (i32::MAX, common),
-        (2000, leap),
-        (2020, leap),
-        (i32::MIN, leap),
+    for &(year, is_leap) in &[
+        (1900, false),
+        (i32::MAX, false),
+        (2000, true),
+        (2020, true),
+        (i32::MIN, true),
     ] {
-        let (by_month, by_year) = (days_in_month(month, year), days_in_year_month(year, month));
-        let lengths = [by_month, by_year, month.length(year)];
-        same_at(rt, (month, year), lengths, [length, length, length]);
+        let length = if is_leap { leap } else { common };
+        same_at(rt, (month, year), days_in_month(month, year), length);
+        same_at(rt, (month, year), days_in_year_month(year, month), length);
+        same_at(rt, (month, year), month.length(year), length);
     }
 }
 
 // The columns: a month, its name, its number, and its days in a common year and in a leap year.
 #[test]
 fn months_have_names_numbers_and_lengths(rt: HostRuntime) {
-    for (month, name, number, common, leap) in [
+    for &(month, name, number, common, leap) in &[
         (Month::January, "January", 1, 31, 31),
         (Month::February, "February", 2, 28, 29),
         (Month::March, "March", 3, 31, 31),
@@ -56,8 +57,8 @@ fn months_have_names_numbers_and_lengths(rt: HostRuntime) {
         (Month::November, "November", 11, 30, 30),
         (Month::December, "December", 12, 31, 31),
     ] {
-        let found = (name.parse::<Month>(), month.name());
-        same(&rt, found, (Ok(month), name));
+        same(&rt, month.name(), name);
+        same(&rt, name.parse::<Month>(), Ok(month));
         same(&rt, Month::try_from(number).ok(), Some(month));
         let found = (month as u8, u8::from(month), month.place().wrapping_add(1));
         same(&rt, found, (number, number, number));
@@ -67,7 +68,7 @@ fn months_have_names_numbers_and_lengths(rt: HostRuntime) {
 
 #[test]
 fn weekdays_have_names_and_numbers(rt: HostRuntime) {
-    for (weekday, name, numbers, days) in [
+    for &(weekday, name, numbers, days) in &[
         (Weekday::Monday, "Monday", (1, 2), (0, 1)),
         (Weekday::Tuesday, "Tuesday", (2, 3), (1, 2)),
         (Weekday::Wednesday, "Wednesday", (3, 4), (2, 3)),
@@ -88,7 +89,7 @@ fn weekdays_have_names_and_numbers(rt: HostRuntime) {
 
 #[test]
 fn other_texts_are_no_names(rt: HostRuntime) {
-    for text in [
+    for &text in &[
         "march", "MARCH", "Mar", "March ", "monday", "friday", "Fri", "Friday ", "",
     ] {
         same_at(&rt, text, text.parse::<Month>(), Err(InvalidVariant));
@@ -97,8 +98,8 @@ fn other_texts_are_no_names(rt: HostRuntime) {
 }
 
 #[test]
-fn cycles_turn_both_ways(rt: HostRuntime) {
-    for (month, n, next, prev) in [
+fn months_turn_both_ways(rt: HostRuntime) {
+    for &(month, n, next, prev) in &[
         (Month::July, 9, Month::April, Month::October),
         (Month::January, 255, Month::April, Month::October),
         (Month::January, 4, Month::May, Month::September),
@@ -106,22 +107,29 @@ fn cycles_turn_both_ways(rt: HostRuntime) {
         let found = (month.nth_next(n), month.nth_prev(n));
         same_at(&rt, (month, n), found, (next, prev));
     }
-    for (weekday, n, next, prev) in [
+}
+
+#[test]
+fn weekdays_turn_both_ways(rt: HostRuntime) {
+    for &(weekday, n, next, prev) in &[
         (Weekday::Sunday, 10, Weekday::Wednesday, Weekday::Thursday),
         (Weekday::Sunday, 255, Weekday::Wednesday, Weekday::Thursday),
     ] {
         let found = (weekday.nth_next(n), weekday.nth_prev(n));
         same_at(&rt, (weekday, n), found, (next, prev));
     }
-    let (december, sunday) = (Month::December, Weekday::Sunday);
-    let found = (december.next(), Month::January.previous());
-    same(&rt, found, (Month::January, december));
-    let found = (sunday.next(), Weekday::Monday.previous());
-    same(&rt, found, (Weekday::Monday, sunday));
-    let found = (nth_in(Month::June, usize::MAX), Month::at(4));
-    same(&rt, found, (Month::September, Month::May));
-    let found = (Month::LENGTH, Weekday::LENGTH, Weekday::at(6));
-    same(&rt, found, (12, 7, sunday));
+}
+
+#[test]
+fn neighbours_and_indices(rt: HostRuntime) {
+    same(&rt, Month::December.next(), Month::January);
+    same(&rt, Month::January.previous(), Month::December);
+    same(&rt, Weekday::Sunday.next(), Weekday::Monday);
+    same(&rt, Weekday::Monday.previous(), Weekday::Sunday);
+    same(&rt, nth_in(Month::June, usize::MAX), Month::September);
+    same(&rt, Month::at(4), Month::May);
+    same(&rt, Weekday::at(6), Weekday::Sunday);
+    same(&rt, (Month::LENGTH, Weekday::LENGTH), (12, 7));
 }
 
 /// Returns `nth(n)` and `next()` of an iterator and of its reverse, and `next()` after reversing.
@@ -134,8 +142,8 @@ fn walked<C: Cycle>(start: C, n: usize) -> [Option<C>; 5] {
 
 // The maximum step is 3 more than a multiple of 12, and 1 more than a multiple of 7.
 #[test]
-fn walks_go_on_without_end(rt: HostRuntime) {
-    for (start, n, numbers) in [
+fn walks_over_months_go_on_without_end(rt: HostRuntime) {
+    for &(start, n, numbers) in &[
         (6, usize::MAX, [9, 10, 3, 2, 11]),
         (1, usize::MAX, [4, 5, 10, 9, 6]),
         (10, 10, [8, 9, 12, 11, 10]),
@@ -144,90 +152,121 @@ fn walks_go_on_without_end(rt: HostRuntime) {
         let months = numbers.map(|number| Month::try_from(number).ok());
         same_at(&rt, (start, n), walked(start, n), months);
     }
-    let (monday, tuesday, wednesday) = (Weekday::Monday, Weekday::Tuesday, Weekday::Wednesday);
-    let (saturday, sunday) = (Weekday::Saturday, Weekday::Sunday);
-    let thursday = Weekday::Thursday;
-    for (start, n, weekdays) in [
+}
+
+#[test]
+fn walks_over_weekdays_go_on_without_end(rt: HostRuntime) {
+    for &(start, n, weekdays) in &[
         (
-            monday,
+            Weekday::Monday,
             usize::MAX,
-            [tuesday, wednesday, sunday, saturday, thursday],
+            [
+                Some(Weekday::Tuesday),
+                Some(Weekday::Wednesday),
+                Some(Weekday::Sunday),
+                Some(Weekday::Saturday),
+                Some(Weekday::Thursday),
+            ],
         ),
-        (sunday, 7, [sunday, monday, sunday, saturday, tuesday]),
+        (
+            Weekday::Sunday,
+            7,
+            [
+                Some(Weekday::Sunday),
+                Some(Weekday::Monday),
+                Some(Weekday::Sunday),
+                Some(Weekday::Saturday),
+                Some(Weekday::Tuesday),
+            ],
+        ),
     ] {
-        same_at(&rt, (start, n), walked(start, n), weekdays.map(Some));
+        same_at(&rt, (start, n), walked(start, n), weekdays);
     }
 }
 
 #[test]
 fn walks_over_the_months_have_bounds(rt: HostRuntime) {
-    let (first, last) = (Some(Month::January), Some(Month::December));
     let walk = MonthIter::new(Month::June);
-    let back = walk.clone().rev();
-    let found = [walk.clone().min(), back.clone().min()];
-    same(&rt, found, [first, first]);
-    same(&rt, [walk.clone().max(), back.clone().max()], [last, last]);
-    let found = [walk.size_hint(), back.size_hint()];
-    same(&rt, found, [(usize::MAX, None), (usize::MAX, None)]);
-    let found = [walk.clone() == walk, back.clone() == back];
-    same(&rt, found, [true, true]);
-    same(&rt, [walk.is_sorted(), back.is_sorted()], [false, false]);
+    same(&rt, walk.clone().min(), Some(Month::January));
+    same(&rt, walk.clone().max(), Some(Month::December));
+    same(&rt, walk.size_hint(), (usize::MAX, None));
+    assert!(rt; walk.clone() == walk);
+    assert!(rt; !walk.is_sorted());
 }
 
-/// Returns the results and the numbers of calls of `all_once` and `any_once`, and the next values.
+#[test]
+fn reversed_walks_over_the_months_have_bounds(rt: HostRuntime) {
+    let walk = MonthIter::new(Month::June).rev();
+    same(&rt, walk.clone().min(), Some(Month::January));
+    same(&rt, walk.clone().max(), Some(Month::December));
+    same(&rt, walk.size_hint(), (usize::MAX, None));
+    assert!(rt; walk.clone() == walk);
+    assert!(rt; !walk.is_sorted());
+}
+
+/// Returns the results and the numbers of calls of `all_once` and `any_once`, and the next value.
 fn asked<C: Cycle>(
     start: C,
     (low, high): (u8, u8),
     is_between: bool,
-) -> ([(bool, u8); 4], [Option<C>; 2]) {
+) -> ([(bool, u8); 2], Option<C>) {
     let mut walk = CycleIter::new(start);
-    let mut back = walk.clone().rev();
-    let mut count = 0u8;
+    let (mut all_count, mut any_count) = (0u8, 0u8);
     let all = walk.all_once(|value: C| {
-        count = count.wrapping_add(1);
+        all_count = all_count.wrapping_add(1);
         (low <= value.place() && value.place() <= high) == is_between
     });
-    let all = (all, count);
-    let mut count = 0u8;
     let any = walk.any_once(|value: C| {
-        count = count.wrapping_add(1);
+        any_count = any_count.wrapping_add(1);
         (low <= value.place() && value.place() <= high) == is_between
     });
-    let any = (any, count);
-    let mut count = 0u8;
-    let back_all = back.all_once(|value: C| {
-        count = count.wrapping_add(1);
+    ([(all, all_count), (any, any_count)], walk.next())
+}
+
+/// Returns the same of a reversed iterator.
+fn asked_backwards<C: Cycle>(
+    start: C,
+    (low, high): (u8, u8),
+    is_between: bool,
+) -> ([(bool, u8); 2], Option<C>) {
+    let mut walk = CycleIter::new(start).rev();
+    let (mut all_count, mut any_count) = (0u8, 0u8);
+    let all = walk.all_once(|value: C| {
+        all_count = all_count.wrapping_add(1);
         (low <= value.place() && value.place() <= high) == is_between
     });
-    let back_all = (back_all, count);
-    let mut count = 0u8;
-    let back_any = back.any_once(|value: C| {
-        count = count.wrapping_add(1);
+    let any = walk.any_once(|value: C| {
+        any_count = any_count.wrapping_add(1);
         (low <= value.place() && value.place() <= high) == is_between
     });
-    (
-        [all, any, back_all, (back_any, count)],
-        [walk.next(), back.next()],
-    )
+    ([(all, all_count), (any, any_count)], walk.next())
 }
 
 // The calls are counted, because no contract excludes calls after the deciding value.
 #[test]
-fn values_are_asked_up_to_the_deciding_answer(rt: HostRuntime) {
-    for (start, ends, is_between, all, any) in [
+fn months_are_asked_up_to_the_deciding_answer(rt: HostRuntime) {
+    for &(start, ends, is_between, all, any) in &[
         (Month::June, (0, 3), true, (false, 5), (true, 1)),
         (Month::June, (0, 3), false, (false, 1), (true, 5)),
         (Month::June, (0, 11), true, (true, 12), (true, 1)),
         (Month::December, (0, 11), false, (false, 1), (false, 12)),
     ] {
-        let wanted = ([all, any, all, any], [Some(start), Some(start)]);
+        let wanted = ([all, any], Some(start));
         same_at(&rt, start, asked(start, ends, is_between), wanted);
+        let found = asked_backwards(start, ends, is_between);
+        same_at(&rt, start, found, wanted);
     }
-    for (start, ends, is_between, all, any) in [
+}
+
+#[test]
+fn weekdays_are_asked_up_to_the_deciding_answer(rt: HostRuntime) {
+    for &(start, ends, is_between, all, any) in &[
         (Weekday::Friday, (1, 1), true, (false, 1), (true, 2)),
         (Weekday::Friday, (1, 1), false, (false, 2), (true, 1)),
     ] {
-        let wanted = ([all, any, all, any], [Some(start), Some(start)]);
+        let wanted = ([all, any], Some(start));
         same_at(&rt, start, asked(start, ends, is_between), wanted);
+        let found = asked_backwards(start, ends, is_between);
+        same_at(&rt, start, found, wanted);
     }
 }

@@ -1,14 +1,14 @@
 //! Dates in their four forms, their parts and their neighbours.
 use crate::tests::range::{DAYS, FIRST_JULIAN_DAY, FIRST_YEAR, LAST_JULIAN_DAY, LAST_YEAR};
 use crate::tests::{date, same, same_at, told};
-use crate::{Counted, Cycle, Date, Month, Weekday};
+use crate::{Cycle, Date, Month, Weekday};
 use std::process::Abort;
 
 // The columns: Julian day, calendar date, ordinal, ISO week date, and the weeks of the year from
 // Sunday and from Monday on.
 #[test]
 fn days_in_all_forms(rt: HostRuntime) {
-    for (julian_day, calendar, ordinal, iso, weeks) in [
+    for &(julian_day, calendar, ordinal, iso, weeks) in &[
         (
             FIRST_JULIAN_DAY,
             (FIRST_YEAR, 1, 1),
@@ -61,13 +61,10 @@ fn check_constructors(
     (iso_year, week, weekday): (i32, u8, u8),
 ) {
     let weekday = Weekday::Sunday.nth_next(weekday);
-    for answer in [
-        Date::from_julian_day(julian_day),
-        Date::from_ordinal_date(year, ordinal),
-        Date::from_iso_week_date(iso_year, week, weekday),
-    ] {
-        same(rt, told(&answer), Ok(date.number()));
-    }
+    same(rt, Date::from_julian_day(julian_day), Ok(date));
+    same(rt, Date::from_ordinal_date(year, ordinal), Ok(date));
+    let found = Date::from_iso_week_date(iso_year, week, weekday);
+    same(rt, found, Ok(date));
 }
 
 /// Checks the parts of a date, one by one and together.
@@ -100,7 +97,7 @@ fn the_ends_of_the_range(rt: HostRuntime) {
 
 #[test]
 fn neighbours(rt: HostRuntime) {
-    for ((year, month, day), (next_year, next_month, next_day)) in [
+    for &((year, month, day), (next_year, next_month, next_day)) in &[
         ((-1, 12, 31), (0, 1, 1)),
         ((2019, 12, 31), (2020, 1, 1)),
         ((2020, 12, 30), (2020, 12, 31)),
@@ -117,7 +114,7 @@ fn neighbours(rt: HostRuntime) {
 // The first date has a day that the month of the second date has, or a later day.
 #[test]
 fn days_in_other_months(rt: HostRuntime) {
-    for ((year, month, day), (other_year, other_month, found)) in [
+    for &((year, month, day), (other_year, other_month, found)) in &[
         ((2023, 1, 31), (2023, 2, 28)),
         ((2023, 1, 31), (2024, 2, 29)),
         ((2023, 3, 30), (1900, 2, 28)),
@@ -140,7 +137,7 @@ fn days_in_other_months(rt: HostRuntime) {
 
 #[test]
 fn ordinal_dates_out_of_range(rt: HostRuntime) {
-    for (year, ordinal, refusal) in [
+    for &(year, ordinal, refusal) in &[
         (i32::MIN, 0, ("year", false)),
         (10000000, 1, ("year", false)),
         (LAST_YEAR + 1, 0, ("year", false)),
@@ -156,7 +153,7 @@ fn ordinal_dates_out_of_range(rt: HostRuntime) {
 
 #[test]
 fn calendar_dates_out_of_range(rt: HostRuntime) {
-    for (year, month, day, refusal) in [
+    for &(year, month, day, refusal) in &[
         (1900, Month::February, 29, ("day", true)),
         (2000, Month::February, 0, ("day", true)),
         (2000, Month::February, 30, ("day", true)),
@@ -174,7 +171,7 @@ fn calendar_dates_out_of_range(rt: HostRuntime) {
 
 #[test]
 fn iso_week_dates_out_of_range(rt: HostRuntime) {
-    for (year, week, weekday, refusal) in [
+    for &(year, week, weekday, refusal) in &[
         (LAST_YEAR + 1, 53, Weekday::Monday, ("year", false)),
         (LAST_YEAR, 53, Weekday::Monday, ("week", true)),
         (2019, 53, Weekday::Monday, ("week", true)),

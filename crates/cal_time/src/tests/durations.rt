@@ -2,6 +2,7 @@
 use crate::tests::conditions::made;
 use crate::tests::same;
 use crate::{Counted, SignedDuration, extent, is_rising};
+use std::process::Abort;
 
 fn fields(duration: SignedDuration) -> (i64, i32) {
     (duration.whole_seconds(), duration.subsec_nanoseconds())
@@ -9,7 +10,7 @@ fn fields(duration: SignedDuration) -> (i64, i32) {
 
 #[test]
 fn units_and_limits(rt: HostRuntime) {
-    for (duration, nanoseconds) in [
+    for &(duration, nanoseconds) in &[
         (SignedDuration::ZERO, 0),
         (SignedDuration::NANOSECOND, 1),
         (SignedDuration::MICROSECOND, 1_000),
@@ -28,24 +29,23 @@ fn units_and_limits(rt: HostRuntime) {
     same(&rt, SignedDuration::default(), SignedDuration::ZERO);
 }
 
+/// Checks the seconds and the nanoseconds of a duration.
+fn check_fields(rt: &impl Abort, duration: SignedDuration, wanted: (i64, i32)) {
+    same(rt, fields(duration), wanted);
+}
+
 #[test]
 fn making(rt: HostRuntime) {
-    for (duration, parts) in [
-        (SignedDuration::new(-1, 1), (0, -999_999_999)),
-        (SignedDuration::new(1, 2_000_000_000), (3, 0)),
-        (
-            SignedDuration::milliseconds(i64::MIN),
-            (-9_223_372_036_854_775, -808_000_000),
-        ),
-        (SignedDuration::microseconds(-1_500_000), (-1, -500_000_000)),
-        (
-            SignedDuration::nanoseconds(i64::MIN),
-            (-9_223_372_036, -854_775_808),
-        ),
-        (SignedDuration::nanoseconds_i128(-1_000_000_001), (-1, -1)),
-    ] {
-        same(&rt, fields(duration), parts);
-    }
+    check_fields(&rt, SignedDuration::new(-1, 1), (0, -999_999_999));
+    check_fields(&rt, SignedDuration::new(1, 2_000_000_000), (3, 0));
+    let least = SignedDuration::milliseconds(i64::MIN);
+    check_fields(&rt, least, (-9_223_372_036_854_775, -808_000_000));
+    let microseconds = SignedDuration::microseconds(-1_500_000);
+    check_fields(&rt, microseconds, (-1, -500_000_000));
+    let least = SignedDuration::nanoseconds(i64::MIN);
+    check_fields(&rt, least, (-9_223_372_036, -854_775_808));
+    let nanoseconds = SignedDuration::nanoseconds_i128(-1_000_000_001);
+    check_fields(&rt, nanoseconds, (-1, -1));
 }
 
 // The maximum and the minimum numbers of weeks, days, hours and minutes that are a duration.
@@ -71,28 +71,25 @@ fn making_at_the_limits(rt: HostRuntime) {
 }
 
 #[test]
-fn parts(rt: HostRuntime) {
+fn whole_units(rt: HostRuntime) {
     let duration = SignedDuration::new(-694_861, -1_002_003);
-    let (weeks, days) = (duration.whole_weeks(), duration.whole_days());
-    let (hours, minutes) = (duration.whole_hours(), duration.whole_minutes());
-    same(&rt, [weeks, days, hours, minutes], [-1, -8, -193, -11_581]);
-    let (milliseconds, microseconds) = (
-        duration.whole_milliseconds(),
-        duration.whole_microseconds(),
-    );
-    let found = [milliseconds, microseconds];
-    same(&rt, found, [-694_861_001, -694_861_001_002]);
+    same(&rt, duration.whole_weeks(), -1);
+    same(&rt, duration.whole_days(), -8);
+    same(&rt, duration.whole_hours(), -193);
+    same(&rt, duration.whole_minutes(), -11_581);
+    same(&rt, duration.whole_milliseconds(), -694_861_001);
+    same(&rt, duration.whole_microseconds(), -694_861_001_002);
+}
+
+#[test]
+fn parts(rt: HostRuntime) {
     same(&rt, SignedDuration::days(-6).whole_weeks(), 0);
     let duration = SignedDuration::new(-1, 1);
-    let parts = (
-        duration.subsec_milliseconds(),
-        duration.subsec_microseconds(),
-    );
-    same(&rt, parts, (-999, -999_999));
+    same(&rt, duration.subsec_milliseconds(), -999);
+    same(&rt, duration.subsec_microseconds(), -999_999);
     let least = SignedDuration::MIN;
-    let (weeks, days) = (least.whole_weeks(), least.whole_days());
-    let found = [weeks, days];
-    same(&rt, found, [-15_250_284_452_471, -106_751_991_167_300]);
+    same(&rt, least.whole_weeks(), -15_250_284_452_471);
+    same(&rt, least.whole_days(), -106_751_991_167_300);
 }
 
 #[test]
@@ -101,18 +98,20 @@ fn signs_and_magnitudes(rt: HostRuntime) {
     let found = min.unsigned_abs();
     same(&rt, found, (9_223_372_036_854_775_808, 999_999_999));
     same(&rt, min.abs(), max);
-    for (duration, signs) in [
-        (SignedDuration::ZERO, [true, false, false]),
-        (SignedDuration::nanoseconds(-1), [false, true, false]),
-        (SignedDuration::NANOSECOND, [false, false, true]),
-    ] {
-        let found = [
-            duration.is_zero(),
-            duration.is_negative(),
-            duration.is_positive(),
-        ];
-        same(&rt, found, signs);
-    }
+    check_signs(&rt, SignedDuration::ZERO, [true, false, false]);
+    let less_one = SignedDuration::nanoseconds(-1);
+    check_signs(&rt, less_one, [false, true, false]);
+    check_signs(&rt, SignedDuration::NANOSECOND, [false, false, true]);
+}
+
+/// Checks whether a duration is zero, negative and positive.
+fn check_signs(rt: &impl Abort, duration: SignedDuration, wanted: [bool; 3]) {
+    let found = [
+        duration.is_zero(),
+        duration.is_negative(),
+        duration.is_positive(),
+    ];
+    same(rt, found, wanted);
 }
 
 #[test]
@@ -122,126 +121,119 @@ fn slices_of_durations(rt: HostRuntime) {
         SignedDuration::ZERO,
         SignedDuration::SECOND,
     );
-    let rows: [(
-        &[SignedDuration],
-        Option<(SignedDuration, SignedDuration)>,
-        bool,
-    ); 3] = [
-        (&[second, min, zero], Some((min, second)), false),
-        (&[], None, true),
-        (&[min, zero, zero], Some((min, zero)), false),
-    ];
-    for (durations, ends, rises) in rows {
-        let found = (extent(durations), is_rising(durations));
-        same(&rt, found, (ends, rises));
-    }
+    same(&rt, extent(&[second, min, zero]), Some((min, second)));
+    same(&rt, is_rising(&[second, min, zero]), false);
+    same(&rt, extent::<SignedDuration>(&[]), None);
+    same(&rt, is_rising::<SignedDuration>(&[]), true);
+    same(&rt, extent(&[min, zero, zero]), Some((min, zero)));
+    same(&rt, is_rising(&[min, zero, zero]), false);
+}
+
+/// Checks the seconds and the nanoseconds of a result.
+fn check_result(rt: &impl Abort, found: Option<SignedDuration>, wanted: Option<(i64, i32)>) {
+    same(rt, found.map(fields), wanted);
 }
 
 #[test]
-fn sums_and_differences(rt: HostRuntime) {
-    let (zero, min, max) = (
-        SignedDuration::ZERO,
-        SignedDuration::MIN,
-        SignedDuration::MAX,
-    );
+fn checked_sums_and_differences(rt: HostRuntime) {
+    let (min, max) = (SignedDuration::MIN, SignedDuration::MAX);
     let (one, less_one) = (SignedDuration::NANOSECOND, SignedDuration::nanoseconds(-1));
     let least_seconds = SignedDuration::seconds(i64::MIN);
-    for (answer, wanted) in [
-        (max.checked_add(min), Some((-1, 0))),
-        (max.checked_add(one), None),
-        (less_one.checked_sub(least_seconds), Some(fields(max))),
-        (min.checked_sub(one), None),
-        (min.checked_sub(min), Some((0, 0))),
-        (min.checked_neg(), None),
-        (
-            max.checked_neg(),
-            Some((-9_223_372_036_854_775_807, -999_999_999)),
-        ),
-        (Some(less_one - least_seconds), Some(fields(max))),
-        (Some(SignedDuration::SECOND + one), Some((1, 1))),
-        (Some(-one), Some((0, -1))),
-    ] {
-        same(&rt, answer.map(fields), wanted);
-    }
-    for (answer, wanted) in [
-        (zero.saturating_sub(min), max),
-        (max.saturating_add(one), max),
-        (max.saturating_sub(min), max),
-        (min.saturating_sub(max), min),
-    ] {
-        same(&rt, answer, wanted);
-    }
+    check_result(&rt, max.checked_add(min), Some((-1, 0)));
+    check_result(&rt, max.checked_add(one), None);
+    same(&rt, less_one.checked_sub(least_seconds), Some(max));
+    check_result(&rt, min.checked_sub(one), None);
+    check_result(&rt, min.checked_sub(min), Some((0, 0)));
+}
+
+#[test]
+fn operators(rt: HostRuntime) {
+    let (one, less_one) = (SignedDuration::NANOSECOND, SignedDuration::nanoseconds(-1));
+    let least_seconds = SignedDuration::seconds(i64::MIN);
+    same(&rt, less_one - least_seconds, SignedDuration::MAX);
+    check_fields(&rt, SignedDuration::SECOND + one, (1, 1));
+    check_fields(&rt, -one, (0, -1));
+    check_result(&rt, SignedDuration::MIN.checked_neg(), None);
+    let opposite = SignedDuration::MAX.checked_neg();
+    let wanted = (-9_223_372_036_854_775_807, -999_999_999);
+    check_result(&rt, opposite, Some(wanted));
+}
+
+#[test]
+fn saturating_sums_and_differences(rt: HostRuntime) {
+    let (min, max) = (SignedDuration::MIN, SignedDuration::MAX);
+    same(&rt, SignedDuration::ZERO.saturating_sub(min), max);
+    same(&rt, max.saturating_add(SignedDuration::NANOSECOND), max);
+    same(&rt, max.saturating_sub(min), max);
+    same(&rt, min.saturating_sub(max), min);
+}
+
+/// Checks that a product is this duration.
+fn check_product(rt: &impl Abort, duration: SignedDuration, factor: i32, wanted: SignedDuration) {
+    same(rt, duration.checked_mul(factor), Some(wanted));
+    same(rt, duration.saturating_mul(factor), wanted);
+}
+
+/// Checks that a product is out of range, and what it is clamped to.
+fn check_no_product(
+    rt: &impl Abort,
+    duration: SignedDuration,
+    factor: i32,
+    nearest: SignedDuration,
+) {
+    same(rt, duration.checked_mul(factor), None);
+    same(rt, duration.saturating_mul(factor), nearest);
 }
 
 #[test]
 fn products(rt: HostRuntime) {
-    let (zero, min, max) = (
-        SignedDuration::ZERO,
-        SignedDuration::MIN,
-        SignedDuration::MAX,
-    );
     let two_seconds = SignedDuration::seconds(2);
+    check_product(&rt, two_seconds, -3, SignedDuration::seconds(-6));
+    check_product(&rt, two_seconds, 3, SignedDuration::seconds(6));
+    let (min, max) = (SignedDuration::MIN, SignedDuration::MAX);
+    check_product(&rt, min, 1, min);
+    check_product(&rt, min, 0, SignedDuration::ZERO);
     let third = SignedDuration::new(-3_074_457_345_618_258_602, -999_999_999);
-    for (duration, factor, product, nearest) in [
-        (two_seconds, -3, Some((-6, 0)), SignedDuration::seconds(-6)),
-        (two_seconds, 3, Some((6, 0)), SignedDuration::seconds(6)),
-        (third, -3, None, max),
-        (min, 1, Some(fields(min)), min),
-        (min, -1, None, max),
-        (min, 0, Some((0, 0)), zero),
-        (min, -2, None, max),
-        (min, i32::MIN, None, max),
-        (max, -2, None, min),
-    ] {
-        same(&rt, duration.checked_mul(factor).map(fields), product);
-        same(&rt, duration.saturating_mul(factor), nearest);
-    }
+    check_no_product(&rt, third, -3, max);
+    check_no_product(&rt, min, -1, max);
+    check_no_product(&rt, min, -2, max);
+    check_no_product(&rt, min, i32::MIN, max);
+    check_no_product(&rt, max, -2, min);
 }
 
 #[test]
 fn quotients(rt: HostRuntime) {
-    for (duration, divisor, quotient) in [
-        (
-            SignedDuration::new(-7, -500_000_000),
-            2,
-            Some((-3, -750_000_000)),
-        ),
-        (SignedDuration::nanoseconds(-1), 2, Some((0, 0))),
-        (SignedDuration::nanoseconds(-1), 0, None),
-        (SignedDuration::seconds(1), 0, None),
-        (SignedDuration::seconds(i64::MIN), -1, None),
-        (SignedDuration::MIN, i32::MIN, Some((4_294_967_296, 0))),
-    ] {
-        same(&rt, duration.checked_div(divisor).map(fields), quotient);
-    }
+    let half = SignedDuration::new(-7, -500_000_000).checked_div(2);
+    check_result(&rt, half, Some((-3, -750_000_000)));
+    let less_one = SignedDuration::nanoseconds(-1);
+    check_result(&rt, less_one.checked_div(2), Some((0, 0)));
+    check_result(&rt, less_one.checked_div(0), None);
+    check_result(&rt, SignedDuration::SECOND.checked_div(0), None);
+    let least_seconds = SignedDuration::seconds(i64::MIN);
+    check_result(&rt, least_seconds.checked_div(-1), None);
+    let quotient = SignedDuration::MIN.checked_div(i32::MIN);
+    check_result(&rt, quotient, Some((4_294_967_296, 0)));
 }
 
 #[test]
 fn products_by_operands_of_each_type(rt: HostRuntime) {
     let second = SignedDuration::SECOND;
-    for (duration, seconds) in [
-        (second * -3i8, -3),
-        (second * -300i16, -300),
-        (second * -70_000i32, -70_000),
-        (second * 200u8, 200),
-        (second * 60_000u16, 60_000),
-        (second * u32::MAX, 4_294_967_295),
-    ] {
-        same(&rt, fields(duration), (seconds, 0));
-    }
+    check_fields(&rt, second * -3i8, (-3, 0));
+    check_fields(&rt, second * -300i16, (-300, 0));
+    check_fields(&rt, second * -70_000i32, (-70_000, 0));
+    check_fields(&rt, second * 200u8, (200, 0));
+    check_fields(&rt, second * 60_000u16, (60_000, 0));
+    check_fields(&rt, second * u32::MAX, (4_294_967_295, 0));
 }
 
 #[test]
 fn quotients_by_operands_of_each_type(rt: HostRuntime) {
     let second = SignedDuration::SECOND;
-    for (duration, nanoseconds) in [
-        (SignedDuration::nanoseconds(-7) / 2i8, -3),
-        (second / -1000i16, -1_000_000),
-        (second / -1_000_000i32, -1_000),
-        (second / 200u8, 5_000_000),
-        (second / 50_000u16, 20_000),
-        (second / 4_000_000_000u32, 0),
-    ] {
-        same(&rt, fields(duration), (0, nanoseconds));
-    }
+    let less_seven = SignedDuration::nanoseconds(-7);
+    check_fields(&rt, less_seven / 2i8, (0, -3));
+    check_fields(&rt, second / -1000i16, (0, -1_000_000));
+    check_fields(&rt, second / -1_000_000i32, (0, -1_000));
+    check_fields(&rt, second / 200u8, (0, 5_000_000));
+    check_fields(&rt, second / 50_000u16, (0, 20_000));
+    check_fields(&rt, second / 4_000_000_000u32, (0, 0));
 }

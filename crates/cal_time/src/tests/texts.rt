@@ -24,7 +24,7 @@ fn check_debug<R: Abort + AllocGlobal, T: Copy + Debug>(rt: &R, value: T, text: 
 
 #[test]
 fn texts_of_dates(rt: HostRuntime) {
-    for ((year, month, day), text) in [
+    for &((year, month, day), text) in &[
         ((0, 1, 1), "0000-01-01"),
         ((-1, 1, 1), "-0001-01-01"),
         ((2019, 1, 2), "2019-01-02"),
@@ -44,11 +44,12 @@ fn texts_of_dates(rt: HostRuntime) {
 
 #[test]
 fn texts_of_times(rt: HostRuntime) {
-    for (time, text) in [
-        (Time::MIDNIGHT, "0:00:00.0"),
-        (time(&rt, 9, 5, 0, 120_000_000), "9:05:00.12"),
-        (Time::MAX, "23:59:59.999999999"),
+    for &((hour, minute, second, nanosecond), text) in &[
+        ((0, 0, 0, 0), "0:00:00.0"),
+        ((9, 5, 0, 120_000_000), "9:05:00.12"),
+        ((23, 59, 59, 999_999_999), "23:59:59.999999999"),
     ] {
+        let time = time(&rt, hour, minute, second, nanosecond);
         check_text(&rt, time, text);
         check_debug(&rt, time, text);
         same(&rt, time.text().as_str(), text);
@@ -57,7 +58,7 @@ fn texts_of_times(rt: HostRuntime) {
 
 #[test]
 fn texts_of_offsets(rt: HostRuntime) {
-    for ((hours, minutes, seconds), text) in [
+    for &((hours, minutes, seconds), text) in &[
         ((0, 0, 0), "+00:00:00"),
         ((-5, -30, 0), "-05:30:00"),
         ((0, 0, -1), "-00:00:01"),
@@ -70,24 +71,20 @@ fn texts_of_offsets(rt: HostRuntime) {
     }
 }
 
+fn check_duration<R: Abort + AllocGlobal>(rt: &R, duration: SignedDuration, text: &str) {
+    check_text(rt, duration, text);
+    same(rt, duration.text().as_str(), text);
+}
+
 #[test]
 fn texts_of_durations(rt: HostRuntime) {
-    for (duration, text) in [
-        (SignedDuration::ZERO, "0s"),
-        (SignedDuration::nanoseconds(-1), "-1ns"),
-        (SignedDuration::new(-1, 1), "-999ms999µs999ns"),
-        (
-            SignedDuration::MIN,
-            "-106751991167300d15h30m8s999ms999µs999ns",
-        ),
-        (
-            SignedDuration::MAX,
-            "106751991167300d15h30m7s999ms999µs999ns",
-        ),
-    ] {
-        check_text(&rt, duration, text);
-        same(&rt, duration.text().as_str(), text);
-    }
+    check_duration(&rt, SignedDuration::ZERO, "0s");
+    check_duration(&rt, SignedDuration::nanoseconds(-1), "-1ns");
+    check_duration(&rt, SignedDuration::new(-1, 1), "-999ms999µs999ns");
+    let text = "-106751991167300d15h30m8s999ms999µs999ns";
+    check_duration(&rt, SignedDuration::MIN, text);
+    let text = "106751991167300d15h30m7s999ms999µs999ns";
+    check_duration(&rt, SignedDuration::MAX, text);
 }
 
 // A duration ignores a width.
@@ -167,25 +164,28 @@ fn check_padded_debug<R: Abort + AllocGlobal, T: Copy + Debug>(rt: &R, value: T,
     same(rt, written.expect(rt, NO_MEMORY).as_str(), text);
 }
 
+#[test]
+fn texts_of_dates_two_bytes_longer(rt: HostRuntime) -> Result<(), Fail> {
+    let (day, five_digits) = (date(&rt, 2019, 1, 2), date(&rt, 10_000, 1, 1));
+    let two_more = format!(in rt.alloc(); "{day:>12}|{five_digits:>14}|")?;
+    same(&rt, two_more.as_str(), "  2019-01-02|  +10000-01-01|");
+    Ok(())
+}
+
 // A width pads the whole text and truncates nothing. A precision would truncate it.
 #[test]
-fn padded_texts(rt: HostRuntime) {
-    let (day, west) = (date(&rt, 2019, 1, 2), offset(&rt, -5, -30, 0));
-    let five_digits = date(&rt, 10_000, 1, 1);
-    let two_more = format!(in rt.alloc(); "{day:>12}|{five_digits:>14}|");
-    let two_more = two_more.expect(&rt, NO_MEMORY);
-    same(&rt, two_more.as_str(), "  2019-01-02|  +10000-01-01|");
+fn padded_texts_of_dates(rt: HostRuntime) {
+    let (day, five_digits) = (date(&rt, 2019, 1, 2), date(&rt, 10_000, 1, 1));
     check_padded(&rt, day, "   2019-01-02|2019-01-02___|2019-01-02|");
-    check_padded(
-        &rt,
-        five_digits,
-        " +10000-01-01|+10000-01-01_|+10000-01-01|",
-    );
-    check_padded(
-        &rt,
-        Time::MIDNIGHT,
-        "    0:00:00.0|0:00:00.0____|0:00:00.0|",
-    );
+    let text = " +10000-01-01|+10000-01-01_|+10000-01-01|";
+    check_padded(&rt, five_digits, text);
+}
+
+#[test]
+fn padded_texts(rt: HostRuntime) {
+    let text = "    0:00:00.0|0:00:00.0____|0:00:00.0|";
+    check_padded(&rt, Time::MIDNIGHT, text);
+    let west = offset(&rt, -5, -30, 0);
     check_padded(&rt, west, "    -05:30:00|-05:30:00____|-05:30:00|");
     check_padded(&rt, Month::May, "          May|May__________|May|");
     check_padded(&rt, Weekday::Friday, "       Friday|Friday_______|Friday|");
@@ -194,17 +194,11 @@ fn padded_texts(rt: HostRuntime) {
 #[test]
 fn padded_texts_for_debugging(rt: HostRuntime) {
     let day = date(&rt, 2019, 1, 2);
-    let last = "  23:59:59.999999999|23:59:59.999999999|23:59:59.999999999|";
     check_padded_debug(&rt, day, "          2019-01-02|2019-01-02___|2019-01-02|");
-    check_padded_debug(
-        &rt,
-        Time::MIDNIGHT,
-        "           0:00:00.0|0:00:00.0____|0:00:00.0|",
-    );
-    check_padded_debug(&rt, Time::MAX, last);
-    check_padded_debug(
-        &rt,
-        UtcOffset::UTC,
-        "           +00:00:00|+00:00:00____|+00:00:00|",
-    );
+    let text = "           0:00:00.0|0:00:00.0____|0:00:00.0|";
+    check_padded_debug(&rt, Time::MIDNIGHT, text);
+    let text = "  23:59:59.999999999|23:59:59.999999999|23:59:59.999999999|";
+    check_padded_debug(&rt, Time::MAX, text);
+    let text = "           +00:00:00|+00:00:00____|+00:00:00|";
+    check_padded_debug(&rt, UtcOffset::UTC, text);
 }

@@ -1,24 +1,27 @@
 //! Times of day.
+use crate::error::ComponentRange;
 use crate::tests::{same, same_at, time, told};
 use crate::util::DateAdjustment;
 use crate::{Counted, SignedDuration, Time};
+use std::process::Abort;
 
 #[test]
-fn making_and_parts(rt: HostRuntime) {
+fn making(rt: HostRuntime) {
     let time = time(&rt, 1, 2, 3, 4_005_006);
-    for (told, number) in [
-        (told(&Time::from_hms(1, 2, 3)), 3_723_000_000_000),
-        (told(&Time::from_hms_milli(1, 2, 3, 4)), 3_723_004_000_000),
-        (
-            told(&Time::from_hms_micro(1, 2, 3, 4_005)),
-            3_723_004_005_000,
-        ),
-        (Ok(time.number()), 3_723_004_005_006),
-        (Ok(Time::MIDNIGHT.number()), 0),
-        (Ok(Time::MAX.number()), 86_399_999_999_999),
-    ] {
-        same(&rt, told, Ok(number));
-    }
+    same(&rt, time.number(), 3_723_004_005_006);
+    same(&rt, Time::MIDNIGHT.number(), 0);
+    same(&rt, Time::MAX.number(), 86_399_999_999_999);
+    let seconds = told(&Time::from_hms(1, 2, 3));
+    same(&rt, seconds, Ok(3_723_000_000_000));
+    let milliseconds = told(&Time::from_hms_milli(1, 2, 3, 4));
+    same(&rt, milliseconds, Ok(3_723_004_000_000));
+    let microseconds = told(&Time::from_hms_micro(1, 2, 3, 4_005));
+    same(&rt, microseconds, Ok(3_723_004_005_000));
+}
+
+#[test]
+fn parts(rt: HostRuntime) {
+    let time = time(&rt, 1, 2, 3, 4_005_006);
     same(&rt, time.as_hms(), (1, 2, 3));
     same(&rt, time.as_hms_milli(), (1, 2, 3, 4));
     same(&rt, time.as_hms_micro(), (1, 2, 3, 4_005));
@@ -30,7 +33,7 @@ fn making_and_parts(rt: HostRuntime) {
 
 #[test]
 fn clocks_out_of_range(rt: HostRuntime) {
-    for ((hour, minute, second), name) in [
+    for &((hour, minute, second), name) in &[
         ((24, 60, 60), "hour"),
         ((255, 255, 255), "hour"),
         ((23, 60, 60), "minute"),
@@ -45,7 +48,7 @@ fn clocks_out_of_range(rt: HostRuntime) {
 
 #[test]
 fn parts_of_a_second_out_of_range(rt: HostRuntime) {
-    for (milli, micro, nano) in [
+    for &(milli, micro, nano) in &[
         (1_000, 4_294_968, 1_000_000_000),
         (65_535, 4_294_967_295, 4_294_967_295),
     ] {
@@ -58,53 +61,56 @@ fn parts_of_a_second_out_of_range(rt: HostRuntime) {
     }
 }
 
+/// Checks that a replacement is out of range, with the name of its component.
+fn check_error(rt: &impl Abort, answer: Result<Time, ComponentRange>, name: &'static str) {
+    same(rt, told(&answer), Err((name, false)));
+}
+
 #[test]
 fn replaced_by_what_is_out_of_range(rt: HostRuntime) {
     let old = Time::MAX;
-    for (answer, name) in [
-        (old.replace_hour(24), "hour"),
-        (old.replace_minute(60), "minute"),
-        (old.replace_second(60), "second"),
-        (old.replace_millisecond(1_000), "millisecond"),
-        (old.replace_microsecond(1_000_000), "microsecond"),
-        (old.replace_nanosecond(1_000_000_000), "nanosecond"),
-    ] {
-        same(&rt, told(&answer), Err((name, false)));
-    }
+    check_error(&rt, old.replace_hour(24), "hour");
+    check_error(&rt, old.replace_minute(60), "minute");
+    check_error(&rt, old.replace_second(60), "second");
+    check_error(&rt, old.replace_millisecond(1_000), "millisecond");
+    check_error(&rt, old.replace_microsecond(1_000_000), "microsecond");
+    check_error(&rt, old.replace_nanosecond(1_000_000_000), "nanosecond");
+}
+
+/// Checks the parts of a time with one of them replaced.
+fn check_replaced(rt: &impl Abort, answer: Result<Time, ComponentRange>, parts: (u8, u8, u8, u32)) {
+    same(rt, answer.map(Time::as_hms_nano), Ok(parts));
 }
 
 #[test]
 fn replaced_parts(rt: HostRuntime) {
     let old = time(&rt, 1, 2, 3, 4_005_006);
-    for (answer, parts) in [
-        (old.replace_hour(7), (7, 2, 3, 4_005_006)),
-        (old.replace_minute(7), (1, 7, 3, 4_005_006)),
-        (old.replace_second(7), (1, 2, 7, 4_005_006)),
-        (old.replace_millisecond(7), (1, 2, 3, 7_000_000)),
-        (old.replace_microsecond(7_008), (1, 2, 3, 7_008_000)),
-        (old.replace_nanosecond(7), (1, 2, 3, 7)),
-    ] {
-        same(&rt, answer.map(Time::as_hms_nano), Ok(parts));
-    }
+    check_replaced(&rt, old.replace_hour(7), (7, 2, 3, 4_005_006));
+    check_replaced(&rt, old.replace_minute(7), (1, 7, 3, 4_005_006));
+    check_replaced(&rt, old.replace_second(7), (1, 2, 7, 4_005_006));
+    check_replaced(&rt, old.replace_millisecond(7), (1, 2, 3, 7_000_000));
+    check_replaced(&rt, old.replace_microsecond(7_008), (1, 2, 3, 7_008_000));
+    check_replaced(&rt, old.replace_nanosecond(7), (1, 2, 3, 7));
+}
+
+/// Checks the parts of a time.
+fn check_parts(rt: &impl Abort, time: Time, parts: (u8, u8, u8, u32)) {
+    same(rt, time.as_hms_nano(), parts);
 }
 
 #[test]
 fn truncated_times(rt: HostRuntime) {
     let old = time(&rt, 1, 2, 3, 4_005_006);
-    for (new, parts) in [
-        (old.truncate_to_hour(), (1, 0, 0, 0)),
-        (old.truncate_to_minute(), (1, 2, 0, 0)),
-        (old.truncate_to_second(), (1, 2, 3, 0)),
-        (old.truncate_to_millisecond(), (1, 2, 3, 4_000_000)),
-        (old.truncate_to_microsecond(), (1, 2, 3, 4_005_000)),
-    ] {
-        same(&rt, new.as_hms_nano(), parts);
-    }
+    check_parts(&rt, old.truncate_to_hour(), (1, 0, 0, 0));
+    check_parts(&rt, old.truncate_to_minute(), (1, 2, 0, 0));
+    check_parts(&rt, old.truncate_to_second(), (1, 2, 3, 0));
+    check_parts(&rt, old.truncate_to_millisecond(), (1, 2, 3, 4_000_000));
+    check_parts(&rt, old.truncate_to_microsecond(), (1, 2, 3, 4_005_000));
 }
 
 #[test]
 fn durations_between_times(rt: HostRuntime) {
-    for ((hour, minute, second, part), (to_hour, to_part), way, difference) in [
+    for &((hour, minute, second, part), (to_hour, to_part), way, difference) in &[
         (
             (23, 59, 59, 500_000_000),
             (0, 200_000_000),
@@ -127,24 +133,16 @@ fn durations_between_times(rt: HostRuntime) {
 
 #[test]
 fn times_moved_into_the_neighbouring_days(rt: HostRuntime) {
-    let (midnight, last) = (Time::MIDNIGHT, Time::MAX);
-    let (least, greatest) = (SignedDuration::MIN, SignedDuration::MAX);
-    let (before, after) = (DateAdjustment::Previous, DateAdjustment::Next);
-    for ((step, time), wanted, parts) in [
-        (midnight.adjusting_add(least), before, (8, 29, 51, 1)),
-        (
-            midnight.adjusting_sub(least),
-            DateAdjustment::None,
-            (15, 30, 8, 999_999_999),
-        ),
-        (
-            last.adjusting_add(greatest),
-            after,
-            (15, 30, 7, 999_999_998),
-        ),
-    ] {
-        same_at(&rt, step, (step, time.as_hms_nano()), (wanted, parts));
-    }
+    let (midnight, least) = (Time::MIDNIGHT, SignedDuration::MIN);
+    let (step, time) = midnight.adjusting_add(least);
+    same(&rt, step, DateAdjustment::Previous);
+    check_parts(&rt, time, (8, 29, 51, 1));
+    let (step, time) = midnight.adjusting_sub(least);
+    same(&rt, step, DateAdjustment::None);
+    check_parts(&rt, time, (15, 30, 8, 999_999_999));
+    let (step, time) = Time::MAX.adjusting_add(SignedDuration::MAX);
+    same(&rt, step, DateAdjustment::Next);
+    check_parts(&rt, time, (15, 30, 7, 999_999_998));
 }
 
 #[test]

@@ -10,6 +10,7 @@ use crate::{Counted, Cycle, Date, Month, SignedDuration, Time, UtcOffset, Weekda
 use std::cmp::Ordering;
 use std::hash::{DefaultHasher, Hash, Hasher};
 use std::ops::{Add, AddAssign, Div, Mul, Neg, Sub, SubAssign};
+use std::process::Abort;
 use std::str::FromStr;
 
 fn next<I: Iterator>(walk: &mut I) -> Option<I::Item>
@@ -36,61 +37,51 @@ fn compared<T: Ord + Copy>(a: T, b: T) -> Compared<T> {
     ([a.eq(&b), a.ne(&b)], a.cmp(&b), a.partial_cmp(&b), ends)
 }
 
-/// Checks that the comparisons and the hash of each two values, by name, agree with the traits.
+/// Checks that the comparisons and the hash of a value, by name, agree with the traits.
 macro_rules! check_compared {
-    ($rt:expr, $one:expr, $other:expr) => {
-        let (one, other) = ($one, $other);
-        for (a, b) in [(one, other), (other, one), (one, one)] {
-            let mut state = DefaultHasher::new();
-            a.hash(&mut state);
-            let ends = [a.min(b), a.max(b)];
-            let by_name = ([a.eq(&b), a.ne(&b)], a.cmp(&b), a.partial_cmp(&b), ends);
-            same($rt, by_name, compared(a, b));
-            same($rt, state.finish(), hash_of(&a));
-        }
+    ($rt:expr, $a:expr, $b:expr) => {
+        let (a, b) = ($a, $b);
+        let mut state = DefaultHasher::new();
+        a.hash(&mut state);
+        same($rt, state.finish(), hash_of(&a));
+        let ends = [a.min(b), a.max(b)];
+        let by_name = ([a.eq(&b), a.ne(&b)], a.cmp(&b), a.partial_cmp(&b), ends);
+        same($rt, by_name, compared(a, b));
     };
 }
 
-/// Checks the items of an iterator, by name and by the trait, and that both agree on the rest.
+/// Checks three items of an iterator, by name and by the trait, and that both agree on the rest.
 macro_rules! check_walk {
     ($rt:expr, $walk:expr, $items:expr) => {
-        let mut by_name = $walk;
-        let mut by_trait = $walk;
-        let [first, second, third] = $items;
-        let items = [Some(first), Some(second), Some(third)];
-        same($rt, [by_name.next(), by_name.next(), by_name.next()], items);
-        let walk = &mut by_trait;
-        let found = [Iterator::next(walk), Iterator::next(walk), Iterator::next(walk)];
-        same($rt, found, items);
+        let (mut by_name, mut by_trait) = ($walk, $walk);
+        for &item in $items {
+            same($rt, by_name.next(), Some(item));
+            same($rt, Iterator::next(&mut by_trait), Some(item));
+        }
         same($rt, by_name.size_hint(), Iterator::size_hint(&by_trait));
         assert!($rt; by_name == by_trait);
     };
 }
 
-/// Returns `true` if three items and the rest of an iterator are right, by name and by the bounds.
-macro_rules! gives {
-    ($walk:expr, $items:expr) => {{
-        let (mut by_name, mut by_bound) = ($walk, $walk);
-        let [first, second, third] = $items;
-        let items = [Some(first), Some(second), Some(third)];
-        [by_name.next(), by_name.next(), by_name.next()] == items
-            && [
-                next(&mut by_bound),
-                next(&mut by_bound),
-                next(&mut by_bound),
-            ] == items
-            && by_name.size_hint() == size_hint(&by_bound)
-            && by_name == by_bound
-    }};
+#[test]
+fn walks_forwards(rt: HostRuntime) {
+    let (first, last) = (date(&rt, 2019, 12, 30), date(&rt, 2020, 1, 1));
+    let (mut by_name, mut by_bound) = (DateIter::new(first, last), DateIter::new(first, last));
+    let between = date(&rt, 2019, 12, 31);
+    for &day in &[first, between, last] {
+        same(&rt, by_name.next(), Some(day));
+        same(&rt, next(&mut by_bound), Some(day));
+    }
+    same(&rt, by_name.size_hint(), size_hint(&by_bound));
+    assert!(rt; by_name == by_bound);
 }
 
 #[test]
-fn walks(rt: HostRuntime) {
+fn walks_backwards(rt: HostRuntime) {
     let (first, last) = (date(&rt, 2019, 12, 30), date(&rt, 2020, 1, 1));
-    let between = date(&rt, 2019, 12, 31);
-    assert!(rt; gives!(DateIter::new(first, last), [first, between, last]));
     let (mut by_name, mut by_bound) = (DateIter::new(first, last), DateIter::new(first, last));
-    for day in [Some(last), Some(between), Some(first), None] {
+    let between = date(&rt, 2019, 12, 31);
+    for &day in &[Some(last), Some(between), Some(first), None] {
         same(&rt, by_name.next_back(), day);
         same(&rt, next_back(&mut by_bound), day);
         assert!(rt; by_name == by_bound);
@@ -99,73 +90,105 @@ fn walks(rt: HostRuntime) {
 
 #[test]
 fn months_forwards(rt: HostRuntime) {
-    let months = [Month::November, Month::December, Month::January];
+    let months = &[Month::November, Month::December, Month::January];
     check_walk!(&rt, MonthIter::new(Month::November), months);
 }
 
 #[test]
 fn months_backwards(rt: HostRuntime) {
-    let months = [Month::January, Month::December, Month::November];
+    let months = &[Month::January, Month::December, Month::November];
     check_walk!(&rt, MonthIter::new(Month::January).rev(), months);
 }
 
 #[test]
 fn weekdays_forwards(rt: HostRuntime) {
-    let weekdays = [Weekday::Saturday, Weekday::Sunday, Weekday::Monday];
+    let weekdays = &[Weekday::Saturday, Weekday::Sunday, Weekday::Monday];
     check_walk!(&rt, WeekdayIter::new(Weekday::Saturday), weekdays);
 }
 
 #[test]
 fn weekdays_backwards(rt: HostRuntime) {
-    let weekdays = [Weekday::Monday, Weekday::Sunday, Weekday::Saturday];
+    let weekdays = &[Weekday::Monday, Weekday::Sunday, Weekday::Saturday];
     check_walk!(&rt, WeekdayIter::new(Weekday::Monday).rev(), weekdays);
+}
+
+fn check_dates(rt: &impl Abort, a: Date, b: Date) {
+    check_compared!(rt, a, b);
 }
 
 #[test]
 fn comparisons_of_dates(rt: HostRuntime) {
-    check_compared!(&rt, Date::MIN, date(&rt, 2020, 1, 2));
+    let (one, other) = (Date::MIN, date(&rt, 2020, 1, 2));
+    check_dates(&rt, one, other);
+    check_dates(&rt, other, one);
+    check_dates(&rt, one, one);
+}
+
+fn check_times(rt: &impl Abort, a: Time, b: Time) {
+    check_compared!(rt, a, b);
 }
 
 #[test]
 fn comparisons_of_times(rt: HostRuntime) {
-    check_compared!(&rt, Time::MIDNIGHT, time(&rt, 12, 0, 0, 0));
+    let (one, other) = (Time::MIDNIGHT, time(&rt, 12, 0, 0, 0));
+    check_times(&rt, one, other);
+    check_times(&rt, other, one);
+    check_times(&rt, one, one);
+}
+
+fn check_durations(rt: &impl Abort, a: SignedDuration, b: SignedDuration) {
+    check_compared!(rt, a, b);
 }
 
 #[test]
 fn comparisons_of_durations(rt: HostRuntime) {
-    check_compared!(&rt, SignedDuration::ZERO, SignedDuration::SECOND);
+    let (one, other) = (SignedDuration::ZERO, SignedDuration::SECOND);
+    check_durations(&rt, one, other);
+    check_durations(&rt, other, one);
+    check_durations(&rt, one, one);
+}
+
+fn check_offsets(rt: &impl Abort, a: UtcOffset, b: UtcOffset) {
+    check_compared!(rt, a, b);
 }
 
 #[test]
 fn comparisons_of_offsets(rt: HostRuntime) {
-    check_compared!(&rt, offset(&rt, -5, -30, 0), UtcOffset::UTC);
+    let (one, other) = (offset(&rt, -5, -30, 0), UtcOffset::UTC);
+    check_offsets(&rt, one, other);
+    check_offsets(&rt, other, one);
+    check_offsets(&rt, one, one);
+}
+
+fn check_months(rt: &impl Abort, a: Month, b: Month) {
+    check_compared!(rt, a, b);
 }
 
 #[test]
 fn comparisons_of_months(rt: HostRuntime) {
-    check_compared!(&rt, Month::May, Month::June);
+    let (one, other) = (Month::May, Month::June);
+    check_months(&rt, one, other);
+    check_months(&rt, other, one);
+    check_months(&rt, one, one);
+}
+
+fn check_errors(rt: &impl Abort, a: ComponentRange, b: ComponentRange) {
+    same(rt, a.eq(&b), PartialEq::eq(&a, &b));
+    same(rt, a.ne(&b), PartialEq::ne(&a, &b));
+}
+
+fn check_weekdays(rt: &impl Abort, a: Weekday, b: Weekday) {
+    same(rt, a.eq(&b), PartialEq::eq(&a, &b));
+    same(rt, a.ne(&b), PartialEq::ne(&a, &b));
 }
 
 #[test]
 fn equality(rt: HostRuntime) {
     let day = ComponentRange::conditional(Component::Day);
-    for other in [day, ComponentRange::unconditional(Component::Year)] {
-        let found = [day.eq(&other), day.ne(&other)];
-        let wanted = [PartialEq::eq(&day, &other), PartialEq::ne(&day, &other)];
-        same(&rt, found, wanted);
-    }
-    let friday = Weekday::Friday;
-    for other in [friday, Weekday::Sunday] {
-        let found = [friday.eq(&other), friday.ne(&other)];
-        same(
-            &rt,
-            found,
-            [
-                PartialEq::eq(&friday, &other),
-                PartialEq::ne(&friday, &other),
-            ],
-        );
-    }
+    check_errors(&rt, day, day);
+    check_errors(&rt, day, ComponentRange::unconditional(Component::Year));
+    check_weekdays(&rt, Weekday::Friday, Weekday::Friday);
+    check_weekdays(&rt, Weekday::Friday, Weekday::Sunday);
     same(&rt, InvalidVariant.eq(&InvalidVariant), true);
 }
 
@@ -173,40 +196,49 @@ fn equality(rt: HostRuntime) {
 macro_rules! check_cloned {
     ($rt:expr, $value:expr) => {
         let value = $value;
-        let clones = [value.clone().ok(), Clone::clone(&value).ok()];
-        same($rt, clones, [Some(value), Some(value)]);
+        same($rt, value.clone().ok(), Some(value));
+        same($rt, Clone::clone(&value).ok(), Some(value));
     };
 }
 
 #[test]
-fn clones_of_counted_values(rt: HostRuntime) {
+fn clones_of_dates_and_times(rt: HostRuntime) {
     check_cloned!(&rt, Date::MAX);
     check_cloned!(&rt, Time::MAX);
+}
+
+#[test]
+fn clones_of_durations_and_offsets(rt: HostRuntime) {
     check_cloned!(&rt, SignedDuration::MAX);
     check_cloned!(&rt, UtcOffset::UTC);
 }
 
 #[test]
-fn clones_of_cycles_and_errors(rt: HostRuntime) {
+fn clones_of_cycles(rt: HostRuntime) {
     check_cloned!(&rt, Month::May);
     check_cloned!(&rt, Weekday::Friday);
     check_cloned!(&rt, DateAdjustment::Next);
+}
+
+#[test]
+fn clones_of_errors(rt: HostRuntime) {
     check_cloned!(&rt, ComponentRange::conditional(Component::Day));
     check_cloned!(&rt, ConversionRange);
     check_cloned!(&rt, InvalidVariant);
 }
 
 #[test]
-fn numbers_and_places(rt: HostRuntime) {
-    let (last, friday) = (SignedDuration::MAX, Weekday::Friday);
-    for (by_name, by_trait) in [
-        (Date::MAX.number(), Counted::number(Date::MAX)),
-        (Time::MAX.number(), Counted::number(Time::MAX)),
-        (last.number(), Counted::number(last)),
-        (UtcOffset::UTC.number(), Counted::number(UtcOffset::UTC)),
-    ] {
-        same(&rt, by_name, by_trait);
-    }
+fn numbers(rt: HostRuntime) {
+    same(&rt, Date::MAX.number(), Counted::number(Date::MAX));
+    same(&rt, Time::MAX.number(), Counted::number(Time::MAX));
+    let (last, utc) = (SignedDuration::MAX, UtcOffset::UTC);
+    same(&rt, last.number(), Counted::number(last));
+    same(&rt, utc.number(), Counted::number(utc));
+}
+
+#[test]
+fn places(rt: HostRuntime) {
+    let friday = Weekday::Friday;
     same(&rt, Month::May.place(), Cycle::place(Month::May));
     same(&rt, friday.place(), Cycle::place(friday));
     for index in 0..7 {
@@ -217,13 +249,13 @@ fn numbers_and_places(rt: HostRuntime) {
 
 #[test]
 fn conversions(rt: HostRuntime) {
-    for text in ["May", "Friday", ""] {
+    for &text in &["May", "Friday", ""] {
         let found = Month::from_str(text);
         same(&rt, found, <Month as FromStr>::from_str(text));
         let found = Weekday::from_str(text);
         same(&rt, found, <Weekday as FromStr>::from_str(text));
     }
-    for number in [0, 5, 13] {
+    for &number in &[0, 5, 13] {
         let found = Month::try_from(number);
         same(&rt, found, <Month as TryFrom<u8>>::try_from(number));
     }
@@ -257,10 +289,10 @@ fn operators_of_times_and_offsets(rt: HostRuntime) {
     let (mut later, mut earlier) = (noon, noon);
     later.add_assign(second);
     earlier.sub_assign(second);
-    let found = [noon.add(second), later];
-    same(&rt, found, [Add::add(noon, second), noon + second]);
-    let found = [noon.sub(second), earlier];
-    same(&rt, found, [Sub::sub(noon, second), noon - second]);
+    same(&rt, noon.add(second), Add::add(noon, second));
+    same(&rt, later, noon + second);
+    same(&rt, noon.sub(second), Sub::sub(noon, second));
+    same(&rt, earlier, noon - second);
     same(&rt, noon.sub(last), Sub::sub(noon, last));
     same(&rt, west.neg(), Neg::neg(west));
 }
@@ -268,13 +300,9 @@ fn operators_of_times_and_offsets(rt: HostRuntime) {
 #[test]
 fn operators_of_durations(rt: HostRuntime) {
     let second = SignedDuration::SECOND;
-    for (by_name, by_trait) in [
-        (second.add(second), Add::add(second, second)),
-        (second.sub(second), Sub::sub(second, second)),
-        (second.neg(), Neg::neg(second)),
-        (second.mul(3i32), Mul::mul(second, 3i32)),
-        (second.div(3u8), Div::div(second, 3u8)),
-    ] {
-        same(&rt, by_name, by_trait);
-    }
+    same(&rt, second.add(second), Add::add(second, second));
+    same(&rt, second.sub(second), Sub::sub(second, second));
+    same(&rt, second.neg(), Neg::neg(second));
+    same(&rt, second.mul(3i32), Mul::mul(second, 3i32));
+    same(&rt, second.div(3u8), Div::div(second, 3u8));
 }

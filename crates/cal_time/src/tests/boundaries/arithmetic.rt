@@ -6,9 +6,6 @@ use crate::tests::{date, same, same_at};
 use crate::{Counted, Date, SignedDuration, Weekday};
 use std::process::Abort;
 
-/// Both ends of the range, with their Julian days.
-const DATES: [(Date, i32); 2] = [(Date::MIN, FIRST_JULIAN_DAY), (Date::MAX, LAST_JULIAN_DAY)];
-
 /// Returns durations as long as the range, and around one day, each with its nanoseconds.
 fn durations() -> [(SignedDuration, i128); 8] {
     let days = i128::from(DAYS);
@@ -75,14 +72,18 @@ fn check_moves(rt: &impl Abort, date: Date, from: i32, duration: SignedDuration,
 }
 
 #[test]
-fn ends_moved_by_durations(rt: HostRuntime) {
-    for (date, from) in DATES {
-        for (duration, by) in ends() {
-            check_moves(&rt, date, from, duration, by);
-        }
-        for (duration, by) in durations() {
-            check_moves(&rt, date, from, duration, by);
-        }
+fn ends_moved_by_the_ends_of_durations(rt: HostRuntime) {
+    for (duration, by) in ends() {
+        check_moves(&rt, Date::MIN, FIRST_JULIAN_DAY, duration, by);
+        check_moves(&rt, Date::MAX, LAST_JULIAN_DAY, duration, by);
+    }
+}
+
+#[test]
+fn ends_moved_by_the_range_and_by_a_day(rt: HostRuntime) {
+    for (duration, by) in durations() {
+        check_moves(&rt, Date::MIN, FIRST_JULIAN_DAY, duration, by);
+        check_moves(&rt, Date::MAX, LAST_JULIAN_DAY, duration, by);
     }
 }
 
@@ -140,30 +141,34 @@ fn check_occurrences(rt: &impl Abort, date: Date, from: i32, n: u8) {
             nth_after(from, weekday as u8, n),
             nth_before(from, weekday as u8, n),
         );
-        let found = [
-            next_occurrences(date, weekday, n),
-            prev_occurrences(date, weekday, n),
-        ];
-        let wanted = [after, before].map(|day| day.map(|day| [day, day, day]));
-        same_at(rt, (date, weekday, n), found, wanted);
+        let found = next_occurrences(date, weekday, n);
+        same_at(rt, (date, weekday, n), found, thrice(after));
+        let found = prev_occurrences(date, weekday, n);
+        same_at(rt, (date, weekday, n), found, thrice(before));
     }
+}
+
+fn thrice(julian_day: Option<i128>) -> Option<[i128; 3]> {
+    let day = julian_day?;
+    Some([day, day, day])
 }
 
 #[test]
 fn occurrences_at_the_ends(rt: HostRuntime) {
     let second = date(&rt, FIRST_YEAR, 1, 2);
     let week_before = date(&rt, LAST_YEAR, 12, 24);
-    for (date, from) in [
-        (Date::MIN, FIRST_JULIAN_DAY),
-        (second, FIRST_JULIAN_DAY + 1),
-        (week_before, LAST_JULIAN_DAY - 7),
-        (Date::MAX, LAST_JULIAN_DAY),
-    ] {
-        for n in [0, 1, 2, 255] {
-            check_occurrences(&rt, date, from, n);
-        }
+    for &n in &[0, 1, 2, 255] {
+        check_occurrences(&rt, Date::MIN, FIRST_JULIAN_DAY, n);
+        check_occurrences(&rt, second, FIRST_JULIAN_DAY + 1, n);
+        check_occurrences(&rt, week_before, LAST_JULIAN_DAY - 7, n);
+        check_occurrences(&rt, Date::MAX, LAST_JULIAN_DAY, n);
     }
-    for (n, want) in [(0, None), (1, Some(Date::MAX)), (2, None)] {
+}
+
+#[test]
+fn the_last_friday(rt: HostRuntime) {
+    let week_before = date(&rt, LAST_YEAR, 12, 24);
+    for &(n, want) in &[(0, None), (1, Some(Date::MAX)), (2, None)] {
         let found = week_before.checked_nth_next_occurrence(Weekday::Friday, n);
         same(&rt, found, want);
     }

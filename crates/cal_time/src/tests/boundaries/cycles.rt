@@ -40,7 +40,7 @@ fn index_before(index: u8, n: usize, length: u8) -> u8
 fn months_far_on_and_far_back(rt: HostRuntime) {
     for start in Month::iter_from(Month::January).take(12) {
         let index = start as u8 - 1;
-        for n in [0, 255] {
+        for &n in &[0, 255] {
             let on = index_after(index, usize::from(n), 12);
             let back = index_before(index, usize::from(n), 12);
             let turned = (start.nth_next(n).place(), start.nth_prev(n).place());
@@ -55,7 +55,7 @@ fn months_far_on_and_far_back(rt: HostRuntime) {
 fn weekdays_far_on_and_far_back(rt: HostRuntime) {
     for start in Weekday::iter_from(Weekday::Monday).take(7) {
         let index = start as u8;
-        for n in [0, 255] {
+        for &n in &[0, 255] {
             let on = index_after(index, usize::from(n), 7);
             let back = index_before(index, usize::from(n), 7);
             let turned = (start.nth_next(n).place(), start.nth_prev(n).place());

@@ -2,6 +2,7 @@
 use crate::tests::range::{DAYS, FIRST_JULIAN_DAY, FIRST_YEAR, LAST_JULIAN_DAY, LAST_YEAR};
 use crate::tests::{Told, date, same, same_at, told};
 use crate::{Counted, Date, Month, SignedDuration, Weekday, extent, is_rising};
+use std::process::Abort;
 
 /// The years at both ends of the type and of the range.
 const YEARS: [i32; 6] = [
@@ -72,7 +73,7 @@ fn of_day(year: i32, length: u8, before: u16, day: u8) -> Told {
 
 #[test]
 fn julian_days(rt: HostRuntime) {
-    for (julian_day, is_in_range) in [
+    for &(julian_day, is_in_range) in &[
         (i32::MIN, false),
         (FIRST_JULIAN_DAY - 1, false),
         (FIRST_JULIAN_DAY, true),
@@ -91,8 +92,8 @@ fn julian_days(rt: HostRuntime) {
 
 #[test]
 fn ordinal_dates(rt: HostRuntime) {
-    for year in YEARS {
-        for ordinal in ORDINALS {
+    for &year in &YEARS {
+        for &ordinal in &ORDINALS {
             let told = told(&Date::from_ordinal_date(year, ordinal));
             same_at(&rt, (year, ordinal), told, of_ordinal(year, ordinal));
         }
@@ -101,9 +102,9 @@ fn ordinal_dates(rt: HostRuntime) {
 
 #[test]
 fn calendar_dates(rt: HostRuntime) {
-    for year in YEARS {
-        for (month, length, before) in MONTHS {
-            for day in DAYS_OF_MONTH {
+    for &year in &YEARS {
+        for &(month, length, before) in &MONTHS {
+            for &day in &DAYS_OF_MONTH {
                 let told = told(&Date::from_calendar_date(year, month, day));
                 let want = of_day(year, length, before, day);
                 same_at(&rt, (year, month, day), told, want);
@@ -116,47 +117,63 @@ fn calendar_dates(rt: HostRuntime) {
 // Friday in week 52.
 #[test]
 fn iso_week_dates(rt: HostRuntime) {
-    let (first, last) = (i128::from(FIRST_JULIAN_DAY), i128::from(LAST_JULIAN_DAY));
-    for (year, week, weekday, want) in [
-        (FIRST_YEAR, 1, Weekday::Monday, Ok(first)),
-        (FIRST_YEAR, 1, Weekday::Sunday, Ok(first + 6)),
-        (FIRST_YEAR, 52, Weekday::Sunday, Ok(first + 363)),
-        (LAST_YEAR, 1, Weekday::Monday, Ok(last - 361)),
-        (LAST_YEAR, 52, Weekday::Monday, Ok(last - 4)),
-        (LAST_YEAR, 52, Weekday::Friday, Ok(last)),
-        (LAST_YEAR, 52, Weekday::Saturday, Err(("weekday", true))),
-        (LAST_YEAR, 52, Weekday::Sunday, Err(("weekday", true))),
+    for &(year, week, weekday, julian_day) in &[
+        (FIRST_YEAR, 1, Weekday::Monday, FIRST_JULIAN_DAY),
+        (FIRST_YEAR, 1, Weekday::Sunday, FIRST_JULIAN_DAY + 6),
+        (FIRST_YEAR, 52, Weekday::Sunday, FIRST_JULIAN_DAY + 363),
+        (LAST_YEAR, 1, Weekday::Monday, LAST_JULIAN_DAY - 361),
+        (LAST_YEAR, 52, Weekday::Monday, LAST_JULIAN_DAY - 4),
+        (LAST_YEAR, 52, Weekday::Friday, LAST_JULIAN_DAY),
     ] {
         let told = told(&Date::from_iso_week_date(year, week, weekday));
+        let want = Ok(i128::from(julian_day));
         same_at(&rt, (year, week, weekday), told, want);
+    }
+}
+
+#[test]
+fn iso_week_dates_after_the_last_day(rt: HostRuntime) {
+    for &weekday in &[Weekday::Saturday, Weekday::Sunday] {
+        let told = told(&Date::from_iso_week_date(LAST_YEAR, 52, weekday));
+        same_at(&rt, weekday, told, Err(("weekday", true)));
+    }
+}
+
+/// Checks that no year or no week of a date is in range.
+fn check_no_week(rt: &impl Abort, year: i32, weekday: Weekday) {
+    let want = if is_in_range(year) {
+        Err(("week", true))
+    } else {
+        Err(("year", false))
+    };
+    for &week in &[0, 53, 54, 255] {
+        let told = told(&Date::from_iso_week_date(year, week, weekday));
+        same_at(rt, (year, week, weekday), told, want);
     }
 }
 
 #[test]
 fn iso_years_and_weeks(rt: HostRuntime) {
     for weekday in Weekday::iter_from(Weekday::Monday).take(7) {
-        for year in YEARS {
-            for week in [0, 53, 54, 255] {
-                let want = if is_in_range(year) {
-                    Err(("week", true))
-                } else {
-                    Err(("year", false))
-                };
-                let told = told(&Date::from_iso_week_date(year, week, weekday));
-                same_at(&rt, (year, week, weekday), told, want);
-            }
+        for &year in &YEARS {
+            check_no_week(&rt, year, weekday);
         }
     }
 }
 
 #[test]
 fn replaced_years(rt: HostRuntime) {
+    for &year in &YEARS {
+        let (first, last) = (Date::MIN.replace_year(year), Date::MAX.replace_year(year));
+        same_at(&rt, year, told(&first), of_ordinal(year, 1));
+        same_at(&rt, year, told(&last), of_ordinal(year, 365));
+    }
+}
+
+#[test]
+fn replaced_years_of_a_leap_day(rt: HostRuntime) {
     let leap_day = date(&rt, 2024, 2, 29);
-    for year in YEARS {
-        for (date, ordinal) in [(Date::MIN, 1), (Date::MAX, 365)] {
-            let told = told(&date.replace_year(year));
-            same_at(&rt, (date, year), told, of_ordinal(year, ordinal));
-        }
+    for &year in &YEARS {
         let want = if is_in_range(year) {
             Err(("day", true))
         } else {
@@ -168,7 +185,7 @@ fn replaced_years(rt: HostRuntime) {
 
 #[test]
 fn replaced_months(rt: HostRuntime) {
-    for (month, length, before) in MONTHS {
+    for &(month, length, before) in &MONTHS {
         let want = of_day(FIRST_YEAR, length, before, 1);
         same_at(&rt, month, told(&Date::MIN.replace_month(month)), want);
         let want = of_day(LAST_YEAR, length, before, 31);
@@ -177,14 +194,18 @@ fn replaced_months(rt: HostRuntime) {
 }
 
 #[test]
-fn replaced_days_and_ordinals(rt: HostRuntime) {
-    for day in DAYS_OF_MONTH {
+fn replaced_days(rt: HostRuntime) {
+    for &day in &DAYS_OF_MONTH {
         let want = of_day(FIRST_YEAR, 31, 0, day);
         same_at(&rt, day, told(&Date::MIN.replace_day(day)), want);
         let want = of_day(LAST_YEAR, 31, 334, day);
         same_at(&rt, day, told(&Date::MAX.replace_day(day)), want);
     }
-    for ordinal in ORDINALS {
+}
+
+#[test]
+fn replaced_ordinals(rt: HostRuntime) {
+    for &ordinal in &ORDINALS {
         let want = of_ordinal(FIRST_YEAR, ordinal);
         same(&rt, told(&Date::MIN.replace_ordinal(ordinal)), want);
         let want = of_ordinal(LAST_YEAR, ordinal);

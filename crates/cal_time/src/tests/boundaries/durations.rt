@@ -136,19 +136,47 @@ fn twice(number: i128) -> [i128; 2] {
     [number, number]
 }
 
+/// Checks the sum of two durations, and their nearest sum.
+fn check_sum(rt: &impl Abort, (a, x): (SignedDuration, i128), (b, y): (SignedDuration, i128)) {
+    let sum = x.saturating_add(y);
+    same_at(
+        rt,
+        (a, b),
+        a.checked_add(b).map(Counted::number),
+        exact(sum),
+    );
+    same_at(rt, (a, b), sums(a, b), exact(sum).map(twice));
+    let nearest = a.saturating_add(b).number();
+    same_at(rt, (a, b), nearest, clamped(sum));
+}
+
+/// Checks the difference of two durations, and their nearest difference.
+fn check_difference(
+    rt: &impl Abort,
+    (a, x): (SignedDuration, i128),
+    (b, y): (SignedDuration, i128),
+) {
+    let wanted = exact(x.saturating_sub(y));
+    same_at(rt, (a, b), a.checked_sub(b).map(Counted::number), wanted);
+    same_at(rt, (a, b), differences(a, b), wanted.map(twice));
+    let nearest = a.saturating_sub(b).number();
+    same_at(rt, (a, b), nearest, clamped(x.saturating_sub(y)));
+}
+
 #[test]
 fn sums_and_differences(rt: HostRuntime) {
-    let number = SignedDuration::whole_nanoseconds;
+    for one in ends() {
+        for other in ends() {
+            check_sum(&rt, one, other);
+            check_difference(&rt, one, other);
+        }
+    }
+}
+
+#[test]
+fn order_and_equality(rt: HostRuntime) {
     for (a, x) in ends() {
         for (b, y) in ends() {
-            let (sum, difference) = (x.saturating_add(y), x.saturating_sub(y));
-            let wanted = [exact(sum), exact(difference)];
-            let checked = [a.checked_add(b).map(number), a.checked_sub(b).map(number)];
-            let nearest = [a.saturating_add(b).number(), a.saturating_sub(b).number()];
-            same_at(&rt, (a, b), checked, wanted);
-            same_at(&rt, (a, b), nearest, [clamped(sum), clamped(difference)]);
-            let found = [sums(a, b), differences(a, b)];
-            same_at(&rt, (a, b), found, wanted.map(|number| number.map(twice)));
             same_at(&rt, (a, b), (a.cmp(&b), a == b), (x.cmp(&y), x == y));
         }
     }
@@ -174,11 +202,23 @@ fn check_operands(rt: &impl Abort, a: SignedDuration, k: i32, wanted: [Option<[i
     }
 }
 
+/// Checks the product and the quotient of a duration with these nanoseconds.
+fn check_scaled(rt: &impl Abort, a: SignedDuration, x: i128, k: i32) {
+    let number = i128::from(k);
+    let (product, quotient) = (x.saturating_mul(number), exact_quotient(x, number));
+    let checked = (
+        a.checked_mul(k).map(Counted::number),
+        a.checked_div(k).map(Counted::number),
+    );
+    same_at(rt, (a, k), checked, (exact(product), quotient));
+    same_at(rt, (a, k), a.saturating_mul(k).number(), clamped(product));
+    check_operands(rt, a, k, [exact(product).map(twice), quotient.map(twice)]);
+}
+
 #[test]
 fn products_and_quotients(rt: HostRuntime) {
-    let number = SignedDuration::whole_nanoseconds;
     for (a, x) in ends() {
-        for k in [
+        for &k in &[
             i32::MIN,
             -32_768,
             -128,
@@ -193,14 +233,20 @@ fn products_and_quotients(rt: HostRuntime) {
             65_535,
             i32::MAX,
         ] {
-            let product = x.saturating_mul(i128::from(k));
-            let wanted = [exact(product), exact_quotient(x, i128::from(k))];
-            let checked = [a.checked_mul(k).map(number), a.checked_div(k).map(number)];
-            same_at(&rt, (a, k), checked, wanted);
-            same_at(&rt, (a, k), a.saturating_mul(k).number(), clamped(product));
-            check_operands(&rt, a, k, wanted.map(|number| number.map(twice)));
+            check_scaled(&rt, a, x, k);
         }
     }
+}
+
+/// Checks a product and a quotient, each by two calls.
+fn check_scaled_by_u32(
+    rt: &impl Abort,
+    scaled: [SignedDuration; 4],
+    product: i128,
+    quotient: i128,
+) {
+    let numbers = scaled.map(SignedDuration::whole_nanoseconds);
+    same(rt, numbers, [product, quotient, product, quotient]);
 }
 
 // A number above 2147483647 has no checked call, so these rows meet the conditions without a test.
@@ -208,39 +254,34 @@ fn products_and_quotients(rt: HostRuntime) {
 fn products_and_quotients_by_u32(rt: HostRuntime) {
     let (min, max) = (SignedDuration::MIN, SignedDuration::MAX);
     let (one, less_one) = (SignedDuration::NANOSECOND, SignedDuration::nanoseconds(-1));
-    let greatest = 4_294_967_295;
-    for (scaled, product, quotient) in [
-        (scaled_by_u32(min, min, 1), LEAST, LEAST),
-        (scaled_by_u32(max, max, 1), GREATEST, GREATEST),
-        (
-            scaled_by_u32(one, min, u32::MAX),
-            greatest,
-            LEAST / greatest,
-        ),
-        (
-            scaled_by_u32(less_one, max, u32::MAX),
-            -greatest,
-            GREATEST / greatest,
-        ),
-    ] {
-        let numbers = scaled.map(SignedDuration::whole_nanoseconds);
-        same(&rt, numbers, [product, quotient, product, quotient]);
-    }
+    let (most, greatest) = (u32::MAX, 4_294_967_295);
+    check_scaled_by_u32(&rt, scaled_by_u32(min, min, 1), LEAST, LEAST);
+    check_scaled_by_u32(&rt, scaled_by_u32(max, max, 1), GREATEST, GREATEST);
+    let scaled = scaled_by_u32(one, min, most);
+    check_scaled_by_u32(&rt, scaled, greatest, LEAST / greatest);
+    let scaled = scaled_by_u32(less_one, max, most);
+    check_scaled_by_u32(&rt, scaled, -greatest, GREATEST / greatest);
     let found = [min * 0u32, max * 0u32];
     same(&rt, found, [SignedDuration::ZERO, SignedDuration::ZERO]);
 }
 
 #[test]
-fn signs_and_magnitudes(rt: HostRuntime) {
+fn signs_and_opposites(rt: HostRuntime) {
     for (a, x) in ends() {
-        let (size, opposite) = (x.saturating_abs(), exact(x.saturating_neg()));
         let signs = (a.is_zero(), a.is_negative(), a.is_positive());
         same_at(&rt, a, signs, (x == 0, x < 0, x > 0));
-        let negated = a.checked_neg();
+        let (negated, opposite) = (a.checked_neg(), exact(x.saturating_neg()));
         same_at(&rt, a, negated.map(Counted::number), opposite);
         if negated.is_some() {
             same_at(&rt, a, Some((-a).number()), opposite);
         }
+    }
+}
+
+#[test]
+fn magnitudes(rt: HostRuntime) {
+    for (a, x) in ends() {
+        let size = x.saturating_abs();
         same_at(&rt, a, a.abs().number(), clamped(size));
         let (seconds, past) = a.unsigned_abs();
         let found = (i128::from(seconds), i128::from(past));
@@ -249,91 +290,98 @@ fn signs_and_magnitudes(rt: HostRuntime) {
 }
 
 #[test]
-fn parts(rt: HostRuntime) {
+fn whole_units(rt: HostRuntime) {
     for (a, x) in ends() {
-        let whole = [
-            i128::from(a.whole_weeks()),
-            i128::from(a.whole_days()),
-            i128::from(a.whole_hours()),
-            i128::from(a.whole_minutes()),
-            i128::from(a.whole_seconds()),
-            a.whole_milliseconds(),
-            a.whole_microseconds(),
-            a.whole_nanoseconds(),
-        ];
-        let [weeks, days, hours] = [x / (7 * DAY), x / DAY, x / HOUR];
-        let [minutes, seconds, millis] = [x / MINUTE, x / SECOND, x / 1_000_000];
-        let wanted = [weeks, days, hours, minutes, seconds, millis, x / 1_000, x];
-        same_at(&rt, a, whole, wanted);
+        same_at(&rt, a, i128::from(a.whole_weeks()), x / (7 * DAY));
+        same_at(&rt, a, i128::from(a.whole_days()), x / DAY);
+        same_at(&rt, a, i128::from(a.whole_hours()), x / HOUR);
+        same_at(&rt, a, i128::from(a.whole_minutes()), x / MINUTE);
+        same_at(&rt, a, i128::from(a.whole_seconds()), x / SECOND);
+    }
+}
+
+#[test]
+fn whole_parts_of_seconds(rt: HostRuntime) {
+    for (a, x) in ends() {
+        same_at(&rt, a, a.whole_milliseconds(), x / 1_000_000);
+        same_at(&rt, a, a.whole_microseconds(), x / 1_000);
+        same_at(&rt, a, a.whole_nanoseconds(), x);
+    }
+}
+
+#[test]
+fn parts_past_the_seconds(rt: HostRuntime) {
+    for (a, x) in ends() {
         let past = x % SECOND;
-        let parts = [
-            i128::from(a.subsec_milliseconds()),
-            i128::from(a.subsec_microseconds()),
-            i128::from(a.subsec_nanoseconds()),
-        ];
-        same_at(&rt, a, parts, [past / 1_000_000, past / 1_000, past]);
+        let found = i128::from(a.subsec_milliseconds());
+        same_at(&rt, a, found, past / 1_000_000);
+        let found = i128::from(a.subsec_microseconds());
+        same_at(&rt, a, found, past / 1_000);
+        same_at(&rt, a, i128::from(a.subsec_nanoseconds()), past);
     }
 }
 
 #[test]
 fn durations_of_each_unit(rt: HostRuntime) {
-    for n in [i64::MIN, -1, 0, 1, i64::MAX] {
+    for &n in &[i64::MIN, -1, 0, 1, i64::MAX] {
         let number = i128::from(n);
-        let durations = [
-            SignedDuration::seconds(n),
-            SignedDuration::milliseconds(n),
-            SignedDuration::microseconds(n),
-            SignedDuration::nanoseconds(n),
-        ];
-        let numbers = [number * SECOND, number * 1_000_000, number * 1_000, number];
-        same_at(&rt, n, durations.map(Counted::number), numbers);
+        same_at(&rt, n, SignedDuration::seconds(n).number(), number * SECOND);
+        let milliseconds = SignedDuration::milliseconds(n);
+        same_at(&rt, n, milliseconds.number(), number * 1_000_000);
+        let microseconds = SignedDuration::microseconds(n);
+        same_at(&rt, n, microseconds.number(), number * 1_000);
+        same_at(&rt, n, SignedDuration::nanoseconds(n).number(), number);
     }
+}
+
+fn check_number(rt: &impl Abort, duration: SignedDuration, number: i128) {
+    same(rt, duration.whole_nanoseconds(), number);
 }
 
 #[test]
 fn durations_of_seconds_and_nanoseconds(rt: HostRuntime) {
-    for (duration, number) in [
-        (SignedDuration::new(i64::MIN, -999_999_999), LEAST),
-        (
-            SignedDuration::new(i64::MIN, 1),
-            -9_223_372_036_854_775_807_999_999_999,
-        ),
-        (
-            SignedDuration::new(i64::MIN, i32::MAX),
-            -9_223_372_036_854_775_805_852_516_353,
-        ),
-        (SignedDuration::new(i64::MAX, 999_999_999), GREATEST),
-        (
-            SignedDuration::new(i64::MAX, i32::MIN),
-            9_223_372_036_854_775_804_852_516_352,
-        ),
-        (SignedDuration::new(0, i32::MIN), -2_147_483_648),
-        (SignedDuration::new(0, i32::MAX), 2_147_483_647),
-        (SignedDuration::nanoseconds_i128(LEAST), LEAST),
-        (SignedDuration::nanoseconds_i128(GREATEST), GREATEST),
-    ] {
-        same(&rt, duration.whole_nanoseconds(), number);
-    }
+    let least = SignedDuration::new(i64::MIN, -999_999_999);
+    check_number(&rt, least, LEAST);
+    let below = SignedDuration::new(i64::MIN, 1);
+    check_number(&rt, below, -9_223_372_036_854_775_807_999_999_999);
+    let past = SignedDuration::new(i64::MIN, i32::MAX);
+    check_number(&rt, past, -9_223_372_036_854_775_805_852_516_353);
+    let greatest = SignedDuration::new(i64::MAX, 999_999_999);
+    check_number(&rt, greatest, GREATEST);
+    let before = SignedDuration::new(i64::MAX, i32::MIN);
+    check_number(&rt, before, 9_223_372_036_854_775_804_852_516_352);
 }
 
 #[test]
-fn slices(rt: HostRuntime) {
+fn durations_of_nanoseconds(rt: HostRuntime) {
+    let (least, greatest) = (i32::MIN, i32::MAX);
+    check_number(&rt, SignedDuration::new(0, least), -2_147_483_648);
+    check_number(&rt, SignedDuration::new(0, greatest), 2_147_483_647);
+    check_number(&rt, SignedDuration::nanoseconds_i128(LEAST), LEAST);
+    check_number(&rt, SignedDuration::nanoseconds_i128(GREATEST), GREATEST);
+}
+
+fn check_sum_of(rt: &impl Abort, durations: &[SignedDuration], sum: Option<SignedDuration>) {
+    same(rt, SignedDuration::try_sum(durations), sum);
+}
+
+#[test]
+fn sums_of_slices(rt: HostRuntime) {
     let (min, max) = (SignedDuration::MIN, SignedDuration::MAX);
+    check_sum_of(&rt, &[], Some(SignedDuration::ZERO));
+    check_sum_of(&rt, &[min], Some(min));
+    check_sum_of(&rt, &[max], Some(max));
+    check_sum_of(&rt, &[min, max], Some(SignedDuration::seconds(-1)));
+    check_sum_of(&rt, &[max, min, min], None);
+    check_sum_of(&rt, &[min, min, max, max], None);
     let (one, less_one) = (SignedDuration::NANOSECOND, SignedDuration::nanoseconds(-1));
-    let (zero, less_second) = (SignedDuration::ZERO, SignedDuration::seconds(-1));
-    let rows: [(&[SignedDuration], Option<SignedDuration>); 8] = [
-        (&[], Some(zero)),
-        (&[min], Some(min)),
-        (&[max], Some(max)),
-        (&[min, max], Some(less_second)),
-        (&[max, min, min], None),
-        (&[min, min, max, max], None),
-        (&[max, one, less_one], None),
-        (&[max, less_one, one], Some(max)),
-    ];
-    for (durations, sum) in rows {
-        same(&rt, SignedDuration::try_sum(durations), sum);
-    }
+    check_sum_of(&rt, &[max, one, less_one], None);
+    check_sum_of(&rt, &[max, less_one, one], Some(max));
+}
+
+#[test]
+fn order_and_extent_of_slices(rt: HostRuntime) {
     assert!(rt; is_rising(&ends().map(|(duration, _)| duration)));
+    let (min, max) = (SignedDuration::MIN, SignedDuration::MAX);
     same(&rt, extent(&[max, min]), Some((min, max)));
 }

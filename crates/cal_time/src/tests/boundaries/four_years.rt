@@ -87,28 +87,29 @@ fn check_constructors(rt: &impl Abort, running: Running, month: Month, day: u8) 
     let (iso_year, week) = running.iso_week();
     let week = u8::try_from(week).expect(rt, "no week");
     let weekday = Weekday::Monday.nth_next(running.weekday);
-    for answer in [
-        Date::from_julian_day(running.julian_day),
-        Date::from_calendar_date(year, month, day),
-        Date::from_ordinal_date(year, running.ordinal),
-        Date::from_iso_week_date(iso_year, week, weekday),
-    ] {
-        same(rt, told(&answer), Ok(i128::from(running.julian_day)));
-    }
+    let date = Date::from_julian_day(running.julian_day);
+    same(rt, told(&date), Ok(i128::from(running.julian_day)));
+    same(rt, Date::from_calendar_date(year, month, day), date);
+    same(rt, Date::from_ordinal_date(year, running.ordinal), date);
+    let found = Date::from_iso_week_date(iso_year, week, weekday);
+    same(rt, found, date);
 }
 
-fn check_parts(rt: &impl Abort, date: Date, running: Running, month: Month, day: u8) {
-    let (year, ordinal, weekday) = (running.year, running.ordinal, running.weekday);
-    let (iso_year, week) = running.iso_week();
-    let (its_year, its_week, its_weekday) = date.to_iso_week_date();
+fn check_days(rt: &impl Abort, date: Date, running: Running, month: Month, day: u8) {
+    let (year, ordinal) = (running.year, running.ordinal);
     same(rt, date.to_calendar_date(), (year, month, day));
-    same(rt, date.to_ordinal_date(), (year, ordinal));
-    let found = (its_year, i32::from(its_week), its_weekday as u8);
-    same(rt, found, (iso_year, week, weekday));
     let found = (date.year(), date.month(), date.day());
     same(rt, found, (year, month, day));
+    same(rt, date.to_ordinal_date(), (year, ordinal));
     let found = (date.to_julian_day(), date.ordinal());
     same(rt, found, (running.julian_day, ordinal));
+}
+
+fn check_weeks(rt: &impl Abort, date: Date, running: Running) {
+    let ((year, week), weekday) = (running.iso_week(), running.weekday);
+    let (its_year, its_week, its_weekday) = date.to_iso_week_date();
+    let found = (its_year, i32::from(its_week), its_weekday as u8);
+    same(rt, found, (year, week, weekday));
     let found = (i32::from(date.iso_week()), date.weekday() as u8);
     same(rt, found, (week, weekday));
     let weeks = (date.sunday_based_week(), date.monday_based_week());
@@ -126,11 +127,12 @@ fn check_neighbours(rt: &impl Abort, date: Date, julian_day: i32) {
 /// Checks all days of the year. Returns the counts that go on to the next year.
 fn check_year(rt: &impl Abort, new_year: Running) -> Running {
     let mut running = new_year;
-    for (month, length) in MONTHS {
+    for &(month, length) in &MONTHS {
         for day in 1..=length {
             let date = Date::from_julian_day(running.julian_day).expect(rt, "no date");
             check_constructors(rt, running, month, day);
-            check_parts(rt, date, running, month, day);
+            check_days(rt, date, running, month, day);
+            check_weeks(rt, date, running);
             check_neighbours(rt, date, running.julian_day);
             running = running.after();
         }
@@ -142,7 +144,7 @@ fn check_year(rt: &impl Abort, new_year: Running) -> Running {
 // begins on, so the last year begins on a Friday, and the year before it on a Thursday.
 #[test]
 fn each_day(rt: HostRuntime) {
-    for (year, julian_day, weekday) in [
+    for &(year, julian_day, weekday) in &[
         (FIRST_YEAR, FIRST_JULIAN_DAY, 0),
         (LAST_YEAR - 1, LAST_JULIAN_DAY - 729, 3),
     ] {
@@ -154,23 +156,35 @@ fn each_day(rt: HostRuntime) {
     }
 }
 
+/// Checks an ISO week date, if it is a date. Returns 1 for each of these: it is a date, its week is
+/// out of range, and its weekday is.
+fn checked_week(rt: &impl Abort, year: i32, week: u8, weekday: Weekday) -> [u32; 3] {
+    match Date::from_iso_week_date(year, week, weekday) {
+        Ok(date) => {
+            same(rt, date.to_iso_week_date(), (year, week, weekday));
+            [1, 0, 0]
+        }
+        Err(error) => {
+            assert!(rt; error.is_conditional());
+            [
+                0,
+                u32::from(error.name() == "week"),
+                u32::from(error.name() == "weekday"),
+            ]
+        }
+    }
+}
+
 #[test]
 fn each_week(rt: HostRuntime) {
     let (mut accepted, mut weeks, mut weekdays) = (0u32, 0u32, 0u32);
-    for year in [FIRST_YEAR, FIRST_YEAR + 1, LAST_YEAR - 1, LAST_YEAR] {
+    for &year in &[FIRST_YEAR, FIRST_YEAR + 1, LAST_YEAR - 1, LAST_YEAR] {
         for week in 0..55 {
-            for weekday in WEEKDAYS {
-                match Date::from_iso_week_date(year, week, weekday) {
-                    Ok(date) => {
-                        same(&rt, date.to_iso_week_date(), (year, week, weekday));
-                        accepted = accepted.wrapping_add(1);
-                    }
-                    Err(error) => {
-                        assert!(rt; error.is_conditional());
-                        weeks = weeks.wrapping_add(u32::from(error.name() == "week"));
-                        weekdays = weekdays.wrapping_add(u32::from(error.name() == "weekday"));
-                    }
-                }
+            for &weekday in &WEEKDAYS {
+                let counts = checked_week(&rt, year, week, weekday);
+                accepted = accepted.wrapping_add(counts[0]);
+                weeks = weeks.wrapping_add(counts[1]);
+                weekdays = weekdays.wrapping_add(counts[2]);
             }
         }
     }

@@ -35,9 +35,9 @@ fn of_parts(hours: i8, minutes: i8, seconds: i8) -> Told {
 
 #[test]
 fn offsets_of_parts(rt: HostRuntime) {
-    for hours in HOURS {
-        for minutes in SIXTIETHS {
-            for seconds in SIXTIETHS {
+    for &hours in &HOURS {
+        for &minutes in &SIXTIETHS {
+            for &seconds in &SIXTIETHS {
                 let told = told(&UtcOffset::from_hms(hours, minutes, seconds));
                 same(&rt, told, of_parts(hours, minutes, seconds));
             }
@@ -47,7 +47,7 @@ fn offsets_of_parts(rt: HostRuntime) {
 
 #[test]
 fn offsets_of_seconds(rt: HostRuntime) {
-    for seconds in [i32::MIN, -93_600, -93_599, 0, 93_599, 93_600, i32::MAX] {
+    for &seconds in &[i32::MIN, -93_600, -93_599, 0, 93_599, 93_600, i32::MAX] {
         let want = if seconds < -93_599 || seconds > 93_599 {
             Err(("seconds", false))
         } else {

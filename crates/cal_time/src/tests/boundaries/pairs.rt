@@ -3,6 +3,7 @@ use crate::tests::boundaries::DAY;
 use crate::tests::boundaries::durations::ends;
 use crate::tests::range::{DAYS, FIRST_JULIAN_DAY, LAST_JULIAN_DAY};
 use crate::{Counted, Date, SignedDuration, Time, add_to_pair, sub_from_pair};
+use std::process::Abort;
 
 /// Returns the Julian day and the nanoseconds of a moment, if the day is in the range.
 fn at_moment(moment: i128) -> Option<(i128, i128)> {
@@ -37,26 +38,27 @@ fn durations() -> [(SignedDuration, i128); 5] {
     ]
 }
 
+/// Checks all moves of the pairs of an end of the range and an end of the day.
+fn check_pairs(rt: &impl Abort, duration: SignedDuration, by: i128) {
+    let (first, days) = (i128::from(FIRST_JULIAN_DAY), i128::from(DAYS));
+    let of_first = moves_exactly(Date::MIN, Time::MIDNIGHT, first * DAY, duration, by)
+        && moves_exactly(Date::MIN, Time::MAX, (first + 1) * DAY - 1, duration, by);
+    let last = first + days - 1;
+    let of_last = moves_exactly(Date::MAX, Time::MIDNIGHT, last * DAY, duration, by)
+        && moves_exactly(Date::MAX, Time::MAX, (last + 1) * DAY - 1, duration, by);
+    assert!(rt; of_first && of_last, "{duration}");
+}
+
 #[test]
 fn pairs_moved_by_the_ends_of_durations(rt: HostRuntime) {
-    let (first, days) = (i128::from(FIRST_JULIAN_DAY), i128::from(DAYS));
-    for (date, time, moment) in [
-        (Date::MIN, Time::MIDNIGHT, first * DAY),
-        (Date::MIN, Time::MAX, (first + 1) * DAY - 1),
-        (Date::MAX, Time::MIDNIGHT, (first + days - 1) * DAY),
-        (Date::MAX, Time::MAX, (first + days) * DAY - 1),
-    ] {
-        for (duration, by) in ends() {
-            assert!(rt;
-                moves_exactly(date, time, moment, duration, by),
-                "{duration}"
-            );
-        }
-        for (duration, by) in durations() {
-            assert!(rt;
-                moves_exactly(date, time, moment, duration, by),
-                "{duration}"
-            );
-        }
+    for (duration, by) in ends() {
+        check_pairs(&rt, duration, by);
+    }
+}
+
+#[test]
+fn pairs_moved_by_the_range(rt: HostRuntime) {
+    for (duration, by) in durations() {
+        check_pairs(&rt, duration, by);
     }
 }

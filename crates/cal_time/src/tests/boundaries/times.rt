@@ -66,9 +66,9 @@ fn check_parts(
 
 #[test]
 fn times_of_clocks(rt: HostRuntime) {
-    for hour in HOURS {
-        for minute in SIXTIETHS {
-            for second in SIXTIETHS {
+    for &hour in &HOURS {
+        for &minute in &SIXTIETHS {
+            for &second in &SIXTIETHS {
                 let told = told(&Time::from_hms(hour, minute, second));
                 same(&rt, told, clock(hour, minute, second));
             }
@@ -78,9 +78,9 @@ fn times_of_clocks(rt: HostRuntime) {
 
 #[test]
 fn times_of_clocks_and_parts_of_a_second(rt: HostRuntime) {
-    for (hour, minute, second) in [(0, 0, 0), (23, 59, 59), (23, 59, 60), (255, 255, 255)] {
+    for &(hour, minute, second) in &[(0, 0, 0), (23, 59, 59), (23, 59, 60), (255, 255, 255)] {
         let clock = clock(hour, minute, second);
-        for (milli, micro, nano) in PARTS {
+        for &(milli, micro, nano) in &PARTS {
             let answers = [
                 Time::from_hms_milli(hour, minute, second, milli),
                 Time::from_hms_micro(hour, minute, second, micro),
@@ -103,17 +103,22 @@ fn with_unit(nanoseconds: i128, value: u8, unit: i128, count: u8, name: &'static
 }
 
 #[test]
-fn replaced_hours_minutes_and_seconds(rt: HostRuntime) {
-    for (time, number) in TIMES {
-        let number = i128::from(number);
-        for value in HOURS {
-            let want = with_unit(number, value, HOUR, 24, "hour");
+fn replaced_hours(rt: HostRuntime) {
+    for &(time, number) in &TIMES {
+        for &value in &HOURS {
+            let want = with_unit(i128::from(number), value, HOUR, 24, "hour");
             same_at(&rt, value, told(&time.replace_hour(value)), want);
         }
-        for value in SIXTIETHS {
-            let want = with_unit(number, value, MINUTE, 60, "minute");
+    }
+}
+
+#[test]
+fn replaced_minutes_and_seconds(rt: HostRuntime) {
+    for &(time, number) in &TIMES {
+        for &value in &SIXTIETHS {
+            let want = with_unit(i128::from(number), value, MINUTE, 60, "minute");
             same_at(&rt, value, told(&time.replace_minute(value)), want);
-            let want = with_unit(number, value, SECOND, 60, "second");
+            let want = with_unit(i128::from(number), value, SECOND, 60, "second");
             same_at(&rt, value, told(&time.replace_second(value)), want);
         }
     }
@@ -121,10 +126,10 @@ fn replaced_hours_minutes_and_seconds(rt: HostRuntime) {
 
 #[test]
 fn replaced_parts_of_a_second(rt: HostRuntime) {
-    for (time, number) in TIMES {
+    for &(time, number) in &TIMES {
         let number = i128::from(number);
         let seconds = Ok(number - number % SECOND);
-        for (milli, micro, nano) in PARTS {
+        for &(milli, micro, nano) in &PARTS {
             let answers = [
                 time.replace_millisecond(milli),
                 time.replace_microsecond(micro),
@@ -137,28 +142,30 @@ fn replaced_parts_of_a_second(rt: HostRuntime) {
 
 #[test]
 fn truncated_ends(rt: HostRuntime) {
-    for (time, number) in TIMES {
+    for &(time, number) in &TIMES {
         let number = i128::from(number);
-        for (cut, unit) in [
-            (time.truncate_to_hour(), HOUR),
-            (time.truncate_to_minute(), MINUTE),
-            (time.truncate_to_second(), SECOND),
-            (time.truncate_to_millisecond(), 1_000_000),
-            (time.truncate_to_microsecond(), 1_000),
-        ] {
-            same(&rt, cut.number(), number - number % unit);
-        }
+        let hour = time.truncate_to_hour().number();
+        same(&rt, hour, number - number % HOUR);
+        let minute = time.truncate_to_minute().number();
+        same(&rt, minute, number - number % MINUTE);
+        let second = time.truncate_to_second().number();
+        same(&rt, second, number - number % SECOND);
+        let millisecond = time.truncate_to_millisecond().number();
+        same(&rt, millisecond, number - number % 1_000_000);
+        let microsecond = time.truncate_to_microsecond().number();
+        same(&rt, microsecond, number - number % 1_000);
     }
 }
 
 #[test]
 fn ways_between_the_ends(rt: HostRuntime) {
-    for (from, start) in TIMES {
-        for (to, end) in TIMES {
-            let (start, end) = (i128::from(start), i128::from(end));
-            let way = (end - start).rem_euclid(DAY);
-            let ways = [from.duration_until(to), to.duration_since(from), to - from];
-            same(&rt, ways.map(Counted::number), [way, way, end - start]);
+    for &(from, start) in &TIMES {
+        for &(to, end) in &TIMES {
+            let difference = i128::from(end) - i128::from(start);
+            let way = difference.rem_euclid(DAY);
+            same(&rt, from.duration_until(to).number(), way);
+            same(&rt, to.duration_since(from).number(), way);
+            same(&rt, (to - from).number(), difference);
         }
     }
 }
@@ -178,30 +185,41 @@ fn carried(nanoseconds: i128) -> (DateAdjustment, i128) {
 // duration.
 #[test]
 fn ends_moved_by_the_ends_of_durations(rt: HostRuntime) {
-    for (time, number) in TIMES {
-        let number = i128::from(number);
+    for &(time, number) in &TIMES {
         for (duration, moved) in ends() {
+            let part = moved % DAY;
             let (step, later) = time.adjusting_add(duration);
-            same(&rt, (step, later.number()), carried(number + moved % DAY));
+            let want = carried(i128::from(number) + part);
+            same(&rt, (step, later.number()), want);
             let (step, earlier) = time.adjusting_sub(duration);
-            same(&rt, (step, earlier.number()), carried(number - moved % DAY));
+            let want = carried(i128::from(number) - part);
+            same(&rt, (step, earlier.number()), want);
         }
     }
 }
 
 #[test]
-fn ends_moved_round_the_clock(rt: HostRuntime) {
-    for (time, number) in TIMES {
-        let number = i128::from(number);
+fn ends_moved_later_round_the_clock(rt: HostRuntime) {
+    for &(time, number) in &TIMES {
         for (duration, moved) in ends() {
-            let later = number.saturating_add(moved).rem_euclid(DAY);
-            let earlier = number.saturating_sub(moved).rem_euclid(DAY);
-            let (mut plus, mut minus) = (time, time);
+            let want = i128::from(number).saturating_add(moved).rem_euclid(DAY);
+            let mut plus = time;
             plus += duration;
+            same_at(&rt, duration, plus.number(), want);
+            same_at(&rt, duration, (time + duration).number(), want);
+        }
+    }
+}
+
+#[test]
+fn ends_moved_earlier_round_the_clock(rt: HostRuntime) {
+    for &(time, number) in &TIMES {
+        for (duration, moved) in ends() {
+            let want = i128::from(number).saturating_sub(moved).rem_euclid(DAY);
+            let mut minus = time;
             minus -= duration;
-            let found = [plus, time + duration, minus, time - duration];
-            let found = found.map(Counted::number);
-            same_at(&rt, duration, found, [later, later, earlier, earlier]);
+            same_at(&rt, duration, minus.number(), want);
+            same_at(&rt, duration, (time - duration).number(), want);
         }
     }
 }

@@ -3,6 +3,7 @@ use crate::Date;
 use crate::iter::DateIter;
 use crate::tests::range::{DAYS, FIRST_YEAR, LAST_YEAR};
 use crate::tests::{date, same, same_at};
+use std::process::Abort;
 
 /// The index of the last day in an iterator over the whole range.
 const LAST_PLACE: usize = DAYS as usize - 1;
@@ -35,50 +36,65 @@ fn the_whole_range(rt: HostRuntime) {
     assert!(rt; walk.is_sorted());
 }
 
-// The columns: n, and the days after n steps from the front and from the back.
+// The last two arguments are the days after n steps from the front and from the back.
 #[test]
 fn steps_from_both_ends(rt: HostRuntime) {
     let (eighth, eighth_last) = (date(&rt, FIRST_YEAR, 1, 8), date(&rt, LAST_YEAR, 12, 24));
-    for (n, from_front, from_back) in [
-        (0, Some(Date::MIN), Some(Date::MAX)),
-        (7, Some(eighth), Some(eighth_last)),
-        (LAST_PLACE - 7, Some(eighth_last), Some(eighth)),
-        (LAST_PLACE, Some(Date::MAX), Some(Date::MIN)),
-        (LAST_PLACE + 1, None, None),
-        (usize::MAX, None, None),
-    ] {
-        let left = LAST_PLACE.saturating_sub(n);
-        let mut forwards = DateIter::new(Date::MIN, Date::MAX);
-        let mut backwards = forwards.clone();
-        let found = [forwards.nth(n), backwards.nth_back(n)];
-        same_at(&rt, n, found, [from_front, from_back]);
-        same_at(&rt, n, [forwards.len(), backwards.len()], [left, left]);
-        let are_empty = [is_empty(&forwards), is_empty(&backwards)];
-        same_at(&rt, n, are_empty, [left == 0, left == 0]);
-        let last = (left > 0).then_some(Date::MAX);
-        let first = (left > 0).then_some(Date::MIN);
-        let found = [forwards.next_back(), backwards.next()];
-        same_at(&rt, n, found, [last, first]);
-    }
+    check_steps(&rt, 0, Some(Date::MIN), Some(Date::MAX));
+    check_steps(&rt, 7, Some(eighth), Some(eighth_last));
+    check_steps(&rt, LAST_PLACE - 7, Some(eighth_last), Some(eighth));
+    check_steps(&rt, LAST_PLACE, Some(Date::MAX), Some(Date::MIN));
+    check_steps(&rt, LAST_PLACE + 1, None, None);
+    check_steps(&rt, usize::MAX, None, None);
+}
+
+/// Checks `n` steps from the front and from the back.
+fn check_steps(rt: &impl Abort, n: usize, from_front: Option<Date>, from_back: Option<Date>) {
+    let left = LAST_PLACE.saturating_sub(n);
+    let mut forwards = DateIter::new(Date::MIN, Date::MAX);
+    same_at(rt, n, forwards.nth(n), from_front);
+    same_at(
+        rt,
+        n,
+        (forwards.len(), is_empty(&forwards)),
+        (left, left == 0),
+    );
+    let last = (left > 0).then_some(Date::MAX);
+    same_at(rt, n, forwards.next_back(), last);
+    let mut backwards = DateIter::new(Date::MIN, Date::MAX);
+    same_at(rt, n, backwards.nth_back(n), from_back);
+    same_at(
+        rt,
+        n,
+        (backwards.len(), is_empty(&backwards)),
+        (left, left == 0),
+    );
+    let first = (left > 0).then_some(Date::MIN);
+    same_at(rt, n, backwards.next(), first);
 }
 
 // An iterator that becomes empty keeps its front day and has no back day, like one that was created
 // empty.
 #[test]
 fn what_empty_walks_keep(rt: HostRuntime) {
-    let empty = DateIter::new(Date::MAX, Date::MIN);
-    assert!(rt; is_empty(&empty));
     let mut walk = DateIter::new(Date::MAX, Date::MAX);
     same(&rt, walk.nth_back(usize::MAX), None);
-    assert!(rt; walk == empty && is_empty(&walk));
+    check_empty(&rt, &walk, true);
     let mut walk = DateIter::new(Date::MIN, Date::MAX);
     same(&rt, walk.nth(LAST_PLACE - 1), Date::MAX.previous_day());
     same(&rt, walk.nth(usize::MAX), None);
-    assert!(rt; walk == empty && is_empty(&walk));
+    check_empty(&rt, &walk, true);
     let mut walk = DateIter::new(Date::MIN, Date::MIN);
     same(&rt, walk.next(), Some(Date::MIN));
-    assert!(rt; walk != empty && is_empty(&walk));
+    check_empty(&rt, &walk, false);
     let mut walk = DateIter::new(Date::MIN, Date::MAX);
     same(&rt, walk.nth(LAST_PLACE), Some(Date::MAX));
-    assert!(rt; walk != empty && is_empty(&walk));
+    check_empty(&rt, &walk, false);
+}
+
+/// Checks that the iterator is empty, and whether it equals one from the last day to the first.
+fn check_empty(rt: &impl Abort, walk: &DateIter, is_same: bool) {
+    let empty = DateIter::new(Date::MAX, Date::MIN);
+    assert!(rt; is_empty(walk) && is_empty(&empty));
+    same(rt, *walk == empty, is_same);
 }

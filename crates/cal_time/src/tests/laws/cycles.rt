@@ -18,14 +18,14 @@ fn weekday_and_back(weekday: Weekday, n: u8) -> Weekday
 
 #[test]
 fn steps_there_and_back(rt: HostRuntime) {
-    for (month, n) in [
+    for &(month, n) in &[
         (Month::January, 255),
         (Month::July, 9),
         (Month::December, 0),
     ] {
         same_at(&rt, n, month_and_back(month, n), month);
     }
-    for (weekday, n) in [
+    for &(weekday, n) in &[
         (Weekday::Monday, 255),
         (Weekday::Thursday, 3),
         (Weekday::Sunday, 10),

@@ -4,6 +4,7 @@ ghost use Rattle.std.specs.Prelude.{◌≡◌, IfSome, Some};
 use crate::tests::range::DAYS;
 use crate::tests::{date, same_at};
 use crate::{Date, SignedDuration};
+use std::process::Abort;
 
 fn date_and_back(date: Date, duration: SignedDuration) -> Option<Option<Date>>
     ensures { IfSome result (λ back. back ≡ Some date) }
@@ -27,27 +28,32 @@ fn duration_and_back(
     }
 }
 
+fn check_date(rt: &impl Abort, date: Date, duration: SignedDuration) {
+    let found = date_and_back(date, duration);
+    same_at(rt, duration, found, Some(Some(date)));
+}
+
 #[test]
-fn moves_there_and_back(rt: HostRuntime) {
-    for (date, duration) in [
-        (Date::MIN, SignedDuration::days(DAYS - 1)),
-        (date(&rt, 2020, 12, 31), SignedDuration::hours(47)),
-        (Date::MAX, SignedDuration::hours(-49)),
-    ] {
-        let found = date_and_back(date, duration);
-        same_at(&rt, duration, found, Some(Some(date)));
-    }
-    for (duration, other) in [
-        (SignedDuration::MAX, SignedDuration::MIN),
-        (SignedDuration::nanoseconds(-1), SignedDuration::SECOND),
-        (
-            SignedDuration::seconds(i64::MIN),
-            SignedDuration::nanoseconds(-999_999_999),
-        ),
-    ] {
-        let found = duration_and_back(duration, other);
-        same_at(&rt, other, found, Some(Some(duration)));
-    }
+fn dates_moved_there_and_back(rt: HostRuntime) {
+    check_date(&rt, Date::MIN, SignedDuration::days(DAYS - 1));
+    let evening = date(&rt, 2020, 12, 31);
+    check_date(&rt, evening, SignedDuration::hours(47));
+    check_date(&rt, Date::MAX, SignedDuration::hours(-49));
+}
+
+fn check_duration(rt: &impl Abort, duration: SignedDuration, other: SignedDuration) {
+    let found = duration_and_back(duration, other);
+    same_at(rt, other, found, Some(Some(duration)));
+}
+
+#[test]
+fn durations_moved_there_and_back(rt: HostRuntime) {
+    check_duration(&rt, SignedDuration::MAX, SignedDuration::MIN);
+    let less_one = SignedDuration::nanoseconds(-1);
+    check_duration(&rt, less_one, SignedDuration::SECOND);
+    let least_seconds = SignedDuration::seconds(i64::MIN);
+    let part = SignedDuration::nanoseconds(-999_999_999);
+    check_duration(&rt, least_seconds, part);
 }
 
 fn by_difference(from: Date, to: Date) -> Option<Date>
@@ -64,8 +70,8 @@ fn moves_by_differences(rt: HostRuntime) {
         date(&rt, 2021, 1, 1),
         Date::MAX,
     ];
-    for from in days {
-        for to in days {
+    for &from in &days {
+        for &to in &days {
             same_at(&rt, from, by_difference(from, to), Some(to));
         }
     }

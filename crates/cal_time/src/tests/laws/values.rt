@@ -49,27 +49,27 @@ pub(crate) fn check_values<T: Counted + Debug>(rt: &impl Abort, values: &[T]) {
     }
 }
 
-// The second and the third value of each row are equal.
+// The second and the third value of each list are equal.
 #[test]
-fn values_by_their_numbers(rt: HostRuntime) {
+fn dates_and_times_by_their_numbers(rt: HostRuntime) {
     let leap_day = date(&rt, 2000, 2, 29);
     let eve = date(&rt, 2000, 3, 1).previous_day();
-    let dates = [Date::MIN, leap_day, eve.expect(&rt, "no day"), Date::MAX];
-    check_values(&rt, &dates);
-    let (less_one, second) = (SignedDuration::nanoseconds(-1), SignedDuration::SECOND);
-    let durations = [
-        SignedDuration::MIN,
-        less_one,
-        SignedDuration::new(-1, 999_999_999),
-        SignedDuration::MAX,
-    ];
-    check_values(&rt, &durations);
-    let noon = time(&rt, 12, 0, 0, 0);
-    let times = [Time::MIDNIGHT, noon, noon + second - second, Time::MAX];
-    check_values(&rt, &times);
+    let eve = eve.expect(&rt, "no day");
+    check_values(&rt, &[Date::MIN, leap_day, eve, Date::MAX]);
+    let (noon, second) = (time(&rt, 12, 0, 0, 0), SignedDuration::SECOND);
+    let same_noon = noon + second - second;
+    check_values(&rt, &[Time::MIDNIGHT, noon, same_noon, Time::MAX]);
+}
+
+#[test]
+fn durations_and_offsets_by_their_numbers(rt: HostRuntime) {
+    let less_one = SignedDuration::nanoseconds(-1);
+    let same_one = SignedDuration::new(-1, 999_999_999);
+    let (min, max) = (SignedDuration::MIN, SignedDuration::MAX);
+    check_values(&rt, &[min, less_one, same_one, max]);
     let west = offset(&rt, -4, -30, 0);
-    let offsets = [offset(&rt, -5, -30, 0), west, -(-west), UtcOffset::UTC];
-    check_values(&rt, &offsets);
+    let far_west = offset(&rt, -5, -30, 0);
+    check_values(&rt, &[far_west, west, -(-west), UtcOffset::UTC]);
 }
 
 /// Compares two durations, and their nanoseconds.
@@ -86,23 +86,28 @@ fn orders_of_offsets(a: UtcOffset, b: UtcOffset) -> (Ordering, Ordering)
     (a.cmp(&b), a.whole_seconds().cmp(&b.whole_seconds()))
 }
 
+fn check_durations(rt: &impl Abort, a: SignedDuration, b: SignedDuration, order: Ordering) {
+    same_at(rt, (a, b), orders_of_durations(a, b), (order, order));
+}
+
 #[test]
-fn durations_by_nanoseconds_and_offsets_by_seconds(rt: HostRuntime) {
-    let (less, equal, greater) = (Ordering::Less, Ordering::Equal, Ordering::Greater);
+fn durations_by_nanoseconds(rt: HostRuntime) {
     let less_one = SignedDuration::nanoseconds(-1);
-    for (a, b, order) in [
-        (SignedDuration::MIN, less_one, less),
-        (SignedDuration::new(-1, 999_999_999), less_one, equal),
-        (SignedDuration::ZERO, less_one, greater),
-    ] {
-        same_at(&rt, (a, b), orders_of_durations(a, b), (order, order));
-    }
-    let (west, utc) = (offset(&rt, -5, -30, 0), UtcOffset::UTC);
-    for (a, b, order) in [
-        (west, offset(&rt, -4, -30, 0), less),
-        (offset(&rt, 0, -59, 59), -offset(&rt, 0, 59, 59), equal),
-        (utc, west, greater),
-    ] {
-        same_at(&rt, (a, b), orders_of_offsets(a, b), (order, order));
-    }
+    check_durations(&rt, SignedDuration::MIN, less_one, Ordering::Less);
+    let same_one = SignedDuration::new(-1, 999_999_999);
+    check_durations(&rt, same_one, less_one, Ordering::Equal);
+    check_durations(&rt, SignedDuration::ZERO, less_one, Ordering::Greater);
+}
+
+fn check_offsets(rt: &impl Abort, a: UtcOffset, b: UtcOffset, order: Ordering) {
+    same_at(rt, (a, b), orders_of_offsets(a, b), (order, order));
+}
+
+#[test]
+fn offsets_by_seconds(rt: HostRuntime) {
+    let (west, less_west) = (offset(&rt, -5, -30, 0), offset(&rt, -4, -30, 0));
+    check_offsets(&rt, west, less_west, Ordering::Less);
+    let (before, after) = (offset(&rt, 0, -59, 59), offset(&rt, 0, 59, 59));
+    check_offsets(&rt, before, -after, Ordering::Equal);
+    check_offsets(&rt, UtcOffset::UTC, west, Ordering::Greater);
 }
