@@ -1238,7 +1238,8 @@ class Habits(Cases):
 
 def load_tests(loader, tests, _pattern):
     tests.addTests(doctest.DocTestSuite(fotsevindre))
-    tests.addTests(doctest.DocFileSuite("../../../README.md", "../../../docs/PYTHON.md", encoding="utf-8"))
+    pages = ["../../../README.md", "../../../docs/PYTHON.md", "../../../docs/COLUMNS.md"]
+    tests.addTests(doctest.DocFileSuite(*pages, encoding="utf-8"))
     return tests
 
 

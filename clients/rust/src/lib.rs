@@ -61,7 +61,8 @@ pub fn version() -> (u32, u32, u32) {
     (number / 1_000_000, number / 1_000 % 1_000, number % 1_000)
 }
 
-/// The page for Rust. Its examples are tested too.
+/// The pages for Rust. Their examples are tested too.
 #[cfg(doctest)]
 #[doc = include_str!("../../../docs/RUST.md")]
-struct Page;
+#[doc = include_str!("../../../docs/COLUMNS.md")]
+struct Pages;
