@@ -1,0 +1,9 @@
+use Rattle.std.proofs.Common.{arith}
+use Rattle.std.proofs.lemmas.Int.{ints}
+use Rattle.cal_span.proofs.signed_duration.SignedDuration.nanoseconds.Goals as goal
+
+pub invariant_of-result : goal.invariant_of-result
+invariant_of-result c = omega (arith, ints)
+
+pub returns : goal.returns
+returns c = omega (arith, ints)
