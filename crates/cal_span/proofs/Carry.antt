@@ -1,6 +1,6 @@
 -- Seconds and nanoseconds with a carry between them: when they are a duration, and which one.
-use Rattle.std.proofs.Common.{◌≡◌, true, false, ℤ, pos, negsuc, neg_ℤ, ◌+ℤ◌, ◌-ℤ◌, ◌*ℤ◌, ◌≤ℤ◌, ◌<ℤ◌, Option, SomeIff, FitsSigned, ap, ◌∙◌, subst, arith}
-use Rattle.std.specs.Int.{w64, from_bool}
+use Rattle.std.proofs.Common.{◌≡◌, true, false, ℤ, pos, negsuc, neg_ℤ, ◌+ℤ◌, ◌-ℤ◌, ◌*ℤ◌, ◌≤ℤ◌, ◌<ℤ◌, Option, SomeIff, FitsSigned, ap, sym, ◌∙◌, subst, arith}
+use Rattle.std.specs.Int.{w32, w64, from_bool}
 use Rattle.std.specs.Int.Signed.{lt_z}
 use Rattle.std.proofs.lemmas.Int.{ints, by_lt_z}
 use Rattle.cal_span.specs.SignedDuration.{second, IsDuration, IsMagnitudeWithin}
@@ -189,3 +189,29 @@ opposite-fields a v is_v =
     let s = times-second a.seconds in
     let t = times-second (neg_ℤ a.seconds) in
     omega (arith, ints)
+
+-- A difference of nanoseconds fits in an i32.
+pub difference-fits : (a b : Inside) → IsNormal a → IsNormal b → FitsSigned w32 (a.nanoseconds -ℤ b.nanoseconds)
+difference-fits a b h k = omega (arith, ints, h.above, h.below, k.above, k.below)
+
+-- One second moves from the seconds to negative nanoseconds, where the seconds are one above
+-- `i64::MAX`.
+pub record IsBorrowed (a b : Inside) (v w : ℤ) : Type 0 where
+  pub fits : FitsSigned w32 ((a.nanoseconds -ℤ b.nanoseconds) +ℤ pos second)
+  pub normal : IsNormal (record { seconds = pos 9_223_372_036_854_775_807; nanoseconds = (a.nanoseconds -ℤ b.nanoseconds) +ℤ pos second })
+  pub duration : IsDuration (v -ℤ w)
+  pub whole : pos 9_223_372_036_854_775_807 *ℤ pos second +ℤ ((a.nanoseconds -ℤ b.nanoseconds) +ℤ pos second) ≡ v -ℤ w
+
+pub borrowed : (a b : Inside) (v w : ℤ) → IsNormal a → IsNormal b → nanoseconds_of_fields a ≡ v → nanoseconds_of_fields b ≡ w
+    → a.seconds ≡ pos 0 → b.seconds ≡ negsuc 9_223_372_036_854_775_807 → (a.nanoseconds -ℤ b.nanoseconds) <ℤ pos 0 → IsBorrowed a b v w
+borrowed a b v w h k is_v is_w left right below =
+    let left_fields : pos 0 *ℤ pos second +ℤ a.nanoseconds ≡ v = ap (λ s. s *ℤ pos second +ℤ a.nanoseconds) (sym left) ∙ is_v in
+    let right_fields : negsuc 9_223_372_036_854_775_807 *ℤ pos second +ℤ b.nanoseconds ≡ w = ap (λ s. s *ℤ pos second +ℤ b.nanoseconds) (sym right) ∙ is_w in
+    let more = h.above in
+    let most = k.negative (omega (arith, ints)) in
+    record {
+      fits = omega (arith, ints);
+      normal = record { above = omega (arith, ints); below = omega (arith, ints); positive = λ s. omega (arith, ints); negative = λ s. omega (arith, ints) };
+      duration = record { at_least = omega (arith, ints); at_most = omega (arith, ints) };
+      whole = omega (arith, ints);
+    }

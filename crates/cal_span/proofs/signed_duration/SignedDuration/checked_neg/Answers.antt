@@ -1,4 +1,4 @@
-use Rattle.std.proofs.Common.{◌≡◌, neg_ℤ, ℤ, Option, FitsSigned, SomeIff, sym, subst, rules, arith}
+use Rattle.std.proofs.Common.{◌≡◌, pos, neg_ℤ, ◌-ℤ◌, ℤ, Option, FitsSigned, SomeIff, sym, subst, rules, arith}
 use Rattle.std.specs.Int.{w32, w64}
 use Rattle.std.proofs.lemmas.Int.{ints, to_z-of_z}
 use Rattle.cal_span.specs.SignedDuration.{IsDuration}
@@ -20,8 +20,9 @@ invariant_of-result c =
     let s : FitsSigned w64 c.in_ok-checked_neg.field-0 = search rules in
     let k = simp to_z-of_z at c.in_ok-checked_neg.ensures in
     let n : FitsSigned w32 c.self.inside.nanoseconds = search rules in
-    let m : FitsSigned w32 (neg_ℤ c.self.inside.nanoseconds) = omega (arith, ints, c.self.invariant.above, c.self.invariant.below) in
-    simp to_z-of_z (rw k.1 (IsNormal-opposite c.self.inside c.self.invariant))
+    let m : FitsSigned w32 (pos 0 -ℤ c.self.inside.nanoseconds) = omega (arith, ints, c.self.invariant.above, c.self.invariant.below) in
+    let opposite : pos 0 -ℤ c.self.inside.nanoseconds ≡ neg_ℤ c.self.inside.nanoseconds = omega (arith, ints) in
+    simp to_z-of_z (rw (k.1, opposite) (IsNormal-opposite c.self.inside c.self.invariant))
 
 pub returns : goal.returns
 returns c =
@@ -29,6 +30,7 @@ returns c =
     let s : FitsSigned w64 c.in_ok-checked_neg.field-0 = search rules in
     let k = simp to_z-of_z at c.in_ok-checked_neg.ensures in
     let n : FitsSigned w32 c.self.inside.nanoseconds = search rules in
-    let m : FitsSigned w32 (neg_ℤ c.self.inside.nanoseconds) = omega (arith, ints, c.self.invariant.above, c.self.invariant.below) in
+    let m : FitsSigned w32 (pos 0 -ℤ c.self.inside.nanoseconds) = omega (arith, ints, c.self.invariant.above, c.self.invariant.below) in
+    let opposite : pos 0 -ℤ c.self.inside.nanoseconds ≡ neg_ℤ c.self.inside.nanoseconds = omega (arith, ints) in
     let same = opposite-fields c.self.inside c.args.self c.self.view_is in
-    (subst IsDuration same (IsDuration-fields _ (IsNormal-opposite c.self.inside c.self.invariant) k.0), simp to_z-of_z (rw k.1 same))
+    (subst IsDuration same (IsDuration-fields _ (IsNormal-opposite c.self.inside c.self.invariant) k.0), simp to_z-of_z (rw (k.1, opposite) same))

@@ -18,6 +18,23 @@ returns-in_err-checked_add c =
     let P : Option ℤ → Type 0 = λ r. SomeIff r (IsDuration (c.args.seconds *ℤ pos second +ℤ c.args.nanoseconds)) (c.args.seconds *ℤ pos second +ℤ c.args.nanoseconds) in
     subst P (sym c.from_residual.ensures) (λ d. not_fits (seconds-fit _ _ carry.normal.positive carry.normal.negative (subst IsDuration (sym whole) d)))
 
+pub overflow_mul-result : goal.overflow_mul-result
+overflow_mul-result c =
+    let s = c.ranges.seconds in
+    let n = c.ranges.nanoseconds in
+    let r : FitsSigned w32 c.carry_from_nanoseconds-carry.result = search rules in
+    let carry = simp to_z-of_z at c.carry_from_nanoseconds-carry.ensures in
+    simp to_z-of_z (omega (arith, ints, carry.at_least, carry.at_most))
+
+pub overflow_sub-result : goal.overflow_sub-result
+overflow_sub-result c =
+    let s = c.ranges.seconds in
+    let n = c.ranges.nanoseconds in
+    let r : FitsSigned w32 c.carry_from_nanoseconds-carry.result = search rules in
+    let carry = simp to_z-of_z at c.carry_from_nanoseconds-carry.ensures in
+    let product : FitsSigned w32 (c.carry_from_nanoseconds-carry.result *ℤ pos second) = omega (arith, ints, carry.at_least, carry.at_most) in
+    simp to_z-of_z (omega (arith, ints, carry.normal.above, carry.normal.below))
+
 pub invariant_of-result : goal.invariant_of-result
 invariant_of-result c =
     let s = c.ranges.seconds in

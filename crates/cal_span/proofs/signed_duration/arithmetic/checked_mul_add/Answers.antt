@@ -4,6 +4,21 @@ use Rattle.std.proofs.lemmas.Int.{ints, to_z-of_z}
 use Rattle.cal_span.proofs.Product.{small-fits, first-fits}
 use Rattle.cal_span.proofs.signed_duration.arithmetic.checked_mul_add.Goals as goal
 
+pub overflow_mul-result : goal.overflow_mul-result
+overflow_mul-result c =
+    let s = c.ranges.seconds in
+    let k = c.ranges.factor in
+    simp to_z-of_z (small-fits c.args.seconds c.args.factor c.args.carry (omega (arith, ints)) (omega (arith, ints)) c.requires.small).0
+
+pub overflow_add-result : goal.overflow_add-result
+overflow_add-result c =
+    let s = c.ranges.seconds in
+    let k = c.ranges.factor in
+    let n = c.ranges.carry in
+    let fits = small-fits c.args.seconds c.args.factor c.args.carry (omega (arith, ints)) (omega (arith, ints)) c.requires.small in
+    let product = fits.0 in
+    simp to_z-of_z fits.1
+
 pub returns-then-unsigned_abs : goal.returns-then-unsigned_abs
 returns-then-unsigned_abs c =
     let s = c.ranges.seconds in
