@@ -190,6 +190,13 @@ opposite-fields a v is_v =
     let t = times-second (neg_ℤ a.seconds) in
     omega (arith, ints)
 
+-- What the test of a sign says.
+pub is-below : (z : ℤ) → lt_z z (pos 0) ≡ true → z <ℤ pos 0
+is-below z e = omega (arith, ints)
+
+pub is-not-below : (z : ℤ) → lt_z z (pos 0) ≡ false → pos 0 ≤ℤ z
+is-not-below z e = omega (arith, ints)
+
 -- A difference of nanoseconds fits in an i32.
 pub difference-fits : (a b : Inside) → IsNormal a → IsNormal b → FitsSigned w32 (a.nanoseconds -ℤ b.nanoseconds)
 difference-fits a b h k = omega (arith, ints, h.above, h.below, k.above, k.below)

@@ -1,8 +1,8 @@
 -- The positive and the negative part of a duration's number, from its fields.
-use Rattle.std.proofs.Common.{◌≡◌, zero, suc, ℤ, pos, negsuc, ◌+ℤ◌, ◌*ℤ◌, ◌≤ℤ◌, ◌<ℤ◌, ◌+◌, ◌*◌, ◌/◌, ◌%◌, ◌<◌, ℕ, unsigned_abs, ap, arith}
+use Rattle.std.proofs.Common.{◌≡◌, zero, suc, ℤ, pos, negsuc, ◌+ℤ◌, ◌*ℤ◌, ◌≤ℤ◌, ◌<ℤ◌, ◌+◌, ◌*◌, ◌/◌, ◌%◌, ◌<◌, ℕ, unsigned_abs, int_div, ap, arith}
 use borrow.Author.Differences.{up, down}
 use Rattle.std.proofs.lemmas.Int.{ints}
-use Rattle.cal_span.specs.SignedDuration.{second}
+use Rattle.cal_span.specs.SignedDuration.{second, minute, hour, day, week, cut}
 use Rattle.cal_span.specs.Fields.{nanoseconds_of_fields, IsNormal}
 use Rattle.cal_span.specs.FieldsLaws.{times-second}
 use Rattle.cal_span.specs.declared.signed_duration.SignedDuration.TheInside.{Inside}
@@ -47,3 +47,20 @@ magnitude-seconds m s n e below = omega arith
 
 pub magnitude-nanoseconds : (m s n : ℕ) → m ≡ s * second + n → n < second → n ≡ m % second
 magnitude-nanoseconds m s n e below = omega arith
+
+-- Whole units of a duration are whole units of its seconds.
+parts-below : (fields : Inside) → IsNormal fields → (up fields.nanoseconds < second) × (down fields.nanoseconds < second)
+parts-below fields h = (omega (arith, nanoseconds-below fields h, abs-parts fields.nanoseconds), omega (arith, nanoseconds-below fields h, abs-parts fields.nanoseconds))
+
+module _ (fields : Inside) (v : ℤ) (h : IsNormal fields) (is_v : nanoseconds_of_fields fields ≡ v) where
+  pub whole-weeks : int_div fields.seconds (pos 604_800) ≡ cut v (pos week)
+  whole-weeks = let p = parts fields h in let b = parts-below fields h in omega (arith, ints)
+
+  pub whole-days : int_div fields.seconds (pos 86_400) ≡ cut v (pos day)
+  whole-days = let p = parts fields h in let b = parts-below fields h in omega (arith, ints)
+
+  pub whole-hours : int_div fields.seconds (pos 3_600) ≡ cut v (pos hour)
+  whole-hours = let p = parts fields h in let b = parts-below fields h in omega (arith, ints)
+
+  pub whole-minutes : int_div fields.seconds (pos 60) ≡ cut v (pos minute)
+  whole-minutes = let p = parts fields h in let b = parts-below fields h in omega (arith, ints)

@@ -1,4 +1,4 @@
-use Rattle.std.proofs.Common.{◌≡◌, pos, ◌≤ℤ◌, ℤ, FitsSigned, unsigned_abs, sym, ap, ◌∙◌, rules, arith}
+use Rattle.std.proofs.Common.{pos, FitsSigned, unsigned_abs, sym, ◌∙◌, rules, arith}
 use Rattle.std.specs.Int.{w32, w64}
 use Rattle.std.proofs.lemmas.Int.{ints, to_z-of_z}
 use Rattle.cal_span.specs.SignedDuration.{IsDuration}

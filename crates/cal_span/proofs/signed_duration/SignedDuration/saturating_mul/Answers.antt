@@ -13,10 +13,10 @@ pub returns-in-None : goal.returns-in-None
 returns-in-None c =
     let k = c.ranges.rhs in
     let outside = simp to_z-of_z at c.in-None.ensures in
-    sym (clamp-above (c.args.self *ℤ c.args.rhs) (product-at_least c.args.self c.args.rhs c.is_negative.result c.is_negative.ensures (simp to_z-of_z at c.if-is_negative-eq-rhs-lt0.true)) outside)
+    sym (clamp-above (c.args.self *ℤ c.args.rhs) (product-at_least c.args.self c.args.rhs c.is_negative.result c.is_negative.ensures (simp to_z-of_z at c.if-is_negative-rhs.true)) outside)
 
 pub returns-in-None-2 : goal.returns-in-None-2
 returns-in-None-2 c =
     let k = c.ranges.rhs in
     let outside = simp to_z-of_z at c.in-None.ensures in
-    sym (clamp-below (c.args.self *ℤ c.args.rhs) (product-at_most c.args.self c.args.rhs c.is_negative.result c.is_negative.ensures (simp to_z-of_z at c.if-is_negative-eq-rhs-lt0.false)) outside)
+    sym (clamp-below (c.args.self *ℤ c.args.rhs) (product-at_most c.args.self c.args.rhs c.is_negative.result c.is_negative.ensures (simp to_z-of_z at c.if-is_negative-rhs.false)) outside)
