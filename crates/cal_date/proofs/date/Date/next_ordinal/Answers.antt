@@ -13,3 +13,6 @@ returns-clause-value c =
 
 pub returns-clause-in_range : goal.returns-clause-in_range
 returns-clause-in_range c = (at_number c.self.inside c.args.self c.self.invariant c.self.view_is).in_range
+
+pub overflow_cast-result : goal.overflow_cast-result
+overflow_cast-result c = ?
