@@ -1,10 +1,8 @@
-use Rattle.std.proofs.Common.{◌≡◌, ◌+◌, ◌-◌, ◌*◌, ◌<◌, ◌≤◌, ◌∙◌, sym, ap, arith, pos, ◌-ℤ◌, ◌+ℤ◌, to_z, of_z, w32}
+use Rattle.std.proofs.Common.{◌≡◌, ◌+◌, ◌-◌, ◌*◌, ◌∙◌, sym, ap, arith, pos, ◌-ℤ◌, to_z, of_z, w32}
 use Rattle.std.proofs.lemmas.Int.{ints, to_z-of_z}
-use Rattle.std.proofs.lemmas.Bool.Decides.{nat_tests}
-use Rattle.cal_units.specs.Lengths.{days_in_year}
 use Rattle.cal_units.specs.Weekday.{index}
 use Rattle.cal_date.specs.ClosedForms.{january_4_weekday}
-use Rattle.cal_date.proofs.IsoForms.{back-before, back-after}
+use Rattle.cal_date.proofs.IsoForms.{back-before}
 use Rattle.cal_date.proofs.date.iso_week.ordinal_date_from_week.Goals as goal
 use Rattle.cal_date.proofs.date.iso_week.ordinal_date_from_week.Goals.{After-from-3}
 
