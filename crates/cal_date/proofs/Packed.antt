@@ -1,10 +1,12 @@
 -- The parts of the packed value of an ordinal date.
-use Rattle.std.proofs.Common.{◌≡◌, inl, inr, refl, Bool, ℕ, ◌*◌, ◌+◌, ◌%◌, ◌≤◌, ◌∙◌, sym, ap, subst, arith, rules, ℤ, pos, neg_ℤ, ◌+ℤ◌, ◌*ℤ◌, ◌≤ℤ◌, unsigned_abs, to_z, of_z, w32, FitsSigned, bit_and, bit_or, ◌^◌, ◌<◌}
+use Rattle.std.proofs.Common.{◌≡◌, inl, inr, refl, Bool, ℕ, ◌*◌, ◌+◌, ◌%◌, ◌≤◌, ◌∙◌, sym, ap, subst, arith, rules, ℤ, pos, neg_ℤ, ◌+ℤ◌, ◌*ℤ◌, ◌≤ℤ◌, unsigned_abs, to_z, of_z, w32, Fits, FitsSigned, bit_and, bit_or, ◌^◌, ◌<◌}
 use Rattle.std.proofs.lemmas.Int.{ints, to_z-of_z}
 use Rattle.std.proofs.lemmas.Bool.Decides.{nat_tests}
 use Rattle.std.proofs.lemmas.Bool.{cases_Bool}
 use Rattle.std.proofs.lemmas.Nat.{and_mask, or_shifted}
-use lib.Signed.{shr_z}
+use lib.Dec.{T}
+use lib.Signed.{shr_z, non_neg}
+use mir.Syntax.{Width, w16}
 use mir.Val.{bool_byte}
 use Rattle.cal_units.specs.Lengths.{is_leap_year, days_in_year}
 use Rattle.cal_date.specs.Date.{year_at, ordinal_at, IsYear, IsOrdinal, IsDate}
@@ -191,5 +193,27 @@ packed-bits y leap o k h f mark e =
     ∙ ap (λ n. to_z w32 (bit_or (bit_or ((of_z w32 y % 4194304) * 2 ^ 10) (m * 512)) n)) (of_pos o k e short)
     ∙ ap (to_z w32) (joined (of_z w32 y % 4194304) m k short low)
     ∙ packed-parts y (packed y k) m k h short low is
+
+-- Masked bits are a small number, so a cast keeps it.
+abbrev Casts : Width → ℕ → Type 0
+Casts w n = T (non_neg (to_z w32 n)) × Fits w (unsigned_abs (to_z w32 n))
+
+pub mask_9-casts : (x : ℕ) → Casts w32 (bit_and x 511)
+mask_9-casts x = subst (Casts w32) (sym (and_mask x 9)) (small (x % 512) (omega arith))
+  where
+    small : (n : ℕ) → n < 512 → Casts w32 n
+    small n below = (omega (arith, ints), omega (arith, ints))
+
+pub mask_9-casts_16 : (x : ℕ) → Casts w16 (bit_and x 511)
+mask_9-casts_16 x = subst (Casts w16) (sym (and_mask x 9)) (small (x % 512) (omega arith))
+  where
+    small : (n : ℕ) → n < 512 → Casts w16 n
+    small n below = (omega (arith, ints), omega (arith, ints))
+
+pub mask_10-casts : (x : ℕ) → Casts w32 (bit_and x 1023)
+mask_10-casts x = subst (Casts w32) (sym (and_mask x 10)) (small (x % 1024) (omega arith))
+  where
+    small : (n : ℕ) → n < 1024 → Casts w32 n
+    small n below = (omega (arith, ints), omega (arith, ints))
 
 pub ruleset numbers_of_packed = (packed_at-number_of, ints, nat_tests)

@@ -1,6 +1,6 @@
 -- Seconds and nanoseconds with a carry between them: when they are a duration, and which one.
-use Rattle.std.proofs.Common.{◌≡◌, true, false, ℤ, pos, negsuc, neg_ℤ, ◌+ℤ◌, ◌-ℤ◌, ◌*ℤ◌, ◌≤ℤ◌, ◌<ℤ◌, Option, SomeIff, FitsSigned, ap, ◌∙◌, subst, arith}
-use Rattle.std.specs.Int.{w64, from_bool}
+use Rattle.std.proofs.Common.{◌≡◌, true, false, ℤ, pos, negsuc, neg_ℤ, ◌+ℤ◌, ◌-ℤ◌, ◌*ℤ◌, ◌≤ℤ◌, ◌<ℤ◌, Option, SomeIff, FitsSigned, ap, sym, ◌∙◌, subst, arith}
+use Rattle.std.specs.Int.{w32, w64, from_bool}
 use Rattle.std.specs.Int.Signed.{lt_z}
 use Rattle.std.proofs.lemmas.Int.{ints, by_lt_z}
 use Rattle.cal_span.specs.SignedDuration.{second, IsDuration, IsMagnitudeWithin}
@@ -28,11 +28,11 @@ pub record AreBounds (s most least : ℤ) : Type 0 where
 
 IsCarry-up : (s n : ℤ) → CanCarry s n → pos 0 <ℤ n → (pos 0 ≤ℤ s → pos second ≤ℤ n) → IsCarry s n (pos 1)
 IsCarry-up s n can side enough =
-    record { at_least = omega (arith, ints); at_most = omega (arith, ints); normal = record { above = omega (arith, ints); below = omega (arith, ints, can.below); positive = λ h. omega (arith, ints); negative = λ h. grind (arith, ints, can.over) } }
+    record { at_least = omega (arith, ints); at_most = omega (arith, ints); normal = record { above = omega (arith, ints); below = omega (arith, ints, can.below); positive = λ h. omega (arith, ints); negative = λ h. by_lt_z n (pos second) (λ less. omega (arith, ints)) (λ from. omega (arith, ints, can.over from)) } }
 
 IsCarry-down : (s n : ℤ) → CanCarry s n → n <ℤ pos 0 → (s ≤ℤ pos 0 → n ≤ℤ neg_ℤ (pos second)) → IsCarry s n (negsuc 0)
 IsCarry-down s n can side enough =
-    record { at_least = omega (arith, ints); at_most = omega (arith, ints); normal = record { above = omega (arith, ints, can.above); below = omega (arith, ints); positive = λ h. grind (arith, ints, can.under); negative = λ h. omega (arith, ints) } }
+    record { at_least = omega (arith, ints); at_most = omega (arith, ints); normal = record { above = omega (arith, ints, can.above); below = omega (arith, ints); positive = λ h. by_lt_z (neg_ℤ (pos second)) n (λ more. omega (arith, ints)) (λ to. omega (arith, ints, can.under to)); negative = λ h. omega (arith, ints) } }
 
 -- The carry is the difference of two counts.
 pub IsCarry-counted : (s n most least x y : ℤ) → CanCarry s n → AreBounds s most least → Counts most n x → Counts n least y → IsCarry s n (x -ℤ y)
@@ -68,9 +68,11 @@ IsDuration-sum s n fits within =
 pub seconds-fit : (s n : ℤ) → (pos 0 <ℤ s → pos 0 ≤ℤ n) → (s <ℤ pos 0 → n ≤ℤ pos 0) → IsDuration (s *ℤ pos second +ℤ n) → FitsSigned w64 s
 seconds-fit s n p q d =
     let t = times-second s in
-    let low = d.at_least in
-    let high = d.at_most in
-    grind (arith, ints)
+    by_lt_z s (pos 0)
+    (λ below. omega (arith, ints, q below, d.at_least))
+    (λ not_below. by_lt_z (pos 0) s
+    (λ above. omega (arith, ints, p above, d.at_most))
+    (λ not_above. omega (arith, ints)))
 
 -- A result that is exact for v is exact for an equal number w.
 pub exact-along : (r : Option ℤ) (v w : ℤ) → v ≡ w → SomeIff r (IsDuration v) v → SomeIff r (IsDuration w) w
@@ -100,9 +102,15 @@ pub add-fits : (a b : Inside) (v w : ℤ) → IsNormal a → IsNormal b → Fits
 add-fits a b v w h k f g is_v is_w d =
     let p = times-second a.seconds in
     let q = times-second b.seconds in
-    let low = d.at_least in
-    let high = d.at_most in
-    grind (arith, ints)
+    by_lt_z a.seconds (pos 0)
+    (λ below. by_lt_z b.seconds (pos 0)
+    (λ both. omega (arith, ints, h.negative below, k.negative both, d.at_least))
+    (λ apart. omega (arith, ints)))
+    (λ not_below. by_lt_z (pos 0) b.seconds
+    (λ above. by_lt_z (pos 0) a.seconds
+    (λ both. omega (arith, ints, h.positive both, k.positive above, d.at_most))
+    (λ zero. omega (arith, ints)))
+    (λ apart. omega (arith, ints)))
 
 -- If a difference is a duration, its seconds fit in an i64, except if the seconds of the left side
 -- are 0 and the nanoseconds are negative.
@@ -166,3 +174,51 @@ sum-fields a b v w is_v is_w = omega (arith, ints)
 
 pub difference-fields : (a b : Inside) (v w : ℤ) → nanoseconds_of_fields a ≡ v → nanoseconds_of_fields b ≡ w → (a.seconds -ℤ b.seconds) *ℤ pos second +ℤ (a.nanoseconds -ℤ b.nanoseconds) ≡ v -ℤ w
 difference-fields a b v w is_v is_w = omega (arith, ints)
+
+-- The fields of the opposite number.
+pub IsNormal-opposite : (a : Inside) → IsNormal a → IsNormal (record { seconds = neg_ℤ a.seconds; nanoseconds = neg_ℤ a.nanoseconds })
+IsNormal-opposite a h = record {
+  above = omega (arith, ints, h.below);
+  below = omega (arith, ints, h.above);
+  positive = λ s. omega (arith, ints, h.negative (omega (arith, ints)));
+  negative = λ s. omega (arith, ints, h.positive (omega (arith, ints)));
+}
+
+pub opposite-fields : (a : Inside) (v : ℤ) → nanoseconds_of_fields a ≡ v → neg_ℤ a.seconds *ℤ pos second +ℤ neg_ℤ a.nanoseconds ≡ neg_ℤ v
+opposite-fields a v is_v =
+    let s = times-second a.seconds in
+    let t = times-second (neg_ℤ a.seconds) in
+    omega (arith, ints)
+
+-- What the test of a sign says.
+pub is-below : (z : ℤ) → lt_z z (pos 0) ≡ true → z <ℤ pos 0
+is-below z e = omega (arith, ints)
+
+pub is-not-below : (z : ℤ) → lt_z z (pos 0) ≡ false → pos 0 ≤ℤ z
+is-not-below z e = omega (arith, ints)
+
+-- A difference of nanoseconds fits in an i32.
+pub difference-fits : (a b : Inside) → IsNormal a → IsNormal b → FitsSigned w32 (a.nanoseconds -ℤ b.nanoseconds)
+difference-fits a b h k = omega (arith, ints, h.above, h.below, k.above, k.below)
+
+-- One second moves from the seconds to negative nanoseconds, where the seconds are one above
+-- `i64::MAX`.
+pub record IsBorrowed (a b : Inside) (v w : ℤ) : Type 0 where
+  pub fits : FitsSigned w32 ((a.nanoseconds -ℤ b.nanoseconds) +ℤ pos second)
+  pub normal : IsNormal (record { seconds = pos 9_223_372_036_854_775_807; nanoseconds = (a.nanoseconds -ℤ b.nanoseconds) +ℤ pos second })
+  pub duration : IsDuration (v -ℤ w)
+  pub whole : pos 9_223_372_036_854_775_807 *ℤ pos second +ℤ ((a.nanoseconds -ℤ b.nanoseconds) +ℤ pos second) ≡ v -ℤ w
+
+pub borrowed : (a b : Inside) (v w : ℤ) → IsNormal a → IsNormal b → nanoseconds_of_fields a ≡ v → nanoseconds_of_fields b ≡ w
+    → a.seconds ≡ pos 0 → b.seconds ≡ negsuc 9_223_372_036_854_775_807 → (a.nanoseconds -ℤ b.nanoseconds) <ℤ pos 0 → IsBorrowed a b v w
+borrowed a b v w h k is_v is_w left right below =
+    let left_fields : pos 0 *ℤ pos second +ℤ a.nanoseconds ≡ v = ap (λ s. s *ℤ pos second +ℤ a.nanoseconds) (sym left) ∙ is_v in
+    let right_fields : negsuc 9_223_372_036_854_775_807 *ℤ pos second +ℤ b.nanoseconds ≡ w = ap (λ s. s *ℤ pos second +ℤ b.nanoseconds) (sym right) ∙ is_w in
+    let more = h.above in
+    let most = k.negative (omega (arith, ints)) in
+    record {
+      fits = omega (arith, ints);
+      normal = record { above = omega (arith, ints); below = omega (arith, ints); positive = λ s. omega (arith, ints); negative = λ s. omega (arith, ints) };
+      duration = record { at_least = omega (arith, ints); at_most = omega (arith, ints) };
+      whole = omega (arith, ints);
+    }

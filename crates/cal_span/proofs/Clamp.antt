@@ -1,6 +1,8 @@
 -- The result of `clamp` inside the range and outside it.
-use Rattle.std.proofs.Common.{◌≡◌, ℤ, pos, neg_ℤ, ◌+ℤ◌, ◌≤ℤ◌, ◌<ℤ◌, FitsSigned, arith}
+use Rattle.std.proofs.Common.{◌≡◌, ◌↔◌, Bool, true, false, IsTrue, ℤ, pos, negsuc, neg_ℤ, ◌+ℤ◌, ◌*ℤ◌, ◌≤ℤ◌, ◌<ℤ◌, FitsSigned, arith}
+use mathlib.Core.Bool.{beq}
 use Rattle.std.specs.Int.{int_min, w64}
+use Rattle.std.specs.Int.Signed.{lt_z}
 use Rattle.std.proofs.lemmas.Int.{ints, clamps, by_lt_z}
 use Rattle.cal_span.specs.SignedDuration.{second, IsDuration, clamp, min_duration, max_duration}
 use Rattle.cal_span.specs.Fields.{nanoseconds_of_fields, IsNormal}
@@ -45,3 +47,17 @@ module _ (a b : Inside) (v w : ℤ) (h : IsNormal a) (k : IsNormal b) (f : FitsS
       let low_v : neg_ℤ (pos second) <ℤ v = omega (arith, ints) in
       let low_w : neg_ℤ (pos second) <ℤ w = omega (arith, ints) in
       omega (arith, ints)
+
+-- A product of two numbers is not negative if they have the same sign, and not positive if they
+-- have opposite signs. b says whether v is negative.
+pub product-at_least : (v k : ℤ) (b : Bool) → IsTrue b ↔ (v <ℤ pos 0) → beq b (lt_z k (pos 0)) ≡ true → min_duration ≤ℤ (v *ℤ k)
+product-at_least (pos v) (pos k) b is_below same = omega (arith, ints)
+product-at_least (pos v) (negsuc k) b is_below same = absurd (grind (arith, ints, is_below))
+product-at_least (negsuc v) (pos k) b is_below same = absurd (grind (arith, ints, is_below))
+product-at_least (negsuc v) (negsuc k) b is_below same = omega (arith, ints)
+
+pub product-at_most : (v k : ℤ) (b : Bool) → IsTrue b ↔ (v <ℤ pos 0) → beq b (lt_z k (pos 0)) ≡ false → (v *ℤ k) ≤ℤ max_duration
+product-at_most (pos v) (pos k) b is_below other = absurd (grind (arith, ints, is_below))
+product-at_most (pos v) (negsuc k) b is_below other = omega (arith, ints)
+product-at_most (negsuc v) (pos k) b is_below other = omega (arith, ints)
+product-at_most (negsuc v) (negsuc k) b is_below other = absurd (grind (arith, ints, is_below))

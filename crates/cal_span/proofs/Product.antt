@@ -61,7 +61,8 @@ past-fits v k within =
     let small = rem_below v (pos second) (omega arith) in
     fits_signed_mul w64 (subsec_nanoseconds v) k 999_999_999 4_294_967_295 (omega (arith, ints)) (omega (arith, ints)) (lit< tt)
 
-subsec_nanoseconds-fields : (a : Inside) (v : ℤ) → IsNormal a → nanoseconds_of_fields a ≡ v → subsec_nanoseconds v ≡ a.nanoseconds
+-- The nanoseconds past the seconds are the nanoseconds of the fields.
+pub subsec_nanoseconds-fields : (a : Inside) (v : ℤ) → IsNormal a → nanoseconds_of_fields a ≡ v → subsec_nanoseconds v ≡ a.nanoseconds
 subsec_nanoseconds-fields a v h is_v =
     let parts = quot-rem v (pos second) in
     let rest : int_rem v (pos second) ≡ a.nanoseconds = ap (λ x. int_rem x (pos second)) (sym is_v) ∙ ap (λ fields. fields.nanoseconds) (fields_of-nanoseconds_of_fields a h) in
@@ -124,3 +125,12 @@ small-fits s k c s_small k_small c_small =
     let size = unsigned_abs-mul s k in
     let most = mul-le (unsigned_abs s) (unsigned_abs k) 4_294_967_294 2_147_483_648 (omega arith) k_small in
     (omega (arith, ints), omega (arith, ints))
+
+-- If the sum of two numbers without opposite signs fits in an i64, the first number fits.
+pub first-fits : (p c : ℤ) → (pos 0 <ℤ p → pos 0 ≤ℤ c) → (p <ℤ pos 0 → c ≤ℤ pos 0) → FitsSigned w64 (p +ℤ c) → FitsSigned w64 p
+first-fits p c positive negative fits =
+    by_lt_z p (pos 0)
+    (λ below. omega (arith, ints, negative below))
+    (λ not_below. by_lt_z (pos 0) p
+    (λ above. omega (arith, ints, positive above))
+    (λ not_above. omega (arith, ints)))

@@ -98,41 +98,79 @@ some-left n more =
     ]
 
 -- The decimals after the first two are the decimals of 100 times the rest of n.
-hundredfold : (n : ℕ) → n < 1000000000 → decimals_of (n % 10000000 * 100) ≡ without_trailing_zeros (after_two n)
-hundredfold n below =
-    let a : n % 10000000 * 100 / 100000000 ≡ n / 1000000 % 10 = omega arith in
-    let b : n % 10000000 * 100 / 10000000 % 10 ≡ n / 100000 % 10 = omega arith in
-    let c : n % 10000000 * 100 / 1000000 % 10 ≡ n / 10000 % 10 = omega arith in
-    let d : n % 10000000 * 100 / 100000 % 10 ≡ n / 1000 % 10 = omega arith in
-    let e : n % 10000000 * 100 / 10000 % 10 ≡ n / 100 % 10 = omega arith in
-    let f : n % 10000000 * 100 / 1000 % 10 ≡ n / 10 % 10 = omega arith in
-    let g : n % 10000000 * 100 / 100 % 10 ≡ n % 10 = omega arith in
-    let tens : n % 10000000 * 100 / 10 % 10 ≡ 0 = omega arith in
-    let ones : n % 10000000 * 100 % 10 ≡ 0 = omega arith in
-    (λ i. without_trailing_zeros (digit (a i) ∷ digit (b i) ∷ digit (c i) ∷ digit (d i) ∷ digit (e i) ∷ digit (f i) ∷ digit (g i) ∷ digit (tens i) ∷ digit (ones i) ∷ []))
+first_moved : (n : ℕ) → n % 10000000 * 100 / 100000000 ≡ n / 1000000 % 10
+first_moved n = omega arith
+
+second_moved : (n : ℕ) → n % 10000000 * 100 / 10000000 % 10 ≡ n / 100000 % 10
+second_moved n = omega arith
+
+third_moved : (n : ℕ) → n % 10000000 * 100 / 1000000 % 10 ≡ n / 10000 % 10
+third_moved n = omega arith
+
+fourth_moved : (n : ℕ) → n % 10000000 * 100 / 100000 % 10 ≡ n / 1000 % 10
+fourth_moved n = omega arith
+
+fifth_moved : (n : ℕ) → n % 10000000 * 100 / 10000 % 10 ≡ n / 100 % 10
+fifth_moved n = omega arith
+
+sixth_moved : (n : ℕ) → n % 10000000 * 100 / 1000 % 10 ≡ n / 10 % 10
+sixth_moved n = omega arith
+
+seventh_moved : (n : ℕ) → n % 10000000 * 100 / 100 % 10 ≡ n % 10
+seventh_moved n = omega arith
+
+tens_none : (n : ℕ) → n % 10000000 * 100 / 10 % 10 ≡ 0
+tens_none n = omega arith
+
+ones_none : (n : ℕ) → n % 10000000 * 100 % 10 ≡ 0
+ones_none n = omega arith
+
+hundredfold : (n : ℕ) → decimals_of (n % 10000000 * 100) ≡ without_trailing_zeros (after_two n)
+hundredfold n =
+    (λ i. without_trailing_zeros (digit (first_moved n i) ∷ digit (second_moved n i) ∷ digit (third_moved n i) ∷ digit (fourth_moved n i)
+    ∷ digit (fifth_moved n i) ∷ digit (sixth_moved n i) ∷ digit (seventh_moved n i) ∷ digit (tens_none n i) ∷ digit (ones_none n i) ∷ []))
     ∙ zero-last (after_two n ++ 48 ∷ []) ∙ zero-last (after_two n)
 
-pub two-decimals : (n : ℕ) → n < 1000000000 → 0 < n % 100000000 → decimals_of n ≡ two_digits (n / 10000000) ++ decimals_of (n % 10000000 * 100)
+tenth : (n : ℕ) → n / 100000000 ≡ n / 10000000 / 10
+tenth n = omega arith
+
+pub two-decimals : (n : ℕ) → 0 < n % 100000000 → decimals_of n ≡ two_digits (n / 10000000) ++ decimals_of (n % 10000000 * 100)
 unfolding without_trailing_zeros
-two-decimals n below more =
-    let tens : n / 100000000 ≡ n / 10000000 / 10 = omega arith in
+two-decimals n more =
     ap (prepend_digit (digit (n / 100000000))) (is-before (digit (n / 10000000 % 10)) (without_trailing_zeros (after_two n)) (some-left n more))
-    ∙ ap (λ k. digit k ∷ digit (n / 10000000 % 10) ∷ without_trailing_zeros (after_two n)) tens
-    ∙ ap (λ ds. two_digits (n / 10000000) ++ ds) (sym (hundredfold n below))
+    ∙ ap (λ k. digit k ∷ digit (n / 10000000 % 10) ∷ without_trailing_zeros (after_two n)) (tenth n)
+    ∙ ap (λ ds. two_digits (n / 10000000) ++ ds) (sym (hundredfold n))
 
 -- Only the first digit is left if the other eight are zeros.
+second_none : (n : ℕ) → n % 100000000 ≡ 0 → n / 10000000 % 10 ≡ 0
+second_none n none = omega arith
+
+third_none : (n : ℕ) → n % 100000000 ≡ 0 → n / 1000000 % 10 ≡ 0
+third_none n none = omega arith
+
+fourth_none : (n : ℕ) → n % 100000000 ≡ 0 → n / 100000 % 10 ≡ 0
+fourth_none n none = omega arith
+
+fifth_none : (n : ℕ) → n % 100000000 ≡ 0 → n / 10000 % 10 ≡ 0
+fifth_none n none = omega arith
+
+sixth_none : (n : ℕ) → n % 100000000 ≡ 0 → n / 1000 % 10 ≡ 0
+sixth_none n none = omega arith
+
+seventh_none : (n : ℕ) → n % 100000000 ≡ 0 → n / 100 % 10 ≡ 0
+seventh_none n none = omega arith
+
+eighth_none : (n : ℕ) → n % 100000000 ≡ 0 → n / 10 % 10 ≡ 0
+eighth_none n none = omega arith
+
+ninth_none : (n : ℕ) → n % 100000000 ≡ 0 → n % 10 ≡ 0
+ninth_none n none = omega arith
+
 no-zeros : (n : ℕ) → n % 100000000 ≡ 0 → without_trailing_zeros (after_one n) ≡ []
 unfolding without_trailing_zeros
-no-zeros n none =
-    let a : n / 10000000 % 10 ≡ 0 = omega (arith, none) in
-    let b : n / 1000000 % 10 ≡ 0 = omega (arith, none) in
-    let c : n / 100000 % 10 ≡ 0 = omega (arith, none) in
-    let d : n / 10000 % 10 ≡ 0 = omega (arith, none) in
-    let e : n / 1000 % 10 ≡ 0 = omega (arith, none) in
-    let f : n / 100 % 10 ≡ 0 = omega (arith, none) in
-    let g : n / 10 % 10 ≡ 0 = omega (arith, none) in
-    let h : n % 10 ≡ 0 = omega (arith, none) in
-    λ i. without_trailing_zeros (digit (a i) ∷ digit (b i) ∷ digit (c i) ∷ digit (d i) ∷ digit (e i) ∷ digit (f i) ∷ digit (g i) ∷ digit (h i) ∷ [])
+no-zeros n none = λ i.
+    without_trailing_zeros (digit (second_none n none i) ∷ digit (third_none n none i) ∷ digit (fourth_none n none i) ∷ digit (fifth_none n none i)
+    ∷ digit (sixth_none n none i) ∷ digit (seventh_none n none i) ∷ digit (eighth_none n none i) ∷ digit (ninth_none n none i) ∷ [])
 
 pub last-decimal : (n : ℕ) → 0 < n → n % 100000000 ≡ 0 → decimals_of n ≡ digit (n / 100000000) ∷ []
 unfolding without_trailing_zeros
@@ -170,7 +208,7 @@ some-too (suc n) k zero_too some = omega arith
 pub two-more : (n k : ℕ) (old text : List ℕ) → k < 1000000000 → (n ≡ 0 → k ≡ 0) → 0 < k % 100000000 → text ++ decimals_of k ≡ old ++ decimals_of n
     → (length text + 2 ≤ length old + length (decimals n)) × (length (decimals_of (k % 10000000 * 100)) < length (decimals_of k))
 two-more n k old text below zero_too more all =
-    let two = two-decimals k below more in
+    let two = two-decimals k more in
     let some = some-too n k zero_too (omega (arith, more)) in (
       omega (arith, ap length all, length-append text (decimals_of k), length-append old (decimals_of n), ap length (decimals-some n some), ap length two),
       omega (arith, ap length two),

@@ -10,28 +10,59 @@ use Rattle.std.proofs.lemmas.Str.Ascii.{IsAscii-nil, IsAscii-cons, IsAscii-from_
 use Rattle.std.proofs.lemmas.List.Elements.{All-from_recursion}
 use Rattle.cal_units.specs.Digits.{digit, two_digits, digits_at_least, nine_digits}
 
+-- Quotients and remainders by 10 and by 100.
+tenth-below_10 : (n : ℕ) → n < 10 → n / 10 ≡ 0
+tenth-below_10 n low = omega arith
+
+rest-below_10 : (n : ℕ) → n < 10 → n ≡ n % 10
+rest-below_10 n low = omega arith
+
+hundredth : (n : ℕ) → n / 10 / 10 ≡ n / 100
+hundredth n = omega arith
+
+tens : (n : ℕ) → n / 10 % 10 ≡ n % 100 / 10
+tens n = omega arith
+
+ones : (n : ℕ) → n % 10 ≡ n % 100 % 10
+ones n = omega arith
+
+tenth-below : (n : ℕ) → n < 2 ^ 64 → n / 10 < 2 ^ 64
+tenth-below n high = omega arith
+
+-- The number of zeros before the digits of a number and of its tenth.
+zeros_of_many : (w k m : ℕ) → k ≡ m + 1 → w - k ≡ w - 1 - m
+zeros_of_many w k m e = omega arith
+
+zeros_of_one : (w k m : ℕ) → 1 < w → k ≡ 1 → m ≡ 1 → w - k ≡ (w - 1 - m) + 1
+zeros_of_one w k m wide e f = omega arith
+
+two_less : (w : ℕ) → w - 1 - 1 ≡ w - 2
+two_less w = omega arith
+
 -- A number with two digits or more.
 step_of_many : (w n : ℕ) → 10 ≤ n → n < 2 ^ 64
     → digits_at_least w n ≡ digits_at_least (w - 1) (n / 10) ++ digit (n % 10) ∷ []
 step_of_many w n low high =
     let step = decimal_step n low high in
-    let shorter : w - length (decimal n) ≡ w - 1 - length (decimal (n / 10)) = omega (arith, ap length step, length-append (decimal (n / 10)) (digit (n % 10) ∷ [])) in
-    ap (λ k. replicate k 48 ++ decimal n) shorter
-    ∙ ap (λ l. replicate (w - 1 - length (decimal (n / 10))) 48 ++ l) step
+    let shorter = zeros_of_many w (length (decimal n)) (length (decimal (n / 10))) (ap length step ∙ length-append (decimal (n / 10)) (digit (n % 10) ∷ [])) in
+    (λ i. replicate (shorter i) 48 ++ step i)
     ∙ sym (append_assoc (replicate (w - 1 - length (decimal (n / 10))) 48) (decimal (n / 10)) (digit (n % 10) ∷ []))
 
 -- A digit after zeros.
+zero_digit : (n : ℕ) → n < 10 → decimal (n / 10) ≡ 48 ∷ []
+zero_digit n low = ap decimal (tenth-below_10 n low) ∙ decimal_digit 0 (omega arith)
+
+last_digit : (n : ℕ) → n < 10 → decimal n ≡ digit (n % 10) ∷ []
+last_digit n low = decimal_digit n low ∙ ap (λ d. digit d ∷ []) (rest-below_10 n low)
+
 step_of_one : (w n : ℕ) → n < 10 → 1 < w
     → digits_at_least w n ≡ digits_at_least (w - 1) (n / 10) ++ digit (n % 10) ∷ []
 step_of_one w n low wide =
-    let last : decimal n ≡ digit n ∷ [] = decimal_digit n low in
-    let zero_digit : decimal (n / 10) ≡ 48 ∷ [] = ap decimal (let e : n / 10 ≡ 0 = omega arith in e) ∙ decimal_digit 0 (omega arith) in
-    let same : digit n ∷ [] ≡ digit (n % 10) ∷ [] = ap (λ d. digit d ∷ []) (let e : n ≡ n % 10 = omega arith in e) in
-    let widths : w - length (decimal n) ≡ (w - 1 - length (decimal (n / 10))) + 1 = omega (arith, ap length last, ap length zero_digit) in
-    ap (λ k. replicate k 48 ++ decimal n) widths
-    ∙ ap (λ l. l ++ decimal n) (sym (replicate_more (w - 1 - length (decimal (n / 10))) 48))
-    ∙ ap (λ l. (replicate (w - 1 - length (decimal (n / 10))) 48 ++ 48 ∷ []) ++ l) (last ∙ same)
-    ∙ ap (λ l. (replicate (w - 1 - length (decimal (n / 10))) 48 ++ l) ++ digit (n % 10) ∷ []) (sym zero_digit)
+    let zeros = w - 1 - length (decimal (n / 10)) in
+    let widths = zeros_of_one w (length (decimal n)) (length (decimal (n / 10))) wide (ap length (decimal_digit n low)) (ap length (zero_digit n low)) in
+    (λ i. replicate (widths i) 48 ++ last_digit n low i)
+    ∙ (λ i. sym (replicate_more zeros 48) i ++ digit (n % 10) ∷ [])
+    ∙ (λ i. (replicate zeros 48 ++ sym (zero_digit n low) i) ++ digit (n % 10) ∷ [])
 
 -- The last digit comes after the digits of n / 10, with a width that is 1 less.
 digits_step : (w n : ℕ) → n < 2 ^ 64 → (1 < w) ⊎ (9 < n)
@@ -42,18 +73,17 @@ digits_step w n high more = elim (cases_lt n 10) [
 ]
 
 -- The last two digits come after the digits of n / 100, with a width that is 2 less.
+pair_joined : (w n : ℕ) → digits_at_least (w - 1 - 1) (n / 10 / 10) ++ digit (n / 10 % 10) ∷ digit (n % 10) ∷ [] ≡ digits_at_least (w - 2) (n / 100) ++ two_digits (n % 100)
+pair_joined w n = λ i. digits_at_least (two_less w i) (hundredth n i) ++ digit (tens n i) ∷ digit (ones n i) ∷ []
+
 pub pair_step : (w n : ℕ) → n < 2 ^ 64 → (2 < w) ⊎ (99 < n)
     → digits_at_least w n ≡ digits_at_least (w - 2) (n / 100) ++ two_digits (n % 100)
 pair_step w n high more =
     let last = digits_step w n high (elim more [ inl wide ↦ inl (omega (arith, wide)) | inr many ↦ inr (omega (arith, many)) ]) in
-    let front = digits_step (w - 1) (n / 10) (omega arith) (elim more [ inl wide ↦ inl (omega (arith, wide)) | inr many ↦ inr (omega (arith, many)) ]) in
-    let width : w - 1 - 1 ≡ w - 2 = omega arith in
-    let hundredth : n / 10 / 10 ≡ n / 100 = omega arith in
-    let tens : n / 10 % 10 ≡ n % 100 / 10 = omega arith in
-    let units : n % 10 ≡ n % 100 % 10 = omega arith in
-    last ∙ ap (λ l. l ++ digit (n % 10) ∷ []) front
+    let front = digits_step (w - 1) (n / 10) (tenth-below n high) (elim more [ inl wide ↦ inl (omega (arith, wide)) | inr many ↦ inr (omega (arith, many)) ]) in
+    last ∙ (λ i. front i ++ digit (n % 10) ∷ [])
     ∙ append_assoc (digits_at_least (w - 1 - 1) (n / 10 / 10)) (digit (n / 10 % 10) ∷ []) (digit (n % 10) ∷ [])
-    ∙ (λ i. digits_at_least (width i) (hundredth i) ++ digit (tens i) ∷ digit (units i) ∷ [])
+    ∙ pair_joined w n
 
 -- A number below 10 is one digit if the width is 0 or 1.
 pub digits_at_least-one : (w n : ℕ) → w ≤ 1 → n < 10 → digits_at_least w n ≡ digit n ∷ []

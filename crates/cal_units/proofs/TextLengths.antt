@@ -1,9 +1,8 @@
 -- The maximum lengths of the texts of numbers, for callers that show that a text has room.
-use Rattle.std.proofs.Common.{◌≡◌, ℕ, ℤ, pos, negsuc, suc, ◌+◌, ◌<◌, ◌≤◌, ◌^◌, length, arith}
-use Rattle.std.specs.Prelude.{unsigned_abs, decimal}
+use Rattle.std.proofs.Common.{ℤ, pos, negsuc, suc, ◌<◌, ◌≤◌, ◌^◌, length, arith}
+use Rattle.std.specs.Prelude.{unsigned_abs}
 use Rattle.std.specs.Fmt.{signed_decimal}
 use Rattle.std.proofs.lemmas.Bool.Decides.{nat_tests}
-use Rattle.cal_units.specs.Digits.{decimals, digits_at_least}
 use Rattle.cal_units.specs.YearText.{year_text}
 use Rattle.cal_units.proofs.Decimals.{decimals-few}
 use Rattle.cal_units.proofs.Digits.{length-32_bits, length-128_bits}

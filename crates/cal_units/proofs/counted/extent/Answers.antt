@@ -1,9 +1,9 @@
-use Rattle.std.proofs.Common.{◌≡◌, ◌∙◌, ◌∷◌, ◌++◌, [], ◌+◌, ◌<◌, ◌≤ℤ◌, ◌<ℤ◌, ℤ, Bool, true, false, Option, Some, ap, sym, subst, take, length, List, Ordering, arith}
+use Rattle.std.proofs.Common.{◌≡◌, ◌∙◌, ◌∷◌, ◌++◌, [], ◌+◌, ◌≤ℤ◌, ◌<ℤ◌, ℤ, true, false, Option, Some, ap, sym, subst, take, List, Ordering, arith}
 use Rattle.std.specs.Ordering.{int_cmp, partial_lt, partial_gt}
 use Rattle.std.proofs.Math.Seq.{take-length}
 use Rattle.std.proofs.lemmas.Bool.Decides.{nat_tests}
 use Rattle.std.proofs.lemmas.Int.{ints}
-use Rattle.std.proofs.lemmas.List.{get_or_default, take_more}
+use Rattle.std.proofs.lemmas.List.{take_more}
 use Rattle.cal_units.specs.Counted.{IsExtent, IsFirstMinimum, IsFirstMaximum}
 use Rattle.cal_units.proofs.Extents.{between-one, between-keeps, between-takes}
 use Rattle.cal_units.proofs.counted.extent.Goals as goal

@@ -8,3 +8,8 @@ pub returns-then-next_begins_on-eq-FRIDAY : goal.returns-then-next_begins_on-eq-
 returns-then-next_begins_on-eq-FRIDAY c =
     let is = weeks_in_year-is c.args.year in
     grind (arith, ints, nat_tests)
+
+pub returns-else-next_begins_on-eq-FRIDAY : goal.returns-else-next_begins_on-eq-FRIDAY
+returns-else-next_begins_on-eq-FRIDAY c =
+    let is = weeks_in_year-is c.args.year in
+    grind (arith, ints, nat_tests)

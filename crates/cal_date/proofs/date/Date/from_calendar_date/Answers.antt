@@ -1,4 +1,4 @@
-use Rattle.std.proofs.Common.{ap, sym, ◌∙◌, arith, refl, Ok, ◌≡◌, ◌+◌, ◌≤◌, to_z, of_z, w32}
+use Rattle.std.proofs.Common.{ap, sym, ◌∙◌, arith, refl, inl, inr, Ok, ◌≡◌, ◌+◌, ◌≤◌, to_z, of_z, w32}
 use Rattle.std.proofs.lemmas.Int.{to_z-of_z}
 use Rattle.std.proofs.lemmas.Bool.{false≢true}
 use Rattle.std.proofs.lemmas.Bool.Decides.{nat_tests}
@@ -6,11 +6,17 @@ use Rattle.cal_units.specs.Lengths.{days_in_year, is_leap_year}
 use Rattle.cal_units.specs.Month.{index, number}
 use Rattle.cal_units.specs.MonthCycle.{index-below}
 use Rattle.cal_date.specs.Date.{IsYear, IsOrdinal, IsDayOfMonth}
+use Rattle.cal_date.specs.DateErrors.{year_out_of_range, day_out_of_range}
+use Rattle.cal_units.specs.declared.error.ComponentRange.{ComponentRange}
 use Rattle.cal_date.specs.PackedDate.{ordinal_number}
 use Rattle.cal_date.proofs.Dates.{IsDate-ordinal_number}
 use Rattle.cal_date.proofs.Calendar.{ordinal_in, stands_at, calendar_in_range, IsOrdinal-ordinal_in, NoDate-calendar_date}
 use Rattle.cal_date.proofs.date.Date.from_calendar_date.Goals as goal
 use Rattle.cal_date.proofs.date.Date.from_calendar_date.Goals.{After-from, After-pack}
+
+-- The two errors differ.
+other-day : year_out_of_range ≡ day_out_of_range → ⊥
+other-day e = false≢true (ap (λ (why : ComponentRange). why.is_conditional) e)
 
 no_year : (c : goal.After-unconditional) → ¬ IsYear c.args.year
 no_year c year = let is = rw (to_z-of_z w32 _ c.ranges.year) at c.is_year.ensures in false≢true (sym c.if-not-is_year.true ∙ is.1 year)
@@ -20,6 +26,15 @@ returns-then-not-is_year-clause-every c = λ n h has. absurd (no_year c (calenda
 
 pub returns-then-not-is_year-clause-error : goal.returns-then-not-is_year-clause-error
 returns-then-not-is_year-clause-error c = (λ e. NoDate-calendar_date _ (index c.args.month) _ (λ h. no_year c h.0), λ none. refl)
+
+pub returns-then-not-is_year-clause-error_kind : goal.returns-then-not-is_year-clause-error_kind
+returns-then-not-is_year-clause-error_kind c = inl c.unconditional.ensures
+
+pub returns-then-not-is_year-clause-year : goal.returns-then-not-is_year-clause-year
+returns-then-not-is_year-clause-year c = (λ e. no_year c, λ none. c.unconditional.ensures)
+
+pub returns-then-not-is_year-clause-day : goal.returns-then-not-is_year-clause-day
+returns-then-not-is_year-clause-day c = (λ e. absurd (other-day (sym c.unconditional.ensures ∙ e)), λ both. absurd (no_year c both.0))
 
 no_day : (c : goal.After-conditional) → ¬ IsDayOfMonth c.args.year (number c.args.month) c.args.day
 no_day c day =
@@ -32,6 +47,18 @@ returns-then-not-has_day-clause-every c = λ n h has. absurd (no_day c (calendar
 
 pub returns-then-not-has_day-clause-error : goal.returns-then-not-has_day-clause-error
 returns-then-not-has_day-clause-error c = (λ e. NoDate-calendar_date _ (index c.args.month) _ (λ h. no_day c h.1), λ none. refl)
+
+is_year : (c : goal.After-conditional) → IsYear c.args.year
+is_year c = rw (to_z-of_z w32 _ c.ranges.year) at (c.is_year.ensures.0 c.if-not-is_year.false)
+
+pub returns-then-not-has_day-clause-error_kind : goal.returns-then-not-has_day-clause-error_kind
+returns-then-not-has_day-clause-error_kind c = inr c.conditional.ensures
+
+pub returns-then-not-has_day-clause-year : goal.returns-then-not-has_day-clause-year
+returns-then-not-has_day-clause-year c = (λ e. absurd (other-day (sym e ∙ c.conditional.ensures)), λ none. absurd (none (is_year c)))
+
+pub returns-then-not-has_day-clause-day : goal.returns-then-not-has_day-clause-day
+returns-then-not-has_day-clause-day c = (λ e. (is_year c, no_day c), λ both. c.conditional.ensures)
 
 -- After both tests the year and the day are in their ranges.
 record Fits (c : After-from) : Type 0 where
@@ -89,3 +116,9 @@ pub returns-clause-error : goal.returns-clause-error
 returns-clause-error c =
     let f = fits c.before in
     (λ e. absurd (false≢true e), λ none. absurd (none _ (IsDate-ordinal_number _ _ f.year f.ordinal) (stands_at c.args.year (index c.args.month) c.args.day f.year.0 (index-below c.args.month) f.day).has))
+
+pub returns-clause-year : goal.returns-clause-year
+returns-clause-year c = let f = fits c.before in (λ e. absurd e, λ none. absurd (none f.year))
+
+pub returns-clause-day : goal.returns-clause-day
+returns-clause-day c = let f = fits c.before in (λ e. absurd e, λ both. absurd (both.1 f.day))

@@ -1,5 +1,8 @@
-use Rattle.cal_date.proofs.Packed.{at_number, low_bits}
+use Rattle.cal_date.proofs.Packed.{at_number, mask_10-casts, low_bits}
 use Rattle.cal_date.proofs.date.Date.low_bits.Goals as goal
+
+pub overflow_cast-result : goal.overflow_cast-result
+overflow_cast-result c = mask_10-casts _
 
 pub returns-clause-value : goal.returns-clause-value
 returns-clause-value c =

@@ -1,8 +1,11 @@
 use Rattle.std.proofs.Common.{subst, sym, arith}
 use Rattle.cal_date.specs.Date.{year_at, IsOrdinal}
 use Rattle.cal_date.proofs.Dates.{ordinal-most}
-use Rattle.cal_date.proofs.Packed.{at_number, lowest_bits}
+use Rattle.cal_date.proofs.Packed.{at_number, mask_9-casts_16, lowest_bits}
 use Rattle.cal_date.proofs.date.Date.ordinal.Goals as goal
+
+pub overflow_cast-result : goal.overflow_cast-result
+overflow_cast-result c = mask_9-casts_16 _
 
 pub returns-clause-value : goal.returns-clause-value
 returns-clause-value c =

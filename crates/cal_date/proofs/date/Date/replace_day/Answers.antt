@@ -1,9 +1,20 @@
-use Rattle.std.proofs.Common.{rules}
-use Rattle.cal_date.proofs.Replacements.{parts_kept}
+use Rattle.cal_date.proofs.Replacements.{year_kept, cause_left, other_reason}
 use Rattle.cal_date.proofs.date.Date.replace_day.Goals as goal
 
 pub returns-clause-value : goal.returns-clause-value
-returns-clause-value c = record { every = search (rules, parts_kept); value = search (rules, parts_kept); error = search (rules, parts_kept) }
+returns-clause-value c =
+    let kept = year_kept _ _ c.month.ensures.in_range c.year.ensures.value in
+    record {
+      every = rw (kept.same, c.month.ensures.value) at c.from_calendar_date.ensures.every;
+      value = rw (kept.same, c.month.ensures.value) at c.from_calendar_date.ensures.value;
+      error = rw (kept.same, c.month.ensures.value) at c.from_calendar_date.ensures.error;
+    }
 
 pub returns-clause-error : goal.returns-clause-error
-returns-clause-error c = record { error_kind = search (rules, parts_kept); day = search (rules, parts_kept) }
+returns-clause-error c =
+    let kept = year_kept _ _ c.month.ensures.in_range c.year.ensures.value in
+    let year = rw kept.same at c.from_calendar_date.ensures.year in
+    record {
+      error_kind = other_reason _ _ _ c.from_calendar_date.ensures.error_kind (λ e. year.0 e kept.year);
+      day = cause_left kept.year (rw (kept.same, c.month.ensures.value) at c.from_calendar_date.ensures.day);
+    }

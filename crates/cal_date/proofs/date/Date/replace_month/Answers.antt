@@ -1,9 +1,14 @@
-use Rattle.std.proofs.Common.{rules}
 use Rattle.cal_date.proofs.Replacements.{year_kept, cause_left, other_reason}
 use Rattle.cal_date.proofs.date.Date.replace_month.Goals as goal
 
 pub returns-clause-value : goal.returns-clause-value
-returns-clause-value c = record { every = search rules; value = search rules; error = search rules }
+returns-clause-value c =
+    let kept = year_kept _ _ c.day.ensures.in_range c.year.ensures.value in
+    record {
+      every = rw (kept.same, c.day.ensures.value) at c.from_calendar_date.ensures.every;
+      value = rw (kept.same, c.day.ensures.value) at c.from_calendar_date.ensures.value;
+      error = rw (kept.same, c.day.ensures.value) at c.from_calendar_date.ensures.error;
+    }
 
 pub returns-clause-error : goal.returns-clause-error
 returns-clause-error c =

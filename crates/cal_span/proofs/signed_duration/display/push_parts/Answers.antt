@@ -1,5 +1,3 @@
-use Rattle.std.proofs.Common.{◌∙◌, ◌++◌, ◌%◌, codes, ap}
-use Rattle.cal_span.specs.SignedDuration.{part_text}
 use Rattle.cal_span.proofs.Text.{parts-appended}
 use Rattle.cal_span.proofs.signed_duration.display.push_parts.Goals as goal
 

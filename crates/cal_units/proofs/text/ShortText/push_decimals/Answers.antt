@@ -22,7 +22,7 @@ loop-others-preserved c =
       below = omega arith;
       none = λ e. absurd (omega (arith, c.loop-others-test.true, l.invariant.none e));
       all = ap (λ t. t ++ rest) c.push_two_digits.ensures.appended ∙ append_assoc l.self (two_digits (l.others / 10000000)) rest
-          ∙ ap (λ ds. l.self ++ ds) (sym (two-decimals l.others l.invariant.below c.loop-others-test.true)) ∙ l.invariant.all;
+          ∙ ap (λ ds. l.self ++ ds) (sym (two-decimals l.others c.loop-others-test.true)) ∙ l.invariant.all;
     }
 
 -- The last digit.
