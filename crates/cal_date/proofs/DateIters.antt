@@ -209,7 +209,8 @@ without_last-from w b day e less h =
 pub without_last-all : (w : Walk) (b day : ℕ) → w.back ≡ Some b → day ≤ w.front → day ≤ b → walk w.front None ≡ without_last (b + 1 - day) w
 without_last-all w b day e all h = sym (without_last-none (b + 1 - day) w (omega (arith, length-days_of w b e)))
 
--- The days that are left after `advance_front_past` and `advance_back_past` if the iterator becomes empty.
+-- The days that are left after `advance_front_past` and `advance_back_past` if the iterator becomes
+-- empty.
 pub ruleset days_left_after = (without_first-all, nat_tests)
 
 pub ruleset days_left_before = (without_last-from, without_last-all, nat_tests)

@@ -133,7 +133,7 @@ pub fn nth_next_occurrence(number: u32, weekday: u32, n: u8) -> Option<u32>
     requires weekday { weekday < 7 }
     ensures value { result ≡ kth n (next_occurrences weekday number) }
     ensures weekday { IfSome result (λ later. weekday_at later ≡ weekday) }
-    ensures within { IfSome result
+    ensures range { IfSome result
         (λ later. (number + 7 * (n - 1) < later) × (later ≤ number + 7 * n) × IsDate later) }
 {
     if n == 0 {
@@ -156,7 +156,7 @@ pub fn nth_prev_occurrence(number: u32, weekday: u32, n: u8) -> Option<u32>
     requires weekday { weekday < 7 }
     ensures value { result ≡ kth n (prev_occurrences weekday number) }
     ensures weekday { IfSome result (λ earlier. weekday_at earlier ≡ weekday) }
-    ensures within { IfSome result
+    ensures range { IfSome result
         (λ earlier. (earlier + 7 * (n - 1) < number) × (number ≤ earlier + 7 * n)) }
 {
     if n == 0 {
