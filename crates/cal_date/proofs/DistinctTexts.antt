@@ -1,4 +1,5 @@
--- No two days print alike: the digits of a number give its value, and the first byte of a year its sign.
+-- No two days print alike: the digits of a number give its value, and the first byte of a year its
+-- sign.
 use Rattle.std.proofs.Common.{◌≡◌, ◌≢◌, ℕ, zero, suc, ◌-◌, ◌<◌, ◌≤◌, ◌^◌, List, [], ◌∷◌, ◌++◌, length, get_or, take, drop, replicate, append_assoc, length-append, ℤ, pos, negsuc, unsigned_abs, refl, sym, ap, ◌∙◌, arith, inl, inr, lit<, if◌then◌else◌, nat_lt}
 use Rattle.std.specs.Prelude.{codes, decimal}
 use Rattle.std.specs.Str.Parse.{AllDigits, digits_value}
