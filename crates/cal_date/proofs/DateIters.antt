@@ -12,16 +12,9 @@ use Rattle.cal_date.specs.Date.{year_at, ordinal_at, IsDate, HasOrdinalDate}
 use Rattle.cal_date.specs.Occurrences.{days_from}
 use Rattle.cal_date.proofs.Dates.{stands}
 use Rattle.cal_date.proofs.Neighbours.{same_year, as_far}
+use Rattle.cal_date.proofs.Occurrences.{days_from-none, days_from-suc}
 use Rattle.cal_date.specs.DateIter.{IsInOneYear, Walk, walk, IsWalk, days_between, days_of, without_first, without_last}
 use Rattle.std.proofs.lemmas.Int.{ints}
-
-days_from-none : (n : ℕ) → days_from n 0 ≡ []
-unfolding days_from
-days_from-none n = refl
-
-days_from-suc : (n k : ℕ) → days_from n (suc k) ≡ n ∷ days_from (n + 1) k
-unfolding days_from
-days_from-suc n k = refl
 
 pub length-days_from : (n k : ℕ) → length (days_from n k) ≡ k
 length-days_from n zero = ap length (days_from-none n)

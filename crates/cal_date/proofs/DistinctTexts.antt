@@ -13,8 +13,7 @@ use Rattle.cal_units.specs.Digits.{two_digits}
 use Rattle.cal_units.proofs.Digits.{digits_at_least-two}
 use Rattle.cal_date.specs.Date.{year_at, month_at, day_of_month_at, IsDate}
 use Rattle.cal_date.specs.DateText.{digits_at_least, sign_text, year_text, text}
-use Rattle.cal_date.proofs.Calendar.{in_month_of, day_of_month-most}
-use Rattle.cal_date.proofs.CallersLaws.{calendar_date-one}
+use Rattle.cal_date.proofs.Calendar.{in_month_of, day_of_month-most, calendar_date-one}
 use Rattle.cal_date.proofs.Dates.{in_range}
 
 -- ---- digits, filled up with zeros to a width

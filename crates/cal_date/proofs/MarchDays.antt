@@ -7,7 +7,7 @@ use Rattle.std.proofs.lemmas.Int.{ints}
 use Rattle.std.proofs.lemmas.Bool.Decides.{nat_tests}
 use Rattle.cal_units.specs.Lengths.{days_in_year, days_in_month}
 use Rattle.cal_date.specs.ClosedForms.{days_before_month_in_part}
-use Rattle.cal_date.specs.CountLaws.{days_of_years, years_before, days_of_years-closed}
+use Rattle.cal_date.specs.CountLaws.{days_of_years, years_before, days_of_years-closed, leap_year-step}
 use Rattle.cal_date.specs.Date.{first_year, last_day, IsDate, IsDayOfMonth, HasCalendarDate}
 use Rattle.cal_date.specs.DateLimits.{years_in_range}
 use Rattle.cal_date.proofs.MarchYears.{number_with, has_number, march_number, IsMarked}
@@ -22,9 +22,6 @@ century_of_year c s z r e hr hs = (omega arith, omega arith)
 
 past_in_year : (j z r : ℕ) → 4 * j + 3 ≡ 1461 * z + r → r < 1461 → (1461 * z / 4 ≤ j) × (j - 1461 * z / 4 ≡ r / 4) × (r / 4 ≤ 365) × (r / 4 ≡ 365 → z % 4 ≡ 3)
 past_in_year j z r e hr = (omega arith, omega arith, omega arith, λ last. omega arith)
-
-leap_year-step : (k : ℕ) → days_in_year (first_year +ℤ pos k) + (k + 1) / 100 + k / 4 + k / 400 ≡ 365 + k / 100 + (k + 1) / 4 + (k + 1) / 400
-leap_year-step k = grind (arith, ints, nat_tests)
 
 leap_ends : (z l : ℕ) → z % 4 ≡ 3 → (z % 100 < 99) ⊎ (z % 400 ≡ 399) → l + (z + 1) / 100 + z / 4 + z / 400 ≡ 365 + z / 100 + (z + 1) / 4 + (z + 1) / 400 → l ≡ 366
 leap_ends z l four (inl h) e = omega arith
