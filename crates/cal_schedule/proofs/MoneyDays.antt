@@ -1,5 +1,5 @@
 -- The days of leap years, in closed form.
-use Rattle.std.proofs.Common.{◌≡◌, ℕ, zero, suc, ◌+◌, ◌-◌, ◌*◌, ◌/◌, ◌<◌, ◌≤◌, refl, sym, ap, ◌∙◌, subst, arith, ℤ, pos, ◌+ℤ◌, unsigned_abs, ◌⊎◌, inl, inr, Bool, true, false, if◌then◌else◌}
+use Rattle.std.proofs.Common.{◌≡◌, ℕ, zero, suc, ◌+◌, ◌-◌, ◌*◌, ◌/◌, ◌<◌, ◌≤◌, refl, sym, ap, ◌∙◌, subst, arith, ℤ, pos, ◌+ℤ◌, ◌-ℤ◌, unsigned_abs, ◌⊎◌, inl, inr, Bool, true, false, if◌then◌else◌}
 use Rattle.std.specs.Prelude.{not}
 use Rattle.std.proofs.lemmas.Bool.{cases_lt, cases_Bool}
 use Rattle.std.proofs.lemmas.Bool.Decides.{nat_tests}
@@ -68,7 +68,7 @@ count_before-suc test n = refl
 -- The closed form for an ordinal of a year, with c days of leap years before it.
 abbrev Closed : ℕ → ℤ → ℕ → Type 0
 Closed c y o =
-    let k = unsigned_abs (y +ℤ pos 999999) in
+    let k = unsigned_abs (y -ℤ first_year) in
     c + 366 * (k / 100) ≡ 366 * (k / 4 + k / 400) + (if is_leap_year y then o - 1 else 0)
 
 leap-next : (k : ℕ) → (k + 1) / 4 + (k + 1) / 400 + k / 100 ≡ k / 4 + k / 400 + (k + 1) / 100 + (if is_leap_year (first_year +ℤ pos k) then 1 else 0)
@@ -85,8 +85,8 @@ next_year : (c c' o k : ℕ) → c' ≡ c + (if is_leap_year (first_year +ℤ po
     → Closed c (first_year +ℤ pos k) o → Closed c' (first_year +ℤ pos (k + 1)) 1
 next_year c c' o k more last h =
     let y = first_year +ℤ pos k in
-    let here : unsigned_abs (y +ℤ pos 999999) ≡ k = omega (arith, ints) in
-    let there : unsigned_abs ((first_year +ℤ pos (k + 1)) +ℤ pos 999999) ≡ k + 1 = omega (arith, ints) in
+    let here : unsigned_abs (y -ℤ first_year) ≡ k = omega (arith, ints) in
+    let there : unsigned_abs ((first_year +ℤ pos (k + 1)) -ℤ first_year) ≡ k + 1 = omega (arith, ints) in
     let leaps = leap-next k in
     let none : (if is_leap_year (first_year +ℤ pos (k + 1)) then 1 - 1 else 0) ≡ 0 =
     elim (cases_Bool (is_leap_year (first_year +ℤ pos (k + 1)))) [ inl leap ↦ rw leap refl | inr not ↦ rw not refl ] in
@@ -106,7 +106,7 @@ leaps_closed (suc n) h =
           subst (λ y. Closed (count_before in_leap_year (suc n)) y (ordinal_at (suc n))) (sym same)
           (in_year (count_before in_leap_year n) _ (ordinal_at n) _ (year_at n) more next (ordinal_at-least n) before)
       | inr first ↦
-          let k = unsigned_abs (year_at n +ℤ pos 999999) in
+          let k = unsigned_abs (year_at n -ℤ first_year) in
           let range = year_at-range n (omega arith) in
           let year : first_year +ℤ pos k ≡ year_at n = omega (arith, ints, range.0) in
           let ordinal : ordinal_at (suc n) ≡ 1 = ordinal_at-first n _ first in
@@ -131,16 +131,16 @@ leap_or_other (suc n) =
     ]
 
 -- with the years as the code has them, in a leap year and in another
-days-are : (n k : ℕ) → IsDate n → pos k ≡ year_at n +ℤ pos 999999
+days-are : (n k : ℕ) → IsDate n → pos k ≡ year_at n -ℤ first_year
     → count_before in_leap_year n + 366 * (k / 100) ≡ 366 * (k / 4 + k / 400) + (if is_leap_year (year_at n) then ordinal_at n - 1 else 0)
 days-are n k h e =
-    let same : unsigned_abs (year_at n +ℤ pos 999999) ≡ k = omega (arith, ints) in
+    let same : unsigned_abs (year_at n -ℤ first_year) ≡ k = omega (arith, ints) in
     subst (λ j. count_before in_leap_year n + 366 * (j / 100) ≡ 366 * (j / 4 + j / 400) + (if is_leap_year (year_at n) then ordinal_at n - 1 else 0)) same (leaps_closed n h)
 
-pub days-in_leap : (n k : ℕ) → IsDate n → pos k ≡ year_at n +ℤ pos 999999 → is_leap_year (year_at n) ≡ true
+pub days-in_leap : (n k : ℕ) → IsDate n → pos k ≡ year_at n -ℤ first_year → is_leap_year (year_at n) ≡ true
     → 366 * (k / 4 + k / 400 - k / 100) + ordinal_at n - 1 ≡ count_before in_leap_year n
 days-in_leap n k h e leap = let all = rw leap at (days-are n k h e) in omega (arith, all, ordinal_at-least n)
 
-pub days-in_other : (n k : ℕ) → IsDate n → pos k ≡ year_at n +ℤ pos 999999 → is_leap_year (year_at n) ≡ false
+pub days-in_other : (n k : ℕ) → IsDate n → pos k ≡ year_at n -ℤ first_year → is_leap_year (year_at n) ≡ false
     → 366 * (k / 4 + k / 400 - k / 100) ≡ count_before in_leap_year n
 days-in_other n k h e not = let all = rw not at (days-are n k h e) in omega (arith, all)
