@@ -1,5 +1,5 @@
 -- The next day of a rule: the days that are skipped, and the end of the search.
-use Rattle.std.proofs.Common.{◌≡◌, ◌≢◌, refl, ℕ, zero, suc, ◌+◌, ◌-◌, ◌*◌, ◌/◌, ◌%◌, ◌<◌, ◌≤◌, min, sym, ap, ◌∙◌, arith, Option, Some, None, true, false, inl, inr, [], ◌∷◌, filter, slice_get, length, take}
+use Rattle.std.proofs.Common.{◌≡◌, ◌≢◌, refl, ℕ, zero, suc, ◌+◌, ◌-◌, ◌*◌, ◌/◌, ◌%◌, ◌<◌, ◌≤◌, min, sym, ap, ◌∙◌, arith, Option, Some, None, true, false, inl, inr, [], ◌∷◌, filter, slice_get, take}
 use Rattle.std.specs.Prelude.{MatchOption, SomeIff, IfSome, Bool, List, ◌==◌, ◌&&◌, if◌then◌else◌}
 use Rattle.std.specs.List.{list_any}
 use Rattle.std.proofs.lemmas.Int.{ints}
@@ -18,6 +18,7 @@ use Rattle.cal_time.specs.Occurrences.{days_from}
 use Rattle.cal_time.specs.Components.{day_of_month_at-rises}
 use Rattle.cal_time.specs.Weekday.{index}
 use Rattle.cal_time.specs.declared.Weekday.{Weekday}
+use Rattle.cal_time.proofs.DateIters.{length-days_from}
 use Rattle.cal_schedule.specs.declared.rule.rule.ByDay.{ByDay}
 use Rattle.cal_schedule.specs.declared.rule.rule.ByDay.TheVariants.{Every, Nth}
 use Rattle.cal_schedule.specs.declared.rule.rule.Frequency.TheVariants.{Monthly, Yearly}
@@ -248,11 +249,6 @@ left_from_start rule (Some x) h =
 
 -- The range has fewer days than an iterator may return, so the first `u32.MAX` days are all of
 -- them.
-length-days_from : (n count : ℕ) → length (days_from n count) ≡ count
-unfolding days_from
-length-days_from n zero = refl
-length-days_from n (suc count) = ap suc (length-days_from (n + 1) count)
-
 pub all_of_them : (rule : Rule) → take 4294967295 (occurrences rule) ≡ occurrences rule
 all_of_them rule =
     let days = days_from 0 (last_day + 1) in
