@@ -225,7 +225,7 @@ pub no_next : (rule : Rule) (n : ℕ) → last_day < n + 1 → None ≡ slice_ge
 no_next rule n h = ap (λ l. slice_get l 0) (sym (filter-none (is_occurrence rule) (n + 1) (last_day - n) (λ k low high. absurd (omega arith))))
 
 -- the days that are left, from the first that comes after a day
-left_of : (rule : Rule) (n x : ℕ) → IsFirstDay (is_occurrence rule) (n + 1) (last_day - n) x → occurrences_after rule n ≡ x ∷ occurrences_after rule x
+pub left_of : (rule : Rule) (n x : ℕ) → IsFirstDay (is_occurrence rule) (n + 1) (last_day - n) x → occurrences_after rule n ≡ x ∷ occurrences_after rule x
 left_of rule n x h =
     let count : n + 1 + (last_day - n) - (x + 1) ≡ last_day - x = omega (arith, h.not_before, h.within) in
     filter-first (is_occurrence rule) (n + 1) (last_day - n) x h ∙ ap (λ c. x ∷ filter (is_occurrence rule) (days_from (x + 1) c)) count
