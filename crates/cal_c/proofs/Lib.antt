@@ -6,7 +6,6 @@ pub mod Rows
 pub mod HeldDays
 pub mod TextBytes
 pub mod Filled
-pub mod Equals
 pub mod Cases
 pub mod Schedules
 pub mod Holidays

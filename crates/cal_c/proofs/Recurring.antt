@@ -1,15 +1,15 @@
 -- The parts of a rule, which are read one by one, and its days, which are written one by one.
-use Rattle.std.proofs.Common.{◌≡◌, ◌≢◌, refl, ℕ, ◌+◌, ◌-◌, ◌<◌, ◌≤◌, ap, sym, ◌∙◌, arith, below_more, add-one, filter, List, [], ◌∷◌, ◌++◌, length, get_or, get_or-set_other, get_or-set_same, map, take, drop, drop-cons, length-drop, slice_get, ℤ, pos, Option, Some, None, MatchOption}
+use Rattle.std.proofs.Common.{◌≡◌, ◌≢◌, refl, ℕ, ◌+◌, ◌-◌, ◌<◌, ◌≤◌, ap, sym, ◌∙◌, arith, below_more, add-one, List, [], ◌∷◌, ◌++◌, length, get_or, get_or-set_other, get_or-set_same, map, take, drop, drop-cons, length-drop, slice_get, ℤ, pos, Option, Some, None, MatchOption}
 use Rattle.std.proofs.Math.ListN.{set}
 use Rattle.std.proofs.lemmas.List.{map_more, take_more_set}
 use Rattle.cal_time.specs.Date.{last_day}
-use Rattle.cal_time.specs.Filters.{IsFirstDay, filter-first, first_matching}
-use Rattle.cal_time.specs.Month.{month_of_index, number}
-use Rattle.cal_time.specs.Occurrences.{days_from}
+use Rattle.cal_time.specs.Filters.{first_matching}
+use Rattle.cal_time.specs.Month.{index, month_of_index, number}
+use Rattle.cal_time.specs.MonthCycle.{month_of_index-index}
 use Rattle.cal_time.specs.declared.Month.{Month}
-use Rattle.cal_time.specs.declared.Month.TheVariants.{January, February, March, April, May, June, July, August, September, October, November, December}
 use Rattle.cal_schedule.specs.declared.rule.rule.Rule.{Rule}
 use Rattle.cal_schedule.specs.Rule.{occurrences_after, is_occurrence}
+use Rattle.cal_schedule.proofs.Rules.{left_of}
 use Rattle.cal_c.specs.Recurrences.{AreDates, IsFrequency, IsRule, IsRuleStatus}
 use Rattle.cal_c.specs.Statuses.{invalid_date, invalid_frequency, invalid_weekday}
 use Rattle.cal_c.specs.Values.{IsWeekday}
@@ -19,22 +19,8 @@ pub mapped_more : {A B : Type 0} (f : A → B) (xs : List A) (ys : List B) (i : 
     → take i ys ≡ map f (take i xs) → y ≡ f (get_or xs i d) → take (i + 1) (set ys i y) ≡ map f (take (i + 1) xs)
 mapped_more f xs ys i d y lt room e q = take_more_set ys i y room ∙ (λ k. e k ++ q k ∷ []) ∙ sym (map_more f xs i d lt)
 
-month_of_index-number : (m : Month) → month_of_index (number m - 1) ≡ m
-month_of_index-number January = refl
-month_of_index-number February = refl
-month_of_index-number March = refl
-month_of_index-number April = refl
-month_of_index-number May = refl
-month_of_index-number June = refl
-month_of_index-number July = refl
-month_of_index-number August = refl
-month_of_index-number September = refl
-month_of_index-number October = refl
-month_of_index-number November = refl
-month_of_index-number December = refl
-
 pub month_numbered : (m : Month) (k : ℕ) → number m ≡ k → m ≡ month_of_index (k - 1)
-month_numbered m k e = sym (month_of_index-number m) ∙ ap (λ n. month_of_index (n - 1)) e
+month_numbered m k e = let same : index m ≡ k - 1 = omega (arith, e) in sym (month_of_index-index m) ∙ ap month_of_index same
 
 -- The status of the first invalid part.
 pub refused_dates : (p : RuleParts) → ¬ AreDates p → (¬ IsRule p) × IsRuleStatus p invalid_date
@@ -82,13 +68,8 @@ first_given None xs ys h = ap (λ l. slice_get l 0) (sym h.0)
 first_given (Some x) xs ys h = ap (λ l. slice_get l 0) (sym h)
 
 -- the days after a day, from the first of them on
-after_first : (rule : Rule) (n x : ℕ) → IsFirstDay (is_occurrence rule) (n + 1) (last_day - n) x → occurrences_after rule n ≡ x ∷ occurrences_after rule x
-after_first rule n x h =
-    let count : n + 1 + (last_day - n) - (x + 1) ≡ last_day - x = omega (arith, h.not_before, h.within) in
-    filter-first (is_occurrence rule) (n + 1) (last_day - n) x h ∙ ap (λ c. x ∷ filter (is_occurrence rule) (days_from (x + 1) c)) count
-
 pub after_next : (rule : Rule) (n x : ℕ) → Some x ≡ slice_get (occurrences_after rule n) 0 → occurrences_after rule n ≡ x ∷ occurrences_after rule x
-after_next rule n x e = after_first rule n x (first_matching (is_occurrence rule) (n + 1) (last_day - n) (Some x) e)
+after_next rule n x e = left_of rule n x (first_matching (is_occurrence rule) (n + 1) (last_day - n) (Some x) e)
 
 pub none_first : (xs : List ℕ) → None ≡ slice_get xs 0 → xs ≡ []
 none_first [] e = refl

@@ -17,7 +17,7 @@ pub extern "C" fn fots_month_length(month: u32, year: i32) -> NumberResult
     ensures month { ¬ IsMonth month → result ≡ number_error month_status }
     ensures value { IsMonth month → result ≡ number_ok (pos (days_in_month year month)) }
 {
-    let month = or_return!(valid_month(month), NumberResult::error(MONTH_OUT_OF_RANGE));
+    let month = or_error!(NumberResult, valid_month(month), MONTH_OUT_OF_RANGE);
     NumberResult::ok(i32::from(month.length(year)))
 }
 
@@ -27,7 +27,7 @@ pub extern "C" fn fots_month_nth_next(month: u32, n: u32) -> NumberResult
     ensures month { ¬ IsMonth month → result ≡ number_error month_status }
     ensures value { IsMonth month → result ≡ number_ok (pos ((month - 1 + n) % 12 + 1)) }
 {
-    let month = or_return!(valid_month(month), NumberResult::error(MONTH_OUT_OF_RANGE));
+    let month = or_error!(NumberResult, valid_month(month), MONTH_OUT_OF_RANGE);
     NumberResult::ok(i32::from(month.nth_next((n % 12) as u8) as u8))
 }
 
@@ -37,7 +37,7 @@ pub extern "C" fn fots_month_nth_prev(month: u32, n: u32) -> NumberResult
     ensures month { ¬ IsMonth month → result ≡ number_error month_status }
     ensures value { IsMonth month → result ≡ number_ok (pos ((month + 11 - n % 12) % 12 + 1)) }
 {
-    let month = or_return!(valid_month(month), NumberResult::error(MONTH_OUT_OF_RANGE));
+    let month = or_error!(NumberResult, valid_month(month), MONTH_OUT_OF_RANGE);
     NumberResult::ok(i32::from(month.nth_prev((n % 12) as u8) as u8))
 }
 
@@ -47,7 +47,7 @@ pub extern "C" fn fots_weekday_nth_next(weekday: u32, n: u32) -> NumberResult
     ensures invalid_weekday { ¬ IsWeekday weekday → result ≡ number_error invalid_weekday }
     ensures value { IsWeekday weekday → result ≡ number_ok (pos ((weekday - 1 + n) % 7 + 1)) }
 {
-    let weekday = or_return!(valid_weekday(weekday), NumberResult::error(INVALID_WEEKDAY));
+    let weekday = or_error!(NumberResult, valid_weekday(weekday), INVALID_WEEKDAY);
     NumberResult::ok(i32::from(weekday.nth_next((n % 7) as u8).number_from_monday()))
 }
 
@@ -57,7 +57,7 @@ pub extern "C" fn fots_weekday_nth_prev(weekday: u32, n: u32) -> NumberResult
     ensures invalid_weekday { ¬ IsWeekday weekday → result ≡ number_error invalid_weekday }
     ensures value { IsWeekday weekday → result ≡ number_ok (pos ((weekday + 6 - n % 7) % 7 + 1)) }
 {
-    let weekday = or_return!(valid_weekday(weekday), NumberResult::error(INVALID_WEEKDAY));
+    let weekday = or_error!(NumberResult, valid_weekday(weekday), INVALID_WEEKDAY);
     NumberResult::ok(i32::from(weekday.nth_prev((n % 7) as u8).number_from_monday()))
 }
 
@@ -67,7 +67,7 @@ pub extern "C" fn fots_weekday_number_from_sunday(weekday: u32) -> NumberResult
     ensures invalid_weekday { ¬ IsWeekday weekday → result ≡ number_error invalid_weekday }
     ensures value { IsWeekday weekday → result ≡ number_ok (pos (weekday % 7 + 1)) }
 {
-    let weekday = or_return!(valid_weekday(weekday), NumberResult::error(INVALID_WEEKDAY));
+    let weekday = or_error!(NumberResult, valid_weekday(weekday), INVALID_WEEKDAY);
     NumberResult::ok(i32::from(weekday.number_from_sunday()))
 }
 

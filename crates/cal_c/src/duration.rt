@@ -39,10 +39,7 @@ pub extern "C" fn fots_duration_weeks(weeks: i64) -> DurationResult
 pub extern "C" fn fots_duration_days(days: i64) -> DurationResult
     ensures { IsDurationOrOutOfRange (days *ℤ pos day) result }
 {
-    let seconds = or_return!(
-        days.checked_mul(86400),
-        DurationResult::error(RESULT_OUT_OF_RANGE)
-    );
+    let seconds = or_error!(DurationResult, days.checked_mul(86400), RESULT_OUT_OF_RANGE);
     DurationResult::ok(SignedDuration::seconds(seconds))
 }
 
@@ -51,10 +48,7 @@ pub extern "C" fn fots_duration_days(days: i64) -> DurationResult
 pub extern "C" fn fots_duration_hours(hours: i64) -> DurationResult
     ensures { IsDurationOrOutOfRange (hours *ℤ pos hour) result }
 {
-    let seconds = or_return!(
-        hours.checked_mul(3600),
-        DurationResult::error(RESULT_OUT_OF_RANGE)
-    );
+    let seconds = or_error!(DurationResult, hours.checked_mul(3600), RESULT_OUT_OF_RANGE);
     DurationResult::ok(SignedDuration::seconds(seconds))
 }
 
@@ -63,10 +57,7 @@ pub extern "C" fn fots_duration_hours(hours: i64) -> DurationResult
 pub extern "C" fn fots_duration_minutes(minutes: i64) -> DurationResult
     ensures { IsDurationOrOutOfRange (minutes *ℤ pos minute) result }
 {
-    let seconds = or_return!(
-        minutes.checked_mul(60),
-        DurationResult::error(RESULT_OUT_OF_RANGE)
-    );
+    let seconds = or_error!(DurationResult, minutes.checked_mul(60), RESULT_OUT_OF_RANGE);
     DurationResult::ok(SignedDuration::seconds(seconds))
 }
 
@@ -109,10 +100,7 @@ pub extern "C" fn fots_duration_whole_weeks(duration: Duration) -> Int64Result
     ensures value { IsDurationPair duration
         → result ≡ int64_ok (cut (nanoseconds_in duration) (pos week)) }
 {
-    let duration = or_return!(
-        valid_duration(duration),
-        Int64Result::error(INVALID_DURATION)
-    );
+    let duration = or_error!(Int64Result, valid_duration(duration), INVALID_DURATION);
     Int64Result::ok(duration.whole_weeks())
 }
 
@@ -123,10 +111,7 @@ pub extern "C" fn fots_duration_whole_days(duration: Duration) -> Int64Result
     ensures value { IsDurationPair duration
         → result ≡ int64_ok (cut (nanoseconds_in duration) (pos day)) }
 {
-    let duration = or_return!(
-        valid_duration(duration),
-        Int64Result::error(INVALID_DURATION)
-    );
+    let duration = or_error!(Int64Result, valid_duration(duration), INVALID_DURATION);
     Int64Result::ok(duration.whole_days())
 }
 
@@ -137,10 +122,7 @@ pub extern "C" fn fots_duration_whole_hours(duration: Duration) -> Int64Result
     ensures value { IsDurationPair duration
         → result ≡ int64_ok (cut (nanoseconds_in duration) (pos hour)) }
 {
-    let duration = or_return!(
-        valid_duration(duration),
-        Int64Result::error(INVALID_DURATION)
-    );
+    let duration = or_error!(Int64Result, valid_duration(duration), INVALID_DURATION);
     Int64Result::ok(duration.whole_hours())
 }
 
@@ -151,10 +133,7 @@ pub extern "C" fn fots_duration_whole_minutes(duration: Duration) -> Int64Result
     ensures value { IsDurationPair duration
         → result ≡ int64_ok (cut (nanoseconds_in duration) (pos minute)) }
 {
-    let duration = or_return!(
-        valid_duration(duration),
-        Int64Result::error(INVALID_DURATION)
-    );
+    let duration = or_error!(Int64Result, valid_duration(duration), INVALID_DURATION);
     Int64Result::ok(duration.whole_minutes())
 }
 
@@ -165,10 +144,7 @@ pub extern "C" fn fots_duration_whole_seconds(duration: Duration) -> Int64Result
     ensures value { IsDurationPair duration
         → result ≡ int64_ok (cut (nanoseconds_in duration) (pos second)) }
 {
-    let duration = or_return!(
-        valid_duration(duration),
-        Int64Result::error(INVALID_DURATION)
-    );
+    let duration = or_error!(Int64Result, valid_duration(duration), INVALID_DURATION);
     Int64Result::ok(duration.whole_seconds())
 }
 
@@ -179,10 +155,7 @@ pub extern "C" fn fots_duration_whole_milliseconds(duration: Duration) -> Int64R
     ensures value { IsDurationPair duration
         → IsInt64OrOutOfRange (cut (nanoseconds_in duration) (pos millisecond)) result }
 {
-    let duration = or_return!(
-        valid_duration(duration),
-        Int64Result::error(INVALID_DURATION)
-    );
+    let duration = or_error!(Int64Result, valid_duration(duration), INVALID_DURATION);
     Int64Result::from_i128(duration.whole_milliseconds())
 }
 
@@ -193,10 +166,7 @@ pub extern "C" fn fots_duration_whole_microseconds(duration: Duration) -> Int64R
     ensures value { IsDurationPair duration
         → IsInt64OrOutOfRange (cut (nanoseconds_in duration) (pos microsecond)) result }
 {
-    let duration = or_return!(
-        valid_duration(duration),
-        Int64Result::error(INVALID_DURATION)
-    );
+    let duration = or_error!(Int64Result, valid_duration(duration), INVALID_DURATION);
     Int64Result::from_i128(duration.whole_microseconds())
 }
 
@@ -206,10 +176,7 @@ pub extern "C" fn fots_duration_whole_nanoseconds(duration: Duration) -> Int64Re
     ensures invalid_duration { ¬ IsDurationPair duration → result ≡ int64_error invalid_duration }
     ensures value { IsDurationPair duration → IsInt64OrOutOfRange (nanoseconds_in duration) result }
 {
-    let duration = or_return!(
-        valid_duration(duration),
-        Int64Result::error(INVALID_DURATION)
-    );
+    let duration = or_error!(Int64Result, valid_duration(duration), INVALID_DURATION);
     Int64Result::from_i128(duration.whole_nanoseconds())
 }
 
@@ -220,10 +187,7 @@ pub extern "C" fn fots_duration_subsec_milliseconds(duration: Duration) -> Numbe
     ensures value { IsDurationPair duration
         → result ≡ number_ok (cut (subsec_nanoseconds (nanoseconds_in duration)) (pos millisecond)) }
 {
-    let duration = or_return!(
-        valid_duration(duration),
-        NumberResult::error(INVALID_DURATION)
-    );
+    let duration = or_error!(NumberResult, valid_duration(duration), INVALID_DURATION);
     NumberResult::ok(i32::from(duration.subsec_milliseconds()))
 }
 
@@ -234,9 +198,6 @@ pub extern "C" fn fots_duration_subsec_microseconds(duration: Duration) -> Numbe
     ensures value { IsDurationPair duration
         → result ≡ number_ok (cut (subsec_nanoseconds (nanoseconds_in duration)) (pos microsecond)) }
 {
-    let duration = or_return!(
-        valid_duration(duration),
-        NumberResult::error(INVALID_DURATION)
-    );
+    let duration = or_error!(NumberResult, valid_duration(duration), INVALID_DURATION);
     NumberResult::ok(duration.subsec_microseconds())
 }

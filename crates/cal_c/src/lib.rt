@@ -26,6 +26,16 @@ macro_rules! or_return {
     };
 }
 
+/// Returns the value, or makes the function return the result of a status.
+macro_rules! or_error {
+    ($answer:ident, $option:expr, $status:expr) => {
+        match $option {
+            Some(value) => value,
+            None => return $answer::error($status),
+        }
+    };
+}
+
 /// Returns the result of a value, or the result of its error.
 macro_rules! ok_or_error {
     ($answer:ident, $made:expr) => {

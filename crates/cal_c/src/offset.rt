@@ -40,10 +40,7 @@ pub extern "C" fn fots_offset_from_whole_seconds(seconds: i64) -> OffsetResult
 {
     let seconds =
         or_return!(i32::try_from(seconds), _ => OffsetResult::error(SECONDS_OUT_OF_RANGE));
-    let offset = or_return!(
-        valid_offset(seconds),
-        OffsetResult::error(SECONDS_OUT_OF_RANGE)
-    );
+    let offset = or_error!(OffsetResult, valid_offset(seconds), SECONDS_OUT_OF_RANGE);
     OffsetResult::ok(offset)
 }
 
@@ -53,7 +50,7 @@ pub extern "C" fn fots_offset_as_hms(offset: i32) -> OffsetHmsResult
     ensures invalid_offset { ¬ IsOffset offset → result ≡ offset_hms_error invalid_offset }
     ensures value { IsOffset offset → result ≡ offset_hms_ok offset }
 {
-    let offset = or_return!(valid_offset(offset), OffsetHmsResult::error(INVALID_OFFSET));
+    let offset = or_error!(OffsetHmsResult, valid_offset(offset), INVALID_OFFSET);
     let (hours, minutes, seconds) = offset.as_hms();
     OffsetHmsResult {
         status: OK,
@@ -69,7 +66,7 @@ pub extern "C" fn fots_offset_neg(offset: i32) -> OffsetResult
     ensures invalid_offset { ¬ IsOffset offset → result ≡ offset_error invalid_offset }
     ensures value { IsOffset offset → result ≡ offset_ok (neg_ℤ offset) }
 {
-    let offset = or_return!(valid_offset(offset), OffsetResult::error(INVALID_OFFSET));
+    let offset = or_error!(OffsetResult, valid_offset(offset), INVALID_OFFSET);
     OffsetResult::ok(-offset)
 }
 
@@ -79,7 +76,7 @@ pub extern "C" fn fots_offset_whole_hours(offset: i32) -> NumberResult
     ensures invalid_offset { ¬ IsOffset offset → result ≡ number_error invalid_offset }
     ensures value { IsOffset offset → result ≡ number_ok (whole_hours offset) }
 {
-    let offset = or_return!(valid_offset(offset), NumberResult::error(INVALID_OFFSET));
+    let offset = or_error!(NumberResult, valid_offset(offset), INVALID_OFFSET);
     NumberResult::ok(i32::from(offset.whole_hours()))
 }
 
@@ -89,7 +86,7 @@ pub extern "C" fn fots_offset_whole_minutes(offset: i32) -> NumberResult
     ensures invalid_offset { ¬ IsOffset offset → result ≡ number_error invalid_offset }
     ensures value { IsOffset offset → result ≡ number_ok (whole_minutes offset) }
 {
-    let offset = or_return!(valid_offset(offset), NumberResult::error(INVALID_OFFSET));
+    let offset = or_error!(NumberResult, valid_offset(offset), INVALID_OFFSET);
     NumberResult::ok(i32::from(offset.whole_minutes()))
 }
 
@@ -99,7 +96,7 @@ pub extern "C" fn fots_offset_minutes_past_hour(offset: i32) -> NumberResult
     ensures invalid_offset { ¬ IsOffset offset → result ≡ number_error invalid_offset }
     ensures value { IsOffset offset → result ≡ number_ok (minutes_past_hour offset) }
 {
-    let offset = or_return!(valid_offset(offset), NumberResult::error(INVALID_OFFSET));
+    let offset = or_error!(NumberResult, valid_offset(offset), INVALID_OFFSET);
     NumberResult::ok(i32::from(offset.minutes_past_hour()))
 }
 
@@ -109,6 +106,6 @@ pub extern "C" fn fots_offset_seconds_past_minute(offset: i32) -> NumberResult
     ensures invalid_offset { ¬ IsOffset offset → result ≡ number_error invalid_offset }
     ensures value { IsOffset offset → result ≡ number_ok (seconds_past_minute offset) }
 {
-    let offset = or_return!(valid_offset(offset), NumberResult::error(INVALID_OFFSET));
+    let offset = or_error!(NumberResult, valid_offset(offset), INVALID_OFFSET);
     NumberResult::ok(i32::from(offset.seconds_past_minute()))
 }

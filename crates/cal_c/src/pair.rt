@@ -19,12 +19,9 @@ pub extern "C" fn fots_add_to_pair(date: i32, time: u64, duration: Duration) -> 
         need IsDurationPair duration else result ≡ pair_error invalid_duration then
         IsPairOrOutOfRange (pair_number (day_of date) time +ℤ nanoseconds_in duration) result }
 {
-    let date = or_return!(valid_date(date), PairResult::error(INVALID_DATE));
-    let time = or_return!(valid_time(time), PairResult::error(INVALID_TIME));
-    let duration = or_return!(
-        valid_duration(duration),
-        PairResult::error(INVALID_DURATION)
-    );
+    let date = or_error!(PairResult, valid_date(date), INVALID_DATE);
+    let time = or_error!(PairResult, valid_time(time), INVALID_TIME);
+    let duration = or_error!(PairResult, valid_duration(duration), INVALID_DURATION);
     PairResult::from_option(add_to_pair(date, time, duration))
 }
 
@@ -36,11 +33,8 @@ pub extern "C" fn fots_sub_from_pair(date: i32, time: u64, duration: Duration) -
         need IsDurationPair duration else result ≡ pair_error invalid_duration then
         IsPairOrOutOfRange (pair_number (day_of date) time -ℤ nanoseconds_in duration) result }
 {
-    let date = or_return!(valid_date(date), PairResult::error(INVALID_DATE));
-    let time = or_return!(valid_time(time), PairResult::error(INVALID_TIME));
-    let duration = or_return!(
-        valid_duration(duration),
-        PairResult::error(INVALID_DURATION)
-    );
+    let date = or_error!(PairResult, valid_date(date), INVALID_DATE);
+    let time = or_error!(PairResult, valid_time(time), INVALID_TIME);
+    let duration = or_error!(PairResult, valid_duration(duration), INVALID_DURATION);
     PairResult::from_option(sub_from_pair(date, time, duration))
 }

@@ -75,6 +75,14 @@ calendar_in_range n y i d h has =
       number_is = is.number_is;
     }
 
+-- Two different days of the range have different calendar dates.
+pub calendar_date-one : (y : ℤ) (month d m n : ℕ) → IsDate m → IsDate n → HasCalendarDate y month d m → HasCalendarDate y month d n → m ≡ n
+calendar_date-one y month d m n h k e f =
+    let at = in_month_of n in
+    let i = at.months in
+    let here : HasCalendarDate (year_at n) (i + 1) (day_of_month_at n) n = ap (λ j. calendar_day (year_at n) j (day_of_month_at n)) at.month_is in
+    omega (arith, (calendar_in_range m (year_at n) i (day_of_month_at n) h (e ∙ sym f ∙ here)).number_is, (calendar_in_range n (year_at n) i (day_of_month_at n) k here).number_is)
+
 -- The year has the ordinal of a calendar date.
 pub IsOrdinal-ordinal_in : (y : ℤ) (i d : ℕ) → first_year ≤ℤ y → i < 12 → IsDayOfMonth y (i + 1) d → IsOrdinal y (ordinal_in y i d)
 IsOrdinal-ordinal_in y i d late low h =

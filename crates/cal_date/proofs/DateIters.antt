@@ -12,16 +12,9 @@ use Rattle.cal_date.specs.Date.{year_at, ordinal_at, IsDate, HasOrdinalDate}
 use Rattle.cal_date.specs.Occurrences.{days_from}
 use Rattle.cal_date.proofs.Dates.{stands}
 use Rattle.cal_date.proofs.Neighbours.{same_year, as_far}
+use Rattle.cal_date.proofs.Occurrences.{days_from-none, days_from-suc}
 use Rattle.cal_date.specs.DateIter.{IsInOneYear, Walk, walk, IsWalk, days_between, days_of, without_first, without_last}
 use Rattle.std.proofs.lemmas.Int.{ints}
-
-days_from-none : (n : ℕ) → days_from n 0 ≡ []
-unfolding days_from
-days_from-none n = refl
-
-days_from-suc : (n k : ℕ) → days_from n (suc k) ≡ n ∷ days_from (n + 1) k
-unfolding days_from
-days_from-suc n k = refl
 
 pub length-days_from : (n k : ℕ) → length (days_from n k) ≡ k
 length-days_from n zero = ap length (days_from-none n)
@@ -209,7 +202,8 @@ without_last-from w b day e less h =
 pub without_last-all : (w : Walk) (b day : ℕ) → w.back ≡ Some b → day ≤ w.front → day ≤ b → walk w.front None ≡ without_last (b + 1 - day) w
 without_last-all w b day e all h = sym (without_last-none (b + 1 - day) w (omega (arith, length-days_of w b e)))
 
--- The days that are left after `advance_front_past` and `advance_back_past` if the iterator becomes empty.
+-- The days that are left after `advance_front_past` and `advance_back_past` if the iterator becomes
+-- empty.
 pub ruleset days_left_after = (without_first-all, nat_tests)
 
 pub ruleset days_left_before = (without_last-from, without_last-all, nat_tests)

@@ -1,4 +1,5 @@
--- No two days print alike: the digits of a number give its value, and the first byte of a year its sign.
+-- No two days print alike: the digits of a number give its value, and the first byte of a year its
+-- sign.
 use Rattle.std.proofs.Common.{◌≡◌, ◌≢◌, ℕ, zero, suc, ◌-◌, ◌<◌, ◌≤◌, ◌^◌, List, [], ◌∷◌, ◌++◌, length, get_or, take, drop, replicate, append_assoc, length-append, ℤ, pos, negsuc, unsigned_abs, refl, sym, ap, ◌∙◌, arith, inl, inr, lit<, if◌then◌else◌, nat_lt}
 use Rattle.std.specs.Prelude.{codes, decimal}
 use Rattle.std.specs.Str.Parse.{AllDigits, digits_value}
@@ -12,8 +13,7 @@ use Rattle.cal_units.specs.Digits.{two_digits}
 use Rattle.cal_units.proofs.Digits.{digits_at_least-two}
 use Rattle.cal_date.specs.Date.{year_at, month_at, day_of_month_at, IsDate}
 use Rattle.cal_date.specs.DateText.{digits_at_least, sign_text, year_text, text}
-use Rattle.cal_date.proofs.Calendar.{in_month_of, day_of_month-most}
-use Rattle.cal_date.proofs.CallersLaws.{calendar_date-one}
+use Rattle.cal_date.proofs.Calendar.{in_month_of, day_of_month-most, calendar_date-one}
 use Rattle.cal_date.proofs.Dates.{in_range}
 
 -- ---- digits, filled up with zeros to a width

@@ -1,5 +1,4 @@
 pub mod Calendar
-pub mod CallersLaws
 pub mod DateIters
 pub mod Dates
 pub mod DateTexts

@@ -7,8 +7,9 @@ use Rattle.std.proofs.lemmas.Int.{ints}
 use Rattle.std.proofs.lemmas.Bool.Decides.{nat_tests}
 use Rattle.cal_units.specs.Lengths.{days_in_year, days_in_month}
 use Rattle.cal_date.specs.ClosedForms.{days_before_month_in_part}
-use Rattle.cal_date.specs.CountLaws.{days_of_years, years_before, days_of_years-closed}
-use Rattle.cal_date.specs.Date.{first_year, IsDayOfMonth, HasCalendarDate}
+use Rattle.cal_date.specs.CountLaws.{days_of_years, years_before, days_of_years-closed, leap_year-step}
+use Rattle.cal_date.specs.Date.{first_year, last_day, IsDate, IsDayOfMonth, HasCalendarDate}
+use Rattle.cal_date.specs.DateLimits.{years_in_range}
 use Rattle.cal_date.proofs.MarchYears.{number_with, has_number, march_number, IsMarked}
 use Rattle.cal_date.proofs.Months.{IsMonth, each_month, other_month}
 
@@ -22,9 +23,6 @@ century_of_year c s z r e hr hs = (omega arith, omega arith)
 past_in_year : (j z r : ℕ) → 4 * j + 3 ≡ 1461 * z + r → r < 1461 → (1461 * z / 4 ≤ j) × (j - 1461 * z / 4 ≡ r / 4) × (r / 4 ≤ 365) × (r / 4 ≡ 365 → z % 4 ≡ 3)
 past_in_year j z r e hr = (omega arith, omega arith, omega arith, λ last. omega arith)
 
-leap_year-step : (k : ℕ) → days_in_year (first_year +ℤ pos k) + (k + 1) / 100 + k / 4 + k / 400 ≡ 365 + k / 100 + (k + 1) / 4 + (k + 1) / 400
-leap_year-step k = grind (arith, ints, nat_tests)
-
 leap_ends : (z l : ℕ) → z % 4 ≡ 3 → (z % 100 < 99) ⊎ (z % 400 ≡ 399) → l + (z + 1) / 100 + z / 4 + z / 400 ≡ 365 + z / 100 + (z + 1) / 4 + (z + 1) / 400 → l ≡ 366
 leap_ends z l four (inl h) e = omega arith
 leap_ends z l four (inr h) e = omega arith
@@ -33,10 +31,10 @@ leap_ends z l four (inr h) e = omega arith
 record IsMarchYear (n z k : ℕ) : Type 0 where
   number : days_of_years z + k ≡ n
   past : k ≤ 365
-  years : z ≤ 1999999
+  years : z ≤ years_in_range
   leap : k ≡ 365 → days_in_year (first_year +ℤ pos z) ≡ 366
 
-march_year : (n c t z r : ℕ) → n ≤ 730484939 → 4 * n + 3 ≡ 146097 * c + t → t < 146097 → 4 * (n + c - c / 4) + 3 ≡ 1461 * z + r → r < 1461
+march_year : (n c t z r : ℕ) → n ≤ last_day + 306 → 4 * n + 3 ≡ 146097 * c + t → t < 146097 → 4 * (n + c - c / 4) + 3 ≡ 1461 * z + r → r < 1461
     → IsMarchYear n z (n + c - c / 4 - 1461 * z / 4)
 march_year n c t z r h century ht year hr =
     let j = n + c - c / 4 in
@@ -149,8 +147,8 @@ march_month months mark least most e =
           }
     ]
 
-calendar_date_in : (n z k i d mark : ℕ) (y : ℤ) → n ≤ 730484633 → IsMarchYear (n + 306) z k → i < 12 → IsInMonth i k d → IsMarchMonth (i + 3) mark → (k ≤ 305 → i ≤ 9) → (305 < k → 9 < i)
-    → y ≡ pos (z + mark) -ℤ pos 1000000 → HasCalendarDate y (i + 3 - 12 * mark) (d + 1) n
+calendar_date_in : (n z k i d mark : ℕ) (y : ℤ) → IsDate n → IsMarchYear (n + 306) z k → i < 12 → IsInMonth i k d → IsMarchMonth (i + 3) mark → (k ≤ 305 → i ≤ 9) → (305 < k → 9 < i)
+    → y ≡ first_year +ℤ pos (z + mark) -ℤ pos 1 → HasCalendarDate y (i + 3 - 12 * mark) (d + 1) n
 calendar_date_in n z k i d mark y h year low of_month of_mark early late e =
     let m = i + 3 - 12 * mark in
     let few : mark ≤ 1 = of_mark.marked.most in
@@ -171,8 +169,8 @@ calendar_date_in n z k i d mark y h year low of_month of_mark early late e =
     let same : number_with y m (d + 1) ≡ n = omega (arith, number, past, year.number) in
     subst (HasCalendarDate y m (d + 1)) same (has_number y m (d + 1) first of_mark.month day)
 
-pub calendar_date_is : (n c j z k s mark : ℕ) (y : ℤ) → n ≤ 730484633 → c ≡ (4 * (n + 306) + 3) / 146097 → j ≡ n + 306 + c - c / 4 → z ≡ (4 * j + 3) / 1461 → k ≡ j - 1461 * z / 4
-    → s ≡ 2141 * k + 197913 → mark ≡ bool_byte (nat_lt 12 (s / 65536)) → (z ≤ 1999999 → mark ≤ 1 → y ≡ pos (z + mark) -ℤ pos 1000000)
+pub calendar_date_is : (n c j z k s mark : ℕ) (y : ℤ) → IsDate n → c ≡ (4 * (n + 306) + 3) / 146097 → j ≡ n + 306 + c - c / 4 → z ≡ (4 * j + 3) / 1461 → k ≡ j - 1461 * z / 4
+    → s ≡ 2141 * k + 197913 → mark ≡ bool_byte (nat_lt 12 (s / 65536)) → (z ≤ years_in_range → mark ≤ 1 → y ≡ first_year +ℤ pos (z + mark) -ℤ pos 1)
     → HasCalendarDate y (s / 65536 - 12 * mark) (s % 65536 / 2141 + 1) n × (s / 65536 - 12 * mark ≤ 12) × (s % 65536 / 2141 + 1 ≤ 31)
 calendar_date_is n c j z k s mark y h century julian years past parts is_late e =
     let year : IsMarchYear (n + 306) z k = subst (IsMarchYear (n + 306) z) (sym (past ∙ ap (λ x. x - 1461 * z / 4) julian))

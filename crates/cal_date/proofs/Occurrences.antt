@@ -8,11 +8,11 @@ use Rattle.std.proofs.lemmas.Int.{ints}
 use Rattle.cal_units.specs.WeekdayCycle.{index-below}
 
 -- One step of each list.
-days_from-suc : (n count : ℕ) → days_from n (suc count) ≡ n ∷ days_from (n + 1) count
+pub days_from-suc : (n count : ℕ) → days_from n (suc count) ≡ n ∷ days_from (n + 1) count
 unfolding days_from
 days_from-suc n count = refl
 
-days_from-none : (n : ℕ) → days_from n 0 ≡ []
+pub days_from-none : (n : ℕ) → days_from n 0 ≡ []
 unfolding days_from
 days_from-none n = refl
 

@@ -42,7 +42,7 @@ first_weekday-days_before y h =
     ap first_weekday (sym same) ∙ first_weekday-count k
 
 -- Counts.
-count_before-suc : (test : ℕ → Bool) (n : ℕ) → count_before test (suc n) ≡ count_before test n + (if test n then 1 else 0)
+pub count_before-suc : (test : ℕ → Bool) (n : ℕ) → count_before test (suc n) ≡ count_before test n + (if test n then 1 else 0)
 unfolding count_before
 count_before-suc test n = refl
 
@@ -54,7 +54,7 @@ count_before-none test (suc n) none =
     rw (none n (omega arith)) (omega arith)
 
 -- If no further day passes the test, the count stays.
-count_before-same : (test : ℕ → Bool) (n j : ℕ) → ((k : ℕ) → n ≤ k → test k ≡ false) → count_before test (n + j) ≡ count_before test n
+pub count_before-same : (test : ℕ → Bool) (n j : ℕ) → ((k : ℕ) → n ≤ k → test k ≡ false) → count_before test (n + j) ≡ count_before test n
 count_before-same test n zero none = simp add-zero
 count_before-same test n (suc j) none =
     let sums : n + suc j ≡ suc (n + j) = omega arith in
@@ -81,21 +81,38 @@ after_year w y n h = other_year w y n (λ same. let at : StandsAt y (ordinal_at 
 one_more : (c' c d j w : ℕ) → w < 7 → c' ≡ c + (if (d + j) % 7 == w then 1 else 0) → c + (d + 6 - w) / 7 ≡ (d + j + 6 - w) / 7 → c' + (d + 6 - w) / 7 ≡ (d + suc j + 6 - w) / 7
 one_more c' c d j w below e f = grind (arith, nat_tests)
 
+-- The days that pass the test are those with the weekday among the days from the first to the last.
+pub record IsSpan (test : ℕ → Bool) (w first last : ℕ) : Type 0 where
+  pub before : (k : ℕ) → k < first → test k ≡ false
+  pub within : (k : ℕ) → first ≤ k → k ≤ last → test k ≡ (k % 7 == w)
+  pub past : (k : ℕ) → last < k → test k ≡ false
+
+-- The number of days with the weekday among the first days of a span.
+pub count_in_span : (test : ℕ → Bool) (w f l j : ℕ) → IsSpan test w f l → w < 7 → f + j ≤ l + 1 → count_before test (f + j) + (f + 6 - w) / 7 ≡ (f + j + 6 - w) / 7
+count_in_span test w f l zero span below within =
+    let none : count_before test f ≡ 0 = count_before-none test f span.before in
+    simp add-zero (omega arith)
+count_in_span test w f l (suc j) span below within =
+    let before : count_before test (f + j) + (f + 6 - w) / 7 ≡ (f + j + 6 - w) / 7 = count_in_span test w f l j span below (omega arith) in
+    let step : count_before test (suc (f + j)) ≡ count_before test (f + j) + (if (f + j) % 7 == w then 1 else 0) =
+    count_before-suc test (f + j) ∙ rw (span.within (f + j) (omega arith) (omega arith)) refl in
+    let sums : f + suc j ≡ suc (f + j) = omega arith in
+    ap (λ n. count_before test n + (f + 6 - w) / 7) sums ∙ one_more (count_before test (suc (f + j))) (count_before test (f + j)) f j w below step before
+
 -- The number of days with the weekday among the first days of a year.
 pub count_in_year : (y : ℤ) (w j : ℕ) → first_year ≤ℤ y → w < 7 → j ≤ days_in_year y
     → count_before (is_weekday_of_year w y) (days_before y + j) + (days_before y + 6 - w) / 7 ≡ (days_before y + j + 6 - w) / 7
-count_in_year y w zero h below within =
-    let none : count_before (is_weekday_of_year w y) (days_before y) ≡ 0 = count_before-none (is_weekday_of_year w y) (days_before y) (before_year w y) in
-    simp add-zero (omega arith)
-count_in_year y w (suc j) h below within =
+count_in_year y w j h below most =
     let d = days_before y in
-    let test = is_weekday_of_year w y in
-    let before : count_before test (d + j) + (d + 6 - w) / 7 ≡ (d + j + 6 - w) / 7 = count_in_year y w j h below (omega arith) in
-    let here = in_year d y j (year_start-days_before y h) (omega arith) in
-    let step : count_before test (suc (d + j)) ≡ count_before test (d + j) + (if (d + j) % 7 == w then 1 else 0) =
-    count_before-suc test (d + j) ∙ rw (this_year w y (d + j) here.0) refl in
-    let sums : d + suc j ≡ suc (d + j) = omega arith in
-    ap (λ n. count_before test n + (d + 6 - w) / 7) sums ∙ one_more (count_before test (suc (d + j))) (count_before test (d + j)) d j w below step before
+    let long : 365 ≤ days_in_year y = grind (arith, nat_tests) in
+    let span : IsSpan (is_weekday_of_year w y) w d (d + days_in_year y - 1) = record {
+      before = before_year w y;
+      within = λ k low high.
+          let sums : d + (k - d) ≡ k = omega arith in
+          this_year w y k (ap year_at (sym sums) ∙ (in_year d y (k - d) (year_start-days_before y h) (omega arith)).0);
+      past = λ k late. after_year w y k (omega arith);
+    } in
+    count_in_span (is_weekday_of_year w y) w d (d + days_in_year y - 1) j span below (omega arith)
 
 -- The number of days with the weekday up to a day of its year.
 pub weekday_count-is : (w n : ℕ) → w < 7 → weekday_count w n + (days_before (year_at n) + 6 - w) / 7 ≡ (n + 7 - w) / 7

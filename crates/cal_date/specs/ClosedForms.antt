@@ -131,7 +131,7 @@ IsWeekByClosedForm y o w iso_year week = (iso_year ≡ iso_year_of y o w) × (we
 abbrev pub january_4_weekday : ℤ → ℕ
 january_4_weekday y = (first_weekday y + 3) % 7 + 1
 
--- The ordinal is 7 * w + wd - fourth_weekday y - 3. If it is below 1, the day is in the year
+-- The ordinal is 7 * w + wd - january_4_weekday y - 3. If it is below 1, the day is in the year
 -- before. If it is above the length of the year, the day is in the next year.
 unfoldable pub year_of_week : ℤ → ℕ → ℕ → ℤ
 year_of_week y w wd =

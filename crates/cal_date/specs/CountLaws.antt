@@ -167,7 +167,7 @@ days_of_years (suc k) = days_of_years k + days_in_year (first_year +ℤ pos k)
 
 -- The leap years among the first k years of the range are every fourth year, except the centuries
 -- that 400 doesn't divide.
-leap_year-step : (k : ℕ) → days_in_year (first_year +ℤ pos k) + (k + 1) / 100 + k / 4 + k / 400 ≡ 365 + k / 100 + (k + 1) / 4 + (k + 1) / 400
+pub leap_year-step : (k : ℕ) → days_in_year (first_year +ℤ pos k) + (k + 1) / 100 + k / 4 + k / 400 ≡ 365 + k / 100 + (k + 1) / 4 + (k + 1) / 400
 leap_year-step k = grind (arith, ints, nat_tests)
 
 closed-step : (k d d' l : ℕ) → d' ≡ d + l → l + (k + 1) / 100 + k / 4 + k / 400 ≡ 365 + k / 100 + (k + 1) / 4 + (k + 1) / 400 → d + k / 100 ≡ 365 * k + k / 4 + k / 400

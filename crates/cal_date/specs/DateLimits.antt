@@ -1,10 +1,17 @@
--- The numbers of `Date::MIN` and `Date::MAX`, for higher crates, in which a constant opens as its
--- literal.
-use Rattle.std.specs.Prelude.{◌≡◌, pos, neg_ℤ}
+-- The years and the months of the range, and the numbers of `Date::MIN` and `Date::MAX`, for higher
+-- crates, in which a constant opens as its literal.
+use Rattle.std.specs.Prelude.{◌≡◌, ℕ, ◌*◌, pos, neg_ℤ}
 use Rattle.std.proofs.Common.{arith, refl}
 use Rattle.cal_date.specs.Date.{last_year, last_day}
 use Rattle.cal_date.specs.CountLaws.{days_of_years, years_before, days_of_years-closed}
 use Rattle.cal_date.specs.PackedDate.{year_of, ordinal_of, number_of}
+
+-- The number of years of the range, and of its months.
+abbrev pub years_in_range : ℕ
+years_in_range = 1_999_999
+
+abbrev pub months_in_range : ℕ
+months_in_range = 12 * years_in_range
 
 pub MIN-number : number_of (record { packed = neg_ℤ (pos 1_023_998_975) }) ≡ 0
 unfolding year_of ordinal_of days_of_years

@@ -8,16 +8,17 @@ ghost use Rattle.cal_units.specs.Lengths.{is_leap_year, days_in_month};
 ghost use Rattle.cal_date.specs.ClosedForms.{days_before_month_in_part};
 ghost use Rattle.cal_date.specs.CountLaws.{days_of_years};
 ghost use Rattle.cal_date.specs.Date.{weekday_at, IsDate, IsYear, IsDayOfMonth, HasCalendarDate};
+ghost use Rattle.cal_date.specs.DateLimits.{years_in_range};
 ghost use Rattle.cal_date.specs.IsoWeekDate.{iso_year_at, iso_week_at};
 ghost use Rattle.cal_date.specs.Occurrences.{next_occurrences, prev_occurrences, kth};
 
 use crate::date::Date;
 use crate::date::iso_week::{SEVENTH, div_7};
-use crate::limits::{LAST_DAY, MAX_YEAR, MIN_YEAR};
+use crate::limits::{LAST_DAY, MIN_YEAR, YEARS};
 use cal_units::util::is_leap_year;
 
 /// The number of years that begin on 1 March and have a day of the range, less 1.
-const LAST_MARCH_YEAR: u32 = (MAX_YEAR - MIN_YEAR + 1) as u32;
+const LAST_MARCH_YEAR: u32 = YEARS;
 
 /// The days from 1 March to 1 January.
 const MARCH_TO_JANUARY: u32 = 306;
@@ -133,7 +134,7 @@ pub fn nth_next_occurrence(number: u32, weekday: u32, n: u8) -> Option<u32>
     requires weekday { weekday < 7 }
     ensures value { result ≡ kth n (next_occurrences weekday number) }
     ensures weekday { IfSome result (λ later. weekday_at later ≡ weekday) }
-    ensures within { IfSome result
+    ensures range { IfSome result
         (λ later. (number + 7 * (n - 1) < later) × (later ≤ number + 7 * n) × IsDate later) }
 {
     if n == 0 {
@@ -156,7 +157,7 @@ pub fn nth_prev_occurrence(number: u32, weekday: u32, n: u8) -> Option<u32>
     requires weekday { weekday < 7 }
     ensures value { result ≡ kth n (prev_occurrences weekday number) }
     ensures weekday { IfSome result (λ earlier. weekday_at earlier ≡ weekday) }
-    ensures within { IfSome result
+    ensures range { IfSome result
         (λ earlier. (earlier + 7 * (n - 1) < number) × (number ≤ earlier + 7 * n)) }
 {
     if n == 0 {
@@ -210,7 +211,7 @@ pub(crate) fn days_before_month_in_part(month: u32) -> u32
 /// Returns the number of days of the first years of the range.
 #[tactic(auto, using(crate::proofs::JulianDays::days_of_years_closed))]
 pub(crate) fn days_of_years(years: u32) -> u32
-    requires { years ≤ 1_999_999 }
+    requires { years ≤ years_in_range }
     ensures value { result ≡ days_of_years years }
     ensures max { result < 2 ^ 30 }
 {

@@ -5,7 +5,7 @@ use Rattle.std.specs.Option.{option_zip}
 use Rattle.std.specs.Fmt.{signed_decimal}
 use Rattle.std.specs.Str.{all_ascii_digits}
 use Rattle.std.specs.Str.Parse.{digits_value}
-use Rattle.std.proofs.lemmas.Bool.{and_from, ne_eqb}
+use Rattle.std.proofs.lemmas.Bool.{and_from, cond-true, ne_eqb}
 use Rattle.std.proofs.lemmas.Bool.Decides.{nat_tests}
 use Rattle.std.proofs.lemmas.Fmt.{digits_decimal, digits_value-decimal, decimal_nonempty, length-decimal-le, first_decimal}
 use Rattle.std.proofs.lemmas.List.{take-append-le, drop-append-le, take_all, drop_all, length-append}
@@ -23,7 +23,7 @@ use Rattle.cal_recurrence.specs.Spelled.{IsCount, IsIndex, IsByDay}
 use Rattle.cal_recurrence.specs.Words.{is_number, number_of, from_one_to, count_of, short_count_of, index_of, frequency_of, weekday_of, month_of, month_day_of, by_day_of}
 use Rattle.cal_recurrence.specs.Written.{frequency_text, weekday_text, month_text, month_day_text, by_day_text}
 use Rattle.cal_recurrence.proofs.Avoided.{avoids, avoids-append, avoids-cons}
-use Rattle.cal_recurrence.proofs.Numbers.{digits, numeral_is, guard_yes}
+use Rattle.cal_recurrence.proofs.Numbers.{digits, numeral_is}
 use Rattle.cal_recurrence.proofs.ReadValues.{IsWord}
 
 -- ---- digits
@@ -42,7 +42,7 @@ decimal-avoids byte n h small = digits-avoid byte (decimal n) h (digits_decimal 
 pub number-back : (word : List ℕ) (n : ℕ) → all_ascii_digits word ≡ true → 0 < length word → digits_value 10 word ≡ n → n < 4294967296
     → number_of word ≡ Some n
 number-back word n all some value small =
-    guard_yes (is_number word) (digits_value 10 word) (numeral_is word (all, some, omega (arith, value, small))) ∙ ap Some value
+    cond-true (is_number word) (Some (digits_value 10 word)) None (numeral_is word (all, some, omega (arith, value, small))) ∙ ap Some value
 
 decimal-number : (n : ℕ) → n < 2 ^ 32 → number_of (decimal n) ≡ Some n
 decimal-number n small =
@@ -51,7 +51,7 @@ decimal-number n small =
 
 in-range : (most n : ℕ) → 1 ≤ n → n ≤ most → from_one_to most n ≡ Some n
 in-range most n low high =
-    guard_yes (nat_le 1 n && nat_le n most) n (and_from (nat_le 1 n) (nat_le n most) (grind (arith, nat_tests, low)) (grind (arith, nat_tests, high)))
+    cond-true (nat_le 1 n && nat_le n most) (Some n) None (and_from (nat_le 1 n) (nat_le n most) (grind (arith, nat_tests, low)) (grind (arith, nat_tests, high)))
 
 count-back : (most n : ℕ) → 1 ≤ n → n ≤ most → n < 2 ^ 32 → count_of most (decimal n) ≡ Some n
 count-back most n low high small = ap (option_and_then (from_one_to most)) (decimal-number n small) ∙ in-range most n low high

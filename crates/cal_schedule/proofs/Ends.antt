@@ -5,17 +5,14 @@ use Rattle.std.proofs.lemmas.Bool.Decides.{nat_tests}
 use Rattle.std.proofs.lemmas.Int.{ints}
 use Rattle.cal_time.specs.Date.{year_at, month_at, day_of_month_at, weekday_at, IsDate, HasCalendarDate}
 use Rattle.cal_time.specs.Days.{day_of_month_at-range}
+-- A month has 28 days or more.
+pub use Rattle.cal_time.specs.Days.{days_in_month-least}
 use Rattle.cal_time.specs.IsoWeekDate.{iso_year_at, iso_week_at, thursday_of, weekday_count, HasIsoWeekDate}
 use Rattle.cal_time.specs.Laws.{weekday_at-is}
 use Rattle.cal_time.specs.Lengths.{days_in_month}
 use Rattle.cal_time.specs.Components.{day_of_month_at-rises}
 use Rattle.cal_schedule.specs.Months.{month_number_at}
 use Rattle.cal_schedule.proofs.MonthMoves.{month_numbers-rise, same_month, days_apart, number_from}
-
--- A month has 28 days or more.
-pub days_in_month-least : (y : ℤ) (m : ℕ) → 28 ≤ days_in_month y m
-unfolding days_in_month
-days_in_month-least y m = grind (arith, nat_tests)
 
 pub ruleset lengths = (days_in_month-least)
 

@@ -4,11 +4,11 @@ use Rattle.std.proofs.lemmas.Bool.{cases_lt}
 use Rattle.std.proofs.lemmas.Int.{ints}
 use Rattle.std.specs.Prelude.{Option, Some, None, IfSome, IfNone}
 use Rattle.cal_time.specs.Lengths.{days_in_month}
-use Rattle.cal_time.specs.Date.{year_at, month_at, day_of_month_at, IsDate, IsYear, HasCalendarDate}
+use Rattle.cal_time.specs.Date.{first_year, year_at, month_at, day_of_month_at, IsDate, IsYear, HasCalendarDate}
 use Rattle.cal_time.specs.CalendarDay.{calendar_day}
 use Rattle.cal_time.specs.Days.{month_at-range, day_of_month_at-range, year_at-range, days-follow, day_with}
 use Rattle.cal_time.specs.Components.{day_of_month_at-rises, months-rise}
-use Rattle.cal_schedule.specs.Months.{month_number_at, IsMonthNumber, IsMonthsLater}
+use Rattle.cal_schedule.specs.Months.{month_number_at, HasMonthIndex, IsMonthNumber, IsMonthsLater}
 
 -- the numbers of months rise
 pub month_numbers-rise : (m n : ℕ) → m ≤ n → month_number_at m ≤ℤ month_number_at n
@@ -74,8 +74,8 @@ pub number_from : (n : ℕ) (y : ℤ) (m d : ℕ) → HasCalendarDate y m d n �
 number_from n y m d e = ap (λ day. day.year *ℤ pos 12 +ℤ pos day.month -ℤ pos 1) e
 
 -- and its index among the months of the range
-pub has_index : (n : ℕ) (y : ℤ) (m d p : ℕ) → HasCalendarDate y m d n → (y *ℤ pos 12 +ℤ pos m) ≡ pos p -ℤ pos 11999987
-    → pos p ≡ month_number_at n +ℤ pos 11999988
+pub has_index : (n : ℕ) (y : ℤ) (m d p : ℕ) → HasCalendarDate y m d n → y *ℤ pos 12 +ℤ pos m ≡ pos (p + 1) +ℤ first_year *ℤ pos 12
+    → HasMonthIndex p n
 has_index n y m d p has e = omega (arith, ints, number_from n y m d has)
 
 -- the month of a day of the range is one of the range

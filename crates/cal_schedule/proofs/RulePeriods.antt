@@ -1,11 +1,10 @@
 -- After 400 years the days of a rule come back.
-use Rattle.std.proofs.Common.{◌≡◌, ℕ, zero, suc, ◌+◌, ◌-◌, ◌*◌, ◌/◌, ◌%◌, ◌≤◌, refl, sym, ap, ◌∙◌, arith, ℤ, pos, ◌+ℤ◌, ◌-ℤ◌, ◌*ℤ◌, ◌≤ℤ◌, if◌then◌else◌, List, Option, Some, None, true, false, Bool, ◌&&◌}
+use Rattle.std.proofs.Common.{◌≡◌, ℕ, zero, suc, ◌+◌, ◌-◌, ◌*◌, ◌/◌, ◌%◌, ◌≤◌, refl, sym, ap, ◌∙◌, arith, ℤ, pos, ◌+ℤ◌, ◌-ℤ◌, ◌*ℤ◌, ◌≤ℤ◌, List, Option, Some, None, true, false, Bool, ◌&&◌}
 use Rattle.std.proofs.lemmas.Int.{ints}
 use Rattle.std.proofs.lemmas.Bool.{and_parts, and_from, eqb-true, eq-eqb, leb-true, le-leb}
 use Rattle.std.proofs.Math.Nat.{add-mul-mod_self_right}
-use Rattle.cal_time.specs.CalendarDay.{calendar_day, is_first_of_january}
-use Rattle.cal_time.specs.Date.{first_year, day_at, year_at, month_at, day_of_month_at, ordinal_at, weekday_at}
-use Rattle.cal_time.specs.Days.{day_at-first, day_at-period, days_in_month-period, month_at-range, weekday_at-period}
+use Rattle.cal_time.specs.Date.{first_year, year_at, month_at, day_of_month_at, ordinal_at, weekday_at}
+use Rattle.cal_time.specs.Days.{day_at-first, day_at-period, days_in_month-period, month_at-range, ordinal_at-period, weekday_at-period}
 use Rattle.cal_time.specs.Lengths.{days_in_month, days_in_year}
 use Rattle.cal_time.specs.Components.{year_at-rises}
 use Rattle.cal_time.specs.Weekday.{index}
@@ -28,25 +27,6 @@ pub record IsAlike (m n : ℕ) : Type 0 where
   pub weekday : weekday_at m ≡ weekday_at n
   pub ordinal : ordinal_at m ≡ ordinal_at n
   pub days : days_in_year (year_at m) ≡ days_in_year (year_at n)
-
-ordinal_at-suc : (n : ℕ) → ordinal_at (suc n) ≡ (if is_first_of_january (day_at (suc n)) then 1 else ordinal_at n + 1)
-unfolding ordinal_at
-ordinal_at-suc n = refl
-
-ordinal_at-zero : ordinal_at 0 ≡ 1
-unfolding ordinal_at
-ordinal_at-zero = refl
-
-ordinal_at-period : (n : ℕ) → ordinal_at (n + 146097) ≡ ordinal_at n
-ordinal_at-period zero =
-    let first : day_at (suc 146096) ≡ calendar_day (year_at 0 +ℤ pos 400) (month_at 0) (day_of_month_at 0) = day_at-period 0 in
-    let january : calendar_day (year_at 0 +ℤ pos 400) (month_at 0) (day_of_month_at 0) ≡ calendar_day (first_year +ℤ pos 400) 1 1 = ap (λ d. calendar_day (d.year +ℤ pos 400) d.month d.day) day_at-first in
-    ordinal_at-suc 146096 ∙ ap (λ d. if is_first_of_january d then 1 else ordinal_at 146096 + 1) (first ∙ january) ∙ sym ordinal_at-zero
-ordinal_at-period (suc n) =
-    let e : suc n + 146097 ≡ suc (n + 146097) = omega arith in
-    let here : day_at (suc (n + 146097)) ≡ calendar_day (year_at (suc n) +ℤ pos 400) (month_at (suc n)) (day_of_month_at (suc n)) = ap day_at (sym e) ∙ day_at-period (suc n) in
-    ap ordinal_at e ∙ ordinal_at-suc (n + 146097) ∙ ap (λ d. if is_first_of_january d then 1 else ordinal_at (n + 146097) + 1) here
-    ∙ ap (λ o. if is_first_of_january (day_at (suc n)) then 1 else o + 1) (ordinal_at-period n) ∙ sym (ordinal_at-suc n)
 
 days_in_year-period : (y : ℤ) → days_in_year (y +ℤ pos 400) ≡ days_in_year y
 days_in_year-period y = grind (arith, ints)

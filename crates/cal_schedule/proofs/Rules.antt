@@ -1,5 +1,5 @@
 -- The next day of a rule: the days that are skipped, and the end of the search.
-use Rattle.std.proofs.Common.{◌≡◌, ◌≢◌, refl, ℕ, zero, suc, ◌+◌, ◌-◌, ◌*◌, ◌/◌, ◌%◌, ◌<◌, ◌≤◌, min, sym, ap, ◌∙◌, arith, pos, ◌+ℤ◌, Option, Some, None, true, false, inl, inr, [], ◌∷◌, filter, slice_get, length, take}
+use Rattle.std.proofs.Common.{◌≡◌, ◌≢◌, refl, ℕ, zero, suc, ◌+◌, ◌-◌, ◌*◌, ◌/◌, ◌%◌, ◌<◌, ◌≤◌, min, sym, ap, ◌∙◌, arith, Option, Some, None, true, false, inl, inr, [], ◌∷◌, filter, slice_get, take}
 use Rattle.std.specs.Prelude.{MatchOption, SomeIff, IfSome, Bool, List, ◌==◌, ◌&&◌, if◌then◌else◌}
 use Rattle.std.specs.List.{list_any}
 use Rattle.std.proofs.lemmas.Int.{ints}
@@ -9,6 +9,7 @@ use Rattle.std.proofs.lemmas.List.Sums.{count_by-le-length, length-filter}
 use Rattle.std.proofs.lemmas.Nat.{div-add-mod'}
 use Rattle.std.proofs.Math.Nat.{mul-le-mul_left}
 use Rattle.cal_time.specs.Date.{last_day, IsDate, year_at, month_at, day_of_month_at, weekday_at}
+use Rattle.cal_time.specs.DateLimits.{months_in_range}
 use Rattle.cal_time.specs.Days.{day_of_month_at-range, month_at-range}
 use Rattle.cal_time.specs.Filters.{IsFirstDay, filter-first, filter-none, first_matching, none_matching}
 use Rattle.cal_time.specs.Laws.{weekday_at-is}
@@ -17,11 +18,12 @@ use Rattle.cal_time.specs.Occurrences.{days_from}
 use Rattle.cal_time.specs.Components.{day_of_month_at-rises}
 use Rattle.cal_time.specs.Weekday.{index}
 use Rattle.cal_time.specs.declared.Weekday.{Weekday}
+use Rattle.cal_time.proofs.DateIters.{length-days_from}
 use Rattle.cal_schedule.specs.declared.rule.rule.ByDay.{ByDay}
 use Rattle.cal_schedule.specs.declared.rule.rule.ByDay.TheVariants.{Every, Nth}
 use Rattle.cal_schedule.specs.declared.rule.rule.Frequency.TheVariants.{Monthly, Yearly}
 use Rattle.cal_schedule.specs.declared.rule.rule.Rule.{Rule}
-use Rattle.cal_schedule.specs.Months.{month_number_at}
+use Rattle.cal_schedule.specs.Months.{HasMonthIndex}
 use Rattle.cal_schedule.specs.Rule.{allows, occurrences_after, occurrences_left, occurrences, is_empty, matches_months, is_month_day, is_occurrence, matches_days, matches_by_day, is_yearly, interval_or_1, period_index, periods_past}
 use Rattle.cal_schedule.specs.RuleSearch.{may_fall_on, by_day_weekday, IsFirstOfPeriod, IsNextFrom, IsSkip, NoDayBetween}
 use Rattle.cal_schedule.proofs.MonthMoves.{IsMonthNumber-date, same_month}
@@ -31,7 +33,7 @@ is_off : (rule : Rule) (n : ℕ) → ¬ (is_occurrence rule n ≡ true) → is_o
 is_off rule n h = false_from_ne_true (is_occurrence rule n) h
 
 -- the first day of a month, and of a year
-pub first_day-month : (w : Weekday) (p x : ℕ) → pos p ≡ month_number_at x +ℤ pos 11999988 → IsDate x
+pub first_day-month : (w : Weekday) (p x : ℕ) → HasMonthIndex p x → IsDate x
     → day_of_month_at x ≡ min 1 (days_in_month (year_at x) (month_at x)) → IsFirstOfPeriod Monthly w p (Some x)
 first_day-month w p x e h day =
     let at : period_index Monthly w x ≡ p = omega (arith, ints, pos-months w x) in (
@@ -46,7 +48,7 @@ first_day-month w p x e h day =
           ],
     )
 
-pub no_month : (w : Weekday) (p : ℕ) → 23999988 ≤ p → IsFirstOfPeriod Monthly w p None
+pub no_month : (w : Weekday) (p : ℕ) → months_in_range ≤ p → IsFirstOfPeriod Monthly w p None
 no_month w p h = λ k date. omega (arith, ints, pos-months w k, (IsMonthNumber-date k date).not_after)
 
 pub first_of_year : (w : Weekday) (t : ℕ) (r : Option ℕ) → IsFirstOfPeriod Monthly w (12 * t) r → IsFirstOfPeriod Yearly w t r
@@ -223,7 +225,7 @@ pub no_next : (rule : Rule) (n : ℕ) → last_day < n + 1 → None ≡ slice_ge
 no_next rule n h = ap (λ l. slice_get l 0) (sym (filter-none (is_occurrence rule) (n + 1) (last_day - n) (λ k low high. absurd (omega arith))))
 
 -- the days that are left, from the first that comes after a day
-left_of : (rule : Rule) (n x : ℕ) → IsFirstDay (is_occurrence rule) (n + 1) (last_day - n) x → occurrences_after rule n ≡ x ∷ occurrences_after rule x
+pub left_of : (rule : Rule) (n x : ℕ) → IsFirstDay (is_occurrence rule) (n + 1) (last_day - n) x → occurrences_after rule n ≡ x ∷ occurrences_after rule x
 left_of rule n x h =
     let count : n + 1 + (last_day - n) - (x + 1) ≡ last_day - x = omega (arith, h.not_before, h.within) in
     filter-first (is_occurrence rule) (n + 1) (last_day - n) x h ∙ ap (λ c. x ∷ filter (is_occurrence rule) (days_from (x + 1) c)) count
@@ -247,11 +249,6 @@ left_from_start rule (Some x) h =
 
 -- The range has fewer days than an iterator may return, so the first `u32.MAX` days are all of
 -- them.
-length-days_from : (n count : ℕ) → length (days_from n count) ≡ count
-unfolding days_from
-length-days_from n zero = refl
-length-days_from n (suc count) = ap suc (length-days_from (n + 1) count)
-
 pub all_of_them : (rule : Rule) → take 4294967295 (occurrences rule) ≡ occurrences rule
 all_of_them rule =
     let days = days_from 0 (last_day + 1) in

@@ -96,7 +96,7 @@ pub record HasLater (a : ℕ) (m : ℤ) : Type 0 where
 
 pub has_later : (a : ℕ) (m : ℤ) → IsMonthNumber (month_number_at a +ℤ m) → HasLater a m
 has_later a m h =
-    let p = unsigned_abs ((month_number_at a +ℤ m) +ℤ pos 11999988) in
+    let p = unsigned_abs ((month_number_at a +ℤ m) -ℤ first_year *ℤ pos 12) in
     let y = first_year +ℤ pos (p / 12) in
     let i = p % 12 + 1 in
     let d = min (day_of_month_at a) (days_in_month y i) in

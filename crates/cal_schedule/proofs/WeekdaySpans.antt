@@ -1,58 +1,18 @@
 -- How often a weekday comes in the days of a month or of a year, which are a span of days.
-use Rattle.std.proofs.Common.{◌≡◌, ℕ, zero, suc, ◌+◌, ◌-◌, ◌/◌, ◌%◌, ◌<◌, ◌≤◌, ◌==◌, refl, sym, ap, ◌∙◌, add-zero, arith, ℤ, Bool, true, false, if◌then◌else◌}
+use Rattle.std.proofs.Common.{◌≡◌, ℕ, ◌+◌, ◌-◌, ◌/◌, ◌%◌, ◌<◌, ◌≤◌, ◌==◌, refl, sym, ap, ◌∙◌, arith, ℤ, Bool, true}
 use Rattle.std.proofs.lemmas.Bool.{and_parts, eq-eqb, eqb-true, false_from_ne_true}
-use Rattle.std.proofs.lemmas.Bool.Decides.{nat_tests, Decides-int_eq}
+use Rattle.std.proofs.lemmas.Bool.Decides.{Decides-int_eq}
 use Rattle.std.proofs.lemmas.Int.{ints}
-use Rattle.cal_time.specs.CalendarDay.{calendar_day}
 use Rattle.cal_time.specs.Date.{last_day, year_at, month_at, IsDate, HasCalendarDate}
-use Rattle.cal_time.specs.Days.{days-follow, month_at-range}
+use Rattle.cal_time.specs.Days.{month_at-range}
 use Rattle.cal_time.specs.IsoWeekDate.{count_before, is_weekday_of_year}
 use Rattle.cal_time.specs.Laws.{weekday_at-is}
 use Rattle.cal_time.specs.Lengths.{days_in_month}
+use Rattle.cal_time.proofs.Weekdays.{IsSpan, count_before-same, count_in_span}
 use Rattle.cal_schedule.specs.Ranks.{length-from}
 use Rattle.cal_schedule.specs.Weekdays.{count_from, is_weekday_in_month}
-use Rattle.cal_schedule.proofs.Ends.{days_in_month-least, first-least, last-greatest}
+use Rattle.cal_schedule.proofs.Ends.{first-least, last-greatest}
 use Rattle.cal_schedule.proofs.MonthMoves.{month_numbers-rise, number_from}
-
--- the days that pass the test are those with the weekday among the days from the first to the last
-pub record IsSpan (test : ℕ → Bool) (w first last : ℕ) : Type 0 where
-  pub before : (k : ℕ) → k < first → test k ≡ false
-  pub within : (k : ℕ) → first ≤ k → k ≤ last → test k ≡ (k % 7 == w)
-  pub past : (k : ℕ) → last < k → test k ≡ false
-
--- counts
-count_before-suc : (test : ℕ → Bool) (n : ℕ) → count_before test (suc n) ≡ count_before test n + (if test n then 1 else 0)
-unfolding count_before
-count_before-suc test n = refl
-
-count_before-none : (test : ℕ → Bool) (n : ℕ) → ((k : ℕ) → k < n → test k ≡ false) → count_before test n ≡ 0
-unfolding count_before
-count_before-none test zero none = refl
-count_before-none test (suc n) none =
-    let before : count_before test n ≡ 0 = count_before-none test n (λ k h. none k (omega arith)) in
-    rw (none n (omega arith)) (omega arith)
-
-count_before-same : (test : ℕ → Bool) (n j : ℕ) → ((k : ℕ) → n ≤ k → test k ≡ false) → count_before test (n + j) ≡ count_before test n
-count_before-same test n zero none = simp add-zero
-count_before-same test n (suc j) none =
-    let sums : n + suc j ≡ suc (n + j) = omega arith in
-    let step : count_before test (suc (n + j)) ≡ count_before test (n + j) + 0 = count_before-suc test (n + j) ∙ rw (none (n + j) (omega arith)) refl in
-    ap (count_before test) sums ∙ step ∙ omega (arith, count_before-same test n j none)
-
-one_more : (c' c d j w : ℕ) → w < 7 → c' ≡ c + (if (d + j) % 7 == w then 1 else 0) → c + (d + 6 - w) / 7 ≡ (d + j + 6 - w) / 7 → c' + (d + 6 - w) / 7 ≡ (d + suc j + 6 - w) / 7
-one_more c' c d j w below e f = grind (arith, nat_tests)
-
--- how many of the first days of the span have the weekday
-pub count_in_span : (test : ℕ → Bool) (w f l j : ℕ) → IsSpan test w f l → w < 7 → f + j ≤ l + 1 → count_before test (f + j) + (f + 6 - w) / 7 ≡ (f + j + 6 - w) / 7
-count_in_span test w f l zero span below within =
-    let none : count_before test f ≡ 0 = count_before-none test f span.before in
-    simp add-zero (omega arith)
-count_in_span test w f l (suc j) span below within =
-    let before : count_before test (f + j) + (f + 6 - w) / 7 ≡ (f + j + 6 - w) / 7 = count_in_span test w f l j span below (omega arith) in
-    let step : count_before test (suc (f + j)) ≡ count_before test (f + j) + (if (f + j) % 7 == w then 1 else 0) =
-    count_before-suc test (f + j) ∙ rw (span.within (f + j) (omega arith) (omega arith)) refl in
-    let sums : f + suc j ≡ suc (f + j) = omega arith in
-    ap (λ n. count_before test n + (f + 6 - w) / 7) sums ∙ one_more (count_before test (suc (f + j))) (count_before test (f + j)) f j w below step before
 
 -- a day of the span: the o-th one, with o days up to it and as many from it on as are left
 pub record IsPlaced (f l o n : ℕ) : Type 0 where
@@ -139,12 +99,6 @@ in_year w y k h = rw ((Decides-int_eq (year_at k) y).1 h.year, weekday_at-is k) 
 
 pub month_span : (w : ℕ) (y : ℤ) (m f l : ℕ) → HasCalendarDate y m 1 f → HasCalendarDate y m (days_in_month y m) l → IsSpan (is_weekday_in_month w y m) w f l
 month_span w y m f l first last = span_of (is_weekday_in_month w y m) w y m m f l first last (of_month w y m) (in_month w y m)
-
-pub last_after : (y : ℤ) (m f : ℕ) → HasCalendarDate y m 1 f → HasCalendarDate y m (days_in_month y m) (f + (days_in_month y m - 1))
-last_after y m f first =
-    let some = days_in_month-least y m in
-    let same : days_in_month y m - 1 + 1 ≡ days_in_month y m = omega arith in
-    days-follow y m f (days_in_month y m - 1) first (omega arith) ∙ ap (calendar_day y m) same
 
 pub year_span : (w : ℕ) (y : ℤ) (f l : ℕ) → HasCalendarDate y 1 1 f → HasCalendarDate y 12 (days_in_month y 12) l → IsSpan (is_weekday_of_year w y) w f l
 year_span w y f l first last = span_of (is_weekday_of_year w y) w y 1 12 f l first last (of_year w y) (in_year w y)

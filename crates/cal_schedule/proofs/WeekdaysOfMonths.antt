@@ -6,15 +6,16 @@ use Rattle.std.proofs.lemmas.Bool.Decides.{nat_tests}
 use Rattle.std.proofs.lemmas.Int.{ints}
 use Rattle.cal_time.specs.CalendarDay.{calendar_day}
 use Rattle.cal_time.specs.Date.{last_day, year_at, month_at, day_of_month_at, weekday_at, IsDate, IsYear, HasCalendarDate}
-use Rattle.cal_time.specs.Days.{day_of_month_at-range, year_at-range}
+use Rattle.cal_time.specs.Days.{day_of_month_at-range, last_of, year_at-range}
 use Rattle.cal_time.specs.IsoWeekDate.{count_before}
 use Rattle.cal_time.specs.Laws.{weekday_at-is, kth-next_occurrences, kth-prev_occurrences}
 use Rattle.cal_time.specs.Lengths.{days_in_month}
 use Rattle.cal_time.specs.Occurrences.{days_from, days_back_from, has_weekday, next_occurrences, prev_occurrences, kth}
+use Rattle.cal_time.proofs.Weekdays.{count_in_span}
 use Rattle.cal_schedule.specs.Months.{month_number_at}
 use Rattle.cal_schedule.specs.Weekdays.{is_weekday_in_month, IsWeekdayInMonth, IsNthWeekday, IsLastWeekday, occurrences_from, occurrences_upto}
 use Rattle.cal_schedule.proofs.MonthMoves.{days_apart, first_before, number_from}
-use Rattle.cal_schedule.proofs.WeekdaySpans.{count_in_span, last_after, month_span}
+use Rattle.cal_schedule.proofs.WeekdaySpans.{month_span}
 
 -- a day of the range has a year of the range
 pub year_of : (y : ℤ) (m w k : ℕ) → IsDate k → IsWeekdayInMonth y m w k → IsYear y
@@ -31,7 +32,7 @@ counted y m f w d n e h below =
     let most : day_of_month_at n ≤ days_in_month (year_at n) (month_at n) = (day_of_month_at-range n).1 in
     let length : days_in_month (year_at n) (month_at n) ≡ days_in_month y m =
     ap (λ z. days_in_month z (month_at n)) (ap (λ c. c.year) h) ∙ ap (days_in_month y) (ap (λ c. c.month) h) in
-    let span = month_span w y m f _ e (last_after y m f e) in
+    let span = month_span w y m f _ e (last_of y m f e) in
     let count = count_in_span (is_weekday_in_month w y m) w f _ d span below (omega arith) in
     let numbers : f + d + 6 - w ≡ n + 7 - w = omega arith in
     (sums, ap (λ k. count_before (is_weekday_in_month w y m) k + (f + 6 - w) / 7) (sym sums) ∙ count ∙ ap (λ k. k / 7) numbers)

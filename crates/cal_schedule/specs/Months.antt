@@ -7,6 +7,10 @@ use Rattle.cal_time.specs.Lengths.{days_in_month}
 abbrev pub month_number_at : ℕ → ℤ
 month_number_at n = year_at n *ℤ pos 12 +ℤ pos (month_at n) -ℤ pos 1
 
+-- Day n is in the month with this index, from 0 for January of the first year.
+abbrev pub HasMonthIndex : ℕ → ℕ → Type 0
+HasMonthIndex index n = pos index ≡ month_number_at n -ℤ first_year *ℤ pos 12
+
 -- z is the number of a month of the range.
 pub record IsMonthNumber (z : ℤ) : Type 0 where
   pub not_before : (first_year *ℤ pos 12) ≤ℤ z

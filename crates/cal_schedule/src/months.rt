@@ -1,21 +1,22 @@
 //! Arithmetic with months and years.
-ghost use Rattle.std.specs.Prelude.{◌≡◌, ℕ, ◌+◌, ◌<◌, ◌≤◌, ◌^◌, min, pos, neg_ℤ, ◌+ℤ◌, ◌-ℤ◌, ◌*ℤ◌, ◌<ℤ◌, ◌≤ℤ◌, Some, IfSome, IfNone};
+ghost use Rattle.std.specs.Prelude.{◌≡◌, ℕ, ◌+◌, ◌<◌, ◌≤◌, ◌^◌, min, pos, neg_ℤ, ◌+ℤ◌, ◌*ℤ◌, ◌<ℤ◌, ◌≤ℤ◌, Some, IfSome, IfNone};
 ghost use Rattle.cal_time.specs.Date.{first_year, last_year, last_day, IsDate, IsYear, year_at, month_at, day_of_month_at};
+ghost use Rattle.cal_time.specs.DateLimits.{months_in_range};
 ghost use Rattle.cal_time.specs.Lengths.{days_in_month};
-ghost use Rattle.cal_schedule.specs.Months.{month_number_at, IsMonthNumber, IsMonthsLater};
+ghost use Rattle.cal_schedule.specs.Months.{month_number_at, HasMonthIndex, IsMonthNumber, IsMonthsLater};
 
-use cal_time::Date;
-use cal_time::limits::{MAX_YEAR, MIN_YEAR};
+use cal_time::limits::MIN_YEAR;
+use cal_time::{Date, limits};
 
 /// The number of months in the range.
-pub(crate) const MONTHS: i64 = 12 * (MAX_YEAR - MIN_YEAR + 1) as i64;
+const MONTHS: i64 = limits::MONTHS as i64;
 
 /// Returns the index of the month, from 0 for January of -999999, and the day of the month.
 /// Neither this call nor [`clamped_date_in_month`] has a table or a branch, so a loop takes several
 /// dates at a time.
 pub fn month_number_and_day(date: Date) -> (u32, u8)
-    ensures month { pos result.0 ≡ month_number_at date +ℤ pos 11_999_988 }
-    ensures max { result.0 < 23_999_988 }
+    ensures month { HasMonthIndex result.0 date }
+    ensures max { result.0 < months_in_range }
     ensures day { result.1 ≡ day_of_month_at date }
     ensures first { 1 ≤ result.1 }
     ensures in_range { IsDate date }
@@ -26,8 +27,8 @@ pub fn month_number_and_day(date: Date) -> (u32, u8)
 
 /// Returns the year and the month, from 0 for January, of the month with this index.
 fn year_and_month(index: u32) -> (i32, u8)
-    requires { index < 23_999_988 }
-    ensures value { result.0 *ℤ pos 12 +ℤ pos result.1 ≡ pos index -ℤ pos 11_999_988 }
+    requires { index < months_in_range }
+    ensures value { result.0 *ℤ pos 12 +ℤ pos result.1 ≡ pos index +ℤ first_year *ℤ pos 12 }
     ensures month { result.1 < 12 }
     ensures year { IsYear result.0 }
 {
@@ -37,9 +38,9 @@ fn year_and_month(index: u32) -> (i32, u8)
 /// Returns the date in a month, by its index, with this day, or the last day of the month if it is
 /// shorter. The index is below 23999988, and the day 1 or more.
 pub fn clamped_date_in_month(index: u32, day: u8) -> Date
-    requires month { index < 23_999_988 }
+    requires month { index < months_in_range }
     requires day { 1 ≤ day }
-    ensures month { pos index ≡ month_number_at result +ℤ pos 11_999_988 }
+    ensures month { HasMonthIndex index result }
     ensures day { day_of_month_at result
         ≡ min day (days_in_month (year_at result) (month_at result)) }
     ensures range { IsDate result }

@@ -1,6 +1,7 @@
 //! Fractions of a year for interest.
-ghost use Rattle.std.specs.Prelude.{◌≡◌, ◌<◌, ◌^◌, pos, neg_ℤ, ◌+ℤ◌, ◌*ℤ◌, ◌≤ℤ◌};
-ghost use Rattle.cal_time.specs.Date.{year_at, IsDate};
+ghost use Rattle.std.specs.Prelude.{◌≡◌, ◌<◌, ◌^◌, pos, neg_ℤ, ◌+ℤ◌, ◌-ℤ◌, ◌*ℤ◌, ◌≤ℤ◌};
+ghost use Rattle.cal_time.specs.Date.{first_year, year_at, IsDate};
+ghost use Rattle.cal_time.specs.DateLimits.{years_in_range};
 ghost use Rattle.cal_time.specs.IsoWeekDate.{count_before};
 ghost use Rattle.cal_schedule.specs.YearFraction.{actual_days, bond_end, day_count_numerator, count_between, in_leap_year, in_common_year, thirty_days, day_count_denominator};
 
@@ -60,8 +61,8 @@ fn bond_end(first: u8, last: u8) -> u8
 
 /// Returns the number of years of the range before the year of a date.
 fn years_before(date: Date) -> u32
-    ensures value { pos result ≡ year_at date +ℤ pos 999_999 }
-    ensures max { result < 2_000_000 }
+    ensures value { pos result ≡ year_at date -ℤ first_year }
+    ensures max { result < years_in_range }
     ensures in_range { IsDate date }
 {
     (date.year() - MIN_YEAR) as u32

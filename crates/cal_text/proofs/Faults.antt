@@ -1,7 +1,7 @@
 -- The errors of parsers: from a clause for each component to one clause for all, and from a form to
 -- its text.
 use Rattle.std.proofs.Common.{◌≡◌, ◌⊎◌, ◌↔◌, Some, None, List, ℕ, Result, Ok, Err, IfErr, sym, ap, subst, ◌∙◌, inl, inr}
-use Rattle.std.proofs.lemmas.Option.{none-some}
+use Rattle.std.proofs.lemmas.Option.{none-some, same_Some}
 use Rattle.cal_time.specs.ComponentError.{FailsWith}
 use Rattle.cal_time.specs.declared.error.ComponentRange.{ComponentRange}
 use Rattle.cal_text.specs.Parsing.{HasError, component_of}
@@ -43,9 +43,6 @@ only : {F : Type 0} (Has : List ℕ → F → Type 0) (Of : F → ComponentRange
     → IsOnly Has text form → HasError Has Of text why → Of form why
 only Has Of text form why every h = subst (λ f. Of f why) (sym (one form h.0 (every h.0 h.1))) h.2
 
-one_some : {A : Type 0} (a b : A) → Some a ≡ Some b → a ≡ b
-one_some a b e = cc
-
 pub not_refused : {F : Type 0} (Has : List ℕ → F → Type 0) (Of : F → ComponentRange → Type 0) (text : List ℕ) (form : F)
     → IsOnly Has text form → ((why : ComponentRange) → ⊥ ↔ Of form why) → (why : ComponentRange) → ⊥ ↔ HasError Has Of text why
 not_refused Has Of text form every component why = (λ e. absurd e, λ h. (component why).1 (only Has Of text form why every h))
@@ -54,7 +51,7 @@ pub refused_for : {F : Type 0} (Has : List ℕ → F → Type 0) (Of : F → Com
     → IsOnly Has text form → Has text form → ((why : ComponentRange) → (found ≡ why) ↔ Of form why)
     → (why : ComponentRange) → (Some found ≡ Some why) ↔ HasError Has Of text why
 refused_for Has Of text form found every has component why =
-    (λ e. (form, has, (component why).0 (one_some found why e)), λ h. ap Some ((component why).1 (only Has Of text form why every h)))
+    (λ e. (form, has, (component why).0 (same_Some found why e)), λ h. ap Some ((component why).1 (only Has Of text form why every h)))
 
 pub no_form : {F : Type 0} (Has : List ℕ → F → Type 0) (Of : F → ComponentRange → Type 0) (text : List ℕ) (e : ParseError) → component_of e ≡ None
     → (position : ℕ) → ((form : F) → Has text form → ◌≡◌ {A = Result F ℕ} (Err position) (Ok form))

@@ -7,7 +7,7 @@ mod MomentReads
 mod PrintedDecimals
 mod PrintedMoments
 mod UnixReads
-mod Results
+pub mod Results
 mod Shapes
 pub mod ReadDigits
 pub mod YearDigits

@@ -1,5 +1,5 @@
 -- Laws for callers: the components of a day, which are unique, and their order.
-use Rattle.std.proofs.Common.{◌≡◌, ℕ, ◌+◌, ◌<◌, ◌≤◌, inl, inr, refl, sym, ap, ◌∙◌, arith, ℤ, pos, ◌+ℤ◌, ◌*ℤ◌, ◌<ℤ◌, ◌≤ℤ◌, suc, [], ◌∷◌}
+use Rattle.std.proofs.Common.{◌≡◌, ℕ, ◌+◌, ◌<◌, ◌≤◌, inl, inr, refl, sym, ap, ◌∙◌, arith, ℤ, pos, ◌+ℤ◌, ◌*ℤ◌, ◌<ℤ◌, ◌≤ℤ◌, [], ◌∷◌}
 use Rattle.std.proofs.lemmas.Bool.{cases_lt}
 use Rattle.std.proofs.lemmas.Int.{ints}
 use Rattle.cal_units.specs.declared.month.Month.{Month}
@@ -9,14 +9,16 @@ use Rattle.cal_units.specs.Month as month
 use Rattle.cal_units.specs.MonthCycle.{month_of_index-index}
 use Rattle.cal_units.specs.Weekday as weekday
 use Rattle.cal_units.specs.WeekdayCycle.{weekday_of_index-index}
-use Rattle.cal_date.specs.CountLaws.{days_of_years, days_of_years-suc, years_before, days_before}
+use Rattle.cal_date.specs.CountLaws.{days_before}
 use Rattle.cal_date.specs.Date.{first_year, year_at, month_at, day_of_month_at, ordinal_at, weekday_at, HasCalendarDate}
 use Rattle.cal_date.specs.IsoWeekDate.{iso_year_at, iso_week_at, HasIsoWeekDate}
 use Rattle.cal_date.specs.Order.{IsBefore, ordinal_date_at, calendar_date_at, iso_week_date_at}
 use Rattle.cal_date.proofs.Dates.{stands}
 use Rattle.cal_date.proofs.IsoWeeks.{iso_week_dates-rise}
+use Rattle.cal_date.proofs.Neighbours.{same_year}
 use Rattle.cal_date.proofs.Order.{in_order}
 use Rattle.cal_date.proofs.Rising.{Rises-calendar_date, Rises-ordinal_date}
+use Rattle.cal_date.proofs.Years.{days_before-next}
 use Rattle.cal_time.specs.Days.{month_at-range}
 
 -- The number of a month determines the month, and the index of a weekday the weekday.
@@ -134,22 +136,13 @@ weekday_at-rises m n h e f = (by_week m n h).days e f
 
 -- The distance of two days of one year is the distance of their ordinals.
 pub ordinals-apart : (m n : ℕ) → year_at m ≡ year_at n → m + ordinal_at n ≡ n + ordinal_at m
-ordinals-apart m n e =
-    let here = stands m in
-    let there = stands n in
-    omega (arith, here.number_is, there.number_is, ap days_before e, here.ordinal.0, there.ordinal.0)
+ordinals-apart m n e = same_year m n e
 
 -- The same for a caller's `#[tactic(auto, using(..))]`, which takes no name with a dash.
 pub ruleset days_apart = (ordinals-apart)
 
 -- The distance of a day and a day of the next year is the distance of their ordinals, plus the
 -- length of the first year.
-days_before-next : (y : ℤ) → first_year ≤ℤ y → days_before (y +ℤ pos 1) ≡ days_before y + days_in_year y
-days_before-next y h =
-    let next : years_before (y +ℤ pos 1) ≡ suc (years_before y) = omega (arith, ints) in
-    let same : first_year +ℤ pos (years_before y) ≡ y = omega (arith, ints) in
-    ap days_of_years next ∙ days_of_years-suc (years_before y) ∙ ap (λ z. days_before y + days_in_year z) same
-
 pub ordinals-apart_a_year : (y : ℤ) (m n : ℕ) → year_at m ≡ y → year_at n ≡ y +ℤ pos 1 → m + days_in_year y + ordinal_at n ≡ n + ordinal_at m
 ordinals-apart_a_year y m n e f =
     let here = stands m in

@@ -5,12 +5,13 @@ use Rattle.std.proofs.lemmas.Bool.Decides.{nat_tests}
 use Rattle.std.proofs.lemmas.Int.{ints}
 use Rattle.cal_units.specs.Lengths.{is_leap_year, days_in_month}
 use Rattle.cal_date.specs.CalendarDay.{CalendarDay, calendar_day, day_after}
-use Rattle.cal_date.specs.CountLaws.{day_at-suc, days_of_years, days_of_years-closed, year_start}
+pub use Rattle.cal_date.specs.CountLaws.{day_at-suc}
+use Rattle.cal_date.specs.CountLaws.{days_of_years, days_of_years-closed, days_before, year_start, years_before}
 use Rattle.cal_date.specs.Date.{first_year, last_year, last_day, day_at, year_at, month_at, day_of_month_at, ordinal_at, weekday_at, IsDate, IsYear, IsDayOfMonth, HasCalendarDate}
 use Rattle.cal_date.specs.Order.{IsBefore, calendar_date_at}
 use Rattle.cal_date.specs.PackedDate.{ordinal_number}
 use Rattle.cal_date.proofs.Calendar.{ordinal_in, stands_at, in_month_of, day_of_month-range, IsOrdinal-ordinal_in}
-use Rattle.cal_date.proofs.Dates.{in_range, IsDate-ordinal_number}
+use Rattle.cal_date.proofs.Dates.{in_range, stands, IsDate-ordinal_number}
 use Rattle.cal_date.proofs.Order.{in_order}
 use Rattle.cal_date.proofs.Rising.{Rises-calendar_date}
 use Rattle.cal_date.proofs.Weekdays.{weekday_at-is}
@@ -62,15 +63,15 @@ day_with y m d h f g =
     }
 
 -- The three days that may come after a day.
-in_month : (y : ℤ) (m d : ℕ) → d < days_in_month y m → day_after (calendar_day y m d) ≡ calendar_day y m (d + 1)
+pub in_month : (y : ℤ) (m d : ℕ) → d < days_in_month y m → day_after (calendar_day y m d) ≡ calendar_day y m (d + 1)
 unfolding day_after
 in_month y m d h = grind (arith, nat_tests)
 
-past_month : (y : ℤ) (m d : ℕ) → days_in_month y m ≤ d → m < 12 → day_after (calendar_day y m d) ≡ calendar_day y (m + 1) 1
+pub past_month : (y : ℤ) (m d : ℕ) → days_in_month y m ≤ d → m < 12 → day_after (calendar_day y m d) ≡ calendar_day y (m + 1) 1
 unfolding day_after
 past_month y m d h low = grind (arith, nat_tests)
 
-past_year : (y : ℤ) (m d : ℕ) → days_in_month y m ≤ d → 12 ≤ m → day_after (calendar_day y m d) ≡ calendar_day (y +ℤ pos 1) 1 1
+pub past_year : (y : ℤ) (m d : ℕ) → days_in_month y m ≤ d → 12 ≤ m → day_after (calendar_day y m d) ≡ calendar_day (y +ℤ pos 1) 1 1
 unfolding day_after
 past_year y m d h high = grind (arith, nat_tests)
 
@@ -83,11 +84,11 @@ days-follow y m n (suc j) e h =
     ap day_at (sym sums) ∙ day_at-suc (n + j) ∙ ap day_after (days-follow y m n j e (omega arith)) ∙ in_month y m (j + 1) (omega arith) ∙ ap (calendar_day y m) days
 
 -- The last day of a month comes after its other days.
-days_in_month-least : (y : ℤ) (m : ℕ) → 28 ≤ days_in_month y m
+pub days_in_month-least : (y : ℤ) (m : ℕ) → 28 ≤ days_in_month y m
 unfolding days_in_month
 days_in_month-least y m = grind (arith, nat_tests)
 
-last_of : (y : ℤ) (m n : ℕ) → HasCalendarDate y m 1 n → HasCalendarDate y m (days_in_month y m) (n + (days_in_month y m - 1))
+pub last_of : (y : ℤ) (m n : ℕ) → HasCalendarDate y m 1 n → HasCalendarDate y m (days_in_month y m) (n + (days_in_month y m - 1))
 last_of y m n e =
     let some = days_in_month-least y m in
     let same : days_in_month y m - 1 + 1 ≡ days_in_month y m = omega arith in
@@ -112,7 +113,7 @@ pub calendar_dates-in_order : (m n : ℕ) → (m < n) ↔ IsBefore (calendar_dat
 calendar_dates-in_order m n = in_order calendar_date_at Rises-calendar_date m n
 
 -- 400 years have 146,097 days, which are whole weeks. The day 400 years later has the same month,
--- day and weekday.
+-- day, weekday and ordinal.
 leap-period : (y : ℤ) → is_leap_year (y +ℤ pos 400) ≡ is_leap_year y
 leap-period y = grind (arith, ints, nat_tests)
 
@@ -141,3 +142,12 @@ pub weekday_at-period : (n : ℕ) → weekday_at (n + 146097) ≡ weekday_at n
 weekday_at-period n =
     let same : (n + 146097) % 7 ≡ n % 7 = omega arith in
     weekday_at-is (n + 146097) ∙ same ∙ sym (weekday_at-is n)
+
+pub ordinal_at-period : (n : ℕ) → ordinal_at (n + 146097) ≡ ordinal_at n
+ordinal_at-period n =
+    let here = stands n in
+    let there = stands (n + 146097) in
+    let year : year_at (n + 146097) ≡ year_at n +ℤ pos 400 = ap (λ d. d.year) (day_at-period n) in
+    let k = years_before (year_at n) in
+    let years : years_before (year_at n +ℤ pos 400) ≡ k + 400 = omega (arith, ints, here.year) in
+    omega (arith, here.number_is, there.number_is, here.ordinal.0, there.ordinal.0, ap days_before year, ap days_of_years years, days_of_years-closed k, days_of_years-closed (k + 400))

@@ -1,28 +1,35 @@
 -- Laws for callers: relations between the terms of the contracts.
-use Rattle.std.proofs.Common.{◌≡◌, ℕ, suc, ◌+◌, ◌-◌, ◌*◌, ◌%◌, ◌<◌, ◌≤◌, ℤ, Option, Some, None, refl, if◌then◌else◌, nat_le, length}
+use Rattle.std.proofs.Common.{◌≡◌, ℕ, zero, suc, ◌+◌, ◌-◌, ◌*◌, ◌%◌, ◌<◌, ◌≤◌, ℤ, Option, Some, None, refl, sym, ap, ◌∙◌, arith, inl, inr, true, false, if◌then◌else◌, nat_le, length}
 use Rattle.std.specs.Prelude.{IsSome}
+use Rattle.std.proofs.lemmas.Bool.{cases_lt}
+use Rattle.std.proofs.lemmas.Bool.Decides.{nat_tests}
 use Rattle.cal_date.specs.Date.{last_day, weekday_at, IsDate, HasOrdinalDate, HasCalendarDate}
 use Rattle.cal_date.specs.IsoWeekDate.{HasIsoWeekDate}
 use Rattle.cal_date.specs.Occurrences.{next_occurrences, prev_occurrences, kth}
-use Rattle.cal_date.specs.DateIter.{Walk, walk_between, days_of}
+use Rattle.cal_date.specs.DateIter.{Walk, walk, walk_between, days_of, days_between}
 use Rattle.cal_date.specs.DateText.{text}
 use Rattle.cal_time.specs.Pair.{HasPairNumber, IsPairWithNumber}
-use Rattle.cal_date.proofs.CallersLaws as proved
+use Rattle.cal_date.proofs.Calendar as calendar
+use Rattle.cal_date.proofs.DateIters as iters
+use Rattle.cal_date.proofs.Dates.{in_range}
 use Rattle.cal_date.proofs.DistinctTexts as texts
+use Rattle.cal_date.proofs.IsoWeeks.{in_weeks}
+use Rattle.cal_date.proofs.Occurrences as occurrences
+use Rattle.cal_date.proofs.Weekdays as weekdays
 
 -- The weekday of a day is a remainder, because day 0 is a Monday.
 pub weekday_at-is : (n : ℕ) → weekday_at n ≡ n % 7
-weekday_at-is = proved.weekday_at-is
+weekday_at-is n = weekdays.weekday_at-is n
 
 -- Two different days of the range have different ordinal dates, calendar dates and ISO week dates.
 pub ordinal_date-one : (y : ℤ) (o m n : ℕ) → IsDate m → IsDate n → HasOrdinalDate y o m → HasOrdinalDate y o n → m ≡ n
-ordinal_date-one = proved.ordinal_date-one
+ordinal_date-one y o m n h k e f = (in_range m y o h e).number_is ∙ sym (in_range n y o k f).number_is
 
 pub calendar_date-one : (y : ℤ) (month d m n : ℕ) → IsDate m → IsDate n → HasCalendarDate y month d m → HasCalendarDate y month d n → m ≡ n
-calendar_date-one = proved.calendar_date-one
+calendar_date-one = calendar.calendar_date-one
 
 pub iso_week_date-one : (y : ℤ) (w wd m n : ℕ) → IsDate m → IsDate n → HasIsoWeekDate y w wd m → HasIsoWeekDate y w wd n → m ≡ n
-iso_week_date-one = proved.iso_week_date-one
+iso_week_date-one y w wd m n h k e f = (in_weeks m y w wd h e).number_is ∙ sym (in_weeks n y w wd k f).number_is
 
 -- No two days of the range print alike.
 pub text-one : (m n : ℕ) → IsDate m → IsDate n → text m ≡ text n → m ≡ n
@@ -35,25 +42,47 @@ pub ruleset distinct_texts = (text-one)
 -- days for each further one.
 pub kth-next_occurrences : (w n k m : ℕ) → 1 ≤ k → k ≤ 7 → (weekday_at n + k) % 7 ≡ w
     → kth (suc m) (next_occurrences w n) ≡ (if nat_le (n + (k + 7 * m)) last_day then Some (n + (k + 7 * m)) else None)
-kth-next_occurrences = proved.kth-next_occurrences
+kth-next_occurrences w n k m low high e = occurrences.kth-next_occurrences w n k m low high e
 
 pub kth-prev_occurrences : (w n k m : ℕ) → 1 ≤ k → k ≤ 7 → w < 7 → (w + k) % 7 ≡ weekday_at n
     → kth (suc m) (prev_occurrences w n) ≡ (if nat_le (k + 7 * m) n then Some (n - (k + 7 * m)) else None)
-kth-prev_occurrences = proved.kth-prev_occurrences
+kth-prev_occurrences w n k m low high below e = occurrences.kth-prev_occurrences w n k m low high below e
+
+-- The number of days to the first occurrence, from 1 to 7.
+days_on : ℕ → ℕ → ℕ
+days_on w n = (w + 6 - n % 7) % 7 + 1
+
+some-if : (b c x : ℕ) (r : Option ℕ) → b ≤ c → r ≡ (if nat_le b c then Some x else None) → IsSome r
+some-if b c x None h e = absurd (grind (arith, nat_tests))
+some-if b c x (Some y) h e = refl
 
 -- The k-th occurrence exists if k weeks are left in the range.
 pub next_occurrence-some : (w n k : ℕ) → w < 7 → 1 ≤ k → n + 7 * k ≤ last_day → IsSome (kth k (next_occurrences w n))
-next_occurrence-some = proved.next_occurrence-some
+unfolding days_on
+next_occurrence-some w n zero below some left = absurd (omega arith)
+next_occurrence-some w n (suc m) below some left =
+    let there : (weekday_at n + days_on w n) % 7 ≡ w = omega (arith, weekday_at-is n) in
+    some-if _ _ _ _ (omega arith) (kth-next_occurrences w n (days_on w n) m (omega arith) (omega arith) there)
 
 pub prev_occurrence-some : (w n k : ℕ) → w < 7 → 1 ≤ k → 7 * k ≤ n → IsSome (kth k (prev_occurrences w n))
-prev_occurrence-some = proved.prev_occurrence-some
+prev_occurrence-some w n zero below some left = absurd (omega arith)
+prev_occurrence-some w n (suc m) below some left =
+    some-if _ _ _ _ (omega arith) (kth-prev_occurrences w n ((n + 6 - w) % 7 + 1) m (omega arith) (omega arith) below (occurrences.days_to_prev w n below))
 
 -- The number of days of a walk.
 pub length-days_of : (w : Walk) (b : ℕ) → w.back ≡ Some b → length (days_of w) ≡ b + 1 - w.front
-length-days_of = proved.length-days_of
+length-days_of w b e = iters.length-days_of w b e
 
 pub length-walk_between : (m n : ℕ) → length (days_of (walk_between m n)) ≡ n + 1 - m
-length-walk_between = proved.length-walk_between
+length-walk_between m n =
+    elim (cases_lt n m) [
+      | inl less ↦
+          let none : nat_le m n ≡ false = grind (arith, nat_tests) in
+          ap (λ b. length (days_between m (if b then Some n else None))) none ∙ omega arith
+      | inr more ↦
+          let some : nat_le m n ≡ true = grind (arith, nat_tests) in
+          ap (λ b. length (days_between m (if b then Some n else None))) some ∙ iters.length-days_of (walk m (Some n)) n refl
+    ]
 
 -- A moved pair exists if a date and a time have its number.
 pub pair_at-some : (z : ℤ) (n t : ℕ) (r : Option (ℕ × ℕ)) → IsPairWithNumber z r → HasPairNumber z n t → IsSome r

@@ -19,7 +19,7 @@ use Rattle.caldate_run.specs.declared.request.Filter.{Filter}
 use Rattle.caldate_run.specs.declared.request.Request.{Request}
 use Rattle.caldate_run.specs.declared.request.Request.TheVariants.{Keep}
 use Rattle.caldate_run.proofs.Lacks.{lacks_none}
-use Rattle.caldate_run.proofs.OneAnswer.{some_one}
+use Rattle.std.proofs.lemmas.Option.{same_Some}
 use Rattle.caldate_run.proofs.Replied.{is_too_long, of_whole}
 
 -- ---- a text of which it is not known whether it lies within
@@ -89,7 +89,7 @@ pub none_asked : (filter : Filter) (before : ℕ) (text asked words : List ℕ) 
     → asked_text filter.field text ≡ Some asked → ((answer : List ℕ) → ¬ HasAnswer filter asked answer) → ¬ IsAllowed filter before text words
 none_asked filter before text asked words strict skip is none =
     strict_none filter before text words strict (le-ltb before filter.skip skip)
-    (λ found answer e. subst (λ t. ¬ HasAnswer filter t answer) (some_one asked found (sym is ∙ e)) (none answer))
+    (λ found answer e. subst (λ t. ¬ HasAnswer filter t answer) (same_Some asked found (sym is ∙ e)) (none answer))
 
 -- ---- the reply to a line that has no answer
 pub passed_over : (filter : Filter) (bounds : Bounds) (before : ℕ) (b : Bool) (kept line text old : List ℕ) → IsHeld b kept line → text ≡ text_of line

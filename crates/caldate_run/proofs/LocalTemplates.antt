@@ -1,6 +1,7 @@
 -- The template of a moment without its offset: what fits it, and a Z, have the form of a moment.
 use Rattle.std.proofs.Common.{◌≡◌, ◌⊎◌, inl, inr, ℕ, zero, suc, ◌<◌, ◌≤◌, true, ℤ, List, [], ◌∷◌, ◌++◌, length, take, replicate, refl, ap, ◌∙◌, arith, codes, length-append}
 use Rattle.std.specs.Prelude.{◌==◌, ◌||◌, nat_le}
+use Rattle.std.proofs.lemmas.Bool.{or_cases}
 use Rattle.std.proofs.lemmas.Bool.Decides.{nat_tests}
 use Rattle.cal_text.specs.AnyForm.{HasAnyForm}
 use Rattle.cal_text.specs.Shape.{Shape, unmatched_bytes, End, ByteRange, Branch, Digits, UpTo, Separator, date, julian_day, unix_time, moment, time_offset, signed_offset}
@@ -13,7 +14,7 @@ use Rattle.caldate_run.specs.Readings.{HasFormIn}
 use Rattle.caldate_run.specs.Templates.{Fits, IsTemplateFor, stands_at}
 use Rattle.caldate_run.specs.declared.reading.Reading.TheVariants.{Local}
 use Rattle.caldate_run.proofs.DateTemplates.{given, guarded, is_digit, stands_digit}
-use Rattle.caldate_run.proofs.ShapeBytes.{from-first, branch-first, lacking, one_of}
+use Rattle.caldate_run.proofs.ShapeBytes.{from-first, branch-first, lacking}
 use Rattle.caldate_run.proofs.Templates.{fits-front, template_for}
 
 -- bytes that fill the template and fit it are a text of the shape with a Z; of bytes that are not
@@ -82,8 +83,8 @@ abbrev IsSeparator : ℕ → Type 0
 IsSeparator x = IsIn 84 0 x ⊎ IsIn 116 0 x ⊎ IsIn 32 0 x
 
 separator_is : (x : ℕ) → stands_at 84 x ≡ true → IsSeparator x
-separator_is x e = elim (one_of (x == 84 || x == 116) (x == 32) e) as (λ _. IsSeparator x) [
-  | inl letter ↦ elim (one_of (x == 84) (x == 116) letter) as (λ _. IsSeparator x) [ inl upper ↦ inl (is_byte 84 x upper) | inr lower ↦ inr (inl (is_byte 116 x lower)) ]
+separator_is x e = elim (or_cases (x == 84 || x == 116) (x == 32) e) as (λ _. IsSeparator x) [
+  | inl letter ↦ elim (or_cases (x == 84) (x == 116) letter) as (λ _. IsSeparator x) [ inl upper ↦ inl (is_byte 84 x upper) | inr lower ↦ inr (inl (is_byte 116 x lower)) ]
   | inr space ↦ inr (inr (is_byte 32 x space))
 ]
 

@@ -1,45 +1,15 @@
 -- The results of std's `parse`, by the definition of a number.
-use Rattle.std.proofs.Common.{◌≡◌, ℕ, suc, zero, ◌<◌, Bool, true, false, cond, eqb, List, [], ◌∷◌, ℤ, pos, negsuc, Some, None, Result, Ok, Err, refl, sym, ap, ◌∙◌, arith, inl, inr, Decides, ◌&&◌}
+use Rattle.std.proofs.Common.{◌≡◌, ℕ, suc, zero, ◌<◌, true, eqb, List, [], ◌∷◌, ℤ, pos, negsuc, None, Result, sym, ◌∙◌, arith, inl, inr, Decides, ◌&&◌}
 use Rattle.std.specs.Prelude.{int_le, nat_lt, FitsSigned, IsUtf8, IsAscii}
 use Rattle.std.specs.Int.{w64}
-use Rattle.std.specs.Result.{OkIff, result_ok}
-use Rattle.std.specs.Str.{all_ascii_digits}
-use Rattle.std.specs.Str.Parse.{IsNumeral, ParsesSigned, digits_value, signed_digits_value, without_leading_sign}
-use Rattle.std.proofs.lemmas.Bool.{cases_Bool, false≢true, eqb-true}
+use Rattle.std.specs.Result.{result_ok}
+use Rattle.std.specs.Str.Parse.{IsNumeral, ParsesSigned, signed_digits_value, without_leading_sign}
+use Rattle.std.proofs.lemmas.Bool.{and_from, and_parts, cases_Bool, cond-false, cond-true, false≢true, eqb-true}
 use Rattle.std.proofs.lemmas.Bool.Decides.{nat_tests}
 use Rattle.std.proofs.lemmas.Fmt.{IsAscii-from_digits}
 use Rattle.std.proofs.lemmas.Str.{IsUtf8-from_ascii, IsAscii-append}
-use Rattle.std.proofs.lemmas.Str.Parse.{IsNumeralModel, numerals_by_value, tells_all_ascii_digits}
+use Rattle.cal_recurrence.proofs.Numbers.{digits, none_where, ok_where}
 use Rattle.caldate_run.specs.Requests.{is_number, number_of}
-
--- a Result that is Ok just if P is true, as an Option
-ok_where : {E : Type 0} (r : Result ℤ E) (P : Type 0) (v : ℤ) → OkIff r P v → P → result_ok r ≡ Some v
-ok_where (Ok x) P v h p = ap Some h.1
-ok_where (Err e) P v h p = absurd (h p)
-
-none_where : {E : Type 0} (r : Result ℤ E) (P : Type 0) (v : ℤ) → OkIff r P v → (P → ⊥) → result_ok r ≡ None
-none_where (Ok x) P v h n = absurd (n h.0)
-none_where (Err e) P v h n = refl
-
--- a guarded value
-pub guard_yes : {A : Type 0} (b : Bool) (x : A) → b ≡ true → cond b (Some x) None ≡ Some x
-guard_yes true x e = refl
-guard_yes false x e = absurd (false≢true e)
-
-guard_no : {A : Type 0} (b : Bool) (x : A) → b ≡ false → cond b (Some x) None ≡ None
-guard_no true x e = absurd (false≢true (sym e))
-guard_no false x e = refl
-
-both : (a b : Bool) → a && b ≡ true → (a ≡ true) × (b ≡ true)
-both true b e = (refl, e)
-both false b e = absurd (false≢true e)
-
-and : (a b : Bool) → a ≡ true → b ≡ true → a && b ≡ true
-and true b e f = f
-and false b e f = absurd (false≢true e)
-
-digits : IsNumeralModel (λ ds. all_ascii_digits ds ≡ true) (digits_value 10)
-digits = numerals_by_value _ tells_all_ascii_digits
 
 -- ---- the test of a number
 pub fits : (z : ℤ) → Decides (int_le (negsuc 9223372036854775807) z && int_le z (pos 9223372036854775807)) (FitsSigned w64 z)
@@ -54,18 +24,18 @@ Numeral bs = IsNumeral 10 (without_leading_sign bs) × FitsSigned w64 (signed_di
 
 number-yes : (bs : List ℕ) → is_number bs ≡ true → Numeral bs
 number-yes bs e =
-    let some = both _ _ e in
-    let all = both _ _ some.1 in
+    let some = and_parts _ _ e in
+    let all = and_parts _ _ some.1 in
     (((some_digit _).0 some.0, digits.to (without_leading_sign bs) all.0), (fits (signed_digits_value 10 bs)).0 all.1)
 
 number-no : (bs : List ℕ) → Numeral bs → is_number bs ≡ true
 number-no bs h =
-    and _ _ ((some_digit _).1 h.0.0) (and _ _ (digits.from (without_leading_sign bs) h.0.1) ((fits (signed_digits_value 10 bs)).1 h.1))
+    and_from _ _ ((some_digit _).1 h.0.0) (and_from _ _ (digits.from (without_leading_sign bs) h.0.1) ((fits (signed_digits_value 10 bs)).1 h.1))
 
 pub parsed : {E : Type 0} (bs : List ℕ) (r : Result ℤ E) → ParsesSigned w64 10 bs r → result_ok r ≡ number_of bs
 parsed bs r h = elim (cases_Bool (is_number bs)) [
-  | inl e ↦ ok_where r _ _ h (number-yes bs e) ∙ sym (guard_yes _ _ e)
-  | inr e ↦ none_where r _ _ h (λ q. false≢true (sym e ∙ number-no bs q)) ∙ sym (guard_no _ _ e)
+  | inl e ↦ ok_where r _ _ h (number-yes bs e) ∙ sym (cond-true _ _ _ e)
+  | inr e ↦ none_where r _ _ h (λ q. false≢true (sym e ∙ number-no bs q)) ∙ sym (cond-false _ _ _ e)
 ]
 
 -- ---- a number is text
@@ -89,5 +59,5 @@ numeral_is_text (c ∷ cs) h = elim (cases_Bool (eqb c 45)) [
 pub not_text : (bs : List ℕ) → (IsUtf8 bs → ⊥) → None ≡ number_of bs
 not_text bs t = elim (cases_Bool (is_number bs)) [
   | inl e ↦ absurd (t (numeral_is_text bs (number-yes bs e).0))
-  | inr e ↦ sym (guard_no _ _ e)
+  | inr e ↦ sym (cond-false _ _ _ e)
 ]

@@ -6,6 +6,7 @@ use Rattle.std.specs.Fmt.{signed_decimal}
 use Rattle.std.specs.Io.KnownBytes.{Appends, Consumes, IsAtEnd}
 use Rattle.std.proofs.lemmas.Bool.{false≢true}
 use Rattle.std.proofs.lemmas.List.{append-nil}
+use Rattle.std.proofs.lemmas.Option.{none-some, same_Some}
 use Rattle.std.proofs.lemmas.List.Elements.{All-cons, All-nil}
 use Rattle.cal_time.specs.declared.error.ComponentRange.{ComponentRange}
 use Rattle.cal_datetime.specs.OffsetDateTime.{LocalAndOffset}
@@ -48,9 +49,6 @@ in_form (form.Unix unit) m a b h k = h ∙ sym k
 in_form_at : (form : Form) (m n : LocalAndOffset) (a b : List ℕ) → m ≡ n → IsInForm form m a → IsInForm form n b → a ≡ b
 in_form_at form m n a b e h k = in_form form n a b (subst (λ m. IsInForm form m a) e h) k
 
-pub some_one : {A : Type 0} (a b : A) → Some a ≡ Some b → a ≡ b
-some_one a b e = cc
-
 between : (unit : Option TimeUnit) (from to : DateOrMoment) (a b : List ℕ) → IsBetween unit from to a → IsBetween unit from to b → a ≡ b
 between None from to a b h k = h ∙ sym k
 between (Some unit) from to a b h k = h.2 ∙ ap signed_decimal (one_count unit (moment_of from) (moment_of to) h.0 k.0 h.1 k.1) ∙ sym k.2
@@ -85,20 +83,17 @@ one_told filter text (Err (OutOfRange e)) a b h k = h ∙ sym k
 one_told filter text (Err (UnexpectedByte at)) a b h k = one_unreadable filter text a b h k
 one_told filter text (Err (UnexpectedEnd at)) a b h k = one_unreadable filter text a b h k
 
-pub none_some : {A : Type 0} (a : A) → None ≡ Some a → ⊥
-none_some a e = cc
-
 refused_told : (filter : Filter) (text : List ℕ) (r : Result DateOrMoment ParseError) (why : ComponentRange) (words : List ℕ)
     → FailsWithComponent why r → words ≡ refused_text why → Told filter text r words
 refused_told filter text (Ok found) why words h e = absurd h
-refused_told filter text (Err (OutOfRange o)) why words h e = e ∙ ap refused_text (sym (some_one o why h))
-refused_told filter text (Err (UnexpectedByte at)) why words h e = absurd (none_some why h)
-refused_told filter text (Err (UnexpectedEnd at)) why words h e = absurd (none_some why h)
+refused_told filter text (Err (OutOfRange o)) why words h e = e ∙ ap refused_text (sym (same_Some o why h))
+refused_told filter text (Err (UnexpectedByte at)) why words h e = absurd (none-some why h)
+refused_told filter text (Err (UnexpectedEnd at)) why words h e = absurd (none-some why h)
 
 unreadable_told : (filter : Filter) (text : List ℕ) (r : Result DateOrMoment ParseError) (words : List ℕ)
     → FailsWithSyntax r → IsUnreadable filter text words → Told filter text r words
 unreadable_told filter text (Ok found) words h u = absurd h
-unreadable_told filter text (Err (OutOfRange o)) words h u = absurd (none_some o (sym h))
+unreadable_told filter text (Err (OutOfRange o)) words h u = absurd (none-some o (sym h))
 unreadable_told filter text (Err (UnexpectedByte at)) words h u = u
 unreadable_told filter text (Err (UnexpectedEnd at)) words h u = u
 

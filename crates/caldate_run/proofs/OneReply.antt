@@ -2,6 +2,7 @@
 use Rattle.std.proofs.Common.{◌≡◌, ℕ, ◌≤◌, Bool, true, false, List, [], ◌++◌, length, Option, Some, None, Result, Ok, refl, sym, ap, ◌∙◌, subst, arith, inl, inr}
 use Rattle.std.specs.Prelude.{◌↔◌, MatchBool, MatchOption, IsErrAnd, IsSomeAnd, is_some, nat_lt, if◌then◌else◌}
 use Rattle.std.proofs.lemmas.Bool.{false≢true, le-ltb}
+use Rattle.std.proofs.lemmas.Option.{none-some, same_Some}
 use Rattle.cal_time.specs.declared.error.ComponentRange.{ComponentRange}
 use Rattle.cal_text.specs.Parsing.{FailsWithComponent, FailsWithSyntax}
 use Rattle.cal_text.specs.declared.any.DateOrMoment.{DateOrMoment}
@@ -20,7 +21,7 @@ use Rattle.caldate_run.specs.declared.request.Filter.{Filter}
 use Rattle.caldate_run.specs.declared.request.Request.{Request}
 use Rattle.caldate_run.specs.declared.request.Request.TheVariants.{Keep}
 use Rattle.caldate_run.proofs.Keeps.{ok_one}
-use Rattle.caldate_run.proofs.OneAnswer.{none_some, one_answer, some_one}
+use Rattle.caldate_run.proofs.OneAnswer.{one_answer}
 
 -- ---- what a reader says of the text that is asked about
 told_one : (filter : Filter) (bounds : Bounds) (asked : List ℕ) (r : Result DateOrMoment ParseError) (a b : Bool)
@@ -28,7 +29,7 @@ told_one : (filter : Filter) (bounds : Bounds) (asked : List ℕ) (r : Result Da
     → IsTold filter bounds asked a → IsTold filter bounds asked b → a ≡ b
 told_one filter bounds asked r a b every h k =
     let same = ok_one h.0 k.0 (sym (every h.0 h.1) ∙ every k.0 k.1) in
-    some_one a b (sym h.2 ∙ ap (λ f. lies_in bounds f) same ∙ k.2)
+    same_Some a b (sym h.2 ∙ ap (λ f. lies_in bounds f) same ∙ k.2)
 
 refuses_no : (P : ParseError → Type 0) (r : Result DateOrMoment ParseError) (found : DateOrMoment) → r ≡ Ok found → ¬ IsErrAnd r P
 refuses_no P r found e = subst (λ s. ¬ IsErrAnd s P) (sym e) (λ h. h)
@@ -140,8 +141,8 @@ abbrev pub IsOneText : Filter → List ℕ → Type 0
 IsOneText filter text = (asked : List ℕ) → asked_text filter.field text ≡ Some asked → (length asked ≤ length text) × IsOneAsked filter asked
 
 keep_is : (request : Request) (bounds : Bounds) → bounds_kept request ≡ Some bounds → request ≡ Keep bounds
-keep_is (Keep own) bounds e = ap (λ b. Keep b) (some_one own bounds e)
-keep_is other bounds e = absurd (none_some bounds e)
+keep_is (Keep own) bounds e = ap (λ b. Keep b) (same_Some own bounds e)
+keep_is other bounds e = absurd (none-some bounds e)
 
 pub one_reply : (filter : Filter) (before : ℕ) (line reply other : List ℕ) → IsOneText filter (text_of line)
     → IsReplyTo filter before line reply → IsReplyTo filter before line other → reply ≡ other

@@ -15,6 +15,7 @@ use Rattle.cal_datetime.specs.DateTime.{IsDateTime, last_date_time}
 use Rattle.cal_datetime.specs.OffsetDateTime.{LocalAndOffset, unix_epoch}
 use Rattle.cal_text.specs.declared.any.DateOrMoment.TheVariants.{Moment}
 use Rattle.cal_text.specs.declared.any.MomentForm.TheVariants.{Unix}
+use Rattle.cal_text.proofs.Results.{one}
 use Rattle.caldate_run.specs.Readings.{IsFaultIn, IsNumber, IsNumberOf, local_of, nanoseconds_in}
 use Rattle.caldate_run.specs.declared.reading.Reading.TheVariants as reading
 use Rattle.caldate_run.specs.declared.request.UnixUnit.{UnixUnit}
@@ -98,9 +99,6 @@ in_range (pos n) h = elim (cases_lt last_date_time n) as (λ _. IsDateTime (pos 
 ]
 in_range (negsuc n) h = absurd (h (λ k. omega (arith, ints, k.not_before)))
 
-one_value : {A E : Type 0} (a b : A) → ◌≡◌ {A = Result A E} (Ok a) (Ok b) → a ≡ b
-one_value a b e = cc
-
 abbrev at_utc : ℤ → LocalAndOffset
 at_utc v = record { local = unix_epoch +ℤ v; offset = pos 0 }
 
@@ -110,7 +108,7 @@ pub moment_of : {E : Type 0} (unit : UnixUnit) (text : List ℕ) (z v : ℤ) (m 
 moment_of unit text z v m n e made some =
     let range = in_range (unix_epoch +ℤ v) some in
     let local : unix_epoch +ℤ v ≡ local_of unit z = ap (λ v. unix_epoch +ℤ v) e in
-    (z, n, (m, record { in_range = subst IsDateTime local range; at_utc = one_value _ _ (made range) ∙ ap at_utc e }, refl))
+    (z, n, (m, record { in_range = subst IsDateTime local range; at_utc = one _ _ (made range) ∙ ap at_utc e }, refl))
 
 pub no_fault : (unit : UnixUnit) (text : List ℕ) (z v : ℤ) (why : ComponentRange) → ((x : ℤ) → IsNumber text x → Some z ≡ Some x)
     → v ≡ z *ℤ pos (nanoseconds_in unit) → (¬ IsDateTime (unix_epoch +ℤ v) → ⊥) → IsFaultIn (reading.Unix unit) text why → ⊥

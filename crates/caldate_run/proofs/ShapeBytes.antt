@@ -1,7 +1,7 @@
 -- The bytes that a text of a shape has, and those that it lacks.
-use Rattle.std.proofs.Common.{◌≡◌, ◌⊎◌, inl, inr, ℕ, ◌+◌, Bool, true, false, ◌&&◌, List, [], ◌∷◌, ◌++◌, Option, Some, None, refl, sym, subst, ◌∙◌, arith}
+use Rattle.std.proofs.Common.{◌≡◌, ◌⊎◌, inl, inr, ℕ, ◌+◌, Bool, true, false, ◌&&◌, List, [], ◌∷◌, ◌++◌, Option, Some, None, sym, subst, ◌∙◌, arith}
 use Rattle.std.specs.Prelude.{◌||◌, nat_lt}
-use Rattle.std.proofs.lemmas.Bool.{false≢true}
+use Rattle.std.proofs.lemmas.Bool.{and_parts, or_cases, false≢true}
 use Rattle.std.proofs.lemmas.Bool.Decides.{nat_tests}
 use Rattle.cal_text.specs.Shape.{Shape, End, ByteRange, Branch, unmatched_bytes}
 use Rattle.cal_text.proofs.Stops.{IsIn, in_or_out, unmatched_bytes-in, unmatched_bytes-out, unmatched_bytes-end, unmatched_bytes-branch_in, unmatched_bytes-branch_out, unmatched_bytes-branch_end, unmatched_bytes-more}
@@ -28,14 +28,6 @@ is_out low above b = nat_lt b low || nat_lt (low + above) b
 out : (low above b : ℕ) → is_out low above b ≡ true → ¬ IsIn low above b
 out low above b e here = let least = here.0 in let most = here.1 in grind (arith, nat_tests)
 
-both : (a b : Bool) → a && b ≡ true → (a ≡ true) × (b ≡ true)
-both true b e = (refl, e)
-both false b e = absurd (false≢true e)
-
-pub one_of : (a b : Bool) → a || b ≡ true → (a ≡ true) ⊎ (b ≡ true)
-one_of true b e = inl refl
-one_of false b e = inr e
-
 -- ---- a byte that no text of the shape has
 abbrev pub lacks : ℕ → Shape → Bool
 lacks b End = true
@@ -45,13 +37,13 @@ lacks b (Branch low above f g) = is_out low above b && (lacks b f && lacks b g)
 pub lacking : (b : ℕ) (f : Shape) (xs ys : List ℕ) → lacks b f ≡ true → unmatched_bytes f (xs ++ b ∷ ys) ≡ 0 → ⊥
 lacking b End [] ys h e = absurd (omega (arith, e, unmatched_bytes-more b ys))
 lacking b End (x ∷ xs) ys h e = absurd (omega (arith, e, unmatched_bytes-more x (xs ++ b ∷ ys)))
-lacking b (ByteRange low above f) [] ys h e = absurd (out low above b (both _ _ h).0 (from-first low above f b ys e).0)
-lacking b (ByteRange low above f) (x ∷ xs) ys h e = lacking b f xs ys (both _ _ h).1 (from-first low above f x (xs ++ b ∷ ys) e).1
+lacking b (ByteRange low above f) [] ys h e = absurd (out low above b (and_parts _ _ h).0 (from-first low above f b ys e).0)
+lacking b (ByteRange low above f) (x ∷ xs) ys h e = lacking b f xs ys (and_parts _ _ h).1 (from-first low above f x (xs ++ b ∷ ys) e).1
 lacking b (Branch low above f g) [] ys h e =
-    let all = both _ _ h in
-    elim (branch-first low above f g b ys e) [ inl here ↦ out low above b all.0 here.0 | inr other ↦ lacking b g [] ys (both _ _ all.1).1 other ]
+    let all = and_parts _ _ h in
+    elim (branch-first low above f g b ys e) [ inl here ↦ out low above b all.0 here.0 | inr other ↦ lacking b g [] ys (and_parts _ _ all.1).1 other ]
 lacking b (Branch low above f g) (x ∷ xs) ys h e =
-    let all = both _ _ (both _ _ h).1 in
+    let all = and_parts _ _ (and_parts _ _ h).1 in
     elim (branch-first low above f g x (xs ++ b ∷ ys) e) [ inl here ↦ lacking b f xs ys all.0 here.1 | inr other ↦ lacking b g (x ∷ xs) ys all.1 other ]
 
 -- ---- bytes, some of which are known, that are not a text of the shape
@@ -89,14 +81,14 @@ ruled_out (k ∷ ks) (ByteRange low above f) [] h is e = absurd is
 ruled_out (k ∷ ks) (ByteRange low above f) (x ∷ xs) h is e =
     let first = known low above k ks x xs is in
     let next = from-first low above f x xs e in
-    elim (one_of _ _ h) [ inl missed ↦ first.0 missed next.0 | inr none ↦ ruled_out ks f xs none first.1 next.1 ]
+    elim (or_cases _ _ h) [ inl missed ↦ first.0 missed next.0 | inr none ↦ ruled_out ks f xs none first.1 next.1 ]
 ruled_out [] (Branch low above f g) [] h is e = ruled_out [] g [] h is (sym (unmatched_bytes-branch_end low above f g) ∙ e)
 ruled_out [] (Branch low above f g) (x ∷ xs) h is e = absurd is
 ruled_out (k ∷ ks) (Branch low above f g) [] h is e = absurd is
 ruled_out (k ∷ ks) (Branch low above f g) (x ∷ xs) h is e =
     let first = known low above k ks x xs is in
-    let all = both _ _ h in
+    let all = and_parts _ _ h in
     elim (branch-first low above f g x xs e) [
-      | inl next ↦ elim (one_of _ _ all.0) [ inl missed ↦ first.0 missed next.0 | inr none ↦ ruled_out ks f xs none first.1 next.1 ]
+      | inl next ↦ elim (or_cases _ _ all.0) [ inl missed ↦ first.0 missed next.0 | inr none ↦ ruled_out ks f xs none first.1 next.1 ]
       | inr other ↦ ruled_out (k ∷ ks) g (x ∷ xs) all.1 is other
     ]

@@ -9,10 +9,10 @@ use super::{LENGTH_MISMATCH, count_errors};
 use crate::day_number::{clamped_number, is_julian_day};
 use cal_schedule::{clamped_date_in_month, month_number_and_day};
 use cal_time::day_number::to_date;
-use cal_time::limits::{MAX_YEAR, MIN_YEAR};
+use cal_time::limits::MONTHS;
 
 /// The index of the last month of the range.
-const LAST_MONTH: u32 = 12 * (MAX_YEAR - MIN_YEAR + 1) as u32 - 1;
+const LAST_MONTH: u32 = MONTHS - 1;
 
 /// Adds months to dates, like `fots_date_add_months`.
 #[unsafe(no_mangle)]

@@ -49,10 +49,7 @@ pub extern "C" fn fots_date_checked_add(date: i32, duration: Duration) -> DateRe
     if !is_julian_day(date) {
         return DateResult::error(INVALID_DATE);
     }
-    let duration = or_return!(
-        valid_duration(duration),
-        DateResult::error(INVALID_DURATION)
-    );
+    let duration = or_error!(DateResult, valid_duration(duration), INVALID_DURATION);
     checked_add_days(date, duration.whole_days())
 }
 
@@ -66,10 +63,7 @@ pub extern "C" fn fots_date_saturating_add(date: i32, duration: Duration) -> Dat
     if !is_julian_day(date) {
         return DateResult::error(INVALID_DATE);
     }
-    let duration = or_return!(
-        valid_duration(duration),
-        DateResult::error(INVALID_DURATION)
-    );
+    let duration = or_error!(DateResult, valid_duration(duration), INVALID_DURATION);
     saturating_add_days(date, duration.whole_days())
 }
 
@@ -84,10 +78,7 @@ pub extern "C" fn fots_date_checked_sub(date: i32, duration: Duration) -> DateRe
     if !is_julian_day(date) {
         return DateResult::error(INVALID_DATE);
     }
-    let duration = or_return!(
-        valid_duration(duration),
-        DateResult::error(INVALID_DURATION)
-    );
+    let duration = or_error!(DateResult, valid_duration(duration), INVALID_DURATION);
     checked_sub_days(date, duration.whole_days())
 }
 
@@ -101,10 +92,7 @@ pub extern "C" fn fots_date_saturating_sub(date: i32, duration: Duration) -> Dat
     if !is_julian_day(date) {
         return DateResult::error(INVALID_DATE);
     }
-    let duration = or_return!(
-        valid_duration(duration),
-        DateResult::error(INVALID_DURATION)
-    );
+    let duration = or_error!(DateResult, valid_duration(duration), INVALID_DURATION);
     saturating_sub_days(date, duration.whole_days())
 }
 

@@ -18,7 +18,7 @@ use cal_time::day_number::{days_since_monday, to_calendar_date, to_iso_week_date
 pub extern "C" fn fots_date_to_calendar_date(date: i32) -> CalendarDateResult
     ensures { IsCalendarDateOf date result }
 {
-    let number = or_return!(day_number(date), CalendarDateResult::error(INVALID_DATE));
+    let number = or_error!(CalendarDateResult, day_number(date), INVALID_DATE);
     let (year, month, day) = to_calendar_date(number);
     CalendarDateResult {
         status: OK,
@@ -33,7 +33,7 @@ pub extern "C" fn fots_date_to_calendar_date(date: i32) -> CalendarDateResult
 pub extern "C" fn fots_date_to_ordinal_date(date: i32) -> OrdinalDateResult
     ensures { IsOrdinalDateOf date result }
 {
-    let date = or_return!(valid_date(date), OrdinalDateResult::error(INVALID_DATE));
+    let date = or_error!(OrdinalDateResult, valid_date(date), INVALID_DATE);
     let (year, ordinal) = date.to_ordinal_date();
     OrdinalDateResult {
         status: OK,
@@ -47,7 +47,7 @@ pub extern "C" fn fots_date_to_ordinal_date(date: i32) -> OrdinalDateResult
 pub extern "C" fn fots_date_to_iso_week_date(date: i32) -> IsoWeekDateResult
     ensures { IsIsoWeekDateOf date result }
 {
-    let number = or_return!(day_number(date), IsoWeekDateResult::error(INVALID_DATE));
+    let number = or_error!(IsoWeekDateResult, day_number(date), INVALID_DATE);
     let (year, week, weekday) = to_iso_week_date(number);
     IsoWeekDateResult {
         status: OK,
@@ -63,7 +63,7 @@ pub extern "C" fn fots_date_year(date: i32) -> NumberResult
     ensures invalid_date { ¬ IsJulianDay date → result ≡ number_error invalid_date }
     ensures value { IsJulianDay date → result ≡ number_ok (year_at (day_of date)) }
 {
-    let date = or_return!(valid_date(date), NumberResult::error(INVALID_DATE));
+    let date = or_error!(NumberResult, valid_date(date), INVALID_DATE);
     NumberResult::ok(date.year())
 }
 
@@ -73,7 +73,7 @@ pub extern "C" fn fots_date_month(date: i32) -> NumberResult
     ensures invalid_date { ¬ IsJulianDay date → result ≡ number_error invalid_date }
     ensures value { IsJulianDay date → result ≡ number_ok (pos (month_at (day_of date))) }
 {
-    let date = or_return!(valid_date(date), NumberResult::error(INVALID_DATE));
+    let date = or_error!(NumberResult, valid_date(date), INVALID_DATE);
     NumberResult::ok(i32::from(date.month() as u8))
 }
 
@@ -83,7 +83,7 @@ pub extern "C" fn fots_date_day(date: i32) -> NumberResult
     ensures invalid_date { ¬ IsJulianDay date → result ≡ number_error invalid_date }
     ensures value { IsJulianDay date → result ≡ number_ok (pos (day_of_month_at (day_of date))) }
 {
-    let date = or_return!(valid_date(date), NumberResult::error(INVALID_DATE));
+    let date = or_error!(NumberResult, valid_date(date), INVALID_DATE);
     NumberResult::ok(i32::from(date.day()))
 }
 
@@ -93,7 +93,7 @@ pub extern "C" fn fots_date_ordinal(date: i32) -> NumberResult
     ensures invalid_date { ¬ IsJulianDay date → result ≡ number_error invalid_date }
     ensures value { IsJulianDay date → result ≡ number_ok (pos (ordinal_at (day_of date))) }
 {
-    let date = or_return!(valid_date(date), NumberResult::error(INVALID_DATE));
+    let date = or_error!(NumberResult, valid_date(date), INVALID_DATE);
     NumberResult::ok(i32::from(date.ordinal()))
 }
 
@@ -103,7 +103,7 @@ pub extern "C" fn fots_date_iso_week(date: i32) -> NumberResult
     ensures invalid_date { ¬ IsJulianDay date → result ≡ number_error invalid_date }
     ensures value { IsJulianDay date → result ≡ number_ok (pos (iso_week_at (day_of date))) }
 {
-    let date = or_return!(valid_date(date), NumberResult::error(INVALID_DATE));
+    let date = or_error!(NumberResult, valid_date(date), INVALID_DATE);
     NumberResult::ok(i32::from(date.iso_week()))
 }
 
@@ -113,7 +113,7 @@ pub extern "C" fn fots_date_sunday_based_week(date: i32) -> NumberResult
     ensures invalid_date { ¬ IsJulianDay date → result ≡ number_error invalid_date }
     ensures value { IsJulianDay date → result ≡ number_ok (pos (weekday_count 6 (day_of date))) }
 {
-    let date = or_return!(valid_date(date), NumberResult::error(INVALID_DATE));
+    let date = or_error!(NumberResult, valid_date(date), INVALID_DATE);
     NumberResult::ok(i32::from(date.sunday_based_week()))
 }
 
@@ -123,7 +123,7 @@ pub extern "C" fn fots_date_monday_based_week(date: i32) -> NumberResult
     ensures invalid_date { ¬ IsJulianDay date → result ≡ number_error invalid_date }
     ensures value { IsJulianDay date → result ≡ number_ok (pos (weekday_count 0 (day_of date))) }
 {
-    let date = or_return!(valid_date(date), NumberResult::error(INVALID_DATE));
+    let date = or_error!(NumberResult, valid_date(date), INVALID_DATE);
     NumberResult::ok(i32::from(date.monday_based_week()))
 }
 
@@ -133,6 +133,6 @@ pub extern "C" fn fots_date_weekday(date: i32) -> NumberResult
     ensures invalid_date { ¬ IsJulianDay date → result ≡ number_error invalid_date }
     ensures value { IsJulianDay date → result ≡ number_ok (pos (weekday_at (day_of date) + 1)) }
 {
-    let number = or_return!(day_number(date), NumberResult::error(INVALID_DATE));
+    let number = or_error!(NumberResult, day_number(date), INVALID_DATE);
     NumberResult::ok(i32::from(days_since_monday(number)) + 1)
 }

@@ -67,7 +67,7 @@ pub extern "C" fn fots_date_from_ordinal_date(year: i32, ordinal: u32) -> DateRe
 pub extern "C" fn fots_date_from_iso_week_date(year: i32, week: u32, weekday: u32) -> DateResult
     ensures { IsDateOfIsoWeekDate year week weekday result }
 {
-    let weekday = or_return!(valid_weekday(weekday), DateResult::error(INVALID_WEEKDAY));
+    let weekday = or_error!(DateResult, valid_weekday(weekday), INVALID_WEEKDAY);
     ok_or_error!(
         DateResult,
         Date::from_iso_week_date(year, week_or_invalid(year, week), weekday)

@@ -20,7 +20,7 @@ pub extern "C" fn fots_date_nth_next_occurrence(date: i32, weekday: u32, count: 
         need count ≤ 255 else result ≡ date_error invalid_count then
         result ≡ date_or_out_of_range (kth count (next_occurrences (weekday - 1) (day_of date))) }
 {
-    let number = or_return!(day_number(date), DateResult::error(INVALID_DATE));
+    let number = or_error!(DateResult, day_number(date), INVALID_DATE);
     if weekday == 0 || weekday > 7 {
         return DateResult::error(INVALID_WEEKDAY);
     }
@@ -39,7 +39,7 @@ pub extern "C" fn fots_date_nth_prev_occurrence(date: i32, weekday: u32, count: 
         need count ≤ 255 else result ≡ date_error invalid_count then
         result ≡ date_or_out_of_range (kth count (prev_occurrences (weekday - 1) (day_of date))) }
 {
-    let number = or_return!(day_number(date), DateResult::error(INVALID_DATE));
+    let number = or_error!(DateResult, day_number(date), INVALID_DATE);
     if weekday == 0 || weekday > 7 {
         return DateResult::error(INVALID_WEEKDAY);
     }
@@ -57,7 +57,7 @@ pub extern "C" fn fots_date_next_occurrence(date: i32, weekday: u32) -> DateResu
         need IsWeekday weekday else result ≡ date_error invalid_weekday then
         result ≡ date_or_out_of_range (kth 1 (next_occurrences (weekday - 1) (day_of date))) }
 {
-    let number = or_return!(day_number(date), DateResult::error(INVALID_DATE));
+    let number = or_error!(DateResult, day_number(date), INVALID_DATE);
     if weekday == 0 || weekday > 7 {
         return DateResult::error(INVALID_WEEKDAY);
     }
@@ -72,7 +72,7 @@ pub extern "C" fn fots_date_prev_occurrence(date: i32, weekday: u32) -> DateResu
         need IsWeekday weekday else result ≡ date_error invalid_weekday then
         result ≡ date_or_out_of_range (kth 1 (prev_occurrences (weekday - 1) (day_of date))) }
 {
-    let number = or_return!(day_number(date), DateResult::error(INVALID_DATE));
+    let number = or_error!(DateResult, day_number(date), INVALID_DATE);
     if weekday == 0 || weekday > 7 {
         return DateResult::error(INVALID_WEEKDAY);
     }

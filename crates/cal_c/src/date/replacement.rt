@@ -19,7 +19,7 @@ pub extern "C" fn fots_date_replace_year(date: i32, year: i32) -> DateResult
         need IsDayOfMonth year (month_at n) (day_of_month_at n) else result ≡ date_error day_status then
         IsDateWith (HasCalendarDate year (month_at n) (day_of_month_at n)) result }
 {
-    let date = or_return!(valid_date(date), DateResult::error(INVALID_DATE));
+    let date = or_error!(DateResult, valid_date(date), INVALID_DATE);
     ok_or_error!(DateResult, date.replace_year(year))
 }
 
@@ -33,8 +33,8 @@ pub extern "C" fn fots_date_replace_month(date: i32, month: u32) -> DateResult
         need IsDayOfMonth (year_at n) month (day_of_month_at n) else result ≡ date_error day_status then
         IsDateWith (HasCalendarDate (year_at n) month (day_of_month_at n)) result }
 {
-    let date = or_return!(valid_date(date), DateResult::error(INVALID_DATE));
-    let month = or_return!(valid_month(month), DateResult::error(MONTH_OUT_OF_RANGE));
+    let date = or_error!(DateResult, valid_date(date), INVALID_DATE);
+    let month = or_error!(DateResult, valid_month(month), MONTH_OUT_OF_RANGE);
     ok_or_error!(DateResult, date.replace_month(month))
 }
 
@@ -46,7 +46,7 @@ pub extern "C" fn fots_date_replace_day(date: i32, day: u32) -> DateResult
         need IsDayOfMonth (year_at n) (month_at n) day else result ≡ date_error day_status then
         IsDateWith (HasCalendarDate (year_at n) (month_at n) day) result }
 {
-    let date = or_return!(valid_date(date), DateResult::error(INVALID_DATE));
+    let date = or_error!(DateResult, valid_date(date), INVALID_DATE);
     ok_or_error!(DateResult, date.replace_day(day_or_invalid(day)))
 }
 
@@ -58,7 +58,7 @@ pub extern "C" fn fots_date_replace_ordinal(date: i32, ordinal: u32) -> DateResu
         need IsOrdinal (year_at n) ordinal else result ≡ date_error ordinal_status then
         IsDateWith (HasOrdinalDate (year_at n) ordinal) result }
 {
-    let date = or_return!(valid_date(date), DateResult::error(INVALID_DATE));
+    let date = or_error!(DateResult, valid_date(date), INVALID_DATE);
     ok_or_error!(
         DateResult,
         date.replace_ordinal(ordinal_or_invalid(ordinal))

@@ -17,14 +17,8 @@ pub extern "C" fn fots_duration_checked_add(duration: Duration, other: Duration)
     ensures value { IsDurationPair duration → IsDurationPair other
         → IsDurationOrOutOfRange (nanoseconds_in duration +ℤ nanoseconds_in other) result }
 {
-    let duration = or_return!(
-        valid_duration(duration),
-        DurationResult::error(INVALID_DURATION)
-    );
-    let other = or_return!(
-        valid_duration(other),
-        DurationResult::error(INVALID_DURATION)
-    );
+    let duration = or_error!(DurationResult, valid_duration(duration), INVALID_DURATION);
+    let other = or_error!(DurationResult, valid_duration(other), INVALID_DURATION);
     DurationResult::from_option(duration.checked_add(other))
 }
 
@@ -39,14 +33,8 @@ pub extern "C" fn fots_duration_saturating_add(
     ensures value { IsDurationPair duration → IsDurationPair other
         → result ≡ duration_ok (clamp (nanoseconds_in duration +ℤ nanoseconds_in other)) }
 {
-    let duration = or_return!(
-        valid_duration(duration),
-        DurationResult::error(INVALID_DURATION)
-    );
-    let other = or_return!(
-        valid_duration(other),
-        DurationResult::error(INVALID_DURATION)
-    );
+    let duration = or_error!(DurationResult, valid_duration(duration), INVALID_DURATION);
+    let other = or_error!(DurationResult, valid_duration(other), INVALID_DURATION);
     DurationResult::ok(duration.saturating_add(other))
 }
 
@@ -58,14 +46,8 @@ pub extern "C" fn fots_duration_checked_sub(duration: Duration, other: Duration)
     ensures value { IsDurationPair duration → IsDurationPair other
         → IsDurationOrOutOfRange (nanoseconds_in duration -ℤ nanoseconds_in other) result }
 {
-    let duration = or_return!(
-        valid_duration(duration),
-        DurationResult::error(INVALID_DURATION)
-    );
-    let other = or_return!(
-        valid_duration(other),
-        DurationResult::error(INVALID_DURATION)
-    );
+    let duration = or_error!(DurationResult, valid_duration(duration), INVALID_DURATION);
+    let other = or_error!(DurationResult, valid_duration(other), INVALID_DURATION);
     DurationResult::from_option(duration.checked_sub(other))
 }
 
@@ -80,14 +62,8 @@ pub extern "C" fn fots_duration_saturating_sub(
     ensures value { IsDurationPair duration → IsDurationPair other
         → result ≡ duration_ok (clamp (nanoseconds_in duration -ℤ nanoseconds_in other)) }
 {
-    let duration = or_return!(
-        valid_duration(duration),
-        DurationResult::error(INVALID_DURATION)
-    );
-    let other = or_return!(
-        valid_duration(other),
-        DurationResult::error(INVALID_DURATION)
-    );
+    let duration = or_error!(DurationResult, valid_duration(duration), INVALID_DURATION);
+    let other = or_error!(DurationResult, valid_duration(other), INVALID_DURATION);
     DurationResult::ok(duration.saturating_sub(other))
 }
 
@@ -98,10 +74,7 @@ pub extern "C" fn fots_duration_checked_mul(duration: Duration, factor: i32) -> 
     ensures value { IsDurationPair duration
         → IsDurationOrOutOfRange (nanoseconds_in duration *ℤ factor) result }
 {
-    let duration = or_return!(
-        valid_duration(duration),
-        DurationResult::error(INVALID_DURATION)
-    );
+    let duration = or_error!(DurationResult, valid_duration(duration), INVALID_DURATION);
     DurationResult::from_option(duration.checked_mul(factor))
 }
 
@@ -112,10 +85,7 @@ pub extern "C" fn fots_duration_checked_div(duration: Duration, divisor: i32) ->
         need HasQuotient (nanoseconds_in duration) divisor else result ≡ duration_error result_out_of_range then
         result ≡ duration_ok (cut (nanoseconds_in duration) divisor) }
 {
-    let duration = or_return!(
-        valid_duration(duration),
-        DurationResult::error(INVALID_DURATION)
-    );
+    let duration = or_error!(DurationResult, valid_duration(duration), INVALID_DURATION);
     DurationResult::from_option(duration.checked_div(divisor))
 }
 
@@ -126,10 +96,7 @@ pub extern "C" fn fots_duration_checked_neg(duration: Duration) -> DurationResul
     ensures value { IsDurationPair duration
         → IsDurationOrOutOfRange (neg_ℤ (nanoseconds_in duration)) result }
 {
-    let duration = or_return!(
-        valid_duration(duration),
-        DurationResult::error(INVALID_DURATION)
-    );
+    let duration = or_error!(DurationResult, valid_duration(duration), INVALID_DURATION);
     DurationResult::from_option(duration.checked_neg())
 }
 
@@ -140,10 +107,7 @@ pub extern "C" fn fots_duration_saturating_mul(duration: Duration, factor: i32) 
     ensures value { IsDurationPair duration
         → result ≡ duration_ok (clamp (nanoseconds_in duration *ℤ factor)) }
 {
-    let duration = or_return!(
-        valid_duration(duration),
-        DurationResult::error(INVALID_DURATION)
-    );
+    let duration = or_error!(DurationResult, valid_duration(duration), INVALID_DURATION);
     DurationResult::ok(duration.saturating_mul(factor))
 }
 
@@ -154,10 +118,7 @@ pub extern "C" fn fots_duration_abs(duration: Duration) -> DurationResult
     ensures value { IsDurationPair duration
         → result ≡ duration_ok (clamp (pos (unsigned_abs (nanoseconds_in duration)))) }
 {
-    let duration = or_return!(
-        valid_duration(duration),
-        DurationResult::error(INVALID_DURATION)
-    );
+    let duration = or_error!(DurationResult, valid_duration(duration), INVALID_DURATION);
     DurationResult::ok(duration.abs())
 }
 
@@ -176,11 +137,8 @@ pub extern "C" fn fots_duration_compare(duration: Duration, other: Duration) -> 
         → nanoseconds_in other <ℤ nanoseconds_in duration
         → result ≡ number_ok (pos 1) }
 {
-    let duration = or_return!(
-        valid_duration(duration),
-        NumberResult::error(INVALID_DURATION)
-    );
-    let other = or_return!(valid_duration(other), NumberResult::error(INVALID_DURATION));
+    let duration = or_error!(NumberResult, valid_duration(duration), INVALID_DURATION);
+    let other = or_error!(NumberResult, valid_duration(other), INVALID_DURATION);
     if duration < other {
         NumberResult::ok(-1)
     } else if other < duration {

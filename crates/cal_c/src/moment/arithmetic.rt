@@ -21,11 +21,8 @@ pub extern "C" fn fots_moment_checked_add(moment: Moment, duration: Duration) ->
         need IsDurationPair duration else result ≡ moment_error invalid_duration then
         IsMomentOrError result_out_of_range (local_in moment +ℤ nanoseconds_in duration) moment.offset result }
 {
-    let moment = or_return!(valid_moment(moment), MomentResult::error(INVALID_MOMENT));
-    let duration = or_return!(
-        valid_duration(duration),
-        MomentResult::error(INVALID_DURATION)
-    );
+    let moment = or_error!(MomentResult, valid_moment(moment), INVALID_MOMENT);
+    let duration = or_error!(MomentResult, valid_duration(duration), INVALID_DURATION);
     add_duration(moment, duration)
 }
 
@@ -47,11 +44,8 @@ pub extern "C" fn fots_moment_checked_sub(moment: Moment, duration: Duration) ->
         need IsDurationPair duration else result ≡ moment_error invalid_duration then
         IsMomentOrError result_out_of_range (local_in moment -ℤ nanoseconds_in duration) moment.offset result }
 {
-    let moment = or_return!(valid_moment(moment), MomentResult::error(INVALID_MOMENT));
-    let duration = or_return!(
-        valid_duration(duration),
-        MomentResult::error(INVALID_DURATION)
-    );
+    let moment = or_error!(MomentResult, valid_moment(moment), INVALID_MOMENT);
+    let duration = or_error!(MomentResult, valid_duration(duration), INVALID_DURATION);
     sub_duration(moment, duration)
 }
 
@@ -78,11 +72,8 @@ pub extern "C" fn fots_moment_saturating_add(moment: Moment, duration: Duration)
           offset = moment.offset;
         }) }
 {
-    let moment = or_return!(valid_moment(moment), MomentResult::error(INVALID_MOMENT));
-    let duration = or_return!(
-        valid_duration(duration),
-        MomentResult::error(INVALID_DURATION)
-    );
+    let moment = or_error!(MomentResult, valid_moment(moment), INVALID_MOMENT);
+    let duration = or_error!(MomentResult, valid_duration(duration), INVALID_DURATION);
     MomentResult::ok(moment.saturating_add(duration))
 }
 
@@ -98,11 +89,8 @@ pub extern "C" fn fots_moment_saturating_sub(moment: Moment, duration: Duration)
           offset = moment.offset;
         }) }
 {
-    let moment = or_return!(valid_moment(moment), MomentResult::error(INVALID_MOMENT));
-    let duration = or_return!(
-        valid_duration(duration),
-        MomentResult::error(INVALID_DURATION)
-    );
+    let moment = or_error!(MomentResult, valid_moment(moment), INVALID_MOMENT);
+    let duration = or_error!(MomentResult, valid_duration(duration), INVALID_DURATION);
     MomentResult::ok(moment.saturating_sub(duration))
 }
 
@@ -114,8 +102,8 @@ pub extern "C" fn fots_moment_duration_since(moment: Moment, other: Moment) -> D
     ensures value { IsMoment moment → IsMoment other
         → result ≡ duration_ok (instant (local_and_offset_in moment) -ℤ instant (local_and_offset_in other)) }
 {
-    let moment = or_return!(valid_moment(moment), DurationResult::error(INVALID_MOMENT));
-    let other = or_return!(valid_moment(other), DurationResult::error(INVALID_MOMENT));
+    let moment = or_error!(DurationResult, valid_moment(moment), INVALID_MOMENT);
+    let other = or_error!(DurationResult, valid_moment(other), INVALID_MOMENT);
     DurationResult::ok(moment - other)
 }
 
@@ -133,8 +121,8 @@ pub extern "C" fn fots_moment_compare(moment: Moment, other: Moment) -> NumberRe
         → instant (local_and_offset_in other) <ℤ instant (local_and_offset_in moment)
         → result ≡ number_ok (pos 1) }
 {
-    let moment = or_return!(valid_moment(moment), NumberResult::error(INVALID_MOMENT));
-    let other = or_return!(valid_moment(other), NumberResult::error(INVALID_MOMENT));
+    let moment = or_error!(NumberResult, valid_moment(moment), INVALID_MOMENT);
+    let other = or_error!(NumberResult, valid_moment(other), INVALID_MOMENT);
     if moment < other {
         NumberResult::ok(-1)
     } else if other < moment {

@@ -26,9 +26,9 @@ pub extern "C" fn fots_moment_new(date: i32, time: u64, offset: i32) -> MomentRe
     ensures value { IsJulianDay date → IsTime time → IsOffset offset
         → result ≡ moment_ok (moment_of date time offset) }
 {
-    let date = or_return!(valid_date(date), MomentResult::error(INVALID_DATE));
-    let time = or_return!(valid_time(time), MomentResult::error(INVALID_TIME));
-    let offset = or_return!(valid_offset(offset), MomentResult::error(INVALID_OFFSET));
+    let date = or_error!(MomentResult, valid_date(date), INVALID_DATE);
+    let time = or_error!(MomentResult, valid_time(time), INVALID_TIME);
+    let offset = or_error!(MomentResult, valid_offset(offset), INVALID_OFFSET);
     MomentResult::ok(OffsetDateTime::new_in_offset(date, time, offset))
 }
 
@@ -39,8 +39,8 @@ pub extern "C" fn fots_moment_to_offset(moment: Moment, offset: i32) -> MomentRe
         need IsOffset offset else result ≡ moment_error invalid_offset then
         IsMomentOrError result_out_of_range (local_at (instant (local_and_offset_in moment)) offset) offset result }
 {
-    let moment = or_return!(valid_moment(moment), MomentResult::error(INVALID_MOMENT));
-    let offset = or_return!(valid_offset(offset), MomentResult::error(INVALID_OFFSET));
+    let moment = or_error!(MomentResult, valid_moment(moment), INVALID_MOMENT);
+    let offset = or_error!(MomentResult, valid_offset(offset), INVALID_OFFSET);
     at_offset(moment, offset)
 }
 
@@ -62,7 +62,7 @@ pub extern "C" fn fots_moment_replace_offset(moment: Moment, offset: i32) -> Mom
         need IsOffset offset else result ≡ moment_error invalid_offset then
         result ≡ moment_ok (record { local = local_in moment; offset = offset }) }
 {
-    let moment = or_return!(valid_moment(moment), MomentResult::error(INVALID_MOMENT));
-    let offset = or_return!(valid_offset(offset), MomentResult::error(INVALID_OFFSET));
+    let moment = or_error!(MomentResult, valid_moment(moment), INVALID_MOMENT);
+    let offset = or_error!(MomentResult, valid_offset(offset), INVALID_OFFSET);
     MomentResult::ok(moment.replace_offset(offset))
 }

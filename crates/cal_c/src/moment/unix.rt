@@ -31,10 +31,7 @@ pub extern "C" fn fots_moment_from_unix_time(duration: Duration) -> MomentResult
     ensures value { IsDurationPair duration
         → IsMomentOrError timestamp_status (unix_epoch +ℤ nanoseconds_in duration) (pos 0) result }
 {
-    let duration = or_return!(
-        valid_duration(duration),
-        MomentResult::error(INVALID_DURATION)
-    );
+    let duration = or_error!(MomentResult, valid_duration(duration), INVALID_DURATION);
     moment_at_unix_time(duration)
 }
 
@@ -54,7 +51,7 @@ pub extern "C" fn fots_moment_unix_timestamp(moment: Moment) -> Int64Result
     ensures value { IsMoment moment → result
         ≡ int64_ok (unix_seconds (instant (local_and_offset_in moment))) }
 {
-    let moment = or_return!(valid_moment(moment), Int64Result::error(INVALID_MOMENT));
+    let moment = or_error!(Int64Result, valid_moment(moment), INVALID_MOMENT);
     Int64Result::ok(moment.unix_timestamp())
 }
 
@@ -65,6 +62,6 @@ pub extern "C" fn fots_moment_unix_time(moment: Moment) -> DurationResult
     ensures value { IsMoment moment → result
         ≡ duration_ok (unix_nanoseconds (instant (local_and_offset_in moment))) }
 {
-    let moment = or_return!(valid_moment(moment), DurationResult::error(INVALID_MOMENT));
+    let moment = or_error!(DurationResult, valid_moment(moment), INVALID_MOMENT);
     DurationResult::ok(moment - OffsetDateTime::unix_epoch())
 }

@@ -19,7 +19,7 @@ use cal_schedule::{checked_add_months, checked_add_years, saturating_add_months}
 pub extern "C" fn fots_date_add_months(date: i32, months: i32) -> DateResult
     ensures { IsDateMonthsLater date months result }
 {
-    let date = or_return!(valid_date(date), DateResult::error(INVALID_DATE));
+    let date = or_error!(DateResult, valid_date(date), INVALID_DATE);
     DateResult::from_option(checked_add_months(date, months))
 }
 
@@ -36,7 +36,7 @@ pub extern "C" fn fots_date_saturating_add_months(date: i32, months: i32) -> Dat
     ensures past { IsJulianDay date → ((last_year +ℤ pos 1) *ℤ pos 12)
         ≤ℤ (month_number_at (day_of date) +ℤ months) → result ≡ date_ok (julian_day_at last_day) }
 {
-    let date = or_return!(valid_date(date), DateResult::error(INVALID_DATE));
+    let date = or_error!(DateResult, valid_date(date), INVALID_DATE);
     DateResult::ok(saturating_add_months(date, months))
 }
 
@@ -49,6 +49,6 @@ pub extern "C" fn fots_date_add_years(date: i32, years: i32) -> DateResult
         need IsYear (year_at (day_of date) +ℤ years) else result ≡ date_error result_out_of_range then
         IsDateWith (IsMonthsLater (day_of date) (pos 12 *ℤ years)) result }
 {
-    let date = or_return!(valid_date(date), DateResult::error(INVALID_DATE));
+    let date = or_error!(DateResult, valid_date(date), INVALID_DATE);
     DateResult::from_option(checked_add_years(date, years))
 }

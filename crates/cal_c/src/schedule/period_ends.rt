@@ -23,7 +23,7 @@ pub extern "C" fn fots_date_first_of_month(date: i32) -> DateResult
     ensures value { IsJulianDay date → IsDateWith
         (HasCalendarDate (year_at (day_of date)) (month_at (day_of date)) 1) result }
 {
-    let date = or_return!(valid_date(date), DateResult::error(INVALID_DATE));
+    let date = or_error!(DateResult, valid_date(date), INVALID_DATE);
     DateResult::ok(first_of_month(date))
 }
 
@@ -35,7 +35,7 @@ pub extern "C" fn fots_date_last_of_month(date: i32) -> DateResult
         → IsDateWith (HasCalendarDate (year_at (day_of date)) (month_at (day_of date))
         (days_in_month (year_at (day_of date)) (month_at (day_of date)))) result }
 {
-    let date = or_return!(valid_date(date), DateResult::error(INVALID_DATE));
+    let date = or_error!(DateResult, valid_date(date), INVALID_DATE);
     DateResult::ok(last_of_month(date))
 }
 
@@ -45,7 +45,7 @@ pub extern "C" fn fots_date_quarter(date: i32) -> NumberResult
     ensures invalid_date { ¬ IsJulianDay date → result ≡ number_error invalid_date }
     ensures value { IsJulianDay date → result ≡ number_ok (pos (quarter_at (day_of date))) }
 {
-    let date = or_return!(valid_date(date), NumberResult::error(INVALID_DATE));
+    let date = or_error!(NumberResult, valid_date(date), INVALID_DATE);
     NumberResult::ok(i32::from(quarter(date)))
 }
 
@@ -56,7 +56,7 @@ pub extern "C" fn fots_date_first_of_quarter(date: i32) -> DateResult
     ensures value { IsJulianDay date → IsDateWith
         (HasCalendarDate (year_at (day_of date)) (3 * quarter_at (day_of date) - 2) 1) result }
 {
-    let date = or_return!(valid_date(date), DateResult::error(INVALID_DATE));
+    let date = or_error!(DateResult, valid_date(date), INVALID_DATE);
     DateResult::ok(first_of_quarter(date))
 }
 
@@ -68,7 +68,7 @@ pub extern "C" fn fots_date_last_of_quarter(date: i32) -> DateResult
         → IsDateWith (HasCalendarDate (year_at (day_of date)) (3 * quarter_at (day_of date))
         (days_in_month (year_at (day_of date)) (3 * quarter_at (day_of date)))) result }
 {
-    let date = or_return!(valid_date(date), DateResult::error(INVALID_DATE));
+    let date = or_error!(DateResult, valid_date(date), INVALID_DATE);
     DateResult::ok(last_of_quarter(date))
 }
 
@@ -79,7 +79,7 @@ pub extern "C" fn fots_date_first_of_year(date: i32) -> DateResult
     ensures value { IsJulianDay date → IsDateWith
         (HasCalendarDate (year_at (day_of date)) 1 1) result }
 {
-    let date = or_return!(valid_date(date), DateResult::error(INVALID_DATE));
+    let date = or_error!(DateResult, valid_date(date), INVALID_DATE);
     DateResult::ok(first_of_year(date))
 }
 
@@ -90,7 +90,7 @@ pub extern "C" fn fots_date_last_of_year(date: i32) -> DateResult
     ensures value { IsJulianDay date → IsDateWith
         (HasCalendarDate (year_at (day_of date)) 12 31) result }
 {
-    let date = or_return!(valid_date(date), DateResult::error(INVALID_DATE));
+    let date = or_error!(DateResult, valid_date(date), INVALID_DATE);
     DateResult::ok(last_of_year(date))
 }
 
@@ -101,7 +101,7 @@ pub extern "C" fn fots_date_first_of_iso_week(date: i32) -> DateResult
     ensures value { IsJulianDay date → IsDateWith
         (HasIsoWeekDate (iso_year_at (day_of date)) (iso_week_at (day_of date)) 0) result }
 {
-    let date = or_return!(valid_date(date), DateResult::error(INVALID_DATE));
+    let date = or_error!(DateResult, valid_date(date), INVALID_DATE);
     DateResult::ok(first_of_iso_week(date))
 }
 
@@ -115,6 +115,6 @@ pub extern "C" fn fots_date_last_of_iso_week(date: i32) -> DateResult
     ensures value { IsJulianDay date → day_of date + 6 ≤ last_day + weekday_at (day_of date)
         → result ≡ date_ok (julian_day_at (day_of date + 6 - weekday_at (day_of date))) }
 {
-    let date = or_return!(valid_date(date), DateResult::error(INVALID_DATE));
+    let date = or_error!(DateResult, valid_date(date), INVALID_DATE);
     DateResult::from_option(last_of_iso_week(date))
 }

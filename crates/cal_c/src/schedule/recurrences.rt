@@ -55,7 +55,7 @@ pub extern "C" fn fots_rule_next_after(rule: &RuleParts<'_>, date: i32) -> DateR
         × (result ≡ date_or_out_of_range (slice_get (occurrences_after its (day_of date)) 0))) }
 {
     let found = or_return!(OwnedRule::from_parts(rule), status => DateResult::error(status));
-    let date = or_return!(valid_date(date), DateResult::error(INVALID_DATE));
+    let date = or_error!(DateResult, valid_date(date), INVALID_DATE);
     DateResult::from_option(found.rule().next_after(date))
 }
 
@@ -70,7 +70,7 @@ pub extern "C" fn fots_rule_contains(rule: &RuleParts<'_>, date: i32) -> NumberR
         × (result ≡ number_ok (if is_occurrence its (day_of date) then pos 1 else pos 0))) }
 {
     let found = or_return!(OwnedRule::from_parts(rule), status => NumberResult::error(status));
-    let date = or_return!(valid_date(date), NumberResult::error(INVALID_DATE));
+    let date = or_error!(NumberResult, valid_date(date), INVALID_DATE);
     NumberResult::ok(i32::from(found.rule().contains(date)))
 }
 
@@ -92,7 +92,7 @@ pub extern "C" fn fots_rule_days_after(
         × AreDatesWritten (occurrences_after its (day_of date)) days.old days.new result.length) }
 {
     let found = or_return!(OwnedRule::from_parts(rule), status => DaysResult::error(status));
-    let date = or_return!(valid_date(date), DaysResult::error(INVALID_DATE));
+    let date = or_error!(DaysResult, valid_date(date), INVALID_DATE);
     DaysResult::ok(write_days(&found.rule(), date, days))
 }
 

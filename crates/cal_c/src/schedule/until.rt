@@ -22,8 +22,8 @@ pub extern "C" fn fots_date_months_until(date: i32, other: i32) -> NumberResult
     ensures value_backward { IsJulianDay date → IsJulianDay other → other <ℤ date
         → IsNumberWith (IsLeast (IsMonthsBackTo (day_of date) (day_of other))) result }
 {
-    let date = or_return!(valid_date(date), NumberResult::error(INVALID_DATE));
-    let other = or_return!(valid_date(other), NumberResult::error(INVALID_DATE));
+    let date = or_error!(NumberResult, valid_date(date), INVALID_DATE);
+    let other = or_error!(NumberResult, valid_date(other), INVALID_DATE);
     NumberResult::ok(months_until(date, other))
 }
 
@@ -39,8 +39,8 @@ pub extern "C" fn fots_date_years_until(date: i32, other: i32) -> NumberResult
         → IsNumberWith (IsLeast (λ years.
         IsMonthsBackTo (day_of date) (day_of other) (pos 12 *ℤ years))) result }
 {
-    let date = or_return!(valid_date(date), NumberResult::error(INVALID_DATE));
-    let other = or_return!(valid_date(other), NumberResult::error(INVALID_DATE));
+    let date = or_error!(NumberResult, valid_date(date), INVALID_DATE);
+    let other = or_error!(NumberResult, valid_date(other), INVALID_DATE);
     NumberResult::ok(years_until(date, other))
 }
 
@@ -65,7 +65,7 @@ pub extern "C" fn fots_date_period_until(date: i32, other: i32) -> PeriodResult
         → (result.years ≤ℤ pos 0) × (neg_ℤ (pos 11) ≤ℤ result.months) × (result.months ≤ℤ pos 0)
         × (result.days ≤ℤ pos 0) }
 {
-    let date = or_return!(valid_date(date), PeriodResult::error(INVALID_DATE));
-    let other = or_return!(valid_date(other), PeriodResult::error(INVALID_DATE));
+    let date = or_error!(PeriodResult, valid_date(date), INVALID_DATE);
+    let other = or_error!(PeriodResult, valid_date(other), INVALID_DATE);
     PeriodResult::ok(period_until(date, other))
 }

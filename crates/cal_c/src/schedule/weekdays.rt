@@ -33,8 +33,8 @@ pub extern "C" fn fots_date_nth_weekday_of_month(
         → IsNthWeekday year month (weekday - 1) n k
         → result ≡ date_ok (julian_day_at k) }
 {
-    let month = or_return!(valid_month(month), DateResult::error(MONTH_OUT_OF_RANGE));
-    let weekday = or_return!(valid_weekday(weekday), DateResult::error(INVALID_WEEKDAY));
+    let month = or_error!(DateResult, valid_month(month), MONTH_OUT_OF_RANGE);
+    let weekday = or_error!(DateResult, valid_weekday(weekday), INVALID_WEEKDAY);
     if n > 255 {
         return DateResult::error(INVALID_COUNT);
     }
@@ -56,8 +56,8 @@ pub extern "C" fn fots_date_last_weekday_of_month(year: i32, month: u32, weekday
         → IsLastWeekday year month (weekday - 1) k
         → result ≡ date_ok (julian_day_at k) }
 {
-    let month = or_return!(valid_month(month), DateResult::error(MONTH_OUT_OF_RANGE));
-    let weekday = or_return!(valid_weekday(weekday), DateResult::error(INVALID_WEEKDAY));
+    let month = or_error!(DateResult, valid_month(month), MONTH_OUT_OF_RANGE);
+    let weekday = or_error!(DateResult, valid_weekday(weekday), INVALID_WEEKDAY);
     ok_or_error!(DateResult, last_weekday_of_month(year, month, weekday))
 }
 
@@ -69,8 +69,8 @@ pub extern "C" fn fots_date_on_or_after(date: i32, weekday: u32) -> DateResult
         need IsWeekday weekday else result ≡ date_error invalid_weekday then
         result ≡ date_or_out_of_range (slice_get (occurrences_from (weekday - 1) (day_of date)) 0) }
 {
-    let date = or_return!(valid_date(date), DateResult::error(INVALID_DATE));
-    let weekday = or_return!(valid_weekday(weekday), DateResult::error(INVALID_WEEKDAY));
+    let date = or_error!(DateResult, valid_date(date), INVALID_DATE);
+    let weekday = or_error!(DateResult, valid_weekday(weekday), INVALID_WEEKDAY);
     DateResult::from_option(on_or_after(date, weekday))
 }
 
@@ -82,7 +82,7 @@ pub extern "C" fn fots_date_on_or_before(date: i32, weekday: u32) -> DateResult
         need IsWeekday weekday else result ≡ date_error invalid_weekday then
         result ≡ date_or_out_of_range (slice_get (occurrences_upto (weekday - 1) (day_of date)) 0) }
 {
-    let date = or_return!(valid_date(date), DateResult::error(INVALID_DATE));
-    let weekday = or_return!(valid_weekday(weekday), DateResult::error(INVALID_WEEKDAY));
+    let date = or_error!(DateResult, valid_date(date), INVALID_DATE);
+    let weekday = or_error!(DateResult, valid_weekday(weekday), INVALID_WEEKDAY);
     DateResult::from_option(on_or_before(date, weekday))
 }

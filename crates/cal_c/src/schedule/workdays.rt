@@ -36,7 +36,7 @@ pub extern "C" fn fots_date_is_workday(date: i32, weekmask: u32, holidays: &[i32
         → result ≡ number_ok (if is_workday (work_week weekmask holidays.now)
         (day_of date) then pos 1 else pos 0) }
 {
-    let date = or_return!(valid_date(date), NumberResult::error(INVALID_DATE));
+    let date = or_error!(NumberResult, valid_date(date), INVALID_DATE);
     let calendar =
         or_return!(Calendar::from_c(weekmask, holidays), status => NumberResult::error(status));
     NumberResult::ok(i32::from(calendar.workdays().is_workday(date)))
@@ -57,7 +57,7 @@ pub extern "C" fn fots_date_next_workday(date: i32, weekmask: u32, holidays: &[i
         → result ≡ date_or_out_of_range (slice_get
         (workdays_from (work_week weekmask holidays.now) (day_of date + 1)) 0) }
 {
-    let date = or_return!(valid_date(date), DateResult::error(INVALID_DATE));
+    let date = or_error!(DateResult, valid_date(date), INVALID_DATE);
     let calendar =
         or_return!(Calendar::from_c(weekmask, holidays), status => DateResult::error(status));
     DateResult::from_option(calendar.workdays().next_workday(date))
@@ -82,7 +82,7 @@ pub extern "C" fn fots_date_previous_workday(
         → result ≡ date_or_out_of_range (slice_get
         (workdays_before (work_week weekmask holidays.now) (day_of date)) 0) }
 {
-    let date = or_return!(valid_date(date), DateResult::error(INVALID_DATE));
+    let date = or_error!(DateResult, valid_date(date), INVALID_DATE);
     let calendar =
         or_return!(Calendar::from_c(weekmask, holidays), status => DateResult::error(status));
     DateResult::from_option(calendar.workdays().previous_workday(date))
@@ -111,7 +111,7 @@ fn workdays_later_result(date: i32, days: i32, calendar: &Result<Calendar, i32>)
     ensures value { IsJulianDay date → IfOk calendar.now
         (λ w. result ≡ date_or_out_of_range (nth_workday w days (day_of date))) }
 {
-    let date = or_return!(valid_date(date), DateResult::error(INVALID_DATE));
+    let date = or_error!(DateResult, valid_date(date), INVALID_DATE);
     match calendar {
         Ok(calendar) => {
             DateResult::from_option(calendar.workdays().checked_add_workdays(date, days))
@@ -144,8 +144,8 @@ fn workdays_between_result(date: i32, other: i32, calendar: &Result<Calendar, i3
         → IfOk calendar.now (λ w. result
         ≡ number_ok (workdays_between w (day_of date) (day_of other))) }
 {
-    let date = or_return!(valid_date(date), NumberResult::error(INVALID_DATE));
-    let other = or_return!(valid_date(other), NumberResult::error(INVALID_DATE));
+    let date = or_error!(NumberResult, valid_date(date), INVALID_DATE);
+    let other = or_error!(NumberResult, valid_date(other), INVALID_DATE);
     let calendar = or_return!(calendar, status => NumberResult::error(*status));
     NumberResult::ok(calendar.workdays().workdays_between(date, other))
 }
@@ -190,11 +190,8 @@ pub extern "C" fn fots_date_adjust(
         → (c : Convention) → convention_number c ≡ convention
         → result ≡ date_or_out_of_range (adjusted_date (work_week weekmask holidays.now) c (day_of date)) }
 {
-    let date = or_return!(valid_date(date), DateResult::error(INVALID_DATE));
-    let convention = or_return!(
-        valid_convention(convention),
-        DateResult::error(INVALID_CONVENTION)
-    );
+    let date = or_error!(DateResult, valid_date(date), INVALID_DATE);
+    let convention = or_error!(DateResult, valid_convention(convention), INVALID_CONVENTION);
     let calendar =
         or_return!(Calendar::from_c(weekmask, holidays), status => DateResult::error(status));
     DateResult::from_option(calendar.workdays().adjust(date, convention))

@@ -40,8 +40,8 @@ pub extern "C" fn fots_date_day_count(date: i32, other: i32, convention: u32) ->
         → result ≡ year_fraction_ok (day_count_numerator c (day_of date) (day_of other))
         (day_count_denominator c) }
 {
-    let date = or_return!(valid_date(date), YearFractionResult::error(INVALID_DATE));
-    let other = or_return!(valid_date(other), YearFractionResult::error(INVALID_DATE));
+    let date = or_error!(YearFractionResult, valid_date(date), INVALID_DATE);
+    let other = or_error!(YearFractionResult, valid_date(other), INVALID_DATE);
     let convention = or_return!(
         valid_day_count(convention),
         YearFractionResult::error(INVALID_CONVENTION)

@@ -29,7 +29,7 @@ pub extern "C" fn fots_date_calendar_text(date: i32) -> TextResult
     ensures invalid_date { ¬ IsJulianDay date → result ≡ text_error invalid_date }
     ensures value { IsJulianDay date → result ≡ text_ok (text (day_of date)) }
 {
-    let date = or_return!(valid_date(date), TextResult::error(INVALID_DATE));
+    let date = or_error!(TextResult, valid_date(date), INVALID_DATE);
     TextResult::ok(CalendarText(date).text().as_bytes())
 }
 
@@ -39,7 +39,7 @@ pub extern "C" fn fots_date_ordinal_text(date: i32) -> TextResult
     ensures invalid_date { ¬ IsJulianDay date → result ≡ text_error invalid_date }
     ensures value { IsJulianDay date → result ≡ text_ok (ordinal_text (day_of date)) }
 {
-    let date = or_return!(valid_date(date), TextResult::error(INVALID_DATE));
+    let date = or_error!(TextResult, valid_date(date), INVALID_DATE);
     TextResult::ok(OrdinalText(date).text().as_bytes())
 }
 
@@ -49,7 +49,7 @@ pub extern "C" fn fots_date_week_text(date: i32) -> TextResult
     ensures invalid_date { ¬ IsJulianDay date → result ≡ text_error invalid_date }
     ensures value { IsJulianDay date → result ≡ text_ok (week_text (day_of date)) }
 {
-    let date = or_return!(valid_date(date), TextResult::error(INVALID_DATE));
+    let date = or_error!(TextResult, valid_date(date), INVALID_DATE);
     TextResult::ok(WeekText(date).text().as_bytes())
 }
 
@@ -59,7 +59,7 @@ pub extern "C" fn fots_date_julian_text(date: i32) -> TextResult
     ensures invalid_date { ¬ IsJulianDay date → result ≡ text_error invalid_date }
     ensures value { IsJulianDay date → result ≡ text_ok (julian_text (day_of date)) }
 {
-    let date = or_return!(valid_date(date), TextResult::error(INVALID_DATE));
+    let date = or_error!(TextResult, valid_date(date), INVALID_DATE);
     TextResult::ok(JulianText(date).text().as_bytes())
 }
 
@@ -78,9 +78,9 @@ pub extern "C" fn fots_moment_text(date: i32, time: u64, offset: i32) -> TextRes
         → HasMomentText (moment_of date time offset)
         → result ≡ text_ok (moment_text (moment_of date time offset)) }
 {
-    let date = or_return!(valid_date(date), TextResult::error(INVALID_DATE));
-    let time = or_return!(valid_time(time), TextResult::error(INVALID_TIME));
-    let offset = or_return!(valid_offset(offset), TextResult::error(INVALID_OFFSET));
+    let date = or_error!(TextResult, valid_date(date), INVALID_DATE);
+    let time = or_error!(TextResult, valid_time(time), INVALID_TIME);
+    let offset = or_error!(TextResult, valid_offset(offset), INVALID_OFFSET);
     moment_text_result(OffsetDateTime::new_in_offset(date, time, offset))
 }
 
@@ -89,10 +89,7 @@ fn moment_text_result(moment: OffsetDateTime) -> TextResult
     ensures result_out_of_range { ¬ HasMomentText moment → result ≡ text_error result_out_of_range }
     ensures value { HasMomentText moment → result ≡ text_ok (moment_text moment) }
 {
-    let text = or_return!(
-        rfc3339::Text::new(moment),
-        TextResult::error(RESULT_OUT_OF_RANGE)
-    );
+    let text = or_error!(TextResult, rfc3339::Text::new(moment), RESULT_OUT_OF_RANGE);
     TextResult::ok(text.text().as_bytes())
 }
 
@@ -106,9 +103,9 @@ pub extern "C" fn fots_unix_text(date: i32, time: u64, offset: i32) -> TextResul
     ensures value { IsJulianDay date → IsTime time → IsOffset offset
         → result ≡ text_ok (unix_text (unix_nanoseconds (instant (moment_of date time offset)))) }
 {
-    let date = or_return!(valid_date(date), TextResult::error(INVALID_DATE));
-    let time = or_return!(valid_time(time), TextResult::error(INVALID_TIME));
-    let offset = or_return!(valid_offset(offset), TextResult::error(INVALID_OFFSET));
+    let date = or_error!(TextResult, valid_date(date), INVALID_DATE);
+    let time = or_error!(TextResult, valid_time(time), INVALID_TIME);
+    let offset = or_error!(TextResult, valid_offset(offset), INVALID_OFFSET);
     unix_text_result(OffsetDateTime::new_in_offset(date, time, offset))
 }
 
@@ -126,7 +123,7 @@ pub extern "C" fn fots_month_name(month: u32) -> TextResult
     ensures month { ¬ IsMonth month → result ≡ text_error month_status }
     ensures value { IsMonth month → result ≡ text_ok (month_name month) }
 {
-    let month = or_return!(valid_month(month), TextResult::error(MONTH_OUT_OF_RANGE));
+    let month = or_error!(TextResult, valid_month(month), MONTH_OUT_OF_RANGE);
     TextResult::ok(month.name().as_bytes())
 }
 
@@ -137,6 +134,6 @@ pub extern "C" fn fots_weekday_name(weekday: u32) -> TextResult
     ensures invalid_weekday { ¬ IsWeekday weekday → result ≡ text_error invalid_weekday }
     ensures value { IsWeekday weekday → result ≡ text_ok (weekday_name weekday) }
 {
-    let weekday = or_return!(valid_weekday(weekday), TextResult::error(INVALID_WEEKDAY));
+    let weekday = or_error!(TextResult, valid_weekday(weekday), INVALID_WEEKDAY);
     TextResult::ok(weekday.name().as_bytes())
 }

@@ -87,9 +87,9 @@ pub extern "C" fn fots_unix_time(date: i32, time: u64, offset: i32) -> DurationR
     ensures value { IsJulianDay date → IsTime time → IsOffset offset
         → result ≡ duration_ok (unix_nanoseconds (instant (moment_of date time offset))) }
 {
-    let date = or_return!(valid_date(date), DurationResult::error(INVALID_DATE));
-    let time = or_return!(valid_time(time), DurationResult::error(INVALID_TIME));
-    let offset = or_return!(valid_offset(offset), DurationResult::error(INVALID_OFFSET));
+    let date = or_error!(DurationResult, valid_date(date), INVALID_DATE);
+    let time = or_error!(DurationResult, valid_time(time), INVALID_TIME);
+    let offset = or_error!(DurationResult, valid_offset(offset), INVALID_OFFSET);
     let moment = OffsetDateTime::new_in_offset(date, time, offset);
     DurationResult::ok(moment - OffsetDateTime::unix_epoch())
 }
@@ -103,11 +103,8 @@ pub extern "C" fn fots_unix_pair(duration: Duration, offset: i32) -> PairResult
         need IsDateTime local else result ≡ pair_error result_out_of_range then
         result ≡ pair_at_local local }
 {
-    let duration = or_return!(
-        valid_duration(duration),
-        PairResult::error(INVALID_DURATION)
-    );
-    let offset = or_return!(valid_offset(offset), PairResult::error(INVALID_OFFSET));
+    let duration = or_error!(PairResult, valid_duration(duration), INVALID_DURATION);
+    let offset = or_error!(PairResult, valid_offset(offset), INVALID_OFFSET);
     let moment = or_return!(
         epoch_at_offset(offset).checked_add(duration),
         PairResult::error(RESULT_OUT_OF_RANGE)

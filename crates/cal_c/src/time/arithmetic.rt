@@ -16,11 +16,8 @@ pub extern "C" fn fots_time_add(time: u64, duration: Duration) -> TimeResult
         need IsDurationPair duration else result ≡ time_error invalid_duration then
         result ≡ time_ok (modulo_day (pos time +ℤ nanoseconds_in duration)) }
 {
-    let time = or_return!(valid_time(time), TimeResult::error(INVALID_TIME));
-    let duration = or_return!(
-        valid_duration(duration),
-        TimeResult::error(INVALID_DURATION)
-    );
+    let time = or_error!(TimeResult, valid_time(time), INVALID_TIME);
+    let duration = or_error!(TimeResult, valid_duration(duration), INVALID_DURATION);
     TimeResult::ok(time + duration)
 }
 
@@ -31,7 +28,7 @@ pub extern "C" fn fots_time_adjusting_add(time: u64, duration: Duration) -> Adju
         need IsDurationPair duration else result ≡ adjusted_time_error invalid_duration then
         IsAddAdjusted time (nanoseconds_in duration) result }
 {
-    let time = or_return!(valid_time(time), AdjustedTimeResult::error(INVALID_TIME));
+    let time = or_error!(AdjustedTimeResult, valid_time(time), INVALID_TIME);
     let duration = or_return!(
         valid_duration(duration),
         AdjustedTimeResult::error(INVALID_DURATION)
@@ -47,11 +44,8 @@ pub extern "C" fn fots_time_sub(time: u64, duration: Duration) -> TimeResult
         need IsDurationPair duration else result ≡ time_error invalid_duration then
         result ≡ time_ok (modulo_day (pos time -ℤ nanoseconds_in duration)) }
 {
-    let time = or_return!(valid_time(time), TimeResult::error(INVALID_TIME));
-    let duration = or_return!(
-        valid_duration(duration),
-        TimeResult::error(INVALID_DURATION)
-    );
+    let time = or_error!(TimeResult, valid_time(time), INVALID_TIME);
+    let duration = or_error!(TimeResult, valid_duration(duration), INVALID_DURATION);
     TimeResult::ok(time - duration)
 }
 
@@ -62,7 +56,7 @@ pub extern "C" fn fots_time_adjusting_sub(time: u64, duration: Duration) -> Adju
         need IsDurationPair duration else result ≡ adjusted_time_error invalid_duration then
         IsSubAdjusted time (nanoseconds_in duration) result }
 {
-    let time = or_return!(valid_time(time), AdjustedTimeResult::error(INVALID_TIME));
+    let time = or_error!(AdjustedTimeResult, valid_time(time), INVALID_TIME);
     let duration = or_return!(
         valid_duration(duration),
         AdjustedTimeResult::error(INVALID_DURATION)
@@ -78,8 +72,8 @@ pub extern "C" fn fots_time_duration_until(time: u64, other: u64) -> DurationRes
     ensures value { IsTime time → IsTime other
         → result ≡ duration_ok (pos (modulo_day (pos other -ℤ pos time))) }
 {
-    let time = or_return!(valid_time(time), DurationResult::error(INVALID_TIME));
-    let other = or_return!(valid_time(other), DurationResult::error(INVALID_TIME));
+    let time = or_error!(DurationResult, valid_time(time), INVALID_TIME);
+    let other = or_error!(DurationResult, valid_time(other), INVALID_TIME);
     DurationResult::ok(time.duration_until(other))
 }
 
@@ -90,8 +84,8 @@ pub extern "C" fn fots_time_duration_since(time: u64, other: u64) -> DurationRes
     ensures value { IsTime time → IsTime other
         → result ≡ duration_ok (pos (modulo_day (pos time -ℤ pos other))) }
 {
-    let time = or_return!(valid_time(time), DurationResult::error(INVALID_TIME));
-    let other = or_return!(valid_time(other), DurationResult::error(INVALID_TIME));
+    let time = or_error!(DurationResult, valid_time(time), INVALID_TIME);
+    let other = or_error!(DurationResult, valid_time(other), INVALID_TIME);
     DurationResult::ok(time.duration_since(other))
 }
 
@@ -101,7 +95,7 @@ pub extern "C" fn fots_time_difference(time: u64, other: u64) -> DurationResult
     ensures invalid_time { ¬ (IsTime time × IsTime other) → result ≡ duration_error invalid_time }
     ensures value { IsTime time → IsTime other → result ≡ duration_ok (pos time -ℤ pos other) }
 {
-    let time = or_return!(valid_time(time), DurationResult::error(INVALID_TIME));
-    let other = or_return!(valid_time(other), DurationResult::error(INVALID_TIME));
+    let time = or_error!(DurationResult, valid_time(time), INVALID_TIME);
+    let other = or_error!(DurationResult, valid_time(other), INVALID_TIME);
     DurationResult::ok(time - other)
 }

@@ -14,7 +14,7 @@ pub extern "C" fn fots_time_as_hms_nano(time: u64) -> HmsNanoResult
     ensures invalid_time { ¬ IsTime time → result ≡ hms_nano_error invalid_time }
     ensures value { IsTime time → result ≡ hms_nano_ok time }
 {
-    let time = or_return!(valid_time(time), HmsNanoResult::error(INVALID_TIME));
+    let time = or_error!(HmsNanoResult, valid_time(time), INVALID_TIME);
     let (hour, minute, second, nanosecond) = time.as_hms_nano();
     HmsNanoResult {
         status: OK,
@@ -31,7 +31,7 @@ pub extern "C" fn fots_time_hour(time: u64) -> NumberResult
     ensures invalid_time { ¬ IsTime time → result ≡ number_error invalid_time }
     ensures value { IsTime time → result ≡ number_ok (pos (hour_of time)) }
 {
-    let time = or_return!(valid_time(time), NumberResult::error(INVALID_TIME));
+    let time = or_error!(NumberResult, valid_time(time), INVALID_TIME);
     NumberResult::ok(i32::from(time.hour()))
 }
 
@@ -41,7 +41,7 @@ pub extern "C" fn fots_time_minute(time: u64) -> NumberResult
     ensures invalid_time { ¬ IsTime time → result ≡ number_error invalid_time }
     ensures value { IsTime time → result ≡ number_ok (pos (minute_of time)) }
 {
-    let time = or_return!(valid_time(time), NumberResult::error(INVALID_TIME));
+    let time = or_error!(NumberResult, valid_time(time), INVALID_TIME);
     NumberResult::ok(i32::from(time.minute()))
 }
 
@@ -51,7 +51,7 @@ pub extern "C" fn fots_time_second(time: u64) -> NumberResult
     ensures invalid_time { ¬ IsTime time → result ≡ number_error invalid_time }
     ensures value { IsTime time → result ≡ number_ok (pos (second_of time)) }
 {
-    let time = or_return!(valid_time(time), NumberResult::error(INVALID_TIME));
+    let time = or_error!(NumberResult, valid_time(time), INVALID_TIME);
     NumberResult::ok(i32::from(time.second()))
 }
 
@@ -61,7 +61,7 @@ pub extern "C" fn fots_time_millisecond(time: u64) -> NumberResult
     ensures invalid_time { ¬ IsTime time → result ≡ number_error invalid_time }
     ensures value { IsTime time → result ≡ number_ok (pos (millisecond_of time)) }
 {
-    let time = or_return!(valid_time(time), NumberResult::error(INVALID_TIME));
+    let time = or_error!(NumberResult, valid_time(time), INVALID_TIME);
     NumberResult::ok(i32::from(time.millisecond()))
 }
 
@@ -71,7 +71,7 @@ pub extern "C" fn fots_time_microsecond(time: u64) -> NumberResult
     ensures invalid_time { ¬ IsTime time → result ≡ number_error invalid_time }
     ensures value { IsTime time → result ≡ number_ok (pos (microsecond_of time)) }
 {
-    let time = or_return!(valid_time(time), NumberResult::error(INVALID_TIME));
+    let time = or_error!(NumberResult, valid_time(time), INVALID_TIME);
     NumberResult::ok(time.microsecond() as i32)
 }
 
@@ -81,6 +81,6 @@ pub extern "C" fn fots_time_nanosecond(time: u64) -> NumberResult
     ensures invalid_time { ¬ IsTime time → result ≡ number_error invalid_time }
     ensures value { IsTime time → result ≡ number_ok (pos (nanosecond_of time)) }
 {
-    let time = or_return!(valid_time(time), NumberResult::error(INVALID_TIME));
+    let time = or_error!(NumberResult, valid_time(time), INVALID_TIME);
     NumberResult::ok(time.nanosecond() as i32)
 }

@@ -16,7 +16,7 @@ pub extern "C" fn fots_time_replace_hour(time: u64, hour: u32) -> TimeResult
         need hour ≤ 23 else result ≡ time_error hour_status then
         result ≡ time_ok (time_of hour (minute_of time) (second_of time) (nanosecond_of time)) }
 {
-    let time = or_return!(valid_time(time), TimeResult::error(INVALID_TIME));
+    let time = or_error!(TimeResult, valid_time(time), INVALID_TIME);
     ok_or_error!(TimeResult, time.replace_hour(saturating_u8(hour)))
 }
 
@@ -27,7 +27,7 @@ pub extern "C" fn fots_time_replace_minute(time: u64, minute: u32) -> TimeResult
         need minute ≤ 59 else result ≡ time_error minute_status then
         result ≡ time_ok (time_of (hour_of time) minute (second_of time) (nanosecond_of time)) }
 {
-    let time = or_return!(valid_time(time), TimeResult::error(INVALID_TIME));
+    let time = or_error!(TimeResult, valid_time(time), INVALID_TIME);
     ok_or_error!(TimeResult, time.replace_minute(saturating_u8(minute)))
 }
 
@@ -38,7 +38,7 @@ pub extern "C" fn fots_time_replace_second(time: u64, second: u32) -> TimeResult
         need second ≤ 59 else result ≡ time_error second_status then
         result ≡ time_ok (time_of (hour_of time) (minute_of time) second (nanosecond_of time)) }
 {
-    let time = or_return!(valid_time(time), TimeResult::error(INVALID_TIME));
+    let time = or_error!(TimeResult, valid_time(time), INVALID_TIME);
     ok_or_error!(TimeResult, time.replace_second(saturating_u8(second)))
 }
 
@@ -50,7 +50,7 @@ pub extern "C" fn fots_time_replace_millisecond(time: u64, millisecond: u32) -> 
         result ≡ time_ok (time_of (hour_of time) (minute_of time) (second_of time)
         (millisecond * 1_000_000)) }
 {
-    let time = or_return!(valid_time(time), TimeResult::error(INVALID_TIME));
+    let time = or_error!(TimeResult, valid_time(time), INVALID_TIME);
     ok_or_error!(
         TimeResult,
         time.replace_millisecond(saturating_u16(millisecond))
@@ -65,7 +65,7 @@ pub extern "C" fn fots_time_replace_microsecond(time: u64, microsecond: u32) -> 
         result ≡ time_ok (time_of (hour_of time) (minute_of time) (second_of time)
         (microsecond * 1_000)) }
 {
-    let time = or_return!(valid_time(time), TimeResult::error(INVALID_TIME));
+    let time = or_error!(TimeResult, valid_time(time), INVALID_TIME);
     ok_or_error!(TimeResult, time.replace_microsecond(microsecond))
 }
 
@@ -76,6 +76,6 @@ pub extern "C" fn fots_time_replace_nanosecond(time: u64, nanosecond: u32) -> Ti
         need nanosecond ≤ 999_999_999 else result ≡ time_error nanosecond_status then
         result ≡ time_ok (time_of (hour_of time) (minute_of time) (second_of time) nanosecond) }
 {
-    let time = or_return!(valid_time(time), TimeResult::error(INVALID_TIME));
+    let time = or_error!(TimeResult, valid_time(time), INVALID_TIME);
     ok_or_error!(TimeResult, time.replace_nanosecond(nanosecond))
 }

@@ -14,7 +14,7 @@ pub extern "C" fn fots_time_truncate_to_hour(time: u64) -> TimeResult
     ensures invalid_time { ¬ IsTime time → result ≡ time_error invalid_time }
     ensures value { IsTime time → result ≡ time_ok (time_of (hour_of time) 0 0 0) }
 {
-    let time = or_return!(valid_time(time), TimeResult::error(INVALID_TIME));
+    let time = or_error!(TimeResult, valid_time(time), INVALID_TIME);
     TimeResult::ok(time.truncate_to_hour())
 }
 
@@ -24,7 +24,7 @@ pub extern "C" fn fots_time_truncate_to_minute(time: u64) -> TimeResult
     ensures invalid_time { ¬ IsTime time → result ≡ time_error invalid_time }
     ensures value { IsTime time → result ≡ time_ok (time_of (hour_of time) (minute_of time) 0 0) }
 {
-    let time = or_return!(valid_time(time), TimeResult::error(INVALID_TIME));
+    let time = or_error!(TimeResult, valid_time(time), INVALID_TIME);
     TimeResult::ok(time.truncate_to_minute())
 }
 
@@ -35,7 +35,7 @@ pub extern "C" fn fots_time_truncate_to_second(time: u64) -> TimeResult
     ensures value { IsTime time → result
         ≡ time_ok (time_of (hour_of time) (minute_of time) (second_of time) 0) }
 {
-    let time = or_return!(valid_time(time), TimeResult::error(INVALID_TIME));
+    let time = or_error!(TimeResult, valid_time(time), INVALID_TIME);
     TimeResult::ok(time.truncate_to_second())
 }
 
@@ -47,7 +47,7 @@ pub extern "C" fn fots_time_truncate_to_millisecond(time: u64) -> TimeResult
         ≡ time_ok (time_of (hour_of time) (minute_of time) (second_of time)
         (millisecond_of time * 1_000_000)) }
 {
-    let time = or_return!(valid_time(time), TimeResult::error(INVALID_TIME));
+    let time = or_error!(TimeResult, valid_time(time), INVALID_TIME);
     TimeResult::ok(time.truncate_to_millisecond())
 }
 
@@ -59,6 +59,6 @@ pub extern "C" fn fots_time_truncate_to_microsecond(time: u64) -> TimeResult
         ≡ time_ok (time_of (hour_of time) (minute_of time) (second_of time)
         (microsecond_of time * 1_000)) }
 {
-    let time = or_return!(valid_time(time), TimeResult::error(INVALID_TIME));
+    let time = or_error!(TimeResult, valid_time(time), INVALID_TIME);
     TimeResult::ok(time.truncate_to_microsecond())
 }

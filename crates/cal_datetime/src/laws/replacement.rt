@@ -11,6 +11,17 @@ pub type Replaced = (
     Result<OffsetDateTime, ComponentRange>,
 );
 
+/// Replaces a component with the current one, without and with an offset.
+macro_rules! replaced {
+    ($plain:ident, $moment:ident, $replace:ident, $component:ident) => {{
+        let _ = ($plain.time(), $moment.time());
+        (
+            $plain.$replace($plain.$component()),
+            $moment.$replace($moment.$component()),
+        )
+    }};
+}
+
 /// Replaces the date with the current date.
 pub fn own_date(plain: PlainDateTime, moment: OffsetDateTime) -> (PlainDateTime, OffsetDateTime)
     ensures { result ≡ (plain, moment) }
@@ -45,77 +56,49 @@ pub fn own_clock(moment: OffsetDateTime) -> (OffsetDateTime, OffsetDateTime)
 pub fn own_year(plain: PlainDateTime, moment: OffsetDateTime) -> Replaced
     ensures { result ≡ (Ok plain, Ok moment) }
 {
-    let _ = (plain.time(), moment.time());
-    (
-        plain.replace_year(plain.year()),
-        moment.replace_year(moment.year()),
-    )
+    replaced!(plain, moment, replace_year, year)
 }
 
 /// Replaces the month with the current month.
 pub fn own_month(plain: PlainDateTime, moment: OffsetDateTime) -> Replaced
     ensures { result ≡ (Ok plain, Ok moment) }
 {
-    let _ = (plain.time(), moment.time());
-    (
-        plain.replace_month(plain.month()),
-        moment.replace_month(moment.month()),
-    )
+    replaced!(plain, moment, replace_month, month)
 }
 
 /// Replaces the day with the current day of the month.
 pub fn own_day(plain: PlainDateTime, moment: OffsetDateTime) -> Replaced
     ensures { result ≡ (Ok plain, Ok moment) }
 {
-    let _ = (plain.time(), moment.time());
-    (
-        plain.replace_day(plain.day()),
-        moment.replace_day(moment.day()),
-    )
+    replaced!(plain, moment, replace_day, day)
 }
 
 /// Replaces the ordinal with the current one.
 pub fn own_ordinal(plain: PlainDateTime, moment: OffsetDateTime) -> Replaced
     ensures { result ≡ (Ok plain, Ok moment) }
 {
-    let _ = (plain.time(), moment.time());
-    (
-        plain.replace_ordinal(plain.ordinal()),
-        moment.replace_ordinal(moment.ordinal()),
-    )
+    replaced!(plain, moment, replace_ordinal, ordinal)
 }
 
 /// Replaces the hour with the current hour.
 pub fn own_hour(plain: PlainDateTime, moment: OffsetDateTime) -> Replaced
     ensures { result ≡ (Ok plain, Ok moment) }
 {
-    let _ = (plain.time(), moment.time());
-    (
-        plain.replace_hour(plain.hour()),
-        moment.replace_hour(moment.hour()),
-    )
+    replaced!(plain, moment, replace_hour, hour)
 }
 
 /// Replaces the minute with the current minute.
 pub fn own_minute(plain: PlainDateTime, moment: OffsetDateTime) -> Replaced
     ensures { result ≡ (Ok plain, Ok moment) }
 {
-    let _ = (plain.time(), moment.time());
-    (
-        plain.replace_minute(plain.minute()),
-        moment.replace_minute(moment.minute()),
-    )
+    replaced!(plain, moment, replace_minute, minute)
 }
 
 /// Replaces the second with the current second.
 pub fn own_second(plain: PlainDateTime, moment: OffsetDateTime) -> Replaced
     ensures { result ≡ (Ok plain, Ok moment) }
 {
-    let _ = (plain.time(), moment.time());
-    (
-        plain.replace_second(plain.second()),
-        moment.replace_second(moment.second()),
-    )
+    replaced!(plain, moment, replace_second, second)
 }
 
 /// Replaces the milliseconds with the current ones. A time in whole milliseconds doesn't change.
@@ -123,11 +106,7 @@ pub fn own_millisecond(plain: PlainDateTime, moment: OffsetDateTime) -> Replaced
     ensures plain { time_at plain % 1_000_000 ≡ 0 → result.0 ≡ Ok plain }
     ensures moment { time_at moment.local % 1_000_000 ≡ 0 → result.1 ≡ Ok moment }
 {
-    let _ = (plain.time(), moment.time());
-    (
-        plain.replace_millisecond(plain.millisecond()),
-        moment.replace_millisecond(moment.millisecond()),
-    )
+    replaced!(plain, moment, replace_millisecond, millisecond)
 }
 
 /// Replaces the microseconds with the current ones. A time in whole microseconds doesn't change.
@@ -135,20 +114,12 @@ pub fn own_microsecond(plain: PlainDateTime, moment: OffsetDateTime) -> Replaced
     ensures plain { time_at plain % 1_000 ≡ 0 → result.0 ≡ Ok plain }
     ensures moment { time_at moment.local % 1_000 ≡ 0 → result.1 ≡ Ok moment }
 {
-    let _ = (plain.time(), moment.time());
-    (
-        plain.replace_microsecond(plain.microsecond()),
-        moment.replace_microsecond(moment.microsecond()),
-    )
+    replaced!(plain, moment, replace_microsecond, microsecond)
 }
 
 /// Replaces the nanoseconds with the current ones.
 pub fn own_nanosecond(plain: PlainDateTime, moment: OffsetDateTime) -> Replaced
     ensures { result ≡ (Ok plain, Ok moment) }
 {
-    let _ = (plain.time(), moment.time());
-    (
-        plain.replace_nanosecond(plain.nanosecond()),
-        moment.replace_nanosecond(moment.nanosecond()),
-    )
+    replaced!(plain, moment, replace_nanosecond, nanosecond)
 }

@@ -11,10 +11,10 @@ use crate::months::{clamped_date_in_month, month_number_and_day};
 use crate::rule::matching::period_of;
 use crate::rule::rule::{ByDay, Frequency, Rule};
 use cal_time::day_number::{date_from_number, day_number};
-use cal_time::{Cycle, Date, Weekday};
+use cal_time::{Cycle, Date, Weekday, limits};
 
 /// The number of months in the range.
-const MONTHS: u64 = crate::months::MONTHS as u64;
+const MONTHS: u64 = limits::MONTHS as u64;
 
 /// The number of days in 400 years, after which the calendar and the weekdays repeat.
 const PERIOD: u64 = 146_097;

@@ -1,5 +1,5 @@
 use Rattle.std.proofs.Common.{◌≤◌, ◌∙◌, length, subst, sym}
-use Rattle.caldate_run.proofs.OneAnswer.{none_some, some_one}
+use Rattle.std.proofs.lemmas.Option.{none-some, same_Some}
 use Rattle.caldate_run.proofs.OneReply.{IsOneAsked, IsOneText, one_asked, one_reply}
 use Rattle.caldate_run.proofs.laws.one_reply.Goals as goal
 
@@ -7,7 +7,7 @@ pub returns-in_err-asked_text : goal.returns-in_err-asked_text
 returns-in_err-asked_text c = λ before reply other.
     let filter = c.args.filter.now in
     let none = subst (IsOneText filter) c.cut_return-has_return.ensures.text
-    (λ asked is. absurd (none_some asked (sym c.in_err-asked_text.ensures.asked ∙ is))) in
+    (λ asked is. absurd (none-some asked (sym c.in_err-asked_text.ensures.asked ∙ is))) in
     one_reply filter before c.args.line.now reply other none
 
 pub returns : goal.returns
@@ -17,6 +17,6 @@ returns c = λ before reply other.
     let asked = c.in_ok-asked_text.field-0.now in
     let only = one_asked filter asked c.read_in.result c.read_in.ensures.every c.read_in.ensures.form c.read_in.ensures.component in
     let known = subst (IsOneText filter) c.cut_return-has_return.ensures.text
-    (λ found is. subst (λ t. (length t ≤ length text) × IsOneAsked filter t) (some_one asked found (sym c.in_ok-asked_text.ensures.asked ∙ is))
+    (λ found is. subst (λ t. (length t ≤ length text) × IsOneAsked filter t) (same_Some asked found (sym c.in_ok-asked_text.ensures.asked ∙ is))
     (c.in_ok-asked_text.ensures.fits, only)) in
     one_reply filter before c.args.line.now reply other known

@@ -1,4 +1,4 @@
-use Rattle.std.proofs.Common.{◌≡◌, ap, ◌∙◌, rules, arith, FitsSigned, w32}
+use Rattle.std.proofs.Common.{◌≡◌, rules, arith, FitsSigned, w32}
 use Rattle.std.proofs.lemmas.Int.{to_z-of_z}
 use Rattle.cal_c.proofs.columns.components.iso_week_date_of_calendar_date.Goals as goal
 

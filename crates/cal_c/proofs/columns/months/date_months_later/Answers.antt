@@ -1,8 +1,8 @@
-use Rattle.std.proofs.Common.{◌≡◌, ◌∙◌, sym, subst, ap, arith, rules, ℕ, pos, ◌+ℤ◌, min, FitsSigned, w32}
+use Rattle.std.proofs.Common.{◌≡◌, ◌∙◌, sym, subst, ap, arith, rules, ◌+ℤ◌, min}
 use Rattle.std.proofs.lemmas.Int.{ints, to_z-of_z}
 use Rattle.cal_time.specs.Date.{year_at, month_at, day_of_month_at}
 use Rattle.cal_time.specs.Lengths.{days_in_month}
-use Rattle.cal_schedule.specs.Months.{month_number_at, IsMonthsLater}
+use Rattle.cal_schedule.specs.Months.{month_number_at, HasMonthIndex, IsMonthsLater}
 use Rattle.cal_c.specs.Results.{IsDateWith}
 use Rattle.cal_c.specs.Values.{IsJulianDay, day_of}
 use Rattle.cal_c.proofs.Days.{IsDateWith-at}
@@ -23,8 +23,8 @@ returns-then-index-gt-LAST_MONTH c =
     let f = c.ranges.date in
     let g = c.ranges.months in
     let number = simp to_z-of_z at c.clamped_number.ensures.value in
-    let first : IsJulianDay c.args.date → pos c.month_number_and_day-index.result.0 ≡ month_number_at (day_of c.args.date) +ℤ pos 11999988 =
-    λ h. c.month_number_and_day-index.ensures.month ∙ ap (λ n. month_number_at n +ℤ pos 11999988) (c.to_date.ensures ∙ number h) in
+    let first : IsJulianDay c.args.date → HasMonthIndex c.month_number_and_day-index.result.0 (day_of c.args.date) =
+    λ h. subst (HasMonthIndex c.month_number_and_day-index.result.0) (c.to_date.ensures ∙ number h) c.month_number_and_day-index.ensures.month in
     record {
       invalid_date = search rules;
       result_out_of_range = search rules;
@@ -36,8 +36,8 @@ returns-else-index-gt-LAST_MONTH c =
     let f = c.ranges.date in
     let g = c.ranges.months in
     let number = simp to_z-of_z at c.clamped_number.ensures.value in
-    let first : IsJulianDay c.args.date → pos c.month_number_and_day-index.result.0 ≡ month_number_at (day_of c.args.date) +ℤ pos 11999988 =
-    λ h. c.month_number_and_day-index.ensures.month ∙ ap (λ n. month_number_at n +ℤ pos 11999988) (c.to_date.ensures ∙ number h) in
+    let first : IsJulianDay c.args.date → HasMonthIndex c.month_number_and_day-index.result.0 (day_of c.args.date) =
+    λ h. subst (HasMonthIndex c.month_number_and_day-index.result.0) (c.to_date.ensures ∙ number h) c.month_number_and_day-index.ensures.month in
     let n = day_of c.args.date in
     let r = c.clamped_date_in_month-later.result in
     record {

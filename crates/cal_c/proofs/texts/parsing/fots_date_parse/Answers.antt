@@ -1,14 +1,14 @@
 use Rattle.std.proofs.Common.{ap, ◌∙◌}
+use Rattle.cal_text.proofs.Results.{not_ok, one}
 use Rattle.cal_c.specs.Texts.{parsed_date_ok}
-use Rattle.cal_c.proofs.Equals.{no_value, same_value}
 use Rattle.cal_c.proofs.Unreads.{refused_date, unreadable_date}
 use Rattle.cal_c.proofs.texts.parsing.fots_date_parse.Goals as goal
 
 pub returns-clause-value : goal.returns-clause-value
-returns-clause-value c = λ n in_range is_text. c.ok.ensures ∙ ap parsed_date_ok (same_value _ _ (c.in-Ok.ensures.every n in_range is_text))
+returns-clause-value c = λ n in_range is_text. c.ok.ensures ∙ ap parsed_date_ok (one _ _ (c.in-Ok.ensures.every n in_range is_text))
 
 pub returns-in-Err-clause-value : goal.returns-in-Err-clause-value
-returns-in-Err-clause-value c = λ n in_range is_text. absurd (no_value _ _ (c.in-Err.ensures.every n in_range is_text))
+returns-in-Err-clause-value c = λ n in_range is_text. absurd (not_ok _ _ (c.in-Err.ensures.every n in_range is_text))
 
 pub returns-in-Err-clause-syntax_error : goal.returns-in-Err-clause-syntax_error
 returns-in-Err-clause-syntax_error c none =

@@ -1,6 +1,7 @@
 use Rattle.std.proofs.Common.{◌≤◌, arith}
 use Rattle.std.proofs.lemmas.Bool.Decides.{nat_tests}
 use Rattle.std.proofs.lemmas.Int.{ints}
+use Rattle.cal_time.specs.DateLimits.{months_in_range}
 use Rattle.cal_schedule.proofs.Rules.{first_day-month, no_month}
 use Rattle.cal_schedule.proofs.rule.search.first_of_month_number.Goals as goal
 
@@ -11,5 +12,5 @@ returns-then-index-lt-MONTHS c =
 
 pub returns-else-index-lt-MONTHS : goal.returns-else-index-lt-MONTHS
 returns-else-index-lt-MONTHS c =
-    let past : 23999988 ≤ c.args.index = grind (arith, nat_tests) in
+    let past : months_in_range ≤ c.args.index = grind (arith, nat_tests) in
     no_month c.args.first c.args.index past

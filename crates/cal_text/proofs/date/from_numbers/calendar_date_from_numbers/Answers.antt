@@ -2,8 +2,8 @@ use Rattle.std.proofs.Common.{ap, arith, inl, inr, subst, sym, w32}
 use Rattle.std.proofs.lemmas.Int.{to_z-of_z}
 use Rattle.cal_time.specs.Date.{IsYear}
 use Rattle.cal_time.specs.CalendarDay.{CalendarDay}
+use Rattle.cal_time.specs.Days.{month_at-range}
 use Rattle.cal_time.specs.MonthCycle.{index-below}
-use Rattle.cal_text.proofs.Ranges.{month_at-range}
 use Rattle.cal_text.proofs.date.from_numbers.calendar_date_from_numbers.Goals as goal
 
 pub returns-clause-year : goal.returns-clause-year

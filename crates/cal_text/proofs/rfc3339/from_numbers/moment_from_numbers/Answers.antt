@@ -1,4 +1,4 @@
-use Rattle.std.proofs.Common.{rules, ◌≡◌, ◌⊎◌, ◌≤◌, Ok, Result, ap, sym, subst, inl, inr, ◌∙◌, arith, pos, w32, to_z, of_z}
+use Rattle.std.proofs.Common.{rules, ◌≡◌, ◌⊎◌, ◌≤◌, Ok, ap, sym, subst, inl, inr, ◌∙◌, arith, pos, w32, to_z, of_z}
 use Rattle.std.proofs.lemmas.Bool.{cases_lt}
 use Rattle.cal_time.specs.Date.{HasCalendarDate}
 use Rattle.cal_time.specs.Time.{time_of, hour_out_of_range, minute_out_of_range, second_out_of_range}
@@ -8,6 +8,7 @@ use Rattle.cal_datetime.specs.DateTimeLaws.{IsDate-date_at}
 use Rattle.cal_datetime.specs.OffsetDateTime.{LocalAndOffset}
 use Rattle.cal_text.specs.Rfc3339Form.{IsOffsetOf}
 use Rattle.cal_text.proofs.Moments.{made}
+use Rattle.cal_text.proofs.Results.{one}
 use Rattle.cal_text.proofs.YearTexts.{written-cast}
 use Rattle.cal_text.proofs.rfc3339.from_numbers.moment_from_numbers.Goals as goal
 
@@ -53,9 +54,6 @@ returns-clause-value c =
       time = at.time ∙ time;
       offset = subst (IsOffsetOf m.offset) (sym (ap (λ (s : LocalAndOffset). s.offset) at.value)) c.in_ok-offset.ensures.value;
     }
-
-one : {A E : Type 0} (a b : A) → ◌≡◌ {A = Result A E} (Ok a) (Ok b) → a ≡ b
-one a b e = cc
 
 pub returns-clause-every : goal.returns-clause-every
 returns-clause-every c at is =
