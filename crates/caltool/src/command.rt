@@ -27,6 +27,7 @@ pub enum Command {
 }
 
 /// Parses a line as a command. All words are parsed before any is used.
+#[tactic(auto, unfolding(crate::specs::Commands::command_of))]
 pub fn parse_command(line: &[u8]) -> Option<Command>
     ensures { result ≡ command_of (words_of line.now) }
 {
@@ -50,12 +51,14 @@ pub fn parse_command(line: &[u8]) -> Option<Command>
     }
 }
 
+#[tactic(auto, unfolding(crate::specs::Commands::julian_command))]
 fn parse_julian(words: &[u8]) -> Option<Command>
     ensures { result ≡ julian_command (words_of words.now) }
 {
     Some(Command::Julian(parse_i32(only_word(words)?)?))
 }
 
+#[tactic(auto, unfolding(crate::specs::Commands::ordinal_command))]
 fn parse_ordinal(words: &[u8]) -> Option<Command>
     ensures { result ≡ ordinal_command (words_of words.now) }
 {
@@ -63,6 +66,7 @@ fn parse_ordinal(words: &[u8]) -> Option<Command>
     Some(Command::Ordinal(parse_i32(year)?, parse_u16(only_word(words)?)?))
 }
 
+#[tactic(auto, unfolding(crate::specs::Commands::calendar_command))]
 fn parse_calendar(words: &[u8]) -> Option<Command>
     ensures { result ≡ calendar_command (words_of words.now) }
 {
@@ -75,6 +79,7 @@ fn parse_calendar(words: &[u8]) -> Option<Command>
     ))
 }
 
+#[tactic(auto, unfolding(crate::specs::Commands::iso_command))]
 fn parse_iso(words: &[u8]) -> Option<Command>
     ensures { result ≡ iso_command (words_of words.now) }
 {
@@ -88,12 +93,14 @@ fn parse_iso(words: &[u8]) -> Option<Command>
     ))
 }
 
+#[tactic(auto, unfolding(crate::specs::Commands::show_command))]
 fn parse_show(words: &[u8]) -> Option<Command>
     ensures { result ≡ show_command (words_of words.now) }
 {
     Some(Command::Show(parse_i32(only_word(words)?)?))
 }
 
+#[tactic(auto, unfolding(crate::specs::Commands::add_command))]
 fn parse_add(words: &[u8]) -> Option<Command>
     ensures { result ≡ add_command (words_of words.now) }
 {
@@ -101,6 +108,7 @@ fn parse_add(words: &[u8]) -> Option<Command>
     Some(Command::Add(parse_i32(julian_day)?, parse_i64(only_word(words)?)?))
 }
 
+#[tactic(auto, unfolding(crate::specs::Commands::moment_command))]
 fn parse_moment(words: &[u8]) -> Option<Command>
     ensures { result ≡ moment_command (words_of words.now) }
 {
