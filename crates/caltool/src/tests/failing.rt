@@ -85,7 +85,7 @@ impl Write for Sipping {
     }
 }
 
-fn dripping(rest: &[u8], failing: Calls, kind: ErrorKind) -> Dripping<'_> {
+fn failing_reader(rest: &[u8], failing: Calls, kind: ErrorKind) -> Dripping<'_> {
     Dripping {
         rest,
         calls: 0,
@@ -94,7 +94,7 @@ fn dripping(rest: &[u8], failing: Calls, kind: ErrorKind) -> Dripping<'_> {
     }
 }
 
-fn sipping(alloc: Global, failing: Calls, kind: Option<ErrorKind>) -> Sipping {
+fn failing_writer(alloc: Global, failing: Calls, kind: Option<ErrorKind>) -> Sipping {
     Sipping {
         most: 1,
         taken: Vec::new(alloc),
@@ -113,7 +113,7 @@ struct Run {
 }
 
 fn drip(alloc: Global, input: &[u8], failing: Calls, kind: ErrorKind) -> Run {
-    let mut reader = dripping(input, failing, kind);
+    let mut reader = failing_reader(input, failing, kind);
     let mut written = Vec::new(alloc);
     let outcome = run(&mut reader, &mut written);
     Run {
@@ -125,7 +125,7 @@ fn drip(alloc: Global, input: &[u8], failing: Calls, kind: ErrorKind) -> Run {
 
 fn sip(alloc: Global, input: &[u8], failing: Calls, kind: Option<ErrorKind>) -> Run {
     let mut reader = input;
-    let mut writer = sipping(alloc, failing, kind);
+    let mut writer = failing_writer(alloc, failing, kind);
     let outcome = run(&mut reader, &mut writer);
     Run {
         outcome,
@@ -191,7 +191,7 @@ fn each_write_fails_in_turn(rt: HostRuntime) {
 #[test]
 fn answers_are_buffered(rt: HostRuntime) {
     let mut reader = [b'\n'; 4096].as_slice();
-    let mut writer = sipping(rt.alloc(), Calls::From(19), None);
+    let mut writer = failing_writer(rt.alloc(), Calls::From(19), None);
     writer.most = usize::MAX;
     same(&rt, run(&mut reader, &mut writer), Ok(()));
 }
@@ -272,8 +272,8 @@ fn check_program(
     written: &[u8],
     message: &[u8],
 ) {
-    let mut reader = dripping(input, Calls::From(reads), ErrorKind::Other);
-    let mut writer = sipping(rt.alloc(), Calls::From(taken), Some(ErrorKind::Other));
+    let mut reader = failing_reader(input, Calls::From(reads), ErrorKind::Other);
+    let mut writer = failing_writer(rt.alloc(), Calls::From(taken), Some(ErrorKind::Other));
     let mut told = Vec::new(rt.alloc());
     same(rt, perform(&mut reader, &mut writer, &mut told), status);
     same(rt, writer.taken.as_slice(), written);
@@ -309,7 +309,7 @@ fn the_program_over_three_streams(rt: HostRuntime) {
 fn a_message_that_cannot_be_written(rt: HostRuntime) {
     let message = b"input too long\n".as_slice();
     for taken in 0..=message.len() {
-        let mut errors = sipping(rt.alloc(), Calls::From(taken), Some(ErrorKind::Other));
+        let mut errors = failing_writer(rt.alloc(), Calls::From(taken), Some(ErrorKind::Other));
         let mut written = Vec::new(rt.alloc());
         let mut reader = [b'x'; 4097].as_slice();
         same(&rt, perform(&mut reader, &mut written, &mut errors), 2);
