@@ -51,6 +51,14 @@ moment_command (j ∷ h ∷ m ∷ s ∷ d ∷ []) =
     (option_zip (i32_of j) (option_zip (u8_of h) (option_zip (u8_of m) (option_zip (u8_of s) (i64_of d)))))
 moment_command words = None
 
+-- A command whose name is `show`, `add` or `moment`.
+unfoldable pub further_command : List ℕ → List (List ℕ) → Option Command
+further_command name words =
+    if bytes_eq name (codes "show") then show_command words else
+    if bytes_eq name (codes "add") then add_command words else
+    if bytes_eq name (codes "moment") then moment_command words else
+    None
+
 -- The command that the words of a line spell.
 unfoldable pub command_of : List (List ℕ) → Option Command
 command_of [] = None
@@ -59,7 +67,4 @@ command_of (name ∷ words) =
     if bytes_eq name (codes "ordinal") then ordinal_command words else
     if bytes_eq name (codes "calendar") then calendar_command words else
     if bytes_eq name (codes "iso") then iso_command words else
-    if bytes_eq name (codes "show") then show_command words else
-    if bytes_eq name (codes "add") then add_command words else
-    if bytes_eq name (codes "moment") then moment_command words else
-    None
+    further_command name words
