@@ -1,4 +1,5 @@
 pub mod Calls
+pub mod Commands
 pub mod Days
 pub mod FindsDate
 pub mod Known

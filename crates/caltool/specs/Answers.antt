@@ -40,19 +40,19 @@ abbrev pub julian_day_list : ℕ → List ℤ
 julian_day_list n = julian_day_at n ∷ []
 
 -- The text of a day: its year, its ordinal and its Julian day.
-abbrev pub day_text : ℕ → List ℕ
+unfoldable pub day_text : ℕ → List ℕ
 day_text n =
     signed_decimal (year_at n) ++ codes " ordinal " ++ decimal (ordinal_at n) ++ codes " julian " ++ signed_decimal (julian_day_at n)
 
 -- The text of a day with its ISO week date: the date, the ISO year, the week, the number of the
 -- weekday from 1, Monday, and its name.
-abbrev pub week_answer : ℕ → List ℕ
+unfoldable pub week_answer : ℕ → List ℕ
 week_answer n =
     text n ++ codes " iso " ++ signed_decimal (iso_year_at n) ++ codes " " ++ decimal (iso_week_at n)
     ++ codes " " ++ decimal (weekday_at n + 1) ++ codes " " ++ name (weekday_in_place (weekday_at n))
 
 -- The text of an error.
-abbrev pub refusal_text : ComponentRange → List ℕ
+unfoldable pub refusal_text : ComponentRange → List ℕ
 refusal_text why = codes "refused " ++ component_name why.component ++ (if why.is_conditional then codes " conditional" else [])
 
 -- The text of the day, or the error if it doesn't exist.
@@ -108,31 +108,31 @@ iso_week_date_refusal y w =
     if is_year y then (if is_week y w then weekday_out_of_range else week_out_of_range) else year_out_of_range
 
 -- The answer to `julian N`.
-abbrev pub julian_answer : ℤ → List ℕ
+unfoldable pub julian_answer : ℤ → List ℕ
 julian_answer j = text_or_refusal day_text (day_of_julian_day j) julian_day_out_of_range
 
 -- The answer to `ordinal Y N`.
-abbrev pub ordinal_answer : ℤ → ℕ → List ℕ
+unfoldable pub ordinal_answer : ℤ → ℕ → List ℕ
 ordinal_answer y o = text_or_refusal day_text (day_of_ordinal_date y o) (ordinal_date_refusal y)
 
 -- The answer to `calendar Y M D`.
-abbrev pub calendar_answer : ℤ → ℕ → ℕ → List ℕ
+unfoldable pub calendar_answer : ℤ → ℕ → ℕ → List ℕ
 calendar_answer y m d = text_or_refusal day_text (day_of_calendar_date y m d) (calendar_date_refusal y m)
 
 -- The answer to `iso Y W D`.
-abbrev pub iso_answer : ℤ → ℕ → ℕ → List ℕ
+unfoldable pub iso_answer : ℤ → ℕ → ℕ → List ℕ
 iso_answer y w wd = text_or_refusal day_text (day_of_iso_week_date y w wd) (iso_week_date_refusal y w)
 
 -- The answer to `show N`.
-abbrev pub show_answer : ℤ → List ℕ
+unfoldable pub show_answer : ℤ → List ℕ
 show_answer j = text_or_refusal week_answer (day_of_julian_day j) julian_day_out_of_range
 
 -- The date of day n plus the whole days of s seconds, or `none`.
-abbrev pub later_date_text : ℤ → ℕ → List ℕ
+unfoldable pub later_date_text : ℤ → ℕ → List ℕ
 later_date_text s n = date_or_none (day_of_julian_day (julian_day_at n +ℤ whole_days (s *ℤ pos second)))
 
 -- The answer to `add N S`.
-abbrev pub add_answer : ℤ → ℤ → List ℕ
+unfoldable pub add_answer : ℤ → ℤ → List ℕ
 add_answer j s = text_or_refusal (later_date_text s) (day_of_julian_day j) julian_day_out_of_range
 
 -- The pair with number z is in day n.
@@ -140,7 +140,7 @@ abbrev pub has_pair_number : ℤ → ℕ → Bool
 has_pair_number z n = int_le (julian_day_at n *ℤ pos day) z && int_lt z ((julian_day_at n +ℤ pos 1) *ℤ pos day)
 
 -- The text of a date and a time.
-abbrev pub pair_text : ℕ → ℕ → List ℕ
+unfoldable pub pair_text : ℕ → ℕ → List ℕ
 pair_text n t = text n ++ codes " " ++ time_text t
 
 -- The text of the pair with number z, or `none` if no day has it.
@@ -149,11 +149,11 @@ pair_or_none z (Some n) = pair_text n (unsigned_abs (z -ℤ julian_day_at n *ℤ
 pair_or_none z None = codes "none"
 
 -- The text of the pair s seconds after day n at time t.
-abbrev pub later_pair_text : ℤ → ℕ → ℕ → List ℕ
+unfoldable pub later_pair_text : ℤ → ℕ → ℕ → List ℕ
 later_pair_text s n t = let z = pair_number n t +ℤ s *ℤ pos second in pair_or_none z (first_day_where (has_pair_number z))
 
 -- The same for an hour, a minute and a second, or the error of the first one out of range.
-abbrev pub clock_text : ℕ → ℕ → ℕ → ℤ → ℕ → List ℕ
+unfoldable pub clock_text : ℕ → ℕ → ℕ → ℤ → ℕ → List ℕ
 clock_text h m s d n =
     if nat_lt 23 h then refusal_text hour_out_of_range else
     if nat_lt 59 m then refusal_text minute_out_of_range else
@@ -161,11 +161,11 @@ clock_text h m s d n =
     later_pair_text d n (time_of h m s 0)
 
 -- The answer to `moment N H M S D`.
-abbrev pub moment_answer : ℤ → ℕ → ℕ → ℕ → ℤ → List ℕ
+unfoldable pub moment_answer : ℤ → ℕ → ℕ → ℕ → ℤ → List ℕ
 moment_answer j h m s d = text_or_refusal (clock_text h m s d) (day_of_julian_day j) julian_day_out_of_range
 
 -- The answer to a command, or to a line that is not a command.
-abbrev pub answer_of : Option Command → List ℕ
+unfoldable pub answer_of : Option Command → List ℕ
 answer_of (Some (Julian j)) = julian_answer j
 answer_of (Some (Ordinal y o)) = ordinal_answer y o
 answer_of (Some (Calendar y m d)) = calendar_answer y m d
@@ -176,9 +176,9 @@ answer_of (Some (Moment j h m s d)) = moment_answer j h m s d
 answer_of None = codes "bad line"
 
 -- The reply to a line is its answer and a line end, the byte 10.
-abbrev pub reply_to : List ℕ → List ℕ
+unfoldable pub reply_to : List ℕ → List ℕ
 reply_to line = answer_of (command_of (words_of line)) ++ 10 ∷ []
 
 -- The output for an input is the replies to its lines, in order.
-abbrev pub out : List ℕ → List ℕ
+unfoldable pub out : List ℕ → List ℕ
 out input = flat_map reply_to (lines_of input)

@@ -19,14 +19,14 @@ abbrev pub within : ℤ → ℤ → ℤ → Option ℤ
 within low high z = if int_le low z && int_le z high then Some z else None
 
 -- The number of a word, if it is in the range of the type.
-abbrev pub i64_of : List ℕ → Option ℤ
+unfoldable pub i64_of : List ℕ → Option ℤ
 i64_of word = option_and_then (within (neg_ℤ (pos 9223372036854775808)) (pos 9223372036854775807)) (integer_of word)
 
-abbrev pub i32_of : List ℕ → Option ℤ
+unfoldable pub i32_of : List ℕ → Option ℤ
 i32_of word = option_and_then (within (neg_ℤ (pos 2147483648)) (pos 2147483647)) (integer_of word)
 
-abbrev pub u8_of : List ℕ → Option ℕ
+unfoldable pub u8_of : List ℕ → Option ℕ
 u8_of word = option_map nat_abs (option_and_then (within (pos 0) (pos 255)) (integer_of word))
 
-abbrev pub u16_of : List ℕ → Option ℕ
+unfoldable pub u16_of : List ℕ → Option ℕ
 u16_of word = option_map nat_abs (option_and_then (within (pos 0) (pos 65535)) (integer_of word))

@@ -12,6 +12,7 @@ use cal_time::error::ComponentRange;
 use cal_time::{Date, ShortText, SignedDuration, Time, Weekday, add_to_pair};
 
 /// Appends the answer to a line and a line end.
+#[tactic(auto, unfolding(crate::specs::Answers::reply_to))]
 pub fn reply(buffer: &mut Buffer, line: &[u8])
     requires { HasRoom longest_reply buffer.old }
     ensures { buffer.new ≡ buffer.old ++ reply_to line.now }
@@ -21,6 +22,7 @@ pub fn reply(buffer: &mut Buffer, line: &[u8])
 }
 
 /// Appends the answer to a command, or to a line that is not a command.
+#[tactic(auto, unfolding(crate::specs::Answers::answer_of))]
 fn push_answer(buffer: &mut Buffer, command: Option<Command>)
     requires { HasRoom longest_answer buffer.old }
     ensures appended { buffer.new ≡ buffer.old ++ answer_of command }
@@ -40,6 +42,7 @@ fn push_answer(buffer: &mut Buffer, command: Option<Command>)
     }
 }
 
+#[tactic(auto, unfolding(crate::specs::Answers::julian_answer))]
 fn push_julian(buffer: &mut Buffer, julian_day: i32)
     requires { HasRoom longest_answer buffer.old }
     ensures appended { buffer.new ≡ buffer.old ++ julian_answer julian_day }
@@ -51,6 +54,7 @@ fn push_julian(buffer: &mut Buffer, julian_day: i32)
     }
 }
 
+#[tactic(auto, unfolding(crate::specs::Answers::ordinal_answer))]
 fn push_ordinal(buffer: &mut Buffer, year: i32, ordinal: u16)
     requires { HasRoom longest_answer buffer.old }
     ensures appended { buffer.new ≡ buffer.old ++ ordinal_answer year ordinal }
@@ -62,6 +66,7 @@ fn push_ordinal(buffer: &mut Buffer, year: i32, ordinal: u16)
     }
 }
 
+#[tactic(auto, unfolding(crate::specs::Answers::calendar_answer))]
 fn push_calendar(buffer: &mut Buffer, year: i32, month: u8, day: u8)
     requires { HasRoom longest_answer buffer.old }
     ensures appended { buffer.new ≡ buffer.old ++ calendar_answer year month day }
@@ -73,6 +78,7 @@ fn push_calendar(buffer: &mut Buffer, year: i32, month: u8, day: u8)
     }
 }
 
+#[tactic(auto, unfolding(crate::specs::Answers::iso_answer))]
 fn push_iso(buffer: &mut Buffer, year: i32, week: u8, weekday: Weekday)
     requires { HasRoom longest_answer buffer.old }
     ensures appended { buffer.new ≡ buffer.old ++ iso_answer year week (index weekday) }
@@ -84,6 +90,7 @@ fn push_iso(buffer: &mut Buffer, year: i32, week: u8, weekday: Weekday)
     }
 }
 
+#[tactic(auto, unfolding(crate::specs::Answers::show_answer))]
 fn push_show(buffer: &mut Buffer, julian_day: i32)
     requires { HasRoom longest_answer buffer.old }
     ensures appended { buffer.new ≡ buffer.old ++ show_answer julian_day }
@@ -95,6 +102,7 @@ fn push_show(buffer: &mut Buffer, julian_day: i32)
     }
 }
 
+#[tactic(auto, unfolding(crate::specs::Answers::add_answer))]
 fn push_add(buffer: &mut Buffer, julian_day: i32, seconds: i64)
     requires { HasRoom longest_answer buffer.old }
     ensures appended { buffer.new ≡ buffer.old ++ add_answer julian_day seconds }
@@ -106,6 +114,7 @@ fn push_add(buffer: &mut Buffer, julian_day: i32, seconds: i64)
     }
 }
 
+#[tactic(auto, unfolding(crate::specs::Answers::moment_answer))]
 fn push_moment(buffer: &mut Buffer, julian_day: i32, hour: u8, minute: u8, second: u8, seconds: i64)
     requires { HasRoom longest_answer buffer.old }
     ensures appended { buffer.new ≡ buffer.old ++ moment_answer julian_day hour minute second seconds }
@@ -117,6 +126,7 @@ fn push_moment(buffer: &mut Buffer, julian_day: i32, hour: u8, minute: u8, secon
     }
 }
 
+#[tactic(auto, unfolding(crate::specs::Answers::clock_text))]
 fn push_clock(buffer: &mut Buffer, date: Date, hour: u8, minute: u8, second: u8, seconds: i64)
     requires { HasRoom longest_answer buffer.old }
     ensures appended { buffer.new ≡ buffer.old ++ clock_text hour minute second seconds date }
@@ -128,6 +138,7 @@ fn push_clock(buffer: &mut Buffer, date: Date, hour: u8, minute: u8, second: u8,
     }
 }
 
+#[tactic(auto, unfolding(crate::specs::Answers::later_pair_text))]
 fn push_later_pair(buffer: &mut Buffer, date: Date, time: Time, seconds: i64)
     requires { HasRoom longest_answer buffer.old }
     ensures appended { buffer.new ≡ buffer.old ++ later_pair_text seconds date time }
@@ -139,6 +150,7 @@ fn push_later_pair(buffer: &mut Buffer, date: Date, time: Time, seconds: i64)
     }
 }
 
+#[tactic(auto, unfolding(crate::specs::Answers::later_date_text))]
 fn push_later_date(buffer: &mut Buffer, date: Date, seconds: i64)
     requires { HasRoom longest_answer buffer.old }
     ensures appended { buffer.new ≡ buffer.old ++ later_date_text seconds date }
@@ -150,6 +162,7 @@ fn push_later_date(buffer: &mut Buffer, date: Date, seconds: i64)
     }
 }
 
+#[tactic(auto, unfolding(crate::specs::Answers::pair_text))]
 fn push_pair(buffer: &mut Buffer, date: Date, time: Time)
     requires { HasRoom longest_answer buffer.old }
     ensures appended { buffer.new ≡ buffer.old ++ pair_text date time }
@@ -200,6 +213,7 @@ fn push_number(buffer: &mut Buffer, number: i32)
     buffer.push(text.as_bytes());
 }
 
+#[tactic(auto, unfolding(crate::specs::Answers::refusal_text))]
 fn push_refusal(buffer: &mut Buffer, error: ComponentRange)
     requires { HasRoom longest_answer buffer.old }
     ensures appended { buffer.new ≡ buffer.old ++ refusal_text error }

@@ -1,6 +1,6 @@
 //! Parsing commands.
 ghost use Rattle.std.specs.Prelude.{◌≡◌, ℕ, List, [], ◌∷◌, MatchOption};
-ghost use Rattle.caltool.specs.Commands.{command_of, julian_command, ordinal_command, calendar_command, iso_command, show_command, add_command, moment_command, weekday_from_number};
+ghost use Rattle.caltool.specs.Commands.{command_of, julian_command, ordinal_command, calendar_command, iso_command, show_command, add_command, moment_command, further_command, weekday_from_number};
 ghost use Rattle.caltool.specs.Lines.{words_of};
 
 use crate::lines::index_of;
@@ -27,10 +27,13 @@ pub enum Command {
 }
 
 /// Parses a line as a command. All words are parsed before any is used.
+#[tactic(auto, using(crate::proofs::Commands::one_word), unfolding(crate::specs::Commands::command_of))]
 pub fn parse_command(line: &[u8]) -> Option<Command>
     ensures { result ≡ command_of (words_of line.now) }
 {
-    let (name, words) = first_word(line)?;
+    let Some((name, words)) = first_word(line) else {
+        return None;
+    };
     if name == b"julian".as_slice() {
         parse_julian(words)
     } else if name == b"ordinal".as_slice() {
@@ -39,7 +42,17 @@ pub fn parse_command(line: &[u8]) -> Option<Command>
         parse_calendar(words)
     } else if name == b"iso".as_slice() {
         parse_iso(words)
-    } else if name == b"show".as_slice() {
+    } else {
+        parse_further_command(name, words)
+    }
+}
+
+/// Parses a command whose name is `show`, `add` or `moment`.
+#[tactic(auto, unfolding(crate::specs::Commands::further_command))]
+fn parse_further_command(name: &[u8], words: &[u8]) -> Option<Command>
+    ensures { result ≡ further_command name.now (words_of words.now) }
+{
+    if name == b"show".as_slice() {
         parse_show(words)
     } else if name == b"add".as_slice() {
         parse_add(words)
@@ -50,24 +63,33 @@ pub fn parse_command(line: &[u8]) -> Option<Command>
     }
 }
 
+#[tactic(auto, unfolding(crate::specs::Commands::julian_command))]
 fn parse_julian(words: &[u8]) -> Option<Command>
     ensures { result ≡ julian_command (words_of words.now) }
 {
     Some(Command::Julian(parse_i32(only_word(words)?)?))
 }
 
+#[tactic(auto, unfolding(crate::specs::Commands::ordinal_command))]
 fn parse_ordinal(words: &[u8]) -> Option<Command>
     ensures { result ≡ ordinal_command (words_of words.now) }
 {
-    let (year, words) = first_word(words)?;
+    let Some((year, words)) = first_word(words) else {
+        return None;
+    };
     Some(Command::Ordinal(parse_i32(year)?, parse_u16(only_word(words)?)?))
 }
 
+#[tactic(auto, unfolding(crate::specs::Commands::calendar_command))]
 fn parse_calendar(words: &[u8]) -> Option<Command>
     ensures { result ≡ calendar_command (words_of words.now) }
 {
-    let (year, words) = first_word(words)?;
-    let (month, words) = first_word(words)?;
+    let Some((year, words)) = first_word(words) else {
+        return None;
+    };
+    let Some((month, words)) = first_word(words) else {
+        return None;
+    };
     Some(Command::Calendar(
         parse_i32(year)?,
         parse_u8(month)?,
@@ -75,11 +97,16 @@ fn parse_calendar(words: &[u8]) -> Option<Command>
     ))
 }
 
+#[tactic(auto, unfolding(crate::specs::Commands::iso_command))]
 fn parse_iso(words: &[u8]) -> Option<Command>
     ensures { result ≡ iso_command (words_of words.now) }
 {
-    let (year, words) = first_word(words)?;
-    let (week, words) = first_word(words)?;
+    let Some((year, words)) = first_word(words) else {
+        return None;
+    };
+    let Some((week, words)) = first_word(words) else {
+        return None;
+    };
     let number = parse_u8(only_word(words)?)?;
     Some(Command::Iso(
         parse_i32(year)?,
@@ -88,26 +115,39 @@ fn parse_iso(words: &[u8]) -> Option<Command>
     ))
 }
 
+#[tactic(auto, unfolding(crate::specs::Commands::show_command))]
 fn parse_show(words: &[u8]) -> Option<Command>
     ensures { result ≡ show_command (words_of words.now) }
 {
     Some(Command::Show(parse_i32(only_word(words)?)?))
 }
 
+#[tactic(auto, unfolding(crate::specs::Commands::add_command))]
 fn parse_add(words: &[u8]) -> Option<Command>
     ensures { result ≡ add_command (words_of words.now) }
 {
-    let (julian_day, words) = first_word(words)?;
+    let Some((julian_day, words)) = first_word(words) else {
+        return None;
+    };
     Some(Command::Add(parse_i32(julian_day)?, parse_i64(only_word(words)?)?))
 }
 
+#[tactic(auto, unfolding(crate::specs::Commands::moment_command))]
 fn parse_moment(words: &[u8]) -> Option<Command>
     ensures { result ≡ moment_command (words_of words.now) }
 {
-    let (julian_day, words) = first_word(words)?;
-    let (hour, words) = first_word(words)?;
-    let (minute, words) = first_word(words)?;
-    let (second, words) = first_word(words)?;
+    let Some((julian_day, words)) = first_word(words) else {
+        return None;
+    };
+    let Some((hour, words)) = first_word(words) else {
+        return None;
+    };
+    let Some((minute, words)) = first_word(words) else {
+        return None;
+    };
+    let Some((second, words)) = first_word(words) else {
+        return None;
+    };
     let seconds = only_word(words)?;
     Some(Command::Moment(
         parse_i32(julian_day)?,

@@ -5,6 +5,7 @@ ghost use Rattle.caltool.specs.Numbers.{i64_of, i32_of, u8_of, u16_of};
 use std::str;
 
 /// Parses a number from -2147483648 to 2147483647.
+#[tactic(auto, unfolding(crate::specs::Numbers::i32_of, crate::specs::Numbers::i64_of))]
 pub fn parse_i32(word: &[u8]) -> Option<i32>
     ensures { result ≡ i32_of word.now }
 {
@@ -12,6 +13,7 @@ pub fn parse_i32(word: &[u8]) -> Option<i32>
 }
 
 /// Parses a number from 0 to 255.
+#[tactic(auto, unfolding(crate::specs::Numbers::u8_of, crate::specs::Numbers::i64_of))]
 pub fn parse_u8(word: &[u8]) -> Option<u8>
     ensures { result ≡ u8_of word.now }
 {
@@ -19,6 +21,7 @@ pub fn parse_u8(word: &[u8]) -> Option<u8>
 }
 
 /// Parses a number from 0 to 65535.
+#[tactic(auto, unfolding(crate::specs::Numbers::u16_of, crate::specs::Numbers::i64_of))]
 pub fn parse_u16(word: &[u8]) -> Option<u16>
     ensures { result ≡ u16_of word.now }
 {
@@ -26,6 +29,7 @@ pub fn parse_u16(word: &[u8]) -> Option<u16>
 }
 
 /// Parses an `i64`. The smaller types use it too, because std's unsigned `parse` rejects `-0`.
+#[tactic(auto, unfolding(crate::specs::Numbers::i64_of))]
 pub fn parse_i64(word: &[u8]) -> Option<i64>
     ensures { result ≡ i64_of word.now }
 {

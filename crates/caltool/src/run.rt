@@ -58,6 +58,7 @@ fn run_calls<R: Source, W: Sink>(reader: &mut R, writer: &mut W) -> Result<(), F
 }
 
 /// Answers the lines in order. Collects the answers, so that few writes are needed.
+#[tactic(auto, unfolding(crate::specs::Answers::out))]
 fn write_answers<W: Sink>(writer: &mut W, input: &[u8]) -> Result<(), Fault>
     ensures ok { OnOk result
         (Appends (W.contents writer.old) (W.contents writer.new) (out input.now)) }

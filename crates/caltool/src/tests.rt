@@ -1,17 +1,16 @@
-//! Runs over inputs in memory: rows from outside, and answers from a plain reading of the manual.
-ghost use Rattle.std.specs.Prelude.{◌≡◌, IfOk, OnOk};
+//! Runs over inputs in memory, with answers from outside.
+ghost use Rattle.std.specs.Prelude.{◌≡◌, OnOk};
 ghost use Rattle.caltool.specs.Answers.{out};
 
 use crate::fault::Fault;
 use crate::run::run;
 use std::alloc::{AllocError, Global};
+use std::fmt::Debug;
 use std::process::Abort;
 use std::test::Fail;
 
 mod failing;
 mod one_answer;
-mod reading;
-mod reference;
 
 /// Eight lines, and the answers to them.
 const INPUT: &[u8] =
@@ -20,97 +19,149 @@ const INPUT: &[u8] =
 const ANSWERS: &[u8] =
     b"2000 ordinal 1 julian 2451545\n-4713 ordinal 328 julian 0\n-9999 ordinal 1 julian -1930999\n2020 ordinal 366 julian 2459215\nrefused ordinal conditional\nrefused year\nrefused julian_day\nbad line\n";
 
-fn answers(alloc: Global, input: &[u8]) -> Result<(Result<(), Fault>, Vec<u8>), AllocError>
-    ensures { IfOk result (λ r. OnOk r.0 (r.1.items ≡ out input.now)) }
+/// Checks that two values are equal. This function is proved once, and `assert_eq!` at each place.
+fn same<T: Copy + Debug + PartialEq>(rt: &impl Abort, found: T, expected: T) {
+    assert!(rt; found == expected, "{found:?} and not {expected:?}");
+}
+
+fn answers(alloc: Global, input: &[u8]) -> (Result<(), Fault>, Vec<u8>)
+    ensures { OnOk result.0 (result.1.items ≡ out input.now) }
 {
     let mut reader = input;
     let mut written = Vec::new(alloc);
     let outcome = run(&mut reader, &mut written);
-    Ok((outcome, written))
+    (outcome, written)
 }
 
-/// Stops the test unless the line, with its end and without, is answered by this.
-fn answers_alone(rt: &impl Abort, alloc: Global, line: &[u8], answer: &[u8]) -> Result<(), Fail> {
-    let mut ended = line.to_vec(alloc)?;
+/// Checks the answers to an input.
+fn check_answers(rt: &(impl Abort + AllocGlobal), input: &[u8], expected: &[u8]) {
+    let (outcome, written) = answers(rt.alloc(), input);
+    same(rt, outcome, Ok(()));
+    same(rt, written.as_slice(), expected);
+}
+
+/// Returns the bytes and a line end.
+fn ended(alloc: Global, bytes: &[u8]) -> Result<Vec<u8>, AllocError> {
+    let mut ended = bytes.to_vec(alloc)?;
     ended.push(b'\n')?;
-    for input in [line, ended.as_slice()] {
-        let (outcome, written) = answers(alloc, input)?;
-        assert_eq!(rt; outcome, Ok(()));
-        assert_eq!(rt; written.as_slice(), answer);
+    Ok(ended)
+}
+
+/// Checks the answer to each line by itself, with its end and without, and to all lines together.
+fn check_lines(rt: &(impl Abort + AllocGlobal), rows: &[(&[u8], &[u8])]) -> Result<(), AllocError> {
+    let mut input = Vec::new(rt.alloc());
+    let mut expected = Vec::new(rt.alloc());
+    for &(line, answer) in rows {
+        let answer = ended(rt.alloc(), answer)?;
+        check_answers(rt, line, answer.as_slice());
+        let line = ended(rt.alloc(), line)?;
+        check_answers(rt, line.as_slice(), answer.as_slice());
+        input.extend_from_slice(line.as_slice())?;
+        expected.extend_from_slice(answer.as_slice())?;
     }
+    check_answers(rt, input.as_slice(), expected.as_slice());
     Ok(())
 }
 
 #[test]
-fn answers_line_by_line(rt: HostRuntime) -> Result<(), Fail> {
-    let cases: [(&[u8], &[u8]); 8] = [
-        (INPUT, ANSWERS),
-        (
-            b"julian  0\njulian +5\n\njulian -0\njulian 007\njulian 2147483648\nordinal 2020 65536\njulian",
-            b"bad line\nbad line\nbad line\n-4713 ordinal 328 julian 0\n-4713 ordinal 335 julian 7\nbad line\nbad line\nbad line\n",
-        ),
-        (b"", b""),
-        (b"\n", b"bad line\n"),
-        (
-            b"ordinal 2020 -0\nordinal 2020 60 0",
-            b"refused ordinal conditional\nbad line\n",
-        ),
-        (
-            b"calendar 2000 2 29\ncalendar 1900 2 29\ncalendar 10000 13 1\niso 2020 53 5\niso 2019 53 1\niso 9999 52 6\niso 999999 52 6\niso 2020 53 8\nshow 2451545\nshow -1930999\nshow -363521074\nshow 5373485\nshow 366963559\n",
-            b"2000 ordinal 60 julian 2451604\nrefused day conditional\nrefused month\n2021 ordinal 1 julian 2459216\nrefused week conditional\n10000 ordinal 1 julian 5373485\nrefused weekday conditional\nbad line\n2000-01-01 iso 1999 52 6 Saturday\n-9999-01-01 iso -9999 1 1 Monday\n-999999-01-01 iso -999999 1 1 Monday\n+10000-01-01 iso 9999 52 6 Saturday\n+999999-12-31 iso 999999 52 5 Friday\n",
-        ),
-        (
-            b"add 2459215 169200\nadd 5373484 86400\nadd 5373484 86399\nmoment 2459215 23 0 0 7200\nmoment 5373484 23 59 59 1\nmoment 5373484 24 60 0 0\nadd 366963559 86400\nmoment 366963559 23 59 59 1\n",
-            b"2021-01-01\n+10000-01-01\n9999-12-31\n2021-01-01 1:00:00.0\n+10000-01-01 0:00:00.0\nrefused hour\nnone\nnone\n",
-        ),
-        (
-            b"show 366963560\nadd 366963560 9223372036854775808",
-            b"refused julian_day\nbad line\n",
-        ),
+fn inputs_of_several_lines(rt: HostRuntime) {
+    check_answers(&rt, INPUT, ANSWERS);
+    check_answers(
+        &rt,
+        b"julian  0\njulian +5\n\njulian -0\njulian 007\njulian 2147483648\nordinal 2020 65536\njulian",
+        b"bad line\nbad line\nbad line\n-4713 ordinal 328 julian 0\n-4713 ordinal 335 julian 7\nbad line\nbad line\nbad line\n",
+    );
+    check_answers(&rt, b"", b"");
+    check_answers(&rt, b"\n", b"bad line\n");
+}
+
+#[test]
+fn dates(rt: HostRuntime) -> Result<(), Fail> {
+    let rows: &[(&[u8], &[u8])] = &[
+        (b"ordinal 2020 -0", b"refused ordinal conditional"),
+        (b"ordinal 2020 60 0", b"bad line"),
+        (b"calendar 2000 2 29", b"2000 ordinal 60 julian 2451604"),
+        (b"calendar 1900 2 29", b"refused day conditional"),
+        (b"calendar 10000000 13 1", b"refused month"),
+        (b"iso 2020 53 5", b"2021 ordinal 1 julian 2459216"),
+        (b"iso 2019 53 1", b"refused week conditional"),
+        (b"iso 9999 52 6", b"10000 ordinal 1 julian 5373485"),
+        (b"iso 999999 52 6", b"refused weekday conditional"),
+        (b"iso 2020 53 8", b"bad line"),
+        (b"show 2451545", b"2000-01-01 iso 1999 52 6 Saturday"),
+        (b"show -1930999", b"-9999-01-01 iso -9999 1 1 Monday"),
+        (b"show -363521074", b"-999999-01-01 iso -999999 1 1 Monday"),
+        (b"show 5373485", b"+10000-01-01 iso 9999 52 6 Saturday"),
+        (b"show 366963559", b"+999999-12-31 iso 999999 52 5 Friday"),
+        (b"show 366963560", b"refused julian_day"),
     ];
-    for (input, expected) in cases {
-        let (outcome, written) = answers(rt.alloc(), input)?;
-        assert_eq!(rt; outcome, Ok(()));
-        assert_eq!(rt; written.as_slice(), expected);
-    }
+    check_lines(&rt, rows)?;
     Ok(())
 }
 
-// Each line is an input by itself, with its end and without, and all of them are one input.
+#[test]
+fn moves(rt: HostRuntime) -> Result<(), Fail> {
+    let rows: &[(&[u8], &[u8])] = &[
+        (b"add 2459215 169200", b"2021-01-01"),
+        (b"add 5373484 86400", b"+10000-01-01"),
+        (b"add 5373484 86399", b"9999-12-31"),
+        (b"add 366963559 86400", b"none"),
+        (b"add 366963560 9223372036854775808", b"bad line"),
+        (b"moment 2459215 23 0 0 7200", b"2021-01-01 1:00:00.0"),
+        (b"moment 5373484 23 59 59 1", b"+10000-01-01 0:00:00.0"),
+        (b"moment 5373484 24 60 0 0", b"refused hour"),
+        (b"moment 366963559 23 59 59 1", b"none"),
+    ];
+    check_lines(&rt, rows)?;
+    Ok(())
+}
+
 #[test]
 fn hostile_lines(rt: HostRuntime) -> Result<(), Fail> {
-    let rows: [(&[u8], &[u8]); 20] = [
-        (b"julian -2147483648", b"refused julian_day\n"),
-        (b"julian -2147483649", b"bad line\n"),
-        (b"julian -", b"bad line\n"),
-        (b"julian --1", b"bad line\n"),
-        (b"Julian 0", b"bad line\n"),
-        (b"julian 0 ", b"bad line\n"),
-        (b"julian 0\r", b"bad line\n"),
-        (b"calendar 2020 0 1", b"refused month\n"),
-        (b"calendar 2020 256 1", b"bad line\n"),
-        (b"calendar 2020 2 0", b"refused day conditional\n"),
-        (b"calendar 2020 13 256", b"bad line\n"),
-        (b"iso 2020 255 1", b"refused week conditional\n"),
-        (b"iso 2020 1 0", b"bad line\n"),
-        (b"iso 10000 0 0", b"bad line\n"),
-        (b"add 0 9223372036854775807", b"none\n"),
-        (b"add 0 -9223372036854775808", b"none\n"),
-        (b"add 0 9223372036854775808", b"bad line\n"),
-        (b"moment 366963560 24 0 0 0", b"refused julian_day\n"),
-        (b"moment 0 256 0 0 0", b"bad line\n"),
-        (b"\xff\xfe", b"bad line\n"),
+    let rows: &[(&[u8], &[u8])] = &[
+        (b"julian -2147483648", b"refused julian_day"),
+        (b"julian -2147483649", b"bad line"),
+        (b"julian -", b"bad line"),
+        (b"julian --1", b"bad line"),
+        (b"Julian 0", b"bad line"),
+        (b"julian 0 ", b"bad line"),
+        (b"julian 0\r", b"bad line"),
+        (b"calendar 2020 0 1", b"refused month"),
+        (b"calendar 2020 256 1", b"bad line"),
+        (b"calendar 2020 2 0", b"refused day conditional"),
+        (b"calendar 2020 13 256", b"bad line"),
+        (b"iso 2020 255 1", b"refused week conditional"),
+        (b"iso 2020 1 0", b"bad line"),
+        (b"iso 10000 0 0", b"bad line"),
+        (b"add 0 9223372036854775807", b"none"),
+        (b"add 0 -9223372036854775808", b"none"),
+        (b"add 0 9223372036854775808", b"bad line"),
+        (b"moment 366963560 24 0 0 0", b"refused julian_day"),
+        (b"moment 0 256 0 0 0", b"bad line"),
+        (b"\xff\xfe", b"bad line"),
     ];
-    let (mut joined, mut expected) = (Vec::new(rt.alloc()), Vec::new(rt.alloc()));
-    for (line, answer) in rows {
-        answers_alone(&rt, rt.alloc(), line, answer)?;
-        joined.extend_from_slice(line)?;
-        joined.push(b'\n')?;
-        expected.extend_from_slice(answer)?;
-    }
-    let (outcome, written) = answers(rt.alloc(), &joined)?;
-    assert_eq!(rt; outcome, Ok(()));
-    assert_eq!(rt; written.as_slice(), expected.as_slice());
+    check_lines(&rt, rows)?;
+    Ok(())
+}
+
+// The longest answer of each command, and of an error.
+#[test]
+fn the_longest_answers_are_whole(rt: HostRuntime) -> Result<(), Fail> {
+    let first: &[u8] = b"-999999 ordinal 365 julian -363520710";
+    let rows: &[(&[u8], &[u8])] = &[
+        (b"julian -363520710", first),
+        (b"ordinal -999999 365", first),
+        (b"calendar -999999 12 31", first),
+        (b"iso -999998 1 1", first),
+        (
+            b"show -363520715",
+            b"-999999-12-26 iso -999999 52 3 Wednesday",
+        ),
+        (b"add -363520710 0", b"-999999-12-31"),
+        (b"moment -363520710 23 59 59 0", b"-999999-12-31 23:59:59.0"),
+        (b"ordinal -999999 366", b"refused ordinal conditional"),
+    ];
+    check_lines(&rt, rows)?;
     Ok(())
 }
 
@@ -118,63 +169,22 @@ fn hostile_lines(rt: HostRuntime) -> Result<(), Fail> {
 fn numbers_of_4000_zeros(rt: HostRuntime) -> Result<(), Fail> {
     let mut line = b"julian ".to_vec(rt.alloc())?;
     line.extend_from_slice(&[b'0'; 4000])?;
-    answers_alone(&rt, rt.alloc(), &line, b"-4713 ordinal 328 julian 0\n")
+    check_lines(&rt, &[(line.as_slice(), b"-4713 ordinal 328 julian 0")])?;
+    Ok(())
+}
+
+fn check_too_long(rt: &(impl Abort + AllocGlobal), input: &[u8]) {
+    let (outcome, written) = answers(rt.alloc(), input);
+    same(rt, outcome, Err(Fault::TooLong));
+    same(rt, written.len(), 0);
 }
 
 #[test]
 fn takes_4096_bytes(rt: HostRuntime) -> Result<(), Fail> {
-    let (outcome, written) = answers(rt.alloc(), &[b'\n'; 4096])?;
-    assert_eq!(rt; outcome, Ok(()));
-    assert_eq!(rt; written.len(), 4096 * 9);
-    for line in written.chunks(9) {
-        assert_eq!(rt; line, b"bad line\n".as_slice());
-    }
-    let (outcome, written) = answers(rt.alloc(), &[b'x'; 4096])?;
-    assert_eq!(rt; outcome, Ok(()));
-    assert_eq!(rt; written.as_slice(), b"bad line\n".as_slice());
-    for further in [b'\n', b'x'] {
-        let (outcome, written) = answers(rt.alloc(), &[further; 4097])?;
-        assert_eq!(rt; outcome, Err(Fault::TooLong));
-        assert!(rt; written.is_empty());
-    }
-    Ok(())
-}
-
-// The longest answer of each command, and of an error.
-#[test]
-fn the_longest_answers_are_whole(rt: HostRuntime) -> Result<(), Fail> {
-    let cases: [(&[u8], &[u8]); 8] = [
-        (
-            b"julian -363520710",
-            b"-999999 ordinal 365 julian -363520710\n",
-        ),
-        (
-            b"ordinal -999999 365",
-            b"-999999 ordinal 365 julian -363520710\n",
-        ),
-        (
-            b"calendar -999999 12 31",
-            b"-999999 ordinal 365 julian -363520710\n",
-        ),
-        (
-            b"iso -999998 1 1",
-            b"-999999 ordinal 365 julian -363520710\n",
-        ),
-        (
-            b"show -363520715",
-            b"-999999-12-26 iso -999999 52 3 Wednesday\n",
-        ),
-        (b"add -363520710 0", b"-999999-12-31\n"),
-        (
-            b"moment -363520710 23 59 59 0",
-            b"-999999-12-31 23:59:59.0\n",
-        ),
-        (b"ordinal -999999 366", b"refused ordinal conditional\n"),
-    ];
-    for (input, expected) in cases {
-        let (outcome, written) = answers(rt.alloc(), input)?;
-        assert_eq!(rt; outcome, Ok(()));
-        assert_eq!(rt; written.as_slice(), expected);
-    }
+    let expected = b"bad line\n".as_slice().repeat(rt.alloc(), 4096)?;
+    check_answers(&rt, &[b'\n'; 4096], expected.as_slice());
+    check_answers(&rt, &[b'x'; 4096], b"bad line\n");
+    check_too_long(&rt, &[b'\n'; 4097]);
+    check_too_long(&rt, &[b'x'; 4097]);
     Ok(())
 }

@@ -3,9 +3,11 @@ use Rattle.std.proofs.lemmas.Int.{to_z-of_z}
 use Rattle.cal_time.specs.Pair.{pair_number}
 use Rattle.cal_time.specs.SignedDuration.{second}
 use Rattle.caltool.proofs.Pairs.{first_day_where-pair, first_day_where-no_pair, rest-time}
+use Rattle.caltool.specs.Answers.{later_pair_text}
 use Rattle.caltool.proofs.answer.push_later_pair.Goals as goal
 
 pub returns-in-None-clause-appended : goal.returns-in-None-clause-appended
+unfolding later_pair_text
 returns-in-None-clause-appended c =
     let z : ℤ = pair_number c.args.date c.args.time +ℤ c.args.seconds *ℤ pos second in
     let same : to_z w64 (of_z w64 c.args.seconds) ≡ c.args.seconds = to_z-of_z w64 c.args.seconds c.ranges.seconds in
@@ -14,6 +16,7 @@ returns-in-None-clause-appended c =
     rw (first_day_where-no_pair z none) c.push.ensures.appended
 
 pub returns-in-Some-clause-appended : goal.returns-in-Some-clause-appended
+unfolding later_pair_text
 returns-in-Some-clause-appended c =
     let z : ℤ = pair_number c.args.date c.args.time +ℤ c.args.seconds *ℤ pos second in
     let same : to_z w64 (of_z w64 c.args.seconds) ≡ c.args.seconds = to_z-of_z w64 c.args.seconds c.ranges.seconds in

@@ -1,7 +1,9 @@
 use Rattle.std.proofs.Common.{◌≡◌, true, sym, ◌∙◌, append_assoc}
+use Rattle.caltool.specs.Answers.{refusal_text}
 use Rattle.caltool.proofs.answer.push_refusal.Goals as goal
 
 pub returns-then-is_conditional-clause-appended : goal.returns-then-is_conditional-clause-appended
+unfolding refusal_text
 returns-then-is_conditional-clause-appended c =
     let conditional : c.args.error.is_conditional ≡ true = sym c.is_conditional.ensures ∙ c.if-is_conditional.true in
     let a = c.push.ensures.appended in

@@ -24,6 +24,7 @@ returns-in_err-make_room-clause-prefix g c =
     search (rules, front)
 
 pub returns-clause-prefix : goal.returns-clause-prefix
+unfolding out
 returns-clause-prefix g c =
     let none : c.loop-line.buffer ++ out c.loop-line.rest.now ≡ c.loop-line.buffer =
     ap (λ rest. c.loop-line.buffer ++ out rest) c.in_default.ensures.value ∙ append-nil c.loop-line.buffer in
