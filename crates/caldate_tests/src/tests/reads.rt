@@ -177,10 +177,13 @@ fn reads_of_each_length_interrupted_once(rt: HostRuntime) {
 fn each_read_fails_in_turn(rt: HostRuntime) {
     for case in &CASES {
         for fine in 0..case.reads {
-            check_fails(&rt, case, fine, usize::MAX, ErrorKind::Other);
-            check_fails(&rt, case, fine, usize::MAX, ErrorKind::Interrupted);
-            check_fails(&rt, case, fine, 4097, ErrorKind::Interrupted);
-            check_ends(&rt, case, 1, fine, 4096);
+            check_fails(&rt, case, fine, 1, ErrorKind::Other);
         }
+    }
+    let case = &CASES[1];
+    for fine in 0..case.reads {
+        check_fails(&rt, case, fine, usize::MAX, ErrorKind::Interrupted);
+        check_fails(&rt, case, fine, 4097, ErrorKind::Interrupted);
+        check_ends(&rt, case, 1, fine, 4096);
     }
 }
