@@ -1,0 +1,189 @@
+//! Runs over readers that give few bytes in each call, are interrupted or fail.
+use crate::tests::check_run;
+use crate::tests::streams::Dripping;
+use std::io::ErrorKind;
+use std::process::Abort;
+
+/// A run and its end: the output, and the message of a strict run that stops.
+struct Case {
+    arguments: &'static [u8],
+    input: &'static [u8],
+    written: &'static [u8],
+    told: &'static [u8],
+    /// The number of reads of one byte up to the end of the run.
+    reads: usize,
+}
+
+const STRICT: &[u8] = b"--strict\0to\0calendar";
+
+const CASES: [Case; 12] = [
+    Case {
+        arguments: b"to\0calendar",
+        input: b"2024-060\r\n\n2024-W09-4\nJ2460370",
+        written: b"2024-02-29\r\nunreadable at 0\n2024-02-29\n2024-02-29\n",
+        told: b"",
+        reads: 31,
+    },
+    Case {
+        arguments: b"to\0calendar",
+        input: b"2024-060\n2024-367\r\nx\n2024-W09-4",
+        written: b"2024-02-29\nrefused ordinal conditional\r\nunreadable at 0\n2024-02-29\n",
+        told: b"",
+        reads: 32,
+    },
+    Case {
+        arguments: b"--field\02\0--separator\0,\0to\0calendar",
+        input: b"a,2024-060,c\r\n,2024-W09-4\nJ2460370",
+        written: b"a,2024-02-29,c\r\n,2024-02-29\nJ2460370\n",
+        told: b"",
+        reads: 35,
+    },
+    Case {
+        arguments: STRICT,
+        input: b"",
+        written: b"",
+        told: b"",
+        reads: 1,
+    },
+    Case {
+        arguments: STRICT,
+        input: b"2024-060\n2024-061\n",
+        written: b"2024-02-29\n2024-03-01\n",
+        told: b"",
+        reads: 19,
+    },
+    Case {
+        arguments: STRICT,
+        input: b"2024-060\n+999999-12-31",
+        written: b"2024-02-29\n+999999-12-31\n",
+        told: b"",
+        reads: 23,
+    },
+    Case {
+        arguments: STRICT,
+        input: b"2024-060\n2024-367\n2024-061\n",
+        written: b"2024-02-29\n",
+        told: b"caldate: line 2: refused ordinal conditional: 2024-367\n",
+        reads: 18,
+    },
+    Case {
+        arguments: STRICT,
+        input: b"x\n2024-060\n",
+        written: b"",
+        told: b"caldate: line 1: unreadable at 0: x\n",
+        reads: 2,
+    },
+    Case {
+        arguments: STRICT,
+        input: b"2024-060\r\n\r\n2024-060\n",
+        written: b"2024-02-29\r\n",
+        told: b"caldate: line 2: unreadable at 0: \n",
+        reads: 12,
+    },
+    // A line without a line feed is answered once the input ends.
+    Case {
+        arguments: STRICT,
+        input: b"2024-060\n2024-061\n2024-0",
+        written: b"2024-02-29\n2024-03-01\n",
+        told: b"caldate: line 3: unreadable at 6: 2024-0\n",
+        reads: 25,
+    },
+    Case {
+        arguments: STRICT,
+        input: b"2024-02-",
+        written: b"",
+        told: b"caldate: line 1: unreadable at 8: 2024-02-\n",
+        reads: 9,
+    },
+    Case {
+        arguments: STRICT,
+        input: b"2024-02-29\n2023-02-29\r",
+        written: b"2024-02-29\n",
+        told: b"caldate: line 2: refused day conditional: 2023-02-29\n",
+        reads: 23,
+    },
+];
+
+/// Checks that the run ends as said, although it is interrupted this often after `fine` reads.
+fn check_ends<H: Abort + AllocGlobal>(
+    rt: &H,
+    case: &Case,
+    most: usize,
+    fine: usize,
+    failures: usize,
+) {
+    let reader = Dripping {
+        rest: case.input,
+        most,
+        fine,
+        failures,
+        kind: ErrorKind::Interrupted,
+    };
+    let status = if case.told.is_empty() { 0 } else { 1 };
+    check_run(rt, case.arguments, reader, case.written, status, case.told);
+}
+
+/// Returns the first `count` lines.
+fn first_lines(bytes: &[u8], count: usize) -> &[u8] {
+    let mut left = count;
+    for (i, byte) in bytes.iter().enumerate() {
+        if left == 0 {
+            return &bytes[..i];
+        }
+        if *byte == b'\n' {
+            left -= 1;
+        }
+    }
+    bytes
+}
+
+/// Checks that the run ends with a failed read after `fine` reads of one byte, and that the lines
+/// that were read are answered.
+fn check_fails<H: Abort + AllocGlobal>(
+    rt: &H,
+    case: &Case,
+    fine: usize,
+    failures: usize,
+    kind: ErrorKind,
+) {
+    let reader = Dripping {
+        rest: case.input,
+        most: 1,
+        fine,
+        failures,
+        kind,
+    };
+    let read = &case.input[..fine.min(case.input.len())];
+    let ended = read.iter().filter(|byte| **byte == b'\n').count();
+    let written = first_lines(case.written, ended);
+    let told = b"caldate: cannot read standard input\n".as_slice();
+    check_run(rt, case.arguments, reader, written, 2, told);
+}
+
+#[test]
+fn reads_of_each_length_interrupted_once(rt: HostRuntime) {
+    for case in &CASES {
+        for most in 1..40usize {
+            for fine in 0..case.input.len() + 2 {
+                check_ends(&rt, case, most, fine, 1);
+            }
+        }
+    }
+}
+
+// No line is answered before its end or the end of the input. An interrupted read is repeated up
+// to 4096 times.
+#[test]
+fn each_read_fails_in_turn(rt: HostRuntime) {
+    for case in &CASES {
+        for fine in 0..case.reads {
+            check_fails(&rt, case, fine, 1, ErrorKind::Other);
+        }
+    }
+    let case = &CASES[1];
+    for fine in 0..case.reads {
+        check_fails(&rt, case, fine, usize::MAX, ErrorKind::Interrupted);
+        check_fails(&rt, case, fine, 4097, ErrorKind::Interrupted);
+        check_ends(&rt, case, 1, fine, 4096);
+    }
+}

@@ -1,0 +1,184 @@
+//! Runs over writers that take one byte in each call, are interrupted or fail.
+use crate::tests::run_by;
+use crate::tests::streams::Sipping;
+use caldate_run::ending::end;
+use caldate_run::fault::Fault;
+use caldate_run::program::perform;
+use caldate_run::shown::ShownText;
+use caldate_run::unanswered::UnansweredLine;
+use std::io::ErrorKind;
+use std::process::Abort;
+
+const INPUT: &[u8] = b"2024-060\n2024-367\r\nx\n2024-W09-4";
+
+const ANSWERS: &[u8] = b"2024-02-29\nrefused ordinal conditional\r\nunreadable at 0\n2024-02-29\n";
+
+/// Checks the outcome of a run whose writer fails this often after `fine` writes, and the bytes
+/// that the writer takes.
+fn check_writes<H: Abort + AllocGlobal>(
+    rt: &H,
+    arguments: &[u8],
+    (fine, failures, kind): (usize, usize, Option<ErrorKind>),
+    outcome: Result<(), Fault>,
+    taken: &[u8],
+) {
+    let mut writer = Sipping {
+        taken: Vec::new(rt.alloc()),
+        fine,
+        failures,
+        kind,
+    };
+    let found = run_by(arguments, &mut INPUT, &mut writer);
+    assert!(rt;
+        found == outcome && writer.taken.as_slice() == taken,
+        "{fine} writes fine"
+    );
+}
+
+/// Checks runs that write this, in which each write fails in turn. The bytes before are written,
+/// and an interrupted write is repeated up to 4096 times.
+fn check_each_write<H: Abort + AllocGlobal>(rt: &H, arguments: &[u8], written: &[u8]) {
+    for fine in 0..written.len() {
+        let before = &written[..fine];
+        for kind in [
+            ErrorKind::StorageFull,
+            ErrorKind::Other,
+            ErrorKind::BrokenPipe,
+        ] {
+            let outcome = Err(Fault::Write(kind));
+            check_writes(rt, arguments, (fine, 1, Some(kind)), outcome, before);
+        }
+        let nothing = Err(Fault::Write(ErrorKind::WriteZero));
+        check_writes(rt, arguments, (fine, 1, None), nothing, before);
+        let interrupted = Some(ErrorKind::Interrupted);
+        check_writes(rt, arguments, (fine, 1, interrupted), Ok(()), written);
+        check_writes(rt, arguments, (fine, 4096, interrupted), Ok(()), written);
+        let outcome = Err(Fault::Write(ErrorKind::Interrupted));
+        check_writes(rt, arguments, (fine, 4097, interrupted), outcome, before);
+    }
+    let failing = Some(ErrorKind::StorageFull);
+    check_writes(rt, arguments, (written.len(), 1, failing), Ok(()), written);
+}
+
+#[test]
+fn each_write_fails_in_turn(rt: HostRuntime) {
+    check_each_write(&rt, b"to\0calendar", ANSWERS);
+    let days = b"2024-02-28\n2024-02-29\n2024-03-01\n".as_slice();
+    check_each_write(&rt, b"list\0from\02024-02-28\0to\02024-03-01", days);
+}
+
+// The status is the same if standard error fails, and the message stops at the failed write.
+#[test]
+fn standard_error_fails(rt: HostRuntime) {
+    let words = b"caldate: cannot read standard input\n".as_slice();
+    for fine in 0..=words.len() {
+        for kind in [Some(ErrorKind::StorageFull), None] {
+            let mut writer = Sipping {
+                taken: Vec::new(rt.alloc()),
+                fine,
+                failures: 1,
+                kind,
+            };
+            let ending = end(Err(Fault::Read), &mut writer);
+            assert!(rt; ending.status == 2 && ending.told.is_ok() == (fine == words.len()));
+            assert!(rt; writer.taken.as_slice() == &words[..fine]);
+        }
+    }
+}
+
+/// All kinds of errors.
+const KINDS: [ErrorKind; 42] = [
+    ErrorKind::NotFound,
+    ErrorKind::PermissionDenied,
+    ErrorKind::ConnectionRefused,
+    ErrorKind::ConnectionReset,
+    ErrorKind::HostUnreachable,
+    ErrorKind::NetworkUnreachable,
+    ErrorKind::ConnectionAborted,
+    ErrorKind::NotConnected,
+    ErrorKind::AddrInUse,
+    ErrorKind::AddrNotAvailable,
+    ErrorKind::NetworkDown,
+    ErrorKind::BrokenPipe,
+    ErrorKind::AlreadyExists,
+    ErrorKind::WouldBlock,
+    ErrorKind::NotADirectory,
+    ErrorKind::IsADirectory,
+    ErrorKind::DirectoryNotEmpty,
+    ErrorKind::ReadOnlyFilesystem,
+    ErrorKind::FilesystemLoop,
+    ErrorKind::StaleNetworkFileHandle,
+    ErrorKind::InvalidInput,
+    ErrorKind::InvalidData,
+    ErrorKind::TimedOut,
+    ErrorKind::WriteZero,
+    ErrorKind::StorageFull,
+    ErrorKind::NotSeekable,
+    ErrorKind::QuotaExceeded,
+    ErrorKind::FileTooLarge,
+    ErrorKind::ResourceBusy,
+    ErrorKind::ExecutableFileBusy,
+    ErrorKind::Deadlock,
+    ErrorKind::CrossesDevices,
+    ErrorKind::TooManyLinks,
+    ErrorKind::InvalidFilename,
+    ErrorKind::ArgumentListTooLong,
+    ErrorKind::Interrupted,
+    ErrorKind::Unsupported,
+    ErrorKind::UnexpectedEof,
+    ErrorKind::OutOfMemory,
+    ErrorKind::InProgress,
+    ErrorKind::Other,
+    ErrorKind::Uncategorized,
+];
+
+/// Checks the status and the message if each write fails in this way. Only a broken pipe is a
+/// closed output.
+fn check_kind<H: Abort + AllocGlobal>(rt: &H, arguments: &[u8], kind: ErrorKind) {
+    let mut writer = Sipping {
+        taken: Vec::new(rt.alloc()),
+        fine: 0,
+        failures: usize::MAX,
+        kind: Some(kind),
+    };
+    let mut told = Vec::new(rt.alloc());
+    let ending = perform(Some(arguments), &mut INPUT, &mut writer, &mut told);
+    let (status, words) = if kind == ErrorKind::BrokenPipe {
+        (0, b"".as_slice())
+    } else {
+        (2, b"caldate: cannot write to standard output\n".as_slice())
+    };
+    assert!(rt; ending.status == status && ending.told.is_ok() && told.as_slice() == words);
+}
+
+#[test]
+fn writes_fail_in_each_way(rt: HostRuntime) {
+    for kind in &KINDS {
+        check_kind(&rt, b"to\0calendar", *kind);
+        check_kind(&rt, b"list\0from\02000-01-01\0to\02273-10-15", *kind);
+    }
+}
+
+// 100000 days, which fill the buffer many times.
+#[test]
+fn a_long_list(rt: HostRuntime) {
+    let mut written = Vec::new(rt.alloc());
+    let arguments = b"list\0from\02000-01-01\0to\02273-10-15".as_slice();
+    let outcome = run_by(arguments, &mut INPUT, &mut written);
+    assert!(rt; outcome == Ok(()) && written.len() == 1_100_000);
+    assert!(rt; written.starts_with(b"2000-01-01\n2000-01-02\n2000-01-03\n"));
+    assert!(rt; written.ends_with(b"2273-10-13\n2273-10-14\n2273-10-15\n"));
+}
+
+#[test]
+fn the_last_number_of_a_line(rt: HostRuntime) {
+    let line = UnansweredLine {
+        number: u64::MAX,
+        reason: ShownText::new(b"none"),
+        text: ShownText::new(b"+999999-12-31"),
+    };
+    let mut told = Vec::new(rt.alloc());
+    let ending = end(Err(Fault::Unanswered(line)), &mut told);
+    let words = b"caldate: line 18446744073709551615: none: +999999-12-31\n".as_slice();
+    assert!(rt; ending.status == 1 && ending.told.is_ok() && told.as_slice() == words);
+}
