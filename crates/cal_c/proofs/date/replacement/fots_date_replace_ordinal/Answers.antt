@@ -1,6 +1,6 @@
-use Rattle.std.proofs.Common.{rules, ap, ◌∙◌, sym, subst}
+use Rattle.std.proofs.Common.{rules, ◌∙◌, sym, subst}
 use Rattle.std.proofs.lemmas.Int.{to_z-of_z}
-use Rattle.cal_time.specs.Date.{year_at, IsOrdinal, HasOrdinalDate}
+use Rattle.cal_time.specs.Date.{year_at, HasOrdinalDate}
 use Rattle.cal_c.specs.Results.{IsDateWith}
 use Rattle.cal_c.specs.Values.{day_of}
 use Rattle.cal_c.proofs.Days.{IsDateWith-at}
@@ -12,14 +12,12 @@ returns-in-Ok c =
     let f = c.ranges.date in
     let at = simp to_z-of_z at c.in-Some.ensures in
     let Has = HasOrdinalDate (year_at (day_of c.args.date)) c.args.ordinal in
-    let has = c.in-Ok.ensures.value.value in
+    let its = rw at.1 at c.in-Ok.ensures in
     met at.0 (record {
-      error = λ out.
-          let at_day = subst (λ n. IsOrdinal (year_at n) c.args.ordinal → ⊥) (sym at.1) out in
-          absurd (c.in-Ok.ensures.error.ordinal.1 (c.ordinal_or_invalid.ensures.invalid (year_at c.in-Some.value) at_day));
+      error = λ out. absurd (its.error.ordinal.1 (c.ordinal_or_invalid.ensures.invalid (year_at (day_of c.args.date)) out));
       value = λ o.
           let ordinal = c.ordinal_or_invalid.ensures.value (year_at (day_of c.args.date)) o in
-          subst (IsDateWith Has) (sym c.ok.ensures) (IsDateWith-at Has c.in-Ok.made has.0 (has.1.0 ∙ ap year_at at.1, has.1.1 ∙ ordinal));
+          subst (IsDateWith Has) (sym c.ok.ensures) (IsDateWith-at Has c.in-Ok.made its.value.value.0 (its.value.value.1.0, its.value.value.1.1 ∙ ordinal));
     })
 
 pub returns-in-Err : goal.returns-in-Err

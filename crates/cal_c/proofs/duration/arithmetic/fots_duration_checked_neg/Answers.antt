@@ -1,5 +1,4 @@
-use Rattle.std.proofs.Common.{ℤ, neg_ℤ, SomeIff, sym, subst}
-use Rattle.cal_time.specs.SignedDuration.{IsDuration}
+use Rattle.std.proofs.Common.{neg_ℤ, sym, subst}
 use Rattle.cal_c.specs.Results.{IsDurationOrOutOfRange}
 use Rattle.cal_c.specs.Values.{nanoseconds_in}
 use Rattle.cal_c.proofs.Durations.{duration-if-any}
@@ -7,6 +6,5 @@ use Rattle.cal_c.proofs.duration.arithmetic.fots_duration_checked_neg.Goals as g
 
 pub returns-clause-value : goal.returns-clause-value
 returns-clause-value c = λ d.
-    let P : ℤ → Type 0 = λ a. SomeIff c.checked_neg.result (IsDuration (neg_ℤ a)) (neg_ℤ a) in
-    let found : P (nanoseconds_in c.args.duration) = subst P c.in-Some.ensures.1 c.checked_neg.ensures in
+    let found = rw c.in-Some.ensures.1 at c.checked_neg.ensures in
     subst (IsDurationOrOutOfRange (neg_ℤ (nanoseconds_in c.args.duration))) (sym c.from_option.ensures) (duration-if-any _ _ found)

@@ -2,6 +2,7 @@ use Rattle.std.proofs.Common.{sym, subst}
 use Rattle.std.proofs.lemmas.Int.{to_z-of_z}
 use Rattle.cal_time.specs.IsoWeekDate.{iso_year_at, iso_week_at, HasIsoWeekDate}
 use Rattle.cal_c.specs.Results.{IsDateWith}
+use Rattle.cal_c.specs.Values.{day_of}
 use Rattle.cal_c.proofs.Days.{IsDateWith-at}
 use Rattle.cal_c.proofs.schedule.period_ends.fots_date_first_of_iso_week.Goals as goal
 
@@ -9,7 +10,6 @@ pub returns-clause-value : goal.returns-clause-value
 returns-clause-value c = λ h.
     let f = c.ranges.date in
     let at = simp to_z-of_z at c.in-Some.ensures in
-    let monday = c.first_of_iso_week.ensures in
-    let Has = HasIsoWeekDate (iso_year_at c.in-Some.value) (iso_week_at c.in-Some.value) 0 in
-    let day = subst (IsDateWith Has) (sym c.ok.ensures) (IsDateWith-at Has c.first_of_iso_week.result monday.in_range.1 monday.value) in
-    subst (λ n. IsDateWith (HasIsoWeekDate (iso_year_at n) (iso_week_at n) 0) c.ok.result) at.1 day
+    let monday = rw at.1 at c.first_of_iso_week.ensures in
+    let Has = HasIsoWeekDate (iso_year_at (day_of c.args.date)) (iso_week_at (day_of c.args.date)) 0 in
+    subst (IsDateWith Has) (sym c.ok.ensures) (IsDateWith-at Has c.first_of_iso_week.result monday.in_range.1 monday.value)

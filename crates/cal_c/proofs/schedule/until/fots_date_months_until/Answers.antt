@@ -1,4 +1,4 @@
-use Rattle.std.proofs.Common.{◌<◌, ◌≤◌, sym, subst, rules, FitsSigned, w32}
+use Rattle.std.proofs.Common.{sym, subst, rules, FitsSigned, w32}
 use Rattle.std.proofs.lemmas.Int.{to_z-of_z}
 use Rattle.cal_schedule.specs.Until.{IsGreatest, IsLeast, IsMonthsUpTo, IsMonthsBackTo}
 use Rattle.cal_c.specs.Schedule.{IsNumberWith}
@@ -14,11 +14,9 @@ returns-clause-value_forward c = λ h k e.
     let of = simp to_z-of_z at c.ok.ensures in
     let at = simp to_z-of_z at c.in-Some.ensures in
     let to = simp to_z-of_z at c.in-Some-valid_date.ensures in
-    let order = subst (λ n. n ≤ c.in-Some-valid_date.value) (sym at.1) (subst (λ n. day_of c.args.date ≤ n) (sym to.1) (not_after _ _ h k e)) in
-    let Has = IsGreatest (IsMonthsUpTo c.in-Some.value c.in-Some-valid_date.value) in
-    let number = subst (IsNumberWith Has) (sym of) (number-with Has c.months_until.result (c.months_until.ensures.value_forward order)) in
-    subst (λ n. IsNumberWith (IsGreatest (IsMonthsUpTo n (day_of c.args.other))) c.ok.result) at.1
-    (subst (λ n. IsNumberWith (IsGreatest (IsMonthsUpTo c.in-Some.value n)) c.ok.result) to.1 number)
+    let Has = IsGreatest (IsMonthsUpTo (day_of c.args.date) (day_of c.args.other)) in
+    let found = (rw (at.1, to.1) at c.months_until.ensures.value_forward) (not_after _ _ h k e) in
+    subst (IsNumberWith Has) (sym of) (number-with Has c.months_until.result found)
 
 pub returns-clause-value_backward : goal.returns-clause-value_backward
 returns-clause-value_backward c = λ h k e.
@@ -28,8 +26,6 @@ returns-clause-value_backward c = λ h k e.
     let of = simp to_z-of_z at c.ok.ensures in
     let at = simp to_z-of_z at c.in-Some.ensures in
     let to = simp to_z-of_z at c.in-Some-valid_date.ensures in
-    let order = subst (λ n. n < c.in-Some.value) (sym to.1) (subst (λ n. day_of c.args.other < n) (sym at.1) (before _ _ k h e)) in
-    let Has = IsLeast (IsMonthsBackTo c.in-Some.value c.in-Some-valid_date.value) in
-    let number = subst (IsNumberWith Has) (sym of) (number-with Has c.months_until.result (c.months_until.ensures.value_backward order)) in
-    subst (λ n. IsNumberWith (IsLeast (IsMonthsBackTo n (day_of c.args.other))) c.ok.result) at.1
-    (subst (λ n. IsNumberWith (IsLeast (IsMonthsBackTo c.in-Some.value n)) c.ok.result) to.1 number)
+    let Has = IsLeast (IsMonthsBackTo (day_of c.args.date) (day_of c.args.other)) in
+    let found = (rw (at.1, to.1) at c.months_until.ensures.value_backward) (before _ _ k h e) in
+    subst (IsNumberWith Has) (sym of) (number-with Has c.months_until.result found)

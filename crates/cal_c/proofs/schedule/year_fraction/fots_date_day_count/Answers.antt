@@ -1,6 +1,6 @@
 use Rattle.std.proofs.Common.{ap, ◌∙◌, sym}
 use Rattle.std.proofs.lemmas.Int.{to_z-of_z}
-use Rattle.cal_schedule.specs.YearFraction.{day_count_numerator, day_count_denominator}
+use Rattle.cal_schedule.specs.YearFraction.{day_count_numerator}
 use Rattle.cal_c.specs.Schedule.{year_fraction_ok}
 use Rattle.cal_c.specs.Values.{day_of}
 use Rattle.cal_c.proofs.Schedules.{same_count}
@@ -12,9 +12,7 @@ returns-clause-value c = λ h k by number.
     let g = c.ranges.other in
     let at = simp to_z-of_z at c.in-Some.ensures in
     let to = simp to_z-of_z at c.in-Some-valid_date.ensures in
-    let its = c.in-Some-valid_day_count.value in
-    let same = same_count its by (c.in-Some-valid_day_count.ensures.1 ∙ sym number) in
-    let days = ap (λ n. day_count_numerator its n c.in-Some-valid_date.value) at.1 ∙ ap (day_count_numerator its (day_of c.args.date)) to.1
-    ∙ ap (λ q. day_count_numerator q (day_of c.args.date) (day_of c.args.other)) same in
-    c.ok.ensures ∙ ap (λ z. year_fraction_ok z c.day_count.result.denominator) (c.day_count.ensures.numerator ∙ days)
-    ∙ ap (year_fraction_ok (day_count_numerator by (day_of c.args.date) (day_of c.args.other))) (c.day_count.ensures.denominator ∙ ap day_count_denominator same)
+    let same = same_count c.in-Some-valid_day_count.value by (c.in-Some-valid_day_count.ensures.1 ∙ sym number) in
+    let its = rw (at.1, to.1, same) at c.day_count.ensures in
+    c.ok.ensures ∙ ap (λ z. year_fraction_ok z c.day_count.result.denominator) its.numerator
+    ∙ ap (year_fraction_ok (day_count_numerator by (day_of c.args.date) (day_of c.args.other))) its.denominator

@@ -8,10 +8,7 @@ use Rattle.cal_c.proofs.time.arithmetic.fots_time_adjusting_add.Goals as goal
 pub returns : goal.returns
 returns c =
     let e = c.adjusting_add-adjustment.ensures in
-    let t = c.in-Some.value in
-    let v = c.in-Some-valid_duration.value in
     let r = adjusted_time_ok (carry c.adjusting_add-adjustment.result.0) c.adjusting_add-adjustment.result.1 in
-    let found : IsAddAdjusted t v r = record { status_is = refl; is_time = record { below_day = e.range }; equation = e.value; forward = e.forward; backward = e.backward } in
-    let at_time : IsAddAdjusted c.args.time v r = subst (λ s. IsAddAdjusted s v r) c.in-Some.ensures.1 found in
-    let both : IsAddAdjusted c.args.time (nanoseconds_in c.args.duration) r = subst (λ w. IsAddAdjusted c.args.time w r) c.in-Some-valid_duration.ensures.1 at_time in
+    let found : IsAddAdjusted c.in-Some.value c.in-Some-valid_duration.value r = record { status_is = refl; is_time = record { below_day = e.range }; equation = e.value; forward = e.forward; backward = e.backward } in
+    let both = rw (c.in-Some.ensures.1, c.in-Some-valid_duration.ensures.1) at found in
     met c.in-Some.ensures.0 (met c.in-Some-valid_duration.ensures.0 (subst (IsAddAdjusted c.args.time (nanoseconds_in c.args.duration)) (sym c.ok.ensures) both))
