@@ -148,7 +148,23 @@ fn parse_moment(words: &[u8]) -> Option<Command>
     let Some((second, words)) = first_word(words) else {
         return None;
     };
-    let seconds = only_word(words)?;
+    let Some(seconds) = only_word(words) else {
+        return None;
+    };
+    parse_moment_numbers(julian_day, hour, minute, second, seconds)
+}
+
+#[tactic(auto, unfolding(crate::specs::Commands::moment_command))]
+fn parse_moment_numbers(
+    julian_day: &[u8],
+    hour: &[u8],
+    minute: &[u8],
+    second: &[u8],
+    seconds: &[u8],
+) -> Option<Command>
+    ensures { result ≡ moment_command
+        (julian_day.now ∷ hour.now ∷ minute.now ∷ second.now ∷ seconds.now ∷ []) }
+{
     Some(Command::Moment(
         parse_i32(julian_day)?,
         parse_u8(hour)?,
