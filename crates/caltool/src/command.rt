@@ -7,6 +7,16 @@ use crate::lines::index_of;
 use crate::number::{parse_i32, parse_i64, parse_u8, parse_u16};
 use cal_time::Weekday;
 
+/// Unwraps an option, or returns `None`. The proof is shorter than with `?`.
+macro_rules! or_none {
+    ($option:expr) => {
+        match $option {
+            Some(value) => value,
+            None => return None,
+        }
+    };
+}
+
 /// A command, which a line spells.
 #[derive(Clone, Copy)]
 pub enum Command {
@@ -31,9 +41,7 @@ pub enum Command {
 pub fn parse_command(line: &[u8]) -> Option<Command>
     ensures { result ≡ command_of (words_of line.now) }
 {
-    let Some((name, words)) = first_word(line) else {
-        return None;
-    };
+    let (name, words) = or_none!(first_word(line));
     if name == b"julian".as_slice() {
         parse_julian(words)
     } else if name == b"ordinal".as_slice() {
@@ -67,33 +75,30 @@ fn parse_further_command(name: &[u8], words: &[u8]) -> Option<Command>
 fn parse_julian(words: &[u8]) -> Option<Command>
     ensures { result ≡ julian_command (words_of words.now) }
 {
-    Some(Command::Julian(parse_i32(only_word(words)?)?))
+    let julian_day = or_none!(only_word(words));
+    Some(Command::Julian(or_none!(parse_i32(julian_day))))
 }
 
 #[tactic(auto, unfolding(crate::specs::Commands::ordinal_command))]
 fn parse_ordinal(words: &[u8]) -> Option<Command>
     ensures { result ≡ ordinal_command (words_of words.now) }
 {
-    let Some((year, words)) = first_word(words) else {
-        return None;
-    };
-    Some(Command::Ordinal(parse_i32(year)?, parse_u16(only_word(words)?)?))
+    let (year, words) = or_none!(first_word(words));
+    let ordinal = or_none!(only_word(words));
+    Some(Command::Ordinal(or_none!(parse_i32(year)), or_none!(parse_u16(ordinal))))
 }
 
 #[tactic(auto, unfolding(crate::specs::Commands::calendar_command))]
 fn parse_calendar(words: &[u8]) -> Option<Command>
     ensures { result ≡ calendar_command (words_of words.now) }
 {
-    let Some((year, words)) = first_word(words) else {
-        return None;
-    };
-    let Some((month, words)) = first_word(words) else {
-        return None;
-    };
+    let (year, words) = or_none!(first_word(words));
+    let (month, words) = or_none!(first_word(words));
+    let day = or_none!(only_word(words));
     Some(Command::Calendar(
-        parse_i32(year)?,
-        parse_u8(month)?,
-        parse_u8(only_word(words)?)?,
+        or_none!(parse_i32(year)),
+        or_none!(parse_u8(month)),
+        or_none!(parse_u8(day)),
     ))
 }
 
@@ -101,17 +106,22 @@ fn parse_calendar(words: &[u8]) -> Option<Command>
 fn parse_iso(words: &[u8]) -> Option<Command>
     ensures { result ≡ iso_command (words_of words.now) }
 {
-    let Some((year, words)) = first_word(words) else {
-        return None;
-    };
-    let Some((week, words)) = first_word(words) else {
-        return None;
-    };
-    let number = parse_u8(only_word(words)?)?;
+    let (year, words) = or_none!(first_word(words));
+    let (week, words) = or_none!(first_word(words));
+    let number = or_none!(only_word(words));
+    parse_iso_numbers(year, week, number)
+}
+
+/// Parses the numbers of `iso`.
+#[tactic(auto, unfolding(crate::specs::Commands::iso_command))]
+fn parse_iso_numbers(year: &[u8], week: &[u8], number: &[u8]) -> Option<Command>
+    ensures { result ≡ iso_command (year.now ∷ week.now ∷ number.now ∷ []) }
+{
+    let number = or_none!(parse_u8(number));
     Some(Command::Iso(
-        parse_i32(year)?,
-        parse_u8(week)?,
-        weekday_from_number(number)?,
+        or_none!(parse_i32(year)),
+        or_none!(parse_u8(week)),
+        or_none!(weekday_from_number(number)),
     ))
 }
 
@@ -119,42 +129,52 @@ fn parse_iso(words: &[u8]) -> Option<Command>
 fn parse_show(words: &[u8]) -> Option<Command>
     ensures { result ≡ show_command (words_of words.now) }
 {
-    Some(Command::Show(parse_i32(only_word(words)?)?))
+    let julian_day = or_none!(only_word(words));
+    Some(Command::Show(or_none!(parse_i32(julian_day))))
 }
 
 #[tactic(auto, unfolding(crate::specs::Commands::add_command))]
 fn parse_add(words: &[u8]) -> Option<Command>
     ensures { result ≡ add_command (words_of words.now) }
 {
-    let Some((julian_day, words)) = first_word(words) else {
-        return None;
-    };
-    Some(Command::Add(parse_i32(julian_day)?, parse_i64(only_word(words)?)?))
+    let (julian_day, words) = or_none!(first_word(words));
+    let seconds = or_none!(only_word(words));
+    Some(Command::Add(
+        or_none!(parse_i32(julian_day)),
+        or_none!(parse_i64(seconds)),
+    ))
 }
 
 #[tactic(auto, unfolding(crate::specs::Commands::moment_command))]
 fn parse_moment(words: &[u8]) -> Option<Command>
     ensures { result ≡ moment_command (words_of words.now) }
 {
-    let Some((julian_day, words)) = first_word(words) else {
-        return None;
-    };
-    let Some((hour, words)) = first_word(words) else {
-        return None;
-    };
-    let Some((minute, words)) = first_word(words) else {
-        return None;
-    };
-    let Some((second, words)) = first_word(words) else {
-        return None;
-    };
-    let seconds = only_word(words)?;
+    let (julian_day, words) = or_none!(first_word(words));
+    let (hour, words) = or_none!(first_word(words));
+    let (minute, words) = or_none!(first_word(words));
+    let (second, words) = or_none!(first_word(words));
+    let seconds = or_none!(only_word(words));
+    parse_moment_numbers(julian_day, hour, minute, second, seconds)
+}
+
+/// Parses the numbers of `moment`.
+#[tactic(auto, unfolding(crate::specs::Commands::moment_command))]
+fn parse_moment_numbers(
+    julian_day: &[u8],
+    hour: &[u8],
+    minute: &[u8],
+    second: &[u8],
+    seconds: &[u8],
+) -> Option<Command>
+    ensures { result ≡ moment_command
+        (julian_day.now ∷ hour.now ∷ minute.now ∷ second.now ∷ seconds.now ∷ []) }
+{
     Some(Command::Moment(
-        parse_i32(julian_day)?,
-        parse_u8(hour)?,
-        parse_u8(minute)?,
-        parse_u8(second)?,
-        parse_i64(seconds)?,
+        or_none!(parse_i32(julian_day)),
+        or_none!(parse_u8(hour)),
+        or_none!(parse_u8(minute)),
+        or_none!(parse_u8(second)),
+        or_none!(parse_i64(seconds)),
     ))
 }
 
@@ -174,7 +194,7 @@ fn first_word(bytes: &[u8]) -> Option<(&[u8], &[u8])>
     ensures { MatchOption result (words_of bytes.now ≡ bytes.now ∷ [])
         (λ parts. words_of bytes.now ≡ parts.0.now ∷ words_of parts.1.now) }
 {
-    let at = index_of(b' ', bytes)?;
+    let at = or_none!(index_of(b' ', bytes));
     Some((&bytes[..at], &bytes[at + 1..]))
 }
 

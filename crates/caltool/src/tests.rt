@@ -4,10 +4,9 @@ ghost use Rattle.caltool.specs.Answers.{out};
 
 use crate::fault::Fault;
 use crate::run::run;
-use std::alloc::{AllocError, Global};
+use std::alloc::Global;
 use std::fmt::Debug;
 use std::process::Abort;
-use std::test::Fail;
 
 mod failing;
 mod one_answer;
@@ -36,31 +35,35 @@ fn answers(alloc: Global, input: &[u8]) -> (Result<(), Fault>, Vec<u8>)
 /// Checks the answers to an input.
 fn check_answers(rt: &(impl Abort + AllocGlobal), input: &[u8], expected: &[u8]) {
     let (outcome, written) = answers(rt.alloc(), input);
-    same(rt, outcome, Ok(()));
-    same(rt, written.as_slice(), expected);
+    same(rt, (outcome, written.as_slice()), (Ok(()), expected));
 }
 
+const NO_MEMORY: &str = "no memory";
+
 /// Returns the bytes and a line end.
-fn ended(alloc: Global, bytes: &[u8]) -> Result<Vec<u8>, AllocError> {
-    let mut ended = bytes.to_vec(alloc)?;
-    ended.push(b'\n')?;
-    Ok(ended)
+fn ended(rt: &(impl Abort + AllocGlobal), bytes: &[u8]) -> Vec<u8> {
+    let mut ended = bytes.to_vec(rt.alloc()).expect(rt, NO_MEMORY);
+    ended.push(b'\n').expect(rt, NO_MEMORY);
+    ended
 }
 
 /// Checks the answer to each line by itself, with its end and without, and to all lines together.
-fn check_lines(rt: &(impl Abort + AllocGlobal), rows: &[(&[u8], &[u8])]) -> Result<(), AllocError> {
+fn check_lines(rt: &(impl Abort + AllocGlobal), rows: &[(&[u8], &[u8])]) {
     let mut input = Vec::new(rt.alloc());
     let mut expected = Vec::new(rt.alloc());
     for &(line, answer) in rows {
-        let answer = ended(rt.alloc(), answer)?;
+        let answer = ended(rt, answer);
         check_answers(rt, line, answer.as_slice());
-        let line = ended(rt.alloc(), line)?;
+        let line = ended(rt, line);
         check_answers(rt, line.as_slice(), answer.as_slice());
-        input.extend_from_slice(line.as_slice())?;
-        expected.extend_from_slice(answer.as_slice())?;
+        input
+            .extend_from_slice(line.as_slice())
+            .expect(rt, NO_MEMORY);
+        expected
+            .extend_from_slice(answer.as_slice())
+            .expect(rt, NO_MEMORY);
     }
     check_answers(rt, input.as_slice(), expected.as_slice());
-    Ok(())
 }
 
 #[test]
@@ -76,7 +79,7 @@ fn inputs_of_several_lines(rt: HostRuntime) {
 }
 
 #[test]
-fn dates(rt: HostRuntime) -> Result<(), Fail> {
+fn dates(rt: HostRuntime) {
     let rows: &[(&[u8], &[u8])] = &[
         (b"ordinal 2020 -0", b"refused ordinal conditional"),
         (b"ordinal 2020 60 0", b"bad line"),
@@ -95,12 +98,11 @@ fn dates(rt: HostRuntime) -> Result<(), Fail> {
         (b"show 366963559", b"+999999-12-31 iso 999999 52 5 Friday"),
         (b"show 366963560", b"refused julian_day"),
     ];
-    check_lines(&rt, rows)?;
-    Ok(())
+    check_lines(&rt, rows);
 }
 
 #[test]
-fn moves(rt: HostRuntime) -> Result<(), Fail> {
+fn moves(rt: HostRuntime) {
     let rows: &[(&[u8], &[u8])] = &[
         (b"add 2459215 169200", b"2021-01-01"),
         (b"add 5373484 86400", b"+10000-01-01"),
@@ -112,12 +114,11 @@ fn moves(rt: HostRuntime) -> Result<(), Fail> {
         (b"moment 5373484 24 60 0 0", b"refused hour"),
         (b"moment 366963559 23 59 59 1", b"none"),
     ];
-    check_lines(&rt, rows)?;
-    Ok(())
+    check_lines(&rt, rows);
 }
 
 #[test]
-fn hostile_lines(rt: HostRuntime) -> Result<(), Fail> {
+fn hostile_lines(rt: HostRuntime) {
     let rows: &[(&[u8], &[u8])] = &[
         (b"julian -2147483648", b"refused julian_day"),
         (b"julian -2147483649", b"bad line"),
@@ -140,13 +141,12 @@ fn hostile_lines(rt: HostRuntime) -> Result<(), Fail> {
         (b"moment 0 256 0 0 0", b"bad line"),
         (b"\xff\xfe", b"bad line"),
     ];
-    check_lines(&rt, rows)?;
-    Ok(())
+    check_lines(&rt, rows);
 }
 
 // The longest answer of each command, and of an error.
 #[test]
-fn the_longest_answers_are_whole(rt: HostRuntime) -> Result<(), Fail> {
+fn the_longest_answers_are_whole(rt: HostRuntime) {
     let first: &[u8] = b"-999999 ordinal 365 julian -363520710";
     let rows: &[(&[u8], &[u8])] = &[
         (b"julian -363520710", first),
@@ -161,30 +161,27 @@ fn the_longest_answers_are_whole(rt: HostRuntime) -> Result<(), Fail> {
         (b"moment -363520710 23 59 59 0", b"-999999-12-31 23:59:59.0"),
         (b"ordinal -999999 366", b"refused ordinal conditional"),
     ];
-    check_lines(&rt, rows)?;
-    Ok(())
+    check_lines(&rt, rows);
 }
 
 #[test]
-fn numbers_of_4000_zeros(rt: HostRuntime) -> Result<(), Fail> {
-    let mut line = b"julian ".to_vec(rt.alloc())?;
-    line.extend_from_slice(&[b'0'; 4000])?;
-    check_lines(&rt, &[(line.as_slice(), b"-4713 ordinal 328 julian 0")])?;
-    Ok(())
+fn numbers_of_4000_zeros(rt: HostRuntime) {
+    let mut line = b"julian ".to_vec(rt.alloc()).expect(&rt, NO_MEMORY);
+    line.extend_from_slice(&[b'0'; 4000]).expect(&rt, NO_MEMORY);
+    check_lines(&rt, &[(line.as_slice(), b"-4713 ordinal 328 julian 0")]);
 }
 
 fn check_too_long(rt: &(impl Abort + AllocGlobal), input: &[u8]) {
     let (outcome, written) = answers(rt.alloc(), input);
-    same(rt, outcome, Err(Fault::TooLong));
-    same(rt, written.len(), 0);
+    same(rt, (outcome, written.len()), (Err(Fault::TooLong), 0));
 }
 
 #[test]
-fn takes_4096_bytes(rt: HostRuntime) -> Result<(), Fail> {
-    let expected = b"bad line\n".as_slice().repeat(rt.alloc(), 4096)?;
+fn takes_4096_bytes(rt: HostRuntime) {
+    let expected = b"bad line\n".as_slice().repeat(rt.alloc(), 4096);
+    let expected = expected.expect(&rt, NO_MEMORY);
     check_answers(&rt, &[b'\n'; 4096], expected.as_slice());
     check_answers(&rt, &[b'x'; 4096], b"bad line\n");
     check_too_long(&rt, &[b'\n'; 4097]);
     check_too_long(&rt, &[b'x'; 4097]);
-    Ok(())
 }

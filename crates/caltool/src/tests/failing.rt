@@ -142,8 +142,11 @@ fn check_reads(
     written: &[u8],
 ) {
     let run = drip(rt.alloc(), INPUT, failing, ErrorKind::Other);
-    same(rt, run.outcome, outcome);
-    same(rt, run.written.as_slice(), written);
+    same(
+        rt,
+        (run.outcome, run.written.as_slice()),
+        (outcome, written),
+    );
 }
 
 #[test]
@@ -166,9 +169,9 @@ fn check_writes(
     sent: usize,
 ) {
     let run = sip(rt.alloc(), INPUT, failing, kind);
-    same(rt, run.outcome, outcome);
-    same(rt, run.written.len(), sent);
-    same(rt, ANSWERS.starts_with(run.written.as_slice()), true);
+    let is_prefix = ANSWERS.starts_with(run.written.as_slice());
+    let found = (run.outcome, run.written.len(), is_prefix);
+    same(rt, found, (outcome, sent, true));
 }
 
 #[test]
@@ -204,9 +207,8 @@ fn check_counts(
     calls: usize,
     written: usize,
 ) {
-    same(rt, run.outcome, outcome);
-    same(rt, run.calls, calls);
-    same(rt, run.written.len(), written);
+    let found = (run.outcome, run.calls, run.written.len());
+    same(rt, found, (outcome, calls, written));
 }
 
 // An interruption is retried, but not each: they are counted over the whole run, not for each line.
@@ -250,8 +252,8 @@ fn check_report(
     message: &[u8],
 ) {
     let mut told = Vec::new(rt.alloc());
-    same(rt, report(outcome, &mut told), status);
-    same(rt, told.as_slice(), message);
+    let found = report(outcome, &mut told);
+    same(rt, (found, told.as_slice()), (status, message));
 }
 
 #[test]
@@ -275,9 +277,9 @@ fn check_program(
     let mut reader = failing_reader(input, Calls::From(reads), ErrorKind::Other);
     let mut writer = failing_writer(rt.alloc(), Calls::From(taken), Some(ErrorKind::Other));
     let mut told = Vec::new(rt.alloc());
-    same(rt, perform(&mut reader, &mut writer, &mut told), status);
-    same(rt, writer.taken.as_slice(), written);
-    same(rt, told.as_slice(), message);
+    let found = perform(&mut reader, &mut writer, &mut told);
+    let found = (found, writer.taken.as_slice(), told.as_slice());
+    same(rt, found, (status, written, message));
 }
 
 #[test]
@@ -304,17 +306,22 @@ fn the_program_over_three_streams(rt: HostRuntime) {
     );
 }
 
+/// Checks the status of the program if standard error fails after a number of bytes.
+fn check_message(rt: &(impl Abort + AllocGlobal), message: &[u8], taken: usize) {
+    let mut errors = failing_writer(rt.alloc(), Calls::From(taken), Some(ErrorKind::Other));
+    let mut written = Vec::new(rt.alloc());
+    let mut reader = [b'x'; 4097].as_slice();
+    let status = perform(&mut reader, &mut written, &mut errors);
+    let is_prefix = message.starts_with(errors.taken.as_slice());
+    let found = (status, written.len(), errors.taken.len(), is_prefix);
+    same(rt, found, (2, 0, taken, true));
+}
+
 // If standard error fails too, the status is the same, and it took a prefix of the message.
 #[test]
 fn a_message_that_cannot_be_written(rt: HostRuntime) {
     let message = b"input too long\n".as_slice();
     for taken in 0..=message.len() {
-        let mut errors = failing_writer(rt.alloc(), Calls::From(taken), Some(ErrorKind::Other));
-        let mut written = Vec::new(rt.alloc());
-        let mut reader = [b'x'; 4097].as_slice();
-        same(&rt, perform(&mut reader, &mut written, &mut errors), 2);
-        same(&rt, written.len(), 0);
-        same(&rt, errors.taken.len(), taken);
-        same(&rt, message.starts_with(errors.taken.as_slice()), true);
+        check_message(&rt, message, taken);
     }
 }
