@@ -138,23 +138,23 @@ def _called(name: str, columns: tuple[Any, ...], lengths: tuple[int, ...] | None
 
 
 def _over_columns(name: str, *columns: Any, workdays: Workdays | None = None) -> list[Any]:
-    *made, refused = _called(name, columns, None, workdays)
+    *made, error_count = _called(name, columns, None, workdays)
     like = _Like(columns)
     dates = name.startswith("dates_add")
-    return [*(like.made(column, dates and index == 0) for index, column in enumerate(made)), refused]
+    return [*(like.made(column, dates and index == 0) for index, column in enumerate(made)), error_count]
 
 
-DateColumns = NamedTuple("DateColumns", [("dates", Any), ("statuses", Any), ("refused", int)])
+DateColumns = NamedTuple("DateColumns", [("dates", Any), ("statuses", Any), ("error_count", int)])
 DateColumns.__doc__ = """Dates: Julian days in 32 bits, or `datetime64[D]` if the dates were. A status for each row, and the number of rows without a date."""
-CalendarDateColumns = NamedTuple("CalendarDateColumns", [("years", Any), ("months", Any), ("days", Any), ("statuses", Any), ("refused", int)])
+CalendarDateColumns = NamedTuple("CalendarDateColumns", [("years", Any), ("months", Any), ("days", Any), ("statuses", Any), ("error_count", int)])
 CalendarDateColumns.__doc__ = """Years in 32 bits, months and days in 8, a status for each row, and the number of rows without a result."""
-OrdinalDateColumns = NamedTuple("OrdinalDateColumns", [("years", Any), ("ordinals", Any), ("statuses", Any), ("refused", int)])
+OrdinalDateColumns = NamedTuple("OrdinalDateColumns", [("years", Any), ("ordinals", Any), ("statuses", Any), ("error_count", int)])
 OrdinalDateColumns.__doc__ = """Years in 32 bits, ordinals in 16, a status for each row, and the number of rows without a result."""
-IsoWeekDateColumns = NamedTuple("IsoWeekDateColumns", [("years", Any), ("weeks", Any), ("weekdays", Any), ("statuses", Any), ("refused", int)])
+IsoWeekDateColumns = NamedTuple("IsoWeekDateColumns", [("years", Any), ("weeks", Any), ("weekdays", Any), ("statuses", Any), ("error_count", int)])
 IsoWeekDateColumns.__doc__ = """ISO years in 32 bits, weeks and weekdays in 8, a status for each row, and the number of rows without a result."""
-WeekdayColumns = NamedTuple("WeekdayColumns", [("weekdays", Any), ("statuses", Any), ("refused", int)])
+WeekdayColumns = NamedTuple("WeekdayColumns", [("weekdays", Any), ("statuses", Any), ("error_count", int)])
 WeekdayColumns.__doc__ = """Weekdays from Monday, 0, in 8 bits, a status for each row, and the number of rows without a result, which have 255."""
-NumberColumns = NamedTuple("NumberColumns", [("numbers", Any), ("statuses", Any), ("refused", int)])
+NumberColumns = NamedTuple("NumberColumns", [("numbers", Any), ("statuses", Any), ("error_count", int)])
 NumberColumns.__doc__ = """Numbers in 32 bits, a status for each row, and the number of rows without a result, which have -2147483648."""
 
 
@@ -163,7 +163,7 @@ def dates_from_julian_days(julian_days: object) -> DateColumns:
 
     >>> import array
     >>> dates_from_julian_days(array.array("q", [2451545, 366963560]))
-    DateColumns(dates=array('i', [2451545, -2147483648]), statuses=array('B', [0, 18]), refused=1)
+    DateColumns(dates=array('i', [2451545, -2147483648]), statuses=array('B', [0, 18]), error_count=1)
     """
     return DateColumns(*_over_columns("dates_from_julian_days", julian_days))
 
@@ -233,7 +233,7 @@ def dates_workdays_between(dates: object, others: object, workdays: Workdays) ->
     """Counts the working days between dates, like `Workdays.workdays_between`.
 
     >>> dates_workdays_between([Date(2000, 1, 1)], Date(2001, 1, 1), Workdays())
-    NumberColumns(numbers=array('i', [260]), statuses=array('B', [0]), refused=0)
+    NumberColumns(numbers=array('i', [260]), statuses=array('B', [0]), error_count=0)
     """
     return NumberColumns(*_over_columns("dates_workdays_between", dates, others, workdays=_working(workdays)))
 
@@ -241,10 +241,10 @@ def dates_workdays_between(dates: object, others: object, workdays: Workdays) ->
 # ---- columns of texts
 
 
-MomentColumns = NamedTuple("MomentColumns", [("dates", Any), ("times", Any), ("offsets", Any), ("statuses", Any), ("refused", int)])
+MomentColumns = NamedTuple("MomentColumns", [("dates", Any), ("times", Any), ("offsets", Any), ("statuses", Any), ("error_count", int)])
 MomentColumns.__doc__ = """Dates in 32 bits, nanoseconds since midnight in 64, seconds of offsets in 32, a status for each row, and the number of rows without
     a result."""
-TextColumns = NamedTuple("TextColumns", [("texts", bytes), ("bounds", Any), ("statuses", Any), ("refused", int)])
+TextColumns = NamedTuple("TextColumns", [("texts", bytes), ("bounds", Any), ("statuses", Any), ("error_count", int)])
 TextColumns.__doc__ = """The bytes of texts, one after another, and their bounds, one more than rows: a text is `texts[bounds[k]:bounds[k + 1]]`. A status for
     each row, and the number of rows without a text, which have no bytes."""
 
@@ -253,16 +253,16 @@ def _over_texts(name: str, texts: Any, bounds: Any) -> list[Any]:
     rows = len(bounds) - 1 if hasattr(bounds, "__len__") else len(memoryview(bounds)) - 1
     if rows < 0:
         raise ValueError("no bounds; expected one more than there are texts")
-    *made, refused = _called(name, (texts, bounds), (rows,) * len(_CALLS[name][1]))
+    *made, error_count = _called(name, (texts, bounds), (rows,) * len(_CALLS[name][1]))
     like = _Like((bounds,))
-    return [*(like.made(column, False) for column in made), refused]
+    return [*(like.made(column, False) for column in made), error_count]
 
 
 def dates_parse(texts: object, bounds: object) -> DateColumns:
     """Parses texts in a buffer of bytes like `Date.parse`. Text k is the bytes from bound k to bound k + 1.
 
     >>> dates_parse(b"2024-02-292024-0602024-02-30", [0, 10, 18, 28])
-    DateColumns(dates=array('i', [2460370, 2460370, -2147483648]), statuses=array('B', [0, 0, 64]), refused=1)
+    DateColumns(dates=array('i', [2460370, 2460370, -2147483648]), statuses=array('B', [0, 0, 64]), error_count=1)
     """
     return DateColumns(*_over_texts("dates_parse", texts, bounds))
 
@@ -278,16 +278,16 @@ def _printed(name: str, room: int, columns: tuple[Any, ...]) -> TextColumns:
         raise ValueError("expected columns of the same length")
     if rows * room > 2**31 - 1:
         raise OverflowError(f"too many rows; expected at most {(2**31 - 1) // room} in one call")
-    texts, bounds, statuses, refused = _called(name, columns, (rows * room, rows + 1, rows))
+    texts, bounds, statuses, error_count = _called(name, columns, (rows * room, rows + 1, rows))
     like = _Like(columns)
-    return TextColumns(texts[:bounds[rows]].tobytes(), like.made(bounds, False), like.made(statuses, False), refused)
+    return TextColumns(texts[:bounds[rows]].tobytes(), like.made(bounds, False), like.made(statuses, False), error_count)
 
 
 def dates_calendar_texts(dates: object) -> TextColumns:
     """Returns the calendar dates of dates, one after another.
 
     >>> dates_calendar_texts([Date(2024, 2, 29)])
-    TextColumns(texts=b'2024-02-29', bounds=array('i', [0, 10]), statuses=array('B', [0]), refused=0)
+    TextColumns(texts=b'2024-02-29', bounds=array('i', [0, 10]), statuses=array('B', [0]), error_count=0)
     """
     return _printed("dates_calendar_texts", 13, (dates,))
 

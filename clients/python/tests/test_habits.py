@@ -78,7 +78,7 @@ class SilentlyWrong(unittest.TestCase):
     def test_no_date_in_a_column(self):
         self.assertEqual(list(fotsevindre.dates_weekdays([LEAP_DAY, Date(2024, 3, 3)]).weekdays), [Weekday.Thursday, Weekday.Sunday])
         found = fotsevindre.dates_weekdays([-2**31])
-        self.assertEqual((list(found.weekdays), found.refused), ([255], 1))
+        self.assertEqual((list(found.weekdays), found.error_count), ([255], 1))
         with self.assertRaises(ValueError):
             Weekday(found.weekdays[0])
 
