@@ -11,11 +11,13 @@ from ._core import Date
 def refuse_datetime(value: object) -> None:
     """Raises `TypeError` for a `datetime.date`, of which `in` would be false without a word."""
     if isinstance(value, datetime.date):
-        raise TypeError(f"expected Date, not {type(value).__name__}; convert it with Date.from_date")
+        found = type(value).__name__
+        raise TypeError(f"expected Date, not {found}; convert it with Date.from_date")
 
 
 class Days(Sequence[Date]):
-    """Days that follow each other, as `Date.iter_to` returns them: a sequence with a length, indexes, slices and a reversed order.
+    """Days that follow each other, as `Date.iter_to` returns them: a sequence with a length,
+    indexes, slices and a reversed order.
 
     >>> days = Date(2024, 2, 28).iter_to(Date(2024, 3, 2))
     >>> len(days), days[1], list(reversed(days))[:2], Date(2024, 3, 3) in days

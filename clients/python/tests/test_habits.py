@@ -132,16 +132,34 @@ class Construction(unittest.TestCase):
             self.assertLess(max(abs(sys.getrefcount(single) - count) for single, count in zip(singles, before)), 500)
 
 
-    def test_one_interpreter(self):
+    def test_interpreters(self):
+        """Each interpreter of a process has its own module, and its types are other ones."""
         try:
             import _xxsubinterpreters as interpreters
         except ImportError:
             self.skipTest("no subinterpreters")
+        script = """if True:
+            import pickle, fotsevindre
+            from fotsevindre import Date, Month, Rule, SignedDuration, Weekday, Workdays, Frequency, ComponentRange
+            day = Date(2024, 2, 29)
+            assert (str(day + SignedDuration(days=1)), day.month is Month.February, day.weekday()) == ("2024-03-01", True, Weekday.Thursday)
+            assert pickle.loads(pickle.dumps([day, Workdays(holidays=[day])])) == [day, Workdays(holidays=[day])]
+            assert Rule(day, Frequency.Daily).first_days(2) == [day, day.next_day()] and list(fotsevindre.dates_weekdays([day]).weekdays) == [3]
+            assert repr(list(fotsevindre.dates_add_workdays([day], 2, Workdays()).dates)) == "[2460374]"
+            try:
+                Date(2023, 2, 29)
+            except ComponentRange as error:
+                assert error.name == "day"
+        """
+        for _ in range(3):
+            other = interpreters.create()
+            interpreters.run_string(other, script)
+            interpreters.destroy(other)
+            self.assertEqual((str(LEAP_DAY.month), LEAP_DAY.weekday(), LEAP_DAY + SignedDuration.DAY), ("2", Weekday.Thursday, Date(2024, 3, 1)))
         other = interpreters.create()
-        with self.assertRaises(interpreters.RunFailedError):
-            interpreters.run_string(other, "import fotsevindre")
+        with self.assertRaisesRegex(interpreters.RunFailedError, "day was not in range"):
+            interpreters.run_string(other, "import fotsevindre; fotsevindre.Date(2023, 2, 29)")
         interpreters.destroy(other)
-        self.assertEqual((str(LEAP_DAY.month), LEAP_DAY.weekday()), ("2", Weekday.Thursday))
 
 
 class Texts(unittest.TestCase):
