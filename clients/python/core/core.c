@@ -287,22 +287,6 @@ static PyObject *of_moment(const State *state, PyTypeObject *type, fots_moment_r
     return result.status ? raise_status(state, result.status) : new_moment(type, result.moment);
 }
 
-/* Returns a date-time with another date. */
-static PyObject *with_date(const State *state, PyObject *self, fots_date_result result)
-{
-    fots_moment moment = MOMENT(self);
-    moment.date = result.date;
-    return result.status ? raise_status(state, result.status) : new_moment(Py_TYPE(self), moment);
-}
-
-/* Returns a date-time with another time of day. */
-static PyObject *with_time(const State *state, PyObject *self, fots_time_result result)
-{
-    fots_moment moment = MOMENT(self);
-    moment.time = result.time;
-    return result.status ? raise_status(state, result.status) : new_moment(Py_TYPE(self), moment);
-}
-
 /* Returns the numbers of a recurrence: frequency, interval, week_start, until, count, and bytes
  * for its lists. */
 static PyObject *parts_of_recurrence(const State *state, const fots_recurrence *found)

@@ -100,8 +100,17 @@ static int clear(PyObject *module)
     return 0;
 }
 
-static PyModuleDef_Slot slots[] = {{Py_mod_exec, (void *)execute}, {0, NULL}};
+static PyModuleDef_Slot slots[] = {{Py_mod_exec, (void *)execute}, {0, NULL}, {0, NULL}};
 static struct PyModuleDef definition = {PyModuleDef_HEAD_INIT, "fotsevindre._core", NULL,
     sizeof(State), functions, slots, traverse, clear, NULL};
 
-PyMODINIT_FUNC PyInit__core(void) { return PyModuleDef_Init(&definition); }
+PyMODINIT_FUNC PyInit__core(void)
+{
+    /* From 3.12 on a module says that interpreters with locks of their own can load it, by
+     * Py_mod_multiple_interpreters and Py_MOD_PER_INTERPRETER_GIL_SUPPORTED. */
+    if (strtol(Py_GetVersion() + 2, NULL, 10) >= 12) {
+        slots[1].slot = 3;
+        slots[1].value = (void *)2;
+    }
+    return PyModuleDef_Init(&definition);
+}

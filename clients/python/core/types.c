@@ -1,5 +1,5 @@
-/* Members of the values that aren't one call of C. Those with types of C are called by the code
- * that `generate` writes. */
+/* Members of the values that aren't one call of C. The code in members.h calls those with types of
+ * C. */
 
 static void value_free(PyObject *self)
 {

@@ -1,19 +1,21 @@
-# The types of the module `_core`, from which `generate` writes their code. A row with lists in
-# braces is one for each place of the lists. A function without `self` is static. The order of the
-# types is that of `State` in core.c.
+# The types of the module `_core`. From this file tools/python_members writes their code in C, doc
+# strings and type hints. A row with lists in braces is one for each place of the lists. A function
+# without `self` is static. The order of the types is that of `State` in core.c. conversions.py adds
+# the members of the classes that are imported from there.
 import datetime
-from typing import Any, Callable, ClassVar, Iterable, SupportsIndex, overload
+from typing import Any, Callable, ClassVar, SupportsIndex, overload
 
 from typing_extensions import Self
 
+from .conversions import _ClockMembers, _DateMembers, _DateTimeMembers, _DurationMembers
+from .conversions import _MomentMembers, _OffsetMembers, _PlainMembers, _TimeMembers, _ValueMembers
 from .enums import Convention, DayCount, Month, Period, Weekday, YearFraction
-from .sequences import Days
 
 # An int. One that doesn't fit the parameter in C becomes the nearest number, or one that the call
 # rejects by its name. One that must fit raises OverflowError.
 {Int,Fits} = SupportsIndex
 
-class _Value:
+class _Value(_ValueMembers):
     def __{lt,le,gt,ge}__(self, other: Self) -> bool: ...
     def __hash__(self) -> int: ...
     def __str__(self) -> str: ...
@@ -43,7 +45,7 @@ class _DateParts:
         "Replaces the {year,month,ordinal}."
     def replace_day(self, number: Int) -> Self: "Replaces the day of the month."
 
-class _TimeParts:
+class _TimeParts(_ClockMembers):
     @property
     def hour(self) -> int: "The hour, from 0 to 23."
     @property
@@ -63,7 +65,7 @@ class _TimeParts:
     def truncate_to_{hour,minute,second,millisecond,microsecond}(self) -> Self:
         "Sets all below the {hour,minute,second,millisecond,microsecond} to zero."
 
-class Date(_Value, _DateParts):
+class Date(_Value, _DateParts, _DateMembers):
     """Date(year, month, day): a day of the proleptic Gregorian calendar, from MIN, -999999-01-01,
     to MAX, 999999-12-31.
 
@@ -143,7 +145,7 @@ class Date(_Value, _DateParts):
         """Returns the {first day from this one on,last day up to this one} with a Weekday, or None
         out of range."""
 
-class Time(_Value, _TimeParts):
+class Time(_Value, _TimeParts, _TimeMembers):
     """Time(hour=0, minute=0, second=0, nanosecond=0): a time of day, from MIDNIGHT to MAX,
     23:59:59.999999999.
 
@@ -170,7 +172,7 @@ class Time(_Value, _TimeParts):
         """Returns a carry of -1, 0 or 1 days beyond whole days, and the time a duration
         {later,earlier}."""
 
-class UtcOffset(_Value):
+class UtcOffset(_Value, _OffsetMembers):
     """UtcOffset(hours=0, minutes=0, seconds=0): an offset from UTC, from -25:59:59 to +25:59:59,
     positive to the east."""
     UTC: ClassVar[UtcOffset]
@@ -201,7 +203,7 @@ class _Part:
     @overload
     def __get__(self, instance: SignedDuration, owner: Any) -> int: ...
 
-class SignedDuration(_Value):
+class SignedDuration(_Value, _DurationMembers):
     """SignedDuration(*, weeks, days, hours, minutes, seconds, milliseconds, microseconds,
     nanoseconds): a signed length of time.
 
@@ -242,7 +244,7 @@ class SignedDuration(_Value):
     def saturating_mul(self, number: Fits) -> SignedDuration:
         "Returns the product with an int of 32 bits, or the nearest limit."
 
-class _DateTime(_Value, _DateParts, _TimeParts):
+class _DateTime(_Value, _DateParts, _TimeParts, _DateTimeMembers):
     def __add__(self, other: SignedDuration) -> Self: ...
     @overload
     def __sub__(self, other: Self) -> SignedDuration: ...
@@ -258,7 +260,7 @@ class _DateTime(_Value, _DateParts, _TimeParts):
     def saturating_{add,sub}(self, duration: SignedDuration) -> Self:
         "Returns the date-time a duration {later,earlier}, or the nearest end of the range."
 
-class PlainDateTime(_DateTime):
+class PlainDateTime(_DateTime, _PlainMembers):
     """PlainDateTime(date, time): a date and a time of day, from MIN to MAX.
 
     + and - with a SignedDuration are exact; date-times have a SignedDuration between them.
@@ -271,7 +273,7 @@ class PlainDateTime(_DateTime):
     def assume_offset(self, offset: UtcOffset) -> OffsetDateTime:
         "Returns the same date and time at an offset."
 
-class OffsetDateTime(_DateTime):
+class OffsetDateTime(_DateTime, _MomentMembers):
     """OffsetDateTime(date, time, offset): a date and a time of day at an offset from UTC.
 
     Values compare and hash by instant, regardless of offset. + and - with a SignedDuration keep

@@ -86,7 +86,7 @@ static int is_inside(Window window, fots_date_result result)
 /* The days around a date in which nearly all next and previous working days are. */
 #define NEAR 40
 
-/* ---- methods, called by the code that `generate` writes */
+/* ---- methods, which the code in members.h calls */
 
 /* Moves by working days. Twice as many days and some more are enough for a usual week. */
 static fots_date_result workdays_add_workdays(

@@ -42,8 +42,7 @@ from .calls import dates_to_ordinal_dates, dates_weekdays, dates_workdays_betwee
 from .calls import moments_texts
 from .columns import CalendarDateColumns, DateColumns, IsoWeekDateColumns, MomentColumns
 from .columns import NumberColumns, OrdinalDateColumns, TextColumns, WeekdayColumns
-from .schedules import Recurrence, Rule, Workdays
-from .sequences import Days
+from .schedules import Days, Recurrence, Rule, Workdays
 
 __version__ = "0.1.0"
 

@@ -41,7 +41,8 @@ def _of_array(values: Any, code: str, of_dates: bool) -> Any:
     elif letter not in "iu":
         raise TypeError(f"expected a column of integers, not {values.dtype}")
     low, high = _LIMITS[code]
-    if values.ndim == 1 and len(values) and not low <= int(values.min()) <= int(values.max()) <= high:
+    is_filled = values.ndim == 1 and len(values)
+    if is_filled and not low <= int(values.min()) <= int(values.max()) <= high:
         raise OverflowError(f"a number in a column is out of range; expected {low} to {high}")
     return values.astype(code, order="C", copy=False)
 

@@ -11,8 +11,8 @@ from typing import Any, Callable, Iterable, SupportsIndex
 
 from . import _core
 from ._core import Date, OffsetDateTime, PlainDateTime, SignedDuration, Time, UtcOffset
-from .errors import ParseError
-from .sequences import Days
+from .errors import ParseError, check
+from .schedules import Days
 
 
 def _adds_to(*kinds: type) -> Callable[[type], None]:
@@ -25,12 +25,6 @@ def _adds_to(*kinds: type) -> Callable[[type], None]:
                     setattr(kind, name, member)
 
     return add
-
-
-def _is(value: Any, kind: type) -> Any:
-    if not isinstance(value, kind):
-        raise TypeError(f"expected {kind.__name__}, not {type(value).__name__}")
-    return value
 
 
 def _cut(number: int, divisor: int) -> tuple[int, int]:
@@ -65,7 +59,7 @@ _PARTS: dict[type, Callable[[Any], tuple[Any, ...]]] = {
 
 
 @_adds_to(Date, Time, UtcOffset, SignedDuration, PlainDateTime, OffsetDateTime)
-class _ValueMethods:
+class _ValueMembers:
     def __format__(self: Any, specification: str) -> str:
         """Formats the text of the value."""
         return format(str(self), specification)
@@ -79,18 +73,9 @@ class _ValueMethods:
 # ---- durations
 
 
-def _like_timedelta(duration: SignedDuration, name: str) -> int:
-    """Returns what a timedelta has by a name, which rounds down."""
-    if name not in ("days", "seconds", "microseconds", "nanoseconds"):
-        raise AttributeError(f"a SignedDuration has no {name}; use whole_{name}()")
-    seconds, nanoseconds = divmod(duration.whole_nanoseconds(), 10**9)
-    return {"days": seconds // 86400, "seconds": seconds % 86400,
-        "microseconds": nanoseconds // 1000, "nanoseconds": nanoseconds % 1000}[name]
-
-
 class _Unit:
-    """A class method of a unit. A duration has the numbers of a `timedelta` by these names, so
-    `(b - a).days == 1` is right."""
+    """A class method of a unit. A duration has the numbers of a `timedelta` by these names, which
+    round down, so `(b - a).days == 1` is right."""
 
     def __init__(self, name: str) -> None:
         self.name = name
@@ -98,7 +83,14 @@ class _Unit:
         self.__doc__ = self.make.__doc__
 
     def __get__(self, duration: SignedDuration | None, _kind: object = None) -> Any:
-        return self.make if duration is None else _like_timedelta(duration, self.name)
+        if duration is None:
+            return self.make
+        seconds, nanoseconds = divmod(duration.whole_nanoseconds(), 10**9)
+        found = {"days": seconds // 86400, "seconds": seconds % 86400,
+            "microseconds": nanoseconds // 1000, "nanoseconds": nanoseconds % 1000}
+        if self.name not in found:
+            raise AttributeError(f"a SignedDuration has no {self.name}; use whole_{self.name}()")
+        return found[self.name]
 
 
 for _name in ("weeks", "days", "hours", "minutes",
@@ -106,20 +98,14 @@ for _name in ("weeks", "days", "hours", "minutes",
     setattr(SignedDuration, _name, _Unit(_name))
 
 SignedDuration.ZERO = SignedDuration()
-SignedDuration.NANOSECOND = SignedDuration(nanoseconds=1)
-SignedDuration.MICROSECOND = SignedDuration(microseconds=1)
-SignedDuration.MILLISECOND = SignedDuration(milliseconds=1)
-SignedDuration.SECOND = SignedDuration(seconds=1)
-SignedDuration.MINUTE = SignedDuration(minutes=1)
-SignedDuration.HOUR = SignedDuration(hours=1)
-SignedDuration.DAY = SignedDuration(days=1)
-SignedDuration.WEEK = SignedDuration(weeks=1)
 SignedDuration.MIN = SignedDuration.new(-2**63, -999999999)
 SignedDuration.MAX = SignedDuration.new(2**63 - 1, 999999999)
+for _name in ("NANOSECOND", "MICROSECOND", "MILLISECOND", "SECOND", "MINUTE", "HOUR", "DAY", "WEEK"):
+    setattr(SignedDuration, _name, SignedDuration(**{f"{_name.lower()}s": 1}))
 
 
 @_adds_to(SignedDuration)
-class _DurationMethods:
+class _DurationMembers:
     @staticmethod
     def nanoseconds_i128(nanoseconds: SupportsIndex) -> SignedDuration:
         """Creates a duration of nanoseconds, from `MIN` to `MAX`."""
@@ -155,7 +141,7 @@ class _DurationMethods:
     @staticmethod
     def from_timedelta(delta: datetime.timedelta) -> SignedDuration:
         """Converts a `datetime.timedelta`, exactly."""
-        microseconds = _is(delta, datetime.timedelta) // datetime.timedelta(microseconds=1)
+        microseconds = check(delta, datetime.timedelta) // datetime.timedelta(microseconds=1)
         seconds, rest = _cut(microseconds, 10**6)
         return SignedDuration.new(seconds, rest * 1000 + getattr(delta, "nanoseconds", 0))
 
@@ -173,11 +159,11 @@ Date.MAX = Date(999999, 12, 31)
 
 
 @_adds_to(Date)
-class _DateMethods:
+class _DateMembers:
     @staticmethod
     def from_date(date: datetime.date) -> Date:
         """Converts a `datetime.date`. Of a `datetime.datetime`, take its `date()`."""
-        if isinstance(_is(date, datetime.date), datetime.datetime):
+        if isinstance(check(date, datetime.date), datetime.datetime):
             raise TypeError("expected datetime.date, not datetime; use its date()")
         return Date.from_calendar_date(date.year, date.month, date.day)
 
@@ -198,7 +184,7 @@ class _DateMethods:
     def iter_to(self: Any, end: Date) -> Days:
         """Returns the days from this one to `end`, both included, as a sequence; none if this one
         is later."""
-        return Days(range(self.to_julian_day(), _is(end, Date).to_julian_day() + 1))
+        return Days(range(self.to_julian_day(), check(end, Date).to_julian_day() + 1))
 
     def replace(self: Any, *, year: SupportsIndex | None = None, month: SupportsIndex | None = None,
                 day: SupportsIndex | None = None) -> Date:
@@ -214,7 +200,7 @@ UtcOffset.UTC = UtcOffset()
 
 
 @_adds_to(Time, PlainDateTime, OffsetDateTime)
-class _ClockMethods:
+class _ClockMembers:
     def as_hms(self: Any) -> tuple[int, int, int]:
         """Returns the hour, minute and second."""
         return self.hour, self.minute, self.second
@@ -229,11 +215,11 @@ class _ClockMethods:
 
 
 @_adds_to(Time)
-class _TimeMethods:
+class _TimeMembers:
     @staticmethod
     def from_time(time: datetime.time) -> Time:
         """Converts a `datetime.time` without a time zone, or raises `ValueError`."""
-        if _is(time, datetime.time).tzinfo is not None:
+        if check(time, datetime.time).tzinfo is not None:
             raise ValueError("expected a datetime.time without tzinfo")
         return Time.from_hms_micro(time.hour, time.minute, time.second, time.microsecond)
 
@@ -252,17 +238,17 @@ class _TimeMethods:
     def parse(text: str) -> Time:
         """Parses a time, such as 9:05, 09:05:00 or 9:05:00.25, or raises `ParseError` or
         `ComponentRange`."""
-        return _time(_is(text, str))
+        return _time(check(text, str))
 
     fromisoformat = parse
 
 
 @_adds_to(UtcOffset)
-class _OffsetMethods:
+class _OffsetMembers:
     @staticmethod
     def from_timezone(timezone: datetime.timezone) -> UtcOffset:
         """Converts a `datetime.timezone`, or raises `ValueError` for parts of a second."""
-        delta = _is(timezone, datetime.timezone).utcoffset(None)
+        delta = check(timezone, datetime.timezone).utcoffset(None)
         if delta.microseconds:
             raise ValueError(f"expected an offset of whole seconds, not {delta}")
         return UtcOffset.from_whole_seconds(delta // datetime.timedelta(seconds=1))
@@ -275,7 +261,7 @@ class _OffsetMethods:
     def parse(text: str) -> UtcOffset:
         """Parses an offset, such as Z, +01:00 or -05:30:00, or raises `ParseError` or
         `ComponentRange`."""
-        return _offset(_is(text, str))
+        return _offset(check(text, str))
 
     fromisoformat = parse
 
@@ -288,7 +274,7 @@ OffsetDateTime.UNIX_EPOCH = OffsetDateTime(Date(1970, 1, 1), Time.MIDNIGHT, UtcO
 
 
 @_adds_to(PlainDateTime, OffsetDateTime)
-class _DateTimeMethods:
+class _DateTimeMembers:
     def __str__(self: Any) -> str:
         offset = f" {self.offset}" if isinstance(self, OffsetDateTime) else ""
         return f"{self.date()} {self.time()}{offset}"
@@ -312,7 +298,7 @@ class _DateTimeMethods:
 
 
 @_adds_to(PlainDateTime)
-class _PlainMethods:
+class _PlainMembers:
     def to_datetime(self: Any) -> datetime.datetime:
         """Converts to a `datetime.datetime` without a time zone; errors like `Date.to_date` and
         `Time.to_time`."""
@@ -321,7 +307,7 @@ class _PlainMethods:
     @staticmethod
     def from_datetime(value: datetime.datetime) -> PlainDateTime:
         """Converts a `datetime.datetime` without a time zone, or raises `ValueError`."""
-        if _is(value, datetime.datetime).tzinfo is not None:
+        if check(value, datetime.datetime).tzinfo is not None:
             raise ValueError("expected a datetime.datetime without tzinfo")
         return PlainDateTime(Date.from_date(value.date()), Time.from_time(value.time()))
 
@@ -329,13 +315,13 @@ class _PlainMethods:
     def parse(text: str) -> PlainDateTime:
         """Parses a date, T or a space, and a time, such as 2024-02-29T23:59:59.25; errors like
         `Date.parse` and `Time.parse`."""
-        return _plain(text, len(_is(text, str)))
+        return _plain(text, len(check(text, str)))
 
     fromisoformat = parse
 
 
 @_adds_to(OffsetDateTime)
-class _MomentMethods:
+class _MomentMembers:
     def to_datetime(self: Any) -> datetime.datetime:
         """Converts to a `datetime.datetime` in the `datetime.timezone` of the offset; errors like
         its parts."""
@@ -345,7 +331,7 @@ class _MomentMethods:
     def from_datetime(value: datetime.datetime) -> OffsetDateTime:
         """Converts a `datetime.datetime` with an offset of whole seconds, or raises
         `ValueError`."""
-        delta = _is(value, datetime.datetime).utcoffset()
+        delta = check(value, datetime.datetime).utcoffset()
         if delta is None:
             raise ValueError("expected a datetime.datetime with a UTC offset")
         offset = UtcOffset.from_timezone(datetime.timezone(delta))
@@ -422,7 +408,7 @@ def _offset(text: str) -> UtcOffset:
 
 def _separator(text: str) -> int:
     """Returns the position of the T or the space between a date and a time."""
-    found = re.search("[Tt ]", _is(text, str))
+    found = re.search("[Tt ]", check(text, str))
     return found.start() if found else len(text)
 
 

@@ -3,16 +3,18 @@
 from __future__ import annotations
 
 import enum
+from typing import Any
 
 from . import _core
 
+_PARTS = ("FREQ", "INTERVAL", "WKST", "BYMONTH", "BYMONTHDAY", "BYDAY", "UNTIL", "COUNT")
 # The messages of the statuses that name no component.
 _MESSAGES = {
     1: "the result is out of range",
     2: "invalid date; expected a Julian day from -363521074 to 366963559",
     3: "invalid time; expected 0 to 86399999999999 nanoseconds since midnight",
     4: "invalid offset; expected -93599 to 93599 seconds",
-    5: "invalid duration; expected -999999999 to 999999999 nanoseconds with the sign of the seconds",
+    5: "invalid duration; expected -999999999 to 999999999 ns with the sign of the seconds",
     6: "invalid weekday; expected 0 (Monday) to 6 (Sunday)",
     7: "invalid count of occurrences; expected 0 to 255",
     8: "unexpected byte in the text",
@@ -25,13 +27,12 @@ _MESSAGES = {
     15: "too many holidays; expected at most 1024",
     30: "invalid bounds; expected ascending positions in the texts",
     31: "unexpected end of the text",
-    32: "unknown part in a recurrence; expected FREQ, INTERVAL, WKST, BYMONTH or another of RFC 5545",
+    32: f"unknown part in a recurrence; expected {', '.join(_PARTS)}",
     33: "duplicate part in a recurrence",
     34: "too many values in a part of a recurrence; expected at most 62",
     35: "invalid value in a part of a recurrence",
     36: "missing FREQ in a recurrence",
 }
-_PARTS = (None, "FREQ", "INTERVAL", "WKST", "BYMONTH", "BYMONTHDAY", "BYDAY", "UNTIL", "COUNT")
 
 
 class ComponentRange(ValueError):
@@ -94,6 +95,13 @@ class ParseRuleError(ValueError):
         return f"{self.kind.value.format(self.part or 'part')} at {self.position}"
 
 
+def check(value: Any, kind: type) -> Any:
+    """Returns the value, or raises `TypeError` if it has another type."""
+    if not isinstance(value, kind):
+        raise TypeError(f"expected {kind.__name__}, not {type(value).__name__}")
+    return value
+
+
 def status_error(status: int, position: int | None = None, part: int = 0) -> Exception | None:
     """Returns the exception that a call of one value would raise for the status of a row, or
     `None` for 0.
@@ -108,6 +116,7 @@ def status_error(status: int, position: int | None = None, part: int = 0) -> Exc
     if position is not None and status in (8, 31):
         return ParseError(position, status == 31)
     if position is not None and 32 <= status <= 36:
-        return ParseRuleError(position, tuple(ParseRuleErrorKind)[status - 32], _PARTS[part])
+        kind = tuple(ParseRuleErrorKind)[status - 32]
+        return ParseRuleError(position, kind, _PARTS[part - 1] if part else None)
     message = _MESSAGES.get(status, f"unknown status {status}")
     return OverflowError(message) if status in (1, 7) else ValueError(message)

@@ -1,23 +1,75 @@
-"""Working days and recurrences."""
+"""Days that follow each other, working days and recurrences."""
 
 from __future__ import annotations
 
 import array
 import dataclasses
+import datetime
 import itertools
 import operator
-from typing import Any, Iterable, Iterator, Sequence, SupportsIndex
+from typing import Any, Iterable, Iterator, Sequence, SupportsIndex, overload
 
 from . import _core
 from ._core import Date
 from .enums import Frequency, Month, Weekday
-from .sequences import refuse_datetime
+from .errors import check
 
 
-def _is(value: Any, kind: type) -> Any:
-    if type(value) is not kind:
-        raise TypeError(f"expected {kind.__name__}, not {type(value).__name__}")
-    return value
+def _refuse_datetime(value: object) -> None:
+    """Raises `TypeError` for a `datetime.date`, of which `in` would be false without a word."""
+    if isinstance(value, datetime.date):
+        found = type(value).__name__
+        raise TypeError(f"expected Date, not {found}; convert it with Date.from_date")
+
+
+class Days(Sequence[Date]):
+    """Days that follow each other, as `Date.iter_to` returns them: a sequence with a length,
+    indexes, slices and a reversed order.
+
+    >>> days = Date(2024, 2, 28).iter_to(Date(2024, 3, 2))
+    >>> len(days), days[1], list(reversed(days))[:2], Date(2024, 3, 3) in days
+    (4, 2024-02-29, [2024-03-02, 2024-03-01], False)
+    """
+
+    __slots__ = ("_julian_days",)
+
+    def __init__(self, julian_days: range) -> None:
+        self._julian_days = julian_days
+
+    def __len__(self) -> int:
+        return len(self._julian_days)
+
+    @overload
+    def __getitem__(self, index: SupportsIndex) -> Date: ...
+
+    @overload
+    def __getitem__(self, index: slice) -> Days: ...
+
+    def __getitem__(self, index: SupportsIndex | slice) -> Date | Days:
+        if isinstance(index, slice):
+            return Days(self._julian_days[index])
+        return Date.from_julian_day(self._julian_days[index])
+
+    def __iter__(self) -> Iterator[Date]:
+        return map(Date.from_julian_day, self._julian_days)
+
+    def __reversed__(self) -> Iterator[Date]:
+        return map(Date.from_julian_day, reversed(self._julian_days))
+
+    def __contains__(self, date: object) -> bool:
+        _refuse_datetime(date)
+        return isinstance(date, Date) and date.to_julian_day() in self._julian_days
+
+    def __eq__(self, other: object) -> bool:
+        if not isinstance(other, Days):
+            return NotImplemented
+        return self._julian_days == other._julian_days
+
+    def __hash__(self) -> int:
+        return hash(self._julian_days)
+
+    def __repr__(self) -> str:
+        return f"{self[0]} to {self[-1]}" if len(self) else "no days"
 
 
 class Workdays(_core.Workdays):
@@ -35,8 +87,8 @@ class Workdays(_core.Workdays):
     def __new__(cls, weekdays: Iterable[Weekday] = tuple(Weekday)[:5],
                 holidays: Iterable[Date] = ()) -> Workdays:
         """Checks the weekdays and the holidays."""
-        weekmask = sum({1 << _is(weekday, Weekday) for weekday in weekdays})
-        julian_days = sorted({_is(holiday, Date).to_julian_day() for holiday in holidays})
+        weekmask = sum({1 << check(weekday, Weekday) for weekday in weekdays})
+        julian_days = sorted({check(holiday, Date).to_julian_day() for holiday in holidays})
         return super().__new__(cls, weekmask, array.array("i", julian_days).tobytes())
 
     @property
@@ -80,7 +132,7 @@ def _rule_weekday(weekday: Weekday | tuple[int, Weekday]) -> bytes:
         if operator.index(number) == 0:
             raise ValueError("invalid number 0 of a weekday; "
                 "use the Weekday without a number for every one")
-    return bytes((_fit(number, -128, 127) % 256, _is(weekday, Weekday) + 1))
+    return bytes((_fit(number, -128, 127) % 256, check(weekday, Weekday) + 1))
 
 
 @dataclasses.dataclass(frozen=True)
@@ -112,9 +164,9 @@ class Rule:
         for name in ("months", "month_days", "weekdays"):
             object.__setattr__(self, name, tuple(getattr(self, name)))
         parts = (
-            _is(self.start, Date), Date.MAX if self.until is None else _is(self.until, Date),
-            int(_is(self.frequency, Frequency)), _fit(self.interval, 0, 2**32 - 1),
-            _is(self.week_start, Weekday),
+            check(self.start, Date), Date.MAX if self.until is None else check(self.until, Date),
+            int(check(self.frequency, Frequency)), _fit(self.interval, 0, 2**32 - 1),
+            check(self.week_start, Weekday),
             bytes(one if 0 <= one <= 255 else 255 for one in map(operator.index, self.months)),
             bytes(_fit(day, -128, 127) % 256 for day in self.month_days),
             b"".join(map(_rule_weekday, self.weekdays)))
@@ -127,7 +179,7 @@ class Rule:
 
     def days_after(self, date: Date) -> Iterator[Date]:
         """Iterates over the days of the rule after the day, in order."""
-        return self._walk(_is(date, Date))
+        return self._walk(check(date, Date))
 
     def first_days(self, count: SupportsIndex) -> list[Date]:
         """Returns the first `count` days of the rule."""
@@ -138,7 +190,7 @@ class Rule:
         return iter(()) if first is None else itertools.chain((first,), self._walk(first))
 
     def __contains__(self, date: object) -> bool:
-        refuse_datetime(date)
+        _refuse_datetime(date)
         return isinstance(date, Date) and _core.rule_contains(getattr(self, "_parts"), date)
 
     def __reduce__(self) -> tuple[Any, ...]:
@@ -213,7 +265,7 @@ class Recurrence:
 
     def days_from(self, start: Date, date: Date) -> Iterator[Date]:
         """Iterates over the days from a start, without the days before the date."""
-        return self._walk(_is(start, Date), _is(date, Date))
+        return self._walk(check(start, Date), check(date, Date))
 
     def _walk(self, start: Date, date: Date | None) -> Iterator[Date]:
         days = [start] * 64

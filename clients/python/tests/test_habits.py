@@ -1,7 +1,9 @@
 """Tests of what users of `datetime` write: it does what they mean, or raises. No answer is wrong without a word."""
 
+import concurrent.futures
 import copy
 import datetime
+import importlib
 import itertools
 import json
 import pickle
@@ -133,9 +135,9 @@ class Construction(unittest.TestCase):
 
 
     def test_interpreters(self):
-        """Each interpreter of a process has its own module, and its types are other ones."""
+        """Each interpreter of a process has its own module, also with a lock of its own."""
         try:
-            import _xxsubinterpreters as interpreters
+            interpreters = importlib.import_module("_interpreters" if sys.version_info >= (3, 13) else "_xxsubinterpreters")
         except ImportError:
             self.skipTest("no subinterpreters")
         script = """if True:
@@ -145,21 +147,29 @@ class Construction(unittest.TestCase):
             assert (str(day + SignedDuration(days=1)), day.month is Month.February, day.weekday()) == ("2024-03-01", True, Weekday.Thursday)
             assert pickle.loads(pickle.dumps([day, Workdays(holidays=[day])])) == [day, Workdays(holidays=[day])]
             assert Rule(day, Frequency.Daily).first_days(2) == [day, day.next_day()] and list(fotsevindre.dates_weekdays([day]).weekdays) == [3]
-            assert repr(list(fotsevindre.dates_add_workdays([day], 2, Workdays()).dates)) == "[2460374]"
+            assert list(fotsevindre.dates_add_workdays([day], 2, Workdays()).dates) == [2460374]
             try:
                 Date(2023, 2, 29)
             except ComponentRange as error:
                 assert error.name == "day"
+            else:
+                assert False
         """
+        run = getattr(interpreters, "exec", None) or interpreters.run_string
         for _ in range(3):
             other = interpreters.create()
-            interpreters.run_string(other, script)
+            # Python 3.13 returns the error, and earlier ones raise it.
+            self.assertIsNone(run(other, script))
             interpreters.destroy(other)
             self.assertEqual((str(LEAP_DAY.month), LEAP_DAY.weekday(), LEAP_DAY + SignedDuration.DAY), ("2", Weekday.Thursday, Date(2024, 3, 1)))
-        other = interpreters.create()
-        with self.assertRaisesRegex(interpreters.RunFailedError, "day was not in range"):
-            interpreters.run_string(other, "import fotsevindre; fotsevindre.Date(2023, 2, 29)")
-        interpreters.destroy(other)
+
+    def test_threads(self):
+        """The results of a thread don't depend on what others do at the same time."""
+        def walk(first):
+            return [str(Date.from_julian_day(number)) for number in range(first, first + 2000)]
+
+        with concurrent.futures.ThreadPoolExecutor(4) as pool:
+            self.assertEqual(list(pool.map(walk, range(2451545, 2459545, 2000))), [walk(first) for first in range(2451545, 2459545, 2000)])
 
 
 class Texts(unittest.TestCase):
