@@ -7,7 +7,6 @@
 #ifndef Py_LIMITED_API
 #define Py_LIMITED_API 0x030A0000
 #endif
-#define PY_SSIZE_T_CLEAN
 #include <Python.h>
 
 #include "fotsevindre.h"
@@ -287,18 +286,22 @@ static PyObject *of_moment(const State *state, PyTypeObject *type, fots_moment_r
     return result.status ? raise_status(state, result.status) : new_moment(type, result.moment);
 }
 
+static PyObject *new_bytes(const void *start, size_t size)
+{
+    return PyBytes_FromStringAndSize(start, (Py_ssize_t)size);
+}
+
 /* Returns the numbers of a recurrence: frequency, interval, week_start, until, count, and bytes
  * for its lists. */
 static PyObject *parts_of_recurrence(const State *state, const fots_recurrence *found)
 {
     PyObject *until = found->until.julian_day == FOTS_NO_VALUE ? new_reference(Py_None) :
         new_date(state, found->until);
-    return Py_BuildValue("IIONIy#y#y#", (unsigned)found->frequency, (unsigned)found->interval,
+    return Py_BuildValue("IIONINNN", (unsigned)found->frequency, (unsigned)found->interval,
         state->weekdays[found->week_start - 1], until, (unsigned)found->count,
-        (const char *)found->months, (Py_ssize_t)found->months_length,
-        (const char *)found->month_days, (Py_ssize_t)found->month_days_length,
-        (const char *)found->weekdays,
-        (Py_ssize_t)(found->weekdays_length * sizeof(fots_rule_weekday)));
+        new_bytes(found->months, found->months_length),
+        new_bytes(found->month_days, found->month_days_length),
+        new_bytes(found->weekdays, found->weekdays_length * sizeof(fots_rule_weekday)));
 }
 
 /* A function that makes a value of what was parsed, or raises its error. */

@@ -2,16 +2,23 @@
 
 /* ---- order and hashes */
 
+/* Py_RETURN_RICHCOMPARE of 3.12 and later adds no reference, which earlier versions need. */
+static PyObject *compared(int64_t one, int64_t other, int operation)
+{
+    int is_true = operation == Py_LT ? one < other : operation == Py_LE ? one <= other :
+        operation == Py_EQ ? one == other : operation == Py_NE ? one != other :
+        operation == Py_GT ? one > other : one >= other;
+    return new_reference(is_true ? Py_True : Py_False);
+}
+
 #define COMPARE(name, value, other_value) \
     static PyObject *name(PyObject *self, PyObject *other, int operation) \
     { \
-        if (Py_TYPE(other) != Py_TYPE(self)) { \
-            return new_reference(Py_NotImplemented); \
-        } \
-        Py_RETURN_RICHCOMPARE(value, other_value, operation); \
+        return Py_TYPE(other) != Py_TYPE(self) ? new_reference(Py_NotImplemented) : \
+            compared(value, other_value, operation); \
     }
 COMPARE(date_compare, DATE(self).julian_day, DATE(other).julian_day)
-COMPARE(time_compare, TIME(self), TIME(other))
+COMPARE(time_compare, (int64_t)TIME(self), (int64_t)TIME(other))
 COMPARE(offset_compare, OFFSET(self).seconds, OFFSET(other).seconds)
 COMPARE(duration_compare, fots_duration_compare(DURATION(self), DURATION(other)).number, 0)
 COMPARE(moment_compare, fots_moment_compare(MOMENT(self), MOMENT(other)).number, 0)

@@ -7,24 +7,22 @@
  * weekdays bytes as C has them. */
 static int to_rule(const State *state, PyObject *tuple, fots_rule *rule)
 {
-    PyObject *start, *until, *week_start;
+    PyObject *start, *until, *week_start, *months, *month_days, *weekdays;
     unsigned frequency, interval;
-    const char *months, *month_days, *weekdays;
-    Py_ssize_t months_size, month_days_size, weekdays_size;
-    if (!PyArg_ParseTuple(tuple, "OOIIOy#y#y#", &start, &until, &frequency, &interval, &week_start,
-            &months, &months_size, &month_days, &month_days_size, &weekdays, &weekdays_size) ||
+    if (!PyArg_ParseTuple(tuple, "OOIIOSSS", &start, &until, &frequency, &interval, &week_start,
+            &months, &month_days, &weekdays) ||
         !to_date(state, start, &rule->start) || !to_date(state, until, &rule->until) ||
         !to_weekday(state, week_start, &rule->week_start)) {
         return 0;
     }
     rule->frequency = frequency;
     rule->interval = interval;
-    rule->months = (const uint8_t *)months;
-    rule->months_length = (size_t)months_size;
-    rule->month_days = (const int8_t *)month_days;
-    rule->month_days_length = (size_t)month_days_size;
-    rule->weekdays = (const fots_rule_weekday *)weekdays;
-    rule->weekdays_length = (size_t)weekdays_size / sizeof(fots_rule_weekday);
+    rule->months = (const uint8_t *)PyBytes_AsString(months);
+    rule->months_length = (size_t)PyBytes_Size(months);
+    rule->month_days = (const int8_t *)PyBytes_AsString(month_days);
+    rule->month_days_length = (size_t)PyBytes_Size(month_days);
+    rule->weekdays = (const fots_rule_weekday *)PyBytes_AsString(weekdays);
+    rule->weekdays_length = (size_t)PyBytes_Size(weekdays) / sizeof(fots_rule_weekday);
     return 1;
 }
 

@@ -124,7 +124,9 @@ class Construction(unittest.TestCase):
             lambda: LEAP_DAY + datetime.timedelta(1), lambda: Rule(LEAP_DAY, Frequency.Daily).first_days(70), lambda: fotsevindre.dates_weekdays([LEAP_DAY]),
             lambda: Date.parse("2024-02-29"),
         ]
-        singles = [None, Date, Time, UtcOffset, SignedDuration, PlainDateTime, OffsetDateTime, Workdays, *Month, *Weekday, NotImplemented, LEAP_DAY]
+        singles = [Date, Time, UtcOffset, SignedDuration, PlainDateTime, OffsetDateTime, Workdays, *Month, *Weekday, LEAP_DAY]
+        # From 3.12 on these are immortal: their counts mean nothing.
+        singles += [None, NotImplemented] if sys.version_info < (3, 12) else []
         for call in calls:
             for _ in range(100):
                 call()
