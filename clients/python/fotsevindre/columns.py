@@ -105,7 +105,8 @@ class _Like:
         self.numpy: Any = sys.modules.get("numpy") if arrays else None
         self.of_dates = getattr(getattr(columns.get("dates"), "dtype", None), "kind", "") == "M"
         self.series = next((one for one in arrays if hasattr(one, "to_numpy")), None)
-        self.masks = [one.mask for one in arrays if isinstance(one, self.numpy.ma.MaskedArray)]
+        masked = self.numpy.ma.MaskedArray if self.numpy else ()
+        self.masks = [one.mask for one in arrays if isinstance(one, masked)]
 
     def made(self, name: str, column: Any) -> Any:
         """Returns a column of a result: of datetime64 if the dates were, masked as those that were

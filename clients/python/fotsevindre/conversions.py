@@ -96,12 +96,11 @@ class _Unit:
 for _name in ("weeks", "days", "hours", "minutes",
               "seconds", "milliseconds", "microseconds", "nanoseconds"):
     setattr(SignedDuration, _name, _Unit(_name))
+    setattr(SignedDuration, _name[:-1].upper(), SignedDuration(**{_name: 1}))
 
 SignedDuration.ZERO = SignedDuration()
 SignedDuration.MIN = SignedDuration.new(-2**63, -999999999)
 SignedDuration.MAX = SignedDuration.new(2**63 - 1, 999999999)
-for _name in ("NANOSECOND", "MICROSECOND", "MILLISECOND", "SECOND", "MINUTE", "HOUR", "DAY", "WEEK"):
-    setattr(SignedDuration, _name, SignedDuration(**{f"{_name.lower()}s": 1}))
 
 
 @_adds_to(SignedDuration)
