@@ -162,7 +162,9 @@ class Time(_Value, _TimeParts, _TimeMembers):
     def __sub__(self, other: SignedDuration) -> Time: ...
     def from_hms(hour: Int, minute: Int, second: Int) -> Time:
         "Creates the time of an hour, a minute and a second."
-    def from_hms_{milli,micro,nano}(hour: Int, minute: Int, second: Int, number: Int) -> Time:
+    def from_hms_{milli,micro,nano}(
+        hour: Int, minute: Int, second: Int, {milli,micro,nano}second: Int
+    ) -> Time:
         "Creates the time of an hour, a minute, a second and {milli,micro,nano}seconds."
     def isoformat(self) -> str:
         "Returns the time like datetime.time, with nine digits if there are nanoseconds."

@@ -103,6 +103,12 @@ class Construction(unittest.TestCase):
         self.assertRaises(ComponentRange, Date, 2023, 2, 29)
         self.assertRaises(OverflowError, lambda: SignedDuration(weeks=2**62))
 
+    def test_functions_pickle(self):
+        """Functions of types can be sent to other processes, such as `map(Date.parse, texts)` of a pool."""
+        for function in (Date.parse, Date.from_date, Time.parse, UtcOffset.fromisoformat, PlainDateTime.parse, OffsetDateTime.parse, SignedDuration.days,
+                Date.next_day, OffsetDateTime.isoformat, fotsevindre.dates_add_days, fotsevindre.is_leap_year):
+            self.assertEqual(pickle.loads(pickle.dumps(function)), function)
+
     def test_today(self):
         before, found, after = datetime.date.today(), Date.today(), datetime.date.today()
         self.assertTrue(before <= found.to_date() <= after)
