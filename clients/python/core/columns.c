@@ -29,7 +29,8 @@ typedef struct Columns {
     const WorkdaysObject *workdays;
 } Columns;
 
-/* A call. The columns that it reads and writes have the letters of the module array. */
+/* A call. The columns that it reads and writes have the letters of the module array, and "W" if it
+ * writes weekdays: Monday is 0 in Python, and 1 in C. */
 typedef struct ColumnCall {
     const char *name, *reads, *writes;
     int has_workdays;
@@ -67,6 +68,19 @@ static int get_columns(Columns *columns, PyObject *tuple, const char *letters, i
     return 1;
 }
 
+/* Counts the weekdays that a call wrote from 0. A row without one gets 255. */
+static void shift_weekdays(const Columns *columns, const ColumnCall *call)
+{
+    size_t column, row, read = strlen(call->reads);
+    for (column = 0; call->writes[column]; column++) {
+        uint8_t *weekdays = columns->data[read + column];
+        size_t rows = call->writes[column] == 'W' ? columns->lengths[read + column] : 0;
+        for (row = 0; row < rows; row++) {
+            weekdays[row]--;
+        }
+    }
+}
+
 /* Takes the name of a call, a tuple of columns, and working days or None. Returns the number of
  * rows without a result. */
 static PyObject *core_over_columns(PyObject *self, PyObject *const *given, Py_ssize_t count)
@@ -96,6 +110,9 @@ static PyObject *core_over_columns(PyObject *self, PyObject *const *given, Py_ss
         /* The call runs without the lock of the interpreter. */
         PyThreadState *thread = PyEval_SaveThread();
         error_count = call->call(&columns);
+        if (error_count != FOTS_LENGTH_MISMATCH) {
+            shift_weekdays(&columns, call);
+        }
         PyEval_RestoreThread(thread);
         if (error_count == FOTS_LENGTH_MISMATCH) {
             PyErr_SetString(PyExc_ValueError, "expected columns of the same length");

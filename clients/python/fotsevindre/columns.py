@@ -162,11 +162,6 @@ TextColumns.__doc__ = """The bytes of texts, one after another, and their bounds
 _R = TypeVar("_R")
 
 
-def _shifted(weekdays: Any, by: int) -> Any:
-    """Counts weekdays from 1, as C does, or from 0."""
-    return array.array("B", bytes(weekdays).translate(bytes((n + by) % 256 for n in range(256))))
-
-
 def call(kind: Callable[..., _R], name: str, reads: str, writes: str, workdays: Workdays | None,
          **columns: Any) -> _R:
     """Calls C for columns by their names, with numbers in these letters, and makes the result."""
@@ -184,14 +179,14 @@ def call(kind: Callable[..., _R], name: str, reads: str, writes: str, workdays: 
         if one not in found:
             found[one] = array.array(code, [_number(columns[one])]) * rows
     if "weekdays" in found:
-        found["weekdays"] = _shifted(found["weekdays"], 1)
+        # C counts from 1.
+        weekdays = bytes(found["weekdays"]).translate(bytes([*range(1, 256), 0]))
+        found["weekdays"] = array.array("B", weekdays)
     lengths = {"texts": rows * room, "bounds": rows + 1}
-    made: dict[str, Any] = {one: array.array(code, [0]) * lengths.get(one, rows)
+    made: dict[str, Any] = {one: array.array(code.replace("W", "B"), [0]) * lengths.get(one, rows)
         for one, code in zip(getattr(kind, "_fields"), writes)}
     read = (found[one] for one in columns)
     error_count = _core.over_columns(name, (*read, *made.values()), workdays)
-    if "weekdays" in made:
-        made["weekdays"] = _shifted(made["weekdays"], -1)
     if "texts" in made:
         made["texts"] = made["texts"][:made["bounds"][rows]].tobytes()
     like = _Like(columns)
