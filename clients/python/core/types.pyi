@@ -116,6 +116,10 @@ class Date(_Value, _DateParts, _DateMembers):
         "Returns the n-th day {after,before} this one with a Weekday, n from 1 to 255."
     def checked_nth_{next,prev}_occurrence(self, weekday: Weekday, n: Int) -> Date | None:
         "Returns the same, or None out of range and for 0."
+    def replace(
+        self, *, year: Int | None = None, month: Int | None = None, day: Int | None = None
+    ) -> Date:
+        "Replaces the components that are given by name: year, month, day."
     def checked_add_{months,years}(self, number: Int) -> Date | None:
         "Returns the day some {months,years} later, or None out of range."
     def add_months(self, number: Int) -> Date:
@@ -168,6 +172,11 @@ class Time(_Value, _TimeParts, _TimeMembers):
         "Creates the time of an hour, a minute, a second and {milli,micro,nano}seconds."
     def isoformat(self) -> str:
         "Returns the time like datetime.time, with nine digits if there are nanoseconds."
+    def replace(
+        self, *, hour: Int | None = None, minute: Int | None = None, second: Int | None = None,
+        nanosecond: Int | None = None
+    ) -> Time:
+        "Replaces the components that are given by name: hour, minute, second, nanosecond."
     def duration_{until,since}(self, other: Time) -> SignedDuration:
         "Returns the duration forward {to,from} the other time, below 24 hours."
     def adjusting_{add,sub}(self, duration: SignedDuration) -> tuple[int, Time]:

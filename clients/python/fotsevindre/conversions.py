@@ -44,11 +44,6 @@ def _whole_microseconds(nanoseconds: int, name: str) -> int:
     return nanoseconds // 1000
 
 
-def _changed(old: tuple[int, ...], *new: SupportsIndex | None) -> list[SupportsIndex]:
-    """Returns components that are given, else the old ones."""
-    return [one if other is None else other for one, other in zip(old, new)]
-
-
 # ---- all values
 
 # The arguments that make a value.
@@ -189,11 +184,6 @@ class _DateMembers:
         is later."""
         return Days(range(self.to_julian_day(), check(end, Date).to_julian_day() + 1))
 
-    def replace(self: Any, *, year: SupportsIndex | None = None, month: SupportsIndex | None = None,
-                day: SupportsIndex | None = None) -> Date:
-        """Replaces the components that are given by name: year, month, day."""
-        return Date(*_changed(self.to_calendar_date(), year, month, day))
-
 
 # ---- times and offsets
 
@@ -230,12 +220,6 @@ class _TimeMembers:
         """Converts to a `datetime.time`, or raises `ValueError` for nanoseconds."""
         microsecond = _whole_microseconds(self.nanosecond, "datetime.time")
         return datetime.time(self.hour, self.minute, self.second, microsecond)
-
-    def replace(self: Any, *, hour: SupportsIndex | None = None,
-                minute: SupportsIndex | None = None, second: SupportsIndex | None = None,
-                nanosecond: SupportsIndex | None = None) -> Time:
-        """Replaces the components that are given by name: hour, minute, second, nanosecond."""
-        return Time(*_changed(self.as_hms_nano(), hour, minute, second, nanosecond))
 
     @staticmethod
     def parse(text: str) -> Time:
