@@ -258,8 +258,13 @@ OF(date, date, new_date(state, result.date))
 OF(time, time, new_time(state, result.time))
 OF(adjusted_time, adjusted_time,
     Py_BuildValue("iN", (int)result.carry, new_time(state, result.time)))
-OF(hms_nano, hms_nano, Py_BuildValue("IIII", (unsigned)result.hour, (unsigned)result.minute,
-    (unsigned)result.second, (unsigned)result.nanosecond))
+OF(hms, hms_nano, Py_BuildValue("III", result.hour, result.minute, result.second))
+OF(hms_milli, hms_nano, Py_BuildValue("IIII", result.hour, result.minute, result.second,
+    result.nanosecond / 1000000))
+OF(hms_micro, hms_nano, Py_BuildValue("IIII", result.hour, result.minute, result.second,
+    result.nanosecond / 1000))
+OF(hms_nano, hms_nano, Py_BuildValue("IIII", result.hour, result.minute, result.second,
+    result.nanosecond))
 OF(offset, offset, new_offset(state, result.offset))
 OF(offset_hms, offset_hms,
     Py_BuildValue("iii", (int)result.hours, (int)result.minutes, (int)result.seconds))

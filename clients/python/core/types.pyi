@@ -7,8 +7,8 @@ from typing import Any, Callable, ClassVar, SupportsIndex, overload
 
 from typing_extensions import Self
 
-from .conversions import _ClockMembers, _DateMembers, _DateTimeMembers, _DurationMembers
-from .conversions import _MomentMembers, _OffsetMembers, _PlainMembers, _TimeMembers, _ValueMembers
+from .conversions import _DateMembers, _DateTimeMembers, _DurationMembers, _MomentMembers
+from .conversions import _OffsetMembers, _PlainMembers, _TimeMembers, _ValueMembers
 from .enums import Convention, DayCount, Month, Period, Weekday, YearFraction
 
 # An int. One that doesn't fit the parameter in C becomes the nearest number, or one that the call
@@ -45,7 +45,7 @@ class _DateParts:
         "Replaces the {year,month,ordinal}."
     def replace_day(self, number: Int) -> Self: "Replaces the day of the month."
 
-class _TimeParts(_ClockMembers):
+class _TimeParts:
     @property
     def hour(self) -> int: "The hour, from 0 to 23."
     @property
@@ -56,8 +56,9 @@ class _TimeParts(_ClockMembers):
         "The whole {milliseconds,microseconds} of the second, from 0 to {999,999999}."
     @property
     def nanosecond(self) -> int: "The nanoseconds of the second, from 0 to 999999999."
-    def as_hms_nano(self) -> tuple[int, int, int, int]:
-        "Returns the hour, minute, second and nanosecond."
+    def as_hms(self) -> tuple[int, int, int]: "Returns the hour, minute and second."
+    def as_hms_{milli,micro,nano}(self) -> tuple[int, int, int, int]:
+        "Returns the hour, minute, second and {milli,micro,nano}second."
     def replace_{hour,minute,second}(self, number: Int) -> Self:
         "Replaces the {hour,minute,second}."
     def replace_{millisecond,microsecond,nanosecond}(self, number: Int) -> Self:

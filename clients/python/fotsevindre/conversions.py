@@ -192,21 +192,6 @@ Time.MAX = Time(23, 59, 59, 999999999)
 UtcOffset.UTC = UtcOffset()
 
 
-@_adds_to(Time, PlainDateTime, OffsetDateTime)
-class _ClockMembers:
-    def as_hms(self: Any) -> tuple[int, int, int]:
-        """Returns the hour, minute and second."""
-        return self.hour, self.minute, self.second
-
-    def as_hms_milli(self: Any) -> tuple[int, int, int, int]:
-        """Returns the hour, minute, second and millisecond."""
-        return self.hour, self.minute, self.second, self.millisecond
-
-    def as_hms_micro(self: Any) -> tuple[int, int, int, int]:
-        """Returns the hour, minute, second and microsecond."""
-        return self.hour, self.minute, self.second, self.microsecond
-
-
 @_adds_to(Time)
 class _TimeMembers:
     @staticmethod
