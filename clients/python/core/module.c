@@ -1,63 +1,116 @@
-/* The module fotsevindre._core, which the package fotsevindre sets up. */
-#include "core.h"
+/* The module fotsevindre._core, which the package fotsevindre sets up. Each interpreter has its
+ * own. */
+#include "core.c"
+#include "types.c"
+#include "operators.c"
+#include "workdays.c"
+#include "recurrence.c"
+#include "columns.c"
 
-/* Makes the members of an enum from the number of its first one. */
-static int members(PyObject *type, PyObject **into, long first, long last, long less)
+#define POINTERS (sizeof(State) / sizeof(PyObject *))
+
+/* Takes what is in Python, in the order of State. */
+static PyObject *core_setup(PyObject *self, PyObject *given)
 {
-    long number;
-    for (number = first; number <= last; number++) {
-        into[number] = PyObject_CallFunction(type, "l", number - less);
-        if (!into[number]) {
-            return 0;
+    State *state = PyModule_GetState(self);
+    PyObject **fields = &state->weekday, **end = (PyObject **)(state + 1);
+    Py_ssize_t index;
+    if (!is_count("setup", PyTuple_Size(given), end - fields)) {
+        return NULL;
+    }
+    for (index = 0; index < end - fields; index++) {
+        Py_XDECREF(fields[index]);
+        fields[index] = new_reference(PyTuple_GetItem(given, index));
+    }
+    return new_reference(Py_None);
+}
+
+static PyObject *core_status_name(UNUSED(module), PyObject *object)
+{
+    int32_t status;
+    return fit_int32(NULL, object, &status) ? PyUnicode_FromString(fots_status_name(status)) : NULL;
+}
+
+/* ---- types */
+
+/* A type: its name, its specification and its static functions. */
+typedef struct Type {
+    const char *name;
+    PyType_Spec *spec;
+    PyMethodDef *statics;
+} Type;
+
+#include "members.h"
+
+/* Adds a type to the module, with its static functions, which have the type as `self`. */
+static PyTypeObject *add_type(PyObject *module, const Type *type)
+{
+    PyObject *made = PyType_FromModuleAndSpec(module, type->spec, NULL), *function;
+    PyMethodDef *method;
+    int failed = !made || PyModule_AddObjectRef(module, type->name, made);
+    for (method = type->statics; !failed && method->ml_name; method++) {
+        function = PyCFunction_NewEx(method, made, NULL);
+        failed = !function || PyObject_SetAttrString(made, method->ml_name, function);
+        Py_XDECREF(function);
+    }
+    if (failed) {
+        Py_CLEAR(made);
+    }
+    return (PyTypeObject *)made;
+}
+
+/* ---- the module */
+
+static int execute(PyObject *module)
+{
+    State *state = PyModule_GetState(module);
+    PyTypeObject **made = &state->date;
+    size_t index;
+    if (fots_version() !=
+        1000000 * FOTS_VERSION_MAJOR + 1000 * FOTS_VERSION_MINOR + FOTS_VERSION_PATCH) {
+        PyErr_SetString(PyExc_ImportError, "the header and the library have different versions");
+        return -1;
+    }
+    for (index = 0; index < sizeof types / sizeof types[0]; index++) {
+        made[index] = add_type(module, &types[index]);
+        if (!made[index]) {
+            return -1;
         }
     }
-    return 1;
+    return 0;
 }
 
-/* Takes what is in Python: Month, Weekday, Convention, DayCount, Period, YearFraction,
- * status_error and timedelta. */
-static PyObject *setup(UNUSED(module), PyObject *const *given, Py_ssize_t count)
+static int traverse(PyObject *module, visitproc visit, void *arg)
 {
-    PyObject **const held[] = {&month_type, &weekday_type, &convention_type, &day_count_type, &period_type, &fraction_type, &status_error,
-        &timedelta_type};
-    static int64_t owner = -1;
-    int64_t interpreter = PyInterpreterState_GetID(PyInterpreterState_Get());
+    PyObject **fields = PyModule_GetState(module);
     size_t index;
-    if (owner >= 0 && owner != interpreter) {
-        PyErr_SetString(PyExc_ImportError, "fotsevindre is in use by another interpreter of this process");
-        return NULL;
+    for (index = 0; index < POINTERS; index++) {
+        Py_VISIT(fields[index]);
     }
-    owner = interpreter;
-    if (count != sizeof held / sizeof held[0]) {
-        PyErr_BadArgument();
-        return NULL;
-    }
-    for (index = 0; index < sizeof held / sizeof held[0]; index++) {
-        *held[index] = new_reference(given[index]);
-    }
-    return members(month_type, months, 1, 12, 0) && members(weekday_type, weekdays, 1, 7, 1) ? new_reference(Py_None) : NULL;
+    return 0;
 }
 
-static PyMethodDef own_functions[] = {METHOD("setup", setup, METH_FASTCALL, "(*types: Any) -> None"), LAST_METHOD};
+static int clear(PyObject *module)
+{
+    PyObject **fields = PyModule_GetState(module);
+    size_t index;
+    for (index = 0; index < POINTERS; index++) {
+        Py_CLEAR(fields[index]);
+    }
+    return 0;
+}
 
-static struct PyModuleDef definition = {PyModuleDef_HEAD_INIT, "fotsevindre._core", NULL, -1, own_functions, NULL, NULL, NULL, NULL};
+static PyModuleDef_Slot slots[] = {{Py_mod_exec, (void *)execute}, {0, NULL}, {0, NULL}};
+static struct PyModuleDef definition = {PyModuleDef_HEAD_INIT, "fotsevindre._core", NULL,
+    sizeof(State), functions, slots, traverse, clear, NULL};
 
 PyMODINIT_FUNC PyInit__core(void)
 {
-    PyObject *module = PyModule_Create(&definition);
-    if (!module) {
-        return NULL;
+    /* From 3.12 on a module says that interpreters with locks of their own can load it, by
+     * Py_mod_multiple_interpreters and Py_MOD_PER_INTERPRETER_GIL_SUPPORTED. */
+    if (strtol(Py_GetVersion() + 2, NULL, 10) >= 12) {
+        slots[1].slot = 3;
+        slots[1].value = (void *)2;
     }
-    if (fots_version() != 1000000 * FOTS_VERSION_MAJOR + 1000 * FOTS_VERSION_MINOR + FOTS_VERSION_PATCH) {
-        PyErr_SetString(PyExc_ImportError, "the header and the library have different versions");
-        return NULL;
-    }
-    if (PyModule_AddFunctions(module, functions) || PyModule_AddFunctions(module, unit_functions) || PyModule_AddFunctions(module, column_functions) ||
-        PyModule_AddFunctions(module, recurrence_functions) || PyModule_AddStringConstant(module, "version", FOTS_VERSION) ||
-        !add_duration(module) || !add_date(module) || !add_time(module) || !add_offset(module) || !add_moments(module) ||
-        !add_workdays_type(module)) {
-        Py_DECREF(module);
-        return NULL;
-    }
-    return module;
+    return PyModuleDef_Init(&definition);
 }

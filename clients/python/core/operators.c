@@ -1,92 +1,170 @@
-/* The operators that dates, times, durations, offsets and date-times have in common. */
-#include "core.h"
+/* Operators of the values. */
 
-#define SIGN(one, other) (((one) > (other)) - ((one) < (other)))
+/* ---- order and hashes */
 
-/* Returns -1, 0 or 1 for two values of one type other than Date. */
-static int order_of(PyObject *one, PyObject *other)
+/* Py_RETURN_RICHCOMPARE of 3.12 and later adds no reference, which earlier versions need. */
+static PyObject *compared(int64_t one, int64_t other, int operation)
 {
-    PyTypeObject *type = Py_TYPE(one);
-    if (type == time_type) {
-        return SIGN(TIME(one), TIME(other));
-    }
-    if (type == offset_type) {
-        return SIGN(OFFSET(one).seconds, OFFSET(other).seconds);
-    }
-    return type == duration_type ? fots_duration_compare(DURATION(one), DURATION(other)).number :
-        fots_moment_compare(MOMENT(one), MOMENT(other)).number;
+    int is_true = operation == Py_LT ? one < other : operation == Py_LE ? one <= other :
+        operation == Py_EQ ? one == other : operation == Py_NE ? one != other :
+        operation == Py_GT ? one > other : one >= other;
+    return new_reference(is_true ? Py_True : Py_False);
 }
 
-PyObject *value_compare(PyObject *self, PyObject *other, int operation)
-{
-    if (Py_TYPE(other) != Py_TYPE(self)) {
-        return new_reference(Py_NotImplemented);
+#define COMPARE(name, value, other_value) \
+    static PyObject *name(PyObject *self, PyObject *other, int operation) \
+    { \
+        return Py_TYPE(other) != Py_TYPE(self) ? new_reference(Py_NotImplemented) : \
+            compared(value, other_value, operation); \
     }
-    if (Py_TYPE(self) == date_type) {
-        Py_RETURN_RICHCOMPARE(DATE(self).julian_day, DATE(other).julian_day, operation);
-    }
-    Py_RETURN_RICHCOMPARE(order_of(self, other), 0, operation);
-}
+COMPARE(date_compare, DATE(self).julian_day, DATE(other).julian_day)
+COMPARE(time_compare, (int64_t)TIME(self), (int64_t)TIME(other))
+COMPARE(offset_compare, OFFSET(self).seconds, OFFSET(other).seconds)
+COMPARE(duration_compare, fots_duration_compare(DURATION(self), DURATION(other)).number, 0)
+COMPARE(moment_compare, fots_moment_compare(MOMENT(self), MOMENT(other)).number, 0)
 
-static uint64_t mixed(fots_duration duration) { return (uint64_t)duration.seconds * 1000000007 + (uint64_t)duration.nanoseconds; }
-
-/* Mixes the bits of the number of a value; a date-time has that of its instant. Values of other
- * types have other hashes. */
-Py_hash_t value_hash(PyObject *self)
+/* Mixes the bits of a number. Values of other types have other hashes. */
+static Py_hash_t mixed(uint64_t number, uint64_t kind)
 {
-    PyTypeObject *type = Py_TYPE(self);
-    uint64_t number = type == date_type ? (uint64_t)DATE(self).julian_day :
-        type == time_type ? TIME(self) ^ UINT64_C(1) << 56 :
-        type == offset_type ? (uint64_t)OFFSET(self).seconds ^ UINT64_C(2) << 56 :
-        type == duration_type ? mixed(DURATION(self)) ^ UINT64_C(3) << 56 :
-        mixed(fots_moment_unix_time(MOMENT(self)).duration) ^ UINT64_C(4) << 56 ^ (uint64_t)(type == plain_type);
     Py_hash_t hash;
-    number *= UINT64_C(0x9e3779b97f4a7c15);
+    number = (number ^ kind << 56) * UINT64_C(0x9e3779b97f4a7c15);
     hash = (Py_hash_t)(number ^ number >> 32);
     return hash == -1 ? -2 : hash;
 }
 
-/* Moves a date by a timedelta of whole days. */
-static PyObject *move_date(PyObject *self, PyObject *other, fots_date_result call(fots_date, fots_duration))
+static uint64_t number_of(fots_duration duration)
 {
-    fots_duration duration;
-    int found = Py_TYPE(self) == date_type ? to_duration(other, &duration) : 0;
-    if (found <= 0) {
-        return found ? NULL : new_reference(Py_NotImplemented);
-    }
-    if (duration.seconds % 86400 + duration.nanoseconds) {
-        PyErr_SetString(PyExc_ValueError, "expected a timedelta of whole days; convert others with SignedDuration.from_timedelta");
-        return NULL;
-    }
-    return of_date(call(DATE(self), duration));
+    return (uint64_t)duration.seconds * 1000000007 + (uint64_t)duration.nanoseconds;
 }
 
-static int is_moment(PyObject *object) { return Py_TYPE(object) == plain_type || Py_TYPE(object) == moment_type; }
+/* A date-time has the number of its instant. */
+#define HASH(name, number, kind) \
+    static Py_hash_t name(PyObject *self) { return mixed(number, kind); }
+HASH(date_hash, (uint64_t)DATE(self).julian_day, 0)
+HASH(time_hash, TIME(self), 1)
+HASH(offset_hash, (uint64_t)OFFSET(self).seconds, 2)
+HASH(duration_hash, number_of(DURATION(self)), 3)
+HASH(plain_hash, number_of(fots_moment_unix_time(MOMENT(self)).duration), 4)
+HASH(moment_hash, number_of(fots_moment_unix_time(MOMENT(self)).duration), 5)
 
-/* Moves a value by a duration. */
-#define MOVE(name, time_call) \
-    static PyObject *name(PyObject *self, PyObject *other) \
-    { \
-        if (Py_TYPE(other) != duration_type || Py_TYPE(self) == offset_type) { \
-            return move_date(self, other, fots_date_checked_##name); \
-        } \
-        return Py_TYPE(self) == date_type ? of_date(fots_date_checked_##name(DATE(self), DURATION(other))) : \
-            Py_TYPE(self) == time_type ? of_time(time_call(TIME(self), DURATION(other))) : \
-            Py_TYPE(self) == duration_type ? of_duration(fots_duration_checked_##name(DURATION(self), DURATION(other))) : \
-            is_moment(self) ? of_moment(Py_TYPE(self), fots_moment_checked_##name(MOMENT(self), DURATION(other))) : \
-                              new_reference(Py_NotImplemented); \
-    }
-MOVE(add, fots_time_add)
-MOVE(sub, fots_time_sub)
+/* ---- addition and subtraction */
 
-PyObject *value_add(PyObject *self, PyObject *other) { return add(self, other); }
-
-PyObject *value_subtract(PyObject *self, PyObject *other)
+/* Returns whether the first operand is a value. Python also calls an operator of the second. */
+static int is_value(PyObject *object)
 {
-    if (Py_TYPE(self) != Py_TYPE(other)) {
-        return sub(self, other);
+    return PyType_GetSlot(Py_TYPE(object), Py_tp_dealloc) == (void *)value_free;
+}
+
+/* Reads an int attribute of a timedelta. One of pandas has nanoseconds, too. */
+static int read_number(PyObject *object, const char *name, int64_t *number)
+{
+    PyObject *value = PyObject_GetAttrString(object, name);
+    int done = value && to_int64(NULL, value, number);
+    Py_XDECREF(value);
+    return done;
+}
+
+/* Returns 1 and the days of a timedelta, 0 for another object, or -1 after an error. */
+static int days_of(const State *state, PyObject *object, fots_duration *duration)
+{
+    int64_t days, seconds, microseconds, nanoseconds = 0;
+    if (PyObject_IsInstance(object, state->timedelta) != 1) {
+        return PyErr_Occurred() ? -1 : 0;
     }
-    return Py_TYPE(self) == date_type ? of_duration(fots_date_duration_since(DATE(self), DATE(other))) :
-        Py_TYPE(self) == time_type ? of_duration(fots_time_difference(TIME(self), TIME(other))) :
-        is_moment(self) ? of_duration(fots_moment_duration_since(MOMENT(self), MOMENT(other))) : sub(self, other);
+    if (!read_number(object, "days", &days) || !read_number(object, "seconds", &seconds) ||
+        !read_number(object, "microseconds", &microseconds) ||
+        (PyObject_HasAttrString(object, "nanoseconds") &&
+            !read_number(object, "nanoseconds", &nanoseconds))) {
+        return -1;
+    }
+    if (seconds || microseconds || nanoseconds) {
+        PyErr_SetString(PyExc_ValueError, "expected a timedelta of whole days; convert others "
+            "with SignedDuration.from_timedelta");
+        return -1;
+    }
+    duration->seconds = days * 86400;
+    return 1;
+}
+
+/* Moves a value by a duration, or a date by a timedelta. */
+static PyObject *moved(PyObject *self, PyObject *other, int back)
+{
+    PyTypeObject *type = Py_TYPE(self);
+    const State *state = is_value(self) ? state_of(self) : NULL;
+    fots_duration by = {0, 0};
+    int found = state && Py_TYPE(other) == state->duration;
+    if (found) {
+        by = DURATION(other);
+    } else if (state && type == state->date) {
+        found = days_of(state, other, &by);
+    }
+    if (found <= 0 || type == state->offset) {
+        return found < 0 ? NULL : new_reference(Py_NotImplemented);
+    }
+    if (type == state->date) {
+        return of_date(state, back ? fots_date_checked_sub(DATE(self), by) :
+            fots_date_checked_add(DATE(self), by));
+    }
+    if (type == state->time) {
+        return of_time(state, back ? fots_time_sub(TIME(self), by) : fots_time_add(TIME(self), by));
+    }
+    if (type == state->duration) {
+        return of_duration(state, back ? fots_duration_checked_sub(DURATION(self), by) :
+            fots_duration_checked_add(DURATION(self), by));
+    }
+    return of_moment(state, type, back ? fots_moment_checked_sub(MOMENT(self), by) :
+        fots_moment_checked_add(MOMENT(self), by));
+}
+
+static PyObject *value_add(PyObject *self, PyObject *other) { return moved(self, other, 0); }
+
+static PyObject *value_subtract(PyObject *self, PyObject *other)
+{
+    PyTypeObject *type = Py_TYPE(self);
+    const State *state;
+    if (type != Py_TYPE(other)) {
+        return moved(self, other, 1);
+    }
+    state = state_of(self);
+    if (type == state->date) {
+        return of_duration(state, fots_date_duration_since(DATE(self), DATE(other)));
+    }
+    if (type == state->time) {
+        return of_duration(state, fots_time_difference(TIME(self), TIME(other)));
+    }
+    return type == state->duration ? moved(self, other, 1) :
+        of_duration(state, fots_moment_duration_since(MOMENT(self), MOMENT(other)));
+}
+
+/* ---- operators of durations */
+
+static int duration_bool(PyObject *self) { return sign_of(DURATION(self)) != 0; }
+
+static PyObject *duration_multiply(PyObject *self, PyObject *other)
+{
+    PyObject *duration = is_value(self) ? self : other, *factor = duration == self ? other : self;
+    const State *state = state_of(duration);
+    int32_t number;
+    if (Py_TYPE(duration) != state->duration || !PyIndex_Check(factor)) {
+        return new_reference(Py_NotImplemented);
+    }
+    return fit_int32(state, factor, &number) ?
+        of_duration(state, fots_duration_checked_mul(DURATION(duration), number)) : NULL;
+}
+
+static PyObject *duration_divide(PyObject *self, PyObject *other)
+{
+    const State *state = is_value(self) ? state_of(self) : NULL;
+    int32_t number;
+    if (!state || Py_TYPE(self) != state->duration || !PyIndex_Check(other)) {
+        return new_reference(Py_NotImplemented);
+    }
+    if (!fit_int32(state, other, &number)) {
+        return NULL;
+    }
+    if (!number) {
+        PyErr_SetString(PyExc_ZeroDivisionError, "division of a duration by zero");
+        return NULL;
+    }
+    return of_duration(state, fots_duration_checked_div(DURATION(self), number));
 }

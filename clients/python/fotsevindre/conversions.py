@@ -1,4 +1,5 @@
-"""Methods that need no speed: conversions from and to `datetime`, texts of ISO 8601, units of durations, replacements of date-times."""
+"""Members that need no speed: constants, conversions from and to `datetime`, texts of ISO 8601,
+units of durations."""
 
 # mypy: no-warn-return-any
 from __future__ import annotations
@@ -10,26 +11,24 @@ from typing import Any, Callable, Iterable, SupportsIndex
 
 from . import _core
 from ._core import Date, OffsetDateTime, PlainDateTime, SignedDuration, Time, UtcOffset
-from .errors import ParseError
-from .sequences import Days
+from .errors import ParseError, check
+from .schedules import Days
 
 
 def _adds_to(*kinds: type) -> Callable[[type], None]:
     """Adds the functions of a class to types of C."""
 
     def add(methods: type) -> None:
-        for kind in kinds:
-            for name, member in vars(methods).items():
-                if name != "__doc__" and not name.startswith("__"):
+        for name, member in vars(methods).items():
+            if callable(member):
+                function = getattr(member, "__func__", member)
+                # Errors and pickles name it as a member of a type of the package.
+                function.__module__ = "fotsevindre"
+                function.__qualname__ = f"{kinds[0].__name__}.{name}"
+                for kind in kinds:
                     setattr(kind, name, member)
 
     return add
-
-
-def _is(value: Any, kind: type) -> Any:
-    if not isinstance(value, kind):
-        raise TypeError(f"expected {kind.__name__}, not {type(value).__name__}")
-    return value
 
 
 def _cut(number: int, divisor: int) -> tuple[int, int]:
@@ -40,23 +39,42 @@ def _cut(number: int, divisor: int) -> tuple[int, int]:
 
 def _whole_microseconds(nanoseconds: int, name: str) -> int:
     if nanoseconds % 1000:
-        raise ValueError(f"{name} has no nanoseconds; truncate {nanoseconds} ns to microseconds first")
+        raise ValueError(
+            f"{name} has no nanoseconds; truncate {nanoseconds} ns to microseconds first")
     return nanoseconds // 1000
+
+
+# ---- all values
+
+# The arguments that make a value.
+_PARTS: dict[type, Callable[[Any], tuple[Any, ...]]] = {
+    Date: Date.to_calendar_date,
+    Time: Time.as_hms_nano,
+    UtcOffset: UtcOffset.as_hms,
+    SignedDuration: lambda value: (value.whole_seconds(), value.subsec_nanoseconds()),
+    PlainDateTime: lambda value: (value.date(), value.time()),
+    OffsetDateTime: lambda value: (value.date(), value.time(), value.offset),
+}
+
+
+@_adds_to(Date, Time, UtcOffset, SignedDuration, PlainDateTime, OffsetDateTime)
+class _ValueMembers:
+    def __format__(self: Any, specification: str) -> str:
+        """Formats the text of the value."""
+        return format(str(self), specification)
+
+    def __reduce__(self: Any) -> tuple[Any, ...]:
+        """Returns what pickle needs."""
+        kind = type(self)
+        return SignedDuration.new if kind is SignedDuration else kind, _PARTS[kind](self)
 
 
 # ---- durations
 
 
-def _like_timedelta(duration: SignedDuration, name: str) -> int:
-    """Returns what a timedelta has by a name, which rounds down."""
-    if name not in ("days", "seconds", "microseconds", "nanoseconds"):
-        raise AttributeError(f"a SignedDuration has no {name}; use whole_{name}()")
-    seconds, nanoseconds = divmod(duration.whole_nanoseconds(), 10**9)
-    return {"days": seconds // 86400, "seconds": seconds % 86400, "microseconds": nanoseconds // 1000, "nanoseconds": nanoseconds % 1000}[name]
-
-
 class _Unit:
-    """A class method of a unit. A duration has the numbers of a `timedelta` by these names, so `(b - a).days == 1` is right."""
+    """A class method of a unit. A duration has the numbers of a `timedelta` by these names, which
+    round down, so `(b - a).days == 1` is right."""
 
     def __init__(self, name: str) -> None:
         self.name = name
@@ -64,15 +82,28 @@ class _Unit:
         self.__doc__ = self.make.__doc__
 
     def __get__(self, duration: SignedDuration | None, _kind: object = None) -> Any:
-        return self.make if duration is None else _like_timedelta(duration, self.name)
+        if duration is None:
+            return self.make
+        seconds, nanoseconds = divmod(duration.whole_nanoseconds(), 10**9)
+        found = {"days": seconds // 86400, "seconds": seconds % 86400,
+            "microseconds": nanoseconds // 1000, "nanoseconds": nanoseconds % 1000}
+        if self.name not in found:
+            raise AttributeError(f"a SignedDuration has no {self.name}; use whole_{self.name}()")
+        return found[self.name]
 
 
-for _name in ("weeks", "days", "hours", "minutes", "seconds", "milliseconds", "microseconds", "nanoseconds"):
+for _name in ("weeks", "days", "hours", "minutes",
+              "seconds", "milliseconds", "microseconds", "nanoseconds"):
     setattr(SignedDuration, _name, _Unit(_name))
+    setattr(SignedDuration, _name[:-1].upper(), SignedDuration(**{_name: 1}))
+
+SignedDuration.ZERO = SignedDuration()
+SignedDuration.MIN = SignedDuration.new(-2**63, -999999999)
+SignedDuration.MAX = SignedDuration.new(2**63 - 1, 999999999)
 
 
 @_adds_to(SignedDuration)
-class _DurationMethods:
+class _DurationMembers:
     @staticmethod
     def nanoseconds_i128(nanoseconds: SupportsIndex) -> SignedDuration:
         """Creates a duration of nanoseconds, from `MIN` to `MAX`."""
@@ -108,31 +139,39 @@ class _DurationMethods:
     @staticmethod
     def from_timedelta(delta: datetime.timedelta) -> SignedDuration:
         """Converts a `datetime.timedelta`, exactly."""
-        seconds, rest = _cut(_is(delta, datetime.timedelta) // datetime.timedelta(microseconds=1), 10**6)
+        microseconds = check(delta, datetime.timedelta) // datetime.timedelta(microseconds=1)
+        seconds, rest = _cut(microseconds, 10**6)
         return SignedDuration.new(seconds, rest * 1000 + getattr(delta, "nanoseconds", 0))
 
     def to_timedelta(self: Any) -> datetime.timedelta:
-        """Converts to a `datetime.timedelta`. Raises `OverflowError` out of its range, and `ValueError` for nanoseconds."""
-        return datetime.timedelta(seconds=self.whole_seconds(), microseconds=_whole_microseconds(self.subsec_nanoseconds(), "datetime.timedelta"))
+        """Converts to a `datetime.timedelta`. Raises `OverflowError` out of its range, and
+        `ValueError` for nanoseconds."""
+        microseconds = _whole_microseconds(self.subsec_nanoseconds(), "datetime.timedelta")
+        return datetime.timedelta(seconds=self.whole_seconds(), microseconds=microseconds)
 
 
 # ---- dates
 
+Date.MIN = Date(-999999, 1, 1)
+Date.MAX = Date(999999, 12, 31)
+
 
 @_adds_to(Date)
-class _DateMethods:
+class _DateMembers:
     @staticmethod
     def from_date(date: datetime.date) -> Date:
         """Converts a `datetime.date`. Of a `datetime.datetime`, take its `date()`."""
-        if isinstance(_is(date, datetime.date), datetime.datetime):
+        if isinstance(check(date, datetime.date), datetime.datetime):
             raise TypeError("expected datetime.date, not datetime; use its date()")
         return Date.from_calendar_date(date.year, date.month, date.day)
 
     def to_date(self: Any) -> datetime.date:
-        """Converts to a `datetime.date`, which has the years 1 to 9999, or raises `OverflowError`."""
+        """Converts to a `datetime.date`, which has the years 1 to 9999, or raises
+        `OverflowError`."""
         year, month, day = self.to_calendar_date()
-        if not datetime.MINYEAR <= year <= datetime.MAXYEAR:
-            raise OverflowError(f"year {year} is out of range of datetime.date; expected {datetime.MINYEAR} to {datetime.MAXYEAR}")
+        if not 1 <= year <= 9999:
+            raise OverflowError(
+                f"year {year} is out of range of datetime.date; expected 1 to 9999")
         return datetime.date(year, month, day)
 
     @staticmethod
@@ -141,38 +180,47 @@ class _DateMethods:
         return Date.from_date(datetime.date.today())
 
     def iter_to(self: Any, end: Date) -> Days:
-        """Returns the days from this one to `end`, both included, as a sequence; none if this one is later."""
-        return Days(range(self.to_julian_day(), _is(end, Date).to_julian_day() + 1))
+        """Returns the days from this one to `end`, both included, as a sequence; none if this one
+        is later."""
+        return Days(range(self.to_julian_day(), check(end, Date).to_julian_day() + 1))
 
 
 # ---- times and offsets
 
+Time.MIDNIGHT = Time()
+Time.MAX = Time(23, 59, 59, 999999999)
+UtcOffset.UTC = UtcOffset()
+
 
 @_adds_to(Time)
-class _TimeMethods:
+class _TimeMembers:
     @staticmethod
     def from_time(time: datetime.time) -> Time:
         """Converts a `datetime.time` without a time zone, or raises `ValueError`."""
-        if _is(time, datetime.time).tzinfo is not None:
+        if check(time, datetime.time).tzinfo is not None:
             raise ValueError("expected a datetime.time without tzinfo")
         return Time.from_hms_micro(time.hour, time.minute, time.second, time.microsecond)
 
     def to_time(self: Any) -> datetime.time:
         """Converts to a `datetime.time`, or raises `ValueError` for nanoseconds."""
-        return datetime.time(self.hour, self.minute, self.second, _whole_microseconds(self.nanosecond, "datetime.time"))
+        microsecond = _whole_microseconds(self.nanosecond, "datetime.time")
+        return datetime.time(self.hour, self.minute, self.second, microsecond)
 
     @staticmethod
     def parse(text: str) -> Time:
-        """Parses a time, such as 9:05, 09:05:00 or 9:05:00.25, or raises `ParseError` or `ComponentRange`."""
-        return _time(_is(text, str))
+        """Parses a time, such as 9:05, 09:05:00 or 9:05:00.25, or raises `ParseError` or
+        `ComponentRange`."""
+        return _time(check(text, str))
+
+    fromisoformat = parse
 
 
 @_adds_to(UtcOffset)
-class _OffsetMethods:
+class _OffsetMembers:
     @staticmethod
     def from_timezone(timezone: datetime.timezone) -> UtcOffset:
         """Converts a `datetime.timezone`, or raises `ValueError` for parts of a second."""
-        delta = _is(timezone, datetime.timezone).utcoffset(None)
+        delta = check(timezone, datetime.timezone).utcoffset(None)
         if delta.microseconds:
             raise ValueError(f"expected an offset of whole seconds, not {delta}")
         return UtcOffset.from_whole_seconds(delta // datetime.timedelta(seconds=1))
@@ -183,106 +231,91 @@ class _OffsetMethods:
 
     @staticmethod
     def parse(text: str) -> UtcOffset:
-        """Parses an offset, such as Z, +01:00 or -05:30:00, or raises `ParseError` or `ComponentRange`."""
-        return _offset(_is(text, str))
+        """Parses an offset, such as Z, +01:00 or -05:30:00, or raises `ParseError` or
+        `ComponentRange`."""
+        return _offset(check(text, str))
+
+    fromisoformat = parse
 
 
 # ---- date-times
 
+PlainDateTime.MIN = PlainDateTime(Date.MIN, Time.MIDNIGHT)
+PlainDateTime.MAX = PlainDateTime(Date.MAX, Time.MAX)
+OffsetDateTime.UNIX_EPOCH = OffsetDateTime(Date(1970, 1, 1), Time.MIDNIGHT, UtcOffset.UTC)
+
 
 @_adds_to(PlainDateTime, OffsetDateTime)
-class _DateTimeMethods:
-    def replace(self: Any, *, year: SupportsIndex | None = None, month: SupportsIndex | None = None, day: SupportsIndex | None = None,
-                hour: SupportsIndex | None = None, minute: SupportsIndex | None = None, second: SupportsIndex | None = None,
+class _DateTimeMembers:
+    def __str__(self: Any) -> str:
+        offset = f" {self.offset}" if isinstance(self, OffsetDateTime) else ""
+        return f"{self.date()} {self.time()}{offset}"
+
+    __repr__ = __str__
+
+    def replace(self: Any, *, year: SupportsIndex | None = None, month: SupportsIndex | None = None,
+                day: SupportsIndex | None = None, hour: SupportsIndex | None = None,
+                minute: SupportsIndex | None = None, second: SupportsIndex | None = None,
                 nanosecond: SupportsIndex | None = None) -> Any:
         """Replaces the components that are given by name."""
         date = self.date().replace(year=year, month=month, day=day)
-        return self.replace_date(date).replace_time(self.time().replace(hour=hour, minute=minute, second=second, nanosecond=nanosecond))
+        time = self.time().replace(hour=hour, minute=minute, second=second, nanosecond=nanosecond)
+        return self.replace_date(date).replace_time(time)
 
     def isoformat(self: Any) -> str:
         """Returns the text of `datetime.isoformat`, with nine digits if there are nanoseconds."""
         offset = str(self.offset) if isinstance(self, OffsetDateTime) else ""
-        return f"{self.date()}T{self.time().isoformat()}{offset.removesuffix(':00') if len(offset) == 9 else offset}"
-
-
-def _through(name: str, part: str) -> None:
-    """Adds a method of a date or a time to date-times, which replace that part."""
-    get, put = operator.methodcaller(part), f"replace_{part}"
-
-    def call(self: Any, *arguments: Any) -> Any:
-        return getattr(self, put)(getattr(get(self), name)(*arguments))
-
-    call.__name__ = name
-    call.__doc__ = getattr(Date if part == "date" else Time, name).__doc__
-    for kind in (PlainDateTime, OffsetDateTime):
-        setattr(kind, name, call)
-
-
-for _name in ("year", "month", "day", "ordinal"):
-    _through(f"replace_{_name}", "date")
-for _name in ("hour", "minute", "second", "millisecond", "microsecond", "nanosecond"):
-    _through(f"replace_{_name}", "time")
-    if _name != "nanosecond":
-        _through(f"truncate_to_{_name}", "time")
-
-
-def _to_datetime(self: Any, timezone: datetime.timezone | None) -> datetime.datetime:
-    return datetime.datetime.combine(self.date().to_date(), self.time().to_time(), timezone)
+        offset = offset.removesuffix(":00") if len(offset) == 9 else offset
+        return f"{self.date()}T{self.time().isoformat()}{offset}"
 
 
 @_adds_to(PlainDateTime)
-class _PlainMethods:
-    @staticmethod
-    def new(date: Date, time: Time) -> PlainDateTime:
-        """Creates the date-time of a date and a time of day."""
-        return PlainDateTime(date, time)
-
+class _PlainMembers:
     def to_datetime(self: Any) -> datetime.datetime:
-        """Converts to a `datetime.datetime` without a time zone; errors like `Date.to_date` and `Time.to_time`."""
-        return _to_datetime(self, None)
+        """Converts to a `datetime.datetime` without a time zone; errors like `Date.to_date` and
+        `Time.to_time`."""
+        return datetime.datetime.combine(self.date().to_date(), self.time().to_time())
 
     @staticmethod
     def from_datetime(value: datetime.datetime) -> PlainDateTime:
         """Converts a `datetime.datetime` without a time zone, or raises `ValueError`."""
-        if _is(value, datetime.datetime).tzinfo is not None:
+        if check(value, datetime.datetime).tzinfo is not None:
             raise ValueError("expected a datetime.datetime without tzinfo")
         return PlainDateTime(Date.from_date(value.date()), Time.from_time(value.time()))
 
     @staticmethod
     def parse(text: str) -> PlainDateTime:
-        """Parses a date, T or a space, and a time, such as 2024-02-29T23:59:59.25; errors like `Date.parse` and `Time.parse`."""
-        return _plain(text, len(_is(text, str)))
+        """Parses a date, T or a space, and a time, such as 2024-02-29T23:59:59.25; errors like
+        `Date.parse` and `Time.parse`."""
+        return _plain(text, len(check(text, str)))
+
+    fromisoformat = parse
 
 
 @_adds_to(OffsetDateTime)
-class _MomentMethods:
-    @staticmethod
-    def new_in_offset(date: Date, time: Time, offset: UtcOffset) -> OffsetDateTime:
-        """Creates the date-time of a date, a time of day and an offset."""
-        return OffsetDateTime(date, time, offset)
-
-    @staticmethod
-    def new_utc(date: Date, time: Time) -> OffsetDateTime:
-        """Creates the date-time of a date and a time of day at UTC."""
-        return OffsetDateTime(date, time, UtcOffset.UTC)
-
+class _MomentMembers:
     def to_datetime(self: Any) -> datetime.datetime:
-        """Converts to a `datetime.datetime` in the `datetime.timezone` of the offset; errors like its parts."""
-        return _to_datetime(self, self.offset.to_timezone())
+        """Converts to a `datetime.datetime` in the `datetime.timezone` of the offset; errors like
+        its parts."""
+        return self.local().to_datetime().replace(tzinfo=self.offset.to_timezone())
 
     @staticmethod
     def from_datetime(value: datetime.datetime) -> OffsetDateTime:
-        """Converts a `datetime.datetime` with an offset of whole seconds, or raises `ValueError`."""
-        delta = _is(value, datetime.datetime).utcoffset()
+        """Converts a `datetime.datetime` with an offset of whole seconds, or raises
+        `ValueError`."""
+        delta = check(value, datetime.datetime).utcoffset()
         if delta is None:
             raise ValueError("expected a datetime.datetime with a UTC offset")
-        return PlainDateTime.from_datetime(value.replace(tzinfo=None)).assume_offset(UtcOffset.from_timezone(datetime.timezone(delta)))
+        offset = UtcOffset.from_timezone(datetime.timezone(delta))
+        return PlainDateTime.from_datetime(value.replace(tzinfo=None)).assume_offset(offset)
 
     @staticmethod
     def from_unix_timestamp_nanos(timestamp: SupportsIndex) -> OffsetDateTime:
-        """Creates the date-time at UTC of Unix nanoseconds, or raises `ComponentRange` as `timestamp`."""
+        """Creates the date-time at UTC of Unix nanoseconds, or raises `ComponentRange` as
+        `timestamp`."""
         seconds, rest = _cut(operator.index(timestamp), 10**9)
-        return OffsetDateTime.from_unix_duration(SignedDuration.new(max(-2**62, min(seconds, 2**62)), rest))
+        seconds = max(-2**62, min(seconds, 2**62))
+        return OffsetDateTime.from_unix_duration(SignedDuration.new(seconds, rest))
 
     def unix_timestamp_nanos(self: Any) -> int:
         """Returns the Unix time in nanoseconds, as an int of any size."""
@@ -290,13 +323,16 @@ class _MomentMethods:
 
     @staticmethod
     def parse(text: str) -> OffsetDateTime:
-        """Parses a date-time and an offset, such as 2024-02-29T23:59:59.25+01:00; a space may come before the offset."""
+        """Parses a date-time and an offset, such as 2024-02-29T23:59:59.25+01:00; a space may come
+        before the offset."""
         at = _separator(text)
         found = re.search("[ Zz+-]", text[at + 1:])
         end = at + 1 + found.start() if found else len(text)
         local = _plain(text, end)
         end += text[end:end + 1] == " "
         return local.assume_offset(_within(_offset, text, end))
+
+    fromisoformat = parse
 
 
 # ---- texts
@@ -313,18 +349,16 @@ def _within(parse: Callable[[str], Any], text: str, start: int, end: int | None 
 
 def _time(text: str) -> Time:
     """Parses 9:05, 09:05:00 or 09:05:00.25, by a moment of RFC 3339."""
-    digits = re.match(r"[0-9:.]*", text)
-    length = digits.end() if digits else 0
-    clock = text[:length]
-    added = clock[1:2] == ":"
+    clock = re.split("[^0-9:.]", text)[0]
+    length, added = len(clock), clock[1:2] == ":"
     full = "0" * added + clock
     if len(full) == 5 and length == len(text):
         full += ":00"
     try:
         time = _core.parse_rfc3339(f"1970-01-01T{full}Z")[1]
     except ParseError as error:
-        position = error.position - 11 - added
-        raise ParseError(min(position, length), min(position, length) == len(text)) from None
+        position = min(error.position - 11 - added, length)
+        raise ParseError(position, position == len(text)) from None
     if length < len(text):
         raise ParseError(length, False)
     return time
@@ -335,7 +369,8 @@ def _offset(text: str) -> UtcOffset:
     if text in ("Z", "z"):
         return UtcOffset.UTC
     for position, character in enumerate(text[:9]):
-        if not ("+-" if position == 0 else ":" if position % 3 == 0 else "0123456789").count(character):
+        expected = "+-" if position == 0 else ":" if position % 3 == 0 else "0123456789"
+        if character not in expected:
             raise ParseError(position, False)
     if len(text) not in (6, 9):
         raise ParseError(min(len(text), 9), len(text) < 9)
@@ -345,7 +380,7 @@ def _offset(text: str) -> UtcOffset:
 
 def _separator(text: str) -> int:
     """Returns the position of the T or the space between a date and a time."""
-    found = re.search("[Tt ]", _is(text, str))
+    found = re.search("[Tt ]", check(text, str))
     return found.start() if found else len(text)
 
 
@@ -355,8 +390,3 @@ def _plain(text: str, end: int) -> PlainDateTime:
     if at >= end:
         raise ParseError(at, at == len(text))
     return PlainDateTime(date, _within(_time, text, at + 1, end))
-
-
-_kinds: tuple[Any, ...] = (Time, UtcOffset, PlainDateTime, OffsetDateTime)
-for _kind in _kinds:
-    _kind.fromisoformat = staticmethod(_kind.parse)

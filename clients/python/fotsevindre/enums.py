@@ -8,9 +8,11 @@ from typing import NamedTuple, SupportsIndex, TypeVar
 from . import _core
 from .errors import ComponentRange
 
+_C = TypeVar("_C", bound="_Cycle")
+
 
 class _Cycle(enum.IntEnum):
-    """What months and weekdays have in common: they are ints, go round, and show their names only in `repr`."""
+    """A month or a weekday. They are ints, go round, and show their names only in `repr`."""
 
     def previous(self: _C) -> _C:
         """Returns the value before. Before January it is December, and before Monday Sunday."""
@@ -21,12 +23,16 @@ class _Cycle(enum.IntEnum):
         return self.nth_next(1)
 
     def nth_next(self: _C, n: SupportsIndex) -> _C:
-        """Returns the value `n` places after. Nine months after July it is April."""
-        raise NotImplementedError
+        """Returns the value `n` places after. Nine months after July it is April, and ten days
+        after Sunday Wednesday."""
+        call = _core.month_nth_next if isinstance(self, Month) else _core.weekday_nth_next
+        return type(self)(call(self, n))  # type: ignore[operator]
 
     def nth_prev(self: _C, n: SupportsIndex) -> _C:
-        """Returns the value `n` places before. Nine months before July it is October."""
-        raise NotImplementedError
+        """Returns the value `n` places before. Nine months before July it is October, and ten days
+        before Sunday Thursday."""
+        call = _core.month_nth_prev if isinstance(self, Month) else _core.weekday_nth_prev
+        return type(self)(call(self, n))  # type: ignore[operator]
 
     def __str__(self) -> str:
         return int.__repr__(self)
@@ -38,13 +44,11 @@ class _Cycle(enum.IntEnum):
         return format(int(self), specification)
 
 
-_C = TypeVar("_C", bound=_Cycle)
-
-
 class Month(_Cycle):
     """A month of the year, from `January`, 1, to `December`, 12.
 
-    A month is an int: `f"{month:02}"` and `str(month)` are its number. `repr(month)` and `month.name` are its name.
+    A month is an int: `f"{month:02}"` and `str(month)` are its number. `repr(month)` and
+    `month.name` are its name.
 
     >>> Month(5), Month.July.nth_next(9), Month.February.length(2020), f"{Month.May:02}"
     (May, April, 29, '05')
@@ -72,22 +76,16 @@ class Month(_Cycle):
         """Returns the number of days of the month in a year, from 28 to 31."""
         return _core.days_in_month(self, year)
 
-    def nth_next(self, n: SupportsIndex) -> Month:
-        """Returns the month `n` months after. Nine months after July it is April."""
-        return _core.month_nth_next(self, n)
-
-    def nth_prev(self, n: SupportsIndex) -> Month:
-        """Returns the month `n` months before. Nine months before July it is October."""
-        return _core.month_nth_prev(self, n)
-
 
 class Weekday(_Cycle):
     """A day of the week, from `Monday`, 0, to `Sunday`, 6, as `datetime.date.weekday` counts.
 
     A weekday is an int, like a `Month`. Calls that take a weekday take only a `Weekday`.
 
-    >>> Weekday(4), Weekday.Sunday.nth_next(10), Weekday.Friday.number_from_sunday(), Weekday.Saturday in {5, 6}
-    (Friday, Wednesday, 6, True)
+    >>> Weekday(4), Weekday.Sunday.nth_next(10), Weekday.Friday.number_from_sunday()
+    (Friday, Wednesday, 6)
+    >>> Weekday.Saturday in {5, 6}
+    True
     """
 
     Monday = 0
@@ -97,14 +95,6 @@ class Weekday(_Cycle):
     Friday = 4
     Saturday = 5
     Sunday = 6
-
-    def nth_next(self, n: SupportsIndex) -> Weekday:
-        """Returns the weekday `n` days after. Ten days after Sunday it is Wednesday."""
-        return _core.weekday_nth_next(self, n)
-
-    def nth_prev(self, n: SupportsIndex) -> Weekday:
-        """Returns the weekday `n` days before. Ten days before Sunday it is Thursday."""
-        return _core.weekday_nth_prev(self, n)
 
     def number_from_monday(self) -> int:
         """Returns the number from 1 (Monday) to 7 (Sunday)."""
@@ -124,9 +114,9 @@ class Weekday(_Cycle):
 
 
 Period = NamedTuple("Period", [("years", int), ("months", int), ("days", int)])
-Period.__doc__ = """Years, months and days, all of one sign, with fewer than 12 months."""
+Period.__doc__ = "Years, months and days, all of one sign, with fewer than 12 months."
 YearFraction = NamedTuple("YearFraction", [("numerator", int), ("denominator", int)])
-YearFraction.__doc__ = """A fraction of a year: what was counted, over what a year counts."""
+YearFraction.__doc__ = "A fraction of a year: what was counted, over what a year counts."
 
 
 class DayCount(enum.IntEnum):

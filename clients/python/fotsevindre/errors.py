@@ -3,21 +3,20 @@
 from __future__ import annotations
 
 import enum
+from typing import Any
 
-# The components, by their statuses.
-_COMPONENTS = {
-    16: "year", 17: "month", 18: "julian_day", 19: "hour", 20: "minute", 21: "second", 22: "millisecond", 23: "microsecond",
-    24: "nanosecond", 25: "offset hour", 26: "offset minute", 27: "offset second", 28: "seconds", 29: "timestamp", 64: "day", 65: "ordinal",
-    66: "week", 67: "weekday",
-}
+from . import _core
 
-# The messages of other statuses.
+_PARTS = ("FREQ", "INTERVAL", "WKST", "BYMONTH", "BYMONTHDAY", "BYDAY", "UNTIL", "COUNT")
+# The messages of the statuses that name no component.
 _MESSAGES = {
+    1: "the result is out of range",
     2: "invalid date; expected a Julian day from -363521074 to 366963559",
     3: "invalid time; expected 0 to 86399999999999 nanoseconds since midnight",
     4: "invalid offset; expected -93599 to 93599 seconds",
-    5: "invalid duration; expected -999999999 to 999999999 nanoseconds with the sign of the seconds",
+    5: "invalid duration; expected -999999999 to 999999999 ns with the sign of the seconds",
     6: "invalid weekday; expected 0 (Monday) to 6 (Sunday)",
+    7: "invalid count of occurrences; expected 0 to 255",
     8: "unexpected byte in the text",
     9: "invalid moment; expected a valid date, time and offset",
     10: "invalid frequency; expected 1 (Daily) to 4 (Yearly)",
@@ -28,17 +27,17 @@ _MESSAGES = {
     15: "too many holidays; expected at most 1024",
     30: "invalid bounds; expected ascending positions in the texts",
     31: "unexpected end of the text",
-    32: "unknown part in a recurrence",
+    32: f"unknown part in a recurrence; expected {', '.join(_PARTS)}",
     33: "duplicate part in a recurrence",
     34: "too many values in a part of a recurrence; expected at most 62",
     35: "invalid value in a part of a recurrence",
     36: "missing FREQ in a recurrence",
 }
-_PARTS = (None, "FREQ", "INTERVAL", "WKST", "BYMONTH", "BYMONTHDAY", "BYDAY", "UNTIL", "COUNT")
 
 
 class ComponentRange(ValueError):
-    """A component is out of range. `name` is its name, and `is_conditional` says whether its range depends on other components.
+    """A component is out of range. `name` is its name, and `is_conditional` says whether its range
+    depends on other components.
 
     The range of a day depends on the month and the year, and the range of an hour on nothing.
     """
@@ -53,9 +52,11 @@ class ComponentRange(ValueError):
 
 
 class ParseError(ValueError):
-    """A text has none of the forms that a call parses. `position` is the first wrong character, from 0.
+    """A text has none of the forms that a call parses. `position` is the first wrong character,
+    from 0.
 
-    If the text ends too early, and more characters could complete it, `is_end` is true, and `position` is its length.
+    If the text ends too early, and more characters could complete it, `is_end` is true, and
+    `position` is its length.
     """
 
     def __init__(self, position: int, is_end: bool) -> None:
@@ -78,7 +79,8 @@ class ParseRuleErrorKind(enum.Enum):
 
 
 class ParseRuleError(ValueError):
-    """The text of a recurrence is invalid. `kind` and `position`, from 0, describe the first wrong part.
+    """The text of a recurrence is invalid. `kind` and `position`, from 0, describe the first wrong
+    part.
 
     `part` is its name, or `None` for the kinds `Unknown` and `Missing`.
     """
@@ -93,22 +95,28 @@ class ParseRuleError(ValueError):
         return f"{self.kind.value.format(self.part or 'part')} at {self.position}"
 
 
+def check(value: Any, kind: type) -> Any:
+    """Returns the value, or raises `TypeError` if it has another type."""
+    if not isinstance(value, kind):
+        raise TypeError(f"expected {kind.__name__}, not {type(value).__name__}")
+    return value
+
+
 def status_error(status: int, position: int | None = None, part: int = 0) -> Exception | None:
-    """Returns the exception that a call of one value would raise for the status of a row, or `None` for 0.
+    """Returns the exception that a call of one value would raise for the status of a row, or
+    `None` for 0.
 
     >>> status_error(0), status_error(64)
     (None, ComponentRange('day', True))
     """
     if status == 0:
         return None
-    if status in _COMPONENTS:
-        return ComponentRange(_COMPONENTS[status], status >= 64)
-    if status == 1:
-        return OverflowError("the result is out of range")
-    if status == 7:
-        return OverflowError("invalid count of occurrences; expected 0 to 255")
+    if 16 <= status <= 29 or 64 <= status <= 67:
+        return ComponentRange(_core.status_name(status), status >= 64)
     if position is not None and status in (8, 31):
         return ParseError(position, status == 31)
     if position is not None and 32 <= status <= 36:
-        return ParseRuleError(position, tuple(ParseRuleErrorKind)[status - 32], _PARTS[part])
-    return ValueError(_MESSAGES.get(status, f"unknown status {status}"))
+        kind = tuple(ParseRuleErrorKind)[status - 32]
+        return ParseRuleError(position, kind, _PARTS[part - 1] if part else None)
+    message = _MESSAGES.get(status, f"unknown status {status}")
+    return OverflowError(message) if status in (1, 7) else ValueError(message)

@@ -1,38 +1,94 @@
-"""Working days and recurrences."""
+"""Days that follow each other, working days and recurrences."""
 
 from __future__ import annotations
 
 import array
 import dataclasses
+import datetime
 import itertools
 import operator
-from typing import Any, Iterable, Iterator, Sequence, SupportsIndex
+from typing import Any, Iterable, Iterator, Sequence, SupportsIndex, overload
 
 from . import _core
 from ._core import Date
 from .enums import Frequency, Month, Weekday
-from .sequences import refuse_datetime
+from .errors import check
 
 
-def _is(value: Any, kind: type) -> Any:
-    if type(value) is not kind:
-        raise TypeError(f"expected {kind.__name__}, not {type(value).__name__}")
-    return value
+def _refuse_datetime(value: object) -> None:
+    """Raises `TypeError` for a `datetime.date`, of which `in` would be false without a word."""
+    if isinstance(value, datetime.date):
+        found = type(value).__name__
+        raise TypeError(f"expected Date, not {found}; convert it with Date.from_date")
+
+
+class Days(Sequence[Date]):
+    """Days that follow each other, as `Date.iter_to` returns them: a sequence with a length,
+    indexes, slices and a reversed order.
+
+    >>> days = Date(2024, 2, 28).iter_to(Date(2024, 3, 2))
+    >>> len(days), days[1], list(reversed(days))[:2], Date(2024, 3, 3) in days
+    (4, 2024-02-29, [2024-03-02, 2024-03-01], False)
+    """
+
+    __slots__ = ("_julian_days",)
+
+    def __init__(self, julian_days: range) -> None:
+        self._julian_days = julian_days
+
+    def __len__(self) -> int:
+        return len(self._julian_days)
+
+    @overload
+    def __getitem__(self, index: SupportsIndex) -> Date: ...
+
+    @overload
+    def __getitem__(self, index: slice) -> Days: ...
+
+    def __getitem__(self, index: SupportsIndex | slice) -> Date | Days:
+        if isinstance(index, slice):
+            return Days(self._julian_days[index])
+        return Date.from_julian_day(self._julian_days[index])
+
+    def __iter__(self) -> Iterator[Date]:
+        return map(Date.from_julian_day, self._julian_days)
+
+    def __reversed__(self) -> Iterator[Date]:
+        return map(Date.from_julian_day, reversed(self._julian_days))
+
+    def __contains__(self, date: object) -> bool:
+        _refuse_datetime(date)
+        return isinstance(date, Date) and date.to_julian_day() in self._julian_days
+
+    def __eq__(self, other: object) -> bool:
+        if not isinstance(other, Days):
+            return NotImplemented
+        return self._julian_days == other._julian_days
+
+    def __hash__(self) -> int:
+        return hash(self._julian_days)
+
+    def __repr__(self) -> str:
+        return f"{self[0]} to {self[-1]}" if len(self) else "no days"
 
 
 class Workdays(_core.Workdays):
-    """The given weekdays without holidays, by default Monday to Friday. The holidays are any dates, at most 1024, and are sorted once.
+    """The given weekdays without holidays, by default Monday to Friday. The holidays are any dates,
+    at most 1024, and are sorted once.
 
-    >>> Workdays().add_workdays(Date(2024, 2, 29), 10), Workdays(holidays=[Date(2024, 3, 1)]).next_workday(Date(2024, 2, 29))
-    (2024-03-14, 2024-03-04)
+    >>> Workdays().add_workdays(Date(2024, 2, 29), 10)
+    2024-03-14
+    >>> Workdays(holidays=[Date(2024, 3, 1)]).next_workday(Date(2024, 2, 29))
+    2024-03-04
     """
 
     __slots__ = ()
 
-    def __new__(cls, weekdays: Iterable[Weekday] = tuple(Weekday)[:5], holidays: Iterable[Date] = ()) -> Workdays:
+    def __new__(cls, weekdays: Iterable[Weekday] = tuple(Weekday)[:5],
+                holidays: Iterable[Date] = ()) -> Workdays:
         """Checks the weekdays and the holidays."""
-        weekmask = sum({1 << _is(weekday, Weekday) for weekday in weekdays})
-        julian_days = sorted({_is(holiday, Date).to_julian_day() for holiday in holidays})
+        weekmask = sum({1 << check(weekday, Weekday) for weekday in weekdays})
+        julian_days = sorted({check(holiday, Date).to_julian_day() for holiday in holidays})
         return super().__new__(cls, weekmask, array.array("i", julian_days).tobytes())
 
     @property
@@ -48,7 +104,7 @@ class Workdays(_core.Workdays):
     def __eq__(self, other: object) -> bool:
         if not isinstance(other, Workdays):
             return NotImplemented
-        return self._weekmask == other._weekmask and self._holidays == other._holidays
+        return (self._weekmask, self._holidays) == (other._weekmask, other._holidays)
 
     def __hash__(self) -> int:
         return hash((self._weekmask, self.holidays))
@@ -68,26 +124,31 @@ def _fit(number: SupportsIndex, minimum: int, maximum: int) -> int:
 
 
 def _rule_weekday(weekday: Weekday | tuple[int, Weekday]) -> bytes:
-    """Returns a weekday of a rule, as C has it: its number, 0 for every one, and that of the weekday from 1."""
+    """Returns a weekday of a rule, as C has it: its number, 0 for every one, and the number of the
+    weekday from 1."""
     number = 0
     if not isinstance(weekday, Weekday):
         number, weekday = weekday
         if operator.index(number) == 0:
-            raise ValueError("invalid number 0 of a weekday; use the Weekday without a number for every one")
-    return bytes((_fit(number, -128, 127) % 256, _is(weekday, Weekday) + 1))
+            raise ValueError("invalid number 0 of a weekday; "
+                "use the Weekday without a number for every one")
+    return bytes((_fit(number, -128, 127) % 256, check(weekday, Weekday) + 1))
 
 
 @dataclasses.dataclass(frozen=True)
 class Rule:
     """A recurrence rule in a subset of RFC 5545. An iteration returns its days in order.
 
-    A day is in every n-th day, week, month or year from the start, and in each list that isn't empty: `months`, `month_days`, where -1 is
-    the last day of the month, and `weekdays`. A `Weekday` is every one, and `(-1, Weekday.Friday)` the last Friday of the month, or of the
-    year in a yearly rule without months. `ValueError` for more than 62 values in a list.
+    A day is in every n-th day, week, month or year from the start, and in each list that isn't
+    empty: `months`, `month_days`, where -1 is the last day of the month, and `weekdays`. A
+    `Weekday` is every one, and `(-1, Weekday.Friday)` the last Friday of the month, or of the year
+    in a yearly rule without months. `ValueError` for more than 62 values in a list.
 
     >>> last_fridays = Rule(Date(2024, 1, 1), Frequency.Monthly, weekdays=[(-1, Weekday.Friday)])
-    >>> last_fridays.first_days(2), last_fridays.next_after(Date(2024, 8, 30)), Date(2024, 5, 31) in last_fridays
-    ([2024-01-26, 2024-02-23], 2024-09-27, True)
+    >>> last_fridays.first_days(2), last_fridays.next_after(Date(2024, 8, 30))
+    ([2024-01-26, 2024-02-23], 2024-09-27)
+    >>> Date(2024, 5, 31) in last_fridays
+    True
     """
 
     start: Date
@@ -103,10 +164,12 @@ class Rule:
         for name in ("months", "month_days", "weekdays"):
             object.__setattr__(self, name, tuple(getattr(self, name)))
         parts = (
-            _is(self.start, Date), Date.MAX if self.until is None else _is(self.until, Date), int(_is(self.frequency, Frequency)),
-            _fit(self.interval, 0, 2**32 - 1), _is(self.week_start, Weekday),
-            bytes(number if 0 <= number <= 255 else 255 for number in map(operator.index, self.months)),
-            bytes(_fit(day, -128, 127) % 256 for day in self.month_days), b"".join(map(_rule_weekday, self.weekdays)))
+            check(self.start, Date), Date.MAX if self.until is None else check(self.until, Date),
+            int(check(self.frequency, Frequency)), _fit(self.interval, 0, 2**32 - 1),
+            check(self.week_start, Weekday),
+            bytes(one if 0 <= one <= 255 else 255 for one in map(operator.index, self.months)),
+            bytes(_fit(day, -128, 127) % 256 for day in self.month_days),
+            b"".join(map(_rule_weekday, self.weekdays)))
         object.__setattr__(self, "_parts", parts)
         _core.rule_contains(parts, self.start)
 
@@ -116,7 +179,7 @@ class Rule:
 
     def days_after(self, date: Date) -> Iterator[Date]:
         """Iterates over the days of the rule after the day, in order."""
-        return self._walk(_is(date, Date))
+        return self._walk(check(date, Date))
 
     def first_days(self, count: SupportsIndex) -> list[Date]:
         """Returns the first `count` days of the rule."""
@@ -127,7 +190,7 @@ class Rule:
         return iter(()) if first is None else itertools.chain((first,), self._walk(first))
 
     def __contains__(self, date: object) -> bool:
-        refuse_datetime(date)
+        _refuse_datetime(date)
         return isinstance(date, Date) and _core.rule_contains(getattr(self, "_parts"), date)
 
     def __reduce__(self) -> tuple[Any, ...]:
@@ -144,8 +207,8 @@ class Rule:
 class Recurrence:
     """A recurrence in the text of RFC 5545 after `RRULE:`, and its parts.
 
-    `text` has the parts in one order. Recurrences with the same parts are equal. An empty list excludes no day. `until` is the last day and
-    `count` the number of times, if given.
+    `text` has the parts in one order. Recurrences with the same parts are equal. An empty list
+    excludes no day. `until` is the last day and `count` the number of times, if given.
 
     >>> last_fridays = Recurrence.parse("byday=-1fr;count=3;freq=monthly")
     >>> list(last_fridays.days(Date(2024, 1, 1)))
@@ -162,25 +225,23 @@ class Recurrence:
     week_start: Weekday = dataclasses.field(init=False, repr=False, compare=False)
     months: tuple[Month, ...] = dataclasses.field(init=False, repr=False, compare=False)
     month_days: tuple[int, ...] = dataclasses.field(init=False, repr=False, compare=False)
-    weekdays: tuple[Weekday | tuple[int, Weekday], ...] = dataclasses.field(init=False, repr=False, compare=False)
+    weekdays: tuple[Weekday | tuple[int, Weekday], ...] = dataclasses.field(
+        init=False, repr=False, compare=False)
     until: Date | None = dataclasses.field(init=False, repr=False, compare=False)
     count: int | None = dataclasses.field(init=False, repr=False, compare=False)
 
     def __post_init__(self) -> None:
-        frequency, interval, week_start, until, count, months, month_days, weekdays = _core.recurrence_parse(self.text)
-        pairs = list(zip(array.array("b", weekdays[::2]), (Weekday(number - 1) for number in weekdays[1::2])))
-        for name, value in {
-            "text": _core.recurrence_text(self.text),
-            "frequency": Frequency(frequency),
-            "interval": interval,
-            "week_start": week_start,
-            "months": tuple(map(Month, months)),
-            "month_days": tuple(array.array("b", month_days)),
-            "weekdays": tuple((number, weekday) if number else weekday for number, weekday in pairs),
-            "until": until,
-            "count": count or None,
-        }.items():
-            object.__setattr__(self, name, value)
+        frequency, interval, week_start, until, count, months, month_days, weekdays = \
+            _core.recurrence_parse(self.text)
+        numbers = array.array("b", weekdays[::2])
+        pairs = zip(numbers, (Weekday(weekday - 1) for weekday in weekdays[1::2]))
+        values = (
+            _core.recurrence_text(self.text), Frequency(frequency), interval, week_start,
+            tuple(map(Month, months)), tuple(array.array("b", month_days)),
+            tuple((number, weekday) if number else weekday for number, weekday in pairs),
+            until, count or None)
+        for field, value in zip(dataclasses.fields(self), values):
+            object.__setattr__(self, field.name, value)
 
     def __str__(self) -> str:
         return self.text
@@ -195,7 +256,8 @@ class Recurrence:
 
     def rule(self, start: Date) -> Rule:
         """Returns the rule from a start, without the number of times."""
-        return Rule(start, self.frequency, self.interval, self.week_start, self.months, self.month_days, self.weekdays, self.until)
+        return Rule(start, self.frequency, self.interval, self.week_start, self.months,
+            self.month_days, self.weekdays, self.until)
 
     def days(self, start: Date) -> Iterator[Date]:
         """Iterates over the days from a start to the end."""
@@ -203,7 +265,7 @@ class Recurrence:
 
     def days_from(self, start: Date, date: Date) -> Iterator[Date]:
         """Iterates over the days from a start, without the days before the date."""
-        return self._walk(_is(start, Date), _is(date, Date))
+        return self._walk(check(start, Date), check(date, Date))
 
     def _walk(self, start: Date, date: Date | None) -> Iterator[Date]:
         days = [start] * 64

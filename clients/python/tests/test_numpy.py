@@ -15,22 +15,22 @@ class Numpy(unittest.TestCase):
         days = numpy.array(["2024-02-29", "1969-12-31", "NaT", "-0001-12-31"], dtype="datetime64[D]")
         found = fotsevindre.dates_to_calendar_dates(days)
         self.assertEqual([row for row in zip(*found[:3])], [(2024, 2, 29), (1969, 12, 31), (-2**31, 0, 0), (-1, 12, 31)])
-        self.assertEqual((found.refused, isinstance(fotsevindre.status_error(found.statuses[2]), ValueError)), (1, True))
+        self.assertEqual((found.error_count, isinstance(fotsevindre.status_error(found.statuses[2]), ValueError)), (1, True))
         past = numpy.array([2**62, -2**62, 2**63 - 1], dtype="int64").view("datetime64[D]")
-        self.assertEqual(fotsevindre.dates_weekdays(past).refused, 3)
+        self.assertEqual(fotsevindre.dates_weekdays(past).error_count, 3)
         self.assertTrue((past.view("int64") == [2**62, -2**62, 2**63 - 1]).all())
         every = numpy.arange("1600-01-01", "2400-01-01", 7, dtype="datetime64[D]")
         calendar = fotsevindre.dates_to_calendar_dates(every)
         months = every.astype("datetime64[M]")
-        self.assertEqual(calendar.refused, 0)
+        self.assertEqual(calendar.error_count, 0)
         self.assertTrue((calendar.years == every.astype("datetime64[Y]").astype(int) + 1970).all())
         self.assertTrue((calendar.months == months.astype(int) % 12 + 1).all())
         self.assertTrue((calendar.days == (every - months).astype(int) + 1).all())
 
     def test_days_moved(self):
         days = numpy.array(["2024-02-29", "2024-12-31"], dtype="datetime64[D]")
-        moved, statuses, refused = fotsevindre.dates_add_days(days, numpy.array([1, -366], dtype="timedelta64[D]"))
-        self.assertEqual((refused, moved.dtype, [str(date) for date in moved]), (0, "datetime64[D]", ["2024-03-01", "2023-12-31"]))
+        moved, statuses, error_count = fotsevindre.dates_add_days(days, numpy.array([1, -366], dtype="timedelta64[D]"))
+        self.assertEqual((error_count, moved.dtype, [str(date) for date in moved]), (0, "datetime64[D]", ["2024-03-01", "2023-12-31"]))
         self.assertTrue((moved == days + numpy.array([1, -366])).all())
         numbers = days.astype("int64") + EPOCH
         found = fotsevindre.dates_add_days(numbers, numpy.array([1, -366])).dates
@@ -40,7 +40,7 @@ class Numpy(unittest.TestCase):
         days = numpy.array(["2024-02-29", "NaT", "999999-12-31"], dtype="datetime64[D]")
         for found in (fotsevindre.dates_add_days(days, 1), fotsevindre.dates_add_months(days, numpy.array([1, 1, 1])),
                 fotsevindre.dates_add_workdays(days, [1, 1, 1], fotsevindre.Workdays())):
-            self.assertEqual((found.dates.dtype, list(numpy.isnat(found.dates)), found.refused), ("datetime64[D]", [False, True, True], 2))
+            self.assertEqual((found.dates.dtype, list(numpy.isnat(found.dates)), found.error_count), ("datetime64[D]", [False, True, True], 2))
             self.assertEqual(list(found.statuses), [0, 2, 1])
 
     def test_masks(self):
@@ -61,24 +61,24 @@ class Numpy(unittest.TestCase):
         """Months by numpy's months, and working days by its `busday_offset` and `busday_count`."""
         days = numpy.arange("1990-01-01", "2030-01-01", dtype="datetime64[D]")
         months = numpy.arange(len(days), dtype="int64") % 481 - 240
-        moved, statuses, refused = fotsevindre.dates_add_months(days, months)
+        moved, statuses, error_count = fotsevindre.dates_add_months(days, months)
         starts = days.astype("datetime64[M]") + months.astype("timedelta64[M]")
         lasts = (starts + 1).astype("datetime64[D]") - 1
         wanted = numpy.minimum(starts.astype("datetime64[D]") + (days - days.astype("datetime64[M]")), lasts)
-        self.assertEqual((refused, bool(statuses.any())), (0, False))
+        self.assertEqual((error_count, bool(statuses.any())), (0, False))
         self.assertTrue((moved == wanted).all())
 
         holidays = numpy.arange("1995-01-03", "2025-01-01", 30, dtype="datetime64[D]")
         workdays = fotsevindre.Workdays(holidays=[Date.from_julian_day(int(day) + EPOCH) for day in holidays.view("int64")])
-        moved, statuses, refused = fotsevindre.dates_add_workdays(days, months, workdays)
+        moved, statuses, error_count = fotsevindre.dates_add_workdays(days, months, workdays)
         for roll, back in (("backward", False), ("forward", True)):
             rows = months < 0 if back else months > 0
             wanted = numpy.busday_offset(days[rows], months[rows], roll=roll, holidays=holidays)
             self.assertTrue((moved[rows] == wanted).all())
-        self.assertEqual(refused, 0)
-        numbers, statuses, refused = fotsevindre.dates_workdays_between(days, days + 1000, workdays)
+        self.assertEqual(error_count, 0)
+        numbers, statuses, error_count = fotsevindre.dates_workdays_between(days, days + 1000, workdays)
         self.assertTrue((numbers == numpy.busday_count(days, days + 1000, holidays=holidays)).all())
-        self.assertEqual((refused, statuses.dtype, numbers.dtype), (0, "uint8", "int32"))
+        self.assertEqual((error_count, statuses.dtype, numbers.dtype), (0, "uint8", "int32"))
 
     def test_columns_chain(self):
         """What one call gives is an array of numpy that the next one takes as it lies, also of a refused row."""
@@ -88,16 +88,16 @@ class Numpy(unittest.TestCase):
         made = fotsevindre.dates_from_calendar_dates(years, months, days)
         weeks = fotsevindre.dates_to_iso_week_dates(made.dates)
         self.assertEqual([column.dtype for column in weeks[:-1]], ["int32", "uint8", "uint8", "uint8"])
-        self.assertEqual(([*zip(*weeks[:3])], weeks.refused), ([(-2**31, 0, 255), (2020, 53, 4)], 1))
+        self.assertEqual(([*zip(*weeks[:3])], weeks.error_count), ([(-2**31, 0, 255), (2020, 53, 4)], 1))
         at_once = fotsevindre.calendar_dates_to_iso_week_dates(years, months, days)
         self.assertTrue(all((one == other).all() for one, other in zip(weeks[:3], at_once[:3])))
-        self.assertEqual((list(at_once.statuses), at_once.refused), (list(made.statuses), 1))
+        self.assertEqual((list(at_once.statuses), at_once.error_count), (list(made.statuses), 1))
         self.assertTrue(numpy.shares_memory(numpy.asarray(columns._column(made.dates, "i", True)), made.dates))
 
     def test_whole_numbers_of_any_bits(self):
         for bits in ("int8", "uint8", "int16", "uint16", "int32", "uint32", "int64", "uint64", ">i4", ">u8"):
             found = fotsevindre.dates_from_calendar_dates(*(numpy.array([number, number], dtype=bits) for number in (24, 2, 29)))
-            self.assertEqual((found.refused, Date.from_julian_day(found.dates[1])), (0, Date.from_calendar_date(24, 2, 29)), bits)
+            self.assertEqual((found.error_count, Date.from_julian_day(found.dates[1])), (0, Date.from_calendar_date(24, 2, 29)), bits)
         fits = numpy.array([20], dtype="int32")
         for months in (numpy.array([-1]), numpy.array([2**8])):
             with self.assertRaises(OverflowError):
@@ -109,7 +109,7 @@ class Numpy(unittest.TestCase):
         table = numpy.array([[2451545, 0], [2451546, 0], [2451547, 0]])
         for view, numbers in [(table[:, 0], [2451545, 2451546, 2451547]), (table[::-2, 0], [2451547, 2451545]), (table[:0, 0], [])]:
             found = fotsevindre.dates_from_julian_days(view)
-            self.assertEqual((found.refused, found.dates.dtype, list(found.dates)), (0, "int32", numbers))
+            self.assertEqual((found.error_count, found.dates.dtype, list(found.dates)), (0, "int32", numbers))
         frozen = numpy.array([2451545], dtype="int32")
         frozen.flags.writeable = False
         self.assertEqual(fotsevindre.dates_to_ordinal_dates(frozen).ordinals[0], 1)

@@ -14,10 +14,10 @@ class Pandas(unittest.TestCase):
 
     def test_series_in_and_out(self):
         found = fotsevindre.dates_to_calendar_dates(self.DAYS)
-        self.assertEqual((list(found.years.index), list(found.years), list(found.months), list(found.days), found.refused),
+        self.assertEqual((list(found.years.index), list(found.years), list(found.months), list(found.days), found.error_count),
             (["a", "b", "c"], [2024, -2**31, 2024], [2, 0, 12], [29, 0, 31], 1))
         moved = fotsevindre.dates_add_months(self.DAYS, 1)
-        self.assertEqual((moved.dates.dtype, list(moved.dates.index), moved.refused), ("datetime64[ns]", ["a", "b", "c"], 1))
+        self.assertEqual((moved.dates.dtype, list(moved.dates.index), moved.error_count), ("datetime64[ns]", ["a", "b", "c"], 1))
         self.assertTrue(moved.dates.equals(pandas.Series(pandas.to_datetime(["2024-03-29", None, "2025-01-31"]), index=["a", "b", "c"])))
 
     def test_other_columns(self):

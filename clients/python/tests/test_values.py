@@ -794,10 +794,10 @@ class Columns(Cases):
 
     def row_by_row(self, found, expected):
         """Compares the columns of a call with what the call of one value answers for each row."""
-        *parts, statuses, refused = found
+        *parts, statuses, error_count = found
         weekdays = getattr(found, "weekdays", None)
         self.assertEqual({len(column) for column in (*parts, statuses)}, {len(expected)})
-        self.assertEqual(refused, sum(status != 0 for status in statuses))
+        self.assertEqual(error_count, sum(status != 0 for status in statuses))
         for row, status, (call, fields) in zip(zip(*parts), statuses, expected):
             error = fotsevindre.status_error(status)
             try:
@@ -830,7 +830,7 @@ class Columns(Cases):
         self.row_by_row(fotsevindre.dates_from_iso_week_dates(years, weeks, weekdays),
             [(lambda row=row: Date.from_iso_week_date(*row[:2], Weekday(row[2])), made) for row in zip(years, weeks, weekdays)])
         found = fotsevindre.dates_from_iso_week_dates(years, weeks, array.array("B", [255, 7, 254, 8, 9]))
-        self.assertEqual((found.refused, {type(fotsevindre.status_error(status)) for status in found.statuses}), (5, {ValueError}))
+        self.assertEqual((found.error_count, {type(fotsevindre.status_error(status)) for status in found.statuses}), (5, {ValueError}))
 
     def date_of(self, number):
         """Returns the date of a row, or raises the error that its status names."""
@@ -871,9 +871,9 @@ class Columns(Cases):
                     date, *rest = answer if isinstance(answer, tuple) else (answer,)
                     rest = rest and [(rest[0] - Time.MIDNIGHT).whole_nanoseconds(), rest[1].whole_seconds()]
                     self.assertEqual(found, [date.to_julian_day(), *rest])
-        self.assertEqual((dates.refused, moments.refused), (5, 6))
+        self.assertEqual((dates.error_count, moments.error_count), (5, 6))
         wrong = fotsevindre.dates_parse(b"2024-02-29", array.array("i", [0, 10, 11, 4, -1]))
-        self.assertEqual((list(wrong.statuses), wrong.refused), ([0, 30, 30, 30], 3))
+        self.assertEqual((list(wrong.statuses), wrong.error_count), ([0, 30, 30, 30], 3))
         self.assertEqual(repr(fotsevindre.status_error(30)), "ValueError('invalid bounds; expected ascending positions in the texts')")
         with self.assertRaises(ValueError):
             fotsevindre.dates_parse(b"", array.array("i"))
@@ -883,7 +883,7 @@ class Columns(Cases):
     def test_texts_printed(self):
         printed = fotsevindre.dates_calendar_texts(self.DATES)
         read = fotsevindre.dates_parse(printed.texts, printed.bounds)
-        self.assertEqual((printed.refused, len(printed.bounds)), (read.refused, len(self.DATES) + 1))
+        self.assertEqual((printed.error_count, len(printed.bounds)), (read.error_count, len(self.DATES) + 1))
         for row, number in enumerate(self.DATES):
             text = printed.texts[printed.bounds[row]:printed.bounds[row + 1]].decode()
             if printed.statuses[row] == 0:
@@ -902,7 +902,7 @@ class Columns(Cases):
         made = fotsevindre.dates_from_calendar_dates(*self.CALENDAR)
         for call in (fotsevindre.dates_to_calendar_dates, fotsevindre.dates_to_ordinal_dates, fotsevindre.dates_to_iso_week_dates):
             found = call(made.dates)
-            self.assertEqual(found.refused, made.refused)
+            self.assertEqual(found.error_count, made.error_count)
             back = {3: fotsevindre.dates_from_ordinal_dates}.get(len(found) - 1, fotsevindre.dates_from_calendar_dates)
             back = fotsevindre.dates_from_iso_week_dates if hasattr(found, "weeks") else back
             self.assertEqual(back(*found[:-2]).dates, made.dates)
@@ -911,11 +911,11 @@ class Columns(Cases):
 
     def test_many_refusals_are_counted(self):
         found = fotsevindre.dates_from_julian_days(array.array("q", [2**40] * 100_000))
-        self.assertEqual((found.refused, set(found.statuses), set(found.dates)), (100_000, {18}, {-2**31}))
+        self.assertEqual((found.error_count, set(found.statuses), set(found.dates)), (100_000, {18}, {-2**31}))
 
     def test_dates_moved(self):
         days = array.array("q", [0, -1, 1, 1, 1, 2**63 - 1, 1, -2**63, *range(-1000, 1000)])
-        moved, statuses, refused = fotsevindre.dates_add_days(self.DATES, days)
+        moved, statuses, error_count = fotsevindre.dates_add_days(self.DATES, days)
         for later, status, date, move in zip(moved, statuses, self.DATES, days):
             if not -363521074 <= date <= 366963559:
                 self.assertIsInstance(fotsevindre.status_error(status), ValueError)
@@ -923,7 +923,7 @@ class Columns(Cases):
                 self.assertIsInstance(fotsevindre.status_error(status), OverflowError)
             else:
                 self.assertEqual((status, later), (0, date + move))
-        self.assertEqual(refused, sum(status != 0 for status in statuses))
+        self.assertEqual(error_count, sum(status != 0 for status in statuses))
 
     def test_schedule(self):
         """Months and working days, each row against the call of one value."""
@@ -934,7 +934,7 @@ class Columns(Cases):
             (fotsevindre.dates_add_months, Date.checked_add_months, ()),
             (fotsevindre.dates_add_workdays, workdays.checked_add_workdays, (workdays,)),
         ]:
-            moved, statuses, refused = over_columns(self.DATES, moves, *taken)
+            moved, statuses, error_count = over_columns(self.DATES, moves, *taken)
             for later, status, date, move in zip(moved, statuses, self.DATES, moves):
                 error = fotsevindre.status_error(status)
                 if not -363521074 <= date <= 366963559:
@@ -942,16 +942,16 @@ class Columns(Cases):
                     continue
                 one = of_one(Date.from_julian_day(date), move)
                 self.assertEqual((later, type(error)), (-2**31, OverflowError) if one is None else (one.to_julian_day(), type(None)))
-            self.assertEqual(refused, sum(status != 0 for status in statuses))
-            self.assertTrue(0 < refused < len(moves))
+            self.assertEqual(error_count, sum(status != 0 for status in statuses))
+            self.assertTrue(0 < error_count < len(moves))
         others = array.array("i", reversed(self.DATES))
-        numbers, statuses, refused = fotsevindre.dates_workdays_between(self.DATES, others, workdays)
+        numbers, statuses, error_count = fotsevindre.dates_workdays_between(self.DATES, others, workdays)
         for number, status, date, other in zip(numbers, statuses, self.DATES, others):
             if -363521074 <= min(date, other) and max(date, other) <= 366963559:
                 self.assertEqual((number, status), (workdays.workdays_between(Date.from_julian_day(date), Date.from_julian_day(other)), 0))
             else:
                 self.assertEqual((number, type(fotsevindre.status_error(status))), (-2**31, ValueError))
-        self.assertEqual(refused, sum(status != 0 for status in statuses))
+        self.assertEqual(error_count, sum(status != 0 for status in statuses))
         for wrong in (None, 31, [1]):
             with self.assertRaises(TypeError):
                 fotsevindre.dates_add_workdays(self.DATES, moves, wrong)
@@ -964,7 +964,7 @@ class Columns(Cases):
         for values in (whole, memoryview(whole), memoryview(whole)[1:3], memoryview(whole).toreadonly(), (ctypes.c_int64 * 2)(0, 1),
                 array.array("q"), memoryview(b"").cast("q"), unaligned):
             found = fotsevindre.dates_from_julian_days(values)
-            self.assertEqual((found.refused, list(found.dates)), (0, list(values)))
+            self.assertEqual((found.error_count, list(found.dates)), (0, list(values)))
         self.assertEqual(list(whole), list(range(2451545, 2451550)))
         self.assertEqual([column.typecode for column in fotsevindre.dates_from_julian_days(whole)[:2]], ["i", "B"])
         copied = columns._column(unaligned, "q", False)
@@ -975,7 +975,7 @@ class Columns(Cases):
         """Whole numbers of other bits, and in other steps, are taken where they fit."""
         for code in "bBhHiIlLqQ":
             found = fotsevindre.dates_from_julian_days(array.array(code, [1, 2, 100]))
-            self.assertEqual((found.refused, list(found.dates)), (0, [1, 2, 100]), code)
+            self.assertEqual((found.error_count, list(found.dates)), (0, [1, 2, 100]), code)
         steps = memoryview(array.array("q", [1, 2, 3, 4]))
         for view, numbers in [(steps[::2], [1, 3]), (steps[::-1], [4, 3, 2, 1])]:
             self.assertEqual(list(fotsevindre.dates_from_julian_days(view).dates), numbers)
@@ -1005,6 +1005,11 @@ class Statuses(Cases):
         messages = {number: str(fotsevindre.status_error(number)) for number in range(1, 69)}
         self.assertEqual([number for number, text in messages.items() if text != f"unknown status {number}"], [*range(1, 37), *range(64, 68)])
         self.assertEqual(messages[14], "holidays must be in ascending order, without duplicates")
+        header = (pathlib.Path(__file__).resolve().parents[3] / "include/fotsevindre.h").read_text(encoding="utf-8")
+        names = dict(re.findall(r"    FOTS_(\w+) = (\d+)", header.split("enum fots_status {")[1].split("};")[0]))
+        texts = [messages[int(number)] for name, number in names.items() if number != "0"]
+        self.assertEqual((len(texts), len(set(texts))), (40, 40))
+        self.assertTrue(all(len(text.split()) >= 4 for text in texts), texts)
 
 
 class Documentation(Cases):

@@ -1,0 +1,340 @@
+/* The values of Python, and what converts from and to them. module.c includes the files of the
+ * extension in one unit, so that their functions are static and need no declarations. */
+#include <stdio.h>
+#include <stdlib.h>
+#include <string.h>
+
+#ifndef Py_LIMITED_API
+#define Py_LIMITED_API 0x030A0000
+#endif
+#include <Python.h>
+
+#include "fotsevindre.h"
+
+/* A value of each type except Workdays. A date-time is a moment, of which the date is the first
+ * field, so DATE is right for it, too. A PlainDateTime has the offset 0. */
+typedef struct Value {
+    PyObject_HEAD
+    union {
+        fots_date date;
+        fots_time time;
+        fots_offset offset;
+        fots_duration duration;
+        fots_moment moment;
+    };
+} Value;
+
+typedef struct WorkdaysObject {
+    PyObject_HEAD
+    uint32_t weekmask;
+    size_t length;
+    const fots_date *holidays;
+    PyObject *bytes;
+} WorkdaysObject;
+
+/* The size of a value with a field, which takes 8 or 16 bytes. */
+#define SIZE_OF(field) (offsetof(Value, field) + (sizeof(((Value *)0)->field) + 7) / 8 * 8)
+#define VALUE(object) ((Value *)(object))
+#define DATE(object) (VALUE(object)->date)
+#define TIME(object) (VALUE(object)->time)
+#define OFFSET(object) (VALUE(object)->offset)
+#define DURATION(object) (VALUE(object)->duration)
+#define MOMENT(object) (VALUE(object)->moment)
+
+/* What a module has in one interpreter: the types in the order of types.pyi, and then the arguments
+ * of setup. All fields are pointers to objects. */
+typedef struct State {
+    PyTypeObject *date, *time, *offset, *duration, *plain, *moment, *workdays;
+    PyObject *weekday, *convention, *day_count, *period, *year_fraction, *status_error, *timedelta;
+    PyObject *months[12], *weekdays[7];
+} State;
+
+static inline const State *state_of_type(PyTypeObject *type) { return PyType_GetModuleState(type); }
+static inline const State *state_of(PyObject *self) { return state_of_type(Py_TYPE(self)); }
+static inline const State *state_of_module(PyObject *module) { return PyModule_GetState(module); }
+
+static inline PyObject *new_reference(PyObject *object)
+{
+    Py_INCREF(object);
+    return object;
+}
+#define UNUSED(name) PyObject *Py_UNUSED(name)
+
+/* ---- arguments: each function converts one, or returns 0 after it has raised an error */
+
+static int wrong_kind(PyObject *object, PyObject *type)
+{
+    PyObject *expected = PyObject_GetAttrString(type, "__name__");
+    PyObject *found = PyObject_GetAttrString((PyObject *)Py_TYPE(object), "__name__");
+    if (expected && found) {
+        PyErr_Format(PyExc_TypeError, "expected %U, not %U", expected, found);
+    }
+    Py_XDECREF(expected);
+    Py_XDECREF(found);
+    return 0;
+}
+
+static int is_kind(PyObject *object, const void *type)
+{
+    return Py_TYPE(object) == type || wrong_kind(object, (PyObject *)type);
+}
+
+static int is_count(const char *name, Py_ssize_t count, Py_ssize_t expected)
+{
+    if (count != expected) {
+        PyErr_Format(
+            PyExc_TypeError, "%s() takes %zd arguments (%zd given)", name, expected, count);
+    }
+    return count == expected;
+}
+
+#define TO_VALUE(name, field) \
+    static int to_##name(const State *state, PyObject *object, fots_##field *value) \
+    { \
+        if (!is_kind(object, state->name)) { \
+            return 0; \
+        } \
+        *value = VALUE(object)->field; \
+        return 1; \
+    }
+TO_VALUE(date, date)
+TO_VALUE(time, time)
+TO_VALUE(offset, offset)
+TO_VALUE(duration, duration)
+TO_VALUE(plain, moment)
+
+/* Converts a member of an enum. */
+static int to_member(PyObject *type, PyObject *object, uint32_t *number)
+{
+    if (!is_kind(object, type)) {
+        return 0;
+    }
+    *number = (uint32_t)PyLong_AsLong(object);
+    return 1;
+}
+
+/* Monday is 0 in Python, and 1 in C. */
+static int to_weekday(const State *state, PyObject *object, uint32_t *number)
+{
+    return to_member(state->weekday, object, number) && ++*number;
+}
+
+/* Converts an int, and sets overflow to its sign if 64 bits don't hold it. */
+static int to_wide(PyObject *object, int64_t *number, int *overflow)
+{
+    PyObject *index = PyLong_Check(object) ? new_reference(object) : PyNumber_Index(object);
+    *overflow = 0;
+    if (!index) {
+        return 0;
+    }
+    *number = PyLong_AsLongLongAndOverflow(index, overflow);
+    Py_DECREF(index);
+    return *number != -1 || *overflow || !PyErr_Occurred();
+}
+
+/* Converts an int to the nearest number from minimum to maximum. If it must fit, others raise
+ * OverflowError. */
+static int to_number(PyObject *object, int must_fit, int64_t minimum, int64_t maximum,
+    int64_t *number)
+{
+    int overflow;
+    if (!to_wide(object, number, &overflow)) {
+        return 0;
+    }
+    if (must_fit && (overflow || *number < minimum || *number > maximum)) {
+        PyErr_Format(PyExc_OverflowError, "%S is out of range; expected %lld to %lld", object,
+            (long long)minimum, (long long)maximum);
+        return 0;
+    }
+    if (overflow < 0 || (!overflow && *number < minimum)) {
+        *number = minimum;
+    } else if (overflow || *number > maximum) {
+        *number = maximum;
+    }
+    return 1;
+}
+
+/* A negative int becomes the maximum of uint32_t, which no call takes. */
+#define TO_INT(name, type, must_fit, minimum, maximum) \
+    static int name(const State *state, PyObject *object, type *number) \
+    { \
+        int64_t wide; \
+        (void)state; \
+        if (!to_number(object, must_fit, minimum, maximum, &wide)) { \
+            return 0; \
+        } \
+        *number = (type)wide; \
+        return 1; \
+    }
+TO_INT(to_int32, int32_t, 0, INT32_MIN, INT32_MAX)
+TO_INT(to_int64, int64_t, 0, INT64_MIN, INT64_MAX)
+TO_INT(to_uint32, uint32_t, 0, -1, UINT32_MAX)
+TO_INT(fit_int32, int32_t, 1, INT32_MIN, INT32_MAX)
+TO_INT(fit_int64, int64_t, 1, INT64_MIN, INT64_MAX)
+TO_INT(fit_uint32, uint32_t, 1, 0, UINT32_MAX)
+
+/* A text in bytes, of which a lone surrogate is a wrong one. Every byte before the first wrong one
+ * is ASCII, so its position is the same among the characters. */
+typedef struct Text {
+    PyObject *bytes;
+    const char *start;
+    size_t length;
+} Text;
+
+/* Converts a str. The caller releases `bytes`, if there are any. */
+static int to_text(const State *state, PyObject *object, Text *text)
+{
+    Py_ssize_t size = 0;
+    (void)state;
+    if (!PyUnicode_Check(object)) {
+        return is_kind(object, &PyUnicode_Type);
+    }
+    text->start = PyUnicode_AsUTF8AndSize(object, &size);
+    if (!text->start) {
+        PyErr_Clear();
+        text->bytes = PyUnicode_AsEncodedString(object, "utf-8", "surrogatepass");
+        text->start = text->bytes ? PyBytes_AsString(text->bytes) : NULL;
+        size = text->bytes ? PyBytes_Size(text->bytes) : 0;
+    }
+    text->length = (size_t)size;
+    return text->start != NULL;
+}
+
+/* ---- results */
+
+static PyObject *raised(PyObject *error)
+{
+    if (error) {
+        PyErr_SetObject((PyObject *)Py_TYPE(error), error);
+        Py_DECREF(error);
+    }
+    return NULL;
+}
+
+static PyObject *raise_status(const State *state, int32_t status)
+{
+    return raised(PyObject_CallFunction(state->status_error, "i", (int)status));
+}
+
+static PyObject *raise_position(const State *state, int32_t status, size_t position, uint32_t part)
+{
+    return raised(PyObject_CallFunction(state->status_error, "inI", (int)status,
+        (Py_ssize_t)position, (unsigned)part));
+}
+
+#define NEW(field, parameter, type) \
+    static PyObject *new_##field(parameter, fots_##field value) \
+    { \
+        Value *object = PyObject_New(Value, type); \
+        if (object) { \
+            object->field = value; \
+        } \
+        return (PyObject *)object; \
+    }
+NEW(date, const State *state, state->date)
+NEW(time, const State *state, state->time)
+NEW(offset, const State *state, state->offset)
+NEW(duration, const State *state, state->duration)
+NEW(moment, PyTypeObject *type, type)
+
+/* Returns the year, the Month and the day, quicker than Py_BuildValue. */
+static PyObject *tuple_of(const State *state, fots_calendar_date_result date)
+{
+    PyObject *year = PyLong_FromLong(date.year), *day = PyLong_FromUnsignedLong(date.day);
+    PyObject *month = state->months[date.month - 1];
+    PyObject *tuple = year && day ? PyTuple_Pack(3, year, month, day) : NULL;
+    Py_XDECREF(year);
+    Py_XDECREF(day);
+    return tuple;
+}
+
+/* A function that makes a value of a result, or raises its error. */
+#define OF(name, type, value) \
+    static PyObject *of_##name(const State *state, fots_##type##_result result) \
+    { \
+        return result.status ? raise_status(state, result.status) : value; \
+    }
+OF(date, date, new_date(state, result.date))
+OF(time, time, new_time(state, result.time))
+OF(adjusted_time, adjusted_time,
+    Py_BuildValue("iN", (int)result.carry, new_time(state, result.time)))
+OF(hms, hms_nano, Py_BuildValue("III", result.hour, result.minute, result.second))
+OF(hms_milli, hms_nano, Py_BuildValue("IIII", result.hour, result.minute, result.second,
+    result.nanosecond / 1000000))
+OF(hms_micro, hms_nano, Py_BuildValue("IIII", result.hour, result.minute, result.second,
+    result.nanosecond / 1000))
+OF(hms_nano, hms_nano, Py_BuildValue("IIII", result.hour, result.minute, result.second,
+    result.nanosecond))
+OF(offset, offset, new_offset(state, result.offset))
+OF(offset_hms, offset_hms,
+    Py_BuildValue("iii", (int)result.hours, (int)result.minutes, (int)result.seconds))
+OF(duration, duration, new_duration(state, result.duration))
+OF(pair, pair, Py_BuildValue("NN", new_date(state, result.date), new_time(state, result.time)))
+OF(number, number, PyLong_FromLong(result.number))
+OF(int64, int64, PyLong_FromLongLong(result.number))
+OF(component, component, PyLong_FromUnsignedLong(result.number))
+OF(bool, component, PyBool_FromLong((long)result.number))
+OF(month, component, new_reference(state->months[result.number - 1]))
+OF(weekday, component, new_reference(state->weekdays[result.number - 1]))
+OF(text, text, PyUnicode_FromStringAndSize(result.bytes, (Py_ssize_t)result.length))
+OF(calendar_date, calendar_date, tuple_of(state, result))
+OF(ordinal_date, ordinal_date, Py_BuildValue("iI", (int)result.year, (unsigned)result.ordinal))
+OF(iso_week_date, iso_week_date, Py_BuildValue("iIO", (int)result.year, (unsigned)result.week,
+    state->weekdays[result.weekday - 1]))
+OF(period, period, PyObject_CallFunction(state->period, "iii", (int)result.years,
+    (int)result.months, (int)result.days))
+OF(year_fraction, year_fraction, PyObject_CallFunction(state->year_fraction, "LI",
+    (long long)result.numerator, (unsigned)result.denominator))
+
+static PyObject *of_moment(const State *state, PyTypeObject *type, fots_moment_result result)
+{
+    return result.status ? raise_status(state, result.status) : new_moment(type, result.moment);
+}
+
+static PyObject *new_bytes(const void *start, size_t size)
+{
+    return PyBytes_FromStringAndSize(start, (Py_ssize_t)size);
+}
+
+/* Returns the numbers of a recurrence: frequency, interval, week_start, until, count, and bytes
+ * for its lists. */
+static PyObject *parts_of_recurrence(const State *state, const fots_recurrence *found)
+{
+    PyObject *until = found->until.julian_day == FOTS_NO_VALUE ? new_reference(Py_None) :
+        new_date(state, found->until);
+    return Py_BuildValue("IIONINNN", (unsigned)found->frequency, (unsigned)found->interval,
+        state->weekdays[found->week_start - 1], until, (unsigned)found->count,
+        new_bytes(found->months, found->months_length),
+        new_bytes(found->month_days, found->month_days_length),
+        new_bytes(found->weekdays, found->weekdays_length * sizeof(fots_rule_weekday)));
+}
+
+/* A function that makes a value of what was parsed, or raises its error. */
+#define OF_PARSED(name, type, part, value) \
+    static PyObject *of_##name(const State *state, fots_##type##_result result) \
+    { \
+        return !result.status ? value : \
+            raise_position(state, result.status, result.position, part); \
+    }
+OF_PARSED(parse_date, parse_date, 0, new_date(state, result.date))
+OF_PARSED(parse_moment, parse_moment, 0, Py_BuildValue("NNN", new_date(state, result.date),
+    new_time(state, result.time), new_offset(state, result.offset)))
+OF_PARSED(parse_pair, parse_moment, 0,
+    Py_BuildValue("NN", new_date(state, result.date), new_time(state, result.time)))
+OF_PARSED(parse_recurrence, parse_recurrence, result.part,
+    parts_of_recurrence(state, &result.recurrence))
+OF_PARSED(recurrence_text, recurrence_text, result.part,
+    PyUnicode_FromStringAndSize(result.bytes, (Py_ssize_t)result.length))
+
+static PyObject *list_of(const State *state, const fots_date *days, size_t length)
+{
+    PyObject *list = PyList_New((Py_ssize_t)length), *date;
+    size_t index;
+    for (index = 0; list && index < length; index++) {
+        date = new_date(state, days[index]);
+        if (!date || PyList_SetItem(list, (Py_ssize_t)index, date)) {
+            Py_CLEAR(list);
+        }
+    }
+    return list;
+}

@@ -1,0 +1,148 @@
+/* Members of the values that aren't one call of C. The code in members.h calls those with types of
+ * C. */
+
+static void value_free(PyObject *self)
+{
+    PyTypeObject *type = Py_TYPE(self);
+    PyObject_Free(self);
+    Py_DECREF(type);
+}
+
+static int32_t date_to_julian_day(fots_date date) { return date.julian_day; }
+
+/* ---- times */
+
+/* Prints the time with nine digits below the second, and returns the length. */
+static int print_time(PyObject *self, char *bytes, size_t size, const char *format)
+{
+    fots_hms_nano_result clock = fots_time_as_hms_nano(TIME(self));
+    return snprintf(bytes, size, format, (unsigned)clock.hour, (unsigned)clock.minute,
+        (unsigned)clock.second, (unsigned)clock.nanosecond);
+}
+
+/* Returns the text, such as 9:05:00.12. */
+static PyObject *time_string(PyObject *self)
+{
+    char bytes[64];
+    int length = print_time(self, bytes, sizeof bytes, "%u:%02u:%02u.%09u");
+    while (bytes[length - 1] == '0' && bytes[length - 2] != '.') {
+        length--;
+    }
+    return PyUnicode_FromStringAndSize(bytes, length);
+}
+
+static PyObject *time_isoformat(PyObject *self, UNUSED(none))
+{
+    char bytes[64];
+    int length = print_time(self, bytes, sizeof bytes, "%02u:%02u:%02u.%09u");
+    uint32_t nanosecond = fots_time_nanosecond(TIME(self)).number;
+    length -= !nanosecond ? 10 : nanosecond % 1000 ? 0 : 3;
+    return PyUnicode_FromStringAndSize(bytes, length);
+}
+
+/* ---- offsets */
+
+static int32_t offset_whole_seconds(fots_offset offset) { return offset.seconds; }
+static uint32_t offset_is_utc(fots_offset offset) { return offset.seconds == 0; }
+static uint32_t offset_is_positive(fots_offset offset) { return offset.seconds > 0; }
+static uint32_t offset_is_negative(fots_offset offset) { return offset.seconds < 0; }
+
+/* Returns the text, such as -05:30:00. */
+static PyObject *offset_string(PyObject *self)
+{
+    int seconds = OFFSET(self).seconds, size = abs(seconds);
+    char bytes[32];
+    int length = snprintf(bytes, sizeof bytes, "%c%02d:%02d:%02d", seconds < 0 ? '-' : '+',
+        size / 3600, size / 60 % 60, size % 60);
+    return PyUnicode_FromStringAndSize(bytes, length);
+}
+
+/* ---- durations */
+
+/* Sums up the units. A sum of 128 bits holds every one. */
+static fots_duration_result duration_create(int64_t weeks, int64_t days, int64_t hours,
+    int64_t minutes, int64_t seconds, int64_t milliseconds, int64_t microseconds,
+    int64_t nanoseconds)
+{
+    const __int128 second = 1000000000;
+    __int128 sum = second * 604800 * weeks + second * 86400 * days + second * 3600 * hours +
+        second * 60 * minutes + second * seconds + (__int128)1000000 * milliseconds +
+        (__int128)1000 * microseconds + nanoseconds;
+    fots_duration_result outside = {FOTS_RESULT_OUT_OF_RANGE, {0, 0}};
+    __int128 whole = sum / second;
+    return whole < INT64_MIN || whole > INT64_MAX ? outside :
+        fots_duration_new((int64_t)whole, (int32_t)(sum % second));
+}
+
+static int sign_of(fots_duration duration)
+{
+    return duration.seconds ? (duration.seconds > 0) - (duration.seconds < 0) :
+        (duration.nanoseconds > 0) - (duration.nanoseconds < 0);
+}
+
+static uint32_t duration_is_zero(fots_duration duration) { return sign_of(duration) == 0; }
+static uint32_t duration_is_negative(fots_duration duration) { return sign_of(duration) < 0; }
+static uint32_t duration_is_positive(fots_duration duration) { return sign_of(duration) > 0; }
+static int32_t duration_subsec_nanoseconds(fots_duration duration) { return duration.nanoseconds; }
+
+static unsigned long long magnitude(int64_t number)
+{
+    return number < 0 ? -(unsigned long long)number : (unsigned long long)number;
+}
+
+/* Returns the text, such as -1d2h3m4s5ms. */
+static PyObject *duration_string(PyObject *self)
+{
+    static const char *const names[] = {"d", "h", "m", "s", "ms", "\xc2\xb5s", "ns"};
+    unsigned long long seconds = magnitude(DURATION(self).seconds);
+    unsigned long long below = magnitude(DURATION(self).nanoseconds);
+    unsigned long long numbers[] = {seconds / 86400, seconds / 3600 % 24, seconds / 60 % 60,
+        seconds % 60, below / 1000000, below / 1000 % 1000, below % 1000};
+    char bytes[80] = "-";
+    int length = sign_of(DURATION(self)) < 0, unit;
+    for (unit = 0; unit < 7; unit++) {
+        if (numbers[unit]) {
+            length += snprintf(bytes + length, sizeof bytes - (size_t)length, "%llu%s",
+                numbers[unit], names[unit]);
+        }
+    }
+    return length ? PyUnicode_FromStringAndSize(bytes, length) : PyUnicode_FromString("0s");
+}
+
+/* ---- date-times */
+
+static const fots_offset utc = {0};
+
+static fots_date moment_date(fots_moment moment) { return moment.date; }
+static fots_time moment_time(fots_moment moment) { return moment.time; }
+static fots_offset moment_offset(fots_moment moment) { return moment.offset; }
+static fots_moment plain_assume_utc(fots_moment moment) { return moment; }
+
+static fots_moment moment_replace_date(fots_moment moment, fots_date date)
+{
+    moment.date = date;
+    return moment;
+}
+
+static fots_moment moment_replace_time(fots_moment moment, fots_time time)
+{
+    moment.time = time;
+    return moment;
+}
+
+static fots_moment moment_replace_date_time(fots_moment moment, fots_moment date_time)
+{
+    date_time.offset = moment.offset;
+    return date_time;
+}
+
+static fots_moment moment_local(fots_moment moment)
+{
+    moment.offset = utc;
+    return moment;
+}
+
+static fots_moment_result moment_to_utc(fots_moment moment)
+{
+    return fots_moment_to_offset(moment, utc);
+}
