@@ -23,13 +23,15 @@ fn a_walk_over_a_new_year(rt: HostRuntime) {
     let (first, last) = (date(&rt, 2019, 12, 30), date(&rt, 2020, 1, 2));
     let mut walk = DateIter::new(first, last);
     assert!(rt; walk == first.iter_to(last));
-    let found = (walk.len(), count_items(DateIter::new(first, last)));
-    same(&rt, found, (4, 4));
+    same(&rt, walk.len(), 4);
+    same(&rt, count_items(DateIter::new(first, last)), 4);
     same(&rt, walk.nth_back(2), Some(date(&rt, 2019, 12, 31)));
-    same(&rt, (walk.len(), walk.size_hint()), (1, (1, Some(1))));
+    same(&rt, walk.len(), 1);
+    same(&rt, walk.size_hint(), (1, Some(1)));
     same(&rt, walk.clone().next(), Some(first));
     same(&rt, walk.nth(usize::MAX), None);
-    same(&rt, (walk.next(), walk.next_back()), (None, None));
+    same(&rt, walk.next(), None);
+    same(&rt, walk.next_back(), None);
 }
 
 #[test]
@@ -50,9 +52,9 @@ fn walks_past_the_ends_of_a_year(rt: HostRuntime) {
     let (first, last) = (date(&rt, 2019, 1, 1), date(&rt, 2020, 3, 1));
     let (eve, new_year) = (date(&rt, 2019, 12, 31), date(&rt, 2020, 1, 1));
     let mut walk = first.iter_to(last);
-    let found = (walk.nth(364), walk.next());
-    same(&rt, found, (Some(eve), Some(new_year)));
+    same(&rt, walk.nth(364), Some(eve));
+    same(&rt, walk.next(), Some(new_year));
     let mut walk = first.iter_to(last);
-    let found = (walk.nth_back(60), walk.next_back());
-    same(&rt, found, (Some(new_year), Some(eve)));
+    same(&rt, walk.nth_back(60), Some(new_year));
+    same(&rt, walk.next_back(), Some(eve));
 }
