@@ -187,6 +187,20 @@ pub(super) fn check_quotient(
     }
 }
 
+/// Checks a product and a quotient, each by two calls.
+pub(super) fn check_twice(
+    rt: &impl Abort,
+    scaled: [SignedDuration; 4],
+    product: i128,
+    quotient: i128,
+) {
+    let [first_product, first_quotient, other_product, other_quotient] = scaled;
+    same(rt, first_product.number(), product);
+    same(rt, first_quotient.number(), quotient);
+    same(rt, other_product.number(), product);
+    same(rt, other_quotient.number(), quotient);
+}
+
 #[test]
 fn sums_and_differences(rt: HostRuntime) {
     let (min, max) = (SignedDuration::MIN, SignedDuration::MAX);

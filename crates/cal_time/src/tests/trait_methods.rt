@@ -141,14 +141,9 @@ fn check_next(rt: &impl Abort, by_name: &mut DateIter, by_bound: &mut DateIter, 
 }
 
 /// Checks the next item from the back in the same way.
-fn check_next_back(
-    rt: &impl Abort,
-    by_name: &mut DateIter,
-    by_bound: &mut DateIter,
-    day: Option<Date>,
-) {
-    same(rt, by_name.next_back(), day);
-    same(rt, next_back(by_bound), day);
+fn check_next_back(rt: &impl Abort, by_name: &mut DateIter, by_bound: &mut DateIter, day: Date) {
+    same(rt, by_name.next_back(), Some(day));
+    same(rt, next_back(by_bound), Some(day));
     assert!(rt; *by_name == *by_bound);
 }
 
@@ -161,10 +156,12 @@ fn walks(rt: HostRuntime) {
     check_next(&rt, &mut by_name, &mut by_bound, between);
     check_next(&rt, &mut by_name, &mut by_bound, last);
     let (mut by_name, mut by_bound) = (DateIter::new(first, last), DateIter::new(first, last));
-    check_next_back(&rt, &mut by_name, &mut by_bound, Some(last));
-    check_next_back(&rt, &mut by_name, &mut by_bound, Some(between));
-    check_next_back(&rt, &mut by_name, &mut by_bound, Some(first));
-    check_next_back(&rt, &mut by_name, &mut by_bound, None);
+    check_next_back(&rt, &mut by_name, &mut by_bound, last);
+    check_next_back(&rt, &mut by_name, &mut by_bound, between);
+    check_next_back(&rt, &mut by_name, &mut by_bound, first);
+    same(&rt, by_name.next_back(), None);
+    same(&rt, next_back(&mut by_bound), None);
+    assert!(rt; by_name == by_bound);
 }
 
 fn check_errors(rt: &impl Abort, a: ComponentRange, b: ComponentRange) {

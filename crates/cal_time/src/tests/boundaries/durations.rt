@@ -3,7 +3,7 @@ use crate::tests::boundaries::{DAY, HOUR, MINUTE, SECOND};
 use crate::tests::conditions::scaled_by_u32;
 use crate::tests::durations::{
     GREATEST, LEAST, check_difference, check_number, check_opposite, check_product, check_quotient,
-    check_sum, clamped,
+    check_sum, check_twice, clamped,
 };
 use crate::tests::{same, same_at};
 use crate::{Counted, SignedDuration, extent, is_rising};
@@ -30,7 +30,7 @@ pub(super) fn ends() -> [(SignedDuration, i128); 9] {
     ]
 }
 
-fn check_pair(rt: &impl Abort, (a, x): (SignedDuration, i128), (b, y): (SignedDuration, i128)) {
+fn check_pair(rt: &impl Abort, a: SignedDuration, x: i128, b: SignedDuration, y: i128) {
     check_sum(rt, a, b, x.saturating_add(y));
     check_difference(rt, a, b, x.saturating_sub(y));
     same_at(rt, (x, y), a.cmp(&b), x.cmp(&y));
@@ -39,9 +39,9 @@ fn check_pair(rt: &impl Abort, (a, x): (SignedDuration, i128), (b, y): (SignedDu
 
 #[test]
 fn sums_and_differences(rt: HostRuntime) {
-    for one in ends() {
-        for other in ends() {
-            check_pair(&rt, one, other);
+    for (a, x) in ends() {
+        for (b, y) in ends() {
+            check_pair(&rt, a, x, b, y);
         }
     }
 }
@@ -125,15 +125,6 @@ fn products_and_quotients(rt: HostRuntime) {
             check_operands(&rt, a, x, k);
         }
     }
-}
-
-/// Checks a product and a quotient, each by two calls.
-fn check_twice(rt: &impl Abort, scaled: [SignedDuration; 4], product: i128, quotient: i128) {
-    let [first_product, first_quotient, other_product, other_quotient] = scaled;
-    same(rt, first_product.number(), product);
-    same(rt, first_quotient.number(), quotient);
-    same(rt, other_product.number(), product);
-    same(rt, other_quotient.number(), quotient);
 }
 
 // A number above 2147483647 has no checked call, so these rows meet the conditions without a test.
