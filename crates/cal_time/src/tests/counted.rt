@@ -32,14 +32,15 @@ fn floors_by_their_numbers(rt: HostRuntime) {
 
 #[test]
 fn slices_of_floors(rt: HostRuntime) {
+    let rt = &rt;
     let (low, high) = (Floor(-3), Floor(7));
-    same(&rt, extent::<Floor>(&[]), None);
-    same(&rt, extent(&[Floor(4)]), Some((Floor(4), Floor(4))));
+    same(rt, extent::<Floor>(&[]), None);
+    same(rt, extent(&[Floor(4)]), Some((Floor(4), Floor(4))));
     let found = extent(&[Floor(1), low, high, Floor(0)]);
-    same(&rt, found, Some((low, high)));
-    assert!(rt; is_rising::<Floor>(&[]));
-    assert!(rt; is_rising(&[Floor(2)]));
-    assert!(rt; is_rising(&[Floor(-1), Floor(0), Floor(5)]));
-    assert!(rt; !is_rising(&[Floor(-1), Floor(0), Floor(0)]));
-    assert!(rt; !is_rising(&[Floor(-1), Floor(5), Floor(0)]));
+    same(rt, found, Some((low, high)));
+    same(rt, is_rising::<Floor>(&[]), true);
+    same(rt, is_rising(&[Floor(2)]), true);
+    same(rt, is_rising(&[Floor(-1), Floor(0), Floor(5)]), true);
+    same(rt, is_rising(&[Floor(-1), Floor(0), Floor(0)]), false);
+    same(rt, is_rising(&[Floor(-1), Floor(5), Floor(0)]), false);
 }

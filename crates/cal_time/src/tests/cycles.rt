@@ -14,14 +14,15 @@ fn check_year(rt: &impl Abort, year: i32, is_leap: bool, days: u16, weeks: u8) {
 
 #[test]
 fn years_have_their_lengths(rt: HostRuntime) {
-    check_year(&rt, i32::MIN, true, 366, 52);
-    check_year(&rt, 1900, false, 365, 52);
-    check_year(&rt, 2000, true, 366, 52);
-    check_year(&rt, 2019, false, 365, 52);
-    check_year(&rt, 2020, true, 366, 53);
-    check_year(&rt, 9998, false, 365, 53);
-    check_year(&rt, 9999, false, 365, 52);
-    check_year(&rt, i32::MAX, false, 365, 52);
+    let rt = &rt;
+    check_year(rt, i32::MIN, true, 366, 52);
+    check_year(rt, 1900, false, 365, 52);
+    check_year(rt, 2000, true, 366, 52);
+    check_year(rt, 2019, false, 365, 52);
+    check_year(rt, 2020, true, 366, 53);
+    check_year(rt, 9998, false, 365, 53);
+    check_year(rt, 9999, false, 365, 52);
+    check_year(rt, i32::MAX, false, 365, 52);
 }
 
 /// Checks the number of days of a month by each call.
@@ -48,18 +49,19 @@ fn check_month(rt: &impl Abort, month: Month, name: &str, number: u8, common: u8
 
 #[test]
 fn months_have_names_numbers_and_lengths(rt: HostRuntime) {
-    check_month(&rt, Month::January, "January", 1, 31, 31);
-    check_month(&rt, Month::February, "February", 2, 28, 29);
-    check_month(&rt, Month::March, "March", 3, 31, 31);
-    check_month(&rt, Month::April, "April", 4, 30, 30);
-    check_month(&rt, Month::May, "May", 5, 31, 31);
-    check_month(&rt, Month::June, "June", 6, 30, 30);
-    check_month(&rt, Month::July, "July", 7, 31, 31);
-    check_month(&rt, Month::August, "August", 8, 31, 31);
-    check_month(&rt, Month::September, "September", 9, 30, 30);
-    check_month(&rt, Month::October, "October", 10, 31, 31);
-    check_month(&rt, Month::November, "November", 11, 30, 30);
-    check_month(&rt, Month::December, "December", 12, 31, 31);
+    let rt = &rt;
+    check_month(rt, Month::January, "January", 1, 31, 31);
+    check_month(rt, Month::February, "February", 2, 28, 29);
+    check_month(rt, Month::March, "March", 3, 31, 31);
+    check_month(rt, Month::April, "April", 4, 30, 30);
+    check_month(rt, Month::May, "May", 5, 31, 31);
+    check_month(rt, Month::June, "June", 6, 30, 30);
+    check_month(rt, Month::July, "July", 7, 31, 31);
+    check_month(rt, Month::August, "August", 8, 31, 31);
+    check_month(rt, Month::September, "September", 9, 30, 30);
+    check_month(rt, Month::October, "October", 10, 31, 31);
+    check_month(rt, Month::November, "November", 11, 30, 30);
+    check_month(rt, Month::December, "December", 12, 31, 31);
 }
 
 /// Checks the name of a weekday, its numbers from Monday and from Sunday, and the days since them.
@@ -76,13 +78,14 @@ fn check_weekday(rt: &impl Abort, weekday: Weekday, name: &str, numbers: (u8, u8
 
 #[test]
 fn weekdays_have_names_and_numbers(rt: HostRuntime) {
-    check_weekday(&rt, Weekday::Monday, "Monday", (1, 2), (0, 1));
-    check_weekday(&rt, Weekday::Tuesday, "Tuesday", (2, 3), (1, 2));
-    check_weekday(&rt, Weekday::Wednesday, "Wednesday", (3, 4), (2, 3));
-    check_weekday(&rt, Weekday::Thursday, "Thursday", (4, 5), (3, 4));
-    check_weekday(&rt, Weekday::Friday, "Friday", (5, 6), (4, 5));
-    check_weekday(&rt, Weekday::Saturday, "Saturday", (6, 7), (5, 6));
-    check_weekday(&rt, Weekday::Sunday, "Sunday", (7, 1), (6, 0));
+    let rt = &rt;
+    check_weekday(rt, Weekday::Monday, "Monday", (1, 2), (0, 1));
+    check_weekday(rt, Weekday::Tuesday, "Tuesday", (2, 3), (1, 2));
+    check_weekday(rt, Weekday::Wednesday, "Wednesday", (3, 4), (2, 3));
+    check_weekday(rt, Weekday::Thursday, "Thursday", (4, 5), (3, 4));
+    check_weekday(rt, Weekday::Friday, "Friday", (5, 6), (4, 5));
+    check_weekday(rt, Weekday::Saturday, "Saturday", (6, 7), (5, 6));
+    check_weekday(rt, Weekday::Sunday, "Sunday", (7, 1), (6, 0));
 }
 
 fn check_no_name(rt: &impl Abort, text: &str) {
@@ -101,29 +104,31 @@ fn other_texts_are_no_names(rt: HostRuntime) {
 
 #[test]
 fn months_turn_both_ways(rt: HostRuntime) {
-    same(&rt, Month::July.nth_next(9), Month::April);
-    same(&rt, Month::July.nth_prev(9), Month::October);
-    same(&rt, Month::January.nth_next(255), Month::April);
-    same(&rt, Month::January.nth_prev(255), Month::October);
-    same(&rt, Month::January.nth_next(4), Month::May);
-    same(&rt, Month::January.nth_prev(4), Month::September);
-    same(&rt, Month::December.next(), Month::January);
-    same(&rt, Month::January.previous(), Month::December);
-    same(&rt, nth_in(Month::June, usize::MAX), Month::September);
-    same(&rt, Month::at(4), Month::May);
-    same(&rt, Month::LENGTH, 12);
+    let rt = &rt;
+    same(rt, Month::July.nth_next(9), Month::April);
+    same(rt, Month::July.nth_prev(9), Month::October);
+    same(rt, Month::January.nth_next(255), Month::April);
+    same(rt, Month::January.nth_prev(255), Month::October);
+    same(rt, Month::January.nth_next(4), Month::May);
+    same(rt, Month::January.nth_prev(4), Month::September);
+    same(rt, Month::December.next(), Month::January);
+    same(rt, Month::January.previous(), Month::December);
+    same(rt, nth_in(Month::June, usize::MAX), Month::September);
+    same(rt, Month::at(4), Month::May);
+    same(rt, Month::LENGTH, 12);
 }
 
 #[test]
 fn weekdays_turn_both_ways(rt: HostRuntime) {
-    same(&rt, Weekday::Sunday.nth_next(10), Weekday::Wednesday);
-    same(&rt, Weekday::Sunday.nth_prev(10), Weekday::Thursday);
-    same(&rt, Weekday::Sunday.nth_next(255), Weekday::Wednesday);
-    same(&rt, Weekday::Sunday.nth_prev(255), Weekday::Thursday);
-    same(&rt, Weekday::Sunday.next(), Weekday::Monday);
-    same(&rt, Weekday::Monday.previous(), Weekday::Sunday);
-    same(&rt, Weekday::at(6), Weekday::Sunday);
-    same(&rt, Weekday::LENGTH, 7);
+    let rt = &rt;
+    same(rt, Weekday::Sunday.nth_next(10), Weekday::Wednesday);
+    same(rt, Weekday::Sunday.nth_prev(10), Weekday::Thursday);
+    same(rt, Weekday::Sunday.nth_next(255), Weekday::Wednesday);
+    same(rt, Weekday::Sunday.nth_prev(255), Weekday::Thursday);
+    same(rt, Weekday::Sunday.next(), Weekday::Monday);
+    same(rt, Weekday::Monday.previous(), Weekday::Sunday);
+    same(rt, Weekday::at(6), Weekday::Sunday);
+    same(rt, Weekday::LENGTH, 7);
 }
 
 /// Returns the index of a value, or 255 if there is none.
@@ -148,28 +153,30 @@ fn check_walk<C: Cycle>(rt: &impl Abort, start: C, n: usize, indices: [u8; 5]) {
 // The maximum step is 3 more than a multiple of 12, and 1 more than a multiple of 7.
 #[test]
 fn walks_go_on_without_end(rt: HostRuntime) {
-    check_walk(&rt, Month::June, usize::MAX, [8, 9, 2, 1, 10]);
-    check_walk(&rt, Month::January, usize::MAX, [3, 4, 9, 8, 5]);
-    check_walk(&rt, Month::October, 10, [7, 8, 11, 10, 9]);
-    check_walk(&rt, Weekday::Monday, usize::MAX, [1, 2, 6, 5, 3]);
-    check_walk(&rt, Weekday::Sunday, 7, [6, 0, 6, 5, 1]);
+    let rt = &rt;
+    check_walk(rt, Month::June, usize::MAX, [8, 9, 2, 1, 10]);
+    check_walk(rt, Month::January, usize::MAX, [3, 4, 9, 8, 5]);
+    check_walk(rt, Month::October, 10, [7, 8, 11, 10, 9]);
+    check_walk(rt, Weekday::Monday, usize::MAX, [1, 2, 6, 5, 3]);
+    check_walk(rt, Weekday::Sunday, 7, [6, 0, 6, 5, 1]);
 }
 
 #[test]
 fn walks_over_the_months_have_bounds(rt: HostRuntime) {
+    let rt = &rt;
     let (first, last) = (Some(Month::January), Some(Month::December));
     let walk = MonthIter::new(Month::June);
     let back = walk.clone().rev();
-    same(&rt, walk.clone().min(), first);
-    same(&rt, back.clone().min(), first);
-    same(&rt, walk.clone().max(), last);
-    same(&rt, back.clone().max(), last);
-    same(&rt, walk.size_hint(), (usize::MAX, None));
-    same(&rt, back.size_hint(), (usize::MAX, None));
-    assert!(rt; walk.clone() == walk);
-    assert!(rt; back.clone() == back);
-    assert!(rt; !walk.is_sorted());
-    assert!(rt; !back.is_sorted());
+    same(rt, walk.clone().min(), first);
+    same(rt, back.clone().min(), first);
+    same(rt, walk.clone().max(), last);
+    same(rt, back.clone().max(), last);
+    same(rt, walk.size_hint(), (usize::MAX, None));
+    same(rt, back.size_hint(), (usize::MAX, None));
+    same(rt, walk.clone() == walk, true);
+    same(rt, back.clone() == back, true);
+    same(rt, walk.is_sorted(), false);
+    same(rt, back.is_sorted(), false);
 }
 
 /// Checks the results and the numbers of calls of `all_once` and `any_once`, forwards and
@@ -215,18 +222,12 @@ fn check_asked<C: Cycle>(
 // The calls are counted, because no contract excludes calls after the deciding value.
 #[test]
 fn values_are_asked_up_to_the_deciding_answer(rt: HostRuntime) {
+    let rt = &rt;
     let (june, friday) = (Month::June, Weekday::Friday);
-    check_asked(&rt, june, (0, 3), true, (false, 5), (true, 1));
-    check_asked(&rt, june, (0, 3), false, (false, 1), (true, 5));
-    check_asked(&rt, june, (0, 11), true, (true, 12), (true, 1));
-    check_asked(
-        &rt,
-        Month::December,
-        (0, 11),
-        false,
-        (false, 1),
-        (false, 12),
-    );
-    check_asked(&rt, friday, (1, 1), true, (false, 1), (true, 2));
-    check_asked(&rt, friday, (1, 1), false, (false, 2), (true, 1));
+    check_asked(rt, june, (0, 3), true, (false, 5), (true, 1));
+    check_asked(rt, june, (0, 3), false, (false, 1), (true, 5));
+    check_asked(rt, june, (0, 11), true, (true, 12), (true, 1));
+    check_asked(rt, Month::December, (0, 11), false, (false, 1), (false, 12));
+    check_asked(rt, friday, (1, 1), true, (false, 1), (true, 2));
+    check_asked(rt, friday, (1, 1), false, (false, 2), (true, 1));
 }

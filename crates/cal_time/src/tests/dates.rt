@@ -118,10 +118,11 @@ fn days_in_all_forms(rt: HostRuntime) {
 
 #[test]
 fn the_ends_of_the_range(rt: HostRuntime) {
-    same(&rt, Date::MIN, date(&rt, FIRST_YEAR, 1, 1));
-    same(&rt, Date::MAX, date(&rt, LAST_YEAR, 12, 31));
+    let rt = &rt;
+    same(rt, Date::MIN, date(rt, FIRST_YEAR, 1, 1));
+    same(rt, Date::MAX, date(rt, LAST_YEAR, 12, 31));
     let (first, last) = (i64::from(FIRST_JULIAN_DAY), i64::from(LAST_JULIAN_DAY));
-    same(&rt, last - first + 1, DAYS);
+    same(rt, last - first + 1, DAYS);
 }
 
 fn check_neighbours(rt: &impl Abort, first: (i32, u8, u8), second: (i32, u8, u8)) {
@@ -133,11 +134,12 @@ fn check_neighbours(rt: &impl Abort, first: (i32, u8, u8), second: (i32, u8, u8)
 
 #[test]
 fn neighbours(rt: HostRuntime) {
-    check_neighbours(&rt, (-1, 12, 31), (0, 1, 1));
-    check_neighbours(&rt, (2019, 12, 31), (2020, 1, 1));
-    check_neighbours(&rt, (2020, 12, 30), (2020, 12, 31));
-    check_neighbours(&rt, (2020, 12, 31), (2021, 1, 1));
-    check_neighbours(&rt, (9999, 12, 31), (10000, 1, 1));
+    let rt = &rt;
+    check_neighbours(rt, (-1, 12, 31), (0, 1, 1));
+    check_neighbours(rt, (2019, 12, 31), (2020, 1, 1));
+    check_neighbours(rt, (2020, 12, 30), (2020, 12, 31));
+    check_neighbours(rt, (2020, 12, 31), (2021, 1, 1));
+    check_neighbours(rt, (9999, 12, 31), (10000, 1, 1));
 }
 
 /// Checks the day of a date in another month, at the latest on its last day.
@@ -152,34 +154,36 @@ fn check_clamped(rt: &impl Abort, from: (i32, u8, u8), to: (i32, u8, u8)) {
 // The first date has a day that the month of the second date has, or a later day.
 #[test]
 fn days_in_other_months(rt: HostRuntime) {
-    check_clamped(&rt, (2023, 1, 31), (2023, 2, 28));
-    check_clamped(&rt, (2023, 1, 31), (2024, 2, 29));
-    check_clamped(&rt, (2023, 3, 30), (1900, 2, 28));
-    check_clamped(&rt, (2023, 3, 30), (2000, 2, 29));
-    check_clamped(&rt, (2023, 12, 31), (2023, 4, 30));
-    check_clamped(&rt, (2024, 2, 29), (2023, 12, 29));
-    check_clamped(&rt, (2024, 2, 1), (FIRST_YEAR, 1, 1));
-    check_clamped(&rt, (2023, 5, 31), (LAST_YEAR, 12, 31));
+    let rt = &rt;
+    check_clamped(rt, (2023, 1, 31), (2023, 2, 28));
+    check_clamped(rt, (2023, 1, 31), (2024, 2, 29));
+    check_clamped(rt, (2023, 3, 30), (1900, 2, 28));
+    check_clamped(rt, (2023, 3, 30), (2000, 2, 29));
+    check_clamped(rt, (2023, 12, 31), (2023, 4, 30));
+    check_clamped(rt, (2024, 2, 29), (2023, 12, 29));
+    check_clamped(rt, (2024, 2, 1), (FIRST_YEAR, 1, 1));
+    check_clamped(rt, (2023, 5, 31), (LAST_YEAR, 12, 31));
 }
 
 // `boundaries` has the years out of range.
 #[test]
 fn dates_out_of_range(rt: HostRuntime) {
-    check_ordinal_date(&rt, 10_000_000, 1, Err(("year", false)));
+    let rt = &rt;
+    check_ordinal_date(rt, 10_000_000, 1, Err(("year", false)));
     let no_ordinal = Err(("ordinal", true));
-    check_ordinal_date(&rt, 0, 65_535, no_ordinal);
-    check_ordinal_date(&rt, 1900, 366, no_ordinal);
-    check_ordinal_date(&rt, 2000, 0, no_ordinal);
-    check_ordinal_date(&rt, 2000, 367, no_ordinal);
+    check_ordinal_date(rt, 0, 65_535, no_ordinal);
+    check_ordinal_date(rt, 1900, 366, no_ordinal);
+    check_ordinal_date(rt, 2000, 0, no_ordinal);
+    check_ordinal_date(rt, 2000, 367, no_ordinal);
     let no_day = Err(("day", true));
-    check_calendar_date(&rt, 1900, Month::February, 29, no_day);
-    check_calendar_date(&rt, 2000, Month::February, 0, no_day);
-    check_calendar_date(&rt, 2000, Month::February, 30, no_day);
-    check_calendar_date(&rt, 2000, Month::January, 32, no_day);
-    check_calendar_date(&rt, 2020, Month::February, 255, no_day);
+    check_calendar_date(rt, 1900, Month::February, 29, no_day);
+    check_calendar_date(rt, 2000, Month::February, 0, no_day);
+    check_calendar_date(rt, 2000, Month::February, 30, no_day);
+    check_calendar_date(rt, 2000, Month::January, 32, no_day);
+    check_calendar_date(rt, 2020, Month::February, 255, no_day);
     let no_week = Err(("week", true));
-    check_week_date(&rt, 2019, 53, Weekday::Monday, no_week);
-    check_week_date(&rt, 2020, 54, Weekday::Monday, no_week);
-    check_week_date(&rt, 2020, 0, Weekday::Monday, no_week);
-    check_week_date(&rt, 2020, 255, Weekday::Monday, no_week);
+    check_week_date(rt, 2019, 53, Weekday::Monday, no_week);
+    check_week_date(rt, 2020, 54, Weekday::Monday, no_week);
+    check_week_date(rt, 2020, 0, Weekday::Monday, no_week);
+    check_week_date(rt, 2020, 255, Weekday::Monday, no_week);
 }

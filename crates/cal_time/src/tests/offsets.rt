@@ -30,14 +30,15 @@ fn check_offset(
 // The columns: the parts given, the seconds, the parts returned, and the whole minutes.
 #[test]
 fn offsets_of_parts_and_of_seconds(rt: HostRuntime) {
-    check_offset(&rt, (0, 0, 0), 0, (0, 0, 0), 0);
-    check_offset(&rt, (0, -30, 15), -1_815, (0, -30, -15), -30);
-    check_offset(&rt, (-25, 59, 59), -93_599, (-25, -59, -59), -1_559);
-    check_offset(&rt, (25, 59, 59), 93_599, (25, 59, 59), 1_559);
-    check_offset(&rt, (1, -2, -3), 3_723, (1, 2, 3), 62);
-    check_offset(&rt, (1, 0, -5), 3_605, (1, 0, 5), 60);
-    check_offset(&rt, (0, 0, -1), -1, (0, 0, -1), 0);
-    check_offset(&rt, (-5, 30, 59), -19_859, (-5, -30, -59), -330);
+    let rt = &rt;
+    check_offset(rt, (0, 0, 0), 0, (0, 0, 0), 0);
+    check_offset(rt, (0, -30, 15), -1_815, (0, -30, -15), -30);
+    check_offset(rt, (-25, 59, 59), -93_599, (-25, -59, -59), -1_559);
+    check_offset(rt, (25, 59, 59), 93_599, (25, 59, 59), 1_559);
+    check_offset(rt, (1, -2, -3), 3_723, (1, 2, 3), 62);
+    check_offset(rt, (1, 0, -5), 3_605, (1, 0, 5), 60);
+    check_offset(rt, (0, 0, -1), -1, (0, 0, -1), 0);
+    check_offset(rt, (-5, 30, 59), -19_859, (-5, -30, -59), -330);
 }
 
 // `boundaries` has the other parts that are out of range.
@@ -50,10 +51,11 @@ fn offsets_out_of_range(rt: HostRuntime) {
 // The bytes of the three parts of -5:30 and -4:30, with signs, can compare as equal.
 #[test]
 fn offsets_in_order(rt: HostRuntime) {
-    let (west, less_west) = (offset(&rt, -5, -30, 0), offset(&rt, -4, -30, 0));
-    same(&rt, west.cmp(&less_west), Ordering::Less);
-    same(&rt, less_west.cmp(&UtcOffset::UTC), Ordering::Less);
-    same(&rt, UtcOffset::UTC.cmp(&west), Ordering::Greater);
+    let rt = &rt;
+    let (west, less_west) = (offset(rt, -5, -30, 0), offset(rt, -4, -30, 0));
+    same(rt, west.cmp(&less_west), Ordering::Less);
+    same(rt, less_west.cmp(&UtcOffset::UTC), Ordering::Less);
+    same(rt, UtcOffset::UTC.cmp(&west), Ordering::Greater);
     let found = extent(&[west, less_west, UtcOffset::UTC]);
-    same(&rt, found, Some((west, UtcOffset::UTC)));
+    same(rt, found, Some((west, UtcOffset::UTC)));
 }

@@ -76,25 +76,26 @@ fn check_months(rt: &impl Abort, a: Month, b: Month) {
 
 #[test]
 fn comparisons(rt: HostRuntime) {
-    let (one, other) = (Date::MIN, date(&rt, 2020, 1, 2));
-    check_dates(&rt, one, other);
-    check_dates(&rt, other, one);
-    check_dates(&rt, one, one);
-    let (one, other) = (Time::MIDNIGHT, time(&rt, 12, 0, 0, 0));
-    check_times(&rt, one, other);
-    check_times(&rt, other, one);
-    check_times(&rt, one, one);
+    let rt = &rt;
+    let (one, other) = (Date::MIN, date(rt, 2020, 1, 2));
+    check_dates(rt, one, other);
+    check_dates(rt, other, one);
+    check_dates(rt, one, one);
+    let (one, other) = (Time::MIDNIGHT, time(rt, 12, 0, 0, 0));
+    check_times(rt, one, other);
+    check_times(rt, other, one);
+    check_times(rt, one, one);
     let (one, other) = (SignedDuration::ZERO, SignedDuration::SECOND);
-    check_durations(&rt, one, other);
-    check_durations(&rt, other, one);
-    check_durations(&rt, one, one);
-    let (one, other) = (offset(&rt, -5, -30, 0), UtcOffset::UTC);
-    check_offsets(&rt, one, other);
-    check_offsets(&rt, other, one);
-    check_offsets(&rt, one, one);
-    check_months(&rt, Month::May, Month::June);
-    check_months(&rt, Month::June, Month::May);
-    check_months(&rt, Month::May, Month::May);
+    check_durations(rt, one, other);
+    check_durations(rt, other, one);
+    check_durations(rt, one, one);
+    let (one, other) = (offset(rt, -5, -30, 0), UtcOffset::UTC);
+    check_offsets(rt, one, other);
+    check_offsets(rt, other, one);
+    check_offsets(rt, one, one);
+    check_months(rt, Month::May, Month::June);
+    check_months(rt, Month::June, Month::May);
+    check_months(rt, Month::May, Month::May);
 }
 
 /// Checks the items of an iterator, by name and by the trait, and that both agree on the rest.
@@ -108,7 +109,7 @@ macro_rules! check_walk {
         same($rt, Iterator::next(&mut by_trait), Some($second));
         same($rt, Iterator::next(&mut by_trait), Some($third));
         same($rt, by_name.size_hint(), Iterator::size_hint(&by_trait));
-        assert!($rt; by_name == by_trait);
+        same($rt, by_name == by_trait, true);
     };
 }
 
@@ -137,31 +138,32 @@ fn check_next(rt: &impl Abort, by_name: &mut DateIter, by_bound: &mut DateIter, 
     same(rt, by_name.next(), Some(day));
     same(rt, next(by_bound), Some(day));
     same(rt, by_name.size_hint(), size_hint(by_bound));
-    assert!(rt; *by_name == *by_bound);
+    same(rt, *by_name == *by_bound, true);
 }
 
 /// Checks the next item from the back in the same way.
 fn check_next_back(rt: &impl Abort, by_name: &mut DateIter, by_bound: &mut DateIter, day: Date) {
     same(rt, by_name.next_back(), Some(day));
     same(rt, next_back(by_bound), Some(day));
-    assert!(rt; *by_name == *by_bound);
+    same(rt, *by_name == *by_bound, true);
 }
 
 #[test]
 fn walks(rt: HostRuntime) {
-    let (first, last) = (date(&rt, 2019, 12, 30), date(&rt, 2020, 1, 1));
-    let between = date(&rt, 2019, 12, 31);
+    let rt = &rt;
+    let (first, last) = (date(rt, 2019, 12, 30), date(rt, 2020, 1, 1));
+    let between = date(rt, 2019, 12, 31);
     let (mut by_name, mut by_bound) = (DateIter::new(first, last), DateIter::new(first, last));
-    check_next(&rt, &mut by_name, &mut by_bound, first);
-    check_next(&rt, &mut by_name, &mut by_bound, between);
-    check_next(&rt, &mut by_name, &mut by_bound, last);
+    check_next(rt, &mut by_name, &mut by_bound, first);
+    check_next(rt, &mut by_name, &mut by_bound, between);
+    check_next(rt, &mut by_name, &mut by_bound, last);
     let (mut by_name, mut by_bound) = (DateIter::new(first, last), DateIter::new(first, last));
-    check_next_back(&rt, &mut by_name, &mut by_bound, last);
-    check_next_back(&rt, &mut by_name, &mut by_bound, between);
-    check_next_back(&rt, &mut by_name, &mut by_bound, first);
-    same(&rt, by_name.next_back(), None);
-    same(&rt, next_back(&mut by_bound), None);
-    assert!(rt; by_name == by_bound);
+    check_next_back(rt, &mut by_name, &mut by_bound, last);
+    check_next_back(rt, &mut by_name, &mut by_bound, between);
+    check_next_back(rt, &mut by_name, &mut by_bound, first);
+    same(rt, by_name.next_back(), None);
+    same(rt, next_back(&mut by_bound), None);
+    same(rt, by_name == by_bound, true);
 }
 
 fn check_errors(rt: &impl Abort, a: ComponentRange, b: ComponentRange) {
@@ -176,12 +178,13 @@ fn check_weekdays(rt: &impl Abort, a: Weekday, b: Weekday) {
 
 #[test]
 fn equality(rt: HostRuntime) {
+    let rt = &rt;
     let day = ComponentRange::conditional(Component::Day);
-    check_errors(&rt, day, day);
-    check_errors(&rt, day, ComponentRange::unconditional(Component::Year));
-    check_weekdays(&rt, Weekday::Friday, Weekday::Friday);
-    check_weekdays(&rt, Weekday::Friday, Weekday::Sunday);
-    same(&rt, InvalidVariant.eq(&InvalidVariant), true);
+    check_errors(rt, day, day);
+    check_errors(rt, day, ComponentRange::unconditional(Component::Year));
+    check_weekdays(rt, Weekday::Friday, Weekday::Friday);
+    check_weekdays(rt, Weekday::Friday, Weekday::Sunday);
+    same(rt, InvalidVariant.eq(&InvalidVariant), true);
 }
 
 /// Checks that the clones of the value, by name and by the trait, are the value.
@@ -195,52 +198,56 @@ macro_rules! check_cloned {
 
 #[test]
 fn clones_of_counted_values(rt: HostRuntime) {
-    check_cloned!(&rt, Date::MAX);
-    check_cloned!(&rt, Time::MAX);
-    check_cloned!(&rt, SignedDuration::MAX);
-    check_cloned!(&rt, UtcOffset::UTC);
+    let rt = &rt;
+    check_cloned!(rt, Date::MAX);
+    check_cloned!(rt, Time::MAX);
+    check_cloned!(rt, SignedDuration::MAX);
+    check_cloned!(rt, UtcOffset::UTC);
 }
 
 #[test]
 fn clones_of_cycles_and_errors(rt: HostRuntime) {
-    check_cloned!(&rt, Month::May);
-    check_cloned!(&rt, Weekday::Friday);
-    check_cloned!(&rt, DateAdjustment::Next);
-    check_cloned!(&rt, ComponentRange::conditional(Component::Day));
-    check_cloned!(&rt, ConversionRange);
-    check_cloned!(&rt, InvalidVariant);
+    let rt = &rt;
+    check_cloned!(rt, Month::May);
+    check_cloned!(rt, Weekday::Friday);
+    check_cloned!(rt, DateAdjustment::Next);
+    check_cloned!(rt, ComponentRange::conditional(Component::Day));
+    check_cloned!(rt, ConversionRange);
+    check_cloned!(rt, InvalidVariant);
 }
 
 #[test]
 fn numbers_and_places(rt: HostRuntime) {
+    let rt = &rt;
     let (last, utc) = (SignedDuration::MAX, UtcOffset::UTC);
-    same(&rt, Date::MAX.number(), Counted::number(Date::MAX));
-    same(&rt, Time::MAX.number(), Counted::number(Time::MAX));
-    same(&rt, last.number(), Counted::number(last));
-    same(&rt, utc.number(), Counted::number(utc));
+    same(rt, Date::MAX.number(), Counted::number(Date::MAX));
+    same(rt, Time::MAX.number(), Counted::number(Time::MAX));
+    same(rt, last.number(), Counted::number(last));
+    same(rt, utc.number(), Counted::number(utc));
     let friday = Weekday::Friday;
-    same(&rt, Month::May.place(), Cycle::place(Month::May));
-    same(&rt, friday.place(), Cycle::place(friday));
+    same(rt, Month::May.place(), Cycle::place(Month::May));
+    same(rt, friday.place(), Cycle::place(friday));
     for index in 0..7 {
-        same(&rt, Month::at(index), <Month as Cycle>::at(index));
-        same(&rt, Weekday::at(index), <Weekday as Cycle>::at(index));
+        same(rt, Month::at(index), <Month as Cycle>::at(index));
+        same(rt, Weekday::at(index), <Weekday as Cycle>::at(index));
     }
 }
 
 #[test]
 fn conversions(rt: HostRuntime) {
+    let rt = &rt;
     for &text in &["May", "Friday", ""] {
         let found = Month::from_str(text);
-        same(&rt, found, <Month as FromStr>::from_str(text));
+        same(rt, found, <Month as FromStr>::from_str(text));
         let found = Weekday::from_str(text);
-        same(&rt, found, <Weekday as FromStr>::from_str(text));
+        same(rt, found, <Weekday as FromStr>::from_str(text));
     }
     for &number in &[0, 5, 13] {
         let found = Month::try_from(number);
-        same(&rt, found, <Month as TryFrom<u8>>::try_from(number));
+        same(rt, found, <Month as TryFrom<u8>>::try_from(number));
     }
     let zero = <SignedDuration as Default>::default();
-    same(&rt, SignedDuration::default(), zero);
+    same(rt, SignedDuration::default(), zero);
 }
 
 fn check_sum(rt: &impl Abort, date: Date, duration: SignedDuration, wanted: Date) {
@@ -261,33 +268,36 @@ fn check_difference(rt: &impl Abort, date: Date, duration: SignedDuration, wante
 
 #[test]
 fn operators_of_dates(rt: HostRuntime) {
-    let (day, one) = (date(&rt, 2020, 1, 2), SignedDuration::DAY);
-    check_sum(&rt, day, one, date(&rt, 2020, 1, 3));
-    check_difference(&rt, day, one, date(&rt, 2020, 1, 1));
-    same(&rt, day.sub(Date::MIN), Sub::sub(day, Date::MIN));
+    let rt = &rt;
+    let (day, one) = (date(rt, 2020, 1, 2), SignedDuration::DAY);
+    check_sum(rt, day, one, date(rt, 2020, 1, 3));
+    check_difference(rt, day, one, date(rt, 2020, 1, 1));
+    same(rt, day.sub(Date::MIN), Sub::sub(day, Date::MIN));
 }
 
 #[test]
 fn operators_of_times_and_offsets(rt: HostRuntime) {
-    let (noon, second, last) = (time(&rt, 12, 0, 0, 0), SignedDuration::SECOND, Time::MAX);
-    let west = offset(&rt, -5, -30, 0);
+    let rt = &rt;
+    let (noon, second, last) = (time(rt, 12, 0, 0, 0), SignedDuration::SECOND, Time::MAX);
+    let west = offset(rt, -5, -30, 0);
     let (mut later, mut earlier) = (noon, noon);
     later.add_assign(second);
     earlier.sub_assign(second);
-    same(&rt, noon.add(second), Add::add(noon, second));
-    same(&rt, later, noon + second);
-    same(&rt, noon.sub(second), Sub::sub(noon, second));
-    same(&rt, earlier, noon - second);
-    same(&rt, noon.sub(last), Sub::sub(noon, last));
-    same(&rt, west.neg(), Neg::neg(west));
+    same(rt, noon.add(second), Add::add(noon, second));
+    same(rt, later, noon + second);
+    same(rt, noon.sub(second), Sub::sub(noon, second));
+    same(rt, earlier, noon - second);
+    same(rt, noon.sub(last), Sub::sub(noon, last));
+    same(rt, west.neg(), Neg::neg(west));
 }
 
 #[test]
 fn operators_of_durations(rt: HostRuntime) {
+    let rt = &rt;
     let second = SignedDuration::SECOND;
-    same(&rt, second.add(second), Add::add(second, second));
-    same(&rt, second.sub(second), Sub::sub(second, second));
-    same(&rt, second.neg(), Neg::neg(second));
-    same(&rt, second.mul(3i32), Mul::mul(second, 3i32));
-    same(&rt, second.div(3u8), Div::div(second, 3u8));
+    same(rt, second.add(second), Add::add(second, second));
+    same(rt, second.sub(second), Sub::sub(second, second));
+    same(rt, second.neg(), Neg::neg(second));
+    same(rt, second.mul(3i32), Mul::mul(second, 3i32));
+    same(rt, second.div(3u8), Div::div(second, 3u8));
 }

@@ -64,13 +64,14 @@ fn check_weekday(rt: &impl Abort, date: Date, from: i32, weekday: Weekday) {
 
 #[test]
 fn occurrences_at_the_ends(rt: HostRuntime) {
-    let second = date(&rt, FIRST_YEAR, 1, 2);
-    let week_before = date(&rt, LAST_YEAR, 12, 24);
+    let rt = &rt;
+    let second = date(rt, FIRST_YEAR, 1, 2);
+    let week_before = date(rt, LAST_YEAR, 12, 24);
     for index in 0..7 {
         let weekday = Weekday::Monday.nth_next(index);
-        check_weekday(&rt, Date::MIN, FIRST_JULIAN_DAY, weekday);
-        check_weekday(&rt, second, FIRST_JULIAN_DAY + 1, weekday);
-        check_weekday(&rt, week_before, LAST_JULIAN_DAY - 7, weekday);
-        check_weekday(&rt, Date::MAX, LAST_JULIAN_DAY, weekday);
+        check_weekday(rt, Date::MIN, FIRST_JULIAN_DAY, weekday);
+        check_weekday(rt, second, FIRST_JULIAN_DAY + 1, weekday);
+        check_weekday(rt, week_before, LAST_JULIAN_DAY - 7, weekday);
+        check_weekday(rt, Date::MAX, LAST_JULIAN_DAY, weekday);
     }
 }

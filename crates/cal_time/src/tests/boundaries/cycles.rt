@@ -47,16 +47,12 @@ fn check_month(rt: &impl Abort, start: Month, n: u8) {
 
 #[test]
 fn months_far_on_and_far_back(rt: HostRuntime) {
+    let rt = &rt;
     for start in Month::iter_from(Month::January).take(12) {
-        check_month(&rt, start, 0);
-        check_month(&rt, start, 255);
+        check_month(rt, start, 0);
+        check_month(rt, start, 255);
         let far = nth_in(start, usize::MAX).place();
-        same_at(
-            &rt,
-            start,
-            far,
-            index_after(start as u8 - 1, usize::MAX, 12),
-        );
+        same_at(rt, start, far, index_after(start as u8 - 1, usize::MAX, 12));
     }
 }
 
@@ -70,10 +66,11 @@ fn check_weekday(rt: &impl Abort, start: Weekday, n: u8) {
 
 #[test]
 fn weekdays_far_on_and_far_back(rt: HostRuntime) {
+    let rt = &rt;
     for start in Weekday::iter_from(Weekday::Monday).take(7) {
-        check_weekday(&rt, start, 0);
-        check_weekday(&rt, start, 255);
+        check_weekday(rt, start, 0);
+        check_weekday(rt, start, 255);
         let far = nth_in(start, usize::MAX).place();
-        same_at(&rt, start, far, index_after(start as u8, usize::MAX, 7));
+        same_at(rt, start, far, index_after(start as u8, usize::MAX, 7));
     }
 }

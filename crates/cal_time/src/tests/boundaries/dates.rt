@@ -1,9 +1,10 @@
 //! Dates at both ends of the range and at both ends of the types of their parts.
+use crate::tests::arithmetic::{check_day, check_month, check_ordinal, check_year};
 use crate::tests::dates::{
     check_calendar_date, check_julian_day, check_ordinal_date, check_week_date,
 };
 use crate::tests::range::{DAYS, FIRST_JULIAN_DAY, FIRST_YEAR, LAST_JULIAN_DAY, LAST_YEAR};
-use crate::tests::{Told, check_at, date, same};
+use crate::tests::{Told, date, same};
 use crate::{Date, Month, SignedDuration, Weekday, extent, is_rising};
 
 /// The years at both ends of the type and of the range.
@@ -75,13 +76,14 @@ fn of_day(year: i32, length: u8, before: u16, day: u8) -> Told {
 
 #[test]
 fn julian_days(rt: HostRuntime) {
-    check_julian_day(&rt, FIRST_JULIAN_DAY, Ok(i128::from(FIRST_JULIAN_DAY)));
-    check_julian_day(&rt, LAST_JULIAN_DAY, Ok(i128::from(LAST_JULIAN_DAY)));
+    let rt = &rt;
+    check_julian_day(rt, FIRST_JULIAN_DAY, Ok(i128::from(FIRST_JULIAN_DAY)));
+    check_julian_day(rt, LAST_JULIAN_DAY, Ok(i128::from(LAST_JULIAN_DAY)));
     let refused = Err(("julian_day", false));
-    check_julian_day(&rt, i32::MIN, refused);
-    check_julian_day(&rt, FIRST_JULIAN_DAY - 1, refused);
-    check_julian_day(&rt, LAST_JULIAN_DAY + 1, refused);
-    check_julian_day(&rt, i32::MAX, refused);
+    check_julian_day(rt, i32::MIN, refused);
+    check_julian_day(rt, FIRST_JULIAN_DAY - 1, refused);
+    check_julian_day(rt, LAST_JULIAN_DAY + 1, refused);
+    check_julian_day(rt, i32::MAX, refused);
 }
 
 #[test]
@@ -109,6 +111,7 @@ fn calendar_dates(rt: HostRuntime) {
 // Friday in week 52.
 #[test]
 fn iso_week_dates(rt: HostRuntime) {
+    let rt = &rt;
     for &(year, week, weekday, julian_day) in &[
         (FIRST_YEAR, 1, Weekday::Monday, FIRST_JULIAN_DAY),
         (FIRST_YEAR, 1, Weekday::Sunday, FIRST_JULIAN_DAY + 6),
@@ -118,11 +121,11 @@ fn iso_week_dates(rt: HostRuntime) {
         (LAST_YEAR, 52, Weekday::Friday, LAST_JULIAN_DAY),
     ] {
         let wanted = Ok(i128::from(julian_day));
-        check_week_date(&rt, year, week, weekday, wanted);
+        check_week_date(rt, year, week, weekday, wanted);
     }
     let no_weekday = Err(("weekday", true));
-    check_week_date(&rt, LAST_YEAR, 52, Weekday::Saturday, no_weekday);
-    check_week_date(&rt, LAST_YEAR, 52, Weekday::Sunday, no_weekday);
+    check_week_date(rt, LAST_YEAR, 52, Weekday::Saturday, no_weekday);
+    check_week_date(rt, LAST_YEAR, 52, Weekday::Sunday, no_weekday);
 }
 
 /// Returns the error of a call in this year, whose other argument is out of range.
@@ -148,59 +151,50 @@ fn iso_years_and_weeks(rt: HostRuntime) {
 
 #[test]
 fn replaced_years(rt: HostRuntime) {
-    let leap_day = date(&rt, 2024, 2, 29);
+    let rt = &rt;
+    let leap_day = date(rt, 2024, 2, 29);
     for &year in &YEARS {
-        let found = Date::MIN.replace_year(year);
-        check_at(&rt, [year, 0, 1], found, of_ordinal(year, 1));
-        let found = Date::MAX.replace_year(year);
-        check_at(&rt, [year, 0, 365], found, of_ordinal(year, 365));
-        let found = leap_day.replace_year(year);
-        check_at(&rt, [year, 0, 60], found, error_in(year, "day"));
+        check_year(rt, Date::MIN, year, of_ordinal(year, 1));
+        check_year(rt, Date::MAX, year, of_ordinal(year, 365));
+        check_year(rt, leap_day, year, error_in(year, "day"));
     }
 }
 
 #[test]
-fn replaced_months(rt: HostRuntime) {
+fn replaced_parts(rt: HostRuntime) {
+    let rt = &rt;
     for &(month, length, before) in &MONTHS {
-        let want = of_day(FIRST_YEAR, length, before, 1);
-        let found = Date::MIN.replace_month(month);
-        check_at(&rt, [FIRST_YEAR, month as i32, 1], found, want);
-        let want = of_day(LAST_YEAR, length, before, 31);
-        let found = Date::MAX.replace_month(month);
-        check_at(&rt, [LAST_YEAR, month as i32, 31], found, want);
+        let wanted = of_day(FIRST_YEAR, length, before, 1);
+        check_month(rt, Date::MIN, month, wanted);
+        let wanted = of_day(LAST_YEAR, length, before, 31);
+        check_month(rt, Date::MAX, month, wanted);
     }
-}
-
-#[test]
-fn replaced_days_and_ordinals(rt: HostRuntime) {
     for &day in &DAYS_OF_MONTH {
-        let (first, last) = (Date::MIN.replace_day(day), Date::MAX.replace_day(day));
-        let arguments = [0, 0, i32::from(day)];
-        check_at(&rt, arguments, first, of_day(FIRST_YEAR, 31, 0, day));
-        check_at(&rt, arguments, last, of_day(LAST_YEAR, 31, 334, day));
+        check_day(rt, Date::MIN, day, of_day(FIRST_YEAR, 31, 0, day));
+        check_day(rt, Date::MAX, day, of_day(LAST_YEAR, 31, 334, day));
     }
     for &ordinal in &ORDINALS {
-        let first = Date::MIN.replace_ordinal(ordinal);
-        let last = Date::MAX.replace_ordinal(ordinal);
-        let arguments = [0, i32::from(ordinal), 0];
-        check_at(&rt, arguments, first, of_ordinal(FIRST_YEAR, ordinal));
-        check_at(&rt, arguments, last, of_ordinal(LAST_YEAR, ordinal));
+        let wanted = of_ordinal(FIRST_YEAR, ordinal);
+        check_ordinal(rt, Date::MIN, ordinal, wanted);
+        let wanted = of_ordinal(LAST_YEAR, ordinal);
+        check_ordinal(rt, Date::MAX, ordinal, wanted);
     }
 }
 
 #[test]
 fn neighbours_and_order(rt: HostRuntime) {
+    let rt = &rt;
     let (min, max) = (Date::MIN, Date::MAX);
-    let (second, eve) = (date(&rt, FIRST_YEAR, 1, 2), date(&rt, LAST_YEAR, 12, 30));
-    same(&rt, second.to_julian_day(), FIRST_JULIAN_DAY + 1);
-    same(&rt, eve.to_julian_day(), LAST_JULIAN_DAY - 1);
-    same(&rt, min.next_day(), Some(second));
-    same(&rt, max.previous_day(), Some(eve));
-    same(&rt, min.previous_day(), None);
-    same(&rt, max.next_day(), None);
-    assert!(rt; is_rising(&[min, max]));
-    assert!(rt; !is_rising(&[max, min]));
-    same(&rt, extent(&[max, min]), Some((min, max)));
-    same(&rt, max - min, SignedDuration::days(DAYS - 1));
-    same(&rt, min - max, SignedDuration::days(1 - DAYS));
+    let (second, eve) = (date(rt, FIRST_YEAR, 1, 2), date(rt, LAST_YEAR, 12, 30));
+    same(rt, second.to_julian_day(), FIRST_JULIAN_DAY + 1);
+    same(rt, eve.to_julian_day(), LAST_JULIAN_DAY - 1);
+    same(rt, min.next_day(), Some(second));
+    same(rt, max.previous_day(), Some(eve));
+    same(rt, min.previous_day(), None);
+    same(rt, max.next_day(), None);
+    same(rt, is_rising(&[min, max]), true);
+    same(rt, is_rising(&[max, min]), false);
+    same(rt, extent(&[max, min]), Some((min, max)));
+    same(rt, max - min, SignedDuration::days(DAYS - 1));
+    same(rt, min - max, SignedDuration::days(1 - DAYS));
 }

@@ -3,7 +3,7 @@ use crate::tests::boundaries::{DAY, HOUR, MINUTE, SECOND};
 use crate::tests::conditions::scaled_by_u32;
 use crate::tests::durations::{
     GREATEST, LEAST, check_difference, check_number, check_opposite, check_product, check_quotient,
-    check_sum, check_twice, clamped,
+    check_sum, check_twice, clamped, exact,
 };
 use crate::tests::{same, same_at};
 use crate::{Counted, SignedDuration, extent, is_rising};
@@ -46,58 +46,95 @@ fn sums_and_differences(rt: HostRuntime) {
     }
 }
 
-/// Checks `*`, `*=`, `/` and `/=` for an operand of another type than `i32`, if the result is a
-/// duration.
-macro_rules! check_scaled {
-    ($rt:expr, $a:expr, $k:expr, $product:expr, $quotient:expr) => {
-        if $a.checked_mul(i32::from($k)).is_some() {
-            let mut product = $a;
-            product *= $k;
-            same($rt, ($a * $k).number(), $product);
-            same($rt, product.number(), $product);
-        }
-        if $a.checked_div(i32::from($k)).is_some() {
-            let mut quotient = $a;
-            quotient /= $k;
-            same($rt, ($a / $k).number(), $quotient);
-            same($rt, quotient.number(), $quotient);
-        }
-    };
+/// Returns the results of `*` and `*=` if the product is a duration.
+macro_rules! products {
+    ($a:expr, $k:expr) => {{
+        $a.checked_mul(i32::from($k))?;
+        let mut product = $a;
+        product *= $k;
+        Some(numbers([$a * $k, product]))
+    }};
 }
 
-fn check_by_i8(rt: &impl Abort, a: SignedDuration, k: i8, product: i128, quotient: i128) {
-    check_scaled!(rt, a, k, product, quotient);
+/// Returns the results of `/` and `/=` if the quotient is a duration.
+macro_rules! quotients {
+    ($a:expr, $k:expr) => {{
+        $a.checked_div(i32::from($k))?;
+        let mut quotient = $a;
+        quotient /= $k;
+        Some(numbers([$a / $k, quotient]))
+    }};
 }
 
-fn check_by_i16(rt: &impl Abort, a: SignedDuration, k: i16, product: i128, quotient: i128) {
-    check_scaled!(rt, a, k, product, quotient);
+fn numbers(durations: [SignedDuration; 2]) -> [i128; 2] {
+    let [one, other] = durations;
+    [one.whole_nanoseconds(), other.whole_nanoseconds()]
 }
 
-fn check_by_u8(rt: &impl Abort, a: SignedDuration, k: u8, product: i128, quotient: i128) {
-    check_scaled!(rt, a, k, product, quotient);
+fn products_by_i8(a: SignedDuration, k: i8) -> Option<[i128; 2]> {
+    products!(a, k)
 }
 
-fn check_by_u16(rt: &impl Abort, a: SignedDuration, k: u16, product: i128, quotient: i128) {
-    check_scaled!(rt, a, k, product, quotient);
+fn quotients_by_i8(a: SignedDuration, k: i8) -> Option<[i128; 2]> {
+    quotients!(a, k)
+}
+
+fn products_by_i16(a: SignedDuration, k: i16) -> Option<[i128; 2]> {
+    products!(a, k)
+}
+
+fn quotients_by_i16(a: SignedDuration, k: i16) -> Option<[i128; 2]> {
+    quotients!(a, k)
+}
+
+fn products_by_u8(a: SignedDuration, k: u8) -> Option<[i128; 2]> {
+    products!(a, k)
+}
+
+fn quotients_by_u8(a: SignedDuration, k: u8) -> Option<[i128; 2]> {
+    quotients!(a, k)
+}
+
+fn products_by_u16(a: SignedDuration, k: u16) -> Option<[i128; 2]> {
+    products!(a, k)
+}
+
+fn quotients_by_u16(a: SignedDuration, k: u16) -> Option<[i128; 2]> {
+    quotients!(a, k)
+}
+
+fn twice(nanoseconds: Option<i128>) -> Option<[i128; 2]> {
+    let nanoseconds = nanoseconds?;
+    Some([nanoseconds, nanoseconds])
+}
+
+/// Returns the quotient, truncated toward zero, if the divisor isn't 0 and it is a duration.
+fn exact_quotient(nanoseconds: i128, divisor: i128) -> Option<i128> {
+    exact(nanoseconds.checked_div(divisor)?)
 }
 
 /// Checks the product and the quotient for operands of each type that has the number.
 fn check_operands(rt: &impl Abort, a: SignedDuration, x: i128, k: i32) {
     let product = x.saturating_mul(i128::from(k));
-    let quotient = x.checked_div(i128::from(k)).unwrap_or(0);
+    let quotient = exact_quotient(x, i128::from(k));
     check_product(rt, a, k, product);
     check_quotient(rt, a, k, quotient);
+    let (product, quotient) = (twice(exact(product)), twice(quotient));
     if let Ok(k) = i8::try_from(k) {
-        check_by_i8(rt, a, k, product, quotient);
+        same(rt, products_by_i8(a, k), product);
+        same(rt, quotients_by_i8(a, k), quotient);
     }
     if let Ok(k) = i16::try_from(k) {
-        check_by_i16(rt, a, k, product, quotient);
+        same(rt, products_by_i16(a, k), product);
+        same(rt, quotients_by_i16(a, k), quotient);
     }
     if let Ok(k) = u8::try_from(k) {
-        check_by_u8(rt, a, k, product, quotient);
+        same(rt, products_by_u8(a, k), product);
+        same(rt, quotients_by_u8(a, k), quotient);
     }
     if let Ok(k) = u16::try_from(k) {
-        check_by_u16(rt, a, k, product, quotient);
+        same(rt, products_by_u16(a, k), product);
+        same(rt, quotients_by_u16(a, k), quotient);
     }
 }
 
@@ -130,17 +167,18 @@ fn products_and_quotients(rt: HostRuntime) {
 // A number above 2147483647 has no checked call, so these rows meet the conditions without a test.
 #[test]
 fn products_and_quotients_by_u32(rt: HostRuntime) {
+    let rt = &rt;
     let (min, max) = (SignedDuration::MIN, SignedDuration::MAX);
     let (one, less_one) = (SignedDuration::NANOSECOND, SignedDuration::nanoseconds(-1));
     let most = 4_294_967_295;
-    check_twice(&rt, scaled_by_u32(min, min, 1), LEAST, LEAST);
-    check_twice(&rt, scaled_by_u32(max, max, 1), GREATEST, GREATEST);
+    check_twice(rt, scaled_by_u32(min, min, 1), LEAST, LEAST);
+    check_twice(rt, scaled_by_u32(max, max, 1), GREATEST, GREATEST);
     let scaled = scaled_by_u32(one, min, u32::MAX);
-    check_twice(&rt, scaled, most, LEAST / most);
+    check_twice(rt, scaled, most, LEAST / most);
     let scaled = scaled_by_u32(less_one, max, u32::MAX);
-    check_twice(&rt, scaled, -most, GREATEST / most);
-    check_number(&rt, min * 0u32, 0);
-    check_number(&rt, max * 0u32, 0);
+    check_twice(rt, scaled, -most, GREATEST / most);
+    check_number(rt, min * 0u32, 0);
+    check_number(rt, max * 0u32, 0);
 }
 
 /// Checks the signs, the opposite and the magnitude of a duration with these nanoseconds.
@@ -188,31 +226,33 @@ fn parts(rt: HostRuntime) {
 
 #[test]
 fn durations_of_each_unit(rt: HostRuntime) {
+    let rt = &rt;
     for &n in &[i64::MIN, -1, 0, 1, i64::MAX] {
         let number = i128::from(n);
-        check_number(&rt, SignedDuration::seconds(n), number * SECOND);
-        check_number(&rt, SignedDuration::milliseconds(n), number * 1_000_000);
-        check_number(&rt, SignedDuration::microseconds(n), number * 1_000);
-        check_number(&rt, SignedDuration::nanoseconds(n), number);
+        check_number(rt, SignedDuration::seconds(n), number * SECOND);
+        check_number(rt, SignedDuration::milliseconds(n), number * 1_000_000);
+        check_number(rt, SignedDuration::microseconds(n), number * 1_000);
+        check_number(rt, SignedDuration::nanoseconds(n), number);
     }
 }
 
 #[test]
 fn durations_of_seconds_and_nanoseconds(rt: HostRuntime) {
+    let rt = &rt;
     let least = SignedDuration::new(i64::MIN, -999_999_999);
-    check_number(&rt, least, LEAST);
+    check_number(rt, least, LEAST);
     let near = SignedDuration::new(i64::MIN, 1);
-    check_number(&rt, near, -9_223_372_036_854_775_807_999_999_999);
+    check_number(rt, near, -9_223_372_036_854_775_807_999_999_999);
     let past = SignedDuration::new(i64::MIN, i32::MAX);
-    check_number(&rt, past, -9_223_372_036_854_775_805_852_516_353);
+    check_number(rt, past, -9_223_372_036_854_775_805_852_516_353);
     let greatest = SignedDuration::new(i64::MAX, 999_999_999);
-    check_number(&rt, greatest, GREATEST);
+    check_number(rt, greatest, GREATEST);
     let before = SignedDuration::new(i64::MAX, i32::MIN);
-    check_number(&rt, before, 9_223_372_036_854_775_804_852_516_352);
-    check_number(&rt, SignedDuration::new(0, i32::MIN), -2_147_483_648);
-    check_number(&rt, SignedDuration::new(0, i32::MAX), 2_147_483_647);
-    check_number(&rt, SignedDuration::nanoseconds_i128(LEAST), LEAST);
-    check_number(&rt, SignedDuration::nanoseconds_i128(GREATEST), GREATEST);
+    check_number(rt, before, 9_223_372_036_854_775_804_852_516_352);
+    check_number(rt, SignedDuration::new(0, i32::MIN), -2_147_483_648);
+    check_number(rt, SignedDuration::new(0, i32::MAX), 2_147_483_647);
+    check_number(rt, SignedDuration::nanoseconds_i128(LEAST), LEAST);
+    check_number(rt, SignedDuration::nanoseconds_i128(GREATEST), GREATEST);
 }
 
 fn check_sum_of(rt: &impl Abort, durations: &[SignedDuration], sum: Option<SignedDuration>) {
@@ -221,17 +261,22 @@ fn check_sum_of(rt: &impl Abort, durations: &[SignedDuration], sum: Option<Signe
 
 #[test]
 fn slices(rt: HostRuntime) {
+    let rt = &rt;
     let (min, max) = (SignedDuration::MIN, SignedDuration::MAX);
     let (one, less_one) = (SignedDuration::NANOSECOND, SignedDuration::nanoseconds(-1));
-    check_sum_of(&rt, &[], Some(SignedDuration::ZERO));
-    check_sum_of(&rt, &[min], Some(min));
-    check_sum_of(&rt, &[max], Some(max));
-    check_sum_of(&rt, &[min, max], Some(SignedDuration::seconds(-1)));
-    check_sum_of(&rt, &[max, min, min], None);
-    check_sum_of(&rt, &[min, min, max, max], None);
-    check_sum_of(&rt, &[max, one, less_one], None);
-    check_sum_of(&rt, &[max, less_one, one], Some(max));
+    check_sum_of(rt, &[], Some(SignedDuration::ZERO));
+    check_sum_of(rt, &[min], Some(min));
+    check_sum_of(rt, &[max], Some(max));
+    check_sum_of(rt, &[min, max], Some(SignedDuration::seconds(-1)));
+    check_sum_of(rt, &[max, min, min], None);
+    check_sum_of(rt, &[min, min, max, max], None);
+    check_sum_of(rt, &[max, one, less_one], None);
+    check_sum_of(rt, &[max, less_one, one], Some(max));
     let [a, b, c, d, e, f, g, h, i] = ends();
-    assert!(rt; is_rising(&[a.0, b.0, c.0, d.0, e.0, f.0, g.0, h.0, i.0]));
-    same(&rt, extent(&[max, min]), Some((min, max)));
+    same(
+        rt,
+        is_rising(&[a.0, b.0, c.0, d.0, e.0, f.0, g.0, h.0, i.0]),
+        true,
+    );
+    same(rt, extent(&[max, min]), Some((min, max)));
 }

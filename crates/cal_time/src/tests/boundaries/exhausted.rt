@@ -78,21 +78,22 @@ fn check_round<'a>(rt: &impl Abort, walk: &mut DateIter, list: &'a [i32], k: usi
 
 #[test]
 fn drained_by_steps_of_each_kind(rt: HostRuntime) {
-    let (first, last) = (date(&rt, 2019, 12, 25), date(&rt, 2020, 3, 5));
+    let rt = &rt;
+    let (first, last) = (date(rt, 2019, 12, 25), date(rt, 2020, 3, 5));
     let days = days();
     for k in 0..10 {
         let mut walk = first.iter_to(last);
         let mut left: &[i32] = &days;
-        same(&rt, walk.len(), 72);
+        same(rt, walk.len(), 72);
         for _ in 0..72 {
             if left.is_empty() {
                 break;
             }
-            left = check_round(&rt, &mut walk, left, k);
+            left = check_round(rt, &mut walk, left, k);
         }
-        assert!(rt; left.is_empty());
+        same(rt, left.is_empty(), true);
 
         // The iterator is empty, whichever call is used.
-        check_round(&rt, &mut walk, left, k);
+        check_round(rt, &mut walk, left, k);
     }
 }

@@ -160,7 +160,7 @@ fn week_date(rt: &impl Abort, year: i32, week: u8, weekday: Weekday) -> (u32, u3
             (1, 0, 0)
         }
         Err(error) => {
-            assert!(rt; error.is_conditional());
+            same(rt, error.is_conditional(), true);
             let (no_week, no_weekday) = (error.name() == "week", error.name() == "weekday");
             (0, u32::from(no_week), u32::from(no_weekday))
         }

@@ -25,14 +25,15 @@ fn check_empty(rt: &impl Abort, walk: &DateIter) {
 
 #[test]
 fn the_whole_range(rt: HostRuntime) {
+    let rt = &rt;
     let walk = Date::MIN.iter_to(Date::MAX);
-    same(&rt, walk.len() as i64, DAYS);
-    same(&rt, walk.size_hint(), (walk.len(), Some(walk.len())));
-    same(&rt, walk.clone().count(), walk.len());
-    same(&rt, walk.clone().min(), Some(Date::MIN));
-    same(&rt, walk.clone().max(), Some(Date::MAX));
-    same(&rt, walk.clone().last(), Some(Date::MAX));
-    assert!(rt; walk.is_sorted());
+    same(rt, walk.len() as i64, DAYS);
+    same(rt, walk.size_hint(), (walk.len(), Some(walk.len())));
+    same(rt, walk.clone().count(), walk.len());
+    same(rt, walk.clone().min(), Some(Date::MIN));
+    same(rt, walk.clone().max(), Some(Date::MAX));
+    same(rt, walk.clone().last(), Some(Date::MAX));
+    same(rt, walk.is_sorted(), true);
 }
 
 /// Checks `n` steps from the front and from the back.
@@ -57,13 +58,14 @@ fn check_steps(rt: &impl Abort, n: usize, from_front: Option<Date>, from_back: O
 // The columns: n, and the days after n steps from the front and from the back.
 #[test]
 fn steps_from_both_ends(rt: HostRuntime) {
-    let (eighth, eighth_last) = (date(&rt, FIRST_YEAR, 1, 8), date(&rt, LAST_YEAR, 12, 24));
-    check_steps(&rt, 0, Some(Date::MIN), Some(Date::MAX));
-    check_steps(&rt, 7, Some(eighth), Some(eighth_last));
-    check_steps(&rt, LAST_PLACE - 7, Some(eighth_last), Some(eighth));
-    check_steps(&rt, LAST_PLACE, Some(Date::MAX), Some(Date::MIN));
-    check_steps(&rt, LAST_PLACE + 1, None, None);
-    check_steps(&rt, usize::MAX, None, None);
+    let rt = &rt;
+    let (eighth, eighth_last) = (date(rt, FIRST_YEAR, 1, 8), date(rt, LAST_YEAR, 12, 24));
+    check_steps(rt, 0, Some(Date::MIN), Some(Date::MAX));
+    check_steps(rt, 7, Some(eighth), Some(eighth_last));
+    check_steps(rt, LAST_PLACE - 7, Some(eighth_last), Some(eighth));
+    check_steps(rt, LAST_PLACE, Some(Date::MAX), Some(Date::MIN));
+    check_steps(rt, LAST_PLACE + 1, None, None);
+    check_steps(rt, usize::MAX, None, None);
 }
 
 /// Checks an empty iterator, and whether it equals one from the last day to the first.
@@ -76,18 +78,19 @@ fn check_kept(rt: &impl Abort, walk: &DateIter, is_same: bool) {
 // empty.
 #[test]
 fn what_empty_walks_keep(rt: HostRuntime) {
-    check_kept(&rt, &DateIter::new(Date::MAX, Date::MIN), true);
+    let rt = &rt;
+    check_kept(rt, &DateIter::new(Date::MAX, Date::MIN), true);
     let mut walk = DateIter::new(Date::MAX, Date::MAX);
-    same(&rt, walk.nth_back(usize::MAX), None);
-    check_kept(&rt, &walk, true);
+    same(rt, walk.nth_back(usize::MAX), None);
+    check_kept(rt, &walk, true);
     let mut walk = DateIter::new(Date::MIN, Date::MAX);
-    same(&rt, walk.nth(LAST_PLACE - 1), Date::MAX.previous_day());
-    same(&rt, walk.nth(usize::MAX), None);
-    check_kept(&rt, &walk, true);
+    same(rt, walk.nth(LAST_PLACE - 1), Date::MAX.previous_day());
+    same(rt, walk.nth(usize::MAX), None);
+    check_kept(rt, &walk, true);
     let mut walk = DateIter::new(Date::MIN, Date::MIN);
-    same(&rt, walk.next(), Some(Date::MIN));
-    check_kept(&rt, &walk, false);
+    same(rt, walk.next(), Some(Date::MIN));
+    check_kept(rt, &walk, false);
     let mut walk = DateIter::new(Date::MIN, Date::MAX);
-    same(&rt, walk.nth(LAST_PLACE), Some(Date::MAX));
-    check_kept(&rt, &walk, false);
+    same(rt, walk.nth(LAST_PLACE), Some(Date::MAX));
+    check_kept(rt, &walk, false);
 }

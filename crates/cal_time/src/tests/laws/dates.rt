@@ -47,10 +47,11 @@ fn check_forms(rt: &impl Abort, date: Date) {
 
 #[test]
 fn dates_by_what_they_have(rt: HostRuntime) {
-    check_forms(&rt, Date::MIN);
-    check_forms(&rt, date(&rt, 2000, 2, 29));
-    check_forms(&rt, date(&rt, 2021, 1, 1));
-    check_forms(&rt, Date::MAX);
+    let rt = &rt;
+    check_forms(rt, Date::MIN);
+    check_forms(rt, date(rt, 2000, 2, 29));
+    check_forms(rt, date(rt, 2021, 1, 1));
+    check_forms(rt, Date::MAX);
 }
 
 fn julian_day(julian_day: i32) -> Result<i32, ComponentRange>
@@ -99,19 +100,20 @@ fn check_week_date(rt: &impl Abort, year: i32, week: u8, weekday: Weekday) {
 
 #[test]
 fn components_by_their_dates(rt: HostRuntime) {
+    let rt = &rt;
     let (first, last) = (FIRST_JULIAN_DAY, LAST_JULIAN_DAY);
-    same(&rt, julian_day(first).ok(), Some(first));
-    same(&rt, julian_day(0).ok(), Some(0));
-    same(&rt, julian_day(last).ok(), Some(last));
-    check_ordinal_date(&rt, FIRST_YEAR, 1);
-    check_ordinal_date(&rt, 2000, 60);
-    check_ordinal_date(&rt, 2020, 366);
-    check_calendar_date(&rt, -1, Month::December, 31);
-    check_calendar_date(&rt, 2000, Month::February, 29);
-    check_calendar_date(&rt, LAST_YEAR, Month::December, 31);
-    check_week_date(&rt, 2019, 40, Weekday::Friday);
-    check_week_date(&rt, 2020, 1, Weekday::Monday);
-    check_week_date(&rt, 2020, 53, Weekday::Sunday);
+    same(rt, julian_day(first).ok(), Some(first));
+    same(rt, julian_day(0).ok(), Some(0));
+    same(rt, julian_day(last).ok(), Some(last));
+    check_ordinal_date(rt, FIRST_YEAR, 1);
+    check_ordinal_date(rt, 2000, 60);
+    check_ordinal_date(rt, 2020, 366);
+    check_calendar_date(rt, -1, Month::December, 31);
+    check_calendar_date(rt, 2000, Month::February, 29);
+    check_calendar_date(rt, LAST_YEAR, Month::December, 31);
+    check_week_date(rt, 2019, 40, Weekday::Friday);
+    check_week_date(rt, 2020, 1, Weekday::Monday);
+    check_week_date(rt, 2020, 53, Weekday::Sunday);
 }
 
 /// Returns the Julian days of a date and of the next one.
@@ -144,8 +146,9 @@ fn check_neighbours(rt: &impl Abort, julian_day: i32, next: i32) {
 
 #[test]
 fn julian_days_of_neighbours(rt: HostRuntime) {
-    check_neighbours(&rt, FIRST_JULIAN_DAY, FIRST_JULIAN_DAY + 1);
-    check_neighbours(&rt, -1, 0);
-    check_neighbours(&rt, 2_451_544, 2_451_545);
-    check_neighbours(&rt, LAST_JULIAN_DAY - 1, LAST_JULIAN_DAY);
+    let rt = &rt;
+    check_neighbours(rt, FIRST_JULIAN_DAY, FIRST_JULIAN_DAY + 1);
+    check_neighbours(rt, -1, 0);
+    check_neighbours(rt, 2_451_544, 2_451_545);
+    check_neighbours(rt, LAST_JULIAN_DAY - 1, LAST_JULIAN_DAY);
 }

@@ -39,16 +39,17 @@ fn check_duration(rt: &impl Abort, duration: SignedDuration, other: SignedDurati
 
 #[test]
 fn moves_there_and_back(rt: HostRuntime) {
-    check_date(&rt, Date::MIN, SignedDuration::days(DAYS - 1));
-    let evening = date(&rt, 2020, 12, 31);
-    check_date(&rt, evening, SignedDuration::hours(47));
-    check_date(&rt, Date::MAX, SignedDuration::hours(-49));
-    check_duration(&rt, SignedDuration::MAX, SignedDuration::MIN);
+    let rt = &rt;
+    check_date(rt, Date::MIN, SignedDuration::days(DAYS - 1));
+    let evening = date(rt, 2020, 12, 31);
+    check_date(rt, evening, SignedDuration::hours(47));
+    check_date(rt, Date::MAX, SignedDuration::hours(-49));
+    check_duration(rt, SignedDuration::MAX, SignedDuration::MIN);
     let less_one = SignedDuration::nanoseconds(-1);
-    check_duration(&rt, less_one, SignedDuration::SECOND);
+    check_duration(rt, less_one, SignedDuration::SECOND);
     let least_seconds = SignedDuration::seconds(i64::MIN);
     let part = SignedDuration::nanoseconds(-999_999_999);
-    check_duration(&rt, least_seconds, part);
+    check_duration(rt, least_seconds, part);
 }
 
 fn by_difference(from: Date, to: Date) -> Option<Date>
@@ -68,6 +69,7 @@ fn check_differences(rt: &impl Abort, days: &[Date]) {
 
 #[test]
 fn moves_by_differences(rt: HostRuntime) {
-    let (leap_day, new_year) = (date(&rt, 2000, 2, 29), date(&rt, 2021, 1, 1));
-    check_differences(&rt, &[Date::MIN, leap_day, new_year, Date::MAX]);
+    let rt = &rt;
+    let (leap_day, new_year) = (date(rt, 2000, 2, 29), date(rt, 2021, 1, 1));
+    check_differences(rt, &[Date::MIN, leap_day, new_year, Date::MAX]);
 }

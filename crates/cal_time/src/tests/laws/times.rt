@@ -25,10 +25,11 @@ fn check_time(rt: &impl Abort, from: Time, to: Time, duration: SignedDuration) {
 
 #[test]
 fn times_there_and_back(rt: HostRuntime) {
-    let (late, early) = (time(&rt, 23, 0, 0, 0), time(&rt, 1, 0, 0, 0));
-    check_time(&rt, Time::MAX, Time::MIDNIGHT, SignedDuration::MIN);
-    check_time(&rt, Time::MIDNIGHT, Time::MAX, SignedDuration::MAX);
-    check_time(&rt, late, early, SignedDuration::nanoseconds(-1));
+    let rt = &rt;
+    let (late, early) = (time(rt, 23, 0, 0, 0), time(rt, 1, 0, 0, 0));
+    check_time(rt, Time::MAX, Time::MIDNIGHT, SignedDuration::MIN);
+    check_time(rt, Time::MIDNIGHT, Time::MAX, SignedDuration::MAX);
+    check_time(rt, late, early, SignedDuration::nanoseconds(-1));
 }
 
 fn by_whole_seconds(offset: UtcOffset) -> Result<UtcOffset, ComponentRange>
@@ -50,7 +51,8 @@ fn check_offset(rt: &impl Abort, offset: UtcOffset) {
 
 #[test]
 fn offsets_there_and_back(rt: HostRuntime) {
-    check_offset(&rt, UtcOffset::UTC);
-    check_offset(&rt, offset(&rt, 0, -30, -15));
-    check_offset(&rt, offset(&rt, 25, 59, 59));
+    let rt = &rt;
+    check_offset(rt, UtcOffset::UTC);
+    check_offset(rt, offset(rt, 0, -30, -15));
+    check_offset(rt, offset(rt, 25, 59, 59));
 }

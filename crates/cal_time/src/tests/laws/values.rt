@@ -1,7 +1,7 @@
 //! The order, the equality and the hash of values, by their numbers.
 ghost use Rattle.std.specs.Prelude.{◌≡◌, ◌↔◌, ◌<ℤ◌, IsTrue};
 
-use crate::tests::{date, hash_of, offset, same_at, time};
+use crate::tests::{date, hash_of, offset, same, same_at, time};
 use crate::{Counted, Date, SignedDuration, Time, UtcOffset};
 use std::cmp::Ordering;
 use std::process::Abort;
@@ -41,7 +41,7 @@ fn check_two<T: Counted>(rt: &impl Abort, a: T, b: T) {
     same_at(rt, (one, other), by_order, one == other);
     same_at(rt, (one, other), is_equal, one == other);
     let (hash, other_hash) = hashes(a, b);
-    assert!(rt; one != other || hash == other_hash);
+    same(rt, one != other || hash == other_hash, true);
 }
 
 /// Checks each two of the values.
@@ -56,19 +56,20 @@ pub(crate) fn check_values<T: Counted>(rt: &impl Abort, values: &[T]) {
 // The second and the third value of each list are equal.
 #[test]
 fn values_by_their_numbers(rt: HostRuntime) {
-    let leap_day = date(&rt, 2000, 2, 29);
-    let eve = date(&rt, 2000, 3, 1).previous_day();
-    let eve = eve.expect(&rt, "no day");
-    check_values(&rt, &[Date::MIN, leap_day, eve, Date::MAX]);
-    let (noon, second) = (time(&rt, 12, 0, 0, 0), SignedDuration::SECOND);
+    let rt = &rt;
+    let leap_day = date(rt, 2000, 2, 29);
+    let eve = date(rt, 2000, 3, 1).previous_day();
+    let eve = eve.expect(rt, "no day");
+    check_values(rt, &[Date::MIN, leap_day, eve, Date::MAX]);
+    let (noon, second) = (time(rt, 12, 0, 0, 0), SignedDuration::SECOND);
     let same_noon = noon + second - second;
-    check_values(&rt, &[Time::MIDNIGHT, noon, same_noon, Time::MAX]);
+    check_values(rt, &[Time::MIDNIGHT, noon, same_noon, Time::MAX]);
     let less_one = SignedDuration::nanoseconds(-1);
     let same_one = SignedDuration::new(-1, 999_999_999);
     let (min, max) = (SignedDuration::MIN, SignedDuration::MAX);
-    check_values(&rt, &[min, less_one, same_one, max]);
-    let (west, less_west) = (offset(&rt, -5, -30, 0), offset(&rt, -4, -30, 0));
-    check_values(&rt, &[west, less_west, -(-less_west), UtcOffset::UTC]);
+    check_values(rt, &[min, less_one, same_one, max]);
+    let (west, less_west) = (offset(rt, -5, -30, 0), offset(rt, -4, -30, 0));
+    check_values(rt, &[west, less_west, -(-less_west), UtcOffset::UTC]);
 }
 
 /// Compares two durations, and their nanoseconds.
@@ -99,14 +100,15 @@ fn check_offsets(rt: &impl Abort, a: UtcOffset, b: UtcOffset, order: Ordering) {
 
 #[test]
 fn durations_by_nanoseconds_and_offsets_by_seconds(rt: HostRuntime) {
+    let rt = &rt;
     let less_one = SignedDuration::nanoseconds(-1);
-    check_durations(&rt, SignedDuration::MIN, less_one, Ordering::Less);
+    check_durations(rt, SignedDuration::MIN, less_one, Ordering::Less);
     let same_one = SignedDuration::new(-1, 999_999_999);
-    check_durations(&rt, same_one, less_one, Ordering::Equal);
-    check_durations(&rt, SignedDuration::ZERO, less_one, Ordering::Greater);
-    let (west, less_west) = (offset(&rt, -5, -30, 0), offset(&rt, -4, -30, 0));
-    check_offsets(&rt, west, less_west, Ordering::Less);
-    let (one, other) = (offset(&rt, 0, -59, 59), -offset(&rt, 0, 59, 59));
-    check_offsets(&rt, one, other, Ordering::Equal);
-    check_offsets(&rt, UtcOffset::UTC, west, Ordering::Greater);
+    check_durations(rt, same_one, less_one, Ordering::Equal);
+    check_durations(rt, SignedDuration::ZERO, less_one, Ordering::Greater);
+    let (west, less_west) = (offset(rt, -5, -30, 0), offset(rt, -4, -30, 0));
+    check_offsets(rt, west, less_west, Ordering::Less);
+    let (one, other) = (offset(rt, 0, -59, 59), -offset(rt, 0, 59, 59));
+    check_offsets(rt, one, other, Ordering::Equal);
+    check_offsets(rt, UtcOffset::UTC, west, Ordering::Greater);
 }
