@@ -1,6 +1,6 @@
 //! Dates moved by durations and to weekdays, and dates with one component replaced.
 use crate::tests::range::{DAYS, FIRST_JULIAN_DAY, LAST_JULIAN_DAY, LAST_YEAR};
-use crate::tests::{Told, check_at, date, same, same_at};
+use crate::tests::{Told, check_at, date, same};
 use crate::{Counted, Date, Month, SignedDuration, Weekday};
 use std::process::Abort;
 
@@ -11,24 +11,16 @@ fn clamped(julian_day: i128) -> i128 {
         .min(i128::from(LAST_JULIAN_DAY))
 }
 
-/// Returns the Julian day if it is in the range.
-fn in_range(julian_day: i128) -> Option<i128> {
-    (julian_day == clamped(julian_day)).then_some(julian_day)
-}
-
-/// Returns the Julian day of a date, if there is one.
-fn number(date: Option<Date>) -> Option<i128> {
-    Some(date?.number())
-}
-
 /// Checks a date plus a duration, by each call. No date is wanted if the Julian day is out of
 /// range, and the clamped date is the nearest one.
 pub(super) fn check_sum(rt: &impl Abort, date: Date, duration: SignedDuration, wanted: i128) {
     same(rt, date.saturating_add(duration).number(), clamped(wanted));
-    same(rt, number(date.checked_add(duration)), in_range(wanted));
-    if date.checked_add(duration).is_some() {
+    let checked = date.checked_add(duration);
+    same(rt, checked.is_some(), wanted == clamped(wanted));
+    if let Some(sum) = checked {
         let mut moved = date;
         moved += duration;
+        same(rt, sum.number(), wanted);
         same(rt, (date + duration).number(), wanted);
         same(rt, moved.number(), wanted);
     }
@@ -42,10 +34,12 @@ pub(super) fn check_difference(
     wanted: i128,
 ) {
     same(rt, date.saturating_sub(duration).number(), clamped(wanted));
-    same(rt, number(date.checked_sub(duration)), in_range(wanted));
-    if date.checked_sub(duration).is_some() {
+    let checked = date.checked_sub(duration);
+    same(rt, checked.is_some(), wanted == clamped(wanted));
+    if let Some(difference) = checked {
         let mut moved = date;
         moved -= duration;
+        same(rt, difference.number(), wanted);
         same(rt, (date - duration).number(), wanted);
         same(rt, moved.number(), wanted);
     }
@@ -79,7 +73,7 @@ fn days_between(rt: HostRuntime) {
 pub(super) fn check_nth_next(rt: &impl Abort, date: Date, weekday: Weekday, n: u8, wanted: i128) {
     let checked = date.checked_nth_next_occurrence(weekday, n);
     let is_date = n > 0 && wanted == clamped(wanted);
-    same_at(rt, wanted, checked.is_some(), is_date);
+    same(rt, checked.is_some(), is_date);
     if let Some(day) = checked {
         same(rt, day.number(), wanted);
         let day = date.nth_next_occurrence(weekday, n);
@@ -91,7 +85,7 @@ pub(super) fn check_nth_next(rt: &impl Abort, date: Date, weekday: Weekday, n: u
 pub(super) fn check_nth_prev(rt: &impl Abort, date: Date, weekday: Weekday, n: u8, wanted: i128) {
     let checked = date.checked_nth_prev_occurrence(weekday, n);
     let is_date = n > 0 && wanted == clamped(wanted);
-    same_at(rt, wanted, checked.is_some(), is_date);
+    same(rt, checked.is_some(), is_date);
     if let Some(day) = checked {
         same(rt, day.number(), wanted);
         let day = date.nth_prev_occurrence(weekday, n);
@@ -103,7 +97,7 @@ pub(super) fn check_nth_prev(rt: &impl Abort, date: Date, weekday: Weekday, n: u
 pub(super) fn check_next(rt: &impl Abort, date: Date, weekday: Weekday, wanted: i128) {
     let checked = date.checked_next_occurrence(weekday);
     let is_date = wanted == clamped(wanted);
-    same_at(rt, wanted, checked.is_some(), is_date);
+    same(rt, checked.is_some(), is_date);
     if let Some(day) = checked {
         same(rt, day.number(), wanted);
         same(rt, date.next_occurrence(weekday).number(), wanted);
@@ -114,7 +108,7 @@ pub(super) fn check_next(rt: &impl Abort, date: Date, weekday: Weekday, wanted: 
 pub(super) fn check_prev(rt: &impl Abort, date: Date, weekday: Weekday, wanted: i128) {
     let checked = date.checked_prev_occurrence(weekday);
     let is_date = wanted == clamped(wanted);
-    same_at(rt, wanted, checked.is_some(), is_date);
+    same(rt, checked.is_some(), is_date);
     if let Some(day) = checked {
         same(rt, day.number(), wanted);
         same(rt, date.prev_occurrence(weekday).number(), wanted);

@@ -122,17 +122,33 @@ fn number(duration: Option<SignedDuration>) -> Option<i128> {
     Some(duration?.number())
 }
 
+pub(super) fn twice(nanoseconds: Option<i128>) -> Option<[i128; 2]> {
+    let nanoseconds = nanoseconds?;
+    Some([nanoseconds, nanoseconds])
+}
+
+/// Returns the results of `+` and `+=` if the sum is a duration.
+fn sums(a: SignedDuration, b: SignedDuration) -> Option<[i128; 2]> {
+    a.checked_add(b)?;
+    let mut sum = a;
+    sum += b;
+    Some([(a + b).number(), sum.number()])
+}
+
+/// Returns the results of `-` and `-=` if the difference is a duration.
+fn differences(a: SignedDuration, b: SignedDuration) -> Option<[i128; 2]> {
+    a.checked_sub(b)?;
+    let mut difference = a;
+    difference -= b;
+    Some([(a - b).number(), difference.number()])
+}
+
 /// Checks a sum of durations, by each call. No duration is wanted if the number is out of range,
 /// and the clamped one is the nearest one.
 pub(super) fn check_sum(rt: &impl Abort, a: SignedDuration, b: SignedDuration, wanted: i128) {
     same(rt, a.saturating_add(b).number(), clamped(wanted));
     same(rt, number(a.checked_add(b)), exact(wanted));
-    if a.checked_add(b).is_some() {
-        let mut sum = a;
-        sum += b;
-        same(rt, (a + b).number(), wanted);
-        same(rt, sum.number(), wanted);
-    }
+    same(rt, sums(a, b), twice(exact(wanted)));
 }
 
 /// Checks a difference of durations in the same way.
@@ -144,12 +160,7 @@ pub(super) fn check_difference(
 ) {
     same(rt, a.saturating_sub(b).number(), clamped(wanted));
     same(rt, number(a.checked_sub(b)), exact(wanted));
-    if a.checked_sub(b).is_some() {
-        let mut difference = a;
-        difference -= b;
-        same(rt, (a - b).number(), wanted);
-        same(rt, difference.number(), wanted);
-    }
+    same(rt, differences(a, b), twice(exact(wanted)));
 }
 
 /// Checks the opposite of a duration in the same way.

@@ -3,7 +3,7 @@ use crate::tests::boundaries::{DAY, HOUR, MINUTE, SECOND};
 use crate::tests::conditions::scaled_by_u32;
 use crate::tests::durations::{
     GREATEST, LEAST, check_difference, check_number, check_opposite, check_product, check_quotient,
-    check_sum, check_twice, clamped, exact,
+    check_sum, check_twice, clamped, exact, twice,
 };
 use crate::tests::{same, same_at};
 use crate::{Counted, SignedDuration, extent, is_rising};
@@ -101,11 +101,6 @@ fn products_by_u16(a: SignedDuration, k: u16) -> Option<[i128; 2]> {
 
 fn quotients_by_u16(a: SignedDuration, k: u16) -> Option<[i128; 2]> {
     quotients!(a, k)
-}
-
-fn twice(nanoseconds: Option<i128>) -> Option<[i128; 2]> {
-    let nanoseconds = nanoseconds?;
-    Some([nanoseconds, nanoseconds])
 }
 
 /// Returns the quotient, truncated toward zero, if the divisor isn't 0 and it is a duration.
@@ -272,11 +267,23 @@ fn slices(rt: HostRuntime) {
     check_sum_of(rt, &[min, min, max, max], None);
     check_sum_of(rt, &[max, one, less_one], None);
     check_sum_of(rt, &[max, less_one, one], Some(max));
-    let [a, b, c, d, e, f, g, h, i] = ends();
-    same(
-        rt,
-        is_rising(&[a.0, b.0, c.0, d.0, e.0, f.0, g.0, h.0, i.0]),
-        true,
-    );
+}
+
+#[test]
+fn slices_that_rise(rt: HostRuntime) {
+    let rt = &rt;
+    let (min, max) = (SignedDuration::MIN, SignedDuration::MAX);
     same(rt, extent(&[max, min]), Some((min, max)));
+    let durations = [
+        min,
+        SignedDuration::seconds(i64::MIN),
+        SignedDuration::seconds(-1),
+        SignedDuration::nanoseconds(-1),
+        SignedDuration::ZERO,
+        SignedDuration::NANOSECOND,
+        SignedDuration::SECOND,
+        SignedDuration::seconds(i64::MAX),
+        max,
+    ];
+    same(rt, is_rising(&durations), true);
 }
