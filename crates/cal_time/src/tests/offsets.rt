@@ -44,8 +44,8 @@ fn offsets_of_parts_and_of_seconds(rt: HostRuntime) {
 // `boundaries` has the other parts that are out of range.
 #[test]
 fn offsets_out_of_range(rt: HostRuntime) {
-    let refused = Err(("offset hour", false));
-    check(&rt, UtcOffset::from_hms(26, 99, 0), refused);
+    let no_hour = Err(("offset hour", false));
+    check(&rt, UtcOffset::from_hms(26, 99, 0), no_hour);
 }
 
 // The bytes of the three parts of -5:30 and -4:30, with signs, can compare as equal.

@@ -79,11 +79,11 @@ fn julian_days(rt: HostRuntime) {
     let rt = &rt;
     check_julian_day(rt, FIRST_JULIAN_DAY, Ok(i128::from(FIRST_JULIAN_DAY)));
     check_julian_day(rt, LAST_JULIAN_DAY, Ok(i128::from(LAST_JULIAN_DAY)));
-    let refused = Err(("julian_day", false));
-    check_julian_day(rt, i32::MIN, refused);
-    check_julian_day(rt, FIRST_JULIAN_DAY - 1, refused);
-    check_julian_day(rt, LAST_JULIAN_DAY + 1, refused);
-    check_julian_day(rt, i32::MAX, refused);
+    let no_day = Err(("julian_day", false));
+    check_julian_day(rt, i32::MIN, no_day);
+    check_julian_day(rt, FIRST_JULIAN_DAY - 1, no_day);
+    check_julian_day(rt, LAST_JULIAN_DAY + 1, no_day);
+    check_julian_day(rt, i32::MAX, no_day);
 }
 
 #[test]
