@@ -31,11 +31,26 @@ mod walks;
 type Told = Result<i128, (&'static str, bool)>;
 
 /// Returns the number or the error of a result.
-fn told<T: Counted>(answer: &Result<T, ComponentRange>) -> Told {
+fn told<T: Counted>(answer: Result<T, ComponentRange>) -> Told {
     match answer {
         Ok(value) => Ok(value.number()),
         Err(error) => Err((error.name(), error.is_conditional())),
     }
+}
+
+/// Checks the number of a result, or the name of its error and whether it is conditional.
+fn check<T: Counted>(rt: &impl Abort, answer: Result<T, ComponentRange>, wanted: Told) {
+    same(rt, told(answer), wanted);
+}
+
+/// Checks a result in the same way, and shows the arguments of the call if it fails.
+fn check_at<T: Counted>(
+    rt: &impl Abort,
+    arguments: [i32; 3],
+    answer: Result<T, ComponentRange>,
+    wanted: Told,
+) {
+    same_at(rt, arguments, told(answer), wanted);
 }
 
 /// Creates the date with this year, number of the month and day of the month.

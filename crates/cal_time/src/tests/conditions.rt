@@ -7,6 +7,7 @@ ghost use Rattle.cal_units.specs.ShortText.{HasRoom};
 ghost use Rattle.cal_units.specs.YearText.{year_text};
 ghost use Rattle.cal_span.specs.SignedDuration.{second, minute, hour, day, week, IsDuration, HasQuotient, cut};
 
+use crate::tests::durations::check_twice;
 use crate::tests::same;
 use crate::{ShortText, SignedDuration};
 
@@ -159,37 +160,39 @@ fn new_texts(
 
 #[test]
 fn texts_within_their_room(rt: HostRuntime) {
+    let rt = &rt;
     let (number, wide, year, half) = new_texts(-7, i128::MIN, 2024, 500_000_000);
-    same(&rt, number.as_str(), "-7");
-    same(
-        &rt,
-        wide.as_str(),
-        "-170141183460469231731687303715884105728",
-    );
-    same(&rt, year.as_str(), "2024");
-    same(&rt, half.as_str(), "5");
+    same(rt, number.as_str(), "-7");
+    let least = "-170141183460469231731687303715884105728";
+    same(rt, wide.as_str(), least);
+    same(rt, year.as_str(), "2024");
+    same(rt, half.as_str(), "5");
 }
 
 #[test]
 fn calls_within_their_conditions(rt: HostRuntime) {
+    let rt = &rt;
     let [week, day, hour, minute] = made(1, 1, 1, 1);
-    same(&rt, week, SignedDuration::WEEK);
-    let found = (day, hour);
-    same(&rt, found, (SignedDuration::DAY, SignedDuration::HOUR));
-    same(&rt, minute, SignedDuration::MINUTE);
-    let second = SignedDuration::SECOND;
-    let half = SignedDuration::milliseconds(500);
-    let double = SignedDuration::seconds(2);
+    same(rt, week, SignedDuration::WEEK);
+    same(rt, day, SignedDuration::DAY);
+    same(rt, hour, SignedDuration::HOUR);
+    same(rt, minute, SignedDuration::MINUTE);
+    let (second, double) = (SignedDuration::SECOND, SignedDuration::seconds(2));
     let found = made_of_nanoseconds(0, 1_000_000_000, 1_000_000_000);
-    same(&rt, found, [second, second]);
-    same(&rt, sum(second, second), [double, double]);
-    same(&rt, difference(double, second), [second, second]);
-    same(&rt, opposite(second), SignedDuration::seconds(-1));
-    let scaled = [double, half, double, half];
-    same(&rt, scaled_by_i8(second, second, 2), scaled);
-    same(&rt, scaled_by_i16(second, second, 2), scaled);
-    same(&rt, scaled_by_i32(second, second, 2), scaled);
-    same(&rt, scaled_by_u8(second, second, 2), scaled);
-    same(&rt, scaled_by_u16(second, second, 2), scaled);
-    same(&rt, scaled_by_u32(second, second, 2), scaled);
+    same(rt, found, [second, second]);
+    same(rt, sum(second, second), [double, double]);
+    same(rt, difference(double, second), [second, second]);
+    same(rt, opposite(second), SignedDuration::seconds(-1));
+}
+
+#[test]
+fn scaled_within_their_conditions(rt: HostRuntime) {
+    let rt = &rt;
+    let (second, half, double) = (SignedDuration::SECOND, 500_000_000, 2_000_000_000);
+    check_twice(rt, scaled_by_i8(second, second, 2), double, half);
+    check_twice(rt, scaled_by_i16(second, second, 2), double, half);
+    check_twice(rt, scaled_by_i32(second, second, 2), double, half);
+    check_twice(rt, scaled_by_u8(second, second, 2), double, half);
+    check_twice(rt, scaled_by_u16(second, second, 2), double, half);
+    check_twice(rt, scaled_by_u32(second, second, 2), double, half);
 }

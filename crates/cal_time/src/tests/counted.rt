@@ -31,30 +31,16 @@ fn floors_by_their_numbers(rt: HostRuntime) {
 }
 
 #[test]
-fn the_extent_of_a_slice(rt: HostRuntime) {
-    let rows: [(&[Floor], Option<(Floor, Floor)>); 3] = [
-        (&[], None),
-        (&[Floor(4)], Some((Floor(4), Floor(4)))),
-        (
-            &[Floor(1), Floor(-3), Floor(7), Floor(0)],
-            Some((Floor(-3), Floor(7))),
-        ),
-    ];
-    for (floors, ends) in rows {
-        same(&rt, extent(floors), ends);
-    }
-}
-
-#[test]
-fn slices_that_rise(rt: HostRuntime) {
-    let rows: [(&[Floor], bool); 5] = [
-        (&[], true),
-        (&[Floor(2)], true),
-        (&[Floor(-1), Floor(0), Floor(5)], true),
-        (&[Floor(-1), Floor(0), Floor(0)], false),
-        (&[Floor(-1), Floor(5), Floor(0)], false),
-    ];
-    for (floors, rises) in rows {
-        same(&rt, is_rising(floors), rises);
-    }
+fn slices_of_floors(rt: HostRuntime) {
+    let rt = &rt;
+    let (low, high) = (Floor(-3), Floor(7));
+    same(rt, extent::<Floor>(&[]), None);
+    same(rt, extent(&[Floor(4)]), Some((Floor(4), Floor(4))));
+    let found = extent(&[Floor(1), low, high, Floor(0)]);
+    same(rt, found, Some((low, high)));
+    same(rt, is_rising::<Floor>(&[]), true);
+    same(rt, is_rising(&[Floor(2)]), true);
+    same(rt, is_rising(&[Floor(-1), Floor(0), Floor(5)]), true);
+    same(rt, is_rising(&[Floor(-1), Floor(0), Floor(0)]), false);
+    same(rt, is_rising(&[Floor(-1), Floor(5), Floor(0)]), false);
 }

@@ -6,228 +6,228 @@ use crate::util::{days_in_month, days_in_year, days_in_year_month, is_leap_year,
 use crate::{Cycle, Month, Weekday, nth_in};
 use std::process::Abort;
 
+fn check_year(rt: &impl Abort, year: i32, is_leap: bool, days: u16, weeks: u8) {
+    same_at(rt, year, is_leap_year(year), is_leap);
+    same_at(rt, year, days_in_year(year), days);
+    same_at(rt, year, weeks_in_year(year), weeks);
+}
+
 #[test]
 fn years_have_their_lengths(rt: HostRuntime) {
-    for (year, is_leap, days, weeks) in [
-        (i32::MIN, true, 366, 52),
-        (1900, false, 365, 52),
-        (2000, true, 366, 52),
-        (2019, false, 365, 52),
-        (2020, true, 366, 53),
-        (9998, false, 365, 53),
-        (9999, false, 365, 52),
-        (i32::MAX, false, 365, 52),
-    ] {
-        same_at(&rt, year, is_leap_year(year), is_leap);
-        let found = (days_in_year(year), weeks_in_year(year));
-        same_at(&rt, year, found, (days, weeks));
-    }
+    let rt = &rt;
+    check_year(rt, i32::MIN, true, 366, 52);
+    check_year(rt, 1900, false, 365, 52);
+    check_year(rt, 2000, true, 366, 52);
+    check_year(rt, 2019, false, 365, 52);
+    check_year(rt, 2020, true, 366, 53);
+    check_year(rt, 9998, false, 365, 53);
+    check_year(rt, 9999, false, 365, 52);
+    check_year(rt, i32::MAX, false, 365, 52);
 }
 
-/// Checks the number of days of a month in common years and in leap years.
-fn check_lengths(rt: &impl Abort, month: Month, common: u8, leap: u8) {
-    for (year, length) in [
-        (1900, common),
-        (i32::MAX, common),
-        (2000, leap),
-        (2020, leap),
-        (i32::MIN, leap),
-    ] {
-        let (by_month, by_year) = (days_in_month(month, year), days_in_year_month(year, month));
-        let lengths = [by_month, by_year, month.length(year)];
-        same_at(rt, (month, year), lengths, [length, length, length]);
-    }
+/// Checks the number of days of a month by each call.
+fn check_length(rt: &impl Abort, month: Month, year: i32, length: u8) {
+    same_at(rt, year, days_in_month(month, year), length);
+    same_at(rt, year, days_in_year_month(year, month), length);
+    same_at(rt, year, month.length(year), length);
 }
 
-// The columns: a month, its name, its number, and its days in a common year and in a leap year.
+/// Checks the name of a month, its number, and its days in common years and in leap years.
+fn check_month(rt: &impl Abort, month: Month, name: &str, number: u8, common: u8, leap: u8) {
+    same(rt, month.name(), name);
+    same(rt, name.parse::<Month>().ok(), Some(month));
+    same(rt, Month::try_from(number).ok(), Some(month));
+    same(rt, month as u8, number);
+    same(rt, u8::from(month), number);
+    same(rt, month.place().wrapping_add(1), number);
+    check_length(rt, month, 1900, common);
+    check_length(rt, month, i32::MAX, common);
+    check_length(rt, month, 2000, leap);
+    check_length(rt, month, 2020, leap);
+    check_length(rt, month, i32::MIN, leap);
+}
+
 #[test]
 fn months_have_names_numbers_and_lengths(rt: HostRuntime) {
-    for (month, name, number, common, leap) in [
-        (Month::January, "January", 1, 31, 31),
-        (Month::February, "February", 2, 28, 29),
-        (Month::March, "March", 3, 31, 31),
-        (Month::April, "April", 4, 30, 30),
-        (Month::May, "May", 5, 31, 31),
-        (Month::June, "June", 6, 30, 30),
-        (Month::July, "July", 7, 31, 31),
-        (Month::August, "August", 8, 31, 31),
-        (Month::September, "September", 9, 30, 30),
-        (Month::October, "October", 10, 31, 31),
-        (Month::November, "November", 11, 30, 30),
-        (Month::December, "December", 12, 31, 31),
-    ] {
-        let found = (name.parse::<Month>(), month.name());
-        same(&rt, found, (Ok(month), name));
-        same(&rt, Month::try_from(number).ok(), Some(month));
-        let found = (month as u8, u8::from(month), month.place().wrapping_add(1));
-        same(&rt, found, (number, number, number));
-        check_lengths(&rt, month, common, leap);
-    }
+    let rt = &rt;
+    check_month(rt, Month::January, "January", 1, 31, 31);
+    check_month(rt, Month::February, "February", 2, 28, 29);
+    check_month(rt, Month::March, "March", 3, 31, 31);
+    check_month(rt, Month::April, "April", 4, 30, 30);
+    check_month(rt, Month::May, "May", 5, 31, 31);
+    check_month(rt, Month::June, "June", 6, 30, 30);
+    check_month(rt, Month::July, "July", 7, 31, 31);
+    check_month(rt, Month::August, "August", 8, 31, 31);
+    check_month(rt, Month::September, "September", 9, 30, 30);
+    check_month(rt, Month::October, "October", 10, 31, 31);
+    check_month(rt, Month::November, "November", 11, 30, 30);
+    check_month(rt, Month::December, "December", 12, 31, 31);
+}
+
+/// Checks the name of a weekday, its numbers from Monday and from Sunday, and the days since them.
+fn check_weekday(rt: &impl Abort, weekday: Weekday, name: &str, numbers: (u8, u8), days: (u8, u8)) {
+    same(rt, weekday.name(), name);
+    same(rt, name.parse::<Weekday>().ok(), Some(weekday));
+    same(rt, weekday.number_from_monday(), numbers.0);
+    same(rt, weekday.number_from_sunday(), numbers.1);
+    same(rt, weekday.number_days_from_monday(), days.0);
+    same(rt, weekday.number_days_from_sunday(), days.1);
+    same(rt, weekday as u8, days.0);
+    same(rt, weekday.place(), days.0);
 }
 
 #[test]
 fn weekdays_have_names_and_numbers(rt: HostRuntime) {
-    for (weekday, name, numbers, days) in [
-        (Weekday::Monday, "Monday", (1, 2), (0, 1)),
-        (Weekday::Tuesday, "Tuesday", (2, 3), (1, 2)),
-        (Weekday::Wednesday, "Wednesday", (3, 4), (2, 3)),
-        (Weekday::Thursday, "Thursday", (4, 5), (3, 4)),
-        (Weekday::Friday, "Friday", (5, 6), (4, 5)),
-        (Weekday::Saturday, "Saturday", (6, 7), (5, 6)),
-        (Weekday::Sunday, "Sunday", (7, 1), (6, 0)),
-    ] {
-        same(&rt, weekday.name(), name);
-        same(&rt, name.parse::<Weekday>(), Ok(weekday));
-        let found = (weekday.number_from_monday(), weekday.number_from_sunday());
-        same(&rt, found, numbers);
-        same(&rt, weekday.number_days_from_monday(), days.0);
-        same(&rt, weekday.number_days_from_sunday(), days.1);
-        same(&rt, (weekday as u8, weekday.place()), (days.0, days.0));
-    }
+    let rt = &rt;
+    check_weekday(rt, Weekday::Monday, "Monday", (1, 2), (0, 1));
+    check_weekday(rt, Weekday::Tuesday, "Tuesday", (2, 3), (1, 2));
+    check_weekday(rt, Weekday::Wednesday, "Wednesday", (3, 4), (2, 3));
+    check_weekday(rt, Weekday::Thursday, "Thursday", (4, 5), (3, 4));
+    check_weekday(rt, Weekday::Friday, "Friday", (5, 6), (4, 5));
+    check_weekday(rt, Weekday::Saturday, "Saturday", (6, 7), (5, 6));
+    check_weekday(rt, Weekday::Sunday, "Sunday", (7, 1), (6, 0));
+}
+
+fn check_no_name(rt: &impl Abort, text: &str) {
+    same_at(rt, text, text.parse::<Month>(), Err(InvalidVariant));
+    same_at(rt, text, text.parse::<Weekday>(), Err(InvalidVariant));
 }
 
 #[test]
 fn other_texts_are_no_names(rt: HostRuntime) {
-    for text in [
+    for &text in &[
         "march", "MARCH", "Mar", "March ", "monday", "friday", "Fri", "Friday ", "",
     ] {
-        same_at(&rt, text, text.parse::<Month>(), Err(InvalidVariant));
-        same_at(&rt, text, text.parse::<Weekday>(), Err(InvalidVariant));
+        check_no_name(&rt, text);
     }
 }
 
 #[test]
-fn cycles_turn_both_ways(rt: HostRuntime) {
-    for (month, n, next, prev) in [
-        (Month::July, 9, Month::April, Month::October),
-        (Month::January, 255, Month::April, Month::October),
-        (Month::January, 4, Month::May, Month::September),
-    ] {
-        let found = (month.nth_next(n), month.nth_prev(n));
-        same_at(&rt, (month, n), found, (next, prev));
-    }
-    for (weekday, n, next, prev) in [
-        (Weekday::Sunday, 10, Weekday::Wednesday, Weekday::Thursday),
-        (Weekday::Sunday, 255, Weekday::Wednesday, Weekday::Thursday),
-    ] {
-        let found = (weekday.nth_next(n), weekday.nth_prev(n));
-        same_at(&rt, (weekday, n), found, (next, prev));
-    }
-    let (december, sunday) = (Month::December, Weekday::Sunday);
-    let found = (december.next(), Month::January.previous());
-    same(&rt, found, (Month::January, december));
-    let found = (sunday.next(), Weekday::Monday.previous());
-    same(&rt, found, (Weekday::Monday, sunday));
-    let found = (nth_in(Month::June, usize::MAX), Month::at(4));
-    same(&rt, found, (Month::September, Month::May));
-    let found = (Month::LENGTH, Weekday::LENGTH, Weekday::at(6));
-    same(&rt, found, (12, 7, sunday));
+fn months_turn_both_ways(rt: HostRuntime) {
+    let rt = &rt;
+    same(rt, Month::July.nth_next(9), Month::April);
+    same(rt, Month::July.nth_prev(9), Month::October);
+    same(rt, Month::January.nth_next(255), Month::April);
+    same(rt, Month::January.nth_prev(255), Month::October);
+    same(rt, Month::January.nth_next(4), Month::May);
+    same(rt, Month::January.nth_prev(4), Month::September);
+    same(rt, Month::December.next(), Month::January);
+    same(rt, Month::January.previous(), Month::December);
+    same(rt, nth_in(Month::June, usize::MAX), Month::September);
+    same(rt, Month::at(4), Month::May);
+    same(rt, Month::LENGTH, 12);
 }
 
-/// Returns `nth(n)` and `next()` of an iterator and of its reverse, and `next()` after reversing.
-fn walked<C: Cycle>(start: C, n: usize) -> [Option<C>; 5] {
+#[test]
+fn weekdays_turn_both_ways(rt: HostRuntime) {
+    let rt = &rt;
+    same(rt, Weekday::Sunday.nth_next(10), Weekday::Wednesday);
+    same(rt, Weekday::Sunday.nth_prev(10), Weekday::Thursday);
+    same(rt, Weekday::Sunday.nth_next(255), Weekday::Wednesday);
+    same(rt, Weekday::Sunday.nth_prev(255), Weekday::Thursday);
+    same(rt, Weekday::Sunday.next(), Weekday::Monday);
+    same(rt, Weekday::Monday.previous(), Weekday::Sunday);
+    same(rt, Weekday::at(6), Weekday::Sunday);
+    same(rt, Weekday::LENGTH, 7);
+}
+
+/// Returns the index of a value, or 255 if there is none.
+fn index_of<C: Cycle>(value: Option<C>) -> u8 {
+    match value {
+        Some(value) => value.place(),
+        None => 255,
+    }
+}
+
+/// Checks `nth(n)` and `next()` of an iterator and of its reverse, and `next()` after reversing, by
+/// the indices of the values.
+fn check_walk<C: Cycle>(rt: &impl Abort, start: C, n: usize, indices: [u8; 5]) {
     let mut walk = CycleIter::new(start);
     let mut back = walk.clone().rev();
-    let (item, then) = (walk.nth(n), walk.next());
-    [item, then, back.nth(n), back.next(), walk.rev().next()]
+    let (item, then) = (index_of(walk.nth(n)), index_of(walk.next()));
+    let (back_item, back_then) = (index_of(back.nth(n)), index_of(back.next()));
+    let turned = index_of(walk.rev().next());
+    same(rt, [item, then, back_item, back_then, turned], indices);
 }
 
 // The maximum step is 3 more than a multiple of 12, and 1 more than a multiple of 7.
 #[test]
 fn walks_go_on_without_end(rt: HostRuntime) {
-    for (start, n, numbers) in [
-        (6, usize::MAX, [9, 10, 3, 2, 11]),
-        (1, usize::MAX, [4, 5, 10, 9, 6]),
-        (10, 10, [8, 9, 12, 11, 10]),
-    ] {
-        let start = Month::try_from(start).expect(&rt, "no month");
-        let months = numbers.map(|number| Month::try_from(number).ok());
-        same_at(&rt, (start, n), walked(start, n), months);
-    }
-    let (monday, tuesday, wednesday) = (Weekday::Monday, Weekday::Tuesday, Weekday::Wednesday);
-    let (saturday, sunday) = (Weekday::Saturday, Weekday::Sunday);
-    let thursday = Weekday::Thursday;
-    for (start, n, weekdays) in [
-        (
-            monday,
-            usize::MAX,
-            [tuesday, wednesday, sunday, saturday, thursday],
-        ),
-        (sunday, 7, [sunday, monday, sunday, saturday, tuesday]),
-    ] {
-        same_at(&rt, (start, n), walked(start, n), weekdays.map(Some));
-    }
+    let rt = &rt;
+    check_walk(rt, Month::June, usize::MAX, [8, 9, 2, 1, 10]);
+    check_walk(rt, Month::January, usize::MAX, [3, 4, 9, 8, 5]);
+    check_walk(rt, Month::October, 10, [7, 8, 11, 10, 9]);
+    check_walk(rt, Weekday::Monday, usize::MAX, [1, 2, 6, 5, 3]);
+    check_walk(rt, Weekday::Sunday, 7, [6, 0, 6, 5, 1]);
 }
 
 #[test]
 fn walks_over_the_months_have_bounds(rt: HostRuntime) {
+    let rt = &rt;
     let (first, last) = (Some(Month::January), Some(Month::December));
     let walk = MonthIter::new(Month::June);
     let back = walk.clone().rev();
-    let found = [walk.clone().min(), back.clone().min()];
-    same(&rt, found, [first, first]);
-    same(&rt, [walk.clone().max(), back.clone().max()], [last, last]);
-    let found = [walk.size_hint(), back.size_hint()];
-    same(&rt, found, [(usize::MAX, None), (usize::MAX, None)]);
-    let found = [walk.clone() == walk, back.clone() == back];
-    same(&rt, found, [true, true]);
-    same(&rt, [walk.is_sorted(), back.is_sorted()], [false, false]);
+    same(rt, walk.clone().min(), first);
+    same(rt, back.clone().min(), first);
+    same(rt, walk.clone().max(), last);
+    same(rt, back.clone().max(), last);
+    same(rt, walk.size_hint(), (usize::MAX, None));
+    same(rt, back.size_hint(), (usize::MAX, None));
+    same(rt, walk.clone() == walk, true);
+    same(rt, back.clone() == back, true);
+    same(rt, walk.is_sorted(), false);
+    same(rt, back.is_sorted(), false);
 }
 
-/// Returns the results and the numbers of calls of `all_once` and `any_once`, and the next values.
-fn asked<C: Cycle>(
+/// Checks the results and the numbers of calls of `all_once` and `any_once`, forwards and
+/// backwards. The closure says whether an index is between two others, or isn't.
+fn check_asked<C: Cycle>(
+    rt: &impl Abort,
     start: C,
     (low, high): (u8, u8),
     is_between: bool,
-) -> ([(bool, u8); 4], [Option<C>; 2]) {
+    (all, all_calls): (bool, u8),
+    (any, any_calls): (bool, u8),
+) {
     let mut walk = CycleIter::new(start);
     let mut back = walk.clone().rev();
     let mut count = 0u8;
-    let all = walk.all_once(|value: C| {
+    let found = walk.all_once(|value: C| {
         count = count.wrapping_add(1);
         (low <= value.place() && value.place() <= high) == is_between
     });
-    let all = (all, count);
+    same(rt, (found, count), (all, all_calls));
     let mut count = 0u8;
-    let any = walk.any_once(|value: C| {
+    let found = walk.any_once(|value: C| {
         count = count.wrapping_add(1);
         (low <= value.place() && value.place() <= high) == is_between
     });
-    let any = (any, count);
+    same(rt, (found, count), (any, any_calls));
     let mut count = 0u8;
-    let back_all = back.all_once(|value: C| {
+    let found = back.all_once(|value: C| {
         count = count.wrapping_add(1);
         (low <= value.place() && value.place() <= high) == is_between
     });
-    let back_all = (back_all, count);
+    same(rt, (found, count), (all, all_calls));
     let mut count = 0u8;
-    let back_any = back.any_once(|value: C| {
+    let found = back.any_once(|value: C| {
         count = count.wrapping_add(1);
         (low <= value.place() && value.place() <= high) == is_between
     });
-    (
-        [all, any, back_all, (back_any, count)],
-        [walk.next(), back.next()],
-    )
+    same(rt, (found, count), (any, any_calls));
+    same(rt, index_of(walk.next()), start.place());
+    same(rt, index_of(back.next()), start.place());
 }
 
 // The calls are counted, because no contract excludes calls after the deciding value.
 #[test]
 fn values_are_asked_up_to_the_deciding_answer(rt: HostRuntime) {
-    for (start, ends, is_between, all, any) in [
-        (Month::June, (0, 3), true, (false, 5), (true, 1)),
-        (Month::June, (0, 3), false, (false, 1), (true, 5)),
-        (Month::June, (0, 11), true, (true, 12), (true, 1)),
-        (Month::December, (0, 11), false, (false, 1), (false, 12)),
-    ] {
-        let wanted = ([all, any, all, any], [Some(start), Some(start)]);
-        same_at(&rt, start, asked(start, ends, is_between), wanted);
-    }
-    for (start, ends, is_between, all, any) in [
-        (Weekday::Friday, (1, 1), true, (false, 1), (true, 2)),
-        (Weekday::Friday, (1, 1), false, (false, 2), (true, 1)),
-    ] {
-        let wanted = ([all, any, all, any], [Some(start), Some(start)]);
-        same_at(&rt, start, asked(start, ends, is_between), wanted);
-    }
+    let rt = &rt;
+    let (june, friday) = (Month::June, Weekday::Friday);
+    check_asked(rt, june, (0, 3), true, (false, 5), (true, 1));
+    check_asked(rt, june, (0, 3), false, (false, 1), (true, 5));
+    check_asked(rt, june, (0, 11), true, (true, 12), (true, 1));
+    check_asked(rt, Month::December, (0, 11), false, (false, 1), (false, 12));
+    check_asked(rt, friday, (1, 1), true, (false, 1), (true, 2));
+    check_asked(rt, friday, (1, 1), false, (false, 2), (true, 1));
 }

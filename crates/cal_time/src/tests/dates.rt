@@ -1,14 +1,84 @@
 //! Dates in their four forms, their parts and their neighbours.
 use crate::tests::range::{DAYS, FIRST_JULIAN_DAY, FIRST_YEAR, LAST_JULIAN_DAY, LAST_YEAR};
-use crate::tests::{date, same, same_at, told};
-use crate::{Counted, Cycle, Date, Month, Weekday};
+use crate::tests::{Told, check_at, date, same};
+use crate::{Cycle, Date, Month, Weekday};
 use std::process::Abort;
+
+pub(super) fn check_julian_day(rt: &impl Abort, julian_day: i32, wanted: Told) {
+    let found = Date::from_julian_day(julian_day);
+    check_at(rt, [julian_day, 0, 0], found, wanted);
+}
+
+pub(super) fn check_ordinal_date(rt: &impl Abort, year: i32, ordinal: u16, wanted: Told) {
+    let found = Date::from_ordinal_date(year, ordinal);
+    check_at(rt, [year, i32::from(ordinal), 0], found, wanted);
+}
+
+pub(super) fn check_calendar_date(rt: &impl Abort, year: i32, month: Month, day: u8, wanted: Told) {
+    let found = Date::from_calendar_date(year, month, day);
+    check_at(rt, [year, month as i32, i32::from(day)], found, wanted);
+}
+
+pub(super) fn check_week_date(
+    rt: &impl Abort,
+    year: i32,
+    week: u8,
+    weekday: Weekday,
+    wanted: Told,
+) {
+    let found = Date::from_iso_week_date(year, week, weekday);
+    let arguments = [year, i32::from(week), weekday as i32];
+    check_at(rt, arguments, found, wanted);
+}
+
+/// Checks the parts of a date, one by one and together.
+fn check_parts(
+    rt: &impl Abort,
+    date: Date,
+    calendar: (i32, u8, u8),
+    ordinal: u16,
+    iso: (i32, u8, u8),
+) {
+    let (year, month, day) = date.to_calendar_date();
+    same(rt, (year, month as u8, day), calendar);
+    same(rt, date.year(), year);
+    same(rt, date.month(), month);
+    same(rt, date.day(), day);
+    same(rt, date.month_index_and_day(), (month.place(), day));
+    same(rt, date.to_ordinal_date(), (year, ordinal));
+    same(rt, date.ordinal(), ordinal);
+    let (iso_year, week, weekday) = date.to_iso_week_date();
+    same(rt, (iso_year, week, weekday.number_from_monday()), iso);
+    same(rt, date.iso_week(), week);
+    same(rt, date.weekday(), weekday);
+}
+
+/// Checks a date in all forms. ISO weekdays are numbered from 1 for Monday.
+fn check_forms(
+    rt: &impl Abort,
+    julian_day: i32,
+    calendar: (i32, u8, u8),
+    ordinal: u16,
+    iso: (i32, u8, u8),
+    weeks: (u8, u8),
+) {
+    let date = date(rt, calendar.0, calendar.1, calendar.2);
+    check_parts(rt, date, calendar, ordinal, iso);
+    same(rt, date.to_julian_day(), julian_day);
+    same(rt, date.sunday_based_week(), weeks.0);
+    same(rt, date.monday_based_week(), weeks.1);
+    let wanted = Ok(i128::from(julian_day));
+    check_julian_day(rt, julian_day, wanted);
+    check_ordinal_date(rt, calendar.0, ordinal, wanted);
+    let weekday = Weekday::Sunday.nth_next(iso.2);
+    check_week_date(rt, iso.0, iso.1, weekday, wanted);
+}
 
 // The columns: Julian day, calendar date, ordinal, ISO week date, and the weeks of the year from
 // Sunday and from Monday on.
 #[test]
 fn days_in_all_forms(rt: HostRuntime) {
-    for (julian_day, calendar, ordinal, iso, weeks) in [
+    for &(julian_day, calendar, ordinal, iso, weeks) in &[
         (
             FIRST_JULIAN_DAY,
             (FIRST_YEAR, 1, 1),
@@ -42,149 +112,78 @@ fn days_in_all_forms(rt: HostRuntime) {
             (52, 52),
         ),
     ] {
-        let (year, month, day) = calendar;
-        let date = date(&rt, year, month, day);
-        same_at(&rt, calendar, date.to_julian_day(), julian_day);
-        check_constructors(&rt, date, julian_day, (year, ordinal), iso);
-        check_parts(&rt, date, calendar, ordinal, iso);
-        same(&rt, date.sunday_based_week(), weeks.0);
-        same(&rt, date.monday_based_week(), weeks.1);
+        check_forms(&rt, julian_day, calendar, ordinal, iso, weeks);
     }
-}
-
-/// Checks that each form gives the date. ISO weekdays are numbered from 1 for Monday.
-fn check_constructors(
-    rt: &impl Abort,
-    date: Date,
-    julian_day: i32,
-    (year, ordinal): (i32, u16),
-    (iso_year, week, weekday): (i32, u8, u8),
-) {
-    let weekday = Weekday::Sunday.nth_next(weekday);
-    for answer in [
-        Date::from_julian_day(julian_day),
-        Date::from_ordinal_date(year, ordinal),
-        Date::from_iso_week_date(iso_year, week, weekday),
-    ] {
-        same(rt, told(&answer), Ok(date.number()));
-    }
-}
-
-/// Checks the parts of a date, one by one and together.
-fn check_parts(
-    rt: &impl Abort,
-    date: Date,
-    calendar: (i32, u8, u8),
-    ordinal: u16,
-    iso: (i32, u8, u8),
-) {
-    let (year, month, day) = date.to_calendar_date();
-    same(rt, (year, month as u8, day), calendar);
-    let found = (date.year(), date.month(), date.day());
-    same(rt, found, (year, month, day));
-    same(rt, date.month_index_and_day(), (month.place(), day));
-    same(rt, date.to_ordinal_date(), (year, ordinal));
-    same(rt, date.ordinal(), ordinal);
-    let (iso_year, week, weekday) = date.to_iso_week_date();
-    same(rt, (iso_year, week, weekday.number_from_monday()), iso);
-    same(rt, (date.iso_week(), date.weekday()), (week, weekday));
 }
 
 #[test]
 fn the_ends_of_the_range(rt: HostRuntime) {
-    same(&rt, Date::MIN, date(&rt, FIRST_YEAR, 1, 1));
-    same(&rt, Date::MAX, date(&rt, LAST_YEAR, 12, 31));
+    let rt = &rt;
+    same(rt, Date::MIN, date(rt, FIRST_YEAR, 1, 1));
+    same(rt, Date::MAX, date(rt, LAST_YEAR, 12, 31));
     let (first, last) = (i64::from(FIRST_JULIAN_DAY), i64::from(LAST_JULIAN_DAY));
-    same(&rt, last - first + 1, DAYS);
+    same(rt, last - first + 1, DAYS);
+}
+
+fn check_neighbours(rt: &impl Abort, first: (i32, u8, u8), second: (i32, u8, u8)) {
+    let day = date(rt, first.0, first.1, first.2);
+    let next = date(rt, second.0, second.1, second.2);
+    same(rt, day.next_day(), Some(next));
+    same(rt, next.previous_day(), Some(day));
 }
 
 #[test]
 fn neighbours(rt: HostRuntime) {
-    for ((year, month, day), (next_year, next_month, next_day)) in [
-        ((-1, 12, 31), (0, 1, 1)),
-        ((2019, 12, 31), (2020, 1, 1)),
-        ((2020, 12, 30), (2020, 12, 31)),
-        ((2020, 12, 31), (2021, 1, 1)),
-        ((9999, 12, 31), (10000, 1, 1)),
-    ] {
-        let day = date(&rt, year, month, day);
-        let next = date(&rt, next_year, next_month, next_day);
-        let found = (day.next_day(), next.previous_day());
-        same(&rt, found, (Some(next), Some(day)));
-    }
+    let rt = &rt;
+    check_neighbours(rt, (-1, 12, 31), (0, 1, 1));
+    check_neighbours(rt, (2019, 12, 31), (2020, 1, 1));
+    check_neighbours(rt, (2020, 12, 30), (2020, 12, 31));
+    check_neighbours(rt, (2020, 12, 31), (2021, 1, 1));
+    check_neighbours(rt, (9999, 12, 31), (10000, 1, 1));
+}
+
+/// Checks the day of a date in another month, at the latest on its last day.
+fn check_clamped(rt: &impl Abort, from: (i32, u8, u8), to: (i32, u8, u8)) {
+    let (_, day) = date(rt, from.0, from.1, from.2).month_index_and_day();
+    let wanted = date(rt, to.0, to.1, to.2);
+    let (index, _) = wanted.month_index_and_day();
+    let found = Date::from_month_index_clamped(wanted.year(), index, day);
+    same(rt, found, wanted);
 }
 
 // The first date has a day that the month of the second date has, or a later day.
 #[test]
 fn days_in_other_months(rt: HostRuntime) {
-    for ((year, month, day), (other_year, other_month, found)) in [
-        ((2023, 1, 31), (2023, 2, 28)),
-        ((2023, 1, 31), (2024, 2, 29)),
-        ((2023, 3, 30), (1900, 2, 28)),
-        ((2023, 3, 30), (2000, 2, 29)),
-        ((2023, 12, 31), (2023, 4, 30)),
-        ((2024, 2, 29), (2023, 12, 29)),
-        ((2024, 2, 1), (FIRST_YEAR, 1, 1)),
-        ((2023, 5, 31), (LAST_YEAR, 12, 31)),
-    ] {
-        let (_, day) = date(&rt, year, month, day).month_index_and_day();
-        let other = date(&rt, other_year, other_month, found);
-        let (index, _) = other.month_index_and_day();
-        same(
-            &rt,
-            Date::from_month_index_clamped(other.year(), index, day),
-            other,
-        );
-    }
+    let rt = &rt;
+    check_clamped(rt, (2023, 1, 31), (2023, 2, 28));
+    check_clamped(rt, (2023, 1, 31), (2024, 2, 29));
+    check_clamped(rt, (2023, 3, 30), (1900, 2, 28));
+    check_clamped(rt, (2023, 3, 30), (2000, 2, 29));
+    check_clamped(rt, (2023, 12, 31), (2023, 4, 30));
+    check_clamped(rt, (2024, 2, 29), (2023, 12, 29));
+    check_clamped(rt, (2024, 2, 1), (FIRST_YEAR, 1, 1));
+    check_clamped(rt, (2023, 5, 31), (LAST_YEAR, 12, 31));
 }
 
+// `boundaries` has the years out of range.
 #[test]
-fn ordinal_dates_out_of_range(rt: HostRuntime) {
-    for (year, ordinal, refusal) in [
-        (i32::MIN, 0, ("year", false)),
-        (10000000, 1, ("year", false)),
-        (LAST_YEAR + 1, 0, ("year", false)),
-        (0, 65_535, ("ordinal", true)),
-        (1900, 366, ("ordinal", true)),
-        (2000, 0, ("ordinal", true)),
-        (2000, 367, ("ordinal", true)),
-    ] {
-        let told = told(&Date::from_ordinal_date(year, ordinal));
-        same_at(&rt, (year, ordinal), told, Err(refusal));
-    }
-}
-
-#[test]
-fn calendar_dates_out_of_range(rt: HostRuntime) {
-    for (year, month, day, refusal) in [
-        (1900, Month::February, 29, ("day", true)),
-        (2000, Month::February, 0, ("day", true)),
-        (2000, Month::February, 30, ("day", true)),
-        (2000, Month::January, 32, ("day", true)),
-        (2020, Month::February, 255, ("day", true)),
-        (LAST_YEAR + 1, Month::January, 0, ("year", false)),
-        (FIRST_YEAR - 1, Month::December, 31, ("year", false)),
-        (i32::MIN, Month::January, 0, ("year", false)),
-        (i32::MAX, Month::December, 255, ("year", false)),
-    ] {
-        let told = told(&Date::from_calendar_date(year, month, day));
-        same_at(&rt, (year, month, day), told, Err(refusal));
-    }
-}
-
-#[test]
-fn iso_week_dates_out_of_range(rt: HostRuntime) {
-    for (year, week, weekday, refusal) in [
-        (LAST_YEAR + 1, 53, Weekday::Monday, ("year", false)),
-        (LAST_YEAR, 53, Weekday::Monday, ("week", true)),
-        (2019, 53, Weekday::Monday, ("week", true)),
-        (2020, 54, Weekday::Monday, ("week", true)),
-        (2020, 0, Weekday::Monday, ("week", true)),
-        (2020, 255, Weekday::Monday, ("week", true)),
-        (LAST_YEAR, 52, Weekday::Saturday, ("weekday", true)),
-        (LAST_YEAR, 52, Weekday::Sunday, ("weekday", true)),
-    ] {
-        let told = told(&Date::from_iso_week_date(year, week, weekday));
-        same_at(&rt, (year, week, weekday), told, Err(refusal));
-    }
+fn dates_out_of_range(rt: HostRuntime) {
+    let rt = &rt;
+    check_ordinal_date(rt, 10_000_000, 1, Err(("year", false)));
+    let no_ordinal = Err(("ordinal", true));
+    check_ordinal_date(rt, 0, 65_535, no_ordinal);
+    check_ordinal_date(rt, 1900, 366, no_ordinal);
+    check_ordinal_date(rt, 2000, 0, no_ordinal);
+    check_ordinal_date(rt, 2000, 367, no_ordinal);
+    let no_day = Err(("day", true));
+    check_calendar_date(rt, 1900, Month::February, 29, no_day);
+    check_calendar_date(rt, 2000, Month::February, 0, no_day);
+    check_calendar_date(rt, 2000, Month::February, 30, no_day);
+    check_calendar_date(rt, 2000, Month::January, 32, no_day);
+    check_calendar_date(rt, 2020, Month::February, 255, no_day);
+    let no_week = Err(("week", true));
+    check_week_date(rt, 2019, 53, Weekday::Monday, no_week);
+    check_week_date(rt, 2020, 54, Weekday::Monday, no_week);
+    check_week_date(rt, 2020, 0, Weekday::Monday, no_week);
+    check_week_date(rt, 2020, 255, Weekday::Monday, no_week);
 }

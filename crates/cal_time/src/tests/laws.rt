@@ -1,4 +1,5 @@
-//! Laws that hold between calls. The contract of each function is its law, and the test below it runs it on a few values.
+//! Laws that hold between calls. The contract of each function is its law, and the test below it
+//! runs it on a few values.
 
 mod cycles;
 mod dates;

@@ -10,6 +10,7 @@ use crate::{Counted, Cycle, Date, Month, SignedDuration, Time, UtcOffset, Weekda
 use std::cmp::Ordering;
 use std::hash::{DefaultHasher, Hash, Hasher};
 use std::ops::{Add, AddAssign, Div, Mul, Neg, Sub, SubAssign};
+use std::process::Abort;
 use std::str::FromStr;
 
 fn next<I: Iterator>(walk: &mut I) -> Option<I::Item>
@@ -29,252 +30,274 @@ fn size_hint<I: Iterator>(walk: &I) -> (usize, Option<usize>) {
 }
 
 /// The comparisons of two values: equality, order, and their minimum and maximum.
-type Compared<T> = ([bool; 2], Ordering, Option<Ordering>, [T; 2]);
+type Compared<T> = (bool, bool, Ordering, Option<Ordering>, T, T);
 
 fn compared<T: Ord + Copy>(a: T, b: T) -> Compared<T> {
-    let ends = [a.min(b), a.max(b)];
-    ([a.eq(&b), a.ne(&b)], a.cmp(&b), a.partial_cmp(&b), ends)
+    let (order, partial_order) = (a.cmp(&b), a.partial_cmp(&b));
+    (a == b, a != b, order, partial_order, a.min(b), a.max(b))
 }
 
-/// Checks that the comparisons and the hash of each two values, by name, agree with the traits.
+/// Checks that the comparisons and the hash of a value, by name, agree with the traits.
 macro_rules! check_compared {
-    ($rt:expr, $one:expr, $other:expr) => {
-        let (one, other) = ($one, $other);
-        for (a, b) in [(one, other), (other, one), (one, one)] {
-            let mut state = DefaultHasher::new();
-            a.hash(&mut state);
-            let ends = [a.min(b), a.max(b)];
-            let by_name = ([a.eq(&b), a.ne(&b)], a.cmp(&b), a.partial_cmp(&b), ends);
-            same($rt, by_name, compared(a, b));
-            same($rt, state.finish(), hash_of(&a));
-        }
+    ($rt:expr, $a:expr, $b:expr) => {
+        let (a, b) = ($a, $b);
+        let (is_equal, is_other, order, partial_order, minimum, maximum) = compared(a, b);
+        same($rt, a.eq(&b), is_equal);
+        same($rt, a.ne(&b), is_other);
+        same($rt, a.cmp(&b), order);
+        same($rt, a.partial_cmp(&b), partial_order);
+        same($rt, a.min(b), minimum);
+        same($rt, a.max(b), maximum);
+        let mut state = DefaultHasher::new();
+        a.hash(&mut state);
+        same($rt, state.finish(), hash_of(&a));
     };
+}
+
+fn check_dates(rt: &impl Abort, a: Date, b: Date) {
+    check_compared!(rt, a, b);
+}
+
+fn check_times(rt: &impl Abort, a: Time, b: Time) {
+    check_compared!(rt, a, b);
+}
+
+fn check_durations(rt: &impl Abort, a: SignedDuration, b: SignedDuration) {
+    check_compared!(rt, a, b);
+}
+
+fn check_offsets(rt: &impl Abort, a: UtcOffset, b: UtcOffset) {
+    check_compared!(rt, a, b);
+}
+
+fn check_months(rt: &impl Abort, a: Month, b: Month) {
+    check_compared!(rt, a, b);
+}
+
+#[test]
+fn comparisons(rt: HostRuntime) {
+    let rt = &rt;
+    let (one, other) = (Date::MIN, date(rt, 2020, 1, 2));
+    check_dates(rt, one, other);
+    check_dates(rt, other, one);
+    check_dates(rt, one, one);
+    let (one, other) = (Time::MIDNIGHT, time(rt, 12, 0, 0, 0));
+    check_times(rt, one, other);
+    check_times(rt, other, one);
+    check_times(rt, one, one);
+    let (one, other) = (SignedDuration::ZERO, SignedDuration::SECOND);
+    check_durations(rt, one, other);
+    check_durations(rt, other, one);
+    check_durations(rt, one, one);
+    let (one, other) = (offset(rt, -5, -30, 0), UtcOffset::UTC);
+    check_offsets(rt, one, other);
+    check_offsets(rt, other, one);
+    check_offsets(rt, one, one);
+    check_months(rt, Month::May, Month::June);
+    check_months(rt, Month::June, Month::May);
+    check_months(rt, Month::May, Month::May);
 }
 
 /// Checks the items of an iterator, by name and by the trait, and that both agree on the rest.
 macro_rules! check_walk {
-    ($rt:expr, $walk:expr, $items:expr) => {
-        let mut by_name = $walk;
-        let mut by_trait = $walk;
-        let [first, second, third] = $items;
-        let items = [Some(first), Some(second), Some(third)];
-        same($rt, [by_name.next(), by_name.next(), by_name.next()], items);
-        let walk = &mut by_trait;
-        let found = [Iterator::next(walk), Iterator::next(walk), Iterator::next(walk)];
-        same($rt, found, items);
+    ($rt:expr, $walk:expr, $first:expr, $second:expr, $third:expr) => {
+        let (mut by_name, mut by_trait) = ($walk, $walk);
+        same($rt, by_name.next(), Some($first));
+        same($rt, by_name.next(), Some($second));
+        same($rt, by_name.next(), Some($third));
+        same($rt, Iterator::next(&mut by_trait), Some($first));
+        same($rt, Iterator::next(&mut by_trait), Some($second));
+        same($rt, Iterator::next(&mut by_trait), Some($third));
         same($rt, by_name.size_hint(), Iterator::size_hint(&by_trait));
-        assert!($rt; by_name == by_trait);
+        same($rt, by_name == by_trait, true);
     };
 }
 
-/// Returns `true` if three items and the rest of an iterator are right, by name and by the bounds.
-macro_rules! gives {
-    ($walk:expr, $items:expr) => {{
-        let (mut by_name, mut by_bound) = ($walk, $walk);
-        let [first, second, third] = $items;
-        let items = [Some(first), Some(second), Some(third)];
-        [by_name.next(), by_name.next(), by_name.next()] == items
-            && [
-                next(&mut by_bound),
-                next(&mut by_bound),
-                next(&mut by_bound),
-            ] == items
-            && by_name.size_hint() == size_hint(&by_bound)
-            && by_name == by_bound
-    }};
+#[test]
+fn months_both_ways(rt: HostRuntime) {
+    let (november, december) = (Month::November, Month::December);
+    let january = Month::January;
+    let walk = MonthIter::new(november);
+    check_walk!(&rt, walk.clone(), november, december, january);
+    let walk = MonthIter::new(january).rev();
+    check_walk!(&rt, walk.clone(), january, december, november);
+}
+
+#[test]
+fn weekdays_both_ways(rt: HostRuntime) {
+    let (saturday, sunday) = (Weekday::Saturday, Weekday::Sunday);
+    let monday = Weekday::Monday;
+    let walk = WeekdayIter::new(saturday);
+    check_walk!(&rt, walk.clone(), saturday, sunday, monday);
+    let walk = WeekdayIter::new(monday).rev();
+    check_walk!(&rt, walk.clone(), monday, sunday, saturday);
+}
+
+/// Checks the next item of two iterators, by name and by the bound.
+fn check_next(rt: &impl Abort, by_name: &mut DateIter, by_bound: &mut DateIter, day: Date) {
+    same(rt, by_name.next(), Some(day));
+    same(rt, next(by_bound), Some(day));
+    same(rt, by_name.size_hint(), size_hint(by_bound));
+    same(rt, *by_name == *by_bound, true);
+}
+
+/// Checks the next item from the back in the same way.
+fn check_next_back(rt: &impl Abort, by_name: &mut DateIter, by_bound: &mut DateIter, day: Date) {
+    same(rt, by_name.next_back(), Some(day));
+    same(rt, next_back(by_bound), Some(day));
+    same(rt, *by_name == *by_bound, true);
 }
 
 #[test]
 fn walks(rt: HostRuntime) {
-    let (first, last) = (date(&rt, 2019, 12, 30), date(&rt, 2020, 1, 1));
-    let between = date(&rt, 2019, 12, 31);
-    assert!(rt; gives!(DateIter::new(first, last), [first, between, last]));
+    let rt = &rt;
+    let (first, last) = (date(rt, 2019, 12, 30), date(rt, 2020, 1, 1));
+    let between = date(rt, 2019, 12, 31);
     let (mut by_name, mut by_bound) = (DateIter::new(first, last), DateIter::new(first, last));
-    for day in [Some(last), Some(between), Some(first), None] {
-        same(&rt, by_name.next_back(), day);
-        same(&rt, next_back(&mut by_bound), day);
-        assert!(rt; by_name == by_bound);
-    }
+    check_next(rt, &mut by_name, &mut by_bound, first);
+    check_next(rt, &mut by_name, &mut by_bound, between);
+    check_next(rt, &mut by_name, &mut by_bound, last);
+    let (mut by_name, mut by_bound) = (DateIter::new(first, last), DateIter::new(first, last));
+    check_next_back(rt, &mut by_name, &mut by_bound, last);
+    check_next_back(rt, &mut by_name, &mut by_bound, between);
+    check_next_back(rt, &mut by_name, &mut by_bound, first);
+    same(rt, by_name.next_back(), None);
+    same(rt, next_back(&mut by_bound), None);
+    same(rt, by_name == by_bound, true);
 }
 
-#[test]
-fn months_forwards(rt: HostRuntime) {
-    let months = [Month::November, Month::December, Month::January];
-    check_walk!(&rt, MonthIter::new(Month::November), months);
+fn check_errors(rt: &impl Abort, a: ComponentRange, b: ComponentRange) {
+    same(rt, a.eq(&b), PartialEq::eq(&a, &b));
+    same(rt, a.ne(&b), PartialEq::ne(&a, &b));
 }
 
-#[test]
-fn months_backwards(rt: HostRuntime) {
-    let months = [Month::January, Month::December, Month::November];
-    check_walk!(&rt, MonthIter::new(Month::January).rev(), months);
-}
-
-#[test]
-fn weekdays_forwards(rt: HostRuntime) {
-    let weekdays = [Weekday::Saturday, Weekday::Sunday, Weekday::Monday];
-    check_walk!(&rt, WeekdayIter::new(Weekday::Saturday), weekdays);
-}
-
-#[test]
-fn weekdays_backwards(rt: HostRuntime) {
-    let weekdays = [Weekday::Monday, Weekday::Sunday, Weekday::Saturday];
-    check_walk!(&rt, WeekdayIter::new(Weekday::Monday).rev(), weekdays);
-}
-
-#[test]
-fn comparisons_of_dates(rt: HostRuntime) {
-    check_compared!(&rt, Date::MIN, date(&rt, 2020, 1, 2));
-}
-
-#[test]
-fn comparisons_of_times(rt: HostRuntime) {
-    check_compared!(&rt, Time::MIDNIGHT, time(&rt, 12, 0, 0, 0));
-}
-
-#[test]
-fn comparisons_of_durations(rt: HostRuntime) {
-    check_compared!(&rt, SignedDuration::ZERO, SignedDuration::SECOND);
-}
-
-#[test]
-fn comparisons_of_offsets(rt: HostRuntime) {
-    check_compared!(&rt, offset(&rt, -5, -30, 0), UtcOffset::UTC);
-}
-
-#[test]
-fn comparisons_of_months(rt: HostRuntime) {
-    check_compared!(&rt, Month::May, Month::June);
+fn check_weekdays(rt: &impl Abort, a: Weekday, b: Weekday) {
+    same(rt, a.eq(&b), PartialEq::eq(&a, &b));
+    same(rt, a.ne(&b), PartialEq::ne(&a, &b));
 }
 
 #[test]
 fn equality(rt: HostRuntime) {
+    let rt = &rt;
     let day = ComponentRange::conditional(Component::Day);
-    for other in [day, ComponentRange::unconditional(Component::Year)] {
-        let found = [day.eq(&other), day.ne(&other)];
-        let wanted = [PartialEq::eq(&day, &other), PartialEq::ne(&day, &other)];
-        same(&rt, found, wanted);
-    }
-    let friday = Weekday::Friday;
-    for other in [friday, Weekday::Sunday] {
-        let found = [friday.eq(&other), friday.ne(&other)];
-        same(
-            &rt,
-            found,
-            [
-                PartialEq::eq(&friday, &other),
-                PartialEq::ne(&friday, &other),
-            ],
-        );
-    }
-    same(&rt, InvalidVariant.eq(&InvalidVariant), true);
+    check_errors(rt, day, day);
+    check_errors(rt, day, ComponentRange::unconditional(Component::Year));
+    check_weekdays(rt, Weekday::Friday, Weekday::Friday);
+    check_weekdays(rt, Weekday::Friday, Weekday::Sunday);
+    same(rt, InvalidVariant.eq(&InvalidVariant), true);
 }
 
 /// Checks that the clones of the value, by name and by the trait, are the value.
 macro_rules! check_cloned {
     ($rt:expr, $value:expr) => {
         let value = $value;
-        let clones = [value.clone().ok(), Clone::clone(&value).ok()];
-        same($rt, clones, [Some(value), Some(value)]);
+        same($rt, value.clone().ok(), Some(value));
+        same($rt, Clone::clone(&value).ok(), Some(value));
     };
 }
 
 #[test]
 fn clones_of_counted_values(rt: HostRuntime) {
-    check_cloned!(&rt, Date::MAX);
-    check_cloned!(&rt, Time::MAX);
-    check_cloned!(&rt, SignedDuration::MAX);
-    check_cloned!(&rt, UtcOffset::UTC);
+    let rt = &rt;
+    check_cloned!(rt, Date::MAX);
+    check_cloned!(rt, Time::MAX);
+    check_cloned!(rt, SignedDuration::MAX);
+    check_cloned!(rt, UtcOffset::UTC);
 }
 
 #[test]
 fn clones_of_cycles_and_errors(rt: HostRuntime) {
-    check_cloned!(&rt, Month::May);
-    check_cloned!(&rt, Weekday::Friday);
-    check_cloned!(&rt, DateAdjustment::Next);
-    check_cloned!(&rt, ComponentRange::conditional(Component::Day));
-    check_cloned!(&rt, ConversionRange);
-    check_cloned!(&rt, InvalidVariant);
+    let rt = &rt;
+    check_cloned!(rt, Month::May);
+    check_cloned!(rt, Weekday::Friday);
+    check_cloned!(rt, DateAdjustment::Next);
+    check_cloned!(rt, ComponentRange::conditional(Component::Day));
+    check_cloned!(rt, ConversionRange);
+    check_cloned!(rt, InvalidVariant);
 }
 
 #[test]
 fn numbers_and_places(rt: HostRuntime) {
-    let (last, friday) = (SignedDuration::MAX, Weekday::Friday);
-    for (by_name, by_trait) in [
-        (Date::MAX.number(), Counted::number(Date::MAX)),
-        (Time::MAX.number(), Counted::number(Time::MAX)),
-        (last.number(), Counted::number(last)),
-        (UtcOffset::UTC.number(), Counted::number(UtcOffset::UTC)),
-    ] {
-        same(&rt, by_name, by_trait);
-    }
-    same(&rt, Month::May.place(), Cycle::place(Month::May));
-    same(&rt, friday.place(), Cycle::place(friday));
+    let rt = &rt;
+    let (last, utc) = (SignedDuration::MAX, UtcOffset::UTC);
+    same(rt, Date::MAX.number(), Counted::number(Date::MAX));
+    same(rt, Time::MAX.number(), Counted::number(Time::MAX));
+    same(rt, last.number(), Counted::number(last));
+    same(rt, utc.number(), Counted::number(utc));
+    let friday = Weekday::Friday;
+    same(rt, Month::May.place(), Cycle::place(Month::May));
+    same(rt, friday.place(), Cycle::place(friday));
     for index in 0..7 {
-        same(&rt, Month::at(index), <Month as Cycle>::at(index));
-        same(&rt, Weekday::at(index), <Weekday as Cycle>::at(index));
+        same(rt, Month::at(index), <Month as Cycle>::at(index));
+        same(rt, Weekday::at(index), <Weekday as Cycle>::at(index));
     }
 }
 
 #[test]
 fn conversions(rt: HostRuntime) {
-    for text in ["May", "Friday", ""] {
+    let rt = &rt;
+    for &text in &["May", "Friday", ""] {
         let found = Month::from_str(text);
-        same(&rt, found, <Month as FromStr>::from_str(text));
+        same(rt, found, <Month as FromStr>::from_str(text));
         let found = Weekday::from_str(text);
-        same(&rt, found, <Weekday as FromStr>::from_str(text));
+        same(rt, found, <Weekday as FromStr>::from_str(text));
     }
-    for number in [0, 5, 13] {
+    for &number in &[0, 5, 13] {
         let found = Month::try_from(number);
-        same(&rt, found, <Month as TryFrom<u8>>::try_from(number));
+        same(rt, found, <Month as TryFrom<u8>>::try_from(number));
     }
     let zero = <SignedDuration as Default>::default();
-    same(&rt, SignedDuration::default(), zero);
+    same(rt, SignedDuration::default(), zero);
 }
 
-/// Returns the dates later and earlier by the duration, by name and by the traits, if both exist.
-fn moved(date: Date, duration: SignedDuration) -> Option<[[Date; 2]; 2]> {
-    date.checked_add(duration)?;
-    date.checked_sub(duration)?;
-    Some([
-        [date.add(duration), Add::add(date, duration)],
-        [date.sub(duration), Sub::sub(date, duration)],
-    ])
+fn check_sum(rt: &impl Abort, date: Date, duration: SignedDuration, wanted: Date) {
+    if date.checked_add(duration).is_some() {
+        same(rt, date.add(duration), wanted);
+        same(rt, Add::add(date, duration), wanted);
+    }
+    same(rt, date.checked_add(duration), Some(wanted));
+}
+
+fn check_difference(rt: &impl Abort, date: Date, duration: SignedDuration, wanted: Date) {
+    if date.checked_sub(duration).is_some() {
+        same(rt, date.sub(duration), wanted);
+        same(rt, Sub::sub(date, duration), wanted);
+    }
+    same(rt, date.checked_sub(duration), Some(wanted));
 }
 
 #[test]
 fn operators_of_dates(rt: HostRuntime) {
-    let day = date(&rt, 2020, 1, 2);
-    let (next, before) = (date(&rt, 2020, 1, 3), date(&rt, 2020, 1, 1));
-    let wanted = Some([[next, next], [before, before]]);
-    same(&rt, moved(day, SignedDuration::DAY), wanted);
-    same(&rt, day.sub(Date::MIN), Sub::sub(day, Date::MIN));
+    let rt = &rt;
+    let (day, one) = (date(rt, 2020, 1, 2), SignedDuration::DAY);
+    check_sum(rt, day, one, date(rt, 2020, 1, 3));
+    check_difference(rt, day, one, date(rt, 2020, 1, 1));
+    same(rt, day.sub(Date::MIN), Sub::sub(day, Date::MIN));
 }
 
 #[test]
 fn operators_of_times_and_offsets(rt: HostRuntime) {
-    let (noon, second, last) = (time(&rt, 12, 0, 0, 0), SignedDuration::SECOND, Time::MAX);
-    let west = offset(&rt, -5, -30, 0);
+    let rt = &rt;
+    let (noon, second, last) = (time(rt, 12, 0, 0, 0), SignedDuration::SECOND, Time::MAX);
+    let west = offset(rt, -5, -30, 0);
     let (mut later, mut earlier) = (noon, noon);
     later.add_assign(second);
     earlier.sub_assign(second);
-    let found = [noon.add(second), later];
-    same(&rt, found, [Add::add(noon, second), noon + second]);
-    let found = [noon.sub(second), earlier];
-    same(&rt, found, [Sub::sub(noon, second), noon - second]);
-    same(&rt, noon.sub(last), Sub::sub(noon, last));
-    same(&rt, west.neg(), Neg::neg(west));
+    same(rt, noon.add(second), Add::add(noon, second));
+    same(rt, later, noon + second);
+    same(rt, noon.sub(second), Sub::sub(noon, second));
+    same(rt, earlier, noon - second);
+    same(rt, noon.sub(last), Sub::sub(noon, last));
+    same(rt, west.neg(), Neg::neg(west));
 }
 
 #[test]
 fn operators_of_durations(rt: HostRuntime) {
+    let rt = &rt;
     let second = SignedDuration::SECOND;
-    for (by_name, by_trait) in [
-        (second.add(second), Add::add(second, second)),
-        (second.sub(second), Sub::sub(second, second)),
-        (second.neg(), Neg::neg(second)),
-        (second.mul(3i32), Mul::mul(second, 3i32)),
-        (second.div(3u8), Div::div(second, 3u8)),
-    ] {
-        same(&rt, by_name, by_trait);
-    }
+    same(rt, second.add(second), Add::add(second, second));
+    same(rt, second.sub(second), Sub::sub(second, second));
+    same(rt, second.neg(), Neg::neg(second));
+    same(rt, second.mul(3i32), Mul::mul(second, 3i32));
+    same(rt, second.div(3u8), Div::div(second, 3u8));
 }

@@ -1,13 +1,13 @@
 //! Dates at both ends of the range, moved by durations and to weekdays.
+use crate::tests::arithmetic::{
+    check_difference, check_next, check_nth_next, check_nth_prev, check_prev, check_sum,
+};
 use crate::tests::boundaries::DAY;
 use crate::tests::boundaries::durations::ends;
+use crate::tests::date;
 use crate::tests::range::{DAYS, FIRST_JULIAN_DAY, FIRST_YEAR, LAST_JULIAN_DAY, LAST_YEAR};
-use crate::tests::{date, same, same_at};
-use crate::{Counted, Date, SignedDuration, Weekday};
+use crate::{Date, SignedDuration, Weekday};
 use std::process::Abort;
-
-/// Both ends of the range, with their Julian days.
-const DATES: [(Date, i32); 2] = [(Date::MIN, FIRST_JULIAN_DAY), (Date::MAX, LAST_JULIAN_DAY)];
 
 /// Returns durations as long as the range, and around one day, each with its nanoseconds.
 fn durations() -> [(SignedDuration, i128); 8] {
@@ -26,145 +26,52 @@ fn durations() -> [(SignedDuration, i128); 8] {
     ]
 }
 
-/// Returns the Julian day if it is in the range.
-fn in_range(julian_day: i128) -> Option<i128> {
-    if nearest(julian_day) == julian_day {
-        Some(julian_day)
-    } else {
-        None
-    }
-}
-
-/// Returns the Julian day, clamped to the range.
-fn nearest(julian_day: i128) -> i128 {
-    julian_day
-        .max(i128::from(FIRST_JULIAN_DAY))
-        .min(i128::from(LAST_JULIAN_DAY))
-}
-
-/// Returns the results of `+` and `+=` if the date is in the range.
-fn sums(date: Date, duration: SignedDuration) -> Option<[i128; 2]> {
-    date.checked_add(duration)?;
-    let mut moved = date;
-    moved += duration;
-    Some([(date + duration).number(), moved.number()])
-}
-
-/// Returns the results of `-` and `-=` if the date is in the range.
-fn differences(date: Date, duration: SignedDuration) -> Option<[i128; 2]> {
-    date.checked_sub(duration)?;
-    let mut moved = date;
-    moved -= duration;
-    Some([(date - duration).number(), moved.number()])
-}
-
-/// Checks all moves of the date by the duration. Its whole days are truncated toward zero.
-fn check_moves(rt: &impl Abort, date: Date, from: i32, duration: SignedDuration, by: i128) {
-    let (from, days) = (i128::from(from), by / DAY);
-    let (later, earlier) = (from.saturating_add(days), from.saturating_sub(days));
-    let wanted = [in_range(later), in_range(earlier)];
-    let checked = [date.checked_add(duration), date.checked_sub(duration)];
-    let found = checked.map(|day| day.map(Counted::number));
-    same_at(rt, duration, found, wanted);
-    let wanted = wanted.map(|day| day.map(|day| [day, day]));
-    let found = [sums(date, duration), differences(date, duration)];
-    same_at(rt, duration, found, wanted);
-    let found = [date.saturating_add(duration), date.saturating_sub(duration)];
-    let found = found.map(Counted::number);
-    same_at(rt, duration, found, [nearest(later), nearest(earlier)]);
+/// Checks the moves of both ends by the duration. Its whole days are truncated toward zero.
+fn check_moves(rt: &impl Abort, duration: SignedDuration, by: i128) {
+    let (first, last) = (i128::from(FIRST_JULIAN_DAY), i128::from(LAST_JULIAN_DAY));
+    let days = by / DAY;
+    check_sum(rt, Date::MIN, duration, first.saturating_add(days));
+    check_difference(rt, Date::MIN, duration, first.saturating_sub(days));
+    check_sum(rt, Date::MAX, duration, last.saturating_add(days));
+    check_difference(rt, Date::MAX, duration, last.saturating_sub(days));
 }
 
 #[test]
 fn ends_moved_by_durations(rt: HostRuntime) {
-    for (date, from) in DATES {
-        for (duration, by) in ends() {
-            check_moves(&rt, date, from, duration, by);
-        }
-        for (duration, by) in durations() {
-            check_moves(&rt, date, from, duration, by);
-        }
+    for (duration, by) in ends() {
+        check_moves(&rt, duration, by);
+    }
+    for (duration, by) in durations() {
+        check_moves(&rt, duration, by);
     }
 }
 
-/// Returns the Julian day of the `n`-th day after another with the weekday, given as days from
-/// Monday. A Julian day that 7 divides is a Monday.
-fn nth_after(from: i32, weekday: u8, n: u8) -> Option<i128> {
-    if n == 0 {
-        return None;
-    }
-    let from = i128::from(from);
-    let past = (i128::from(weekday) - from - 1).rem_euclid(7);
-    let days = past.saturating_add(1 + 7 * (i128::from(n) - 1));
-    in_range(from.saturating_add(days))
-}
-
-/// Returns the Julian day of the `n`-th day before another with the weekday.
-fn nth_before(from: i32, weekday: u8, n: u8) -> Option<i128> {
-    if n == 0 {
-        return None;
-    }
-    let from = i128::from(from);
-    let past = (from - 1 - i128::from(weekday)).rem_euclid(7);
-    let days = past.saturating_add(1 + 7 * (i128::from(n) - 1));
-    in_range(from.saturating_sub(days))
-}
-
-/// Returns the Julian day of the `n`-th day after the date with the weekday, by each call.
-fn next_occurrences(date: Date, weekday: Weekday, n: u8) -> Option<[i128; 3]> {
-    let checked = date.checked_nth_next_occurrence(weekday, n)?;
-    let nth = date.nth_next_occurrence(weekday, n);
-    let mut nearest = nth;
-    if n == 1 {
-        date.checked_next_occurrence(weekday)?;
-        nearest = date.next_occurrence(weekday);
-    }
-    Some([checked.number(), nth.number(), nearest.number()])
-}
-
-/// Returns the Julian day of the `n`-th day before the date with the weekday, by each call.
-fn prev_occurrences(date: Date, weekday: Weekday, n: u8) -> Option<[i128; 3]> {
-    let checked = date.checked_nth_prev_occurrence(weekday, n)?;
-    let nth = date.nth_prev_occurrence(weekday, n);
-    let mut nearest = nth;
-    if n == 1 {
-        date.checked_prev_occurrence(weekday)?;
-        nearest = date.prev_occurrence(weekday);
-    }
-    Some([checked.number(), nth.number(), nearest.number()])
-}
-
-/// Checks the days with each weekday around a date with this Julian day.
-fn check_occurrences(rt: &impl Abort, date: Date, from: i32, n: u8) {
-    for weekday in Weekday::iter_from(Weekday::Monday).take(7) {
-        let (after, before) = (
-            nth_after(from, weekday as u8, n),
-            nth_before(from, weekday as u8, n),
-        );
-        let found = [
-            next_occurrences(date, weekday, n),
-            prev_occurrences(date, weekday, n),
-        ];
-        let wanted = [after, before].map(|day| day.map(|day| [day, day, day]));
-        same_at(rt, (date, weekday, n), found, wanted);
+/// Checks the days with the weekday around a date with this Julian day. A Julian day that 7
+/// divides is a Monday.
+fn check_weekday(rt: &impl Abort, date: Date, from: i32, weekday: Weekday) {
+    let (from, past) = (i128::from(from), i128::from(weekday as u8));
+    let days_on = (past - from - 1).rem_euclid(7).saturating_add(1);
+    let days_back = (from - 1 - past).rem_euclid(7).saturating_add(1);
+    let (after, before) = (from.saturating_add(days_on), from.saturating_sub(days_back));
+    check_next(rt, date, weekday, after);
+    check_prev(rt, date, weekday, before);
+    for &n in &[0, 1, 2, 255] {
+        let days = 7 * (i128::from(n) - 1);
+        check_nth_next(rt, date, weekday, n, after.saturating_add(days));
+        check_nth_prev(rt, date, weekday, n, before.saturating_sub(days));
     }
 }
 
 #[test]
 fn occurrences_at_the_ends(rt: HostRuntime) {
-    let second = date(&rt, FIRST_YEAR, 1, 2);
-    let week_before = date(&rt, LAST_YEAR, 12, 24);
-    for (date, from) in [
-        (Date::MIN, FIRST_JULIAN_DAY),
-        (second, FIRST_JULIAN_DAY + 1),
-        (week_before, LAST_JULIAN_DAY - 7),
-        (Date::MAX, LAST_JULIAN_DAY),
-    ] {
-        for n in [0, 1, 2, 255] {
-            check_occurrences(&rt, date, from, n);
-        }
-    }
-    for (n, want) in [(0, None), (1, Some(Date::MAX)), (2, None)] {
-        let found = week_before.checked_nth_next_occurrence(Weekday::Friday, n);
-        same(&rt, found, want);
+    let rt = &rt;
+    let second = date(rt, FIRST_YEAR, 1, 2);
+    let week_before = date(rt, LAST_YEAR, 12, 24);
+    for index in 0..7 {
+        let weekday = Weekday::Monday.nth_next(index);
+        check_weekday(rt, Date::MIN, FIRST_JULIAN_DAY, weekday);
+        check_weekday(rt, second, FIRST_JULIAN_DAY + 1, weekday);
+        check_weekday(rt, week_before, LAST_JULIAN_DAY - 7, weekday);
+        check_weekday(rt, Date::MAX, LAST_JULIAN_DAY, weekday);
     }
 }

@@ -3,6 +3,7 @@ ghost use Rattle.std.specs.Prelude.{◌<◌};
 
 use crate::tests::same_at;
 use crate::{Cycle, Month, Weekday, nth_in};
+use std::process::Abort;
 
 #[test]
 fn numbers_of_months(rt: HostRuntime) {
@@ -36,32 +37,40 @@ fn index_before(index: u8, n: usize, length: u8) -> u8
     (index - n as i128).rem_euclid(length) as u8
 }
 
+/// Checks the months `n` places after and before a month.
+fn check_month(rt: &impl Abort, start: Month, n: u8) {
+    let (index, places) = (start as u8 - 1, usize::from(n));
+    let (next, prev) = (start.nth_next(n).place(), start.nth_prev(n).place());
+    same_at(rt, start, next, index_after(index, places, 12));
+    same_at(rt, start, prev, index_before(index, places, 12));
+}
+
 #[test]
 fn months_far_on_and_far_back(rt: HostRuntime) {
+    let rt = &rt;
     for start in Month::iter_from(Month::January).take(12) {
-        let index = start as u8 - 1;
-        for n in [0, 255] {
-            let on = index_after(index, usize::from(n), 12);
-            let back = index_before(index, usize::from(n), 12);
-            let turned = (start.nth_next(n).place(), start.nth_prev(n).place());
-            same_at(&rt, (start, n), turned, (on, back));
-        }
-        let far = nth_in(start, usize::MAX);
-        same_at(&rt, start, far.place(), index_after(index, usize::MAX, 12));
+        check_month(rt, start, 0);
+        check_month(rt, start, 255);
+        let far = nth_in(start, usize::MAX).place();
+        same_at(rt, start, far, index_after(start as u8 - 1, usize::MAX, 12));
     }
+}
+
+/// Checks the weekdays `n` places after and before a weekday.
+fn check_weekday(rt: &impl Abort, start: Weekday, n: u8) {
+    let (index, places) = (start as u8, usize::from(n));
+    let (next, prev) = (start.nth_next(n).place(), start.nth_prev(n).place());
+    same_at(rt, start, next, index_after(index, places, 7));
+    same_at(rt, start, prev, index_before(index, places, 7));
 }
 
 #[test]
 fn weekdays_far_on_and_far_back(rt: HostRuntime) {
+    let rt = &rt;
     for start in Weekday::iter_from(Weekday::Monday).take(7) {
-        let index = start as u8;
-        for n in [0, 255] {
-            let on = index_after(index, usize::from(n), 7);
-            let back = index_before(index, usize::from(n), 7);
-            let turned = (start.nth_next(n).place(), start.nth_prev(n).place());
-            same_at(&rt, (start, n), turned, (on, back));
-        }
-        let far = nth_in(start, usize::MAX);
-        same_at(&rt, start, far.place(), index_after(index, usize::MAX, 7));
+        check_weekday(rt, start, 0);
+        check_weekday(rt, start, 255);
+        let far = nth_in(start, usize::MAX).place();
+        same_at(rt, start, far, index_after(start as u8, usize::MAX, 7));
     }
 }

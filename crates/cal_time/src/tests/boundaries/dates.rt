@@ -1,7 +1,11 @@
 //! Dates at both ends of the range and at both ends of the types of their parts.
+use crate::tests::arithmetic::{check_day, check_month, check_ordinal, check_year};
+use crate::tests::dates::{
+    check_calendar_date, check_julian_day, check_ordinal_date, check_week_date,
+};
 use crate::tests::range::{DAYS, FIRST_JULIAN_DAY, FIRST_YEAR, LAST_JULIAN_DAY, LAST_YEAR};
-use crate::tests::{Told, date, same, same_at, told};
-use crate::{Counted, Date, Month, SignedDuration, Weekday, extent, is_rising};
+use crate::tests::{Told, date, same};
+use crate::{Date, Month, SignedDuration, Weekday, extent, is_rising};
 
 /// The years at both ends of the type and of the range.
 const YEARS: [i32; 6] = [
@@ -72,41 +76,32 @@ fn of_day(year: i32, length: u8, before: u16, day: u8) -> Told {
 
 #[test]
 fn julian_days(rt: HostRuntime) {
-    for (julian_day, is_in_range) in [
-        (i32::MIN, false),
-        (FIRST_JULIAN_DAY - 1, false),
-        (FIRST_JULIAN_DAY, true),
-        (LAST_JULIAN_DAY, true),
-        (LAST_JULIAN_DAY + 1, false),
-        (i32::MAX, false),
-    ] {
-        let want = if is_in_range {
-            Ok(i128::from(julian_day))
-        } else {
-            Err(("julian_day", false))
-        };
-        same(&rt, told(&Date::from_julian_day(julian_day)), want);
-    }
+    let rt = &rt;
+    check_julian_day(rt, FIRST_JULIAN_DAY, Ok(i128::from(FIRST_JULIAN_DAY)));
+    check_julian_day(rt, LAST_JULIAN_DAY, Ok(i128::from(LAST_JULIAN_DAY)));
+    let no_day = Err(("julian_day", false));
+    check_julian_day(rt, i32::MIN, no_day);
+    check_julian_day(rt, FIRST_JULIAN_DAY - 1, no_day);
+    check_julian_day(rt, LAST_JULIAN_DAY + 1, no_day);
+    check_julian_day(rt, i32::MAX, no_day);
 }
 
 #[test]
 fn ordinal_dates(rt: HostRuntime) {
-    for year in YEARS {
-        for ordinal in ORDINALS {
-            let told = told(&Date::from_ordinal_date(year, ordinal));
-            same_at(&rt, (year, ordinal), told, of_ordinal(year, ordinal));
+    for &year in &YEARS {
+        for &ordinal in &ORDINALS {
+            check_ordinal_date(&rt, year, ordinal, of_ordinal(year, ordinal));
         }
     }
 }
 
 #[test]
 fn calendar_dates(rt: HostRuntime) {
-    for year in YEARS {
-        for (month, length, before) in MONTHS {
-            for day in DAYS_OF_MONTH {
-                let told = told(&Date::from_calendar_date(year, month, day));
-                let want = of_day(year, length, before, day);
-                same_at(&rt, (year, month, day), told, want);
+    for &year in &YEARS {
+        for &(month, length, before) in &MONTHS {
+            for &day in &DAYS_OF_MONTH {
+                let wanted = of_day(year, length, before, day);
+                check_calendar_date(&rt, year, month, day, wanted);
             }
         }
     }
@@ -116,34 +111,39 @@ fn calendar_dates(rt: HostRuntime) {
 // Friday in week 52.
 #[test]
 fn iso_week_dates(rt: HostRuntime) {
-    let (first, last) = (i128::from(FIRST_JULIAN_DAY), i128::from(LAST_JULIAN_DAY));
-    for (year, week, weekday, want) in [
-        (FIRST_YEAR, 1, Weekday::Monday, Ok(first)),
-        (FIRST_YEAR, 1, Weekday::Sunday, Ok(first + 6)),
-        (FIRST_YEAR, 52, Weekday::Sunday, Ok(first + 363)),
-        (LAST_YEAR, 1, Weekday::Monday, Ok(last - 361)),
-        (LAST_YEAR, 52, Weekday::Monday, Ok(last - 4)),
-        (LAST_YEAR, 52, Weekday::Friday, Ok(last)),
-        (LAST_YEAR, 52, Weekday::Saturday, Err(("weekday", true))),
-        (LAST_YEAR, 52, Weekday::Sunday, Err(("weekday", true))),
+    let rt = &rt;
+    for &(year, week, weekday, julian_day) in &[
+        (FIRST_YEAR, 1, Weekday::Monday, FIRST_JULIAN_DAY),
+        (FIRST_YEAR, 1, Weekday::Sunday, FIRST_JULIAN_DAY + 6),
+        (FIRST_YEAR, 52, Weekday::Sunday, FIRST_JULIAN_DAY + 363),
+        (LAST_YEAR, 1, Weekday::Monday, LAST_JULIAN_DAY - 361),
+        (LAST_YEAR, 52, Weekday::Monday, LAST_JULIAN_DAY - 4),
+        (LAST_YEAR, 52, Weekday::Friday, LAST_JULIAN_DAY),
     ] {
-        let told = told(&Date::from_iso_week_date(year, week, weekday));
-        same_at(&rt, (year, week, weekday), told, want);
+        let wanted = Ok(i128::from(julian_day));
+        check_week_date(rt, year, week, weekday, wanted);
+    }
+    let no_weekday = Err(("weekday", true));
+    check_week_date(rt, LAST_YEAR, 52, Weekday::Saturday, no_weekday);
+    check_week_date(rt, LAST_YEAR, 52, Weekday::Sunday, no_weekday);
+}
+
+/// Returns the error of a call in this year, whose other argument is out of range.
+fn error_in(year: i32, name: &'static str) -> Told {
+    if is_in_range(year) {
+        Err((name, true))
+    } else {
+        Err(("year", false))
     }
 }
 
 #[test]
 fn iso_years_and_weeks(rt: HostRuntime) {
-    for weekday in Weekday::iter_from(Weekday::Monday).take(7) {
-        for year in YEARS {
-            for week in [0, 53, 54, 255] {
-                let want = if is_in_range(year) {
-                    Err(("week", true))
-                } else {
-                    Err(("year", false))
-                };
-                let told = told(&Date::from_iso_week_date(year, week, weekday));
-                same_at(&rt, (year, week, weekday), told, want);
+    for index in 0..7 {
+        let weekday = Weekday::Monday.nth_next(index);
+        for &year in &YEARS {
+            for &week in &[0, 53, 54, 255] {
+                check_week_date(&rt, year, week, weekday, error_in(year, "week"));
             }
         }
     }
@@ -151,60 +151,50 @@ fn iso_years_and_weeks(rt: HostRuntime) {
 
 #[test]
 fn replaced_years(rt: HostRuntime) {
-    let leap_day = date(&rt, 2024, 2, 29);
-    for year in YEARS {
-        for (date, ordinal) in [(Date::MIN, 1), (Date::MAX, 365)] {
-            let told = told(&date.replace_year(year));
-            same_at(&rt, (date, year), told, of_ordinal(year, ordinal));
-        }
-        let want = if is_in_range(year) {
-            Err(("day", true))
-        } else {
-            Err(("year", false))
-        };
-        same_at(&rt, year, told(&leap_day.replace_year(year)), want);
+    let rt = &rt;
+    let leap_day = date(rt, 2024, 2, 29);
+    for &year in &YEARS {
+        check_year(rt, Date::MIN, year, of_ordinal(year, 1));
+        check_year(rt, Date::MAX, year, of_ordinal(year, 365));
+        check_year(rt, leap_day, year, error_in(year, "day"));
     }
 }
 
 #[test]
-fn replaced_months(rt: HostRuntime) {
-    for (month, length, before) in MONTHS {
-        let want = of_day(FIRST_YEAR, length, before, 1);
-        same_at(&rt, month, told(&Date::MIN.replace_month(month)), want);
-        let want = of_day(LAST_YEAR, length, before, 31);
-        same_at(&rt, month, told(&Date::MAX.replace_month(month)), want);
+fn replaced_parts(rt: HostRuntime) {
+    let rt = &rt;
+    for &(month, length, before) in &MONTHS {
+        let wanted = of_day(FIRST_YEAR, length, before, 1);
+        check_month(rt, Date::MIN, month, wanted);
+        let wanted = of_day(LAST_YEAR, length, before, 31);
+        check_month(rt, Date::MAX, month, wanted);
     }
-}
-
-#[test]
-fn replaced_days_and_ordinals(rt: HostRuntime) {
-    for day in DAYS_OF_MONTH {
-        let want = of_day(FIRST_YEAR, 31, 0, day);
-        same_at(&rt, day, told(&Date::MIN.replace_day(day)), want);
-        let want = of_day(LAST_YEAR, 31, 334, day);
-        same_at(&rt, day, told(&Date::MAX.replace_day(day)), want);
+    for &day in &DAYS_OF_MONTH {
+        check_day(rt, Date::MIN, day, of_day(FIRST_YEAR, 31, 0, day));
+        check_day(rt, Date::MAX, day, of_day(LAST_YEAR, 31, 334, day));
     }
-    for ordinal in ORDINALS {
-        let want = of_ordinal(FIRST_YEAR, ordinal);
-        same(&rt, told(&Date::MIN.replace_ordinal(ordinal)), want);
-        let want = of_ordinal(LAST_YEAR, ordinal);
-        same(&rt, told(&Date::MAX.replace_ordinal(ordinal)), want);
+    for &ordinal in &ORDINALS {
+        let wanted = of_ordinal(FIRST_YEAR, ordinal);
+        check_ordinal(rt, Date::MIN, ordinal, wanted);
+        let wanted = of_ordinal(LAST_YEAR, ordinal);
+        check_ordinal(rt, Date::MAX, ordinal, wanted);
     }
 }
 
 #[test]
 fn neighbours_and_order(rt: HostRuntime) {
+    let rt = &rt;
     let (min, max) = (Date::MIN, Date::MAX);
-    let second = i128::from(FIRST_JULIAN_DAY) + 1;
-    let eve = i128::from(LAST_JULIAN_DAY) - 1;
-    let inside = [min.next_day(), max.previous_day()];
-    let found = inside.map(|day| day.map(Counted::number));
-    same(&rt, found, [Some(second), Some(eve)]);
-    same(&rt, [min.previous_day(), max.next_day()], [None, None]);
-    let found = [is_rising(&[min, max]), is_rising(&[max, min])];
-    same(&rt, found, [true, false]);
-    same(&rt, extent(&[max, min]), Some((min, max)));
-    let days = DAYS - 1;
-    let wanted = [SignedDuration::days(days), SignedDuration::days(-days)];
-    same(&rt, [max - min, min - max], wanted);
+    let (second, eve) = (date(rt, FIRST_YEAR, 1, 2), date(rt, LAST_YEAR, 12, 30));
+    same(rt, second.to_julian_day(), FIRST_JULIAN_DAY + 1);
+    same(rt, eve.to_julian_day(), LAST_JULIAN_DAY - 1);
+    same(rt, min.next_day(), Some(second));
+    same(rt, max.previous_day(), Some(eve));
+    same(rt, min.previous_day(), None);
+    same(rt, max.next_day(), None);
+    same(rt, is_rising(&[min, max]), true);
+    same(rt, is_rising(&[max, min]), false);
+    same(rt, extent(&[max, min]), Some((min, max)));
+    same(rt, max - min, SignedDuration::days(DAYS - 1));
+    same(rt, min - max, SignedDuration::days(1 - DAYS));
 }

@@ -41,13 +41,22 @@ fn check_step(
     walk: &DateIter,
     left: &[i32],
 ) {
-    same(rt, item.map(Date::to_julian_day), want);
+    check_day(rt, item, want);
     let length = left.len();
-    let found = (walk.len(), walk.size_hint(), walk.clone().count());
-    same(rt, found, (length, (length, Some(length)), length));
-    let (min, max) = (walk.clone().min(), walk.clone().max());
-    let found = (min.map(Date::to_julian_day), max.map(Date::to_julian_day));
-    same(rt, found, (left.first().copied(), left.last().copied()));
+    same(rt, walk.len(), length);
+    same(rt, walk.size_hint(), (length, Some(length)));
+    same(rt, walk.clone().count(), length);
+    check_day(rt, walk.clone().min(), left.first().copied());
+    check_day(rt, walk.clone().max(), left.last().copied());
+}
+
+/// Checks the Julian day of a date, or that there is none.
+fn check_day(rt: &impl Abort, date: Option<Date>, julian_day: Option<i32>) {
+    let found = match date {
+        Some(date) => Some(date.to_julian_day()),
+        None => None,
+    };
+    same(rt, found, julian_day);
 }
 
 /// Checks one step of each kind, two of them with the index `k`. Returns the items that are left.
@@ -69,21 +78,22 @@ fn check_round<'a>(rt: &impl Abort, walk: &mut DateIter, list: &'a [i32], k: usi
 
 #[test]
 fn drained_by_steps_of_each_kind(rt: HostRuntime) {
-    let (first, last) = (date(&rt, 2019, 12, 25), date(&rt, 2020, 3, 5));
+    let rt = &rt;
+    let (first, last) = (date(rt, 2019, 12, 25), date(rt, 2020, 3, 5));
     let days = days();
     for k in 0..10 {
         let mut walk = first.iter_to(last);
         let mut left: &[i32] = &days;
-        same(&rt, walk.len(), 72);
+        same(rt, walk.len(), 72);
         for _ in 0..72 {
             if left.is_empty() {
                 break;
             }
-            left = check_round(&rt, &mut walk, left, k);
+            left = check_round(rt, &mut walk, left, k);
         }
-        assert!(rt; left.is_empty());
+        same(rt, left.is_empty(), true);
 
         // The iterator is empty, whichever call is used.
-        check_round(&rt, &mut walk, left, k);
+        check_round(rt, &mut walk, left, k);
     }
 }

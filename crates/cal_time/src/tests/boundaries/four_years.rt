@@ -1,7 +1,10 @@
 //! The first two and the last two years of the range, all common years, by days and by weeks.
+use crate::tests::dates::{
+    check_calendar_date, check_julian_day, check_ordinal_date, check_week_date,
+};
 use crate::tests::range::{FIRST_JULIAN_DAY, FIRST_YEAR, LAST_JULIAN_DAY, LAST_YEAR};
-use crate::tests::{same, told};
-use crate::{Counted, Date, Month, Weekday};
+use crate::tests::same;
+use crate::{Date, Month, Weekday};
 use std::process::Abort;
 
 /// The months, each with its length.
@@ -18,16 +21,6 @@ const MONTHS: [(Month, u8); 12] = [
     (Month::October, 31),
     (Month::November, 30),
     (Month::December, 31),
-];
-
-const WEEKDAYS: [Weekday; 7] = [
-    Weekday::Monday,
-    Weekday::Tuesday,
-    Weekday::Wednesday,
-    Weekday::Thursday,
-    Weekday::Friday,
-    Weekday::Saturday,
-    Weekday::Sunday,
 ];
 
 /// The counts that go on from day to day of a year.
@@ -83,54 +76,57 @@ impl Running {
 }
 
 fn check_constructors(rt: &impl Abort, running: Running, month: Month, day: u8) {
-    let year = running.year;
-    let (iso_year, week) = running.iso_week();
+    let wanted = Ok(i128::from(running.julian_day));
+    check_julian_day(rt, running.julian_day, wanted);
+    check_calendar_date(rt, running.year, month, day, wanted);
+    check_ordinal_date(rt, running.year, running.ordinal, wanted);
+    let (year, week) = running.iso_week();
     let week = u8::try_from(week).expect(rt, "no week");
     let weekday = Weekday::Monday.nth_next(running.weekday);
-    for answer in [
-        Date::from_julian_day(running.julian_day),
-        Date::from_calendar_date(year, month, day),
-        Date::from_ordinal_date(year, running.ordinal),
-        Date::from_iso_week_date(iso_year, week, weekday),
-    ] {
-        same(rt, told(&answer), Ok(i128::from(running.julian_day)));
-    }
+    check_week_date(rt, year, week, weekday, wanted);
 }
 
-fn check_parts(rt: &impl Abort, date: Date, running: Running, month: Month, day: u8) {
-    let (year, ordinal, weekday) = (running.year, running.ordinal, running.weekday);
+fn check_days(rt: &impl Abort, date: Date, running: Running, month: Month, day: u8) {
+    let calendar = (running.year, month, day);
+    same(rt, date.to_calendar_date(), calendar);
+    same(rt, (date.year(), date.month(), date.day()), calendar);
+    same(rt, date.to_ordinal_date(), (running.year, running.ordinal));
+    same(rt, date.ordinal(), running.ordinal);
+    same(rt, date.to_julian_day(), running.julian_day);
+}
+
+fn check_weeks(rt: &impl Abort, date: Date, running: Running) {
     let (iso_year, week) = running.iso_week();
     let (its_year, its_week, its_weekday) = date.to_iso_week_date();
-    same(rt, date.to_calendar_date(), (year, month, day));
-    same(rt, date.to_ordinal_date(), (year, ordinal));
-    let found = (its_year, i32::from(its_week), its_weekday as u8);
-    same(rt, found, (iso_year, week, weekday));
-    let found = (date.year(), date.month(), date.day());
-    same(rt, found, (year, month, day));
-    let found = (date.to_julian_day(), date.ordinal());
-    same(rt, found, (running.julian_day, ordinal));
-    let found = (i32::from(date.iso_week()), date.weekday() as u8);
-    same(rt, found, (week, weekday));
-    let weeks = (date.sunday_based_week(), date.monday_based_week());
-    same(rt, weeks, (running.sundays, running.mondays));
+    same(rt, its_year, iso_year);
+    same(rt, i32::from(its_week), week);
+    same(rt, its_weekday as u8, running.weekday);
+    same(rt, i32::from(date.iso_week()), week);
+    same(rt, date.weekday() as u8, running.weekday);
+    same(rt, date.sunday_based_week(), running.sundays);
+    same(rt, date.monday_based_week(), running.mondays);
 }
 
 fn check_neighbours(rt: &impl Abort, date: Date, julian_day: i32) {
-    let before = (julian_day != FIRST_JULIAN_DAY).then_some(i128::from(julian_day) - 1);
-    let after = (julian_day != LAST_JULIAN_DAY).then_some(i128::from(julian_day) + 1);
-    let found = [date.previous_day(), date.next_day()];
-    let found = found.map(|day| day.map(Counted::number));
-    same(rt, found, [before, after]);
+    match date.previous_day() {
+        Some(day) => same(rt, day.to_julian_day(), julian_day.wrapping_sub(1)),
+        None => same(rt, julian_day, FIRST_JULIAN_DAY),
+    }
+    match date.next_day() {
+        Some(day) => same(rt, day.to_julian_day(), julian_day.wrapping_add(1)),
+        None => same(rt, julian_day, LAST_JULIAN_DAY),
+    }
 }
 
 /// Checks all days of the year. Returns the counts that go on to the next year.
 fn check_year(rt: &impl Abort, new_year: Running) -> Running {
     let mut running = new_year;
-    for (month, length) in MONTHS {
+    for &(month, length) in &MONTHS {
         for day in 1..=length {
             let date = Date::from_julian_day(running.julian_day).expect(rt, "no date");
             check_constructors(rt, running, month, day);
-            check_parts(rt, date, running, month, day);
+            check_days(rt, date, running, month, day);
+            check_weeks(rt, date, running);
             check_neighbours(rt, date, running.julian_day);
             running = running.after();
         }
@@ -138,39 +134,50 @@ fn check_year(rt: &impl Abort, new_year: Running) -> Running {
     running
 }
 
+/// Checks this year and the next one.
+fn check_years(rt: &impl Abort, year: i32, julian_day: i32, weekday: u8) {
+    let end = check_year(rt, Running::on_new_year(year, julian_day, weekday));
+    let new_year = Running::on_new_year(year.wrapping_add(1), end.julian_day, end.weekday);
+    let end = check_year(rt, new_year);
+    same(rt, end.julian_day, julian_day.wrapping_add(730));
+    same(rt, end.weekday, weekday.wrapping_add(2) % 7);
+}
+
 // The range begins on a Monday and ends on a Friday. A year of 365 days ends on the weekday that it
 // begins on, so the last year begins on a Friday, and the year before it on a Thursday.
 #[test]
 fn each_day(rt: HostRuntime) {
-    for (year, julian_day, weekday) in [
-        (FIRST_YEAR, FIRST_JULIAN_DAY, 0),
-        (LAST_YEAR - 1, LAST_JULIAN_DAY - 729, 3),
-    ] {
-        let end = check_year(&rt, Running::on_new_year(year, julian_day, weekday));
-        let new_year = Running::on_new_year(year + 1, end.julian_day, end.weekday);
-        let end = check_year(&rt, new_year);
-        same(&rt, end.julian_day, julian_day + 730);
-        same(&rt, end.weekday, (weekday + 2) % 7);
+    check_years(&rt, FIRST_YEAR, FIRST_JULIAN_DAY, 0);
+    check_years(&rt, LAST_YEAR - 1, LAST_JULIAN_DAY - 729, 3);
+}
+
+/// Checks an ISO week date if it exists. Returns whether it does, whether its week is out of range,
+/// and whether its weekday is, each as 1 or 0.
+fn week_date(rt: &impl Abort, year: i32, week: u8, weekday: Weekday) -> (u32, u32, u32) {
+    match Date::from_iso_week_date(year, week, weekday) {
+        Ok(date) => {
+            same(rt, date.to_iso_week_date(), (year, week, weekday));
+            (1, 0, 0)
+        }
+        Err(error) => {
+            same(rt, error.is_conditional(), true);
+            let (no_week, no_weekday) = (error.name() == "week", error.name() == "weekday");
+            (0, u32::from(no_week), u32::from(no_weekday))
+        }
     }
 }
 
 #[test]
 fn each_week(rt: HostRuntime) {
     let (mut accepted, mut weeks, mut weekdays) = (0u32, 0u32, 0u32);
-    for year in [FIRST_YEAR, FIRST_YEAR + 1, LAST_YEAR - 1, LAST_YEAR] {
+    for &year in &[FIRST_YEAR, FIRST_YEAR + 1, LAST_YEAR - 1, LAST_YEAR] {
         for week in 0..55 {
-            for weekday in WEEKDAYS {
-                match Date::from_iso_week_date(year, week, weekday) {
-                    Ok(date) => {
-                        same(&rt, date.to_iso_week_date(), (year, week, weekday));
-                        accepted = accepted.wrapping_add(1);
-                    }
-                    Err(error) => {
-                        assert!(rt; error.is_conditional());
-                        weeks = weeks.wrapping_add(u32::from(error.name() == "week"));
-                        weekdays = weekdays.wrapping_add(u32::from(error.name() == "weekday"));
-                    }
-                }
+            for index in 0..7 {
+                let weekday = Weekday::Monday.nth_next(index);
+                let counts = week_date(&rt, year, week, weekday);
+                accepted = accepted.wrapping_add(counts.0);
+                weeks = weeks.wrapping_add(counts.1);
+                weekdays = weekdays.wrapping_add(counts.2);
             }
         }
     }

@@ -1,6 +1,7 @@
 //! Offsets at both ends of their parts.
 use crate::UtcOffset;
-use crate::tests::{Told, same, told};
+use crate::tests::{Told, check_at};
+use std::process::Abort;
 
 /// The hours at both ends of the range and of the type.
 const HOURS: [i8; 7] = [-128, -26, -25, 0, 25, 26, 127];
@@ -33,13 +34,18 @@ fn of_parts(hours: i8, minutes: i8, seconds: i8) -> Told {
     }
 }
 
+fn check_parts(rt: &impl Abort, hours: i8, minutes: i8, seconds: i8) {
+    let arguments = [i32::from(hours), i32::from(minutes), i32::from(seconds)];
+    let found = UtcOffset::from_hms(hours, minutes, seconds);
+    check_at(rt, arguments, found, of_parts(hours, minutes, seconds));
+}
+
 #[test]
 fn offsets_of_parts(rt: HostRuntime) {
-    for hours in HOURS {
-        for minutes in SIXTIETHS {
-            for seconds in SIXTIETHS {
-                let told = told(&UtcOffset::from_hms(hours, minutes, seconds));
-                same(&rt, told, of_parts(hours, minutes, seconds));
+    for &hours in &HOURS {
+        for &minutes in &SIXTIETHS {
+            for &seconds in &SIXTIETHS {
+                check_parts(&rt, hours, minutes, seconds);
             }
         }
     }
@@ -47,12 +53,13 @@ fn offsets_of_parts(rt: HostRuntime) {
 
 #[test]
 fn offsets_of_seconds(rt: HostRuntime) {
-    for seconds in [i32::MIN, -93_600, -93_599, 0, 93_599, 93_600, i32::MAX] {
+    for &seconds in &[i32::MIN, -93_600, -93_599, 0, 93_599, 93_600, i32::MAX] {
         let want = if seconds < -93_599 || seconds > 93_599 {
             Err(("seconds", false))
         } else {
             Ok(i128::from(seconds))
         };
-        same(&rt, told(&UtcOffset::from_whole_seconds(seconds)), want);
+        let found = UtcOffset::from_whole_seconds(seconds);
+        check_at(&rt, [0, 0, seconds], found, want);
     }
 }

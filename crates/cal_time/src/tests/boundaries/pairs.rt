@@ -2,27 +2,44 @@
 use crate::tests::boundaries::DAY;
 use crate::tests::boundaries::durations::ends;
 use crate::tests::range::{DAYS, FIRST_JULIAN_DAY, LAST_JULIAN_DAY};
+use crate::tests::{same, same_at};
 use crate::{Counted, Date, SignedDuration, Time, add_to_pair, sub_from_pair};
+use std::process::Abort;
 
-/// Returns the Julian day and the nanoseconds of a moment, if the day is in the range.
-fn at_moment(moment: i128) -> Option<(i128, i128)> {
+/// Checks that the pair is at this moment, or that there is none if its day is out of range.
+fn check_moment(rt: &impl Abort, pair: Option<(Date, Time)>, moment: i128) {
     let (julian_day, past) = (moment.div_euclid(DAY), moment.rem_euclid(DAY));
-    if julian_day < i128::from(FIRST_JULIAN_DAY) || julian_day > i128::from(LAST_JULIAN_DAY) {
-        None
-    } else {
-        Some((julian_day, past))
+    let is_date = i128::from(FIRST_JULIAN_DAY) <= julian_day
+        && julian_day <= i128::from(LAST_JULIAN_DAY);
+    same_at(rt, moment, pair.is_some(), is_date);
+    if let Some((date, time)) = pair {
+        same(rt, date.number(), julian_day);
+        same(rt, time.number(), past);
     }
 }
 
-fn numbers((date, time): (Date, Time)) -> (i128, i128) {
-    (date.number(), time.number())
+/// Checks both moves of a pair at this moment.
+fn check_moves(
+    rt: &impl Abort,
+    (date, time): (Date, Time),
+    moment: i128,
+    duration: SignedDuration,
+    by: i128,
+) {
+    let later = add_to_pair(date, time, duration);
+    check_moment(rt, later, moment.saturating_add(by));
+    let earlier = sub_from_pair(date, time, duration);
+    check_moment(rt, earlier, moment.saturating_sub(by));
 }
 
-/// Returns `true` if both moves of the pair by the duration move its moment.
-fn moves_exactly(date: Date, time: Time, moment: i128, duration: SignedDuration, by: i128) -> bool {
-    let (later, earlier) = (moment.saturating_add(by), moment.saturating_sub(by));
-    add_to_pair(date, time, duration).map(numbers) == at_moment(later)
-        && sub_from_pair(date, time, duration).map(numbers) == at_moment(earlier)
+/// Checks the moves of both ends of the first and of the last day.
+fn check_ends(rt: &impl Abort, duration: SignedDuration, by: i128) {
+    let (first, last) = (i128::from(FIRST_JULIAN_DAY), i128::from(LAST_JULIAN_DAY));
+    let (dawn, dusk) = (Time::MIDNIGHT, Time::MAX);
+    check_moves(rt, (Date::MIN, dawn), first * DAY, duration, by);
+    check_moves(rt, (Date::MIN, dusk), (first + 1) * DAY - 1, duration, by);
+    check_moves(rt, (Date::MAX, dawn), last * DAY, duration, by);
+    check_moves(rt, (Date::MAX, dusk), (last + 1) * DAY - 1, duration, by);
 }
 
 /// Returns durations as long as the range, each with its nanoseconds.
@@ -39,24 +56,10 @@ fn durations() -> [(SignedDuration, i128); 5] {
 
 #[test]
 fn pairs_moved_by_the_ends_of_durations(rt: HostRuntime) {
-    let (first, days) = (i128::from(FIRST_JULIAN_DAY), i128::from(DAYS));
-    for (date, time, moment) in [
-        (Date::MIN, Time::MIDNIGHT, first * DAY),
-        (Date::MIN, Time::MAX, (first + 1) * DAY - 1),
-        (Date::MAX, Time::MIDNIGHT, (first + days - 1) * DAY),
-        (Date::MAX, Time::MAX, (first + days) * DAY - 1),
-    ] {
-        for (duration, by) in ends() {
-            assert!(rt;
-                moves_exactly(date, time, moment, duration, by),
-                "{duration}"
-            );
-        }
-        for (duration, by) in durations() {
-            assert!(rt;
-                moves_exactly(date, time, moment, duration, by),
-                "{duration}"
-            );
-        }
+    for (duration, by) in ends() {
+        check_ends(&rt, duration, by);
+    }
+    for (duration, by) in durations() {
+        check_ends(&rt, duration, by);
     }
 }

@@ -1,7 +1,7 @@
 //! Steps round a cycle, there and back.
 ghost use Rattle.std.specs.Prelude.{◌≡◌};
 
-use crate::tests::same_at;
+use crate::tests::same;
 use crate::{Month, Weekday};
 
 fn month_and_back(month: Month, n: u8) -> Month
@@ -18,18 +18,17 @@ fn weekday_and_back(weekday: Weekday, n: u8) -> Weekday
 
 #[test]
 fn steps_there_and_back(rt: HostRuntime) {
-    for (month, n) in [
-        (Month::January, 255),
-        (Month::July, 9),
-        (Month::December, 0),
-    ] {
-        same_at(&rt, n, month_and_back(month, n), month);
-    }
-    for (weekday, n) in [
-        (Weekday::Monday, 255),
-        (Weekday::Thursday, 3),
-        (Weekday::Sunday, 10),
-    ] {
-        same_at(&rt, n, weekday_and_back(weekday, n), weekday);
-    }
+    let rt = &rt;
+    let (january, december) = (Month::January, Month::December);
+    same(rt, month_and_back(january, 255), january);
+    same(rt, month_and_back(Month::July, 9), Month::July);
+    same(rt, month_and_back(december, 0), december);
+    let (monday, sunday) = (Weekday::Monday, Weekday::Sunday);
+    same(rt, weekday_and_back(monday, 255), monday);
+    same(
+        rt,
+        weekday_and_back(Weekday::Thursday, 3),
+        Weekday::Thursday,
+    );
+    same(rt, weekday_and_back(sunday, 10), sunday);
 }

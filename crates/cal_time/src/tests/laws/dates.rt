@@ -5,8 +5,8 @@ ghost use Rattle.cal_date.specs.Arithmetic.{IsDateNumber};
 
 use crate::error::ComponentRange;
 use crate::tests::range::{FIRST_JULIAN_DAY, FIRST_YEAR, LAST_JULIAN_DAY, LAST_YEAR};
-use crate::tests::{date, same, same_at};
-use crate::{Date, Month, Weekday};
+use crate::tests::{check, date, same};
+use crate::{Counted, Date, Month, Weekday};
 use std::process::Abort;
 
 fn by_julian_day(date: Date) -> Result<Date, ComponentRange>
@@ -36,19 +36,22 @@ fn by_iso_week_date(date: Date) -> Result<Date, ComponentRange>
     Date::from_iso_week_date(year, week, weekday)
 }
 
+/// Checks that each form of a date gives it back.
+fn check_forms(rt: &impl Abort, date: Date) {
+    let wanted = Ok(date.number());
+    check(rt, by_julian_day(date), wanted);
+    check(rt, by_ordinal_date(date), wanted);
+    check(rt, by_calendar_date(date), wanted);
+    check(rt, by_iso_week_date(date), wanted);
+}
+
 #[test]
 fn dates_by_what_they_have(rt: HostRuntime) {
-    for date in [
-        Date::MIN,
-        date(&rt, 2000, 2, 29),
-        date(&rt, 2021, 1, 1),
-        Date::MAX,
-    ] {
-        let by_numbers = [by_julian_day(date), by_ordinal_date(date)];
-        same(&rt, by_numbers, [Ok(date), Ok(date)]);
-        let by_names = [by_calendar_date(date), by_iso_week_date(date)];
-        same(&rt, by_names, [Ok(date), Ok(date)]);
-    }
+    let rt = &rt;
+    check_forms(rt, Date::MIN);
+    check_forms(rt, date(rt, 2000, 2, 29));
+    check_forms(rt, date(rt, 2021, 1, 1));
+    check_forms(rt, Date::MAX);
 }
 
 fn julian_day(julian_day: i32) -> Result<i32, ComponentRange>
@@ -80,38 +83,37 @@ fn iso_week_date(
     Ok(Date::from_iso_week_date(year, week, weekday)?.to_iso_week_date())
 }
 
-#[test]
-fn julian_days_by_their_dates(rt: HostRuntime) {
-    let found = [
-        julian_day(FIRST_JULIAN_DAY),
-        julian_day(0),
-        julian_day(LAST_JULIAN_DAY),
-    ];
-    same(&rt, found, [FIRST_JULIAN_DAY, 0, LAST_JULIAN_DAY].map(Ok));
+fn check_ordinal_date(rt: &impl Abort, year: i32, ordinal: u16) {
+    let found = ordinal_date(year, ordinal).ok();
+    same(rt, found, Some((year, ordinal)));
+}
+
+fn check_calendar_date(rt: &impl Abort, year: i32, month: Month, day: u8) {
+    let found = calendar_date(year, month, day).ok();
+    same(rt, found, Some((year, month, day)));
+}
+
+fn check_week_date(rt: &impl Abort, year: i32, week: u8, weekday: Weekday) {
+    let found = iso_week_date(year, week, weekday).ok();
+    same(rt, found, Some((year, week, weekday)));
 }
 
 #[test]
 fn components_by_their_dates(rt: HostRuntime) {
-    for (year, ordinal) in [(FIRST_YEAR, 1), (2000, 60), (2020, 366)] {
-        let found = ordinal_date(year, ordinal);
-        same(&rt, found, Ok((year, ordinal)));
-    }
-    for (year, month, day) in [
-        (-1, Month::December, 31),
-        (2000, Month::February, 29),
-        (LAST_YEAR, Month::December, 31),
-    ] {
-        let found = calendar_date(year, month, day);
-        same(&rt, found, Ok((year, month, day)));
-    }
-    for (year, week, weekday) in [
-        (2019, 40, Weekday::Friday),
-        (2020, 1, Weekday::Monday),
-        (2020, 53, Weekday::Sunday),
-    ] {
-        let found = iso_week_date(year, week, weekday);
-        same(&rt, found, Ok((year, week, weekday)));
-    }
+    let rt = &rt;
+    let (first, last) = (FIRST_JULIAN_DAY, LAST_JULIAN_DAY);
+    same(rt, julian_day(first).ok(), Some(first));
+    same(rt, julian_day(0).ok(), Some(0));
+    same(rt, julian_day(last).ok(), Some(last));
+    check_ordinal_date(rt, FIRST_YEAR, 1);
+    check_ordinal_date(rt, 2000, 60);
+    check_ordinal_date(rt, 2020, 366);
+    check_calendar_date(rt, -1, Month::December, 31);
+    check_calendar_date(rt, 2000, Month::February, 29);
+    check_calendar_date(rt, LAST_YEAR, Month::December, 31);
+    check_week_date(rt, 2019, 40, Weekday::Friday);
+    check_week_date(rt, 2020, 1, Weekday::Monday);
+    check_week_date(rt, 2020, 53, Weekday::Sunday);
 }
 
 /// Returns the Julian days of a date and of the next one.
@@ -134,21 +136,19 @@ fn previous_julian_day(date: Date) -> Option<(i32, i32)>
     }
 }
 
-fn date_of(rt: &impl Abort, julian_day: i32) -> Date {
-    Date::from_julian_day(julian_day).expect(rt, "no date")
+/// Checks the neighbours of the dates with these Julian days.
+fn check_neighbours(rt: &impl Abort, julian_day: i32, next: i32) {
+    let date = Date::from_julian_day(julian_day).expect(rt, "no date");
+    same(rt, next_julian_day(date), Some((julian_day, next)));
+    let date = Date::from_julian_day(next).expect(rt, "no date");
+    same(rt, previous_julian_day(date), Some((next, julian_day)));
 }
 
 #[test]
 fn julian_days_of_neighbours(rt: HostRuntime) {
-    for (julian_day, next) in [
-        (FIRST_JULIAN_DAY, FIRST_JULIAN_DAY + 1),
-        (-1, 0),
-        (2_451_544, 2_451_545),
-        (LAST_JULIAN_DAY - 1, LAST_JULIAN_DAY),
-    ] {
-        let found = next_julian_day(date_of(&rt, julian_day));
-        same_at(&rt, julian_day, found, Some((julian_day, next)));
-        let found = previous_julian_day(date_of(&rt, next));
-        same_at(&rt, next, found, Some((next, julian_day)));
-    }
+    let rt = &rt;
+    check_neighbours(rt, FIRST_JULIAN_DAY, FIRST_JULIAN_DAY + 1);
+    check_neighbours(rt, -1, 0);
+    check_neighbours(rt, 2_451_544, 2_451_545);
+    check_neighbours(rt, LAST_JULIAN_DAY - 1, LAST_JULIAN_DAY);
 }

@@ -2,8 +2,9 @@
 ghost use Rattle.std.specs.Prelude.{◌≡◌, Ok};
 
 use crate::error::ComponentRange;
-use crate::tests::{offset, same, same_at, time};
-use crate::{SignedDuration, Time, UtcOffset};
+use crate::tests::{check, offset, same, time};
+use crate::{Counted, SignedDuration, Time, UtcOffset};
+use std::process::Abort;
 
 fn by_duration_until(from: Time, to: Time) -> Time
     ensures { result ≡ to }
@@ -17,17 +18,18 @@ fn time_and_back(time: Time, duration: SignedDuration) -> Time
     (time + duration) - duration
 }
 
+fn check_time(rt: &impl Abort, from: Time, to: Time, duration: SignedDuration) {
+    same(rt, by_duration_until(from, to), to);
+    same(rt, time_and_back(from, duration), from);
+}
+
 #[test]
 fn times_there_and_back(rt: HostRuntime) {
-    let (late, early) = (time(&rt, 23, 0, 0, 0), time(&rt, 1, 0, 0, 0));
-    for (from, to, duration) in [
-        (Time::MAX, Time::MIDNIGHT, SignedDuration::MIN),
-        (Time::MIDNIGHT, Time::MAX, SignedDuration::MAX),
-        (late, early, SignedDuration::nanoseconds(-1)),
-    ] {
-        same_at(&rt, from, by_duration_until(from, to), to);
-        same_at(&rt, duration, time_and_back(from, duration), from);
-    }
+    let rt = &rt;
+    let (late, early) = (time(rt, 23, 0, 0, 0), time(rt, 1, 0, 0, 0));
+    check_time(rt, Time::MAX, Time::MIDNIGHT, SignedDuration::MIN);
+    check_time(rt, Time::MIDNIGHT, Time::MAX, SignedDuration::MAX);
+    check_time(rt, late, early, SignedDuration::nanoseconds(-1));
 }
 
 fn by_whole_seconds(offset: UtcOffset) -> Result<UtcOffset, ComponentRange>
@@ -42,14 +44,15 @@ fn negated_twice(offset: UtcOffset) -> UtcOffset
     -(-offset)
 }
 
+fn check_offset(rt: &impl Abort, offset: UtcOffset) {
+    check(rt, by_whole_seconds(offset), Ok(offset.number()));
+    same(rt, negated_twice(offset), offset);
+}
+
 #[test]
 fn offsets_there_and_back(rt: HostRuntime) {
-    for offset in [
-        UtcOffset::UTC,
-        offset(&rt, 0, -30, -15),
-        offset(&rt, 25, 59, 59),
-    ] {
-        same(&rt, by_whole_seconds(offset), Ok(offset));
-        same(&rt, negated_twice(offset), offset);
-    }
+    let rt = &rt;
+    check_offset(rt, UtcOffset::UTC);
+    check_offset(rt, offset(rt, 0, -30, -15));
+    check_offset(rt, offset(rt, 25, 59, 59));
 }

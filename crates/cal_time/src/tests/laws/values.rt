@@ -1,10 +1,9 @@
 //! The order, the equality and the hash of values, by their numbers.
 ghost use Rattle.std.specs.Prelude.{◌≡◌, ◌↔◌, ◌<ℤ◌, IsTrue};
 
-use crate::tests::{date, hash_of, offset, same_at, time};
+use crate::tests::{date, hash_of, offset, same, same_at, time};
 use crate::{Counted, Date, SignedDuration, Time, UtcOffset};
 use std::cmp::Ordering;
-use std::fmt::Debug;
 use std::process::Abort;
 
 fn is_below<T: Counted>(a: T, b: T) -> bool
@@ -33,43 +32,44 @@ fn order_and_equality<T: Counted>(a: T, b: T) -> (bool, bool)
     (a.cmp(&b) == Ordering::Equal, a == b)
 }
 
-/// Stops the test unless each two of the values are ordered, equal and hashed by their numbers.
-pub(crate) fn check_values<T: Counted + Debug>(rt: &impl Abort, values: &[T]) {
+/// Checks that two values are ordered, equal and hashed by their numbers.
+fn check_two<T: Counted>(rt: &impl Abort, a: T, b: T) {
+    let (one, other) = (a.number(), b.number());
+    same_at(rt, (one, other), is_below(a, b), one < other);
+    same_at(rt, (one, other), is_same(a, b), one == other);
+    let (by_order, is_equal) = order_and_equality(a, b);
+    same_at(rt, (one, other), by_order, one == other);
+    same_at(rt, (one, other), is_equal, one == other);
+    let (hash, other_hash) = hashes(a, b);
+    same(rt, one != other || hash == other_hash, true);
+}
+
+/// Checks each two of the values.
+pub(crate) fn check_values<T: Counted>(rt: &impl Abort, values: &[T]) {
     for a in values {
         for b in values {
-            let (a, b) = (*a, *b);
-            let (one, other) = (a.number(), b.number());
-            let found = (is_below(a, b), is_same(a, b));
-            same_at(rt, (a, b), found, (one < other, one == other));
-            let is_equal = one == other;
-            same_at(rt, (a, b), order_and_equality(a, b), (is_equal, is_equal));
-            let (hash, other_hash) = hashes(a, b);
-            assert!(rt; one != other || hash == other_hash);
+            check_two(rt, *a, *b);
         }
     }
 }
 
-// The second and the third value of each row are equal.
+// The second and the third value of each list are equal.
 #[test]
 fn values_by_their_numbers(rt: HostRuntime) {
-    let leap_day = date(&rt, 2000, 2, 29);
-    let eve = date(&rt, 2000, 3, 1).previous_day();
-    let dates = [Date::MIN, leap_day, eve.expect(&rt, "no day"), Date::MAX];
-    check_values(&rt, &dates);
-    let (less_one, second) = (SignedDuration::nanoseconds(-1), SignedDuration::SECOND);
-    let durations = [
-        SignedDuration::MIN,
-        less_one,
-        SignedDuration::new(-1, 999_999_999),
-        SignedDuration::MAX,
-    ];
-    check_values(&rt, &durations);
-    let noon = time(&rt, 12, 0, 0, 0);
-    let times = [Time::MIDNIGHT, noon, noon + second - second, Time::MAX];
-    check_values(&rt, &times);
-    let west = offset(&rt, -4, -30, 0);
-    let offsets = [offset(&rt, -5, -30, 0), west, -(-west), UtcOffset::UTC];
-    check_values(&rt, &offsets);
+    let rt = &rt;
+    let leap_day = date(rt, 2000, 2, 29);
+    let eve = date(rt, 2000, 3, 1).previous_day();
+    let eve = eve.expect(rt, "no day");
+    check_values(rt, &[Date::MIN, leap_day, eve, Date::MAX]);
+    let (noon, second) = (time(rt, 12, 0, 0, 0), SignedDuration::SECOND);
+    let same_noon = noon + second - second;
+    check_values(rt, &[Time::MIDNIGHT, noon, same_noon, Time::MAX]);
+    let less_one = SignedDuration::nanoseconds(-1);
+    let same_one = SignedDuration::new(-1, 999_999_999);
+    let (min, max) = (SignedDuration::MIN, SignedDuration::MAX);
+    check_values(rt, &[min, less_one, same_one, max]);
+    let (west, less_west) = (offset(rt, -5, -30, 0), offset(rt, -4, -30, 0));
+    check_values(rt, &[west, less_west, -(-less_west), UtcOffset::UTC]);
 }
 
 /// Compares two durations, and their nanoseconds.
@@ -86,23 +86,29 @@ fn orders_of_offsets(a: UtcOffset, b: UtcOffset) -> (Ordering, Ordering)
     (a.cmp(&b), a.whole_seconds().cmp(&b.whole_seconds()))
 }
 
+fn check_durations(rt: &impl Abort, a: SignedDuration, b: SignedDuration, order: Ordering) {
+    let (found, by_number) = orders_of_durations(a, b);
+    same_at(rt, a, found, order);
+    same_at(rt, a, by_number, order);
+}
+
+fn check_offsets(rt: &impl Abort, a: UtcOffset, b: UtcOffset, order: Ordering) {
+    let (found, by_number) = orders_of_offsets(a, b);
+    same_at(rt, a, found, order);
+    same_at(rt, a, by_number, order);
+}
+
 #[test]
 fn durations_by_nanoseconds_and_offsets_by_seconds(rt: HostRuntime) {
-    let (less, equal, greater) = (Ordering::Less, Ordering::Equal, Ordering::Greater);
+    let rt = &rt;
     let less_one = SignedDuration::nanoseconds(-1);
-    for (a, b, order) in [
-        (SignedDuration::MIN, less_one, less),
-        (SignedDuration::new(-1, 999_999_999), less_one, equal),
-        (SignedDuration::ZERO, less_one, greater),
-    ] {
-        same_at(&rt, (a, b), orders_of_durations(a, b), (order, order));
-    }
-    let (west, utc) = (offset(&rt, -5, -30, 0), UtcOffset::UTC);
-    for (a, b, order) in [
-        (west, offset(&rt, -4, -30, 0), less),
-        (offset(&rt, 0, -59, 59), -offset(&rt, 0, 59, 59), equal),
-        (utc, west, greater),
-    ] {
-        same_at(&rt, (a, b), orders_of_offsets(a, b), (order, order));
-    }
+    check_durations(rt, SignedDuration::MIN, less_one, Ordering::Less);
+    let same_one = SignedDuration::new(-1, 999_999_999);
+    check_durations(rt, same_one, less_one, Ordering::Equal);
+    check_durations(rt, SignedDuration::ZERO, less_one, Ordering::Greater);
+    let (west, less_west) = (offset(rt, -5, -30, 0), offset(rt, -4, -30, 0));
+    check_offsets(rt, west, less_west, Ordering::Less);
+    let (one, other) = (offset(rt, 0, -59, 59), -offset(rt, 0, 59, 59));
+    check_offsets(rt, one, other, Ordering::Equal);
+    check_offsets(rt, UtcOffset::UTC, west, Ordering::Greater);
 }

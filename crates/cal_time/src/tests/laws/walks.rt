@@ -73,29 +73,27 @@ fn check_taken(
 
 #[test]
 fn days_from_both_ends(rt: HostRuntime) -> Result<(), Fail> {
-    let (eve, new_year) = (date(&rt, 2019, 12, 31), date(&rt, 2020, 1, 1));
-    let days = [
-        date(&rt, 2019, 12, 30),
-        eve,
-        new_year,
-        date(&rt, 2020, 1, 2),
-    ];
-    let rows: [(&[bool], (usize, usize)); 5] = [
-        (&[true, true, true, true, true], (4, 0)),
-        (&[false, false, false, false, true], (0, 4)),
-        (&[true, false, false, true], (2, 2)),
-        (&[false, true], (1, 1)),
-        (&[], (0, 0)),
-    ];
-    for (turns, counts) in rows {
-        check_taken(&rt, &days, turns, counts)?;
-    }
-    let first = [Date::MIN, date(&rt, FIRST_YEAR, 1, 2)];
-    let last = [date(&rt, LAST_YEAR, 12, 30), Date::MAX];
-    for days in [first, last] {
-        check_taken(&rt, &days, &[true, true], (2, 0))?;
-        check_taken(&rt, &days, &[false, false], (0, 2))?;
-        check_taken(&rt, &days, &[true, false], (1, 1))?;
-    }
-    Ok(())
+    let rt = &rt;
+    let (first, eve) = (date(rt, 2019, 12, 30), date(rt, 2019, 12, 31));
+    let (new_year, last) = (date(rt, 2020, 1, 1), date(rt, 2020, 1, 2));
+    let days = [first, eve, new_year, last];
+    check_taken(rt, &days, &[true, true, true, true, true], (4, 0))?;
+    check_taken(rt, &days, &[false, false, false, false, true], (0, 4))?;
+    check_taken(rt, &days, &[true, false, false, true], (2, 2))?;
+    check_taken(rt, &days, &[false, true], (1, 1))?;
+    check_taken(rt, &days, &[], (0, 0))
+}
+
+/// Takes both of two days: from the front, from the back, and one from each.
+fn check_both(rt: &(impl Abort + AllocGlobal), days: &[Date]) -> Result<(), Fail> {
+    check_taken(rt, days, &[true, true], (2, 0))?;
+    check_taken(rt, days, &[false, false], (0, 2))?;
+    check_taken(rt, days, &[true, false], (1, 1))
+}
+
+#[test]
+fn days_at_the_ends_of_the_range(rt: HostRuntime) -> Result<(), Fail> {
+    let rt = &rt;
+    check_both(rt, &[Date::MIN, date(rt, FIRST_YEAR, 1, 2)])?;
+    check_both(rt, &[date(rt, LAST_YEAR, 12, 30), Date::MAX])
 }
