@@ -1,0 +1,9 @@
+pub mod Timeline
+pub mod Instants
+pub mod Split
+pub mod ChangeError
+pub mod Rule
+pub mod Zone
+pub mod Bytes
+pub mod Table
+pub mod Changes

@@ -1,0 +1,27 @@
+//! Time zones: the offset at an instant, and the instants at which clocks show a reading.
+//!
+//! The instants that a reading names are proved to be exactly those at which the clocks of the zone
+//! show it: one, none in a gap, or two in a fold.
+#![tactic(auto)]
+
+mod change;
+mod change_error;
+mod instants;
+mod layout;
+mod local_type;
+mod rule;
+mod table;
+mod timeline_error;
+mod yearly;
+mod zone;
+
+pub use change::Change;
+pub use change_error::ChangeError;
+pub use instants::Instants;
+pub use layout::Layout;
+pub use local_type::LocalType;
+pub use rule::Rule;
+pub use table::Table;
+pub use timeline_error::TimelineError;
+pub use yearly::Yearly;
+pub use zone::Zone;
