@@ -6,3 +6,4 @@ pub mod RuleDays
 pub mod Joins
 pub mod Rules
 pub mod Tables
+pub mod Moments

@@ -1,10 +1,11 @@
 -- Each year has the day of a rule's change, which lies in its month.
-use Rattle.std.proofs.Common.{◌≡◌, ℕ, zero, suc, ◌+◌, ◌-◌, ◌*◌, ◌%◌, ◌<◌, ◌≤◌, ◌==◌, refl, sym, ap, ◌∙◌, subst, arith, ℤ, pos, ◌+ℤ◌, ◌-ℤ◌, ◌*ℤ◌, ◌<ℤ◌, inl, inr, Bool, true, false, filter, slice_get, Some}
+use Rattle.std.proofs.Common.{◌≡◌, ℕ, zero, suc, ◌+◌, ◌-◌, ◌*◌, ◌%◌, ◌<◌, ◌≤◌, ◌==◌, refl, sym, ap, ◌∙◌, subst, arith, ℤ, pos, ◌+ℤ◌, ◌-ℤ◌, ◌*ℤ◌, ◌<ℤ◌, ◌≤ℤ◌, inl, inr, Bool, true, false, filter, slice_get, Some}
 use Rattle.std.proofs.lemmas.Bool.{cases_lt, cases_Bool, cases_eq, false≢true}
 use Rattle.std.proofs.lemmas.Bool.Decides.{nat_tests, Decides-int_eq}
 use Rattle.std.proofs.lemmas.Int.{ints}
 use Rattle.std.specs.Ordering.{int_eq}
-use Rattle.cal_time.specs.Date.{last_day, year_at, month_at, weekday_at, IsDate, IsYear}
+use Rattle.cal_time.specs.Date.{last_day, year_at, month_at, weekday_at, IsDate, IsYear, HasCalendarDate}
+use Rattle.cal_time.specs.Components.{months-rise}
 use Rattle.cal_time.specs.Days.{IsMonth, day_with, days-follow}
 use Rattle.cal_time.specs.IsoWeekDate.{count_before}
 use Rattle.cal_time.specs.Lengths.{days_in_month}
@@ -16,7 +17,6 @@ use Rattle.cal_time.specs.Occurrences.{days_from, days_back_from}
 use Rattle.cal_schedule.specs.Months.{month_number_at}
 use Rattle.cal_schedule.specs.Ranks.{count-none, count-yes, count-no, nth-from, nth-back}
 use Rattle.cal_schedule.specs.Weekdays.{is_weekday_in_month, IsWeekdayInMonth, IsNthWeekday, IsLastWeekday}
-use Rattle.cal_schedule.proofs.MonthMoves.{month_numbers-rise, number_from}
 use Rattle.cal_schedule.proofs.WeekdaysOfMonths.{index-nth, last-index}
 use Rattle.cal_zone.specs.declared.yearly.Yearly.{Yearly}
 use Rattle.cal_zone.specs.Rule.{day_of, IsYearly}
@@ -139,6 +139,13 @@ rule_day r y year h =
           let f = some-nth y (number r.month) (index r.weekday) r.week year (is_month r) (weekdays.index-below r.weekday) h.week.0 (let most = h.week.1 in omega arith) in
           in_month r y f.day (day_of-nth r y f.day f.date h.week.0 (let most = h.week.1 in omega arith) f.is) f.date f.is.is
     ]
+
+-- The numbers of months rise, and are those of the calendar dates.
+month_numbers-rise : (m n : ℕ) → m ≤ n → month_number_at m ≤ℤ month_number_at n
+month_numbers-rise m n h = omega (arith, ints, months-rise m n h)
+
+number_from : (n : ℕ) (y : ℤ) (m d : ℕ) → HasCalendarDate y m d n → month_number_at n ≡ y *ℤ pos 12 +ℤ pos m -ℤ pos 1
+number_from n y m d e = ap (λ day. day.year *ℤ pos 12 +ℤ pos day.month -ℤ pos 1) e
 
 -- ---- a whole month lies between days whose months are two apart
 before_month : (a f : ℕ) → month_number_at a <ℤ month_number_at f → a < f

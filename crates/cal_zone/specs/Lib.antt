@@ -7,3 +7,4 @@ pub mod Zone
 pub mod Bytes
 pub mod Table
 pub mod Changes
+pub mod Local

@@ -35,7 +35,7 @@ held first table rule skip = record { first = first; changes = table ++ later ru
 -- All changes are in order.
 pub record IsWhole (first : LocalType) (table : List Change) (rule : Option Rule) (skip : ℕ) : Type 0 where
   pub skipped : skip ≤ 3_999_998
-  pub size : length table < 2 ^ 62
+  pub size : length table < 2 ^ 60
   pub order : IsOrdered first.offset (held first table rule skip).changes
 
 -- The first of the changes ys is after the last of xs, and so is its gap or fold.

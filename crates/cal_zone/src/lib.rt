@@ -6,8 +6,11 @@
 
 mod change;
 mod change_error;
+mod conversions;
+mod gap;
 mod instants;
 mod layout;
+mod local;
 mod local_type;
 mod rule;
 mod table;
@@ -17,8 +20,11 @@ mod zone;
 
 pub use change::Change;
 pub use change_error::ChangeError;
+pub use conversions::in_zone;
+pub use gap::Gap;
 pub use instants::Instants;
 pub use layout::Layout;
+pub use local::Local;
 pub use local_type::LocalType;
 pub use rule::Rule;
 pub use table::Table;

@@ -52,6 +52,21 @@ fn local_type(bytes: &[u8], at: usize, names: usize, names_end: usize) -> LocalT
     }
 }
 
+impl Layout {
+    ghost use Rattle.cal_zone.specs.Table.{type_in, IsInside};
+
+    /// Returns the local time type at an index.
+    pub fn kind(self, bytes: &[u8], index: usize) -> LocalType
+        requires inside { IsInside bytes.now self }
+        requires index { index < self.kinds }
+        ensures value { result ≡ type_in bytes.now self index }
+        ensures fits { FitsSigned w32 result.offset }
+    {
+        let _ = bytes.len();
+        local_type(bytes, self.types + 6 * index, self.names, self.names_end)
+    }
+}
+
 /// The changes of a TZif file, which are read from its bytes. Contracts see a list of changes.
 #[derive(Drop)]
 pub struct Table<'a> {

@@ -1,4 +1,4 @@
-use Rattle.std.proofs.Common.{sym, ◌∙◌, subst, rules, arith, List, ◌++◌, Option}
+use Rattle.std.proofs.Common.{sym, ◌∙◌, subst, rules, List, ◌++◌, Option}
 use Rattle.std.proofs.lemmas.Bool.{false≢true}
 use Rattle.cal_zone.specs.declared.change.Change.{Change}
 use Rattle.cal_zone.specs.declared.rule.Rule.{Rule}
@@ -18,7 +18,7 @@ invariant_of-result-in-Some-rule c =
     let r = c.in-Some-rule.found in
     let order : IsOrdered c.args.first.offset c.args.table = search rules in
     let all = whole r.one r.other c.args.first.offset c.args.table c.skip-skip.result r.calm order (c.joins.ensures.0 c.if-not-joins.false) in
-    record { skipped = c.skip-skip.ensures.bound; size = omega (arith, c.len.ensures.room); order = all }
+    record { skipped = c.skip-skip.ensures.bound; size = c.len.ensures.room; order = all }
 
 pub returns-else-not-joins-clause-ordered : goal.returns-else-not-joins-clause-ordered
 returns-else-not-joins-clause-ordered c =
