@@ -46,3 +46,6 @@ split_of f size x y m n e g inside below above = record {
   below = λ k h. subst (λ (z : ℤ). f k ≤ℤ z) e (below k (omega arith));
   above = λ k h p. subst (λ (z : ℤ). z <ℤ f k) e (above k (omega arith) p);
 }
+
+pub same_split : (f : ℕ → ℤ) (n : ℕ) (x y : ℤ) (low high : ℕ) → y ≡ x → IsSplit f n y low high → IsSplit f n x low high
+same_split f n x y low high e split = subst (λ (z : ℤ). IsSplit f n z low high) e split

@@ -29,6 +29,21 @@ pub struct Rule {
 /// The number of changes in the years of the range.
 const COUNT: u32 = 3_999_998;
 
+/// Returns about the index of the last change before an instant, from the first year of the range.
+/// It makes a search short, and need not be exact.
+pub(crate) fn index_near(instant: i64) -> u32
+    ensures { result ≤ 3_999_990 }
+{
+    let year = instant.div_euclid(31_556_952);
+    if year < -1_001_968 {
+        return 1;
+    }
+    if year > 998_020 {
+        return 3_999_990;
+    }
+    ((year + 1_001_969) * 2 - 1) as u32
+}
+
 impl Rule {
     ghost use Rattle.cal_zone.specs.Rule.{change_of, changes_from, instant_at, rule_count};
     ghost use Rattle.cal_zone.specs.Zone.{is_after, Joins};

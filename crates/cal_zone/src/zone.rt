@@ -6,6 +6,7 @@ ghost use Rattle.cal_zone.specs.Split.{IsSplit};
 ghost use Rattle.cal_zone.specs.Zone.{later};
 ghost use Rattle.cal_zone.specs.Instants.{Names, IsExplained};
 
+use crate::rule::index_near;
 use crate::{Change, ChangeError, Instants, LocalType, Rule, Table, TimelineError};
 use std::marker::Model;
 
@@ -144,6 +145,50 @@ impl<'a> Zone<'a> {
         }
     }
 
+    /// Returns about the index of the last change before an instant, if it is after the table.
+    fn index_near(&self, instant: i64) -> usize
+        ensures { result < 2 ^ 61 }
+    {
+        self.table.len() + index_near(instant).saturating_sub(self.skip) as usize
+    }
+
+    /// Returns where a search begins: no change before it is after the instant.
+    fn count_start(&self, instant: i64, index: usize) -> usize
+        ensures split { IsSplit (at self.now.changes) (length self.now.changes)
+            instant result (length self.now.changes) }
+    {
+        let len = self.len();
+        if len <= index {
+            return 0;
+        }
+        if self.change(index).at <= instant {
+            index + 1
+        } else {
+            0
+        }
+    }
+
+    /// Returns where a search ends: each change from it on is after the instant.
+    fn count_end(&self, instant: i64, start: usize, index: usize) -> usize
+        requires { IsSplit (at self.now.changes) (length self.now.changes)
+            instant start (length self.now.changes) }
+        ensures split { IsSplit (at self.now.changes) (length self.now.changes)
+            instant start result }
+    {
+        let len = self.len();
+        if len <= index {
+            return len;
+        }
+        if index < start {
+            return len;
+        }
+        if instant < self.change(index).at {
+            index
+        } else {
+            len
+        }
+    }
+
     /// Returns the number of changes that are not after an instant.
     fn count(&self, instant: i64) -> usize
         ensures bound { result ≤ length self.now.changes }
@@ -151,8 +196,10 @@ impl<'a> Zone<'a> {
         ensures above { (k : ℕ) → result ≤ k → k < length self.now.changes
             → instant <ℤ at self.now.changes k }
     {
-        let mut low = 0;
-        let mut high = self.len();
+        let _ = self.len();
+        let index = self.index_near(instant);
+        let mut low = self.count_start(instant, index);
+        let mut high = self.count_end(instant, low, index + 3);
         while low < high {
             let middle = low + (high - low) / 2;
             if self.change(middle).at <= instant {
@@ -220,14 +267,53 @@ impl<'a> Zone<'a> {
         at + i64::from(most)
     }
 
+    /// Returns where a search begins: no gap or fold before it ends after the reading.
+    fn passed_start(&self, reading: i64, index: usize) -> usize
+        ensures split { IsSplit (ends self.now.first.offset self.now.changes) (length self.now.changes)
+            reading result (length self.now.changes) }
+    {
+        let len = self.len();
+        if len <= index {
+            return 0;
+        }
+        if self.end(index) <= reading {
+            index + 1
+        } else {
+            0
+        }
+    }
+
+    /// Returns where a search ends: each gap or fold from it on ends after the reading.
+    fn passed_end(&self, reading: i64, start: usize, index: usize) -> usize
+        requires { IsSplit (ends self.now.first.offset self.now.changes) (length self.now.changes)
+            reading start (length self.now.changes) }
+        ensures split { IsSplit (ends self.now.first.offset self.now.changes) (length self.now.changes)
+            reading start result }
+    {
+        let len = self.len();
+        if len <= index {
+            return len;
+        }
+        if index < start {
+            return len;
+        }
+        if reading < self.end(index) {
+            index
+        } else {
+            len
+        }
+    }
+
     /// Returns the number of changes whose gaps or folds lie before a reading.
     fn passed(&self, reading: i64) -> usize
         ensures split { IsSplit (ends self.now.first.offset self.now.changes)
             (length self.now.changes) reading result result }
         ensures ordered { IsOrdered self.now.first.offset self.now.changes }
     {
-        let mut low = 0;
-        let mut high = self.len();
+        let _ = self.len();
+        let index = self.index_near(reading);
+        let mut low = self.passed_start(reading, index);
+        let mut high = self.passed_end(reading, low, index + 3);
         while low < high {
             let middle = low + (high - low) / 2;
             if self.end(middle) <= reading {
