@@ -1,0 +1,166 @@
+-- Each year has the day of a rule's change, which lies in its month.
+use Rattle.std.proofs.Common.{◌≡◌, ℕ, zero, suc, ◌+◌, ◌-◌, ◌*◌, ◌%◌, ◌<◌, ◌≤◌, ◌==◌, refl, sym, ap, ◌∙◌, subst, arith, ℤ, pos, ◌+ℤ◌, ◌-ℤ◌, ◌*ℤ◌, ◌<ℤ◌, ◌≤ℤ◌, inl, inr, Bool, true, false, filter, slice_get, Some}
+use Rattle.std.proofs.lemmas.Bool.{cases_lt, cases_Bool, cases_eq, false≢true}
+use Rattle.std.proofs.lemmas.Bool.Decides.{nat_tests, Decides-int_eq}
+use Rattle.std.proofs.lemmas.Int.{ints}
+use Rattle.std.specs.Ordering.{int_eq}
+use Rattle.cal_time.specs.Date.{last_day, year_at, month_at, weekday_at, IsDate, IsYear, HasCalendarDate}
+use Rattle.cal_time.specs.Components.{months-rise}
+use Rattle.cal_time.specs.Days.{IsMonth, day_with, days-follow}
+use Rattle.cal_time.specs.IsoWeekDate.{count_before}
+use Rattle.cal_time.specs.Lengths.{days_in_month}
+use Rattle.cal_time.specs.Month.{number}
+use Rattle.cal_time.specs.Weekday.{index}
+use Rattle.cal_time.specs.MonthCycle as months
+use Rattle.cal_time.specs.WeekdayCycle as weekdays
+use Rattle.cal_time.specs.Occurrences.{days_from, days_back_from}
+use Rattle.cal_schedule.specs.Months.{month_number_at}
+use Rattle.cal_schedule.specs.Ranks.{count-none, count-yes, count-no, nth-from, nth-back}
+use Rattle.cal_schedule.specs.Weekdays.{is_weekday_in_month, IsWeekdayInMonth, IsNthWeekday, IsLastWeekday}
+use Rattle.cal_schedule.proofs.WeekdaysOfMonths.{index-nth, last-index}
+use Rattle.cal_zone.specs.declared.yearly.Yearly.{Yearly}
+use Rattle.cal_zone.specs.Rule.{day_of, IsYearly}
+
+-- the test and what it means
+test-yes : (w : ℕ) (y : ℤ) (m n : ℕ) → IsWeekdayInMonth y m w n → is_weekday_in_month w y m n ≡ true
+test-yes w y m n is =
+    let month : (month_at n == m) ≡ true = let e = is.month in grind (arith, nat_tests) in
+    let weekday : (weekday_at n == w) ≡ true = let e = is.weekday in grind (arith, nat_tests) in
+    rw ((Decides-int_eq (year_at n) y).1 is.year, month, weekday) refl
+
+test-is : (w : ℕ) (y : ℤ) (m n : ℕ) → is_weekday_in_month w y m n ≡ true → IsWeekdayInMonth y m w n
+test-is w y m n h =
+    elim (cases_Bool (int_eq (year_at n) y)) [
+      | inr not ↦ absurd (false≢true (rw not at h))
+      | inl same ↦ elim (cases_Bool (month_at n == m)) [
+        | inr not ↦ absurd (false≢true (rw (same, not) at h))
+        | inl alike ↦ elim (cases_Bool (weekday_at n == w)) [
+          | inr not ↦ absurd (false≢true (rw (same, alike, not) at h))
+          | inl equal ↦ record { year = (Decides-int_eq (year_at n) y).0 same; month = grind (arith, nat_tests); weekday = grind (arith, nat_tests) }
+        ]
+      ]
+    ]
+
+-- ---- what the code finds is what the definition finds
+pub found-nth : (w : ℕ) (y : ℤ) (m k n size : ℕ) → n < size → 1 ≤ k → IsNthWeekday y m w k n
+    → slice_get (filter (is_weekday_in_month w y m) (days_from 0 size)) (k - 1) ≡ Some n
+found-nth w y m k n size below some is =
+    let test = is_weekday_in_month w y m in
+    let on : test n ≡ true = test-yes w y m n is.is in
+    let next : n + 1 ≡ suc n = omega arith in
+    nth-from test 0 size (k - 1) n (omega arith) (omega arith) on
+    (omega (arith, count-none test, count-yes test n on, ap (count_before test) next, is.nth))
+
+count-still : (test : ℕ → Bool) (n j : ℕ) → ((k : ℕ) → n ≤ k → test k ≡ false) → count_before test (n + j) ≡ count_before test n
+count-still test n zero none = let e : n + zero ≡ n = omega arith in ap (count_before test) e
+count-still test n (suc j) none =
+    let e : n + suc j ≡ suc (n + j) = omega arith in
+    ap (count_before test) e ∙ count-no test (n + j) (none (n + j) (omega arith)) ∙ count-still test n j none
+
+pub found-last : (w : ℕ) (y : ℤ) (m n size : ℕ) → n < size → IsLastWeekday y m w n
+    → slice_get (filter (is_weekday_in_month w y m) (days_back_from size)) 0 ≡ Some n
+found-last w y m n size below is =
+    let test = is_weekday_in_month w y m in
+    let on : test n ≡ true = test-yes w y m n is.is in
+    let later : (k : ℕ) → suc n ≤ k → test k ≡ false = λ k h. elim (cases_Bool (test k)) [
+      | inl hit ↦ absurd (is.last k (omega arith) (test-is w y m k hit))
+      | inr miss ↦ miss
+    ] in
+    let still = count-still test (suc n) (size - suc n) later in
+    let sums : suc n + (size - suc n) ≡ size = omega arith in
+    nth-back test size 0 n below on
+    (omega (arith, count-yes test n on, still, ap (count_before test) sums))
+
+-- ---- each year has it
+days_in_month-least : (y : ℤ) (m : ℕ) → 28 ≤ days_in_month y m
+unfolding days_in_month
+days_in_month-least y m = grind (arith, nat_tests)
+
+pub record IsFound (P : ℕ → Type 0) : Type 0 where
+  pub day : ℕ
+  pub date : IsDate day
+  pub is : P day
+
+place : ℕ → ℕ → ℕ → ℕ
+place f w k = 7 * k + (w + 7 - f % 7) % 7 - 6
+
+pub some-nth : (y : ℤ) (m w k : ℕ) → IsYear y → IsMonth m → w < 7 → 1 ≤ k → k ≤ 4 → IsFound (IsNthWeekday y m w k)
+unfolding place
+some-nth y m w k year month below low high =
+    let least = days_in_month-least y m in
+    let first = day_with y m 1 year month (omega arith, omega arith) in
+    let d = place first.day w k in
+    let found = day_with y m d year month (omega arith, omega arith) in
+    record { day = found.day; date = found.date; is = index-nth y m first.day w k d found.day first.has found.has below (omega arith) }
+
+pub some-last : (y : ℤ) (m w : ℕ) → IsYear y → IsMonth m → w < 7 → IsFound (IsLastWeekday y m w)
+some-last y m w year month below =
+    let least = days_in_month-least y m in
+    let end = day_with y m (days_in_month y m) year month (omega arith, omega arith) in
+    let found = day_with y m (days_in_month y m - (weekday_at end.day + 7 - w) % 7) year month (omega arith, omega arith) in
+    record { day = found.day; date = found.date; is = last-index y m end.day w found.day end.date found.date below end.has found.has }
+
+-- ---- the day of a change, by cases
+pub day_of-nth : (r : Yearly) (y : ℤ) (n : ℕ) → IsDate n → 1 ≤ r.week → r.week ≤ 4 → IsNthWeekday y (number r.month) (index r.weekday) r.week n → day_of r y ≡ n
+unfolding day_of
+day_of-nth r y n date low high is =
+    let other : (r.week == 5) ≡ false = grind (arith, nat_tests) in
+    let find = found-nth (index r.weekday) y (number r.month) r.week n (last_day + 1) (omega arith) low is in
+    rw (other, find) refl
+
+pub day_of-last : (r : Yearly) (y : ℤ) (n : ℕ) → IsDate n → r.week ≡ 5 → IsLastWeekday y (number r.month) (index r.weekday) n → day_of r y ≡ n
+unfolding day_of
+day_of-last r y n date five is =
+    let same : (r.week == 5) ≡ true = grind (arith, nat_tests) in
+    let find = found-last (index r.weekday) y (number r.month) n (last_day + 1) (omega arith) is in
+    rw (same, find) refl
+
+-- it is a day of the range in that year and month
+pub record IsRuleDay (r : Yearly) (y : ℤ) : Type 0 where
+  pub date : IsDate (day_of r y)
+  pub month : month_number_at (day_of r y) ≡ y *ℤ pos 12 +ℤ pos (number r.month) -ℤ pos 1
+
+pub is_month : (r : Yearly) → IsMonth (number r.month)
+is_month r = let h = months.index-below r.month in (omega arith, omega arith)
+
+in_month : (r : Yearly) (y : ℤ) (n : ℕ) → day_of r y ≡ n → IsDate n → IsWeekdayInMonth y (number r.month) (index r.weekday) n → IsRuleDay r y
+in_month r y n e date is = record {
+  date = subst IsDate (sym e) date;
+  month = ap month_number_at e ∙ ap (λ m. year_at n *ℤ pos 12 +ℤ pos m -ℤ pos 1) is.month ∙ ap (λ z. z *ℤ pos 12 +ℤ pos (number r.month) -ℤ pos 1) is.year;
+}
+
+pub rule_day : (r : Yearly) (y : ℤ) → IsYear y → IsYearly r → IsRuleDay r y
+rule_day r y year h =
+    elim (cases_eq r.week 5) as (λ _. IsRuleDay r y) [
+      | inl five ↦
+          let f = some-last y (number r.month) (index r.weekday) year (is_month r) (weekdays.index-below r.weekday) in
+          in_month r y f.day (day_of-last r y f.day f.date five f.is) f.date f.is.is
+      | inr other ↦
+          let f = some-nth y (number r.month) (index r.weekday) r.week year (is_month r) (weekdays.index-below r.weekday) h.week.0 (let most = h.week.1 in omega arith) in
+          in_month r y f.day (day_of-nth r y f.day f.date h.week.0 (let most = h.week.1 in omega arith) f.is) f.date f.is.is
+    ]
+
+-- The numbers of months rise, and are those of the calendar dates.
+month_numbers-rise : (m n : ℕ) → m ≤ n → month_number_at m ≤ℤ month_number_at n
+month_numbers-rise m n h = omega (arith, ints, months-rise m n h)
+
+number_from : (n : ℕ) (y : ℤ) (m d : ℕ) → HasCalendarDate y m d n → month_number_at n ≡ y *ℤ pos 12 +ℤ pos m -ℤ pos 1
+number_from n y m d e = ap (λ day. day.year *ℤ pos 12 +ℤ pos day.month -ℤ pos 1) e
+
+-- ---- a whole month lies between days whose months are two apart
+before_month : (a f : ℕ) → month_number_at a <ℤ month_number_at f → a < f
+before_month a f h =
+    elim (cases_lt a f) as (λ _. a < f) [
+      | inl less ↦ less
+      | inr most ↦ absurd (omega (arith, ints, h, month_numbers-rise f a most))
+    ]
+
+pub month_between : (a b : ℕ) (y : ℤ) (m : ℕ) → IsYear y → IsMonth m
+    → month_number_at a <ℤ (y *ℤ pos 12 +ℤ pos m -ℤ pos 1) → (y *ℤ pos 12 +ℤ pos m -ℤ pos 1) <ℤ month_number_at b → a + 29 ≤ b
+month_between a b y m year month low high =
+    let least = days_in_month-least y m in
+    let first = day_with y m 1 year month (omega arith, omega arith) in
+    let late = days-follow y m first.day 27 first.has (omega arith) in
+    let start = before_month a first.day (subst (λ (z : ℤ). month_number_at a <ℤ z) (sym (number_from first.day y m 1 first.has)) low) in
+    let end = before_month (first.day + 27) b (subst (λ (z : ℤ). z <ℤ month_number_at b) (sym (number_from (first.day + 27) y m 28 late)) high) in
+    omega arith

@@ -1,0 +1,11 @@
+-- Numbers in the bytes of a file (RFC 9636, 3.1).
+use Rattle.std.specs.Prelude.{ℕ, zero, suc, ◌+◌, ◌*◌, ◌^◌, nat_lt, List, slice_index, if◌then◌else◌, ℤ, pos, ◌-ℤ◌}
+
+-- The number of the n bytes from a position on, the highest byte first.
+abbrev pub big_endian : List ℕ → ℕ → ℕ → ℕ
+big_endian bytes at zero = 0
+big_endian bytes at (suc n) = big_endian bytes at n * 256 + slice_index bytes (at + n)
+
+-- The number as a signed number. From half of the range on it is less by the range.
+abbrev pub two_complement : ℕ → ℕ → ℤ
+two_complement bits n = if nat_lt n (2 ^ bits) then pos n else (pos n -ℤ pos (2 ^ bits * 2))

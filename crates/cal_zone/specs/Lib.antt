@@ -1,0 +1,10 @@
+pub mod Timeline
+pub mod Instants
+pub mod Split
+pub mod ChangeError
+pub mod Rule
+pub mod Zone
+pub mod Bytes
+pub mod Table
+pub mod Changes
+pub mod Local

@@ -1,0 +1,50 @@
+-- A zone: the changes of a file, and after the last of them the changes of its rule.
+use Rattle.std.specs.List.{slice_index_or}
+use Rattle.std.specs.Prelude.{ℕ, ◌-◌, ◌^◌, ◌<◌, ◌≤◌, Bool, true, ℤ, List, [], ◌∷◌, ◌++◌, length, filter, Option, Some, None, int_lt}
+use Rattle.cal_zone.specs.declared.change.Change.{Change}
+use Rattle.cal_zone.specs.declared.local_type.LocalType.{LocalType}
+use Rattle.cal_zone.specs.declared.rule.Rule.{Rule}
+use Rattle.cal_zone.specs.declared.timeline_error.TimelineError.{TimelineError}
+use Rattle.cal_zone.specs.declared.timeline_error.TimelineError.TheVariants as refused
+use Rattle.cal_zone.specs.ChangeError.{IsChangeError}
+use Rattle.cal_zone.specs.Rule.{changes_from}
+use Rattle.cal_zone.specs.Timeline.{Timeline, at, after_changes, no_change, IsNext, IsOrdered}
+
+-- All changes of a rule.
+abbrev pub rule_changes : Option Rule → List Change
+rule_changes None = []
+rule_changes (Some rule) = changes_from rule.one rule.other 0
+
+-- The change is after the last change of a file.
+abbrev pub is_after : List Change → Change → Bool
+is_after [] c = true
+is_after (d ∷ ds) c = int_lt (at (d ∷ ds) (length (d ∷ ds) - 1)) c.at
+
+-- The zone has the first type, the changes of the file, and the changes of the rule after them.
+abbrev pub zone_of : LocalType → List Change → Option Rule → Timeline
+zone_of first table rule = record { first = first; changes = table ++ filter (is_after table) (rule_changes rule) }
+
+-- The same, with the rule's changes from an index on.
+abbrev pub later : Option Rule → ℕ → List Change
+later None skip = []
+later (Some rule) skip = changes_from rule.one rule.other skip
+
+abbrev pub held : LocalType → List Change → Option Rule → ℕ → Timeline
+held first table rule skip = record { first = first; changes = table ++ later rule skip }
+
+-- All changes are in order.
+pub record IsWhole (first : LocalType) (table : List Change) (rule : Option Rule) (skip : ℕ) : Type 0 where
+  pub skipped : skip ≤ 3_999_998
+  pub size : length table < 2 ^ 60
+  pub order : IsOrdered first.offset (held first table rule skip).changes
+
+-- The first of the changes ys is after the last of xs, and so is its gap or fold.
+abbrev pub Joins : ℤ → List Change → List Change → Type 0
+Joins first xs ys = 0 < length xs → 0 < length ys → IsNext
+    (at xs (length xs - 1)) (at ys 0)
+    (after_changes first xs (length xs - 1)) (slice_index_or xs (length xs - 1) no_change).kind.offset (slice_index_or ys 0 no_change).kind.offset
+
+-- Why changes and a rule are not a zone.
+abbrev pub IsTimelineError : LocalType → List Change → Option Rule → TimelineError → Type 0
+IsTimelineError first table rule (refused.Change error) = IsChangeError first.offset table error
+IsTimelineError first table rule refused.Junction = ¬ (Joins first.offset table (filter (is_after table) (rule_changes rule)))

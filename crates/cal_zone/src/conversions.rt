@@ -1,0 +1,92 @@
+//! Date-times in a zone.
+ghost use Rattle.std.specs.Prelude.{◌≡◌, ◌↔◌, ℤ, pos, ◌+ℤ◌, ◌*ℤ◌, Some, IfSome, SomeIff};
+ghost use Rattle.cal_time.specs.SignedDuration.{second};
+ghost use Rattle.cal_datetime.specs.DateTime.{IsDateTime};
+ghost use Rattle.cal_datetime.specs.OffsetDateTime.{LocalAndOffset, instant, local_at, unix_epoch, unix_seconds};
+ghost use Rattle.cal_zone.specs.Local.{Shows, NamesMoment, IsLocal};
+ghost use Rattle.cal_zone.specs.Timeline.{offset_at, IsMoment, IsOffset};
+
+use crate::gap::local_date_time;
+use crate::{Gap, Instants, Local, Zone};
+use cal_datetime::{OffsetDateTime, PlainDateTime};
+use cal_time::UtcOffset;
+
+/// Converts to the time of a zone, at the same instant. Returns `None` if the local date-time is
+/// out of range there.
+pub fn in_zone(moment: OffsetDateTime, zone: &Zone<'_>) -> Option<OffsetDateTime>
+    ensures value { let offset = offset_at zone.now (unix_seconds (instant moment))
+        in let local = local_at (instant moment) offset
+        in SomeIff result (IsDateTime local) (record { local = local; offset = offset }) }
+    ensures same_instant { IfSome result (λ there. instant there ≡ instant moment) }
+{
+    moment.checked_to_offset(zone.utc_offset_at(moment.unix_timestamp()))
+}
+
+/// Returns an offset that is in range.
+fn utc_offset(seconds: i32) -> UtcOffset
+    requires { IsOffset seconds }
+    ensures { result ≡ seconds }
+{
+    match UtcOffset::from_whole_seconds(seconds) {
+        Ok(offset) => offset,
+        Err(_) => unreachable!(),
+    }
+}
+
+/// Returns the whole seconds from 1970-01-01 0:00 to a reading.
+fn reading_seconds(local: PlainDateTime) -> i64
+    ensures value { result ≡ unix_seconds local }
+    ensures range { IsMoment result }
+{
+    local.assume_utc().unix_timestamp()
+}
+
+impl<'a> Zone<'a> {
+    /// Returns the offset at a Unix time.
+    pub fn utc_offset_at(&self, instant: i64) -> UtcOffset
+        ensures { result ≡ offset_at self.now instant }
+    {
+        utc_offset(self.offset_at(instant))
+    }
+
+    /// Returns the date-time that clocks show at a Unix time, or `None` if it is out of range.
+    pub fn to_offset_date_time(&self, instant: i64) -> Option<OffsetDateTime>
+        ensures { let offset = offset_at self.now instant
+            in let local = unix_epoch +ℤ (instant +ℤ offset) *ℤ pos second
+            in SomeIff result (IsDateTime local) (record { local = local; offset = offset }) }
+    {
+        let offset = self.utc_offset_at(instant);
+        match local_date_time(instant, offset) {
+            Some(local) => Some(local.assume_offset(offset)),
+            None => None,
+        }
+    }
+
+    /// Returns the date-time of a reading at the offset that clocks have at an instant.
+    fn shown_at(&self, local: PlainDateTime, instant: i64) -> OffsetDateTime
+        ensures value { result ≡ record { local = local; offset = offset_at self.now instant } }
+    {
+        local.assume_offset(self.utc_offset_at(instant))
+    }
+
+    /// Returns the date-times at which clocks show a reading: exactly those whose offset is the
+    /// zone's at their own instant.
+    pub fn resolve(&self, reading: PlainDateTime) -> Local
+        ensures set { (m : LocalAndOffset) → NamesMoment result m ↔ Shows self.now reading m }
+        ensures explained { IsLocal self.now reading result }
+    {
+        match self.instants_of(reading_seconds(reading)) {
+            Instants::Single(instant) => Local::Single(self.shown_at(reading, instant)),
+            Instants::Gap { at, before, after } => Local::Gap(Gap {
+                reading,
+                at,
+                before: utc_offset(before),
+                after: utc_offset(after),
+            }),
+            Instants::Fold { earlier, later } => Local::Fold {
+                earlier: self.shown_at(reading, earlier),
+                later: self.shown_at(reading, later),
+            },
+        }
+    }
+}

@@ -1,0 +1,20 @@
+//! Where the parts of a TZif file are.
+
+/// Where a TZif file has the parts of its data block (RFC 9636, 3.2).
+#[derive(Clone, Copy)]
+pub struct Layout {
+    /// The position of the times of the changes, of eight bytes each.
+    pub times: usize,
+    /// The position of the type of each change, an index of one byte each.
+    pub indexes: usize,
+    /// The position of the local time types, of six bytes each.
+    pub types: usize,
+    /// The position of the abbreviations.
+    pub names: usize,
+    /// The position after the abbreviations.
+    pub names_end: usize,
+    /// The number of changes.
+    pub changes: usize,
+    /// The number of local time types.
+    pub kinds: usize,
+}

@@ -1,0 +1,33 @@
+//! Time zones: the offset at an instant, and the instants at which clocks show a reading.
+//!
+//! The instants that a reading names are proved to be exactly those at which the clocks of the zone
+//! show it: one, none in a gap, or two in a fold.
+#![tactic(auto)]
+
+mod change;
+mod change_error;
+mod conversions;
+mod gap;
+mod instants;
+mod layout;
+mod local;
+mod local_type;
+mod rule;
+mod table;
+mod timeline_error;
+mod yearly;
+mod zone;
+
+pub use change::Change;
+pub use change_error::ChangeError;
+pub use conversions::in_zone;
+pub use gap::Gap;
+pub use instants::Instants;
+pub use layout::Layout;
+pub use local::Local;
+pub use local_type::LocalType;
+pub use rule::Rule;
+pub use table::Table;
+pub use timeline_error::TimelineError;
+pub use yearly::Yearly;
+pub use zone::Zone;

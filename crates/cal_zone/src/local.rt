@@ -1,0 +1,70 @@
+//! The date-times that a reading names in a zone.
+ghost use Rattle.std.specs.Prelude.{◌≡◌};
+ghost use Rattle.cal_zone.specs.Local.{IsCompatible, IsEarlier, IsLater, reject};
+
+use crate::Gap;
+use cal_datetime::OffsetDateTime;
+
+/// The date-times at which the clocks of a zone show a reading: one, none or two.
+#[derive(Clone, Copy)]
+pub enum Local {
+    /// The clocks show it once.
+    Single(OffsetDateTime),
+    /// The clocks skip it.
+    Gap(Gap),
+    /// The clocks show it twice, since they go back in between.
+    Fold {
+        earlier: OffsetDateTime,
+        later: OffsetDateTime,
+    },
+}
+
+impl Local {
+    /// Returns the date-time that RFC 5545 and most calendars mean. A reading in a gap moves
+    /// forward by the length of the gap, and in a fold the first date-time is meant. Returns `None`
+    /// if the result is out of range.
+    pub fn compatible(self) -> Option<OffsetDateTime>
+        ensures { IsCompatible self result }
+    {
+        match self {
+            Local::Single(moment) => Some(moment),
+            Local::Gap(gap) => gap.later(),
+            Local::Fold { earlier, .. } => Some(earlier),
+        }
+    }
+
+    /// Returns the earlier date-time. A reading in a gap moves back by the length of the gap.
+    /// Returns `None` if the result is out of range.
+    pub fn earlier(self) -> Option<OffsetDateTime>
+        ensures { IsEarlier self result }
+    {
+        match self {
+            Local::Single(moment) => Some(moment),
+            Local::Gap(gap) => gap.earlier(),
+            Local::Fold { earlier, .. } => Some(earlier),
+        }
+    }
+
+    /// Returns the later date-time. A reading in a gap moves forward by the length of the gap.
+    /// Returns `None` if the result is out of range.
+    pub fn later(self) -> Option<OffsetDateTime>
+        ensures { IsLater self result }
+    {
+        match self {
+            Local::Single(moment) => Some(moment),
+            Local::Gap(gap) => gap.later(),
+            Local::Fold { later, .. } => Some(later),
+        }
+    }
+
+    /// Returns the date-time if the clocks show the reading exactly once, and `None` otherwise.
+    pub fn reject(self) -> Option<OffsetDateTime>
+        ensures { result ≡ reject self }
+    {
+        match self {
+            Local::Single(moment) => Some(moment),
+            Local::Gap(_) => None,
+            Local::Fold { .. } => None,
+        }
+    }
+}

@@ -1,0 +1,181 @@
+//! The rule of a zone after its last change.
+ghost use Rattle.std.specs.Prelude.{◌≡◌, ℕ, suc, ◌+◌, ◌<◌, ◌≤◌, ℤ, pos, ◌+ℤ◌, ◌↔◌, IsTrue, IfSome, IfNone, filter, length};
+ghost use Rattle.cal_zone.specs.Rule.{IsCalm};
+ghost use Rattle.cal_zone.specs.Timeline.{IsMoment, IsNext, IsOffset};
+
+use crate::change_error::after;
+use crate::{Change, LocalType, Table, Yearly};
+
+/// Checks that the gap or fold of a change at one instant ends before the gap or fold of the next
+/// change begins. The offsets are those before, between and after the changes.
+fn is_next(at: i64, next: i64, before: i32, between: i32, after: i32) -> bool
+    requires at { IsMoment at × IsMoment next }
+    requires offset { IsOffset before × IsOffset between × IsOffset after }
+    ensures { IsTrue result ↔ IsNext at next before between after }
+{
+    let end = at + i64::from(before.max(between));
+    let begin = next + i64::from(between.min(after));
+    at < next && end <= begin
+}
+
+/// A rule of two changes each year. The first comes earlier in the year.
+#[derive(Clone, Copy)]
+pub struct Rule {
+    one: Yearly,
+    other: Yearly,
+    ghost calm: { IsCalm one other },
+}
+
+/// The number of changes in the years of the range.
+const COUNT: u32 = 3_999_998;
+
+/// Returns about the index of the last change before an instant, from the first year of the range.
+/// It makes a search short, and need not be exact.
+pub(crate) fn index_near(instant: i64) -> u32
+    ensures { result ≤ 3_999_990 }
+{
+    let year = instant.div_euclid(31_556_952);
+    if year < -1_001_968 {
+        return 1;
+    }
+    if year > 998_020 {
+        return 3_999_990;
+    }
+    ((year + 1_001_969) * 2 - 1) as u32
+}
+
+impl Rule {
+    ghost use Rattle.cal_zone.specs.Rule.{change_of, changes_from, instant_at, rule_count};
+    ghost use Rattle.cal_zone.specs.Zone.{is_after, Joins};
+    ghost use Rattle.cal_zone.specs.Split.{IsSplit};
+    ghost use Rattle.cal_zone.specs.Timeline.{IsOrdered, at};
+
+    /// Creates the rule of two changes. Returns `None` if a field is out of range, if the months
+    /// are neighbours, also over the new year, or if the first month is not the earlier one.
+    pub fn new(one: Yearly, other: Yearly) -> Option<Self>
+        ensures value { IfSome result (λ rule. (rule.one ≡ one) × (rule.other ≡ other)) }
+        ensures some { IfSome result (λ rule. IsCalm one other) }
+        ensures none { IfNone result (¬ IsCalm one other) }
+    {
+        if !one.is_in_range() {
+            return None;
+        }
+        if !other.is_in_range() {
+            return None;
+        }
+        let first = u8::from(one.month);
+        let second = u8::from(other.month);
+        if second < first + 2 {
+            return None;
+        }
+        if first + 10 < second {
+            return None;
+        }
+        Some(Rule { one, other })
+    }
+
+    /// Returns how the clocks are set before the first change of a year.
+    pub fn before(&self) -> LocalType
+        ensures value { result ≡ self.now.other.kind }
+        ensures offset { IsOffset result.offset }
+    {
+        let _ = &self.one;
+        self.other.kind
+    }
+
+    /// Returns the number of changes.
+    #[tactic(auto, unfolding(crate::specs::Rule::rule_count))]
+    pub(crate) fn len(&self) -> u32
+        ensures len { result ≡ rule_count }
+        ensures at_most { rule_count ≤ 3_999_998 }
+        ensures at_least { 3_999_998 ≤ rule_count }
+        ensures calm { IsCalm self.now.one self.now.other }
+    {
+        let _ = &self.one;
+        COUNT
+    }
+
+    /// Returns the change at an index, counted from the first year of the range.
+    pub(crate) fn change(&self, index: u32) -> Change
+        requires { index < 3_999_998 }
+        ensures value { result ≡ change_of self.now.one self.now.other index }
+        ensures moment { IsMoment result.at }
+        ensures offset { IsOffset result.kind.offset }
+    {
+        let year = (index / 2) as i32 - 999_999;
+        if index % 2 == 0 {
+            Change {
+                at: self.one.moment(self.other.kind.offset, year),
+                kind: self.one.kind,
+            }
+        } else {
+            Change {
+                at: self.other.moment(self.one.kind.offset, year),
+                kind: self.other.kind,
+            }
+        }
+    }
+
+    /// Returns the number of changes that are not after an instant.
+    pub(crate) fn count(&self, instant: i64) -> u32
+        ensures split { IsSplit (instant_at self.now.one self.now.other) rule_count
+            instant result result }
+    {
+        let mut low = 0;
+        let mut high = self.len();
+        while low < high {
+            let middle = low + (high - low) / 2;
+            if self.change(middle).at <= instant {
+                low = middle + 1;
+            } else {
+                high = middle;
+            }
+        }
+        low
+    }
+
+    /// Returns the number of changes that are not after the last change of a table.
+    pub(crate) fn skip(&self, table: &Table<'_>) -> u32
+        requires { (k : ℕ) → k < length table.now → IsMoment (at table.now k) }
+        ensures bound { result ≤ 3_999_998 }
+        ensures within { result ≤ rule_count }
+        ensures rest { filter (is_after table.now) (changes_from self.now.one self.now.other 0)
+            ≡ changes_from self.now.one self.now.other result }
+    {
+        let _ = self.len();
+        let count = table.len();
+        if count == 0 {
+            0
+        } else {
+            self.count(table.change(count - 1).at)
+        }
+    }
+
+    /// Checks that the gap or fold of the last change of a table ends before the gap or fold of
+    /// the rule's change at an index begins.
+    pub(crate) fn joins(&self, first: LocalType, table: &Table<'_>, skip: u32) -> bool
+        requires skip { skip ≤ 3_999_998 }
+        requires ordered { IsOrdered first.offset table.now }
+        requires rule { skip ≤ rule_count }
+        ensures { IsTrue result
+            ↔ Joins first.offset table.now (changes_from self.now.one self.now.other skip) }
+    {
+        let count = table.len();
+        if count == 0 {
+            return true;
+        }
+        if skip == self.len() {
+            return true;
+        }
+        let index = count - 1;
+        let last = table.change(index);
+        let next = self.change(skip);
+        is_next(
+            last.at,
+            next.at,
+            after(first, table, index),
+            last.kind.offset,
+            next.kind.offset,
+        )
+    }
+}
