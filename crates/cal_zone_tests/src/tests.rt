@@ -2,7 +2,7 @@
 
 use cal_datetime::{OffsetDateTime, PlainDateTime, with_hms_nano};
 use cal_time::{Date, Month, Weekday};
-use cal_zone::{ChangeError, Layout, Local, LocalType, Rule, Table, TimelineError, Yearly, Zone};
+use cal_zone::{ChangeError, Layout, LocalType, Rule, Table, TimelineError, Yearly, Zone};
 use std::fmt::Debug;
 use std::process::Abort;
 
@@ -80,48 +80,78 @@ fn lord_howe(rt: &impl Abort) -> Zone<'static> {
 }
 
 /// Checks what each policy makes of a reading that the clocks skip.
-fn check_gap(rt: &impl Abort, local: Local, earlier: (i64, i32), later: (i64, i32)) {
-    same(rt, moment(local.compatible()), Some(later));
-    same(rt, moment(local.earlier()), Some(earlier));
-    same(rt, moment(local.later()), Some(later));
-    same(rt, moment(local.reject()), None);
+fn check_gap(
+    rt: &impl Abort,
+    zone: &Zone<'_>,
+    reading: PlainDateTime,
+    earlier: (i64, i32),
+    later: (i64, i32),
+) {
+    same(rt, moment(zone.resolve(reading).compatible()), Some(later));
+    same(rt, moment(zone.resolve(reading).earlier()), Some(earlier));
+    same(rt, moment(zone.resolve(reading).later()), Some(later));
+    same(rt, moment(zone.resolve(reading).reject()), None);
 }
 
 /// Checks what each policy makes of a reading that the clocks show twice.
-fn check_fold(rt: &impl Abort, local: Local, earlier: (i64, i32), later: (i64, i32)) {
-    same(rt, moment(local.compatible()), Some(earlier));
-    same(rt, moment(local.earlier()), Some(earlier));
-    same(rt, moment(local.later()), Some(later));
-    same(rt, moment(local.reject()), None);
+fn check_fold(
+    rt: &impl Abort,
+    zone: &Zone<'_>,
+    reading: PlainDateTime,
+    earlier: (i64, i32),
+    later: (i64, i32),
+) {
+    same(
+        rt,
+        moment(zone.resolve(reading).compatible()),
+        Some(earlier),
+    );
+    same(rt, moment(zone.resolve(reading).earlier()), Some(earlier));
+    same(rt, moment(zone.resolve(reading).later()), Some(later));
+    same(rt, moment(zone.resolve(reading).reject()), None);
 }
 
 /// Checks a reading that the clocks show once.
-fn check_single(rt: &impl Abort, local: Local, wanted: (i64, i32)) {
-    same(rt, moment(local.compatible()), Some(wanted));
-    same(rt, moment(local.reject()), Some(wanted));
+fn check_single(rt: &impl Abort, zone: &Zone<'_>, reading: PlainDateTime, wanted: (i64, i32)) {
+    same(rt, moment(zone.resolve(reading).compatible()), Some(wanted));
+    same(rt, moment(zone.resolve(reading).reject()), Some(wanted));
 }
 
 #[test]
 fn readings_in_the_north(rt: HostRuntime) {
     let rt = &rt;
     let (berlin, new_york) = (berlin(rt), new_york(rt));
-    let local = berlin.resolve(reading(rt, (2024, Month::March, 31), 2, 30));
-    check_gap(rt, local, (1_711_845_000, 3_600), (1_711_848_600, 7_200));
-    let local = berlin.resolve(reading(rt, (2024, Month::October, 27), 2, 30));
-    check_fold(rt, local, (1_729_989_000, 7_200), (1_729_992_600, 3_600));
-    let local = berlin.resolve(reading(rt, (2024, Month::July, 1), 12, 0));
-    check_single(rt, local, (1_719_828_000, 7_200));
-    let local = new_york.resolve(reading(rt, (2024, Month::March, 10), 2, 30));
+    let at = reading(rt, (2024, Month::March, 31), 2, 30);
     check_gap(
         rt,
-        local,
+        &berlin,
+        at,
+        (1_711_845_000, 3_600),
+        (1_711_848_600, 7_200),
+    );
+    let at = reading(rt, (2024, Month::October, 27), 2, 30);
+    check_fold(
+        rt,
+        &berlin,
+        at,
+        (1_729_989_000, 7_200),
+        (1_729_992_600, 3_600),
+    );
+    let at = reading(rt, (2024, Month::July, 1), 12, 0);
+    check_single(rt, &berlin, at, (1_719_828_000, 7_200));
+    let at = reading(rt, (2024, Month::March, 10), 2, 30);
+    check_gap(
+        rt,
+        &new_york,
+        at,
         (1_710_052_200, -18_000),
         (1_710_055_800, -14_400),
     );
-    let local = new_york.resolve(reading(rt, (2024, Month::November, 3), 1, 30));
+    let at = reading(rt, (2024, Month::November, 3), 1, 30);
     check_fold(
         rt,
-        local,
+        &new_york,
+        at,
         (1_730_611_800, -14_400),
         (1_730_615_400, -18_000),
     );
@@ -131,10 +161,22 @@ fn readings_in_the_north(rt: HostRuntime) {
 fn readings_in_the_south(rt: HostRuntime) {
     let rt = &rt;
     let lord_howe = lord_howe(rt);
-    let local = lord_howe.resolve(reading(rt, (2024, Month::April, 7), 1, 45));
-    check_fold(rt, local, (1_712_414_700, 39_600), (1_712_416_500, 37_800));
-    let local = lord_howe.resolve(reading(rt, (2024, Month::October, 6), 2, 15));
-    check_gap(rt, local, (1_728_141_300, 37_800), (1_728_143_100, 39_600));
+    let at = reading(rt, (2024, Month::April, 7), 1, 45);
+    check_fold(
+        rt,
+        &lord_howe,
+        at,
+        (1_712_414_700, 39_600),
+        (1_712_416_500, 37_800),
+    );
+    let at = reading(rt, (2024, Month::October, 6), 2, 15);
+    check_gap(
+        rt,
+        &lord_howe,
+        at,
+        (1_728_141_300, 37_800),
+        (1_728_143_100, 39_600),
+    );
 }
 
 /// The change of Apia on 2011-12-29 at midnight, over the whole next day, as a TZif file has it.
@@ -156,12 +198,18 @@ fn a_day_left_out(rt: HostRuntime) {
     };
     let table = Table::new(&APIA, layout).expect(rt, "no table");
     let apia = Zone::new(kind(-36_000, true), table, None).expect(rt, "no zone");
-    let local = apia.resolve(reading(rt, (2011, Month::December, 30), 12, 0));
-    check_gap(rt, local, (1_325_196_000, -36_000), (1_325_282_400, 50_400));
-    let local = apia.resolve(reading(rt, (2011, Month::December, 29), 23, 59));
-    check_single(rt, local, (1_325_239_140, -36_000));
-    let local = apia.resolve(reading(rt, (2011, Month::December, 31), 0, 0));
-    check_single(rt, local, (1_325_239_200, 50_400));
+    let at = reading(rt, (2011, Month::December, 30), 12, 0);
+    check_gap(
+        rt,
+        &apia,
+        at,
+        (1_325_196_000, -36_000),
+        (1_325_282_400, 50_400),
+    );
+    let at = reading(rt, (2011, Month::December, 29), 23, 59);
+    check_single(rt, &apia, at, (1_325_239_140, -36_000));
+    let at = reading(rt, (2011, Month::December, 31), 0, 0);
+    check_single(rt, &apia, at, (1_325_239_200, 50_400));
 }
 
 #[test]
