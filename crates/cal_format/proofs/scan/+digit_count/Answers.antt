@@ -1,0 +1,7 @@
+use Rattle.std.proofs.Common.{arith}
+use Rattle.cal_format.proofs.Digits.{digits-more}
+use Rattle.cal_format.proofs.scan.+digit_count.Goals as goal
+
+pub returns-else-first-gt57-clause-digits : goal.returns-else-first-gt57-clause-digits
+returns-else-first-gt57-clause-digits t c digits after d b few e =
+    digits-more digits after c.args.text.now c.args.most c.digit_count.result d b few e (omega arith) (omega arith) c.in-len1-up.len_at_least c.digit_count.ensures.digits
