@@ -66,10 +66,12 @@ impl DateFormat {
         }
         let date = date_of(items, &fields)?;
         let moment = moment_of_date(date);
-        if are_held(items, &moment) && is_text_of(items, &moment, text) {
-            Some(date)
-        } else {
-            None
+        if !are_held(items, &moment) {
+            return None;
         }
+        if !is_text_of(items, &moment, text) {
+            return None;
+        }
+        Some(date)
     }
 }

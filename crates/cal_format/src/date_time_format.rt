@@ -78,10 +78,15 @@ impl DateTimeFormat {
         let time = time_of(items, &fields)?;
         let date_time = PlainDateTime::new(date, time);
         let moment = moment_of_date_time(date_time);
-        if holds_time(items, time) && are_held(items, &moment) && is_text_of(items, &moment, text) {
-            Some(date_time)
-        } else {
-            None
+        if !holds_time(items, time) {
+            return None;
         }
+        if !are_held(items, &moment) {
+            return None;
+        }
+        if !is_text_of(items, &moment, text) {
+            return None;
+        }
+        Some(date_time)
     }
 }

@@ -66,10 +66,12 @@ impl TimeFormat {
         }
         let time = time_of(items, &fields)?;
         let moment = moment_of_time(time);
-        if holds_time(items, time) && is_text_of(items, &moment, text) {
-            Some(time)
-        } else {
-            None
+        if !holds_time(items, time) {
+            return None;
         }
+        if !is_text_of(items, &moment, text) {
+            return None;
+        }
+        Some(time)
     }
 }

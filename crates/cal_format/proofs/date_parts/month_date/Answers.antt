@@ -1,6 +1,6 @@
 use Rattle.std.proofs.Common.{ap, arith, inl, inr}
 use Rattle.cal_time.specs.Days.{month_at-range}
-use Rattle.cal_format.proofs.date_format.month_date.Goals as goal
+use Rattle.cal_format.proofs.date_parts.month_date.Goals as goal
 
 pub returns-in-Err-clause-every : goal.returns-in-Err-clause-every
 returns-in-Err-clause-every c n date has =
