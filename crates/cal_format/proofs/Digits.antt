@@ -74,10 +74,10 @@ pub AreDigits-decimal : (n : ℕ) → n < 2 ^ 32 → AreDigits (decimal n)
 AreDigits-decimal n small =
     decimal_by_steps (λ k ds. AreDigits ds) (λ k low. (omega arith, omega arith, tt)) (λ k ds low h. AreDigits-more ds (48 + k % 10) h (omega arith) (omega arith)) n (omega arith)
 
-short-decimal : (n : ℕ) → n < 2 ^ 32 → length (decimal n) ≤ 10
+pub short-decimal : (n : ℕ) → n < 2 ^ 32 → length (decimal n) ≤ 10
 short-decimal n small = length-decimal-le 10 n (omega arith) (omega arith) (omega arith)
 
-fill-is : (b w k : ℕ) → w ≤ 9 → take (w - k) (replicate 9 b) ≡ replicate (w - k) b
+pub fill-is : (b w k : ℕ) → w ≤ 9 → take (w - k) (replicate 9 b) ≡ replicate (w - k) b
 fill-is b w k h = take-replicate (w - k) 9 b (omega arith)
 
 pub ruleset short_decimals = (short-decimal, fill-is)
@@ -85,6 +85,9 @@ pub ruleset short_decimals = (short-decimal, fill-is)
 pub ruleset short_fractions = (decimals-few)
 
 -- Digits at the front of a text, one by one.
+pub digits-empty : (digits after text : List ℕ) → text ≡ digits ++ after → length text ≡ 0 → 0 ≡ length digits
+digits-empty digits after text e none = omega (arith, none, ap length e, length-append digits after)
+
 pub digits-none : (digits after text : List ℕ) → AreDigits digits → text ≡ digits ++ after → (get_or text 0 0 < 48) → 0 ≡ length digits
 digits-none [] after text d e low = refl
 digits-none (x ∷ ds) after text d e low = absurd (omega (arith, d.0, low, ap (λ l. get_or l 0 0) e))

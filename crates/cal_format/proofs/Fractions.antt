@@ -1,5 +1,5 @@
 -- Fractions of a second.
-use Rattle.std.proofs.Common.{◌≡◌, ◌≢◌, ℕ, suc, ◌+◌, ◌-◌, ◌*◌, ◌/◌, ◌%◌, ◌<◌, ◌≤◌, ◌^◌, List, [], ◌∷◌, ◌++◌, length, take, drop, get_or, replicate, refl, sym, ap, ◌∙◌, subst, arith, inl, inr}
+use Rattle.std.proofs.Common.{◌≡◌, ◌≢◌, ℕ, suc, ◌+◌, ◌-◌, ◌*◌, ◌/◌, ◌%◌, ◌<◌, ◌≤◌, ◌^◌, List, [], ◌∷◌, ◌++◌, length, take, drop, get_or, replicate, refl, sym, ap, ◌∙◌, subst, arith, inl, inr, length-append}
 use Rattle.std.specs.Prelude.{fold}
 use Rattle.std.proofs.lemmas.Bool.{cases_eq, cases_lt}
 use Rattle.std.proofs.lemmas.Bool.Decides.{nat_tests}
@@ -59,12 +59,11 @@ one-digit k ds h = (omega arith, omega arith, h)
 
 AreDigits-decimals : (n : ℕ) → n < 1_000_000_000 → AreDigits (decimals n)
 AreDigits-decimals n small =
-    let nine : AreDigits (nine_digits n) = (
-      omega arith,
-      omega arith,
-      one-digit (n / 10_000_000) _ (one-digit (n / 1_000_000) _ (one-digit (n / 100_000) _ (one-digit (n / 10_000) _ (one-digit (n / 1_000) _ (one-digit (n / 100) _ (one-digit (n / 10) _ (one-digit n [] tt))))))),
-    ) in
-    (nine.0, nine.1, zeros-digits (drop 1 (nine_digits n)) nine.2)
+    let nine = nine_digits n in
+    let first : 48 + n / 100_000_000 ≤ 57 = omega arith in
+    let eight : AreDigits (drop 1 nine) =
+    one-digit (n / 10_000_000) (drop 2 nine) (one-digit (n / 1_000_000) (drop 3 nine) (one-digit (n / 100_000) (drop 4 nine) (one-digit (n / 10_000) (drop 5 nine) (one-digit (n / 1_000) (drop 6 nine) (one-digit (n / 100) (drop 7 nine) (one-digit (n / 10) (drop 8 nine) (one-digit n [] tt))))))) in
+    (omega arith, first, zeros-digits (drop 1 nine) eight)
 
 -- ---- the number of nine digits
 value-nine : (n : ℕ) → n < 1_000_000_000 → fold step 0 (nine_digits n) ≡ n
@@ -103,6 +102,9 @@ value-fraction n small = elim (cases_lt 0 n) [
 ]
 
 -- ---- a fraction at the front of a text
+pub fraction-empty : (n : ℕ) (text after : List ℕ) → text ≡ fraction_text n ++ after → length text ≡ 0 → 0 ≡ length (fraction_text n)
+fraction-empty n text after e none = omega (arith, none, ap length e, length-append (fraction_text n) after)
+
 pub fraction-absent : (n : ℕ) (text after : List ℕ) → text ≡ fraction_text n ++ after → get_or text 0 0 ≢ 46 → 0 ≡ length (fraction_text n)
 fraction-absent n text after e other = elim (cases_lt 0 n) [
   | inl some ↦ absurd (other (ap (λ l. get_or l 0 0) (e ∙ ap (λ l. l ++ after) (fraction-some n some))))

@@ -1,8 +1,7 @@
 -- What an item's text says of its number.
 use Rattle.std.proofs.Common.{◌≡◌, ℕ, ◌+◌, ◌-◌, ◌/◌, ◌%◌, ◌<◌, ◌≤◌, ◌^◌, List, [], ◌∷◌, ◌++◌, length, take, get_or, refl, sym, ap, subst, ◌∙◌, arith}
 use Rattle.std.specs.Prelude.{Bool, true, false, ℤ, pos, negsuc, fold, ◌==◌, int_lt, if◌then◌else◌}
-use Rattle.std.proofs.lemmas.Int.{ints}
-use Rattle.std.proofs.lemmas.Bool.Decides.{nat_tests}
+use borrow.Author.Tests.{le-ltb}
 use Rattle.std.proofs.lemmas.List.{take_at}
 use Rattle.cal_time.specs.Time.{nanosecond_of}
 use Rattle.cal_time.specs.UtcOffset.{sign as offset_sign}
@@ -100,13 +99,16 @@ fraction-value i used x v text digits after e ends f finds front value =
     value ∙ ap fraction_number taken ∙ value-fraction n small
 
 -- ---- signs
-sign-number : (o : ℤ) (after : List ℕ) → (if get_or (offset_sign o ++ after) 0 0 == 45 then 1 else 0) ≡ (if int_lt o (pos 0) then 1 else 0)
-sign-number (pos n) after = let e : int_lt (pos n) (pos 0) ≡ false = grind (arith, ints, nat_tests) in rw e refl
-sign-number (negsuc n) after = let e : int_lt (negsuc n) (pos 0) ≡ true = grind (arith, ints, nat_tests) in rw e refl
+sign-number : (o : ℤ) (after : List ℕ) (x : ℕ) → x ≡ (if get_or (offset_sign o ++ after) 0 0 == 45 then 1 else 0) → x ≡ (if int_lt o (pos 0) then 1 else 0)
+sign-number (pos n) after x h =
+    let e : int_lt (pos n) (pos 0) ≡ false = le-ltb n 0 (omega arith) in
+    let P : Bool → Type 0 = λ b. x ≡ (if b then 1 else 0) in
+    subst P (sym e) h
+sign-number (negsuc n) after x h = h
 
 pub sign-value : (i : Item) (x : ℕ) (v : Moment) (text after : List ℕ) → i ≡ item.OffsetSign → text ≡ item_text v i ++ after → x ≡ (if get_or text 0 0 == 45 then 1 else 0) → x ≡ number OffsetSign v
 sign-value i x v text after e f value =
-    value ∙ ap (λ l. if get_or l 0 0 == 45 then 1 else 0) (as-item i item.OffsetSign v text after e f) ∙ sign-number v.offset after
+    sign-number v.offset after x (value ∙ ap (λ l. if get_or l 0 0 == 45 then 1 else 0) (as-item i item.OffsetSign v text after e f))
 
 length-sign : (o : ℤ) → length (offset_sign o) ≡ 1
 length-sign (pos n) = refl

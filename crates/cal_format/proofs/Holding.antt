@@ -1,8 +1,6 @@
 -- What a format holds of a moment.
 use Rattle.std.proofs.Common.{◌≡◌, ◌⊎◌, ℕ, ◌+◌, ◌*◌, ◌<◌, ◌≤◌, ◌^◌, List, [], ◌∷◌, ◌++◌, length, refl, sym, ap, subst, arith, inl, inr, lit≤, length-append}
-use Rattle.std.specs.Prelude.{Bool, ◌==◌, ◌||◌, ◌&&◌, not, IsTrue, ℤ, pos, negsuc, int_lt, codes, unsigned_abs, true}
-use Rattle.std.proofs.lemmas.Int.{ints}
-use Rattle.std.proofs.lemmas.Bool.Decides.{nat_tests}
+use Rattle.std.specs.Prelude.{Bool, ◌==◌, ◌||◌, ◌&&◌, not, IsTrue, ℤ, pos, negsuc, unsigned_abs}
 use Rattle.cal_time.specs.DateText.{sign_text}
 use Rattle.cal_time.specs.Time.{IsTime, nanosecond_of}
 use Rattle.cal_time.specs.UtcOffset.{sign as offset_sign}
@@ -81,7 +79,7 @@ fits-shown c v items u h held = fits-any c v items (is-unnamed c u) h held
 -- ---- a year without a sign
 plain-cases : (y : ℤ) → sign_text y ≡ [] → pos (unsigned_abs y) ≡ y
 plain-cases (pos n) e = refl
-plain-cases (negsuc n) e = let f : int_lt (negsuc n) (pos 0) ≡ true = grind (arith, ints, nat_tests) in absurd (omega (arith, ap length (rw f at e)))
+plain-cases (negsuc n) e = absurd (omega (arith, ap length e))
 
 pub plain-year : (y : ℤ) → sign_text y ≡ [] → pos (unsigned_abs y) ≡ y
 plain-year y e = plain-cases y e

@@ -4,7 +4,6 @@ use Rattle.std.specs.Prelude.{Bool, true, false, ◌||◌, ◌&&◌, IsTrue, ℤ
 use Rattle.cal_time.specs.Date.{year_at, month_at, day_of_month_at, ordinal_at, weekday_at, HasCalendarDate, HasOrdinalDate}
 use Rattle.cal_time.specs.IsoWeekDate.{iso_year_at, iso_week_at, HasIsoWeekDate}
 use Rattle.cal_time.specs.Days.{month_at-range}
-use Rattle.cal_time.specs.Laws.{weekday_at-is}
 use Rattle.cal_format.specs.declared.fields.Fields.{Fields}
 use Rattle.cal_format.specs.declared.item.Item.{Item}
 use Rattle.cal_format.specs.declared.item.Component.{Component}
@@ -54,7 +53,7 @@ pub has-ordinal_date : (n y o : ℕ) → pos y ≡ year_at n → o ≡ ordinal_a
 has-ordinal_date n y o e f = (sym e, sym f)
 
 pub has-iso_week_date : (n y w wd : ℕ) → pos y ≡ iso_year_at n → w ≡ iso_week_at n → wd ≡ weekday_at n → HasIsoWeekDate (pos y) w wd n
-has-iso_week_date n y w wd e f g = (sym e, (sym f, sym g))
+has-iso_week_date n y w wd e f g = (sym e, sym f, sym g)
 
 pub record CalendarShown (items : List Item) : Type 0 where
   pub year : IsTrue (shows_year items)
@@ -103,13 +102,3 @@ iso_year-shown items v r held shown e =
     let fits = fits-shown IsoYear v items refl shown held in
     let low : number IsoYear v < 10 ^ 4 = fits.low in
     (ap (λ k. pos k) e ∙ plain-year (iso_year_at v.date) fits.plain, omega (arith, low, e))
-
--- ---- weekdays
-pub from-monday : (n x r : ℕ) → x ≡ weekday_at n + 1 → r ≡ (x % 8 + 6) % 7 → r ≡ weekday_at n
-from-monday n x r e f = omega (arith, weekday_at-is n)
-
-pub from-sunday : (n x r : ℕ) → x ≡ (weekday_at n + 1) % 7 → r ≡ (x % 7 + 6) % 7 → r ≡ weekday_at n
-from-sunday n x r e f = omega (arith, weekday_at-is n)
-
-pub from-sunday_weekday : (n x r : ℕ) → x ≡ (weekday_at n + 1) % 7 + 1 → r ≡ (x % 8 + 5) % 7 → r ≡ weekday_at n
-from-sunday_weekday n x r e f = omega (arith, weekday_at-is n)

@@ -25,7 +25,13 @@ pub(crate) fn digit_count(text: &[u8], most: u8) -> usize
     match text {
         [] => 0,
         [first, others @ ..] => {
-            if most == 0 || *first < b'0' || *first > b'9' {
+            if most == 0 {
+                return 0;
+            }
+            if *first < b'0' {
+                return 0;
+            }
+            if *first > b'9' {
                 return 0;
             }
             1 + digit_count(others, most - 1)

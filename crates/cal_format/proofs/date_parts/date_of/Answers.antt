@@ -20,8 +20,8 @@ returns-then-shows_ordinal_date-clause-every c v date held agrees h =
     let ordinal = agreed items c.args.fields.now v shown.Ordinal c.get-ordinal.result agrees s.ordinal c.get-ordinal.ensures in
     c.ordinal_date.ensures.every v.date date year.1 (omega (arith, ordinal, ordinal-low items v held s.ordinal)) (has-ordinal_date v.date _ _ year.0 ordinal)
 
-pub returns-else-shows_ordinal_date-clause-every : goal.returns-else-shows_ordinal_date-clause-every
-returns-else-shows_ordinal_date-clause-every c v date held agrees h =
+pub returns-clause-every : goal.returns-clause-every
+returns-clause-every c v date held agrees h =
     let items = c.args.items.now in
     let s = iso_week-shown items h (sym c.shows_calendar_date.ensures ∙ c.if-shows_calendar_date.false) (sym c.shows_ordinal_date.ensures ∙ c.if-shows_ordinal_date.false) in
     let year = iso_year-shown items v c.get-iso_year.result held s.year (agreed items c.args.fields.now v shown.IsoYear c.get-iso_year.result agrees s.year c.get-iso_year.ensures) in

@@ -11,8 +11,8 @@ returns-then-any_shows c v held agrees h =
     let year : IsTrue (any_shows shown.Year items) = sym c.any_shows.ensures ∙ c.if-any_shows.true in
     year-shown items v c.get.result held year (agreed items c.args.fields.now v shown.Year c.get.result agrees year c.get.ensures)
 
-pub returns-else-any_shows : goal.returns-else-any_shows
-returns-else-any_shows c v held agrees h =
+pub returns : goal.returns
+returns c v held agrees h =
     let items = c.args.items.now in
     let both = either_shown (any_shows shown.Year items) (any_shows shown.Century items) (any_shows shown.YearOfCentury items) h (sym c.any_shows.ensures ∙ c.if-any_shows.false) in
     let century = agreed items c.args.fields.now v shown.Century c.get-century.result agrees both.0 c.get-century.ensures in

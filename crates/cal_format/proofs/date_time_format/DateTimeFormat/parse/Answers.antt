@@ -98,8 +98,8 @@ returns-then-not-is_text_of-clause-every c z moment held holds e =
     let b : c.is_text_of.result ≡ false = c.if-not-is_text_of.true in
     cc
 
-pub returns-else-not-is_text_of-clause-every : goal.returns-else-not-is_text_of-clause-every
-returns-else-not-is_text_of-clause-every c z moment held holds e =
+pub returns-clause-every : goal.returns-clause-every
+returns-clause-every c z moment held holds e =
     let items : c.items-items.result.now ≡ c.args.self.now = c.items-items.ensures.items ∙ c.self.view_is in
     let apart = test-of are_apart c.self.inside.format c.args.self.now (sym c.self.view_is) c.self.invariant.0 in
     let read = read-of c.args.self.now c.items-items.result.now (moment_of_date_time z) c.args.text.now c.set_items.new.fields c.new-fields.result c.set_items.result items (date_time-moment z moment) held apart e c.new-fields.ensures c.set_items.ensures in

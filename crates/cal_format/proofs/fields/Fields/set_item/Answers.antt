@@ -30,7 +30,7 @@ returns-in-Name-clause-length c v after m held ends e =
 pub returns-in-Name-clause-value : goal.returns-in-Name-clause-value
 returns-in-Name-clause-value c v after m held ends e k =
     let x = c.name_number.ensures v after m (as-item c.args.item (item.Name c.in-Name.name) v c.args.text.now after c.in-Name.is e) in
-    shown-name c.args.item c.in-Name.name k v _ _ c.in-Name.is (set-number k (name_component c.in-Name.name) v c.name_number.result _ _ x (rw c.component.ensures at (c.set.ensures k)))
+    shown-name c.args.item c.in-Name.name k v _ _ c.in-Name.is (set-number k (name_component c.in-Name.name) v c.name_number.result _ _ x (rw c.component.ensures at (c.set-in-Name.ensures k)))
 
 pub returns-in-Fraction-clause-length : goal.returns-in-Fraction-clause-length
 returns-in-Fraction-clause-length c v after m held ends e = fraction-used c.args.item c.fraction_length-used.result v c.args.text.now after c.in-Fraction.is ends e c.fraction_length-used.ensures.value

@@ -59,8 +59,8 @@ returns-then-not-is_text_of-clause-every c n day holds e =
     let b : c.is_text_of.result ≡ false = c.if-not-is_text_of.true in
     cc
 
-pub returns-else-not-is_text_of-clause-every : goal.returns-else-not-is_text_of-clause-every
-returns-else-not-is_text_of-clause-every c n day holds e =
+pub returns-clause-every : goal.returns-clause-every
+returns-clause-every c n day holds e =
     let items : c.items-items.result.now ≡ c.args.self.now = c.items-items.ensures.items ∙ c.self.view_is in
     let held = time-held c.args.self.now n day (test-of are_time_items c.self.inside.format c.args.self.now (sym c.self.view_is) c.self.invariant.1) in
     let apart = test-of are_apart c.self.inside.format c.args.self.now (sym c.self.view_is) c.self.invariant.0 in
