@@ -91,7 +91,7 @@ item-ended item.OffsetSign items v h = tt
 
 -- ---- the first item of some, and the others
 abbrev pub first_of : List Item → Item
-first_of items = get_or items 0 item.Fraction
+first_of items = get_or items 0 (item.Literal 0)
 
 abbrev pub others_of : List Item → List Item
 others_of items = take (length items - 1) (drop 1 items)

@@ -77,10 +77,12 @@ AreDigits-decimal n small =
 pub short-decimal : (n : ℕ) → n < 2 ^ 32 → length (decimal n) ≤ 10
 short-decimal n small = length-decimal-le 10 n (omega arith) (omega arith) (omega arith)
 
-pub fill-is : (b w k : ℕ) → w ≤ 9 → take (w - k) (replicate 9 b) ≡ replicate (w - k) b
-fill-is b w k h = take-replicate (w - k) 9 b (omega arith)
+pub fill-is : (b k : ℕ) → k ≤ 9 → take k (replicate 9 b) ≡ replicate k b
+fill-is b k h = take-replicate k 9 b h
 
-pub ruleset short_decimals = (short-decimal, fill-is)
+pub ruleset short_decimals = (short-decimal)
+
+pub ruleset fills = (fill-is)
 
 pub ruleset short_fractions = (decimals-few)
 

@@ -1,6 +1,6 @@
 //! The components of `time`'s format descriptions.
 ghost use Rattle.std.specs.Prelude.{◌≡◌, ◌≤◌};
-ghost use Rattle.cal_format.specs.Description.{begins_with, year_description, day_description, time_description, subsecond_description, week_description};
+ghost use Rattle.cal_format.specs.Description.{begins_with, year_description, century_description, month_description, month_name_description, day_description, hour_description, twelve_hour_description, minute_description, subsecond_description, weekday_description, weekday_number_description, week_description, offset_description, bracket_description};
 
 use crate::directive::Directive;
 use crate::item::{Component, Item, Name, Padding};
@@ -38,6 +38,16 @@ pub(crate) fn year_description(text: &[u8]) -> Directive
             used: 20,
         };
     }
+    century_description(text)
+}
+
+/// Returns the component that the text begins with, if none above matches.
+#[tactic(auto, unfolding(crate::specs::Description::century_description))]
+fn century_description(text: &[u8]) -> Directive
+    ensures items { result.items.now ≡ (century_description text.now).items }
+    ensures used { result.used ≡ (century_description text.now).used }
+    ensures min { 1 ≤ result.used }
+{
     if begins_with(text, b"year repr:century]") {
         return Directive {
             items: &[Item::Number(Component::Century, Padding::Zero)],
@@ -50,6 +60,16 @@ pub(crate) fn year_description(text: &[u8]) -> Directive
             used: 20,
         };
     }
+    month_description(text)
+}
+
+/// Returns the component that the text begins with, if none above matches.
+#[tactic(auto, unfolding(crate::specs::Description::month_description))]
+fn month_description(text: &[u8]) -> Directive
+    ensures items { result.items.now ≡ (month_description text.now).items }
+    ensures used { result.used ≡ (month_description text.now).used }
+    ensures min { 1 ≤ result.used }
+{
     if begins_with(text, b"month]") {
         return Directive {
             items: &[Item::Number(Component::Month, Padding::Zero)],
@@ -62,6 +82,16 @@ pub(crate) fn year_description(text: &[u8]) -> Directive
             used: 20,
         };
     }
+    month_name_description(text)
+}
+
+/// Returns the component that the text begins with, if none above matches.
+#[tactic(auto, unfolding(crate::specs::Description::month_name_description))]
+fn month_name_description(text: &[u8]) -> Directive
+    ensures items { result.items.now ≡ (month_name_description text.now).items }
+    ensures used { result.used ≡ (month_name_description text.now).used }
+    ensures min { 1 ≤ result.used }
+{
     if begins_with(text, b"month repr:long]") {
         return Directive {
             items: &[Item::Name(Name::Month)],
@@ -77,7 +107,7 @@ pub(crate) fn year_description(text: &[u8]) -> Directive
     day_description(text)
 }
 
-/// Returns the component that the text begins with, if it isn't a year or a month.
+/// Returns the component that the text begins with, if none above matches.
 #[tactic(auto, unfolding(crate::specs::Description::day_description))]
 fn day_description(text: &[u8]) -> Directive
     ensures items { result.items.now ≡ (day_description text.now).items }
@@ -102,20 +132,14 @@ fn day_description(text: &[u8]) -> Directive
             used: 19,
         };
     }
-    if begins_with(text, b"ordinal]") {
-        return Directive {
-            items: &[Item::Number(Component::Ordinal, Padding::Zero)],
-            used: 9,
-        };
-    }
-    time_description(text)
+    hour_description(text)
 }
 
-/// Returns the component that the text begins with, if it isn't a part of a calendar date.
-#[tactic(auto, unfolding(crate::specs::Description::time_description))]
-fn time_description(text: &[u8]) -> Directive
-    ensures items { result.items.now ≡ (time_description text.now).items }
-    ensures used { result.used ≡ (time_description text.now).used }
+/// Returns the component that the text begins with, if none above matches.
+#[tactic(auto, unfolding(crate::specs::Description::hour_description))]
+fn hour_description(text: &[u8]) -> Directive
+    ensures items { result.items.now ≡ (hour_description text.now).items }
+    ensures used { result.used ≡ (hour_description text.now).used }
     ensures min { 1 ≤ result.used }
 {
     if begins_with(text, b"hour]") {
@@ -130,6 +154,16 @@ fn time_description(text: &[u8]) -> Directive
             used: 19,
         };
     }
+    twelve_hour_description(text)
+}
+
+/// Returns the component that the text begins with, if none above matches.
+#[tactic(auto, unfolding(crate::specs::Description::twelve_hour_description))]
+fn twelve_hour_description(text: &[u8]) -> Directive
+    ensures items { result.items.now ≡ (twelve_hour_description text.now).items }
+    ensures used { result.used ≡ (twelve_hour_description text.now).used }
+    ensures min { 1 ≤ result.used }
+{
     if begins_with(text, b"hour repr:12]") {
         return Directive {
             items: &[Item::Number(Component::Hour12, Padding::Zero)],
@@ -148,6 +182,16 @@ fn time_description(text: &[u8]) -> Directive
             used: 8,
         };
     }
+    minute_description(text)
+}
+
+/// Returns the component that the text begins with, if none above matches.
+#[tactic(auto, unfolding(crate::specs::Description::minute_description))]
+fn minute_description(text: &[u8]) -> Directive
+    ensures items { result.items.now ≡ (minute_description text.now).items }
+    ensures used { result.used ≡ (minute_description text.now).used }
+    ensures min { 1 ≤ result.used }
+{
     if begins_with(text, b"minute]") {
         return Directive {
             items: &[Item::Number(Component::Minute, Padding::Zero)],
@@ -160,10 +204,16 @@ fn time_description(text: &[u8]) -> Directive
             used: 8,
         };
     }
+    if begins_with(text, b"ordinal]") {
+        return Directive {
+            items: &[Item::Number(Component::Ordinal, Padding::Zero)],
+            used: 9,
+        };
+    }
     subsecond_description(text)
 }
 
-/// Returns the component that the text begins with, if it isn't an hour, a minute or a second.
+/// Returns the component that the text begins with, if none above matches.
 #[tactic(auto, unfolding(crate::specs::Description::subsecond_description))]
 fn subsecond_description(text: &[u8]) -> Directive
     ensures items { result.items.now ≡ (subsecond_description text.now).items }
@@ -188,6 +238,88 @@ fn subsecond_description(text: &[u8]) -> Directive
             used: 20,
         };
     }
+    weekday_description(text)
+}
+
+/// Returns the component that the text begins with, if none above matches.
+#[tactic(auto, unfolding(crate::specs::Description::weekday_description))]
+fn weekday_description(text: &[u8]) -> Directive
+    ensures items { result.items.now ≡ (weekday_description text.now).items }
+    ensures used { result.used ≡ (weekday_description text.now).used }
+    ensures min { 1 ≤ result.used }
+{
+    if begins_with(text, b"weekday]") {
+        return Directive {
+            items: &[Item::Name(Name::Weekday)],
+            used: 9,
+        };
+    }
+    if begins_with(text, b"weekday repr:short]") {
+        return Directive {
+            items: &[Item::Name(Name::ShortWeekday)],
+            used: 20,
+        };
+    }
+    weekday_number_description(text)
+}
+
+/// Returns the component that the text begins with, if none above matches.
+#[tactic(auto, unfolding(crate::specs::Description::weekday_number_description))]
+fn weekday_number_description(text: &[u8]) -> Directive
+    ensures items { result.items.now ≡ (weekday_number_description text.now).items }
+    ensures used { result.used ≡ (weekday_number_description text.now).used }
+    ensures min { 1 ≤ result.used }
+{
+    if begins_with(text, b"weekday repr:monday]") {
+        return Directive {
+            items: &[Item::Number(Component::Weekday, Padding::Zero)],
+            used: 21,
+        };
+    }
+    if begins_with(text, b"weekday repr:sunday]") {
+        return Directive {
+            items: &[Item::Number(Component::SundayWeekday, Padding::Zero)],
+            used: 21,
+        };
+    }
+    week_description(text)
+}
+
+/// Returns the component that the text begins with, if none above matches.
+#[tactic(auto, unfolding(crate::specs::Description::week_description))]
+fn week_description(text: &[u8]) -> Directive
+    ensures items { result.items.now ≡ (week_description text.now).items }
+    ensures used { result.used ≡ (week_description text.now).used }
+    ensures min { 1 ≤ result.used }
+{
+    if begins_with(text, b"week_number]") {
+        return Directive {
+            items: &[Item::Number(Component::IsoWeek, Padding::Zero)],
+            used: 13,
+        };
+    }
+    if begins_with(text, b"week_number repr:sunday]") {
+        return Directive {
+            items: &[Item::Number(Component::SundayWeek, Padding::Zero)],
+            used: 25,
+        };
+    }
+    if begins_with(text, b"week_number repr:monday]") {
+        return Directive {
+            items: &[Item::Number(Component::MondayWeek, Padding::Zero)],
+            used: 25,
+        };
+    }
+    offset_description(text)
+}
+
+/// Returns the component that the text begins with, if none above matches.
+#[tactic(auto, unfolding(crate::specs::Description::offset_description))]
+fn offset_description(text: &[u8]) -> Directive
+    ensures items { result.items.now ≡ (offset_description text.now).items }
+    ensures used { result.used ≡ (offset_description text.now).used }
+    ensures min { 1 ≤ result.used }
+{
     if begins_with(text, b"offset_hour sign:mandatory]") {
         return Directive {
             items: &[
@@ -209,58 +341,16 @@ fn subsecond_description(text: &[u8]) -> Directive
             used: 15,
         };
     }
-    week_description(text)
+    bracket_description(text)
 }
 
-/// Returns one of the other components.
-#[tactic(auto, unfolding(crate::specs::Description::week_description))]
-fn week_description(text: &[u8]) -> Directive
-    ensures items { result.items.now ≡ (week_description text.now).items }
-    ensures used { result.used ≡ (week_description text.now).used }
+/// Returns the component that the text begins with, if none above matches.
+#[tactic(auto, unfolding(crate::specs::Description::bracket_description))]
+fn bracket_description(text: &[u8]) -> Directive
+    ensures items { result.items.now ≡ (bracket_description text.now).items }
+    ensures used { result.used ≡ (bracket_description text.now).used }
     ensures min { 1 ≤ result.used }
 {
-    if begins_with(text, b"weekday]") {
-        return Directive {
-            items: &[Item::Name(Name::Weekday)],
-            used: 9,
-        };
-    }
-    if begins_with(text, b"weekday repr:short]") {
-        return Directive {
-            items: &[Item::Name(Name::ShortWeekday)],
-            used: 20,
-        };
-    }
-    if begins_with(text, b"weekday repr:monday]") {
-        return Directive {
-            items: &[Item::Number(Component::Weekday, Padding::Zero)],
-            used: 21,
-        };
-    }
-    if begins_with(text, b"weekday repr:sunday]") {
-        return Directive {
-            items: &[Item::Number(Component::SundayWeekday, Padding::Zero)],
-            used: 21,
-        };
-    }
-    if begins_with(text, b"week_number]") {
-        return Directive {
-            items: &[Item::Number(Component::IsoWeek, Padding::Zero)],
-            used: 13,
-        };
-    }
-    if begins_with(text, b"week_number repr:sunday]") {
-        return Directive {
-            items: &[Item::Number(Component::SundayWeek, Padding::Zero)],
-            used: 25,
-        };
-    }
-    if begins_with(text, b"week_number repr:monday]") {
-        return Directive {
-            items: &[Item::Number(Component::MondayWeek, Padding::Zero)],
-            used: 25,
-        };
-    }
     if begins_with(text, b"[") {
         return Directive {
             items: &[Item::Literal(b'[')],

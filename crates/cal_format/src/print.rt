@@ -154,9 +154,23 @@ fn put_filled(byte: u8, number: u32, width: u8, buffer: &mut [u8], at: usize) ->
     let mut digits = ShortText::new();
     digits.push_number(u64::from(number));
     let fill = usize::from(width).saturating_sub(digits.len());
-    let filler = [byte; 9];
-    let next = put(buffer, at, &filler[..fill])?;
+    let next = put_fill(byte, fill, buffer, at)?;
     put(buffer, next, digits.as_bytes())
+}
+
+/// Writes this byte the given number of times.
+#[inline(always)]
+#[tactic(auto, using(crate::proofs::Digits::fills))]
+fn put_fill(byte: u8, count: usize, buffer: &mut [u8], at: usize) -> Option<usize>
+    requires at { at ≤ length buffer.old }
+    requires count { count ≤ 9 }
+    ensures room { IsSome result ↔ (at + count ≤ length buffer.old) }
+    ensures text { IfSome result (λ end.
+        take end buffer.new ≡ take at buffer.old ++ replicate count byte) }
+    ensures end { IfSome result (λ end. end ≡ at + count) }
+{
+    let filler = [byte; 9];
+    put(buffer, at, &filler[..count])
 }
 
 #[tactic(auto, using(crate::proofs::Digits::short_decimals))]

@@ -24,7 +24,7 @@ impl Format {
         if !are_date_items(self.items()) {
             return None;
         }
-        print_items(self.items(), &moment_of_date(date), buffer, 0)
+        self.print(&moment_of_date(date), buffer)
     }
 
     /// Writes a time of day to the front of the buffer, and returns the number of bytes. Returns
@@ -39,7 +39,7 @@ impl Format {
         if !are_time_items(self.items()) {
             return None;
         }
-        print_items(self.items(), &moment_of_time(time), buffer, 0)
+        self.print(&moment_of_time(time), buffer)
     }
 
     /// Writes a date-time to the front of the buffer, and returns the number of bytes. Returns
@@ -55,7 +55,16 @@ impl Format {
         if !are_date_time_items(self.items()) {
             return None;
         }
-        print_items(self.items(), &moment_of_date_time(date_time), buffer, 0)
+        self.print(&moment_of_date_time(date_time), buffer)
+    }
+
+    fn print(&self, moment: &Moment, buffer: &mut [u8]) -> Option<usize>
+        ensures room { IsSome result
+            ↔ (length (text_of self.now moment.now) ≤ length buffer.old) }
+        ensures text { IfSome result (λ end. take end buffer.new ≡ text_of self.now moment.now) }
+        ensures end { IfSome result (λ end. end ≡ length (text_of self.now moment.now)) }
+    {
+        print_items(self.items(), moment, buffer, 0)
     }
 }
 
