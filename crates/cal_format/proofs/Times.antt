@@ -1,0 +1,37 @@
+-- The time of day that the numbers of a text have.
+use Rattle.std.proofs.Common.{◌≡◌, ℕ, ◌+◌, ◌*◌, ◌/◌, ◌%◌, ◌<◌, ◌≤◌, ◌^◌, List, refl, sym, ap, ◌∙◌, arith}
+use Rattle.std.specs.Prelude.{Bool, ◌==◌, ◌||◌, ◌&&◌, not, IsTrue}
+use Rattle.cal_time.specs.Time.{IsTime, hour_of, minute_of, second_of, nanosecond_of, time_of}
+use Rattle.cal_format.specs.declared.fields.Fields.{Fields}
+use Rattle.cal_format.specs.declared.item.Item.{Item}
+use Rattle.cal_format.specs.declared.item.Component.{Component}
+use Rattle.cal_format.specs.declared.item.Component.TheVariants.{Minute, Second, Millisecond, Microsecond, Nanosecond}
+use Rattle.cal_format.specs.declared.moment.Moment.{Moment}
+use Rattle.cal_format.specs.Reading.{any_shows, shows_hour, shows_subsecond, shows_time, holds_subsecond, holds_time}
+use Rattle.cal_format.proofs.Apart.{both_tests}
+
+-- ---- all parts
+pub record Parts (t h m s n : ℕ) : Type 0 where
+  pub hour : h ≤ 23
+  pub minute : m ≤ 59
+  pub second : s ≤ 59
+  pub nanosecond : n ≤ 999_999_999
+  pub time : time_of h m s n ≡ t
+
+pub parts-of : (t h m s n : ℕ) → IsTime t → h ≡ hour_of t → m ≡ minute_of t → s ≡ second_of t → n ≡ nanosecond_of t → Parts t h m s n
+parts-of t h m s n time a b c d =
+    let below = time.below_day in
+    record { hour = omega arith; minute = omega arith; second = omega arith; nanosecond = omega arith; time = omega arith }
+
+pub record TimeShown (items : List Item) (t : ℕ) : Type 0 where
+  pub hour : IsTrue (shows_hour items)
+  pub minute : IsTrue (any_shows Minute items || (minute_of t == 0))
+  pub second : IsTrue (any_shows Second items || (second_of t == 0))
+  pub subsecond : IsTrue (holds_subsecond items (nanosecond_of t))
+
+pub time-shown : (items : List Item) (t : ℕ) → IsTrue (shows_time items) → IsTrue (holds_time items t) → TimeShown items t
+time-shown items t s h =
+    let first = both_tests (shows_hour items) ((any_shows Minute items || not (any_shows Second items)) && (any_shows Second items || not (shows_subsecond items))) s in
+    let minute = both_tests (any_shows Minute items || (minute_of t == 0)) ((any_shows Second items || (second_of t == 0)) && holds_subsecond items (nanosecond_of t)) h in
+    let second = both_tests (any_shows Second items || (second_of t == 0)) (holds_subsecond items (nanosecond_of t)) minute.1 in
+    record { hour = first.0; minute = minute.0; second = second.0; subsecond = second.1 }

@@ -1,0 +1,30 @@
+use Rattle.std.proofs.Common.{◌≡◌, ◌<◌, sym, ◌∙◌, arith}
+use Rattle.cal_format.specs.declared.item.Component.TheVariants as shown
+use Rattle.cal_format.proofs.Parts.{agreed, calendar-shown, ordinal-shown, iso_week-shown, has-calendar_date, has-ordinal_date, has-iso_week_date, month-low, day-low, ordinal-low, week-low, iso_year-shown}
+use Rattle.cal_format.proofs.date_parts.date_of.Goals as goal
+
+pub returns-then-shows_calendar_date-clause-every : goal.returns-then-shows_calendar_date-clause-every
+returns-then-shows_calendar_date-clause-every c v date held agrees h =
+    let items = c.args.items.now in
+    let s = calendar-shown items (sym c.shows_calendar_date.ensures ∙ c.if-shows_calendar_date.true) in
+    let year = c.year_of.ensures v held agrees s.year in
+    let month = agreed items c.args.fields.now v shown.Month c.get-month.result agrees s.month c.get-month.ensures in
+    let day = agreed items c.args.fields.now v shown.Day c.get-day.result agrees s.day c.get-day.ensures in
+    c.calendar_date.ensures.every v.date date year.1 (omega (arith, month, month-low v)) (omega (arith, day, day-low items v held s.day)) (has-calendar_date v.date _ _ _ year.0 month day)
+
+pub returns-then-shows_ordinal_date-clause-every : goal.returns-then-shows_ordinal_date-clause-every
+returns-then-shows_ordinal_date-clause-every c v date held agrees h =
+    let items = c.args.items.now in
+    let s = ordinal-shown items (sym c.shows_ordinal_date.ensures ∙ c.if-shows_ordinal_date.true) in
+    let year = c.year_of-then-shows_ordinal_date.ensures v held agrees s.year in
+    let ordinal = agreed items c.args.fields.now v shown.Ordinal c.get-ordinal.result agrees s.ordinal c.get-ordinal.ensures in
+    c.ordinal_date.ensures.every v.date date year.1 (omega (arith, ordinal, ordinal-low items v held s.ordinal)) (has-ordinal_date v.date _ _ year.0 ordinal)
+
+pub returns-clause-every : goal.returns-clause-every
+returns-clause-every c v date held agrees h =
+    let items = c.args.items.now in
+    let s = iso_week-shown items h (sym c.shows_calendar_date.ensures ∙ c.if-shows_calendar_date.false) (sym c.shows_ordinal_date.ensures ∙ c.if-shows_ordinal_date.false) in
+    let year = iso_year-shown items v c.get-iso_year.result held s.year (agreed items c.args.fields.now v shown.IsoYear c.get-iso_year.result agrees s.year c.get-iso_year.ensures) in
+    let week = agreed items c.args.fields.now v shown.IsoWeek c.get-week.result agrees s.week c.get-week.ensures in
+    let weekday = c.weekday_of.ensures.value v date agrees s.weekday in
+    c.iso_week_date.ensures.every v.date date year.1 (omega (arith, week, week-low items v held s.week)) (has-iso_week_date v.date _ _ _ year.0 week weekday)

@@ -1,0 +1,13 @@
+use Rattle.std.proofs.Common.{sym, ap, ◌∙◌}
+use Rattle.std.specs.Prelude.{IsTrue}
+use Rattle.cal_format.specs.Reading.{are_date_items}
+use Rattle.cal_format.proofs.format.Format.print_date.Goals as goal
+
+pub returns-clause-room : goal.returns-clause-room
+returns-clause-room c =
+    let shows : IsTrue (are_date_items c.args.self.now) = sym (c.are_date_items.ensures ∙ ap are_date_items c.items.ensures.items) ∙ c.if-not-are_date_items.false in
+    let room = rw c.moment_of_date.ensures at c.print.ensures.room in
+    ((λ h. (shows, room.0 h)), (λ h. room.1 h.1))
+
+pub returns-clause-end : goal.returns-clause-end
+returns-clause-end c = rw c.moment_of_date.ensures at c.print.ensures.end

@@ -1,0 +1,21 @@
+use Rattle.std.proofs.Common.{◌≡◌, ap, ◌∙◌}
+use Rattle.std.specs.Prelude.{Some}
+use Rattle.cal_time.specs.Time.{minute_of, second_of}
+use Rattle.cal_format.specs.declared.item.Component.TheVariants as shown
+use Rattle.cal_format.specs.Reading.{any_shows}
+use Rattle.cal_format.specs.Scanning.{number_at}
+use Rattle.cal_format.proofs.Apart.{agrees-whole}
+use Rattle.cal_format.proofs.Times.{time-shown, parts-of}
+use Rattle.cal_format.proofs.time_parts.time_of.Goals as goal
+
+pub returns-clause-every : goal.returns-clause-every
+returns-clause-every c v time agrees shows holds =
+    let items = c.args.items.now in
+    let fields = c.args.fields.now in
+    let s = time-shown items v.time shows holds in
+    let hour = c.hour_of.ensures v time agrees s.hour in
+    let minute = c.get-minute.ensures ∙ agrees-whole (any_shows shown.Minute items) (number_at shown.Minute fields) (minute_of v.time) s.minute (agrees shown.Minute) in
+    let second = c.get-second.ensures ∙ agrees-whole (any_shows shown.Second items) (number_at shown.Second fields) (second_of v.time) s.second (agrees shown.Second) in
+    let nanosecond = c.nanosecond_of.ensures v agrees s.subsecond in
+    let parts = parts-of v.time _ _ _ _ time hour minute second nanosecond in
+    c.time_with.ensures.value parts.hour parts.minute parts.second parts.nanosecond ∙ ap (λ t. Some t) parts.time

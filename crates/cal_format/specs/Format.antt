@@ -1,0 +1,42 @@
+-- How a text spells a format, in one of two syntaxes.
+use Rattle.std.specs.Prelude.{◌≡◌, ◌≢◌, ℕ, ◌+◌, ◌<◌, ◌==◌, List, [], ◌∷◌, ◌++◌, length, drop, get_or, nat_lt, if◌then◌else◌}
+use Rattle.cal_format.specs.declared.item.Item.{Item}
+use Rattle.cal_format.specs.declared.item.Item.TheVariants as item
+use Rattle.cal_format.specs.declared.item.Syntax.{Syntax}
+use Rattle.cal_format.specs.declared.item.Syntax.TheVariants.{Percent, Brackets}
+use Rattle.cal_format.specs.declared.format.FormatError.{FormatError}
+use Rattle.cal_format.specs.declared.format.FormatError.TheVariants.{UnknownItem, TooLong}
+use Rattle.cal_format.specs.Directive.{Front, front_with, directive_of}
+use Rattle.cal_format.specs.Description.{year_description}
+
+-- A percent sign or an opening bracket comes before the spelling of items. Any other byte stands
+-- for itself.
+abbrev pub escape : Syntax → ℕ
+escape Percent = 37
+escape Brackets = 91
+
+-- The items of a text that begins with this byte, by the bytes after it.
+abbrev pub spelled : Syntax → List ℕ → Front
+spelled Percent rest = directive_of (get_or rest 0 0) (get_or rest 1 0) (get_or rest 2 0)
+spelled Brackets rest = year_description rest
+
+-- They must lie within the text.
+abbrev pub within : List ℕ → Front → Front
+within text f = if nat_lt (length text) f.used then front_with [] 1 else f
+
+-- The items at the front of a text.
+unfoldable pub front : Syntax → List ℕ → Front
+front s [] = front_with [] 0
+front s (x ∷ rest) = if x == escape s then within (x ∷ rest) (spelled s rest) else front_with (item.Literal x ∷ []) 1
+
+-- A text spells items, and then comes the rest.
+pub data Spells (s : Syntax) : List ℕ → List Item → List ℕ → Type 0 where
+  nothing : (text : List ℕ) → Spells s text [] text
+  more : (text : List ℕ) (others : List Item) (rest : List ℕ) → (front s text).items ≢ [] → Spells s (drop (front s text).used text) others rest → Spells s text ((front s text).items ++ others) rest
+
+-- Why a text spells no format. At this position, after some items, come bytes that spell no item;
+-- or there are too many items.
+abbrev pub IsFaultOf : Syntax → ℕ → ℕ → List ℕ → FormatError → Type 0
+IsFaultOf s at had text (UnknownItem p) =
+    (items : List Item) × (rest : List ℕ) × Spells s text items rest × (rest ≢ []) × ((front s rest).items ≡ []) × (p + length rest ≡ at + length text)
+IsFaultOf s at had text TooLong = (items : List Item) × (rest : List ℕ) × Spells s text items rest × (64 < had + length items)

@@ -1,0 +1,58 @@
+-- What parsing reads of a text, item by item.
+use Rattle.std.specs.Prelude.{◌≡◌, ◌≢◌, ◌⊎◌, ℕ, ◌+◌, ◌-◌, ◌*◌, ◌%◌, ◌<◌, ◌≤◌, ◌^◌, List, [], ◌∷◌, ◌++◌, length, fold, get_or, replicate, if◌then◌else◌}
+use Rattle.cal_format.specs.declared.fields.Fields.{Fields}
+use Rattle.cal_format.specs.declared.item.Item.{Item}
+use Rattle.cal_format.specs.declared.item.Item.TheVariants as item
+use Rattle.cal_format.specs.declared.item.Padding.TheVariants as padding
+use Rattle.cal_format.specs.declared.item.Component.{Component}
+use Rattle.cal_format.specs.declared.moment.Moment.{Moment}
+use Rattle.cal_format.specs.Moment.{number, width}
+use Rattle.cal_format.specs.Text.{sign}
+use Rattle.cal_format.specs.Reading.{index, any_shows}
+
+-- The number of a component.
+abbrev pub number_at : Component → Fields → ℕ
+number_at c f = get_or f.numbers (index c) 0
+
+-- A digit after a number. A space counts as 0.
+abbrev pub step : ℕ → ℕ → ℕ
+step n b = (n * 10 % 2 ^ 32 + b % 16) % 2 ^ 32
+
+-- A point and the digits of a fraction have this many nanoseconds: the digits go on with zeros.
+abbrev pub fraction_number : List ℕ → ℕ
+fraction_number [] = 0
+fraction_number (x ∷ digits) = fold step (fold step 0 digits) (replicate (9 - length digits) 48)
+
+-- The text doesn't begin with a digit.
+abbrev pub BeginsApart : List ℕ → Type 0
+BeginsApart [] = Unit {0}
+BeginsApart (x ∷ xs) = (x < 48) ⊎ (57 < x)
+
+-- The text doesn't begin with a point.
+abbrev pub BeginsPastPoint : List ℕ → Type 0
+BeginsPastPoint [] = Unit {0}
+BeginsPastPoint (x ∷ xs) = x ≢ 46
+
+-- What comes after the item can't continue it.
+abbrev pub IsEnded : Item → List ℕ → Type 0
+IsEnded (item.Number c padding.None) after = BeginsApart after
+IsEnded item.Fraction after = BeginsApart after × BeginsPastPoint after
+IsEnded _ after = Unit {0}
+
+abbrev pub AreDigits : List ℕ → Type 0
+AreDigits [] = Unit {0}
+AreDigits (x ∷ xs) = (48 ≤ x) × (x ≤ 57) × AreDigits xs
+
+-- An item holds a moment if its number has at most the digits of the item, and no sign.
+abbrev pub IsHeld : Moment → Item → Type 0
+IsHeld v (item.Number c p) = (number c v < 10 ^ width c) × (sign c v ≡ [])
+IsHeld v _ = Unit {0}
+
+abbrev pub AreHeld : Moment → List Item → Type 0
+AreHeld v [] = Unit {0}
+AreHeld v (i ∷ items) = IsHeld v i × AreHeld v items
+
+-- The fields have the numbers of a moment, for each component that the format shows. The others
+-- are 0.
+abbrev pub Agrees : List Item → Fields → Moment → Type 0
+Agrees items f v = (c : Component) → number_at c f ≡ (if any_shows c items then number c v else 0)

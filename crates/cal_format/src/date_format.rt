@@ -1,0 +1,77 @@
+//! Dates from texts of a format.
+ghost use Rattle.std.specs.Prelude.{◌≡◌, ℕ, ◌↔◌, Some, IsTrue, IsSome, IfSome};
+ghost use Rattle.cal_time.specs.Date.{IsDate};
+ghost use Rattle.cal_format.specs.Moment.{moment_of_date};
+ghost use Rattle.cal_format.specs.Text.{text_of};
+ghost use Rattle.cal_format.specs.Reading.{are_apart, are_date_items, shows_date};
+ghost use Rattle.cal_format.specs.Scanning.{AreHeld};
+
+use crate::date_parts::date_of;
+use crate::determines::{are_apart, shows_date};
+use crate::fields::{Fields, set_items};
+use crate::format::Format;
+use crate::held::{are_held, is_text_of};
+use crate::value::{are_date_items, moment_of_date};
+use cal_time::Date;
+use std::marker::Model;
+
+/// A format whose texts determine a date. Contracts see the list of its items.
+#[derive(Drop)]
+pub struct DateFormat {
+    format: Format,
+}
+
+impl Model for DateFormat {
+    ghost use Rattle.std.specs.Prelude.{List, IsTrue};
+    ghost use Rattle.cal_format.specs.declared.item.Item.{Item};
+    ghost use Rattle.cal_format.specs.Reading.{are_apart, are_date_items, shows_date};
+
+    ghost Value = { List Item };
+
+    ghost view = { λ f. f.format };
+
+    ghost invariant = { λ f. IsTrue (are_apart f.format) × IsTrue (are_date_items f.format)
+        × IsTrue (shows_date f.format) };
+}
+
+impl Format {
+    /// Returns the format for dates, or `None` if its texts don't determine a date.
+    pub fn for_dates(self) -> Option<DateFormat>
+        ensures determines { IsSome result ↔ IsTrue (are_apart self) × IsTrue (are_date_items self)
+            × IsTrue (shows_date self) }
+        ensures same { IfSome result (λ format. format ≡ self) }
+    {
+        if are_apart(self.items()) && are_date_items(self.items()) && shows_date(self.items()) {
+            Some(DateFormat { format: self })
+        } else {
+            None
+        }
+    }
+}
+
+impl DateFormat {
+    /// Parses a text. Returns the date that the format holds and prints as this text, or `None` if
+    /// there is no such date. The format holds a date if each year that it shows is from 0 to 9999.
+    pub fn parse(&self, text: &[u8]) -> Option<Date>
+        ensures every { (n : ℕ) → IsDate n → AreHeld (moment_of_date n) self.now
+            → text.now ≡ text_of self.now (moment_of_date n)
+            → result ≡ Some n }
+        ensures value { IfSome result (λ n. IsDate n × AreHeld (moment_of_date n) self.now
+            × (text.now ≡ text_of self.now (moment_of_date n))) }
+    {
+        let items = self.format.items();
+        let mut fields = Fields::new();
+        if !set_items(items, text, &mut fields) {
+            return None;
+        }
+        let date = date_of(items, &fields)?;
+        let moment = moment_of_date(date);
+        if !are_held(items, &moment) {
+            return None;
+        }
+        if !is_text_of(items, &moment, text) {
+            return None;
+        }
+        Some(date)
+    }
+}

@@ -1,0 +1,129 @@
+//! Dates from the numbers of a text.
+ghost use Rattle.std.specs.Prelude.{◌≡◌, ℕ, ◌+◌, ◌*◌, ◌<◌, ◌≤◌, Some, IsTrue, IfSome, pos};
+ghost use Rattle.cal_time.specs.Date.{IsDate, HasCalendarDate, HasOrdinalDate, year_at, weekday_at};
+ghost use Rattle.cal_time.specs.IsoWeekDate.{HasIsoWeekDate};
+ghost use Rattle.cal_format.specs.declared.moment.Moment.{Moment};
+ghost use Rattle.cal_format.specs.Reading.{shows_year, shows_weekday, shows_date};
+ghost use Rattle.cal_format.specs.Scanning.{AreHeld, Agrees};
+
+use crate::determines::{any_shows, shows_calendar_date, shows_ordinal_date};
+use crate::fields::Fields;
+use crate::item::{Component, Item};
+use cal_time::{Date, Month, Weekday};
+
+/// Returns the date with the numbers of the fields.
+pub(crate) fn date_of(items: &[Item], fields: &Fields) -> Option<Date>
+    ensures every { (v : Moment) → IsDate v.date → AreHeld v items.now → Agrees items.now fields.now v
+        → IsTrue (shows_date items.now)
+        → result ≡ Some v.date }
+    ensures in_range { IfSome result IsDate }
+{
+    if shows_calendar_date(items) {
+        let month = fields.get(Component::Month);
+        let day = fields.get(Component::Day);
+        return calendar_date(year_of(items, fields), month, day);
+    }
+    if shows_ordinal_date(items) {
+        let ordinal = fields.get(Component::Ordinal);
+        return ordinal_date(year_of(items, fields), ordinal);
+    }
+    let iso_year = fields.get(Component::IsoYear);
+    let week = fields.get(Component::IsoWeek);
+    iso_week_date(iso_year, week, weekday_of(items, fields))
+}
+
+/// Returns the year.
+fn year_of(items: &[Item], fields: &Fields) -> u32
+    ensures { (v : Moment) → AreHeld v items.now → Agrees items.now fields.now v
+        → IsTrue (shows_year items.now)
+        → (pos result ≡ year_at v.date) × (result < 10000) }
+{
+    if any_shows(items, Component::Year) {
+        return fields.get(Component::Year);
+    }
+    let century = fields.get(Component::Century);
+    let year = fields.get(Component::YearOfCentury);
+    year_of_century(century, year)
+}
+
+fn year_of_century(century: u32, year: u32) -> u32
+    ensures { century < 100 → year < 100 → result ≡ century * 100 + year }
+{
+    century.wrapping_mul(100).wrapping_add(year)
+}
+
+/// Returns the number of days since Monday.
+fn weekday_of(items: &[Item], fields: &Fields) -> u8
+    ensures value { (v : Moment) → IsDate v.date → Agrees items.now fields.now v
+        → IsTrue (shows_weekday items.now)
+        → result ≡ weekday_at v.date }
+    ensures range { result < 7 }
+{
+    if any_shows(items, Component::Weekday) {
+        let number = fields.get(Component::Weekday);
+        return ((number % 8 + 6) % 7) as u8;
+    }
+    if any_shows(items, Component::DaysFromSunday) {
+        let number = fields.get(Component::DaysFromSunday);
+        return ((number % 7 + 6) % 7) as u8;
+    }
+    let number = fields.get(Component::SundayWeekday);
+    ((number % 8 + 5) % 7) as u8
+}
+
+fn calendar_date(year: u32, month: u32, day: u32) -> Option<Date>
+    ensures every { (n : ℕ) → IsDate n → year < 10000 → month < 100 → day < 100
+        → HasCalendarDate (pos year) month day n
+        → result ≡ Some n }
+    ensures in_range { IfSome result IsDate }
+{
+    if year > 9999 || month > 99 || day > 99 {
+        return None;
+    }
+    month_date(year as i32, month as u8, day as u8)
+}
+
+/// Returns the date of a year, a number of a month and a day of the month.
+fn month_date(year: i32, month: u8, day: u8) -> Option<Date>
+    ensures every { (n : ℕ) → IsDate n → HasCalendarDate year month day n → result ≡ Some n }
+    ensures in_range { IfSome result IsDate }
+{
+    match Month::try_from(month) {
+        Ok(month) => match Date::from_calendar_date(year, month, day) {
+            Ok(date) => Some(date),
+            Err(_) => None,
+        },
+        Err(_) => None,
+    }
+}
+
+fn ordinal_date(year: u32, ordinal: u32) -> Option<Date>
+    ensures every { (n : ℕ) → IsDate n → year < 10000 → ordinal < 1000
+        → HasOrdinalDate (pos year) ordinal n
+        → result ≡ Some n }
+    ensures in_range { IfSome result IsDate }
+{
+    if year > 9999 || ordinal > 999 {
+        return None;
+    }
+    match Date::from_ordinal_date(year as i32, ordinal as u16) {
+        Ok(date) => Some(date),
+        Err(_) => None,
+    }
+}
+
+fn iso_week_date(year: u32, week: u32, weekday: u8) -> Option<Date>
+    requires { weekday < 7 }
+    ensures every { (n : ℕ) → IsDate n → year < 10000 → week < 100
+        → HasIsoWeekDate (pos year) week weekday n
+        → result ≡ Some n }
+    ensures in_range { IfSome result IsDate }
+{
+    if year > 9999 || week > 99 {
+        return None;
+    }
+    match Date::from_iso_week_date(year as i32, week as u8, Weekday::Monday.nth_next(weekday)) {
+        Ok(date) => Some(date),
+        Err(_) => None,
+    }
+}

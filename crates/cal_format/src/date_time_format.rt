@@ -1,0 +1,92 @@
+//! Date-times from texts of a format.
+ghost use Rattle.std.specs.Prelude.{◌≡◌, ℤ, ◌↔◌, Some, IsTrue, IsSome, IfSome};
+ghost use Rattle.cal_datetime.specs.DateTime.{IsDateTime, time_at};
+ghost use Rattle.cal_format.specs.Moment.{moment_of_date_time};
+ghost use Rattle.cal_format.specs.Text.{text_of};
+ghost use Rattle.cal_format.specs.Reading.{are_apart, are_date_time_items, shows_date, shows_time, holds_time};
+ghost use Rattle.cal_format.specs.Scanning.{AreHeld};
+
+use crate::date_parts::date_of;
+use crate::determines::{are_apart, holds_time, shows_date, shows_time};
+use crate::fields::{Fields, set_items};
+use crate::format::Format;
+use crate::held::{are_held, is_text_of};
+use crate::time_parts::time_of;
+use crate::value::{are_date_time_items, moment_of_date_time};
+use cal_datetime::PlainDateTime;
+use std::marker::Model;
+
+/// A format whose texts determine a date and a time of day. Contracts see the list of its items.
+#[derive(Drop)]
+pub struct DateTimeFormat {
+    format: Format,
+}
+
+impl Model for DateTimeFormat {
+    ghost use Rattle.std.specs.Prelude.{List, IsTrue};
+    ghost use Rattle.cal_format.specs.declared.item.Item.{Item};
+    ghost use Rattle.cal_format.specs.Reading.{are_apart, are_date_time_items, shows_date, shows_time};
+
+    ghost Value = { List Item };
+
+    ghost view = { λ f. f.format };
+
+    ghost invariant = { λ f. IsTrue (are_apart f.format) × IsTrue (are_date_time_items f.format)
+        × IsTrue (shows_date f.format)
+        × IsTrue (shows_time f.format) };
+}
+
+impl Format {
+    /// Returns the format for date-times, or `None` if its texts don't determine a date and a time of
+    /// day.
+    pub fn for_date_times(self) -> Option<DateTimeFormat>
+        ensures determines { IsSome result ↔ IsTrue (are_apart self) × IsTrue (are_date_time_items self)
+            × IsTrue (shows_date self) × IsTrue (shows_time self) }
+        ensures same { IfSome result (λ format. format ≡ self) }
+    {
+        if are_apart(self.items())
+            && are_date_time_items(self.items())
+            && shows_date(self.items())
+            && shows_time(self.items())
+        {
+            Some(DateTimeFormat { format: self })
+        } else {
+            None
+        }
+    }
+}
+
+impl DateTimeFormat {
+    /// Parses a text. Returns the date-time that the format holds and prints as this text, or `None`
+    /// if there is no such date-time. The format holds a date-time if each year that it shows is
+    /// from 0 to 9999, and each part of the time of day that it doesn't show is 0.
+    pub fn parse(&self, text: &[u8]) -> Option<PlainDateTime>
+        ensures every { (z : ℤ) → IsDateTime z → AreHeld (moment_of_date_time z) self.now
+            → IsTrue (holds_time self.now (time_at z))
+            → text.now ≡ text_of self.now (moment_of_date_time z)
+            → result ≡ Some z }
+        ensures value { IfSome result (λ z. IsDateTime z × AreHeld (moment_of_date_time z) self.now
+            × IsTrue (holds_time self.now (time_at z))
+            × (text.now ≡ text_of self.now (moment_of_date_time z))) }
+    {
+        let items = self.format.items();
+        let mut fields = Fields::new();
+        if !set_items(items, text, &mut fields) {
+            return None;
+        }
+        let date = date_of(items, &fields)?;
+        let time = time_of(items, &fields)?;
+        let date_time = PlainDateTime::new(date, time);
+        let moment = moment_of_date_time(date_time);
+        if !holds_time(items, time) {
+            return None;
+        }
+        if !are_held(items, &moment) {
+            return None;
+        }
+        if !is_text_of(items, &moment, text) {
+            return None;
+        }
+        Some(date_time)
+    }
+}

@@ -1,0 +1,169 @@
+//! What a format determines.
+ghost use Rattle.std.specs.Prelude.{◌≡◌};
+ghost use Rattle.cal_format.specs.Reading.{any_shows, is_apart, begins_apart, is_past_point, begins_past_point, ends_before, are_apart, shows_year, shows_weekday, shows_calendar_date, shows_ordinal_date, shows_iso_week_date, shows_date, shows_hour, shows_subsecond, shows_time, holds_subsecond, holds_time};
+
+use crate::item::{Component, Item, Padding};
+use cal_time::Time;
+
+/// Returns `true` if an item shows the component.
+pub(crate) fn any_shows(items: &[Item], component: Component) -> bool
+    ensures { result ≡ any_shows component items.now }
+{
+    match items {
+        [] => false,
+        [item, others @ ..] => item.shows(component) || any_shows(others, component),
+    }
+}
+
+/// Returns `true` if each item of a width that varies comes before an item that can't continue it.
+pub(crate) fn are_apart(items: &[Item]) -> bool
+    ensures { result ≡ are_apart items.now }
+{
+    match items {
+        [] => true,
+        [item, others @ ..] => item.ends_before(others) && are_apart(others),
+    }
+}
+
+/// Returns `true` if the text of the items doesn't begin with a digit.
+fn begins_apart(items: &[Item]) -> bool
+    ensures { result ≡ begins_apart items.now }
+{
+    match items {
+        [] => true,
+        [item, ..] => item.is_apart(),
+    }
+}
+
+/// Returns `true` if the items don't begin with a point.
+fn begins_past_point(items: &[Item]) -> bool
+    ensures { result ≡ begins_past_point items.now }
+{
+    match items {
+        [] => true,
+        [item, ..] => item.is_past_point(),
+    }
+}
+
+impl Item {
+    fn ends_before(self, others: &[Item]) -> bool
+        ensures { result ≡ ends_before self others.now }
+    {
+        match self {
+            Item::Number(_, Padding::None) => begins_apart(others),
+            Item::Fraction => begins_apart(others) && begins_past_point(others),
+            _ => true,
+        }
+    }
+
+    fn is_apart(self) -> bool
+        ensures { result ≡ is_apart self }
+    {
+        match self {
+            Item::Literal(byte) => byte < 48 || byte > 57,
+            Item::Name(_) => true,
+            Item::OffsetSign => true,
+            _ => false,
+        }
+    }
+
+    fn is_past_point(self) -> bool
+        ensures { result ≡ is_past_point self }
+    {
+        match self {
+            Item::Literal(byte) => byte != 46,
+            _ => true,
+        }
+    }
+}
+
+/// Returns `true` if the items determine a year.
+fn shows_year(items: &[Item]) -> bool
+    ensures { result ≡ shows_year items.now }
+{
+    any_shows(items, Component::Year)
+        || (any_shows(items, Component::Century) && any_shows(items, Component::YearOfCentury))
+}
+
+fn shows_weekday(items: &[Item]) -> bool
+    ensures { result ≡ shows_weekday items.now }
+{
+    any_shows(items, Component::Weekday)
+        || any_shows(items, Component::DaysFromSunday)
+        || any_shows(items, Component::SundayWeekday)
+}
+
+pub(crate) fn shows_calendar_date(items: &[Item]) -> bool
+    ensures { result ≡ shows_calendar_date items.now }
+{
+    shows_year(items) && any_shows(items, Component::Month) && any_shows(items, Component::Day)
+}
+
+pub(crate) fn shows_ordinal_date(items: &[Item]) -> bool
+    ensures { result ≡ shows_ordinal_date items.now }
+{
+    shows_year(items) && any_shows(items, Component::Ordinal)
+}
+
+fn shows_iso_week_date(items: &[Item]) -> bool
+    ensures { result ≡ shows_iso_week_date items.now }
+{
+    any_shows(items, Component::IsoYear)
+        && any_shows(items, Component::IsoWeek)
+        && shows_weekday(items)
+}
+
+/// Returns `true` if the items determine a date.
+pub(crate) fn shows_date(items: &[Item]) -> bool
+    ensures { result ≡ shows_date items.now }
+{
+    shows_calendar_date(items) || shows_ordinal_date(items) || shows_iso_week_date(items)
+}
+
+fn shows_hour(items: &[Item]) -> bool
+    ensures { result ≡ shows_hour items.now }
+{
+    any_shows(items, Component::Hour)
+        || (any_shows(items, Component::Hour12) && any_shows(items, Component::Period))
+}
+
+fn shows_subsecond(items: &[Item]) -> bool
+    ensures { result ≡ shows_subsecond items.now }
+{
+    any_shows(items, Component::Nanosecond)
+        || any_shows(items, Component::Microsecond)
+        || any_shows(items, Component::Millisecond)
+}
+
+/// Returns `true` if the items determine a time of day by its coarsest parts.
+pub(crate) fn shows_time(items: &[Item]) -> bool
+    ensures { result ≡ shows_time items.now }
+{
+    let minute = any_shows(items, Component::Minute);
+    let second = any_shows(items, Component::Second);
+    shows_hour(items) && (minute || !second) && (second || !shows_subsecond(items))
+}
+
+/// Returns `true` if each part of the time of day that the items don't show is 0.
+pub(crate) fn holds_time(items: &[Item], time: Time) -> bool
+    ensures { result ≡ holds_time items.now time }
+{
+    (any_shows(items, Component::Minute) || time.minute() == 0)
+        && (any_shows(items, Component::Second) || time.second() == 0)
+        && holds_subsecond(items, time.nanosecond())
+}
+
+fn holds_subsecond(items: &[Item], nanosecond: u32) -> bool
+    ensures { result ≡ holds_subsecond items.now nanosecond }
+{
+    if any_shows(items, Component::Nanosecond) {
+        return true;
+    }
+    if any_shows(items, Component::Microsecond) {
+        return nanosecond % 1_000 == 0;
+    }
+    if any_shows(items, Component::Millisecond) {
+        return nanosecond % 1_000_000 == 0;
+    }
+    nanosecond == 0
+}

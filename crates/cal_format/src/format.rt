@@ -1,0 +1,205 @@
+//! Formats.
+ghost use Rattle.std.specs.Prelude.{◌≡◌, ℕ, ◌+◌, ◌<◌, ◌≤◌, ◌^◌, ◌++◌, ◌∷◌, List, [], Ok, ◌⊎◌, IfOk, OnOk, IfErr, length, get_or};
+ghost use Rattle.cal_format.specs.declared.item.Item.{Item};
+ghost use Rattle.cal_format.specs.declared.item.Syntax.TheVariants.{Percent, Brackets};
+ghost use Rattle.cal_format.specs.declared.format.FormatError.TheVariants.{UnknownItem, TooLong};
+ghost use Rattle.cal_format.specs.Format.{Spells, IsFaultOf, escape, spelled, front};
+
+use crate::description::year_description;
+use crate::directive::{Directive, directive_of};
+use crate::item::{Item, Syntax};
+use std::marker::Model;
+
+/// The maximum number of items.
+const CAPACITY: usize = 64;
+
+/// The reason why a text isn't a format.
+#[derive(Clone, Copy, Debug, PartialEq, Eq)]
+pub enum FormatError {
+    /// No item begins at this position.
+    UnknownItem(usize),
+    /// The format has more than 64 items.
+    TooLong,
+}
+
+/// A format of texts: a list of items. Contracts see this list.
+#[derive(Drop)]
+pub struct Format {
+    items: [Item; CAPACITY],
+    count: usize,
+}
+
+impl Model for Format {
+    ghost use Rattle.std.specs.Prelude.{◌≤◌, List, take};
+    ghost use Rattle.cal_format.specs.declared.item.Item.{Item};
+
+    ghost Value = { List Item };
+
+    ghost view = { λ format. take format.count format.items };
+
+    ghost invariant = { λ format. format.count ≤ 64 };
+}
+
+impl Format {
+    /// Creates a format from a text in the syntax of `strftime`, such as `%Y-%m-%d`.
+    pub fn new(text: &str) -> Result<Format, FormatError>
+        ensures every { (items : List Item) → Spells Percent text.now items [] → length items ≤ 64
+            → result ≡ Ok items }
+        ensures value { IfOk result (λ items. Spells Percent text.now items [] × (length items ≤ 64)) }
+        ensures error { IfErr result (IsFaultOf Percent 0 0 text.now) }
+    {
+        Format::from_bytes(text.as_bytes(), Syntax::Percent)
+    }
+
+    /// Creates a format from a text in the syntax of `time`, such as `[year]-[month]-[day]`.
+    pub fn from_description(text: &str) -> Result<Format, FormatError>
+        ensures every { (items : List Item) → Spells Brackets text.now items [] → length items ≤ 64
+            → result ≡ Ok items }
+        ensures value { IfOk result (λ items. Spells Brackets text.now items [] × (length items ≤ 64)) }
+        ensures error { IfErr result (IsFaultOf Brackets 0 0 text.now) }
+    {
+        Format::from_bytes(text.as_bytes(), Syntax::Brackets)
+    }
+
+    fn from_bytes(text: &[u8], syntax: Syntax) -> Result<Format, FormatError>
+        ensures every { (items : List Item) → Spells syntax text.now items [] → length items ≤ 64
+            → result ≡ Ok items }
+        ensures value { IfOk result (λ items. Spells syntax text.now items [] × (length items ≤ 64)) }
+        ensures error { IfErr result (IsFaultOf syntax 0 0 text.now) }
+    {
+        let mut format = Format {
+            items: [Item::OffsetSign; CAPACITY],
+            count: 0,
+        };
+        match format.add(text, 0, syntax) {
+            Ok(()) => Ok(format),
+            Err(error) => Err(error),
+        }
+    }
+
+    /// Returns the items.
+    pub(crate) fn items(&self) -> &[Item]
+        ensures items { result.now ≡ self.now }
+        ensures few { length result.now ≤ 64 }
+    {
+        &self.items[..self.count]
+    }
+
+    /// Appends the items of a text, which begins at this position of the whole text.
+    fn add(&mut self, text: &[u8], at: usize, syntax: Syntax) -> Result<(), FormatError>
+        requires position { at + length text.now < 2 ^ 63 }
+        requires few { length self.old ≤ 64 }
+        ensures every { (items : List Item) → Spells syntax text.now items []
+            → length self.old + length items ≤ 64
+            → (result ≡ Ok tt) × (self.new ≡ self.old ++ items) }
+        ensures value { OnOk result ((items : List Item) × Spells syntax text.now items []
+            × (self.new ≡ self.old ++ items)) }
+        ensures error { IfErr result (IsFaultOf syntax at (length self.old) text.now) }
+        ensures few { length self.new ≤ 64 }
+    {
+        if text.is_empty() {
+            return Ok(());
+        }
+        match self.push_front(text, at, syntax) {
+            Ok(used) => self.add(&text[used..], at + used, syntax),
+            Err(error) => Err(error),
+        }
+    }
+
+    /// Appends the items at the front of a text, and returns the number of bytes that spell them.
+    #[tactic(auto, using(crate::proofs::Spellings::fronts))]
+    fn push_front(&mut self, text: &[u8], at: usize, syntax: Syntax) -> Result<usize, FormatError>
+        requires some { 1 ≤ length text.now }
+        requires few { length self.old ≤ 64 }
+        ensures used { IfOk result (λ used. used ≡ (front syntax text.now).used) }
+        ensures fits { IfOk result (λ used. (1 ≤ used) × (used ≤ length text.now)) }
+        ensures some { IfOk result (λ _. 1 ≤ length (front syntax text.now).items) }
+        ensures error { IfErr result (λ e.
+            ((e ≡ UnknownItem at) × (length (front syntax text.now).items ≡ 0))
+            ⊎ ((e ≡ TooLong) × (64 < length self.old + length (front syntax text.now).items))) }
+        ensures appended { IfOk result (λ _. self.new ≡ self.old ++ (front syntax text.now).items) }
+        ensures length { IfOk result (λ _.
+            length self.new ≡ length self.old + length (front syntax text.now).items) }
+        ensures few { length self.new ≤ 64 }
+    {
+        if text[0] != syntax.escape() {
+            if self.room() == 0 {
+                return Err(FormatError::TooLong);
+            }
+            self.push(Item::Literal(text[0]));
+            return Ok(1);
+        }
+        let directive = front_directive(text, syntax);
+        if directive.items.len() == 0 {
+            return Err(FormatError::UnknownItem(at));
+        }
+        if self.room() < directive.items.len() {
+            return Err(FormatError::TooLong);
+        }
+        self.extend(directive.items);
+        Ok(directive.used)
+    }
+
+    fn extend(&mut self, items: &[Item])
+        requires { length self.old + length items.now ≤ 64 }
+        ensures appended { self.new ≡ self.old ++ items.now }
+        ensures length { length self.new ≡ length self.old + length items.now }
+    {
+        let end = self.count + items.len();
+        self.items[self.count..end].copy_from_slice(items);
+        self.count = end;
+    }
+
+    fn push(&mut self, item: Item)
+        requires { length self.old < 64 }
+        ensures appended { self.new ≡ self.old ++ item ∷ [] }
+        ensures length { length self.new ≡ length self.old + 1 }
+    {
+        self.items[self.count] = item;
+        self.count += 1;
+    }
+
+    fn room(&self) -> usize
+        ensures { result + length self.now ≡ 64 }
+    {
+        CAPACITY - self.items().len()
+    }
+}
+
+/// Returns the items at the front of a text that begins with the escape byte.
+fn front_directive(text: &[u8], syntax: Syntax) -> Directive
+    requires some { 1 ≤ length text.now }
+    requires escape { get_or text.now 0 0 ≡ escape syntax }
+    ensures items { result.items.now ≡ (front syntax text.now).items }
+    ensures used { result.used ≡ (front syntax text.now).used }
+    ensures fits { result.used ≤ length text.now }
+    ensures min { 1 ≤ result.used }
+{
+    let directive = spelled_directive(&text[1..], syntax);
+    if directive.used > text.len() {
+        return Directive {
+            items: &[],
+            used: 1,
+        };
+    }
+    directive
+}
+
+/// Returns the items that the bytes after the escape byte spell, with the number of all bytes.
+fn spelled_directive(text: &[u8], syntax: Syntax) -> Directive
+    ensures items { result.items.now ≡ (spelled syntax text.now).items }
+    ensures used { result.used ≡ (spelled syntax text.now).used }
+    ensures min { 1 ≤ result.used }
+{
+    match syntax {
+        Syntax::Percent => directive_of(byte_at(text, 0), byte_at(text, 1), byte_at(text, 2)),
+        Syntax::Brackets => year_description(text),
+    }
+}
+
+/// Returns the byte at this place, or 0 after the end.
+fn byte_at(text: &[u8], place: usize) -> u8
+    ensures { result ≡ get_or text.now place 0 }
+{
+    if place < text.len() { text[place] } else { 0 }
+}

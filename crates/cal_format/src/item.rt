@@ -1,0 +1,256 @@
+//! The items of a format.
+ghost use Rattle.std.specs.Prelude.{◌≡◌, ◌<◌, ◌≤◌, ◌^◌};
+ghost use Rattle.cal_format.specs.Format.{escape};
+ghost use Rattle.cal_format.specs.Moment.{width};
+ghost use Rattle.cal_format.specs.Reading.{index, name_component, shows};
+
+/// A number that a format shows of a value.
+#[derive(Clone, Copy, Debug, PartialEq, Eq)]
+pub enum Component {
+    /// The year.
+    Year,
+    /// The year divided by 100.
+    Century,
+    /// The last two digits of the year.
+    YearOfCentury,
+    /// The ISO year.
+    IsoYear,
+    /// The month, from 1.
+    Month,
+    /// The day of the month.
+    Day,
+    /// The day of the year.
+    Ordinal,
+    /// The ISO week.
+    IsoWeek,
+    /// The weekday, from 1 for Monday.
+    Weekday,
+    /// The weekday, from 0 for Sunday.
+    DaysFromSunday,
+    /// The weekday, from 1 for Sunday.
+    SundayWeekday,
+    /// The number of Sundays of the year so far.
+    SundayWeek,
+    /// The number of Mondays of the year so far.
+    MondayWeek,
+    /// The hour, from 0 to 23.
+    Hour,
+    /// The hour, from 1 to 12.
+    Hour12,
+    /// The minute.
+    Minute,
+    /// The second.
+    Second,
+    /// The half of the day: 0 or 1.
+    Period,
+    /// The milliseconds of the second.
+    Millisecond,
+    /// The microseconds of the second.
+    Microsecond,
+    /// The nanoseconds of the second.
+    Nanosecond,
+    /// The hours of the offset.
+    OffsetHour,
+    /// The minutes of the offset.
+    OffsetMinute,
+    /// The seconds of the offset.
+    OffsetSecond,
+    /// The sign of the offset: 1 for minus.
+    OffsetSign,
+}
+
+/// The bytes before a number with fewer digits than its width.
+#[derive(Clone, Copy, Debug, PartialEq, Eq)]
+pub enum Padding {
+    /// Zeros.
+    Zero,
+    /// Spaces.
+    Space,
+    /// No bytes.
+    None,
+}
+
+/// A name.
+#[derive(Clone, Copy, Debug, PartialEq, Eq)]
+pub enum Name {
+    /// The English name of the month.
+    Month,
+    /// The first three letters of the name of the month.
+    ShortMonth,
+    /// The English name of the weekday.
+    Weekday,
+    /// The first three letters of the name of the weekday.
+    ShortWeekday,
+    /// `AM` or `PM`.
+    Period,
+}
+
+/// An item of a format.
+#[derive(Clone, Copy, Debug, PartialEq, Eq)]
+pub enum Item {
+    /// This byte.
+    Literal(u8),
+    /// The number of a component.
+    Number(Component, Padding),
+    /// A name.
+    Name(Name),
+    /// A point and the digits of the second without trailing zeros, or nothing.
+    Fraction,
+    /// The sign of the offset.
+    OffsetSign,
+}
+
+/// The syntax of a format.
+#[derive(Clone, Copy)]
+pub(crate) enum Syntax {
+    /// Letters after percent signs.
+    Percent,
+    /// Words in brackets.
+    Brackets,
+}
+
+impl Syntax {
+    /// Returns the byte before the spelling of items.
+    pub(crate) fn escape(self) -> u8
+        ensures { result ≡ escape self }
+    {
+        match self {
+            Syntax::Percent => b'%',
+            Syntax::Brackets => b'[',
+        }
+    }
+}
+
+impl Component {
+    /// Returns the number of its digits.
+    pub(crate) fn width(self) -> u8
+        ensures value { result ≡ width self }
+        ensures range { (1 ≤ result) × (result ≤ 9) }
+    {
+        match self {
+            Component::Year => 4,
+            Component::Century => 2,
+            Component::YearOfCentury => 2,
+            Component::IsoYear => 4,
+            Component::Month => 2,
+            Component::Day => 2,
+            Component::Ordinal => 3,
+            Component::IsoWeek => 2,
+            Component::Weekday => 1,
+            Component::DaysFromSunday => 1,
+            Component::SundayWeekday => 1,
+            Component::SundayWeek => 2,
+            Component::MondayWeek => 2,
+            Component::Hour => 2,
+            Component::Hour12 => 2,
+            Component::Minute => 2,
+            Component::Second => 2,
+            Component::Period => 1,
+            Component::Millisecond => 3,
+            Component::Microsecond => 6,
+            Component::Nanosecond => 9,
+            Component::OffsetHour => 2,
+            Component::OffsetMinute => 2,
+            Component::OffsetSecond => 2,
+            Component::OffsetSign => 1,
+        }
+    }
+
+    /// Returns the least number that has more digits than the width.
+    pub(crate) fn limit(self) -> u32
+        ensures { result ≡ 10 ^ width self }
+    {
+        match self {
+            Component::Year => 10_000,
+            Component::Century => 100,
+            Component::YearOfCentury => 100,
+            Component::IsoYear => 10_000,
+            Component::Month => 100,
+            Component::Day => 100,
+            Component::Ordinal => 1_000,
+            Component::IsoWeek => 100,
+            Component::Weekday => 10,
+            Component::DaysFromSunday => 10,
+            Component::SundayWeekday => 10,
+            Component::SundayWeek => 100,
+            Component::MondayWeek => 100,
+            Component::Hour => 100,
+            Component::Hour12 => 100,
+            Component::Minute => 100,
+            Component::Second => 100,
+            Component::Period => 10,
+            Component::Millisecond => 1_000,
+            Component::Microsecond => 1_000_000,
+            Component::Nanosecond => 1_000_000_000,
+            Component::OffsetHour => 100,
+            Component::OffsetMinute => 100,
+            Component::OffsetSecond => 100,
+            Component::OffsetSign => 10,
+        }
+    }
+
+    /// Returns its place among the components.
+    #[inline(always)]
+    pub(crate) fn index(self) -> usize
+        ensures value { result ≡ index self }
+        ensures range { result < 25 }
+    {
+        match self {
+            Component::Year => 0,
+            Component::Century => 1,
+            Component::YearOfCentury => 2,
+            Component::IsoYear => 3,
+            Component::Month => 4,
+            Component::Day => 5,
+            Component::Ordinal => 6,
+            Component::IsoWeek => 7,
+            Component::Weekday => 8,
+            Component::DaysFromSunday => 9,
+            Component::SundayWeekday => 10,
+            Component::SundayWeek => 11,
+            Component::MondayWeek => 12,
+            Component::Hour => 13,
+            Component::Hour12 => 14,
+            Component::Minute => 15,
+            Component::Second => 16,
+            Component::Period => 17,
+            Component::Millisecond => 18,
+            Component::Microsecond => 19,
+            Component::Nanosecond => 20,
+            Component::OffsetHour => 21,
+            Component::OffsetMinute => 22,
+            Component::OffsetSecond => 23,
+            Component::OffsetSign => 24,
+        }
+    }
+}
+
+impl Item {
+    /// Returns `true` if the item shows the component.
+    pub(crate) fn shows(self, component: Component) -> bool
+        ensures { result ≡ shows component self }
+    {
+        match self {
+            Item::Literal(_) => false,
+            Item::Number(shown, _) => shown.index() == component.index(),
+            Item::Name(name) => name.component().index() == component.index(),
+            Item::Fraction => Component::Nanosecond.index() == component.index(),
+            Item::OffsetSign => Component::OffsetSign.index() == component.index(),
+        }
+    }
+}
+
+impl Name {
+    /// Returns the component that the name shows.
+    pub(crate) fn component(self) -> Component
+        ensures { result ≡ name_component self }
+    {
+        match self {
+            Name::Month => Component::Month,
+            Name::ShortMonth => Component::Month,
+            Name::Weekday => Component::Weekday,
+            Name::ShortWeekday => Component::Weekday,
+            Name::Period => Component::Period,
+        }
+    }
+}

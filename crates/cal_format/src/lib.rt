@@ -1,0 +1,31 @@
+//! Dates, times of day and date-times as texts of a format that is chosen when the program runs.
+//!
+//! A [`Format`] is made from a text in the syntax of `strftime` or of the crate `time`. A
+//! [`DateFormat`], [`TimeFormat`] or [`DateTimeFormat`] also parses: it accepts exactly the texts
+//! that the format prints of the values that it holds. It checks a weekday beside a date, and
+//! rejects other spellings and other bytes after the value.
+#![tactic(auto)]
+
+mod date_format;
+mod date_parts;
+mod date_time_format;
+mod description;
+mod determines;
+mod directive;
+mod fields;
+mod format;
+mod fraction;
+mod held;
+mod item;
+mod moment;
+mod names;
+mod print;
+mod scan;
+mod time_format;
+mod time_parts;
+mod value;
+
+pub use date_format::DateFormat;
+pub use date_time_format::DateTimeFormat;
+pub use format::{Format, FormatError};
+pub use time_format::TimeFormat;

@@ -1,0 +1,283 @@
+//! What a format prints.
+ghost use Rattle.std.specs.Prelude.{◌≡◌, ℕ, ◌+◌, ◌-◌, ◌<◌, ◌≤◌, ◌/◌, ◌%◌, ◌^◌, ◌++◌, ◌∷◌, [], ◌↔◌, IsSome, IfSome, length, take, decimal, replicate, unsigned_abs};
+ghost use Rattle.cal_time.specs.Time.{nanosecond_of};
+ghost use Rattle.cal_time.specs.UtcOffset.{sign as offset_sign};
+ghost use Rattle.cal_time.specs.DateText.{digits_at_least, sign_text};
+ghost use Rattle.cal_format.specs.Names.{name_text};
+ghost use Rattle.cal_format.specs.Moment.{number, width};
+ghost use Rattle.cal_format.specs.Text.{sign, padded, fraction_text, item_text, text_of};
+
+use crate::item::{Component, Item, Name, Padding};
+use crate::moment::{Moment, iso_year};
+use crate::names::{short_month, short_weekday};
+use cal_time::ShortText;
+
+/// Writes what the items print of a moment to the buffer, from this position on. Returns the end,
+/// or `None` if the buffer is too short.
+pub(crate) fn print_items(
+    items: &[Item],
+    moment: &Moment,
+    buffer: &mut [u8],
+    at: usize,
+) -> Option<usize>
+    requires { at ≤ length buffer.old }
+    ensures room { IsSome result
+        ↔ (at + length (text_of items.now moment.now) ≤ length buffer.old) }
+    ensures text { IfSome result (λ end.
+        take end buffer.new ≡ take at buffer.old ++ text_of items.now moment.now) }
+    ensures end { IfSome result (λ end. end ≡ at + length (text_of items.now moment.now)) }
+{
+    match items {
+        [] => Some(at),
+        [item, others @ ..] => {
+            let next = print_item(*item, moment, buffer, at)?;
+            print_items(others, moment, buffer, next)
+        }
+    }
+}
+
+#[inline(always)]
+fn print_item(item: Item, moment: &Moment, buffer: &mut [u8], at: usize) -> Option<usize>
+    requires { at ≤ length buffer.old }
+    ensures room { IsSome result ↔ (at + length (item_text moment.now item) ≤ length buffer.old) }
+    ensures text { IfSome result (λ end.
+        take end buffer.new ≡ take at buffer.old ++ item_text moment.now item) }
+    ensures end { IfSome result (λ end. end ≡ at + length (item_text moment.now item)) }
+{
+    match item {
+        Item::Literal(byte) => put(buffer, at, &[byte]),
+        Item::Number(component, pad) => print_number(component, pad, moment, buffer, at),
+        Item::Name(name) => print_name(name, moment, buffer, at),
+        Item::Fraction => print_fraction(moment.time.nanosecond(), buffer, at),
+        Item::OffsetSign => print_sign(moment, buffer, at),
+    }
+}
+
+fn print_number(
+    component: Component,
+    pad: Padding,
+    moment: &Moment,
+    buffer: &mut [u8],
+    at: usize,
+) -> Option<usize>
+    requires { at ≤ length buffer.old }
+    ensures room { IsSome result ↔ (at + length (sign component moment.now
+        ++ padded pad (width component) (number component moment.now)) ≤ length buffer.old) }
+    ensures text { IfSome result (λ end. take end buffer.new ≡ take at buffer.old
+        ++ (sign component moment.now ++ padded pad (width component) (number component moment.now))) }
+    ensures end { IfSome result (λ end. end ≡ at + length (sign component moment.now
+        ++ padded pad (width component) (number component moment.now))) }
+{
+    let next = put(buffer, at, sign_of(component, moment))?;
+    put_padded(
+        moment.number(component),
+        component.width(),
+        pad,
+        buffer,
+        next,
+    )
+}
+
+/// Returns the sign before the digits of a component.
+#[inline(always)]
+pub(crate) fn sign_of(component: Component, moment: &Moment) -> &'static [u8]
+    ensures { result.now ≡ sign component moment.now }
+{
+    match component {
+        Component::Year => year_sign(moment.date.year()),
+        Component::Century => year_sign(moment.date.year()),
+        Component::IsoYear => year_sign(iso_year(moment.date)),
+        _ => b"",
+    }
+}
+
+#[inline(always)]
+fn year_sign(year: i32) -> &'static [u8]
+    ensures { result.now ≡ sign_text year }
+{
+    if year < 0 {
+        b"-"
+    } else if year > 9999 {
+        b"+"
+    } else {
+        b""
+    }
+}
+
+/// Writes the digits of a number.
+#[inline(always)]
+fn put_padded(number: u32, width: u8, pad: Padding, buffer: &mut [u8], at: usize) -> Option<usize>
+    requires at { at ≤ length buffer.old }
+    requires width { width ≤ 9 }
+    ensures room { IsSome result ↔ (at + length (padded pad width number) ≤ length buffer.old) }
+    ensures text { IfSome result (λ end.
+        take end buffer.new ≡ take at buffer.old ++ padded pad width number) }
+    ensures end { IfSome result (λ end. end ≡ at + length (padded pad width number)) }
+{
+    match pad {
+        Padding::Zero => put_with_zeros(number, width, buffer, at),
+        Padding::Space => put_filled(b' ', number, width, buffer, at),
+        Padding::None => put_decimal(number, buffer, at),
+    }
+}
+
+#[inline(always)]
+fn put_with_zeros(number: u32, width: u8, buffer: &mut [u8], at: usize) -> Option<usize>
+    requires at { at ≤ length buffer.old }
+    requires width { width ≤ 9 }
+    ensures room { IsSome result ↔ (at + length (digits_at_least width number) ≤ length buffer.old) }
+    ensures text { IfSome result (λ end.
+        take end buffer.new ≡ take at buffer.old ++ digits_at_least width number) }
+    ensures end { IfSome result (λ end. end ≡ at + length (digits_at_least width number)) }
+{
+    if width == 2 && number < 100 {
+        return put(buffer, at, &two_digits(number as u8));
+    }
+    if width == 4 && number < 10_000 {
+        return put(buffer, at, &four_digits(number as u16));
+    }
+    put_filled(b'0', number, width, buffer, at)
+}
+
+/// Writes the digits of a number, with this byte before them up to the width.
+#[tactic(auto, using(crate::proofs::Digits::short_decimals))]
+fn put_filled(byte: u8, number: u32, width: u8, buffer: &mut [u8], at: usize) -> Option<usize>
+    requires at { at ≤ length buffer.old }
+    requires width { width ≤ 9 }
+    ensures room { IsSome result ↔ (at + length (replicate (width - length (decimal number)) byte
+        ++ decimal number) ≤ length buffer.old) }
+    ensures text { IfSome result (λ end. take end buffer.new ≡ take at buffer.old
+        ++ (replicate (width - length (decimal number)) byte ++ decimal number)) }
+    ensures end { IfSome result (λ end. end ≡ at
+        + length (replicate (width - length (decimal number)) byte ++ decimal number)) }
+{
+    let mut digits = ShortText::new();
+    digits.push_number(u64::from(number));
+    let fill = usize::from(width).saturating_sub(digits.len());
+    let next = put_fill(byte, fill, buffer, at)?;
+    put(buffer, next, digits.as_bytes())
+}
+
+/// Writes this byte the given number of times.
+#[inline(always)]
+#[tactic(auto, using(crate::proofs::Digits::fills))]
+fn put_fill(byte: u8, count: usize, buffer: &mut [u8], at: usize) -> Option<usize>
+    requires at { at ≤ length buffer.old }
+    requires count { count ≤ 9 }
+    ensures room { IsSome result ↔ (at + count ≤ length buffer.old) }
+    ensures text { IfSome result (λ end.
+        take end buffer.new ≡ take at buffer.old ++ replicate count byte) }
+    ensures end { IfSome result (λ end. end ≡ at + count) }
+{
+    let filler = [byte; 9];
+    put(buffer, at, &filler[..count])
+}
+
+#[tactic(auto, using(crate::proofs::Digits::short_decimals))]
+fn put_decimal(number: u32, buffer: &mut [u8], at: usize) -> Option<usize>
+    requires { at ≤ length buffer.old }
+    ensures room { IsSome result ↔ (at + length (decimal number) ≤ length buffer.old) }
+    ensures text { IfSome result (λ end. take end buffer.new ≡ take at buffer.old ++ decimal number) }
+    ensures end { IfSome result (λ end. end ≡ at + length (decimal number)) }
+{
+    let mut digits = ShortText::new();
+    digits.push_number(u64::from(number));
+    put(buffer, at, digits.as_bytes())
+}
+
+fn print_name(name: Name, moment: &Moment, buffer: &mut [u8], at: usize) -> Option<usize>
+    requires { at ≤ length buffer.old }
+    ensures room { IsSome result ↔ (at + length (name_text name moment.now) ≤ length buffer.old) }
+    ensures text { IfSome result (λ end.
+        take end buffer.new ≡ take at buffer.old ++ name_text name moment.now) }
+    ensures end { IfSome result (λ end. end ≡ at + length (name_text name moment.now)) }
+{
+    match name {
+        Name::Month => put(buffer, at, moment.month().name().as_bytes()),
+        Name::ShortMonth => put(buffer, at, short_month(moment.month())),
+        Name::Weekday => put(buffer, at, moment.weekday().name().as_bytes()),
+        Name::ShortWeekday => put(buffer, at, short_weekday(moment.weekday())),
+        Name::Period => {
+            if moment.time.hour() < 12 {
+                put(buffer, at, b"AM")
+            } else {
+                put(buffer, at, b"PM")
+            }
+        }
+    }
+}
+
+#[tactic(auto, using(crate::proofs::Digits::short_fractions))]
+fn print_fraction(nanosecond: u32, buffer: &mut [u8], at: usize) -> Option<usize>
+    requires at { at ≤ length buffer.old }
+    requires range { nanosecond < 1_000_000_000 }
+    ensures room { IsSome result ↔ (at + length (fraction_text nanosecond) ≤ length buffer.old) }
+    ensures text { IfSome result (λ end.
+        take end buffer.new ≡ take at buffer.old ++ fraction_text nanosecond) }
+    ensures end { IfSome result (λ end. end ≡ at + length (fraction_text nanosecond)) }
+{
+    if nanosecond == 0 {
+        return put(buffer, at, b"");
+    }
+    let mut digits = ShortText::new();
+    digits.push_decimals(nanosecond);
+    let next = put(buffer, at, b".")?;
+    put(buffer, next, digits.as_bytes())
+}
+
+fn print_sign(moment: &Moment, buffer: &mut [u8], at: usize) -> Option<usize>
+    requires { at ≤ length buffer.old }
+    ensures room { IsSome result ↔ (at + length (offset_sign moment.now.offset) ≤ length buffer.old) }
+    ensures text { IfSome result (λ end.
+        take end buffer.new ≡ take at buffer.old ++ offset_sign moment.now.offset) }
+    ensures end { IfSome result (λ end. end ≡ at + length (offset_sign moment.now.offset)) }
+{
+    if moment.offset.whole_seconds() < 0 {
+        put(buffer, at, b"-")
+    } else {
+        put(buffer, at, b"+")
+    }
+}
+
+/// Returns the two digits of a number below 100: `07` for 7.
+#[inline(always)]
+#[tactic(auto, using(crate::proofs::Digits::digits))]
+fn two_digits(number: u8) -> [u8; 2]
+    requires { number < 100 }
+    ensures { result ≡ digits_at_least 2 number }
+{
+    [b'0' + number / 10, b'0' + number % 10]
+}
+
+/// Returns the four digits of a number below 10000.
+#[inline(always)]
+#[tactic(auto, using(crate::proofs::Digits::digits))]
+fn four_digits(number: u16) -> [u8; 4]
+    requires { number < 10000 }
+    ensures { result ≡ digits_at_least 4 number }
+{
+    let front = (number / 100) as u8;
+    let back = (number % 100) as u8;
+    [
+        b'0' + front / 10,
+        b'0' + front % 10,
+        b'0' + back / 10,
+        b'0' + back % 10,
+    ]
+}
+
+/// Writes bytes to the buffer, from this position on.
+#[inline(always)]
+fn put(buffer: &mut [u8], at: usize, bytes: &[u8]) -> Option<usize>
+    requires { at ≤ length buffer.old }
+    ensures room { IsSome result ↔ (at + length bytes.now ≤ length buffer.old) }
+    ensures text { IfSome result (λ end. take end buffer.new ≡ take at buffer.old ++ bytes.now) }
+    ensures end { IfSome result (λ end. end ≡ at + length bytes.now) }
+{
+    if bytes.len() > buffer.len() - at {
+        return None;
+    }
+    let end = at + bytes.len();
+    buffer[at..end].copy_from_slice(bytes);
+    Some(end)
+}

@@ -1,0 +1,77 @@
+//! Times of day from texts of a format.
+ghost use Rattle.std.specs.Prelude.{◌≡◌, ℕ, ◌↔◌, Some, IsTrue, IsSome, IfSome};
+ghost use Rattle.cal_time.specs.Time.{IsTime};
+ghost use Rattle.cal_format.specs.Moment.{moment_of_time};
+ghost use Rattle.cal_format.specs.Text.{text_of};
+ghost use Rattle.cal_format.specs.Reading.{are_apart, are_time_items, shows_time, holds_time};
+
+use crate::determines::{are_apart, holds_time, shows_time};
+use crate::fields::{Fields, set_items};
+use crate::format::Format;
+use crate::held::is_text_of;
+use crate::time_parts::time_of;
+use crate::value::{are_time_items, moment_of_time};
+use cal_time::Time;
+use std::marker::Model;
+
+/// A format whose texts determine a time of day. Contracts see the list of its items.
+#[derive(Drop)]
+pub struct TimeFormat {
+    format: Format,
+}
+
+impl Model for TimeFormat {
+    ghost use Rattle.std.specs.Prelude.{List, IsTrue};
+    ghost use Rattle.cal_format.specs.declared.item.Item.{Item};
+    ghost use Rattle.cal_format.specs.Reading.{are_apart, are_time_items, shows_time};
+
+    ghost Value = { List Item };
+
+    ghost view = { λ f. f.format };
+
+    ghost invariant = { λ f. IsTrue (are_apart f.format) × IsTrue (are_time_items f.format)
+        × IsTrue (shows_time f.format) };
+}
+
+impl Format {
+    /// Returns the format for times of day, or `None` if its texts don't determine a time of day.
+    pub fn for_times(self) -> Option<TimeFormat>
+        ensures determines { IsSome result ↔ IsTrue (are_apart self) × IsTrue (are_time_items self)
+            × IsTrue (shows_time self) }
+        ensures same { IfSome result (λ format. format ≡ self) }
+    {
+        if are_apart(self.items()) && are_time_items(self.items()) && shows_time(self.items()) {
+            Some(TimeFormat { format: self })
+        } else {
+            None
+        }
+    }
+}
+
+impl TimeFormat {
+    /// Parses a text. Returns the time of day that the format holds and prints as this text, or
+    /// `None` if there is no such time. The format holds a time if each part that it doesn't show
+    /// is 0.
+    pub fn parse(&self, text: &[u8]) -> Option<Time>
+        ensures every { (n : ℕ) → IsTime n → IsTrue (holds_time self.now n)
+            → text.now ≡ text_of self.now (moment_of_time n)
+            → result ≡ Some n }
+        ensures value { IfSome result (λ n. IsTime n × IsTrue (holds_time self.now n)
+            × (text.now ≡ text_of self.now (moment_of_time n))) }
+    {
+        let items = self.format.items();
+        let mut fields = Fields::new();
+        if !set_items(items, text, &mut fields) {
+            return None;
+        }
+        let time = time_of(items, &fields)?;
+        let moment = moment_of_time(time);
+        if !holds_time(items, time) {
+            return None;
+        }
+        if !is_text_of(items, &moment, text) {
+            return None;
+        }
+        Some(time)
+    }
+}
