@@ -1,4 +1,4 @@
-//! What a format determines.
+//! The values that a format determines.
 ghost use Rattle.std.specs.Prelude.{◌≡◌};
 ghost use Rattle.cal_format.specs.Reading.{any_shows, is_apart, begins_apart, is_past_point, begins_past_point, ends_before, are_apart, shows_year, shows_weekday, shows_calendar_date, shows_ordinal_date, shows_iso_week_date, shows_date, shows_hour, shows_subsecond, shows_time, holds_subsecond, holds_time, shows_offset, holds_offset};
 

@@ -49,8 +49,8 @@ impl Format {
 }
 
 impl OffsetFormat {
-    /// Parses a text. Returns the offset that the format holds and prints as this text, or `None` if
-    /// there is no such offset. The format holds an offset if each part that it doesn't show is 0.
+    /// Parses a text. Returns the offset that the format holds and prints as this text, if it is the
+    /// text of an offset. The format holds an offset if each part that it doesn't show is 0.
     pub fn parse(&self, text: &[u8]) -> Option<UtcOffset>
         ensures every { (o : ℤ) → IsOffset o → IsTrue (holds_offset self.now o)
             → text.now ≡ text_of self.now (moment_of_offset o)
