@@ -3,13 +3,15 @@ use Rattle.std.proofs.Common.{◌≡◌, ℕ, ◌<◌, ◌≤◌, List, sym, ap,
 use Rattle.std.specs.Prelude.{Bool, IsTrue, if◌then◌else◌, ℤ, pos}
 use Rattle.cal_time.specs.Date.{IsDate}
 use Rattle.cal_time.specs.Time.{IsTime}
+use Rattle.cal_time.specs.UtcOffset.{IsOffset}
+use Rattle.cal_datetime.specs.OffsetDateTime.{LocalAndOffset}
 use Rattle.cal_datetime.specs.DateTime.{IsDateTime, date_at, time_at}
 use Rattle.cal_datetime.specs.DateTimeLaws.{IsDate-date_at, IsTime-time_at}
 use Rattle.cal_format.specs.declared.fields.Fields.{Fields}
 use Rattle.cal_format.specs.declared.item.Item.{Item}
 use Rattle.cal_format.specs.declared.item.Component.{Component}
 use Rattle.cal_format.specs.declared.moment.Moment.{Moment}
-use Rattle.cal_format.specs.Moment.{number, IsMoment, moment_of_date, moment_of_time, moment_of_date_time}
+use Rattle.cal_format.specs.Moment.{number, IsMoment, moment_of_date, moment_of_time, moment_of_date_time, moment_of_offset, moment_of_offset_date_time}
 use Rattle.cal_format.specs.Text.{text_of}
 use Rattle.cal_format.specs.Reading.{any_shows, are_apart}
 use Rattle.cal_format.specs.Scanning.{number_at, AreHeld, Agrees}
@@ -23,6 +25,12 @@ time-moment t h = record { date = lit≤ tt; time = h; offset = record { magnitu
 
 pub date_time-moment : (z : ℤ) → IsDateTime z → IsMoment (moment_of_date_time z)
 date_time-moment z h = record { date = IsDate-date_at z h; time = IsTime-time_at z; offset = record { magnitude = lit≤ tt } }
+
+pub offset-moment : (o : ℤ) → IsOffset o → IsMoment (moment_of_offset o)
+offset-moment o h = record { date = lit≤ tt; time = record { below_day = lit< tt }; offset = h }
+
+pub offset_date_time-moment : (m : LocalAndOffset) → IsDateTime m.local → IsOffset m.offset → IsMoment (moment_of_offset_date_time m)
+offset_date_time-moment m h o = record { date = IsDate-date_at m.local h; time = IsTime-time_at m.local; offset = o }
 
 -- What setting the numbers of items does with a text that they print.
 abbrev pub Sets : List Item → List ℕ → Fields → Fields → Bool → Type 0

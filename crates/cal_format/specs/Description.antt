@@ -1,4 +1,4 @@
--- The items that components of `time`'s format descriptions stand for.
+-- The items of the components of `time`'s format descriptions.
 use Rattle.std.specs.Prelude.{ℕ, ◌==◌, ◌&&◌, Bool, true, false, List, [], ◌∷◌, codes, if◌then◌else◌}
 use Rattle.cal_format.specs.declared.item.Item.{Item}
 use Rattle.cal_format.specs.declared.item.Item.TheVariants as item

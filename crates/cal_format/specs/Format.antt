@@ -9,8 +9,8 @@ use Rattle.cal_format.specs.declared.format.FormatError.TheVariants.{UnknownItem
 use Rattle.cal_format.specs.Directive.{Front, front_with, directive_of}
 use Rattle.cal_format.specs.Description.{year_description}
 
--- A percent sign or an opening bracket comes before the spelling of items. Any other byte stands
--- for itself.
+-- A percent sign or an opening bracket comes before the spelling of items. Any other byte is a
+-- literal.
 abbrev pub escape : Syntax → ℕ
 escape Percent = 37
 escape Brackets = 91

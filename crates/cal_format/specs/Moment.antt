@@ -5,6 +5,7 @@ use Rattle.cal_time.specs.IsoWeekDate.{iso_year_at, iso_week_at, weekday_count}
 use Rattle.cal_time.specs.Time.{IsTime, hour_of, minute_of, second_of, nanosecond_of}
 use Rattle.cal_time.specs.UtcOffset.{IsOffset}
 use Rattle.cal_datetime.specs.DateTime.{date_at, time_at}
+use Rattle.cal_datetime.specs.OffsetDateTime.{LocalAndOffset}
 use Rattle.cal_format.specs.declared.item.Component.{Component}
 use Rattle.cal_format.specs.declared.item.Component.TheVariants.{Year, Century, YearOfCentury, IsoYear, Month, Day, Ordinal, IsoWeek, Weekday, DaysFromSunday, SundayWeekday, SundayWeek, MondayWeek, Hour, Hour12, Minute, Second, Period, Millisecond, Microsecond, Nanosecond, OffsetHour, OffsetMinute, OffsetSecond, OffsetSign}
 use Rattle.cal_format.specs.declared.moment.Moment.{Moment}
@@ -15,7 +16,7 @@ pub record IsMoment (v : Moment) : Type 0 where
   pub time : IsTime v.time
   pub offset : IsOffset v.offset
 
--- A day, a time of day, a date-time and an offset as moments. What they lack is 0.
+-- A day, a time of day, a date-time, an offset and a date-time at an offset as moments. What they lack is 0.
 abbrev pub moment_of_date : ℕ → Moment
 moment_of_date n = record { date = n; time = 0; offset = pos 0 }
 
@@ -27,6 +28,9 @@ moment_of_date_time z = record { date = date_at z; time = time_at z; offset = po
 
 abbrev pub moment_of_offset : ℤ → Moment
 moment_of_offset o = record { date = 0; time = 0; offset = o }
+
+abbrev pub moment_of_offset_date_time : LocalAndOffset → Moment
+moment_of_offset_date_time m = record { date = date_at m.local; time = time_at m.local; offset = m.offset }
 
 -- The number of a component. Years and offsets have a sign of their own.
 abbrev pub number : Component → Moment → ℕ

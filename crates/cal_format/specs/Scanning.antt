@@ -1,5 +1,5 @@
 -- What parsing reads of a text, item by item.
-use Rattle.std.specs.Prelude.{◌≡◌, ◌≢◌, ◌⊎◌, ℕ, ◌+◌, ◌-◌, ◌*◌, ◌%◌, ◌<◌, ◌≤◌, ◌^◌, List, [], ◌∷◌, ◌++◌, length, fold, get_or, replicate, if◌then◌else◌}
+use Rattle.std.specs.Prelude.{◌≡◌, ◌≢◌, ◌⊎◌, ℕ, ◌+◌, ◌-◌, ◌*◌, ◌%◌, ◌<◌, ◌≤◌, ◌^◌, List, [], ◌∷◌, ◌++◌, length, fold, get_or, replicate, if◌then◌else◌, ◌==◌, ℤ, pos, neg_ℤ}
 use Rattle.cal_format.specs.declared.fields.Fields.{Fields}
 use Rattle.cal_format.specs.declared.item.Item.{Item}
 use Rattle.cal_format.specs.declared.item.Item.TheVariants as item
@@ -22,6 +22,10 @@ step n b = (n * 10 % 2 ^ 32 + b % 16) % 2 ^ 32
 abbrev pub fraction_number : List ℕ → ℕ
 fraction_number [] = 0
 fraction_number (x ∷ digits) = fold step (fold step 0 digits) (replicate (9 - length digits) 48)
+
+-- The offset with this sign, which is 1 for minus, and this number of seconds.
+abbrev pub signed_offset : ℕ → ℕ → ℤ
+signed_offset s m = if s == 1 then neg_ℤ (pos m) else pos m
 
 -- The text doesn't begin with a digit.
 abbrev pub BeginsApart : List ℕ → Type 0

@@ -1,4 +1,4 @@
--- What a format prints of a moment.
+-- The texts that a format prints of a moment.
 use Rattle.std.specs.Prelude.{decimal, ℕ, ◌-◌, ◌==◌, List, [], ◌∷◌, ◌++◌, length, replicate, if◌then◌else◌}
 use Rattle.std.specs.List.{flat_map}
 use Rattle.cal_time.specs.Date.{year_at}
@@ -31,7 +31,7 @@ padded padding.Space w n = replicate (w - length (decimal n)) 32 ++ decimal n
 padded padding.None w n = decimal n
 
 -- The fraction of a second is a point and its digits without trailing zeros. A fraction of 0
--- nanoseconds is no text.
+-- nanoseconds has an empty text.
 abbrev pub fraction_text : ℕ → List ℕ
 fraction_text n = if n == 0 then [] else 46 ∷ decimals n
 

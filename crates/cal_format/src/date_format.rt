@@ -50,8 +50,8 @@ impl Format {
 }
 
 impl DateFormat {
-    /// Parses a text. Returns the date that the format holds and prints as this text, or `None` if
-    /// there is no such date. The format holds a date if each year that it shows is from 0 to 9999.
+    /// Parses a text. Returns the date that the format holds and prints as this text, if it is the
+    /// text of a date. The format holds a date if each year that it shows is from 0 to 9999.
     pub fn parse(&self, text: &[u8]) -> Option<Date>
         ensures every { (n : ℕ) → IsDate n → AreHeld (moment_of_date n) self.now
             → text.now ≡ text_of self.now (moment_of_date n)

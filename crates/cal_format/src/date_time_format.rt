@@ -57,8 +57,8 @@ impl Format {
 }
 
 impl DateTimeFormat {
-    /// Parses a text. Returns the date-time that the format holds and prints as this text, or `None`
-    /// if there is no such date-time. The format holds a date-time if each year that it shows is
+    /// Parses a text. Returns the date-time that the format holds and prints as this text, if it is
+    /// the text of a date-time. The format holds a date-time if each year that it shows is
     /// from 0 to 9999, and each part of the time of day that it doesn't show is 0.
     pub fn parse(&self, text: &[u8]) -> Option<PlainDateTime>
         ensures every { (z : ℤ) → IsDateTime z → AreHeld (moment_of_date_time z) self.now

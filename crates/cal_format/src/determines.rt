@@ -1,9 +1,9 @@
-//! What a format determines.
+//! The values that a format determines.
 ghost use Rattle.std.specs.Prelude.{◌≡◌};
-ghost use Rattle.cal_format.specs.Reading.{any_shows, is_apart, begins_apart, is_past_point, begins_past_point, ends_before, are_apart, shows_year, shows_weekday, shows_calendar_date, shows_ordinal_date, shows_iso_week_date, shows_date, shows_hour, shows_subsecond, shows_time, holds_subsecond, holds_time};
+ghost use Rattle.cal_format.specs.Reading.{any_shows, is_apart, begins_apart, is_past_point, begins_past_point, ends_before, are_apart, shows_year, shows_weekday, shows_calendar_date, shows_ordinal_date, shows_iso_week_date, shows_date, shows_hour, shows_subsecond, shows_time, holds_subsecond, holds_time, shows_offset, holds_offset};
 
 use crate::item::{Component, Item, Padding};
-use cal_time::Time;
+use cal_time::{Time, UtcOffset};
 
 /// Returns `true` if an item shows the component.
 pub(crate) fn any_shows(items: &[Item], component: Component) -> bool
@@ -166,4 +166,23 @@ fn holds_subsecond(items: &[Item], nanosecond: u32) -> bool
         return nanosecond % 1_000_000 == 0;
     }
     nanosecond == 0
+}
+
+/// Returns `true` if the items determine an offset.
+pub(crate) fn shows_offset(items: &[Item]) -> bool
+    ensures { result ≡ shows_offset items.now }
+{
+    let minute = any_shows(items, Component::OffsetMinute);
+    any_shows(items, Component::OffsetSign)
+        && any_shows(items, Component::OffsetHour)
+        && (minute || !any_shows(items, Component::OffsetSecond))
+}
+
+/// Returns `true` if each part of the offset that the items don't show is 0.
+pub(crate) fn holds_offset(items: &[Item], offset: UtcOffset) -> bool
+    ensures { result ≡ holds_offset items.now offset }
+{
+    let magnitude = offset.whole_seconds().unsigned_abs();
+    (any_shows(items, Component::OffsetMinute) || magnitude / 60 % 60 == 0)
+        && (any_shows(items, Component::OffsetSecond) || magnitude % 60 == 0)
 }

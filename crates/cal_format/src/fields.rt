@@ -228,7 +228,7 @@ fn weekday_at_front(text: &[u8]) -> Option<Weekday>
     }
 }
 
-/// Returns 1 if the text begins with a `P`, as `PM` does.
+/// Returns 1 if the text begins with a `P`, such as `PM`.
 fn period_number(text: &[u8]) -> u32
     ensures { result ≡ (if get_or text.now 0 0 == 80 then 1 else 0) }
 {

@@ -156,7 +156,7 @@ impl Component {
         }
     }
 
-    /// Returns the least number that has more digits than the width.
+    /// Returns the first number that has more digits than the width.
     pub(crate) fn limit(self) -> u32
         ensures { result ≡ 10 ^ width self }
     {

@@ -1,9 +1,10 @@
-//! Dates, times of day and date-times as texts of a format that is chosen when the program runs.
+//! Dates, times of day, offsets and date-times as texts of a format that is chosen when the program
+//! runs.
 //!
 //! A [`Format`] is made from a text in the syntax of `strftime` or of the crate `time`. A
-//! [`DateFormat`], [`TimeFormat`] or [`DateTimeFormat`] also parses: it accepts exactly the texts
-//! that the format prints of the values that it holds. It checks a weekday beside a date, and
-//! rejects other spellings and other bytes after the value.
+//! [`DateFormat`], [`TimeFormat`], [`OffsetFormat`], [`DateTimeFormat`] or [`OffsetDateTimeFormat`]
+//! also parses: it accepts exactly the texts that the format prints of the values that it holds. It
+//! checks a weekday beside a date, and rejects other spellings and other bytes after the value.
 #![tactic(auto)]
 
 mod date_format;
@@ -19,6 +20,9 @@ mod held;
 mod item;
 mod moment;
 mod names;
+mod offset_date_time_format;
+mod offset_format;
+mod offset_parts;
 mod print;
 mod scan;
 mod time_format;
@@ -28,4 +32,6 @@ mod value;
 pub use date_format::DateFormat;
 pub use date_time_format::DateTimeFormat;
 pub use format::{Format, FormatError};
+pub use offset_date_time_format::OffsetDateTimeFormat;
+pub use offset_format::OffsetFormat;
 pub use time_format::TimeFormat;

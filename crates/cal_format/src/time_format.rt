@@ -49,9 +49,8 @@ impl Format {
 }
 
 impl TimeFormat {
-    /// Parses a text. Returns the time of day that the format holds and prints as this text, or
-    /// `None` if there is no such time. The format holds a time if each part that it doesn't show
-    /// is 0.
+    /// Parses a text. Returns the time of day that the format holds and prints as this text, if it is
+    /// the text of a time. The format holds a time if each part that it doesn't show is 0.
     pub fn parse(&self, text: &[u8]) -> Option<Time>
         ensures every { (n : ℕ) → IsTime n → IsTrue (holds_time self.now n)
             → text.now ≡ text_of self.now (moment_of_time n)

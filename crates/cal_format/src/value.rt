@@ -1,14 +1,14 @@
 //! The values that a format prints.
 ghost use Rattle.std.specs.Prelude.{◌≡◌, ◌≤◌, ◌↔◌, IsTrue, IsSome, IfSome, length, take};
-ghost use Rattle.cal_format.specs.Moment.{moment_of_date, moment_of_time, moment_of_date_time};
-ghost use Rattle.cal_format.specs.Reading.{is_date, is_time, is_date_item, is_time_item, are_date_items, are_time_items, are_date_time_items};
+ghost use Rattle.cal_format.specs.Moment.{moment_of_date, moment_of_time, moment_of_date_time, moment_of_offset, moment_of_offset_date_time};
+ghost use Rattle.cal_format.specs.Reading.{is_date, is_time, is_date_item, is_time_item, are_date_items, are_time_items, are_date_time_items, is_offset_item, are_offset_items};
 ghost use Rattle.cal_format.specs.Text.{text_of};
 
 use crate::format::Format;
 use crate::item::{Component, Item};
 use crate::moment::Moment;
 use crate::print::print_items;
-use cal_datetime::PlainDateTime;
+use cal_datetime::{OffsetDateTime, PlainDateTime};
 use cal_time::{Date, Time, UtcOffset};
 
 impl Format {
@@ -58,6 +58,39 @@ impl Format {
         self.print(&moment_of_date_time(date_time), buffer)
     }
 
+    /// Writes an offset to the front of the buffer, and returns the number of bytes. Returns `None`
+    /// if the format shows more than an offset, or if the buffer is too short.
+    pub fn print_offset(&self, offset: UtcOffset, buffer: &mut [u8]) -> Option<usize>
+        ensures room { IsSome result ↔ IsTrue (are_offset_items self.now)
+            × (length (text_of self.now (moment_of_offset offset)) ≤ length buffer.old) }
+        ensures text { IfSome result (λ end.
+            take end buffer.new ≡ text_of self.now (moment_of_offset offset)) }
+        ensures end { IfSome result (λ end.
+            end ≡ length (text_of self.now (moment_of_offset offset))) }
+    {
+        if !are_offset_items(self.items()) {
+            return None;
+        }
+        self.print(&moment_of_offset(offset), buffer)
+    }
+
+    /// Writes a date-time at an offset to the front of the buffer, and returns the number of bytes.
+    /// Returns `None` if the buffer is too short.
+    pub fn print_offset_date_time(
+        &self,
+        date_time: OffsetDateTime,
+        buffer: &mut [u8],
+    ) -> Option<usize>
+        ensures room { IsSome result
+            ↔ (length (text_of self.now (moment_of_offset_date_time date_time)) ≤ length buffer.old) }
+        ensures text { IfSome result (λ end.
+            take end buffer.new ≡ text_of self.now (moment_of_offset_date_time date_time)) }
+        ensures end { IfSome result (λ end.
+            end ≡ length (text_of self.now (moment_of_offset_date_time date_time))) }
+    {
+        self.print(&moment_of_offset_date_time(date_time), buffer)
+    }
+
     fn print(&self, moment: &Moment, buffer: &mut [u8]) -> Option<usize>
         ensures room { IsSome result
             ↔ (length (text_of self.now moment.now) ≤ length buffer.old) }
@@ -101,6 +134,28 @@ pub(crate) fn moment_of_date_time(date_time: PlainDateTime) -> Moment
     }
 }
 
+/// Returns an offset as a moment.
+pub(crate) fn moment_of_offset(offset: UtcOffset) -> Moment
+    ensures { result ≡ moment_of_offset offset }
+{
+    Moment {
+        date: first_date(),
+        time: Time::MIDNIGHT,
+        offset,
+    }
+}
+
+/// Returns a date-time at an offset as a moment.
+pub(crate) fn moment_of_offset_date_time(date_time: OffsetDateTime) -> Moment
+    ensures { result ≡ moment_of_offset_date_time date_time }
+{
+    Moment {
+        date: date_time.date(),
+        time: date_time.time(),
+        offset: date_time.offset(),
+    }
+}
+
 /// Returns the first date of the range.
 fn first_date() -> Date
     ensures { result ≡ 0 }
@@ -135,6 +190,16 @@ pub(crate) fn are_date_time_items(items: &[Item]) -> bool
     match items {
         [] => true,
         [item, others @ ..] => (item.is_date() || item.is_time()) && are_date_time_items(others),
+    }
+}
+
+/// Returns `true` if the items show offsets only.
+pub(crate) fn are_offset_items(items: &[Item]) -> bool
+    ensures { result ≡ are_offset_items items.now }
+{
+    match items {
+        [] => true,
+        [item, others @ ..] => item.is_offset() && are_offset_items(others),
     }
 }
 
@@ -174,6 +239,18 @@ impl Item {
             Item::Name(name) => name.component().is_time(),
             Item::Fraction => true,
             Item::OffsetSign => false,
+        }
+    }
+
+    fn is_offset(self) -> bool
+        ensures { result ≡ is_offset_item self }
+    {
+        match self {
+            Item::Literal(_) => true,
+            Item::Number(component, _) => 21 <= component.index(),
+            Item::Name(_) => false,
+            Item::Fraction => false,
+            Item::OffsetSign => true,
         }
     }
 }

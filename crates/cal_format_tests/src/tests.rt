@@ -5,6 +5,7 @@ use cal_time::{Date, Time};
 use std::process::Abort;
 
 mod formats;
+mod offsets;
 mod rows;
 mod texts;
 

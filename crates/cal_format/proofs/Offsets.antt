@@ -1,0 +1,71 @@
+-- The offset that the numbers of a text have.
+use Rattle.std.proofs.Common.{◌≡◌, ℕ, ◌+◌, ◌*◌, ◌/◌, ◌%◌, ◌<◌, ◌≤◌, ◌^◌, List, [], ◌∷◌, refl, ap, ◌∙◌, arith, lit≤}
+use Rattle.std.specs.Prelude.{Bool, true, false, ◌==◌, ◌||◌, ◌&&◌, not, IsTrue, if◌then◌else◌, nat_le, ℤ, pos, negsuc, int_lt, unsigned_abs}
+use borrow.Author.Tests.{le-ltb}
+use Rattle.cal_time.specs.UtcOffset.{IsOffset}
+use Rattle.cal_format.specs.declared.item.Item.{Item}
+use Rattle.cal_format.specs.declared.item.Item.TheVariants as item
+use Rattle.cal_format.specs.declared.item.Component.{Component}
+use Rattle.cal_format.specs.declared.item.Component.TheVariants.{OffsetHour, OffsetMinute, OffsetSecond, OffsetSign}
+use Rattle.cal_format.specs.Moment.{number, width, moment_of_offset}
+use Rattle.cal_format.specs.Text.{sign}
+use Rattle.cal_format.specs.Reading.{index, any_shows, is_offset_item, are_offset_items, shows_offset, holds_offset}
+use Rattle.cal_format.specs.Scanning.{IsHeld, AreHeld, signed_offset}
+use Rattle.cal_format.proofs.Apart.{both_tests}
+
+pub record OffsetParts (o : ℤ) (h m s : ℕ) : Type 0 where
+  pub hour : h ≤ 25
+  pub minute : m ≤ 59
+  pub second : s ≤ 59
+  pub magnitude : h * 3_600 + m * 60 + s ≡ unsigned_abs o
+
+pub offset-parts : (o : ℤ) (h m s : ℕ) → IsOffset o → h ≡ unsigned_abs o / 3_600 → m ≡ unsigned_abs o / 60 % 60 → s ≡ unsigned_abs o % 60 → OffsetParts o h m s
+offset-parts o h m s range e f g =
+    let most = range.magnitude in
+    record { hour = omega arith; minute = omega arith; second = omega arith; magnitude = omega arith }
+
+-- The sign and the magnitude are the offset.
+pub signed-is : (o : ℤ) (s m : ℕ) → s ≡ (if int_lt o (pos 0) then 1 else 0) → m ≡ unsigned_abs o → signed_offset s m ≡ o
+signed-is (pos n) s m e f =
+    let low : int_lt (pos n) (pos 0) ≡ false = le-ltb n 0 (omega arith) in
+    let none : s ≡ 0 = e ∙ ap (λ b. if b then 1 else 0) low in
+    λ i. signed_offset (none i) (f i)
+signed-is (negsuc n) s m e f = λ i. signed_offset (e i) (f i)
+
+pub record OffsetShown (items : List Item) (o : ℤ) : Type 0 where
+  pub sign : IsTrue (any_shows OffsetSign items)
+  pub hour : IsTrue (any_shows OffsetHour items)
+  pub minute : IsTrue (any_shows OffsetMinute items || (unsigned_abs o / 60 % 60 == 0))
+  pub second : IsTrue (any_shows OffsetSecond items || (unsigned_abs o % 60 == 0))
+
+pub offset-shown : (items : List Item) (o : ℤ) → IsTrue (shows_offset items) → IsTrue (holds_offset items o) → OffsetShown items o
+offset-shown items o s h =
+    let first = both_tests (any_shows OffsetSign items) (any_shows OffsetHour items && (any_shows OffsetMinute items || not (any_shows OffsetSecond items))) s in
+    let hour = both_tests (any_shows OffsetHour items) (any_shows OffsetMinute items || not (any_shows OffsetSecond items)) first.1 in
+    let parts = both_tests (any_shows OffsetMinute items || (unsigned_abs o / 60 % 60 == 0)) (any_shows OffsetSecond items || (unsigned_abs o % 60 == 0)) h in
+    record { sign = first.0; hour = hour.0; minute = parts.0; second = parts.1 }
+
+-- A format of an offset holds each offset.
+sign-low : (b : Bool) (x : ℕ) → x ≡ (if b then 1 else 0) → x < 10
+sign-low true x e = omega arith
+sign-low false x e = omega arith
+
+offset-number : (c : Component) (o : ℤ) → IsOffset o → IsTrue (nat_le 21 (index c)) → (number c (moment_of_offset o) < 10 ^ width c) × (sign c (moment_of_offset o) ≡ [])
+offset-number OffsetHour o h u = let most = h.magnitude in (omega arith, refl)
+offset-number OffsetMinute o h u = (omega arith, refl)
+offset-number OffsetSecond o h u = (omega arith, refl)
+offset-number OffsetSign o h u = (sign-low (int_lt o (pos 0)) (number OffsetSign (moment_of_offset o)) refl, refl)
+offset-number _ o h u = cc
+
+offset-item : (i : Item) (o : ℤ) → IsOffset o → IsTrue (is_offset_item i) → IsHeld (moment_of_offset o) i
+offset-item (item.Literal b) o h u = tt
+offset-item (item.Number c p) o h u = offset-number c o h u
+offset-item (item.Name k) o h u = tt
+offset-item item.Fraction o h u = tt
+offset-item item.OffsetSign o h u = tt
+
+pub offset-held : (items : List Item) (o : ℤ) → IsOffset o → IsTrue (are_offset_items items) → AreHeld (moment_of_offset o) items
+offset-held [] o h u = tt
+offset-held (i ∷ items) o h u =
+    let both = both_tests (is_offset_item i) (are_offset_items items) u in
+    (offset-item i o h both.0, offset-held items o h both.1)

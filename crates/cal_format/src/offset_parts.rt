@@ -1,0 +1,55 @@
+//! Offsets from the numbers of a text.
+ghost use Rattle.std.specs.Prelude.{◌≡◌, ◌+◌, ◌*◌, ◌<◌, ◌≤◌, Some, IsTrue, IfSome, unsigned_abs};
+ghost use Rattle.cal_time.specs.UtcOffset.{IsOffset};
+ghost use Rattle.cal_format.specs.declared.moment.Moment.{Moment};
+ghost use Rattle.cal_format.specs.Reading.{shows_offset, holds_offset};
+ghost use Rattle.cal_format.specs.Scanning.{Agrees, signed_offset};
+
+use crate::fields::Fields;
+use crate::item::{Component, Item};
+use cal_time::UtcOffset;
+
+/// Returns the offset with the numbers of the fields.
+pub(crate) fn offset_of(items: &[Item], fields: &Fields) -> Option<UtcOffset>
+    ensures every { (v : Moment) → IsOffset v.offset → Agrees items.now fields.now v
+        → IsTrue (shows_offset items.now) → IsTrue (holds_offset items.now v.offset)
+        → result ≡ Some v.offset }
+    ensures in_range { IfSome result IsOffset }
+{
+    let sign = fields.get(Component::OffsetSign);
+    let hour = fields.get(Component::OffsetHour);
+    let minute = fields.get(Component::OffsetMinute);
+    let second = fields.get(Component::OffsetSecond);
+    offset_with(sign, hour, minute, second)
+}
+
+/// Returns the offset with this sign, which is 1 for minus, and these hours, minutes and seconds.
+fn offset_with(sign: u32, hour: u32, minute: u32, second: u32) -> Option<UtcOffset>
+    ensures value { hour ≤ 25 → minute ≤ 59 → second ≤ 59
+        → result ≡ Some (signed_offset sign (hour * 3_600 + minute * 60 + second)) }
+    ensures in_range { IfSome result IsOffset }
+{
+    if hour > 25 || minute > 59 || second > 59 {
+        return None;
+    }
+    match UtcOffset::from_whole_seconds(signed(sign, hour * 3_600 + minute * 60 + second)) {
+        Ok(offset) => {
+            let _ = offset.whole_seconds();
+            Some(offset)
+        }
+        Err(_) => None,
+    }
+}
+
+/// Returns the seconds, negative if the sign is 1.
+fn signed(sign: u32, seconds: u32) -> i32
+    requires { seconds < 100_000 }
+    ensures value { result ≡ signed_offset sign seconds }
+    ensures magnitude { unsigned_abs result ≡ seconds }
+{
+    if sign == 1 {
+        -(seconds as i32)
+    } else {
+        seconds as i32
+    }
+}
