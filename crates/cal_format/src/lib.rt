@@ -18,6 +18,7 @@ mod format;
 mod fraction;
 mod held;
 mod item;
+mod laws;
 mod moment;
 mod names;
 mod offset_date_time_format;

@@ -1,0 +1,49 @@
+//! Laws of parsing: two values that a format holds never have the same text.
+ghost use Rattle.std.specs.Prelude.{◌≡◌, ℕ, ℤ, IsTrue};
+ghost use Rattle.cal_time.specs.Date.{IsDate};
+ghost use Rattle.cal_time.specs.Time.{IsTime};
+ghost use Rattle.cal_datetime.specs.DateTime.{IsDateTime, time_at};
+ghost use Rattle.cal_format.specs.Moment.{moment_of_date, moment_of_time, moment_of_date_time};
+ghost use Rattle.cal_format.specs.Text.{text_of};
+ghost use Rattle.cal_format.specs.Reading.{holds_time};
+ghost use Rattle.cal_format.specs.Scanning.{AreHeld};
+
+use crate::date_format::DateFormat;
+use crate::date_time_format::DateTimeFormat;
+use crate::time_format::TimeFormat;
+use cal_datetime::PlainDateTime;
+use cal_time::{Date, Time};
+
+/// States that a text is the text of at most one date.
+pub(crate) fn one_date(format: &DateFormat, text: &[u8]) -> Option<Date>
+    ensures { (m n : ℕ) → IsDate m → IsDate n → AreHeld (moment_of_date m) format.now
+        → AreHeld (moment_of_date n) format.now
+        → text.now ≡ text_of format.now (moment_of_date m)
+        → text.now ≡ text_of format.now (moment_of_date n)
+        → m ≡ n }
+{
+    format.parse(text)
+}
+
+/// States that a text is the text of at most one time of day.
+pub(crate) fn one_time(format: &TimeFormat, text: &[u8]) -> Option<Time>
+    ensures { (m n : ℕ) → IsTime m → IsTime n → IsTrue (holds_time format.now m)
+        → IsTrue (holds_time format.now n)
+        → text.now ≡ text_of format.now (moment_of_time m)
+        → text.now ≡ text_of format.now (moment_of_time n)
+        → m ≡ n }
+{
+    format.parse(text)
+}
+
+/// States that a text is the text of at most one date-time.
+pub(crate) fn one_date_time(format: &DateTimeFormat, text: &[u8]) -> Option<PlainDateTime>
+    ensures { (y z : ℤ) → IsDateTime y → IsDateTime z → AreHeld (moment_of_date_time y) format.now
+        → AreHeld (moment_of_date_time z) format.now
+        → IsTrue (holds_time format.now (time_at y)) → IsTrue (holds_time format.now (time_at z))
+        → text.now ≡ text_of format.now (moment_of_date_time y)
+        → text.now ≡ text_of format.now (moment_of_date_time z)
+        → y ≡ z }
+{
+    format.parse(text)
+}
