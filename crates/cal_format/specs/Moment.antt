@@ -16,7 +16,8 @@ pub record IsMoment (v : Moment) : Type 0 where
   pub time : IsTime v.time
   pub offset : IsOffset v.offset
 
--- A day, a time of day, a date-time, an offset and a date-time at an offset as moments. What they lack is 0.
+-- A day, a time of day, a date-time, an offset and a date-time at an offset as moments. What they
+-- lack is 0.
 abbrev pub moment_of_date : ℕ → Moment
 moment_of_date n = record { date = n; time = 0; offset = pos 0 }
 

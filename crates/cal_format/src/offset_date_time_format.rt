@@ -21,8 +21,8 @@ use crate::value::moment_of_offset_date_time;
 use cal_datetime::OffsetDateTime;
 use std::marker::Model;
 
-/// A format whose texts determine a date, a time of day and an offset. Contracts see the list of its
-/// items.
+/// A format whose texts determine a date, a time of day and an offset. Contracts see the list of
+/// its items.
 #[derive(Drop)]
 pub struct OffsetDateTimeFormat {
     format: Format,

@@ -1,4 +1,4 @@
-//! Rows of Python's `strftime` and of GNU `date`, in the C locale. They were printed by those programs.
+//! Rows that Python's `strftime` and GNU `date` printed in the C locale.
 use crate::tests::{date_row, date_time_row, time_row};
 use cal_datetime::PlainDateTime;
 use cal_time::{Date, Month, Time};
