@@ -6,7 +6,6 @@ use Rattle.std.proofs.lemmas.Bool.Decides.{nat_tests}
 use Rattle.std.proofs.lemmas.Int.{ints, clamps}
 use Rattle.std.proofs.lemmas.List.FromFn.{get_or-map-range_with_len, length-map-range_with_len}
 use Rattle.std.specs.List.{range_with_len, slice_index_or}
-use Rattle.std.specs.Int.{int_min, int_max}
 use Rattle.cal_time.specs.Date.{first_year, IsYear}
 use Rattle.cal_time.specs.Month.{number}
 use Rattle.cal_zone.specs.declared.change.Change.{Change}

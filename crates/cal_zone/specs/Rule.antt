@@ -10,11 +10,11 @@ use Rattle.cal_zone.specs.declared.change.Change.{Change}
 use Rattle.cal_zone.specs.declared.yearly.Yearly.{Yearly}
 use Rattle.cal_zone.specs.Timeline.{IsOffset}
 
--- the days of the month of a year with the weekday
+-- The day has the weekday of the change, in its month of a year.
 abbrev pub is_on : Yearly → ℤ → ℕ → Bool
 is_on r y = is_weekday_in_month (index r.weekday) y (number r.month)
 
--- the day of the change: the first to the fourth of them, or by 5 the last
+-- The day of the change is the first to the fourth of these days, or the last for week 5.
 unfoldable pub day_of : Yearly → ℤ → ℕ
 day_of r y =
     unwrap_or
@@ -22,15 +22,15 @@ day_of r y =
     else slice_get (filter (is_on r y) (days_from 0 (last_day + 1))) (r.week - 1))
     0
 
--- the day 1970-01-01
+-- The number of the day 1970-01-01.
 abbrev pub epoch_day : ℤ
 epoch_day = pos 365_961_662
 
--- its instant, by the clock that is ahead of UTC by the offset before it
+-- The Unix time of the change, by clocks that are ahead of UTC by the offset before it.
 abbrev pub moment : Yearly → ℤ → ℤ → ℤ
 moment r before y = ((pos (day_of r y) -ℤ epoch_day) *ℤ pos 86_400 +ℤ r.time) -ℤ before
 
--- Two changes each year, from the first year of the range on, one after the other.
+-- The changes of a rule by index: two each year, from the first year of the range on.
 abbrev pub change_of : Yearly → Yearly → ℕ → Change
 change_of one other k =
     if k % 2 == 0 then record { at = moment one other.kind.offset (first_year +ℤ pos (k / 2)); kind = one.kind }
@@ -39,21 +39,22 @@ change_of one other k =
 abbrev pub instant_at : Yearly → Yearly → ℕ → ℤ
 instant_at one other k = (change_of one other k).at
 
--- as many as the years of the range have; not an `abbrev`, so that no proof counts them
+-- The years of the range have this number of changes. It is not an `abbrev`, so that no proof counts
+-- them.
 unfoldable pub rule_count : ℕ
 rule_count = 3_999_998
 
--- those from one on; not an `abbrev` either
+-- The changes from an index on.
 unfoldable pub changes_from : Yearly → Yearly → ℕ → List Change
 changes_from one other k = map (change_of one other) (range_with_len k (rule_count - k))
 
--- a change that each year has, less than 26 hours from UTC, at most seven days from midnight
+-- The week is from 1 to 5, the time at most seven days from midnight, and the offset in range.
 pub record IsYearly (r : Yearly) : Type 0 where
   pub week : (1 ≤ r.week) × (r.week ≤ 5)
   pub time : (neg_ℤ (pos 604_800) ≤ℤ r.time) × (r.time ≤ℤ pos 604_800)
   pub offset : IsOffset r.kind.offset
 
--- and between the two of them at least a whole month, also over the end of the year
+-- At least a whole month lies between the two changes, also over the new year.
 pub record IsCalm (one other : Yearly) : Type 0 where
   pub first : IsYearly one
   pub second : IsYearly other

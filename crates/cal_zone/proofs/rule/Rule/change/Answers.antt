@@ -1,4 +1,4 @@
-use Rattle.std.proofs.Common.{refl, arith, w32, w64, ◌∙◌}
+use Rattle.std.proofs.Common.{refl, arith, w64, ◌∙◌}
 use Rattle.std.proofs.lemmas.Int.{ints, to_z-of_z}
 use Rattle.cal_zone.proofs.Rules.{change-even, change-odd, found_in}
 use Rattle.cal_zone.proofs.rule.Rule.change.Goals as goal

@@ -1,8 +1,7 @@
-use Rattle.std.proofs.Common.{◌≡◌, ap, ◌∙◌, arith, refl, inr, ℕ, ◌-◌, length, subst, sym}
-use Rattle.std.specs.Prelude.{ℤ}
+use Rattle.std.proofs.Common.{ap, ◌∙◌, arith, refl, inr, ℕ, ◌-◌, length}
 use Rattle.std.specs.List.{slice_index_or}
 use Rattle.cal_zone.specs.declared.change.Change.{Change}
-use Rattle.cal_zone.specs.Timeline.{after_changes, at, no_change, IsMoment, IsOffset}
+use Rattle.cal_zone.specs.Timeline.{after_changes, at, no_change}
 use Rattle.cal_zone.proofs.Joins.{moment_is, moment_shown, offset_is, offset_shown}
 use Rattle.cal_zone.proofs.Offsets.{after_changes-offset}
 use Rattle.cal_zone.proofs.Rules.{joins-next, joins-none}

@@ -1,8 +1,7 @@
-use Rattle.std.proofs.Common.{◌∙◌, ap, length, arith, subst, sym, ℕ, w64}
+use Rattle.std.proofs.Common.{◌∙◌, ap, length, arith, w64}
 use Rattle.std.specs.Prelude.{◌<ℤ◌}
 use Rattle.std.proofs.lemmas.Int.{ints, to_z-of_z}
 use Rattle.cal_zone.specs.declared.change.Change.{Change}
-use Rattle.cal_zone.specs.Split.{IsSplit}
 use Rattle.cal_zone.specs.Timeline.{at}
 use Rattle.cal_zone.proofs.Orders.{at_rises}
 use Rattle.cal_zone.proofs.Joins.{less_test}
