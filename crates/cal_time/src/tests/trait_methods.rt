@@ -41,13 +41,10 @@ fn compared<T: Ord + Copy>(a: T, b: T) -> Compared<T> {
 macro_rules! check_compared {
     ($rt:expr, $a:expr, $b:expr) => {
         let (a, b) = ($a, $b);
-        let (is_equal, is_other, order, partial_order, minimum, maximum) = compared(a, b);
-        same($rt, a.eq(&b), is_equal);
-        same($rt, a.ne(&b), is_other);
-        same($rt, a.cmp(&b), order);
-        same($rt, a.partial_cmp(&b), partial_order);
-        same($rt, a.min(b), minimum);
-        same($rt, a.max(b), maximum);
+        let (order, partial_order) = (a.cmp(&b), a.partial_cmp(&b));
+        let (minimum, maximum) = (a.min(b), a.max(b));
+        let by_name = (a.eq(&b), a.ne(&b), order, partial_order, minimum, maximum);
+        same($rt, by_name, compared(a, b));
         let mut state = DefaultHasher::new();
         a.hash(&mut state);
         same($rt, state.finish(), hash_of(&a));
@@ -102,12 +99,11 @@ fn comparisons(rt: HostRuntime) {
 macro_rules! check_walk {
     ($rt:expr, $walk:expr, $first:expr, $second:expr, $third:expr) => {
         let (mut by_name, mut by_trait) = ($walk, $walk);
-        same($rt, by_name.next(), Some($first));
-        same($rt, by_name.next(), Some($second));
-        same($rt, by_name.next(), Some($third));
-        same($rt, Iterator::next(&mut by_trait), Some($first));
-        same($rt, Iterator::next(&mut by_trait), Some($second));
-        same($rt, Iterator::next(&mut by_trait), Some($third));
+        let items = [Some($first), Some($second), Some($third)];
+        same($rt, [by_name.next(), by_name.next(), by_name.next()], items);
+        let walk = &mut by_trait;
+        let found = [Iterator::next(walk), Iterator::next(walk), Iterator::next(walk)];
+        same($rt, found, items);
         same($rt, by_name.size_hint(), Iterator::size_hint(&by_trait));
         same($rt, by_name == by_trait, true);
     };
