@@ -17,6 +17,7 @@ mod printing;
 mod recurrences;
 mod texts;
 mod walking;
+mod zones;
 
 use std::io;
 
@@ -36,5 +37,6 @@ fn main(rt: HostRuntime) -> io::Result<()> {
     names::show(&rt)?;
     texts::show(&rt)?;
     bills::show(&rt)?;
-    recurrences::show(&rt)
+    recurrences::show(&rt)?;
+    zones::show(&rt)
 }
