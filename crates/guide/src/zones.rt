@@ -32,12 +32,6 @@ fn gap_at(zone: &Zone<'_>, reading: PlainDateTime) -> Option<Gap>
     }
 }
 
-/// Converts a reading of one zone to the clock of another, by the policy that most calendars have.
-fn abroad(home: &Zone<'_>, reading: PlainDateTime, other: &Zone<'_>) -> Option<OffsetDateTime> {
-    let moment = home.resolve(reading).compatible()?;
-    in_zone(moment, other)
-}
-
 /// Converts a date-time to the clock of a zone and back to its own offset.
 fn there_and_back(moment: OffsetDateTime, zone: &Zone<'_>) -> Option<OffsetDateTime>
     ensures { IfSome result (λ same. instant same ≡ instant moment) }
@@ -71,7 +65,7 @@ fn european(winter: i32) -> Option<Zone<'static>> {
 }
 
 pub fn show(rt: &impl Print) -> io::Result<()> {
-    let (Some(berlin), Some(athens)) = (european(3_600), european(7_200)) else {
+    let Some(berlin) = european(3_600) else {
         return Ok(());
     };
     for (month, day) in [(Month::March, 31), (Month::July, 1), (Month::October, 27)] {
@@ -82,7 +76,6 @@ pub fn show(rt: &impl Print) -> io::Result<()> {
             return Ok(());
         };
         println!(rt; "{:?}", once(&berlin, reading))?;
-        println!(rt; "{:?}", abroad(&berlin, reading, &athens))?;
         let is_skipped = gap_at(&berlin, reading).is_some();
         println!(rt; "{is_skipped}")?;
         let moment = reading.assume_utc();
