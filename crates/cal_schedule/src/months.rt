@@ -1,5 +1,5 @@
 //! Arithmetic with months and years.
-ghost use Rattle.std.specs.Prelude.{◌≡◌, ℕ, ◌+◌, ◌<◌, ◌≤◌, ◌^◌, min, pos, neg_ℤ, ◌+ℤ◌, ◌*ℤ◌, ◌<ℤ◌, ◌≤ℤ◌, Some, IfSome, IfNone};
+ghost use Rattle.std.specs.Prelude.{◌≡◌, ℕ, ◌+◌, ◌<◌, ◌≤◌, ◌^◌, min, pos, neg_ℤ, ◌+ℤ◌, ◌-ℤ◌, ◌*ℤ◌, ◌<ℤ◌, ◌≤ℤ◌, Some, IfSome, IfNone};
 ghost use Rattle.cal_time.specs.Date.{first_year, last_year, last_day, IsDate, IsYear, year_at, month_at, day_of_month_at};
 ghost use Rattle.cal_time.specs.DateLimits.{months_in_range};
 ghost use Rattle.cal_time.specs.Lengths.{days_in_month};
@@ -12,9 +12,7 @@ use cal_time::{Date, limits};
 const MONTHS: i64 = limits::MONTHS as i64;
 
 /// Returns the index of the month, from 0 for January of -999999, and the day of the month.
-/// Neither this call nor [`clamped_date_in_month`] has a table or a branch, so a loop takes several
-/// dates at a time.
-pub fn month_number_and_day(date: Date) -> (u32, u8)
+pub(crate) fn month_number_and_day(date: Date) -> (u32, u8)
     ensures month { HasMonthIndex result.0 date }
     ensures max { result.0 < months_in_range }
     ensures day { result.1 ≡ day_of_month_at date }
@@ -22,11 +20,21 @@ pub fn month_number_and_day(date: Date) -> (u32, u8)
     ensures in_range { IsDate date }
 {
     let (month, day) = date.month_index_and_day();
-    ((date.year() - MIN_YEAR) as u32 * 12 + u32::from(month), day)
+    (month_index(date.year(), u32::from(month)), day)
+}
+
+/// Returns the index of a month, by its year and its index in the year, from 0 for January.
+pub(crate) fn month_index(year: i32, month: u32) -> u32
+    requires year { IsYear year }
+    requires month { month < 12 }
+    ensures value { pos result ≡ year *ℤ pos 12 +ℤ pos month -ℤ first_year *ℤ pos 12 }
+    ensures max { result < months_in_range }
+{
+    (year - MIN_YEAR) as u32 * 12 + month
 }
 
 /// Returns the year and the month, from 0 for January, of the month with this index.
-fn year_and_month(index: u32) -> (i32, u8)
+pub(crate) fn year_and_month(index: u32) -> (i32, u8)
     requires { index < months_in_range }
     ensures value { result.0 *ℤ pos 12 +ℤ pos result.1 ≡ pos index +ℤ first_year *ℤ pos 12 }
     ensures month { result.1 < 12 }
@@ -37,7 +45,7 @@ fn year_and_month(index: u32) -> (i32, u8)
 
 /// Returns the date in a month, by its index, with this day, or the last day of the month if it is
 /// shorter. The index is below 23999988, and the day 1 or more.
-pub fn clamped_date_in_month(index: u32, day: u8) -> Date
+pub(crate) fn clamped_date_in_month(index: u32, day: u8) -> Date
     requires month { index < months_in_range }
     requires day { 1 ≤ day }
     ensures month { HasMonthIndex index result }
