@@ -18,12 +18,6 @@ pub record ChecksYearAndDay {T : Type 0} (y : ℤ) (m d : ℕ) (result : Result 
   pub year : FailsWith year_out_of_range result ↔ ¬ IsYear y
   pub day : FailsWith day_out_of_range result ↔ IsYear y × ¬ IsDayOfMonth y m d
 
--- The error names the year y if it is out of range, else the ordinal o if the year doesn't have it.
-pub record ChecksYearAndOrdinal {T : Type 0} (y : ℤ) (o : ℕ) (result : Result T ComponentRange) : Type 0 where
-  pub error_kind : IfErr result (λ e. (e ≡ year_out_of_range) ⊎ (e ≡ ordinal_out_of_range))
-  pub year : FailsWith year_out_of_range result ↔ ¬ IsYear y
-  pub ordinal : FailsWith ordinal_out_of_range result ↔ IsYear y × ¬ IsOrdinal y o
-
 -- The only error is that month m of the year y doesn't have the day d.
 pub record ChecksDay {T : Type 0} (y : ℤ) (m d : ℕ) (result : Result T ComponentRange) : Type 0 where
   pub error_kind : IfErr result (λ e. e ≡ day_out_of_range)

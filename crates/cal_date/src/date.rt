@@ -1,9 +1,8 @@
 //! Dates.
-ghost use Rattle.std.specs.Prelude.{◌≡◌, ℕ, ◌+◌, ◌-◌, ◌<◌, ◌≤◌, pos, ◌+ℤ◌, ◌<ℤ◌, ◌≤ℤ◌, ◌↔◌, IfOk, IfErr, IsErr, IsTrue, SomeIff, ◌⊎◌, Ok, [], ◌∷◌};
+ghost use Rattle.std.specs.Prelude.{◌≡◌, ℕ, true, ◌+◌, ◌-◌, ◌<◌, ◌≤◌, pos, ◌+ℤ◌, ◌<ℤ◌, ◌≤ℤ◌, ◌↔◌, IfOk, IfErr, IsErr, IsTrue, SomeIff, ◌⊎◌, Ok, [], ◌∷◌};
 ghost use Rattle.cal_date.specs.Date.{last_day, year_at, ordinal_at, julian_day_at, IsDate, IsYear, IsOrdinal, HasOrdinalDate, HasJulianDay, NoDate};
 ghost use Rattle.cal_date.specs.Order.{IsBefore, ordinal_date_at};
 ghost use Rattle.cal_date.specs.ClosedForms.{julian_day_of, kernel_of, year_of_kernel, ordinal_of_kernel};
-ghost use Rattle.cal_date.specs.DateResults.{ReturnsDate, ChecksYearAndOrdinal};
 ghost use Rattle.cal_date.specs.PackedDate.{leap_mark, ordinal_number};
 ghost use Rattle.cal_units.specs.Lengths.{days_in_year, is_leap_year};
 ghost use Rattle.cal_units.specs.ComponentError.{FailsWith};
@@ -13,7 +12,7 @@ use crate::day_number::days_of_years;
 use crate::error::{Component, ComponentRange};
 use crate::kernel::date_of_julian_day;
 use crate::limits::{MAX_YEAR, MIN_JULIAN_DAY, MIN_YEAR};
-use cal_units::util::{days_in_year, is_leap_year};
+use cal_units::util::is_leap_year;
 use std::marker::Model;
 
 mod arithmetic;
@@ -44,19 +43,25 @@ fn is_year(year: i32) -> bool
     year >= MIN_YEAR && year <= MAX_YEAR
 }
 
-/// Returns `true` if the year has the ordinal.
+/// Returns `true` if the year has the ordinal. Only the ordinal 366 depends on the year.
 fn has_ordinal(year: i32, ordinal: u16) -> bool
     ensures { IsTrue result ↔ IsOrdinal year ordinal }
 {
-    ordinal > 0 && ordinal <= days_in_year(year)
+    // The ordinal 0 wraps to a number far above the length of a year.
+    if u32::from(ordinal).wrapping_sub(1) < MIN_DAYS_IN_YEAR {
+        return true;
+    }
+    is_last_of_leap_year(year, ordinal)
 }
 
-/// Returns `true` if the ordinal is from 1 to 365.
-fn is_in_every_year(ordinal: u16) -> bool
-    ensures { IsTrue result ↔ (1 ≤ ordinal) × (ordinal ≤ 365) }
+/// Returns `true` if the ordinal is 366 and the year has it. It isn't inlined, so the code for
+/// every other ordinal stays short.
+#[cold]
+#[inline(never)]
+fn is_last_of_leap_year(year: i32, ordinal: u16) -> bool
+    ensures { IsTrue result ↔ (ordinal ≡ 366) × (is_leap_year year ≡ true) }
 {
-    // The ordinal 0 wraps to a number far above the length of a year.
-    u32::from(ordinal).wrapping_sub(1) < MIN_DAYS_IN_YEAR
+    ordinal == 366 && is_leap_year(year)
 }
 
 /// A date of the proleptic Gregorian calendar, from -999999-01-01 to 999999-12-31.
@@ -115,21 +120,6 @@ impl Date {
         ensures year { FailsWith year_out_of_range result ↔ ¬ IsYear year }
         ensures ordinal { FailsWith ordinal_out_of_range result
             ↔ IsYear year × ¬ IsOrdinal year ordinal }
-    {
-        if is_year(year) && is_in_every_year(ordinal) {
-            return Ok(Date::at_ordinal(year, ordinal));
-        }
-        Self::from_any_ordinal_date(year, ordinal)
-    }
-
-    /// Creates a date like [`Self::from_ordinal_date`]. It isn't inlined, so the code for the
-    /// ordinals that every year has stays short.
-    #[cold]
-    #[inline(never)]
-    #[tactic(auto, using(crate::proofs::Dates::ordinal_dates))]
-    fn from_any_ordinal_date(year: i32, ordinal: u16) -> Result<Self, ComponentRange>
-        ensures value { ReturnsDate (HasOrdinalDate year ordinal) result }
-        ensures error { ChecksYearAndOrdinal year ordinal result }
     {
         if !is_year(year) {
             return Err(ComponentRange::unconditional(Component::Year));
