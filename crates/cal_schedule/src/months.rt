@@ -5,7 +5,7 @@ ghost use Rattle.cal_time.specs.DateLimits.{months_in_range};
 ghost use Rattle.cal_time.specs.Lengths.{days_in_month};
 ghost use Rattle.cal_schedule.specs.Months.{month_number_at, HasMonthIndex, IsMonthNumber, IsMonthsLater};
 
-use cal_time::limits::MIN_YEAR;
+use cal_time::limits::{MAX_YEAR, MIN_YEAR};
 use cal_time::{Date, limits};
 
 /// The number of months in the range.
@@ -57,24 +57,6 @@ pub(crate) fn clamped_date_in_month(index: u32, day: u8) -> Date
     Date::from_month_index_clamped(year, month, day)
 }
 
-/// Adds months, or returns `None` if the resulting month is out of range.
-fn checked_add_i64_months(date: Date, months: i64) -> Option<Date>
-    requires min { neg_ℤ (pos (2 ^ 40)) ≤ℤ months }
-    requires max { months ≤ℤ pos (2 ^ 40) }
-    ensures every { (n : ℕ) → IsDate n → IsMonthsLater date months n → result ≡ Some n }
-    ensures value { IfSome result (λ n. IsDate n × IsMonthsLater date months n) }
-    ensures some { IfSome result (λ _. IsMonthNumber (month_number_at date +ℤ months)) }
-    ensures none { IfNone result (¬ IsMonthNumber (month_number_at date +ℤ months)) }
-    ensures in_range { IsDate date }
-{
-    let (index, day) = month_number_and_day(date);
-    let index = i64::from(index) + months;
-    if index < 0 || index >= MONTHS {
-        return None;
-    }
-    Some(clamped_date_in_month(index as u32, day))
-}
-
 /// Adds months, or subtracts them if the number is negative. The day of the month stays, or becomes
 /// the last day if the month is shorter. One month after 31 January 2023 is 28 February 2023.
 ///
@@ -86,7 +68,12 @@ pub fn checked_add_months(date: Date, months: i32) -> Option<Date>
     ensures none { IfNone result (¬ IsMonthNumber (month_number_at date +ℤ months)) }
     ensures in_range { IsDate date }
 {
-    checked_add_i64_months(date, i64::from(months))
+    let (index, day) = month_number_and_day(date);
+    let index = i64::from(index) + i64::from(months);
+    if index < 0 || index >= MONTHS {
+        return None;
+    }
+    Some(clamped_date_in_month(index as u32, day))
 }
 
 /// Adds months like [`checked_add_months`], but returns the first or the last date of the range if
@@ -120,6 +107,10 @@ pub fn checked_add_years(date: Date, years: i32) -> Option<Date>
     ensures none { IfNone result (¬ IsYear (year_at date +ℤ years)) }
     ensures in_range { IsDate date }
 {
-    let months = 12 * i64::from(years);
-    checked_add_i64_months(date, months)
+    let (month, day) = date.month_index_and_day();
+    let year = i64::from(date.year()) + i64::from(years);
+    if year < i64::from(MIN_YEAR) || year > i64::from(MAX_YEAR) {
+        return None;
+    }
+    Some(Date::from_month_index_clamped(year as i32, month, day))
 }

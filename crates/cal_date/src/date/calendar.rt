@@ -125,10 +125,10 @@ impl Date {
         ensures in_range { IsDate self }
     {
         // A month has 28 to 31 days, so a quotient by 32 gives its entry or the one before it.
-        let low = self.low_bits();
+        let low = self.low_bits() as usize;
         let quotient = low / 32;
-        let entry = quotient + u32::from(low > u32::from(MONTH_STARTS[quotient as usize + 1]));
-        let start = u32::from(MONTH_STARTS[entry as usize]);
+        let entry = quotient + usize::from(low > usize::from(MONTH_STARTS[quotient + 1]));
+        let start = usize::from(MONTH_STARTS[entry]);
         ((entry % 16) as u8, (low - start) as u8)
     }
 

@@ -1,6 +1,6 @@
-use Rattle.std.proofs.Common.{◌≡◌, ◌∙◌, sym, subst, ap, arith, rules, ◌+ℤ◌, min}
+use Rattle.std.proofs.Common.{◌≡◌, ◌∙◌, sym, subst, ap, arith, rules, ◌+ℤ◌, min, to_z, of_z, w32}
 use Rattle.std.proofs.lemmas.Int.{ints, to_z-of_z}
-use Rattle.cal_time.specs.Date.{year_at, month_at, day_of_month_at}
+use Rattle.cal_time.specs.Date.{julian_day_at, year_at, month_at, day_of_month_at}
 use Rattle.cal_time.specs.Lengths.{days_in_month}
 use Rattle.cal_schedule.specs.Months.{month_number_at, HasMonthIndex, IsMonthsLater}
 use Rattle.cal_c.specs.Results.{IsDateWith, date_ok}
@@ -48,5 +48,7 @@ returns-else-index-gt-LAST_MONTH c =
           let same : c.month_number_and_day-index.result.1 ≡ day_of_month_at n = c.month_number_and_day-index.ensures.day ∙ ap day_of_month_at (number h) in
           let day : day_of_month_at r ≡ min (day_of_month_at n) (days_in_month (year_at r) (month_at r)) =
           c.clamped_date_in_month-later.ensures.day ∙ ap (λ k. min k (days_in_month (year_at r) (month_at r))) same in
-          subst (IsDateWith (IsMonthsLater n c.args.months)) (ap date_ok (sym (c.julian_day.ensures c.clamped_date_in_month-later.ensures.range))) (IsDateWith-at (IsMonthsLater n c.args.months) r c.clamped_date_in_month-later.ensures.range (record { month = month; day = day }));
+          let range = c.clamped_date_in_month-later.ensures.range in
+          let is : to_z w32 (of_z w32 c.julian_day.result) ≡ julian_day_at r = omega (arith, ints, c.julian_day.ensures range, range) in
+          subst (IsDateWith (IsMonthsLater n c.args.months)) (ap date_ok (sym is)) (IsDateWith-at (IsMonthsLater n c.args.months) r range (record { month = month; day = day }));
     }
