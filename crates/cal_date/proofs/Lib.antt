@@ -7,6 +7,7 @@ pub mod IsoForms
 pub mod IsoWeeks
 pub mod MonthForms
 pub mod Months
+pub mod MonthStarts
 pub mod JulianDays
 pub mod Kernels
 pub mod MarchDays

@@ -157,7 +157,7 @@ moved p days n at low high =
 leap_mark-byte : (y : ℤ) → leap_mark y ≡ 512 * bool_byte (is_leap_year y)
 leap_mark-byte y = elim (cases_Bool (is_leap_year y)) [ inl leap ↦ rw leap refl | inr common ↦ rw common refl ]
 
-bool_byte-most : (b : Bool) → bool_byte b ≤ 1
+pub bool_byte-most : (b : Bool) → bool_byte b ≤ 1
 bool_byte-most b = elim (cases_Bool b) [ inl is ↦ rw is (omega arith) | inr is ↦ rw is (omega arith) ]
 
 -- The year above the low ten bits, a number of 22 bits.
@@ -176,7 +176,7 @@ joined b m k short low =
     let doubled : b * 2 ^ 10 + m * 512 ≡ (b * 2 + m) * 2 ^ 9 = omega arith in
     ap (λ n. bit_or n k) (or_shifted b 10 (m * 512) mark ∙ doubled) ∙ or_shifted (b * 2 + m) 9 k ordinal
 
-of_pos : (z : ℤ) (n : ℕ) → z ≡ pos n → n ≤ 366 → of_z w32 z ≡ n
+of_pos : (z : ℤ) (n : ℕ) → z ≡ pos n → n ≤ 878 → of_z w32 z ≡ n
 of_pos z n e h = ap (of_z w32) e ∙ grind (arith, ints)
 
 pub packed-bits : (y leap o : ℤ) (k : ℕ) → IsYear y → IsOrdinal y k → leap ≡ pos (bool_byte (is_leap_year y)) → o ≡ pos k
@@ -190,7 +190,7 @@ packed-bits y leap o k h f mark e =
     let mark_bits : of_z w32 leap * 512 % 4294967296 ≡ m * 512 = omega (arith, of_pos leap m mark (omega (arith, low)), low) in
     ap (λ n. to_z w32 (bit_or (bit_or n (of_z w32 leap * 512 % 4294967296)) (of_z w32 o))) (year_bits y)
     ∙ ap (λ n. to_z w32 (bit_or (bit_or ((of_z w32 y % 4194304) * 2 ^ 10) n) (of_z w32 o))) mark_bits
-    ∙ ap (λ n. to_z w32 (bit_or (bit_or ((of_z w32 y % 4194304) * 2 ^ 10) (m * 512)) n)) (of_pos o k e short)
+    ∙ ap (λ n. to_z w32 (bit_or (bit_or ((of_z w32 y % 4194304) * 2 ^ 10) (m * 512)) n)) (of_pos o k e (omega (arith, short)))
     ∙ ap (to_z w32) (joined (of_z w32 y % 4194304) m k short low)
     ∙ packed-parts y (packed y k) m k h short low is
 
@@ -217,3 +217,20 @@ mask_10-casts x = subst (Casts w32) (sym (and_mask x 10)) (small (x % 1024) (ome
     small n below = (omega (arith, ints), omega (arith, ints))
 
 pub ruleset numbers_of_packed = (packed_at-number_of, ints, nat_tests)
+
+pub packed-low_bits : (y z : ℤ) (low k : ℕ) → IsYear y → IsOrdinal y k → low ≡ leap_mark y + k → z ≡ pos low
+    → to_z w32 (bit_or (of_z w32 y * 1024 % 4294967296) (of_z w32 z)) ≡ packed y k
+unfolding packed
+packed-low_bits y z low k h f e is =
+    let b = of_z w32 y % 4194304 in
+    let m = bool_byte (is_leap_year y) in
+    let mark : m ≤ 1 = bool_byte-most (is_leap_year y) in
+    let short : k ≤ 366 = grind (arith, nat_tests) in
+    let parts : low ≡ 512 * m + k = e ∙ ap (λ n. n + k) (leap_mark-byte y) in
+    let below : low < 2 ^ 10 = omega (arith, parts, mark, short) in
+    let value : packed y k ≡ y *ℤ pos 1024 +ℤ pos (512 * m + k) = ap (λ n. y *ℤ pos 1024 +ℤ pos (n + k)) (leap_mark-byte y) in
+    let joined : b * 2 ^ 10 + low ≡ (b * 2 + m) * 2 ^ 9 + k = omega (arith, parts) in
+    ap (λ n. to_z w32 (bit_or n (of_z w32 z))) (year_bits y)
+    ∙ ap (λ n. to_z w32 (bit_or (b * 2 ^ 10) n)) (of_pos z low is (omega (arith, below, parts, mark, short)))
+    ∙ ap (to_z w32) (or_shifted b 10 low below ∙ joined)
+    ∙ packed-parts y (packed y k) m k h short mark value

@@ -299,6 +299,18 @@ impl Date {
         }
     }
 
+    /// Creates a date from a year of the range, and the leap mark and an ordinal of this year.
+    fn pack_low_bits(year: i32, low: u32) -> Self
+        requires year { IsYear year }
+        requires low { IsOrdinal year (low - leap_mark year) }
+        ensures value { result ≡ ordinal_number year (low - leap_mark year) }
+        ensures range { IsDate result }
+    {
+        Date {
+            packed: year << 10 | low as i32,
+        }
+    }
+
     /// Returns the leap mark and the ordinal: from 1 to 365, or from 513 to 878 in a leap year.
     fn low_bits(self) -> u32
         ensures value { result ≡ leap_mark (year_at self) + ordinal_at self }

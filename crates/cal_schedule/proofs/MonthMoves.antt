@@ -2,9 +2,8 @@
 use Rattle.std.proofs.Common.{◌≡◌, ℕ, ◌+◌, ◌-◌, ◌≤◌, min, sym, ap, ◌∙◌, arith, ℤ, pos, ◌+ℤ◌, ◌-ℤ◌, ◌*ℤ◌, ◌≤ℤ◌, inl, inr}
 use Rattle.std.proofs.lemmas.Bool.{cases_lt}
 use Rattle.std.proofs.lemmas.Int.{ints}
-use Rattle.std.specs.Prelude.{Option, Some, None, IfSome, IfNone}
 use Rattle.cal_time.specs.Lengths.{days_in_month}
-use Rattle.cal_time.specs.Date.{first_year, year_at, month_at, day_of_month_at, IsDate, IsYear, HasCalendarDate}
+use Rattle.cal_time.specs.Date.{first_year, year_at, month_at, day_of_month_at, IsDate, HasCalendarDate}
 use Rattle.cal_time.specs.CalendarDay.{calendar_day}
 use Rattle.cal_time.specs.Days.{month_at-range, day_of_month_at-range, year_at-range, days-follow, day_with}
 use Rattle.cal_time.specs.Components.{day_of_month_at-rises, months-rise}
@@ -92,33 +91,12 @@ years-kept n r years h =
     let b = month_at-range r in
     (omega (arith, ints, a.0, a.1, b.0, b.1, h.month), omega (arith, ints, a.0, a.1, b.0, b.1, h.month))
 
-pub year_of-month : (n : ℕ) (years : ℤ) → IsMonthNumber (month_number_at n +ℤ pos 12 *ℤ years) → IsYear (year_at n +ℤ years)
-year_of-month n years h =
-    let a = month_at-range n in
-    (omega (arith, ints, a.0, a.1, h.not_before), omega (arith, ints, a.0, a.1, h.not_after))
-
-pub month_of-year : (n : ℕ) (years : ℤ) → IsYear (year_at n +ℤ years) → IsMonthNumber (month_number_at n +ℤ pos 12 *ℤ years)
-month_of-year n years h =
-    let a = month_at-range n in
-    record { not_before = omega (arith, ints, a.0, a.1, h.0); not_after = omega (arith, ints, a.0, a.1, h.1) }
-
--- what a move gives
-pub record IsMoved (n : ℕ) (r : Option ℕ) (months : ℤ) : Type 0 where
-  pub every : (s : ℕ) → IsDate s → IsMonthsLater n months s → r ≡ Some s
-  pub has : IfSome r (λ s. IsDate s × IsMonthsLater n months s)
-  pub some : IfSome r (λ _. IsMonthNumber (month_number_at n +ℤ months))
-  pub none : IfNone r (¬ IsMonthNumber (month_number_at n +ℤ months))
-
--- the same of what a move by years gives
-pub years-parts : (n : ℕ) (years : ℤ) (r : Option ℕ) → IfSome r (λ s. IsDate s × IsMonthsLater n (pos 12 *ℤ years) s)
-    → IfSome r (λ s. (year_at s ≡ year_at n +ℤ years) × (month_at s ≡ month_at n))
-years-parts n years None h = tt
-years-parts n years (Some s) h = years-kept n s years h.1
-
-pub years-some : (n : ℕ) (years : ℤ) (r : Option ℕ) → IfSome r (λ _. IsMonthNumber (month_number_at n +ℤ pos 12 *ℤ years)) → IfSome r (λ _. IsYear (year_at n +ℤ years))
-years-some n years None h = tt
-years-some n years (Some s) h = year_of-month n years h
-
-pub years-none : (n : ℕ) (years : ℤ) (r : Option ℕ) → IfNone r (¬ IsMonthNumber (month_number_at n +ℤ pos 12 *ℤ years)) → IfNone r (¬ IsYear (year_at n +ℤ years))
-years-none n years None h = λ year. h (month_of-year n years year)
-years-none n years (Some s) h = tt
+-- A day of the month that is `years` years later has the day, or the last day of the month.
+pub years_later : (n r : ℕ) (y years : ℤ) (i d : ℕ) → y ≡ year_at n +ℤ years → i + 1 ≡ month_at n → d ≡ day_of_month_at n
+    → HasCalendarDate y (i + 1) (min d (days_in_month y (i + 1))) r → IsMonthsLater n (pos 12 *ℤ years) r
+years_later n r y years i d year month day has =
+    let length = ap (λ k. min (day_of_month_at n) (days_in_month k.year k.month)) has in
+    record {
+      month = omega (arith, ints, year, month, number_from r y (i + 1) _ has);
+      day = ap (λ k. k.day) has ∙ ap (λ k. min k (days_in_month y (i + 1))) day ∙ sym length;
+    }

@@ -5,6 +5,7 @@
 //! result is out of range or doesn't exist.
 #![tactic(auto)]
 
+pub mod day_number;
 pub mod laws;
 mod months;
 mod period;
@@ -15,10 +16,7 @@ mod weekdays;
 mod workdays;
 mod year_fraction;
 
-pub use months::{
-    checked_add_months, checked_add_years, clamped_date_in_month, month_number_and_day,
-    saturating_add_months,
-};
+pub use months::{checked_add_months, checked_add_years, saturating_add_months};
 pub use period::Period;
 pub use period_ends::{
     first_of_iso_week, first_of_month, first_of_quarter, first_of_year, last_of_iso_week,

@@ -1,20 +1,18 @@
 //! Arithmetic with months and years.
-ghost use Rattle.std.specs.Prelude.{◌≡◌, ℕ, ◌+◌, ◌<◌, ◌≤◌, ◌^◌, min, pos, neg_ℤ, ◌+ℤ◌, ◌*ℤ◌, ◌<ℤ◌, ◌≤ℤ◌, Some, IfSome, IfNone};
+ghost use Rattle.std.specs.Prelude.{◌≡◌, ℕ, ◌+◌, ◌<◌, ◌≤◌, ◌^◌, min, pos, neg_ℤ, ◌+ℤ◌, ◌-ℤ◌, ◌*ℤ◌, ◌<ℤ◌, ◌≤ℤ◌, Some, IfSome, IfNone};
 ghost use Rattle.cal_time.specs.Date.{first_year, last_year, last_day, IsDate, IsYear, year_at, month_at, day_of_month_at};
 ghost use Rattle.cal_time.specs.DateLimits.{months_in_range};
 ghost use Rattle.cal_time.specs.Lengths.{days_in_month};
 ghost use Rattle.cal_schedule.specs.Months.{month_number_at, HasMonthIndex, IsMonthNumber, IsMonthsLater};
 
-use cal_time::limits::MIN_YEAR;
+use cal_time::limits::{MAX_YEAR, MIN_YEAR};
 use cal_time::{Date, limits};
 
 /// The number of months in the range.
 const MONTHS: i64 = limits::MONTHS as i64;
 
 /// Returns the index of the month, from 0 for January of -999999, and the day of the month.
-/// Neither this call nor [`clamped_date_in_month`] has a table or a branch, so a loop takes several
-/// dates at a time.
-pub fn month_number_and_day(date: Date) -> (u32, u8)
+pub(crate) fn month_number_and_day(date: Date) -> (u32, u8)
     ensures month { HasMonthIndex result.0 date }
     ensures max { result.0 < months_in_range }
     ensures day { result.1 ≡ day_of_month_at date }
@@ -22,11 +20,21 @@ pub fn month_number_and_day(date: Date) -> (u32, u8)
     ensures in_range { IsDate date }
 {
     let (month, day) = date.month_index_and_day();
-    ((date.year() - MIN_YEAR) as u32 * 12 + u32::from(month), day)
+    (month_index(date.year(), u32::from(month)), day)
+}
+
+/// Returns the index of a month, by its year and its index in the year, from 0 for January.
+pub(crate) fn month_index(year: i32, month: u32) -> u32
+    requires year { IsYear year }
+    requires month { month < 12 }
+    ensures value { pos result ≡ year *ℤ pos 12 +ℤ pos month -ℤ first_year *ℤ pos 12 }
+    ensures max { result < months_in_range }
+{
+    (year - MIN_YEAR) as u32 * 12 + month
 }
 
 /// Returns the year and the month, from 0 for January, of the month with this index.
-fn year_and_month(index: u32) -> (i32, u8)
+pub(crate) fn year_and_month(index: u32) -> (i32, u8)
     requires { index < months_in_range }
     ensures value { result.0 *ℤ pos 12 +ℤ pos result.1 ≡ pos index +ℤ first_year *ℤ pos 12 }
     ensures month { result.1 < 12 }
@@ -37,7 +45,7 @@ fn year_and_month(index: u32) -> (i32, u8)
 
 /// Returns the date in a month, by its index, with this day, or the last day of the month if it is
 /// shorter. The index is below 23999988, and the day 1 or more.
-pub fn clamped_date_in_month(index: u32, day: u8) -> Date
+pub(crate) fn clamped_date_in_month(index: u32, day: u8) -> Date
     requires month { index < months_in_range }
     requires day { 1 ≤ day }
     ensures month { HasMonthIndex index result }
@@ -47,24 +55,6 @@ pub fn clamped_date_in_month(index: u32, day: u8) -> Date
 {
     let (year, month) = year_and_month(index);
     Date::from_month_index_clamped(year, month, day)
-}
-
-/// Adds months, or returns `None` if the resulting month is out of range.
-fn checked_add_i64_months(date: Date, months: i64) -> Option<Date>
-    requires min { neg_ℤ (pos (2 ^ 40)) ≤ℤ months }
-    requires max { months ≤ℤ pos (2 ^ 40) }
-    ensures every { (n : ℕ) → IsDate n → IsMonthsLater date months n → result ≡ Some n }
-    ensures value { IfSome result (λ n. IsDate n × IsMonthsLater date months n) }
-    ensures some { IfSome result (λ _. IsMonthNumber (month_number_at date +ℤ months)) }
-    ensures none { IfNone result (¬ IsMonthNumber (month_number_at date +ℤ months)) }
-    ensures in_range { IsDate date }
-{
-    let (index, day) = month_number_and_day(date);
-    let index = i64::from(index) + months;
-    if index < 0 || index >= MONTHS {
-        return None;
-    }
-    Some(clamped_date_in_month(index as u32, day))
 }
 
 /// Adds months, or subtracts them if the number is negative. The day of the month stays, or becomes
@@ -78,7 +68,12 @@ pub fn checked_add_months(date: Date, months: i32) -> Option<Date>
     ensures none { IfNone result (¬ IsMonthNumber (month_number_at date +ℤ months)) }
     ensures in_range { IsDate date }
 {
-    checked_add_i64_months(date, i64::from(months))
+    let (index, day) = month_number_and_day(date);
+    let index = i64::from(index) + i64::from(months);
+    if index < 0 || index >= MONTHS {
+        return None;
+    }
+    Some(clamped_date_in_month(index as u32, day))
 }
 
 /// Adds months like [`checked_add_months`], but returns the first or the last date of the range if
@@ -112,6 +107,10 @@ pub fn checked_add_years(date: Date, years: i32) -> Option<Date>
     ensures none { IfNone result (¬ IsYear (year_at date +ℤ years)) }
     ensures in_range { IsDate date }
 {
-    let months = 12 * i64::from(years);
-    checked_add_i64_months(date, months)
+    let (month, day) = date.month_index_and_day();
+    let year = i64::from(date.year()) + i64::from(years);
+    if year < i64::from(MIN_YEAR) || year > i64::from(MAX_YEAR) {
+        return None;
+    }
+    Some(Date::from_month_index_clamped(year as i32, month, day))
 }

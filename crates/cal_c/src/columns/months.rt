@@ -3,12 +3,11 @@ ghost use Rattle.std.specs.Prelude.{◌≡◌, length, ◌∷◌, []};
 ghost use Rattle.cal_c.specs.Columns.{int_at, nat_at, SameLength, AreRows, date_row, IsDateMonthsLater};
 ghost use Rattle.cal_c.specs.Values.{need◌else◌then◌};
 
-use super::constructors::{error_row, ok_row};
-use super::statuses::{INVALID_DATE, RESULT_OUT_OF_RANGE};
+use super::constructors::error_row;
+use super::statuses::{INVALID_DATE, OK, RESULT_OUT_OF_RANGE};
 use super::{LENGTH_MISMATCH, count_errors};
-use crate::day_number::{clamped_number, is_julian_day};
-use cal_schedule::{clamped_date_in_month, month_number_and_day};
-use cal_time::day_number::to_date;
+use crate::day_number::{clamped_number, is_julian_day, julian_day};
+use cal_schedule::day_number::{clamped_date_in_month, month_number_and_day};
 use cal_time::limits::MONTHS;
 
 /// The index of the last month of the range.
@@ -34,7 +33,7 @@ pub extern "C" fn fots_dates_add_months(
 fn date_months_later(date: i32, months: i32) -> (i32, u8)
     ensures { IsDateMonthsLater date months (date_row result.0 result.1) }
 {
-    let (index, day) = month_number_and_day(to_date(clamped_number(date)));
+    let (index, day) = month_number_and_day(clamped_number(date));
     // A negative sum wraps to a number far above the last month.
     let index = index.wrapping_add(months.cast_unsigned());
     let later = clamped_date_in_month(index.min(LAST_MONTH), day);
@@ -43,6 +42,6 @@ fn date_months_later(date: i32, months: i32) -> (i32, u8)
     } else if index > LAST_MONTH {
         error_row(RESULT_OUT_OF_RANGE)
     } else {
-        ok_row(later)
+        (julian_day(later), OK)
     }
 }

@@ -7,30 +7,21 @@ ghost use Rattle.cal_date.specs.ClosedForms.{days_in_part, months_before_part, m
 ghost use Rattle.cal_date.specs.CountLaws.{days_of_months};
 ghost use Rattle.cal_date.specs.Date.{year_at, month_at, day_of_month_at, ordinal_at, IsDate, IsYear, IsDayOfMonth, HasCalendarDate, NoDate};
 ghost use Rattle.cal_date.specs.Order.{IsBefore, calendar_date_at};
+ghost use Rattle.cal_date.specs.PackedDate.{leap_mark};
 ghost use Rattle.cal_date.specs.DateErrors.{year_out_of_range, day_out_of_range};
 
 use crate::date::{Date, is_year};
-use crate::day_number::{days_before_month_in_part, month_length};
+use crate::day_number::days_before_month_in_part;
 use crate::error::{Component, ComponentRange};
 use cal_units::util::is_leap_year;
 use cal_units::{Cycle, Month};
 
-/// The days before each month, and at the end the days of the year: in a common year and in a leap
-/// year. The two kinds of year are side by side, because a choice of two rows would be a branch.
-const DAYS_BEFORE_MONTH: [[u16; 2]; 13] = [
-    [0, 0],
-    [31, 31],
-    [59, 60],
-    [90, 91],
-    [120, 121],
-    [151, 152],
-    [181, 182],
-    [212, 213],
-    [243, 244],
-    [273, 274],
-    [304, 305],
-    [334, 335],
-    [365, 366],
+/// The leap mark plus the days before each month, and at the end plus the days of the year. The
+/// entries of a common year begin at 0. The entries of a leap year begin at 16, because the leap
+/// mark is 16 times 32. The zeros between them aren't used.
+const MONTH_STARTS: [u16; 29] = [
+    0, 31, 59, 90, 120, 151, 181, 212, 243, 273, 304, 334, 365, 0, 0, 0, 512, 543, 572, 603, 633,
+    664, 694, 725, 756, 786, 817, 847, 878,
 ];
 
 impl Date {
@@ -60,8 +51,8 @@ impl Date {
         if !has_day(month, leap, day) {
             return Err(ComponentRange::conditional(Component::Day));
         }
-        let ordinal = days_before_month(month.place(), leap) + u16::from(day);
-        Ok(Date::pack(year, leap, ordinal))
+        let low = month_start(month.place(), leap) + u32::from(day);
+        Ok(Date::pack_low_bits(year, low))
     }
 
     /// Creates a date from a year, a month index and a day, clamped to the last day of the month.
@@ -77,9 +68,8 @@ impl Date {
         ensures range { IsDate result }
     {
         let leap = is_leap_year(year);
-        let day = day.min(month_length(index + 1, leap));
-        let ordinal = days_before_month_index(index, leap) + u32::from(day);
-        Date::pack(year, leap, ordinal as u16)
+        let low = month_start(index, leap) + u32::from(day);
+        Date::pack_low_bits(year, low.min(month_start(index + 1, leap)))
     }
 
     /// Returns the month. For 2020-02-29 it is February.
@@ -126,10 +116,6 @@ impl Date {
 
     /// Returns the month index, counted from 0, and the day of the month: (1, 29) for 2020-02-29.
     /// [`Self::to_calendar_date`] returns a `Month`, which costs a jump. This call has no jump.
-    ///
-    /// In each part of the year the months begin on the same days of the part every year. So a
-    /// quotient by 8192 gives the month of the part, and a quotient by 128 the days of the part
-    /// before this month.
     pub fn month_index_and_day(self) -> (u8, u8)
         ensures month { result.0 + 1 ≡ month_at self }
         ensures day { result.1 ≡ day_of_month_at self }
@@ -138,13 +124,20 @@ impl Date {
         ensures max { result.1 ≤ 31 }
         ensures in_range { IsDate self }
     {
-        let (days, months) = self.index_in_part();
-        let month = (days * 268 + 8031) >> 13;
-        let day = days - days_before_month_in_part(month);
-        ((month + months - 1) as u8, day as u8)
+        // A month has 28 to 31 days, so a quotient by 32 gives its entry or the one before it.
+        let low = self.low_bits() as usize;
+        let quotient = low / 32;
+        let entry = quotient + usize::from(low > usize::from(MONTH_STARTS[quotient + 1]));
+        let start = usize::from(MONTH_STARTS[entry]);
+        ((entry % 16) as u8, (low - start) as u8)
     }
 
-    /// Returns the month and the day of the month.
+    /// Returns the month and the day of the month. It reads no table, so a loop takes several dates
+    /// at a time.
+    ///
+    /// In each part of the year the months begin on the same days of the part every year. So a
+    /// quotient by 8192 gives the month of the part, and a quotient by 128 the days of the part
+    /// before this month.
     pub(super) fn month_and_day(self) -> (Month, u8)
         ensures month { number result.0 ≡ month_at self }
         ensures day { result.1 ≡ day_of_month_at self }
@@ -152,8 +145,10 @@ impl Date {
         ensures max { result.1 ≤ 31 }
         ensures in_range { IsDate self }
     {
-        let (index, day) = self.month_index_and_day();
-        (Month::at(index), day)
+        let (days, months) = self.index_in_part();
+        let month = (days * 268 + 8031) >> 13;
+        let day = days - days_before_month_in_part(month);
+        (Month::at((month + months - 1) as u8), day as u8)
     }
 
     /// Returns the day of the part of the year, and the number of months before the part. January
@@ -182,33 +177,17 @@ fn has_day(month: Month, leap: bool, day: u8) -> bool
         → IsTrue result ↔ IsDayOfMonth year (number month) day }
 {
     let index = month.place();
-    let ordinal = days_before_month(index, leap) + u16::from(day);
-    day > 0 && ordinal <= days_before_month(index + 1, leap)
+    let low = month_start(index, leap) + u32::from(day);
+    day > 0 && low <= month_start(index + 1, leap)
 }
 
-/// Returns the number of days before the month with this index, in a leap year or in a common year.
-/// For 12 it is the length of the year.
-#[tactic(auto, using(crate::proofs::Months::days_before_months))]
-fn days_before_month(index: u8, leap: bool) -> u16
+/// Returns the leap mark plus the days before the month with this index, in a leap year or in a
+/// common year. For 12 it is the leap mark plus the days of the year.
+fn month_start(index: u8, leap: bool) -> u32
     requires { index ≤ 12 }
-    ensures value { (year : ℤ) → leap ≡ is_leap_year year → result ≡ days_of_months year index }
-    ensures max { result ≤ 366 }
+    ensures value { (year : ℤ) → leap ≡ is_leap_year year
+        → result ≡ leap_mark year + days_of_months year index }
+    ensures max { result ≤ 878 }
 {
-    DAYS_BEFORE_MONTH[usize::from(index)][usize::from(leap)]
-}
-
-/// Returns the number of days before the month with this index, in a leap year or in a common year.
-/// Unlike [`days_before_month`] it reads no table, so a loop takes several dates at a time.
-#[tactic(auto, using(crate::proofs::Months::parts_of_years))]
-fn days_before_month_index(index: u8, leap: bool) -> u32
-    requires { index < 12 }
-    ensures value { (year : ℤ) → leap ≡ is_leap_year year → result ≡ days_of_months year index }
-    ensures max { result ≤ 366 }
-{
-    let index = u32::from(index);
-    if index < 2 {
-        31 * index
-    } else {
-        days_before_month_in_part(index - 1) + 59 + u32::from(leap)
-    }
+    u32::from(MONTH_STARTS[16 * usize::from(leap) + usize::from(index)])
 }

@@ -1,9 +1,9 @@
-use Rattle.std.proofs.Common.{◌≡◌, ◌∙◌, sym, subst, ap, arith, rules, ◌+ℤ◌, min}
+use Rattle.std.proofs.Common.{◌≡◌, ◌∙◌, sym, subst, ap, arith, rules, ◌+ℤ◌, min, to_z, of_z, w32}
 use Rattle.std.proofs.lemmas.Int.{ints, to_z-of_z}
-use Rattle.cal_time.specs.Date.{year_at, month_at, day_of_month_at}
+use Rattle.cal_time.specs.Date.{julian_day_at, year_at, month_at, day_of_month_at}
 use Rattle.cal_time.specs.Lengths.{days_in_month}
 use Rattle.cal_schedule.specs.Months.{month_number_at, HasMonthIndex, IsMonthsLater}
-use Rattle.cal_c.specs.Results.{IsDateWith}
+use Rattle.cal_c.specs.Results.{IsDateWith, date_ok}
 use Rattle.cal_c.specs.Values.{IsJulianDay, day_of}
 use Rattle.cal_c.proofs.Days.{IsDateWith-at}
 use Rattle.cal_c.proofs.columns.months.date_months_later.Goals as goal
@@ -24,7 +24,7 @@ returns-then-index-gt-LAST_MONTH c =
     let g = c.ranges.months in
     let number = simp to_z-of_z at c.clamped_number.ensures.value in
     let first : IsJulianDay c.args.date → HasMonthIndex c.month_number_and_day-index.result.0 (day_of c.args.date) =
-    λ h. subst (HasMonthIndex c.month_number_and_day-index.result.0) (c.to_date.ensures ∙ number h) c.month_number_and_day-index.ensures.month in
+    λ h. subst (HasMonthIndex c.month_number_and_day-index.result.0) (number h) c.month_number_and_day-index.ensures.month in
     record {
       invalid_date = search rules;
       result_out_of_range = search rules;
@@ -37,7 +37,7 @@ returns-else-index-gt-LAST_MONTH c =
     let g = c.ranges.months in
     let number = simp to_z-of_z at c.clamped_number.ensures.value in
     let first : IsJulianDay c.args.date → HasMonthIndex c.month_number_and_day-index.result.0 (day_of c.args.date) =
-    λ h. subst (HasMonthIndex c.month_number_and_day-index.result.0) (c.to_date.ensures ∙ number h) c.month_number_and_day-index.ensures.month in
+    λ h. subst (HasMonthIndex c.month_number_and_day-index.result.0) (number h) c.month_number_and_day-index.ensures.month in
     let n = day_of c.args.date in
     let r = c.clamped_date_in_month-later.result in
     record {
@@ -45,8 +45,10 @@ returns-else-index-gt-LAST_MONTH c =
       result_out_of_range = λ h out. absurd (out (record { not_before = omega (arith, ints, first h); not_after = omega (arith, ints, first h) }));
       day = λ h k.
           let month : month_number_at r ≡ month_number_at n +ℤ c.args.months = omega (arith, ints, first h, c.clamped_date_in_month-later.ensures.month) in
-          let same : c.month_number_and_day-index.result.1 ≡ day_of_month_at n = c.month_number_and_day-index.ensures.day ∙ ap day_of_month_at (c.to_date.ensures ∙ number h) in
+          let same : c.month_number_and_day-index.result.1 ≡ day_of_month_at n = c.month_number_and_day-index.ensures.day ∙ ap day_of_month_at (number h) in
           let day : day_of_month_at r ≡ min (day_of_month_at n) (days_in_month (year_at r) (month_at r)) =
           c.clamped_date_in_month-later.ensures.day ∙ ap (λ k. min k (days_in_month (year_at r) (month_at r))) same in
-          subst (IsDateWith (IsMonthsLater n c.args.months)) (sym c.ok_row.ensures) (IsDateWith-at (IsMonthsLater n c.args.months) r c.clamped_date_in_month-later.ensures.range (record { month = month; day = day }));
+          let range = c.clamped_date_in_month-later.ensures.range in
+          let is : to_z w32 (of_z w32 c.julian_day.result) ≡ julian_day_at r = omega (arith, ints, c.julian_day.ensures range, range) in
+          subst (IsDateWith (IsMonthsLater n c.args.months)) (ap date_ok (sym is)) (IsDateWith-at (IsMonthsLater n c.args.months) r range (record { month = month; day = day }));
     }

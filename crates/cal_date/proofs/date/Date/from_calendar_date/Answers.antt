@@ -1,18 +1,17 @@
-use Rattle.std.proofs.Common.{ap, sym, ◌∙◌, arith, refl, inl, inr, Ok, ◌≡◌, ◌+◌, ◌≤◌, to_z, of_z, w32}
+use Rattle.std.proofs.Common.{ap, sym, ◌∙◌, arith, refl, inl, inr, Ok, ◌≡◌, ◌+◌, ◌-◌, to_z, of_z, w32}
 use Rattle.std.proofs.lemmas.Int.{to_z-of_z}
 use Rattle.std.proofs.lemmas.Bool.{false≢true}
-use Rattle.std.proofs.lemmas.Bool.Decides.{nat_tests}
-use Rattle.cal_units.specs.Lengths.{days_in_year, is_leap_year}
+use Rattle.cal_units.specs.Lengths.{is_leap_year}
 use Rattle.cal_units.specs.Month.{index, number}
 use Rattle.cal_units.specs.MonthCycle.{index-below}
 use Rattle.cal_date.specs.Date.{IsYear, IsOrdinal, IsDayOfMonth}
 use Rattle.cal_date.specs.DateErrors.{year_out_of_range, day_out_of_range}
 use Rattle.cal_units.specs.declared.error.ComponentRange.{ComponentRange}
-use Rattle.cal_date.specs.PackedDate.{ordinal_number}
+use Rattle.cal_date.specs.PackedDate.{leap_mark, ordinal_number}
 use Rattle.cal_date.proofs.Dates.{IsDate-ordinal_number}
 use Rattle.cal_date.proofs.Calendar.{ordinal_in, stands_at, calendar_in_range, IsOrdinal-ordinal_in, NoDate-calendar_date}
 use Rattle.cal_date.proofs.date.Date.from_calendar_date.Goals as goal
-use Rattle.cal_date.proofs.date.Date.from_calendar_date.Goals.{After-from, After-pack}
+use Rattle.cal_date.proofs.date.Date.from_calendar_date.Goals.{After-from, After-pack_low_bits}
 
 -- The two errors differ.
 other-day : year_out_of_range ≡ day_out_of_range → ⊥
@@ -66,14 +65,14 @@ record Fits (c : After-from) : Type 0 where
   leap : c.is_leap_year-leap.result ≡ is_leap_year c.args.year
   year : IsYear c.args.year
   day : IsDayOfMonth c.args.year (number c.args.month) c.args.day
-  ordinal_is : c.days_before_month.result + c.from.result ≡ ordinal_in c.args.year (index c.args.month) c.args.day
+  low_is : c.month_start.result + c.from.result - leap_mark c.args.year ≡ ordinal_in c.args.year (index c.args.month) c.args.day
   ordinal : IsOrdinal c.args.year (ordinal_in c.args.year (index c.args.month) c.args.day)
 
 fits : (c : After-from) → Fits c
 fits c =
     let same : to_z w32 (of_z w32 c.args.year) ≡ c.args.year = to_z-of_z w32 _ c.ranges.year in
     let leap = rw same at c.is_leap_year-leap.ensures in
-    let before = rw c.place.ensures at (c.days_before_month.ensures.value c.args.year leap) in
+    let before = rw c.place.ensures at (c.month_start.ensures.value c.args.year leap) in
     let year = rw same at (c.is_year.ensures.0 c.if-not-is_year.false) in
     let is = c.has_day.ensures c.args.year leap in
     let day = is.0 c.if-not-has_day.false in
@@ -82,27 +81,21 @@ fits c =
       leap = leap;
       year = year;
       day = day;
-      ordinal_is = omega arith;
+      low_is = omega (arith, before, c.from.ensures);
       ordinal = IsOrdinal-ordinal_in c.args.year (index c.args.month) c.args.day year.0 (index-below c.args.month) day;
     }
 
-pub overflow_add-ordinal : goal.overflow_add-ordinal
-overflow_add-ordinal c =
-    let f = fits c in
-    let most : days_in_year c.args.year ≤ 366 = grind (arith, nat_tests) in
-    omega (arith, f.ordinal.1, f.ordinal_is)
+pub overflow_add-low : goal.overflow_add-low
+overflow_add-low c = omega (arith, c.month_start.ensures.max, c.ranges.day)
 
-pub pack-requires-clause-year : goal.pack-requires-clause-year
-pack-requires-clause-year c = let f = fits c in rw f.same f.year
+pub pack_low_bits-requires-clause-year : goal.pack_low_bits-requires-clause-year
+pack_low_bits-requires-clause-year c = let f = fits c in rw f.same f.year
 
-pub pack-requires-clause-ordinal : goal.pack-requires-clause-ordinal
-pack-requires-clause-ordinal c = let f = fits c in rw (f.same, f.ordinal_is) f.ordinal
+pub pack_low_bits-requires-clause-low : goal.pack_low_bits-requires-clause-low
+pack_low_bits-requires-clause-low c = let f = fits c in rw (f.same, f.low_is) f.ordinal
 
-pub pack-requires-clause-leap : goal.pack-requires-clause-leap
-pack-requires-clause-leap c = let f = fits c in rw f.same f.leap
-
-number_is : (c : After-pack) → c.pack.result ≡ ordinal_number c.args.year (ordinal_in c.args.year (index c.args.month) c.args.day)
-number_is c = let f = fits c.before in rw (f.same, f.ordinal_is) at c.pack.ensures.value
+number_is : (c : After-pack_low_bits) → c.pack_low_bits.result ≡ ordinal_number c.args.year (ordinal_in c.args.year (index c.args.month) c.args.day)
+number_is c = let f = fits c.before in rw (f.same, f.low_is) at c.pack_low_bits.ensures.value
 
 pub returns-clause-every : goal.returns-clause-every
 returns-clause-every c = λ n h has. let f = fits c.before in ap Ok (number_is c ∙ sym (calendar_in_range n _ (index c.args.month) _ h has).number_is)

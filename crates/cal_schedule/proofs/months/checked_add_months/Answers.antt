@@ -1,8 +1,8 @@
 use Rattle.std.proofs.Common.{ap, arith, Some}
 use Rattle.std.proofs.lemmas.Int.{ints}
 use Rattle.cal_schedule.proofs.MonthMoves.{one_later, IsMonthNumber-date}
-use Rattle.cal_schedule.proofs.months.checked_add_i64_months.Goals as goal
-use Rattle.cal_schedule.proofs.months.checked_add_i64_months.Goals.{then-index-lt0-via-then-index-lt0, then-index-lt0-via-else-index-lt0+then-index-ge-MONTHS}
+use Rattle.cal_schedule.proofs.months.checked_add_months.Goals as goal
+use Rattle.cal_schedule.proofs.months.checked_add_months.Goals.{then-index-lt0-via-then-index-lt0, then-index-lt0-via-else-index-lt0+then-index-ge-MONTHS}
 
 pub returns-then-index-lt0-clause-every : goal.returns-then-index-lt0-clause-every
 returns-then-index-lt0-clause-every c n h later =
