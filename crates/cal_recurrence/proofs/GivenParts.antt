@@ -1,12 +1,13 @@
 -- A parsed recurrence is spelled: each value is a value of its part.
-use Rattle.std.proofs.Common.{◌≡◌, ℕ, zero, suc, ◌+◌, ◌-◌, ◌/◌, ◌%◌, ◌<◌, ◌≤◌, Bool, true, false, cond, eqb, List, [], ◌∷◌, length, take, drop, slice_index_or, Option, Some, None, Result, Ok, Err, ℤ, pos, refl, sym, ap, subst, arith}
-use Rattle.std.specs.Prelude.{⊤, nat_le, neg_ℤ, slice_index, option_map, option_and_then, is_some, unwrap_or, ◌&&◌, IfSome, IfOk, ◌≤ℤ◌}
+use Rattle.std.proofs.Common.{◌≡◌, ℕ, zero, suc, ◌+◌, ◌-◌, ◌/◌, ◌%◌, ◌<◌, ◌≤◌, Bool, true, false, cond, eqb, List, [], ◌∷◌, length, take, drop, slice_index_or, Option, Some, None, Result, Ok, Err, ℤ, pos, refl, sym, ap, ◌∙◌, subst, arith}
+use Rattle.std.specs.Prelude.{⊤, nat_le, nat_lt, neg_ℤ, slice_index, option_map, option_and_then, is_some, unwrap_or, ◌&&◌, IfSome, IfOk, ◌≤ℤ◌}
 use Rattle.std.specs.List.{All}
 use Rattle.std.specs.Option.{option_map_or, option_zip}
 use Rattle.std.specs.Str.Parse.{digits_value}
-use Rattle.std.proofs.lemmas.Bool.{and_parts, eqb-true}
+use Rattle.std.proofs.lemmas.Bool.{and_parts}
 use Rattle.std.proofs.lemmas.Bool.Decides.{nat_tests}
 use Rattle.std.proofs.lemmas.Int.{ints}
+use Rattle.std.proofs.lemmas.List.{length-take}
 use Rattle.std.proofs.lemmas.Str.Parse.{digits_value_short}
 use Rattle.cal_time.specs.Date.{last_day, year_at}
 use Rattle.cal_time.specs.Filters.{IsFirstDay, first_matching}
@@ -14,9 +15,9 @@ use Rattle.cal_time.specs.declared.Weekday.{Weekday}
 use Rattle.cal_schedule.specs.declared.rule.rule.Frequency.{Frequency}
 use Rattle.cal_schedule.specs.declared.rule.rule.ByDay.TheVariants.{Every, Nth}
 use Rattle.cal_recurrence.specs.Spelled.{IsCount, IsIndex, IsMonthDay, IsByDay, IsEnd, IsSpelled}
-use Rattle.cal_recurrence.specs.Text.{fault, each, list_of, has_few_words, fresh, changed, put, put_value, put_part, with_frequency, and_on, read_on, nothing, recurrence_of}
+use Rattle.cal_recurrence.specs.Text.{fault, each, list_of, has_few_words, fresh, changed, put, put_value, put_part, with_frequency, and_on, read_on, nothing}
 use Rattle.cal_recurrence.specs.Values.{most_values}
-use Rattle.cal_recurrence.specs.Words.{parts_at, front_at, rest_at, part_of, frequency_of, is_number, number_of, from_one_to, count_of, short_count_of, index_of, weekday_of, month_of, month_day_of, by_day_of, has_digits, day_with, date_of}
+use Rattle.cal_recurrence.specs.Words.{bytes_after, first_bytes, is_time, parts_at, front_at, rest_at, part_of, frequency_of, is_number, number_of, from_one_to, count_of, short_count_of, index_of, weekday_of, month_of, month_day_of, by_day_of, has_digits, day_with, date_of}
 use Rattle.cal_recurrence.specs.declared.draft.Draft.{Draft}
 use Rattle.cal_recurrence.specs.declared.fault.ParseRuleError.{ParseRuleError}
 use Rattle.cal_recurrence.specs.declared.fault.ParseRuleErrorKind.{ParseRuleErrorKind}
@@ -119,15 +120,22 @@ day-within n small = within (day_with n) (first_matching (has_digits n) 0 (last_
         let year = year-within (year_at k) (n / 10000) (ap (λ d. d.year) (has_them n (n / 100 % 100) k refl h.passes)) (omega (arith, small)) in
         (omega (arith, h.within), year.0, year.1)
 
-numbers : (word : List ℕ) → length word ≡ 8 → IfSome (number_of word) (λ n. n < 100000000)
+numbers : (word : List ℕ) → length word ≤ 8 → IfSome (number_of word) (λ n. n < 100000000)
 numbers word e =
     guarded (λ n. n < 100000000) (is_number word) (digits_value 10 word)
-    (λ h. omega (arith, digits_value_short digits word 8 (is_numeral word h).0 (omega (arith, e))))
+    (λ h. omega (arith, digits_value_short digits word 8 (is_numeral word h).0 e))
+
+length-first : (n : ℕ) (word : List ℕ) → length (first_bytes n word) ≤ n
+unfolding first_bytes
+length-first n word = omega (arith, length-take n word)
 
 dates : (word : List ℕ) → IfSome (date_of word) (λ day. IsEnd (Until day))
 dates word =
-    either (λ day. IsEnd (Until day)) (eqb (length word) 8) (option_and_then day_with (number_of word)) None
-    (λ e. if_there (λ n. n < 100000000) (λ day. IsEnd (Until day)) day_with (number_of word) day-within (numbers word (eqb-true (length word) 8 e))) tt
+    let day = option_and_then day_with (number_of (first_bytes 8 word)) in
+    either (λ day. IsEnd (Until day)) (nat_lt (length word) 8) None (cond (is_time (bytes_after 8 word)) day None) (λ e. tt)
+    (either (λ day. IsEnd (Until day)) (is_time (bytes_after 8 word)) day None
+    (λ e. if_there (λ n. n < 100000000) (λ day. IsEnd (Until day)) day_with (number_of (first_bytes 8 word)) day-within
+    (numbers (first_bytes 8 word) (omega (arith, length-first 8 word)))) tt)
 
 -- ---- lists
 abbrev AreValues : {X : Type 0} → (X → Type 0) → ℕ → List X → Type 0
@@ -259,6 +267,8 @@ read-on at d [] h = with-one d (fault (at - 1) Missing) d.frequency h
 read-on at d (text ∷ texts) h =
     next at (λ more. read_on (at + length text + 1) more texts) (put_part d text) (part-is d text h) (λ e k. read-on (at + length text + 1) e texts k)
 
-pub read_is_spelled : (text : List ℕ) → IfOk (recurrence_of text) IsSpelled
-read_is_spelled text =
-    read-on 0 nothing (parts_at 59 text) (record { interval = tt; months = tt; month_days = tt; weekdays = tt; end = tt })
+pub read_is_spelled : (at : ℕ) (draft : Draft) (texts : List (List ℕ)) (r : Result Recurrence ParseRuleError)
+    → draft ≡ nothing → r ≡ read_on at draft texts → IfOk r IsSpelled
+read_is_spelled at draft texts r e f =
+    subst (λ s. IfOk s IsSpelled) (sym (f ∙ ap (λ d. read_on at d texts) e))
+    (read-on at nothing texts (record { interval = tt; months = tt; month_days = tt; weekdays = tt; end = tt }))

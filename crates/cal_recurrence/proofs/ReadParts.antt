@@ -1,6 +1,6 @@
 -- The parts of a text that was written, read back one after another.
 use Rattle.std.proofs.Common.{◌≡◌, ℕ, suc, ◌+◌, ◌≤◌, Bool, true, false, cond, eqb, List, [], ◌∷◌, ◌++◌, append-nil, append_assoc, length, Option, Some, None, Ok, Err, ℤ, refl, sym, ap, subst, ◌∙◌, arith, inl, inr}
-use Rattle.std.specs.Prelude.{codes, decimal, unwrap_or}
+use Rattle.std.specs.Prelude.{codes, decimal, nat_le, unwrap_or, ◌&&◌}
 use Rattle.std.specs.List.{All}
 use Rattle.std.proofs.lemmas.Bool.{cases_Bool, eqb-true}
 use Rattle.cal_time.specs.declared.Month.{Month}
@@ -10,7 +10,7 @@ use Rattle.cal_schedule.specs.declared.rule.rule.Frequency.{Frequency}
 use Rattle.cal_schedule.specs.declared.rule.rule.ByDay.{ByDay}
 use Rattle.cal_recurrence.specs.Spelled.{IsCount, IsMonthDay, IsByDay, IsEnd, IsSpelled}
 use Rattle.cal_recurrence.specs.Text.{list_of, fresh, changed, put, put_value, put_part, and_on, read_on, nothing, recurrence_of}
-use Rattle.cal_recurrence.specs.Words.{parts_at, frequency_of, weekday_of, count_of, month_of, month_day_of, by_day_of, date_of}
+use Rattle.cal_recurrence.specs.Words.{bytes_after, first_bytes, has_name, parts_at, frequency_of, weekday_of, count_of, month_of, month_day_of, by_day_of, date_of}
 use Rattle.cal_recurrence.specs.Written.{frequency_text, weekday_text, month_text, month_day_text, by_day_text, day_text, interval_text, end_text, list_text, week_start_text, text_of}
 use Rattle.cal_recurrence.specs.declared.draft.Draft.{Draft}
 use Rattle.cal_recurrence.specs.declared.fault.RulePart.{RulePart}
@@ -53,7 +53,7 @@ given draft at value meaning x to h e =
 
 -- ---- the parts in their order, each of which may be left out, and the draft after each
 frequency-said : (f : Frequency) (rest : List ℕ) (r : Recurrence) → Says (record nothing { frequency = Some f }) rest r
-    → recurrence_of ((codes "FREQ=" ++ frequency_text f) ++ rest) ≡ Ok r
+    → read_on 0 nothing (parts_at 59 ((codes "FREQ=" ++ frequency_text f) ++ rest)) ≡ Ok r
 frequency-said f rest r h =
     let value = one-word frequency_of f (frequency_text f) (frequency-word f) in
     (one-part nothing (record nothing { frequency = Some f }) (codes "FREQ=" ++ frequency_text f) rest r
@@ -207,6 +207,14 @@ grouped a b c d e f g =
     ∙ append_assoc (a ++ b) c (d ++ (e ++ (f ++ g))) ∙ append_assoc a b (c ++ (d ++ (e ++ (f ++ g))))
     ∙ ap (λ last. a ++ (b ++ (c ++ (d ++ (e ++ (f ++ last)))))) (sym (append-nil g))
 
+no-name : (r : Recurrence) → has_name (text_of r) ≡ false
+unfolding first_bytes
+no-name r = and-false (nat_le 6 (length (text_of r)))
+  where
+    and-false : (b : Bool) → b && false ≡ false
+    and-false true = refl
+    and-false false = refl
+
 reads_back_of : (r : Recurrence) → IsSpelled r → recurrence_of (text_of r) ≡ Ok r
 reads_back_of r h =
     let from : Option ℕ → Option RuleEnd → Option (List Month) → Option (List ℤ) → Option (List ByDay) → Draft = λ i e m d w. draft_of r.frequency i e m d w None in
@@ -218,7 +226,8 @@ reads_back_of r h =
     let interval = interval_text r.interval ++ end in
     let day_words = words IsMonthDay month_day_of month_day_text month_day-word r.month_days h.each_month_day in
     let weekday_words = words IsByDay by_day_of by_day_text by_day-word r.weekdays h.each_weekday in
-    ap recurrence_of (grouped (codes "FREQ=" ++ frequency_text r.frequency) (interval_text r.interval) (end_text r.end)
+    ap (λ b. cond b (read_on 6 nothing (parts_at 59 (bytes_after 6 (text_of r)))) (read_on 0 nothing (parts_at 59 (text_of r)))) (no-name r)
+    ∙ ap (λ text. read_on 0 nothing (parts_at 59 text)) (grouped (codes "FREQ=" ++ frequency_text r.frequency) (interval_text r.interval) (end_text r.end)
     (list_text (codes ";BYMONTH=") month_text r.months) (list_text (codes ";BYMONTHDAY=") month_day_text r.month_days)
     (list_text (codes ";BYDAY=") by_day_text r.weekdays) (week_start_text r.week_start))
     ∙ frequency-said r.frequency interval r (interval-said (from None None None None None) r.interval end r h.interval (λ i a.

@@ -6,7 +6,7 @@ use Rattle.std.specs.Result.{result_map_both}
 use Rattle.cal_time.specs.declared.Weekday.TheVariants.{Monday}
 use Rattle.cal_schedule.specs.declared.rule.rule.Frequency.{Frequency}
 use Rattle.cal_recurrence.specs.Values.{most_values}
-use Rattle.cal_recurrence.specs.Words.{parts_at, front_at, rest_at, part_of, frequency_of, weekday_of, count_of, month_of, month_day_of, by_day_of, date_of}
+use Rattle.cal_recurrence.specs.Words.{bytes_after, has_name, parts_at, front_at, rest_at, part_of, frequency_of, weekday_of, count_of, month_of, month_day_of, by_day_of, date_of}
 use Rattle.cal_recurrence.specs.declared.draft.Draft.{Draft}
 use Rattle.cal_recurrence.specs.declared.fault.RulePart.{RulePart}
 use Rattle.cal_recurrence.specs.declared.fault.RulePart.TheVariants as part
@@ -96,6 +96,7 @@ read_on at draft (text ∷ texts) = and_on at (λ more. read_on (at + length tex
 abbrev pub nothing : Draft
 nothing = record { frequency = None; interval = None; week_start = None; months = None; month_days = None; weekdays = None; end = None }
 
--- The recurrence of a text, or its first error.
+-- The recurrence of a text, with or without `RRULE:` in front, or its first error.
 abbrev pub recurrence_of : List ℕ → Result Recurrence ParseRuleError
-recurrence_of text = read_on 0 nothing (parts_at 59 text)
+recurrence_of text =
+    if has_name text then read_on 6 nothing (parts_at 59 (bytes_after 6 text)) else read_on 0 nothing (parts_at 59 text)

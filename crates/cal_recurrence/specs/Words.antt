@@ -1,8 +1,8 @@
 -- The words of the text of a rule. Letters match in any case.
 use denote.Ref.{Bor}
-use Rattle.std.specs.Prelude.{ℕ, ◌+◌, ◌-◌, ◌/◌, ◌%◌, nat_lt, nat_le, ◌==◌, ◌&&◌, Bool, ℤ, pos, neg_ℤ, List, [], length, take, drop, slice_get, slice_index, filter, Option, Some, None, option_map, option_and_then, codes, if◌then◌else◌}
+use Rattle.std.specs.Prelude.{ℕ, ◌+◌, ◌-◌, ◌/◌, ◌%◌, nat_lt, nat_le, ◌==◌, ◌&&◌, ◌||◌, Bool, true, false, ℤ, pos, neg_ℤ, List, [], length, take, drop, slice_get, slice_index, filter, Option, Some, None, option_map, option_and_then, codes, if◌then◌else◌}
 use Rattle.std.specs.List.{slice_split, before_first, after_first}
-use Rattle.std.specs.Option.{option_zip}
+use Rattle.std.specs.Option.{option_map_or, option_zip}
 use Rattle.std.specs.Ordering.{int_eq}
 use Rattle.std.specs.Str.{all_ascii_digits, str_eq_ignore_ascii_case}
 use Rattle.std.specs.Str.Parse.{digits_value}
@@ -38,9 +38,20 @@ abbrev pub bytes_left : Option (Bor (List ℕ)) → List ℕ
 bytes_left None = []
 bytes_left (Some rest) = rest.now
 
+-- The first bytes, and those after them.
+unfoldable pub first_bytes : ℕ → List ℕ → List ℕ
+first_bytes size bytes = take size bytes
+
+unfoldable pub bytes_after : ℕ → List ℕ → List ℕ
+bytes_after size bytes = drop size bytes
+
 -- ---- names
 abbrev pub is_alike : List ℕ → List ℕ → Bool
 is_alike word name = str_eq_ignore_ascii_case word name
+
+-- A text may begin with the name of the property.
+abbrev pub has_name : List ℕ → Bool
+has_name text = nat_le 6 (length text) && is_alike (first_bytes 6 text) (codes "RRULE:")
 
 abbrev pub part_of : List ℕ → Option RulePart
 part_of word =
@@ -120,5 +131,24 @@ has_digits n k = int_eq (year_at k) (pos (n / 10000)) && ((month_at k == n / 100
 unfoldable pub day_with : ℕ → Option ℕ
 day_with n = slice_get (filter (has_digits n) (days_from 0 (last_day + 1))) 0
 
+-- Six digits are a time of day. A second of 60 is a leap second.
+abbrev pub is_clock : List ℕ → Bool
+is_clock word = option_map_or (λ n. nat_lt (n / 10000) 24 && (nat_lt (n / 100 % 100) 60 && nat_le (n % 100) 60)) (number_of word) false
+
+-- `Z` marks a time in UTC.
+abbrev pub is_zone : List ℕ → Bool
+is_zone word = (length word == 0) || is_alike word (codes "Z")
+
+-- Nothing, or a time of day: `T`, six digits, and the mark of UTC or nothing.
+abbrev pub is_time : List ℕ → Bool
+is_time word =
+    if length word == 0 then true else
+    if nat_lt (length word) 7 then false else
+    is_alike (first_bytes 1 word) (codes "T")
+    && (is_clock (first_bytes 6 (bytes_after 1 word)) && is_zone (bytes_after 6 (bytes_after 1 word)))
+
+-- The date of a date, or of a date and time.
 abbrev pub date_of : List ℕ → Option ℕ
-date_of word = if length word == 8 then option_and_then day_with (number_of word) else None
+date_of word =
+    if nat_lt (length word) 8 then None else
+    if is_time (bytes_after 8 word) then option_and_then day_with (number_of (first_bytes 8 word)) else None

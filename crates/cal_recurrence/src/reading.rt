@@ -7,20 +7,25 @@ ghost use Rattle.cal_recurrence.specs.Words.{parts_at};
 use crate::draft::Draft;
 use crate::fault::ParseRuleError;
 use crate::recurrence::Recurrence;
-use crate::words::cut;
+use crate::words::{cut, has_name, split};
 
-/// Parses a recurrence of RFC 5545, such as `FREQ=MONTHLY;BYDAY=-1FR;COUNT=12`.
+/// Parses a recurrence of RFC 5545, such as `FREQ=MONTHLY;BYDAY=-1FR;COUNT=12`, with or without
+/// `RRULE:` in front.
 ///
-/// The parts are `FREQ`, `INTERVAL`, `WKST`, `BYMONTH`, `BYMONTHDAY`, `BYDAY`, and `UNTIL` with a
-/// date or `COUNT`, in any order and any case. The first bad part gives the error: `Unknown` for
+/// The parts are `FREQ`, `INTERVAL`, `WKST`, `BYMONTH`, `BYMONTHDAY`, `BYDAY`, and `UNTIL` or
+/// `COUNT`, in any order and any case. `UNTIL` has a date, or a date and time, and then its date
+/// counts. The first bad part gives the error: `Unknown` for
 /// any other name, `Twice` for a repeated part or a second end, `TooMany` for more than 62 words,
 /// `Value` for an invalid value, and `Missing` if there is no `FREQ`.
-#[tactic(auto, using(crate::proofs::GivenParts::read_is_spelled))]
 pub fn parse(text: &[u8]) -> Result<Recurrence, ParseRuleError>
     ensures value { result ≡ recurrence_of text.now }
     ensures spelled { IfOk result IsSpelled }
 {
-    read_on(0, Draft::new(), text)
+    if has_name(text) {
+        read_on(6, Draft::new(), split(text, 6).1)
+    } else {
+        read_on(0, Draft::new(), text)
+    }
 }
 
 /// Parses the parts from byte `position` on, after the parts of the draft.

@@ -1,6 +1,6 @@
 //! Single words of the text of a rule.
-ghost use Rattle.std.specs.Prelude.{◌≡◌, ◌+◌, ◌<◌, ◌≤◌, ◌==◌, ◌∷◌, length, position, slice_index, MatchOption, IfSome};
-ghost use Rattle.cal_recurrence.specs.Words.{by_day_of, bytes_left, count_of, date_of, day_with, frequency_of, from_one_to, front_at, is_alike, month_day_of, month_of, number_of, part_of, parts_at, parts_left, index_of, rest_at, short_count_of, weekday_of};
+ghost use Rattle.std.specs.Prelude.{◌≡◌, true, ◌+◌, ◌<◌, ◌≤◌, ◌==◌, ◌∷◌, length, position, slice_index, MatchOption, IfSome};
+ghost use Rattle.cal_recurrence.specs.Words.{by_day_of, bytes_after, bytes_left, count_of, date_of, day_with, first_bytes, frequency_of, from_one_to, front_at, has_name, is_alike, is_clock, is_time, is_zone, month_day_of, month_of, number_of, part_of, parts_at, parts_left, index_of, rest_at, short_count_of, weekday_of};
 
 use crate::fault::RulePart;
 use cal_schedule::{ByDay, Frequency};
@@ -29,10 +29,29 @@ pub fn cut(bytes: &[u8], byte: u8) -> (&[u8], Option<&[u8]>)
     }
 }
 
+/// Splits after the first `size` bytes.
+#[tactic(auto, unfolding(crate::specs::Words::first_bytes, crate::specs::Words::bytes_after))]
+pub fn split(bytes: &[u8], size: usize) -> (&[u8], &[u8])
+    requires { size ≤ length bytes.now }
+    ensures first { result.0.now ≡ first_bytes size bytes.now }
+    ensures after { result.1.now ≡ bytes_after size bytes.now }
+    ensures length { size + length result.1.now ≡ length bytes.now }
+{
+    (&bytes[..size], &bytes[size..])
+}
+
 fn is_alike(word: &[u8], name: &[u8]) -> bool
     ensures { result ≡ is_alike word.now name.now }
 {
     word.eq_ignore_ascii_case(name)
+}
+
+/// Returns `true` if the text begins with `RRULE:`, as in a calendar.
+pub fn has_name(text: &[u8]) -> bool
+    ensures value { result ≡ has_name text.now }
+    ensures long { result ≡ true → 6 ≤ length text.now }
+{
+    text.len() >= 6 && is_alike(split(text, 6).0, b"RRULE:")
 }
 
 /// Parses the name of a part.
@@ -193,12 +212,51 @@ fn day_with(number: u32) -> Option<Date>
     Date::from_calendar_date((number / 10_000) as i32, month, (number % 100) as u8).ok()
 }
 
-/// Parses a date of eight digits, such as `20241231`.
+/// Returns `true` if six digits are a time of day. A second can be 60.
+fn is_clock(word: &[u8]) -> bool
+    ensures { result ≡ is_clock word.now }
+{
+    match number_of(word) {
+        Some(n) => n / 10_000 < 24 && n / 100 % 100 < 60 && n % 100 <= 60,
+        None => false,
+    }
+}
+
+/// Returns `true` if the word is empty or `Z`.
+fn is_zone(word: &[u8]) -> bool
+    ensures { result ≡ is_zone word.now }
+{
+    word.is_empty() || is_alike(word, b"Z")
+}
+
+/// Returns `true` if the word is empty or a time of day, such as `T235959` or `T235959Z`.
+fn is_time(word: &[u8]) -> bool
+    ensures { result ≡ is_time word.now }
+{
+    if word.is_empty() {
+        return true;
+    }
+    if word.len() < 7 {
+        return false;
+    }
+    let (mark, rest) = split(word, 1);
+    let (clock, zone) = split(rest, 6);
+    is_alike(mark, b"T") && is_clock(clock) && is_zone(zone)
+}
+
+/// Parses the date of a date such as `20241231` or of a date and time such as `20241231T235959Z`.
 pub fn date_of(word: &[u8]) -> Option<Date>
     ensures { result ≡ date_of word.now }
 {
-    if word.len() != 8 {
+    if word.len() < 8 {
         return None;
     }
-    day_with(number_of(word)?)
+    let (day, time) = split(word, 8);
+    if !is_time(time) {
+        return None;
+    }
+    match number_of(day) {
+        Some(number) => day_with(number),
+        None => None,
+    }
 }

@@ -38,6 +38,10 @@ fn faults(rt: HostRuntime) {
     refused(rt, "=DAILY", 0, ParseRuleErrorKind::Unknown);
     refused(rt, "FREQ =DAILY", 0, ParseRuleErrorKind::Unknown);
     refused(rt, "FREQ=DAILY;", 11, ParseRuleErrorKind::Unknown);
+    refused(rt, "RRULE:", 6, ParseRuleErrorKind::Unknown);
+    refused(rt, "RRULE", 0, ParseRuleErrorKind::Unknown);
+    refused(rt, "RRULE:COUNT=3", 13, ParseRuleErrorKind::Missing);
+    refused(rt, "EXRULE:FREQ=DAILY", 0, ParseRuleErrorKind::Unknown);
     refused(
         rt,
         "FREQ=MONTHLY;BYSETPOS=-1;BYDAY=FR",
@@ -225,7 +229,15 @@ fn wrong_values(rt: HostRuntime) {
             "FREQ=DAILY;UNTIL=20240230",
             "FREQ=DAILY;UNTIL=20241301",
             "FREQ=DAILY;UNTIL=2024-12-31",
-            "FREQ=DAILY;UNTIL=20241231T000000Z",
+            "FREQ=DAILY;UNTIL=20241231T",
+            "FREQ=DAILY;UNTIL=20241231T00000",
+            "FREQ=DAILY;UNTIL=20241231T+00000",
+            "FREQ=DAILY;UNTIL=20241231T240000",
+            "FREQ=DAILY;UNTIL=20241231T006000",
+            "FREQ=DAILY;UNTIL=20241231T000061",
+            "FREQ=DAILY;UNTIL=20241231T0000000",
+            "FREQ=DAILY;UNTIL=20241231T000000ZZ",
+            "FREQ=DAILY;UNTIL=20241231 000000",
         ],
     );
     refused_value(
@@ -289,6 +301,26 @@ fn orders_and_cases(rt: HostRuntime) {
         rt,
         "freq=monthly;Interval=2;wkst=su;byMonth=3,12;bymonthday=31,-1;byday=fr,-1mo;count=12",
     );
+}
+
+/// Fails unless the text is daily until 31 December 2024.
+fn until(rt: &impl Abort, text: &str) {
+    let Ok(last) = Date::from_calendar_date(2024, Month::December, 31) else {
+        panic!(rt; "no date");
+    };
+    match parse(text.as_bytes()) {
+        Ok(recurrence) => assert!(rt; recurrence.end == RuleEnd::Until(last), "{text}"),
+        Err(fault) => panic!(rt; "{fault:?} in {text}"),
+    }
+}
+
+#[test]
+fn texts_of_calendars(rt: HostRuntime) {
+    let rt = &rt;
+    until(rt, "RRULE:FREQ=DAILY;UNTIL=20241231");
+    until(rt, "rrule:FREQ=DAILY;UNTIL=20241231T000000");
+    until(rt, "FREQ=DAILY;UNTIL=20241231T235959Z");
+    until(rt, "RRULE:UNTIL=20241231t235960z;FREQ=DAILY");
 }
 
 #[test]
