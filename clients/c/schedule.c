@@ -532,7 +532,7 @@ static void text_errors(void)
         size_t position;
     } rows[] = {
         {"", FOTS_UNKNOWN_PART, 0, 0},
-        {"FREQ=MONTHLY;BYSETPOS=-1;BYDAY=FR", FOTS_UNKNOWN_PART, 0, 13},
+        {"FREQ=MONTHLY;BYHOUR=9;BYDAY=FR", FOTS_UNKNOWN_PART, 0, 13},
         {"FREQ=DAILY;", FOTS_UNKNOWN_PART, 0, 11},
         {"FREQ=DAILY;UNTIL=20241231;COUNT=3", FOTS_DUPLICATE_PART, FOTS_RULE_COUNT, 26},
         {"FREQ=DAILY;freq=daily", FOTS_DUPLICATE_PART, FOTS_RULE_FREQ, 11},

@@ -61,6 +61,7 @@ part_of word =
     if is_alike word (codes "BYMONTH") then Some part.Months else
     if is_alike word (codes "BYMONTHDAY") then Some part.MonthDays else
     if is_alike word (codes "BYDAY") then Some part.Weekdays else
+    if is_alike word (codes "BYSETPOS") then Some part.Positions else
     if is_alike word (codes "UNTIL") then Some part.Until else
     if is_alike word (codes "COUNT") then Some part.Count else
     None
@@ -98,30 +99,33 @@ from_one_to most n = if nat_le 1 n && nat_le n most then Some n else None
 abbrev pub count_of : ℕ → List ℕ → Option ℕ
 count_of most word = option_and_then (from_one_to most) (number_of word)
 
--- A number from 1 to `most` has one or two digits.
-abbrev pub short_count_of : ℕ → List ℕ → Option ℕ
-short_count_of most word = if nat_le (length word) 2 then count_of most word else None
+-- A number from 1 to `most` has at most `size` digits.
+abbrev pub short_count_of : ℕ → ℕ → List ℕ → Option ℕ
+short_count_of size most word = if nat_le (length word) size then count_of most word else None
 
 -- An index is such a number after an optional sign: 45 is the minus sign, 43 the plus sign.
-abbrev pub index_of : ℕ → List ℕ → Option ℤ
-index_of most word =
-    if slice_index word 0 == 45 then option_map (λ n. neg_ℤ (pos n)) (short_count_of most (drop 1 word)) else
-    if slice_index word 0 == 43 then option_map pos (short_count_of most (drop 1 word)) else
-    option_map pos (short_count_of most word)
+abbrev pub index_of : ℕ → ℕ → List ℕ → Option ℤ
+index_of size most word =
+    if slice_index word 0 == 45 then option_map (λ n. neg_ℤ (pos n)) (short_count_of size most (drop 1 word)) else
+    if slice_index word 0 == 43 then option_map pos (short_count_of size most (drop 1 word)) else
+    option_map pos (short_count_of size most word)
 
 -- ---- values
 abbrev pub month_of : List ℕ → Option Month
-month_of word = option_map (λ n. month_with_index (n - 1)) (short_count_of 12 word)
+month_of word = option_map (λ n. month_with_index (n - 1)) (short_count_of 2 12 word)
 
 abbrev pub month_day_of : List ℕ → Option ℤ
-month_day_of word = index_of 31 word
+month_day_of word = index_of 2 31 word
+
+abbrev pub position_of : List ℕ → Option ℤ
+position_of word = index_of 3 366 word
 
 -- A weekday has two letters, after an optional index within the month or the year.
 abbrev pub by_day_of : List ℕ → Option ByDay
 by_day_of word =
     let front = length word - 2 in
     if front == 0 then option_map Every (weekday_of word)
-    else option_map (λ both. Nth both.0 both.1) (option_zip (index_of 53 (take front word)) (weekday_of (drop front word)))
+    else option_map (λ both. Nth both.0 both.1) (option_zip (index_of 2 53 (take front word)) (weekday_of (drop front word)))
 
 -- Day k has the year, the month and the day of the month that the eight digits of n spell.
 abbrev pub has_digits : ℕ → ℕ → Bool

@@ -44,9 +44,15 @@ fn faults(rt: HostRuntime) {
     refused(rt, "EXRULE:FREQ=DAILY", 0, ParseRuleErrorKind::Unknown);
     refused(
         rt,
-        "FREQ=MONTHLY;BYSETPOS=-1;BYDAY=FR",
-        13,
-        ParseRuleErrorKind::Unknown,
+        "RRULE:FREQ=MONTHLY;INTERVAL=2;BYSETPOS=-1;COUNT=3",
+        30,
+        ParseRuleErrorKind::Alone(RulePart::Positions),
+    );
+    refused(
+        rt,
+        "bysetpos=-1;FREQ=MONTHLY",
+        0,
+        ParseRuleErrorKind::Alone(RulePart::Positions),
     );
     refused(
         rt,
@@ -128,7 +134,7 @@ fn refused_as(rt: &impl Abort, alloc: Global, text: &str, words: &str) -> Result
 fn texts_of_faults(rt: HostRuntime) -> Result<(), Fail> {
     let alloc = rt.alloc();
     let rt = &rt;
-    refused_as(rt, alloc, "FREQ=DAILY;BYSETPOS=-1", "unknown part at 11")?;
+    refused_as(rt, alloc, "FREQ=DAILY;BYHOUR=9", "unknown part at 11")?;
     refused_as(rt, alloc, "FREQ=DAILY;FREQ=DAILY", "duplicate FREQ at 11")?;
     refused_as(
         rt,
@@ -167,6 +173,12 @@ fn texts_of_faults(rt: HostRuntime) -> Result<(), Fail> {
         alloc,
         "FREQ=MONTHLY;BYDAY=54FR",
         "invalid value of BYDAY at 13",
+    )?;
+    refused_as(
+        rt,
+        alloc,
+        "FREQ=MONTHLY;BYSETPOS=-1",
+        "no other part with BYSETPOS at 13",
     )?;
     refused_as(rt, alloc, "BYDAY=MO", "missing FREQ at 8")
 }
@@ -220,6 +232,16 @@ fn wrong_values(rt: HostRuntime) {
             "FREQ=DAILY;BYDAY=54MO",
             "FREQ=DAILY;BYDAY=-1",
             "FREQ=DAILY;BYDAY=MO,,TU",
+        ],
+    );
+    refused_value(
+        rt,
+        RulePart::Positions,
+        &[
+            "FREQ=DAILY;BYSETPOS=0;BYDAY=MO",
+            "FREQ=DAILY;BYSETPOS=367;BYDAY=MO",
+            "FREQ=DAILY;BYSETPOS=-367;BYDAY=MO",
+            "FREQ=DAILY;BYSETPOS=0001;BYDAY=MO",
         ],
     );
     refused_value(
@@ -338,6 +360,7 @@ fn by_fields(rt: HostRuntime) {
         months,
         month_days: Values::none(0),
         weekdays,
+        set_positions: Values::none(0),
         end: RuleEnd::Count(1),
     };
     let (Ok(start), Ok(thanksgiving)) = (
