@@ -226,10 +226,10 @@ class Recurrences(unittest.TestCase):
         for parts in ({"weekdays": [5]}, {"months": ["1"]}, {"until": 1}, {"week_start": 1}, {"weekdays": [(1, 5)]}):
             self.assertRaises(TypeError, Rule, start, Frequency.Yearly, **parts)
         for text, wanted in {
-            "FREQ=MONTHLY;BYSETPOS=-1;BYDAY=FR": (13, ParseRuleErrorKind.Unknown, None, "unknown part at 13"),
+            "FREQ=MONTHLY;BYHOUR=9;BYDAY=FR": (13, ParseRuleErrorKind.Unknown, None, "unknown part at 13"),
             "FREQ=DAILY;UNTIL=20241231;COUNT=3": (26, ParseRuleErrorKind.Twice, "COUNT", "duplicate COUNT at 26"),
             "FREQ=DAILY;BYMONTHDAY=1" + ",1" * 62: (11, ParseRuleErrorKind.TooMany, "BYMONTHDAY", "too many values in BYMONTHDAY at 11"),
-            "FREQ=DAILY;UNTIL=20241231T000000Z": (11, ParseRuleErrorKind.Value, "UNTIL", "invalid value of UNTIL at 11"),
+            "FREQ=DAILY;UNTIL=20241231T240000Z": (11, ParseRuleErrorKind.Value, "UNTIL", "invalid value of UNTIL at 11"),
             "INTERVAL=2;FREQ=\ud800": (11, ParseRuleErrorKind.Value, "FREQ", "invalid value of FREQ at 11"),
             "BYDAY=MO": (8, ParseRuleErrorKind.Missing, None, "missing FREQ at 8"),
         }.items():

@@ -43,12 +43,23 @@ pub enum RulePart {
     Until = 7,
     /// `COUNT`
     Count = 8,
+    /// `BYSETPOS`
+    Positions = 9,
 }
 
 impl RulePart {
     /// The parts by their numbers, from 1.
-    const ALL: [Self; 8] =
-        [Self::Frequency, Self::Interval, Self::WeekStart, Self::Months, Self::MonthDays, Self::Weekdays, Self::Until, Self::Count];
+    const ALL: [Self; 9] = [
+        Self::Frequency,
+        Self::Interval,
+        Self::WeekStart,
+        Self::Months,
+        Self::MonthDays,
+        Self::Weekdays,
+        Self::Until,
+        Self::Count,
+        Self::Positions,
+    ];
 
     /// Returns the name, such as `BYDAY`.
     fn name(self) -> &'static str {
@@ -59,7 +70,7 @@ impl RulePart {
 /// Why a part is wrong.
 #[derive(Clone, Copy, Debug, PartialEq, Eq, Hash)]
 pub enum ParseRuleErrorKind {
-    /// The part has another name, such as `BYSETPOS=1`.
+    /// The part has another name, such as `BYHOUR=9`.
     Unknown,
     /// The part is there twice, or is a second end after `UNTIL` or `COUNT`.
     Twice(RulePart),

@@ -169,7 +169,7 @@ fn days_by_many_pages() {
 fn texts_at_fault() {
     let many = format!("FREQ=DAILY;BYMONTHDAY=1{}", ",1".repeat(62));
     for (text, position, reason, printed) in [
-        ("FREQ=MONTHLY;BYSETPOS=-1;BYDAY=FR", 13, ParseRuleErrorKind::Unknown, "unknown part at 13"),
+        ("FREQ=MONTHLY;BYHOUR=9;BYDAY=FR", 13, ParseRuleErrorKind::Unknown, "unknown part at 13"),
         ("FREQ=DAILY;UNTIL=20241231;COUNT=3", 26, ParseRuleErrorKind::Twice(RulePart::Count), "duplicate COUNT at 26"),
         (&many, 11, ParseRuleErrorKind::TooMany(RulePart::MonthDays), "too many values in BYMONTHDAY at 11"),
         ("FREQ=HOURLY", 0, ParseRuleErrorKind::Value(RulePart::Frequency), "invalid value of FREQ at 0"),

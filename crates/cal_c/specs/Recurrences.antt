@@ -1,5 +1,5 @@
 -- Recurrence rules with the parts that C passes.
-use Rattle.std.specs.Prelude.{◌≡◌, ℕ, zero, ◌+◌, ◌-◌, ◌<◌, ◌≤◌, min, ℤ, pos, List, All, get_or, length, map, Some}
+use Rattle.std.specs.Prelude.{◌≡◌, ℕ, zero, ◌+◌, ◌-◌, ◌<◌, ◌≤◌, min, ℤ, pos, List, All, [], get_or, length, map, Some}
 use Rattle.cal_time.specs.Date.{julian_day_at}
 use Rattle.cal_schedule.specs.declared.rule.rule.ByDay.{ByDay}
 use Rattle.cal_schedule.specs.declared.rule.rule.ByDay.TheVariants.{Every, Nth}
@@ -89,6 +89,7 @@ pub record IsPlainRuleFromParts (p : RuleParts) (rule : Rule) : Type 0 where
   pub interval : rule.interval ≡ p.interval
   pub week_start : index rule.week_start + 1 ≡ p.week_start
   pub month_days : rule.month_days.now ≡ p.month_days.now
+  pub set_positions : rule.set_positions.now ≡ []
 
 -- The rule has the parts p.
 pub record IsRuleFromParts (p : RuleParts) (rule : Rule) : Type 0 where

@@ -1,6 +1,6 @@
 -- The days of a recurrence are one list, for any borrows of the lists of its rule.
 use Rattle.std.proofs.Common.{◌≡◌, ℕ, List, refl, sym, ap, ◌∙◌}
-use Rattle.cal_schedule.specs.Rule.{occurrences, is_occurrence, periods_past, matches_months, matches_days}
+use Rattle.cal_schedule.specs.Rule.{occurrences, is_occurrence, periods_past, passes, matches_months, matches_days, matches_positions}
 use Rattle.cal_schedule.specs.declared.rule.rule.Rule.{Rule}
 use Rattle.cal_recurrence.specs.Days.{AreDays, IsRuleOf, up_to_end}
 use Rattle.cal_recurrence.specs.declared.recurrence.Recurrence.{Recurrence}
@@ -15,11 +15,12 @@ moved a b = record {
   months = record { ref_ptr = a.months.ref_ptr; now = b.months.now };
   month_days = record { ref_ptr = a.month_days.ref_ptr; now = b.month_days.now };
   weekdays = record { ref_ptr = a.weekdays.ref_ptr; now = b.weekdays.now };
+  set_positions = record { ref_ptr = a.set_positions.ref_ptr; now = b.set_positions.now };
   until = b.until;
 }
 
 moved-days : (a b : Rule) → occurrences (moved a b) ≡ occurrences b
-unfolding is_occurrence periods_past matches_months matches_days
+unfolding is_occurrence periods_past passes matches_months matches_days matches_positions
 moved-days a b = refl
 
 moved-same : (r : Recurrence) (first : ℕ) (a b : Rule) → IsRuleOf r first a → IsRuleOf r first b → a ≡ moved a b
@@ -31,6 +32,7 @@ moved-same r first a b p q = λ i. record {
   months = record { ref_ptr = a.months.ref_ptr; now = (p.months ∙ sym q.months) i };
   month_days = record { ref_ptr = a.month_days.ref_ptr; now = (p.month_days ∙ sym q.month_days) i };
   weekdays = record { ref_ptr = a.weekdays.ref_ptr; now = (p.weekdays ∙ sym q.weekdays) i };
+  set_positions = record { ref_ptr = a.set_positions.ref_ptr; now = (p.set_positions ∙ sym q.set_positions) i };
   until = (p.until ∙ sym q.until) i;
 }
 

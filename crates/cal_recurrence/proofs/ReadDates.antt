@@ -1,22 +1,22 @@
 -- The day of a text in eight digits, read back.
 use Rattle.std.proofs.Math.Nat.{pow-suc}
-use Rattle.std.proofs.Common.{◌≡◌, ℕ, zero, suc, ◌+◌, ◌-◌, ◌*◌, ◌/◌, ◌%◌, ◌<◌, ◌≤◌, ◌^◌, true, cond, List, [], ◌∷◌, ◌++◌, length, Some, None, ℤ, pos, negsuc, inl, inr, refl, ap, ◌∙◌, arith, lit<, slice_get}
-use Rattle.std.specs.Prelude.{decimal, replicate, option_and_then, ◌≤ℤ◌}
+use Rattle.std.proofs.Common.{◌≡◌, ℕ, zero, suc, ◌+◌, ◌-◌, ◌*◌, ◌/◌, ◌%◌, ◌<◌, ◌≤◌, ◌^◌, true, false, cond, List, [], ◌∷◌, ◌++◌, length, Some, None, ℤ, pos, negsuc, inl, inr, refl, ap, ◌∙◌, arith, lit<, slice_get}
+use Rattle.std.specs.Prelude.{decimal, nat_lt, replicate, option_and_then, ◌≤ℤ◌}
 use Rattle.std.specs.Char.{digit_value}
 use Rattle.std.specs.Str.{all_ascii_digits}
 use Rattle.std.specs.Str.Parse.{digits_value, digits_value_after}
-use Rattle.std.proofs.lemmas.Bool.{and_from, and_parts, eq-eqb, false_from_ne_true}
+use Rattle.std.proofs.lemmas.Bool.{and_from, and_parts, false_from_ne_true}
 use Rattle.std.proofs.lemmas.Bool.Decides.{nat_tests}
 use Rattle.std.proofs.lemmas.Fmt.{digits_decimal, digits_value-decimal, length-decimal-le}
 use Rattle.std.proofs.lemmas.Int.{ints}
-use Rattle.std.proofs.lemmas.List.{length-append, length-replicate}
+use Rattle.std.proofs.lemmas.List.{drop_all, length-append, length-replicate, take_all}
 use Rattle.cal_time.specs.Date.{last_day, year_at, month_at, day_of_month_at, IsDate, HasCalendarDate}
 use Rattle.cal_time.specs.DateText.{digits_at_least, sign_text, year_text}
 use Rattle.cal_time.specs.Days.{month_at-range, day_of_month_at-range}
 use Rattle.cal_time.specs.Filters.{filter-first}
 use Rattle.cal_time.specs.Laws.{calendar_date-one}
 use Rattle.cal_schedule.proofs.WeekdaysOfMonths.{days_in_month-most}
-use Rattle.cal_recurrence.specs.Words.{day_with, date_of, has_digits, number_of}
+use Rattle.cal_recurrence.specs.Words.{bytes_after, first_bytes, day_with, date_of, has_digits, is_time, number_of}
 use Rattle.cal_recurrence.specs.Written.{day_text}
 use Rattle.cal_recurrence.proofs.Avoided.{avoids}
 use Rattle.cal_recurrence.proofs.Dates.{same_date, has_them, passes}
@@ -89,8 +89,14 @@ day-back number n date h =
 
 eight-digits : (word : List ℕ) (n number : ℕ) → AreDigits 8 number word → number < 4294967296 → day_with number ≡ Some n
     → date_of word ≡ Some n
+unfolding first_bytes bytes_after
 eight-digits word n number h small day =
-    ap (λ b. cond b (option_and_then day_with (number_of word)) None) (eq-eqb _ _ h.size)
+    let long : nat_lt (length word) 8 ≡ false = grind (arith, nat_tests, h.size) in
+    let rest : bytes_after 8 word ≡ [] = drop_all 8 word (omega (arith, h.size)) in
+    let whole : first_bytes 8 word ≡ word = take_all 8 word (omega (arith, h.size)) in
+    ap (λ b. cond b None (cond (is_time (bytes_after 8 word)) (option_and_then day_with (number_of (first_bytes 8 word))) None)) long
+    ∙ ap (λ r. cond (is_time r) (option_and_then day_with (number_of (first_bytes 8 word))) None) rest
+    ∙ ap (λ w. option_and_then day_with (number_of w)) whole
     ∙ ap (option_and_then day_with) (number-back word number h.all (omega (arith, h.size)) h.value small)
     ∙ day
 

@@ -1,6 +1,6 @@
 -- The parts of a text that was written, read back one after another.
 use Rattle.std.proofs.Common.{◌≡◌, ℕ, suc, ◌+◌, ◌≤◌, Bool, true, false, cond, eqb, List, [], ◌∷◌, ◌++◌, append-nil, append_assoc, length, Option, Some, None, Ok, Err, ℤ, refl, sym, ap, subst, ◌∙◌, arith, inl, inr}
-use Rattle.std.specs.Prelude.{codes, decimal, unwrap_or}
+use Rattle.std.specs.Prelude.{codes, decimal, nat_le, unwrap_or, ◌&&◌}
 use Rattle.std.specs.List.{All}
 use Rattle.std.proofs.lemmas.Bool.{cases_Bool, eqb-true}
 use Rattle.cal_time.specs.declared.Month.{Month}
@@ -8,21 +8,21 @@ use Rattle.cal_time.specs.declared.Weekday.{Weekday}
 use Rattle.cal_time.specs.declared.Weekday.TheVariants as weekday
 use Rattle.cal_schedule.specs.declared.rule.rule.Frequency.{Frequency}
 use Rattle.cal_schedule.specs.declared.rule.rule.ByDay.{ByDay}
-use Rattle.cal_recurrence.specs.Spelled.{IsCount, IsMonthDay, IsByDay, IsEnd, IsSpelled}
-use Rattle.cal_recurrence.specs.Text.{list_of, fresh, changed, put, put_value, put_part, and_on, read_on, nothing, recurrence_of}
-use Rattle.cal_recurrence.specs.Words.{parts_at, frequency_of, weekday_of, count_of, month_of, month_day_of, by_day_of, date_of}
-use Rattle.cal_recurrence.specs.Written.{frequency_text, weekday_text, month_text, month_day_text, by_day_text, day_text, interval_text, end_text, list_text, week_start_text, text_of}
+use Rattle.cal_recurrence.specs.Spelled.{IsCount, IsMonthDay, IsByDay, IsPosition, IsEnd, IsSpelled}
+use Rattle.cal_recurrence.specs.Text.{checked, fault, list_of, fresh, parts_say, place_of, changed, put, put_value, put_part, and_on, read_on, nothing, recurrence_of}
+use Rattle.cal_recurrence.specs.Words.{bytes_after, first_bytes, has_name, parts_at, frequency_of, weekday_of, count_of, month_of, month_day_of, by_day_of, position_of, date_of}
+use Rattle.cal_recurrence.specs.Written.{frequency_text, weekday_text, month_text, month_day_text, by_day_text, position_text, day_text, interval_text, end_text, list_text, week_start_text, text_of}
 use Rattle.cal_recurrence.specs.declared.draft.Draft.{Draft}
 use Rattle.cal_recurrence.specs.declared.fault.RulePart.{RulePart}
 use Rattle.cal_recurrence.specs.declared.fault.RulePart.TheVariants as part
-use Rattle.cal_recurrence.specs.declared.fault.ParseRuleErrorKind.TheVariants.{TooMany}
+use Rattle.cal_recurrence.specs.declared.fault.ParseRuleErrorKind.TheVariants.{Alone, TooMany}
 use Rattle.cal_recurrence.specs.declared.recurrence.Recurrence.{Recurrence}
 use Rattle.cal_recurrence.specs.declared.recurrence.RuleEnd.{RuleEnd}
 use Rattle.cal_recurrence.specs.declared.recurrence.RuleEnd.TheVariants.{Never, Until, Count}
 use Rattle.cal_recurrence.proofs.Avoided.{avoids, avoids-append, cut-here, cut-nowhere}
 use Rattle.cal_recurrence.proofs.ReadDates.{day-word}
 use Rattle.cal_recurrence.proofs.ReadValues.{IsWord, IsValue, AreWords, one-word, list-value}
-use Rattle.cal_recurrence.proofs.ReadWords.{count-word, month-word, month_day-word, by_day-word, frequency-word, weekday-word}
+use Rattle.cal_recurrence.proofs.ReadWords.{count-word, month-word, month_day-word, by_day-word, position-word, frequency-word, weekday-word}
 
 -- ---- parts, each after a mark
 abbrev parts_after : List ℕ → List (List ℕ)
@@ -53,7 +53,7 @@ given draft at value meaning x to h e =
 
 -- ---- the parts in their order, each of which may be left out, and the draft after each
 frequency-said : (f : Frequency) (rest : List ℕ) (r : Recurrence) → Says (record nothing { frequency = Some f }) rest r
-    → recurrence_of ((codes "FREQ=" ++ frequency_text f) ++ rest) ≡ Ok r
+    → read_on 0 nothing (parts_at 59 ((codes "FREQ=" ++ frequency_text f) ++ rest)) ≡ Ok r
 frequency-said f rest r h =
     let value = one-word frequency_of f (frequency_text f) (frequency-word f) in
     (one-part nothing (record nothing { frequency = Some f }) (codes "FREQ=" ++ frequency_text f) rest r
@@ -135,6 +135,19 @@ weekdays-said d (x ∷ xs) rest r words few h =
     (given none part.Weekdays text (list_of by_day_of) (x ∷ xs) (λ o. record d { weekdays = Some o }) value refl)
     (h (Some (x ∷ xs)) refl)
 
+positions-said : (d : Draft) (xs : List ℤ) (rest : List ℕ) (r : Recurrence) → AreWords position_of position_text xs → length xs ≤ 62
+    → ((o : Option (List ℤ)) → unwrap_or o [] ≡ xs → Says (record d { set_positions = o }) rest r)
+    → Says (record d { set_positions = None }) (list_text (codes ";BYSETPOS=") position_text xs ++ rest) r
+positions-said d [] rest r words few h = h None refl
+positions-said d (x ∷ xs) rest r words few h =
+    let none : Draft = record d { set_positions = None } in
+    let text = position_text x ++ list_text (codes ",") position_text xs in
+    let value = list-value position_of position_text x xs words few in
+    one-part none (record d { set_positions = Some (x ∷ xs) }) (codes "BYSETPOS=" ++ text) rest r
+    (avoids-append 59 (codes "BYSETPOS=") text refl value.semicolon)
+    (given none part.Positions text (list_of position_of) (x ∷ xs) (λ o. record d { set_positions = Some o }) value refl)
+    (h (Some (x ∷ xs)) refl)
+
 week_start-given : (d : Draft) (s : Weekday) (rest : List ℕ) (r : Recurrence) → Says (record d { week_start = Some s }) rest r
     → Says (record d { week_start = None }) ((codes ";WKST=" ++ weekday_text s) ++ rest) r
 week_start-given d s rest r h =
@@ -155,23 +168,24 @@ week_start-said d weekday.Friday rest r h = week_start-given d weekday.Friday re
 week_start-said d weekday.Saturday rest r h = week_start-given d weekday.Saturday rest r (h (Some weekday.Saturday) refl)
 week_start-said d weekday.Sunday rest r h = week_start-given d weekday.Sunday rest r (h (Some weekday.Sunday) refl)
 
-abbrev draft_of : Frequency → Option ℕ → Option RuleEnd → Option (List Month) → Option (List ℤ) → Option (List ByDay) → Option Weekday
-    → Draft
-draft_of f interval end months month_days weekdays week_start = record {
+abbrev draft_of : Frequency → Option ℕ → Option RuleEnd → Option (List Month) → Option (List ℤ) → Option (List ByDay) → Option (List ℤ)
+    → Option Weekday → Draft
+draft_of f interval end months month_days weekdays set_positions week_start = record {
   frequency = Some f;
   interval = interval;
   week_start = week_start;
   months = months;
   month_days = month_days;
   weekdays = weekdays;
+  set_positions = set_positions;
   end = end;
 }
 
 all-said : (r : Recurrence) (i : Option ℕ) (e : Option RuleEnd) (m : Option (List Month)) (d : Option (List ℤ))
-    (w : Option (List ByDay)) (s : Option Weekday) → unwrap_or i 1 ≡ r.interval → unwrap_or e Never ≡ r.end → unwrap_or m [] ≡ r.months
-    → unwrap_or d [] ≡ r.month_days → unwrap_or w [] ≡ r.weekdays → unwrap_or s weekday.Monday ≡ r.week_start
-    → Says (draft_of r.frequency i e m d w s) [] r
-all-said r i e m d w s is ends months month_days weekdays starts = record {
+    (w : Option (List ByDay)) (p : Option (List ℤ)) (s : Option Weekday) → unwrap_or i 1 ≡ r.interval → unwrap_or e Never ≡ r.end → unwrap_or m [] ≡ r.months
+    → unwrap_or d [] ≡ r.month_days → unwrap_or w [] ≡ r.weekdays → unwrap_or p [] ≡ r.set_positions → unwrap_or s weekday.Monday ≡ r.week_start
+    → Says (draft_of r.frequency i e m d w p s) [] r
+all-said r i e m d w p s is ends months month_days weekdays positions starts = record {
   cut = λ text clean. ap (parts_at 59) (append-nil text) ∙ cut-nowhere 59 text clean;
   reads = λ at j. Ok (record {
     frequency = r.frequency;
@@ -180,6 +194,7 @@ all-said r i e m d w s is ends months month_days weekdays starts = record {
     months = months j;
     month_days = month_days j;
     weekdays = weekdays j;
+    set_positions = positions j;
     end = ends j;
   });
 }
@@ -201,33 +216,51 @@ month-words [] = tt
 month-words (x ∷ xs) = (month-word x, month-words xs)
 
 -- ---- the whole
-grouped : (a b c d e f g : List ℕ) → a ++ b ++ c ++ d ++ e ++ f ++ g ≡ a ++ (b ++ (c ++ (d ++ (e ++ (f ++ (g ++ []))))))
-grouped a b c d e f g =
-    append_assoc (a ++ b ++ c ++ d ++ e) f g ∙ append_assoc (a ++ b ++ c ++ d) e (f ++ g) ∙ append_assoc (a ++ b ++ c) d (e ++ (f ++ g))
-    ∙ append_assoc (a ++ b) c (d ++ (e ++ (f ++ g))) ∙ append_assoc a b (c ++ (d ++ (e ++ (f ++ g))))
-    ∙ ap (λ last. a ++ (b ++ (c ++ (d ++ (e ++ (f ++ last)))))) (sym (append-nil g))
+grouped : (a b c d e f g h : List ℕ) → a ++ b ++ c ++ d ++ e ++ f ++ g ++ h ≡ a ++ (b ++ (c ++ (d ++ (e ++ (f ++ (g ++ (h ++ [])))))))
+grouped a b c d e f g h =
+    append_assoc (a ++ b ++ c ++ d ++ e ++ f) g h ∙ append_assoc (a ++ b ++ c ++ d ++ e) f (g ++ h) ∙ append_assoc (a ++ b ++ c ++ d) e (f ++ (g ++ h))
+    ∙ append_assoc (a ++ b ++ c) d (e ++ (f ++ (g ++ h))) ∙ append_assoc (a ++ b) c (d ++ (e ++ (f ++ (g ++ h))))
+    ∙ append_assoc a b (c ++ (d ++ (e ++ (f ++ (g ++ h)))))
+    ∙ ap (λ last. a ++ (b ++ (c ++ (d ++ (e ++ (f ++ (g ++ last))))))) (sym (append-nil h))
 
-reads_back_of : (r : Recurrence) → IsSpelled r → recurrence_of (text_of r) ≡ Ok r
-reads_back_of r h =
-    let from : Option ℕ → Option RuleEnd → Option (List Month) → Option (List ℤ) → Option (List ByDay) → Draft = λ i e m d w. draft_of r.frequency i e m d w None in
+no-name : (r : Recurrence) → has_name (text_of r) ≡ false
+unfolding first_bytes
+no-name r = and-false (nat_le 6 (length (text_of r)))
+  where
+    and-false : (b : Bool) → b && false ≡ false
+    and-false true = refl
+    and-false false = refl
+
+said : (r : Recurrence) → IsSpelled r → read_on 0 nothing (parts_at 59 (text_of r)) ≡ Ok r
+said r h =
+    let from : Option ℕ → Option RuleEnd → Option (List Month) → Option (List ℤ) → Option (List ByDay) → Option (List ℤ) → Draft = λ i e m d w p. draft_of r.frequency i e m d w p None in
     let starts = week_start_text r.week_start ++ [] in
-    let weekdays = list_text (codes ";BYDAY=") by_day_text r.weekdays ++ starts in
+    let positions = list_text (codes ";BYSETPOS=") position_text r.set_positions ++ starts in
+    let weekdays = list_text (codes ";BYDAY=") by_day_text r.weekdays ++ positions in
     let month_days = list_text (codes ";BYMONTHDAY=") month_day_text r.month_days ++ weekdays in
     let months = list_text (codes ";BYMONTH=") month_text r.months ++ month_days in
     let end = end_text r.end ++ months in
     let interval = interval_text r.interval ++ end in
     let day_words = words IsMonthDay month_day_of month_day_text month_day-word r.month_days h.each_month_day in
     let weekday_words = words IsByDay by_day_of by_day_text by_day-word r.weekdays h.each_weekday in
-    ap recurrence_of (grouped (codes "FREQ=" ++ frequency_text r.frequency) (interval_text r.interval) (end_text r.end)
+    let position_words = words IsPosition position_of position_text position-word r.set_positions h.each_position in
+    ap (λ text. read_on 0 nothing (parts_at 59 text)) (grouped (codes "FREQ=" ++ frequency_text r.frequency) (interval_text r.interval) (end_text r.end)
     (list_text (codes ";BYMONTH=") month_text r.months) (list_text (codes ";BYMONTHDAY=") month_day_text r.month_days)
-    (list_text (codes ";BYDAY=") by_day_text r.weekdays) (week_start_text r.week_start))
-    ∙ frequency-said r.frequency interval r (interval-said (from None None None None None) r.interval end r h.interval (λ i a.
-    end-said (from i None None None None) r.end months r h.end (λ e b.
-    months-said (from i e None None None) r.months month_days r (month-words r.months) h.months (λ m c.
-    month_days-said (from i e m None None) r.month_days weekdays r day_words h.month_days (λ d p.
-    weekdays-said (from i e m d None) r.weekdays starts r weekday_words h.weekdays (λ w q.
-    week_start-said (from i e m d w) r.week_start [] r (λ s o.
-    all-said r i e m d w s a b c p q o)))))))
+    (list_text (codes ";BYDAY=") by_day_text r.weekdays) (list_text (codes ";BYSETPOS=") position_text r.set_positions) (week_start_text r.week_start))
+    ∙ frequency-said r.frequency interval r (interval-said (from None None None None None None) r.interval end r h.interval (λ i a.
+    end-said (from i None None None None None) r.end months r h.end (λ e b.
+    months-said (from i e None None None None) r.months month_days r (month-words r.months) h.months (λ m c.
+    month_days-said (from i e m None None None) r.month_days weekdays r day_words h.month_days (λ d p.
+    weekdays-said (from i e m d None None) r.weekdays positions r weekday_words h.weekdays (λ w q.
+    positions-said (from i e m d w None) r.set_positions starts r position_words h.set_positions (λ k t.
+    week_start-said (from i e m d w k) r.week_start [] r (λ s o.
+    all-said r i e m d w k s a b c p q t o))))))))
+
+reads_back_of : (r : Recurrence) → IsSpelled r → recurrence_of (text_of r) ≡ Ok r
+reads_back_of r h =
+    ap (λ b. cond b (parts_say 6 (parts_at 59 (bytes_after 6 (text_of r)))) (parts_say 0 (parts_at 59 (text_of r)))) (no-name r)
+    ∙ ap (checked 0 (parts_at 59 (text_of r))) (said r h)
+    ∙ ap (λ b. cond b (Err (fault (place_of (codes "BYSETPOS") 0 (parts_at 59 (text_of r))) (Alone part.Positions))) (Ok r)) h.ranked
 
 pub reads_back : (r : Recurrence) (text : List ℕ) → text ≡ text_of r → IsSpelled r → recurrence_of text ≡ Ok r
 reads_back r text e h = ap recurrence_of e ∙ reads_back_of r h

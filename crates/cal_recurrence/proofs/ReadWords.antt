@@ -20,8 +20,8 @@ use Rattle.cal_schedule.specs.declared.rule.rule.Frequency.TheVariants as freque
 use Rattle.cal_schedule.specs.declared.rule.rule.ByDay.{ByDay}
 use Rattle.cal_schedule.specs.declared.rule.rule.ByDay.TheVariants.{Every, Nth}
 use Rattle.cal_recurrence.specs.Spelled.{IsCount, IsIndex, IsByDay}
-use Rattle.cal_recurrence.specs.Words.{is_number, number_of, from_one_to, count_of, short_count_of, index_of, frequency_of, weekday_of, month_of, month_day_of, by_day_of}
-use Rattle.cal_recurrence.specs.Written.{frequency_text, weekday_text, month_text, month_day_text, by_day_text}
+use Rattle.cal_recurrence.specs.Words.{is_number, number_of, from_one_to, count_of, short_count_of, index_of, frequency_of, weekday_of, month_of, month_day_of, position_of, by_day_of}
+use Rattle.cal_recurrence.specs.Written.{frequency_text, weekday_text, month_text, month_day_text, position_text, by_day_text}
 use Rattle.cal_recurrence.proofs.Avoided.{avoids, avoids-append, avoids-cons}
 use Rattle.cal_recurrence.proofs.Numbers.{digits, numeral_is}
 use Rattle.cal_recurrence.proofs.ReadValues.{IsWord}
@@ -63,35 +63,35 @@ count-word n h = record {
   means = count-back 4294967295 n h.0 (omega (arith, h.1)) h.1;
 }
 
-short-back : (most n : ℕ) → 1 ≤ n → n ≤ most → most < 100 → short_count_of most (decimal n) ≡ Some n
-short-back most n low high two =
-    let short : length (decimal n) ≤ 2 = length-decimal-le 2 n (lit< tt) (omega (arith, high, two)) (omega (arith, high, two)) in
-    let test : nat_le (length (decimal n)) 2 ≡ true = grind (arith, nat_tests, short) in
-    ap (λ b. cond b (count_of most (decimal n)) None) test ∙ count-back most n low high (omega (arith, high, two))
+short-back : (size most n : ℕ) → 0 < size → 1 ≤ n → n ≤ most → most < 10 ^ size → most < 1000 → short_count_of size most (decimal n) ≡ Some n
+short-back size most n some low high two few =
+    let short : length (decimal n) ≤ size = length-decimal-le size n some (omega (arith, high, two)) (omega (arith, high, few)) in
+    let test : nat_le (length (decimal n)) size ≡ true = grind (arith, nat_tests, short) in
+    ap (λ b. cond b (count_of most (decimal n)) None) test ∙ count-back most n low high (omega (arith, high, few))
 
 -- ---- an index with its sign
-plain-index : (most : ℕ) (word : List ℕ) (n : ℕ) → 48 < slice_index word 0 → short_count_of most word ≡ Some n
-    → index_of most word ≡ Some (pos n)
-plain-index most word n first h =
-    let after = short_count_of most (drop 1 word) in
-    let plain = option_map pos (short_count_of most word) in
+plain-index : (size most : ℕ) (word : List ℕ) (n : ℕ) → 48 < slice_index word 0 → short_count_of size most word ≡ Some n
+    → index_of size most word ≡ Some (pos n)
+plain-index size most word n first h =
+    let after = short_count_of size most (drop 1 word) in
+    let plain = option_map pos (short_count_of size most word) in
     let minus : eqb (slice_index word 0) 45 ≡ false = ne_eqb _ _ (λ e. omega (arith, e, first)) in
     let plus : eqb (slice_index word 0) 43 ≡ false = ne_eqb _ _ (λ e. omega (arith, e, first)) in
     ap (λ b. cond b (option_map (λ n. neg_ℤ (pos n)) after) (cond (eqb (slice_index word 0) 43) (option_map pos after) plain)) minus
     ∙ ap (λ b. cond b (option_map pos after) plain) plus
     ∙ ap (option_map pos) h
 
-pub index-back : (most : ℕ) (z : ℤ) → most < 100 → IsIndex most z → index_of most (signed_decimal z) ≡ Some z
-index-back most (pos n) two h =
+pub index-back : (size most : ℕ) (z : ℤ) → 0 < size → most < 10 ^ size → most < 1000 → IsIndex most z → index_of size most (signed_decimal z) ≡ Some z
+index-back size most (pos n) some two few h =
     let low : 1 ≤ n = h.0 in
     let high : n ≤ most = h.1 in
-    plain-index most (decimal n) n (first_decimal n (omega (arith, low)) (omega (arith, high, two))) (short-back most n low high two)
-index-back most (negsuc n) two h =
+    plain-index size most (decimal n) n (first_decimal n (omega (arith, low)) (omega (arith, high, few))) (short-back size most n some low high two few)
+index-back size most (negsuc n) some two few h =
     let low : 1 ≤ suc n = h.0 in
     let high : suc n ≤ most = h.1 in
-    ap (option_map (λ n. neg_ℤ (pos n))) (short-back most (suc n) low high two)
+    ap (option_map (λ n. neg_ℤ (pos n))) (short-back size most (suc n) some low high two few)
 
-signed-avoids : (byte most : ℕ) (z : ℤ) → most < 100 → IsIndex most z → eqb 45 byte ≡ false → (byte < 48) ⊎ (57 < byte)
+signed-avoids : (byte most : ℕ) (z : ℤ) → most < 1000 → IsIndex most z → eqb 45 byte ≡ false → (byte < 48) ⊎ (57 < byte)
     → avoids byte (signed_decimal z) ≡ true
 signed-avoids byte most (pos n) two h minus out =
     let high : n ≤ most = h.1 in
@@ -104,7 +104,14 @@ pub month_day-word : (z : ℤ) → IsIndex 31 z → IsWord month_day_of z (month
 month_day-word z h = record {
   comma = signed-avoids 44 31 z (lit< tt) h refl (inl (lit< tt));
   semicolon = signed-avoids 59 31 z (lit< tt) h refl (inr (lit< tt));
-  means = index-back 31 z (lit< tt) h;
+  means = index-back 2 31 z (lit< tt) (lit< tt) (lit< tt) h;
+}
+
+pub position-word : (z : ℤ) → IsIndex 366 z → IsWord position_of z (position_text z)
+position-word z h = record {
+  comma = signed-avoids 44 366 z (lit< tt) h refl (inl (lit< tt));
+  semicolon = signed-avoids 59 366 z (lit< tt) h refl (inr (lit< tt));
+  means = index-back 3 366 z (lit< tt) (lit< tt) (lit< tt) h;
 }
 
 -- ---- names
@@ -120,7 +127,7 @@ month-word m =
     record {
       comma = decimal-avoids 44 (number m) (inl (lit< tt)) (omega (arith, most));
       semicolon = decimal-avoids 59 (number m) (inr (lit< tt)) (omega (arith, most));
-      means = ap (option_map (λ n. month_with_index (n - 1))) (short-back 12 (number m) (omega arith) most (lit< tt)) ∙ ap Some (number-back_to m);
+      means = ap (option_map (λ n. month_with_index (n - 1))) (short-back 2 12 (number m) (lit< tt) (omega arith) most (lit< tt) (lit< tt)) ∙ ap Some (number-back_to m);
     }
 
 pub frequency-word : (f : Frequency) → IsWord frequency_of f (frequency_text f)
@@ -151,7 +158,7 @@ two-letters weekday.Sunday = refl
 abbrev by_day_at : List ℕ → ℕ → Option ByDay
 by_day_at word front =
     cond (eqb front 0) (option_map Every (weekday_of word))
-    (option_map (λ both. Nth both.0 both.1) (option_zip (index_of 53 (take front word)) (weekday_of (drop front word))))
+    (option_map (λ both. Nth both.0 both.1) (option_zip (index_of 2 53 (take front word)) (weekday_of (drop front word))))
 
 by_day-cut : (word : List ℕ) (front : ℕ) → length word - 2 ≡ front → by_day_of word ≡ by_day_at word front
 by_day-cut word front e = ap (by_day_at word) e
@@ -161,7 +168,7 @@ every-back w =
     let none : length (weekday_text w) - 2 ≡ 0 = omega (arith, two-letters w) in
     by_day-cut (weekday_text w) 0 none ∙ ap (option_map Every) (weekday-word w).means
 
-nth-back : (index name : List ℕ) (z : ℤ) (w : Weekday) → 0 < length index → length name ≡ 2 → index_of 53 index ≡ Some z
+nth-back : (index name : List ℕ) (z : ℤ) (w : Weekday) → 0 < length index → length name ≡ 2 → index_of 2 53 index ≡ Some z
     → weekday_of name ≡ Some w
     → by_day_of (index ++ name) ≡ Some (Nth z w)
 nth-back index name z w some two e f =
@@ -173,13 +180,13 @@ nth-back index name z w some two e f =
     let both : Option ℤ → Option Weekday → Option ByDay = λ o p. option_map (λ both. Nth both.0 both.1) (option_zip o p) in
     by_day-cut (index ++ name) (length index) front
     ∙ ap (λ b. cond b (option_map Every (weekday_of (index ++ name)))
-    (both (index_of 53 (take (length index) (index ++ name))) (weekday_of (drop (length index) (index ++ name))))) not_none
-    ∙ ap (λ bytes. both (index_of 53 bytes) (weekday_of (drop (length index) (index ++ name)))) start
-    ∙ ap (λ bytes. both (index_of 53 index) (weekday_of bytes)) rest
+    (both (index_of 2 53 (take (length index) (index ++ name))) (weekday_of (drop (length index) (index ++ name))))) not_none
+    ∙ ap (λ bytes. both (index_of 2 53 bytes) (weekday_of (drop (length index) (index ++ name)))) start
+    ∙ ap (λ bytes. both (index_of 2 53 index) (weekday_of bytes)) rest
     ∙ ap (λ o. both o (weekday_of name)) e
     ∙ ap (λ o. both (Some z) o) f
 
-signed-some : (most : ℕ) (z : ℤ) → most < 100 → IsIndex most z → 0 < length (signed_decimal z)
+signed-some : (most : ℕ) (z : ℤ) → most < 1000 → IsIndex most z → 0 < length (signed_decimal z)
 signed-some most (pos n) two h = let high : n ≤ most = h.1 in decimal_nonempty n (omega (arith, high, two))
 signed-some most (negsuc n) two h = omega arith
 
@@ -190,5 +197,5 @@ by_day-word (Nth z w) h =
     record {
       comma = avoids-append 44 (signed_decimal z) (weekday_text w) (signed-avoids 44 53 z (lit< tt) h refl (inl (lit< tt))) name.comma;
       semicolon = avoids-append 59 (signed_decimal z) (weekday_text w) (signed-avoids 59 53 z (lit< tt) h refl (inr (lit< tt))) name.semicolon;
-      means = nth-back (signed_decimal z) (weekday_text w) z w (signed-some 53 z (lit< tt) h) (two-letters w) (index-back 53 z (lit< tt) h) name.means;
+      means = nth-back (signed_decimal z) (weekday_text w) z w (signed-some 53 z (lit< tt) h) (two-letters w) (index-back 2 53 z (lit< tt) (lit< tt) (lit< tt) h) name.means;
     }

@@ -1,5 +1,5 @@
 -- The days of a recurrence: the days of its rule from a start, or with a COUNT the first of them.
-use Rattle.std.specs.Prelude.{◌≡◌, ℕ, List, take, Option, Some, None}
+use Rattle.std.specs.Prelude.{◌≡◌, ◌==◌, ◌&&◌, Bool, not, ℕ, List, length, take, Option, Some, None}
 use Rattle.cal_schedule.specs.declared.rule.rule.Rule.{Rule}
 use Rattle.cal_schedule.specs.Rule.{occurrences}
 use Rattle.cal_recurrence.specs.declared.recurrence.Recurrence.{Recurrence}
@@ -12,6 +12,10 @@ last_of Never = None
 last_of (Until day) = Some day
 last_of (Count count) = None
 
+-- The recurrence has positions, and no list that selects the days that they rank.
+abbrev pub ranks_alone : Recurrence → Bool
+ranks_alone r = not (length r.set_positions == 0) && ((length r.months == 0) && ((length r.month_days == 0) && (length r.weekdays == 0)))
+
 -- The rule has the start and the parts of the recurrence.
 pub record IsRuleOf (recurrence : Recurrence) (first : ℕ) (rule : Rule) : Type 0 where
   pub start : rule.start ≡ first
@@ -21,6 +25,7 @@ pub record IsRuleOf (recurrence : Recurrence) (first : ℕ) (rule : Rule) : Type
   pub months : rule.months.now ≡ recurrence.months
   pub month_days : rule.month_days.now ≡ recurrence.month_days
   pub weekdays : rule.weekdays.now ≡ recurrence.weekdays
+  pub set_positions : rule.set_positions.now ≡ recurrence.set_positions
   pub until : rule.until ≡ last_of recurrence.end
 
 -- The first `count` days, if the end is a COUNT.

@@ -4,7 +4,7 @@ use Rattle.cal_recurrence.specs.declared.fault.ParseRuleError.{ParseRuleError}
 use Rattle.cal_recurrence.specs.declared.fault.RulePart.{RulePart}
 use Rattle.cal_recurrence.specs.declared.fault.RulePart.TheVariants as part
 use Rattle.cal_recurrence.specs.declared.fault.ParseRuleErrorKind.{ParseRuleErrorKind}
-use Rattle.cal_recurrence.specs.declared.fault.ParseRuleErrorKind.TheVariants.{Unknown, Twice, TooMany, Value, Missing}
+use Rattle.cal_recurrence.specs.declared.fault.ParseRuleErrorKind.TheVariants.{Unknown, Twice, TooMany, Value, Alone, Missing}
 
 abbrev pub part_name : RulePart → List ℕ
 part_name part.Frequency = codes "FREQ"
@@ -13,6 +13,7 @@ part_name part.WeekStart = codes "WKST"
 part_name part.Months = codes "BYMONTH"
 part_name part.MonthDays = codes "BYMONTHDAY"
 part_name part.Weekdays = codes "BYDAY"
+part_name part.Positions = codes "BYSETPOS"
 part_name part.Until = codes "UNTIL"
 part_name part.Count = codes "COUNT"
 
@@ -22,6 +23,7 @@ reason_text Unknown = codes "unknown part"
 reason_text (Twice at) = codes "duplicate " ++ part_name at
 reason_text (TooMany at) = codes "too many values in " ++ part_name at
 reason_text (Value at) = codes "invalid value of " ++ part_name at
+reason_text (Alone at) = codes "no other part with " ++ part_name at
 reason_text Missing = codes "missing FREQ"
 
 abbrev pub fault_text : ParseRuleError → List ℕ

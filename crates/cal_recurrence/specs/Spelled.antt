@@ -1,9 +1,10 @@
 -- The recurrences that `parse` can return. Each is parsed again from its own text.
-use Rattle.std.specs.Prelude.{⊤, ℕ, ◌≤◌, ◌<◌, ◌^◌, ℤ, pos, ◌≤ℤ◌, unsigned_abs, length}
+use Rattle.std.specs.Prelude.{◌≡◌, ⊤, false, ℕ, ◌≤◌, ◌<◌, ◌^◌, ℤ, pos, ◌≤ℤ◌, unsigned_abs, length}
 use Rattle.std.specs.List.{All}
 use Rattle.cal_time.specs.Date.{year_at, IsDate}
 use Rattle.cal_schedule.specs.declared.rule.rule.ByDay.{ByDay}
 use Rattle.cal_schedule.specs.declared.rule.rule.ByDay.TheVariants.{Every, Nth}
+use Rattle.cal_recurrence.specs.Days.{ranks_alone}
 use Rattle.cal_recurrence.specs.Values.{most_values}
 use Rattle.cal_recurrence.specs.declared.recurrence.Recurrence.{Recurrence}
 use Rattle.cal_recurrence.specs.declared.recurrence.RuleEnd.{RuleEnd}
@@ -18,6 +19,9 @@ IsIndex most z = (1 ≤ unsigned_abs z) × (unsigned_abs z ≤ most)
 
 abbrev pub IsMonthDay : ℤ → Type 0
 IsMonthDay day = IsIndex 31 day
+
+abbrev pub IsPosition : ℤ → Type 0
+IsPosition position = IsIndex 366 position
 
 abbrev pub IsByDay : ByDay → Type 0
 IsByDay (Every weekday) = ⊤
@@ -34,6 +38,9 @@ pub record IsSpelled (r : Recurrence) : Type 0 where
   pub months : length r.months ≤ most_values
   pub month_days : length r.month_days ≤ most_values
   pub weekdays : length r.weekdays ≤ most_values
+  pub set_positions : length r.set_positions ≤ most_values
   pub each_month_day : All IsMonthDay r.month_days
   pub each_weekday : All IsByDay r.weekdays
+  pub each_position : All IsPosition r.set_positions
+  pub ranked : ranks_alone r ≡ false
   pub end : IsEnd r.end

@@ -1,17 +1,18 @@
 -- The text of a recurrence, after the grammar of `recur` in RFC 5545. Its parts are separated by
 -- `;` (59). Each has a name, `=` (61) and a value, or a list of values separated by `,` (44).
-use Rattle.std.specs.Prelude.{ℕ, ◌+◌, ◌-◌, nat_le, Bool, true, false, List, [], ◌∷◌, length, Option, Some, None, is_some, unwrap_or, option_map, Result, Ok, Err, if◌then◌else◌}
+use Rattle.std.specs.Prelude.{ℕ, ◌+◌, ◌-◌, nat_le, Bool, true, false, List, [], ◌∷◌, codes, length, Option, Some, None, is_some, unwrap_or, option_map, Result, Ok, Err, if◌then◌else◌}
 use Rattle.std.specs.Option.{option_map_or, option_zip}
 use Rattle.std.specs.Result.{result_map_both}
 use Rattle.cal_time.specs.declared.Weekday.TheVariants.{Monday}
 use Rattle.cal_schedule.specs.declared.rule.rule.Frequency.{Frequency}
+use Rattle.cal_recurrence.specs.Days.{ranks_alone}
 use Rattle.cal_recurrence.specs.Values.{most_values}
-use Rattle.cal_recurrence.specs.Words.{parts_at, front_at, rest_at, part_of, frequency_of, weekday_of, count_of, month_of, month_day_of, by_day_of, date_of}
+use Rattle.cal_recurrence.specs.Words.{bytes_after, has_name, is_alike, parts_at, front_at, rest_at, part_of, frequency_of, weekday_of, count_of, month_of, month_day_of, by_day_of, position_of, date_of}
 use Rattle.cal_recurrence.specs.declared.draft.Draft.{Draft}
 use Rattle.cal_recurrence.specs.declared.fault.RulePart.{RulePart}
 use Rattle.cal_recurrence.specs.declared.fault.RulePart.TheVariants as part
 use Rattle.cal_recurrence.specs.declared.fault.ParseRuleErrorKind.{ParseRuleErrorKind}
-use Rattle.cal_recurrence.specs.declared.fault.ParseRuleErrorKind.TheVariants.{Unknown, Twice, TooMany, Value, Missing}
+use Rattle.cal_recurrence.specs.declared.fault.ParseRuleErrorKind.TheVariants.{Unknown, Twice, TooMany, Value, Alone, Missing}
 use Rattle.cal_recurrence.specs.declared.fault.ParseRuleError.{ParseRuleError}
 use Rattle.cal_recurrence.specs.declared.recurrence.Recurrence.{Recurrence}
 use Rattle.cal_recurrence.specs.declared.recurrence.RuleEnd.TheVariants.{Never, Until, Count}
@@ -53,6 +54,8 @@ put draft part.MonthDays value =
     changed (λ x. record draft { month_days = Some x }) (fresh part.MonthDays (is_some draft.month_days) (list_of month_day_of value))
 put draft part.Weekdays value =
     changed (λ x. record draft { weekdays = Some x }) (fresh part.Weekdays (is_some draft.weekdays) (list_of by_day_of value))
+put draft part.Positions value =
+    changed (λ x. record draft { set_positions = Some x }) (fresh part.Positions (is_some draft.set_positions) (list_of position_of value))
 put draft part.Until value =
     changed (λ x. record draft { end = Some (Until x) }) (fresh part.Until (is_some draft.end) (date_of value))
 put draft part.Count value =
@@ -78,6 +81,7 @@ with_frequency draft f = record {
   months = unwrap_or draft.months [];
   month_days = unwrap_or draft.month_days [];
   weekdays = unwrap_or draft.weekdays [];
+  set_positions = unwrap_or draft.set_positions [];
   end = unwrap_or draft.end Never;
 }
 
@@ -94,8 +98,22 @@ read_on at draft [] = finished (at - 1) draft
 read_on at draft (text ∷ texts) = and_on at (λ more. read_on (at + length text + 1) more texts) (put_part draft text)
 
 abbrev pub nothing : Draft
-nothing = record { frequency = None; interval = None; week_start = None; months = None; month_days = None; weekdays = None; end = None }
+nothing = record { frequency = None; interval = None; week_start = None; months = None; month_days = None; weekdays = None; set_positions = None; end = None }
 
--- The recurrence of a text, or its first error.
+-- The position of the first part with a name, or the end. The first of the parts begins at byte
+-- `at`.
+abbrev pub place_of : List ℕ → ℕ → List (List ℕ) → ℕ
+place_of name at [] = at - 1
+place_of name at (text ∷ texts) = if is_alike (front_at 61 text) name then at else place_of name (at + length text + 1) texts
+
+-- A BYSETPOS needs days to rank.
+abbrev pub checked : ℕ → List (List ℕ) → Result Recurrence ParseRuleError → Result Recurrence ParseRuleError
+checked at texts (Ok r) = if ranks_alone r then Err (fault (place_of (codes "BYSETPOS") at texts) (Alone part.Positions)) else Ok r
+checked at texts (Err why) = Err why
+
+abbrev pub parts_say : ℕ → List (List ℕ) → Result Recurrence ParseRuleError
+parts_say at texts = checked at texts (read_on at nothing texts)
+
+-- The recurrence of a text, with or without `RRULE:` in front, or its first error.
 abbrev pub recurrence_of : List ℕ → Result Recurrence ParseRuleError
-recurrence_of text = read_on 0 nothing (parts_at 59 text)
+recurrence_of text = if has_name text then parts_say 6 (parts_at 59 (bytes_after 6 text)) else parts_say 0 (parts_at 59 text)

@@ -1,8 +1,8 @@
 -- The words of the text of a rule. Letters match in any case.
 use denote.Ref.{Bor}
-use Rattle.std.specs.Prelude.{ℕ, ◌+◌, ◌-◌, ◌/◌, ◌%◌, nat_lt, nat_le, ◌==◌, ◌&&◌, Bool, ℤ, pos, neg_ℤ, List, [], length, take, drop, slice_get, slice_index, filter, Option, Some, None, option_map, option_and_then, codes, if◌then◌else◌}
+use Rattle.std.specs.Prelude.{ℕ, ◌+◌, ◌-◌, ◌/◌, ◌%◌, nat_lt, nat_le, ◌==◌, ◌&&◌, ◌||◌, Bool, true, false, ℤ, pos, neg_ℤ, List, [], length, take, drop, slice_get, slice_index, filter, Option, Some, None, option_map, option_and_then, codes, if◌then◌else◌}
 use Rattle.std.specs.List.{slice_split, before_first, after_first}
-use Rattle.std.specs.Option.{option_zip}
+use Rattle.std.specs.Option.{option_map_or, option_zip}
 use Rattle.std.specs.Ordering.{int_eq}
 use Rattle.std.specs.Str.{all_ascii_digits, str_eq_ignore_ascii_case}
 use Rattle.std.specs.Str.Parse.{digits_value}
@@ -38,9 +38,20 @@ abbrev pub bytes_left : Option (Bor (List ℕ)) → List ℕ
 bytes_left None = []
 bytes_left (Some rest) = rest.now
 
+-- The first bytes, and those after them.
+unfoldable pub first_bytes : ℕ → List ℕ → List ℕ
+first_bytes size bytes = take size bytes
+
+unfoldable pub bytes_after : ℕ → List ℕ → List ℕ
+bytes_after size bytes = drop size bytes
+
 -- ---- names
 abbrev pub is_alike : List ℕ → List ℕ → Bool
 is_alike word name = str_eq_ignore_ascii_case word name
+
+-- A text may begin with the name of the property.
+abbrev pub has_name : List ℕ → Bool
+has_name text = nat_le 6 (length text) && is_alike (first_bytes 6 text) (codes "RRULE:")
 
 abbrev pub part_of : List ℕ → Option RulePart
 part_of word =
@@ -50,6 +61,7 @@ part_of word =
     if is_alike word (codes "BYMONTH") then Some part.Months else
     if is_alike word (codes "BYMONTHDAY") then Some part.MonthDays else
     if is_alike word (codes "BYDAY") then Some part.Weekdays else
+    if is_alike word (codes "BYSETPOS") then Some part.Positions else
     if is_alike word (codes "UNTIL") then Some part.Until else
     if is_alike word (codes "COUNT") then Some part.Count else
     None
@@ -87,30 +99,33 @@ from_one_to most n = if nat_le 1 n && nat_le n most then Some n else None
 abbrev pub count_of : ℕ → List ℕ → Option ℕ
 count_of most word = option_and_then (from_one_to most) (number_of word)
 
--- A number from 1 to `most` has one or two digits.
-abbrev pub short_count_of : ℕ → List ℕ → Option ℕ
-short_count_of most word = if nat_le (length word) 2 then count_of most word else None
+-- A number from 1 to `most` has at most `size` digits.
+abbrev pub short_count_of : ℕ → ℕ → List ℕ → Option ℕ
+short_count_of size most word = if nat_le (length word) size then count_of most word else None
 
 -- An index is such a number after an optional sign: 45 is the minus sign, 43 the plus sign.
-abbrev pub index_of : ℕ → List ℕ → Option ℤ
-index_of most word =
-    if slice_index word 0 == 45 then option_map (λ n. neg_ℤ (pos n)) (short_count_of most (drop 1 word)) else
-    if slice_index word 0 == 43 then option_map pos (short_count_of most (drop 1 word)) else
-    option_map pos (short_count_of most word)
+abbrev pub index_of : ℕ → ℕ → List ℕ → Option ℤ
+index_of size most word =
+    if slice_index word 0 == 45 then option_map (λ n. neg_ℤ (pos n)) (short_count_of size most (drop 1 word)) else
+    if slice_index word 0 == 43 then option_map pos (short_count_of size most (drop 1 word)) else
+    option_map pos (short_count_of size most word)
 
 -- ---- values
 abbrev pub month_of : List ℕ → Option Month
-month_of word = option_map (λ n. month_with_index (n - 1)) (short_count_of 12 word)
+month_of word = option_map (λ n. month_with_index (n - 1)) (short_count_of 2 12 word)
 
 abbrev pub month_day_of : List ℕ → Option ℤ
-month_day_of word = index_of 31 word
+month_day_of word = index_of 2 31 word
+
+abbrev pub position_of : List ℕ → Option ℤ
+position_of word = index_of 3 366 word
 
 -- A weekday has two letters, after an optional index within the month or the year.
 abbrev pub by_day_of : List ℕ → Option ByDay
 by_day_of word =
     let front = length word - 2 in
     if front == 0 then option_map Every (weekday_of word)
-    else option_map (λ both. Nth both.0 both.1) (option_zip (index_of 53 (take front word)) (weekday_of (drop front word)))
+    else option_map (λ both. Nth both.0 both.1) (option_zip (index_of 2 53 (take front word)) (weekday_of (drop front word)))
 
 -- Day k has the year, the month and the day of the month that the eight digits of n spell.
 abbrev pub has_digits : ℕ → ℕ → Bool
@@ -120,5 +135,24 @@ has_digits n k = int_eq (year_at k) (pos (n / 10000)) && ((month_at k == n / 100
 unfoldable pub day_with : ℕ → Option ℕ
 day_with n = slice_get (filter (has_digits n) (days_from 0 (last_day + 1))) 0
 
+-- Six digits are a time of day. A second of 60 is a leap second.
+abbrev pub is_clock : List ℕ → Bool
+is_clock word = option_map_or (λ n. nat_lt (n / 10000) 24 && (nat_lt (n / 100 % 100) 60 && nat_le (n % 100) 60)) (number_of word) false
+
+-- `Z` marks a time in UTC.
+abbrev pub is_zone : List ℕ → Bool
+is_zone word = (length word == 0) || is_alike word (codes "Z")
+
+-- Nothing, or a time of day: `T`, six digits, and the mark of UTC or nothing.
+abbrev pub is_time : List ℕ → Bool
+is_time word =
+    if length word == 0 then true else
+    if nat_lt (length word) 7 then false else
+    is_alike (first_bytes 1 word) (codes "T")
+    && (is_clock (first_bytes 6 (bytes_after 1 word)) && is_zone (bytes_after 6 (bytes_after 1 word)))
+
+-- The date of a date, or of a date and time.
 abbrev pub date_of : List ℕ → Option ℕ
-date_of word = if length word == 8 then option_and_then day_with (number_of word) else None
+date_of word =
+    if nat_lt (length word) 8 then None else
+    if is_time (bytes_after 8 word) then option_and_then day_with (number_of (first_bytes 8 word)) else None

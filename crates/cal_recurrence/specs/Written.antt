@@ -37,6 +37,9 @@ month_text month = decimal (number month)
 abbrev pub month_day_text : ℤ → List ℕ
 month_day_text day = signed_decimal day
 
+abbrev pub position_text : ℤ → List ℕ
+position_text position = signed_decimal position
+
 abbrev pub by_day_text : ByDay → List ℕ
 by_day_text (Every weekday) = weekday_text weekday
 by_day_text (Nth index weekday) = signed_decimal index ++ weekday_text weekday
@@ -68,4 +71,5 @@ abbrev pub text_of : Recurrence → List ℕ
 text_of r =
     codes "FREQ=" ++ frequency_text r.frequency ++ interval_text r.interval ++ end_text r.end
     ++ list_text (codes ";BYMONTH=") month_text r.months ++ list_text (codes ";BYMONTHDAY=") month_day_text r.month_days
-    ++ list_text (codes ";BYDAY=") by_day_text r.weekdays ++ week_start_text r.week_start
+    ++ list_text (codes ";BYDAY=") by_day_text r.weekdays ++ list_text (codes ";BYSETPOS=") position_text r.set_positions
+    ++ week_start_text r.week_start

@@ -21,6 +21,7 @@ pub struct Draft {
     pub months: Option<Values<Month>>,
     pub month_days: Option<Values<i8>>,
     pub weekdays: Option<Values<ByDay>>,
+    pub set_positions: Option<Values<i16>>,
     pub end: Option<RuleEnd>,
 }
 
@@ -49,6 +50,7 @@ impl Draft {
             months: None,
             month_days: None,
             weekdays: None,
+            set_positions: None,
             end: None,
         }
     }
@@ -118,6 +120,14 @@ impl Draft {
                 )?);
                 Ok(self)
             }
+            RulePart::Positions => {
+                self.set_positions = Some(fresh(
+                    part,
+                    self.set_positions.is_some(),
+                    values_of(value, 0i16),
+                )?);
+                Ok(self)
+            }
             RulePart::Until => {
                 let day = fresh(part, self.end.is_some(), date_of(value))?;
                 self.end = Some(RuleEnd::Until(day));
@@ -150,6 +160,7 @@ impl Draft {
             weekdays: self
                 .weekdays
                 .unwrap_or(Values::none(ByDay::Every(Weekday::Monday))),
+            set_positions: self.set_positions.unwrap_or(Values::none(0)),
             end: self.end.unwrap_or(RuleEnd::Never),
         })
     }

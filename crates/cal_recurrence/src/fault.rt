@@ -20,6 +20,8 @@ pub enum RulePart {
     MonthDays,
     /// `BYDAY`
     Weekdays,
+    /// `BYSETPOS`
+    Positions,
     /// `UNTIL`
     Until,
     /// `COUNT`
@@ -29,7 +31,7 @@ pub enum RulePart {
 /// What is at fault.
 #[derive(Clone, Copy, Debug, PartialEq, Eq)]
 pub enum ParseRuleErrorKind {
-    /// The part has no name of those that are read, as `BYSETPOS=1`.
+    /// The part has no name of those that are read, as `BYHOUR=9`.
     Unknown,
     /// A part of this name comes before it. `UNTIL` and `COUNT` both say where the rule ends, and count as one.
     Twice(RulePart),
@@ -37,6 +39,8 @@ pub enum ParseRuleErrorKind {
     TooMany(RulePart),
     /// The part has no value of those that are read, as `FREQ=HOURLY`.
     Value(RulePart),
+    /// The part needs another one that selects days: `BYMONTH`, `BYMONTHDAY` or `BYDAY`.
+    Alone(RulePart),
     /// No part says the frequency.
     Missing,
 }
@@ -65,6 +69,7 @@ impl RulePart {
             RulePart::Months => "BYMONTH",
             RulePart::MonthDays => "BYMONTHDAY",
             RulePart::Weekdays => "BYDAY",
+            RulePart::Positions => "BYSETPOS",
             RulePart::Until => "UNTIL",
             RulePart::Count => "COUNT",
         }
@@ -90,6 +95,10 @@ impl ParseRuleErrorKind {
             }
             ParseRuleErrorKind::Value(part) => {
                 text.push("invalid value of ");
+                text.push(part.name());
+            }
+            ParseRuleErrorKind::Alone(part) => {
+                text.push("no other part with ");
                 text.push(part.name());
             }
             ParseRuleErrorKind::Missing => text.push("missing FREQ"),

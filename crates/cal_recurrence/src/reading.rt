@@ -1,26 +1,68 @@
 //! Parses the text of a recurrence.
 ghost use Rattle.std.specs.Prelude.{◌≡◌, ◌+◌, ◌<◌, ◌^◌, length, IfOk};
 ghost use Rattle.cal_recurrence.specs.Spelled.{IsSpelled};
-ghost use Rattle.cal_recurrence.specs.Text.{read_on, recurrence_of};
+ghost use Rattle.cal_recurrence.specs.Text.{parts_say, place_of, read_on, recurrence_of};
 ghost use Rattle.cal_recurrence.specs.Words.{parts_at};
 
 use crate::draft::Draft;
-use crate::fault::ParseRuleError;
+use crate::fault::{ParseRuleError, ParseRuleErrorKind, RulePart};
 use crate::recurrence::Recurrence;
-use crate::words::cut;
+use crate::words::{cut, has_name, is_alike, split};
 
-/// Parses a recurrence of RFC 5545, such as `FREQ=MONTHLY;BYDAY=-1FR;COUNT=12`.
+/// Parses a recurrence of RFC 5545, such as `FREQ=MONTHLY;BYDAY=-1FR;COUNT=12`, with or without
+/// `RRULE:` in front.
 ///
-/// The parts are `FREQ`, `INTERVAL`, `WKST`, `BYMONTH`, `BYMONTHDAY`, `BYDAY`, and `UNTIL` with a
-/// date or `COUNT`, in any order and any case. The first bad part gives the error: `Unknown` for
+/// The parts are `FREQ`, `INTERVAL`, `WKST`, `BYMONTH`, `BYMONTHDAY`, `BYDAY`, `BYSETPOS`, and
+/// `UNTIL` or `COUNT`, in any order and any case. `UNTIL` has a date, or a date and time, and then its date
+/// counts. The first bad part gives the error: `Unknown` for
 /// any other name, `Twice` for a repeated part or a second end, `TooMany` for more than 62 words,
-/// `Value` for an invalid value, and `Missing` if there is no `FREQ`.
-#[tactic(auto, using(crate::proofs::GivenParts::read_is_spelled))]
+/// `Value` for an invalid value, and `Missing` if there is no `FREQ`. Then `Alone` means a
+/// `BYSETPOS` without `BYMONTH`, `BYMONTHDAY` and `BYDAY`.
 pub fn parse(text: &[u8]) -> Result<Recurrence, ParseRuleError>
     ensures value { result ≡ recurrence_of text.now }
     ensures spelled { IfOk result IsSpelled }
 {
-    read_on(0, Draft::new(), text)
+    if has_name(text) {
+        parse_parts(6, split(text, 6).1)
+    } else {
+        parse_parts(0, text)
+    }
+}
+
+/// Parses the parts from byte `position` on.
+fn parse_parts(position: usize, text: &[u8]) -> Result<Recurrence, ParseRuleError>
+    requires { position + length text.now < 2 ^ 64 }
+    ensures value { result ≡ parts_say position (parts_at 59 text.now) }
+    ensures spelled { IfOk result IsSpelled }
+{
+    match read_on(position, Draft::new(), text) {
+        Ok(recurrence) => {
+            if recurrence.ranks_alone() {
+                Err(ParseRuleError {
+                    position: place_of(b"BYSETPOS", position, text),
+                    reason: ParseRuleErrorKind::Alone(RulePart::Positions),
+                })
+            } else {
+                Ok(recurrence)
+            }
+        }
+        Err(fault) => Err(fault),
+    }
+}
+
+/// Returns the position of the first part with a name, or the position of the end.
+fn place_of(name: &[u8], position: usize, text: &[u8]) -> usize
+    requires { position + length text.now < 2 ^ 64 }
+    ensures { result ≡ place_of name.now position (parts_at 59 text.now) }
+{
+    let (part, rest) = cut(text, b';');
+    if is_alike(cut(part, b'=').0, name) {
+        return position;
+    }
+    match rest {
+        Some(rest) => place_of(name, position + part.len() + 1, rest),
+        None => position + part.len(),
+    }
 }
 
 /// Parses the parts from byte `position` on, after the parts of the draft.

@@ -1,6 +1,6 @@
 //! Recurrences and their days.
 ghost use Rattle.std.specs.Prelude.{◌≡◌};
-ghost use Rattle.cal_recurrence.specs.Days.{last_of, AreDays, IsRuleOf};
+ghost use Rattle.cal_recurrence.specs.Days.{last_of, ranks_alone, AreDays, IsRuleOf};
 
 use crate::values::Values;
 use cal_schedule::{ByDay, Frequency, Rule, RuleDays};
@@ -34,11 +34,25 @@ pub struct Recurrence {
     pub month_days: Values<i8>,
     /// The weekdays.
     pub weekdays: Values<ByDay>,
+    /// The positions among the days of a day, week, month or year that pass these lists, from 1 for
+    /// the first one and from -1 for the last one.
+    pub set_positions: Values<i16>,
     /// The end.
     pub end: RuleEnd,
 }
 
 impl Recurrence {
+    /// Returns `true` if the recurrence has positions, and no list that selects the days that they
+    /// rank.
+    pub(crate) fn ranks_alone(&self) -> bool
+        ensures { result ≡ ranks_alone self.now }
+    {
+        !self.set_positions.as_slice().is_empty()
+            && self.months.as_slice().is_empty()
+            && self.month_days.as_slice().is_empty()
+            && self.weekdays.as_slice().is_empty()
+    }
+
     fn last(&self) -> Option<Date>
         ensures { result ≡ last_of self.now.end }
     {
@@ -60,6 +74,7 @@ impl Recurrence {
             months: self.months.as_slice(),
             month_days: self.month_days.as_slice(),
             weekdays: self.weekdays.as_slice(),
+            set_positions: self.set_positions.as_slice(),
             until: self.last(),
         }
     }

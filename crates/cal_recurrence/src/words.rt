@@ -1,6 +1,6 @@
 //! Single words of the text of a rule.
-ghost use Rattle.std.specs.Prelude.{◌≡◌, ◌+◌, ◌<◌, ◌≤◌, ◌==◌, ◌∷◌, length, position, slice_index, MatchOption, IfSome};
-ghost use Rattle.cal_recurrence.specs.Words.{by_day_of, bytes_left, count_of, date_of, day_with, frequency_of, from_one_to, front_at, is_alike, month_day_of, month_of, number_of, part_of, parts_at, parts_left, index_of, rest_at, short_count_of, weekday_of};
+ghost use Rattle.std.specs.Prelude.{◌≡◌, true, ◌+◌, ◌<◌, ◌≤◌, ◌==◌, ◌∷◌, length, position, slice_index, MatchOption, IfSome, unsigned_abs};
+ghost use Rattle.cal_recurrence.specs.Words.{by_day_of, bytes_after, bytes_left, count_of, date_of, day_with, first_bytes, frequency_of, from_one_to, front_at, has_name, is_alike, is_clock, is_time, is_zone, month_day_of, month_of, number_of, part_of, parts_at, parts_left, index_of, position_of, rest_at, short_count_of, weekday_of};
 
 use crate::fault::RulePart;
 use cal_schedule::{ByDay, Frequency};
@@ -8,7 +8,7 @@ use cal_time::{Date, Month, Weekday};
 use std::str;
 
 /// Returns the index of the first such byte.
-fn position_of(byte: u8, bytes: &[u8]) -> Option<usize>
+fn first_at(byte: u8, bytes: &[u8]) -> Option<usize>
     ensures { result ≡ position (λ b. b == byte) bytes.now }
 {
     bytes.iter().position(|b| *b == byte)
@@ -23,16 +23,36 @@ pub fn cut(bytes: &[u8], byte: u8) -> (&[u8], Option<&[u8]>)
     ensures size { MatchOption result.1 (length result.0.now ≡ length bytes.now)
         (λ rest. length result.0.now + 1 + length rest.now ≡ length bytes.now) }
 {
-    match position_of(byte, bytes) {
+    match first_at(byte, bytes) {
         Some(at) => (&bytes[..at], Some(&bytes[at + 1..])),
         None => (bytes, None),
     }
 }
 
-fn is_alike(word: &[u8], name: &[u8]) -> bool
+/// Splits after the first `size` bytes.
+#[tactic(auto, unfolding(crate::specs::Words::first_bytes, crate::specs::Words::bytes_after))]
+pub fn split(bytes: &[u8], size: usize) -> (&[u8], &[u8])
+    requires { size ≤ length bytes.now }
+    ensures first { result.0.now ≡ first_bytes size bytes.now }
+    ensures after { result.1.now ≡ bytes_after size bytes.now }
+    ensures length { size + length result.1.now ≡ length bytes.now }
+{
+    (&bytes[..size], &bytes[size..])
+}
+
+/// Returns `true` if the word is the name, in any case.
+pub fn is_alike(word: &[u8], name: &[u8]) -> bool
     ensures { result ≡ is_alike word.now name.now }
 {
     word.eq_ignore_ascii_case(name)
+}
+
+/// Returns `true` if the text begins with `RRULE:`, as in a calendar.
+pub fn has_name(text: &[u8]) -> bool
+    ensures value { result ≡ has_name text.now }
+    ensures long { result ≡ true → 6 ≤ length text.now }
+{
+    text.len() >= 6 && is_alike(split(text, 6).0, b"RRULE:")
 }
 
 /// Parses the name of a part.
@@ -51,6 +71,8 @@ pub fn part_of(name: &[u8]) -> Option<RulePart>
         Some(RulePart::MonthDays)
     } else if is_alike(name, b"BYDAY") {
         Some(RulePart::Weekdays)
+    } else if is_alike(name, b"BYSETPOS") {
+        Some(RulePart::Positions)
     } else if is_alike(name, b"UNTIL") {
         Some(RulePart::Until)
     } else if is_alike(name, b"COUNT") {
@@ -133,27 +155,28 @@ pub fn count_of(word: &[u8], most: u32) -> Option<u32>
     Some(number)
 }
 
-/// Parses a number from 1 to `most` of one or two digits.
-fn short_count_of(word: &[u8], most: u8) -> Option<u8>
-    ensures value { result ≡ short_count_of most word.now }
+/// Parses a number from 1 to `most` of at most `digits` digits.
+fn short_count_of(word: &[u8], digits: usize, most: u16) -> Option<u16>
+    ensures value { result ≡ short_count_of digits most word.now }
     ensures least { IfSome result (λ n. 1 ≤ n) }
     ensures most { IfSome result (λ n. n ≤ most) }
 {
-    if word.len() > 2 {
+    if word.len() > digits {
         return None;
     }
-    Some(count_of(word, u32::from(most))? as u8)
+    Some(count_of(word, u32::from(most))? as u16)
 }
 
-/// Parses a number from 1 to `most` of one or two digits, after an optional sign.
-fn index_of(word: &[u8], most: u8) -> Option<i8>
-    requires { most ≤ 127 }
-    ensures { result ≡ index_of most word.now }
+/// Parses a number from 1 to `most` of at most `size` digits, after an optional sign.
+fn index_of(word: &[u8], size: usize, most: u16) -> Option<i16>
+    requires { most ≤ 366 }
+    ensures value { result ≡ index_of size most word.now }
+    ensures most { IfSome result (λ z. unsigned_abs z ≤ most) }
 {
     match word {
-        [b'-', digits @ ..] => Some(-(short_count_of(digits, most)? as i8)),
-        [b'+', digits @ ..] => Some(short_count_of(digits, most)? as i8),
-        _ => Some(short_count_of(word, most)? as i8),
+        [b'-', digits @ ..] => Some(-(short_count_of(digits, size, most)? as i16)),
+        [b'+', digits @ ..] => Some(short_count_of(digits, size, most)? as i16),
+        _ => Some(short_count_of(word, size, most)? as i16),
     }
 }
 
@@ -161,14 +184,21 @@ fn index_of(word: &[u8], most: u8) -> Option<i8>
 pub fn month_of(word: &[u8]) -> Option<Month>
     ensures { result ≡ month_of word.now }
 {
-    Month::try_from(short_count_of(word, 12)?).ok()
+    Month::try_from(short_count_of(word, 2, 12)? as u8).ok()
 }
 
 /// Parses a day of the month, from 1 to 31, or from -1 for the last day to -31.
 pub fn month_day_of(word: &[u8]) -> Option<i8>
     ensures { result ≡ month_day_of word.now }
 {
-    index_of(word, 31)
+    Some(index_of(word, 2, 31)? as i8)
+}
+
+/// Parses a position, from 1 to 366, or from -1 for the last one to -366.
+pub fn position_of(word: &[u8]) -> Option<i16>
+    ensures { result ≡ position_of word.now }
+{
+    index_of(word, 3, 366)
 }
 
 /// Parses a weekday, after an optional index within the month or the year.
@@ -179,8 +209,8 @@ pub fn by_day_of(word: &[u8]) -> Option<ByDay>
         return Some(ByDay::Every(weekday_of(word)?));
     }
     let front = word.len() - 2;
-    let index = index_of(&word[..front], 53)?;
-    Some(ByDay::Nth(index, weekday_of(&word[front..])?))
+    let index = index_of(&word[..front], 2, 53)?;
+    Some(ByDay::Nth(index as i8, weekday_of(&word[front..])?))
 }
 
 /// Returns the date whose eight digits these are.
@@ -193,12 +223,51 @@ fn day_with(number: u32) -> Option<Date>
     Date::from_calendar_date((number / 10_000) as i32, month, (number % 100) as u8).ok()
 }
 
-/// Parses a date of eight digits, such as `20241231`.
+/// Returns `true` if six digits are a time of day. A second can be 60.
+fn is_clock(word: &[u8]) -> bool
+    ensures { result ≡ is_clock word.now }
+{
+    match number_of(word) {
+        Some(n) => n / 10_000 < 24 && n / 100 % 100 < 60 && n % 100 <= 60,
+        None => false,
+    }
+}
+
+/// Returns `true` if the word is empty or `Z`.
+fn is_zone(word: &[u8]) -> bool
+    ensures { result ≡ is_zone word.now }
+{
+    word.is_empty() || is_alike(word, b"Z")
+}
+
+/// Returns `true` if the word is empty or a time of day, such as `T235959` or `T235959Z`.
+fn is_time(word: &[u8]) -> bool
+    ensures { result ≡ is_time word.now }
+{
+    if word.is_empty() {
+        return true;
+    }
+    if word.len() < 7 {
+        return false;
+    }
+    let (mark, rest) = split(word, 1);
+    let (clock, zone) = split(rest, 6);
+    is_alike(mark, b"T") && is_clock(clock) && is_zone(zone)
+}
+
+/// Parses the date of a date such as `20241231` or of a date and time such as `20241231T235959Z`.
 pub fn date_of(word: &[u8]) -> Option<Date>
     ensures { result ≡ date_of word.now }
 {
-    if word.len() != 8 {
+    if word.len() < 8 {
         return None;
     }
-    day_with(number_of(word)?)
+    let (day, time) = split(word, 8);
+    if !is_time(time) {
+        return None;
+    }
+    match number_of(day) {
+        Some(number) => day_with(number),
+        None => None,
+    }
 }

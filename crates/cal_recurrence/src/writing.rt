@@ -3,12 +3,12 @@ ghost use Rattle.std.specs.Prelude.{◌≡◌, ◌+◌, ◌*◌, ◌≤◌, ◌+
 ghost use Rattle.std.specs.Fmt.{signed_decimal};
 ghost use Rattle.cal_recurrence.specs.RecurrenceText.{HasRoom};
 ghost use Rattle.cal_recurrence.specs.Values.{most_values};
-ghost use Rattle.cal_recurrence.specs.Words.{by_day_of, month_day_of, month_of};
-ghost use Rattle.cal_recurrence.specs.Written.{by_day_text, day_text, end_text, frequency_text, interval_text, list_text, month_day_text, month_text, week_start_text, weekday_text};
+ghost use Rattle.cal_recurrence.specs.Words.{by_day_of, month_day_of, month_of, position_of};
+ghost use Rattle.cal_recurrence.specs.Written.{by_day_text, day_text, end_text, frequency_text, interval_text, list_text, month_day_text, month_text, position_text, week_start_text, weekday_text};
 
 use crate::recurrence::RuleEnd;
 use crate::text::RecurrenceText;
-use crate::words::{by_day_of, month_day_of, month_of};
+use crate::words::{by_day_of, month_day_of, month_of, position_of};
 use cal_schedule::{ByDay, Frequency};
 use cal_time::{Cycle, Date, Month, ShortText, Weekday};
 
@@ -56,6 +56,23 @@ impl Word for i8 {
 
     fn word(self) -> ShortText {
         index_text(self)
+    }
+}
+
+impl Word for i16 {
+    ghost text_of = { position_text };
+
+    ghost meaning_of = { position_of };
+
+    fn read(word: &[u8]) -> Option<Self> {
+        position_of(word)
+    }
+
+    #[tactic(auto, using(crate::proofs::Digits::position_digits, cal_time::proofs::TextLengths::text_lengths))]
+    fn word(self) -> ShortText {
+        let mut text = ShortText::new();
+        text.push_i32(i32::from(self));
+        text
     }
 }
 

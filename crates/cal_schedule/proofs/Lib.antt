@@ -1,5 +1,6 @@
 pub mod MonthMoves
 pub mod RulePeriods
+pub mod RulePositions
 pub mod Rules
 pub mod RuleSteps
 pub mod RuleNumbers

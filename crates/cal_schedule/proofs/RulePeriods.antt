@@ -1,7 +1,7 @@
 -- After 400 years the days of a rule come back.
-use Rattle.std.proofs.Common.{◌≡◌, ℕ, zero, suc, ◌+◌, ◌-◌, ◌*◌, ◌/◌, ◌%◌, ◌≤◌, refl, sym, ap, ◌∙◌, arith, ℤ, pos, ◌+ℤ◌, ◌-ℤ◌, ◌*ℤ◌, ◌≤ℤ◌, List, Option, Some, None, true, false, Bool, ◌&&◌}
+use Rattle.std.proofs.Common.{◌≡◌, ℕ, zero, suc, ◌+◌, ◌-◌, ◌*◌, ◌/◌, ◌%◌, ◌≤◌, refl, ap, ◌∙◌, arith, ℤ, pos, ◌+ℤ◌, ◌-ℤ◌, ◌*ℤ◌, ◌≤ℤ◌, List, Option, Some, None, true, false, Bool, ◌&&◌}
 use Rattle.std.proofs.lemmas.Int.{ints}
-use Rattle.std.proofs.lemmas.Bool.{and_parts, and_from, eqb-true, eq-eqb, leb-true, le-leb}
+use Rattle.std.proofs.lemmas.Bool.{leb-true, le-leb}
 use Rattle.std.proofs.Math.Nat.{add-mul-mod_self_right}
 use Rattle.cal_time.specs.Date.{first_year, year_at, month_at, day_of_month_at, ordinal_at, weekday_at}
 use Rattle.cal_time.specs.Days.{day_at-first, day_at-period, days_in_month-period, month_at-range, ordinal_at-period, weekday_at-period}
@@ -16,7 +16,7 @@ use Rattle.cal_schedule.specs.declared.rule.rule.ByDay.{ByDay}
 use Rattle.cal_schedule.specs.declared.rule.rule.ByDay.TheVariants.{Every, Nth}
 use Rattle.cal_schedule.specs.declared.rule.rule.Rule.{Rule}
 use Rattle.cal_schedule.specs.Months.{month_number_at}
-use Rattle.cal_schedule.specs.Rule.{allows, matches_start, matches_until, is_empty, matches_months, is_month_day, is_nth_weekday, is_occurrence, matches_days, matches_by_day, is_yearly, interval_or_1, period_index, periods_past}
+use Rattle.cal_schedule.specs.Rule.{allows, matches_start, matches_until, is_empty, matches_months, is_month_day, is_nth_weekday, matches_days, matches_by_day, is_yearly, interval_or_1, passes, period_index, periods_past}
 use Rattle.cal_schedule.proofs.MonthMoves.{month_numbers-rise}
 
 -- Two days that differ only in number and year, as far as a rule can see.
@@ -32,9 +32,9 @@ days_in_year-period : (y : ℤ) → days_in_year (y +ℤ pos 400) ≡ days_in_ye
 days_in_year-period y = grind (arith, ints)
 
 -- one period, and more of them
-record IsPeriods (n j k : ℕ) : Type 0 where
-  alike : IsAlike k n
-  year : year_at k ≡ year_at n +ℤ pos (400 * j)
+pub record IsPeriods (n j k : ℕ) : Type 0 where
+  pub alike : IsAlike k n
+  pub year : year_at k ≡ year_at n +ℤ pos (400 * j)
 
 IsPeriods-one : (n : ℕ) → IsPeriods n 1 (n + 146097)
 IsPeriods-one n =
@@ -71,7 +71,7 @@ IsAlike-same m n e = record {
   days = ap (λ k. days_in_year (year_at k)) e;
 }
 
-periods : (n j : ℕ) → IsPeriods n j (n + 146097 * j)
+pub periods : (n j : ℕ) → IsPeriods n j (n + 146097 * j)
 periods n zero =
     let e : n + 146097 * 0 ≡ n = omega arith in
     record { alike = IsAlike-same _ _ e; year = omega (arith, ints, ap year_at e) }
@@ -110,13 +110,13 @@ period_index-rises Weekly w m n h = omega (arith, weeks-is w m, weeks-is w n, in
 period_index-rises Monthly w m n h = omega (arith, ints, pos-months w m, pos-months w n, month_numbers-rise m n h)
 period_index-rises Yearly w m n h = omega (arith, ints, pos-years w m, pos-years w n, year_at-rises m n h)
 
-abbrev turns_in : Frequency → ℕ
+abbrev pub turns_in : Frequency → ℕ
 turns_in Daily = 146097
 turns_in Weekly = 20871
 turns_in Monthly = 4800
 turns_in Yearly = 400
 
-period_index-periods : (f : Frequency) (w : Weekday) (n j : ℕ) → period_index f w (n + 146097 * j) ≡ period_index f w n + turns_in f * j
+pub period_index-periods : (f : Frequency) (w : Weekday) (n j : ℕ) → period_index f w (n + 146097 * j) ≡ period_index f w n + turns_in f * j
 period_index-periods Daily w n j = omega (arith, days-is w n, days-is w (n + 146097 * j))
 period_index-periods Weekly w n j = omega (arith, weeks-is w n, weeks-is w (n + 146097 * j), index-below w)
 period_index-periods Monthly w n j = omega (arith, ints, pos-months w n, pos-months w (n + 146097 * j), (periods n j).year, (periods n j).alike.month)
@@ -160,11 +160,15 @@ matches_days-alike rule m n h =
       allows-alike (matches_by_day b m) (matches_by_day b n) rule.weekdays.now (matches_by_day-alike b m n h),
     ) refl
 
-matches_until-earlier : (last : Option ℕ) (m n : ℕ) → m ≤ n → matches_until last n ≡ true → matches_until last m ≡ true
+pub passes-alike : (rule : Rule) (m n : ℕ) → IsAlike m n → passes rule m ≡ passes rule n
+unfolding passes
+passes-alike rule m n h = rw (matches_months-alike rule m n h.month, matches_days-alike rule m n h) refl
+
+pub matches_until-earlier : (last : Option ℕ) (m n : ℕ) → m ≤ n → matches_until last n ≡ true → matches_until last m ≡ true
 matches_until-earlier None m n h on = refl
 matches_until-earlier (Some last) m n h on = le-leb m last (omega (arith, leb-true n last on))
 
-periods_past-periods : (rule : Rule) (n : ℕ) → rule.start ≤ n → periods_past rule (n + 146097 * interval_or_1 rule) ≡ periods_past rule n
+pub periods_past-periods : (rule : Rule) (n : ℕ) → rule.start ≤ n → periods_past rule (n + 146097 * interval_or_1 rule) ≡ periods_past rule n
 unfolding periods_past
 periods_past-periods rule n h =
     let f = rule.frequency in
@@ -173,38 +177,3 @@ periods_past-periods rule n h =
     let sum : period_index f w (n + 146097 * interval_or_1 rule) - period_index f w rule.start ≡ period_index f w n - period_index f w rule.start + turns_in f * interval_or_1 rule =
     omega (arith, period_index-periods f w n (interval_or_1 rule), rises) in
     ap (λ k. k % interval_or_1 rule) sum ∙ add-mul-mod_self_right (period_index f w n - period_index f w rule.start) (turns_in f) (interval_or_1 rule)
-
--- what makes a day one of the rule's
-pub record IsOn (rule : Rule) (n : ℕ) : Type 0 where
-  pub start : rule.start ≤ n
-  pub by : matches_until rule.until n ≡ true
-  pub turn : periods_past rule n ≡ 0
-  pub months : matches_months rule n ≡ true
-  pub days : matches_days rule n ≡ true
-
-pub IsOn-is_occurrence : (rule : Rule) (n : ℕ) → is_occurrence rule n ≡ true → IsOn rule n
-unfolding is_occurrence
-IsOn-is_occurrence rule n h =
-    let a = and_parts _ _ h in
-    let b = and_parts _ _ a.1 in
-    let c = and_parts _ _ b.1 in
-    let d = and_parts _ _ c.1 in
-    record { start = leb-true rule.start n a.0; by = b.0; turn = eqb-true _ _ c.0; months = d.0; days = d.1 }
-
-is_occurrence-IsOn : (rule : Rule) (n : ℕ) → IsOn rule n → is_occurrence rule n ≡ true
-unfolding is_occurrence
-is_occurrence-IsOn rule n h = and_from _ _ (le-leb rule.start n h.start) (and_from _ _ h.by (and_from _ _ (eq-eqb _ _ h.turn) (and_from _ _ h.months h.days)))
-
--- A day this many periods before a day of the rule is a day of the rule, if it isn't before the
--- start.
-pub is_occurrence-period : (rule : Rule) (n : ℕ) → rule.start ≤ n → is_occurrence rule (n + 146097 * interval_or_1 rule) ≡ true → is_occurrence rule n ≡ true
-is_occurrence-period rule n h on =
-    let is = IsOn-is_occurrence rule (n + 146097 * interval_or_1 rule) on in
-    let same = (periods n (interval_or_1 rule)).alike in
-    is_occurrence-IsOn rule n (record {
-      start = h;
-      by = matches_until-earlier rule.until n (n + 146097 * interval_or_1 rule) (omega arith) is.by;
-      turn = sym (periods_past-periods rule n h) ∙ is.turn;
-      months = sym (matches_months-alike rule _ n same.month) ∙ is.months;
-      days = sym (matches_days-alike rule _ n same) ∙ is.days;
-    })

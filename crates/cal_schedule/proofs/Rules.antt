@@ -1,5 +1,5 @@
 -- The next day of a rule: the days that are skipped, and the end of the search.
-use Rattle.std.proofs.Common.{◌≡◌, ◌≢◌, refl, ℕ, zero, suc, ◌+◌, ◌-◌, ◌*◌, ◌/◌, ◌%◌, ◌<◌, ◌≤◌, min, sym, ap, ◌∙◌, arith, Option, Some, None, true, false, inl, inr, [], ◌∷◌, filter, slice_get, take}
+use Rattle.std.proofs.Common.{◌≡◌, ◌≢◌, refl, ℕ, zero, suc, ◌+◌, ◌-◌, ◌*◌, ◌/◌, ◌%◌, ◌<◌, ◌≤◌, max, min, sym, ap, ◌∙◌, arith, Option, Some, None, true, false, inl, inr, [], ◌∷◌, filter, slice_get, take}
 use Rattle.std.specs.Prelude.{MatchOption, SomeIff, IfSome, Bool, List, ◌==◌, ◌&&◌, if◌then◌else◌}
 use Rattle.std.specs.List.{list_any}
 use Rattle.std.proofs.lemmas.Int.{ints}
@@ -24,13 +24,11 @@ use Rattle.cal_schedule.specs.declared.rule.rule.ByDay.TheVariants.{Every, Nth}
 use Rattle.cal_schedule.specs.declared.rule.rule.Frequency.TheVariants.{Monthly, Yearly}
 use Rattle.cal_schedule.specs.declared.rule.rule.Rule.{Rule}
 use Rattle.cal_schedule.specs.Months.{HasMonthIndex}
-use Rattle.cal_schedule.specs.Rule.{allows, occurrences_after, occurrences_left, occurrences, is_empty, matches_months, is_month_day, is_occurrence, matches_days, matches_by_day, is_yearly, interval_or_1, period_index, periods_past}
-use Rattle.cal_schedule.specs.RuleSearch.{may_fall_on, by_day_weekday, IsFirstOfPeriod, IsNextFrom, IsSkip, NoDayBetween}
+use Rattle.cal_schedule.specs.Rule.{allows, occurrences_after, occurrences_left, occurrences, is_empty, matches_months, matches_until, is_month_day, is_occurrence, passes, matches_days, matches_by_day, is_yearly, interval_or_1, period_index, periods_past}
+use Rattle.cal_schedule.specs.RuleSearch.{may_fall_on, by_day_weekday, IsCandidate, IsFirstOfPeriod, IsNextBefore, IsNextFrom, IsSkip, NoDayBetween}
 use Rattle.cal_schedule.proofs.MonthMoves.{IsMonthNumber-date, same_month}
-use Rattle.cal_schedule.proofs.RulePeriods.{IsOn-is_occurrence, matches_months-alike, is_occurrence-period, pos-months, pos-years, period_index-rises}
-
-is_off : (rule : Rule) (n : ℕ) → ¬ (is_occurrence rule n ≡ true) → is_occurrence rule n ≡ false
-is_off rule n h = false_from_ne_true (is_occurrence rule n) h
+use Rattle.cal_schedule.proofs.RulePeriods.{matches_months-alike, matches_until-earlier, pos-months, pos-years, period_index-rises}
+use Rattle.cal_schedule.proofs.RulePositions.{IsOn-is_occurrence, is_occurrence-period, is_off}
 
 -- the first day of a month, and of a year
 pub first_day-month : (w : Weekday) (p x : ℕ) → HasMonthIndex p x → IsDate x
@@ -94,20 +92,21 @@ skip-turn rule n t (Some x) start some e less h = (
   λ k low high. is_off rule k (λ on. periods_past-none rule n k start low some (omega (arith, h.2 k high)) (IsOn-is_occurrence rule k on).turn),
 )
 
-off_month : (rule : Rule) (w : Weekday) (n k : ℕ) → matches_months rule n ≡ false → n ≤ k → period_index Monthly w k < period_index Monthly w n + 1 → is_occurrence rule k ≡ false
+off_month : (rule : Rule) (w : Weekday) (n k : ℕ) → matches_months rule n ≡ false → n ≤ k → period_index Monthly w k < period_index Monthly w n + 1 → passes rule k ≡ false
+unfolding passes
 off_month rule w n k off h less =
     let same = same_month k n (omega (arith, ints, pos-months w k, pos-months w n, period_index-rises Monthly w n k h)) in
-    is_off rule k (λ on. false≢true (sym off ∙ sym (matches_months-alike rule k n same.month) ∙ (IsOn-is_occurrence rule k on).months))
+    ap (λ b. b && matches_days rule k) (matches_months-alike rule k n same.month ∙ off)
 
-pub skip-month : (rule : Rule) (w : Weekday) (n t : ℕ) (r : Option ℕ) → matches_months rule n ≡ false → t ≡ period_index Monthly w n + 1 → IsFirstOfPeriod Monthly w t r → IsSkip rule n r
-skip-month rule w n t None off e h = λ k low high. off_month rule w n k off low (omega (arith, h k (omega arith)))
+pub skip-month : (rule : Rule) (w : Weekday) (n t : ℕ) (r : Option ℕ) → matches_months rule n ≡ false → t ≡ period_index Monthly w n + 1 → IsFirstOfPeriod Monthly w t r → IsCandidate rule n r
+skip-month rule w n t None off e h = λ k low high. off_month rule w n k off (omega arith) (omega (arith, h k (omega arith)))
 skip-month rule w n t (Some x) off e h = (
   elim (cases_lt n x) as (λ _. n < x) [
     | inl before ↦ before
     | inr most ↦ absurd (omega (arith, h.1, period_index-rises Monthly w x n most))
   ],
   h.0,
-  λ k low high. off_month rule w n k off low (omega (arith, h.2 k high)),
+  λ k low high. off_month rule w n k off (omega arith) (omega (arith, h.2 k high)),
 )
 
 -- nor on a day whose weekday it does not take
@@ -136,8 +135,9 @@ may_fall_on-days rule n e =
     let b = is_yearly rule.frequency && is_empty rule.months.now in
     then_allows _ (is_month_day n) (matches_by_day b n) _ rule.month_days.now rule.weekdays.now (weekday_is b n) e
 
-off_weekday : (rule : Rule) (k : ℕ) → may_fall_on rule (weekday_at k) ≡ false → is_occurrence rule k ≡ false
-off_weekday rule k off = is_off rule k (λ on. false≢true (sym off ∙ may_fall_on-days rule k (IsOn-is_occurrence rule k on).days))
+off_weekday : (rule : Rule) (k : ℕ) → may_fall_on rule (weekday_at k) ≡ false → passes rule k ≡ false
+unfolding passes
+off_weekday rule k off = false_from_ne_true _ (λ on. false≢true (sym off ∙ may_fall_on-days rule k (and_parts _ _ on).1))
 
 pub takes-further : (rule : Rule) (n d : ℕ) → ((k : ℕ) → n < k → k < n + d → may_fall_on rule (weekday_at k) ≡ false)
     → may_fall_on rule ((weekday_at n + d) % 7) ≡ false → (k : ℕ) → n < k → k < n + (d + 1) → may_fall_on rule (weekday_at k) ≡ false
@@ -146,21 +146,19 @@ takes-further rule n d none off k low high = elim (cases_lt k (n + d)) as (λ _.
   | inr most ↦ let e : weekday_at k ≡ (weekday_at n + d) % 7 = omega (arith, weekday_at-is k, weekday_at-is n) in ap (may_fall_on rule) e ∙ off
 ]
 
-skip_to : (rule : Rule) (n t : ℕ) (r : Option ℕ) → n < t → NoDayBetween rule n t → SomeIff r (IsDate t) t → IsSkip rule n r
-skip_to rule n t None less none h = λ k low high. elim (cases_lt last_day t) as (λ _. is_occurrence rule k ≡ false) [
-  | inl past ↦ none k low (omega arith)
+pub skip-day : (rule : Rule) (n d t : ℕ) (r : Option ℕ) → t ≡ n + d → 1 ≤ d
+    → ((k : ℕ) → n < k → k < n + d → may_fall_on rule (weekday_at k) ≡ false) → SomeIff r (IsDate t) t → IsCandidate rule n r
+skip-day rule n d t None e some none h = λ k low high. elim (cases_lt last_day t) as (λ _. passes rule k ≡ false) [
+  | inl past ↦ off_weekday rule k (none k (omega arith) (omega arith))
   | inr within ↦ absurd (h within)
 ]
-skip_to rule n t (Some x) less none h = (omega (arith, h.1), omega (arith, h.0, h.1), λ k low high. none k low (omega (arith, h.1)))
+skip-day rule n d t (Some x) e some none h =
+    (omega (arith, h.1), omega (arith, h.0, h.1), λ k low high. off_weekday rule k (none k (omega arith) (omega (arith, h.1))))
 
-pub skip-day : (rule : Rule) (n d t : ℕ) (r : Option ℕ) → is_occurrence rule n ≡ false → t ≡ n + d → 1 ≤ d
-    → ((k : ℕ) → n < k → k < n + d → may_fall_on rule (weekday_at k) ≡ false) → SomeIff r (IsDate t) t → IsSkip rule n r
-skip-day rule n d t r off e some none h =
-    let between : NoDayBetween rule n t = λ k low high. elim (cases_lt n k) as (λ _. is_occurrence rule k ≡ false) [
-      | inl after ↦ off_weekday rule k (none k after (omega arith))
-      | inr most ↦ let same : k ≡ n = omega arith in ap (is_occurrence rule) same ∙ off
-    ] in
-    skip_to rule n t r (omega arith) between h
+-- nor after its last day
+pub skip-until : (rule : Rule) (n : ℕ) → matches_until rule.until n ≡ false → IsSkip rule n None
+skip-until rule n off = λ k low high.
+    is_off rule k (λ on. false≢true (sym off ∙ matches_until-earlier rule.until n k low (IsOn-is_occurrence rule k on).by))
 
 -- from day to day
 pub none-joined : (rule : Rule) (l m n : ℕ) → NoDayBetween rule l m → NoDayBetween rule m n → NoDayBetween rule l n
@@ -170,25 +168,33 @@ none-joined rule l m n a b = λ k low high. elim (cases_lt k m) as (λ _. is_occ
 ]
 
 -- If this many periods have no day of the rule, no later day is one: a later day would have one
--- this many periods earlier.
-none_ever : (rule : Rule) (m n : ℕ) → 1 ≤ interval_or_1 rule → rule.start ≤ m → m + 146097 * interval_or_1 rule ≤ n → NoDayBetween rule m n
-    → (fuel k : ℕ) → k < fuel → m ≤ k → is_occurrence rule k ≡ false
-none_ever rule m n some start past none zero k less low = absurd (omega arith)
-none_ever rule m n some start past none (suc fuel) k less low = elim (cases_lt k n) as (λ _. is_occurrence rule k ≡ false) [
-  | inl before ↦ none k low before
-  | inr most ↦
-      let back = k - 146097 * interval_or_1 rule in
-      let e : back + 146097 * interval_or_1 rule ≡ k = omega arith in
-      is_off rule k (λ on. false≢true (sym (none_ever rule m n some start past none fuel back (omega arith) (omega arith))
-      ∙ is_occurrence-period rule back (omega arith) (ap (is_occurrence rule) e ∙ on)))
-]
+-- this many periods earlier. In the last year of the range, periods can be cut.
+none_later : (rule : Rule) (m : ℕ) → 1 ≤ interval_or_1 rule → rule.start ≤ m
+    → IsNextBefore rule m (m + 366 + 146097 * interval_or_1 rule) None
+    → (fuel k : ℕ) → k < fuel → m ≤ k → k + 366 ≤ last_day → is_occurrence rule k ≡ false
+none_later rule m some start none zero k less low high = absurd (omega arith)
+none_later rule m some start none (suc fuel) k less low high =
+    elim (cases_lt k (m + 366 + 146097 * interval_or_1 rule)) as (λ _. is_occurrence rule k ≡ false) [
+      | inl before ↦ none k low before (omega arith)
+      | inr most ↦
+          let back = k - 146097 * interval_or_1 rule in
+          let e : back + 146097 * interval_or_1 rule ≡ k = omega arith in
+          is_off rule k (λ on. false≢true (sym (none_later rule m some start none fuel back (omega arith) (omega arith) (omega arith))
+          ∙ is_occurrence-period rule back (omega arith) (omega arith) (omega arith) (ap (is_occurrence rule) e ∙ on)))
+    ]
 
-pub none_left : (rule : Rule) (m n : ℕ) → 1 ≤ interval_or_1 rule → rule.start ≤ m → m + 146097 * interval_or_1 rule ≤ n → NoDayBetween rule m n → IsNextFrom rule m None
-none_left rule m n some start past none = λ k low high. none_ever rule m n some start past none (k + 1) k (omega arith) low
+pub none_until_rest : (rule : Rule) (m e x : ℕ) → 1 ≤ interval_or_1 rule → rule.start ≤ m → e ≡ m + 366 + 146097 * interval_or_1 rule
+    → IsNextBefore rule m e None → x ≡ max m (last_day - 366) → NoDayBetween rule m x
+none_until_rest rule m e x some start is none rest = λ k low high.
+    none_later rule m some start (λ j from less date. none j from (omega arith) date) (k + 1) k (omega arith) low (omega arith)
+
+pub next_joined : (rule : Rule) (m x e : ℕ) (r : Option ℕ) → m ≤ x → NoDayBetween rule m x → e ≡ last_day + 1 → IsNextBefore rule x e r → IsNextFrom rule m r
+next_joined rule m x e None h none is rest = none-joined rule m x (last_day + 1) none (λ k low high. rest k low (omega arith) (omega arith))
+next_joined rule m x e (Some y) h none is rest = (omega (arith, rest.0), rest.1, rest.2, none-joined rule m x y none rest.3)
 
 -- one step of the search
-pub next_none : (rule : Rule) (m n : ℕ) → NoDayBetween rule m n → IsSkip rule n None → IsNextFrom rule m None
-next_none rule m n a b = none-joined rule m n (last_day + 1) a b
+pub next_none : (rule : Rule) (m n e : ℕ) → NoDayBetween rule m n → IsSkip rule n None → IsNextBefore rule m e None
+next_none rule m n e a b = λ k low high date. none-joined rule m n (last_day + 1) a b k low (omega arith)
 
 -- the list of the days after a day, from the first of them
 pub first_after : (rule : Rule) (n m : ℕ) (r : Option ℕ) → NoDayBetween rule (n + 1) m → n < m → IsNextFrom rule m r

@@ -3,12 +3,14 @@
 use Rattle.std.specs.Prelude.{ℕ, suc, max, ◌+◌, ◌-◌, ◌/◌, ◌%◌, Bool, true, false, not, ◌&&◌, ◌||◌, ◌==◌, nat_le, if◌then◌else◌, ℤ, pos, negsuc, ◌-ℤ◌, ◌*ℤ◌, unsigned_abs, List, [], ◌∷◌, Option, Some, None, filter}
 use Rattle.std.specs.List.{list_any}
 use Rattle.cal_time.specs.Date.{first_year, last_day, year_at, month_at, day_of_month_at, ordinal_at, weekday_at}
+use Rattle.cal_time.specs.IsoWeekDate.{count_before}
 use Rattle.cal_time.specs.Lengths.{days_in_month, days_in_year}
 use Rattle.cal_time.specs.Month.{number}
 use Rattle.cal_time.specs.Occurrences.{days_from}
 use Rattle.cal_time.specs.Weekday.{index}
 use Rattle.cal_time.specs.declared.Weekday.{Weekday}
 use Rattle.cal_schedule.specs.Months.{month_number_at}
+use Rattle.cal_schedule.specs.Weekdays.{count_from}
 use Rattle.cal_schedule.specs.declared.rule.rule.Frequency.{Frequency}
 use Rattle.cal_schedule.specs.declared.rule.rule.Frequency.TheVariants.{Daily, Weekly, Monthly, Yearly}
 use Rattle.cal_schedule.specs.declared.rule.rule.ByDay.{ByDay}
@@ -99,11 +101,27 @@ interval_or_1 rule = max rule.interval 1
 unfoldable pub periods_past : Rule → ℕ → ℕ
 periods_past rule n = (period_index rule.frequency rule.week_start n - period_index rule.frequency rule.week_start rule.start) % interval_or_1 rule
 
+-- Day n passes the months and the days.
+unfoldable pub passes : Rule → ℕ → Bool
+passes rule n = matches_months rule n && matches_days rule n
+
+-- Day k is one of the days that pass in the period of day n.
+abbrev pub passes_with : Rule → ℕ → ℕ → Bool
+passes_with rule n k =
+    (period_index rule.frequency rule.week_start k == period_index rule.frequency rule.week_start n) && passes rule k
+
+-- Day n has a position of the rule: its rank among the days of the range that pass in its period,
+-- counted from the first or from the last one.
+unfoldable pub matches_positions : Rule → ℕ → Bool
+matches_positions rule n =
+    allows (λ k. is_nth k (count_before (passes_with rule n) (n + 1)) (count_from (passes_with rule n) n)) rule.set_positions.now
+
 -- Day n is a day of the rule if it isn't before the start or after the last day, is in a selected
--- period, and passes the months and the days.
+-- period, passes the months and the days, and has a position.
 unfoldable pub is_occurrence : Rule → ℕ → Bool
 is_occurrence rule n =
-    nat_le rule.start n && (matches_until rule.until n && ((periods_past rule n == 0) && (matches_months rule n && matches_days rule n)))
+    nat_le rule.start n
+    && (matches_until rule.until n && ((periods_past rule n == 0) && (passes rule n && matches_positions rule n)))
 
 -- The days of the rule after day n, in ascending order.
 abbrev pub occurrences_after : Rule → ℕ → List ℕ

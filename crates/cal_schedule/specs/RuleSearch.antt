@@ -1,5 +1,5 @@
 -- The steps of the search for the next day of a rule.
-use Rattle.std.specs.Prelude.{◌≡◌, ℕ, ◌+◌, ◌<◌, ◌≤◌, ◌==◌, Bool, true, false, Option, MatchOption}
+use Rattle.std.specs.Prelude.{◌≡◌, ℕ, ◌+◌, ◌<◌, ◌≤◌, ◌==◌, Bool, true, false, Option, MatchOption, Result, MatchResult}
 use Rattle.cal_time.specs.Date.{last_day, IsDate}
 use Rattle.cal_time.specs.Weekday.{index}
 use Rattle.cal_time.specs.declared.Weekday.{Weekday}
@@ -7,7 +7,7 @@ use Rattle.cal_schedule.specs.declared.rule.rule.Frequency.{Frequency}
 use Rattle.cal_schedule.specs.declared.rule.rule.ByDay.{ByDay}
 use Rattle.cal_schedule.specs.declared.rule.rule.ByDay.TheVariants.{Every, Nth}
 use Rattle.cal_schedule.specs.declared.rule.rule.Rule.{Rule}
-use Rattle.cal_schedule.specs.Rule.{allows, is_occurrence, period_index}
+use Rattle.cal_schedule.specs.Rule.{allows, is_occurrence, passes, period_index}
 
 -- No day of the rule is from day m on and before day n.
 abbrev pub NoDayBetween : Rule → ℕ → ℕ → Type 0
@@ -27,10 +27,46 @@ abbrev pub IsFirstOfPeriod : Frequency → Weekday → ℕ → Option ℕ → Ty
 IsFirstOfPeriod f w t r =
     MatchOption r ((k : ℕ) → IsDate k → period_index f w k < t) (λ x. IsDate x × (t ≤ period_index f w x) × ((k : ℕ) → k < x → period_index f w k < t))
 
+-- Day s is the first day of the range in the period of day n.
+pub record IsPeriodStart (rule : Rule) (n s : ℕ) : Type 0 where
+  pub first : s ≤ n
+  pub before : (k : ℕ) → k < s
+      → period_index rule.frequency rule.week_start k < period_index rule.frequency rule.week_start n
+  pub from : (k : ℕ) → s ≤ k
+      → period_index rule.frequency rule.week_start n ≤ period_index rule.frequency rule.week_start k
+
+-- Day e comes after the last day of the range in the period of day n.
+pub record IsPeriodEnd (rule : Rule) (n e : ℕ) : Type 0 where
+  pub last : n < e
+  pub range : e ≤ last_day + 1
+  pub within : (k : ℕ) → k < e
+      → period_index rule.frequency rule.week_start k ≤ period_index rule.frequency rule.week_start n
+  pub after : (k : ℕ) → e ≤ k → IsDate k
+      → period_index rule.frequency rule.week_start n < period_index rule.frequency rule.week_start k
+
+-- No day from day m on and before day n passes.
+abbrev pub NonePass : Rule → ℕ → ℕ → Type 0
+NonePass rule m n = (k : ℕ) → m ≤ k → k < n → passes rule k ≡ false
+
+-- r is a day after day n, and no day between them passes. If r is `None`, no later day passes.
+abbrev pub IsCandidate : Rule → ℕ → Option ℕ → Type 0
+IsCandidate rule n r = MatchOption r (NonePass rule (n + 1) (last_day + 1)) (λ x. (n < x) × IsDate x × NonePass rule (n + 1) x)
+
 -- r is a day after day n to go on with: no day of the rule is from day n on and before r. If r is
 -- `None`, the rule has no day from day n on.
 abbrev pub IsSkip : Rule → ℕ → Option ℕ → Type 0
 IsSkip rule n r = MatchOption r (NoDayBetween rule n (last_day + 1)) (λ x. (n < x) × IsDate x × NoDayBetween rule n x)
+
+-- r is the first day of the rule from day n on, or a day to go on with.
+abbrev pub IsStep : Rule → ℕ → Result ℕ (Option ℕ) → Type 0
+IsStep rule n r = MatchResult r (λ x. (n ≤ x) × IsDate x × (is_occurrence rule x ≡ true) × NoDayBetween rule n x) (IsSkip rule n)
+
+-- r is the first day of the rule from day n on. If r is `None`, no day of the rule is from day n on
+-- and before day e.
+abbrev pub IsNextBefore : Rule → ℕ → ℕ → Option ℕ → Type 0
+IsNextBefore rule n e r =
+    MatchOption r ((k : ℕ) → n ≤ k → k < e → IsDate k → is_occurrence rule k ≡ false)
+    (λ x. (n ≤ x) × IsDate x × (is_occurrence rule x ≡ true) × NoDayBetween rule n x)
 
 -- r is the first day of the rule from day n on.
 abbrev pub IsNextFrom : Rule → ℕ → Option ℕ → Type 0

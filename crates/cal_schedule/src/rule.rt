@@ -1,6 +1,9 @@
 //! Recurrence rules of days, a subset of RFC 5545.
+mod candidates;
 mod iter;
 mod matching;
+mod periods;
+mod positions;
 mod rule;
 mod search;
 

@@ -39,6 +39,7 @@ fn rule(recurrence: &Recurrence, start: Date) -> Twice<Rule<'_>>
     ensures months { result.0.months.now ≡ result.1.months.now }
     ensures month_days { result.0.month_days.now ≡ result.1.month_days.now }
     ensures weekdays { result.0.weekdays.now ≡ result.1.weekdays.now }
+    ensures set_positions { result.0.set_positions.now ≡ result.1.set_positions.now }
     ensures until { result.0.until ≡ result.1.until }
 {
     twice!(recurrence.rule(start))

@@ -482,6 +482,78 @@ fn other_rules(rt: HostRuntime) {
 }
 
 /// The range goes from Monday, -999999-01-01, to Friday, 999999-12-31, an odd number of days later.
+/// The examples of RFC 5545 with `BYSETPOS`, and others by hand.
+#[test]
+fn positions(rt: HostRuntime) {
+    let rt = &rt;
+    begins(
+        rt,
+        "FREQ=MONTHLY;COUNT=3;BYDAY=TU,WE,TH;BYSETPOS=3",
+        1997_09_04,
+        &[1997_09_04, 1997_10_07, 1997_11_06],
+        true,
+    );
+    begins(
+        rt,
+        "FREQ=MONTHLY;BYDAY=MO,TU,WE,TH,FR;BYSETPOS=-2",
+        1997_09_29,
+        &[
+            1997_09_29, 1997_10_30, 1997_11_27, 1997_12_30, 1998_01_29, 1998_02_26, 1998_03_30,
+        ],
+        false,
+    );
+    begins(
+        rt,
+        "FREQ=MONTHLY;BYDAY=MO,TU,WE,TH,FR;BYSETPOS=1,-1;UNTIL=20240331",
+        2024_01_10,
+        &[2024_01_31, 2024_02_01, 2024_02_29, 2024_03_01, 2024_03_29],
+        true,
+    );
+    begins(
+        rt,
+        "FREQ=YEARLY;INTERVAL=2;BYMONTH=1,7;BYMONTHDAY=1,15;BYSETPOS=2,-2,5",
+        2024_01_01,
+        &[2024_01_15, 2024_07_01, 2026_01_15, 2026_07_01],
+        false,
+    );
+    begins(
+        rt,
+        "FREQ=WEEKLY;BYDAY=SU,MO;BYSETPOS=-1",
+        2024_01_01,
+        &[2024_01_07, 2024_01_14, 2024_01_21],
+        false,
+    );
+    begins(
+        rt,
+        "FREQ=WEEKLY;BYDAY=SU,MO;BYSETPOS=-1;WKST=SU",
+        2024_01_01,
+        &[2024_01_01, 2024_01_08, 2024_01_15],
+        false,
+    );
+    begins(
+        rt,
+        "FREQ=DAILY;BYDAY=MO;BYSETPOS=1,2",
+        2024_01_02,
+        &[2024_01_08, 2024_01_15],
+        false,
+    );
+    begins(
+        rt,
+        "FREQ=MONTHLY;BYDAY=MO;BYSETPOS=6",
+        2024_01_01,
+        &[],
+        true,
+    );
+    // The range ends on a Friday, so its last week has no Sunday.
+    begins(
+        rt,
+        "FREQ=WEEKLY;BYDAY=SU,MO;BYSETPOS=-1",
+        999_999_12_20,
+        &[999_999_12_26, 999_999_12_27],
+        true,
+    );
+}
+
 #[test]
 fn ends_of_the_range(rt: HostRuntime) {
     let rt = &rt;

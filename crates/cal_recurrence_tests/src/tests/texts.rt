@@ -38,11 +38,21 @@ fn faults(rt: HostRuntime) {
     refused(rt, "=DAILY", 0, ParseRuleErrorKind::Unknown);
     refused(rt, "FREQ =DAILY", 0, ParseRuleErrorKind::Unknown);
     refused(rt, "FREQ=DAILY;", 11, ParseRuleErrorKind::Unknown);
+    refused(rt, "RRULE:", 6, ParseRuleErrorKind::Unknown);
+    refused(rt, "RRULE", 0, ParseRuleErrorKind::Unknown);
+    refused(rt, "RRULE:COUNT=3", 13, ParseRuleErrorKind::Missing);
+    refused(rt, "EXRULE:FREQ=DAILY", 0, ParseRuleErrorKind::Unknown);
     refused(
         rt,
-        "FREQ=MONTHLY;BYSETPOS=-1;BYDAY=FR",
-        13,
-        ParseRuleErrorKind::Unknown,
+        "RRULE:FREQ=MONTHLY;INTERVAL=2;BYSETPOS=-1;COUNT=3",
+        30,
+        ParseRuleErrorKind::Alone(RulePart::Positions),
+    );
+    refused(
+        rt,
+        "bysetpos=-1;FREQ=MONTHLY",
+        0,
+        ParseRuleErrorKind::Alone(RulePart::Positions),
     );
     refused(
         rt,
@@ -124,7 +134,7 @@ fn refused_as(rt: &impl Abort, alloc: Global, text: &str, words: &str) -> Result
 fn texts_of_faults(rt: HostRuntime) -> Result<(), Fail> {
     let alloc = rt.alloc();
     let rt = &rt;
-    refused_as(rt, alloc, "FREQ=DAILY;BYSETPOS=-1", "unknown part at 11")?;
+    refused_as(rt, alloc, "FREQ=DAILY;BYHOUR=9", "unknown part at 11")?;
     refused_as(rt, alloc, "FREQ=DAILY;FREQ=DAILY", "duplicate FREQ at 11")?;
     refused_as(
         rt,
@@ -163,6 +173,12 @@ fn texts_of_faults(rt: HostRuntime) -> Result<(), Fail> {
         alloc,
         "FREQ=MONTHLY;BYDAY=54FR",
         "invalid value of BYDAY at 13",
+    )?;
+    refused_as(
+        rt,
+        alloc,
+        "FREQ=MONTHLY;BYSETPOS=-1",
+        "no other part with BYSETPOS at 13",
     )?;
     refused_as(rt, alloc, "BYDAY=MO", "missing FREQ at 8")
 }
@@ -220,12 +236,30 @@ fn wrong_values(rt: HostRuntime) {
     );
     refused_value(
         rt,
+        RulePart::Positions,
+        &[
+            "FREQ=DAILY;BYSETPOS=0;BYDAY=MO",
+            "FREQ=DAILY;BYSETPOS=367;BYDAY=MO",
+            "FREQ=DAILY;BYSETPOS=-367;BYDAY=MO",
+            "FREQ=DAILY;BYSETPOS=0001;BYDAY=MO",
+        ],
+    );
+    refused_value(
+        rt,
         RulePart::Until,
         &[
             "FREQ=DAILY;UNTIL=20240230",
             "FREQ=DAILY;UNTIL=20241301",
             "FREQ=DAILY;UNTIL=2024-12-31",
-            "FREQ=DAILY;UNTIL=20241231T000000Z",
+            "FREQ=DAILY;UNTIL=20241231T",
+            "FREQ=DAILY;UNTIL=20241231T00000",
+            "FREQ=DAILY;UNTIL=20241231T+00000",
+            "FREQ=DAILY;UNTIL=20241231T240000",
+            "FREQ=DAILY;UNTIL=20241231T006000",
+            "FREQ=DAILY;UNTIL=20241231T000061",
+            "FREQ=DAILY;UNTIL=20241231T0000000",
+            "FREQ=DAILY;UNTIL=20241231T000000ZZ",
+            "FREQ=DAILY;UNTIL=20241231 000000",
         ],
     );
     refused_value(
@@ -291,6 +325,26 @@ fn orders_and_cases(rt: HostRuntime) {
     );
 }
 
+/// Fails unless the text is daily until 31 December 2024.
+fn until(rt: &impl Abort, text: &str) {
+    let Ok(last) = Date::from_calendar_date(2024, Month::December, 31) else {
+        panic!(rt; "no date");
+    };
+    match parse(text.as_bytes()) {
+        Ok(recurrence) => assert!(rt; recurrence.end == RuleEnd::Until(last), "{text}"),
+        Err(fault) => panic!(rt; "{fault:?} in {text}"),
+    }
+}
+
+#[test]
+fn texts_of_calendars(rt: HostRuntime) {
+    let rt = &rt;
+    until(rt, "RRULE:FREQ=DAILY;UNTIL=20241231");
+    until(rt, "rrule:FREQ=DAILY;UNTIL=20241231T000000");
+    until(rt, "FREQ=DAILY;UNTIL=20241231T235959Z");
+    until(rt, "RRULE:UNTIL=20241231t235960z;FREQ=DAILY");
+}
+
 #[test]
 fn by_fields(rt: HostRuntime) {
     let rt = &rt;
@@ -306,6 +360,7 @@ fn by_fields(rt: HostRuntime) {
         months,
         month_days: Values::none(0),
         weekdays,
+        set_positions: Values::none(0),
         end: RuleEnd::Count(1),
     };
     let (Ok(start), Ok(thanksgiving)) = (

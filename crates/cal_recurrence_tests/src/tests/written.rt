@@ -44,6 +44,8 @@ fn examples_of_the_rfc(rt: HostRuntime) {
             "FREQ=MONTHLY;INTERVAL=2;COUNT=10;BYDAY=1SU,-1SU",
             "FREQ=MONTHLY;COUNT=6;BYDAY=-2MO",
             "FREQ=MONTHLY;BYMONTHDAY=-3",
+            "FREQ=MONTHLY;COUNT=3;BYDAY=TU,WE,TH;BYSETPOS=3",
+            "FREQ=MONTHLY;BYDAY=MO,TU,WE,TH,FR;BYSETPOS=-2",
             "FREQ=MONTHLY;COUNT=10;BYMONTHDAY=2,15",
             "FREQ=MONTHLY;COUNT=10;BYMONTHDAY=1,-1",
             "FREQ=MONTHLY;INTERVAL=18;COUNT=10;BYMONTHDAY=10,11,12,13,14,15",
@@ -92,6 +94,11 @@ fn other_orders(rt: HostRuntime) {
     );
     written(
         rt,
+        "freq=yearly;bysetpos=+007,-366;wkst=su;bymonth=2",
+        "FREQ=YEARLY;BYMONTH=2;BYSETPOS=7,-366;WKST=SU",
+    );
+    written(
+        rt,
         "until=00010203;byday=+01mo,-53We;bymonth=12,01;interval=01;freq=yearly",
         "FREQ=YEARLY;UNTIL=00010203;BYMONTH=12,1;BYDAY=1MO,-53WE",
     );
@@ -118,15 +125,16 @@ fn longest(rt: HostRuntime) {
         months: full(Month::December),
         month_days: full(-128),
         weekdays: full(ByDay::Nth(-128, Weekday::Friday)),
+        set_positions: full(-32768),
         end: RuleEnd::Until(Date::MIN),
     };
     let text = recurrence.text();
-    assert!(rt; text.len() == 1013);
+    assert!(rt; text.len() == 1456);
     let text = text.as_str();
     assert!(rt;
         text.starts_with("FREQ=MONTHLY;INTERVAL=4294967295;UNTIL=-9999990101;BYMONTH=12,12,")
     );
-    assert!(rt; text.ends_with(",-128FR,-128FR;WKST=SU"));
+    assert!(rt; text.ends_with(",-32768,-32768;WKST=SU"));
 }
 
 #[test]

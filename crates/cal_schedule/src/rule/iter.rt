@@ -37,6 +37,7 @@ impl<'a> Rule<'a> {
         ensures months { length result.months.now ≡ 0 }
         ensures month_days { length result.month_days.now ≡ 0 }
         ensures weekdays { length result.weekdays.now ≡ 0 }
+        ensures set_positions { length result.set_positions.now ≡ 0 }
         ensures until { result.until ≡ None }
     {
         Rule {
@@ -47,6 +48,7 @@ impl<'a> Rule<'a> {
             months: &[],
             month_days: &[],
             weekdays: &[],
+            set_positions: &[],
             until: None,
         }
     }
@@ -63,6 +65,7 @@ impl<'a> Rule<'a> {
             months: self.months,
             month_days: self.month_days,
             weekdays: self.weekdays,
+            set_positions: self.set_positions,
             until: self.until,
         }
     }

@@ -4,7 +4,7 @@ ghost use Rattle.std.specs.List.{list_any};
 ghost use Rattle.cal_time.specs.Date.{last_day, IsDate, month_at, ordinal_at, year_at};
 ghost use Rattle.cal_time.specs.Lengths.{days_in_year};
 ghost use Rattle.cal_time.specs.Month.{number as month_number};
-ghost use Rattle.cal_schedule.specs.Rule.{allows, matches_start, matches_until, is_empty, matches_months, is_month_day, is_nth, is_nth_weekday, is_occurrence, matches_days, matches_by_day, is_yearly, names_no_day, interval_or_1, period_index, periods_past};
+ghost use Rattle.cal_schedule.specs.Rule.{allows, matches_start, matches_until, is_empty, matches_months, is_month_day, is_nth, is_nth_weekday, matches_days, matches_by_day, is_yearly, names_no_day, interval_or_1, passes, period_index, periods_past};
 
 use crate::months::month_number_and_day;
 use crate::rule::rule::{ByDay, Frequency, Rule};
@@ -15,14 +15,14 @@ use cal_time::{Cycle, Date, Month, Weekday};
 
 /// Returns `true` if an item with this number from the start and this number from the end, both
 /// from 1, is the n-th. A negative n counts from the end.
-fn is_nth(n: i8, ahead: u16, back: u16) -> bool
+pub(super) fn is_nth(n: i16, ahead: u32, back: u32) -> bool
     ensures { result ≡ is_nth n ahead back }
 {
-    let n = i32::from(n);
+    let n = i64::from(n);
     if n < 0 {
-        i32::from(back) == -n
+        i64::from(back) == -n
     } else {
-        i32::from(ahead) == n
+        i64::from(ahead) == n
     }
 }
 
@@ -47,9 +47,9 @@ fn is_month_day(date: Date, day: i8) -> bool
 {
     let length = days_in_month(date.month(), date.year());
     is_nth(
-        day,
-        u16::from(date.day()),
-        u16::from(length + 1 - date.day()),
+        i16::from(day),
+        u32::from(date.day()),
+        u32::from(length + 1 - date.day()),
     )
 }
 
@@ -66,14 +66,17 @@ pub(crate) fn is_nth_in_period(of_year: bool, date: Date, n: i8) -> bool
     ensures in_range { IsDate date }
 {
     let (index, length) = if of_year {
-        (date.ordinal(), days_in_year(date.year()))
+        (
+            u32::from(date.ordinal()),
+            u32::from(days_in_year(date.year())),
+        )
     } else {
         (
-            u16::from(date.day()),
-            u16::from(days_in_month(date.month(), date.year())),
+            u32::from(date.day()),
+            u32::from(days_in_month(date.month(), date.year())),
         )
     };
-    is_nth(n, (index + 6) / 7, (length - index) / 7 + 1)
+    is_nth(i16::from(n), (index + 6) / 7, (length - index) / 7 + 1)
 }
 
 /// Returns `true` if the date has this weekday, and its number if it has one.
@@ -168,7 +171,15 @@ impl Rule<'_> {
             && (self.weekdays.is_empty() || any_weekday(self.weekdays, of_year, date))
     }
 
-    fn matches_until(&self, date: Date) -> bool
+    /// Returns `true` if the date passes the months and the days.
+    #[tactic(auto, unfolding(crate::specs::Rule::passes))]
+    pub(super) fn passes(&self, date: Date) -> bool
+        ensures { result ≡ passes self.now date }
+    {
+        self.matches_months(date) && self.matches_days(date)
+    }
+
+    pub(super) fn matches_until(&self, date: Date) -> bool
         ensures { result ≡ matches_until self.now.until date }
     {
         match self.until {
@@ -187,19 +198,5 @@ impl Rule<'_> {
     {
         let start = period_of(self.frequency, self.week_start, self.start);
         (period_of(self.frequency, self.week_start, date) - start) % self.interval_or_1()
-    }
-
-    /// Returns `true` if the rule matches a date. A rule for the last Friday of each month matches
-    /// 26 January 2024, and not 19 January.
-    #[tactic(auto, unfolding(crate::specs::Rule::is_occurrence))]
-    pub fn contains(&self, date: Date) -> bool
-        ensures value { result ≡ is_occurrence self.now date }
-        ensures in_range { IsDate date }
-    {
-        day_number(date) >= day_number(self.start)
-            && self.matches_until(date)
-            && self.periods_past(date) == 0
-            && self.matches_months(date)
-            && self.matches_days(date)
     }
 }

@@ -40,6 +40,10 @@ pub struct Rule<'a> {
     pub month_days: &'a [i8],
     /// The weekdays (`BYDAY`).
     pub weekdays: &'a [ByDay],
+    /// The positions (`BYSETPOS`) among the days of a day, week, month or year that pass the months,
+    /// the days of the month and the weekdays, from 1 for the first one and from -1 for the last
+    /// one. No day is the 0th.
+    pub set_positions: &'a [i16],
     /// The last day that can match, if there is one (`UNTIL`).
     pub until: Option<Date>,
 }

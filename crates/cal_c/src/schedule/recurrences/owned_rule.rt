@@ -53,6 +53,7 @@ fn plain_rule_from_parts<'a>(parts: &RuleParts<'a>) -> Result<Rule<'a>, i32>
         months: &[],
         month_days: parts.month_days,
         weekdays: &[],
+        set_positions: &[],
         until: Some(until),
     })
 }

@@ -31,6 +31,7 @@ fn part_number(part: RulePart) -> u32
         RulePart::Weekdays => 6,
         RulePart::Until => 7,
         RulePart::Count => 8,
+        RulePart::Positions => 9,
     }
 }
 
@@ -41,7 +42,7 @@ pub(super) fn reason_status(reason: ParseRuleErrorKind) -> i32
         ParseRuleErrorKind::Unknown => UNKNOWN_PART,
         ParseRuleErrorKind::Twice(_) => DUPLICATE_PART,
         ParseRuleErrorKind::TooMany(_) => TOO_MANY_VALUES,
-        ParseRuleErrorKind::Value(_) => INVALID_VALUE,
+        ParseRuleErrorKind::Value(_) | ParseRuleErrorKind::Alone(_) => INVALID_VALUE,
         ParseRuleErrorKind::Missing => MISSING_FREQUENCY,
     }
 }
@@ -52,7 +53,8 @@ pub(super) fn error_part(reason: ParseRuleErrorKind) -> u32
     match reason {
         ParseRuleErrorKind::Twice(part)
         | ParseRuleErrorKind::TooMany(part)
-        | ParseRuleErrorKind::Value(part) => { part_number(part) }
+        | ParseRuleErrorKind::Value(part)
+        | ParseRuleErrorKind::Alone(part) => { part_number(part) }
         ParseRuleErrorKind::Unknown | ParseRuleErrorKind::Missing => 0,
     }
 }

@@ -3,7 +3,7 @@ use Rattle.std.proofs.lemmas.Bool.Decides.{nat_tests}
 use Rattle.std.proofs.lemmas.Int.{ints}
 use Rattle.cal_time.specs.DateLimits.{months_in_range}
 use Rattle.cal_schedule.proofs.Rules.{first_day-month, no_month}
-use Rattle.cal_schedule.proofs.rule.search.first_of_month_number.Goals as goal
+use Rattle.cal_schedule.proofs.rule.periods.first_of_month_number.Goals as goal
 
 pub returns-then-index-lt-MONTHS : goal.returns-then-index-lt-MONTHS
 returns-then-index-lt-MONTHS c =
