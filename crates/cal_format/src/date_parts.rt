@@ -9,6 +9,7 @@ ghost use Rattle.cal_format.specs.Scanning.{AreHeld, Agrees};
 use crate::determines::{any_shows, shows_calendar_date, shows_ordinal_date};
 use crate::fields::Fields;
 use crate::item::{Component, Item};
+use cal_time::error::{Component as Named, ComponentRange};
 use cal_time::{Date, Month, Weekday};
 
 /// Returns the date with the numbers of the fields.
@@ -30,6 +31,18 @@ pub(crate) fn date_of(items: &[Item], fields: &Fields) -> Option<Date>
     let iso_year = fields.get(Component::IsoYear);
     let week = fields.get(Component::IsoWeek);
     iso_week_date(iso_year, week, weekday_of(items, fields))
+}
+
+/// Returns the error of numbers that no date has: the day of the month, the day of the year or the
+/// ISO week.
+pub(crate) fn date_error(items: &[Item]) -> ComponentRange {
+    if shows_calendar_date(items) {
+        return ComponentRange::conditional(Named::Day);
+    }
+    if shows_ordinal_date(items) {
+        return ComponentRange::conditional(Named::Ordinal);
+    }
+    ComponentRange::conditional(Named::Week)
 }
 
 /// Returns the year.

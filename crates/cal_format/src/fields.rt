@@ -49,6 +49,18 @@ impl Fields {
         self.numbers[component.index()] = number;
     }
 
+    /// Sets the numbers of the items. The first item that shows a component has its number.
+    pub(crate) fn fill(&mut self, items: &[Item], numbers: &[u32]) {
+        if let [item, others @ ..] = items
+            && let [number, rest @ ..] = numbers
+        {
+            self.fill(others, rest);
+            if let Some(component) = item.component() {
+                self.set(component, *number);
+            }
+        }
+    }
+
     /// Sets the number of the item's component, and returns the number of bytes that the text has
     /// for the item.
     #[inline(always)]

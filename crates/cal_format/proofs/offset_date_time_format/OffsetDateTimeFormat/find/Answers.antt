@@ -9,7 +9,7 @@ use Rattle.cal_format.specs.Text.{text_of}
 use Rattle.cal_format.specs.Reading.{are_apart, shows_date, shows_time, shows_offset, holds_time, holds_offset}
 use Rattle.cal_format.specs.Scanning.{AreHeld}
 use Rattle.cal_format.proofs.Parsing.{offset_date_time-moment, read-of, test-of}
-use Rattle.cal_format.proofs.offset_date_time_format.OffsetDateTimeFormat.parse.Goals as goal
+use Rattle.cal_format.proofs.offset_date_time_format.OffsetDateTimeFormat.find.Goals as goal
 
 pub returns-then-not-set_items-clause-every : goal.returns-then-not-set_items-clause-every
 returns-then-not-set_items-clause-every c z moment range held holds rest e =

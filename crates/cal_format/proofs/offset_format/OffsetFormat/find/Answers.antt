@@ -8,7 +8,7 @@ use Rattle.cal_format.specs.Reading.{are_apart, are_offset_items, shows_offset, 
 use Rattle.cal_format.specs.Scanning.{AreHeld}
 use Rattle.cal_format.proofs.Offsets.{offset-held}
 use Rattle.cal_format.proofs.Parsing.{offset-moment, read-of, test-of}
-use Rattle.cal_format.proofs.offset_format.OffsetFormat.parse.Goals as goal
+use Rattle.cal_format.proofs.offset_format.OffsetFormat.find.Goals as goal
 
 pub returns-then-not-set_items-clause-every : goal.returns-then-not-set_items-clause-every
 returns-then-not-set_items-clause-every c o range holds e =

@@ -7,7 +7,7 @@ use Rattle.cal_format.specs.Text.{text_of}
 use Rattle.cal_format.specs.Reading.{are_apart, shows_date}
 use Rattle.cal_format.specs.Scanning.{AreHeld}
 use Rattle.cal_format.proofs.Parsing.{date-moment, read-of, test-of}
-use Rattle.cal_format.proofs.date_format.DateFormat.parse.Goals as goal
+use Rattle.cal_format.proofs.date_format.DateFormat.find.Goals as goal
 
 pub returns-then-not-set_items-clause-every : goal.returns-then-not-set_items-clause-every
 returns-then-not-set_items-clause-every c n date held e =

@@ -8,7 +8,7 @@ use Rattle.cal_format.specs.Reading.{are_apart, are_time_items, shows_time, hold
 use Rattle.cal_format.specs.Scanning.{AreHeld}
 use Rattle.cal_format.proofs.Holding.{time-held}
 use Rattle.cal_format.proofs.Parsing.{time-moment, read-of, test-of}
-use Rattle.cal_format.proofs.time_format.TimeFormat.parse.Goals as goal
+use Rattle.cal_format.proofs.time_format.TimeFormat.find.Goals as goal
 
 pub returns-then-not-set_items-clause-every : goal.returns-then-not-set_items-clause-every
 returns-then-not-set_items-clause-every c n day holds e =
