@@ -23,7 +23,7 @@ pub(crate) fn rejection(items: &[Item], text: &[u8]) -> ParseError
 {
     let mut numbers = [0u32; 64];
     let mut scanner = Scanner { rest: text };
-    match scan_items(items, &mut scanner, &mut numbers) {
+    match scan_items(items, &mut scanner, &mut numbers, 0) {
         Some(()) => rejection_of_numbers(items, &numbers),
         None => {
             let position = text.len() - scanner.rest.len();
