@@ -226,17 +226,6 @@ impl Component {
 }
 
 impl Item {
-    /// Returns the component that the item shows. A literal shows none.
-    pub(crate) fn component(self) -> Option<Component> {
-        match self {
-            Item::Literal(_) => None,
-            Item::Number(component, _) => Some(component),
-            Item::Name(name) => Some(name.component()),
-            Item::Fraction => Some(Component::Nanosecond),
-            Item::OffsetSign => Some(Component::OffsetSign),
-        }
-    }
-
     /// Returns `true` if the item shows the component.
     pub(crate) fn shows(self, component: Component) -> bool
         ensures { result ≡ shows component self }
