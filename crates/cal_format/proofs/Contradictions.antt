@@ -1,11 +1,11 @@
 -- Numbers that no item contradicts are the numbers of a moment whose text they print.
-use Rattle.std.proofs.Common.{◌≡◌, ℕ, zero, suc, ◌+◌, ◌-◌, ◌*◌, ◌/◌, ◌%◌, ◌<◌, ◌≤◌, List, [], ◌∷◌, ◌++◌, refl, sym, ap, ◌∙◌, arith, inl, inr}
-use Rattle.std.specs.Prelude.{Bool, true, false, IsTrue, Option, Some, None, ◌==◌, ◌&&◌, ◌||◌, nat_lt, if◌then◌else◌, ℤ, pos, negsuc, neg_ℤ, int_lt, unsigned_abs, codes}
+use Rattle.std.proofs.Common.{◌≡◌, ℕ, zero, suc, ◌+◌, ◌-◌, ◌*◌, ◌/◌, ◌%◌, ◌≤◌, List, [], ◌∷◌, ◌++◌, refl, sym, ap, ◌∙◌, arith, inl, inr}
+use Rattle.std.specs.Prelude.{Bool, true, false, IsTrue, None, ◌==◌, ◌&&◌, ◌||◌, nat_lt, if◌then◌else◌, ℤ, pos, negsuc, neg_ℤ, int_lt, unsigned_abs, codes}
 use Rattle.std.proofs.lemmas.Bool.{cases_lt}
 use Rattle.std.proofs.lemmas.Bool.Decides.{nat_tests}
 use borrow.Author.Tests.{eq-eqb, le-ltb}
 use Rattle.cal_time.specs.Time.{hour_of, minute_of, second_of, nanosecond_of, time_of}
-use Rattle.cal_time.specs.Date.{month_at, weekday_at}
+use Rattle.cal_time.specs.Date.{weekday_at}
 use Rattle.cal_time.specs.Month.{month_of_index}
 use Rattle.cal_time.specs.Weekday.{weekday_of_index}
 use Rattle.cal_time.specs.Month as month
@@ -18,12 +18,12 @@ use Rattle.cal_format.specs.declared.item.Name.TheVariants as name
 use Rattle.cal_format.specs.declared.item.Component.{Component}
 use Rattle.cal_format.specs.declared.item.Component.TheVariants.{Hour, Hour12, Minute, Second, Period, Millisecond, Microsecond, Nanosecond, OffsetHour, OffsetMinute, OffsetSecond, OffsetSign}
 use Rattle.cal_format.specs.declared.moment.Moment.{Moment}
-use Rattle.cal_format.specs.Form.{month_text, weekday_text, period_text, numbered_name, numbered_item, numbered_text, IsNumber, AreNumbers}
+use Rattle.cal_format.specs.Form.{period_text, numbered_name, numbered_item, numbered_text, IsNumber, AreNumbers}
 use Rattle.cal_format.specs.Moment.{number, width}
 use Rattle.cal_format.specs.Names.{name_text, short_month, short_weekday}
 use Rattle.cal_format.specs.Ranges.{maximum}
-use Rattle.cal_format.specs.Reading.{shows, name_component, any_shows, holds_subsecond, holds_time, holds_offset}
-use Rattle.cal_format.specs.Scanning.{IsHeld, AreHeld, signed_offset}
+use Rattle.cal_format.specs.Reading.{shows, name_component, any_shows, holds_time, holds_offset}
+use Rattle.cal_format.specs.Scanning.{IsHeld, AreHeld}
 use Rattle.cal_format.specs.Text.{sign, padded, fraction_text, item_text, text_of}
 use Rattle.cal_format.specs.Values.{number_in, hour_in, nanosecond_in, time_in, offset_in, is_empty, differing, item_contradiction, first_contradiction}
 use Rattle.cal_format.proofs.Apart.{both_tests, same_test}
@@ -44,14 +44,14 @@ period h n e = elim (cases_lt h 12) as (λ _. period_text n ≡ (if nat_lt h 12 
   | inr high ↦ (let some : 1 ≤ n = omega (arith, e, high) in grind (arith, nat_tests))
 ]
 
-name-same : (k : Name) (n : ℕ) (v : Moment) → number (name_component k) v ≡ n → numbered_name k n ≡ name_text k v
+pub name-same : (k : Name) (n : ℕ) (v : Moment) → number (name_component k) v ≡ n → numbered_name k n ≡ name_text k v
 name-same name.Month n v e = ap (λ j. month.name (month_of_index (j - 1))) (sym e)
 name-same name.ShortMonth n v e = ap (λ j. short_month (month_of_index (j - 1))) (sym e)
 name-same name.Weekday n v e = (let less : n - 1 ≡ weekday_at v.date = omega (arith, e) in ap (λ j. weekday.name (weekday_of_index j)) less)
 name-same name.ShortWeekday n v e = (let less : n - 1 ≡ weekday_at v.date = omega (arith, e) in ap (λ j. short_weekday (weekday_of_index j)) less)
 name-same name.Period n v e = period (hour_of v.time) n e
 
-sign-same : (o : ℤ) (n : ℕ) → (if int_lt o (pos 0) then 1 else 0) ≡ n → (if n == 1 then codes "-" else codes "+") ≡ offset_sign o
+pub sign-same : (o : ℤ) (n : ℕ) → (if int_lt o (pos 0) then 1 else 0) ≡ n → (if n == 1 then codes "-" else codes "+") ≡ offset_sign o
 sign-same (pos k) n e =
     let low : int_lt (pos k) (pos 0) ≡ false = le-ltb k 0 (omega arith) in
     let none : n ≡ 0 = sym e ∙ ap (λ b. if b then 1 else 0) low in
@@ -139,7 +139,7 @@ pub time-holds : (items : List Item) (numbers : List ℕ) (t : ℕ) → AreMost 
 time-holds items numbers t most e =
     let at = number_in items numbers in
     let parts = parts-are t (hour_in items (number_in items numbers)) (number_in items numbers Minute) (number_in items numbers Second) (nanosecond_in items (number_in items numbers))
-        (hour-most items (number_in items numbers) most) (most Minute) (most Second) (nanosecond-most items (number_in items numbers) most) e in
+    (hour-most items (number_in items numbers) most) (most Minute) (most Second) (nanosecond-most items (number_in items numbers) most) e in
     both-true _ _ (shown-or (any_shows Minute items) (minute_of t) _ parts.minute (λ f. not-shown items numbers Minute f))
     (both-true _ _ (shown-or (any_shows Second items) (second_of t) _ parts.second (λ f. not-shown items numbers Second f))
     (subsecond-held (any_shows Nanosecond items) (any_shows Microsecond items) (any_shows Millisecond items) _ _ _ (nanosecond_of t) parts.nanosecond))

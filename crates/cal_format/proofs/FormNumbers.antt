@@ -2,7 +2,7 @@
 use Rattle.std.proofs.Common.{◌≡◌, ℕ, zero, suc, ◌+◌, ◌-◌, ◌<◌, ◌≤◌, List, [], ◌∷◌, ◌++◌, length, take, drop, set, get_or, refl, sym, ap, subst, ◌∙◌, arith}
 use Rattle.std.proofs.lemmas.List.{take_all}
 use Rattle.cal_format.specs.declared.item.Item.{Item}
-use Rattle.cal_format.specs.Form.{numbered_item, numbered_text, IsNumber, AreNumbers, HasNumbers}
+use Rattle.cal_format.specs.Form.{numbered_item, IsNumber, HasNumbers}
 use Rattle.cal_format.proofs.Apart.{first_of, others_of}
 
 pub record IsNoted (k x : ℕ) (old new : List ℕ) : Type 0 where

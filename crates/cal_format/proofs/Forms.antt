@@ -1,10 +1,9 @@
 -- Scanning the form of a text.
 use Rattle.std.proofs.Common.{◌≡◌, ◌≢◌, ℕ, zero, suc, ◌+◌, ◌-◌, ◌*◌, ◌<◌, ◌≤◌, ◌^◌, List, [], ◌∷◌, ◌++◌, length, replicate, refl, sym, ap, subst, ◌∙◌, arith, length-append, lit<}
-use Rattle.std.specs.Prelude.{decimal, Option, Some, None, IfSome, MatchOption}
-use Rattle.std.specs.Str.Parse.{AllDigits, digits_value}
+use Rattle.std.specs.Prelude.{decimal, Option, Some, None, IfSome}
 use Rattle.std.proofs.Math.Nat.{pow-le-pow_right}
 use Rattle.std.proofs.lemmas.Fmt.{length-decimal-le, decimal_digit}
-use Rattle.cal_text.specs.Shape.{Shape, End, ByteRange, Branch, Digits, unmatched_bytes, Scans, ScansWhole, ParsesDigits, ParsesMoreDigits}
+use Rattle.cal_text.specs.Shape.{Shape, ByteRange, Branch, Digits, unmatched_bytes, Scans, ParsesDigits, ParsesMoreDigits}
 use Rattle.cal_text.proofs.NumberShapes.{put_number}
 use Rattle.cal_text.proofs.ReadDigits.{printed}
 use Rattle.cal_time.specs.DateText.{digits_at_least}

@@ -1,10 +1,9 @@
 -- Why a text is rejected.
-use Rattle.std.proofs.Common.{◌≡◌, ◌≢◌, ℕ, suc, ◌-◌, ◌<◌, ◌≤◌, List, [], ◌∷◌, ◌++◌, length, refl, sym, ap, subst, ◌∙◌, arith, inl, inr, lit≤}
-use Rattle.std.specs.Prelude.{Bool, true, false, IsTrue, Option, Some, None, ◌==◌, ◌&&◌, ◌||◌, nat_le, if◌then◌else◌}
+use Rattle.std.proofs.Common.{◌≡◌, ℕ, suc, ◌-◌, ◌<◌, ◌≤◌, List, [], ◌∷◌, length, refl, subst, arith, inl, inr}
+use Rattle.std.specs.Prelude.{Bool, true, false, IsTrue, Option, Some, None, ◌==◌, ◌||◌, nat_le, if◌then◌else◌}
 use Rattle.std.proofs.lemmas.Bool.{cases_lt}
-use Rattle.std.proofs.lemmas.Bool.Decides.{nat_tests}
-use borrow.Author.Tests.{eqb-true, leb-true}
-use Rattle.cal_text.specs.Position.{Begins, IsPosition, HasSome}
+use borrow.Author.Tests.{leb-true}
+use Rattle.cal_text.specs.Position.{IsPosition}
 use Rattle.cal_text.specs.Shape.{Shape, unmatched_bytes}
 use Rattle.cal_text.proofs.Positions.{IsShapeOf, stopped}
 use Rattle.cal_units.specs.declared.error.ComponentRange.{ComponentRange}

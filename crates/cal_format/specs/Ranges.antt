@@ -1,5 +1,5 @@
 -- The ranges of components, and their errors.
-use Rattle.std.specs.Prelude.{◌≡◌, ℕ, ◌&&◌, Bool, true, List, [], ◌∷◌, Option, Some, None, if◌then◌else◌, nat_le}
+use Rattle.std.specs.Prelude.{ℕ, ◌&&◌, List, [], ◌∷◌, Option, Some, None, if◌then◌else◌, nat_le}
 use Rattle.cal_units.specs.ComponentError.{unconditional, conditional}
 use Rattle.cal_units.specs.declared.error.Component.{Component as Named}
 use Rattle.cal_units.specs.declared.error.Component.TheVariants as error

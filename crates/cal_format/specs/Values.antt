@@ -6,7 +6,7 @@ use Rattle.cal_units.specs.declared.error.Component.TheVariants as error
 use Rattle.cal_units.specs.declared.error.ComponentRange.{ComponentRange}
 use Rattle.cal_time.specs.Date.{IsDate, HasCalendarDate, HasOrdinalDate}
 use Rattle.cal_time.specs.IsoWeekDate.{HasIsoWeekDate}
-use Rattle.cal_time.specs.Time.{time_of, nanosecond_of}
+use Rattle.cal_time.specs.Time.{time_of}
 use Rattle.cal_format.specs.declared.item.Item.{Item}
 use Rattle.cal_format.specs.declared.item.Item.TheVariants as item
 use Rattle.cal_format.specs.declared.item.Component.{Component}

@@ -1,9 +1,10 @@
 //! Dates from texts of a format.
-ghost use Rattle.std.specs.Prelude.{◌≡◌, ℕ, ◌↔◌, Some, IsTrue, IsSome, IfOk, IfSome};
+ghost use Rattle.std.specs.Prelude.{◌≡◌, ℕ, ◌↔◌, Some, IsTrue, IsSome, IfOk, IfErr, IfSome};
 ghost use Rattle.cal_time.specs.Date.{IsDate};
 ghost use Rattle.cal_format.specs.Moment.{moment_of_date};
 ghost use Rattle.cal_format.specs.Text.{text_of};
 ghost use Rattle.cal_format.specs.Reading.{are_apart, are_date_items, shows_date};
+ghost use Rattle.cal_format.specs.Rejection.{IsRejection};
 ghost use Rattle.cal_format.specs.Scanning.{AreHeld};
 
 use crate::date_parts::date_of;
@@ -60,6 +61,7 @@ impl DateFormat {
             → result ≡ Ok n }
         ensures value { IfOk result (λ n. IsDate n × AreHeld (moment_of_date n) self.now
             × (text.now ≡ text_of self.now (moment_of_date n))) }
+        ensures error { IfErr result (IsRejection self.now text.now) }
     {
         match self.find(text) {
             Some(value) => Ok(value),

@@ -1,9 +1,10 @@
 //! Date-times from texts of a format.
-ghost use Rattle.std.specs.Prelude.{◌≡◌, ℤ, ◌↔◌, Some, IsTrue, IsSome, IfOk, IfSome};
+ghost use Rattle.std.specs.Prelude.{◌≡◌, ℤ, ◌↔◌, Some, IsTrue, IsSome, IfOk, IfErr, IfSome};
 ghost use Rattle.cal_datetime.specs.DateTime.{IsDateTime, time_at};
 ghost use Rattle.cal_format.specs.Moment.{moment_of_date_time};
 ghost use Rattle.cal_format.specs.Text.{text_of};
 ghost use Rattle.cal_format.specs.Reading.{are_apart, are_date_time_items, shows_date, shows_time, holds_time};
+ghost use Rattle.cal_format.specs.Rejection.{IsRejection};
 ghost use Rattle.cal_format.specs.Scanning.{AreHeld};
 
 use crate::date_parts::date_of;
@@ -70,6 +71,7 @@ impl DateTimeFormat {
         ensures value { IfOk result (λ z. IsDateTime z × AreHeld (moment_of_date_time z) self.now
             × IsTrue (holds_time self.now (time_at z))
             × (text.now ≡ text_of self.now (moment_of_date_time z))) }
+        ensures error { IfErr result (IsRejection self.now text.now) }
     {
         match self.find(text) {
             Some(value) => Ok(value),

@@ -1,11 +1,12 @@
 //! Date-times at an offset from texts of a format.
-ghost use Rattle.std.specs.Prelude.{◌≡◌, ◌↔◌, Some, IsTrue, IsSome, IfOk, IfSome};
+ghost use Rattle.std.specs.Prelude.{◌≡◌, ◌↔◌, Some, IsTrue, IsSome, IfOk, IfErr, IfSome};
 ghost use Rattle.cal_datetime.specs.DateTime.{IsDateTime, time_at};
 ghost use Rattle.cal_datetime.specs.OffsetDateTime.{LocalAndOffset};
 ghost use Rattle.cal_time.specs.UtcOffset.{IsOffset};
 ghost use Rattle.cal_format.specs.Moment.{moment_of_offset_date_time};
 ghost use Rattle.cal_format.specs.Text.{text_of};
 ghost use Rattle.cal_format.specs.Reading.{are_apart, shows_date, shows_time, shows_offset, holds_time, holds_offset};
+ghost use Rattle.cal_format.specs.Rejection.{IsRejection};
 ghost use Rattle.cal_format.specs.Scanning.{AreHeld};
 
 use crate::date_parts::date_of;
@@ -82,6 +83,7 @@ impl OffsetDateTimeFormat {
             × IsTrue (holds_time self.now (time_at m.local))
             × IsTrue (holds_offset self.now m.offset)
             × (text.now ≡ text_of self.now (moment_of_offset_date_time m))) }
+        ensures error { IfErr result (IsRejection self.now text.now) }
     {
         match self.find(text) {
             Some(value) => Ok(value),

@@ -1,9 +1,10 @@
 //! Offsets from texts of a format.
-ghost use Rattle.std.specs.Prelude.{◌≡◌, ℤ, ◌↔◌, Some, IsTrue, IsSome, IfOk, IfSome};
+ghost use Rattle.std.specs.Prelude.{◌≡◌, ℤ, ◌↔◌, Some, IsTrue, IsSome, IfOk, IfErr, IfSome};
 ghost use Rattle.cal_time.specs.UtcOffset.{IsOffset};
 ghost use Rattle.cal_format.specs.Moment.{moment_of_offset};
 ghost use Rattle.cal_format.specs.Text.{text_of};
 ghost use Rattle.cal_format.specs.Reading.{are_apart, are_offset_items, shows_offset, holds_offset};
+ghost use Rattle.cal_format.specs.Rejection.{IsRejection};
 
 use crate::determines::{are_apart, holds_offset, shows_offset};
 use crate::error::ParseError;
@@ -59,6 +60,7 @@ impl OffsetFormat {
             → result ≡ Ok o }
         ensures value { IfOk result (λ o. IsOffset o × IsTrue (holds_offset self.now o)
             × (text.now ≡ text_of self.now (moment_of_offset o))) }
+        ensures error { IfErr result (IsRejection self.now text.now) }
     {
         match self.find(text) {
             Some(value) => Ok(value),

@@ -85,10 +85,8 @@ impl Component {
         ensures { result ≡ named self }
     {
         match self {
-            Component::Year
-            | Component::Century
-            | Component::YearOfCentury
-            | Component::IsoYear => Named::Year,
+            Component::Year | Component::Century | Component::YearOfCentury | Component::IsoYear =>
+                Named::Year,
             Component::Month => Named::Month,
             Component::Day => Named::Day,
             Component::Ordinal => Named::Ordinal,

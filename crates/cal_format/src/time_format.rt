@@ -1,9 +1,10 @@
 //! Times of day from texts of a format.
-ghost use Rattle.std.specs.Prelude.{◌≡◌, ℕ, ◌↔◌, Some, IsTrue, IsSome, IfOk, IfSome};
+ghost use Rattle.std.specs.Prelude.{◌≡◌, ℕ, ◌↔◌, Some, IsTrue, IsSome, IfOk, IfErr, IfSome};
 ghost use Rattle.cal_time.specs.Time.{IsTime};
 ghost use Rattle.cal_format.specs.Moment.{moment_of_time};
 ghost use Rattle.cal_format.specs.Text.{text_of};
 ghost use Rattle.cal_format.specs.Reading.{are_apart, are_time_items, shows_time, holds_time};
+ghost use Rattle.cal_format.specs.Rejection.{IsRejection};
 
 use crate::determines::{are_apart, holds_time, shows_time};
 use crate::error::ParseError;
@@ -59,6 +60,7 @@ impl TimeFormat {
             → result ≡ Ok n }
         ensures value { IfOk result (λ n. IsTime n × IsTrue (holds_time self.now n)
             × (text.now ≡ text_of self.now (moment_of_time n))) }
+        ensures error { IfErr result (IsRejection self.now text.now) }
     {
         match self.find(text) {
             Some(value) => Ok(value),

@@ -1,4 +1,4 @@
-use Rattle.std.proofs.Common.{◌≡◌, ◌<◌, sym, ◌∙◌, arith}
+use Rattle.std.proofs.Common.{sym, ◌∙◌, arith}
 use Rattle.cal_format.specs.declared.item.Component.TheVariants as shown
 use Rattle.cal_format.specs.Reading.{shows_calendar_date, shows_ordinal_date, shows_iso_week_date}
 use Rattle.cal_format.proofs.Parts.{third_shown, agreed, calendar-shown, ordinal-shown, iso_week-shown, has-calendar_date, has-ordinal_date, has-iso_week_date, month-low, day-low, ordinal-low, week-low, iso_year-shown}

@@ -1,5 +1,5 @@
-use Rattle.std.proofs.Common.{ℕ, ◌≡◌, ◌+◌, ◌-◌, ◌*◌, ◌<◌, ◌≤◌, ◌^◌, ◌++◌, ◌∷◌, length, arith, ◌∙◌, sym}
-use Rattle.cal_text.specs.Shape.{Digits, ByteRange, ParsesMoreDigits}
+use Rattle.std.proofs.Common.{◌≡◌, ◌+◌, ◌-◌, ◌<◌, ◌^◌, ◌++◌, ◌∷◌, length, ◌∙◌, sym}
+use Rattle.cal_text.specs.Shape.{Digits, ParsesMoreDigits}
 use Rattle.cal_format.specs.declared.item.Padding.TheVariants as padding
 use Rattle.cal_format.specs.Text.{padded}
 use Rattle.cal_format.specs.Form.{AfterSpaces}

@@ -1,4 +1,4 @@
-use Rattle.std.proofs.Common.{◌≡◌, ℕ, ◌+◌, ◌-◌, ◌*◌, ◌/◌, ◌<◌, ◌≤◌, ◌++◌, true, false, arith, sym, ◌∙◌}
+use Rattle.std.proofs.Common.{◌-◌, ◌/◌, false, arith, sym, ◌∙◌}
 use Rattle.cal_text.proofs.Decimals.{at_most_nine}
 use Rattle.cal_format.specs.Form.{ParsesDecimals}
 use Rattle.cal_format.proofs.Forms.{mapped}

@@ -1,4 +1,4 @@
-use Rattle.std.proofs.Common.{ℕ, ◌+◌, ◌-◌, ◌*◌, ◌<◌, ◌≤◌, ◌^◌, arith}
+use Rattle.std.proofs.Common.{◌+◌, ◌-◌, ◌*◌, ◌<◌, ◌≤◌, ◌^◌, arith}
 use Rattle.cal_text.specs.Shape.{Digits, ParsesMoreDigits}
 use Rattle.cal_text.proofs.ReadDigits.{more_after, room, small}
 use Rattle.cal_format.proofs.Forms.{carried, mapped, digits-past, digits-stop}

@@ -1,4 +1,4 @@
-use Rattle.std.proofs.Common.{ℕ, ◌+◌, drop, arith}
+use Rattle.std.proofs.Common.{◌+◌, drop, arith}
 use Rattle.cal_format.specs.Form.{HasNumbers}
 use Rattle.cal_format.proofs.Apart.{others_of}
 use Rattle.cal_format.proofs.Forms.{mapped}

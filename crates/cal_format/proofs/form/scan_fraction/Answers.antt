@@ -1,4 +1,4 @@
-use Rattle.std.proofs.Common.{◌≡◌, ℕ, ◌++◌, false}
+use Rattle.std.proofs.Common.{◌≡◌, ◌++◌, false}
 use Rattle.cal_format.specs.Text.{fraction_text}
 use Rattle.cal_format.specs.Form.{ParsesDecimals}
 use Rattle.cal_format.proofs.Forms.{mapped}

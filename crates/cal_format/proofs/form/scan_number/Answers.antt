@@ -1,4 +1,4 @@
-use Rattle.std.proofs.Common.{◌≡◌, ℕ, ◌+◌, ◌++◌, length}
+use Rattle.std.proofs.Common.{◌≡◌, ◌+◌, ◌++◌, length}
 use Rattle.cal_text.specs.Shape.{ParsesMoreDigits}
 use Rattle.cal_time.specs.DateText.{digits_at_least}
 use Rattle.cal_format.proofs.Forms.{counted, mapped_both}

@@ -1,4 +1,3 @@
-use Rattle.std.proofs.Common.{ℕ, List}
 use Rattle.cal_format.proofs.Rejections.{is-stop, rejected-at}
 use Rattle.cal_format.proofs.rejection.rejection.Goals as goal
 

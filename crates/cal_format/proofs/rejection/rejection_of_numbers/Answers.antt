@@ -1,7 +1,5 @@
-use Rattle.std.proofs.Common.{◌≡◌, ℕ, ◌≤◌, sym, ap, ◌∙◌, subst, inr, arith}
-use Rattle.cal_time.specs.Date.{IsDate}
+use Rattle.std.proofs.Common.{◌≡◌, sym, ap, ◌∙◌, subst, inr, arith}
 use Rattle.cal_format.specs.declared.item.Component.{Component}
-use Rattle.cal_format.specs.Ranges.{maximum}
 use Rattle.cal_format.specs.Scanning.{number_at}
 use Rattle.cal_format.specs.Values.{number_in, time_in, offset_in, IsDateOf}
 use Rattle.cal_format.proofs.Contradictions.{same-text, time-holds, offset-holds}

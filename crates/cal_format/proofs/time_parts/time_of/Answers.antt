@@ -1,4 +1,4 @@
-use Rattle.std.proofs.Common.{◌≡◌, ap, ◌∙◌, arith}
+use Rattle.std.proofs.Common.{ap, ◌∙◌, arith}
 use Rattle.std.specs.Prelude.{Some}
 use Rattle.cal_time.specs.Time.{minute_of, second_of, time_of as time_at}
 use Rattle.cal_format.specs.declared.item.Component.TheVariants as shown

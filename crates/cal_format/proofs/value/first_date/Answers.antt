@@ -1,4 +1,4 @@
-use Rattle.std.proofs.Common.{sym, subst, arith, lit≤}
+use Rattle.std.proofs.Common.{sym, subst, arith}
 use Rattle.cal_time.specs.Date.{IsDate}
 use Rattle.cal_time.specs.DateLimits.{MIN-number}
 use Rattle.cal_format.proofs.value.first_date.Goals as goal

@@ -1,6 +1,5 @@
-use Rattle.std.proofs.Common.{◌≡◌, List, sym, ap, subst, ◌∙◌}
-use Rattle.std.specs.Prelude.{Some, None, true, false, IsTrue}
-use Rattle.cal_format.specs.declared.item.Item.{Item}
+use Rattle.std.proofs.Common.{◌≡◌, sym, ap, subst, ◌∙◌}
+use Rattle.std.specs.Prelude.{Some, None, true, false}
 use Rattle.cal_format.specs.declared.moment.Moment.{Moment}
 use Rattle.cal_format.specs.Moment.{moment_of_date}
 use Rattle.cal_format.specs.Text.{text_of}

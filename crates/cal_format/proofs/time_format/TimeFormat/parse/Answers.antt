@@ -1,0 +1,22 @@
+use Rattle.std.proofs.Common.{◌≡◌, ap, refl, subst, sym, ◌∙◌, Ok}
+use Rattle.std.specs.Prelude.{IsTrue}
+use Rattle.cal_format.specs.Moment.{moment_of_time}
+use Rattle.cal_format.specs.Reading.{are_time_items, holds_time}
+use Rattle.cal_format.specs.Text.{text_of}
+use Rattle.cal_format.proofs.Alike.{times-alike}
+use Rattle.cal_format.proofs.Outcomes.{same-value, no-value}
+use Rattle.cal_format.proofs.Parsing.{test-of}
+use Rattle.cal_format.proofs.time_format.TimeFormat.parse.Goals as goal
+
+pub returns-in-Some-clause-every : goal.returns-in-Some-clause-every
+returns-in-Some-clause-every c x range holds text = ap Ok (same-value _ _ (c.in-Some.ensures.every x range holds text))
+
+pub returns-in-None-clause-every : goal.returns-in-None-clause-every
+returns-in-None-clause-every c x range holds text = absurd (no-value _ (c.in-None.ensures.every x range holds text))
+
+pub rejection-requires-clause-none : goal.rejection-requires-clause-none
+rejection-requires-clause-none c v moment held time offset text =
+    let items : c.items.result.now ≡ c.args.self.now = c.items.ensures.items ∙ c.self.view_is in
+    let text_is = text ∙ ap (λ l. text_of l v) items in
+    let alike = times-alike c.args.self.now v (moment_of_time v.time) refl (test-of are_time_items c.self.inside.format c.args.self.now (sym c.self.view_is) c.self.invariant.1) in
+    no-value v.time (c.in-None.ensures.every v.time moment.time (subst (λ l. IsTrue (holds_time l v.time)) items time) (text_is ∙ alike.0))
