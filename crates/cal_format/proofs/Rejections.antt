@@ -46,11 +46,11 @@ is-stop items text rest scans =
       };
     }
 
-pub rejected-at : (items : List Item) (text : List ℕ) (p : ℕ) (e : ParseError) → IsPosition (HasForm items) text p
+pub rejected-at : (items : List Item) (text rest : List ℕ) (p : ℕ) (e : ParseError) → unmatched_bytes (shape_of items) text ≡ suc (length rest) → IsPosition (HasForm items) text p
     → (p < length text → e ≡ UnexpectedByte p) → (p ≡ length text → e ≡ UnexpectedEnd p) → IsRejection items text e
-rejected-at items text p e at byte end = elim (cases_lt p (length text)) as (λ _. IsRejection items text e) [
+rejected-at items text rest p e scans at byte end = elim (cases_lt p (length text)) as (λ _. IsRejection items text e) [
   | inl less ↦ rw (byte less) (at, less)
-  | inr most ↦ (let whole : p ≡ length text = omega (arith, most, at.within) in rw (end whole) (at, whole))
+  | inr most ↦ (let whole : p ≡ length text = omega (arith, most, at.within) in rw (end whole) (at, whole, λ form. absurd (omega (arith, scans, form))))
 ]
 
 -- ---- numbers in range

@@ -33,5 +33,5 @@ IsNumberRejection items numbers e = ⊥
 -- the error is an error of its numbers.
 abbrev pub IsRejection : List Item → List ℕ → ParseError → Type 0
 IsRejection items text (UnexpectedByte p) = IsPosition (HasForm items) text p × (p < length text)
-IsRejection items text (UnexpectedEnd p) = IsPosition (HasForm items) text p × (p ≡ length text)
+IsRejection items text (UnexpectedEnd p) = IsPosition (HasForm items) text p × (p ≡ length text) × ¬ HasForm items text
 IsRejection items text e = (numbers : List ℕ) × HasNumbers items numbers text × IsNumberRejection items numbers e

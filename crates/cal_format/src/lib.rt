@@ -30,6 +30,7 @@ mod print;
 mod ranges;
 mod rejection;
 mod scan;
+mod text_length;
 mod time_format;
 mod time_parts;
 mod value;
