@@ -1,13 +1,12 @@
 -- How a text spells a format, in one of two syntaxes.
-use Rattle.std.specs.Prelude.{◌≡◌, ◌≢◌, ℕ, ◌+◌, ◌<◌, ◌==◌, List, [], ◌∷◌, ◌++◌, length, drop, get_or, nat_lt, if◌then◌else◌}
+use Rattle.std.specs.Prelude.{◌≡◌, ◌≢◌, ℕ, ◌+◌, ◌<◌, ◌==◌, List, [], ◌∷◌, ◌++◌, length, drop, nat_lt, if◌then◌else◌}
 use Rattle.cal_format.specs.declared.item.Item.{Item}
 use Rattle.cal_format.specs.declared.item.Item.TheVariants as item
 use Rattle.cal_format.specs.declared.item.Syntax.{Syntax}
 use Rattle.cal_format.specs.declared.item.Syntax.TheVariants.{Percent, Brackets}
 use Rattle.cal_format.specs.declared.format.FormatError.{FormatError}
 use Rattle.cal_format.specs.declared.format.FormatError.TheVariants.{UnknownItem, TooLong}
-use Rattle.cal_format.specs.Directive.{Front, front_with, directive_of}
-use Rattle.cal_format.specs.Description.{year_description}
+use Rattle.cal_format.specs.Directive.{Front, front_with, front_in, directives, descriptions}
 
 -- A percent sign or an opening bracket comes before the spelling of items. Any other byte is a
 -- literal.
@@ -17,8 +16,8 @@ escape Brackets = 91
 
 -- The items of a text that begins with this byte, by the bytes after it.
 abbrev pub spelled : Syntax → List ℕ → Front
-spelled Percent rest = directive_of (get_or rest 0 0) (get_or rest 1 0) (get_or rest 2 0)
-spelled Brackets rest = year_description rest
+spelled Percent rest = front_in directives rest
+spelled Brackets rest = front_in descriptions rest
 
 -- They must lie within the text.
 abbrev pub within : List ℕ → Front → Front

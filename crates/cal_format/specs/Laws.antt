@@ -7,7 +7,7 @@ use Rattle.cal_format.specs.declared.item.Item.TheVariants as item
 use Rattle.cal_format.specs.declared.item.Component.TheVariants.{Year, Month, Day}
 use Rattle.cal_format.specs.declared.item.Padding.TheVariants as padding
 use Rattle.cal_format.specs.declared.item.Syntax.TheVariants.{Percent}
-use Rattle.cal_format.specs.Directive.{directive_of, date_items, time_items, name_items, week_items, other_items}
+use Rattle.cal_format.specs.Directive.{begins_with}
 use Rattle.cal_format.specs.Format.{Spells, nothing, more, front}
 use Rattle.cal_format.specs.Moment.{moment_of_date}
 use Rattle.cal_format.specs.Text.{text_of}
@@ -17,7 +17,7 @@ abbrev pub iso_items : List Item
 iso_items = item.Number Year padding.Zero ∷ item.Literal 45 ∷ item.Number Month padding.Zero ∷ item.Literal 45 ∷ item.Number Day padding.Zero ∷ []
 
 pub iso_items-spelled : Spells Percent (codes "%F") iso_items []
-unfolding front directive_of date_items time_items name_items week_items other_items
+unfolding front begins_with
 iso_items-spelled = more (codes "%F") [] [] (λ e. absurd (omega (arith, ap length e))) (nothing [])
 
 pub iso_items-text : (n : ℕ) → text_of iso_items (moment_of_date n) ≡ date.text n

@@ -1,8 +1,11 @@
-//! The directives of `strftime`.
-ghost use Rattle.std.specs.Prelude.{◌≡◌, ◌≤◌};
-ghost use Rattle.cal_format.specs.Directive.{unpadded_items, fraction_items, millisecond_items, microsecond_items, nanosecond_items, seconds_items, minutes_items, date_items, time_items, name_items, week_items, other_items, directive_of};
+//! The spellings of items after a percent sign or an opening bracket.
+ghost use Rattle.std.specs.Prelude.{◌≡◌, ◌≤◌, map};
+ghost use Rattle.cal_format.specs.Directive.{begins_with, front_in};
 
-use crate::item::{Component, Item, Name, Padding};
+use crate::item::Component::*;
+use crate::item::Item::{self, Fraction, Literal, Number, OffsetSign};
+use crate::item::Name::{self, ShortMonth, ShortWeekday};
+use crate::item::Padding::{self, Space, Zero};
 
 /// Items, and the number of bytes that spell them. Without items nothing is spelled.
 #[derive(Drop)]
@@ -11,320 +14,208 @@ pub(crate) struct Directive {
     pub(crate) used: usize,
 }
 
-/// Returns the directive of a percent sign and these three bytes.
-#[tactic(auto, unfolding(crate::specs::Directive::directive_of))]
-pub(crate) fn directive_of(x: u8, y: u8, z: u8) -> Directive
-    ensures items { result.items.now ≡ (directive_of x y z).items }
-    ensures used { result.used ≡ (directive_of x y z).used }
+/// The directives of `strftime`, after the percent sign.
+pub(crate) const DIRECTIVES: [(&str, &[Item]); 43] = [
+    ("-m", &[Number(Month, Padding::None)]),
+    ("-d", &[Number(Day, Padding::None)]),
+    ("-H", &[Number(Hour, Padding::None)]),
+    ("-I", &[Number(Hour12, Padding::None)]),
+    (".f", &[Fraction]),
+    ("3N", &[Number(Millisecond, Zero)]),
+    ("6N", &[Number(Microsecond, Zero)]),
+    ("9N", &[Number(Nanosecond, Zero)]),
+    ("Y", &[Number(Year, Zero)]),
+    ("m", &[Number(Month, Zero)]),
+    ("d", &[Number(Day, Zero)]),
+    ("j", &[Number(Ordinal, Zero)]),
+    ("e", &[Number(Day, Space)]),
+    ("y", &[Number(YearOfCentury, Zero)]),
+    ("C", &[Number(Century, Zero)]),
+    ("H", &[Number(Hour, Zero)]),
+    ("M", &[Number(Minute, Zero)]),
+    ("S", &[Number(Second, Zero)]),
+    ("I", &[Number(Hour12, Zero)]),
+    ("f", &[Number(Microsecond, Zero)]),
+    ("N", &[Number(Nanosecond, Zero)]),
+    ("B", &[Item::Name(Name::Month)]),
+    ("b", &[Item::Name(ShortMonth)]),
+    ("h", &[Item::Name(ShortMonth)]),
+    ("A", &[Item::Name(Name::Weekday)]),
+    ("a", &[Item::Name(ShortWeekday)]),
+    ("p", &[Item::Name(Name::Period)]),
+    ("G", &[Number(IsoYear, Zero)]),
+    ("V", &[Number(IsoWeek, Zero)]),
+    ("u", &[Number(Weekday, Zero)]),
+    ("w", &[Number(DaysFromSunday, Zero)]),
+    ("U", &[Number(SundayWeek, Zero)]),
+    ("W", &[Number(MondayWeek, Zero)]),
+    (
+        "F",
+        &[
+            Number(Year, Zero),
+            Literal(b'-'),
+            Number(Month, Zero),
+            Literal(b'-'),
+            Number(Day, Zero),
+        ],
+    ),
+    (
+        "T",
+        &[
+            Number(Hour, Zero),
+            Literal(b':'),
+            Number(Minute, Zero),
+            Literal(b':'),
+            Number(Second, Zero),
+        ],
+    ),
+    (
+        "R",
+        &[Number(Hour, Zero), Literal(b':'), Number(Minute, Zero)],
+    ),
+    (
+        "D",
+        &[
+            Number(Month, Zero),
+            Literal(b'/'),
+            Number(Day, Zero),
+            Literal(b'/'),
+            Number(YearOfCentury, Zero),
+        ],
+    ),
+    (
+        "z",
+        &[
+            OffsetSign,
+            Number(OffsetHour, Zero),
+            Number(OffsetMinute, Zero),
+        ],
+    ),
+    (
+        ":z",
+        &[
+            OffsetSign,
+            Number(OffsetHour, Zero),
+            Literal(b':'),
+            Number(OffsetMinute, Zero),
+        ],
+    ),
+    (
+        "::z",
+        &[
+            OffsetSign,
+            Number(OffsetHour, Zero),
+            Literal(b':'),
+            Number(OffsetMinute, Zero),
+            Literal(b':'),
+            Number(OffsetSecond, Zero),
+        ],
+    ),
+    ("n", &[Literal(b'\n')]),
+    ("t", &[Literal(b'\t')]),
+    ("%", &[Literal(b'%')]),
+];
+
+/// The components of `time`'s format descriptions, after the opening bracket.
+pub(crate) const DESCRIPTIONS: [(&str, &[Item]); 51] = [
+    ("year]", &[Number(Year, Zero)]),
+    ("year padding:zero]", &[Number(Year, Zero)]),
+    ("year repr:full]", &[Number(Year, Zero)]),
+    ("year base:calendar]", &[Number(Year, Zero)]),
+    ("year base:iso_week]", &[Number(IsoYear, Zero)]),
+    ("year repr:century]", &[Number(Century, Zero)]),
+    ("year repr:last_two]", &[Number(YearOfCentury, Zero)]),
+    ("month]", &[Number(Month, Zero)]),
+    ("month padding:zero]", &[Number(Month, Zero)]),
+    ("month repr:numerical]", &[Number(Month, Zero)]),
+    ("month padding:none]", &[Number(Month, Padding::None)]),
+    ("month repr:long]", &[Item::Name(Name::Month)]),
+    ("month repr:short]", &[Item::Name(ShortMonth)]),
+    ("day]", &[Number(Day, Zero)]),
+    ("day padding:zero]", &[Number(Day, Zero)]),
+    ("day padding:none]", &[Number(Day, Padding::None)]),
+    ("day padding:space]", &[Number(Day, Space)]),
+    ("ordinal]", &[Number(Ordinal, Zero)]),
+    ("ordinal padding:zero]", &[Number(Ordinal, Zero)]),
+    ("week_number]", &[Number(IsoWeek, Zero)]),
+    ("week_number padding:zero]", &[Number(IsoWeek, Zero)]),
+    ("week_number repr:iso]", &[Number(IsoWeek, Zero)]),
+    ("week_number repr:sunday]", &[Number(SundayWeek, Zero)]),
+    ("week_number repr:monday]", &[Number(MondayWeek, Zero)]),
+    ("weekday]", &[Item::Name(Name::Weekday)]),
+    ("weekday repr:long]", &[Item::Name(Name::Weekday)]),
+    ("weekday repr:short]", &[Item::Name(ShortWeekday)]),
+    ("weekday repr:monday]", &[Number(Weekday, Zero)]),
+    ("weekday repr:sunday]", &[Number(SundayWeekday, Zero)]),
+    ("hour]", &[Number(Hour, Zero)]),
+    ("hour padding:zero]", &[Number(Hour, Zero)]),
+    ("hour repr:24]", &[Number(Hour, Zero)]),
+    ("hour padding:none]", &[Number(Hour, Padding::None)]),
+    ("hour repr:12]", &[Number(Hour12, Zero)]),
+    (
+        "hour repr:12 padding:none]",
+        &[Number(Hour12, Padding::None)],
+    ),
+    (
+        "hour padding:none repr:12]",
+        &[Number(Hour12, Padding::None)],
+    ),
+    ("period]", &[Item::Name(Name::Period)]),
+    ("period case:upper]", &[Item::Name(Name::Period)]),
+    ("minute]", &[Number(Minute, Zero)]),
+    ("minute padding:zero]", &[Number(Minute, Zero)]),
+    ("second]", &[Number(Second, Zero)]),
+    ("second padding:zero]", &[Number(Second, Zero)]),
+    ("subsecond digits:3]", &[Number(Millisecond, Zero)]),
+    ("subsecond digits:6]", &[Number(Microsecond, Zero)]),
+    ("subsecond digits:9]", &[Number(Nanosecond, Zero)]),
+    (
+        "offset_hour sign:mandatory]",
+        &[OffsetSign, Number(OffsetHour, Zero)],
+    ),
+    ("offset_minute]", &[Number(OffsetMinute, Zero)]),
+    ("offset_minute padding:zero]", &[Number(OffsetMinute, Zero)]),
+    ("offset_second]", &[Number(OffsetSecond, Zero)]),
+    ("offset_second padding:zero]", &[Number(OffsetSecond, Zero)]),
+    ("[", &[Literal(b'[')]),
+];
+
+/// Returns the items of the first row whose spelling begins the text.
+pub(crate) fn front_in(table: &'static [(&'static str, &'static [Item])], text: &[u8]) -> Directive
+    ensures items { result.items.now
+        ≡ (front_in (map (λ row. (row.0.now, row.1.now)) table.now) text.now).items }
+    ensures used { result.used
+        ≡ (front_in (map (λ row. (row.0.now, row.1.now)) table.now) text.now).used }
     ensures min { 1 ≤ result.used }
 {
-    if x == b'-' {
-        return Directive {
-            items: unpadded_items(y),
-            used: 3,
-        };
-    }
-    if x == b'.' {
-        return Directive {
-            items: fraction_items(y),
-            used: 3,
-        };
-    }
-    if x == b'3' {
-        return Directive {
-            items: millisecond_items(y),
-            used: 3,
-        };
-    }
-    if x == b'6' {
-        return Directive {
-            items: microsecond_items(y),
-            used: 3,
-        };
-    }
-    if x == b'9' {
-        return Directive {
-            items: nanosecond_items(y),
-            used: 3,
-        };
-    }
-    if x == b':' {
-        if y == b':' {
-            return Directive {
-                items: seconds_items(z),
-                used: 4,
-            };
+    match table {
+        [] => Directive {
+            items: &[],
+            used: 1,
+        },
+        [row, others @ ..] => {
+            if begins_with(text, row.0.as_bytes()) {
+                Directive {
+                    items: row.1,
+                    used: row.0.len() + 1,
+                }
+            } else {
+                front_in(others, text)
+            }
         }
-        return Directive {
-            items: minutes_items(y),
-            used: 3,
-        };
-    }
-    Directive {
-        items: date_items(x),
-        used: 2,
     }
 }
 
-/// Returns the items of a letter after a percent sign and a hyphen.
-#[tactic(auto, unfolding(crate::specs::Directive::unpadded_items))]
-fn unpadded_items(letter: u8) -> &'static [Item]
-    ensures { result.now ≡ unpadded_items letter }
+/// Returns `true` if the text begins with this one.
+#[tactic(auto, unfolding(crate::specs::Directive::begins_with))]
+fn begins_with(text: &[u8], front: &[u8]) -> bool
+    ensures { result ≡ begins_with front.now text.now }
 {
-    if letter == b'm' {
-        return &[Item::Number(Component::Month, Padding::None)];
+    match front {
+        [] => true,
+        [byte, others @ ..] => match text {
+            [] => false,
+            [first, rest @ ..] => *first == *byte && begins_with(rest, others),
+        },
     }
-    if letter == b'd' {
-        return &[Item::Number(Component::Day, Padding::None)];
-    }
-    if letter == b'H' {
-        return &[Item::Number(Component::Hour, Padding::None)];
-    }
-    if letter == b'I' {
-        return &[Item::Number(Component::Hour12, Padding::None)];
-    }
-    &[]
-}
-
-/// Returns the items of `%.f`.
-#[tactic(auto, unfolding(crate::specs::Directive::fraction_items))]
-fn fraction_items(letter: u8) -> &'static [Item]
-    ensures { result.now ≡ fraction_items letter }
-{
-    if letter == b'f' {
-        return &[Item::Fraction];
-    }
-    &[]
-}
-
-/// Returns the items of `%3N`.
-#[tactic(auto, unfolding(crate::specs::Directive::millisecond_items))]
-fn millisecond_items(letter: u8) -> &'static [Item]
-    ensures { result.now ≡ millisecond_items letter }
-{
-    if letter == b'N' {
-        return &[Item::Number(Component::Millisecond, Padding::Zero)];
-    }
-    &[]
-}
-
-/// Returns the items of `%6N`.
-#[tactic(auto, unfolding(crate::specs::Directive::microsecond_items))]
-fn microsecond_items(letter: u8) -> &'static [Item]
-    ensures { result.now ≡ microsecond_items letter }
-{
-    if letter == b'N' {
-        return &[Item::Number(Component::Microsecond, Padding::Zero)];
-    }
-    &[]
-}
-
-/// Returns the items of `%9N`.
-#[tactic(auto, unfolding(crate::specs::Directive::nanosecond_items))]
-fn nanosecond_items(letter: u8) -> &'static [Item]
-    ensures { result.now ≡ nanosecond_items letter }
-{
-    if letter == b'N' {
-        return &[Item::Number(Component::Nanosecond, Padding::Zero)];
-    }
-    &[]
-}
-
-/// Returns the items of `%:z`.
-#[tactic(auto, unfolding(crate::specs::Directive::minutes_items))]
-fn minutes_items(letter: u8) -> &'static [Item]
-    ensures { result.now ≡ minutes_items letter }
-{
-    if letter == b'z' {
-        return &[
-            Item::OffsetSign,
-            Item::Number(Component::OffsetHour, Padding::Zero),
-            Item::Literal(b':'),
-            Item::Number(Component::OffsetMinute, Padding::Zero),
-        ];
-    }
-    &[]
-}
-
-/// Returns the items of `%::z`.
-#[tactic(auto, unfolding(crate::specs::Directive::seconds_items))]
-fn seconds_items(letter: u8) -> &'static [Item]
-    ensures { result.now ≡ seconds_items letter }
-{
-    if letter == b'z' {
-        return &[
-            Item::OffsetSign,
-            Item::Number(Component::OffsetHour, Padding::Zero),
-            Item::Literal(b':'),
-            Item::Number(Component::OffsetMinute, Padding::Zero),
-            Item::Literal(b':'),
-            Item::Number(Component::OffsetSecond, Padding::Zero),
-        ];
-    }
-    &[]
-}
-
-/// Returns the items of a letter after a percent sign, or no items.
-#[tactic(auto, unfolding(crate::specs::Directive::date_items))]
-fn date_items(letter: u8) -> &'static [Item]
-    ensures { result.now ≡ date_items letter }
-{
-    if letter == b'Y' {
-        return &[Item::Number(Component::Year, Padding::Zero)];
-    }
-    if letter == b'm' {
-        return &[Item::Number(Component::Month, Padding::Zero)];
-    }
-    if letter == b'd' {
-        return &[Item::Number(Component::Day, Padding::Zero)];
-    }
-    if letter == b'j' {
-        return &[Item::Number(Component::Ordinal, Padding::Zero)];
-    }
-    if letter == b'e' {
-        return &[Item::Number(Component::Day, Padding::Space)];
-    }
-    if letter == b'y' {
-        return &[Item::Number(Component::YearOfCentury, Padding::Zero)];
-    }
-    if letter == b'C' {
-        return &[Item::Number(Component::Century, Padding::Zero)];
-    }
-    time_items(letter)
-}
-
-/// Returns the items of a letter that shows no date.
-#[tactic(auto, unfolding(crate::specs::Directive::time_items))]
-fn time_items(letter: u8) -> &'static [Item]
-    ensures { result.now ≡ time_items letter }
-{
-    if letter == b'H' {
-        return &[Item::Number(Component::Hour, Padding::Zero)];
-    }
-    if letter == b'M' {
-        return &[Item::Number(Component::Minute, Padding::Zero)];
-    }
-    if letter == b'S' {
-        return &[Item::Number(Component::Second, Padding::Zero)];
-    }
-    if letter == b'I' {
-        return &[Item::Number(Component::Hour12, Padding::Zero)];
-    }
-    if letter == b'f' {
-        return &[Item::Number(Component::Microsecond, Padding::Zero)];
-    }
-    if letter == b'N' {
-        return &[Item::Number(Component::Nanosecond, Padding::Zero)];
-    }
-    name_items(letter)
-}
-
-/// Returns the items of a letter that shows no number of a date or a time of day.
-#[tactic(auto, unfolding(crate::specs::Directive::name_items))]
-fn name_items(letter: u8) -> &'static [Item]
-    ensures { result.now ≡ name_items letter }
-{
-    if letter == b'B' {
-        return &[Item::Name(Name::Month)];
-    }
-    if letter == b'b' {
-        return &[Item::Name(Name::ShortMonth)];
-    }
-    if letter == b'h' {
-        return &[Item::Name(Name::ShortMonth)];
-    }
-    if letter == b'A' {
-        return &[Item::Name(Name::Weekday)];
-    }
-    if letter == b'a' {
-        return &[Item::Name(Name::ShortWeekday)];
-    }
-    if letter == b'p' {
-        return &[Item::Name(Name::Period)];
-    }
-    week_items(letter)
-}
-
-/// Returns the items of a letter that shows no name either.
-#[tactic(auto, unfolding(crate::specs::Directive::week_items))]
-fn week_items(letter: u8) -> &'static [Item]
-    ensures { result.now ≡ week_items letter }
-{
-    if letter == b'G' {
-        return &[Item::Number(Component::IsoYear, Padding::Zero)];
-    }
-    if letter == b'V' {
-        return &[Item::Number(Component::IsoWeek, Padding::Zero)];
-    }
-    if letter == b'u' {
-        return &[Item::Number(Component::Weekday, Padding::Zero)];
-    }
-    if letter == b'w' {
-        return &[Item::Number(Component::DaysFromSunday, Padding::Zero)];
-    }
-    if letter == b'U' {
-        return &[Item::Number(Component::SundayWeek, Padding::Zero)];
-    }
-    if letter == b'W' {
-        return &[Item::Number(Component::MondayWeek, Padding::Zero)];
-    }
-    other_items(letter)
-}
-
-/// Returns the items of the other letters.
-#[tactic(auto, unfolding(crate::specs::Directive::other_items))]
-fn other_items(letter: u8) -> &'static [Item]
-    ensures { result.now ≡ other_items letter }
-{
-    if letter == b'F' {
-        return &[
-            Item::Number(Component::Year, Padding::Zero),
-            Item::Literal(b'-'),
-            Item::Number(Component::Month, Padding::Zero),
-            Item::Literal(b'-'),
-            Item::Number(Component::Day, Padding::Zero),
-        ];
-    }
-    if letter == b'T' {
-        return &[
-            Item::Number(Component::Hour, Padding::Zero),
-            Item::Literal(b':'),
-            Item::Number(Component::Minute, Padding::Zero),
-            Item::Literal(b':'),
-            Item::Number(Component::Second, Padding::Zero),
-        ];
-    }
-    if letter == b'R' {
-        return &[
-            Item::Number(Component::Hour, Padding::Zero),
-            Item::Literal(b':'),
-            Item::Number(Component::Minute, Padding::Zero),
-        ];
-    }
-    if letter == b'D' {
-        return &[
-            Item::Number(Component::Month, Padding::Zero),
-            Item::Literal(b'/'),
-            Item::Number(Component::Day, Padding::Zero),
-            Item::Literal(b'/'),
-            Item::Number(Component::YearOfCentury, Padding::Zero),
-        ];
-    }
-    if letter == b'z' {
-        return &[
-            Item::OffsetSign,
-            Item::Number(Component::OffsetHour, Padding::Zero),
-            Item::Number(Component::OffsetMinute, Padding::Zero),
-        ];
-    }
-    if letter == b'n' {
-        return &[Item::Literal(b'\n')];
-    }
-    if letter == b't' {
-        return &[Item::Literal(b'\t')];
-    }
-    if letter == b'%' {
-        return &[Item::Literal(b'%')];
-    }
-    &[]
 }

@@ -5,8 +5,7 @@ ghost use Rattle.cal_format.specs.declared.item.Syntax.TheVariants.{Percent, Bra
 ghost use Rattle.cal_format.specs.declared.format.FormatError.TheVariants.{UnknownItem, TooLong};
 ghost use Rattle.cal_format.specs.Format.{Spells, IsFaultOf, escape, spelled, front};
 
-use crate::description::year_description;
-use crate::directive::{Directive, directive_of};
+use crate::directive::{DESCRIPTIONS, DIRECTIVES, Directive, front_in};
 use crate::item::{Item, Syntax};
 use std::marker::Model;
 
@@ -192,14 +191,7 @@ fn spelled_directive(text: &[u8], syntax: Syntax) -> Directive
     ensures min { 1 ≤ result.used }
 {
     match syntax {
-        Syntax::Percent => directive_of(byte_at(text, 0), byte_at(text, 1), byte_at(text, 2)),
-        Syntax::Brackets => year_description(text),
+        Syntax::Percent => front_in(&DIRECTIVES, text),
+        Syntax::Brackets => front_in(&DESCRIPTIONS, text),
     }
-}
-
-/// Returns the byte at this place, or 0 after the end.
-fn byte_at(text: &[u8], place: usize) -> u8
-    ensures { result ≡ get_or text.now place 0 }
-{
-    if place < text.len() { text[place] } else { 0 }
 }

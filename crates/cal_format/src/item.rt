@@ -128,31 +128,16 @@ impl Component {
         ensures range { (1 ≤ result) × (result ≤ 9) }
     {
         match self {
-            Component::Year => 4,
-            Component::Century => 2,
-            Component::YearOfCentury => 2,
-            Component::IsoYear => 4,
-            Component::Month => 2,
-            Component::Day => 2,
-            Component::Ordinal => 3,
-            Component::IsoWeek => 2,
-            Component::Weekday => 1,
-            Component::DaysFromSunday => 1,
-            Component::SundayWeekday => 1,
-            Component::SundayWeek => 2,
-            Component::MondayWeek => 2,
-            Component::Hour => 2,
-            Component::Hour12 => 2,
-            Component::Minute => 2,
-            Component::Second => 2,
-            Component::Period => 1,
-            Component::Millisecond => 3,
+            Component::Year | Component::IsoYear => 4,
+            Component::Ordinal | Component::Millisecond => 3,
             Component::Microsecond => 6,
             Component::Nanosecond => 9,
-            Component::OffsetHour => 2,
-            Component::OffsetMinute => 2,
-            Component::OffsetSecond => 2,
-            Component::OffsetSign => 1,
+            Component::Weekday
+            | Component::DaysFromSunday
+            | Component::SundayWeekday
+            | Component::Period
+            | Component::OffsetSign => 1,
+            _ => 2,
         }
     }
 
@@ -160,32 +145,13 @@ impl Component {
     pub(crate) fn limit(self) -> u32
         ensures { result ≡ 10 ^ width self }
     {
-        match self {
-            Component::Year => 10_000,
-            Component::Century => 100,
-            Component::YearOfCentury => 100,
-            Component::IsoYear => 10_000,
-            Component::Month => 100,
-            Component::Day => 100,
-            Component::Ordinal => 1_000,
-            Component::IsoWeek => 100,
-            Component::Weekday => 10,
-            Component::DaysFromSunday => 10,
-            Component::SundayWeekday => 10,
-            Component::SundayWeek => 100,
-            Component::MondayWeek => 100,
-            Component::Hour => 100,
-            Component::Hour12 => 100,
-            Component::Minute => 100,
-            Component::Second => 100,
-            Component::Period => 10,
-            Component::Millisecond => 1_000,
-            Component::Microsecond => 1_000_000,
-            Component::Nanosecond => 1_000_000_000,
-            Component::OffsetHour => 100,
-            Component::OffsetMinute => 100,
-            Component::OffsetSecond => 100,
-            Component::OffsetSign => 10,
+        match self.width() {
+            1 => 10,
+            2 => 100,
+            3 => 1_000,
+            4 => 10_000,
+            6 => 1_000_000,
+            _ => 1_000_000_000,
         }
     }
 

@@ -1,5 +1,5 @@
 //! The texts that a format prints.
-ghost use Rattle.std.specs.Prelude.{◌≡◌, ℕ, ◌+◌, ◌-◌, ◌<◌, ◌≤◌, ◌/◌, ◌%◌, ◌^◌, ◌++◌, ◌∷◌, [], ◌↔◌, IsSome, IfSome, length, take, decimal, replicate, unsigned_abs};
+ghost use Rattle.std.specs.Prelude.{◌≡◌, ℕ, ◌+◌, ◌-◌, ◌<◌, ◌≤◌, ◌/◌, ◌%◌, ◌^◌, ◌++◌, ◌∷◌, [], ◌↔◌, IsSome, IfSome, IfNone, length, take, decimal, replicate, unsigned_abs};
 ghost use Rattle.cal_time.specs.Time.{nanosecond_of};
 ghost use Rattle.cal_time.specs.UtcOffset.{sign as offset_sign};
 ghost use Rattle.cal_time.specs.DateText.{digits_at_least, sign_text};
@@ -268,11 +268,12 @@ fn four_digits(number: u16) -> [u8; 4]
 
 /// Writes bytes to the buffer, from this position on.
 #[inline(always)]
-fn put(buffer: &mut [u8], at: usize, bytes: &[u8]) -> Option<usize>
+pub(crate) fn put(buffer: &mut [u8], at: usize, bytes: &[u8]) -> Option<usize>
     requires { at ≤ length buffer.old }
     ensures room { IsSome result ↔ (at + length bytes.now ≤ length buffer.old) }
     ensures text { IfSome result (λ end. take end buffer.new ≡ take at buffer.old ++ bytes.now) }
     ensures end { IfSome result (λ end. end ≡ at + length bytes.now) }
+    ensures unchanged { IfNone result (buffer.new ≡ buffer.old) }
 {
     if bytes.len() > buffer.len() - at {
         return None;

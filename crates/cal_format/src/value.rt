@@ -1,5 +1,6 @@
 //! The values that a format prints.
-ghost use Rattle.std.specs.Prelude.{◌≡◌, ◌≤◌, ◌↔◌, IsTrue, IsSome, IfSome, length, take};
+ghost use Rattle.std.specs.Prelude.{◌≡◌, ◌≤◌, ◌↔◌, IsTrue, IsSome, IfSome, IfNone, length, take};
+ghost use Rattle.cal_time.specs.Date.{IsDate};
 ghost use Rattle.cal_format.specs.Moment.{moment_of_date, moment_of_time, moment_of_date_time, moment_of_offset, moment_of_offset_date_time};
 ghost use Rattle.cal_format.specs.Reading.{is_date, is_time, is_date_item, is_time_item, are_date_items, are_time_items, are_date_time_items, is_offset_item, are_offset_items};
 ghost use Rattle.cal_format.specs.Text.{text_of};
@@ -7,7 +8,8 @@ ghost use Rattle.cal_format.specs.Text.{text_of};
 use crate::format::Format;
 use crate::item::{Component, Item};
 use crate::moment::Moment;
-use crate::print::print_items;
+use crate::print::{print_items, put};
+use crate::text_length::text_length;
 use cal_datetime::{OffsetDateTime, PlainDateTime};
 use cal_time::{Date, Time, UtcOffset};
 
@@ -20,6 +22,7 @@ impl Format {
         ensures text { IfSome result (λ end.
             take end buffer.new ≡ text_of self.now (moment_of_date date)) }
         ensures end { IfSome result (λ end. end ≡ length (text_of self.now (moment_of_date date))) }
+        ensures unchanged { IfNone result (buffer.new ≡ buffer.old) }
     {
         if !are_date_items(self.items()) {
             return None;
@@ -35,6 +38,7 @@ impl Format {
         ensures text { IfSome result (λ end.
             take end buffer.new ≡ text_of self.now (moment_of_time time)) }
         ensures end { IfSome result (λ end. end ≡ length (text_of self.now (moment_of_time time))) }
+        ensures unchanged { IfNone result (buffer.new ≡ buffer.old) }
     {
         if !are_time_items(self.items()) {
             return None;
@@ -51,6 +55,7 @@ impl Format {
             take end buffer.new ≡ text_of self.now (moment_of_date_time date_time)) }
         ensures end { IfSome result (λ end.
             end ≡ length (text_of self.now (moment_of_date_time date_time))) }
+        ensures unchanged { IfNone result (buffer.new ≡ buffer.old) }
     {
         if !are_date_time_items(self.items()) {
             return None;
@@ -67,6 +72,7 @@ impl Format {
             take end buffer.new ≡ text_of self.now (moment_of_offset offset)) }
         ensures end { IfSome result (λ end.
             end ≡ length (text_of self.now (moment_of_offset offset))) }
+        ensures unchanged { IfNone result (buffer.new ≡ buffer.old) }
     {
         if !are_offset_items(self.items()) {
             return None;
@@ -87,6 +93,7 @@ impl Format {
             take end buffer.new ≡ text_of self.now (moment_of_offset_date_time date_time)) }
         ensures end { IfSome result (λ end.
             end ≡ length (text_of self.now (moment_of_offset_date_time date_time))) }
+        ensures unchanged { IfNone result (buffer.new ≡ buffer.old) }
     {
         self.print(&moment_of_offset_date_time(date_time), buffer)
     }
@@ -96,9 +103,29 @@ impl Format {
             ↔ (length (text_of self.now moment.now) ≤ length buffer.old) }
         ensures text { IfSome result (λ end. take end buffer.new ≡ text_of self.now moment.now) }
         ensures end { IfSome result (λ end. end ≡ length (text_of self.now moment.now)) }
+        ensures unchanged { IfNone result (buffer.new ≡ buffer.old) }
     {
-        print_items(self.items(), moment, buffer, 0)
+        let mut text = [0u8; 64];
+        match print_items(self.items(), moment, &mut text, 0) {
+            Some(end) => put(buffer, 0, &text[..end]),
+            None => print_long(self.items(), moment, buffer),
+        }
     }
+}
+
+/// Writes what the items print of a moment, if the buffer is long enough.
+#[cold]
+fn print_long(items: &[Item], moment: &Moment, buffer: &mut [u8]) -> Option<usize>
+    requires { length items.now ≤ 64 }
+    ensures room { IsSome result ↔ (length (text_of items.now moment.now) ≤ length buffer.old) }
+    ensures text { IfSome result (λ end. take end buffer.new ≡ text_of items.now moment.now) }
+    ensures end { IfSome result (λ end. end ≡ length (text_of items.now moment.now)) }
+    ensures unchanged { IfNone result (buffer.new ≡ buffer.old) }
+{
+    if text_length(items, moment) > buffer.len() {
+        return None;
+    }
+    print_items(items, moment, buffer, 0)
 }
 
 /// Returns a date as a moment.
@@ -157,8 +184,9 @@ pub(crate) fn moment_of_offset_date_time(date_time: OffsetDateTime) -> Moment
 }
 
 /// Returns the first date of the range.
-fn first_date() -> Date
-    ensures { result ≡ 0 }
+pub(crate) fn first_date() -> Date
+    ensures value { result ≡ 0 }
+    ensures range { IsDate result }
 {
     Date::MIN
 }

@@ -132,10 +132,17 @@ fn years_with_signs(rt: HostRuntime) -> Result<(), Fail> {
 #[test]
 fn short_buffers(rt: HostRuntime) -> Result<(), Fail> {
     let date = Date::from_calendar_date(2024, Month::February, 29)?;
-    let mut short = [0u8; 9];
+    let mut short = [7u8; 9];
     assert!(rt; format("%F", &rt).print_date(date, &mut short).is_none());
+    assert!(rt; short == [7u8; 9]);
     let mut exact = [0u8; 10];
     assert!(rt; format("%F", &rt).print_date(date, &mut exact) == Some(10));
     assert!(rt; format("%H", &rt).print_date(date, &mut exact).is_none());
+    let long = format("%A %B %A %B %A %B %A %B %A %B", &rt);
+    let mut almost = [7u8; 88];
+    assert!(rt; long.print_date(date, &mut almost).is_none());
+    assert!(rt; almost == [7u8; 88]);
+    let mut enough = [7u8; 90];
+    assert!(rt; long.print_date(date, &mut enough) == Some(89));
     Ok(())
 }
