@@ -1,0 +1,11 @@
+-- The bytes of a file.
+use Rattle.std.specs.Prelude.{◌≡◌, ℕ, ◌+◌, List, get_or, slice_index}
+
+-- The byte at a position, or 0 after the end.
+abbrev pub byte : List ℕ → ℕ → ℕ
+byte bytes at = get_or bytes at 0
+
+-- A header begins at a position.
+abbrev pub IsMagic : List ℕ → ℕ → Type 0
+IsMagic bytes at =
+    (slice_index bytes at ≡ 84) × (slice_index bytes (at + 1) ≡ 90) × (slice_index bytes (at + 2) ≡ 105) × (slice_index bytes (at + 3) ≡ 102)

@@ -1,0 +1,4 @@
+pub mod Bytes
+pub mod Posix
+pub mod Header
+pub mod File
