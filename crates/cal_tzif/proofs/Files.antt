@@ -1,5 +1,6 @@
 -- A file from its parts, and the position of an error in its changes.
 use Rattle.std.proofs.Common.{◌≡◌, ℕ, ◌+◌, ◌<◌, List, [], length, sym, ap, subst, ◌∙◌, arith}
+use Rattle.std.proofs.lemmas.List.FromFn.{length-map-range_with_len}
 use Rattle.std.specs.Prelude.{Option, slice_index}
 use Rattle.cal_zone.specs.declared.change.Change.{Change}
 use Rattle.cal_zone.specs.declared.change_error.ChangeError.TheVariants.{FirstOffset, Offset, Instant, NotRising, Overlap}
@@ -8,10 +9,9 @@ use Rattle.cal_zone.specs.declared.local_type.LocalType.{LocalType}
 use Rattle.cal_zone.specs.declared.rule.Rule.{Rule}
 use Rattle.cal_zone.specs.declared.timeline_error.TimelineError.{TimelineError}
 use Rattle.cal_zone.specs.declared.timeline_error.TimelineError.TheVariants as timeline
-use Rattle.cal_zone.specs.Table.{changes_in, IsInside, IsTable}
+use Rattle.cal_zone.specs.Table.{change_in, changes_in, IsInside, IsTable}
 use Rattle.cal_zone.specs.Timeline.{Timeline, IsOrdered}
 use Rattle.cal_zone.specs.Zone.{zone_of, IsTimelineError}
-use Rattle.cal_zone.proofs.Tables.{length-view}
 use Rattle.cal_tzif.specs.declared.footer.Footer.{Footer}
 use Rattle.cal_tzif.specs.declared.zone_error.ZoneError.{ZoneError}
 use Rattle.cal_tzif.specs.declared.zone_error.ZoneErrorKind.TheVariants as kinds
@@ -20,18 +20,23 @@ use Rattle.cal_tzif.specs.Header.{HasHeaders, layout_of, second_header}
 use Rattle.cal_tzif.specs.Posix.{Spells}
 use Rattle.cal_tzif.specs.PosixError.{error_at}
 use Rattle.cal_tzif.specs.Types.{HasTypes}
+use Rattle.cal_tzif.proofs.Unique.{zone_in-one}
+
+-- The number of changes.
+size : (bytes : List ℕ) (p : Layout) (table : List Change) → table ≡ changes_in bytes p → length table ≡ p.changes
+size bytes p table e = ap (λ (cs : List Change). length cs) e ∙ length-map-range_with_len (change_in bytes p) 0 p.changes
 
 pub position_in : (bytes : List ℕ) (p : Layout) (end n : ℕ) (first : LocalType) (table : List Change) (rule : Option Rule) → IsInside bytes p → table ≡ changes_in bytes p
     → length bytes < n → end + 1 < n → (t : TimelineError) → IsTimelineError first table rule t → timeline_position p end t < n
 position_in bytes p end n first table rule inside is room last (timeline.Change FirstOffset) h = omega (arith, inside.types)
 position_in bytes p end n first table rule inside is room last (timeline.Change (Offset k)) h =
-    omega (arith, length-view bytes p table (sym is), inside.indexes, h.0)
+    omega (arith, size bytes p table is, inside.indexes, h.0)
 position_in bytes p end n first table rule inside is room last (timeline.Change (Instant k)) h =
-    omega (arith, length-view bytes p table (sym is), inside.times, h.0)
+    omega (arith, size bytes p table is, inside.times, h.0)
 position_in bytes p end n first table rule inside is room last (timeline.Change (NotRising k)) h =
-    omega (arith, length-view bytes p table (sym is), inside.times, h.0)
+    omega (arith, size bytes p table is, inside.times, h.0)
 position_in bytes p end n first table rule inside is room last (timeline.Change (Overlap k)) h =
-    omega (arith, length-view bytes p table (sym is), inside.times, h.0)
+    omega (arith, size bytes p table is, inside.times, h.0)
 position_in bytes p end n first table rule inside is room last timeline.Junction h = omega arith
 
 -- The parts of a file, as they are found one after another.
@@ -46,6 +51,13 @@ pub record IsRead (bytes : List ℕ) (p : Layout) (end : ℕ) (footer : Option F
   pub table_is : table ≡ changes_in bytes p
   pub rule_is : rule ≡ footer_rule footer
 
+zone_is : {bytes : List ℕ} {p : Layout} {end : ℕ} {footer : Option Footer} {first : LocalType} {table : List Change} {rule : Option Rule}
+    → IsRead bytes p end footer first table rule → zone_of first table rule ≡ zone_in bytes p footer
+zone_is h = same_parts _ _ _ _ _ _ h.first_is h.table_is h.rule_is
+  where
+    same_parts : (f f' : LocalType) (t t' : List Change) (r r' : Option Rule) → f ≡ f' → t ≡ t' → r ≡ r' → zone_of f t r ≡ zone_of f' t' r'
+    same_parts f f' t t' r r' a b c = cc
+
 pub file_is : (bytes : List ℕ) (p : Layout) (end : ℕ) (footer : Option Footer) (first : LocalType) (table : List Change) (rule : Option Rule) (zone : Timeline)
     → IsRead bytes p end footer first table rule → zone ≡ zone_of first table rule → IsOrdered first.offset (zone_of first table rule).changes → IsFile bytes zone
 file_is bytes p end footer first table rule zone h e order = record {
@@ -54,12 +66,18 @@ file_is bytes p end footer first table rule zone h e order = record {
   footer = footer;
   text = subst (λ (n : ℕ). HasFooter bytes n footer) h.end_is h.text;
   indexes = subst (λ (q : Layout). (k : ℕ) → k < q.changes → slice_index bytes (q.indexes + k) < q.kinds) h.p_is h.typed.typed;
-  zone_is = subst (λ (q : Layout). zone ≡ zone_in bytes q footer) h.p_is (e ∙ same_parts first (first_type bytes p footer) table (changes_in bytes p) rule (footer_rule footer) h.first_is h.table_is h.rule_is);
+  zone_is = subst (λ (q : Layout). zone ≡ zone_in bytes q footer) h.p_is (e ∙ zone_is h);
   ordered = subst (λ (z : Timeline). IsOrdered z.first.offset z.changes) (sym e) order;
 }
-  where
-    same_parts : (f f' : LocalType) (t t' : List Change) (r r' : Option Rule) → f ≡ f' → t ≡ t' → r ≡ r' → zone_of f t r ≡ zone_of f' t' r'
-    same_parts f f' t t' r r' a b c = cc
+
+-- If the changes are not in order, the bytes say no zone.
+pub not_file : (bytes : List ℕ) (p : Layout) (end : ℕ) (footer : Option Footer) (first : LocalType) (table : List Change) (rule : Option Rule) (zone : Timeline)
+    → IsRead bytes p end footer first table rule → ¬ (IsOrdered first.offset (zone_of first table rule).changes) → IsFile bytes zone → ⊥
+not_file bytes p end footer first table rule zone h none file =
+    let text : HasFooter bytes (second_header bytes).end footer = subst (λ (n : ℕ). HasFooter bytes n footer) h.end_is h.text in
+    let found : zone_of first table rule ≡ zone_in bytes (layout_of bytes) footer = subst (λ (q : Layout). zone_of first table rule ≡ zone_in bytes q footer) h.p_is (zone_is h) in
+    let same : zone ≡ zone_of first table rule = file.zone_is ∙ zone_in-one bytes (layout_of bytes) (second_header bytes).end file.footer footer file.text text ∙ sym found in
+    none (subst (λ (z : Timeline). IsOrdered z.first.offset z.changes) same file.ordered)
 
 pub order_error : (bytes : List ℕ) (p : Layout) (end : ℕ) (footer : Option Footer) (first : LocalType) (table : List Change) (rule : Option Rule) (t : TimelineError) (e : ZoneError)
     → IsRead bytes p end footer first table rule → IsTimelineError first table rule t → e ≡ error_at (kinds.Timeline t) (timeline_position p end t) → IsFileError bytes e

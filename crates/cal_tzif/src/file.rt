@@ -70,7 +70,8 @@ fn first_type(bytes: &[u8], layout: Layout, footer: Option<Footer>) -> LocalType
     }
 }
 
-/// Returns the position of the change of an error.
+/// Returns the position of the change with an error, or of the footer, whose data block ends at
+/// `end`.
 fn timeline_position(layout: Layout, end: usize, error: TimelineError) -> usize
     requires { timeline_position layout end error < 2 ^ 63 }
     ensures { result ≡ timeline_position layout end error }
@@ -86,6 +87,9 @@ fn timeline_position(layout: Layout, end: usize, error: TimelineError) -> usize
 }
 
 /// Parses a TZif file of the versions 2 to 4 (RFC 9636). The zone borrows the bytes.
+///
+/// Returns the kind and the position of the first part that is missing or wrong. No bytes are
+/// `Truncated` at 0, and a file of version 1 is `Version` at 4.
 pub fn parse(bytes: &[u8]) -> Result<Zone<'_>, ZoneError>
     ensures value { IfOk result (IsFile bytes.now) }
     ensures every { (zone : Timeline) → IsFile bytes.now zone → result ≡ Ok zone }
@@ -115,6 +119,9 @@ pub fn parse(bytes: &[u8]) -> Result<Zone<'_>, ZoneError>
 }
 
 /// Parses a POSIX text, such as `CET-1CEST,M3.5.0,M10.5.0/3`. The zone borrows the text.
+///
+/// Returns the kind and the position of the first part that is missing or wrong. `CET25` is
+/// `PosixOffset` at 3, since an offset has at most 24 hours.
 pub fn parse_posix(text: &[u8]) -> Result<Zone<'_>, ZoneError>
     ensures value { IfOk result (IsPosix text.now) }
     ensures every { (zone : Timeline) → IsPosix text.now zone → result ≡ Ok zone }

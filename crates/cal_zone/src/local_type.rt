@@ -50,7 +50,8 @@ fn until_zero(bytes: &[u8]) -> &[u8]
 }
 
 impl LocalType {
-    /// Returns the abbreviation, such as `CET`, from the bytes that the zone was parsed from.
+    /// Returns the abbreviation, such as `CET`, from the bytes that the zone was parsed from. From
+    /// other bytes the result can be anything, even empty.
     pub fn abbreviation<'a>(self, bytes: &'a [u8]) -> &'a [u8]
         ensures { result.now ≡ abbreviation bytes.now self.name_start self.name_end }
     {

@@ -6,8 +6,8 @@ use Rattle.cal_tzif.specs.Header.{second_header}
 use Rattle.cal_tzif.specs.Types.{HasTypes, IsTypesError}
 use Rattle.cal_tzif.specs.PosixError.{error_at}
 use Rattle.cal_tzif.specs.declared.zone_error.ZoneErrorKind.TheVariants as kinds
-use Rattle.cal_tzif.proofs.Faults.{not_footer, not_file}
-use Rattle.cal_tzif.proofs.Files.{position_in, IsRead, file_is, order_error}
+use Rattle.cal_tzif.proofs.Faults.{not_footer}
+use Rattle.cal_tzif.proofs.Files.{position_in, IsRead, file_is, not_file, order_error}
 use Rattle.cal_tzif.proofs.Unique.{file-one, ok_same}
 use Rattle.cal_tzif.proofs.file.parse.Goals as goal
 
@@ -39,17 +39,9 @@ timeline_position-position-requires c =
 pub returns-in-Ok-new-clause-value : goal.returns-in-Ok-new-clause-value
 returns-in-Ok-new-clause-value c =
     let types : HasTypes c.args.bytes.now c.in_ok-layout.layout = search rules in
-    let parts : IsRead c.args.bytes.now c.in_ok-layout.layout c.in_ok-layout.end c.in_ok-footer.footer c.first_type.result c.in-Ok.table c.footer_rule.result = record {
-      headers = c.in_ok-layout.ensures.valid;
-      p_is = c.in_ok-layout.ensures.value.0;
-      end_is = c.in_ok-layout.ensures.value.1;
-      types = types;
-      text = c.in_ok-footer.ensures.value;
-      typed = c.in-Ok.ensures.typed;
-      first_is = c.first_type.ensures;
-      table_is = c.in-Ok.ensures.value;
-      rule_is = c.footer_rule.ensures;
-    } in
+    let v = c.in_ok-layout.ensures in
+    let parts : IsRead c.args.bytes.now c.in_ok-layout.layout c.in_ok-layout.end c.in_ok-footer.footer c.first_type.result c.in-Ok.table c.footer_rule.result =
+    record { headers = v.valid; p_is = v.value.0; end_is = v.value.1; types = types; text = c.in_ok-footer.ensures.value; typed = c.in-Ok.ensures.typed; first_is = c.first_type.ensures; table_is = c.in-Ok.ensures.value; rule_is = c.footer_rule.ensures } in
     file_is _ _ _ _ _ _ _ _ parts c.in-Ok-new.ensures.value c.in-Ok-new.ensures.ordered
 
 pub returns-in-Ok-new-clause-every : goal.returns-in-Ok-new-clause-every
@@ -59,20 +51,16 @@ returns-in-Ok-new-clause-every c = λ zone h.
 pub returns-in-Err-new-2-clause-error : goal.returns-in-Err-new-2-clause-error
 returns-in-Err-new-2-clause-error c =
     let types : HasTypes c.args.bytes.now c.in_ok-layout.layout = search rules in
-    let parts : IsRead c.args.bytes.now c.in_ok-layout.layout c.in_ok-layout.end c.in_ok-footer.footer c.first_type.result c.in-Ok.table c.footer_rule.result = record {
-      headers = c.in_ok-layout.ensures.valid;
-      p_is = c.in_ok-layout.ensures.value.0;
-      end_is = c.in_ok-layout.ensures.value.1;
-      types = types;
-      text = c.in_ok-footer.ensures.value;
-      typed = c.in-Ok.ensures.typed;
-      first_is = c.first_type.ensures;
-      table_is = c.in-Ok.ensures.value;
-      rule_is = c.footer_rule.ensures;
-    } in
+    let v = c.in_ok-layout.ensures in
+    let parts : IsRead c.args.bytes.now c.in_ok-layout.layout c.in_ok-layout.end c.in_ok-footer.footer c.first_type.result c.in-Ok.table c.footer_rule.result =
+    record { headers = v.valid; p_is = v.value.0; end_is = v.value.1; types = types; text = c.in_ok-footer.ensures.value; typed = c.in-Ok.ensures.typed; first_is = c.first_type.ensures; table_is = c.in-Ok.ensures.value; rule_is = c.footer_rule.ensures } in
     order_error _ _ _ _ _ _ _ c.in-Err-new-2.error _ parts c.in-Err-new-2.ensures.error
     (c.at-in-Err-new-2.ensures ∙ ap (λ (n : ℕ). error_at (kinds.Timeline c.in-Err-new-2.error) n) c.timeline_position-position.ensures)
 
 pub returns-in-Err-new-2-clause-every : goal.returns-in-Err-new-2-clause-every
 returns-in-Err-new-2-clause-every c = λ zone h.
-    absurd (not_file c.args.bytes.now c.at-in-Err-new-2.result zone (returns-in-Err-new-2-clause-error c) h)
+    let types : HasTypes c.args.bytes.now c.in_ok-layout.layout = search rules in
+    let v = c.in_ok-layout.ensures in
+    let parts : IsRead c.args.bytes.now c.in_ok-layout.layout c.in_ok-layout.end c.in_ok-footer.footer c.first_type.result c.in-Ok.table c.footer_rule.result =
+    record { headers = v.valid; p_is = v.value.0; end_is = v.value.1; types = types; text = c.in_ok-footer.ensures.value; typed = c.in-Ok.ensures.typed; first_is = c.first_type.ensures; table_is = c.in-Ok.ensures.value; rule_is = c.footer_rule.ensures } in
+    absurd (not_file _ _ _ _ _ _ _ zone parts c.in-Err-new-2.ensures.every h)
