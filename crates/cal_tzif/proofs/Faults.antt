@@ -9,18 +9,18 @@ use Rattle.cal_tzif.specs.File.{HasFooter, IsFooterText, without_last, IsFooterE
 use Rattle.cal_tzif.specs.Posix.{IsStandard, IsDaylight, IsChange, HasRule, IsRest, standard, standard_end, Spells}
 use Rattle.cal_tzif.specs.PosixError.{IsStandardError, IsDaylightError, IsChangeError, IsRuleError, IsTextError}
 
-not_standard : (text : List ℕ) (at : ℕ) (e : ZoneError) → IsStandardError text at e → IsStandard text at → ⊥
+pub not_standard : (text : List ℕ) (at : ℕ) (e : ZoneError) → IsStandardError text at e → IsStandard text at → ⊥
 not_standard text at e (IsStandardError.name none _) h = none h.name
 not_standard text at e (IsStandardError.offset _ none _) h = none h.offset
 
-not_daylight : (text : List ℕ) (at : ℕ) (e : ZoneError) → IsDaylightError text at e → IsDaylight text at → ⊥
+pub not_daylight : (text : List ℕ) (at : ℕ) (e : ZoneError) → IsDaylightError text at e → IsDaylight text at → ⊥
 not_daylight text at e (IsDaylightError.name none _) h = none h.name
 not_daylight text at e (IsDaylightError.offset _ given none _) h = none (h.offset given)
 
-not_change : (text : List ℕ) (at : ℕ) (e : ZoneError) → IsChangeError text at e → IsChange text at → ⊥
+pub not_change : (text : List ℕ) (at : ℕ) (e : ZoneError) → IsChangeError text at e → IsChange text at → ⊥
 not_change text at e (IsChangeError.comma none _) h = none h.comma
 not_change text at e (IsChangeError.date _ none _) h = none h.date
-not_change text at e (IsChangeError.time _ none _) h = none h.time
+not_change text at e (IsChangeError.time _ _ none _) h = none h.time
 
 not_rule : (text : List ℕ) (at : ℕ) (e : ZoneError) → IsRuleError text at e → HasRule text at → ⊥
 not_rule text at e (IsRuleError.daylight fault) h = not_daylight _ _ _ fault h.daylight

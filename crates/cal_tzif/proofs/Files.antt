@@ -1,7 +1,7 @@
 -- A file from its parts, and the position of an error in its changes.
 use Rattle.std.proofs.Common.{◌≡◌, ℕ, ◌+◌, ◌<◌, List, [], length, sym, ap, subst, ◌∙◌, arith}
 use Rattle.std.proofs.lemmas.List.FromFn.{length-map-range_with_len}
-use Rattle.std.specs.Prelude.{Option, slice_index}
+use Rattle.std.specs.Prelude.{Option}
 use Rattle.cal_zone.specs.declared.change.Change.{Change}
 use Rattle.cal_zone.specs.declared.change_error.ChangeError.TheVariants.{FirstOffset, Offset, Instant, NotRising, Overlap}
 use Rattle.cal_zone.specs.declared.layout.Layout.{Layout}
@@ -15,7 +15,7 @@ use Rattle.cal_zone.specs.Zone.{zone_of, IsTimelineError}
 use Rattle.cal_tzif.specs.declared.footer.Footer.{Footer}
 use Rattle.cal_tzif.specs.declared.zone_error.ZoneError.{ZoneError}
 use Rattle.cal_tzif.specs.declared.zone_error.ZoneErrorKind.TheVariants as kinds
-use Rattle.cal_tzif.specs.File.{HasFooter, first_type, footer_rule, zone_in, rule_type, IsFile, IsFileError, IsPosix, timeline_position}
+use Rattle.cal_tzif.specs.File.{HasFooter, HasIndexes, first_type, footer_rule, zone_in, rule_type, IsFile, IsFileError, IsPosix, timeline_position}
 use Rattle.cal_tzif.specs.Header.{HasHeaders, layout_of, second_header}
 use Rattle.cal_tzif.specs.Posix.{Spells}
 use Rattle.cal_tzif.specs.PosixError.{error_at}
@@ -65,7 +65,7 @@ file_is bytes p end footer first table rule zone h e order = record {
   types = subst (HasTypes bytes) h.p_is h.types;
   footer = footer;
   text = subst (λ (n : ℕ). HasFooter bytes n footer) h.end_is h.text;
-  indexes = subst (λ (q : Layout). (k : ℕ) → k < q.changes → slice_index bytes (q.indexes + k) < q.kinds) h.p_is h.typed.typed;
+  indexes = subst (HasIndexes bytes) h.p_is h.typed.typed;
   zone_is = subst (λ (q : Layout). zone ≡ zone_in bytes q footer) h.p_is (e ∙ zone_is h);
   ordered = subst (λ (z : Timeline). IsOrdered z.first.offset z.changes) (sym e) order;
 }
@@ -86,7 +86,7 @@ order_error bytes p end footer first table rule t e h fault is =
     subst (λ (f : LocalType). IsTimelineError f (changes_in bytes p) (footer_rule footer) t) h.first_is
     (subst (λ (cs : List Change). IsTimelineError first cs (footer_rule footer) t) h.table_is
     (subst (λ (r : Option Rule). IsTimelineError first table r t) h.rule_is fault)) in
-    IsFileError.order h.headers (subst (HasTypes bytes) h.p_is h.types) footer (subst (λ (n : ℕ). HasFooter bytes n footer) h.end_is h.text) t
+    IsFileError.order h.headers (subst (HasTypes bytes) h.p_is h.types) footer (subst (λ (n : ℕ). HasFooter bytes n footer) h.end_is h.text) (subst (HasIndexes bytes) h.p_is h.typed.typed) t
     (subst (λ (q : Layout). IsTimelineError (first_type bytes q footer) (changes_in bytes q) (footer_rule footer) t) h.p_is file)
     (subst (λ (q : Layout). e ≡ error_at (kinds.Timeline t) (timeline_position q (second_header bytes).end t)) h.p_is
     (subst (λ (n : ℕ). e ≡ error_at (kinds.Timeline t) (timeline_position p n t)) h.end_is is))

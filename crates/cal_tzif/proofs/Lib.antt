@@ -3,3 +3,4 @@ pub mod RuleTexts
 pub mod Files
 pub mod Unique
 pub mod Faults
+pub mod OneError

@@ -60,13 +60,17 @@ first_type bytes p footer = if nat_lt 0 p.changes then type_in bytes p 0 else fo
 abbrev pub zone_in : List ℕ → Layout → Option Footer → Timeline
 zone_in bytes p footer = zone_of (first_type bytes p footer) (changes_in bytes p) (footer_rule footer)
 
+-- Each change has the index of a type.
+abbrev pub HasIndexes : List ℕ → Layout → Type 0
+HasIndexes bytes p = (k : ℕ) → k < p.changes → slice_index bytes (p.indexes + k) < p.kinds
+
 -- The bytes are a file, and it says this zone: its parts are in range, and its changes are in order.
 pub record IsFile (bytes : List ℕ) (zone : Timeline) : Type 0 where
   pub headers : HasHeaders bytes
   pub types : HasTypes bytes (layout_of bytes)
   pub footer : Option Footer
   pub text : HasFooter bytes (second_header bytes).end footer
-  pub indexes : (k : ℕ) → k < (layout_of bytes).changes → slice_index bytes ((layout_of bytes).indexes + k) < (layout_of bytes).kinds
+  pub indexes : HasIndexes bytes (layout_of bytes)
   pub zone_is : zone ≡ zone_in bytes (layout_of bytes) footer
   pub ordered : IsOrdered zone.first.offset zone.changes
 
@@ -86,7 +90,7 @@ pub data IsFileError (bytes : List ℕ) (e : ZoneError) : Type 0 where
   footer : HasHeaders bytes → HasTypes bytes (layout_of bytes) → IsFooterError bytes (second_header bytes).end e → IsFileError bytes e
   index : HasHeaders bytes → HasTypes bytes (layout_of bytes) → (footer : Option Footer) → HasFooter bytes (second_header bytes).end footer → (position : ℕ)
       → HasNoType bytes (layout_of bytes) position → e ≡ error_at kinds.TypeIndex position → IsFileError bytes e
-  order : HasHeaders bytes → HasTypes bytes (layout_of bytes) → (footer : Option Footer) → HasFooter bytes (second_header bytes).end footer → (t : TimelineError)
+  order : HasHeaders bytes → HasTypes bytes (layout_of bytes) → (footer : Option Footer) → HasFooter bytes (second_header bytes).end footer → HasIndexes bytes (layout_of bytes) → (t : TimelineError)
       → IsTimelineError (first_type bytes (layout_of bytes) footer) (changes_in bytes (layout_of bytes)) (footer_rule footer) t
       → e ≡ error_at (kinds.Timeline t) (timeline_position (layout_of bytes) (second_header bytes).end t) → IsFileError bytes e
 

@@ -20,7 +20,7 @@ pub data IsDaylightError (text : List ℕ) (at : ℕ) (e : ZoneError) : Type 0 w
 pub data IsChangeError (text : List ℕ) (at : ℕ) (e : ZoneError) : Type 0 where
   comma : byte text at ≢ 44 → e ≡ error_at kinds.Day at → IsChangeError text at e
   date : byte text at ≡ 44 → ¬ (IsDay text (at + 1)) → e ≡ error_at kinds.Day (at + 1) → IsChangeError text at e
-  time : IsDay text (at + 1) → ¬ (IsChangeTime text (day_end text (at + 1))) → e ≡ error_at kinds.Time (day_end text (at + 1)) → IsChangeError text at e
+  time : byte text at ≡ 44 → IsDay text (at + 1) → ¬ (IsChangeTime text (day_end text (at + 1))) → e ≡ error_at kinds.Time (day_end text (at + 1)) → IsChangeError text at e
 
 pub data IsRuleError (text : List ℕ) (at : ℕ) (e : ZoneError) : Type 0 where
   daylight : IsDaylightError text at e → IsRuleError text at e

@@ -1,6 +1,8 @@
 //! Clocks of zones that files and texts describe. The values are those of Python's `zoneinfo`; the
 //! positions of errors are counted by hand.
 
+mod one_answer;
+
 use crate::files::{APIA, CASABLANCA, FREETOWN};
 use cal_datetime::{OffsetDateTime, PlainDateTime, with_hms_nano};
 use cal_time::{Date, Month};
