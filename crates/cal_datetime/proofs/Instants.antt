@@ -1,5 +1,5 @@
 -- The instants of date-times at an offset, and the Unix times of instants.
-use Rattle.std.proofs.Common.{◌≡◌, ℕ, ◌/◌, refl, sym, arith, ℤ, pos, negsuc, neg_ℤ, unsigned_abs, ◌+ℤ◌, ◌-ℤ◌, ◌*ℤ◌, ◌≤ℤ◌, ◌<ℤ◌}
+use Rattle.std.proofs.Common.{◌≡◌, ℕ, ◌/◌, refl, sym, arith, ℤ, pos, negsuc, neg_ℤ, unsigned_abs, ◌+ℤ◌, ◌-ℤ◌, ◌*ℤ◌, ◌≤ℤ◌}
 use Rattle.std.proofs.lemmas.Int.{ints}
 use Rattle.std.specs.Int.{int_div_euclid, int_rem_euclid}
 use Rattle.cal_time.specs.SignedDuration.{second, IsDuration}
@@ -7,6 +7,7 @@ use Rattle.cal_time.specs.Date.{first_julian_day, IsDate, HasJulianDay, NoDate}
 use Rattle.cal_time.specs.Arithmetic.{IsDateNumber}
 use Rattle.cal_time.specs.UtcOffset.{IsOffset, max_offset_seconds}
 use Rattle.cal_datetime.specs.DateTime.{IsDateTime, date_time}
+use Rattle.cal_datetime.specs.UnixTimeLaws.{div_euclid-one}
 use Rattle.cal_datetime.specs.OffsetDateTime.{LocalAndOffset, IsInstant, instant, local_at, epoch_day, unix_epoch, unix_seconds}
 
 -- what a clock at another offset shows
@@ -41,13 +42,6 @@ pub days-and_past : (z : ℤ) → z ≡ int_div_euclid z (pos 86_400) *ℤ pos 8
 days-and_past (pos n) = omega (arith, ints)
 days-and_past (negsuc n) = omega (arith, ints)
 
--- a quotient by a second is known by its bounds
-pub div_euclid-one : (z q : ℤ) → (q *ℤ pos second) ≤ℤ z → z <ℤ (q *ℤ pos second +ℤ pos second) → int_div_euclid z (pos second) ≡ q
-div_euclid-one (pos a) (pos b) low high = omega (arith, ints)
-div_euclid-one (pos a) (negsuc b) low high = omega (arith, ints)
-div_euclid-one (negsuc a) (pos b) low high = omega (arith, ints)
-div_euclid-one (negsuc a) (negsuc b) low high = omega (arith, ints)
-
 -- The Unix time in seconds, from the seconds of the day, the time and the offset.
 pub unix_seconds-is : (m : LocalAndOffset) (q : ℤ) (n t : ℕ) → m.local ≡ date_time n t → q ≡ ((pos n -ℤ epoch_day) *ℤ pos 86_400 +ℤ pos (t / second)) -ℤ m.offset
     → q ≡ unix_seconds (instant m)
@@ -57,11 +51,6 @@ unix_seconds-is m q n t e f = sym (div_euclid-one _ q (omega (arith, ints, e, f)
 -- a Unix time of whole seconds is their number
 pub unix_seconds-whole : (z seconds : ℤ) → z ≡ unix_epoch +ℤ seconds *ℤ pos second → unix_seconds z ≡ seconds
 unix_seconds-whole z seconds e = div_euclid-one _ seconds (omega (arith, ints, e)) (omega (arith, ints, e))
-
--- a number is its quotient and its remainder by a second
-pub seconds-and_past : (z : ℤ) → z ≡ int_div_euclid z (pos second) *ℤ pos second +ℤ int_rem_euclid z (pos second)
-seconds-and_past (pos n) = omega (arith, ints)
-seconds-and_past (negsuc n) = omega (arith, ints)
 
 -- the duration between two instants
 pub apart-is_duration : (l m o p : ℤ) → IsDateTime l → IsDateTime m → IsOffset o → IsOffset p → IsDuration ((l -ℤ m) +ℤ (o *ℤ pos second -ℤ p *ℤ pos second))

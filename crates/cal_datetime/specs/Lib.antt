@@ -3,3 +3,4 @@ pub mod DateTimeLaws
 pub mod OffsetDateTime
 pub mod OffsetDateTimeLaws
 pub mod Replacement
+pub mod UnixTimeLaws

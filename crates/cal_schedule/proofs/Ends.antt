@@ -1,8 +1,6 @@
 -- The first and the last days of months and weeks.
-use Rattle.std.proofs.Common.{◌≡◌, ℕ, ◌+◌, ◌≤◌, sym, ap, ◌∙◌, subst, arith, ℤ, pos, ◌+ℤ◌, ◌-ℤ◌, ◌*ℤ◌, ◌≤ℤ◌, inl, inr}
-use Rattle.std.proofs.lemmas.Bool.{cases_lt}
+use Rattle.std.proofs.Common.{◌≡◌, ℕ, ◌+◌, ap, subst, arith, ℤ}
 use Rattle.std.proofs.lemmas.Bool.Decides.{nat_tests}
-use Rattle.std.proofs.lemmas.Int.{ints}
 use Rattle.cal_time.specs.Date.{year_at, month_at, day_of_month_at, weekday_at, IsDate, HasCalendarDate}
 use Rattle.cal_time.specs.Days.{day_of_month_at-range}
 -- A month has 28 days or more.
@@ -10,9 +8,7 @@ pub use Rattle.cal_time.specs.Days.{days_in_month-least}
 use Rattle.cal_time.specs.IsoWeekDate.{iso_year_at, iso_week_at, thursday_of, weekday_count, HasIsoWeekDate}
 use Rattle.cal_time.specs.Laws.{weekday_at-is}
 use Rattle.cal_time.specs.Lengths.{days_in_month}
-use Rattle.cal_time.specs.Components.{day_of_month_at-rises}
-use Rattle.cal_schedule.specs.Months.{month_number_at}
-use Rattle.cal_schedule.proofs.MonthMoves.{month_numbers-rise, same_month, days_apart, number_from}
+use Rattle.cal_schedule.specs.MonthLaws.{days_apart, number_from}
 
 pub ruleset lengths = (days_in_month-least)
 
@@ -20,30 +16,6 @@ pub ruleset lengths = (days_in_month-least)
 pub december : (y : ℤ) → days_in_month y 12 ≡ 31
 unfolding days_in_month
 december y = grind (arith, nat_tests)
-
--- The first day of a month is not after any day of this month or a later one. Its last day is not
--- before any day of this month or an earlier one.
-pub first-least : (r n : ℕ) (y : ℤ) (m : ℕ) → HasCalendarDate y m 1 r → (y *ℤ pos 12 +ℤ pos m -ℤ pos 1) ≤ℤ month_number_at n → r ≤ n
-first-least r n y m e h =
-    let month = number_from r y m 1 e in
-    elim (cases_lt n r) as (λ _. r ≤ n) [
-      | inl less ↦
-          let same = same_month n r (omega (arith, ints, h, month, month_numbers-rise n r (omega arith))) in
-          absurd (omega (arith, day_of_month_at-rises n r less same.year same.month, (day_of_month_at-range n).0, ap (λ c. c.day) e))
-      | inr most ↦ most
-    ]
-
-pub last-greatest : (r n : ℕ) (y : ℤ) (m : ℕ) → HasCalendarDate y m (days_in_month y m) r → month_number_at n ≤ℤ (y *ℤ pos 12 +ℤ pos m -ℤ pos 1) → n ≤ r
-last-greatest r n y m e h =
-    let month = number_from r y m (days_in_month y m) e in
-    elim (cases_lt r n) as (λ _. n ≤ r) [
-      | inl less ↦
-          let same = same_month r n (omega (arith, ints, h, month, month_numbers-rise r n (omega arith))) in
-          let length : days_in_month y m ≡ days_in_month (year_at n) (month_at n) =
-          ap (λ z. days_in_month z m) (sym (ap (λ c. c.year) e) ∙ same.year) ∙ ap (days_in_month (year_at n)) (sym (ap (λ c. c.month) e) ∙ same.month) in
-          absurd (omega (arith, day_of_month_at-rises r n less same.year same.month, (day_of_month_at-range n).1, ap (λ c. c.day) e))
-      | inr most ↦ most
-    ]
 
 -- the last of a month, by another name of the year and the month
 pub last-same : (y z : ℤ) (m k n : ℕ) → y ≡ z → m ≡ k → HasCalendarDate y m (days_in_month y m) n → HasCalendarDate z k (days_in_month z k) n

@@ -11,7 +11,8 @@ use Rattle.cal_schedule.specs.RuleLaws.{NumbersByCount}
 use Rattle.cal_schedule.specs.Weekdays.{IsLastWeekday, IsNthWeekday, IsNthWeekdayFromEnd, IsNthWeekdayOfYear, IsNthWeekdayOfYearFromEnd}
 use Rattle.cal_schedule.proofs.Ends.{days_in_month-least, last-apart}
 use Rattle.cal_schedule.proofs.MonthMoves.{days_apart, first_before, number_from}
-use Rattle.cal_schedule.proofs.WeekdaySpans.{IsInMonths, IsPlaced, after_first, before_last, count_onward, count_upto, month_span, within_months, year_span}
+use Rattle.cal_schedule.specs.WeekdaysLaws.{IsInMonths, after_first, before_last, month_span, within_months}
+use Rattle.cal_schedule.proofs.WeekdaySpans.{IsPlaced, count_onward, count_upto, year_span}
 
 -- the month of a day, from its first day to its last
 record IsMonthOf (n : ℕ) : Type 0 where

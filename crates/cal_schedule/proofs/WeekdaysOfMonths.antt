@@ -1,41 +1,20 @@
 -- The days of a month with a weekday, by their indexes in the month, and the nearest days with one.
-use Rattle.std.proofs.Common.{◌≡◌, ℕ, suc, ◌+◌, ◌-◌, ◌*◌, ◌/◌, ◌%◌, ◌<◌, ◌≤◌, refl, sym, ap, ◌∙◌, subst, arith, ℤ, inl, inr, true, false, if◌then◌else◌, nat_le, filter, slice_get, Option, Some, None}
+use Rattle.std.proofs.Common.{◌≡◌, ℕ, suc, ◌+◌, ◌-◌, ◌*◌, ◌%◌, ◌<◌, ◌≤◌, refl, sym, ap, ◌∙◌, subst, arith, ℤ, inl, inr, true, false, if◌then◌else◌, nat_le, filter, slice_get, Option, Some, None}
 use Rattle.std.specs.Prelude.{SomeIff}
 use Rattle.std.proofs.lemmas.Bool.{cases_lt}
 use Rattle.std.proofs.lemmas.Bool.Decides.{nat_tests}
-use Rattle.std.proofs.lemmas.Int.{ints}
 use Rattle.cal_time.specs.CalendarDay.{calendar_day}
 use Rattle.cal_time.specs.Date.{last_day, year_at, month_at, day_of_month_at, weekday_at, IsDate, IsYear, HasCalendarDate}
-use Rattle.cal_time.specs.Days.{day_of_month_at-range, last_of, year_at-range}
-use Rattle.cal_time.specs.IsoWeekDate.{count_before}
+use Rattle.cal_time.specs.Days.{day_of_month_at-range, year_at-range}
 use Rattle.cal_time.specs.Laws.{weekday_at-is, kth-next_occurrences, kth-prev_occurrences}
 use Rattle.cal_time.specs.Lengths.{days_in_month}
 use Rattle.cal_time.specs.Occurrences.{days_from, days_back_from, has_weekday, next_occurrences, prev_occurrences, kth}
-use Rattle.cal_time.proofs.Weekdays.{count_in_span}
-use Rattle.cal_schedule.specs.Months.{month_number_at}
-use Rattle.cal_schedule.specs.Weekdays.{is_weekday_in_month, IsWeekdayInMonth, IsNthWeekday, IsLastWeekday, occurrences_from, occurrences_upto}
-use Rattle.cal_schedule.proofs.MonthMoves.{days_apart, first_before, number_from}
-use Rattle.cal_schedule.proofs.WeekdaySpans.{month_span}
+use Rattle.cal_schedule.specs.Weekdays.{IsWeekdayInMonth, IsNthWeekday, occurrences_from, occurrences_upto}
+use Rattle.cal_schedule.specs.WeekdaysLaws.{counted}
 
 -- a day of the range has a year of the range
 pub year_of : (y : ℤ) (m w k : ℕ) → IsDate k → IsWeekdayInMonth y m w k → IsYear y
 year_of y m w k h is = subst IsYear is.year (year_at-range k h)
-
--- a day of the month and the first one
-counted : (y : ℤ) (m f w d n : ℕ) → HasCalendarDate y m 1 f → HasCalendarDate y m d n → w < 7
-    → (f + d ≡ n + 1) × (count_before (is_weekday_in_month w y m) (n + 1) + (f + 6 - w) / 7 ≡ (n + 7 - w) / 7)
-counted y m f w d n e h below =
-    let first : HasCalendarDate (year_at n) (month_at n) 1 f =
-    e ∙ ap (λ z. calendar_day z m 1) (sym (ap (λ c. c.year) h)) ∙ ap (λ k. calendar_day (year_at n) k 1) (sym (ap (λ c. c.month) h)) in
-    let day : day_of_month_at n ≡ d = ap (λ c. c.day) h in
-    let sums : f + d ≡ n + 1 = omega (arith, first_before f n first) in
-    let most : day_of_month_at n ≤ days_in_month (year_at n) (month_at n) = (day_of_month_at-range n).1 in
-    let length : days_in_month (year_at n) (month_at n) ≡ days_in_month y m =
-    ap (λ z. days_in_month z (month_at n)) (ap (λ c. c.year) h) ∙ ap (days_in_month y) (ap (λ c. c.month) h) in
-    let span = month_span w y m f _ e (last_of y m f e) in
-    let count = count_in_span (is_weekday_in_month w y m) w f _ d span below (omega arith) in
-    let numbers : f + d + 6 - w ≡ n + 7 - w = omega arith in
-    (sums, ap (λ k. count_before (is_weekday_in_month w y m) k + (f + 6 - w) / 7) (sym sums) ∙ count ∙ ap (λ k. k / 7) numbers)
 
 -- a month has 31 days at most
 pub days_in_month-most : (y : ℤ) (m : ℕ) → days_in_month y m ≤ 31
@@ -64,35 +43,6 @@ nth-index y m f w k n e below h =
         most = omega (arith, count.0, count.1, h.nth, weekday, range.1, length);
       },
     )
-
-pub index-nth : (y : ℤ) (m f w k d n : ℕ) → HasCalendarDate y m 1 f → HasCalendarDate y m d n → w < 7 → d + 6 ≡ 7 * k + (w + 7 - f % 7) % 7 → IsNthWeekday y m w k n
-index-nth y m f w k d n e at below day =
-    let count = counted y m f w d n e at below in
-    record {
-      is = record { year = ap (λ c. c.year) at; month = ap (λ c. c.month) at; weekday = weekday_at-is n ∙ omega (arith, count.0) };
-      nth = omega (arith, count.0, count.1);
-    }
-
--- the last one, from the last day of the month
-pub last-index : (y : ℤ) (m t w r : ℕ) → IsDate t → IsDate r → w < 7 → HasCalendarDate y m (days_in_month y m) t
-    → HasCalendarDate y m (days_in_month y m - (weekday_at t + 7 - w) % 7) r → IsLastWeekday y m w r
-last-index y m t w r dates date below end at =
-    let weekday = weekday_at-is t in
-    let day : day_of_month_at r ≡ days_in_month y m - (weekday_at t + 7 - w) % 7 = ap (λ c. c.day) at in
-    let length : day_of_month_at t ≡ days_in_month y m = ap (λ c. c.day) end in
-    let some : 1 ≤ day_of_month_at r = (day_of_month_at-range r).0 in
-    let month = number_from t y m _ end in
-    let here : r + day_of_month_at t ≡ t + day_of_month_at r = days_apart r t date (number_from r y m _ at ∙ sym month) in
-    record {
-      is = record { year = ap (λ c. c.year) at; month = ap (λ c. c.month) at; weekday = weekday_at-is r ∙ omega (arith, here, length, day, weekday, some) };
-      last = λ k later is.
-          let same : month_number_at t ≡ month_number_at k = omega (arith, ints, is.year, is.month, month) in
-          let there : t + day_of_month_at k ≡ k + day_of_month_at t = days_apart t k dates same in
-          let most : day_of_month_at k ≤ days_in_month (year_at k) (month_at k) = (day_of_month_at-range k).1 in
-          let lengths : days_in_month (year_at k) (month_at k) ≡ days_in_month y m =
-          ap (λ z. days_in_month z (month_at k)) is.year ∙ ap (days_in_month y) is.month in
-          omega (arith, here, there, length, day, weekday, some, weekday_at-is k, is.weekday, most, lengths);
-    }
 
 -- the days from one on that have the weekday begin with that one, or are those after it
 from-on : (w n count : ℕ) → has_weekday w n ≡ true → slice_get (filter (has_weekday w) (days_from n (suc count))) 0 ≡ Some n

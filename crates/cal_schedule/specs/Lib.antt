@@ -1,4 +1,5 @@
 pub mod Months
+pub mod MonthLaws
 pub mod Rule
 pub mod Ranks
 pub mod RuleLaws
@@ -10,3 +11,4 @@ pub mod Workdays
 pub mod WorkdaysConvention
 pub mod WorkdaysLaws
 pub mod WorkdaysSplit
+pub mod WeekdaysLaws

@@ -6,7 +6,7 @@ use Rattle.std.specs.Int.{int_div_euclid, int_rem_euclid}
 use Rattle.cal_time.specs.SignedDuration.{second}
 use Rattle.cal_datetime.specs.DateTime.{IsDateTime}
 use Rattle.cal_datetime.specs.OffsetDateTime.{LocalAndOffset, instant, unix_seconds, unix_epoch}
-use Rattle.cal_datetime.proofs.Instants.{div_euclid-one, seconds-and_past}
+use Rattle.cal_datetime.specs.UnixTimeLaws.{div_euclid-one, seconds-and_past}
 use Rattle.cal_zone.specs.Timeline.{Timeline, offset_at, local_at, IsMoment}
 use Rattle.cal_zone.specs.Instants.{IsGap}
 use Rattle.cal_zone.specs.Local.{Shows}

@@ -17,7 +17,7 @@ use Rattle.cal_time.specs.Occurrences.{days_from, days_back_from}
 use Rattle.cal_schedule.specs.Months.{month_number_at}
 use Rattle.cal_schedule.specs.Ranks.{count-none, count-yes, count-no, nth-from, nth-back}
 use Rattle.cal_schedule.specs.Weekdays.{is_weekday_in_month, IsWeekdayInMonth, IsNthWeekday, IsLastWeekday}
-use Rattle.cal_schedule.proofs.WeekdaysOfMonths.{index-nth, last-index}
+use Rattle.cal_schedule.specs.WeekdaysLaws.{index-nth, last-index}
 use Rattle.cal_zone.specs.declared.yearly.Yearly.{Yearly}
 use Rattle.cal_zone.specs.Rule.{day_of, IsYearly}
 

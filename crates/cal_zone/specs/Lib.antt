@@ -8,3 +8,4 @@ pub mod Bytes
 pub mod Table
 pub mod Changes
 pub mod Local
+pub mod Abbreviation

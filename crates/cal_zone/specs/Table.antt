@@ -42,9 +42,10 @@ pub record IsTable (bytes : List ℕ) (p : Layout) : Type 0 where
   pub few : p.changes < 2 ^ 60
   pub typed : (k : ℕ) → k < p.changes → slice_index bytes (p.indexes + k) < p.kinds
 
--- At the position a change has the index of a type that doesn't exist.
+-- At the position the first change has the index of a type that doesn't exist.
 pub record HasNoType (bytes : List ℕ) (p : Layout) (position : ℕ) : Type 0 where
   pub index : ℕ
   pub inside : index < p.changes
   pub place : position ≡ p.indexes + index
+  pub before : (k : ℕ) → k < index → slice_index bytes (p.indexes + k) < p.kinds
   pub no_type : p.kinds ≤ slice_index bytes position

@@ -1,4 +1,6 @@
 //! Local time types.
+ghost use Rattle.std.specs.Prelude.{◌≡◌, take, drop};
+ghost use Rattle.cal_zone.specs.Abbreviation.{abbreviation, until_zero};
 
 /// A local time type: how clocks are set from one change of a zone to the next.
 #[derive(Clone, Copy, Debug, PartialEq, Eq)]
@@ -11,4 +13,48 @@ pub struct LocalType {
     pub name_start: usize,
     /// Where the abbreviation ends in the zone's bytes, unless a zero byte comes before.
     pub name_end: usize,
+}
+
+/// Returns the bytes before a position.
+fn before(bytes: &[u8], end: usize) -> &[u8]
+    ensures { result.now ≡ take end bytes.now }
+{
+    if end < bytes.len() {
+        &bytes[..end]
+    } else {
+        bytes
+    }
+}
+
+/// Returns the bytes from a position on.
+fn from(bytes: &[u8], start: usize) -> &[u8]
+    ensures { result.now ≡ drop start bytes.now }
+{
+    if start < bytes.len() {
+        &bytes[start..]
+    } else {
+        &[]
+    }
+}
+
+/// Returns the bytes before the first zero byte.
+fn until_zero(bytes: &[u8]) -> &[u8]
+    ensures { result.now ≡ until_zero bytes.now }
+{
+    for (index, b) in bytes.iter().enumerate() {
+        if *b == 0 {
+            return &bytes[..index];
+        }
+    }
+    bytes
+}
+
+impl LocalType {
+    /// Returns the abbreviation, such as `CET`, from the bytes that the zone was parsed from. From
+    /// other bytes the result can be anything, even empty.
+    pub fn abbreviation<'a>(self, bytes: &'a [u8]) -> &'a [u8]
+        ensures { result.now ≡ abbreviation bytes.now self.name_start self.name_end }
+    {
+        until_zero(from(before(bytes, self.name_end), self.name_start))
+    }
 }

@@ -1,7 +1,7 @@
 use Rattle.std.proofs.Common.{arith}
 use Rattle.std.proofs.lemmas.Int.{ints}
 use Rattle.cal_time.specs.Days.{month_at-range}
-use Rattle.cal_schedule.proofs.Ends.{first-least}
+use Rattle.cal_schedule.specs.MonthLaws.{first-least}
 use Rattle.cal_schedule.proofs.period_ends.first_of_year.Goals as goal
 
 pub returns-clause-max : goal.returns-clause-max

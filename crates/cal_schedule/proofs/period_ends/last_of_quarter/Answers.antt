@@ -2,7 +2,8 @@ use Rattle.std.proofs.Common.{◌+◌, ◌-◌, ◌%◌, arith}
 use Rattle.std.proofs.lemmas.Int.{ints}
 use Rattle.cal_time.specs.Days.{month_at-range}
 use Rattle.cal_time.specs.MonthCycle.{index-month_of_index}
-use Rattle.cal_schedule.proofs.Ends.{last-greatest, last-same}
+use Rattle.cal_schedule.specs.MonthLaws.{last-greatest}
+use Rattle.cal_schedule.proofs.Ends.{last-same}
 use Rattle.cal_schedule.proofs.period_ends.last_of_quarter.Goals as goal
 
 pub returns-clause-value : goal.returns-clause-value

@@ -3,7 +3,8 @@ use Rattle.std.proofs.lemmas.Int.{ints}
 use Rattle.cal_time.specs.CalendarDay.{calendar_day}
 use Rattle.cal_time.specs.Date.{year_at}
 use Rattle.cal_time.specs.Days.{month_at-range}
-use Rattle.cal_schedule.proofs.Ends.{december, last-greatest, last-same}
+use Rattle.cal_schedule.specs.MonthLaws.{last-greatest}
+use Rattle.cal_schedule.proofs.Ends.{december, last-same}
 use Rattle.cal_schedule.proofs.period_ends.last_of_year.Goals as goal
 
 pub returns-clause-value : goal.returns-clause-value

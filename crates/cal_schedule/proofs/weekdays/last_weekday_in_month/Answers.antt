@@ -7,7 +7,7 @@ use Rattle.cal_time.specs.Month.{number}
 use Rattle.cal_time.specs.Weekday.{index}
 use Rattle.cal_time.specs.WeekdayCycle.{index-below}
 use Rattle.cal_schedule.specs.Weekdays.{IsLastWeekday}
-use Rattle.cal_schedule.proofs.WeekdaysOfMonths.{last-index}
+use Rattle.cal_schedule.specs.WeekdaysLaws.{last-index}
 use Rattle.cal_schedule.proofs.weekdays.last_weekday_in_month.Goals as goal
 
 pub unreachable-requires : goal.unreachable-requires

@@ -10,7 +10,8 @@ use Rattle.cal_time.specs.MonthCycle as months
 use Rattle.cal_time.specs.WeekdayCycle.{index-below}
 use Rattle.cal_schedule.specs.Weekdays.{IsNthWeekday}
 use Rattle.cal_schedule.proofs.Ends.{days_in_month-least}
-use Rattle.cal_schedule.proofs.WeekdaysOfMonths.{nth-index, index-nth}
+use Rattle.cal_schedule.specs.WeekdaysLaws.{index-nth}
+use Rattle.cal_schedule.proofs.WeekdaysOfMonths.{nth-index}
 use Rattle.cal_schedule.proofs.weekdays.nth_weekday_in_month.Goals as goal
 use Rattle.cal_schedule.proofs.weekdays.nth_weekday_in_month.Goals.{then-n-eq0-via-then-n-eq0, then-n-eq0-via-else-n-eq0+then-n-gt5}
 

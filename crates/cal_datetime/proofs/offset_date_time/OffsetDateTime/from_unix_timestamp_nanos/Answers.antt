@@ -2,7 +2,7 @@ use Rattle.std.proofs.Common.{arith, ◌≡◌, pos, ◌+ℤ◌, ◌*ℤ◌, Fit
 use Rattle.std.specs.Int.{w128}
 use Rattle.std.proofs.lemmas.Int.{ints, to_z-of_z}
 use Rattle.cal_time.specs.SignedDuration.{second}
-use Rattle.cal_datetime.proofs.Instants.{seconds-and_past}
+use Rattle.cal_datetime.specs.UnixTimeLaws.{seconds-and_past}
 use Rattle.cal_datetime.proofs.offset_date_time.OffsetDateTime.from_unix_timestamp_nanos.Goals as goal
 
 pub returns-in-Ok-clause-error : goal.returns-in-Ok-clause-error

@@ -1,0 +1,6 @@
+pub mod Readers
+pub mod RuleTexts
+pub mod Files
+pub mod Unique
+pub mod Faults
+pub mod OneError

@@ -1,0 +1,15 @@
+//! Reads time zones from the bytes of TZif files (RFC 9636) and from POSIX texts such as
+//! `CET-1CEST,M3.5.0,M10.5.0/3`.
+#![tactic(auto)]
+
+mod bytes;
+mod file;
+mod footer;
+mod header;
+mod number;
+mod posix;
+mod types;
+mod zone_error;
+
+pub use file::{parse, parse_posix};
+pub use zone_error::{ZoneError, ZoneErrorKind};
