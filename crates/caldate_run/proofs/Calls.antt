@@ -1,15 +1,15 @@
 -- How the calls of a run follow one another.
 use Rattle.std.proofs.Common.{◌≡◌, ℕ, ◌+◌, Bool, true, false, List, [], ◌∷◌, length, Option, None, Some, Err, Ok, Result, arith, refl, sym, subst}
-use Rattle.std.specs.Prelude.{IsErrAnd, IsErrOf}
+use Rattle.std.specs.Prelude.{IfErr, IsErrAnd}
 use Rattle.std.specs.declared.io.Error.{Error}
 use Rattle.std.specs.declared.io.ErrorKind.{ErrorKind}
 use Rattle.caldate_run.specs.Calls.{Gives, Reads, Sends, Writes, has_read_failure, is_of_read, most_retries}
 use Rattle.caldate_run.specs.Calls.Reads.{given, failed as fails}
 use Rattle.caldate_run.specs.Calls.Writes.{no_more, sent, failed}
 use Rattle.caldate_run.specs.Calls.Sends.{all}
-use Rattle.caldate_run.specs.Runs.{IsOfWrite}
+use Rattle.caldate_run.specs.Runs.{IsEarly, IsOfWrite}
 use Rattle.caldate_run.specs.declared.fault.Fault.{Fault}
-use Rattle.caldate_run.specs.declared.fault.Fault.TheVariants.{Read, Write, Unanswered}
+use Rattle.caldate_run.specs.declared.fault.Fault.TheVariants.{Read, Write, Stopped, Unanswered}
 
 -- no bytes are left
 pub sends_none : {S : Type 0} (write : S → List ℕ → Result ℕ Error → S → Type 0) (retries : ℕ) (s : S) (bytes : List ℕ) → length bytes ≡ 0
@@ -47,14 +47,16 @@ pub read_failed : (r : Result Unit Fault) → IsErrAnd r (λ fault. fault ≡ Re
 read_failed (Ok done) is = absurd is
 read_failed (Err fault) is = subst (λ fault. is_of_read fault ≡ true) (sym is) refl
 
-pub no_read_failed : (r : Result Unit Fault) → (IsErrOf r Read → ⊥) → has_read_failure r ≡ false
-no_read_failed (Ok done) no_read = refl
-no_read_failed (Err Read) no_read = absurd (no_read refl)
-no_read_failed (Err (Write kind)) no_read = refl
-no_read_failed (Err (Unanswered line)) no_read = refl
+pub no_read_failed : (r : Result Unit Fault) → IfErr r IsEarly → has_read_failure r ≡ false
+no_read_failed (Ok done) early = refl
+no_read_failed (Err Read) early = absurd early
+no_read_failed (Err (Write kind)) early = refl
+no_read_failed (Err (Stopped told)) early = refl
+no_read_failed (Err (Unanswered tally)) early = refl
 
 pub write_failed : (r : Result Unit Fault) → IsErrAnd r IsOfWrite → has_read_failure r ≡ false
 write_failed (Ok done) is = refl
 write_failed (Err Read) is = absurd is
 write_failed (Err (Write kind)) is = refl
-write_failed (Err (Unanswered line)) is = absurd is
+write_failed (Err (Stopped told)) is = absurd is
+write_failed (Err (Unanswered tally)) is = absurd is

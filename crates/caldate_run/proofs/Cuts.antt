@@ -1,9 +1,12 @@
 -- A text is cut at one of its fields.
-use Rattle.std.proofs.Common.{◌≡◌, ℕ, zero, suc, ◌-◌, ◌<◌, eqb, List, [], ◌∷◌, ◌++◌, length, take, drop, Some, None, refl, sym, ap, ◌∙◌, arith, append_assoc, length-append}
+use Rattle.std.proofs.Common.{◌≡◌, ℕ, zero, suc, ◌-◌, ◌<◌, ◌≤◌, inl, inr, eqb, List, [], ◌∷◌, ◌++◌, length, take, drop, Some, None, refl, sym, ap, ◌∙◌, arith, append_assoc, length-append}
 use Rattle.std.specs.Prelude.{slice_get, slice_set}
 use Rattle.std.specs.List.{join_with_byte, slice_split}
 use Rattle.std.proofs.Math.Seq.{drop-append_seam, take-append_seam}
-use Rattle.std.proofs.lemmas.List.{append-nil, take_rest}
+use Rattle.std.proofs.lemmas.List.{append-nil, set_past, take_rest}
+use Rattle.std.proofs.lemmas.Option.{none-some, slice_get_cases}
+use Rattle.caldate_run.specs.Fields.{asked_text, text_with}
+use Rattle.caldate_run.specs.declared.request.Field.{Field}
 use Rattle.std.proofs.lemmas.List.Splits.{join_with_byte-slice_split, length-slice_split}
 
 abbrev pub parts : ℕ → List ℕ → List (List ℕ)
@@ -87,3 +90,13 @@ is_not_last c n k text rest asked more first cut whole h =
       whole = h.whole ∙ ap (λ l. h.front ++ l) whole ∙ sym (append_assoc h.front asked (c ∷ more)) ∙ ap (λ f. f ++ asked ++ c ∷ more) before
           ∙ ap (λ l. take (length text - length rest) text ++ asked ++ l) after;
     }
+
+-- a text that lacks the field stays as it is
+pub no_field : (field : Field) (text words : List ℕ) → asked_text (Some field) text ≡ None → text_with (Some field) text words ≡ text
+no_field field text words none =
+    let n = field.number - 1 in
+    let past : length (parts field.separator text) ≤ n = elim (slice_get_cases (parts field.separator text) n).1 [
+      | inl within ↦ absurd (none-some within.0 (sym none ∙ within.2))
+      | inr past ↦ past.0
+    ] in
+    ap (join_with_byte field.separator) (set_past (parts field.separator text) n words past) ∙ join_with_byte-slice_split field.separator text

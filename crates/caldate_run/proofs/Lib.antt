@@ -9,7 +9,6 @@ pub mod Laters
 pub mod Texts
 pub mod Numbers
 pub mod Replied
-pub mod Keeps
 pub mod Steps
 pub mod OneCount
 pub mod OneAnswer

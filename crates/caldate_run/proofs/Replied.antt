@@ -1,18 +1,27 @@
--- The reply to a line, from the words for its text.
-use Rattle.std.proofs.Common.{◌≡◌, ℕ, ◌+◌, ◌-◌, ◌<◌, ◌≤◌, Bool, true, false, cond, eqb, List, [], ◌∷◌, ◌++◌, length, take, get_or, codes, refl, sym, ap, ◌∙◌, subst, arith, length-append, length-take, append_assoc}
+-- The reply to a line, from the answer to its text.
+use Rattle.std.proofs.Common.{◌≡◌, ℕ, ◌+◌, ◌-◌, ◌<◌, ◌≤◌, Bool, true, false, cond, eqb, List, [], ◌∷◌, ◌++◌, length, take, get_or, Option, Some, None, Result, Ok, Err, refl, sym, ap, ◌∙◌, subst, arith, length-append, length-take, append_assoc}
+use Rattle.std.specs.Prelude.{IsSomeAnd, OnOk, MatchBool, MatchOption, is_some, nat_lt, unwrap_or}
 use Rattle.std.proofs.Math.Seq.{take-append-add, take-append_seam}
-use Rattle.std.proofs.lemmas.List.{get_or-append-add}
-use Rattle.caldate_run.specs.Answers.{IsTooLong}
-use Rattle.caldate_run.specs.Lines.{has_return, text_of, end_of}
-use Rattle.caldate_run.specs.Runs.{AppendsThat}
-use Rattle.caldate_run.specs.Standing.{IsHeld, IsReply, IsShown, counted}
+use Rattle.std.proofs.lemmas.Bool.{false≢true, le-ltb}
+use Rattle.std.proofs.lemmas.List.{append-nil, get_or-append-add}
+use Rattle.caldate_run.specs.Answers.{Answer, IsAnswer}
+use Rattle.caldate_run.specs.Fields.{asked_text, text_with}
+use Rattle.caldate_run.specs.Lines.{has_return, text_of}
+use Rattle.caldate_run.specs.Replies.{Describes, IsAnswerIn, IsAnswerOf, IsAnswerToText, IsReplyTo, ends_at, in_place, in_text, more, with_end}
+use Rattle.caldate_run.specs.Runs.{AppendsThat, Puts, Replied}
+use Rattle.caldate_run.specs.Standing.{AtLine, IsHeld, IsShown}
 use Rattle.caldate_run.specs.Shown.{shown, words_shown}
-use Rattle.caldate_run.specs.Unanswered.{IsReason}
+use Rattle.caldate_run.specs.declared.no_answer.NoAnswer.{NoAnswer}
+use Rattle.caldate_run.specs.declared.no_answer.NoAnswer.TheVariants as why
+use Rattle.caldate_run.specs.declared.on_invalid.OnInvalid.{OnInvalid}
+use Rattle.caldate_run.specs.declared.on_invalid.OnInvalid.TheVariants as invalid
 use Rattle.caldate_run.specs.declared.progress.Progress.{Progress}
+use Rattle.caldate_run.specs.declared.request.Field.{Field}
 use Rattle.caldate_run.specs.declared.request.Filter.{Filter}
 use Rattle.caldate_run.specs.declared.shown.ShownText.{ShownText}
+use Rattle.caldate_run.specs.declared.tally.Tally.{Tally}
 use Rattle.caldate_run.specs.declared.unanswered.UnansweredLine.{UnansweredLine}
-use Rattle.caldate_run.proofs.Steps.{Tells, shown_front}
+use Rattle.caldate_run.proofs.Steps.{shown_front}
 
 -- ---- a line of which a front was let go
 same_return : (kept line : List ℕ) → 0 < length line → has_return (kept ++ line) ≡ has_return line
@@ -31,28 +40,116 @@ text_long : (b : Bool) (line : List ℕ) (n : ℕ) → n + 1 < length line → n
 text_long true line n h = omega (arith, h, length-take (length line - 1) line)
 text_long false line n h = omega (arith, h)
 
-pub is_too_long : (kept line : List ℕ) → IsHeld true kept line → IsTooLong (text_of (kept ++ line)) (codes "line too long")
-is_too_long kept line h =
-    (text_long (has_return (kept ++ line)) (kept ++ line) 4096 (omega (arith, h.0, length-append kept line, ap length h.2.2)), refl)
+pub is_too_long : (kept line : List ℕ) → IsHeld true kept line → 4096 < length (text_of (kept ++ line))
+is_too_long kept line h = text_long (has_return (kept ++ line)) (kept ++ line) 4096 (omega (arith, h.0, length-append kept line, ap length h.2.2))
+
+-- ---- the answer to the text of a line
+pub of_text : (filter : Filter) (before : ℕ) (text : List ℕ) (answer : Answer) → length text ≤ 4096 → filter.skip ≤ before
+    → IsAnswerToText filter text answer → IsAnswerOf filter before text answer
+of_text filter before text answer fits skip h =
+    let skipped = subst (λ b. MatchBool b (answer ≡ Ok (Some text)) (IsAnswerToText filter text answer)) (sym (le-ltb before filter.skip skip)) h in
+    subst (λ b. MatchBool b (answer ≡ Err why.TooLong) (MatchBool (nat_lt before filter.skip) (answer ≡ Ok (Some text)) (IsAnswerToText filter text answer)))
+    (sym (le-ltb 4096 (length text) fits)) skipped
+
+pub in_field : (filter : Filter) (field : Option Field) (text asked : List ℕ) (own : Answer) → filter.field ≡ field → asked_text field text ≡ Some asked
+    → IsAnswer filter asked own → IsAnswerToText filter text (in_text filter text own)
+in_field filter field text asked own is e h =
+    subst (λ o. MatchOption o (in_text filter text own ≡ Err why.NoField) (IsAnswerIn filter text (in_text filter text own)))
+    (sym (ap (λ f. asked_text f text) is ∙ e)) (own, h, refl)
+
+same_text : (filter : Filter) (text : List ℕ) (answer : Answer) → filter.field ≡ None → in_text filter text answer ≡ answer
+same_text filter text (Ok (Some words)) e = ap (λ f. Ok (Some (text_with f text words))) e
+same_text filter text (Ok None) e = refl
+same_text filter text (Err any) e = refl
+
+pub in_whole : (filter : Filter) (text : List ℕ) (answer : Answer) → filter.field ≡ None → IsAnswer filter text answer → IsAnswerToText filter text answer
+in_whole filter text answer none h = subst (IsAnswerToText filter text) (same_text filter text answer none) (in_field filter None text text answer none refl h)
+
+pub puts_other : (P Q : Answer → Type 0) (r : Result Bool NoAnswer) (old new : List ℕ) → ((answer : Answer) → P answer → Q answer) → Puts P r old new → Puts Q r old new
+puts_other P Q (Ok true) old new f h = (h.0, h.1, f (Ok (Some h.0)) h.2)
+puts_other P Q (Ok false) old new f h = (h.0, f (Ok None) h.1)
+puts_other P Q (Err any) old new f h = (h.0, f (Err any) h.1)
+
+-- the line has no answer, and its reply is appended
+pub replied_without : (filter : Filter) (progress : Progress) (tally : Tally) (line text old mid new : List ℕ) (cut : Bool) (any : NoAnswer) (r : Result Unit UnansweredLine)
+    → text ≡ text_of line → cut ≡ has_return line
+    → AtLine progress line (λ before whole. (mid ≡ old) × IsAnswerOf filter before (text_of whole) (Err any))
+    → OnOk r ((line : List ℕ) → text ≡ text_of line → cut ≡ has_return line → AtLine progress line (λ before whole.
+    IsAnswerOf filter before (text_of whole) (Err any) → AppendsThat (λ reply. IsReplyTo filter before whole reply progress.tally tally) mid new))
+    → OnOk r (Replied (IsReplyTo filter) progress tally line old new)
+replied_without filter progress tally line text old mid new cut any (Ok done) e f put h = λ kept before held front number.
+    let put = put kept before held front number in
+    subst (λ l. AppendsThat (λ reply. IsReplyTo filter before (kept ++ line) reply progress.tally tally) l new) put.0 (h line e f kept before held front number put.1)
+replied_without filter progress tally line text old mid new cut any (Err told) e f put h = h
+
+pub taken_back : (old mid rest new : List ℕ) (before : ℕ) → before ≡ length old → mid ≡ old ++ rest → new ≡ take before mid → new ≡ old
+taken_back old mid rest new before at e f = f ∙ ap (λ k. take k mid) at ∙ ap (λ l. take (length old) l) e ∙ take-append_seam old rest
 
 -- ---- a line that is whole
 pub of_whole : (P : List ℕ → Type 0) (kept line text : List ℕ) → IsHeld false kept line → text ≡ text_of line → P text → P (text_of (kept ++ line))
 of_whole P kept line text h e p = subst P (e ∙ ap (λ k. text_of (k ++ line)) (sym h)) p
 
 -- ---- the words, and the end of the line
-pub replied : (Says : List ℕ → List ℕ → Type 0) (b : Bool) (kept line old mid new : List ℕ) (cut : Bool) → IsHeld b kept line
-    → AppendsThat (Says (text_of (kept ++ line))) old mid → cut ≡ has_return line → new ≡ mid ++ cond cut (13 ∷ 10 ∷ []) (10 ∷ [])
-    → AppendsThat (IsReply Says (kept ++ line)) old new
-replied Says b kept line old mid new cut h a e f = (
-  a.0 ++ end_of (kept ++ line),
-  f ∙ ap (λ l. l ++ cond cut (13 ∷ 10 ∷ []) (10 ∷ [])) a.1 ∙ append_assoc old a.0 (cond cut (13 ∷ 10 ∷ []) (10 ∷ []))
-      ∙ ap (λ cut. old ++ (a.0 ++ cond cut (13 ∷ 10 ∷ []) (10 ∷ []))) (e ∙ sym (same_cut b kept line h)),
-  (a.0, a.2, refl),
+-- what goes out, with the end of the line
+pub ended : (b : Bool) (kept line old mid new : List ℕ) (out : Option (List ℕ)) (goes cut : Bool) → IsHeld b kept line → mid ≡ old ++ unwrap_or out [] → goes ≡ is_some out
+    → cut ≡ has_return line → new ≡ mid ++ cond goes (cond cut (13 ∷ 10 ∷ []) (10 ∷ [])) [] → new ≡ old ++ with_end (kept ++ line) out
+ended b kept line old mid new out goes cut h put is e f = f ∙ at out put is
+  where
+    at : (out : Option (List ℕ)) → mid ≡ old ++ unwrap_or out [] → goes ≡ is_some out
+        → mid ++ cond goes (cond cut (13 ∷ 10 ∷ []) (10 ∷ [])) [] ≡ old ++ with_end (kept ++ line) out
+    at None put is = ap (λ g. mid ++ cond g (cond cut (13 ∷ 10 ∷ []) (10 ∷ [])) []) is ∙ append-nil mid ∙ put
+    at (Some words) put is =
+        ap (λ g. mid ++ cond g (cond cut (13 ∷ 10 ∷ []) (10 ∷ [])) []) is ∙ ap (λ m. m ++ cond cut (13 ∷ 10 ∷ []) (10 ∷ [])) put
+        ∙ append_assoc old words (cond cut (13 ∷ 10 ∷ []) (10 ∷ [])) ∙ ap (λ c. old ++ (words ++ cond c (13 ∷ 10 ∷ []) (10 ∷ []))) (e ∙ sym (same_cut b kept line h))
+
+-- a line with an answer
+pub replied : (filter : Filter) (before : ℕ) (b : Bool) (kept line old mid new : List ℕ) (goes cut : Bool) (t u : Tally) → IsHeld b kept line
+    → Puts (IsAnswerOf filter before (text_of (kept ++ line))) (Ok goes) old mid → cut ≡ has_return line
+    → new ≡ mid ++ cond goes (cond cut (13 ∷ 10 ∷ []) (10 ∷ [])) [] → u ≡ record { lines = more t.lines; unanswered = t.unanswered; first = t.first }
+    → AppendsThat (λ reply. IsReplyTo filter before (kept ++ line) reply t u) old new
+replied filter before b kept line old mid new true cut t u h put e f counts = (
+  with_end (kept ++ line) (Some put.0),
+  ended b kept line old mid new (Some put.0) true cut h put.1 refl e f,
+  record { answer = Ok (Some put.0); is = put.2; out = refl; counts = counts },
+)
+replied filter before b kept line old mid new false cut t u h put e f counts = (
+  [],
+  ended b kept line old mid new None false cut h (put.0 ∙ sym (append-nil old)) refl e f,
+  record { answer = Ok None; is = put.1; out = refl; counts = counts },
 )
 
--- ---- the reply to a line is removed
-pub taken_back : (old mid rest new : List ℕ) (before : ℕ) → before ≡ length old → mid ≡ old ++ rest → new ≡ take before mid → new ≡ old
-taken_back old mid rest new before at e f = f ∙ ap (λ k. take k mid) at ∙ ap (λ l. take (length old) l) e ∙ take-append_seam old rest
+-- a line without one
+first_counts : (before : ℕ) (line : List ℕ) (any : NoAnswer) (first new : Option UnansweredLine) (told : UnansweredLine) → Describes before line any told
+    → MatchOption first (new ≡ Some told) (λ f. new ≡ Some f) → MatchOption first (IsSomeAnd new (Describes before line any)) (λ f. new ≡ Some f)
+first_counts before line any None new told is h = subst (λ o. IsSomeAnd o (Describes before line any)) (sym h) is
+first_counts before line any (Some f) new told is h = h
+
+same_place : (b : Bool) (filter : Filter) (kept line text : List ℕ) (any : NoAnswer) → IsHeld b kept line → text ≡ text_of line
+    → (b ≡ true → any ≡ why.TooLong) → ends_at filter.on_invalid any ≡ false
+    → in_place filter.on_invalid filter text any ≡ in_place filter.on_invalid filter (text_of (kept ++ line)) any
+same_place false filter kept line text any h e long goes = ap (λ t. in_place filter.on_invalid filter t any) (e ∙ ap (λ k. text_of (k ++ line)) (sym h))
+same_place true filter kept line text any h e long goes =
+    subst (λ w. ends_at filter.on_invalid w ≡ false → in_place filter.on_invalid filter text w ≡ in_place filter.on_invalid filter (text_of (kept ++ line)) w) (sym (long refl))
+    (at filter.on_invalid text (text_of (kept ++ line))) goes
+  where
+    at : (mode : OnInvalid) (x y : List ℕ) → ends_at mode why.TooLong ≡ false → in_place mode filter x why.TooLong ≡ in_place mode filter y why.TooLong
+    at invalid.Keep x y goes = absurd (false≢true (sym goes))
+    at invalid.Answer x y goes = refl
+    at invalid.Drop x y goes = refl
+    at invalid.Stop x y goes = refl
+
+pub unanswered : (filter : Filter) (before : ℕ) (b : Bool) (kept line text old mid new : List ℕ) (any : NoAnswer) (goes cut : Bool) (t u : Tally) (told : UnansweredLine)
+    → IsHeld b kept line → text ≡ text_of line → (b ≡ true → any ≡ why.TooLong) → ends_at filter.on_invalid any ≡ false
+    → IsAnswerOf filter before (text_of (kept ++ line)) (Err any) → mid ≡ old ++ unwrap_or (in_place filter.on_invalid filter text any) []
+    → goes ≡ is_some (in_place filter.on_invalid filter text any) → cut ≡ has_return line → new ≡ mid ++ cond goes (cond cut (13 ∷ 10 ∷ []) (10 ∷ [])) []
+    → Describes before (kept ++ line) any told → u.lines ≡ more t.lines → u.unanswered ≡ more t.unanswered → MatchOption t.first (u.first ≡ Some told) (λ f. u.first ≡ Some f)
+    → AppendsThat (λ reply. IsReplyTo filter before (kept ++ line) reply t u) old new
+unanswered filter before b kept line text old mid new any goes cut t u told h e long on is put out has f describes lines count first =
+    let same = same_place b filter kept line text any h e long on in (
+      with_end (kept ++ line) (in_place filter.on_invalid filter (text_of (kept ++ line)) any),
+      ended b kept line old mid new _ goes cut h (put ∙ ap (λ o. old ++ unwrap_or o []) same) (out ∙ ap (λ o. is_some o) same) has f,
+      record { answer = Err any; is = is; out = (on, refl); counts = (lines, count, first_counts before (kept ++ line) any t.first u.first told describes first) },
+    )
 
 -- ---- the shown text of a line
 shown_cut : (kept line : List ℕ) → 80 ≤ length kept → 0 < length line → shown (take (length (kept ++ line) - 1) (kept ++ line)) ≡ shown kept
@@ -70,16 +167,3 @@ pub text_shown : (b : Bool) (front : ShownText) (kept line text : List ℕ) (tol
 text_shown false front kept line text told held is e whole long = whole refl ∙ ap shown (e ∙ ap (λ k. text_of (k ++ line)) (sym held))
 text_shown true front kept line text told held is e whole long =
     ap words_shown (long refl) ∙ is ∙ sym (shown_long (has_return (kept ++ line)) kept line (omega (arith, held.0)) (omega (arith, ap length held.2.2)))
-
--- ---- the description of a line without an answer
-pub tells : (filter : Filter) (progress : Progress) (line words : List ℕ) (told : UnansweredLine)
-    → ((kept : List ℕ) (before : ℕ) → IsHeld progress.is_long kept line → progress.number ≡ counted before → IsReason filter before (text_of (kept ++ line)) words)
-    → told.number ≡ counted (progress.number + 1) → words_shown told.reason ≡ shown words
-    → (progress.is_long ≡ false → words_shown told.text ≡ shown (text_of line)) → (progress.is_long ≡ true → told.text ≡ progress.front)
-    → Tells filter progress line told
-tells filter progress line words told why number reason whole long = λ kept before held front at.
-    record {
-      reason = (words, why kept before held at, reason);
-      number_is = omega (arith, number, at);
-      text_is = text_shown progress.is_long progress.front kept line (text_of line) told.text held front refl whole long;
-    }

@@ -10,27 +10,35 @@ use Rattle.std.proofs.lemmas.List.Elements.{All-append, All-head, All-take, All-
 use Rattle.std.proofs.lemmas.List.Splits.{slice_split_at, slice_split_none, length-slice_split}
 use Rattle.std.proofs.lemmas.Bool.{false≢true}
 use Rattle.caldate_run.specs.Lines.{ended_lines, is_end, lines_of, without_empty_last, without_last}
-use Rattle.caldate_run.specs.Runs.{AnswersAll, AnswersFront, AppendsFront, AppendsThat, IsReplyTo, StopsAt}
-use Rattle.caldate_run.specs.Standing.{AreReplies, IsHeld, IsShown, NoEnd, Stands, Writes, counted}
+use Rattle.caldate_run.specs.Replies.{EndsAt, IsReplyTo}
+use Rattle.caldate_run.specs.Runs.{AnswersAll, AnswersFront, AppendsFront, Replied, StopsAt}
+use Rattle.caldate_run.specs.Standing.{AreReplies, AtLine, IsHeld, IsShown, NoEnd, Replies, Stands, counted, no_lines}
 use Rattle.caldate_run.specs.Shown.{printed, shown, words_shown}
-use Rattle.caldate_run.specs.Unanswered.{IsUnanswered}
 use Rattle.caldate_run.specs.declared.progress.Progress.{Progress}
 use Rattle.caldate_run.specs.declared.request.Filter.{Filter}
 use Rattle.caldate_run.specs.declared.shown.ShownText.{ShownText}
+use Rattle.caldate_run.specs.declared.tally.Tally.{Tally}
 use Rattle.caldate_run.specs.declared.unanswered.UnansweredLine.{UnansweredLine}
 
 -- ---- replies
-pub one_reply : (Allowed : Writes) (before n : ℕ) (lines : List (List ℕ)) (line out reply : List ℕ) → n ≡ before + length lines
-    → AreReplies Allowed before lines out → Allowed n line reply → AreReplies Allowed before (lines ++ line ∷ []) (out ++ reply)
-one_reply Allowed before n [] line out reply e h r =
-    (reply, [], subst (λ k. Allowed k line reply) (omega (arith, e)) r, ap (λ l. l ++ reply) h ∙ sym (append-nil reply), refl)
-one_reply Allowed before n (l ∷ lines) line out reply e h r =
-    (h.0, h.1 ++ reply, h.2, ap (λ o. o ++ reply) h.3 ∙ append_assoc h.0 h.1 reply, one_reply Allowed (before + 1) n lines line h.1 reply (omega (arith, e)) h.4 r)
-
--- the appended bytes are the reply to the line, for any dropped front
-abbrev pub Replies : Writes → Progress → List ℕ → List ℕ → List ℕ → Type 0
-Replies Allowed progress line old new =
-    (kept : List ℕ) (before : ℕ) → IsHeld progress.is_long kept line → progress.number ≡ counted before → AppendsThat (Allowed before (kept ++ line)) old new
+pub one_reply : (IsReply : Replies) (before n : ℕ) (lines : List (List ℕ)) (line out reply : List ℕ) (t u v : Tally) → n ≡ before + length lines
+    → AreReplies IsReply before lines out t u → IsReply n line reply u v → AreReplies IsReply before (lines ++ line ∷ []) (out ++ reply) t v
+one_reply IsReply before n [] line out reply t u v e h r = (
+  reply,
+  [],
+  v,
+  subst (λ k. IsReply k line reply t v) (omega (arith, e)) (subst (λ w. IsReply n line reply w v) h.1 r),
+  ap (λ l. l ++ reply) h.0 ∙ sym (append-nil reply),
+  (refl, refl),
+)
+one_reply IsReply before n (l ∷ lines) line out reply t u v e h r = (
+  h.0,
+  h.1 ++ reply,
+  h.2,
+  h.3,
+  ap (λ o. o ++ reply) h.4 ∙ append_assoc h.0 h.1 reply,
+  one_reply IsReply (before + 1) n lines line h.1 reply h.2 u v (omega (arith, e)) h.5 r,
+)
 
 -- ---- the line that was held
 kept_no_end : (b : Bool) (kept pending : List ℕ) → IsHeld b kept pending → NoEnd kept
@@ -71,13 +79,13 @@ cut_line kept line after more pending h n e =
 counted_more : (n m : ℕ) → m ≡ counted n → counted (m + 1) ≡ counted (n + 1)
 counted_more n m e = omega (arith, e)
 
-pub answered : (Allowed : Writes) (input : List ℕ) (start now : Option (List ℕ)) (gathered gathered_now pending line after : List ℕ) (progress progress_now : Progress)
+pub answered : (IsReply : Replies) (input : List ℕ) (start now : Option (List ℕ)) (gathered gathered_now pending line after : List ℕ) (progress progress_now : Progress)
     → NoEnd line → pending ≡ line ++ 10 ∷ after
-    → Replies Allowed progress line gathered gathered_now
-    → progress_now.is_long ≡ false → progress_now.number ≡ counted (progress.number + 1)
-    → Stands Allowed input start now gathered pending progress → Stands Allowed input start now gathered_now after progress_now
-answered Allowed input start now gathered gathered_now pending line after progress progress_now n e reply short number s =
-    let r = reply s.kept (length s.lines) (held_line progress.is_long s.kept pending line after s.held e) s.number in
+    → Replied IsReply progress progress_now.tally line gathered gathered_now
+    → progress_now.is_long ≡ false → progress_now.tally.lines ≡ counted (progress.tally.lines + 1)
+    → Stands IsReply input start now gathered pending progress → Stands IsReply input start now gathered_now after progress_now
+answered IsReply input start now gathered gathered_now pending line after progress progress_now n e reply short number s =
+    let r = reply s.kept (length s.lines) (held_line progress.is_long s.kept pending line after s.held e) s.front s.number in
     record {
       lines = s.lines ++ (s.kept ++ line) ∷ [];
       kept = [];
@@ -85,19 +93,19 @@ answered Allowed input start now gathered gathered_now pending line after progre
       written = s.written;
       cut = λ more. s.cut more ∙ ap (λ parts. s.lines ++ parts) (cut_line s.kept line after more pending (kept_no_end progress.is_long s.kept pending s.held) n e)
           ∙ sym (append_assoc s.lines ((s.kept ++ line) ∷ []) (slice_split is_end (after ++ more)));
-      replies = one_reply Allowed 0 _ s.lines (s.kept ++ line) s.out r.0 (omega arith) s.replies r.2;
+      replies = one_reply IsReply 0 _ s.lines (s.kept ++ line) s.out r.0 _ _ _ (omega arith) s.replies r.2;
       whole = ap (λ o. o ++ r.0) s.whole ∙ append_assoc s.written gathered r.0 ∙ ap (λ l. s.written ++ l) (sym r.1);
       taken = s.taken;
       held = subst (λ b. IsHeld b [] after) (sym short) refl;
       front = subst (λ b. IsShown b progress_now.front []) (sym short) tt;
-      number = number ∙ counted_more (length s.lines) progress.number s.number ∙ ap counted (sym (length-append s.lines ((s.kept ++ line) ∷ [])));
+      number = number ∙ counted_more (length s.lines) progress.tally.lines s.number ∙ ap counted (sym (length-append s.lines ((s.kept ++ line) ∷ [])));
     }
 
 -- ---- the buffer is written, all of it or a front of it
-pub gone : (Allowed : Writes) (input : List ℕ) (start now new : Option (List ℕ)) (gathered left written pending : List ℕ) (progress : Progress)
+pub gone : (IsReply : Replies) (input : List ℕ) (start now new : Option (List ℕ)) (gathered left written pending : List ℕ) (progress : Progress)
     → gathered ≡ written ++ left → Appends now new written
-    → Stands Allowed input start now gathered pending progress → Stands Allowed input start new left pending progress
-gone Allowed input start now new gathered left written pending progress e a s = record {
+    → Stands IsReply input start now gathered pending progress → Stands IsReply input start new left pending progress
+gone IsReply input start now new gathered left written pending progress e a s = record {
   lines = s.lines;
   kept = s.kept;
   out = s.out;
@@ -181,24 +189,24 @@ failed filter input start now new gathered pending progress f s = record {
   lines = s.lines;
   more = ended_lines (s.kept ++ pending);
   out = s.out;
+  tally = progress.tally;
   cut = ended_are input s.kept pending s.lines s.cut;
   replies = s.replies;
   taken = front_more start now new s.written gathered s.out s.whole s.taken f;
 }
 
 -- ---- a line without an answer
-abbrev pub Tells : Filter → Progress → List ℕ → UnansweredLine → Type 0
-Tells filter progress line told = (kept : List ℕ) (before : ℕ) → IsHeld progress.is_long kept line → IsShown progress.is_long progress.front kept
-    → progress.number ≡ counted before → IsUnanswered filter before (kept ++ line) told
+abbrev pub Ends : Filter → Progress → List ℕ → UnansweredLine → Type 0
+Ends filter progress line told = AtLine progress line (λ before whole. EndsAt filter before whole told)
 
 pub all_more : (start now new : Option (List ℕ)) (written gathered out : List ℕ) → out ≡ written ++ gathered → Appends start now written
     → Appends now new gathered → Appends start new out
 all_more start now new written gathered out e a f = subst (Appends start new) (sym e) (Appends-trans start now new _ _ a f)
 
 pub stopped : (filter : Filter) (input : List ℕ) (start now new : Option (List ℕ)) (gathered pending line after : List ℕ) (progress : Progress) (told : UnansweredLine)
-    → NoEnd line → pending ≡ line ++ 10 ∷ after → filter.is_strict ≡ true → Tells filter progress line told → Appends now new gathered
+    → NoEnd line → pending ≡ line ++ 10 ∷ after → Ends filter progress line told → Appends now new gathered
     → Stands (IsReplyTo filter) input start now gathered pending progress → StopsAt filter told (ended_lines input) start new
-stopped filter input start now new gathered pending line after progress told n e strict tells f s =
+stopped filter input start now new gathered pending line after progress told n e ends f s =
     let held = kept_no_end progress.is_long s.kept pending s.held in
     let parts = cut_line s.kept line after [] pending held n e in
     let parts = ap (λ p. slice_split is_end (s.kept ++ p)) (sym (append-nil pending)) ∙ parts ∙ ap (λ a. (s.kept ++ line) ∷ slice_split is_end a) (append-nil after) in
@@ -207,10 +215,10 @@ stopped filter input start now new gathered pending line after progress told n e
       line = s.kept ++ line;
       more = ended_lines after;
       out = s.out;
-      strict = strict;
+      tally = progress.tally;
       cut = ended_are input s.kept pending s.lines s.cut
           ∙ ap (λ p. s.lines ++ without_last p) parts ∙ ap (λ l. s.lines ++ l) (part_ended (s.kept ++ line) (slice_split is_end after) (split_some after));
-      unanswered = tells s.kept (length s.lines) (held_line progress.is_long s.kept pending line after s.held e) s.front s.number;
+      ends = ends s.kept (length s.lines) (held_line progress.is_long s.kept pending line after s.held e) s.front s.number;
       replies = s.replies;
       taken = all_more start now new s.written gathered s.out s.whole s.taken f;
     }
@@ -224,14 +232,14 @@ held_some : (b : Bool) (kept pending : List ℕ) → IsHeld b kept pending → 0
 held_some b kept pending h l = omega (arith, l, length-append kept pending)
 
 pub all_answered : (filter : Filter) (input : List ℕ) (start now : Option (List ℕ)) (progress : Progress)
-    → Stands (IsReplyTo filter) input start now [] [] progress → AnswersAll filter (lines_of input) start now
+    → Stands (IsReplyTo filter) input start now [] [] progress → AnswersAll filter (lines_of input) progress.tally start now
 all_answered filter input start now progress s =
     let none = kept_none progress.is_long s.kept s.held in
     let lines : lines_of input ≡ s.lines =
     lines_of_are input s.kept [] s.lines s.cut ∙ ap (λ k. s.lines ++ lines_of (k ++ [])) none ∙ append-nil s.lines in
     record {
       out = s.out;
-      replies = subst (λ ls. AreReplies (IsReplyTo filter) 0 ls s.out) (sym lines) s.replies;
+      replies = subst (λ ls. AreReplies (IsReplyTo filter) 0 ls s.out no_lines progress.tally) (sym lines) s.replies;
       taken = subst (Appends start now) (sym (s.whole ∙ append-nil s.written)) s.taken;
     }
 
@@ -243,76 +251,77 @@ with_last filter input start now gathered line progress n l s =
     lines_of_are input s.kept line s.lines s.cut
     ∙ ap (λ ls. s.lines ++ ls) (one_line (s.kept ++ line) (no_end_append s.kept line (kept_no_end progress.is_long s.kept line s.held) n) (held_some progress.is_long s.kept line s.held l))
 
-pub last_answered : (filter : Filter) (input : List ℕ) (start now new : Option (List ℕ)) (gathered line : List ℕ) (progress : Progress)
+pub last_answered : (filter : Filter) (input : List ℕ) (start now new : Option (List ℕ)) (gathered line : List ℕ) (progress : Progress) (tally : Tally)
     → NoEnd line → 0 < length line
-    → Replies (IsReplyTo filter) progress line [] gathered
+    → Replied (IsReplyTo filter) progress tally line [] gathered
     → Appends now new gathered
-    → Stands (IsReplyTo filter) input start now [] line progress → AnswersAll filter (lines_of input) start new
-last_answered filter input start now new gathered line progress n l reply f s =
-    let r = reply s.kept (length s.lines) s.held s.number in
+    → Stands (IsReplyTo filter) input start now [] line progress → AnswersAll filter (lines_of input) tally start new
+last_answered filter input start now new gathered line progress tally n l reply f s =
+    let r = reply s.kept (length s.lines) s.held s.front s.number in
     record {
       out = s.out ++ r.0;
-      replies = subst (λ ls. AreReplies (IsReplyTo filter) 0 ls (s.out ++ r.0)) (sym (with_last filter input start now [] line progress n l s))
-          (one_reply (IsReplyTo filter) 0 _ s.lines (s.kept ++ line) s.out r.0 (omega arith) s.replies r.2);
+      replies = subst (λ ls. AreReplies (IsReplyTo filter) 0 ls (s.out ++ r.0) no_lines tally) (sym (with_last filter input start now [] line progress n l s))
+          (one_reply (IsReplyTo filter) 0 _ s.lines (s.kept ++ line) s.out r.0 _ _ _ (omega arith) s.replies r.2);
       taken = all_more start now new s.written gathered (s.out ++ r.0) (ap (λ o. o ++ r.0) (s.whole ∙ append-nil s.written) ∙ ap (λ g. s.written ++ g) (sym r.1)) s.taken f;
     }
 
-pub last_failed : (filter : Filter) (input : List ℕ) (start now new : Option (List ℕ)) (gathered line : List ℕ) (progress : Progress)
+pub last_failed : (filter : Filter) (input : List ℕ) (start now new : Option (List ℕ)) (gathered line : List ℕ) (progress : Progress) (tally : Tally)
     → NoEnd line → 0 < length line
-    → Replies (IsReplyTo filter) progress line [] gathered
+    → Replied (IsReplyTo filter) progress tally line [] gathered
     → AppendsFront now new gathered
     → Stands (IsReplyTo filter) input start now [] line progress → AnswersFront filter (lines_of input) start new
-last_failed filter input start now new gathered line progress n l reply f s =
-    let r = reply s.kept (length s.lines) s.held s.number in
+last_failed filter input start now new gathered line progress tally n l reply f s =
+    let r = reply s.kept (length s.lines) s.held s.front s.number in
     record {
       lines = s.lines ++ (s.kept ++ line) ∷ [];
       more = [];
       out = s.out ++ r.0;
+      tally = tally;
       cut = with_last filter input start now [] line progress n l s ∙ sym (append-nil (s.lines ++ (s.kept ++ line) ∷ []));
-      replies = one_reply (IsReplyTo filter) 0 _ s.lines (s.kept ++ line) s.out r.0 (omega arith) s.replies r.2;
+      replies = one_reply (IsReplyTo filter) 0 _ s.lines (s.kept ++ line) s.out r.0 _ _ _ (omega arith) s.replies r.2;
       taken = front_more start now new s.written gathered (s.out ++ r.0) (ap (λ o. o ++ r.0) (s.whole ∙ append-nil s.written) ∙ ap (λ g. s.written ++ g) (sym r.1)) s.taken f;
     }
 
 pub last_stopped : (filter : Filter) (input : List ℕ) (start now : Option (List ℕ)) (line : List ℕ) (progress : Progress) (told : UnansweredLine)
-    → NoEnd line → 0 < length line → filter.is_strict ≡ true → Tells filter progress line told
+    → NoEnd line → 0 < length line → Ends filter progress line told
     → Stands (IsReplyTo filter) input start now [] line progress → StopsAt filter told (lines_of input) start now
-last_stopped filter input start now line progress told n l strict tells s =
+last_stopped filter input start now line progress told n l ends s =
     record {
       lines = s.lines;
       line = s.kept ++ line;
       more = [];
       out = s.out;
-      strict = strict;
+      tally = progress.tally;
       cut = with_last filter input start now [] line progress n l s;
-      unanswered = tells s.kept (length s.lines) s.held s.front s.number;
+      ends = ends s.kept (length s.lines) s.held s.front s.number;
       replies = s.replies;
       taken = subst (Appends start now) (sym (s.whole ∙ append-nil s.written)) s.taken;
     }
 
 -- ---- reads
-pub begun : (Allowed : Writes) (start : Option (List ℕ)) (progress : Progress) → progress.is_long ≡ false → progress.number ≡ 0
-    → Stands Allowed [] start start [] [] progress
-begun Allowed start progress short zero = record {
+pub begun : (IsReply : Replies) (start : Option (List ℕ)) (progress : Progress) → progress.is_long ≡ false → progress.tally ≡ no_lines
+    → Stands IsReply [] start start [] [] progress
+begun IsReply start progress short none = record {
   lines = [];
   kept = [];
   out = [];
   written = [];
   cut = λ more. refl;
-  replies = refl;
+  replies = (refl, none);
   whole = refl;
   taken = Appends-nil start;
   held = subst (λ b. IsHeld b [] []) (sym short) refl;
   front = subst (λ b. IsShown b progress.front []) (sym short) tt;
-  number = zero;
+  number = ap (λ (t : Tally). t.lines) none;
 }
 
 held_more : (b : Bool) (kept pending given : List ℕ) → IsHeld b kept pending → IsHeld b kept (pending ++ given)
 held_more false kept pending given h = h
 held_more true kept pending given h = (h.0, h.1, (h.2.0, h.2.1 ++ given, ap (λ p. p ++ given) h.2.2, h.2.3))
 
-pub read : (Allowed : Writes) (input given : List ℕ) (start now : Option (List ℕ)) (gathered pending : List ℕ) (progress : Progress)
-    → Stands Allowed input start now gathered pending progress → Stands Allowed (input ++ given) start now gathered (pending ++ given) progress
-read Allowed input given start now gathered pending progress s = record {
+pub read : (IsReply : Replies) (input given : List ℕ) (start now : Option (List ℕ)) (gathered pending : List ℕ) (progress : Progress)
+    → Stands IsReply input start now gathered pending progress → Stands IsReply (input ++ given) start now gathered (pending ++ given) progress
+read IsReply input given start now gathered pending progress s = record {
   lines = s.lines;
   kept = s.kept;
   out = s.out;
@@ -328,14 +337,14 @@ read Allowed input given start now gathered pending progress s = record {
 }
 
 pub ended_answered : (filter : Filter) (input : List ℕ) (start now : Option (List ℕ)) (pending : List ℕ) (progress : Progress) → NoEnd pending
-    → Stands (IsReplyTo filter) input start now [] pending progress → AnswersAll filter (ended_lines input) start now
+    → Stands (IsReplyTo filter) input start now [] pending progress → AnswersAll filter (ended_lines input) progress.tally start now
 ended_answered filter input start now pending progress n s =
     let none = slice_split_none is_end (s.kept ++ pending) (no_end_append s.kept pending (kept_no_end progress.is_long s.kept pending s.held) n) in
     let lines : ended_lines input ≡ s.lines =
     ended_are input s.kept pending s.lines s.cut ∙ ap (λ parts. s.lines ++ without_last parts) none ∙ append-nil s.lines in
     record {
       out = s.out;
-      replies = subst (λ ls. AreReplies (IsReplyTo filter) 0 ls s.out) (sym lines) s.replies;
+      replies = subst (λ ls. AreReplies (IsReplyTo filter) 0 ls s.out no_lines progress.tally) (sym lines) s.replies;
       taken = subst (Appends start now) (sym (s.whole ∙ append-nil s.written)) s.taken;
     }
 
@@ -356,11 +365,11 @@ front_shown false front front_now kept pending k h held is whole same =
 front_shown true front front_now kept pending k h held is whole same =
     ap words_shown (same refl) ∙ is ∙ sym (shown_front kept (take k pending) (omega (arith, held.0)))
 
-pub let_go : (Allowed : Writes) (input : List ℕ) (start now : Option (List ℕ)) (gathered pending pending_now : List ℕ) (progress progress_now : Progress)
+pub let_go : (IsReply : Replies) (input : List ℕ) (start now : Option (List ℕ)) (gathered pending pending_now : List ℕ) (progress progress_now : Progress)
     → NoEnd pending → 4097 < length pending → pending_now ≡ drop (length pending - 1) pending → (progress.is_long ≡ false → words_shown progress_now.front ≡ shown pending)
-    → (progress.is_long ≡ true → progress_now.front ≡ progress.front) → progress_now.is_long ≡ true → progress_now.number ≡ progress.number
-    → Stands Allowed input start now gathered pending progress → Stands Allowed input start now gathered pending_now progress_now
-let_go Allowed input start now gathered pending pending_now progress progress_now n long last_byte whole_front same_front is_long same s =
+    → (progress.is_long ≡ true → progress_now.front ≡ progress.front) → progress_now.is_long ≡ true → progress_now.tally ≡ progress.tally
+    → Stands IsReply input start now gathered pending progress → Stands IsReply input start now gathered pending_now progress_now
+let_go IsReply input start now gathered pending pending_now progress progress_now n long last_byte whole_front same_front is_long same s =
     let k = length pending - 1 in
     let front : length (take k pending) ≡ k = length-take k pending ∙ min-eq_left (omega arith) in
     let last : length (drop k pending) ≡ 1 = omega (arith, length-drop k pending) in
@@ -374,17 +383,17 @@ let_go Allowed input start now gathered pending pending_now progress progress_no
       no_end_append s.kept (take k pending) (kept_no_end progress.is_long s.kept pending s.held) n_front,
       one_byte (drop k pending) (omega (arith, last)) n_last,
     ) in
-    subst (λ (p : List ℕ). Stands Allowed input start now gathered p progress_now) (sym last_byte) (record {
+    subst (λ (p : List ℕ). Stands IsReply input start now gathered p progress_now) (sym last_byte) (record {
       lines = s.lines;
       kept = s.kept ++ take k pending;
       out = s.out;
       written = s.written;
       cut = λ more. s.cut more ∙ ap (λ p. s.lines ++ slice_split is_end p) (whole more);
-      replies = s.replies;
+      replies = subst (AreReplies IsReply 0 s.lines s.out no_lines) (sym same) s.replies;
       whole = s.whole;
       taken = s.taken;
       held = subst (λ b. IsHeld b (s.kept ++ take k pending) (drop k pending)) (sym is_long) held;
       front = subst (λ b. IsShown b progress_now.front (s.kept ++ take k pending)) (sym is_long)
           (front_shown progress.is_long progress.front progress_now.front s.kept pending k (omega arith) s.held s.front whole_front same_front);
-      number = same ∙ s.number;
+      number = ap (λ (t : Tally). t.lines) same ∙ s.number;
     })

@@ -1,16 +1,13 @@
 -- The answer to the text of a line.
-use Rattle.std.specs.Prelude.{◌≡◌, ◌⊎◌, ℕ, ◌<◌, ◌≤◌, ◌&&◌, true, ℤ, pos, ◌+ℤ◌, ◌-ℤ◌, List, [], ◌++◌, codes, length, decimal, Option, Some, None, is_some, if◌then◌else◌}
+use Rattle.std.specs.Prelude.{◌≡◌, ℕ, ◌&&◌, Bool, true, false, not, ℤ, pos, ◌+ℤ◌, ◌-ℤ◌, List, Option, Some, None, Result, Ok, Err, if◌then◌else◌}
 use Rattle.std.specs.Fmt.{signed_decimal}
+use Rattle.std.specs.Option.{option_map_or}
 use Rattle.cal_time.specs.Date.{IsDate, julian_day_at}
-use Rattle.cal_time.specs.ComponentError.{component_name}
-use Rattle.cal_time.specs.declared.error.ComponentRange.{ComponentRange}
 use Rattle.cal_time.specs.SignedDuration.{whole_days}
 use Rattle.cal_time.specs.SignedDuration as duration
 use Rattle.cal_datetime.specs.DateTime.{IsDateTime, date_time, time_at}
 use Rattle.cal_datetime.specs.OffsetDateTime.{LocalAndOffset, instant, local_at}
 use Rattle.cal_text.specs.Position.{IsPosition}
-use Rattle.cal_text.specs.declared.error.ParseError.{ParseError}
-use Rattle.cal_text.specs.declared.error.ParseError.TheVariants.{UnexpectedByte, UnexpectedEnd, OutOfRange}
 use Rattle.cal_text.specs.declared.any.DateOrMoment.{DateOrMoment}
 use Rattle.cal_text.specs.declared.any.DateOrMoment.TheVariants as read
 use Rattle.cal_text.specs.declared.any.MomentForm.TheVariants.{Rfc3339}
@@ -20,7 +17,9 @@ use Rattle.caldate_run.specs.Forms.{IsInForm}
 pub use Rattle.caldate_run.specs.Found.{day_of, form_read, is_date, moment_of}
 use Rattle.caldate_run.specs.Moves.{LeadsTo}
 use Rattle.caldate_run.specs.Readings.{HasFormIn, IsFaultIn, IsTextIn}
-use Rattle.caldate_run.specs.Room.{longest_text}
+use Rattle.caldate_run.specs.declared.no_answer.NoAnswer.{NoAnswer}
+use Rattle.caldate_run.specs.declared.no_answer.NoAnswer.TheVariants as why
+use Rattle.caldate_run.specs.declared.reading.Reading.{Reading}
 use Rattle.caldate_run.specs.declared.request.DayMove.{DayMove}
 use Rattle.caldate_run.specs.declared.request.Filter.{Filter}
 use Rattle.caldate_run.specs.declared.request.Form.TheVariants.{Moment}
@@ -28,7 +27,6 @@ use Rattle.caldate_run.specs.declared.request.Request.{Request}
 use Rattle.caldate_run.specs.declared.request.Request.TheVariants.{To, Add, Move, Until, Since, At, Keep}
 use Rattle.caldate_run.specs.declared.request.TimeUnit.{TimeUnit}
 
--- ---- the words
 -- Moment m moves to day n and keeps its time of day and offset.
 abbrev pub on_day : LocalAndOffset → ℕ → LocalAndOffset
 on_day m n = record { local = date_time n (time_at m.local); offset = m.offset }
@@ -71,53 +69,38 @@ IsAt offset from words = (m : LocalAndOffset) × IsShownAt offset from m × IsIn
 abbrev pub IsMoved : DayMove → DateOrMoment → List ℕ → Type 0
 IsMoved by found words = (n : ℕ) × LeadsTo by (day_of found) n × IsInForm (form_read found) (on_day (moment_of found) n) words
 
--- The words answer the request. A `keep` request has no words, since it passes the line on or drops
--- it.
-abbrev pub IsAnswerTo : Request → DateOrMoment → List ℕ → Type 0
-IsAnswerTo (To form) found words = IsInForm form (moment_of found) words
-IsAnswerTo (Add d) found words = (m : LocalAndOffset) × IsLater found d m × IsInForm (form_read found) m words
-IsAnswerTo (Move by) found words = IsMoved by found words
-IsAnswerTo (Until target unit) found words = IsBetween unit found target words
-IsAnswerTo (Since target unit) found words = IsBetween unit target found words
-IsAnswerTo (At offset) found words = IsAt offset (moment_of found) words
-IsAnswerTo (Keep bounds) found words = (is_some (lies_in bounds found) ≡ true) × (words ≡ [])
+-- The words replace the text that was read. `keep` leaves it as it is.
+abbrev pub IsAnswerTo : Request → List ℕ → DateOrMoment → List ℕ → Type 0
+IsAnswerTo (To form) text found words = IsInForm form (moment_of found) words
+IsAnswerTo (Add d) text found words = (m : LocalAndOffset) × IsLater found d m × IsInForm (form_read found) m words
+IsAnswerTo (Move by) text found words = IsMoved by found words
+IsAnswerTo (Until target unit) text found words = IsBetween unit found target words
+IsAnswerTo (Since target unit) text found words = IsBetween unit target found words
+IsAnswerTo (At offset) text found words = IsAt offset (moment_of found) words
+IsAnswerTo (Keep bounds) text found words = (lies_in bounds found ≡ Some true) × (words ≡ text)
 
--- ---- texts with an answer, and texts without one
-abbrev pub HasAnswer : Filter → List ℕ → List ℕ → Type 0
-HasAnswer filter text words =
-    (length text ≤ longest_text) × ((found : DateOrMoment) × IsTextIn filter.reading text found × IsAnswerTo filter.request found words)
+-- `keep` leaves out a line whose date or moment lies outside of its bounds.
+abbrev pub leaves_out : Request → DateOrMoment → Bool
+leaves_out (Keep bounds) found = option_map_or not (lies_in bounds found) false
+leaves_out other found = false
 
--- The text is longer than a line may be.
-abbrev pub IsTooLong : List ℕ → List ℕ → Type 0
-IsTooLong text words = (longest_text < length text) × (words ≡ codes "line too long")
+-- ---- the answer to a text
+-- The words that replace it, or None if its line is left out, or why it has no answer.
+abbrev pub Answer : Type 0
+Answer = Result (Option (List ℕ)) NoAnswer
 
--- The text is a date or a moment for which the request has no answer.
-abbrev pub HasNone : Filter → List ℕ → List ℕ → Type 0
-HasNone filter text words = (words ≡ codes "none")
-    × ((found : DateOrMoment) × IsTextIn filter.reading text found × ((others : List ℕ) → ¬ IsAnswerTo filter.request found others))
-
--- The words name the component that is out of range.
-abbrev pub refused_text : ComponentRange → List ℕ
-refused_text why = codes "refused " ++ component_name why.component ++ (if why.is_conditional then codes " conditional" else [])
-
--- The words say why a text can't be read.
-abbrev pub why_text : ParseError → List ℕ
-why_text (UnexpectedByte at) = codes "unreadable at " ++ decimal at
-why_text (UnexpectedEnd at) = codes "unreadable at " ++ decimal at
-why_text (OutOfRange e) = refused_text e
-
-abbrev pub IsRefused : Filter → List ℕ → List ℕ → Type 0
-IsRefused filter text words = (why : ComponentRange) × IsFaultIn filter.reading text why × (words ≡ refused_text why)
+-- What was read has no answer.
+abbrev pub HasNone : Request → List ℕ → DateOrMoment → Type 0
+HasNone request text found = (leaves_out request found ≡ false) × ((words : List ℕ) → ¬ IsAnswerTo request text found words)
 
 -- The text is not in the form, and departs from it at this position.
-abbrev pub IsUnreadable : Filter → List ℕ → List ℕ → Type 0
-IsUnreadable filter text words = (¬ HasFormIn filter.reading text)
-    × ((at : ℕ) × IsPosition (HasFormIn filter.reading) text at × (words ≡ codes "unreadable at " ++ decimal at))
+abbrev pub IsUnreadable : Reading → List ℕ → ℕ → Type 0
+IsUnreadable reading text at = (¬ HasFormIn reading text) × IsPosition (HasFormIn reading) text at
 
-abbrev pub LacksAnswer : Filter → List ℕ → List ℕ → Type 0
-LacksAnswer filter text words = IsTooLong text words
-    ⊎ (length text ≤ longest_text) × (HasNone filter text words ⊎ IsRefused filter text words ⊎ IsUnreadable filter text words)
-
--- The words are the answer for the text, or the reason why it has none.
-abbrev pub IsAnswer : Filter → List ℕ → List ℕ → Type 0
-IsAnswer filter text words = HasAnswer filter text words ⊎ LacksAnswer filter text words
+abbrev pub IsAnswer : Filter → List ℕ → Answer → Type 0
+IsAnswer filter text (Ok (Some words)) = (found : DateOrMoment) × IsTextIn filter.reading text found × IsAnswerTo filter.request text found words
+IsAnswer filter text (Ok None) = (found : DateOrMoment) × IsTextIn filter.reading text found × (leaves_out filter.request found ≡ true)
+IsAnswer filter text (Err why.None) = (found : DateOrMoment) × IsTextIn filter.reading text found × HasNone filter.request text found
+IsAnswer filter text (Err (why.Rejected component)) = IsFaultIn filter.reading text component
+IsAnswer filter text (Err (why.Unreadable at)) = IsUnreadable filter.reading text at
+IsAnswer filter text (Err other) = ⊥

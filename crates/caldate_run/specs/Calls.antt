@@ -5,7 +5,7 @@ use Rattle.std.specs.declared.io.Error.{Error}
 use Rattle.std.specs.declared.io.ErrorKind.{ErrorKind}
 use Rattle.std.specs.declared.io.ErrorKind.TheVariants.{Interrupted, WriteZero}
 use Rattle.caldate_run.specs.declared.fault.Fault.{Fault}
-use Rattle.caldate_run.specs.declared.fault.Fault.TheVariants.{Read, Write, Unanswered}
+use Rattle.caldate_run.specs.declared.fault.Fault.TheVariants.{Read, Write}
 
 -- The maximum number of interrupted calls that are repeated.
 abbrev pub most_retries : ℕ
@@ -61,15 +61,13 @@ module _ {S : Type 0} (read : S → Result ℕ Error → S → Type 0) where
 
 -- The error kind of a failed write, if the fault is one.
 abbrev pub kind_of : Fault → Option ErrorKind
-kind_of Read = None
 kind_of (Write kind) = Some kind
-kind_of (Unanswered line) = None
+kind_of other = None
 
 -- The fault is a failed read.
 abbrev pub is_of_read : Fault → Bool
 is_of_read Read = true
-is_of_read (Write kind) = false
-is_of_read (Unanswered line) = false
+is_of_read other = false
 
 -- An outcome has the failure of its fault.
 abbrev pub write_failure : {T : Type 0} → Result T Fault → Option ErrorKind

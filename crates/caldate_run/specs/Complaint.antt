@@ -16,6 +16,7 @@ abbrev pub error_phrase : Wanted → List ℕ
 error_phrase wanted.Something = codes "missing command; try 'caldate --help'"
 error_phrase wanted.Start = codes "unknown command"
 error_phrase wanted.Field = codes "--separator requires --field"
+error_phrase wanted.Invalid = codes "unknown mode"
 error_phrase wanted.FieldNumber = codes "invalid field number"
 error_phrase wanted.Separator = codes "invalid separator"
 error_phrase wanted.Skip = codes "invalid number of lines"
@@ -42,6 +43,7 @@ error_phrase what = codes "unexpected argument"
 abbrev pub missing_noun : Wanted → List ℕ
 missing_noun wanted.Start = codes "command"
 missing_noun wanted.Verb = codes "command"
+missing_noun wanted.Invalid = codes "mode"
 missing_noun wanted.FieldNumber = codes "field number"
 missing_noun wanted.Separator = codes "separator"
 missing_noun wanted.Skip = codes "number of lines"
@@ -64,8 +66,9 @@ missing_noun what = codes "argument"
 
 -- the expected words, if the message needs them
 abbrev pub expected_phrase : Wanted → List ℕ
-expected_phrase wanted.Start = codes "; expected to, add, next, last, until, since, start, end, on-or-after, on-or-before, at, keep, list, --strict, --field, --separator, --skip, --read, --assume, --help or --version"
+expected_phrase wanted.Start = codes "; expected to, add, next, last, until, since, start, end, on-or-after, on-or-before, at, keep, list, --invalid, --field, --separator, --skip, --read, --assume, --help or --version"
 expected_phrase wanted.Verb = codes "; expected to, add, next, last, until, since, start, end, on-or-after, on-or-before, at, keep or another option"
+expected_phrase wanted.Invalid = codes "; expected keep, answer, drop or stop"
 expected_phrase wanted.FieldNumber = codes "; expected an integer from 1 to 65535"
 expected_phrase wanted.Separator = codes "; expected one byte"
 expected_phrase wanted.Skip = codes "; expected an integer from 0 to 9223372036854775807"

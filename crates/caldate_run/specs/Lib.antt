@@ -7,7 +7,6 @@ pub mod Ending
 pub mod Fields
 pub mod Forms
 pub mod Found
-pub mod Kept
 pub mod Lines
 pub mod Lists
 pub mod Moves
@@ -15,10 +14,10 @@ pub mod Offsets
 pub mod Program
 pub mod Readings
 pub mod Recurring
+pub mod Replies
 pub mod Requests
 pub mod Room
 pub mod Runs
 pub mod Shown
 pub mod Standing
 pub mod Templates
-pub mod Unanswered

@@ -17,6 +17,8 @@ use Rattle.cal_text.specs.declared.any.MomentForm.TheVariants.{Rfc3339, Unix}
 use Rattle.cal_recurrence.specs.Text.{recurrence_of}
 use Rattle.cal_recurrence.specs.declared.recurrence.Recurrence.{Recurrence}
 use Rattle.caldate_run.specs.Offsets.{offset_of}
+use Rattle.caldate_run.specs.declared.on_invalid.OnInvalid.{OnInvalid}
+use Rattle.caldate_run.specs.declared.on_invalid.OnInvalid.TheVariants as invalid
 use Rattle.caldate_run.specs.declared.options.Options.{Options}
 use Rattle.caldate_run.specs.declared.reading.Reading.{Reading}
 use Rattle.caldate_run.specs.declared.reading.Reading.TheVariants as read
@@ -321,14 +323,16 @@ list_of reading words =
 
 -- ---- the options before a request, in any order, each at most once
 abbrev pub no_options : Options
-no_options = record { is_strict = false; number = None; separator = None; skip = None; reading = None; offset = None }
+no_options = record { on_invalid = None; number = None; separator = None; skip = None; reading = None; offset = None }
 
--- `--strict`
-abbrev pub takes_strict : Options → List ℕ → Bool
-takes_strict options word = bytes_eq word (codes "--strict") && not options.is_strict
-
-abbrev pub with_strict : Options → Options
-with_strict options = record options { is_strict = true }
+-- `--invalid MODE`
+abbrev pub invalid_of : List ℕ → Option OnInvalid
+invalid_of word =
+    if bytes_eq word (codes "keep") then Some invalid.Keep else
+    if bytes_eq word (codes "answer") then Some invalid.Answer else
+    if bytes_eq word (codes "drop") then Some invalid.Drop else
+    if bytes_eq word (codes "stop") then Some invalid.Stop else
+    None
 
 -- `--field N`
 abbrev pub field_number_of : List ℕ → Option ℕ
@@ -358,6 +362,7 @@ reading_of word =
 -- The value that comes after the word, if the word is an option that is not given yet.
 abbrev pub value_of : Options → List ℕ → Option Wanted
 value_of options word =
+    if bytes_eq word (codes "--invalid") && is_none options.on_invalid then Some wanted.Invalid else
     if bytes_eq word (codes "--field") && is_none options.number then Some wanted.FieldNumber else
     if bytes_eq word (codes "--separator") && is_none options.separator then Some wanted.Separator else
     if bytes_eq word (codes "--skip") && is_none options.skip then Some wanted.Skip else
@@ -367,10 +372,11 @@ value_of options word =
 
 -- The word is an option, whatever the others are.
 abbrev pub is_option : List ℕ → Bool
-is_option word = takes_strict no_options word || is_some (value_of no_options word)
+is_option word = is_some (value_of no_options word)
 
 -- The options, with this value for the option that needs it.
 abbrev pub with_value : Options → List ℕ → Wanted → Option Options
+with_value options value wanted.Invalid = option_map (λ mode. record options { on_invalid = Some mode }) (invalid_of value)
 with_value options value wanted.FieldNumber = option_map (λ n. record options { number = Some n }) (field_number_of value)
 with_value options value wanted.Separator = option_map (λ c. record options { separator = Some c }) (byte_of value)
 with_value options value wanted.Skip = option_map (λ k. record options { skip = Some k }) (skip_of value)
@@ -383,7 +389,6 @@ with_value options value other = None
 abbrev pub options_from : Option Wanted → Options → ℕ → List (List ℕ) → Result (Options × ℕ) Senseless
 options_from None options at [] = Ok (options, at)
 options_from None options at (word ∷ words) =
-    if takes_strict options word then options_from None (with_strict options) (at + 1) words else
     if is_some (value_of options word) then options_from (value_of options word) options (at + 1) words else
     Ok (options, at)
 options_from (Some what) options at [] = Err (senseless_at at what)
@@ -417,11 +422,17 @@ lacking options =
     if is_some options.offset && not (is_local options.reading) then Some wanted.Local else
     None
 
+-- The default: `keep` drops a line without an answer, and with `--field` the line is kept.
+abbrev pub default_mode : Request → Option ℕ → OnInvalid
+default_mode (Keep bounds) number = invalid.Drop
+default_mode other (Some number) = invalid.Keep
+default_mode other None = invalid.Answer
+
 abbrev pub filter_of : Options → Request → Filter
 filter_of options request = record {
   request = request;
   reading = reading_at options.reading options.offset;
-  is_strict = options.is_strict;
+  on_invalid = unwrap_or options.on_invalid (default_mode request options.number);
   field = field_of options;
   skip = unwrap_or options.skip 0;
 }

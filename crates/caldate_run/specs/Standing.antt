@@ -1,26 +1,28 @@
 -- The state of a run.
-use Rattle.std.specs.Prelude.{◌≡◌, ℕ, ⊤, ◌+◌, ◌-◌, ◌^◌, ◌<◌, min, Bool, true, false, List, [], ◌∷◌, ◌++◌, length, All, Option}
+use Rattle.std.specs.Prelude.{◌≡◌, ℕ, ⊤, ◌+◌, ◌-◌, ◌^◌, ◌<◌, min, Bool, true, false, List, [], ◌∷◌, ◌++◌, length, All, Option, None}
 use Rattle.std.specs.List.{slice_split}
 use Rattle.std.specs.Io.KnownBytes.{Appends}
-use Rattle.caldate_run.specs.Lines.{is_end, text_of, end_of}
+use Rattle.caldate_run.specs.Lines.{is_end}
 use Rattle.caldate_run.specs.Room.{longest_text}
 use Rattle.caldate_run.specs.Shown.{shown, words_shown}
 use Rattle.caldate_run.specs.declared.progress.Progress.{Progress}
 use Rattle.caldate_run.specs.declared.shown.ShownText.{ShownText}
+use Rattle.caldate_run.specs.declared.tally.Tally.{Tally}
 
--- The reply to a line is allowed words for its text, with the line's end.
-abbrev pub IsReply : (List ℕ → List ℕ → Type 0) → List ℕ → List ℕ → Type 0
-IsReply Allowed line reply = (words : List ℕ) × Allowed (text_of line) words × (reply ≡ words ++ end_of line)
-
--- The replies allowed for a line, by the number of lines before it.
-abbrev pub Writes : Type 1
-Writes = ℕ → List ℕ → List ℕ → Type 0
+-- A reply to a line, by the number of lines before it, and the tally before and after it.
+abbrev pub Replies : Type 1
+Replies = ℕ → List ℕ → List ℕ → Tally → Tally → Type 0
 
 -- The bytes are the replies to the lines, in order, after `before` lines.
-abbrev pub AreReplies : Writes → ℕ → List (List ℕ) → List ℕ → Type 0
-AreReplies Allowed before [] out = out ≡ []
-AreReplies Allowed before (line ∷ lines) out =
-    (reply rest : List ℕ) × Allowed before line reply × (out ≡ reply ++ rest) × AreReplies Allowed (before + 1) lines rest
+abbrev pub AreReplies : Replies → ℕ → List (List ℕ) → List ℕ → Tally → Tally → Type 0
+AreReplies IsReply before [] out old new = (out ≡ []) × (new ≡ old)
+AreReplies IsReply before (line ∷ lines) out old new =
+    (reply rest : List ℕ) × (tally : Tally) × IsReply before line reply old tally × (out ≡ reply ++ rest)
+    × AreReplies IsReply (before + 1) lines rest tally new
+
+-- The tally of no lines.
+abbrev pub no_lines : Tally
+no_lines = record { lines = 0; unanswered = 0; first = None }
 
 -- No line ends within the bytes.
 abbrev pub NoEnd : List ℕ → Type 0
@@ -42,23 +44,29 @@ IsShown true front kept = words_shown front ≡ shown kept
 abbrev pub counted : ℕ → ℕ
 counted n = min n (2 ^ 64 - 1)
 
+-- The run is at a line, of which a front may have been dropped, after `before` lines.
+abbrev pub AtLine : Progress → List ℕ → (ℕ → List ℕ → Type 0) → Type 0
+AtLine progress line Holds =
+    (kept : List ℕ) (before : ℕ) → IsHeld progress.is_long kept line → IsShown progress.is_long progress.front kept
+    → progress.tally.lines ≡ counted before → Holds before (kept ++ line)
+
 -- Some lines of the input are answered. The writer has their replies, except for the buffered
 -- bytes. The bytes after the lines are pending, except for the dropped front of a long line.
-pub record Stands (Allowed : Writes) (input : List ℕ) (start now : Option (List ℕ)) (gathered pending : List ℕ) (progress : Progress) : Type 0 where
+pub record Stands (IsReply : Replies) (input : List ℕ) (start now : Option (List ℕ)) (gathered pending : List ℕ) (progress : Progress) : Type 0 where
   pub lines : List (List ℕ)
   pub kept : List ℕ
   pub out : List ℕ
   pub written : List ℕ
   pub cut : (more : List ℕ) → slice_split is_end (input ++ more) ≡ lines ++ slice_split is_end (kept ++ (pending ++ more))
-  pub replies : AreReplies Allowed 0 lines out
+  pub replies : AreReplies IsReply 0 lines out no_lines progress.tally
   pub whole : out ≡ written ++ gathered
   pub taken : Appends start now written
   pub held : IsHeld progress.is_long kept pending
   pub front : IsShown progress.is_long progress.front kept
-  pub number : progress.number ≡ counted (length lines)
+  pub number : progress.tally.lines ≡ counted (length lines)
 
 -- The run advances for any input, and for any bytes that the writer held at the start.
-abbrev pub Advances : Writes → Option (List ℕ) → Option (List ℕ) → List ℕ → List ℕ → List ℕ → List ℕ → Progress → Progress → Type 0
-Advances Allowed old new gathered gathered_now pending pending_now progress progress_now =
-    (input : List ℕ) (start : Option (List ℕ)) → Stands Allowed input start old gathered pending progress
-    → Stands Allowed input start new gathered_now pending_now progress_now
+abbrev pub Advances : Replies → Option (List ℕ) → Option (List ℕ) → List ℕ → List ℕ → List ℕ → List ℕ → Progress → Progress → Type 0
+Advances IsReply old new gathered gathered_now pending pending_now progress progress_now =
+    (input : List ℕ) (start : Option (List ℕ)) → Stands IsReply input start old gathered pending progress
+    → Stands IsReply input start new gathered_now pending_now progress_now

@@ -1,20 +1,22 @@
 //! The answer to the text of a line.
-ghost use Rattle.std.specs.Prelude.{◌≡◌, ◌+◌, ◌≤◌, ◌++◌, ℕ, List, Some, false, true, codes, length, MatchOption};
+ghost use Rattle.std.specs.Prelude.{◌≡◌, ◌+◌, ◌≤◌, ◌++◌, ℕ, List, Some, false, true, length, MatchOption};
 ghost use Rattle.cal_datetime.specs.OffsetDateTime.{LocalAndOffset};
 ghost use Rattle.cal_text.specs.AnyForm.{date_text};
-ghost use Rattle.cal_text.specs.Parsing.{component_of};
-ghost use Rattle.caldate_run.specs.Answers.{HasAnswer, IsAnswerTo, IsAt, IsBetween, IsDayLater, IsLater, IsMomentLater, IsMoved, LacksAnswer, refused_text, until_text, why_text, moment_of, form_read, on_day, is_date};
+ghost use Rattle.caldate_run.specs.Answers.{IsAnswer, IsAnswerTo, IsAt, IsBetween, IsDayLater, IsLater, IsMomentLater, IsMoved, form_read, is_date, leaves_out, moment_of, on_day, until_text};
+ghost use Rattle.caldate_run.specs.Bounds.{lies_in};
 ghost use Rattle.caldate_run.specs.Forms.{IsInForm};
+ghost use Rattle.caldate_run.specs.Replies.{reason, reason_of, refused_text};
 ghost use Rattle.caldate_run.specs.Room.{HasRoom, longest_answer};
-ghost use Rattle.caldate_run.specs.Runs.{AppendsThat};
+ghost use Rattle.caldate_run.specs.Runs.{AppendsThat, Puts};
 
 use crate::bounds::lies_in;
 use crate::buffer::Buffer;
 use crate::counts::count_between;
 use crate::forms::{basic_text, month_text, quarter_text, unix_text};
 use crate::moves::led_to;
+use crate::no_answer::NoAnswer;
 use crate::reading::read_in;
-use crate::request::{DayMove, Filter, Form, Request, TimeUnit};
+use crate::request::{Bounds, DayMove, Filter, Form, Request, TimeUnit};
 use crate::signed::signed_text;
 use cal_datetime::OffsetDateTime;
 use cal_text::date::{CalendarText, OrdinalText, WeekText};
@@ -26,40 +28,52 @@ use cal_time::{Date, ShortText, SignedDuration, Time, UtcOffset};
 /// The maximum length of the text of a line, in bytes.
 pub const LONGEST_TEXT: usize = 4096;
 
-/// Appends the answer to `text`, or the reason why it has none. Returns whether it has one.
-pub fn push_answer(buffer: &mut Buffer, filter: &Filter, text: &[u8]) -> bool
-    requires { HasRoom longest_answer buffer.old }
-    ensures has { result ≡ true → AppendsThat
-        (HasAnswer filter.now text.now) buffer.old buffer.new }
-    ensures lacks { result ≡ false → AppendsThat
-        (LacksAnswer filter.now text.now) buffer.old buffer.new }
-    ensures short { length buffer.new ≤ length buffer.old + longest_answer }
+/// Appends the answer to `text`, and returns whether its line goes out.
+pub fn push_answer(buffer: &mut Buffer, filter: &Filter, text: &[u8]) -> Result<bool, NoAnswer>
+    requires { HasRoom (length text.now + longest_answer) buffer.old }
+    ensures answered { Puts (IsAnswer filter.now text.now) result buffer.old buffer.new }
+    ensures short { length buffer.new ≤ length buffer.old + length text.now + longest_answer }
 {
-    if text.len() > LONGEST_TEXT {
-        buffer.push(b"line too long");
-        return false;
-    }
-    match read_in(filter.reading, text) {
-        Ok(found) => push_answer_to(buffer, &filter.request, &found),
-        Err(error) => {
-            push_why(buffer, error);
-            false
-        }
+    let found = match read_in(filter.reading, text) {
+        Ok(found) => found,
+        Err(error) => return Err(reason_of(error)),
+    };
+    if push_answer_to(buffer, &filter.request, text, &found) {
+        Ok(true)
+    } else if leaves_out(&filter.request, &found) {
+        Ok(false)
+    } else {
+        Err(NoAnswer::None)
     }
 }
 
-/// Appends the reason why a text can't be read, such as `unreadable at 4`.
-fn push_why(buffer: &mut Buffer, error: ParseError)
-    requires { HasRoom longest_answer buffer.old }
-    ensures text { buffer.new ≡ buffer.old ++ why_text error }
-    ensures short { length buffer.new ≤ length buffer.old + longest_answer }
+/// Returns the reason why a text can't be read.
+fn reason_of(error: ParseError) -> NoAnswer
+    ensures { result ≡ reason_of error }
 {
     match error {
         ParseError::UnexpectedByte(position) | ParseError::UnexpectedEnd(position) => {
+            NoAnswer::Unreadable(position)
+        }
+        ParseError::OutOfRange(component) => NoAnswer::Rejected(component),
+    }
+}
+
+/// Appends a reason, such as `unreadable at 4`.
+pub fn push_reason(buffer: &mut Buffer, why: NoAnswer)
+    requires { HasRoom longest_answer buffer.old }
+    ensures text { buffer.new ≡ buffer.old ++ reason why }
+    ensures short { length buffer.new ≤ length buffer.old + 80 }
+{
+    match why {
+        NoAnswer::TooLong => buffer.push(b"line too long"),
+        NoAnswer::NoField => buffer.push(b"no such field"),
+        NoAnswer::None => buffer.push(b"none"),
+        NoAnswer::Rejected(component) => push_refusal(buffer, component),
+        NoAnswer::Unreadable(position) => {
             buffer.push(b"unreadable at ");
             buffer.push_number(position as u64);
         }
-        ParseError::OutOfRange(component) => push_refusal(buffer, component),
     }
 }
 
@@ -76,14 +90,14 @@ fn push_refusal(buffer: &mut Buffer, error: ComponentRange)
     }
 }
 
-/// Appends the answer for a date or a moment, or `none`. Returns whether there is an answer.
-fn push_answer_to(buffer: &mut Buffer, request: &Request, found: &DateOrMoment) -> bool
-    requires { HasRoom longest_answer buffer.old }
+/// Appends the answer for the date or moment of `text`, or nothing. Returns whether it did.
+fn push_answer_to(buffer: &mut Buffer, request: &Request, text: &[u8], found: &DateOrMoment) -> bool
+    requires { HasRoom (length text.now + longest_answer) buffer.old }
     ensures has { result ≡ true → AppendsThat
-        (IsAnswerTo request.now found.now) buffer.old buffer.new }
-    ensures none { result ≡ false → (buffer.new ≡ buffer.old ++ codes "none")
-        × ((words : List ℕ) → ¬ IsAnswerTo request.now found.now words) }
-    ensures short { length buffer.new ≤ length buffer.old + longest_answer }
+        (IsAnswerTo request.now text.now found.now) buffer.old buffer.new }
+    ensures none { result ≡ false → (buffer.new ≡ buffer.old)
+        × ((words : List ℕ) → ¬ IsAnswerTo request.now text.now found.now words) }
+    ensures short { length buffer.new ≤ length buffer.old + length text.now + longest_answer }
 {
     let moment = moment_of(found);
     let form = form_read(found);
@@ -91,24 +105,45 @@ fn push_answer_to(buffer: &mut Buffer, request: &Request, found: &DateOrMoment) 
         Request::To(form) => push_in_form(buffer, *form, moment),
         Request::Add(duration) => match later(found, *duration) {
             Some(later) => push_in_form(buffer, form, later),
-            None => push_none(buffer),
+            None => false,
         },
         Request::Move(by) => push_moved(buffer, *by, found),
         Request::Until(target, unit) => push_between(buffer, *unit, found, target),
         Request::Since(target, unit) => push_between(buffer, *unit, target, found),
         Request::At(offset) => push_at(buffer, *offset, moment),
-        Request::Keep(bounds) => lies_in(bounds, found).is_some() || push_none(buffer),
+        Request::Keep(bounds) => push_kept(buffer, bounds, text, found),
     }
 }
 
-fn push_none(buffer: &mut Buffer) -> bool
-    requires { HasRoom longest_answer buffer.old }
-    ensures text { buffer.new ≡ buffer.old ++ codes "none" }
-    ensures short { length buffer.new ≤ length buffer.old + longest_answer }
-    ensures no { result ≡ false }
+/// Appends the text if its date or moment lies within the bounds. Returns whether it does.
+fn push_kept(buffer: &mut Buffer, bounds: &Bounds, text: &[u8], found: &DateOrMoment) -> bool
+    requires { HasRoom (length text.now + longest_answer) buffer.old }
+    ensures has { result ≡ true → (lies_in bounds.now found.now ≡ Some true)
+        × (buffer.new ≡ buffer.old ++ text.now) }
+    ensures none { result ≡ false → (buffer.new ≡ buffer.old)
+        × ¬ (lies_in bounds.now found.now ≡ Some true) }
+    ensures short { length buffer.new ≤ length buffer.old + length text.now + longest_answer }
 {
-    buffer.push(b"none");
-    false
+    match lies_in(bounds, found) {
+        Some(true) => {
+            buffer.push(text);
+            true
+        }
+        _ => false,
+    }
+}
+
+/// Returns whether a `keep` request leaves out the line of this date or moment.
+fn leaves_out(request: &Request, found: &DateOrMoment) -> bool
+    ensures { result ≡ leaves_out request.now found.now }
+{
+    match request {
+        Request::Keep(bounds) => match lies_in(bounds, found) {
+            Some(lies) => !lies,
+            None => false,
+        },
+        _ => false,
+    }
 }
 
 /// Returns the moment. A date becomes midnight UTC.
@@ -138,11 +173,11 @@ fn on_day(moment: OffsetDateTime, date: Date) -> OffsetDateTime
     OffsetDateTime::new_in_offset(date, moment.time(), moment.offset())
 }
 
-/// Appends a moment in a form, or `none` if the form can't express it. Returns whether it can.
+/// Appends a moment in a form, or nothing if the form can't express it. Returns whether it can.
 fn push_in_form(buffer: &mut Buffer, form: Form, moment: OffsetDateTime) -> bool
     requires { HasRoom longest_answer buffer.old }
     ensures has { result ≡ true → AppendsThat (IsInForm form moment) buffer.old buffer.new }
-    ensures none { result ≡ false → (buffer.new ≡ buffer.old ++ codes "none")
+    ensures none { result ≡ false → (buffer.new ≡ buffer.old)
         × ((words : List ℕ) → ¬ IsInForm form moment words) }
     ensures short { length buffer.new ≤ length buffer.old + longest_answer }
 {
@@ -152,7 +187,7 @@ fn push_in_form(buffer: &mut Buffer, form: Form, moment: OffsetDateTime) -> bool
         Form::Moment(form) => match form {
             MomentForm::Rfc3339 => match rfc3339::Text::new(moment) {
                 Some(text) => buffer.push(text.text().as_bytes()),
-                None => return push_none(buffer),
+                None => return false,
             },
             MomentForm::Unix => buffer.push(unix::Text::new(moment).text().as_bytes()),
         },
@@ -161,7 +196,7 @@ fn push_in_form(buffer: &mut Buffer, form: Form, moment: OffsetDateTime) -> bool
         Form::Quarter => buffer.push(quarter_text(moment.date()).as_bytes()),
         Form::Basic => match basic_text(moment.date()) {
             Some(text) => buffer.push(text.as_bytes()),
-            None => return push_none(buffer),
+            None => return false,
         },
         Form::Unix(unit) => buffer.push(unix_text(unit, moment).as_bytes()),
     }
@@ -209,11 +244,11 @@ fn moment_later(moment: OffsetDateTime, duration: SignedDuration) -> Option<Offs
     moment.checked_add(duration)
 }
 
-/// Appends the moved day at the same time of day, or `none`. Returns whether there is one.
+/// Appends the moved day at the same time of day, or nothing. Returns whether there is one.
 fn push_moved(buffer: &mut Buffer, by: DayMove, found: &DateOrMoment) -> bool
     requires { HasRoom longest_answer buffer.old }
     ensures has { result ≡ true → AppendsThat (IsMoved by found.now) buffer.old buffer.new }
-    ensures none { result ≡ false → (buffer.new ≡ buffer.old ++ codes "none")
+    ensures none { result ≡ false → (buffer.new ≡ buffer.old)
         × ((words : List ℕ) → ¬ IsMoved by found.now words) }
     ensures short { length buffer.new ≤ length buffer.old + longest_answer }
 {
@@ -221,25 +256,25 @@ fn push_moved(buffer: &mut Buffer, by: DayMove, found: &DateOrMoment) -> bool
     let form = form_read(found);
     match led_to(moment.date(), by) {
         Some(day) => push_in_form(buffer, form, on_day(moment, day)),
-        None => push_none(buffer),
+        None => false,
     }
 }
 
-/// Appends the moment at this offset, or `none`. Returns whether it has a text.
+/// Appends the moment at this offset, or nothing. Returns whether it has a text.
 fn push_at(buffer: &mut Buffer, offset: UtcOffset, moment: OffsetDateTime) -> bool
     requires { HasRoom longest_answer buffer.old }
     ensures has { result ≡ true → AppendsThat (IsAt offset moment) buffer.old buffer.new }
-    ensures none { result ≡ false → (buffer.new ≡ buffer.old ++ codes "none")
+    ensures none { result ≡ false → (buffer.new ≡ buffer.old)
         × ((words : List ℕ) → ¬ IsAt offset moment words) }
     ensures short { length buffer.new ≤ length buffer.old + longest_answer }
 {
     match moment.checked_to_offset(offset) {
         Some(shown) => push_in_form(buffer, Form::Moment(MomentForm::Rfc3339), shown),
-        None => push_none(buffer),
+        None => false,
     }
 }
 
-/// Appends the number of units, or without a unit the days or the duration. Appends `none` and
+/// Appends the number of units, or without a unit the days or the duration. Appends nothing and
 /// returns false if the number is not known.
 fn push_between(
     buffer: &mut Buffer,
@@ -250,7 +285,7 @@ fn push_between(
     requires { HasRoom longest_answer buffer.old }
     ensures has { result ≡ true → AppendsThat
         (IsBetween unit from.now to.now) buffer.old buffer.new }
-    ensures none { result ≡ false → (buffer.new ≡ buffer.old ++ codes "none")
+    ensures none { result ≡ false → (buffer.new ≡ buffer.old)
         × ((words : List ℕ) → ¬ IsBetween unit from.now to.now words) }
     ensures short { length buffer.new ≤ length buffer.old + longest_answer }
 {
@@ -263,7 +298,7 @@ fn push_between(
             buffer.push(signed_text(i128::from(count)).as_bytes());
             true
         }
-        None => push_none(buffer),
+        None => false,
     }
 }
 

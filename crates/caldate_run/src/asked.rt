@@ -3,11 +3,12 @@ ghost use Rattle.std.specs.Prelude.{◌≡◌, ◌+◌, ◌<◌, ◌^◌, ℕ, L
 ghost use Rattle.cal_text.specs.declared.any.DateOrMoment.{DateOrMoment};
 ghost use Rattle.caldate_run.specs.Lists.{IsAsked};
 ghost use Rattle.caldate_run.specs.Offsets.{offset_of};
-ghost use Rattle.caldate_run.specs.Requests.{IsReading, amount_at, amount_of, arguments_of, asked_of, count_at, duration_of, filter_of, further_request_at, in_unit_at, lines_of, occurrence_at, only_at, request_at, target_at, unit_at, verb_wanted};
+ghost use Rattle.caldate_run.specs.Requests.{IsReading, amount_at, amount_of, arguments_of, asked_of, count_at, default_mode, duration_of, filter_of, further_request_at, in_unit_at, lines_of, occurrence_at, only_at, request_at, target_at, unit_at, verb_wanted};
 
 use crate::bounds::bounds_at;
 use crate::listing::list_of;
 use crate::offset::offset_of;
+use crate::on_invalid::OnInvalid;
 use crate::options::{Options, field_of, lacking, options_of, reading_in};
 use crate::request::{Asked, DayMove, Filter, Request, TimeUnit};
 use crate::senseless::{Senseless, Wanted, senseless_at};
@@ -60,11 +61,25 @@ fn filter_of(options: &Options, request: Request) -> Filter
     ensures { result ≡ filter_of options.now request }
 {
     Filter {
+        on_invalid: match options.on_invalid {
+            Some(mode) => mode,
+            None => default_mode(&request, options.number),
+        },
         request,
         reading: reading_in(options),
-        is_strict: options.is_strict,
         field: field_of(options),
         skip: options.skip.unwrap_or(0),
+    }
+}
+
+/// Returns what is written for a line without an answer if no option says it.
+fn default_mode(request: &Request, number: Option<u16>) -> OnInvalid
+    ensures { result ≡ default_mode request.now number }
+{
+    match (request, number) {
+        (Request::Keep(_), _) => OnInvalid::Drop,
+        (_, Some(_)) => OnInvalid::Keep,
+        (_, None) => OnInvalid::Answer,
     }
 }
 

@@ -20,7 +20,7 @@ pub const TOO_LONG: &[u8] = b"caldate: arguments too long; expected at most 4096
 
 /// The commands and options for the first argument.
 const COMMANDS: &[u8] =
-    b"; expected to, add, next, last, until, since, start, end, on-or-after, on-or-before, at, keep, list, --strict, --field, --separator, --skip, --read, --assume, --help or --version";
+    b"; expected to, add, next, last, until, since, start, end, on-or-after, on-or-before, at, keep, list, --invalid, --field, --separator, --skip, --read, --assume, --help or --version";
 
 /// The commands after an option.
 const LINE_COMMANDS: &[u8] =
@@ -199,6 +199,7 @@ fn error_phrase(wanted: Wanted) -> &'static [u8]
         Wanted::Something => b"missing command; try 'caldate --help'".as_slice(),
         Wanted::Start => b"unknown command".as_slice(),
         Wanted::Field => b"--separator requires --field".as_slice(),
+        Wanted::Invalid => b"unknown mode".as_slice(),
         Wanted::FieldNumber => b"invalid field number".as_slice(),
         Wanted::Separator => b"invalid separator".as_slice(),
         Wanted::Skip => b"invalid number of lines".as_slice(),
@@ -230,6 +231,7 @@ fn missing_noun(wanted: Wanted) -> &'static [u8]
 {
     match wanted {
         Wanted::Start | Wanted::Verb => b"command".as_slice(),
+        Wanted::Invalid => b"mode".as_slice(),
         Wanted::FieldNumber => b"field number".as_slice(),
         Wanted::Separator => b"separator".as_slice(),
         Wanted::Skip => b"number of lines".as_slice(),
@@ -259,6 +261,7 @@ fn expected_phrase(wanted: Wanted) -> &'static [u8]
     match wanted {
         Wanted::Start => COMMANDS,
         Wanted::Verb => LINE_COMMANDS,
+        Wanted::Invalid => b"; expected keep, answer, drop or stop".as_slice(),
         Wanted::FieldNumber => b"; expected an integer from 1 to 65535".as_slice(),
         Wanted::Separator => b"; expected one byte".as_slice(),
         Wanted::Skip => b"; expected an integer from 0 to 9223372036854775807".as_slice(),

@@ -1,13 +1,17 @@
 //! How the program ends: its status, and its words on standard error.
-ghost use Rattle.std.specs.Prelude.{◌≡◌, ◌++◌, [], codes};
+ghost use Rattle.std.specs.Prelude.{◌≡◌, ◌+◌, ◌≤◌, ◌++◌, [], length};
 ghost use Rattle.caldate_run.specs.Calls.{Writes, write_failure};
-ghost use Rattle.caldate_run.specs.Ending.{Tells, status_of, words_of_end};
+ghost use Rattle.caldate_run.specs.Ending.{Tells, description, status_of, summary, words_of_end};
+ghost use Rattle.caldate_run.specs.Room.{HasRoom};
 ghost use Rattle.caldate_run.specs.Runs.{Shown};
 
+use crate::answer::push_reason;
 use crate::buffer::Buffer;
 use crate::fault::{Fault, is_closed};
 use crate::output::write_all;
 use crate::streams::Sink;
+use crate::tally::Tally;
+use crate::unanswered::UnansweredLine;
 
 /// How the program ends.
 #[derive(Clone, Copy, Debug, PartialEq, Eq)]
@@ -18,23 +22,23 @@ pub struct Ending {
     pub told: Result<(), Fault>,
 }
 
-/// Tells why the run ended early, and returns the status: 0 after a run that answered all of its input or whose output was closed,
-/// 1 where a line had no answer, else 2.
+/// Writes why the run failed, and returns the status: 0 if all lines were answered or the output was
+/// closed, 1 if a line has no answer, otherwise 2.
 pub fn end<W: Sink>(outcome: Result<(), Fault>, writer: &mut W) -> Ending
     ensures tells { Tells outcome result (W.contents writer.old) (W.contents writer.new) }
     ensures writes { Writes W.write_gives writer.old (write_failure result.told) writer.new }
 {
     Ending {
-        status: status_of(outcome),
-        told: tell(outcome, writer),
+        status: status_of(&outcome),
+        told: tell(&outcome, writer),
     }
 }
 
-/// Tells why the run ended early, in one line, and returns what came of that: where it fails, a beginning of the line was written, and
+/// Writes why the run failed, in one line. After an error, a beginning of the line was written, and
 /// never all of it.
 #[tactic(auto, using(crate::proofs::Calls::sent_all))]
-fn tell<W: Sink>(outcome: Result<(), Fault>, writer: &mut W) -> Result<(), Fault>
-    ensures shown { Shown (words_of_end outcome) result
+fn tell<W: Sink>(outcome: &Result<(), Fault>, writer: &mut W) -> Result<(), Fault>
+    ensures shown { Shown (words_of_end outcome.now) result
         (W.contents writer.old) (W.contents writer.new) }
     ensures writes { Writes W.write_gives writer.old (write_failure result) writer.new }
 {
@@ -43,36 +47,71 @@ fn tell<W: Sink>(outcome: Result<(), Fault>, writer: &mut W) -> Result<(), Fault
     write_all(writer, words.as_bytes())
 }
 
-/// The status after a run.
-fn status_of(outcome: Result<(), Fault>) -> u8
-    ensures { result ≡ status_of outcome }
+/// Returns the status after a run.
+fn status_of(outcome: &Result<(), Fault>) -> u8
+    ensures { result ≡ status_of outcome.now }
 {
     match outcome {
         Ok(()) => 0,
-        Err(Fault::Write(kind)) if is_closed(kind) => 0,
-        Err(Fault::Unanswered(_)) => 1,
+        Err(Fault::Stopped(_) | Fault::Unanswered(_)) => 1,
+        Err(Fault::Write(kind)) if is_closed(*kind) => 0,
         Err(_) => 2,
     }
 }
 
-/// What is said of a run.
-fn push_words(words: &mut Buffer, outcome: Result<(), Fault>)
+/// Appends what is said of a run.
+fn push_words(words: &mut Buffer, outcome: &Result<(), Fault>)
     requires { words.old ≡ [] }
-    ensures { words.new ≡ words_of_end outcome }
+    ensures { words.new ≡ words_of_end outcome.now }
 {
     match outcome {
         Ok(()) => {}
-        Err(Fault::Write(kind)) if is_closed(kind) => {}
+        Err(Fault::Write(kind)) if is_closed(*kind) => {}
         Err(Fault::Read) => words.push(b"caldate: cannot read standard input\n"),
         Err(Fault::Write(_)) => words.push(b"caldate: cannot write to standard output\n"),
-        Err(Fault::Unanswered(line)) => {
-            words.push(b"caldate: line ");
-            words.push_number(line.number);
-            words.push(b": ");
-            words.push(line.reason.as_bytes());
-            words.push(b": ");
-            words.push(line.text.as_bytes());
+        Err(Fault::Stopped(line)) => {
+            words.push(b"caldate: ");
+            push_description(words, line);
             words.push(b"\n");
         }
+        Err(Fault::Unanswered(tally)) => {
+            words.push(b"caldate: ");
+            push_summary(words, tally);
+            words.push(b"\n");
+        }
+    }
+}
+
+/// Appends a description such as `line 2: unreadable at 0: x`.
+fn push_description(words: &mut Buffer, line: &UnansweredLine)
+    requires { HasRoom 500 words.old }
+    ensures text { words.new ≡ words.old ++ description line.now }
+    ensures short { length words.new ≤ length words.old + 400 }
+{
+    words.push(b"line ");
+    words.push_number(line.number);
+    words.push(b": ");
+    push_reason(words, line.why);
+    words.push(b": ");
+    words.push(line.text.as_bytes());
+}
+
+/// Appends a summary such as `3 of 900 lines have no answer; first: line 2: unreadable at 0: x`.
+fn push_summary(words: &mut Buffer, tally: &Tally)
+    requires { length words.old ≤ 100 }
+    ensures text { words.new ≡ words.old ++ summary tally.now }
+    ensures short { length words.new ≤ 1_000 }
+{
+    words.push_number(tally.unanswered);
+    words.push(b" of ");
+    words.push_number(tally.lines);
+    if tally.unanswered == 1 {
+        words.push(b" lines has no answer");
+    } else {
+        words.push(b" lines have no answer");
+    }
+    if let Some(line) = &tally.first {
+        words.push(b"; first: ");
+        push_description(words, line);
     }
 }

@@ -28,7 +28,8 @@ pub fn cut_field(field: Field, text: &[u8]) -> Option<(&[u8], &[u8], &[u8])>
     ensures whole { MatchOption result (length text.now ≡ length text.now)
         (λ parts. text.now ≡ parts.0.now ++ parts.1.now ++ parts.2.now) }
     ensures short { MatchOption result (length text.now ≡ length text.now)
-        (λ parts. length parts.0.now + length parts.2.now ≤ length text.now) }
+        (λ parts. length parts.0.now + length parts.1.now + length parts.2.now
+        ≤ length text.now) }
 {
     let mut rest = text;
     for _ in 1..field.number {

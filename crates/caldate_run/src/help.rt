@@ -26,7 +26,9 @@ pub const HELP: &[u8] = b"caldate answers each line of its input, a date or a mo
   caldate list from A to B        without input: all dates from A to B; with by N UNIT every N
                                   days, weeks, months or years; with by RULE the dates of a
                                   recurrence, such as FREQ=MONTHLY;BYDAY=-1FR
-  caldate --strict ...            stops at the first line without an answer, with status 1
+  caldate --invalid MODE ...      what is written for a line without an answer: keep for the line
+                                  (the default with --field), answer for the reason (the default
+                                  without it), drop for nothing, or stop to end there
   caldate --field N ...           reads the N-th field of each line and replaces it by its
                                   answer; fields end at a tab
   caldate --separator C ...       with --field: fields end at the byte C
@@ -54,7 +56,6 @@ or a moment, such as 2024-02-29T23:59:59.25+01:00 or @1709164800.5.
   echo 1980-06-01 | caldate until 2024-02-29 in years      43
   echo 2024-02-29T23:30:00+01:00 | caldate at Z            2024-02-29T22:30:00Z
   echo 2024-02-29 | caldate to unix-ms                     1709164800000
-  echo 2023-02-29 | caldate to ordinal                     refused day conditional
   echo 29.02.2024 | caldate --read dmy to calendar         2024-02-29
   echo 1709164800500 | caldate --read unix-ms at Z         2024-02-29T00:00:00.5Z
   echo a,2024-02-29 | caldate --field 2 --separator , to week   a,2024-W09-4

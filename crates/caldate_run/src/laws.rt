@@ -1,9 +1,10 @@
 //! Laws: a text has one answer, a line has one reply, and all arguments have a reading.
 ghost use Rattle.std.specs.Prelude.{◌≡◌, ℕ, List, Option};
 ghost use Rattle.cal_text.specs.declared.any.DateOrMoment.{DateOrMoment};
-ghost use Rattle.caldate_run.specs.Answers.{IsAnswer};
+ghost use Rattle.caldate_run.specs.Answers.{Answer, IsAnswer};
+ghost use Rattle.caldate_run.specs.Replies.{IsReplyTo};
 ghost use Rattle.caldate_run.specs.Requests.{IsReading, arguments_of};
-ghost use Rattle.caldate_run.specs.Runs.{IsReplyTo};
+ghost use Rattle.caldate_run.specs.declared.tally.Tally.{Tally};
 
 use crate::fields::asked_text;
 use crate::lines::cut_return;
@@ -14,16 +15,17 @@ use cal_text::{DateOrMoment, ParseError, parse_any};
 
 /// Proves that no text has two answers to the same request in the same reading.
 pub fn one_answer(filter: &Filter, text: &[u8]) -> Result<DateOrMoment, ParseError>
-    ensures { (words others : List ℕ) → IsAnswer filter.now text.now words
-        → IsAnswer filter.now text.now others → words ≡ others }
+    ensures { (answer other : Answer) → IsAnswer filter.now text.now answer
+        → IsAnswer filter.now text.now other → answer ≡ other }
 {
     read_in(filter.reading, text)
 }
 
 /// Proves that no line has two replies.
 pub fn one_reply(filter: &Filter, line: &[u8]) -> Option<Result<DateOrMoment, ParseError>>
-    ensures { (before : ℕ) (reply other : List ℕ) → IsReplyTo filter.now before line.now reply
-        → IsReplyTo filter.now before line.now other → reply ≡ other }
+    ensures { (before : ℕ) (reply other : List ℕ) (t u v w : Tally)
+        → IsReplyTo filter.now before line.now reply t u
+        → IsReplyTo filter.now before line.now other v w → reply ≡ other }
 {
     let (text, _has_return) = cut_return(line);
     Some(read_in(filter.reading, asked_text(filter.field, text)?))

@@ -1,8 +1,9 @@
 //! The options before a request.
 ghost use Rattle.std.specs.Prelude.{◌≡◌, ◌+◌, ◌≤◌, ◌^◌, IfOk, None, length};
-ghost use Rattle.caldate_run.specs.Requests.{arguments_of, byte_of, field_number_of, field_of, is_local, is_option, lacking, no_options, options_from, reading_at, reading_of, skip_of, takes_strict, value_of, with_value, words_left};
+ghost use Rattle.caldate_run.specs.Requests.{arguments_of, byte_of, field_number_of, field_of, is_local, invalid_of, is_option, lacking, no_options, options_from, reading_at, reading_of, skip_of, value_of, with_value, words_left};
 
 use crate::offset::offset_of;
+use crate::on_invalid::OnInvalid;
 use crate::reading::Reading;
 use crate::request::{Field, UnixUnit};
 use crate::senseless::{Senseless, Wanted, senseless_at};
@@ -13,8 +14,8 @@ use cal_time::UtcOffset;
 /// A set of options before a request.
 #[derive(Clone, Copy)]
 pub struct Options {
-    /// Whether `--strict` is given.
-    pub is_strict: bool,
+    /// The mode of `--invalid MODE`.
+    pub on_invalid: Option<OnInvalid>,
     /// The number N of `--field N`.
     pub number: Option<u16>,
     /// The byte C of `--separator C`.
@@ -29,7 +30,7 @@ pub struct Options {
 
 /// The options if the arguments have none.
 const NO_OPTIONS: Options = Options {
-    is_strict: false,
+    on_invalid: None,
     number: None,
     separator: None,
     skip: None,
@@ -69,29 +70,19 @@ fn options_from(
         let more = with_value(options, word, wanted).ok_or(senseless_at(at, wanted))?;
         return options_from(None, &more, at + 1, rest);
     }
-    if takes_strict(options, word) {
-        let mut more = *options;
-        more.is_strict = true;
-        return options_from(None, &more, at + 1, rest);
-    }
     match value_of(options, word) {
         Some(wanted) => options_from(Some(wanted), options, at + 1, rest),
         None => Ok((*options, at)),
     }
 }
 
-/// Returns whether the word is the first `--strict`.
-fn takes_strict(options: &Options, word: &[u8]) -> bool
-    ensures { result ≡ takes_strict options.now word.now }
-{
-    word == b"--strict".as_slice() && !options.is_strict
-}
-
 /// Returns the value that an option needs, or `None` for any other word and a repeated option.
 fn value_of(options: &Options, word: &[u8]) -> Option<Wanted>
     ensures { result ≡ value_of options.now word.now }
 {
-    if word == b"--field".as_slice() && options.number.is_none() {
+    if word == b"--invalid".as_slice() && options.on_invalid.is_none() {
+        Some(Wanted::Invalid)
+    } else if word == b"--field".as_slice() && options.number.is_none() {
         Some(Wanted::FieldNumber)
     } else if word == b"--separator".as_slice() && options.separator.is_none() {
         Some(Wanted::Separator)
@@ -111,7 +102,7 @@ fn value_of(options: &Options, word: &[u8]) -> Option<Wanted>
 pub fn is_option(word: &[u8]) -> bool
     ensures { result ≡ is_option word.now }
 {
-    takes_strict(&NO_OPTIONS, word) || value_of(&NO_OPTIONS, word).is_some()
+    value_of(&NO_OPTIONS, word).is_some()
 }
 
 /// Sets the option that needs `wanted`, or returns `None` if the value is invalid.
@@ -120,6 +111,7 @@ fn with_value(options: &Options, value: &[u8], wanted: Wanted) -> Option<Options
 {
     let mut more = *options;
     match wanted {
+        Wanted::Invalid => more.on_invalid = Some(invalid_of(value)?),
         Wanted::FieldNumber => more.number = Some(field_number_of(value)?),
         Wanted::Separator => more.separator = Some(byte_of(value)?),
         Wanted::Skip => more.skip = Some(skip_of(value)?),
@@ -128,6 +120,23 @@ fn with_value(options: &Options, value: &[u8], wanted: Wanted) -> Option<Options
         _ => return None,
     }
     Some(more)
+}
+
+/// Parses a mode: `keep`, `answer`, `drop` or `stop`.
+fn invalid_of(word: &[u8]) -> Option<OnInvalid>
+    ensures { result ≡ invalid_of word.now }
+{
+    if word == b"keep".as_slice() {
+        Some(OnInvalid::Keep)
+    } else if word == b"answer".as_slice() {
+        Some(OnInvalid::Answer)
+    } else if word == b"drop".as_slice() {
+        Some(OnInvalid::Drop)
+    } else if word == b"stop".as_slice() {
+        Some(OnInvalid::Stop)
+    } else {
+        None
+    }
 }
 
 /// Parses a number from 1 to 65535.

@@ -3,12 +3,13 @@ ghost use Rattle.std.specs.Prelude.{◌≡◌, false, true};
 ghost use Rattle.caldate_run.specs.Shown.{shown, words_shown};
 
 use crate::shown::ShownText;
+use crate::tally::Tally;
 
 /// A record of how far a run is.
 #[derive(Clone, Copy)]
 pub struct Progress {
-    /// The number of lines answered so far, at most `u64::MAX`.
-    pub number: u64,
+    /// The lines so far.
+    pub tally: Tally,
     /// Whether the next line is too long, so that its front was dropped.
     pub is_long: bool,
     /// The front of that line to show, if it is long.

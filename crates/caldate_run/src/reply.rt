@@ -1,176 +1,255 @@
 //! The reply to a line.
-ghost use Rattle.std.specs.Prelude.{◌≡◌, ◌+◌, ◌≤◌, ◌++◌, ℕ, List, Some, false, true, codes, drop, length, take, IfErr, OnOk};
-ghost use Rattle.caldate_run.specs.Answers.{LacksAnswer};
-ghost use Rattle.caldate_run.specs.Fields.{asked_text};
-ghost use Rattle.caldate_run.specs.Lines.{text_of};
+ghost use Rattle.std.specs.Prelude.{◌≡◌, ◌⊎◌, ◌+◌, ◌<◌, ◌≤◌, ◌++◌, ◌∷◌, [], ℕ, List, Some, Err, false, true, is_some, length, unwrap_or, IfErr, OnErr, OnOk, if◌then◌else◌};
+ghost use Rattle.caldate_run.specs.Fields.{text_with};
+ghost use Rattle.caldate_run.specs.Lines.{has_return, text_of};
+ghost use Rattle.caldate_run.specs.Replies.{Describes, EndsAt, IsAnswerOf, IsAnswerToText, IsReplyTo, ends_at, in_place, more, reason, with_reason};
 ghost use Rattle.caldate_run.specs.Room.{HasRoom, longest_answer, longest_reply, longest_text};
-ghost use Rattle.caldate_run.specs.Runs.{Allowed, AllowedFor, AppendsThat, IsAllowed};
-ghost use Rattle.caldate_run.specs.Shown.{shown, words_shown};
-ghost use Rattle.caldate_run.specs.Standing.{IsHeld, IsReply, counted};
-ghost use Rattle.caldate_run.specs.Unanswered.{IsReason, IsWhy, Stopped};
+ghost use Rattle.caldate_run.specs.Runs.{AppendsThat, Puts, Replied};
+ghost use Rattle.caldate_run.specs.Standing.{AtLine, counted};
 
-use crate::answer::{LONGEST_TEXT, push_answer};
+use crate::answer::{LONGEST_TEXT, push_answer, push_reason};
 use crate::buffer::Buffer;
 use crate::fields::cut_field;
 use crate::lines::cut_return;
+use crate::no_answer::NoAnswer;
+use crate::on_invalid::OnInvalid;
 use crate::progress::Progress;
 use crate::request::{Field, Filter};
-use crate::shown::ShownText;
 use crate::unanswered::UnansweredLine;
 
-/// Appends the reply to a line, whose front may have been dropped because it is too long. In strict
-/// mode, appends the reason for a missing answer and returns its offset.
+/// Appends the reply to a line, whose front may have been dropped because it is too long, and counts
+/// the line. Fails, and appends nothing, if the run ends at the line.
 pub fn push_reply(
     buffer: &mut Buffer,
     filter: &Filter,
-    progress: &Progress,
+    progress: &mut Progress,
     line: &[u8],
-) -> Result<(), usize>
+) -> Result<(), UnansweredLine>
     requires { HasRoom longest_reply buffer.old }
-    ensures replied { OnOk result ((kept : List ℕ) (before : ℕ)
-        → IsHeld progress.now.is_long kept line.now → progress.now.number ≡ counted before
-        → AppendsThat (IsReply (IsAllowed filter.now before) (kept ++ line.now)) buffer.old
-        buffer.new) }
-    ensures strict { IfErr result (Stopped filter.now buffer.old buffer.new) }
-    ensures reason { IfErr result (λ start. (kept : List ℕ) (before : ℕ)
-        → IsHeld progress.now.is_long kept line.now → progress.now.number ≡ counted before
-        → IsReason filter.now before (text_of (kept ++ line.now)) (drop start buffer.new)) }
+    ensures replied { OnOk result (Replied (IsReplyTo filter.now) progress.old progress.new.tally
+        line.now buffer.old buffer.new) }
+    ensures counted { OnOk result (progress.new.tally.lines ≡ more progress.old.tally.lines) }
+    ensures short { OnOk result (progress.new.is_long ≡ false) }
+    ensures ends { IfErr result (λ told. AtLine progress.old line.now
+        (λ before whole. EndsAt filter.now before whole told)) }
+    ensures same { OnErr result (buffer.new ≡ buffer.old) }
 {
     let (text, has_return) = cut_return(line);
-    if progress.is_long {
-        push_too_long(buffer, filter)?;
-    } else {
-        push_text(buffer, filter, progress.number, text)?;
+    match push_line(buffer, filter, progress, text) {
+        Ok(goes_out) => {
+            push_end(buffer, goes_out, has_return);
+            progress.tally.count();
+            progress.is_long = false;
+            Ok(())
+        }
+        Err(why) => push_unanswered(buffer, filter, progress, text, has_return, why),
     }
-    buffer.push_end(has_return);
+}
+
+/// Appends the answer to the text of a line, and returns whether the line goes out.
+fn push_line(
+    buffer: &mut Buffer,
+    filter: &Filter,
+    progress: &Progress,
+    text: &[u8],
+) -> Result<bool, NoAnswer>
+    requires { HasRoom longest_reply buffer.old }
+    ensures answered { (line : List ℕ) → text.now ≡ text_of line → AtLine progress.now line
+        (λ before whole. Puts (IsAnswerOf filter.now before (text_of whole)) result buffer.old
+        buffer.new) }
+    ensures same { OnErr result (buffer.new ≡ buffer.old) }
+    ensures fits { IfErr result (λ why.
+        progress.now.is_long ≡ true ⊎ longest_text < length text.now → why ≡ NoAnswer.TooLong) }
+    ensures short { length buffer.new ≤ length buffer.old + longest_text + longest_answer }
+{
+    if progress.is_long || text.len() > LONGEST_TEXT {
+        return Err(NoAnswer::TooLong);
+    }
+    push_text(buffer, filter, progress.tally.lines, text)
+}
+
+/// Appends the reply to a line that has no answer, and counts the line. Fails, and appends nothing,
+/// if the run ends at the line. The line is given by its text and whether it has a carriage return.
+#[cold]
+fn push_unanswered(
+    buffer: &mut Buffer,
+    filter: &Filter,
+    progress: &mut Progress,
+    text: &[u8],
+    with_return: bool,
+    why: NoAnswer,
+) -> Result<(), UnansweredLine>
+    requires room { HasRoom longest_reply buffer.old }
+    requires fits { progress.old.is_long ≡ true ⊎ longest_text < length text.now
+        → why ≡ NoAnswer.TooLong }
+    ensures replied { OnOk result ((line : List ℕ) → text.now ≡ text_of line
+        → with_return ≡ has_return line → AtLine progress.old line (λ before whole.
+        IsAnswerOf filter.now before (text_of whole) (Err why) → AppendsThat
+        (λ reply. IsReplyTo filter.now before whole reply progress.old.tally progress.new.tally)
+        buffer.old buffer.new)) }
+    ensures counted { OnOk result (progress.new.tally.lines ≡ more progress.old.tally.lines) }
+    ensures short { OnOk result (progress.new.is_long ≡ false) }
+    ensures ends { IfErr result (λ told. (ends_at filter.now.on_invalid why ≡ true)
+        × ((line : List ℕ) → text.now ≡ text_of line → AtLine progress.old line
+        (λ before whole. Describes before whole why told))) }
+    ensures same { OnErr result (buffer.new ≡ buffer.old) }
+{
+    let told = describe(progress, text, why);
+    if ends_at(filter.on_invalid, why) {
+        return Err(told);
+    }
+    let goes_out = push_in_place(buffer, filter, text, why);
+    push_end(buffer, goes_out, with_return);
+    progress.tally.count_unanswered(told);
+    progress.is_long = false;
     Ok(())
 }
 
-/// Truncates the buffer to `before`, and describes the line. The reason begins at `start`.
-#[cold]
-pub fn take_back(
-    buffer: &mut Buffer,
-    before: usize,
-    start: usize,
-    progress: &Progress,
-    line: &[u8],
-) -> UnansweredLine
-    requires before { before ≤ length buffer.old }
-    requires start { start ≤ length buffer.old }
-    ensures kept { buffer.new ≡ take before buffer.old }
-    ensures number { result.number ≡ counted (progress.now.number + 1) }
-    ensures reason { words_shown result.reason ≡ shown (drop start buffer.old) }
-    ensures whole { progress.now.is_long ≡ false
-        → words_shown result.text ≡ shown (text_of line.now) }
-    ensures long { progress.now.is_long ≡ true → result.text ≡ progress.now.front }
+/// Appends the end of a line that goes out.
+fn push_end(buffer: &mut Buffer, goes_out: bool, with_return: bool)
+    requires { HasRoom 2 buffer.old }
+    ensures { buffer.new ≡ buffer.old ++ (if goes_out
+        then (if with_return then 13 ∷ 10 ∷ [] else 10 ∷ []) else []) }
 {
-    let (text, _has_return) = cut_return(line);
-    let reason = ShownText::new(buffer.after(start));
-    buffer.truncate(before);
+    if goes_out {
+        buffer.push_end(with_return);
+    }
+}
+
+/// Describes a line without an answer.
+fn describe(progress: &Progress, text: &[u8], why: NoAnswer) -> UnansweredLine
+    ensures { (line : List ℕ) → text.now ≡ text_of line → AtLine progress.now line
+        (λ before whole. Describes before whole why result) }
+{
     UnansweredLine {
-        number: progress.number.saturating_add(1),
-        reason,
+        number: progress.tally.lines.saturating_add(1),
+        why,
         text: progress.shown(text),
     }
 }
 
-/// Appends `line too long`. In strict mode, returns its offset.
-fn push_too_long(buffer: &mut Buffer, filter: &Filter) -> Result<(), usize>
-    requires { HasRoom longest_answer buffer.old }
-    ensures ok { OnOk result (filter.now.is_strict ≡ false) }
-    ensures strict { IfErr result (Stopped filter.now buffer.old buffer.new) }
-    ensures reason { IfErr result (λ start. drop start buffer.new ≡ codes "line too long") }
-    ensures text { buffer.new ≡ buffer.old ++ codes "line too long" }
-    ensures short { length buffer.new ≤ length buffer.old + longest_answer }
+/// Returns whether the run ends at a line that has no answer for this reason.
+fn ends_at(on_invalid: OnInvalid, why: NoAnswer) -> bool
+    ensures { result ≡ ends_at on_invalid why }
 {
-    let start = buffer.len();
-    buffer.push(b"line too long");
-    if filter.is_strict {
-        return Err(start);
+    match (on_invalid, why) {
+        (OnInvalid::Stop, _) | (OnInvalid::Keep, NoAnswer::TooLong) => true,
+        _ => false,
     }
-    Ok(())
 }
 
-/// Appends the reply to the text of a line after `number` other lines. In strict mode, appends the
-/// reason for a missing answer and returns its offset.
-fn push_text(buffer: &mut Buffer, filter: &Filter, number: u64, text: &[u8]) -> Result<(), usize>
-    requires { HasRoom longest_reply buffer.old }
-    ensures ok { OnOk result ((before : ℕ) → number ≡ counted before
-        → AppendsThat (IsAllowed filter.now before text.now) buffer.old buffer.new) }
-    ensures strict { IfErr result (Stopped filter.now buffer.old buffer.new) }
-    ensures reason { IfErr result (λ start. (before : ℕ) → number ≡ counted before
-        → IsReason filter.now before text.now (drop start buffer.new)) }
+/// Appends what goes out in place of an answer, and returns whether the line goes out.
+fn push_in_place(buffer: &mut Buffer, filter: &Filter, text: &[u8], why: NoAnswer) -> bool
+    requires room { HasRoom longest_reply buffer.old }
+    requires goes_on { ends_at filter.now.on_invalid why ≡ false }
+    requires fits { longest_text < length text.now → why ≡ NoAnswer.TooLong }
+    ensures text { buffer.new ≡ buffer.old
+        ++ unwrap_or (in_place filter.now.on_invalid filter.now text.now why) [] }
+    ensures goes_out { result ≡ is_some (in_place filter.now.on_invalid filter.now text.now why) }
     ensures short { length buffer.new ≤ length buffer.old + longest_text + longest_answer }
 {
-    if text.len() > LONGEST_TEXT {
-        return push_too_long(buffer, filter);
+    match filter.on_invalid {
+        OnInvalid::Keep => {
+            buffer.push(text);
+            true
+        }
+        OnInvalid::Answer => {
+            push_with_reason(buffer, filter, text, why);
+            true
+        }
+        OnInvalid::Drop | OnInvalid::Stop => false,
     }
+}
+
+/// Appends the text with the reason in place of the text to answer, or the reason alone if the line
+/// is too long.
+fn push_with_reason(buffer: &mut Buffer, filter: &Filter, text: &[u8], why: NoAnswer)
+    requires room { HasRoom longest_reply buffer.old }
+    requires fits { longest_text < length text.now → why ≡ NoAnswer.TooLong }
+    ensures text { buffer.new ≡ buffer.old ++ with_reason filter.now text.now why }
+    ensures short { length buffer.new ≤ length buffer.old + longest_text + longest_answer }
+{
+    match why {
+        NoAnswer::TooLong => push_reason(buffer, why),
+        _ => push_in_field(buffer, filter.field, text, why),
+    }
+}
+
+/// Appends the text with the reason in place of the field, or the text if it lacks the field.
+fn push_in_field(buffer: &mut Buffer, field: Option<Field>, text: &[u8], why: NoAnswer)
+    requires room { HasRoom longest_reply buffer.old }
+    requires fits { length text.now ≤ longest_text }
+    ensures text { buffer.new ≡ buffer.old ++ text_with field text.now (reason why) }
+    ensures short { length buffer.new ≤ length buffer.old + longest_text + longest_answer }
+{
+    match field {
+        Some(field) => match cut_field(field, text) {
+            Some((front, _asked, rest)) => {
+                buffer.push(front);
+                push_reason(buffer, why);
+                buffer.push(rest);
+            }
+            None => buffer.push(text),
+        },
+        None => push_reason(buffer, why),
+    }
+}
+
+/// Appends the text of a line after `number` other lines, with its answer, and returns whether the
+/// line goes out.
+fn push_text(
+    buffer: &mut Buffer,
+    filter: &Filter,
+    number: u64,
+    text: &[u8],
+) -> Result<bool, NoAnswer>
+    requires room { HasRoom longest_reply buffer.old }
+    requires fits { length text.now ≤ longest_text }
+    ensures answered { (before : ℕ) → number ≡ counted before
+        → Puts (IsAnswerOf filter.now before text.now) result buffer.old buffer.new }
+    ensures same { OnErr result (buffer.new ≡ buffer.old) }
+    ensures short { length buffer.new ≤ length buffer.old + longest_text + longest_answer }
+{
     if number < filter.skip {
         buffer.push(text);
-        return Ok(());
+        return Ok(true);
     }
     match filter.field {
         Some(field) => push_field(buffer, filter, field, text),
-        None => push_asked(buffer, filter, text),
+        None => push_answer(buffer, filter, text),
     }
 }
 
-/// Appends the text with the answer in place of the field. In strict mode, appends the reason for a
-/// missing answer or field and returns its offset.
-fn push_field(buffer: &mut Buffer, filter: &Filter, field: Field, text: &[u8]) -> Result<(), usize>
+/// Appends the text with the answer in place of the field, and returns whether the line goes out.
+fn push_field(
+    buffer: &mut Buffer,
+    filter: &Filter,
+    field: Field,
+    text: &[u8],
+) -> Result<bool, NoAnswer>
     requires room { HasRoom longest_reply buffer.old }
     requires fits { length text.now ≤ longest_text }
     requires field { filter.now.field ≡ Some field }
-    ensures ok { OnOk result (AppendsThat
-        (AllowedFor filter.now text.now (asked_text (Some field) text.now)) buffer.old buffer.new) }
-    ensures strict { IfErr result (Stopped filter.now buffer.old buffer.new) }
-    ensures reason { IfErr result (λ start.
-        IsWhy filter.now (asked_text (Some field) text.now) (drop start buffer.new)) }
+    ensures answered { Puts (IsAnswerToText filter.now text.now) result buffer.old buffer.new }
     ensures short { length buffer.new ≤ length buffer.old + longest_text + longest_answer }
 {
     let Some((front, asked, rest)) = cut_field(field, text) else {
-        return push_without_field(buffer, filter, text);
+        return Err(NoAnswer::NoField);
     };
-    buffer.push(front);
-    push_asked(buffer, filter, asked)?;
-    buffer.push(rest);
-    Ok(())
-}
-
-/// Appends a text that lacks the field. In strict mode, appends the reason and returns its offset.
-fn push_without_field(buffer: &mut Buffer, filter: &Filter, text: &[u8]) -> Result<(), usize>
-    requires room { HasRoom longest_reply buffer.old }
-    requires fits { length text.now ≤ longest_text }
-    ensures ok { OnOk result ((filter.now.is_strict ≡ false)
-        × (buffer.new ≡ buffer.old ++ text.now)) }
-    ensures strict { IfErr result (Stopped filter.now buffer.old buffer.new) }
-    ensures reason { IfErr result (λ start. drop start buffer.new ≡ codes "no such field") }
-    ensures short { length buffer.new ≤ length buffer.old + longest_text + longest_answer }
-{
-    if filter.is_strict {
-        let start = buffer.len();
-        buffer.push(b"no such field");
-        return Err(start);
-    }
-    buffer.push(text);
-    Ok(())
-}
-
-/// Appends the answer for `text`, or the reason why it has none. In strict mode, returns the offset
-/// of the reason.
-fn push_asked(buffer: &mut Buffer, filter: &Filter, text: &[u8]) -> Result<(), usize>
-    requires { HasRoom longest_answer buffer.old }
-    ensures ok { OnOk result (AppendsThat
-        (Allowed filter.now.is_strict filter.now text.now) buffer.old buffer.new) }
-    ensures strict { IfErr result (Stopped filter.now buffer.old buffer.new) }
-    ensures reason { IfErr result (λ start.
-        LacksAnswer filter.now text.now (drop start buffer.new)) }
-    ensures short { length buffer.new ≤ length buffer.old + longest_answer }
-{
     let start = buffer.len();
-    let has_answer = push_answer(buffer, filter, text);
-    if filter.is_strict && !has_answer {
-        return Err(start);
+    buffer.push(front);
+    match push_answer(buffer, filter, asked) {
+        Ok(true) => {
+            buffer.push(rest);
+            Ok(true)
+        }
+        Ok(false) => {
+            buffer.truncate(start);
+            Ok(false)
+        }
+        Err(why) => {
+            buffer.truncate(start);
+            Err(why)
+        }
     }
-    Ok(())
 }

@@ -1,4 +1,5 @@
 //! Requests, and how they apply to the lines.
+use crate::on_invalid::OnInvalid;
 use crate::reading::Reading;
 use cal_recurrence::Recurrence;
 use cal_text::{DateForm, DateOrMoment, MomentForm};
@@ -125,8 +126,8 @@ pub struct Filter {
     pub request: Request,
     /// How to read a line.
     pub reading: Reading,
-    /// Whether the run ends at the first line without an answer.
-    pub is_strict: bool,
+    /// What is written for a line without an answer.
+    pub on_invalid: OnInvalid,
     /// The field to answer, or `None` for the whole line.
     pub field: Option<Field>,
     /// How many lines to pass on unchanged at the start.

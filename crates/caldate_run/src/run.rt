@@ -1,24 +1,25 @@
 //! Runs: the answers to the lines of an input of any length.
-ghost use Rattle.std.specs.Prelude.{◌≡◌, ◌≤◌, ◌+◌, ◌-◌, ◌++◌, ℕ, List, [], length, drop, Option, OnOk, OnErr, IfOk, IfErr, IsErrAnd, IsErrOf};
+ghost use Rattle.std.specs.Prelude.{◌≡◌, ◌≤◌, ◌+◌, ◌-◌, ◌++◌, ℕ, List, [], false, true, is_some, length, drop, None, Option, OnOk, OnErr, IfOk, IfErr, IsErrAnd, IsErrOf};
 ghost use Rattle.std.specs.Io.KnownBytes.{Appends};
 ghost use Rattle.caldate_run.specs.Calls.{Reads, Writes, has_read_failure, kind_of, most_reads, write_failure};
 ghost use Rattle.caldate_run.specs.Lines.{ended_lines, lines_of};
+ghost use Rattle.caldate_run.specs.Replies.{IsReplyTo};
 ghost use Rattle.caldate_run.specs.Room.{HasRoom, longest_reply, longest_text};
-ghost use Rattle.caldate_run.specs.Runs.{AppendsFront, Ended, EndsFrom, FailsFrom, IsReplyTo, IsOfWrite, StopsFrom};
+ghost use Rattle.caldate_run.specs.Runs.{AppendsFront, Ended, EndsFrom, FailsFrom, IsEarly, IsOfWrite, StopsFrom};
 ghost use Rattle.caldate_run.specs.Standing.{Advances, NoEnd};
 ghost use Rattle.caldate_run.specs.declared.unanswered.UnansweredLine.{UnansweredLine};
 
 use crate::buffer::Buffer;
 use crate::fault::Fault;
 use crate::input::Input;
-use crate::keep::push_line;
 use crate::lines::first_line;
 use crate::output::write_all;
 use crate::progress::Progress;
-use crate::reply::take_back;
+use crate::reply::push_reply;
 use crate::request::Filter;
 use crate::shown::ShownText;
 use crate::streams::{Sink, Source};
+use crate::tally::Tally;
 use crate::unanswered::UnansweredLine;
 
 /// The maximum length of an unfinished line: a text and a carriage return.
@@ -27,7 +28,8 @@ const MOST_KEPT: usize = 4097;
 /// Answers the lines of the input, in order, up to its end.
 ///
 /// Writes the answers to one read before the next read. Fails with `Fault::Read` or `Fault::Write`,
-/// or in strict mode with `Fault::Unanswered`. 2^64 - 1 reads end like a failed read.
+/// with `Fault::Stopped` at a line that ends the run, and with `Fault::Unanswered` if the run is
+/// complete but some of its lines have no answer. 2^64 - 1 reads end like a failed read.
 pub fn run<R: Source, W: Sink>(filter: Filter, reader: &mut R, writer: &mut W) -> Result<(), Fault>
     ensures ended { Ended filter result (R.remaining reader.old) (R.remaining reader.new)
         (W.contents writer.old) (W.contents writer.new) }
@@ -37,20 +39,27 @@ pub fn run<R: Source, W: Sink>(filter: Filter, reader: &mut R, writer: &mut W) -
     let mut input = Input::new();
     let mut buffer = Buffer::new();
     let mut progress = Progress {
-        number: 0,
+        tally: Tally {
+            lines: 0,
+            unanswered: 0,
+            first: None,
+        },
         is_long: false,
         front: ShownText::new(b""),
     };
     let mut reads = u64::MAX;
     while reads > 0 {
         if input.read_more(reader)? == 0 {
-            return answer_last(
+            match answer_last(
                 &filter,
                 &mut progress,
                 &mut buffer,
                 writer,
                 input.as_bytes(),
-            );
+            ) {
+                Ok(()) => return outcome(&progress.tally),
+                Err(fault) => return Err(fault),
+            }
         }
         let left = match answer_lines(
             &filter,
@@ -88,25 +97,19 @@ fn answer_lines<W: Sink>(
     ensures write { IsErrAnd result IsOfWrite
         → FailsFrom filter.now ended_lines (W.contents writer.old)
         (W.contents writer.new) buffer.old bytes.now progress.old }
-    ensures unanswered { (told : UnansweredLine) → IsErrOf result (Fault.Unanswered told)
+    ensures stopped { (told : UnansweredLine) → IsErrOf result (Fault.Stopped told)
         → StopsFrom filter.now told ended_lines (W.contents writer.old)
         (W.contents writer.new) buffer.old bytes.now progress.old }
-    ensures no_read { IsErrOf result Fault.Read → ⊥ }
+    ensures others { IfErr result IsEarly }
     ensures writes { Writes W.write_gives writer.old (write_failure result) writer.new }
 {
     let mut rest = bytes;
     while let Some((line, after)) = first_line(rest) {
         make_room(buffer, writer)?;
-        let before = buffer.len();
-        match push_line(buffer, filter, progress, line) {
+        match push_reply(buffer, filter, progress, line) {
             Ok(()) => {}
-            Err(start) => {
-                let told = take_back(buffer, before, start, progress, line);
-                return Err(stop(told, buffer, writer));
-            }
+            Err(told) => return Err(stop(told, buffer, writer)),
         }
-        progress.number = progress.number.saturating_add(1);
-        progress.is_long = false;
         rest = after;
     }
     Ok(rest.len())
@@ -117,13 +120,13 @@ fn answer_lines<W: Sink>(
 fn stop<W: Sink>(told: UnansweredLine, buffer: &Buffer, writer: &mut W) -> Fault
     ensures write { IsOfWrite result
         → AppendsFront (W.contents writer.old) (W.contents writer.new) buffer.now }
-    ensures unanswered { (line : UnansweredLine) → result ≡ Fault.Unanswered line → (line ≡ told)
+    ensures stopped { (line : UnansweredLine) → result ≡ Fault.Stopped line → (line ≡ told)
         × Appends (W.contents writer.old) (W.contents writer.new) buffer.now }
-    ensures no_read { result ≡ Fault.Read → ⊥ }
+    ensures others { IsEarly result }
     ensures writes { Writes W.write_gives writer.old (kind_of result) writer.new }
 {
     match write_all(writer, buffer.as_bytes()) {
-        Ok(()) => Fault::Unanswered(told),
+        Ok(()) => Fault::Stopped(told),
         Err(fault) => fault,
     }
 }
@@ -139,26 +142,37 @@ fn answer_last<W: Sink>(
 ) -> Result<(), Fault>
     requires no_end { NoEnd line.now }
     requires none { buffer.old ≡ [] }
-    ensures ok { OnOk result (EndsFrom filter.now (W.contents writer.old)
+    ensures ok { OnOk result (EndsFrom filter.now progress.new.tally (W.contents writer.old)
         (W.contents writer.new) [] line.now progress.old) }
     ensures write { IsErrAnd result IsOfWrite
         → FailsFrom filter.now lines_of (W.contents writer.old)
         (W.contents writer.new) [] line.now progress.old }
-    ensures unanswered { (told : UnansweredLine) → IsErrOf result (Fault.Unanswered told)
+    ensures stopped { (told : UnansweredLine) → IsErrOf result (Fault.Stopped told)
         → StopsFrom filter.now told lines_of (W.contents writer.old)
         (W.contents writer.new) [] line.now progress.old }
-    ensures no_read { IsErrOf result Fault.Read → ⊥ }
+    ensures others { IfErr result IsEarly }
     ensures writes { Writes W.write_gives writer.old (write_failure result) writer.new }
 {
     if line.is_empty() {
         return Ok(());
     }
-    match push_line(buffer, filter, progress, line) {
+    match push_reply(buffer, filter, progress, line) {
         Ok(()) => write_all(writer, buffer.as_bytes()),
-        Err(start) => {
-            let told = take_back(buffer, 0, start, progress, line);
-            Err(Fault::Unanswered(told))
-        }
+        Err(told) => Err(Fault::Stopped(told)),
+    }
+}
+
+/// Returns the outcome of a run that is complete: a failure if a line has no answer.
+fn outcome(tally: &Tally) -> Result<(), Fault>
+    ensures ok { OnOk result (tally.now.first ≡ None) }
+    ensures err { IfErr result (λ fault. (fault ≡ Fault.Unanswered tally.now)
+        × (is_some tally.now.first ≡ true)) }
+    ensures read { has_read_failure result ≡ false }
+    ensures write { write_failure result ≡ None }
+{
+    match &tally.first {
+        Some(_) => Err(Fault::Unanswered(*tally)),
+        None => Ok(()),
     }
 }
 

@@ -7,12 +7,14 @@ ghost use Rattle.caldate_run.specs.Requests.{senseless_at};
 pub enum Wanted {
     /// Any command, because nothing is given.
     Something,
-    /// A verb or an option, such as `--strict`.
+    /// A verb or an option, such as `--field`.
     Start,
     /// A verb, or an option that is not given yet and needs a verb.
     Verb,
     /// `--field`, which `--separator` requires.
     Field,
+    /// A mode of `--invalid`, such as `keep`.
+    Invalid,
     /// A number from 1 to 65535.
     FieldNumber,
     /// One byte.

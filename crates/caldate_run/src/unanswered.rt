@@ -1,14 +1,15 @@
-//! The line at which a strict run ends.
+//! Lines without an answer.
 
+use crate::no_answer::NoAnswer;
 use crate::shown::ShownText;
 
-/// A line at which a strict run ends.
+/// A line without an answer.
 #[derive(Clone, Copy, Debug, PartialEq, Eq)]
 pub struct UnansweredLine {
     /// The number of the line, counted from 1.
     pub number: u64,
     /// The reason why it has no answer.
-    pub reason: ShownText,
+    pub why: NoAnswer,
     /// The text of the line.
     pub text: ShownText,
 }

@@ -30,20 +30,23 @@ fn lines_up_to_4096_bytes_and_longer_ones(rt: HostRuntime) -> Result<(), Fail> {
     for length in [4095usize, 4096, 4097, 4098, 65_535, 65_536, 65_537, 200_000] {
         let plain = repeated(rt.alloc(), b"", b'x', length, b"\n2024-060\r\n")?;
         let returned = repeated(rt.alloc(), b"", b'x', length, b"\r\n2024-060\r\n")?;
-        let (of_plain, of_returned) = if length <= 4096 {
+        let (of_plain, of_returned, words) = if length <= 4096 {
             (
                 b"unreadable at 0\n2024-02-29\r\n".as_slice(),
                 b"unreadable at 0\r\n2024-02-29\r\n".as_slice(),
+                b"caldate: 1 of 2 lines has no answer; first: line 1: unreadable at 0: ".as_slice(),
             )
         } else {
             (
                 b"line too long\n2024-02-29\r\n".as_slice(),
                 b"line too long\r\n2024-02-29\r\n".as_slice(),
+                b"caldate: 1 of 2 lines has no answer; first: line 1: line too long: ".as_slice(),
             )
         };
+        let told = repeated(rt.alloc(), words, b'x', 80, b"\n")?;
         for most in [1000, 4096, 4097, 65_536] {
-            check_chunks(&rt, b"to\0calendar", &plain, most, of_plain, b"");
-            check_chunks(&rt, b"to\0calendar", &returned, most, of_returned, b"");
+            check_chunks(&rt, b"to\0calendar", &plain, most, of_plain, &told);
+            check_chunks(&rt, b"to\0calendar", &returned, most, of_returned, &told);
         }
     }
     Ok(())
@@ -51,7 +54,7 @@ fn lines_up_to_4096_bytes_and_longer_ones(rt: HostRuntime) -> Result<(), Fail> {
 
 // A dropped line still shows its first 80 bytes: here three, and then tildes.
 #[test]
-fn a_long_line_ends_a_strict_run(rt: HostRuntime) -> Result<(), Fail> {
+fn a_long_line_ends_a_run(rt: HostRuntime) -> Result<(), Fail> {
     for tildes in [76usize, 77, 78, 4093, 4094, 4095, 65_533, 199_997] {
         let words = if tildes > 4093 {
             b"caldate: line 2: line too long: ~??".as_slice()
@@ -63,7 +66,14 @@ fn a_long_line_ends_a_strict_run(rt: HostRuntime) -> Result<(), Fail> {
             let input = repeated(rt.alloc(), b"2024-060\n~\t\xc3", b'~', tildes, line_end)?;
             for most in [1000, 4097, 65_536] {
                 let written = b"2024-02-29\n".as_slice();
-                check_chunks(&rt, b"--strict\0to\0calendar", &input, most, written, &told);
+                check_chunks(
+                    &rt,
+                    b"--invalid\0stop\0to\0calendar",
+                    &input,
+                    most,
+                    written,
+                    &told,
+                );
             }
         }
     }

@@ -1,10 +1,12 @@
-//! A run has one answer: two runs to the end of the same input leave the same output. So do two
+//! A run has one answer: two complete runs over the same input leave the same output. So do two
 //! lists, in steps or by a rule. The arguments give one command, since they have a reading.
 ghost use Rattle.std.specs.List.{slice_split};
 ghost use Rattle.std.specs.Prelude.{◌≡◌, List, ℕ, All, Some, IsOk};
 ghost use Rattle.caldate_run.specs.Lines.{is_end};
 ghost use Rattle.caldate_run.specs.Lists.{IsStep};
-ghost use Rattle.caldate_run.specs.Runs.{IsReplyTo};
+ghost use Rattle.caldate_run.specs.Replies.{IsReplyTo};
+ghost use Rattle.caldate_run.specs.Runs.{IsComplete};
+ghost use Rattle.caldate_run.specs.declared.tally.Tally.{Tally};
 
 use caldate_run::asked::asked_of;
 use caldate_run::fault::Fault;
@@ -19,8 +21,8 @@ use caldate_run::streams::{Sink, Source};
 
 /// Proves that each part of the input between line feeds has one reply.
 fn one_reply_each(filter: &Filter, input: &[u8])
-    ensures { All (λ line. (before : ℕ) (reply other : List ℕ)
-        → IsReplyTo filter.now before line reply → IsReplyTo filter.now before line other
+    ensures { All (λ line. (before : ℕ) (reply other : List ℕ) (t u v w : Tally)
+        → IsReplyTo filter.now before line reply t u → IsReplyTo filter.now before line other v w
         → reply ≡ other) (slice_split is_end input.now) }
 {
     match first_line(input) {
@@ -45,7 +47,7 @@ fn runs<R: Source, W: Sink>(
     ensures { (held : List ℕ) → R.remaining reader.old ≡ Some input.now
         → R.remaining twin.old ≡ Some input.now
         → W.contents writer.old ≡ Some held → W.contents other.old ≡ Some held
-        → IsOk result.0 → IsOk result.1 → W.contents writer.new ≡ W.contents other.new }
+        → IsComplete result.0 → IsComplete result.1 → W.contents writer.new ≡ W.contents other.new }
 {
     one_reply_each(filter, input);
     (run(*filter, reader, writer), run(*filter, twin, other))

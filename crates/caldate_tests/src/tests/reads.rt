@@ -4,7 +4,7 @@ use crate::tests::streams::Dripping;
 use std::io::ErrorKind;
 use std::process::Abort;
 
-/// A run and its end: the output, and the message of a strict run that stops.
+/// A run and its end: the output, and the message about lines without an answer.
 struct Case {
     arguments: &'static [u8],
     input: &'static [u8],
@@ -14,67 +14,67 @@ struct Case {
     reads: usize,
 }
 
-const STRICT: &[u8] = b"--strict\0to\0calendar";
+const STOPPING: &[u8] = b"--invalid\0stop\0to\0calendar";
 
 const CASES: [Case; 12] = [
     Case {
         arguments: b"to\0calendar",
         input: b"2024-060\r\n\n2024-W09-4\nJ2460370",
         written: b"2024-02-29\r\nunreadable at 0\n2024-02-29\n2024-02-29\n",
-        told: b"",
+        told: b"caldate: 1 of 4 lines has no answer; first: line 2: unreadable at 0: \n",
         reads: 31,
     },
     Case {
         arguments: b"to\0calendar",
         input: b"2024-060\n2024-367\r\nx\n2024-W09-4",
         written: b"2024-02-29\nrefused ordinal conditional\r\nunreadable at 0\n2024-02-29\n",
-        told: b"",
+        told: b"caldate: 2 of 4 lines have no answer; first: line 2: refused ordinal conditional: 2024-367\n",
         reads: 32,
     },
     Case {
         arguments: b"--field\02\0--separator\0,\0to\0calendar",
         input: b"a,2024-060,c\r\n,2024-W09-4\nJ2460370",
         written: b"a,2024-02-29,c\r\n,2024-02-29\nJ2460370\n",
-        told: b"",
+        told: b"caldate: 1 of 3 lines has no answer; first: line 3: no such field: J2460370\n",
         reads: 35,
     },
     Case {
-        arguments: STRICT,
+        arguments: STOPPING,
         input: b"",
         written: b"",
         told: b"",
         reads: 1,
     },
     Case {
-        arguments: STRICT,
+        arguments: STOPPING,
         input: b"2024-060\n2024-061\n",
         written: b"2024-02-29\n2024-03-01\n",
         told: b"",
         reads: 19,
     },
     Case {
-        arguments: STRICT,
+        arguments: STOPPING,
         input: b"2024-060\n+999999-12-31",
         written: b"2024-02-29\n+999999-12-31\n",
         told: b"",
         reads: 23,
     },
     Case {
-        arguments: STRICT,
+        arguments: STOPPING,
         input: b"2024-060\n2024-367\n2024-061\n",
         written: b"2024-02-29\n",
         told: b"caldate: line 2: refused ordinal conditional: 2024-367\n",
         reads: 18,
     },
     Case {
-        arguments: STRICT,
+        arguments: STOPPING,
         input: b"x\n2024-060\n",
         written: b"",
         told: b"caldate: line 1: unreadable at 0: x\n",
         reads: 2,
     },
     Case {
-        arguments: STRICT,
+        arguments: STOPPING,
         input: b"2024-060\r\n\r\n2024-060\n",
         written: b"2024-02-29\r\n",
         told: b"caldate: line 2: unreadable at 0: \n",
@@ -82,21 +82,21 @@ const CASES: [Case; 12] = [
     },
     // A line without a line feed is answered once the input ends.
     Case {
-        arguments: STRICT,
+        arguments: STOPPING,
         input: b"2024-060\n2024-061\n2024-0",
         written: b"2024-02-29\n2024-03-01\n",
         told: b"caldate: line 3: unreadable at 6: 2024-0\n",
         reads: 25,
     },
     Case {
-        arguments: STRICT,
+        arguments: STOPPING,
         input: b"2024-02-",
         written: b"",
         told: b"caldate: line 1: unreadable at 8: 2024-02-\n",
         reads: 9,
     },
     Case {
-        arguments: STRICT,
+        arguments: STOPPING,
         input: b"2024-02-29\n2023-02-29\r",
         written: b"2024-02-29\n",
         told: b"caldate: line 2: refused day conditional: 2023-02-29\n",

@@ -3,15 +3,17 @@ use crate::tests::run_by;
 use crate::tests::streams::Sipping;
 use caldate_run::ending::end;
 use caldate_run::fault::Fault;
+use caldate_run::no_answer::NoAnswer;
 use caldate_run::program::perform;
 use caldate_run::shown::ShownText;
+use caldate_run::tally::Tally;
 use caldate_run::unanswered::UnansweredLine;
 use std::io::ErrorKind;
 use std::process::Abort;
 
-const INPUT: &[u8] = b"2024-060\n2024-367\r\nx\n2024-W09-4";
+const INPUT: &[u8] = b"2024-060\n2024-366\r\nJ2460370\n2024-W09-4";
 
-const ANSWERS: &[u8] = b"2024-02-29\nrefused ordinal conditional\r\nunreadable at 0\n2024-02-29\n";
+const ANSWERS: &[u8] = b"2024-02-29\n2024-12-31\r\n2024-02-29\n2024-02-29\n";
 
 /// Checks the outcome of a run whose writer fails this often after `fine` writes, and the bytes
 /// that the writer takes.
@@ -170,15 +172,33 @@ fn a_long_list(rt: HostRuntime) {
     assert!(rt; written.ends_with(b"2273-10-13\n2273-10-14\n2273-10-15\n"));
 }
 
+/// Checks the message of a run with a line that has no answer.
+fn check_end<H: Abort + AllocGlobal>(rt: &H, fault: Fault, words: &[u8]) {
+    let mut told = Vec::new(rt.alloc());
+    let ending = end(Err(fault), &mut told);
+    assert!(rt; ending.status == 1 && ending.told.is_ok() && told.as_slice() == words);
+}
+
 #[test]
 fn the_last_number_of_a_line(rt: HostRuntime) {
     let line = UnansweredLine {
         number: u64::MAX,
-        reason: ShownText::new(b"none"),
+        why: NoAnswer::None,
         text: ShownText::new(b"+999999-12-31"),
     };
-    let mut told = Vec::new(rt.alloc());
-    let ending = end(Err(Fault::Unanswered(line)), &mut told);
-    let words = b"caldate: line 18446744073709551615: none: +999999-12-31\n".as_slice();
-    assert!(rt; ending.status == 1 && ending.told.is_ok() && told.as_slice() == words);
+    let tally = Tally {
+        lines: u64::MAX,
+        unanswered: u64::MAX,
+        first: Some(line),
+    };
+    check_end(
+        &rt,
+        Fault::Stopped(line),
+        b"caldate: line 18446744073709551615: none: +999999-12-31\n",
+    );
+    check_end(
+        &rt,
+        Fault::Unanswered(tally),
+        b"caldate: 18446744073709551615 of 18446744073709551615 lines have no answer; first: line 18446744073709551615: none: +999999-12-31\n",
+    );
 }

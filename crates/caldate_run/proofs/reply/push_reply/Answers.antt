@@ -1,23 +1,33 @@
-use Rattle.std.proofs.Common.{◌++◌, ◌∙◌, codes, sym, subst, inl}
+use Rattle.std.proofs.Common.{◌∙◌, ◌++◌, Err, ap, refl, subst, sym}
+use Rattle.std.proofs.lemmas.Result.{IfErr-weaker}
 use Rattle.caldate_run.specs.Lines.{text_of}
-use Rattle.caldate_run.specs.Runs.{AppendsThat, IsAllowed}
-use Rattle.caldate_run.specs.Standing.{IsHeld}
-use Rattle.caldate_run.proofs.Replied.{is_too_long, of_whole, replied}
+use Rattle.caldate_run.specs.Replies.{IsAnswerOf, ends_at}
+use Rattle.caldate_run.proofs.Replied.{replied, replied_without}
 use Rattle.caldate_run.proofs.reply.push_reply.Goals as goal
-use Rattle.caldate_run.proofs.reply.push_reply.Goals.{then-progress+in_ok-push_too_long, else-progress+in_ok-push_text}
 
-pub returns-clause-replied : goal.returns-clause-replied
-returns-clause-replied c = λ kept before held number.
-    let filter = c.args.filter.now in
+pub returns-in-Ok-clause-replied : goal.returns-in-Ok-clause-replied
+returns-in-Ok-clause-replied c = λ kept before held front number.
     let line = c.args.line.now in
-    let old = c.args.buffer.now in
-    let mid = c.if-progress.buffer in
-    let said : AppendsThat (IsAllowed filter before (text_of (kept ++ line))) old mid =
-    elim c.if-progress.branch as (λ _. AppendsThat (IsAllowed filter before (text_of (kept ++ line))) old mid) [
-      | then-progress+in_ok-push_too_long w ↦
-          (codes "line too long", w.buffer-is ∙ w.push_too_long.ensures.text, inl (w.in_ok-push_too_long.ensures.ok, is_too_long kept line (subst (λ b. IsHeld b kept line) w.if-progress.true held)))
-      | else-progress+in_ok-push_text w ↦
-          of_whole (λ text. AppendsThat (IsAllowed filter before text) old mid) kept line _ (subst (λ b. IsHeld b kept line) w.if-progress.false held) c.cut_return-has_return.ensures.text
-          (subst (AppendsThat (IsAllowed filter before c.cut_return-has_return.result.0.now) old) (sym w.buffer-is) (w.in_ok-push_text.ensures.ok before number))
-    ] in
-    replied (IsAllowed filter before) c.args.progress.now.is_long kept line old mid _ _ held said c.cut_return-has_return.ensures.cut c.push_end.ensures
+    replied c.args.filter.now before c.args.progress.now.is_long kept line c.args.buffer.now c.push_line.new.buffer c.push_end.new.buffer c.in-Ok.goes_out _
+    c.args.progress.now.tally c.count.new.self held (c.in-Ok.ensures.answered line c.cut_return-has_return.ensures.text kept before held front number)
+    c.cut_return-has_return.ensures.cut c.push_end.ensures c.count.ensures
+
+pub returns-in-Err-clause-replied : goal.returns-in-Err-clause-replied
+returns-in-Err-clause-replied c =
+    replied_without c.args.filter.now c.args.progress.now c.push_unanswered.new.progress.tally c.args.line.now _ c.args.buffer.now c.push_line.new.buffer
+    c.push_unanswered.new.buffer _ c.in-Err.why c.push_unanswered.result c.cut_return-has_return.ensures.text c.cut_return-has_return.ensures.cut
+    (c.in-Err.ensures.answered c.args.line.now c.cut_return-has_return.ensures.text) c.push_unanswered.ensures.replied
+
+pub returns-in-Err-clause-ends : goal.returns-in-Err-clause-ends
+returns-in-Err-clause-ends c =
+    IfErr-weaker c.push_unanswered.result _ _ (λ told is kept before held front number.
+    let line = c.args.line.now in
+    let filter = c.args.filter.now in
+    let cut = c.cut_return-has_return.ensures in
+    let put = c.in-Err.ensures.answered line cut.text kept before held front number in
+    let described = is.1 line cut.text kept before held front number in
+    record {
+      is = subst (λ w. IsAnswerOf filter before (text_of (kept ++ line)) (Err w)) (sym described.why_is) put.1;
+      ends = ap (ends_at filter.on_invalid) described.why_is ∙ is.0;
+      told_is = record { number_is = described.number_is; why_is = refl; text_is = described.text_is };
+    }) c.push_unanswered.ensures.ends

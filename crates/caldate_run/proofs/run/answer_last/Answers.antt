@@ -1,11 +1,11 @@
 use Rattle.std.proofs.Common.{◌≡◌, ◌<◌, [], length, rules, subst}
 use Rattle.std.specs.Io.KnownBytes.{Appends}
 use Rattle.std.proofs.lemmas.Result.{on_ok_weaker}
-use Rattle.caldate_run.specs.Runs.{AppendsFront, EndsFrom, IsReplyTo}
+use Rattle.caldate_run.specs.Replies.{IsReplyTo}
+use Rattle.caldate_run.specs.Runs.{AppendsFront, EndsFrom, Replied}
 use Rattle.caldate_run.specs.Standing.{Stands}
 use Rattle.caldate_run.proofs.Ends.{empty, same_line, write_failed}
-use Rattle.caldate_run.proofs.Replied.{tells}
-use Rattle.caldate_run.proofs.Steps.{Replies, Tells, all_answered, last_answered, last_failed, last_stopped}
+use Rattle.caldate_run.proofs.Steps.{Ends, all_answered, last_answered, last_failed, last_stopped}
 use Rattle.caldate_run.proofs.run.answer_last.Goals as goal
 
 pub returns-then-is_empty-clause-ok : goal.returns-then-is_empty-clause-ok
@@ -14,30 +14,30 @@ returns-then-is_empty-clause-ok g c = λ input start s.
     all_answered c.args.filter.now input start _ c.args.progress.now
     (subst (λ line. Stands (IsReplyTo c.args.filter.now) input start (g.W.Sink.contents c.args.writer.now) [] line c.args.progress.now) (empty c.args.line.now zero) s)
 
-pub returns-in-Err-clause-unanswered : goal.returns-in-Err-clause-unanswered
-returns-in-Err-clause-unanswered g c = λ told e input start s.
+pub returns-in-Err-clause-stopped : goal.returns-in-Err-clause-stopped
+returns-in-Err-clause-stopped g c = λ told e input start s.
     let some : 0 < length c.args.line.now = search rules in
-    last_stopped c.args.filter.now input start _ c.args.line.now c.args.progress.now told c.requires.no_end some c.in-Err.ensures.strict.0
-    (subst (Tells c.args.filter.now c.args.progress.now c.args.line.now) (same_line c.take_back-told.result told e)
-    (tells c.args.filter.now c.args.progress.now c.args.line.now _ c.take_back-told.result c.in-Err.ensures.reason c.take_back-told.ensures.number
-    c.take_back-told.ensures.reason c.take_back-told.ensures.whole c.take_back-told.ensures.long)) s
+    last_stopped c.args.filter.now input start _ c.args.line.now c.args.progress.now told c.requires.no_end some
+    (subst (Ends c.args.filter.now c.args.progress.now c.args.line.now) (same_line c.in-Err.told told e) c.in-Err.ensures.ends) s
 
 pub returns-in-Ok-clause-ok : goal.returns-in-Ok-clause-ok
 returns-in-Ok-clause-ok g c =
     let some : 0 < length c.args.line.now = search rules in
+    let tally = c.push_reply.new.progress.tally in
     let reply = c.in-Ok.ensures.replied in
     let ends : Appends (g.W.Sink.contents c.args.writer.now) (g.W.Sink.contents c.write_all.new.writer) c.as_bytes.result.now
-    → EndsFrom c.args.filter.now (g.W.Sink.contents c.args.writer.now) (g.W.Sink.contents c.write_all.new.writer) [] c.args.line.now c.args.progress.now = λ gone input start s.
-    last_answered c.args.filter.now input start _ _ c.push_line.new.buffer c.args.line.now c.args.progress.now c.requires.no_end some
-    (subst (λ old. Replies (IsReplyTo c.args.filter.now) c.args.progress.now c.args.line.now old c.push_line.new.buffer) c.requires.none reply)
+    → EndsFrom c.args.filter.now tally (g.W.Sink.contents c.args.writer.now) (g.W.Sink.contents c.write_all.new.writer) [] c.args.line.now c.args.progress.now = λ gone input start s.
+    last_answered c.args.filter.now input start _ _ c.push_reply.new.buffer c.args.line.now c.args.progress.now tally c.requires.no_end some
+    (subst (λ old. Replied (IsReplyTo c.args.filter.now) c.args.progress.now tally c.args.line.now old c.push_reply.new.buffer) c.requires.none reply)
     (subst (Appends (g.W.Sink.contents c.args.writer.now) (g.W.Sink.contents c.write_all.new.writer)) c.as_bytes.ensures gone) s in
     on_ok_weaker _ ends c.write_all.ensures.ok
 
 pub returns-in-Ok-clause-write : goal.returns-in-Ok-clause-write
 returns-in-Ok-clause-write g c = λ h input start s.
     let some : 0 < length c.args.line.now = search rules in
+    let tally = c.push_reply.new.progress.tally in
     let reply = c.in-Ok.ensures.replied in
     let front = write_failed _ c.write_all.result h c.write_all.ensures.front in
-    last_failed c.args.filter.now input start _ _ c.push_line.new.buffer c.args.line.now c.args.progress.now c.requires.no_end some
-    (subst (λ old. Replies (IsReplyTo c.args.filter.now) c.args.progress.now c.args.line.now old c.push_line.new.buffer) c.requires.none reply)
+    last_failed c.args.filter.now input start _ _ c.push_reply.new.buffer c.args.line.now c.args.progress.now tally c.requires.no_end some
+    (subst (λ old. Replied (IsReplyTo c.args.filter.now) c.args.progress.now tally c.args.line.now old c.push_reply.new.buffer) c.requires.none reply)
     (subst (AppendsFront (g.W.Sink.contents c.args.writer.now) (g.W.Sink.contents c.write_all.new.writer)) c.as_bytes.ensures front) s

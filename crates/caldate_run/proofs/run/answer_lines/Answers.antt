@@ -1,11 +1,11 @@
-use Rattle.std.proofs.Common.{◌++◌, ◌∷◌, [], ◌∙◌, ap, sym, subst, arith, refl, append_assoc}
+use Rattle.std.proofs.Common.{◌++◌, ◌∷◌, [], ◌∙◌, ap, sym, subst, append_assoc}
 use Rattle.std.specs.Io.KnownBytes.{Appends}
-use Rattle.caldate_run.specs.Runs.{AppendsFront, IsReplyTo}
-use Rattle.caldate_run.specs.declared.fault.Fault.TheVariants.{Unanswered}
+use Rattle.caldate_run.specs.Replies.{IsReplyTo}
+use Rattle.caldate_run.specs.Runs.{AppendsFront}
+use Rattle.caldate_run.specs.declared.fault.Fault.TheVariants.{Stopped}
 use Rattle.caldate_run.proofs.Calls.{writes_then}
 use Rattle.caldate_run.proofs.Ends.{same_fault}
-use Rattle.caldate_run.proofs.Replied.{taken_back, tells}
-use Rattle.caldate_run.proofs.Steps.{Tells, answered, gone, failed, stopped}
+use Rattle.caldate_run.proofs.Steps.{Ends, answered, gone, failed, stopped}
 use Rattle.caldate_run.proofs.run.answer_lines.Goals as goal
 
 pub returns-in_err-make_room-clause-write : goal.returns-in_err-make_room-clause-write
@@ -15,24 +15,19 @@ returns-in_err-make_room-clause-write g c = λ h input start s.
 pub returns-in-Err-clause-write : goal.returns-in-Err-clause-write
 returns-in-Err-clause-write g c = λ h input start s.
     let room = c.in_ok-make_room.ensures.ok in
-    let same = taken_back c.make_room.new.buffer c.push_line.new.buffer c.in-Err.ensures.strict.2.0 _ _ c.len-before.ensures c.in-Err.ensures.strict.2.1 c.take_back-told.ensures.kept in
     let s = gone (IsReplyTo c.args.filter.now) input start _ _ c.loop-line.buffer c.make_room.new.buffer room.0 c.loop-line.rest.now c.loop-line.progress room.1 room.2 (c.loop-line.invariant.1 input start s) in
     failed c.args.filter.now input start _ _ c.make_room.new.buffer c.loop-line.rest.now c.loop-line.progress
-    (subst (AppendsFront (g.W.Sink.contents c.make_room.new.writer) (g.W.Sink.contents c.stop.new.writer)) same (c.stop.ensures.write h)) s
+    (subst (AppendsFront (g.W.Sink.contents c.make_room.new.writer) (g.W.Sink.contents c.stop.new.writer)) c.in-Err.ensures.same (c.stop.ensures.write h)) s
 
-pub returns-in-Err-clause-unanswered : goal.returns-in-Err-clause-unanswered
-returns-in-Err-clause-unanswered g c = λ told h input start s.
+pub returns-in-Err-clause-stopped : goal.returns-in-Err-clause-stopped
+returns-in-Err-clause-stopped g c = λ told h input start s.
     let room = c.in_ok-make_room.ensures.ok in
-    let no = c.in-Err.ensures.strict in
-    let same = taken_back c.make_room.new.buffer c.push_line.new.buffer no.2.0 _ _ c.len-before.ensures no.2.1 c.take_back-told.ensures.kept in
-    let took = c.take_back-told.ensures in
-    let went = c.stop.ensures.unanswered told (same_fault c.stop.result (Unanswered told) h) in
-    let tells = tells c.args.filter.now c.loop-line.progress c.in-Some.line.now _ c.take_back-told.result c.in-Err.ensures.reason took.number took.reason took.whole took.long in
+    let went = c.stop.ensures.stopped told (same_fault c.stop.result (Stopped told) h) in
     let s = gone (IsReplyTo c.args.filter.now) input start _ _ c.loop-line.buffer c.make_room.new.buffer room.0 c.loop-line.rest.now c.loop-line.progress room.1 room.2 (c.loop-line.invariant.1 input start s) in
     stopped c.args.filter.now input start _ _ c.make_room.new.buffer c.loop-line.rest.now c.in-Some.line.now c.in-Some.after.now c.loop-line.progress told
-    c.in-Some.ensures.parts.0 c.in-Some.ensures.parts.1 no.0
-    (subst (Tells c.args.filter.now c.loop-line.progress c.in-Some.line.now) (sym went.0) tells)
-    (subst (Appends (g.W.Sink.contents c.make_room.new.writer) (g.W.Sink.contents c.stop.new.writer)) same went.1) s
+    c.in-Some.ensures.parts.0 c.in-Some.ensures.parts.1
+    (subst (Ends c.args.filter.now c.loop-line.progress c.in-Some.line.now) (sym went.0) c.in-Err.ensures.ends)
+    (subst (Appends (g.W.Sink.contents c.make_room.new.writer) (g.W.Sink.contents c.stop.new.writer)) c.in-Err.ensures.same went.1) s
 
 pub loop-line-preserved : goal.loop-line-preserved
 loop-line-preserved g c =
@@ -44,8 +39,8 @@ loop-line-preserved g c =
     let reply = c.in-Ok.ensures.replied in (
       (front ++ (line ++ 10 ∷ []), c.loop-line.invariant.0.1 ∙ ap (λ rest. front ++ rest) (parts.1 ∙ sym (append_assoc line (10 ∷ []) after)) ∙ sym (append_assoc front (line ++ 10 ∷ []) after)),
       λ input start s.
-          answered (IsReplyTo c.args.filter.now) input start _ c.make_room.new.buffer c.push_line.new.buffer c.loop-line.rest.now line after c.loop-line.progress _ parts.0 parts.1 reply refl
-          (omega (arith, c.saturating_add-progress.ensures))
+          answered (IsReplyTo c.args.filter.now) input start _ c.make_room.new.buffer c.push_reply.new.buffer c.loop-line.rest.now line after c.loop-line.progress _ parts.0 parts.1 reply
+          c.in-Ok.ensures.short c.in-Ok.ensures.counted
           (gone (IsReplyTo c.args.filter.now) input start _ _ c.loop-line.buffer c.make_room.new.buffer room.0 c.loop-line.rest.now c.loop-line.progress room.1 room.2 (c.loop-line.invariant.1 input start s)),
       writes_then _ _ _ _ _ c.loop-line.invariant.2 c.in_ok-make_room.ensures.writes,
     )

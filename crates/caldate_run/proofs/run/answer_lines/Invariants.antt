@@ -1,6 +1,6 @@
 use Rattle.std.proofs.Common.{◌≡◌, ◌++◌, ℕ, List, length, None}
 use Rattle.caldate_run.specs.Calls.{Writes}
-use Rattle.caldate_run.specs.Runs.{IsReplyTo}
+use Rattle.caldate_run.specs.Replies.{IsReplyTo}
 use Rattle.caldate_run.specs.Standing.{Advances}
 use Rattle.caldate_run.proofs.run.answer_lines.Given as goal
 

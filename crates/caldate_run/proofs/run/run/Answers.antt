@@ -1,25 +1,24 @@
 use Rattle.std.proofs.Common.{◌≡◌, ◌++◌, ◌∙◌, ◌-◌, ℕ, List, [], Option, length, drop, ap, sym, subst, arith, rules, refl, Err, true, false, inl, inr}
 use Rattle.std.proofs.lemmas.List.{append-nil}
 use Rattle.std.specs.Prelude.{IsErrAnd}
-use Rattle.std.specs.Io.KnownBytes.{Consumes, IsAtEnd}
+use Rattle.std.specs.Io.KnownBytes.{Consumes}
 use Rattle.std.proofs.KnownBytes.{Consumes-nil, Consumes-trans, Consumes-kept}
-use Rattle.std.proofs.lemmas.Result.{on_ok_weaker}
-use Rattle.caldate_run.specs.Lines.{lines_of}
-use Rattle.caldate_run.specs.Runs.{AnswersAll, EndsFrom, Gives, HasRead, IsReplyTo, IsOfWrite}
+use Rattle.caldate_run.specs.Replies.{IsReplyTo}
+use Rattle.caldate_run.specs.Runs.{HasRead, IsOfWrite}
 use Rattle.caldate_run.specs.declared.request.Filter.{Filter}
-use Rattle.caldate_run.specs.Standing.{NoEnd, Stands}
+use Rattle.caldate_run.specs.Standing.{NoEnd, Stands, no_lines}
 use Rattle.caldate_run.specs.declared.progress.Progress.{Progress}
-use Rattle.caldate_run.specs.declared.fault.Fault.TheVariants.{Read, Unanswered}
+use Rattle.caldate_run.specs.declared.fault.Fault.TheVariants.{Read, Stopped}
 use Rattle.caldate_run.specs.Calls.{Reads, Writes, write_failure}
 use Rattle.caldate_run.specs.Calls.Reads.{no_more, too_many}
 use Rattle.caldate_run.proofs.Calls.{no_read_failed, no_writes, read_failed, reads_failed, reads_given, write_failed, writes_then}
-use Rattle.caldate_run.proofs.Ends.{ended, read_ended, same_fault, write_ended}
+use Rattle.caldate_run.proofs.Ends.{all_ended, early_ended, read_ended, same_fault, write_ended}
 use Rattle.caldate_run.proofs.Steps.{begun, read, gone, failed, ended_answered}
 use Rattle.caldate_run.proofs.run.run.Goals as goal
 
 pub loop-reads-init : goal.loop-reads-init
 loop-reads-init g c =
-    let progress : Progress = record { number = 0; is_long = false; front = c.new.result } in
+    let progress : Progress = record { tally = no_lines; is_long = false; front = c.new.result } in
     let start = g.W.Sink.contents c.args.writer.now in (
       ([], Consumes-nil _, subst (λ (p : List ℕ). Stands (IsReplyTo c.args.filter) [] start start [] p progress) (sym c.new-input.ensures) (begun (IsReplyTo c.args.filter) start progress refl refl)),
       subst NoEnd (sym c.new-input.ensures) (λ k d l. absurd (omega arith)),
@@ -33,7 +32,7 @@ pub returns-in_err-read_more-clause-ended : goal.returns-in_err-read_more-clause
 returns-in_err-read_more-clause-ended g c =
     let inv = c.loop-reads.invariant in
     let is : IsErrAnd c.from_residual.result (λ fault. fault ≡ Read) = search rules in
-    read_ended c.args.filter _ _ _ _ _ is
+    read_ended c.args.filter _ c.loop-reads.progress.tally _ _ _ _ is
     (inv.0.0, Consumes-kept _ _ _ _ inv.0.1 c.in_err-read_more.ensures.err.1, ended_answered c.args.filter inv.0.0 _ _ c.loop-reads.input c.loop-reads.progress inv.1 inv.0.2)
 
 -- the state after a read
@@ -56,34 +55,37 @@ stands_kept : (filter : Filter) (input : List ℕ) (w0 w : Option (List ℕ)) (g
 stands_kept filter input w0 w gathered bytes got kept left progress same e s =
     subst (λ (p : List ℕ). Stands (IsReplyTo filter) input w0 w gathered p progress) (ap (λ b. drop (length b - left) b) same ∙ sym e) s
 
-pub returns-then-branch-eq0-clause-ended : goal.returns-then-branch-eq0-clause-ended
-returns-then-branch-eq0-clause-ended g c =
+pub returns-in-Ok-clause-ended : goal.returns-in-Ok-clause-ended
+returns-in-Ok-clause-ended g c =
     let s = stands_read c.args.filter _ _ _ _ _ [] c.loop-reads.input c.as_bytes.result.now c.read_more.new.self c.loop-reads.progress
     refl c.as_bytes.ensures.value c.loop-reads.invariant.0 c.in_ok-read_more.ensures.given in
     let end = c.in_ok-read_more.ensures.end c.if-branch-eq0.true in
-    let all : EndsFrom c.args.filter (g.W.Sink.contents c.loop-reads.writer) (g.W.Sink.contents c.answer_last.new.writer) [] c.as_bytes.result.now c.loop-reads.progress
-    → IsAtEnd (g.R.Source.remaining c.read_more.new.reader) × Gives (g.R.Source.remaining c.args.reader.now) (g.R.Source.remaining c.read_more.new.reader) (λ input. AnswersAll c.args.filter (lines_of input) (g.W.Sink.contents c.args.writer.now) (g.W.Sink.contents c.answer_last.new.writer))
-    = λ ends. (end.0, (s.0, s.1, ends s.0 _ s.2)) in
-    ended c.args.filter c.answer_last.result _ _ _ _ (on_ok_weaker _ all c.answer_last.ensures.ok)
-    (λ h. record { input = s.0; given = s.1; holds = inr (end.0, c.answer_last.ensures.write h s.0 _ s.2) })
-    c.answer_last.ensures.no_read
-    (λ number h. record { input = s.0; given = s.1; holds = inr (end.0, c.answer_last.ensures.unanswered number h s.0 _ s.2) })
+    all_ended c.args.filter c.outcome.result c.answer_last.new.progress.tally _ _ _ _ c.outcome.ensures.ok c.outcome.ensures.err end.0
+    (s.0, s.1, c.in-Ok.ensures.ok s.0 _ s.2)
 
 pub returns-in-Err-clause-ended : goal.returns-in-Err-clause-ended
 returns-in-Err-clause-ended g c =
+    let s = stands_read c.args.filter _ _ _ _ _ [] c.loop-reads.input c.as_bytes.result.now c.read_more.new.self c.loop-reads.progress
+    refl c.as_bytes.ensures.value c.loop-reads.invariant.0 c.in_ok-read_more.ensures.given in
+    let end = c.in_ok-read_more.ensures.end c.if-branch-eq0.true in
+    early_ended c.args.filter (Err c.in-Err.fault) _ _ _ _ c.in-Err.ensures.others
+    (λ h. record { input = s.0; given = s.1; holds = inr (end.0, c.in-Err.ensures.write h s.0 _ s.2) })
+    (λ told h. record { input = s.0; given = s.1; holds = inr (end.0, c.in-Err.ensures.stopped told (ap Err (same_fault c.in-Err.fault (Stopped told) h)) s.0 _ s.2) })
+
+pub returns-in-Err-answer_lines-clause-ended : goal.returns-in-Err-answer_lines-clause-ended
+returns-in-Err-answer_lines-clause-ended g c =
     let s = stands_read c.args.filter _ _ _ _ _ c.loop-reads.buffer c.loop-reads.input c.as_bytes-in-loop-reads.result.now c.read_more.new.self c.loop-reads.progress
     c.loop-reads.invariant.2 c.as_bytes-in-loop-reads.ensures.value c.loop-reads.invariant.0 c.in_ok-read_more.ensures.given in
-    ended c.args.filter (Err c.in-Err.fault) _ _ _ _ tt
-    (λ h. record { input = s.0; given = s.1; holds = inl (c.in-Err.ensures.write h s.0 _ s.2) })
-    (λ h. c.in-Err.ensures.no_read (ap Err (same_fault c.in-Err.fault Read h)))
-    (λ number h. record { input = s.0; given = s.1; holds = inl (c.in-Err.ensures.unanswered number (ap Err (same_fault c.in-Err.fault (Unanswered number) h)) s.0 _ s.2) })
+    early_ended c.args.filter (Err c.in-Err-answer_lines.fault) _ _ _ _ c.in-Err-answer_lines.ensures.others
+    (λ h. record { input = s.0; given = s.1; holds = inl (c.in-Err-answer_lines.ensures.write h s.0 _ s.2) })
+    (λ told h. record { input = s.0; given = s.1; holds = inl (c.in-Err-answer_lines.ensures.stopped told (ap Err (same_fault c.in-Err-answer_lines.fault (Stopped told) h)) s.0 _ s.2) })
 
 pub returns-in_err-flush-clause-ended : goal.returns-in_err-flush-clause-ended
 returns-in_err-flush-clause-ended g c =
     let s = stands_read c.args.filter _ _ _ _ _ c.loop-reads.buffer c.loop-reads.input c.as_bytes-in-loop-reads.result.now c.read_more.new.self c.loop-reads.progress
     c.loop-reads.invariant.2 c.as_bytes-in-loop-reads.ensures.value c.loop-reads.invariant.0 c.in_ok-read_more.ensures.given in
-    let kept = stands_kept c.args.filter s.0 _ _ c.answer_lines.new.buffer c.as_bytes-in-loop-reads.result.now c.read_more.new.self c.keep_last.new.self c.in-Ok.left c.answer_lines.new.progress
-    c.as_bytes-in-loop-reads.ensures.value c.keep_last.ensures (c.in-Ok.ensures.ok s.0 _ s.2) in
+    let kept = stands_kept c.args.filter s.0 _ _ c.answer_lines.new.buffer c.as_bytes-in-loop-reads.result.now c.read_more.new.self c.keep_last.new.self c.in-Ok-answer_lines.left c.answer_lines.new.progress
+    c.as_bytes-in-loop-reads.ensures.value c.keep_last.ensures (c.in-Ok-answer_lines.ensures.ok s.0 _ s.2) in
     let went = c.let_go.ensures.advances c.args.filter _ c.answer_lines.new.buffer s.0 _ kept in
     let is : IsErrAnd c.from_residual-in_err-flush.result IsOfWrite = search rules in
     write_ended c.args.filter _ _ _ _ _ is
@@ -93,8 +95,8 @@ pub loop-reads-preserved : goal.loop-reads-preserved
 loop-reads-preserved g c =
     let s = stands_read c.args.filter _ _ _ _ _ c.loop-reads.buffer c.loop-reads.input c.as_bytes-in-loop-reads.result.now c.read_more.new.self c.loop-reads.progress
     c.loop-reads.invariant.2 c.as_bytes-in-loop-reads.ensures.value c.loop-reads.invariant.0 c.in_ok-read_more.ensures.given in
-    let kept = stands_kept c.args.filter s.0 _ _ c.answer_lines.new.buffer c.as_bytes-in-loop-reads.result.now c.read_more.new.self c.keep_last.new.self c.in-Ok.left c.answer_lines.new.progress
-    c.as_bytes-in-loop-reads.ensures.value c.keep_last.ensures (c.in-Ok.ensures.ok s.0 _ s.2) in
+    let kept = stands_kept c.args.filter s.0 _ _ c.answer_lines.new.buffer c.as_bytes-in-loop-reads.result.now c.read_more.new.self c.keep_last.new.self c.in-Ok-answer_lines.left c.answer_lines.new.progress
+    c.as_bytes-in-loop-reads.ensures.value c.keep_last.ensures (c.in-Ok-answer_lines.ensures.ok s.0 _ s.2) in
     let went = c.let_go.ensures.advances c.args.filter _ c.answer_lines.new.buffer s.0 _ kept in
     let out = c.in_ok-flush.ensures.ok in (
       (s.0, s.1, gone (IsReplyTo c.args.filter) s.0 _ _ _ c.answer_lines.new.buffer [] c.answer_lines.new.buffer c.let_go.new.input c.let_go.new.progress (sym (append-nil c.answer_lines.new.buffer)) out.0 went),
@@ -102,13 +104,13 @@ loop-reads-preserved g c =
       out.1,
       c.let_go.ensures.few,
       λ failed end more. c.loop-reads.invariant.4 failed end (reads_given _ c.loop-reads.reads _ _ _ _ _ _ (omega arith) c.in_ok-read_more.ensures.gives more),
-      writes_then _ _ _ _ _ (writes_then _ _ _ _ _ c.loop-reads.invariant.5 c.in-Ok.ensures.writes) c.in_ok-flush.ensures.writes,
+      writes_then _ _ _ _ _ (writes_then _ _ _ _ _ c.loop-reads.invariant.5 c.in-Ok-answer_lines.ensures.writes) c.in_ok-flush.ensures.writes,
     )
 
 pub returns-clause-ended : goal.returns-clause-ended
 returns-clause-ended g c =
     let inv = c.loop-reads.invariant in
-    (inv.0.0, inv.0.1, ended_answered c.args.filter inv.0.0 _ _ c.loop-reads.input c.loop-reads.progress inv.1 inv.0.2)
+    (inv.0.0, inv.0.1, (c.loop-reads.progress.tally, ended_answered c.args.filter inv.0.0 _ _ c.loop-reads.input c.loop-reads.progress inv.1 inv.0.2))
 
 -- ---- the reads
 pub returns-in_err-read_more-clause-reads : goal.returns-in_err-read_more-clause-reads
@@ -118,15 +120,19 @@ returns-in_err-read_more-clause-reads g c =
     c.loop-reads.invariant.4 _ _ (subst (λ failed. Reads g.R.Source.read_gives c.loop-reads.reads c.loop-reads.reader failed c.read_more.new.reader) (sym (read_failed c.from_residual.result is))
     (reads_failed _ c.loop-reads.reads (c.loop-reads.reads - 1) _ _ gives.0 (omega arith) gives.1))
 
-pub returns-then-branch-eq0-clause-reads : goal.returns-then-branch-eq0-clause-reads
-returns-then-branch-eq0-clause-reads g c =
-    c.loop-reads.invariant.4 _ _ (subst (λ failed. Reads g.R.Source.read_gives c.loop-reads.reads c.loop-reads.reader failed c.read_more.new.reader) (sym (no_read_failed c.answer_last.result c.answer_last.ensures.no_read))
+pub returns-in-Ok-clause-reads : goal.returns-in-Ok-clause-reads
+returns-in-Ok-clause-reads g c =
+    c.loop-reads.invariant.4 _ _ (subst (λ failed. Reads g.R.Source.read_gives c.loop-reads.reads c.loop-reads.reader failed c.read_more.new.reader) (sym c.outcome.ensures.read)
     (reads_given _ c.loop-reads.reads (c.loop-reads.reads - 1) _ _ _ _ _ (omega arith) c.in_ok-read_more.ensures.gives (no_more _ _)))
 
 pub returns-in-Err-clause-reads : goal.returns-in-Err-clause-reads
 returns-in-Err-clause-reads g c =
-    let no_read = no_read_failed (Err c.in-Err.fault) (λ h. c.in-Err.ensures.no_read (ap Err (same_fault c.in-Err.fault Read h))) in
-    c.loop-reads.invariant.4 _ _ (subst (λ failed. Reads g.R.Source.read_gives c.loop-reads.reads c.loop-reads.reader failed c.read_more.new.reader) (sym no_read)
+    c.loop-reads.invariant.4 _ _ (subst (λ failed. Reads g.R.Source.read_gives c.loop-reads.reads c.loop-reads.reader failed c.read_more.new.reader) (sym (no_read_failed (Err c.in-Err.fault) c.in-Err.ensures.others))
+    (reads_given _ c.loop-reads.reads (c.loop-reads.reads - 1) _ _ _ _ _ (omega arith) c.in_ok-read_more.ensures.gives (no_more _ _)))
+
+pub returns-in-Err-answer_lines-clause-reads : goal.returns-in-Err-answer_lines-clause-reads
+returns-in-Err-answer_lines-clause-reads g c =
+    c.loop-reads.invariant.4 _ _ (subst (λ failed. Reads g.R.Source.read_gives c.loop-reads.reads c.loop-reads.reader failed c.read_more.new.reader) (sym (no_read_failed (Err c.in-Err-answer_lines.fault) c.in-Err-answer_lines.ensures.others))
     (reads_given _ c.loop-reads.reads (c.loop-reads.reads - 1) _ _ _ _ _ (omega arith) c.in_ok-read_more.ensures.gives (no_more _ _)))
 
 pub returns-in_err-flush-clause-reads : goal.returns-in_err-flush-clause-reads
@@ -141,13 +147,18 @@ returns-clause-reads g c =
     c.loop-reads.invariant.4 _ _ (subst (λ most. Reads g.R.Source.read_gives most c.loop-reads.reader true c.loop-reads.reader) (sym zero) (too_many _))
 
 -- ---- the writes
-pub returns-then-branch-eq0-clause-writes : goal.returns-then-branch-eq0-clause-writes
-returns-then-branch-eq0-clause-writes g c = writes_then _ _ _ _ _ c.loop-reads.invariant.5 c.answer_last.ensures.writes
+pub returns-in-Ok-clause-writes : goal.returns-in-Ok-clause-writes
+returns-in-Ok-clause-writes g c =
+    subst (λ failure. Writes g.W.Sink.write_gives c.args.writer.now failure c.answer_last.new.writer) (sym c.outcome.ensures.write)
+    (writes_then _ _ _ _ _ c.loop-reads.invariant.5 c.in-Ok.ensures.writes)
 
 pub returns-in-Err-clause-writes : goal.returns-in-Err-clause-writes
 returns-in-Err-clause-writes g c = writes_then _ _ _ _ _ c.loop-reads.invariant.5 c.in-Err.ensures.writes
 
+pub returns-in-Err-answer_lines-clause-writes : goal.returns-in-Err-answer_lines-clause-writes
+returns-in-Err-answer_lines-clause-writes g c = writes_then _ _ _ _ _ c.loop-reads.invariant.5 c.in-Err-answer_lines.ensures.writes
+
 pub returns-in_err-flush-clause-writes : goal.returns-in_err-flush-clause-writes
 returns-in_err-flush-clause-writes g c =
     let last : Writes g.W.Sink.write_gives c.answer_lines.new.writer (write_failure c.from_residual-in_err-flush.result) c.flush.new.writer = search rules in
-    writes_then _ _ _ _ _ c.loop-reads.invariant.5 (writes_then _ _ _ _ _ c.in-Ok.ensures.writes last)
+    writes_then _ _ _ _ _ c.loop-reads.invariant.5 (writes_then _ _ _ _ _ c.in-Ok-answer_lines.ensures.writes last)

@@ -1,7 +1,7 @@
 use Rattle.std.proofs.Common.{◌≡◌, ◌≤◌, ℕ, List, [], length, Bool, None}
 use Rattle.caldate_run.specs.Calls.{Reads, Writes, most_reads}
 use Rattle.std.specs.Io.KnownBytes.{Consumes}
-use Rattle.caldate_run.specs.Runs.{IsReplyTo}
+use Rattle.caldate_run.specs.Replies.{IsReplyTo}
 use Rattle.caldate_run.specs.Standing.{NoEnd, Stands}
 use Rattle.caldate_run.proofs.run.run.Given as goal
 

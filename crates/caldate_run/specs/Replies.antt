@@ -1,0 +1,115 @@
+-- The reply to a line, and the count of the lines without an answer.
+use Rattle.std.specs.Prelude.{◌≡◌, ℕ, ◌+◌, ◌-◌, ◌^◌, min, nat_lt, Bool, true, false, List, [], ◌++◌, codes, decimal, length, MatchBool, MatchOption, IsSomeAnd, Option, Some, None, Ok, Err, if◌then◌else◌}
+use Rattle.cal_time.specs.ComponentError.{component_name}
+use Rattle.cal_time.specs.declared.error.ComponentRange.{ComponentRange}
+use Rattle.cal_text.specs.declared.error.ParseError.{ParseError}
+use Rattle.cal_text.specs.declared.error.ParseError.TheVariants.{UnexpectedByte, UnexpectedEnd, OutOfRange}
+use Rattle.caldate_run.specs.Answers.{Answer, IsAnswer}
+use Rattle.caldate_run.specs.Fields.{asked_text, text_with}
+use Rattle.caldate_run.specs.Lines.{end_of, text_of}
+use Rattle.caldate_run.specs.Room.{longest_text}
+use Rattle.caldate_run.specs.Shown.{shown, words_shown}
+use Rattle.caldate_run.specs.Standing.{counted}
+use Rattle.caldate_run.specs.declared.no_answer.NoAnswer.{NoAnswer}
+use Rattle.caldate_run.specs.declared.no_answer.NoAnswer.TheVariants as why
+use Rattle.caldate_run.specs.declared.on_invalid.OnInvalid.{OnInvalid}
+use Rattle.caldate_run.specs.declared.on_invalid.OnInvalid.TheVariants as invalid
+use Rattle.caldate_run.specs.declared.request.Filter.{Filter}
+use Rattle.caldate_run.specs.declared.tally.Tally.{Tally}
+use Rattle.caldate_run.specs.declared.unanswered.UnansweredLine.{UnansweredLine}
+
+-- ---- the reasons
+-- The component that is out of range.
+abbrev pub refused_text : ComponentRange → List ℕ
+refused_text error = codes "refused " ++ component_name error.component ++ (if error.is_conditional then codes " conditional" else [])
+
+abbrev pub reason : NoAnswer → List ℕ
+reason why.TooLong = codes "line too long"
+reason why.NoField = codes "no such field"
+reason why.None = codes "none"
+reason (why.Rejected component) = refused_text component
+reason (why.Unreadable at) = codes "unreadable at " ++ decimal at
+
+-- The reason why a text can't be read.
+abbrev pub reason_of : ParseError → NoAnswer
+reason_of (UnexpectedByte at) = why.Unreadable at
+reason_of (UnexpectedEnd at) = why.Unreadable at
+reason_of (OutOfRange component) = why.Rejected component
+
+-- ---- the text of a line
+-- An answer to the field replaces it in the text.
+abbrev pub in_text : Filter → List ℕ → Answer → Answer
+in_text filter text (Ok (Some words)) = Ok (Some (text_with filter.field text words))
+in_text filter text other = other
+
+abbrev pub IsAnswerIn : Filter → List ℕ → Answer → List ℕ → Type 0
+IsAnswerIn filter text answer asked = (own : Answer) × IsAnswer filter asked own × (answer ≡ in_text filter text own)
+
+abbrev pub IsAnswerToText : Filter → List ℕ → Answer → Type 0
+IsAnswerToText filter text answer = MatchOption (asked_text filter.field text) (answer ≡ Err why.NoField) (IsAnswerIn filter text answer)
+
+-- The answer to the text of a line after `before` lines. A skipped text stays as it is.
+abbrev pub IsAnswerOf : Filter → ℕ → List ℕ → Answer → Type 0
+IsAnswerOf filter before text answer =
+    MatchBool (nat_lt longest_text (length text)) (answer ≡ Err why.TooLong)
+    (MatchBool (nat_lt before filter.skip) (answer ≡ Ok (Some text)) (IsAnswerToText filter text answer))
+
+-- ---- a line without an answer
+-- A run ends at a line that would not be kept.
+abbrev pub ends_at : OnInvalid → NoAnswer → Bool
+ends_at invalid.Stop any = true
+ends_at invalid.Keep why.TooLong = true
+ends_at mode any = false
+
+-- The reason replaces the text to answer, or the line if it is too long. A text that lacks the
+-- field stays as it is.
+abbrev pub with_reason : Filter → List ℕ → NoAnswer → List ℕ
+with_reason filter text why.TooLong = reason why.TooLong
+with_reason filter text other = text_with filter.field text (reason other)
+
+-- What goes out in its place, if anything does.
+abbrev pub in_place : OnInvalid → Filter → List ℕ → NoAnswer → Option (List ℕ)
+in_place invalid.Keep filter text any = Some text
+in_place invalid.Answer filter text any = Some (with_reason filter text any)
+in_place mode filter text any = None
+
+-- The line after `before` lines is described by its number, counted from 1, its reason and its
+-- text.
+pub record Describes (before : ℕ) (line : List ℕ) (any : NoAnswer) (told : UnansweredLine) : Type 0 where
+  pub number_is : told.number ≡ counted (before + 1)
+  pub why_is : told.why ≡ any
+  pub text_is : words_shown told.text ≡ shown (text_of line)
+
+-- ---- the reply
+abbrev pub more : ℕ → ℕ
+more n = min (n + 1) (2 ^ 64 - 1)
+
+-- The line is counted. The first one without an answer is described.
+abbrev pub Counts : ℕ → List ℕ → Answer → Tally → Tally → Type 0
+Counts before line (Ok out) old new = new ≡ record { lines = more old.lines; unanswered = old.unanswered; first = old.first }
+Counts before line (Err any) old new =
+    (new.lines ≡ more old.lines) × (new.unanswered ≡ more old.unanswered)
+    × MatchOption old.first (IsSomeAnd new.first (Describes before line any)) (λ first. new.first ≡ Some first)
+
+-- A line goes out with its end.
+abbrev pub with_end : List ℕ → Option (List ℕ) → List ℕ
+with_end line None = []
+with_end line (Some words) = words ++ end_of line
+
+abbrev pub GoesOut : Filter → List ℕ → Answer → List ℕ → Type 0
+GoesOut filter line (Ok out) reply = reply ≡ with_end line out
+GoesOut filter line (Err any) reply =
+    (ends_at filter.on_invalid any ≡ false) × (reply ≡ with_end line (in_place filter.on_invalid filter (text_of line) any))
+
+-- The reply to a line after `before` lines, and the tally before and after it.
+pub record IsReplyTo (filter : Filter) (before : ℕ) (line reply : List ℕ) (old new : Tally) : Type 0 where
+  pub answer : Answer
+  pub is : IsAnswerOf filter before (text_of line) answer
+  pub out : GoesOut filter line answer reply
+  pub counts : Counts before line answer old new
+
+-- The run ends at this line after `before` lines.
+pub record EndsAt (filter : Filter) (before : ℕ) (line : List ℕ) (told : UnansweredLine) : Type 0 where
+  pub is : IsAnswerOf filter before (text_of line) (Err told.why)
+  pub ends : ends_at filter.on_invalid told.why ≡ true
+  pub told_is : Describes before line told.why told

@@ -1,0 +1,14 @@
+//! What is written for a line without an answer.
+
+/// What is written for a line without an answer.
+#[derive(Clone, Copy, Debug, PartialEq, Eq)]
+pub enum OnInvalid {
+    /// The line itself. The run ends at a line that is too long, because it is not kept.
+    Keep,
+    /// The reason, in place of the text to answer.
+    Answer,
+    /// Nothing.
+    Drop,
+    /// Nothing: the run ends.
+    Stop,
+}
