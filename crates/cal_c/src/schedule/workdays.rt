@@ -14,8 +14,8 @@ ghost use Rattle.cal_c.specs.Weekmasks.{convention_number, max_holidays, work_we
 
 mod adjusting;
 pub mod calendar;
-pub mod checked_workdays;
 mod calls;
+pub mod checked_workdays;
 mod checking;
 mod holidays;
 pub mod ranks;

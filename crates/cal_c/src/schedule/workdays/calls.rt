@@ -26,19 +26,14 @@ pub extern "C" fn fots_workdays_contains(workdays: &CheckedWorkdays, date: i32) 
     ensures value { IsChecked workdays.now → IsJulianDay date
         → result ≡ number_ok (if is_workday (week_of workdays.now) (day_of date) then pos 1 else pos 0) }
 {
-    let workdays =
-        or_return!(RankedWorkdays::new(workdays), status => NumberResult::error(status));
+    let workdays = or_return!(RankedWorkdays::new(workdays), status => NumberResult::error(status));
     let day = or_error!(NumberResult, day_number(date), INVALID_DATE);
     NumberResult::ok(i32::from(workdays.contains(day)))
 }
 
 /// Adds working days, like `fots_date_add_workdays`.
 #[unsafe(no_mangle)]
-pub extern "C" fn fots_workdays_add(
-    workdays: &CheckedWorkdays,
-    date: i32,
-    days: i32,
-) -> DateResult
+pub extern "C" fn fots_workdays_add(workdays: &CheckedWorkdays, date: i32, days: i32) -> DateResult
     ensures { IsDateWorkdaysLaterIn workdays.now date days result }
 {
     let workdays = or_return!(RankedWorkdays::new(workdays), status => DateResult::error(status));
@@ -55,8 +50,7 @@ pub extern "C" fn fots_workdays_between(
 ) -> NumberResult
     ensures { IsWorkdaysBetweenIn workdays.now date other result }
 {
-    let workdays =
-        or_return!(RankedWorkdays::new(workdays), status => NumberResult::error(status));
+    let workdays = or_return!(RankedWorkdays::new(workdays), status => NumberResult::error(status));
     let day = or_error!(NumberResult, day_number(date), INVALID_DATE);
     let other = or_error!(NumberResult, day_number(other), INVALID_DATE);
     NumberResult::ok(workdays.between(day, other))

@@ -12,5 +12,5 @@ returns-clause-value c = λ checked.
     let its = simp to_z-of_z at c.clamped_number.ensures.value in
     let same = subst IsChecked (sym c.self.view_is) checked in
     let at = held-at inside.holidays inside.holidays_length c.args.index (omega (arith, ap (λ w. w.holidays_length) c.self.view_is))
-        (omega (arith, c.self.invariant.0.length, c.self.invariant.1)) same.holidays.dates in
+    (omega (arith, c.self.invariant.0.length, c.self.invariant.1)) same.holidays.dates in
     its at.0 ∙ at.1 ∙ ap (λ w. get_or (holidays_in (holidays_of w)) c.args.index 0) c.self.view_is
