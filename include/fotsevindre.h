@@ -23,8 +23,8 @@
  * number.
  *
  * No call allocates, keeps a pointer or has state, so any thread can make any call at any time.
- * Only calls with texts, holidays, rules or columns take pointers. None may be null, even for a
- * length of 0. The library runs on Linux, on processors with x86-64-v2. */
+ * Only calls with texts, holidays, working days, rules or columns take pointers. None may be null,
+ * even for a length of 0. The library runs on Linux, on processors with x86-64-v2. */
 #ifndef FOTSEVINDRE_H
 #define FOTSEVINDRE_H
 
