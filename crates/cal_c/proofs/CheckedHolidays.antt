@@ -1,5 +1,5 @@
 -- Holidays of a struct, and working days by their ranks.
-use Rattle.std.proofs.Common.{◌≡◌, ℕ, zero, suc, ◌+◌, ◌-◌, ◌<◌, ◌≤◌, sym, ap, ◌∙◌, arith, subst, List, All, set, Bool, add-one, ◌≢◌, get_or-set_other, get_or-set_same, if◌then◌else◌, not, ◌%◌, false, pos, length, get_or, take, map, slice_get, Option, Some, None, true, inl, inr, ℤ, negsuc, ◌+ℤ◌, ◌-ℤ◌, ◌<ℤ◌, ◌≤ℤ◌, unsigned_abs}
+use Rattle.std.proofs.Common.{◌≡◌, ℕ, zero, suc, ◌+◌, ◌-◌, ◌<◌, ◌≤◌, sym, ap, ◌∙◌, arith, subst, List, All, set, Bool, add-one, ◌≢◌, get_or-set_other, get_or-set_same, if◌then◌else◌, not, ◌%◌, false, pos, length, get_or, take, slice_get, Option, Some, None, true, inl, inr, ℤ, negsuc, ◌+ℤ◌, ◌-ℤ◌, ◌<ℤ◌, ◌≤ℤ◌}
 use Rattle.std.specs.Int.Signed.{lt_z, lt_z_yes, lt_z_no}
 use Rattle.std.specs.Prelude.{MatchOption}
 use Rattle.std.specs.Int.{from_bool}
@@ -13,7 +13,7 @@ use Rattle.cal_time.specs.IsoWeekDate.{count_before}
 use Rattle.cal_schedule.specs.Ranks.{count-none, count-next, count-yes, count-no, count-rises, count-less, greater-rank, nth-from, none-nth_from, nth-back, none-nth_back}
 use Rattle.cal_schedule.specs.Workdays.{WorkWeek, is_marked, is_workday, nth_workday, workdays_from, workdays_before}
 use Rattle.cal_schedule.specs.WorkdaysSplit.{IsSplit, marked_count}
-use Rattle.cal_schedule.proofs.WorkdaysWeeks.{Rises, ranks, free, none-marked, workday-unmarked, marked-is, held-next}
+use Rattle.cal_schedule.proofs.WorkdaysWeeks.{Rises, ranks, free, none-marked, workday-unmarked, marked-is}
 use Rattle.cal_c.specs.CheckedWorkdays.{HavePassed, IsDayOfRank, NoDayOfRank}
 use Rattle.cal_c.specs.Values.{IsJulianDay, day_of}
 use Rattle.cal_c.specs.Weekmasks.{holidays_in}

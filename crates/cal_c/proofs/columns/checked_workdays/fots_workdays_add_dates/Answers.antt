@@ -1,4 +1,4 @@
-use Rattle.std.proofs.Common.{◌≡◌, ℤ, ◌∙◌, get_or, pos, arith, rules, FitsSigned, w32, to_z, of_z}
+use Rattle.std.proofs.Common.{◌≡◌, ℤ, get_or, pos, arith, rules, FitsSigned, w32, to_z, of_z}
 use Rattle.std.proofs.lemmas.Int.{ints, to_z-of_z}
 use Rattle.cal_c.specs.CheckedWorkdays.{IsDateWorkdaysLaterIn}
 use Rattle.cal_c.specs.Columns.{date_row}

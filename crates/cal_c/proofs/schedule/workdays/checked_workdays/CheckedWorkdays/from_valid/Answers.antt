@@ -5,7 +5,7 @@ use Rattle.cal_schedule.specs.Ranks.{bit-most}
 use Rattle.cal_schedule.specs.Workdays.{is_marked}
 use Rattle.cal_schedule.specs.WorkdaysSplit.{marked_count}
 use Rattle.cal_schedule.proofs.WorkdaysWeeks.{held-next, marked-is}
-use Rattle.cal_c.specs.Values.{day_of, IsJulianDay}
+use Rattle.cal_c.specs.Values.{day_of}
 use Rattle.cal_c.specs.Weekmasks.{holidays_in, weekmask_in, work_week, AreHolidays, IsWeekmask}
 use Rattle.cal_c.proofs.CheckedHolidays.{set-next}
 use Rattle.cal_c.proofs.schedule.workdays.checked_workdays.CheckedWorkdays.from_valid.Goals as goal

@@ -1,4 +1,4 @@
-use Rattle.std.proofs.Common.{ℕ, ◌≡◌, ◌+◌, ◌-◌, ◌/◌, ◌<◌, sym, ap, ◌∙◌, arith, length, get_or}
+use Rattle.std.proofs.Common.{◌+◌, ◌-◌, ◌/◌, ◌<◌, ap, arith, length}
 use Rattle.cal_time.specs.IsoWeekDate.{count_before}
 use Rattle.cal_schedule.specs.Workdays.{is_marked}
 use Rattle.cal_schedule.proofs.WorkdaysWeeks.{rises}
