@@ -23,8 +23,8 @@
  * number.
  *
  * No call allocates, keeps a pointer or has state, so any thread can make any call at any time.
- * Only calls with texts, holidays, rules or columns take pointers. None may be null, even for a
- * length of 0. The library runs on Linux, on processors with x86-64-v2. */
+ * Only calls with texts, holidays, working days, rules or columns take pointers. None may be null,
+ * even for a length of 0. The library runs on Linux, on processors with x86-64-v2. */
 #ifndef FOTSEVINDRE_H
 #define FOTSEVINDRE_H
 
@@ -89,6 +89,18 @@ typedef struct fots_recurrence {
     int8_t month_days[FOTS_MAX_VALUES];
     fots_rule_weekday weekdays[FOTS_MAX_VALUES];
 } fots_recurrence;
+
+/* The maximum number of holidays. */
+#define FOTS_MAX_HOLIDAYS 1024
+
+/* Working days. fots_workdays_new fills it. Every call is safe for any numbers in it, but if others
+ * than these are changed by hand the results can be wrong. */
+typedef struct fots_workdays {
+    uint32_t weekmask;
+    uint32_t holidays_length;
+    fots_date holidays[FOTS_MAX_HOLIDAYS]; /* in ascending order, then zeros */
+    uint16_t marked_before[1025]; /* the holidays before each index that are days of the weekmask */
+} fots_workdays;
 
 #define FOTS_MIN_JULIAN_DAY (-363521074)
 #define FOTS_MAX_JULIAN_DAY 366963559
@@ -358,6 +370,11 @@ typedef struct fots_recurrence_text_result {
     char bytes[1844]; /* ASCII, then zero bytes */
 } fots_recurrence_text_result;
 
+typedef struct fots_workdays_result {
+    int32_t status;
+    fots_workdays workdays; /* or one that every call rejects as FOTS_INVALID_WEEKMASK */
+} fots_workdays_result;
+
 typedef struct fots_year_fraction_result {
     int32_t status;
     uint32_t denominator; /* or 0 */
@@ -501,7 +518,6 @@ fots_date_result fots_date_on_or_before(fots_date date, uint32_t weekday);
  * FOTS_MAX_HOLIDAYS dates in strictly ascending order. The examples have FOTS_MONDAY_TO_FRIDAY and
  * no holidays. */
 #define FOTS_MONDAY_TO_FRIDAY 31u
-#define FOTS_MAX_HOLIDAYS 1024
 
 /* Returns 1 if the date is a working day, else 0. Tuesday 2000-02-29 is 1. */
 fots_component_result fots_date_is_workday(fots_date date, uint32_t weekmask, const fots_date *holidays, size_t holidays_length);
@@ -534,6 +550,25 @@ enum fots_convention {
  * FOTS_RESULT_OUT_OF_RANGE. Saturday 2000-04-29 moves to 2000-05-01 by FOTS_FOLLOWING, and to
  * 2000-04-28 by FOTS_MODIFIED_FOLLOWING. */
 fots_date_result fots_date_adjust(fots_date date, uint32_t convention, uint32_t weekmask, const fots_date *holidays, size_t holidays_length);
+
+/* ---- working days, checked once
+ *
+ * The calls above check all holidays each time. fots_workdays_new checks them once, and makes
+ * working days for any number of calls, which take up to 40 times less time. A struct with
+ * invalid numbers is reported first, as FOTS_INVALID_WEEKMASK or FOTS_TOO_MANY_HOLIDAYS. */
+fots_workdays_result fots_workdays_new(uint32_t weekmask, const fots_date *holidays, size_t holidays_length);
+
+/* Like fots_date_is_workday, fots_date_add_workdays, fots_date_workdays_between, fots_date_adjust,
+ * fots_dates_add_workdays and fots_dates_workdays_between. The next working day is the one that
+ * adding 1 gives, and adding -1 gives the previous one. */
+fots_component_result fots_workdays_contains(const fots_workdays *workdays, fots_date date);
+fots_date_result fots_workdays_add(const fots_workdays *workdays, fots_date date, int32_t days);
+fots_number_result fots_workdays_between(const fots_workdays *workdays, fots_date date, fots_date other);
+fots_date_result fots_workdays_adjust(const fots_workdays *workdays, fots_date date, uint32_t convention);
+size_t fots_workdays_add_dates(const fots_workdays *workdays, const int32_t *dates, size_t dates_length, const int32_t *days,
+    size_t days_length, int32_t *moved, size_t moved_length, uint8_t *statuses, size_t length);
+size_t fots_workdays_between_dates(const fots_workdays *workdays, const int32_t *dates, size_t dates_length, const int32_t *others,
+    size_t others_length, int32_t *numbers, size_t numbers_length, uint8_t *statuses, size_t length);
 
 /* ---- recurrences */
 

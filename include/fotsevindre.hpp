@@ -457,48 +457,39 @@ public:
     // Takes Monday to Friday.
     explicit Workdays(const std::vector<Date> &holidays = {}) : Workdays({true, true, true, true, true, false, false}, holidays) {}
     // Takes the days that are marked, from Monday to Sunday.
-    Workdays(std::array<bool, 7> marks, const std::vector<Date> &holidays) : weekmask_(0)
+    Workdays(std::array<bool, 7> marks, const std::vector<Date> &holidays)
     {
+        std::uint32_t weekmask = 0;
         for (std::size_t index = 0; index < marks.size(); ++index) {
-            weekmask_ |= std::uint32_t{marks[index]} << index;
+            weekmask |= std::uint32_t{marks[index]} << index;
         }
+        std::vector<fots_date> dates;
         // One more than needed, so that data() is not null.
-        holidays_.reserve(holidays.size() + 1);
+        dates.reserve(holidays.size() + 1);
         for (const Date holiday : holidays) {
-            holidays_.push_back(holiday.c());
+            dates.push_back(holiday.c());
         }
-        is_workday(Date::min());
+        workdays_ = detail::value_or_throw(fots_workdays_new(weekmask, dates.data(), dates.size())).workdays;
     }
 
-    bool is_workday(Date date) const
-    {
-        return detail::value_or_throw(fots_date_is_workday(date.c(), weekmask_, holidays_.data(), holidays_.size())).number == 1;
-    }
-    std::optional<Date> next_workday(Date date) const
-    {
-        return Date::if_any(fots_date_next_workday(date.c(), weekmask_, holidays_.data(), holidays_.size()));
-    }
-    std::optional<Date> previous_workday(Date date) const
-    {
-        return Date::if_any(fots_date_previous_workday(date.c(), weekmask_, holidays_.data(), holidays_.size()));
-    }
+    bool is_workday(Date date) const { return detail::value_or_throw(fots_workdays_contains(&workdays_, date.c())).number == 1; }
+    std::optional<Date> next_workday(Date date) const { return checked_add_workdays(date, 1); }
+    std::optional<Date> previous_workday(Date date) const { return checked_add_workdays(date, -1); }
     std::optional<Date> checked_add_workdays(Date date, std::int32_t days) const
     {
-        return Date::if_any(fots_date_add_workdays(date.c(), days, weekmask_, holidays_.data(), holidays_.size()));
+        return Date::if_any(fots_workdays_add(&workdays_, date.c(), days));
     }
     std::int32_t workdays_between(Date from, Date to) const
     {
-        return detail::value_or_throw(fots_date_workdays_between(from.c(), to.c(), weekmask_, holidays_.data(), holidays_.size())).number;
+        return detail::value_or_throw(fots_workdays_between(&workdays_, from.c(), to.c())).number;
     }
     std::optional<Date> adjust(Date date, Convention convention) const
     {
-        return Date::if_any(
-            fots_date_adjust(date.c(), static_cast<std::uint32_t>(convention), weekmask_, holidays_.data(), holidays_.size()));
+        return Date::if_any(fots_workdays_adjust(&workdays_, date.c(), static_cast<std::uint32_t>(convention)));
     }
 
 private:
-    std::uint32_t weekmask_;
-    std::vector<fots_date> holidays_;
+    fots_workdays workdays_;
 };
 
 namespace detail {

@@ -26,7 +26,7 @@ typedef struct Columns {
     void *data[8];
     size_t lengths[8];
     int count;
-    const WorkdaysObject *workdays;
+    const fots_workdays *workdays;
 } Columns;
 
 /* A call. The columns that it reads and writes have the letters of the module array, and "W" if it
@@ -104,7 +104,7 @@ static PyObject *core_over_columns(PyObject *self, PyObject *const *given, Py_ss
         return NULL;
     }
     columns.count = 0;
-    columns.workdays = (const WorkdaysObject *)given[2];
+    columns.workdays = WORKDAYS(given[2]);
     if (get_columns(&columns, given[1], call->reads, 0) &&
         get_columns(&columns, given[1], call->writes, PyBUF_WRITABLE)) {
         /* The call runs without the lock of the interpreter. */

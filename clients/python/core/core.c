@@ -26,10 +26,7 @@ typedef struct Value {
 
 typedef struct WorkdaysObject {
     PyObject_HEAD
-    uint32_t weekmask;
-    size_t length;
-    const fots_date *holidays;
-    PyObject *bytes;
+    fots_workdays workdays;
 } WorkdaysObject;
 
 /* The size of a value with a field, which takes 8 or 16 bytes. */
@@ -40,6 +37,7 @@ typedef struct WorkdaysObject {
 #define OFFSET(object) (VALUE(object)->offset)
 #define DURATION(object) (VALUE(object)->duration)
 #define MOMENT(object) (VALUE(object)->moment)
+#define WORKDAYS(object) (&((WorkdaysObject *)(object))->workdays)
 
 /* What a module has in one interpreter: the types in the order of types.pyi, and then the arguments
  * of setup. All fields are pointers to objects. */

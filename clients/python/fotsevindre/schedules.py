@@ -7,12 +7,14 @@ import dataclasses
 import datetime
 import itertools
 import operator
-from typing import Any, Iterable, Iterator, Sequence, SupportsIndex, overload
+from typing import Any, Iterable, Iterator, Sequence, SupportsIndex, TypeVar, overload
 
 from . import _core
 from ._core import Date
 from .enums import Frequency, Month, Weekday
 from .errors import check
+
+_T = TypeVar("_T")
 
 
 def _refuse_datetime(value: object) -> None:
@@ -121,6 +123,11 @@ def _fit(number: SupportsIndex, minimum: int, maximum: int) -> int:
     if not minimum <= number <= maximum:
         raise OverflowError(f"{number} is out of range; expected {minimum} to {maximum}")
     return number
+
+
+def _listed(values: _T | Iterable[_T]) -> Iterable[_T]:
+    """Returns the values, or the only one."""
+    return (values,) if isinstance(values, int) else values  # type: ignore[return-value]
 
 
 def _rule_weekday(weekday: Weekday | tuple[int, Weekday]) -> bytes:
@@ -253,6 +260,32 @@ class Recurrence:
     def parse(cls, text: str) -> Recurrence:
         """Parses a text, or raises `ParseRuleError`."""
         return cls(text)
+
+    @classmethod
+    def from_parts(
+        cls, frequency: Frequency, *, interval: int = 1, count: int | None = None,
+        until: Date | None = None, bymonth: int | Iterable[int] = (),
+        bymonthday: int | Iterable[int] = (),
+        byweekday: Weekday | Iterable[Weekday | tuple[int, Weekday]] = (),
+        wkst: Weekday = Weekday.Monday
+    ) -> Recurrence:
+        """Creates a recurrence from its parts, with the names of RFC 5545 and of `dateutil`. Raises
+        `ParseRuleError` for an invalid value.
+
+        >>> print(Recurrence.from_parts(Frequency.Monthly, byweekday=[(-1, Weekday.Friday)]))
+        FREQ=MONTHLY;BYDAY=-1FR
+        """
+        weekdays = [one if isinstance(one, tuple) else ("", one) for one in _listed(byweekday)]
+        parts = {
+            "FREQ": check(frequency, Frequency).name.upper(), "INTERVAL": operator.index(interval),
+            "COUNT": "" if count is None else operator.index(count),
+            "UNTIL": "" if until is None else str(check(until, Date)).replace("-", ""),
+            "BYMONTH": ",".join(f"{operator.index(month)}" for month in _listed(bymonth)),
+            "BYMONTHDAY": ",".join(f"{operator.index(day)}" for day in _listed(bymonthday)),
+            "BYDAY": ",".join(
+                f"{number}{check(day, Weekday).name[:2].upper()}" for number, day in weekdays),
+            "WKST": check(wkst, Weekday).name[:2].upper()}
+        return cls(";".join(f"{name}={value}" for name, value in parts.items() if value != ""))
 
     def rule(self, start: Date) -> Rule:
         """Returns the rule from a start, without the number of times."""

@@ -241,6 +241,18 @@ class Recurrences(unittest.TestCase):
         self.assertEqual(pickle.loads(pickle.dumps(daily)), daily)
         for call in (lambda: Recurrence.parse(b"FREQ=DAILY"), lambda: daily.days(datetime.date(2024, 1, 1)), lambda: daily.days_from(start, 1)):
             self.assertRaises(TypeError, call)
+        for parts, wanted in (
+            ({}, "FREQ=YEARLY"), ({"bymonth": Month.March, "byweekday": Weekday.Tuesday}, "FREQ=YEARLY;BYMONTH=3;BYDAY=TU"),
+            ({"interval": 2, "count": 4, "byweekday": (Weekday.Tuesday, (2, Weekday.Wednesday)), "wkst": Weekday.Sunday},
+                "FREQ=YEARLY;INTERVAL=2;COUNT=4;BYDAY=TU,2WE;WKST=SU"),
+            ({"until": day(1997, 12, 31), "bymonthday": [1, -1], "bymonth": range(1, 3)}, "FREQ=YEARLY;UNTIL=19971231;BYMONTH=1,2;BYMONTHDAY=1,-1"),
+        ):
+            made = Recurrence.from_parts(Frequency.Yearly, **parts)
+            self.assertEqual((made.text, made), (wanted, Recurrence.parse(wanted)))
+        for parts in ({"bymonth": 13}, {"count": 0}, {"count": 1, "until": start}, {"byweekday": [(0, Weekday.Monday)]}, {"bymonthday": 32}):
+            self.assertRaises(ParseRuleError, Recurrence.from_parts, Frequency.Yearly, **parts)
+        for parts in ({"bymonth": "1"}, {"count": "1"}, {"until": 1}, {"wkst": 1}, {"byweekday": [5]}, {"byweekday": 5}):
+            self.assertRaises(TypeError, Recurrence.from_parts, Frequency.Yearly, **parts)
         for call in (Rule(start, Frequency.Daily).next_after, Rule(start, Frequency.Daily).days_after):
             self.assertRaises(TypeError, call, 1)
 

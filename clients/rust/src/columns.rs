@@ -150,7 +150,7 @@ pub fn dates_add_months(dates: &[i32], months: &[i32], moved: &mut [i32], status
 /// Adds working days, like [`Workdays::checked_add_workdays`].
 #[track_caller]
 pub fn dates_add_workdays(dates: &[i32], days: &[i32], workdays: &Workdays, moved: &mut [i32], statuses: &mut [u8]) -> usize {
-    ffi::fots_dates_add_workdays(dates, days, workdays.weekmask, workdays.holidays, moved, statuses)
+    ffi::fots_workdays_add_dates(&workdays.c, dates, days, moved, statuses)
 }
 
 /// Counts working days, like [`Workdays::workdays_between`].
@@ -162,7 +162,7 @@ pub fn dates_workdays_between(
     numbers: &mut [i32],
     statuses: &mut [u8],
 ) -> usize {
-    ffi::fots_dates_workdays_between(dates, others, workdays.weekmask, workdays.holidays, numbers, statuses)
+    ffi::fots_workdays_between_dates(&workdays.c, dates, others, numbers, statuses)
 }
 
 /// The bytes for each row of [`dates_calendar_texts`].

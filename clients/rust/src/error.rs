@@ -35,6 +35,14 @@ impl ComponentRange {
     /// An invalid weekday number.
     pub(crate) const WEEKDAY: Self = Self { name: "weekday", is_conditional: false };
 
+    /// A year that another crate doesn't have.
+    #[cfg(feature = "chrono")]
+    pub(crate) const YEAR: Self = Self { name: "year", is_conditional: false };
+
+    /// Seconds that another crate doesn't have.
+    #[cfg(feature = "chrono")]
+    pub(crate) const SECONDS: Self = Self { name: "seconds", is_conditional: false };
+
     /// Returns the name of the component, such as `day`.
     pub const fn name(self) -> &'static str {
         self.name

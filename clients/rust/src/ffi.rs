@@ -18,6 +18,9 @@ pub(crate) type Status = i32;
 /// The parts of a rule, from [`with_parts`] only.
 pub(crate) type CRulePointer<'a> = &'a CRule;
 
+/// Working days that a call made, from [`crate::Workdays`] only.
+pub(crate) type CWorkdaysPointer<'a> = &'a CWorkdays;
+
 /// The result of a column call if lengths differ.
 const LENGTH_MISMATCH: usize = usize::MAX;
 

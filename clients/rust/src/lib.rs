@@ -18,6 +18,7 @@
 #![deny(unsafe_code)]
 
 pub mod columns;
+mod conversions;
 mod date;
 mod date_time;
 mod duration;

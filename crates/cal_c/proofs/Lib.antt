@@ -9,6 +9,7 @@ pub mod Filled
 pub mod Cases
 pub mod Schedules
 pub mod Holidays
+pub mod CheckedHolidays
 pub mod PrintedRows
 pub mod TextRows
 pub mod Unreads

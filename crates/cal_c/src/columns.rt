@@ -23,6 +23,7 @@ macro_rules! write_rows {
 }
 
 mod arithmetic;
+mod checked_workdays;
 mod components;
 mod constructors;
 mod months;

@@ -54,6 +54,7 @@ structs! {
         frequency: u32, interval: u32, week_start: u32, until: i32, count: u32, months_length: u32, month_days_length: u32,
         weekdays_length: u32, months: [u8; 62], month_days: [i8; 62], weekdays: [CRuleWeekday; 62],
     };
+    CWorkdays { weekmask: u32, holidays_length: u32, holidays: [i32; 1024], marked_before: [u16; 1025] };
     CRule {
         start: i32, until: i32, frequency: u32, interval: u32, week_start: u32, months: *const u8, months_length: usize,
         month_days: *const i8, month_days_length: usize, weekdays: *const CRuleWeekday, weekdays_length: usize,
@@ -83,6 +84,7 @@ results! {
     RecurrenceResult { part: u32, length: usize, position: usize } else ParseRuleError(part, position);
     ParseRecurrenceResult { part: u32, position: usize, recurrence: CRecurrence } else ParseRuleError(part, position);
     RecurrenceTextResult { part: u32, position: usize, length: u32, bytes: [u8; 1844] } else ParseRuleError(part, position);
+    WorkdaysResult { workdays: CWorkdays } else Status;
     YearFractionResult { denominator: u32, numerator: i64 } else Status;
 }
 
@@ -134,12 +136,17 @@ calls! {
     fots_date_last_weekday_of_month(year: i32, month: u32, weekday: u32) -> DateResult;
     fots_date_on_or_after(date: i32, weekday: u32) -> DateResult;
     fots_date_on_or_before(date: i32, weekday: u32) -> DateResult;
-    fots_date_is_workday(date: i32, weekmask: u32, holidays: &[Date]) -> ComponentResult;
-    fots_date_next_workday(date: i32, weekmask: u32, holidays: &[Date]) -> DateResult;
-    fots_date_previous_workday(date: i32, weekmask: u32, holidays: &[Date]) -> DateResult;
-    fots_date_add_workdays(date: i32, days: i32, weekmask: u32, holidays: &[Date]) -> DateResult;
-    fots_date_workdays_between(date: i32, other: i32, weekmask: u32, holidays: &[Date]) -> NumberResult;
-    fots_date_adjust(date: i32, convention: u32, weekmask: u32, holidays: &[Date]) -> DateResult;
+    fots_workdays_new(weekmask: u32, holidays: &[Date]) -> WorkdaysResult;
+    fots_workdays_contains(workdays: CWorkdaysPointer, date: i32) -> ComponentResult;
+    fots_workdays_add(workdays: CWorkdaysPointer, date: i32, days: i32) -> DateResult;
+    fots_workdays_between(workdays: CWorkdaysPointer, date: i32, other: i32) -> NumberResult;
+    fots_workdays_adjust(workdays: CWorkdaysPointer, date: i32, convention: u32) -> DateResult;
+    fots_workdays_add_dates(
+        workdays: CWorkdaysPointer, dates: &[i32], days: &[i32], moved: &mut [i32], statuses: &mut [u8],
+    ) -> usize;
+    fots_workdays_between_dates(
+        workdays: CWorkdaysPointer, dates: &[i32], others: &[i32], numbers: &mut [i32], statuses: &mut [u8],
+    ) -> usize;
     fots_rule_first(rule: CRulePointer) -> DateResult;
     fots_rule_next_after(rule: CRulePointer, date: i32) -> DateResult;
     fots_rule_contains(rule: CRulePointer, date: i32) -> ComponentResult;
@@ -264,12 +271,6 @@ calls! {
     ) -> usize;
     fots_dates_add_days(dates: &[i32], days: &[i64], moved: &mut [i32], statuses: &mut [u8]) -> usize;
     fots_dates_add_months(dates: &[i32], months: &[i32], moved: &mut [i32], statuses: &mut [u8]) -> usize;
-    fots_dates_add_workdays(
-        dates: &[i32], days: &[i32], weekmask: u32, holidays: &[Date], moved: &mut [i32], statuses: &mut [u8],
-    ) -> usize;
-    fots_dates_workdays_between(
-        dates: &[i32], others: &[i32], weekmask: u32, holidays: &[Date], numbers: &mut [i32], statuses: &mut [u8],
-    ) -> usize;
     fots_dates_parse(bytes: &[u8], bounds: &[i32], dates: &mut [i32], statuses: &mut [u8]) -> usize;
     fots_moments_parse(
         bytes: &[u8], bounds: &[i32], dates: &mut [i32], times: &mut [u64], offsets: &mut [i32], statuses: &mut [u8],

@@ -12,8 +12,13 @@ ghost use Rattle.cal_c.specs.Statuses.{invalid_convention, invalid_date, invalid
 ghost use Rattle.cal_c.specs.Values.{IsJulianDay, day_of};
 ghost use Rattle.cal_c.specs.Weekmasks.{convention_number, max_holidays, work_week, workdays_between, AreHolidays, IsConvention, IsWeekmask};
 
+mod adjusting;
 pub mod calendar;
+mod calls;
+pub mod checked_workdays;
+mod checking;
 mod holidays;
+pub mod ranks;
 
 use crate::results::{DateResult, NumberResult};
 use crate::status::{INVALID_CONVENTION, INVALID_DATE};

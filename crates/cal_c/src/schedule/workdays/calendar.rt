@@ -1,5 +1,5 @@
 //! The working days that C passes.
-ghost use Rattle.std.specs.Prelude.{◌≡◌, ◌<◌, ◌≤◌, Ok, Err, SomeIff, length};
+ghost use Rattle.std.specs.Prelude.{◌≡◌, ◌<◌, ◌≤◌, Ok, Err, IfOk, SomeIff, length};
 ghost use Rattle.cal_c.specs.Statuses.{invalid_holidays, invalid_weekmask, too_many_holidays};
 ghost use Rattle.cal_c.specs.Weekmasks.{weekmask_in, max_holidays, work_week, AreHolidays, IsWeekmask};
 
@@ -29,7 +29,7 @@ impl Model for Calendar {
 }
 
 /// Returns the marks of a number, or `None` if it is above 127.
-fn valid_weekmask(weekmask: u32) -> Option<[bool; 7]>
+pub(super) fn valid_weekmask(weekmask: u32) -> Option<[bool; 7]>
     ensures { SomeIff result (IsWeekmask weekmask) (weekmask_in weekmask) }
 {
     if weekmask >= 128 {
@@ -56,6 +56,8 @@ impl Calendar {
             → ¬ AreHolidays holidays.now → result ≡ Err invalid_holidays }
         ensures value { IsWeekmask weekmask → length holidays.now ≤ max_holidays
             → AreHolidays holidays.now → result ≡ Ok (work_week weekmask holidays.now) }
+        ensures valid { IfOk result (λ w. IsWeekmask weekmask × (length holidays.now ≤ max_holidays)
+            × AreHolidays holidays.now × (w.marks ≡ weekmask_in weekmask)) }
     {
         let marks = or_return!(valid_weekmask(weekmask), Err(INVALID_WEEKMASK));
         let holidays = Holidays::from_julian_days(holidays)?;
@@ -63,6 +65,13 @@ impl Calendar {
             return Err(INVALID_HOLIDAYS);
         }
         Ok(Calendar { marks, holidays })
+    }
+
+    /// Returns the marks of a week.
+    pub(super) fn marks(&self) -> [bool; 7]
+        ensures { result ≡ self.now.marks }
+    {
+        self.marks
     }
 
     /// Returns the working days.

@@ -1,0 +1,31 @@
+//! Conversions from and to other crates, with the features of `clients/rust/conversions`.
+
+#[cfg(feature = "chrono")]
+mod chrono;
+#[cfg(feature = "time")]
+mod time;
+
+#[cfg(any(feature = "chrono", feature = "time"))]
+/// Converts an enum to another with the same variants, and back.
+macro_rules! same_variants {
+    ($own:ident, $other:ty, $($variant:ident)*) => {
+        impl From<$other> for $own {
+            fn from(value: $other) -> Self {
+                match value {
+                    $(<$other>::$variant => Self::$variant),*
+                }
+            }
+        }
+
+        impl From<$own> for $other {
+            fn from(value: $own) -> Self {
+                match value {
+                    $($own::$variant => Self::$variant),*
+                }
+            }
+        }
+    };
+}
+
+#[cfg(any(feature = "chrono", feature = "time"))]
+use same_variants;
