@@ -89,6 +89,11 @@ def _column(values: Any, code: str, of_dates: bool) -> Any:
     return array.array(code, view.tolist())
 
 
+def as_column(values: Any, code: str) -> Any:
+    """Returns the numbers of a column in the bits of a code, without dates."""
+    return _column(values, code, False)
+
+
 def _is_scalar(values: Any) -> bool:
     is_number = hasattr(values, "__index__") and not getattr(values, "ndim", 0)
     return is_number or isinstance(values, Date)

@@ -44,7 +44,9 @@ pub(crate) fn component(status: Status) -> Option<&'static str> {
 }
 
 /// The names of the parts of a recurrence, by their numbers from 1.
-pub(crate) const PARTS: [&str; 8] = ["FREQ", "INTERVAL", "WKST", "BYMONTH", "BYMONTHDAY", "BYDAY", "UNTIL", "COUNT"];
+pub(crate) const PARTS: [&str; 9] = [
+    "MONTHS_TOO_CLOSE", "FREQ", "INTERVAL", "WKST", "BYMONTH", "BYMONTHDAY", "BYDAY", "UNTIL", "COUNT",
+];
 
 structs! {
     CDuration { seconds: i64, nanoseconds: i32 };
