@@ -1,4 +1,5 @@
 pub mod Bytes
 pub mod Posix
+pub mod PosixError
 pub mod Header
 pub mod File

@@ -1,7 +1,6 @@
 -- The POSIX text of a zone, such as `CET-1CEST,M3.5.0,M10.5.0/3`: what its parts say, and where they
 -- end. Each part begins at a position.
-use Rattle.std.specs.Prelude.{◌≡◌, ◌≢◌, ◌⊎◌, ℕ, zero, suc, ◌+◌, ◌-◌, ◌*◌, ◌<◌, ◌≤◌, ◌==◌, Bool, true, false, nat_le, List, length, if◌then◌else◌, ℤ, pos, neg_ℤ, ◌+ℤ◌}
-use Rattle.std.specs.Prelude.{◌%◌, ◌-ℤ◌, Option, Some, None}
+use Rattle.std.specs.Prelude.{◌≡◌, ◌≢◌, ◌⊎◌, ℕ, zero, suc, ◌+◌, ◌-◌, ◌*◌, ◌%◌, ◌<◌, ◌≤◌, ◌==◌, Bool, true, false, nat_le, List, length, if◌then◌else◌, ℤ, pos, neg_ℤ, ◌+ℤ◌, Option, Some, None}
 use Rattle.cal_time.specs.Month.{number}
 use Rattle.cal_time.specs.Weekday.{index}
 use Rattle.cal_zone.specs.declared.local_type.LocalType.{LocalType}
@@ -14,45 +13,50 @@ abbrev pub is_digit : ℕ → Bool
 is_digit b = if nat_le 48 b then nat_le b 57 else false
 
 -- At most n digits, as a number and the position after them. The digits before them have a value.
-abbrev pub digits : List ℕ → ℕ → ℕ → ℕ → ℕ × ℕ
-digits bytes zero at value = (value, at)
-digits bytes (suc n) at value = if is_digit (byte bytes at) then digits bytes n (at + 1) (value * 10 + (byte bytes at - 48)) else (value, at)
+unfoldable pub digits : List ℕ → ℕ → ℕ → ℕ → ℕ × ℕ
+digits text zero at value = (value, at)
+digits text (suc n) at value = if is_digit (byte text at) then digits text n (at + 1) (value * 10 + (byte text at - 48)) else (value, at)
 
 -- Minutes or seconds after a colon, or 0 without a colon.
-abbrev pub part : List ℕ → ℕ → ℕ × ℕ
-part bytes at = if byte bytes at == 58 then digits bytes 2 (at + 1) 0 else (0, at)
+unfoldable pub part : List ℕ → ℕ → ℕ × ℕ
+part text at = if byte text at == 58 then digits text 2 (at + 1) 0 else (0, at)
 
 abbrev pub IsPart : List ℕ → ℕ → Type 0
-IsPart bytes at = byte bytes at ≡ 58 → (at + 1 < (part bytes at).1) × ((part bytes at).0 ≤ 59)
+IsPart text at = byte text at ≡ 58 → (at + 1 < (part text at).1) × ((part text at).0 ≤ 59)
 
 -- Hours, minutes and seconds: the seconds, and the position after them.
 abbrev pub hours : List ℕ → ℕ → ℕ × ℕ
-hours bytes at = digits bytes 3 at 0
+hours text at = digits text 3 at 0
 
 abbrev pub minutes : List ℕ → ℕ → ℕ × ℕ
-minutes bytes at = part bytes (hours bytes at).1
+minutes text at = part text (hours text at).1
 
 abbrev pub seconds : List ℕ → ℕ → ℕ × ℕ
-seconds bytes at = part bytes (minutes bytes at).1
+seconds text at = part text (minutes text at).1
 
-abbrev pub time : List ℕ → ℕ → ℕ × ℕ
-time bytes at = ((hours bytes at).0 * 3600 + (minutes bytes at).0 * 60 + (seconds bytes at).0, (seconds bytes at).1)
-
--- There is at least one digit, at most so many hours, and minutes and seconds to 59.
-pub record IsTime (bytes : List ℕ) (at most : ℕ) : Type 0 where
-  pub some : at < (hours bytes at).1
-  pub few : (hours bytes at).0 ≤ most
-  pub minute : IsPart bytes (hours bytes at).1
-  pub second : IsPart bytes (minutes bytes at).1
+unfoldable pub time : List ℕ → ℕ → ℕ × ℕ
+time text at = ((hours text at).0 * 3600 + (minutes text at).0 * 60 + (seconds text at).0, (seconds text at).1)
 
 -- The same after a sign, or without one.
-abbrev pub after_sign : List ℕ → ℕ → ℕ
-after_sign bytes at = if byte bytes at == 43 then at + 1 else (if byte bytes at == 45 then at + 1 else at)
+unfoldable pub after_sign : List ℕ → ℕ → ℕ
+after_sign text at = if byte text at == 43 then at + 1 else (if byte text at == 45 then at + 1 else at)
 
-abbrev pub signed_time : List ℕ → ℕ → ℤ × ℕ
-signed_time bytes at =
-    if byte bytes at == 45 then (neg_ℤ (pos (time bytes (after_sign bytes at)).0), (time bytes (after_sign bytes at)).1)
-    else (pos (time bytes (after_sign bytes at)).0, (time bytes (after_sign bytes at)).1)
+abbrev pub signed : ℕ → ℕ → ℤ
+signed sign n = if sign == 45 then neg_ℤ (pos n) else pos n
+
+unfoldable pub signed_time : List ℕ → ℕ → ℤ × ℕ
+signed_time text at = (signed (byte text at) (time text (after_sign text at)).0, (time text (after_sign text at)).1)
+
+-- There is at least one digit, at most so many hours, and minutes and seconds to 59.
+pub record IsTime (text : List ℕ) (at most : ℕ) : Type 0 where
+  pub some : after_sign text at < (hours text (after_sign text at)).1
+  pub few : (hours text (after_sign text at)).0 ≤ most
+  pub minute : IsPart text (hours text (after_sign text at)).1
+  pub second : IsPart text (minutes text (after_sign text at)).1
+
+-- An offset. POSIX counts hours behind UTC, so its sign is turned.
+unfoldable pub offset : List ℕ → ℕ → ℤ
+offset text at = neg_ℤ (signed_time text at).0
 
 -- The bytes of a name: letters, and between < and > also digits and signs.
 abbrev pub is_letter : ℕ → Bool
@@ -65,147 +69,151 @@ abbrev pub is_name_byte : Bool → ℕ → Bool
 is_name_byte quoted b = if is_letter b then true else (if quoted then (if is_digit b then true else is_sign b) else false)
 
 -- The position after at most n bytes of a name.
-abbrev pub run_end : Bool → List ℕ → ℕ → ℕ → ℕ
-run_end quoted bytes zero at = at
-run_end quoted bytes (suc n) at = if is_name_byte quoted (byte bytes at) then run_end quoted bytes n (at + 1) else at
+unfoldable pub run_end : Bool → List ℕ → ℕ → ℕ → ℕ
+run_end quoted text zero at = at
+run_end quoted text (suc n) at = if is_name_byte quoted (byte text at) then run_end quoted text n (at + 1) else at
 
 -- Where a name begins and ends, and the position after it.
 abbrev pub is_quoted : List ℕ → ℕ → Bool
-is_quoted bytes at = byte bytes at == 60
+is_quoted text at = byte text at == 60
 
-abbrev pub name_start : List ℕ → ℕ → ℕ
-name_start bytes at = if is_quoted bytes at then at + 1 else at
+unfoldable pub name_start : List ℕ → ℕ → ℕ
+name_start text at = if is_quoted text at then at + 1 else at
 
-abbrev pub name_stop : List ℕ → ℕ → ℕ
-name_stop bytes at = run_end (is_quoted bytes at) bytes (length bytes) (name_start bytes at)
+unfoldable pub name_stop : List ℕ → ℕ → ℕ
+name_stop text at = run_end (is_quoted text at) text (length text) (name_start text at)
 
-abbrev pub name_end : List ℕ → ℕ → ℕ
-name_end bytes at = if is_quoted bytes at then name_stop bytes at + 1 else name_stop bytes at
+unfoldable pub name_end : List ℕ → ℕ → ℕ
+name_end text at = if is_quoted text at then name_stop text at + 1 else name_stop text at
 
-pub record IsName (bytes : List ℕ) (at : ℕ) : Type 0 where
-  pub letters : name_start bytes at + 3 ≤ name_stop bytes at
-  pub closed : is_quoted bytes at ≡ true → byte bytes (name_stop bytes at) ≡ 62
+pub record IsName (text : List ℕ) (at : ℕ) : Type 0 where
+  pub letters : name_start text at + 3 ≤ name_stop text at
+  pub closed : is_quoted text at ≡ true → byte text (name_stop text at) ≡ 62
 
 -- A day such as M3.5.0: the month, the week and the weekday, counted from Sunday.
 abbrev pub month : List ℕ → ℕ → ℕ × ℕ
-month bytes at = digits bytes 2 (at + 1) 0
+month text at = digits text 2 (at + 1) 0
 
 abbrev pub week : List ℕ → ℕ → ℕ × ℕ
-week bytes at = digits bytes 1 ((month bytes at).1 + 1) 0
+week text at = digits text 1 ((month text at).1 + 1) 0
 
 abbrev pub weekday : List ℕ → ℕ → ℕ × ℕ
-weekday bytes at = digits bytes 1 ((week bytes at).1 + 1) 0
+weekday text at = digits text 1 ((week text at).1 + 1) 0
 
-pub record IsDay (bytes : List ℕ) (at : ℕ) : Type 0 where
-  pub letter : byte bytes at ≡ 77
-  pub month_in : (1 ≤ (month bytes at).0) × ((month bytes at).0 ≤ 12)
-  pub dot : byte bytes (month bytes at).1 ≡ 46
-  pub week_in : (1 ≤ (week bytes at).0) × ((week bytes at).0 ≤ 5)
-  pub next_dot : byte bytes (week bytes at).1 ≡ 46
-  pub weekday_in : (weekday bytes at).0 ≤ 6
-  pub some : (week bytes at).1 + 1 < (weekday bytes at).1
+unfoldable pub day_end : List ℕ → ℕ → ℕ
+day_end text at = (weekday text at).1
+
+pub record IsDay (text : List ℕ) (at : ℕ) : Type 0 where
+  pub letter : byte text at ≡ 77
+  pub month_in : (1 ≤ (month text at).0) × ((month text at).0 ≤ 12)
+  pub dot : byte text (month text at).1 ≡ 46
+  pub week_in : (1 ≤ (week text at).0) × ((week text at).0 ≤ 5)
+  pub next_dot : byte text (week text at).1 ≡ 46
+  pub weekday_in : (weekday text at).0 ≤ 6
+  pub some : (week text at).1 + 1 < (weekday text at).1
 
 -- The time of day after a day and a slash, or 2:00.
-abbrev pub change_time : List ℕ → ℕ → ℤ × ℕ
-change_time bytes at = if byte bytes at == 47 then signed_time bytes (at + 1) else (pos 7200, at)
+unfoldable pub change_time : List ℕ → ℕ → ℤ × ℕ
+change_time text at = if byte text at == 47 then signed_time text (at + 1) else (pos 7200, at)
 
 abbrev pub IsChangeTime : List ℕ → ℕ → Type 0
-IsChangeTime bytes at = byte bytes at ≡ 47 → IsTime bytes (after_sign bytes (at + 1)) 167
+IsChangeTime text at = byte text at ≡ 47 → IsTime text (at + 1) 167
 
--- The standard time: its name, and its offset with the sign turned, since POSIX counts hours behind
--- UTC.
-abbrev pub standard_offset : List ℕ → ℕ → ℤ × ℕ
-standard_offset bytes at = signed_time bytes (name_end bytes at)
-
+-- The standard time: its name and its offset.
 abbrev pub standard : List ℕ → ℕ → LocalType
-standard bytes at = record {
-  offset = neg_ℤ (standard_offset bytes at).0;
+standard text at = record {
+  offset = offset text (name_end text at);
   is_daylight = false;
-  name_start = name_start bytes at;
-  name_end = name_stop bytes at;
+  name_start = name_start text at;
+  name_end = name_stop text at;
 }
 
-pub record IsStandard (bytes : List ℕ) (at : ℕ) : Type 0 where
-  pub name : IsName bytes at
-  pub offset : IsTime bytes (after_sign bytes (name_end bytes at)) 24
+unfoldable pub standard_end : List ℕ → ℕ → ℕ
+standard_end text at = (signed_time text (name_end text at)).1
 
--- The daylight time begins where the standard time ends. Its offset is one hour more than the
--- standard offset, unless the text gives it.
-abbrev pub daylight_at : List ℕ → ℕ → ℕ
-daylight_at bytes at = (standard_offset bytes at).1
+pub record IsStandard (text : List ℕ) (at : ℕ) : Type 0 where
+  pub name : IsName text at
+  pub offset : IsTime text (name_end text at) 24
 
+-- The daylight time: its name and its offset, which is one hour more than the standard offset if
+-- the text has a comma in its place.
 abbrev pub has_no_offset : List ℕ → ℕ → Bool
-has_no_offset bytes at = byte bytes (name_end bytes at) == 44
+has_no_offset text at = byte text (name_end text at) == 44
 
-abbrev pub turned : ℤ × ℕ → ℤ × ℕ
-turned offset = (neg_ℤ offset.0, offset.1)
-
-abbrev pub daylight_offset : List ℕ → ℕ → ℤ → ℤ × ℕ
-daylight_offset bytes at standard = if has_no_offset bytes at then (standard +ℤ pos 3600, name_end bytes at) else turned (signed_time bytes (name_end bytes at))
+unfoldable pub daylight_offset : List ℕ → ℕ → ℤ → ℤ
+daylight_offset text at before = if has_no_offset text at then before +ℤ pos 3600 else offset text (name_end text at)
 
 abbrev pub daylight : List ℕ → ℕ → ℤ → LocalType
-daylight bytes at standard = record {
-  offset = (daylight_offset bytes at standard).0;
+daylight text at before = record {
+  offset = daylight_offset text at before;
   is_daylight = true;
-  name_start = name_start bytes at;
-  name_end = name_stop bytes at;
+  name_start = name_start text at;
+  name_end = name_stop text at;
 }
 
-pub record IsDaylightType (bytes : List ℕ) (at : ℕ) : Type 0 where
-  pub name : IsName bytes at
-  pub offset : has_no_offset bytes at ≡ false → IsTime bytes (after_sign bytes (name_end bytes at)) 24
+unfoldable pub daylight_end : List ℕ → ℕ → ℕ
+daylight_end text at = if has_no_offset text at then name_end text at else standard_end text at
+
+pub record IsDaylight (text : List ℕ) (at : ℕ) : Type 0 where
+  pub name : IsName text at
+  pub offset : has_no_offset text at ≡ false → IsTime text (name_end text at) 24
 
 -- A day and a time after a comma, and the position after them.
-abbrev pub change_end : List ℕ → ℕ → ℕ
-change_end bytes at = (change_time bytes (weekday bytes (at + 1)).1).1
+unfoldable pub change_end : List ℕ → ℕ → ℕ
+change_end text at = (change_time text (day_end text (at + 1))).1
 
-pub record IsChange (bytes : List ℕ) (at : ℕ) : Type 0 where
-  pub comma : byte bytes at ≡ 44
-  pub day_is : IsDay bytes (at + 1)
-  pub time_is : IsChangeTime bytes (weekday bytes (at + 1)).1
+pub record IsChange (text : List ℕ) (at : ℕ) : Type 0 where
+  pub comma : byte text at ≡ 44
+  pub date : IsDay text (at + 1)
+  pub time : IsChangeTime text (day_end text (at + 1))
 
--- The change that comes each year on the day at a position.
-pub record IsYearlyAt (bytes : List ℕ) (at : ℕ) (kind : LocalType) (r : Yearly) : Type 0 where
-  pub month_is : number r.month ≡ (month bytes at).0
-  pub week_is : r.week ≡ (week bytes at).0
-  pub weekday_is : index r.weekday ≡ ((weekday bytes at).0 + 6) % 7
-  pub time_is : r.time ≡ (change_time bytes (weekday bytes at).1).0
+-- The yearly change is the one after a comma.
+pub record IsYearlyAt (text : List ℕ) (at : ℕ) (kind : LocalType) (r : Yearly) : Type 0 where
+  pub month_is : number r.month ≡ (month text (at + 1)).0
+  pub week_is : r.week ≡ (week text (at + 1)).0
+  pub weekday_is : index r.weekday ≡ ((weekday text (at + 1)).0 + 6) % 7
+  pub time_is : r.time ≡ (change_time text (day_end text (at + 1))).0
   pub kind_is : r.kind ≡ kind
 
--- The days on which daylight time begins and ends, each after a comma, end the text.
-abbrev pub begin_at : List ℕ → ℕ → ℕ
-begin_at bytes at = (daylight_offset bytes (daylight_at bytes at) (standard bytes at).offset).1
-
+-- The changes at which daylight time begins and ends.
 abbrev pub end_at : List ℕ → ℕ → ℕ
-end_at bytes at = change_end bytes (begin_at bytes at)
+end_at text at = change_end text (daylight_end text at)
 
-abbrev pub daylight_of : List ℕ → ℕ → LocalType
-daylight_of bytes at = daylight bytes (daylight_at bytes at) (standard bytes at).offset
+-- Between the two months lies another month, also over the new year.
+abbrev pub IsApart : ℕ → ℕ → Type 0
+IsApart m n = (m + 2 ≤ n) × (n ≤ m + 10)
 
-pub record IsDaylight (bytes : List ℕ) (at : ℕ) : Type 0 where
-  pub type_is : IsDaylightType bytes (daylight_at bytes at)
-  pub begins : IsChange bytes (begin_at bytes at)
-  pub ends : IsChange bytes (end_at bytes at)
-  pub all : change_end bytes (end_at bytes at) ≡ length bytes
+abbrev pub AreApart : List ℕ → ℕ → Type 0
+AreApart text at =
+    let m = (month text (daylight_end text at + 1)).0 in let n = (month text (end_at text at + 1)).0 in IsApart m n ⊎ IsApart n m
 
--- A yearly change is the beginning or the end of daylight time.
-abbrev pub IsBegin : List ℕ → ℕ → Yearly → Type 0
-IsBegin bytes at r = IsYearlyAt bytes (begin_at bytes at + 1) (daylight_of bytes at) r
+-- From a position on, the text has daylight time, the change at which it begins, and the change at
+-- which it ends.
+pub record HasRule (text : List ℕ) (at : ℕ) : Type 0 where
+  pub daylight : IsDaylight text at
+  pub begins : IsChange text (daylight_end text at)
+  pub ends : IsChange text (end_at text at)
+  pub whole : change_end text (end_at text at) ≡ length text
+  pub apart : AreApart text at
 
-abbrev pub IsEnd : List ℕ → ℕ → Yearly → Type 0
-IsEnd bytes at r = IsYearlyAt bytes (end_at bytes at + 1) (standard bytes at) r
+-- A yearly change is the one at which daylight time begins or ends.
+abbrev pub IsBegin : List ℕ → ℕ → LocalType → Yearly → Type 0
+IsBegin text at before r = IsYearlyAt text (daylight_end text at) (daylight text at before.offset) r
+
+abbrev pub IsEnd : List ℕ → ℕ → LocalType → Yearly → Type 0
+IsEnd text at before r = IsYearlyAt text (end_at text at) before r
 
 -- The rule has the two changes, in the order of their months.
-pub record IsRuleOf (bytes : List ℕ) (at : ℕ) (rule : Rule) : Type 0 where
-  pub valid : IsDaylight bytes at
-  pub changes : (IsBegin bytes at rule.one × IsEnd bytes at rule.other) ⊎ (IsEnd bytes at rule.one × IsBegin bytes at rule.other)
+pub record IsRule (text : List ℕ) (at : ℕ) (before : LocalType) (rule : Rule) : Type 0 where
+  pub has : HasRule text at
+  pub changes : (IsBegin text at before rule.one × IsEnd text at before rule.other) ⊎ (IsEnd text at before rule.one × IsBegin text at before rule.other)
 
--- What the text from a position to the end of the bytes says.
-abbrev pub IsRule : List ℕ → ℕ → Option Rule → Type 0
-IsRule bytes at None = (standard_offset bytes at).1 ≡ length bytes
-IsRule bytes at (Some rule) = IsRuleOf bytes at rule
+-- What the text says from a position to its end.
+abbrev pub IsRest : List ℕ → ℕ → LocalType → Option Rule → Type 0
+IsRest text at before None = at ≡ length text
+IsRest text at before (Some rule) = IsRule text at before rule
 
-pub record Spells (bytes : List ℕ) (at : ℕ) (f : Footer) : Type 0 where
-  pub valid : IsStandard bytes at
-  pub first : f.standard ≡ standard bytes at
-  pub rule_is : IsRule bytes at f.rule
+pub record Spells (text : List ℕ) (at : ℕ) (f : Footer) : Type 0 where
+  pub has : IsStandard text at
+  pub first : f.standard ≡ standard text at
+  pub rest : IsRest text (standard_end text at) (standard text at) f.rule

@@ -1,4 +1,5 @@
 //! Errors in the bytes of a time zone.
+ghost use Rattle.std.specs.Prelude.{◌≡◌};
 
 use cal_zone::TimelineError;
 
@@ -49,4 +50,16 @@ pub enum ZoneErrorKind {
 pub struct ZoneError {
     pub kind: ZoneErrorKind,
     pub position: usize,
+}
+
+impl ZoneErrorKind {
+    /// Returns the error of this kind at a position.
+    pub(crate) fn at(self, position: usize) -> ZoneError
+        ensures { result ≡ record { kind = self; position = position } }
+    {
+        ZoneError {
+            kind: self,
+            position,
+        }
+    }
 }

@@ -1,6 +1,6 @@
 -- The abbreviation of a local time type: the bytes between two positions, up to the first zero byte
 -- (RFC 9636, 3.2).
-use Rattle.std.specs.Prelude.{ℕ, Bool, nat_lt, List, take, drop}
+use Rattle.std.specs.Prelude.{ℕ, nat_lt, List, take, drop}
 use Rattle.std.specs.List.{take_while}
 
 abbrev pub until_zero : List ℕ → List ℕ

@@ -19,14 +19,22 @@ pub struct LocalType {
 fn before(bytes: &[u8], end: usize) -> &[u8]
     ensures { result.now ≡ take end bytes.now }
 {
-    if end < bytes.len() { &bytes[..end] } else { bytes }
+    if end < bytes.len() {
+        &bytes[..end]
+    } else {
+        bytes
+    }
 }
 
 /// Returns the bytes from a position on.
 fn from(bytes: &[u8], start: usize) -> &[u8]
     ensures { result.now ≡ drop start bytes.now }
 {
-    if start < bytes.len() { &bytes[start..] } else { &[] }
+    if start < bytes.len() {
+        &bytes[start..]
+    } else {
+        &[]
+    }
 }
 
 /// Returns the bytes before the first zero byte.

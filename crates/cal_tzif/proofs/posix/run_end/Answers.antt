@@ -8,7 +8,7 @@ use Rattle.cal_tzif.proofs.posix.run_end.Goals as goal
 pub loop-at-preserved : goal.loop-at-preserved
 loop-at-preserved c =
     let q = c.args.quoted in
-    let bytes = c.args.bytes.now in
+    let bytes = c.args.text.now in
     let at = c.loop-at.at in
     let same = c.loop-at.invariant.same in
     let test = sym c.is_name_byte.ensures ∙ c.loop-at-test.true in
@@ -25,4 +25,4 @@ loop-at-preserved c =
 pub returns-clause-value : goal.returns-clause-value
 returns-clause-value c =
     let off = ap (is_name_byte c.args.quoted) (sym c.byte.ensures.value) ∙ sym c.is_name_byte.ensures ∙ c.loop-at-test.false in
-    sym (c.loop-at.invariant.same ∙ run_end-stop c.args.quoted c.args.bytes.now _ c.loop-at.at off)
+    sym (c.loop-at.invariant.same ∙ run_end-stop c.args.quoted c.args.text.now _ c.loop-at.at off)

@@ -4,10 +4,10 @@ use Rattle.cal_tzif.proofs.posix.run_end.Given as goal
 
 abbrev pub invariant-loop-at : goal.invariant-loop-at
 invariant-loop-at l = record {
-  same : run_end l.quoted l.bytes (length l.bytes) l.start ≡ run_end l.quoted l.bytes (length l.bytes - (l.at - l.start)) l.at;
+  same : run_end l.quoted l.text (length l.text) l.start ≡ run_end l.quoted l.text (length l.text - (l.at - l.start)) l.at;
   from : l.start ≤ l.at;
-  upto : l.at ≤ length l.bytes;
+  upto : l.at ≤ length l.text;
 }
 
 abbrev pub decreases-loop-at : goal.decreases-loop-at
-decreases-loop-at l = length l.bytes - l.at
+decreases-loop-at l = length l.text - l.at
