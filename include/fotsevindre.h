@@ -160,7 +160,7 @@ enum fots_status {
     FOTS_INVALID_POSIX_OFFSET = 59, /* a POSIX text has no offset of at most 24 hours */
     FOTS_INVALID_RULE_DAY = 60, /* a POSIX text has no day such as M3.5.0 */
     FOTS_INVALID_RULE_TIME = 61, /* a POSIX text has no time of at most 167 hours */
-    FOTS_RULE_MONTHS_TOO_CLOSE = 62, /* the months of a POSIX text are the same or neighbours */
+    FOTS_MONTHS_TOO_CLOSE = 62, /* the months of a POSIX text are the same or neighbours */
     FOTS_TRAILING_BYTES = 63, /* a POSIX text has bytes after its end */
     FOTS_DAY_OUT_OF_RANGE = 64,
     FOTS_ORDINAL_OUT_OF_RANGE = 65,
@@ -227,7 +227,7 @@ static inline const char *fots_status_name(int32_t status)
     case FOTS_INVALID_POSIX_OFFSET: return "invalid POSIX offset";
     case FOTS_INVALID_RULE_DAY: return "invalid day of a rule";
     case FOTS_INVALID_RULE_TIME: return "invalid time of a rule";
-    case FOTS_RULE_MONTHS_TOO_CLOSE: return "months of a rule too close";
+    case FOTS_MONTHS_TOO_CLOSE: return "months of a rule too close";
     case FOTS_TRAILING_BYTES: return "trailing bytes";
     case FOTS_DAY_OUT_OF_RANGE: return "day";
     case FOTS_ORDINAL_OUT_OF_RANGE: return "ordinal";

@@ -9,6 +9,7 @@ use crate::columns::RowError;
 use crate::error::{ComponentRange, ParseError};
 use crate::recurrence::ParseRuleError;
 use crate::rule::{ByDay, Rule};
+use crate::zone::ZoneError;
 use crate::Date;
 use core::convert::identity;
 
@@ -17,6 +18,9 @@ pub(crate) type Status = i32;
 
 /// The parts of a rule, from [`with_parts`] only.
 pub(crate) type CRulePointer<'a> = &'a CRule;
+
+/// The bytes of a zone, from [`with_zone`] only.
+pub(crate) type CZonePointer<'a> = &'a CZone;
 
 /// The result of a column call if lengths differ.
 const LENGTH_MISMATCH: usize = usize::MAX;
@@ -215,6 +219,18 @@ pub(crate) fn with_parts<T>(rule: &Rule<'_>, call: impl FnOnce(CRulePointer) -> 
         weekdays: weekdays.as_ptr(),
         weekdays_length: rule.weekdays.len(),
     })
+}
+
+/// Calls with the bytes of a zone, which live until the call returns.
+pub(crate) fn with_zone<T>(bytes: &[u8], form: u32, call: impl FnOnce(CZonePointer) -> T) -> T {
+    call(&CZone { bytes: bytes.as_ptr(), bytes_length: bytes.len(), form })
+}
+
+impl ZoneError {
+    /// Converts from a status and the position.
+    fn from_status(status: Status, position: usize) -> Self {
+        Self { reason: zone_error(status).unwrap_or_else(|| unexpected(status)), position }
+    }
 }
 
 /// Returns the Julian days of dates. A `Date` is one, so they have the same layout.

@@ -11,3 +11,4 @@ pub mod TextColumns
 pub mod RecurrenceTexts
 pub mod Recurrences
 pub mod RecurrenceParts
+pub mod Zones

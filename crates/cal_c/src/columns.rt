@@ -29,7 +29,6 @@ mod months;
 mod statuses;
 mod texts;
 mod workdays;
-mod zones;
 
 use statuses::OK;
 

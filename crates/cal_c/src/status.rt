@@ -145,7 +145,7 @@ pub const INVALID_RULE_DAY: i32 = 60;
 pub const INVALID_RULE_TIME: i32 = 61;
 
 /// The months of a POSIX text are the same or neighbours.
-pub const RULE_MONTHS_TOO_CLOSE: i32 = 62;
+pub const MONTHS_TOO_CLOSE: i32 = 62;
 
 /// A POSIX text has bytes after its end.
 pub const TRAILING_BYTES: i32 = 63;

@@ -1,5 +1,7 @@
 //! The changes of a zone's clocks.
-ghost use Rattle.cal_c.specs.Zones.{IsNextChangeAt, IsPreviousChangeAt};
+ghost use Rattle.std.specs.Prelude.{◌≡◌};
+ghost use Rattle.cal_c.specs.Results.{int64_error};
+ghost use Rattle.cal_c.specs.Zones.{IsForZone, IsNextResult, IsPreviousResult};
 
 use crate::results::Int64Result;
 use crate::status::RESULT_OUT_OF_RANGE;
@@ -9,7 +11,8 @@ use crate::zones::zone_parts::ZoneParts;
 /// Returns the Unix time of the first change after another one. Fails if there is none.
 #[unsafe(no_mangle)]
 pub extern "C" fn fots_zone_next_change(zone: &ZoneParts<'_>, seconds: i64) -> Int64Result
-    ensures { IsNextChangeAt zone.now seconds result }
+    ensures { IsForZone zone.now (λ z. IsNextResult z seconds result)
+        (λ s. result ≡ int64_error s) }
 {
     let zone = or_return!(zone_of(zone), fault => Int64Result::error(fault.status));
     match zone.next_change(seconds) {
@@ -21,7 +24,8 @@ pub extern "C" fn fots_zone_next_change(zone: &ZoneParts<'_>, seconds: i64) -> I
 /// Returns the Unix time of the last change that is not after another one. Fails if there is none.
 #[unsafe(no_mangle)]
 pub extern "C" fn fots_zone_previous_change(zone: &ZoneParts<'_>, seconds: i64) -> Int64Result
-    ensures { IsPreviousChangeAt zone.now seconds result }
+    ensures { IsForZone zone.now (λ z. IsPreviousResult z seconds result)
+        (λ s. result ≡ int64_error s) }
 {
     let zone = or_return!(zone_of(zone), fault => Int64Result::error(fault.status));
     match zone.previous_change(seconds) {

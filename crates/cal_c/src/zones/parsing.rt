@@ -1,12 +1,12 @@
 //! Parsing the bytes of a zone.
-ghost use Rattle.std.specs.Prelude.{◌≡◌, ℕ, IfErr, IfOk};
-ghost use Rattle.cal_c.specs.Zones.{timeline_status, zone_status, IsZoneError, IsZoneOf, IsZoneResult};
+ghost use Rattle.std.specs.Prelude.{◌≡◌, IfErr, IfOk};
+ghost use Rattle.cal_c.specs.Zones.{timeline_status, zone_error, zone_status, IsZoneError, IsZoneOf, IsZoneResult};
 
 use crate::status::{
     CHANGES_OUT_OF_ORDER, INVALID_ABBREVIATION, INVALID_LOCAL_TYPE, INVALID_POSIX_OFFSET,
     INVALID_RULE_DAY, INVALID_RULE_TIME, INVALID_TYPE_INDEX, INVALID_ZONE, LEAP_SECONDS,
-    MISSING_LOCAL_TYPE, MISSING_NEWLINE, NOT_A_ZONE_FILE, OVERLAPPING_CHANGES,
-    RULE_MONTHS_TOO_CLOSE, TRAILING_BYTES, UNEXPECTED_END, UNSUPPORTED_VERSION,
+    MISSING_LOCAL_TYPE, MISSING_NEWLINE, NOT_A_ZONE_FILE, OK, OVERLAPPING_CHANGES,
+    MONTHS_TOO_CLOSE, TRAILING_BYTES, UNEXPECTED_END, UNSUPPORTED_VERSION,
 };
 use crate::zones::results::ZoneResult;
 use crate::zones::zone_parts::ZoneParts;
@@ -53,14 +53,14 @@ fn zone_status(kind: ZoneErrorKind) -> i32
         ZoneErrorKind::PosixOffset => INVALID_POSIX_OFFSET,
         ZoneErrorKind::Day => INVALID_RULE_DAY,
         ZoneErrorKind::Time => INVALID_RULE_TIME,
-        ZoneErrorKind::Months => RULE_MONTHS_TOO_CLOSE,
+        ZoneErrorKind::Months => MONTHS_TOO_CLOSE,
         ZoneErrorKind::Trailing => TRAILING_BYTES,
     }
 }
 
 /// Returns the status and the position of an error.
 fn fault(error: ZoneError) -> ZoneResult
-    ensures { result ≡ record { status = zone_status error.kind; position = error.position } }
+    ensures { result ≡ zone_error error }
 {
     ZoneResult {
         status: zone_status(error.kind),
@@ -73,19 +73,18 @@ pub(crate) fn zone_of<'a>(parts: &ZoneParts<'a>) -> Result<Zone<'a>, ZoneResult>
     ensures value { IfOk result (IsZoneOf parts.now) }
     ensures error { IfErr result (IsZoneError parts.now) }
 {
-    let parsed = match parts.form {
-        FILE => parse(parts.bytes),
-        POSIX => parse_posix(parts.bytes),
-        _ => {
-            return Err(ZoneResult {
-                status: INVALID_ZONE,
-                position: usize::MAX,
-            });
+    if parts.form == FILE {
+        match parse(parts.bytes) {
+            Ok(zone) => Ok(zone),
+            Err(error) => Err(fault(error)),
         }
-    };
-    match parsed {
-        Ok(zone) => Ok(zone),
-        Err(error) => Err(fault(error)),
+    } else if parts.form == POSIX {
+        match parse_posix(parts.bytes) {
+            Ok(zone) => Ok(zone),
+            Err(error) => Err(fault(error)),
+        }
+    } else {
+        Err(ZoneResult::of_status(INVALID_ZONE))
     }
 }
 
@@ -95,7 +94,7 @@ pub extern "C" fn fots_zone_check(zone: &ZoneParts<'_>) -> ZoneResult
     ensures { IsZoneResult zone.now result }
 {
     match zone_of(zone) {
-        Ok(_) => ZoneResult::ok(),
+        Ok(_) => ZoneResult::of_status(OK),
         Err(fault) => fault,
     }
 }

@@ -1,10 +1,12 @@
 //! What a reading in a gap or a fold means.
-ghost use Rattle.std.specs.Prelude.{◌≡◌, IfErr, IfOk, MatchOption};
-ghost use Rattle.cal_c.specs.Zones.{policy_number, IsChosen, IsChosenInstant, IsPolicy};
+ghost use Rattle.std.specs.Prelude.{◌≡◌, MatchOption, Option};
+ghost use Rattle.cal_datetime.specs.OffsetDateTime.{LocalAndOffset};
+ghost use Rattle.cal_c.specs.Zones.{missing_status, moment_or_error, policy_number, rejected_status, IsByPolicy, IsPolicy};
 
+use crate::results::MomentResult;
 use crate::status::{REPEATED_TIME, RESULT_OUT_OF_RANGE, SKIPPED_TIME};
 use cal_datetime::OffsetDateTime;
-use cal_zone::{Instants, Local};
+use cal_zone::Local;
 
 /// A policy of Temporal.
 #[derive(Clone, Copy)]
@@ -13,6 +15,17 @@ pub enum Policy {
     Earlier,
     Later,
     Reject,
+}
+
+/// Returns the status of a reading that clocks don't show exactly once.
+fn rejected_status(local: &Local) -> i32
+    ensures { result ≡ rejected_status local.now }
+{
+    match local {
+        Local::Single(_) => RESULT_OUT_OF_RANGE,
+        Local::Gap(_) => SKIPPED_TIME,
+        Local::Fold { .. } => REPEATED_TIME,
+    }
 }
 
 impl Policy {
@@ -30,46 +43,37 @@ impl Policy {
         }
     }
 
-    /// Returns the date-time of a reading, or a status.
-    pub fn choose(self, local: Local) -> Result<OffsetDateTime, i32>
-        ensures { IsChosen self local result }
+    /// Returns the date-time of a reading, or `None`.
+    fn chosen(self, local: Local) -> Option<OffsetDateTime>
+        ensures { IsByPolicy self local result }
     {
-        let chosen = match self {
+        match self {
             Policy::Compatible => local.compatible(),
             Policy::Earlier => local.earlier(),
             Policy::Later => local.later(),
             Policy::Reject => local.reject(),
-        };
-        match chosen {
-            Some(moment) => Ok(moment),
-            None => Err(self.status_without(local)),
         }
     }
 
     /// Returns the status of a reading without a date-time.
-    fn status_without(self, local: Local) -> i32
-        ensures { result ≡ status_without self local }
+    fn missing_status(self, local: &Local) -> i32
+        ensures { result ≡ missing_status self local.now }
     {
-        match (self, local) {
-            (Policy::Reject, Local::Gap(_)) => SKIPPED_TIME,
-            (Policy::Reject, Local::Fold { .. }) => REPEATED_TIME,
-            _ => RESULT_OUT_OF_RANGE,
+        match self {
+            Policy::Reject => rejected_status(local),
+            Policy::Compatible | Policy::Earlier | Policy::Later => RESULT_OUT_OF_RANGE,
         }
     }
 
-    /// Returns the instant of a reading, as a Unix time, or a status.
-    pub fn choose_instant(self, reading: i64, instants: Instants) -> Result<i64, i32>
-        requires { IsInstantsOf reading instants }
-        ensures { IsChosenInstant self reading instants result }
+    /// Returns the result of a reading.
+    pub fn moment(self, local: Local) -> MomentResult
+        ensures { (m : Option LocalAndOffset) × IsByPolicy self local m
+            × (result ≡ moment_or_error (missing_status self local) m) }
     {
-        match (self, instants) {
-            (_, Instants::Single(instant)) => Ok(instant),
-            (Policy::Reject, Instants::Gap { .. }) => Err(SKIPPED_TIME),
-            (Policy::Reject, Instants::Fold { .. }) => Err(REPEATED_TIME),
-            (Policy::Earlier, Instants::Gap { after, .. }) => Ok(reading - i64::from(after)),
-            (_, Instants::Gap { before, .. }) => Ok(reading - i64::from(before)),
-            (Policy::Later, Instants::Fold { later, .. }) => Ok(later),
-            (_, Instants::Fold { earlier, .. }) => Ok(earlier),
+        let missing = self.missing_status(&local);
+        match self.chosen(local) {
+            Some(moment) => MomentResult::ok(moment),
+            None => MomentResult::error(missing),
         }
     }
 }

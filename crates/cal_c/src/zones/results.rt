@@ -1,10 +1,12 @@
 //! Results of the calls for zones.
-ghost use Rattle.std.specs.Prelude.{◌≡◌};
-ghost use Rattle.cal_c.specs.Zones.{gap_ok, local_error, local_ok, local_type_error, moments_ok, zone_ok};
+ghost use Rattle.std.specs.Prelude.{◌≡◌, ◌-ℤ◌};
+ghost use Rattle.cal_zone.specs.Timeline.{IsMoment};
+ghost use Rattle.cal_c.specs.Zones.{gap_ok, local_error, local_ok, local_type_error, local_type_ok, moments_ok, zone_result};
 
 use crate::status::OK;
-use cal_datetime::{OffsetDateTime, PlainDateTime};
-use cal_zone::{Gap, Local};
+use cal_datetime::OffsetDateTime;
+use cal_time::UtcOffset;
+use cal_zone::{Gap, Local, LocalType};
 
 /// The first error of the bytes of a zone, if there is one.
 #[repr(C)]
@@ -42,17 +44,31 @@ pub struct LocalResult {
 }
 
 impl ZoneResult {
-    pub(super) fn ok() -> Self
-        ensures { result ≡ zone_ok }
+    /// Returns the result with a status, without a position.
+    pub(super) fn of_status(status: i32) -> Self
+        ensures { result ≡ zone_result status }
     {
         ZoneResult {
-            status: OK,
+            status,
             position: usize::MAX,
         }
     }
 }
 
 impl LocalTypeResult {
+    /// Returns the result of a local time type, whose abbreviation is in the bytes of a zone.
+    pub(super) fn ok(kind: LocalType, bytes: &[u8]) -> Self
+        ensures { result ≡ local_type_ok bytes.now kind }
+    {
+        LocalTypeResult {
+            status: OK,
+            offset: kind.offset,
+            is_daylight: u32::from(kind.is_daylight),
+            abbreviation: kind.name_start,
+            abbreviation_length: kind.abbreviation(bytes).len(),
+        }
+    }
+
     pub(super) fn error(status: i32) -> Self
         ensures { result ≡ local_type_error status }
     {
@@ -66,21 +82,28 @@ impl LocalTypeResult {
     }
 }
 
+/// Returns the Unix time at which clocks at an offset show a reading.
+fn unix_time(seconds: i64, offset: UtcOffset) -> i64
+    requires { IsMoment seconds }
+    ensures { result ≡ seconds -ℤ offset }
+{
+    seconds - i64::from(offset.whole_seconds())
+}
+
 impl LocalResult {
-    /// Returns the result of a reading in a gap. The earlier instant is as much before the change
-    /// as the reading is before the end of the gap.
-    fn gap(reading: PlainDateTime, gap: Gap) -> Self
-        ensures { result ≡ gap_ok reading gap }
+    /// Returns the result of a reading in a gap, by the seconds to the reading since 1970-01-01 0:00
+    /// by the clock.
+    fn gap(seconds: i64, gap: &Gap) -> Self
+        requires { IsMoment seconds }
+        ensures { result ≡ gap_ok seconds gap.now }
     {
-        let before = gap.offset_before();
-        let after = gap.offset_after();
         LocalResult {
             status: OK,
             kind: 2,
-            earlier: reading.assume_offset(after).unix_timestamp(),
-            later: reading.assume_offset(before).unix_timestamp(),
-            earlier_offset: before.whole_seconds(),
-            later_offset: after.whole_seconds(),
+            earlier: unix_time(seconds, gap.offset_after()),
+            later: unix_time(seconds, gap.offset_before()),
+            earlier_offset: gap.offset_before().whole_seconds(),
+            later_offset: gap.offset_after().whole_seconds(),
         }
     }
 
@@ -99,12 +122,13 @@ impl LocalResult {
     }
 
     /// Returns the result of a reading.
-    pub(super) fn ok(reading: PlainDateTime, local: Local) -> Self
-        ensures { result ≡ local_ok reading local }
+    pub(super) fn ok(seconds: i64, local: Local) -> Self
+        requires { IsMoment seconds }
+        ensures { result ≡ local_ok seconds local }
     {
         match local {
             Local::Single(moment) => LocalResult::moments(1, moment, moment),
-            Local::Gap(gap) => LocalResult::gap(reading, gap),
+            Local::Gap(gap) => LocalResult::gap(seconds, &gap),
             Local::Fold { earlier, later } => LocalResult::moments(3, earlier, later),
         }
     }
