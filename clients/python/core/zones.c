@@ -54,10 +54,10 @@ static PyObject *core_zone_local_type(PyObject *self, PyObject *const *given, Py
     }
     result = fots_zone_local_type(&zone, seconds);
     return result.status ? raise_status(state, result.status) :
-        Py_BuildValue("NNs#", new_offset(state, result.offset),
+        Py_BuildValue("NNN", new_offset(state, result.offset),
             PyBool_FromLong((long)result.is_daylight),
-            (const char *)zone.bytes + result.abbreviation,
-            (Py_ssize_t)result.abbreviation_length);
+            PyUnicode_FromStringAndSize((const char *)zone.bytes + result.abbreviation,
+                (Py_ssize_t)result.abbreviation_length));
 }
 
 /* Returns a Unix time, or None if there is none. */
