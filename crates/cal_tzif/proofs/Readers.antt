@@ -1,6 +1,5 @@
 -- Digits and names, one byte after another.
-use Rattle.std.proofs.Common.{◌≡◌, ℕ, zero, suc, ◌+◌, ◌-◌, ◌*◌, ◌<◌, ◌≤◌, List, refl, ap, ◌∙◌, arith, ◌==◌, pos, Bool, true, false}
-use Rattle.std.proofs.lemmas.Bool.Decides.{nat_tests}
+use Rattle.std.proofs.Common.{◌≡◌, ℕ, zero, suc, ◌+◌, ◌-◌, ◌*◌, ◌<◌, List, refl, arith, Bool, true, false}
 use Rattle.cal_tzif.specs.Bytes.{byte}
 use Rattle.cal_tzif.specs.Posix.{is_digit, digits, is_name_byte, run_end}
 

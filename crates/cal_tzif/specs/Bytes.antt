@@ -1,9 +1,14 @@
 -- The bytes of a file.
 use Rattle.std.specs.Prelude.{◌≡◌, ℕ, ◌+◌, List, get_or, slice_index}
+use Rattle.cal_zone.specs.Bytes.{big_endian}
 
 -- The byte at a position, or 0 after the end.
 abbrev pub byte : List ℕ → ℕ → ℕ
 byte bytes at = get_or bytes at 0
+
+-- The number of the four bytes at a position.
+unfoldable pub count_at : List ℕ → ℕ → ℕ
+count_at bytes at = big_endian bytes at 4
 
 -- A header begins at a position.
 abbrev pub IsMagic : List ℕ → ℕ → Type 0

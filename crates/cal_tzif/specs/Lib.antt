@@ -2,4 +2,5 @@ pub mod Bytes
 pub mod Posix
 pub mod PosixError
 pub mod Header
+pub mod Types
 pub mod File

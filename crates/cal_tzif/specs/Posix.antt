@@ -211,7 +211,7 @@ pub record IsRule (text : List ℕ) (at : ℕ) (before : LocalType) (rule : Rule
 -- What the text says from a position to its end.
 abbrev pub IsRest : List ℕ → ℕ → LocalType → Option Rule → Type 0
 IsRest text at before None = at ≡ length text
-IsRest text at before (Some rule) = IsRule text at before rule
+IsRest text at before (Some rule) = (at ≢ length text) × IsRule text at before rule
 
 pub record Spells (text : List ℕ) (at : ℕ) (f : Footer) : Type 0 where
   pub has : IsStandard text at

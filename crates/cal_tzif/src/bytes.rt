@@ -1,7 +1,6 @@
 //! Bytes of a file.
 ghost use Rattle.std.specs.Prelude.{◌≡◌, ℕ, ◌+◌, ◌^◌, ◌<◌, ◌≤◌, ◌↔◌, length, IsTrue};
-ghost use Rattle.cal_zone.specs.Bytes.{big_endian};
-ghost use Rattle.cal_tzif.specs.Bytes.{byte, IsMagic};
+ghost use Rattle.cal_tzif.specs.Bytes.{byte, count_at, IsMagic};
 
 /// Returns the byte at a position, or 0 after the end.
 pub(crate) fn byte(bytes: &[u8], at: usize) -> u8
@@ -12,9 +11,10 @@ pub(crate) fn byte(bytes: &[u8], at: usize) -> u8
 }
 
 /// Returns the unsigned number of the four bytes at a position.
-pub(crate) fn number(bytes: &[u8], at: usize) -> usize
+#[tactic(auto, unfolding(crate::specs::Bytes::count_at))]
+pub(crate) fn count_at(bytes: &[u8], at: usize) -> usize
     requires { at + 4 ≤ length bytes.now }
-    ensures value { result ≡ big_endian bytes.now at 4 }
+    ensures value { result ≡ count_at bytes.now at }
     ensures bound { result < 2 ^ 32 }
 {
     let high = bytes[at] as usize * 256 + bytes[at + 1] as usize;

@@ -8,6 +8,7 @@ mod footer;
 mod header;
 mod number;
 mod posix;
+mod types;
 mod zone_error;
 
 pub use file::{parse, parse_posix};

@@ -7,3 +7,4 @@ pub mod Joins
 pub mod Rules
 pub mod Tables
 pub mod Moments
+pub mod Errors

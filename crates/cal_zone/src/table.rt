@@ -87,15 +87,16 @@ impl<'a> Model for Table<'a> {
 }
 
 impl<'a> Table<'a> {
-    ghost use Rattle.cal_zone.specs.Table.{changes_in, IsInside, HasNoType};
+    ghost use Rattle.cal_zone.specs.Table.{changes_in, IsInside, IsTable, HasNoType};
     ghost use Rattle.cal_zone.specs.Timeline.{no_change};
-    ghost use Rattle.std.specs.Prelude.{IfOk, IfErr, []};
+    ghost use Rattle.std.specs.Prelude.{IfOk, IfErr, OnOk, []};
 
     /// Creates the table of the changes of a file. Returns the position of the first index of a
     /// type that doesn't exist, if there is one.
     pub fn new(bytes: &'a [u8], layout: Layout) -> Result<Self, usize>
         requires { IsInside bytes.now layout }
         ensures value { IfOk result (λ table. table ≡ changes_in bytes.now layout) }
+        ensures typed { OnOk result (IsTable bytes.now layout) }
         ensures error { IfErr result (HasNoType bytes.now layout) }
     {
         let _ = bytes.len();

@@ -1,6 +1,6 @@
 //! Time zones.
 ghost use Rattle.std.specs.List.{slice_index_or};
-ghost use Rattle.std.specs.Prelude.{◌≡◌, ℕ, ◌+◌, ◌-◌, ◌^◌, ◌<◌, ◌≤◌, ◌↔◌, ℤ, pos, ◌+ℤ◌, ◌-ℤ◌, ◌≤ℤ◌, ◌<ℤ◌, length, slice_get, IsTrue, IfOk, IfErr, OnOk, IfSome, IfNone};
+ghost use Rattle.std.specs.Prelude.{◌≡◌, ℕ, ◌+◌, ◌-◌, ◌^◌, ◌<◌, ◌≤◌, ◌↔◌, ℤ, pos, ◌+ℤ◌, ◌-ℤ◌, ◌≤ℤ◌, ◌<ℤ◌, length, slice_get, IsTrue, IfOk, IfErr, OnOk, OnErr, IfSome, IfNone};
 ghost use Rattle.cal_zone.specs.Timeline.{Timeline, offset_at, kind_at, local_at, after_changes, at, ends, no_change, IsMoment, IsOffset, IsOrdered};
 ghost use Rattle.cal_zone.specs.Split.{IsSplit};
 ghost use Rattle.cal_zone.specs.Zone.{later};
@@ -77,6 +77,8 @@ impl<'a> Zone<'a> {
         ensures ordered { OnOk result
             (IsOrdered first.offset (zone_of first table.entry rule).changes) }
         ensures error { IfErr result (IsTimelineError first table.entry rule) }
+        ensures every { OnErr result
+            (¬ IsOrdered first.offset (zone_of first table.entry rule).changes) }
     {
         let _ = table.len();
         if let Some(error) = ChangeError::find(first, &table) {
