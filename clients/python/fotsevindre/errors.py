@@ -135,7 +135,8 @@ def status_error(status: int, position: int | None = None, part: int = 0) -> Exc
     if position is not None and 32 <= status <= 36:
         kind = tuple(ParseRuleErrorKind)[status - 32]
         return ParseRuleError(position, kind, _PARTS[part - 1] if part else None)
-    if position is not None and 49 <= status <= 63:
-        return ZoneError(position, _core.status_name(status))
+    if 49 <= status <= 63:
+        reason = _core.status_name(status)
+        return ValueError(reason) if position is None else ZoneError(position, reason)
     message = _MESSAGES.get(status, f"unknown status {status}")
     return OverflowError(message) if status in (1, 7) else ValueError(message)

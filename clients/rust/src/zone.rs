@@ -22,7 +22,7 @@ const POSIX: u32 = 2;
 /// let moment = OffsetDateTime::from_unix_timestamp(1711846800)?.in_zone(&berlin).unwrap();
 /// assert_eq!(moment.to_string(), "2024-03-31 3:00:00.0 +02:00:00");
 /// assert_eq!(berlin.kind_at(1711846800).abbreviation, "CEST");
-/// let skipped = "2024-03-31T02:30:00".parse()?;
+/// let skipped = "2024-03-31 2:30:00".parse()?;
 /// assert_eq!(berlin.resolve(skipped).reject(), None);
 /// let later = berlin.resolve(skipped).compatible().unwrap();
 /// assert_eq!(later.to_string(), "2024-03-31 3:30:00.0 +02:00:00");

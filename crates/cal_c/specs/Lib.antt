@@ -12,3 +12,4 @@ pub mod RecurrenceTexts
 pub mod Recurrences
 pub mod RecurrenceParts
 pub mod Zones
+pub mod ZoneColumns

@@ -29,6 +29,7 @@ mod months;
 mod statuses;
 mod texts;
 mod workdays;
+mod zones;
 
 use statuses::OK;
 

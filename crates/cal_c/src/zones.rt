@@ -8,5 +8,5 @@ mod offsets;
 pub mod parsing;
 pub mod policy;
 mod resolution;
-mod results;
+pub mod results;
 pub mod zone_parts;
