@@ -29,11 +29,19 @@ fn instants() {
 fn readings() {
     let berlin = Zone::parse_posix(CET).unwrap();
     let gap = berlin.resolve(reading("2024-03-31 2:30:00"));
-    assert!(matches!(gap, Local::Gap(gap) if gap.offset_before().whole_seconds() == 3600 && gap.offset_after().whole_seconds() == 7200));
-    assert_eq!((gap.compatible(), gap.earlier(), gap.later(), gap.reject()), (Some(at(1711848600)), Some(at(1711845000)), Some(at(1711848600)), None));
+    assert!(
+        matches!(gap, Local::Gap(gap) if gap.offset_before().whole_seconds() == 3600 && gap.offset_after().whole_seconds() == 7200)
+    );
+    assert_eq!(
+        (gap.compatible(), gap.earlier(), gap.later(), gap.reject()),
+        (Some(at(1711848600)), Some(at(1711845000)), Some(at(1711848600)), None)
+    );
     let fold = berlin.resolve(reading("2024-10-27 2:30:00"));
     assert_eq!(fold, Local::Fold { earlier: at(1729989000), later: at(1729992600) });
-    assert_eq!((fold.compatible(), fold.earlier(), fold.later(), fold.reject()), (Some(at(1729989000)), Some(at(1729989000)), Some(at(1729992600)), None));
+    assert_eq!(
+        (fold.compatible(), fold.earlier(), fold.later(), fold.reject()),
+        (Some(at(1729989000)), Some(at(1729989000)), Some(at(1729992600)), None)
+    );
     let once = berlin.resolve(reading("2024-07-01 2:30:00"));
     assert_eq!((once, once.reject()), (Local::Single(at(1719793800)), Some(at(1719793800))));
 }

@@ -54,6 +54,9 @@ pub extern "C" fn fots_moment_in_zone(moment: Moment, zone: &ZoneParts<'_>) -> M
 fn moment_in_zone(moment: OffsetDateTime, zone: &Zone<'_>) -> MomentResult
     ensures { IsMomentInZone zone.now moment result }
 {
-    let moved = or_return!(in_zone(moment, zone), MomentResult::error(RESULT_OUT_OF_RANGE));
+    let moved = or_return!(
+        in_zone(moment, zone),
+        MomentResult::error(RESULT_OUT_OF_RANGE)
+    );
     MomentResult::ok(moved)
 }

@@ -14,8 +14,8 @@ loop-row-preserved c =
     let value = simp to_z-of_z at c.row_of_offset.ensures.value in
     let error = simp to_z-of_z at c.row_of_offset.ensures.error in
     let here : IsOffsetAt c.args.zone.now (get_or c.args.seconds.now c.loop-row.row (pos 0)) (offset_row c.row_of_offset.result.0 c.row_of_offset.result.1) =
-        for_zone c.args.zone.now c.zone_of-zone.result
-        (λ z. offset_row c.row_of_offset.result.0 c.row_of_offset.result.1 ≡ offset_ok (offset_at z (get_or c.args.seconds.now c.loop-row.row (pos 0))))
-        (λ s. offset_row c.row_of_offset.result.0 c.row_of_offset.result.1 ≡ offset_error s)
-        c.zone_of-zone.ensures.value c.zone_of-zone.ensures.error value error in
+    for_zone c.args.zone.now c.zone_of-zone.result
+    (λ z. offset_row c.row_of_offset.result.0 c.row_of_offset.result.1 ≡ offset_ok (offset_at z (get_or c.args.seconds.now c.loop-row.row (pos 0))))
+    (λ s. offset_row c.row_of_offset.result.0 c.row_of_offset.result.1 ≡ offset_error s)
+    c.zone_of-zone.ensures.value c.zone_of-zone.ensures.error value error in
     rows_two (λ k offset status. IsOffsetAt c.args.zone.now (get_or c.args.seconds.now k (pos 0)) (offset_row offset status)) c.loop-row.offsets c.loop-row.statuses c.loop-row.row (to_z w32 (of_z w32 c.row_of_offset.result.0)) (pos 0) c.row_of_offset.result.1 0 (omega arith) (omega arith) c.loop-row.invariant (simp to_z-of_z here)
