@@ -1,5 +1,5 @@
 -- The result of parsing a zone, and what a call makes of it.
-use Rattle.std.specs.Prelude.{◌≡◌, ℤ, pos, ◌≤ℤ◌, IfErr, IfOk, Result, Ok, Err}
+use Rattle.std.specs.Prelude.{◌≡◌, ℕ, ℤ, pos, ◌≤ℤ◌, IfErr, IfOk, MatchOption, Option, Some, None, Result, Ok, Err}
 use Rattle.std.proofs.Common.{sym, subst, arith}
 use Rattle.std.proofs.lemmas.Int.{ints}
 use Rattle.cal_zone.specs.Timeline.{Timeline}
@@ -9,7 +9,10 @@ use Rattle.cal_zone.specs.declared.timeline_error.TimelineError.TheVariants as t
 use Rattle.cal_tzif.specs.declared.zone_error.ZoneErrorKind.{ZoneErrorKind}
 use Rattle.cal_tzif.specs.declared.zone_error.ZoneErrorKind.TheVariants as kinds
 use Rattle.cal_c.specs.Columns.{IsByte}
-use Rattle.cal_c.specs.Zones.{timeline_status, zone_status, IsForZone, IsZoneError, IsZoneOf}
+use Rattle.cal_c.proofs.Needs.{met}
+use Rattle.cal_c.specs.Values.{need◌else◌then◌}
+use Rattle.cal_c.specs.Zones.{policy_number, timeline_status, zone_status, IsForZone, IsPolicy, IsZoneError, IsZoneOf}
+use Rattle.cal_c.specs.declared.zones.policy.Policy.{Policy}
 use Rattle.cal_c.specs.Zones.IsForZone.{zone, error}
 use Rattle.cal_c.specs.Zones.IsZoneError.{form, file, text}
 use Rattle.cal_c.specs.declared.zones.results.ZoneResult.{ZoneResult}
@@ -53,3 +56,15 @@ pub for_zone : (p : ZoneParts) (r : Result Timeline ZoneResult) (Then : Timeline
     → IfOk r (IsZoneOf p) → IfErr r (IsZoneError p) → IfOk r Then → IfErr r (λ (e : ZoneResult). IsByte e.status → Else e.status) → IsForZone p Then Else
 for_zone p (Ok z) Then Else is why found lost = zone z is found
 for_zone p (Err e) Then Else is why found lost = error e why (lost (error_byte p e why))
+
+-- A property of each value, if another one has it.
+pub ok_by : {V E : Type 0} (P Q : V → Type 0) (r : Result V E) → ((v : V) → P v → Q v) → IfOk r P → IfOk r Q
+ok_by P Q (Ok v) by is = by v is
+ok_by P Q (Err e) by is = tt
+
+-- A result for each policy, and one for a number that is not a policy.
+pub for_policy : (k : ℕ) (o : Option Policy) (Bad : Type 0) (Then : Policy → Type 0)
+    → MatchOption o (IsPolicy k → ⊥) (λ (q : Policy). IsPolicy k × (policy_number q ≡ k)) → MatchOption o Bad Then
+    → need IsPolicy k else Bad then ((q : Policy) × (policy_number q ≡ k) × Then q)
+for_policy k None Bad Then never bad = record { error = λ out. bad; value = λ is. absurd (never is) }
+for_policy k (Some q) Bad Then is found = met is.0 (q, is.1, found)

@@ -22,8 +22,8 @@ abbrev pub int64_row : ℤ → ℕ → Int64Result
 int64_row number status = record { status = pos status; number = number }
 
 -- The result of `fots_zone_offset`.
-abbrev pub IsOffsetAt : ZoneParts → ℤ → OffsetResult → Type 0
-IsOffsetAt p seconds r = IsForZone p (λ z. r ≡ offset_ok (offset_at z seconds)) (λ s. r ≡ offset_error s)
+pub record IsOffsetAt (p : ZoneParts) (seconds : ℤ) (r : OffsetResult) : Type 0 where
+  pub answer : IsForZone p (λ z. r ≡ offset_ok (offset_at z seconds)) (λ s. r ≡ offset_error s)
 
 -- The instant of a reading by a policy, if these instants show it.
 abbrev pub gap_instant : Policy → ℤ → ℤ → ℤ → Int64Result
@@ -61,9 +61,9 @@ IsInstantByPolicy z reading policy r =
     need IsMoment reading else r ≡ int64_error result_out_of_range then
     ((instants : Instants) × AreInstantsOf z reading instants × (r ≡ instant_by policy reading instants))
 
-abbrev pub IsInstantOfReading : ZoneParts → ℤ → ℕ → Int64Result → Type 0
-IsInstantOfReading p reading policy r =
-    IsForZone p
-    (λ z. need IsPolicy policy else r ≡ int64_error invalid_policy then
-    ((q : Policy) × (policy_number q ≡ policy) × IsInstantByPolicy z reading q r))
-    (λ s. r ≡ int64_error s)
+-- The same for a number of a policy, and for bytes that may not be a zone.
+pub record IsInstantOfReading (p : ZoneParts) (reading : ℤ) (policy : ℕ) (r : Int64Result) : Type 0 where
+  pub answer : IsForZone p
+      (λ z. need IsPolicy policy else r ≡ int64_error invalid_policy then
+      ((q : Policy) × (policy_number q ≡ policy) × IsInstantByPolicy z reading q r))
+      (λ s. r ≡ int64_error s)

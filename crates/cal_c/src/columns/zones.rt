@@ -1,6 +1,6 @@
 //! Columns of Unix times and of readings in one zone.
-ghost use Rattle.std.specs.Prelude.{◌≡◌, IfErr, IfOk, MatchOption, length, ◌∷◌, []};
-ghost use Rattle.cal_zone.specs.Timeline.{offset_at, IsMoment};
+ghost use Rattle.std.specs.Prelude.{◌≡◌, ◌-ℤ◌, IfErr, IfOk, MatchOption, length, ◌∷◌, []};
+ghost use Rattle.cal_zone.specs.Timeline.{offset_at, IsMoment, IsOffset};
 ghost use Rattle.cal_c.specs.Columns.{int_at, nat_at, SameLength, AreRows, IsByte};
 ghost use Rattle.cal_c.specs.Results.{int64_error, offset_error, offset_ok};
 ghost use Rattle.cal_c.specs.Statuses.{invalid_policy};
@@ -30,8 +30,8 @@ pub extern "C" fn fots_zone_offsets(
         AreRows statuses.new result (λ k. IsOffsetAt zone.now (int_at seconds.now k)
         (offset_row (int_at offsets.new k) (nat_at statuses.new k))) }
 {
-    let zone = zone_of(zone);
-    write_rows!(row_of_offset(seconds; &zone) => offsets; statuses)
+    let parsed = zone_of(zone);
+    write_rows!(row_of_offset(seconds; &parsed) => offsets; statuses)
 }
 
 /// Writes the Unix times at which clocks show readings, by a policy like `fots_zone_moment`. A
@@ -103,6 +103,15 @@ fn instant_by_policy(reading: i64, zone: &Zone<'_>, policy: Policy) -> (i64, u8)
     choose(reading, zone.instants_of(reading), policy)
 }
 
+/// Returns the Unix time of a reading at an offset.
+fn at_offset(reading: i64, offset: i32) -> i64
+    requires reading { IsMoment reading }
+    requires offset { IsOffset offset }
+    ensures { result ≡ reading -ℤ offset }
+{
+    reading - i64::from(offset)
+}
+
 /// Returns the row of a reading whose instants are known.
 fn choose(reading: i64, instants: Instants, policy: Policy) -> (i64, u8)
     requires reading { IsMoment reading }
@@ -112,12 +121,14 @@ fn choose(reading: i64, instants: Instants, policy: Policy) -> (i64, u8)
     match instants {
         Instants::Single(instant) => (instant, OK),
         Instants::Gap { before, after, .. } => match policy {
-            Policy::Earlier => (reading - i64::from(after), OK),
-            Policy::Compatible | Policy::Later => (reading - i64::from(before), OK),
+            Policy::Compatible => (at_offset(reading, before), OK),
+            Policy::Earlier => (at_offset(reading, after), OK),
+            Policy::Later => (at_offset(reading, before), OK),
             Policy::Reject => (i64::MIN, SKIPPED_TIME),
         },
         Instants::Fold { earlier, later } => match policy {
-            Policy::Compatible | Policy::Earlier => (earlier, OK),
+            Policy::Compatible => (earlier, OK),
+            Policy::Earlier => (earlier, OK),
             Policy::Later => (later, OK),
             Policy::Reject => (i64::MIN, REPEATED_TIME),
         },
