@@ -89,9 +89,11 @@ def _column(values: Any, code: str, of_dates: bool) -> Any:
     return array.array(code, view.tolist())
 
 
-def as_column(values: Any, code: str) -> Any:
-    """Returns the numbers of a column in the bits of a code, without dates."""
-    return _column(values, code, False)
+def numbers_of(values: Any, code: str) -> tuple[Any, Callable[[Any], Any]]:
+    """Returns the numbers of a column in the bits of a code, and what makes another column like
+    it."""
+    like = _Like({"numbers": values})
+    return _column(values, code, False), lambda column: like.made("numbers", column)
 
 
 def _is_scalar(values: Any) -> bool:

@@ -13,7 +13,7 @@ from typing import Any, NamedTuple, SupportsIndex
 
 from . import _core
 from ._core import OffsetDateTime, PlainDateTime, UtcOffset
-from .columns import as_column
+from .columns import numbers_of
 from .errors import ParseError, ZoneError, check
 
 _FILE, _POSIX = 1, 2
@@ -194,21 +194,19 @@ class Zone:
 
     def offsets(self, seconds: Any) -> OffsetColumns:
         """Returns the offsets at a column of Unix times."""
-        column = as_column(seconds, "q")
-        offsets = array.array("i", [0]) * len(column)
-        statuses = array.array("B", [0]) * len(column)
-        count = _core.zone_columns(self._zone, None, column, offsets, statuses)
-        return OffsetColumns(offsets, statuses, count)
+        return OffsetColumns(*self._rows(None, seconds, "i"))
 
     def instants(self, readings: Any, policy: Policy = Policy.Compatible) -> InstantColumns:
         """Returns the Unix times of a column of readings, which are the seconds by the clock since
         1970-01-01 0:00, by a policy."""
-        column = as_column(readings, "q")
-        seconds = array.array("q", [0]) * len(column)
+        return InstantColumns(*self._rows(int(check(policy, Policy)), readings, "q"))
+
+    def _rows(self, policy: int | None, values: Any, code: str) -> tuple[Any, Any, int]:
+        column, like = numbers_of(values, "q")
+        results = array.array(code, [0]) * len(column)
         statuses = array.array("B", [0]) * len(column)
-        number = int(check(policy, Policy))
-        count = _core.zone_columns(self._zone, number, column, seconds, statuses)
-        return InstantColumns(seconds, statuses, count)
+        error_count = _core.zone_columns(self._zone, policy, column, results, statuses)
+        return like(results), like(statuses), error_count
 
     def __eq__(self, other: object) -> bool:
         if not isinstance(other, Zone):

@@ -250,6 +250,8 @@ pub(crate) fn row_error_of_status(status: Status) -> Option<RowError> {
         INVALID_BOUNDS => Some(RowError::InvalidBounds),
         UNEXPECTED_BYTE => Some(RowError::UnexpectedByte),
         UNEXPECTED_END => Some(RowError::UnexpectedEnd),
+        SKIPPED_TIME => Some(RowError::SkippedTime),
+        REPEATED_TIME => Some(RowError::RepeatedTime),
         status => Some(RowError::OutOfRange(ComponentRange::from_status(status))),
     }
 }

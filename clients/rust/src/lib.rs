@@ -45,7 +45,7 @@ mod zone;
 
 pub use date::Date;
 pub use duration::{Duration, SignedDuration};
-pub use local::{Gap, Local};
+pub use local::{Gap, Local, Policy};
 pub use month::Month;
 pub use offset_date_time::OffsetDateTime;
 pub use pair::{add_to_pair, sub_from_pair};

@@ -18,6 +18,19 @@ pub enum Local {
     },
 }
 
+/// What a reading in a gap or a fold means, with the names of Temporal.
+#[derive(Clone, Copy, Debug, PartialEq, Eq)]
+pub enum Policy {
+    /// `Later` in a gap, and `Earlier` in a fold.
+    Compatible = 0,
+    /// In a gap the reading moved back by its length, in a fold the first date-time.
+    Earlier = 1,
+    /// In a gap the reading moved forward by its length, in a fold the second date-time.
+    Later = 2,
+    /// Nothing.
+    Reject = 3,
+}
+
 /// A reading that the clocks of a zone skip: they go forward over it, from one offset to another.
 #[derive(Clone, Copy, Debug, PartialEq, Eq)]
 pub struct Gap {

@@ -1,6 +1,7 @@
 //! Time zones: rows of GNU date, the policies, and errors.
 
-use fotsevindre::{Local, OffsetDateTime, PlainDateTime, Zone};
+use fotsevindre::columns::{row_error, zone_instants, zone_offsets, RowError};
+use fotsevindre::{Local, OffsetDateTime, PlainDateTime, Policy, Zone};
 
 const CET: &str = "CET-1CEST,M3.5.0,M10.5.0/3";
 
@@ -44,6 +45,25 @@ fn readings() {
     );
     let once = berlin.resolve(reading("2024-07-01 2:30:00"));
     assert_eq!((once, once.reject()), (Local::Single(at(1719793800)), Some(at(1719793800))));
+}
+
+#[test]
+fn columns() {
+    let berlin = Zone::parse_posix(CET).unwrap();
+    let (mut offsets, mut statuses) = ([0; 2], [9; 2]);
+    assert_eq!(zone_offsets(&berlin, &[1711846799, 1711846800], &mut offsets, &mut statuses), 0);
+    assert_eq!((offsets, statuses), ([3600, 7200], [0, 0]));
+    let (mut seconds, mut statuses) = ([0; 3], [9; 3]);
+    for (policy, wanted, errors) in [
+        (Policy::Compatible, [1711848600, 1729989000, 1699996400], 0),
+        (Policy::Earlier, [1711845000, 1729989000, 1699996400], 0),
+        (Policy::Later, [1711848600, 1729992600, 1699996400], 0),
+        (Policy::Reject, [i64::MIN, i64::MIN, 1699996400], 2),
+    ] {
+        assert_eq!(zone_instants(&berlin, &[1711852200, 1729996200, 1700000000], policy, &mut seconds, &mut statuses), errors);
+        assert_eq!(seconds, wanted);
+    }
+    assert_eq!(statuses.map(row_error), [Some(RowError::SkippedTime), Some(RowError::RepeatedTime), None]);
 }
 
 #[test]

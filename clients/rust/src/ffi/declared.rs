@@ -16,6 +16,8 @@ pub(crate) const DUPLICATE_PART: Status = 33;
 pub(crate) const TOO_MANY_VALUES: Status = 34;
 pub(crate) const INVALID_VALUE: Status = 35;
 pub(crate) const MISSING_FREQUENCY: Status = 36;
+pub(crate) const SKIPPED_TIME: Status = 47;
+pub(crate) const REPEATED_TIME: Status = 48;
 pub(crate) const DAY_OUT_OF_RANGE: Status = 64;
 
 /// Returns the name of the component that is out of range.
@@ -312,4 +314,6 @@ calls! {
     fots_zone_previous_change(zone: CZonePointer, seconds: i64) -> Int64Result;
     fots_moment_in_zone(moment: CMoment, zone: CZonePointer) -> MomentResult;
     fots_zone_resolve(zone: CZonePointer, date: i32, time: u64) -> LocalResult;
+    fots_zone_offsets(zone: CZonePointer, seconds: &[i64], offsets: &mut [i32], statuses: &mut [u8]) -> usize;
+    fots_zone_instants(zone: CZonePointer, readings: &[i64], policy: u32, seconds: &mut [i64], statuses: &mut [u8]) -> usize;
 }
