@@ -123,7 +123,7 @@ class Zone:
     environment variable TZDIR or of /usr/share/zoneinfo. `LookupError` if there is none, and
     `ZoneError` if it isn't a valid one. An instant is an `OffsetDateTime` or Unix seconds.
 
-    >>> berlin = Zone("Europe/Berlin")
+    >>> berlin = Zone.from_posix("CET-1CEST,M3.5.0,M10.5.0/3")
     >>> OffsetDateTime.from_unix_timestamp(1711846800).in_zone(berlin)
     2024-03-31 3:00:00.0 +02:00:00
     >>> berlin.resolve(PlainDateTime.parse("2024-03-31T02:30:00")).compatible()

@@ -2,6 +2,7 @@
 
 import copy
 import datetime
+import doctest
 import itertools
 import os
 import pathlib
@@ -11,7 +12,7 @@ import struct
 import unittest
 import zoneinfo
 
-from fotsevindre import Local, LocalKind, OffsetDateTime, PlainDateTime, Policy, Zone, ZoneError
+from fotsevindre import LocalKind, OffsetDateTime, PlainDateTime, Policy, Zone, ZoneError
 
 FOLDER = pathlib.Path(os.environ.get("TZDIR", "/usr/share/zoneinfo"))
 EPOCH = datetime.datetime(1970, 1, 1)
@@ -202,6 +203,11 @@ class AgainstZoneinfo(unittest.TestCase):
                 seen.add(data)
                 self.check_file(key, data, draw)
         self.assertGreater(len(seen), 200)
+
+
+def load_tests(loader, tests, _pattern):
+    tests.addTests(doctest.DocFileSuite("../../../docs/ZONES.md", encoding="utf-8"))
+    return tests
 
 
 if __name__ == "__main__":
