@@ -1,9 +1,14 @@
-/* Checks time zones: rows of GNU date, invalid arguments, and hostile bytes of a file, if there is
- * one with the name in the first argument. */
+/* Checks time zones: rows of GNU date, invalid arguments, and for a file, if there is one with the
+ * name in the first argument, hostile bytes and drawn instants against localtime_r. */
+#define _DEFAULT_SOURCE
+#include <stdlib.h>
 #include <string.h>
+#include <time.h>
 
 #include "fotsevindre.h"
 #include "testing.h"
+
+#define DRAWN 100000
 
 static const char CET[] = "CET-1CEST,M3.5.0,M10.5.0/3";
 
@@ -109,17 +114,24 @@ static void is_sound(const uint8_t *bytes, size_t length)
     }
 }
 
-/* Cuts the bytes at each place, and changes each byte. */
-static void hostile(const char *name)
+static uint8_t bytes[1 << 16];
+
+/* Returns the length of a file, or 0 without one. */
+static size_t read_file(const char *name)
 {
-    static uint8_t bytes[1 << 16];
     FILE *file = fopen(name, "rb");
     const size_t length = file ? fread(bytes, 1, sizeof bytes, file) : 0;
-    size_t index;
-    int other;
     if (file) {
         fclose(file);
     }
+    return length;
+}
+
+/* Cuts the bytes at each place, and changes each byte. */
+static void hostile(size_t length)
+{
+    size_t index;
+    int other;
     for (index = 0; index < length; index++) {
         is_sound(bytes, index);
     }
@@ -133,13 +145,39 @@ static void hostile(const char *name)
     }
 }
 
+/* Compares instants of the years 1834 to 2310 with the C library. */
+static void against_localtime(const char *name, size_t length)
+{
+    const fots_zone zone = fots_zone_from_file(bytes, length);
+    uint64_t state = 88172645463325252ULL;
+    int drawn;
+    setenv("TZ", name, 1);
+    tzset();
+    for (drawn = 0; drawn < DRAWN && length; drawn++) {
+        struct tm shown;
+        time_t seconds;
+        state ^= state << 13;
+        state ^= state >> 7;
+        state ^= state << 17;
+        seconds = (time_t)(state % 15000000000ULL) - 4280000000LL;
+        if (check(localtime_r(&seconds, &shown) != NULL, "localtime_r", seconds, 0)) {
+            const fots_local_type_result found = fots_zone_local_type(&zone, seconds);
+            check(found.offset.seconds == shown.tm_gmtoff && (int)found.is_daylight == shown.tm_isdst, "an offset", seconds, shown.tm_gmtoff);
+            check(strlen(shown.tm_zone) == found.abbreviation_length && !memcmp(shown.tm_zone, bytes + found.abbreviation, found.abbreviation_length),
+                "an abbreviation", seconds, 0);
+        }
+    }
+}
+
 int main(int count, char **arguments)
 {
     instants();
     readings();
     errors();
     if (count > 1) {
-        hostile(arguments[1]);
+        const size_t length = read_file(arguments[1]);
+        hostile(length);
+        against_localtime(arguments[1], length);
     }
     return ended("zones");
 }

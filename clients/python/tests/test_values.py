@@ -1008,7 +1008,7 @@ class Statuses(Cases):
         header = (pathlib.Path(__file__).resolve().parents[3] / "include/fotsevindre.h").read_text(encoding="utf-8")
         names = dict(re.findall(r"    FOTS_(\w+) = (\d+)", header.split("enum fots_status {")[1].split("};")[0]))
         texts = [messages[int(number)] for name, number in names.items() if number != "0"]
-        self.assertEqual((len(texts), len(set(texts))), (40, 40))
+        self.assertEqual((len(texts), len(set(texts))), (59, 59))
         self.assertTrue(all(len(text.split()) >= 4 for text in texts), texts)
 
 
