@@ -1,5 +1,5 @@
-/* Dates, times of day, offsets from UTC, durations, moments, months, weekdays, working days,
- * recurrences and their texts, for C and C++. The calendar is the proleptic Gregorian one of
+/* Dates, times of day, offsets from UTC, durations, moments, months, weekdays, working days, time
+ * zones, recurrences and their texts, for C and C++. The calendar is the proleptic Gregorian one of
  * ISO 8601, with a year 0, from the year -999999 to 999999. fotsevindre(3) is the manual.
  *
  *   fots_date      a date, by its Julian day: -363521074 (-999999-01-01) to 366963559
@@ -23,8 +23,8 @@
  * number.
  *
  * No call allocates, keeps a pointer or has state, so any thread can make any call at any time.
- * Only calls with texts, holidays, working days, rules or columns take pointers. None may be null,
- * even for a length of 0. The library runs on Linux, on processors with x86-64-v2. */
+ * Only calls with texts, holidays, working days, rules, zones or columns take pointers. None may be
+ * null, even for a length of 0. The library runs on Linux, on processors with x86-64-v2. */
 #ifndef FOTSEVINDRE_H
 #define FOTSEVINDRE_H
 
@@ -155,6 +155,25 @@ enum fots_status {
     FOTS_TOO_MANY_VALUES = 34, /* a part has more than 62 values */
     FOTS_INVALID_VALUE = 35, /* a part has an invalid value */
     FOTS_MISSING_FREQUENCY = 36, /* FREQ is missing */
+    FOTS_INVALID_ZONE = 45, /* the form of a zone is not a fots_zone_form */
+    FOTS_INVALID_POLICY = 46, /* not a fots_policy */
+    FOTS_SKIPPED_TIME = 47, /* the clocks of a zone skip the date and time */
+    FOTS_REPEATED_TIME = 48, /* the clocks of a zone show the date and time twice */
+    FOTS_NOT_A_ZONE_FILE = 49, /* a file does not begin with TZif */
+    FOTS_UNSUPPORTED_VERSION = 50, /* the version of a file is not 2, 3 or 4 */
+    FOTS_LEAP_SECONDS = 51, /* a file has leap seconds */
+    FOTS_MISSING_LOCAL_TYPE = 52, /* a file has no local time type */
+    FOTS_INVALID_TYPE_INDEX = 53, /* a change has the index of a type that does not exist */
+    FOTS_INVALID_LOCAL_TYPE = 54, /* the offset or the daylight flag of a type is out of range */
+    FOTS_INVALID_ABBREVIATION = 55, /* an abbreviation is missing, too short or not ASCII */
+    FOTS_CHANGES_OUT_OF_ORDER = 56, /* changes do not rise, or are outside -2^60 to 2^60 */
+    FOTS_OVERLAPPING_CHANGES = 57, /* the gaps or folds of two changes overlap */
+    FOTS_MISSING_NEWLINE = 58, /* a footer is not between two newlines at the end */
+    FOTS_INVALID_POSIX_OFFSET = 59, /* a POSIX text has no offset of at most 24 hours */
+    FOTS_INVALID_RULE_DAY = 60, /* a POSIX text has no day such as M3.5.0 */
+    FOTS_INVALID_RULE_TIME = 61, /* a POSIX text has no time of at most 167 hours */
+    FOTS_MONTHS_TOO_CLOSE = 62, /* the months of a POSIX text are the same or neighbours */
+    FOTS_TRAILING_BYTES = 63, /* a POSIX text has bytes after its end */
     FOTS_DAY_OUT_OF_RANGE = 64,
     FOTS_ORDINAL_OUT_OF_RANGE = 65,
     FOTS_WEEK_OUT_OF_RANGE = 66,
@@ -203,6 +222,25 @@ static inline const char *fots_status_name(int32_t status)
     case FOTS_TOO_MANY_VALUES: return "too many values";
     case FOTS_INVALID_VALUE: return "invalid value";
     case FOTS_MISSING_FREQUENCY: return "missing FREQ";
+    case FOTS_INVALID_ZONE: return "invalid zone";
+    case FOTS_INVALID_POLICY: return "invalid policy";
+    case FOTS_SKIPPED_TIME: return "skipped time";
+    case FOTS_REPEATED_TIME: return "repeated time";
+    case FOTS_NOT_A_ZONE_FILE: return "not a zone file";
+    case FOTS_UNSUPPORTED_VERSION: return "unsupported version";
+    case FOTS_LEAP_SECONDS: return "leap seconds";
+    case FOTS_MISSING_LOCAL_TYPE: return "missing local time type";
+    case FOTS_INVALID_TYPE_INDEX: return "invalid type index";
+    case FOTS_INVALID_LOCAL_TYPE: return "invalid local time type";
+    case FOTS_INVALID_ABBREVIATION: return "invalid abbreviation";
+    case FOTS_CHANGES_OUT_OF_ORDER: return "changes out of order";
+    case FOTS_OVERLAPPING_CHANGES: return "overlapping changes";
+    case FOTS_MISSING_NEWLINE: return "missing newline";
+    case FOTS_INVALID_POSIX_OFFSET: return "invalid POSIX offset";
+    case FOTS_INVALID_RULE_DAY: return "invalid day of a rule";
+    case FOTS_INVALID_RULE_TIME: return "invalid time of a rule";
+    case FOTS_MONTHS_TOO_CLOSE: return "months of a rule too close";
+    case FOTS_TRAILING_BYTES: return "trailing bytes";
     case FOTS_DAY_OUT_OF_RANGE: return "day";
     case FOTS_ORDINAL_OUT_OF_RANGE: return "ordinal";
     case FOTS_WEEK_OUT_OF_RANGE: return "week";
@@ -1061,6 +1099,107 @@ size_t fots_dates_calendar_texts(const int32_t *dates, size_t dates_length, char
 /* Prints like fots_moment_text, in the same way, with FOTS_MAX_MOMENT_LENGTH bytes for each row. */
 size_t fots_moments_texts(const int32_t *dates, size_t dates_length, const uint64_t *times, size_t times_length, const int32_t *offsets,
     size_t offsets_length, char *bytes, size_t bytes_length, int32_t *bounds, size_t bounds_length, uint8_t *statuses, size_t length);
+
+/* ---- time zones
+ *
+ * A zone is the bytes of a TZif file, such as /usr/share/zoneinfo/Europe/Berlin, or a POSIX text,
+ * such as CET-1CEST,M3.5.0,M10.5.0/3. Keep them unchanged during a call. Each call parses them
+ * first, in 1.4 microseconds for Europe/Berlin, and returns the errors of fots_zone_check. Use a
+ * column for many values. Unix times are in seconds. The examples are for Europe/Berlin. */
+typedef struct fots_zone {
+    const uint8_t *bytes;
+    size_t bytes_length;
+    uint32_t form; /* a fots_zone_form */
+} fots_zone;
+
+enum fots_zone_form { FOTS_ZONE_FILE = 1, FOTS_ZONE_POSIX = 2 };
+
+typedef struct fots_zone_result {
+    int32_t status;
+    size_t position; /* of the first wrong byte, from 0, or the length; or SIZE_MAX */
+} fots_zone_result;
+
+typedef struct fots_local_type_result {
+    int32_t status;
+    fots_offset offset; /* or {FOTS_NO_VALUE} */
+    uint32_t is_daylight; /* 1 for daylight saving time, else 0 */
+    size_t abbreviation; /* its position in the bytes of the zone, or SIZE_MAX */
+    size_t abbreviation_length; /* or 0 */
+} fots_local_type_result;
+
+/* How often the clocks of a zone show a date and a time of day: once, never or twice. */
+enum fots_local_kind { FOTS_SINGLE = 1, FOTS_GAP = 2, FOTS_FOLD = 3 };
+
+/* Unix times and the offsets there: the same two times for FOTS_SINGLE, both instants of a fold in
+ * order, and the results of FOTS_EARLIER and FOTS_LATER for a gap. */
+typedef struct fots_local_result {
+    int32_t status;
+    uint32_t kind; /* a fots_local_kind, or 0 */
+    int64_t earlier; /* or INT64_MIN, as for the next field */
+    int64_t later;
+    fots_offset earlier_offset; /* or {FOTS_NO_VALUE}, as for the next field */
+    fots_offset later_offset;
+} fots_local_result;
+
+/* What a date and a time mean. In a gap, FOTS_COMPATIBLE and FOTS_LATER move forward by the length
+ * of the gap, and FOTS_EARLIER back; in a fold, FOTS_COMPATIBLE and FOTS_EARLIER mean the first. */
+enum fots_policy { FOTS_COMPATIBLE = 0, FOTS_EARLIER = 1, FOTS_LATER = 2, FOTS_REJECT = 3 };
+
+/* Return the zone of the bytes of a file, or of a POSIX text. Check it with fots_zone_check. */
+static inline fots_zone fots_zone_from_file(const uint8_t *bytes, size_t length)
+{
+    fots_zone zone;
+    zone.bytes = bytes;
+    zone.bytes_length = length;
+    zone.form = FOTS_ZONE_FILE;
+    return zone;
+}
+
+static inline fots_zone fots_zone_from_posix(const char *text, size_t length)
+{
+    fots_zone zone;
+    zone.bytes = (const uint8_t *)text;
+    zone.bytes_length = length;
+    zone.form = FOTS_ZONE_POSIX;
+    return zone;
+}
+
+/* Returns the first error of a zone, with its position: FOTS_INVALID_ZONE, FOTS_UNEXPECTED_END, or
+ * one of FOTS_NOT_A_ZONE_FILE to FOTS_TRAILING_BYTES. "CET" is FOTS_INVALID_POSIX_OFFSET at 3. */
+fots_zone_result fots_zone_check(const fots_zone *zone);
+
+/* Return the offset at a Unix time; also whether this is daylight saving time, and its
+ * abbreviation. 1711846800 is the start of +02:00, CEST. */
+fots_offset_result fots_zone_offset(const fots_zone *zone, int64_t seconds);
+fots_local_type_result fots_zone_local_type(const fots_zone *zone, int64_t seconds);
+
+/* Return the Unix time of the first change after another one, or of the last one that is not after
+ * it; FOTS_RESULT_OUT_OF_RANGE if there is none. After 1700000000: 1711846800. */
+fots_int64_result fots_zone_next_change(const fots_zone *zone, int64_t seconds);
+fots_int64_result fots_zone_previous_change(const fots_zone *zone, int64_t seconds);
+
+/* Returns the same instant in a zone; FOTS_RESULT_OUT_OF_RANGE. 2024-03-31 1:00 UTC is 3:00
+ * +02:00. */
+fots_moment_result fots_moment_in_zone(fots_moment moment, const fots_zone *zone);
+
+/* Returns exactly the instants at which the clocks of a zone show a date and a time of day.
+ * 2024-10-27 2:30 is a fold, of 1729989000 at +02:00 and 1729992600 at +01:00; 2024-03-31 2:30 is a
+ * gap. */
+fots_local_result fots_zone_resolve(const fots_zone *zone, fots_date date, fots_time time);
+
+/* Returns the moment that a date and a time of day mean by a fots_policy. Errors:
+ * FOTS_INVALID_POLICY, FOTS_SKIPPED_TIME and FOTS_REPEATED_TIME for FOTS_REJECT,
+ * FOTS_RESULT_OUT_OF_RANGE. 2024-03-31 2:30 is 3:30 +02:00 by FOTS_COMPATIBLE. */
+fots_moment_result fots_zone_moment(const fots_zone *zone, fots_date date, fots_time time, uint32_t policy);
+
+/* Writes the offsets at Unix times, as other calls for columns do. */
+size_t fots_zone_offsets(const fots_zone *zone, const int64_t *seconds, size_t seconds_length, int32_t *offsets, size_t offsets_length,
+    uint8_t *statuses, size_t length);
+
+/* Writes the Unix times of readings by a policy: a reading is the seconds by the clock since
+ * 1970-01-01 0:00. FOTS_RESULT_OUT_OF_RANGE outside -2^60 to 2^60. */
+size_t fots_zone_instants(const fots_zone *zone, const int64_t *readings, size_t readings_length, uint32_t policy, int64_t *seconds,
+    size_t seconds_length, uint8_t *statuses, size_t length);
 
 #ifdef __cplusplus
 }

@@ -44,7 +44,8 @@ public:
     bool is_conditional() const noexcept { return fots_status_is_conditional(status_) != 0; }
 
     // Returns the position of the first wrong byte for FOTS_UNEXPECTED_BYTE, the length of the text
-    // for FOTS_UNEXPECTED_END, and the position of the part for a parse_rule_error.
+    // for FOTS_UNEXPECTED_END, the position of the part for a parse_rule_error, and of the first
+    // wrong byte of a zone.
     std::size_t position() const noexcept { return position_; }
 
 private:
@@ -56,7 +57,8 @@ private:
         if (status == FOTS_UNEXPECTED_END) {
             return "unexpected end at " + std::to_string(position);
         }
-        if (status >= FOTS_UNKNOWN_PART && status <= FOTS_MISSING_FREQUENCY) {
+        if ((status >= FOTS_UNKNOWN_PART && status <= FOTS_MISSING_FREQUENCY)
+            || (status >= FOTS_NOT_A_ZONE_FILE && status <= FOTS_TRAILING_BYTES && position != SIZE_MAX)) {
             return fots_status_name(status) + (" at " + std::to_string(position));
         }
         const bool is_component = (status >= FOTS_YEAR_OUT_OF_RANGE && status <= FOTS_TIMESTAMP_OUT_OF_RANGE)
@@ -716,6 +718,7 @@ inline std::optional<std::pair<Date, Time>> unix_pair(Duration duration, UtcOffs
 }
 
 class OffsetDateTime;
+class Zone;
 
 // A date and a time of day without an offset.
 class PlainDateTime : public detail::Ordered<PlainDateTime> {
@@ -791,6 +794,8 @@ public:
     OffsetDateTime to_offset(UtcOffset offset) const { return from(fots_moment_to_offset(value_, offset.c())); }
     std::optional<OffsetDateTime> checked_to_utc() const { return checked_to_offset(UtcOffset::utc()); }
     OffsetDateTime to_utc() const { return to_offset(UtcOffset::utc()); }
+    // Returns the same instant in a time zone.
+    OffsetDateTime in_zone(const Zone &zone) const;
     // Returns the same date and time at another offset, which is another instant.
     OffsetDateTime replace_offset(UtcOffset offset) const { return from(fots_moment_replace_offset(value_, offset.c())); }
 
@@ -831,6 +836,100 @@ inline OffsetDateTime PlainDateTime::assume_offset(UtcOffset offset) const
 }
 
 inline OffsetDateTime PlainDateTime::assume_utc() const { return assume_offset(UtcOffset::utc()); }
+
+// What a reading in a gap or a fold means.
+enum class Policy : std::uint32_t { Compatible = FOTS_COMPATIBLE, Earlier = FOTS_EARLIER, Later = FOTS_LATER, Reject = FOTS_REJECT };
+
+// How often the clocks of a zone show a reading: once, never or twice.
+enum class LocalKind : std::uint32_t { Single = FOTS_SINGLE, Gap = FOTS_GAP, Fold = FOTS_FOLD };
+
+// What Zone::resolve returns. For a gap, the Unix times are the ones of Policy::Earlier and
+// Policy::Later, at which clocks don't show the reading.
+struct Local {
+    LocalKind kind;
+    std::int64_t earlier, later;
+    UtcOffset earlier_offset, later_offset;
+};
+
+// A time zone. Its bytes must not change.
+class Zone {
+public:
+    // Creates the zone of the bytes of a TZif file, such as /usr/share/zoneinfo/Europe/Berlin.
+    static Zone from_file(std::string bytes) { return Zone(std::move(bytes), FOTS_ZONE_FILE); }
+    // Creates the zone of a POSIX text, such as CET-1CEST,M3.5.0,M10.5.0/3.
+    static Zone from_posix(std::string text) { return Zone(std::move(text), FOTS_ZONE_POSIX); }
+
+    // Return the offset, whether this is daylight saving time, and the abbreviation at a Unix time.
+    UtcOffset offset_at(std::int64_t seconds) const
+    {
+        return UtcOffset(detail::value_or_throw(with(fots_zone_offset, seconds)).offset, {});
+    }
+    bool is_daylight_at(std::int64_t seconds) const { return local_type_at(seconds).is_daylight != 0; }
+    std::string abbreviation_at(std::int64_t seconds) const
+    {
+        const fots_local_type_result found = local_type_at(seconds);
+        return bytes_.substr(found.abbreviation, found.abbreviation_length);
+    }
+
+    // Return the Unix time of the first change after another one, or of the last one that is not
+    // after it; empty if there is none.
+    std::optional<std::int64_t> next_change(std::int64_t seconds) const { return if_any(with(fots_zone_next_change, seconds)); }
+    std::optional<std::int64_t> previous_change(std::int64_t seconds) const
+    {
+        return if_any(with(fots_zone_previous_change, seconds));
+    }
+
+    // Returns exactly the instants at which clocks show a reading.
+    Local resolve(PlainDateTime reading) const
+    {
+        const fots_local_result found = detail::value_or_throw(with(fots_zone_resolve, reading.date().c(), reading.time().c()));
+        return {static_cast<LocalKind>(found.kind), found.earlier, found.later, UtcOffset(found.earlier_offset, {}),
+            UtcOffset(found.later_offset, {})};
+    }
+
+    // Returns the date-time of a reading, or throws an error.
+    OffsetDateTime date_time(PlainDateTime reading, Policy policy = Policy::Compatible) const
+    {
+        const fots_moment_result found =
+            with(fots_zone_moment, reading.date().c(), reading.time().c(), static_cast<std::uint32_t>(policy));
+        return OffsetDateTime(detail::value_or_throw(found).moment, {});
+    }
+
+    // Returns the struct of C, which uses the bytes of this zone.
+    fots_zone c() const noexcept { return {reinterpret_cast<const std::uint8_t *>(bytes_.data()), bytes_.size(), form_}; }
+
+private:
+    Zone(std::string bytes, std::uint32_t form) : bytes_(std::move(bytes)), form_(form)
+    {
+        detail::parsed_or_throw(with(fots_zone_check));
+    }
+
+    // Makes a call with the struct of C.
+    template <class Result, class... Parameters, class... Arguments>
+    Result with(Result (*call)(const fots_zone *, Parameters...), Arguments... arguments) const
+    {
+        const fots_zone zone = c();
+        return call(&zone, arguments...);
+    }
+
+    fots_local_type_result local_type_at(std::int64_t seconds) const
+    {
+        return detail::value_or_throw(with(fots_zone_local_type, seconds));
+    }
+    static std::optional<std::int64_t> if_any(fots_int64_result result)
+    {
+        return detail::is_in_range(result) ? std::optional(result.number) : std::nullopt;
+    }
+
+    std::string bytes_;
+    std::uint32_t form_;
+};
+
+inline OffsetDateTime OffsetDateTime::in_zone(const Zone &zone) const
+{
+    const fots_zone parts = zone.c();
+    return from(fots_moment_in_zone(value_, &parts));
+}
 
 } // namespace fotsevindre
 

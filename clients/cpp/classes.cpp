@@ -276,6 +276,30 @@ void plain_moments()
     check(night.replace_time(Time(0)).date() == night.date() && night.time() == Time::from_hms(23, 0, 0), "the parts");
 }
 
+// The instants are those of GNU date.
+void zones()
+{
+    const Zone berlin = Zone::from_posix("CET-1CEST,M3.5.0,M10.5.0/3");
+    check(berlin.offset_at(1711846799) == UtcOffset::from_hms(1, 0, 0) && berlin.offset_at(1711846800) == UtcOffset::from_hms(2, 0, 0),
+        "offsets");
+    check(!berlin.is_daylight_at(1711846799) && berlin.is_daylight_at(1711846800) && berlin.abbreviation_at(1711846800) == "CEST",
+        "daylight saving time");
+    check(berlin.next_change(1700000000) == 1711846800 && berlin.previous_change(1711846800) == 1711846800, "changes");
+    check(Zone::from_posix("<-03>3").next_change(0) == std::nullopt, "no change");
+    const PlainDateTime in_gap(Date::parse("2024-03-31"), Time::from_hms(2, 30, 0)), in_fold(Date::parse("2024-10-27"), Time::from_hms(2, 30, 0));
+    const Local gap = berlin.resolve(in_gap), fold = berlin.resolve(in_fold);
+    check(gap.kind == LocalKind::Gap && gap.earlier == 1711845000 && gap.later == 1711848600, "a gap");
+    check(fold.kind == LocalKind::Fold && fold.earlier == 1729989000 && fold.later == 1729992600, "a fold");
+    check(fold.earlier_offset == UtcOffset::from_hms(2, 0, 0) && fold.later_offset == UtcOffset::from_hms(1, 0, 0), "offsets of a fold");
+    check(berlin.date_time(in_gap).local() == PlainDateTime(Date::parse("2024-03-31"), Time::from_hms(3, 30, 0)), "after the gap");
+    check(berlin.date_time(in_fold, Policy::Later) == OffsetDateTime::from_unix_timestamp(1729992600), "the second");
+    check(OffsetDateTime::from_unix_timestamp(1729989000).in_zone(berlin).local() == in_fold, "in a zone");
+    throws([&] { berlin.date_time(in_gap, Policy::Reject); }, FOTS_SKIPPED_TIME, "skipped time", "in a gap");
+    throws([&] { berlin.date_time(in_fold, Policy::Reject); }, FOTS_REPEATED_TIME, "repeated time", "in a fold");
+    throws([] { Zone::from_posix("CET"); }, FOTS_INVALID_POSIX_OFFSET, "invalid POSIX offset at 3", "no offset");
+    throws([] { Zone::from_file("TZif"); }, FOTS_UNEXPECTED_END, "unexpected end at 4", "no header");
+}
+
 #if __cplusplus >= 202002L
 void days_of_chrono()
 {
@@ -315,6 +339,7 @@ int main()
     workdays();
     recurrences();
     plain_moments();
+    zones();
 #if __cplusplus >= 202002L
     days_of_chrono();
 #endif

@@ -6,6 +6,7 @@
 #include "workdays.c"
 #include "recurrence.c"
 #include "columns.c"
+#include "zones.c"
 
 #define POINTERS (sizeof(State) / sizeof(PyObject *))
 

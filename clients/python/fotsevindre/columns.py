@@ -89,6 +89,13 @@ def _column(values: Any, code: str, of_dates: bool) -> Any:
     return array.array(code, view.tolist())
 
 
+def numbers_of(values: Any, code: str) -> tuple[Any, Callable[[Any], Any]]:
+    """Returns the numbers of a column in the bits of a code, and what makes another column like
+    it."""
+    like = _Like({"numbers": values})
+    return _column(values, code, False), lambda column: like.made("numbers", column)
+
+
 def _is_scalar(values: Any) -> bool:
     is_number = hasattr(values, "__index__") and not getattr(values, "ndim", 0)
     return is_number or isinstance(values, Date)

@@ -32,6 +32,10 @@ _MESSAGES = {
     34: "too many values in a part of a recurrence; expected at most 62",
     35: "invalid value in a part of a recurrence",
     36: "missing FREQ in a recurrence",
+    45: "invalid zone; expected the bytes of a file or a POSIX text",
+    46: "invalid policy; expected a Policy",
+    47: "the clocks of the zone skip the date and time",
+    48: "the clocks of the zone show the date and time twice",
 }
 
 
@@ -95,6 +99,19 @@ class ParseRuleError(ValueError):
         return f"{self.kind.value.format(self.part or 'part')} at {self.position}"
 
 
+class ZoneError(ValueError):
+    """The bytes or the text of a time zone are invalid. `reason` and `position`, from 0, describe
+    the first wrong byte."""
+
+    def __init__(self, position: int, reason: str) -> None:
+        super().__init__(position, reason)
+        self.position = position
+        self.reason = reason
+
+    def __str__(self) -> str:
+        return f"{self.reason} at {self.position}"
+
+
 def check(value: Any, kind: type) -> Any:
     """Returns the value, or raises `TypeError` if it has another type."""
     if not isinstance(value, kind):
@@ -118,5 +135,8 @@ def status_error(status: int, position: int | None = None, part: int = 0) -> Exc
     if position is not None and 32 <= status <= 36:
         kind = tuple(ParseRuleErrorKind)[status - 32]
         return ParseRuleError(position, kind, _PARTS[part - 1] if part else None)
+    if 49 <= status <= 63:
+        reason = _core.status_name(status)
+        return ValueError(reason) if position is None else ZoneError(position, reason)
     message = _MESSAGES.get(status, f"unknown status {status}")
     return OverflowError(message) if status in (1, 7) else ValueError(message)

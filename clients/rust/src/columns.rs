@@ -28,7 +28,7 @@
 
 use crate::error::ComponentRange;
 use crate::ffi;
-use crate::{Date, Workdays};
+use crate::{Date, Policy, Workdays, Zone};
 
 /// Why a row has no result.
 #[derive(Clone, Copy, Debug, PartialEq, Eq, Hash)]
@@ -49,6 +49,10 @@ pub enum RowError {
     UnexpectedByte,
     /// The text ends too early: more bytes could complete it.
     UnexpectedEnd,
+    /// The clocks of the zone skip the reading.
+    SkippedTime,
+    /// The clocks of the zone show the reading twice.
+    RepeatedTime,
 }
 
 /// Returns why a row with this status has no result, or `None` if it has one.
@@ -226,4 +230,17 @@ pub fn moments_texts(
     statuses: &mut [u8],
 ) -> usize {
     ffi::fots_moments_texts(dates, times, offsets, bytes, bounds, statuses)
+}
+
+/// Writes the offsets at Unix times in a time zone, in seconds.
+#[track_caller]
+pub fn zone_offsets(zone: &Zone<'_>, seconds: &[i64], offsets: &mut [i32], statuses: &mut [u8]) -> usize {
+    zone.with(|zone| ffi::fots_zone_offsets(zone, seconds, offsets, statuses))
+}
+
+/// Writes the Unix times of readings in a time zone by a policy. A reading is the seconds by the
+/// clock since 1970-01-01 0:00. A row without a result has `i64::MIN`.
+#[track_caller]
+pub fn zone_instants(zone: &Zone<'_>, readings: &[i64], policy: Policy, seconds: &mut [i64], statuses: &mut [u8]) -> usize {
+    zone.with(|zone| ffi::fots_zone_instants(zone, readings, policy as u32, seconds, statuses))
 }

@@ -9,6 +9,7 @@ use crate::columns::RowError;
 use crate::error::{ComponentRange, ParseError};
 use crate::recurrence::ParseRuleError;
 use crate::rule::{ByDay, Rule};
+use crate::zone::ZoneError;
 use crate::Date;
 use core::convert::identity;
 
@@ -20,6 +21,8 @@ pub(crate) type CRulePointer<'a> = &'a CRule;
 
 /// Working days that a call made, from [`crate::Workdays`] only.
 pub(crate) type CWorkdaysPointer<'a> = &'a CWorkdays;
+/// The bytes of a zone, from [`with_zone`] only.
+pub(crate) type CZonePointer<'a> = &'a CZone;
 
 /// The result of a column call if lengths differ.
 const LENGTH_MISMATCH: usize = usize::MAX;
@@ -220,6 +223,18 @@ pub(crate) fn with_parts<T>(rule: &Rule<'_>, call: impl FnOnce(CRulePointer) -> 
     })
 }
 
+/// Calls with the bytes of a zone, which live until the call returns.
+pub(crate) fn with_zone<T>(bytes: &[u8], form: u32, call: impl FnOnce(CZonePointer) -> T) -> T {
+    call(&CZone { bytes: bytes.as_ptr(), bytes_length: bytes.len(), form })
+}
+
+impl ZoneError {
+    /// Converts from a status and the position.
+    fn from_status(status: Status, position: usize) -> Self {
+        Self { reason: zone_error(status).unwrap_or_else(|| unexpected(status)), position }
+    }
+}
+
 /// Returns the Julian days of dates. A `Date` is one, so they have the same layout.
 pub(crate) fn julian_days(dates: &[Date]) -> &[i32] {
     unsafe { core::slice::from_raw_parts(dates.as_ptr().cast(), dates.len()) }
@@ -237,6 +252,8 @@ pub(crate) fn row_error_of_status(status: Status) -> Option<RowError> {
         INVALID_BOUNDS => Some(RowError::InvalidBounds),
         UNEXPECTED_BYTE => Some(RowError::UnexpectedByte),
         UNEXPECTED_END => Some(RowError::UnexpectedEnd),
+        SKIPPED_TIME => Some(RowError::SkippedTime),
+        REPEATED_TIME => Some(RowError::RepeatedTime),
         status => Some(RowError::OutOfRange(ComponentRange::from_status(status))),
     }
 }

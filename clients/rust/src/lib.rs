@@ -1,5 +1,5 @@
-//! Dates, times of day, date-times, offsets from UTC, durations, months, weekdays, working days and
-//! recurrences, with the names of the crate `time`, over the C calls of a proved library.
+//! Dates, times of day, date-times, offsets from UTC, durations, months, weekdays, working days,
+//! time zones and recurrences, with the names of the crate `time`, over the C calls of a proved library.
 //!
 //! ```
 //! use fotsevindre::{Date, Duration, Month};
@@ -26,6 +26,7 @@ pub mod error;
 #[allow(unsafe_code)]
 mod ffi;
 pub mod iter;
+mod local;
 mod month;
 mod offset_date_time;
 mod pair;
@@ -41,9 +42,11 @@ mod utc_offset;
 pub mod util;
 mod weekday;
 mod workdays;
+mod zone;
 
 pub use date::Date;
 pub use duration::{Duration, SignedDuration};
+pub use local::{Gap, Local, Policy};
 pub use month::Month;
 pub use offset_date_time::OffsetDateTime;
 pub use pair::{add_to_pair, sub_from_pair};
@@ -54,6 +57,7 @@ pub use time::Time;
 pub use utc_offset::UtcOffset;
 pub use weekday::Weekday;
 pub use workdays::{Convention, Workdays};
+pub use zone::{LocalType, Zone, ZoneError};
 
 /// Returns the version of the linked library, which is the version of this crate. `(0, 1, 0)` is
 /// 0.1.0.

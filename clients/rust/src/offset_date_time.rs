@@ -4,7 +4,7 @@ use crate::ffi::{self, expect_answer, or_error, or_none, CMoment};
 use crate::reader::both;
 use crate::text::rfc3339;
 use crate::text_buffer::TextBuffer;
-use crate::{Date, Month, PlainDateTime, SignedDuration, Time, UtcOffset, Weekday};
+use crate::{Date, Month, PlainDateTime, SignedDuration, Time, UtcOffset, Weekday, Zone};
 use core::cmp::Ordering;
 use core::fmt::{self, Write};
 use core::hash::{Hash, Hasher};
@@ -140,6 +140,11 @@ impl OffsetDateTime {
     #[track_caller]
     pub fn to_utc(self) -> Self {
         self.to_offset(UtcOffset::UTC)
+    }
+
+    /// Returns the same instant in a time zone, or `None` out of range.
+    pub fn in_zone(self, zone: &Zone<'_>) -> Option<Self> {
+        or_none(zone.convert(self)).map(Self::from_c)
     }
 
     /// Replaces the offset and keeps date and time. The result is another instant.

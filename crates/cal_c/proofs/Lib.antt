@@ -16,3 +16,4 @@ pub mod Unreads
 pub mod Recurring
 pub mod Walks
 pub mod OneAnswer
+pub mod ZoneResults

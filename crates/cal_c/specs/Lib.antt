@@ -12,3 +12,5 @@ pub mod RecurrenceTexts
 pub mod Recurrences
 pub mod RecurrenceParts
 pub mod CheckedWorkdays
+pub mod Zones
+pub mod ZoneColumns

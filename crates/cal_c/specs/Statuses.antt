@@ -130,6 +130,66 @@ invalid_value = pos 35
 abbrev pub missing_frequency : ℤ
 missing_frequency = pos 36
 
+-- The form of a zone or a policy is invalid.
+abbrev pub invalid_zone : ℤ
+invalid_zone = pos 45
+
+abbrev pub invalid_policy : ℤ
+invalid_policy = pos 46
+
+-- The clocks of a zone skip a date and time, or show it twice.
+abbrev pub skipped_time : ℤ
+skipped_time = pos 47
+
+abbrev pub repeated_time : ℤ
+repeated_time = pos 48
+
+-- The bytes of a zone are wrong.
+abbrev pub not_a_zone_file : ℤ
+not_a_zone_file = pos 49
+
+abbrev pub unsupported_version : ℤ
+unsupported_version = pos 50
+
+abbrev pub leap_seconds : ℤ
+leap_seconds = pos 51
+
+abbrev pub missing_local_type : ℤ
+missing_local_type = pos 52
+
+abbrev pub invalid_type_index : ℤ
+invalid_type_index = pos 53
+
+abbrev pub invalid_local_type : ℤ
+invalid_local_type = pos 54
+
+abbrev pub invalid_abbreviation : ℤ
+invalid_abbreviation = pos 55
+
+abbrev pub changes_out_of_order : ℤ
+changes_out_of_order = pos 56
+
+abbrev pub overlapping_changes : ℤ
+overlapping_changes = pos 57
+
+abbrev pub missing_newline : ℤ
+missing_newline = pos 58
+
+abbrev pub invalid_posix_offset : ℤ
+invalid_posix_offset = pos 59
+
+abbrev pub invalid_rule_day : ℤ
+invalid_rule_day = pos 60
+
+abbrev pub invalid_rule_time : ℤ
+invalid_rule_time = pos 61
+
+abbrev pub months_too_close : ℤ
+months_too_close = pos 62
+
+abbrev pub trailing_bytes : ℤ
+trailing_bytes = pos 63
+
 -- The errors of components whose range depends on other components.
 abbrev pub day_status : ℤ
 day_status = pos 64

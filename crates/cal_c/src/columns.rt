@@ -30,6 +30,7 @@ mod months;
 mod statuses;
 mod texts;
 mod workdays;
+mod zones;
 
 use statuses::OK;
 

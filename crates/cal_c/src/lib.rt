@@ -62,3 +62,4 @@ mod texts;
 mod time;
 mod values;
 mod version;
+mod zones;

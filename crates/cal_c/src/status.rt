@@ -93,6 +93,63 @@ pub const INVALID_VALUE: i32 = 35;
 /// The recurrence has no frequency.
 pub const MISSING_FREQUENCY: i32 = 36;
 
+/// The form of a zone is not a number of one.
+pub const INVALID_ZONE: i32 = 45;
+
+/// The number of the policy is invalid.
+pub const INVALID_POLICY: i32 = 46;
+
+/// The clocks of the zone skip the reading.
+pub const SKIPPED_TIME: i32 = 47;
+
+/// The clocks of the zone show the reading twice.
+pub const REPEATED_TIME: i32 = 48;
+
+/// The file doesn't begin with `TZif`.
+pub const NOT_A_ZONE_FILE: i32 = 49;
+
+/// The version of the file isn't 2, 3 or 4.
+pub const UNSUPPORTED_VERSION: i32 = 50;
+
+/// The file has leap seconds.
+pub const LEAP_SECONDS: i32 = 51;
+
+/// The file has no local time type.
+pub const MISSING_LOCAL_TYPE: i32 = 52;
+
+/// A change has the index of a local time type that doesn't exist.
+pub const INVALID_TYPE_INDEX: i32 = 53;
+
+/// The offset or the daylight flag of a local time type is out of range.
+pub const INVALID_LOCAL_TYPE: i32 = 54;
+
+/// An abbreviation is invalid.
+pub const INVALID_ABBREVIATION: i32 = 55;
+
+/// The changes don't rise, or one is out of range.
+pub const CHANGES_OUT_OF_ORDER: i32 = 56;
+
+/// The gaps or folds of two changes overlap.
+pub const OVERLAPPING_CHANGES: i32 = 57;
+
+/// There is no newline before or after the footer.
+pub const MISSING_NEWLINE: i32 = 58;
+
+/// A POSIX text has no offset of at most 24 hours.
+pub const INVALID_POSIX_OFFSET: i32 = 59;
+
+/// A POSIX text has no day of a change, such as `M3.5.0`.
+pub const INVALID_RULE_DAY: i32 = 60;
+
+/// A POSIX text has no time of a change of at most 167 hours.
+pub const INVALID_RULE_TIME: i32 = 61;
+
+/// The months of a POSIX text are the same or neighbours.
+pub const MONTHS_TOO_CLOSE: i32 = 62;
+
+/// A POSIX text has bytes after its end.
+pub const TRAILING_BYTES: i32 = 63;
+
 pub const DAY_OUT_OF_RANGE: i32 = 64;
 
 pub const ORDINAL_OUT_OF_RANGE: i32 = 65;

@@ -16,6 +16,8 @@ pub(crate) const DUPLICATE_PART: Status = 33;
 pub(crate) const TOO_MANY_VALUES: Status = 34;
 pub(crate) const INVALID_VALUE: Status = 35;
 pub(crate) const MISSING_FREQUENCY: Status = 36;
+pub(crate) const SKIPPED_TIME: Status = 47;
+pub(crate) const REPEATED_TIME: Status = 48;
 pub(crate) const DAY_OUT_OF_RANGE: Status = 64;
 
 /// Returns the name of the component that is out of range.
@@ -43,6 +45,29 @@ pub(crate) fn component(status: Status) -> Option<&'static str> {
     })
 }
 
+/// Returns what is wrong with the bytes of a zone.
+pub(crate) fn zone_error(status: Status) -> Option<&'static str> {
+    Some(match status {
+        31 => "unexpected end",
+        49 => "not a zone file",
+        50 => "unsupported version",
+        51 => "leap seconds",
+        52 => "missing local time type",
+        53 => "invalid type index",
+        54 => "invalid local time type",
+        55 => "invalid abbreviation",
+        56 => "changes out of order",
+        57 => "overlapping changes",
+        58 => "missing newline",
+        59 => "invalid POSIX offset",
+        60 => "invalid day of a rule",
+        61 => "invalid time of a rule",
+        62 => "months of a rule too close",
+        63 => "trailing bytes",
+        _ => return None,
+    })
+}
+
 /// The names of the parts of a recurrence, by their numbers from 1.
 pub(crate) const PARTS: [&str; 9] = ["FREQ", "INTERVAL", "WKST", "BYMONTH", "BYMONTHDAY", "BYDAY", "UNTIL", "COUNT", "BYSETPOS"];
 
@@ -59,6 +84,7 @@ structs! {
         start: i32, until: i32, frequency: u32, interval: u32, week_start: u32, months: *const u8, months_length: usize,
         month_days: *const i8, month_days_length: usize, weekdays: *const CRuleWeekday, weekdays_length: usize,
     };
+    CZone { bytes: *const u8, bytes_length: usize, form: u32 };
 }
 
 results! {
@@ -86,6 +112,9 @@ results! {
     RecurrenceTextResult { part: u32, position: usize, length: u32, bytes: [u8; 1844] } else ParseRuleError(part, position);
     WorkdaysResult { workdays: CWorkdays } else Status;
     YearFractionResult { denominator: u32, numerator: i64 } else Status;
+    ZoneResult { position: usize } else ZoneError(position);
+    LocalTypeResult { offset: i32, is_daylight: u32, abbreviation: usize, abbreviation_length: usize } else Status;
+    LocalResult { kind: u32, earlier: i64, later: i64, earlier_offset: i32, later_offset: i32 } else Status;
 }
 
 calls! {
@@ -279,4 +308,13 @@ calls! {
     fots_moments_texts(
         dates: &[i32], times: &[u64], offsets: &[i32], bytes: &mut [u8], bounds: &mut [i32], statuses: &mut [u8],
     ) -> usize;
+    fots_zone_check(zone: CZonePointer) -> ZoneResult;
+    fots_zone_offset(zone: CZonePointer, seconds: i64) -> OffsetResult;
+    fots_zone_local_type(zone: CZonePointer, seconds: i64) -> LocalTypeResult;
+    fots_zone_next_change(zone: CZonePointer, seconds: i64) -> Int64Result;
+    fots_zone_previous_change(zone: CZonePointer, seconds: i64) -> Int64Result;
+    fots_moment_in_zone(moment: CMoment, zone: CZonePointer) -> MomentResult;
+    fots_zone_resolve(zone: CZonePointer, date: i32, time: u64) -> LocalResult;
+    fots_zone_offsets(zone: CZonePointer, seconds: &[i64], offsets: &mut [i32], statuses: &mut [u8]) -> usize;
+    fots_zone_instants(zone: CZonePointer, readings: &[i64], policy: u32, seconds: &mut [i64], statuses: &mut [u8]) -> usize;
 }

@@ -20,6 +20,12 @@ pub(super) const INVALID_WEEKDAY: u8 = status::INVALID_WEEKDAY as u8;
 
 pub(super) const INVALID_BOUNDS: u8 = status::INVALID_BOUNDS as u8;
 
+pub(super) const INVALID_POLICY: u8 = status::INVALID_POLICY as u8;
+
+pub(super) const SKIPPED_TIME: u8 = status::SKIPPED_TIME as u8;
+
+pub(super) const REPEATED_TIME: u8 = status::REPEATED_TIME as u8;
+
 pub(super) const YEAR_OUT_OF_RANGE: u8 = status::YEAR_OUT_OF_RANGE as u8;
 
 pub(super) const MONTH_OUT_OF_RANGE: u8 = status::MONTH_OUT_OF_RANGE as u8;

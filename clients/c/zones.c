@@ -1,0 +1,183 @@
+/* Checks time zones: rows of GNU date, invalid arguments, and for a file, if there is one with the
+ * name in the first argument, hostile bytes and drawn instants against localtime_r. */
+#define _DEFAULT_SOURCE
+#include <stdlib.h>
+#include <string.h>
+#include <time.h>
+
+#include "fotsevindre.h"
+#include "testing.h"
+
+#define DRAWN 100000
+
+static const char CET[] = "CET-1CEST,M3.5.0,M10.5.0/3";
+
+static fots_date day(int32_t year, uint32_t month, uint32_t of_month)
+{
+    return fots_date_from_calendar_date(year, month, of_month).date;
+}
+
+static fots_time half_past(uint32_t hour)
+{
+    return fots_time_from_hms_nano(hour, 30, 0, 0).time;
+}
+
+static fots_zone posix(const char *text)
+{
+    return fots_zone_from_posix(text, strlen(text));
+}
+
+static void instants(void)
+{
+    const fots_zone berlin = posix(CET), fixed = posix("<-03>3");
+    const fots_local_type_result winter = fots_zone_local_type(&berlin, 1711846799), summer = fots_zone_local_type(&berlin, 1711846800);
+    check(winter.status == FOTS_OK && winter.offset.seconds == 3600 && !winter.is_daylight, "winter", winter.offset.seconds, winter.is_daylight);
+    check(winter.abbreviation == 0 && winter.abbreviation_length == 3, "CET", (long long)winter.abbreviation, (long long)winter.abbreviation_length);
+    check(summer.offset.seconds == 7200 && summer.is_daylight == 1, "summer", summer.offset.seconds, summer.is_daylight);
+    check(summer.abbreviation == 5 && summer.abbreviation_length == 4, "CEST", (long long)summer.abbreviation, (long long)summer.abbreviation_length);
+    check(fots_zone_offset(&berlin, 1711846800).offset.seconds == 7200, "the offset", 0, 0);
+    check(fots_zone_next_change(&berlin, 1700000000).number == 1711846800, "the next change", 0, 0);
+    check(fots_zone_previous_change(&berlin, 1711846800).number == 1711846800, "the previous change", 0, 0);
+    check(fots_zone_next_change(&fixed, 0).status == FOTS_RESULT_OUT_OF_RANGE, "no next change", 0, 0);
+    check(fots_zone_previous_change(&fixed, 0).number == INT64_MIN, "no previous change", 0, 0);
+    check(fots_zone_offset(&fixed, INT64_MIN).offset.seconds == -10800, "the first instant", 0, 0);
+    const fots_moment moment = fots_moment_from_unix_timestamp(1711846800).moment;
+    const fots_moment_result shown = fots_moment_in_zone(moment, &berlin);
+    check(shown.moment.date.julian_day == day(2024, 3, 31).julian_day && shown.moment.time == UINT64_C(10800000000000), "3:00", 0, 0);
+}
+
+static void readings(void)
+{
+    const fots_zone berlin = posix(CET);
+    const fots_local_result gap = fots_zone_resolve(&berlin, day(2024, 3, 31), half_past(2));
+    check(gap.kind == FOTS_GAP && gap.earlier == 1711845000 && gap.later == 1711848600, "a gap", gap.earlier, gap.later);
+    check(gap.earlier_offset.seconds == 3600 && gap.later_offset.seconds == 7200, "the offsets of a gap", 0, 0);
+    const fots_local_result fold = fots_zone_resolve(&berlin, day(2024, 10, 27), half_past(2));
+    check(fold.kind == FOTS_FOLD && fold.earlier == 1729989000 && fold.later == 1729992600, "a fold", fold.earlier, fold.later);
+    check(fold.earlier_offset.seconds == 7200 && fold.later_offset.seconds == 3600, "the offsets of a fold", 0, 0);
+    const fots_local_result once = fots_zone_resolve(&berlin, day(2024, 7, 1), half_past(2));
+    check(once.kind == FOTS_SINGLE && once.earlier == 1719793800 && once.later == once.earlier, "once", once.earlier, once.later);
+
+    const fots_moment_result moved = fots_zone_moment(&berlin, day(2024, 3, 31), half_past(2), FOTS_COMPATIBLE);
+    check(moved.status == FOTS_OK && moved.moment.time == half_past(3) && moved.moment.offset.seconds == 7200, "after the gap", 0, 0);
+    check(fots_zone_moment(&berlin, day(2024, 3, 31), half_past(2), FOTS_EARLIER).moment.time == half_past(1), "before the gap", 0, 0);
+    check(fots_zone_moment(&berlin, day(2024, 10, 27), half_past(2), FOTS_LATER).moment.offset.seconds == 3600, "the second", 0, 0);
+    check(fots_zone_moment(&berlin, day(2024, 3, 31), half_past(2), FOTS_REJECT).status == FOTS_SKIPPED_TIME, "skipped", 0, 0);
+    check(fots_zone_moment(&berlin, day(2024, 10, 27), half_past(2), FOTS_REJECT).status == FOTS_REPEATED_TIME, "repeated", 0, 0);
+}
+
+static void is_error(const char *text, int32_t status, size_t position)
+{
+    const fots_zone zone = posix(text);
+    const fots_zone_result found = fots_zone_check(&zone);
+    check(found.status == status && found.position == position, text, found.status, (long long)found.position);
+    check(fots_zone_offset(&zone, 0).status == status && fots_zone_offset(&zone, 0).offset.seconds == FOTS_NO_VALUE, text, status, 0);
+}
+
+static void errors(void)
+{
+    is_error("", FOTS_INVALID_ABBREVIATION, 0);
+    is_error("CET", FOTS_INVALID_POSIX_OFFSET, 3);
+    is_error("CET25", FOTS_INVALID_POSIX_OFFSET, 3);
+    is_error("CET-1CEST,J60,J300", FOTS_INVALID_RULE_DAY, 10);
+    is_error("CET-1CEST,M3.5.0/168,M10.5.0", FOTS_INVALID_RULE_TIME, 16);
+    is_error("CET-1CEST,M3.5.0,M4.5.0", FOTS_MONTHS_TOO_CLOSE, 5);
+    is_error("CET-1CEST,M3.5.0,M10.5.0/3x", FOTS_TRAILING_BYTES, 26);
+
+    fots_zone zone = posix(CET);
+    const fots_date no_day = {FOTS_NO_VALUE};
+    const fots_moment no_moment = {{FOTS_NO_VALUE}, {0}, 0};
+    check(fots_zone_resolve(&zone, no_day, 0).status == FOTS_INVALID_DATE, "no date", 0, 0);
+    check(fots_zone_resolve(&zone, day(2024, 1, 1), FOTS_NO_TIME).status == FOTS_INVALID_TIME, "no time", 0, 0);
+    check(fots_zone_moment(&zone, day(2024, 1, 1), 0, 4).status == FOTS_INVALID_POLICY, "no policy", 0, 0);
+    check(fots_moment_in_zone(no_moment, &zone).status == FOTS_INVALID_MOMENT, "no moment", 0, 0);
+    for (zone.form = 0; zone.form < 9; zone.form += 3) {
+        check(fots_zone_check(&zone).status == FOTS_INVALID_ZONE, "no form", zone.form, 0);
+        check(fots_zone_resolve(&zone, no_day, 0).kind == 0, "no form", zone.form, 1);
+    }
+    zone.form = FOTS_ZONE_FILE;
+    check(fots_zone_check(&zone).status == FOTS_UNEXPECTED_END, "a text is not a file", 0, 0);
+}
+
+/* The bytes are an error, or a zone whose instants show their readings. */
+static void is_sound(const uint8_t *bytes, size_t length)
+{
+    const fots_zone zone = fots_zone_from_file(bytes, length);
+    const fots_zone_result found = fots_zone_check(&zone);
+    const fots_local_result local = fots_zone_resolve(&zone, day(2024, 10, 27), half_past(2));
+    check(local.status == found.status, "the same error", local.status, found.status);
+    if (found.status != FOTS_OK) {
+        check(found.position <= length, "a position", (long long)found.position, (long long)length);
+    } else if (local.kind != FOTS_GAP) {
+        check(fots_zone_offset(&zone, local.earlier).offset.seconds == local.earlier_offset.seconds, "the first", local.earlier, 0);
+        check(fots_zone_offset(&zone, local.later).offset.seconds == local.later_offset.seconds, "the second", local.later, 0);
+    }
+}
+
+static uint8_t bytes[1 << 16];
+
+/* Returns the length of a file, or 0 without one. */
+static size_t read_file(const char *name)
+{
+    FILE *file = fopen(name, "rb");
+    const size_t length = file ? fread(bytes, 1, sizeof bytes, file) : 0;
+    if (file) {
+        fclose(file);
+    }
+    return length;
+}
+
+/* Cuts the bytes at each place, and changes each byte. */
+static void hostile(size_t length)
+{
+    size_t index;
+    int other;
+    for (index = 0; index < length; index++) {
+        is_sound(bytes, index);
+    }
+    for (index = 0; index < length; index++) {
+        const uint8_t byte = bytes[index], others[] = {0, 255, (uint8_t)(byte + 1)};
+        for (other = 0; other < 3; other++) {
+            bytes[index] = others[other];
+            is_sound(bytes, length);
+        }
+        bytes[index] = byte;
+    }
+}
+
+/* Compares instants of the years 1834 to 2310 with the C library. */
+static void against_localtime(const char *name, size_t length)
+{
+    const fots_zone zone = fots_zone_from_file(bytes, length);
+    uint64_t state = 88172645463325252ULL;
+    int drawn;
+    setenv("TZ", name, 1);
+    tzset();
+    for (drawn = 0; drawn < DRAWN && length; drawn++) {
+        struct tm shown;
+        time_t seconds;
+        state ^= state << 13;
+        state ^= state >> 7;
+        state ^= state << 17;
+        seconds = (time_t)(state % 15000000000ULL) - 4280000000LL;
+        if (check(localtime_r(&seconds, &shown) != NULL, "localtime_r", seconds, 0)) {
+            const fots_local_type_result found = fots_zone_local_type(&zone, seconds);
+            check(found.offset.seconds == shown.tm_gmtoff && (int)found.is_daylight == shown.tm_isdst, "an offset", seconds, shown.tm_gmtoff);
+            check(strlen(shown.tm_zone) == found.abbreviation_length && !memcmp(shown.tm_zone, bytes + found.abbreviation, found.abbreviation_length),
+                "an abbreviation", seconds, 0);
+        }
+    }
+}
+
+int main(int count, char **arguments)
+{
+    instants();
+    readings();
+    errors();
+    if (count > 1) {
+        const size_t length = read_file(arguments[1]);
+        hostile(length);
+        against_localtime(arguments[1], length);
+    }
+    return ended("zones");
+}

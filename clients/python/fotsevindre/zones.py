@@ -1,0 +1,233 @@
+"""Time zones."""
+
+from __future__ import annotations
+
+import array
+import dataclasses
+import enum
+import importlib.resources
+import operator
+import os
+import pathlib
+from typing import Any, NamedTuple, SupportsIndex
+
+from . import _core
+from ._core import OffsetDateTime, PlainDateTime, UtcOffset
+from .columns import numbers_of
+from .errors import ParseError, ZoneError, check
+
+_FILE, _POSIX = 1, 2
+# The folder of the system's zones, if TZDIR names no other.
+_SYSTEM = "/usr/share/zoneinfo"
+
+
+class LocalKind(enum.Enum):
+    """How often the clocks of a zone show a reading: once, never or twice."""
+
+    Single = 1
+    Gap = 2
+    Fold = 3
+
+
+class Policy(enum.IntEnum):
+    """What a reading in a gap or a fold means. In a gap, `Compatible` and `Later` move it forward
+    by the length of the gap, and `Earlier` back. In a fold, `Compatible` and `Earlier` mean the
+    first. `Reject` means neither."""
+
+    Compatible = 0
+    Earlier = 1
+    Later = 2
+    Reject = 3
+
+
+@dataclasses.dataclass(frozen=True)
+class Local:
+    """The instants at which the clocks of a zone show a reading, as `Zone.resolve` returns it.
+
+    `offset_before` and `offset_after` are the offsets before and after the gap or the fold, and the
+    same without one. `instants` are exactly the Unix times at which clocks show the reading.
+    """
+
+    reading: PlainDateTime
+    kind: LocalKind
+    instants: tuple[int, ...]
+    offset_before: UtcOffset
+    offset_after: UtcOffset
+
+    def compatible(self) -> OffsetDateTime:
+        """Returns the date-time that RFC 5545 and most calendars mean: in a gap the reading moved
+        forward by its length, in a fold the first. `OverflowError` if it is out of range."""
+        return self.later() if self.kind is LocalKind.Gap else self.earlier()
+
+    def earlier(self) -> OffsetDateTime:
+        """Returns the first date-time, in a gap the reading moved back by its length."""
+        if self.kind is LocalKind.Gap:
+            return self.reading.assume_offset(self.offset_after).to_offset(self.offset_before)
+        return self.reading.assume_offset(self.offset_before)
+
+    def later(self) -> OffsetDateTime:
+        """Returns the second date-time, in a gap the reading moved forward by its length."""
+        if self.kind is LocalKind.Gap:
+            return self.reading.assume_offset(self.offset_before).to_offset(self.offset_after)
+        return self.reading.assume_offset(self.offset_after)
+
+    def reject(self) -> OffsetDateTime | None:
+        """Returns the date-time if clocks show the reading once, else `None`."""
+        return self.earlier() if self.kind is LocalKind.Single else None
+
+
+class OffsetColumns(NamedTuple):
+    """Seconds of offsets in 32 bits, a status for each row, and the number of rows without one."""
+
+    offsets: Any
+    statuses: Any
+    error_count: int
+
+
+class InstantColumns(NamedTuple):
+    """Unix times in 64 bits, a status for each row, and the number of rows without one, which have
+    -2**63."""
+
+    seconds: Any
+    statuses: Any
+    error_count: int
+
+
+def _seconds(moment: OffsetDateTime | SupportsIndex) -> int:
+    """Returns the Unix time of an instant in seconds."""
+    if isinstance(moment, OffsetDateTime):
+        return moment.unix_timestamp()
+    return operator.index(moment)
+
+
+def _file_of(key: str) -> bytes:
+    """Returns the bytes of the file of a zone, from the package tzdata or the system."""
+    parts = pathlib.PurePosixPath(key).parts
+    if not key or any(part in ("..", "/") for part in parts):
+        raise LookupError(f"invalid name of a time zone: {key!r}")
+    try:
+        found = importlib.resources.files("tzdata.zoneinfo").joinpath(*parts)
+        return found.read_bytes()
+    except (ImportError, OSError):
+        pass
+    try:
+        return pathlib.Path(os.environ.get("TZDIR", _SYSTEM), *parts).read_bytes()
+    except OSError:
+        raise LookupError(f"no time zone {key!r}") from None
+
+
+class Zone:
+    """Zone(key): a time zone of the IANA database, such as `Europe/Berlin`.
+
+    Its file is that of the package `tzdata`, if it is installed, else that of the folder in the
+    environment variable TZDIR or of /usr/share/zoneinfo. `LookupError` if there is none, and
+    `ZoneError` if it isn't a valid one. An instant is an `OffsetDateTime` or Unix seconds.
+
+    >>> berlin = Zone.from_posix("CET-1CEST,M3.5.0,M10.5.0/3")
+    >>> OffsetDateTime.from_unix_timestamp(1711846800).in_zone(berlin)
+    2024-03-31 3:00:00.0 +02:00:00
+    >>> berlin.resolve(PlainDateTime.parse("2024-03-31T02:30:00")).compatible()
+    2024-03-31 3:30:00.0 +02:00:00
+    """
+
+    __slots__ = ("_key", "_zone")
+
+    def __init__(self, key: str) -> None:
+        self._set(check(key, str), _file_of(key), _FILE)
+
+    def _set(self, key: str, data: bytes, form: int) -> None:
+        self._key = key
+        self._zone = (data, form)
+        try:
+            _core.zone_check(self._zone)
+        except ParseError as error:
+            raise ZoneError(error.position, "unexpected end") from None
+
+    @classmethod
+    def from_file(cls, data: bytes, key: str = "") -> Zone:
+        """Creates the zone of the bytes of a TZif file, or raises `ZoneError`."""
+        zone = cls.__new__(cls)
+        zone._set(key, bytes(data), _FILE)
+        return zone
+
+    @classmethod
+    def from_posix(cls, text: str) -> Zone:
+        """Creates the zone of a POSIX text, such as CET-1CEST,M3.5.0,M10.5.0/3."""
+        zone = cls.__new__(cls)
+        zone._set(text, text.encode("utf-8", "surrogatepass"), _POSIX)
+        return zone
+
+    @property
+    def key(self) -> str:
+        """The name of the zone, or its POSIX text."""
+        return self._key
+
+    def offset_at(self, moment: OffsetDateTime | SupportsIndex) -> UtcOffset:
+        """Returns the offset at an instant."""
+        return _core.zone_offset(self._zone, _seconds(moment))
+
+    def is_daylight_at(self, moment: OffsetDateTime | SupportsIndex) -> bool:
+        """Returns whether an instant is in daylight saving time."""
+        return _core.zone_local_type(self._zone, _seconds(moment))[1]
+
+    def abbreviation_at(self, moment: OffsetDateTime | SupportsIndex) -> str:
+        """Returns the abbreviation at an instant, such as CEST."""
+        return _core.zone_local_type(self._zone, _seconds(moment))[2]
+
+    def next_change(self, moment: OffsetDateTime | SupportsIndex) -> int | None:
+        """Returns the Unix time of the first change after an instant, or `None`."""
+        return _core.zone_next_change(self._zone, _seconds(moment))
+
+    def previous_change(self, moment: OffsetDateTime | SupportsIndex) -> int | None:
+        """Returns the Unix time of the last change that isn't after an instant, or `None`."""
+        return _core.zone_previous_change(self._zone, _seconds(moment))
+
+    def resolve(self, reading: PlainDateTime) -> Local:
+        """Returns exactly the instants at which the clocks show a reading."""
+        kind, earlier, later, before, after = _core.zone_resolve(self._zone, reading)
+        instants = ((earlier,), (), (earlier, later))[kind - 1]
+        return Local(reading, LocalKind(kind), instants, before, after)
+
+    def in_zone(self, moment: OffsetDateTime) -> OffsetDateTime:
+        """Returns the same instant in this zone, like `OffsetDateTime.in_zone`."""
+        return _core.moment_in_zone(moment, self._zone)
+
+    def offsets(self, seconds: Any) -> OffsetColumns:
+        """Returns the offsets at a column of Unix times."""
+        return OffsetColumns(*self._rows(None, seconds, "i"))
+
+    def instants(self, readings: Any, policy: Policy = Policy.Compatible) -> InstantColumns:
+        """Returns the Unix times of a column of readings, which are the seconds by the clock since
+        1970-01-01 0:00, by a policy."""
+        return InstantColumns(*self._rows(int(check(policy, Policy)), readings, "q"))
+
+    def _rows(self, policy: int | None, values: Any, code: str) -> tuple[Any, Any, int]:
+        column, like = numbers_of(values, "q")
+        results = array.array(code, [0]) * len(column)
+        statuses = array.array("B", [0]) * len(column)
+        error_count = _core.zone_columns(self._zone, policy, column, results, statuses)
+        return like(results), like(statuses), error_count
+
+    def __eq__(self, other: object) -> bool:
+        if not isinstance(other, Zone):
+            return NotImplemented
+        return (self._key, self._zone) == (other._key, other._zone)
+
+    def __hash__(self) -> int:
+        return hash((self._key, self._zone))
+
+    def __str__(self) -> str:
+        return self._key
+
+    def __repr__(self) -> str:
+        return f"Zone({self._key!r})"
+
+    def __reduce__(self) -> tuple[Any, ...]:
+        return _zone, (type(self), self._key, *self._zone)
+
+
+def _zone(kind: type[Zone], key: str, data: bytes, form: int) -> Zone:
+    """Returns a pickled zone."""
+    zone = kind.__new__(kind)
+    zone._set(key, data, form)
+    return zone

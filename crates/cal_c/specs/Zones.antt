@@ -1,0 +1,204 @@
+-- Time zones for C: bytes and the number of their form, and the results of the calls for them.
+use Rattle.std.specs.Prelude.{◌≡◌, ◌≢◌, ◌⊎◌, ◌↔◌, ℕ, ◌≤◌, Bool, if◌then◌else◌, List, length, ℤ, pos, neg_ℤ, ◌-ℤ◌, Option, Some, None}
+use Rattle.cal_datetime.specs.OffsetDateTime.{LocalAndOffset, instant, local_at, unix_seconds}
+use Rattle.cal_zone.specs.Abbreviation.{abbreviation}
+use Rattle.cal_zone.specs.Changes.{IsNextChange, NoNextChange, IsPreviousChange, NoPreviousChange}
+use Rattle.cal_zone.specs.declared.change.Change.{Change}
+use Rattle.cal_zone.specs.declared.change_error.ChangeError.TheVariants.{FirstOffset, Offset, Instant, NotRising, Overlap}
+use Rattle.cal_zone.specs.declared.gap.Gap as gaps
+use Rattle.cal_zone.specs.declared.instants.Instants.{Instants}
+use Rattle.cal_zone.specs.declared.instants.Instants.TheVariants as instants
+use Rattle.cal_zone.specs.declared.local.Local.{Local}
+use Rattle.cal_zone.specs.declared.local.Local.TheVariants.{Single, Gap, Fold}
+use Rattle.cal_zone.specs.declared.local_type.LocalType.{LocalType}
+use Rattle.cal_zone.specs.declared.timeline_error.TimelineError.{TimelineError}
+use Rattle.cal_zone.specs.declared.timeline_error.TimelineError.TheVariants as timeline
+use Rattle.cal_zone.specs.Instants.{Names}
+use Rattle.cal_zone.specs.Local.{Shows, NamesMoment, IsLocal, IsInRange, IsCompatible, IsEarlier, IsLater, reject}
+use Rattle.cal_zone.specs.Timeline as zones
+use Rattle.cal_zone.specs.Timeline.{Timeline}
+use Rattle.cal_tzif.specs.declared.zone_error.ZoneError.{ZoneError}
+use Rattle.cal_tzif.specs.declared.zone_error.ZoneErrorKind.{ZoneErrorKind}
+use Rattle.cal_tzif.specs.declared.zone_error.ZoneErrorKind.TheVariants as kinds
+use Rattle.cal_tzif.specs.File.{IsFile, IsFileError, IsPosix}
+use Rattle.cal_tzif.specs.PosixError.{IsTextError}
+use Rattle.cal_c.specs.Moments.{moment_ok, moment_error, IsMomentOrError}
+use Rattle.cal_c.specs.Results.{no_value, int64_ok, int64_error}
+use Rattle.cal_c.specs.Statuses.{ok_status, result_out_of_range, unexpected_end, invalid_zone, skipped_time, repeated_time, not_a_zone_file, unsupported_version, leap_seconds, missing_local_type, invalid_type_index, invalid_local_type, invalid_abbreviation, changes_out_of_order, overlapping_changes, missing_newline, invalid_posix_offset, invalid_rule_day, invalid_rule_time, months_too_close, trailing_bytes}
+use Rattle.cal_c.specs.Texts.{no_position}
+use Rattle.cal_c.specs.declared.results.Int64Result.{Int64Result}
+use Rattle.cal_c.specs.declared.results.MomentResult.{MomentResult}
+use Rattle.cal_c.specs.declared.results.OffsetResult.{OffsetResult}
+use Rattle.cal_c.specs.declared.zones.policy.Policy.{Policy}
+use Rattle.cal_c.specs.declared.zones.policy.Policy.TheVariants.{Compatible, Earlier, Later, Reject}
+use Rattle.cal_c.specs.declared.zones.results.LocalResult.{LocalResult}
+use Rattle.cal_c.specs.declared.zones.results.LocalTypeResult.{LocalTypeResult}
+use Rattle.cal_c.specs.declared.zones.results.ZoneResult.{ZoneResult}
+use Rattle.cal_c.specs.declared.zones.zone_parts.ZoneParts.{ZoneParts}
+
+-- ---- parsing
+-- The bytes are a file or a POSIX text of this zone.
+abbrev pub IsZoneOf : ZoneParts → Timeline → Type 0
+IsZoneOf p zone = ((p.form ≡ 1) × IsFile p.bytes.now zone) ⊎ ((p.form ≡ 2) × IsPosix p.bytes.now zone)
+
+-- The status of an error.
+abbrev pub timeline_status : TimelineError → ℤ
+timeline_status (timeline.Change FirstOffset) = invalid_local_type
+timeline_status (timeline.Change (Offset k)) = invalid_local_type
+timeline_status (timeline.Change (Instant k)) = changes_out_of_order
+timeline_status (timeline.Change (NotRising k)) = changes_out_of_order
+timeline_status (timeline.Change (Overlap k)) = overlapping_changes
+timeline_status timeline.Junction = overlapping_changes
+
+abbrev pub zone_status : ZoneErrorKind → ℤ
+zone_status kinds.Truncated = unexpected_end
+zone_status kinds.Magic = not_a_zone_file
+zone_status kinds.Version = unsupported_version
+zone_status kinds.LeapSeconds = leap_seconds
+zone_status kinds.NoType = missing_local_type
+zone_status kinds.TypeIndex = invalid_type_index
+zone_status kinds.Offset = invalid_local_type
+zone_status kinds.Daylight = invalid_local_type
+zone_status kinds.NameIndex = invalid_abbreviation
+zone_status kinds.NotAscii = invalid_abbreviation
+zone_status (kinds.Timeline error) = timeline_status error
+zone_status kinds.Newline = missing_newline
+zone_status kinds.Name = invalid_abbreviation
+zone_status kinds.PosixOffset = invalid_posix_offset
+zone_status kinds.Day = invalid_rule_day
+zone_status kinds.Time = invalid_rule_time
+zone_status kinds.Months = months_too_close
+zone_status kinds.Trailing = trailing_bytes
+
+abbrev pub zone_error : ZoneError → ZoneResult
+zone_error e = record { status = zone_status e.kind; position = e.position }
+
+abbrev pub zone_result : ℤ → ZoneResult
+zone_result s = record { status = s; position = no_position }
+
+-- The bytes are not a zone, for this reason.
+pub data IsZoneError (p : ZoneParts) (r : ZoneResult) : Type 0 where
+  form : p.form ≢ 1 → p.form ≢ 2 → r ≡ zone_result invalid_zone → IsZoneError p r
+  file : p.form ≡ 1 → (e : ZoneError) → IsFileError p.bytes.now e → r ≡ zone_error e → IsZoneError p r
+  text : p.form ≡ 2 → (e : ZoneError) → IsTextError p.bytes.now 0 e → r ≡ zone_error e → IsZoneError p r
+
+-- A call that takes a zone: one result if the bytes are one, and another if they are not.
+pub data IsForZone (p : ZoneParts) (Then : Timeline → Type 0) (Else : ℤ → Type 0) : Type 0 where
+  zone : (z : Timeline) → IsZoneOf p z → Then z → IsForZone p Then Else
+  error : (r : ZoneResult) → IsZoneError p r → Else r.status → IsForZone p Then Else
+
+pub data IsZoneResult (p : ZoneParts) (r : ZoneResult) : Type 0 where
+  zone : (z : Timeline) → IsZoneOf p z → r ≡ zone_result ok_status → IsZoneResult p r
+  error : IsZoneError p r → IsZoneResult p r
+
+-- ---- instants
+abbrev pub daylight_number : Bool → ℕ
+daylight_number is_daylight = if is_daylight then 1 else 0
+
+abbrev pub local_type_ok : List ℕ → LocalType → LocalTypeResult
+local_type_ok bytes t = record {
+  status = ok_status;
+  offset = t.offset;
+  is_daylight = daylight_number t.is_daylight;
+  abbreviation = t.name_start;
+  abbreviation_length = length (abbreviation bytes t.name_start t.name_end);
+}
+
+abbrev pub local_type_error : ℤ → LocalTypeResult
+local_type_error s = record { status = s; offset = no_value; is_daylight = 0; abbreviation = no_position; abbreviation_length = 0 }
+
+-- The result is the Unix time of the next or the previous change, or out of range if there is none.
+pub data IsNextResult (z : Timeline) (seconds : ℤ) (r : Int64Result) : Type 0 where
+  change : (c : Change) → IsNextChange z seconds c → r ≡ int64_ok c.at → IsNextResult z seconds r
+  none : NoNextChange z seconds → r ≡ int64_error result_out_of_range → IsNextResult z seconds r
+
+pub data IsPreviousResult (z : Timeline) (seconds : ℤ) (r : Int64Result) : Type 0 where
+  change : (c : Change) → IsPreviousChange z seconds c → r ≡ int64_ok c.at → IsPreviousResult z seconds r
+  none : NoPreviousChange z seconds → r ≡ int64_error result_out_of_range → IsPreviousResult z seconds r
+
+-- The result is the same instant by the clocks of the zone.
+abbrev pub IsMomentInZone : Timeline → LocalAndOffset → MomentResult → Type 0
+IsMomentInZone z m r =
+    let offset = zones.offset_at z (unix_seconds (instant m)) in IsMomentOrError result_out_of_range (local_at (instant m) offset) offset r
+
+-- ---- readings
+-- The date-times are exactly those at which the clocks of the zone show the reading.
+pub record IsLocalOf (z : Timeline) (reading : ℤ) (local : Local) : Type 0 where
+  pub set : (m : LocalAndOffset) → NamesMoment local m ↔ Shows z reading m
+  pub explained : IsLocal z reading local
+
+abbrev pub moments_ok : ℕ → LocalAndOffset → LocalAndOffset → LocalResult
+moments_ok kind earlier later = record {
+  status = ok_status;
+  kind = kind;
+  earlier = unix_seconds (instant earlier);
+  later = unix_seconds (instant later);
+  earlier_offset = earlier.offset;
+  later_offset = later.offset;
+}
+
+-- In a gap the reading, in seconds, is moved back by the offset after it, and forward by the offset
+-- before it.
+abbrev pub gap_ok : ℤ → gaps.Gap → LocalResult
+gap_ok seconds gap = record {
+  status = ok_status;
+  kind = 2;
+  earlier = seconds -ℤ gap.after;
+  later = seconds -ℤ gap.before;
+  earlier_offset = gap.before;
+  later_offset = gap.after;
+}
+
+abbrev pub local_ok : ℤ → Local → LocalResult
+local_ok seconds (Single m) = moments_ok 1 m m
+local_ok seconds (Gap gap) = gap_ok seconds gap
+local_ok seconds (Fold earlier later) = moments_ok 3 earlier later
+
+abbrev pub local_error : ℤ → LocalResult
+local_error s = record {
+  status = s;
+  kind = 0;
+  earlier = neg_ℤ (pos 9_223_372_036_854_775_808);
+  later = neg_ℤ (pos 9_223_372_036_854_775_808);
+  earlier_offset = no_value;
+  later_offset = no_value;
+}
+
+abbrev pub IsResolved : Timeline → ℤ → LocalResult → Type 0
+IsResolved z reading r = (local : Local) × IsLocalOf z reading local × (r ≡ local_ok (unix_seconds reading) local)
+
+-- ---- policies, which are numbered from 0, `Compatible`
+abbrev pub policy_number : Policy → ℕ
+policy_number Compatible = 0
+policy_number Earlier = 1
+policy_number Later = 2
+policy_number Reject = 3
+
+abbrev pub IsPolicy : ℕ → Type 0
+IsPolicy k = k ≤ 3
+
+abbrev pub IsByPolicy : Policy → Local → Option LocalAndOffset → Type 0
+IsByPolicy Compatible local r = IsCompatible local r
+IsByPolicy Earlier local r = IsEarlier local r
+IsByPolicy Later local r = IsLater local r
+IsByPolicy Reject local r = r ≡ reject local
+
+-- The status of a reading without a date-time.
+abbrev pub rejected_status : Local → ℤ
+rejected_status (Single m) = result_out_of_range
+rejected_status (Gap gap) = skipped_time
+rejected_status (Fold earlier later) = repeated_time
+
+abbrev pub missing_status : Policy → Local → ℤ
+missing_status Compatible local = result_out_of_range
+missing_status Earlier local = result_out_of_range
+missing_status Later local = result_out_of_range
+missing_status Reject local = rejected_status local
+
+abbrev pub moment_or_error : ℤ → Option LocalAndOffset → MomentResult
+moment_or_error s (Some m) = moment_ok m
+moment_or_error s None = moment_error s
+
+abbrev pub IsMomentByPolicy : Timeline → ℤ → Policy → MomentResult → Type 0
+IsMomentByPolicy z reading policy r =
+    (local : Local) × IsLocalOf z reading local × ((m : Option LocalAndOffset) × IsByPolicy policy local m × (r ≡ moment_or_error (missing_status policy local) m))

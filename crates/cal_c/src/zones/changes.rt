@@ -1,0 +1,35 @@
+//! The changes of a zone's clocks.
+ghost use Rattle.std.specs.Prelude.{◌≡◌};
+ghost use Rattle.cal_c.specs.Results.{int64_error};
+ghost use Rattle.cal_c.specs.Zones.{IsForZone, IsNextResult, IsPreviousResult};
+
+use crate::results::Int64Result;
+use crate::status::RESULT_OUT_OF_RANGE;
+use crate::zones::parsing::zone_of;
+use crate::zones::zone_parts::ZoneParts;
+
+/// Returns the Unix time of the first change after another one. Fails if there is none.
+#[unsafe(no_mangle)]
+pub extern "C" fn fots_zone_next_change(zone: &ZoneParts<'_>, seconds: i64) -> Int64Result
+    ensures { IsForZone zone.now (λ z. IsNextResult z seconds result)
+        (λ s. result ≡ int64_error s) }
+{
+    let zone = or_return!(zone_of(zone), fault => Int64Result::error(fault.status));
+    match zone.next_change(seconds) {
+        Some(change) => Int64Result::ok(change.at),
+        None => Int64Result::error(RESULT_OUT_OF_RANGE),
+    }
+}
+
+/// Returns the Unix time of the last change that is not after another one. Fails if there is none.
+#[unsafe(no_mangle)]
+pub extern "C" fn fots_zone_previous_change(zone: &ZoneParts<'_>, seconds: i64) -> Int64Result
+    ensures { IsForZone zone.now (λ z. IsPreviousResult z seconds result)
+        (λ s. result ≡ int64_error s) }
+{
+    let zone = or_return!(zone_of(zone), fault => Int64Result::error(fault.status));
+    match zone.previous_change(seconds) {
+        Some(change) => Int64Result::ok(change.at),
+        None => Int64Result::error(RESULT_OUT_OF_RANGE),
+    }
+}

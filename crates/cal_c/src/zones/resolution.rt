@@ -1,0 +1,101 @@
+//! The instants at which the clocks of a zone show a reading.
+ghost use Rattle.std.specs.Prelude.{◌≡◌};
+ghost use Rattle.cal_time.specs.Time.{IsTime};
+ghost use Rattle.cal_datetime.specs.DateTime.{date_time};
+ghost use Rattle.cal_datetime.specs.OffsetDateTime.{unix_seconds};
+ghost use Rattle.cal_zone.specs.Timeline as zones;
+ghost use Rattle.cal_c.specs.Moments.{moment_error};
+ghost use Rattle.cal_c.specs.Statuses.{invalid_date, invalid_policy, invalid_time};
+ghost use Rattle.cal_c.specs.Values.{need◌else◌then◌, IsJulianDay, day_of};
+ghost use Rattle.cal_c.specs.Zones.{local_error, policy_number, IsForZone, IsMomentByPolicy, IsPolicy, IsResolved};
+ghost use Rattle.cal_c.specs.declared.zones.policy.Policy.{Policy};
+
+use crate::results::MomentResult;
+use crate::status::{INVALID_DATE, INVALID_POLICY, INVALID_TIME};
+use crate::values::{valid_date, valid_time};
+use crate::zones::parsing::zone_of;
+use crate::zones::policy::Policy;
+use crate::zones::results::LocalResult;
+use crate::zones::zone_parts::ZoneParts;
+use cal_datetime::PlainDateTime;
+use cal_zone::Zone;
+
+/// Returns the instants at which clocks show a date and a time of day: one, two in a fold, or those
+/// of the policies `earlier` and `later` in a gap.
+#[unsafe(no_mangle)]
+pub extern "C" fn fots_zone_resolve(zone: &ZoneParts<'_>, date: i32, time: u64) -> LocalResult
+    ensures { IsForZone zone.now (λ z. need IsJulianDay date else result ≡ local_error invalid_date then
+        need IsTime time else result ≡ local_error invalid_time then
+        IsResolved z (date_time (day_of date) time) result)
+        (λ s. result ≡ local_error s) }
+{
+    let zone = or_return!(zone_of(zone), fault => LocalResult::error(fault.status));
+    resolve(&zone, date, time)
+}
+
+/// Returns the instants at which clocks show a date and a time of day.
+fn resolve(zone: &Zone<'_>, date: i32, time: u64) -> LocalResult
+    ensures { need IsJulianDay date else result ≡ local_error invalid_date then
+        need IsTime time else result ≡ local_error invalid_time then
+        IsResolved zone.now (date_time (day_of date) time) result }
+{
+    let date = or_error!(LocalResult, valid_date(date), INVALID_DATE);
+    let time = or_error!(LocalResult, valid_time(time), INVALID_TIME);
+    resolve_reading(zone, PlainDateTime::new(date, time))
+}
+
+/// Returns the instants at which clocks show a reading.
+fn resolve_reading(zone: &Zone<'_>, reading: PlainDateTime) -> LocalResult
+    ensures { IsResolved zone.now reading result }
+{
+    LocalResult::ok(reading_seconds(&reading), zone.resolve(reading))
+}
+
+/// Returns the whole seconds from 1970-01-01 0:00 to a reading.
+fn reading_seconds(reading: &PlainDateTime) -> i64
+    ensures value { result ≡ unix_seconds reading.now }
+    ensures range { zones.IsMoment result }
+{
+    reading.assume_utc().unix_timestamp()
+}
+
+/// Returns the moment that a date and a time of day mean by a policy: 0 for compatible, 1 for
+/// earlier, 2 for later, 3 for reject.
+#[unsafe(no_mangle)]
+pub extern "C" fn fots_zone_moment(
+    zone: &ZoneParts<'_>,
+    date: i32,
+    time: u64,
+    policy: u32,
+) -> MomentResult
+    ensures { IsForZone zone.now (λ z. need IsJulianDay date else result ≡ moment_error invalid_date then
+        need IsTime time else result ≡ moment_error invalid_time then
+        need IsPolicy policy else result ≡ moment_error invalid_policy then
+        (p : Policy) × (policy_number p ≡ policy)
+        × IsMomentByPolicy z (date_time (day_of date) time) p result)
+        (λ s. result ≡ moment_error s) }
+{
+    let zone = or_return!(zone_of(zone), fault => MomentResult::error(fault.status));
+    moment_by_number(&zone, date, time, policy)
+}
+
+/// Returns the moment of a date and a time of day by the number of a policy.
+fn moment_by_number(zone: &Zone<'_>, date: i32, time: u64, policy: u32) -> MomentResult
+    ensures { need IsJulianDay date else result ≡ moment_error invalid_date then
+        need IsTime time else result ≡ moment_error invalid_time then
+        need IsPolicy policy else result ≡ moment_error invalid_policy then
+        (p : Policy) × (policy_number p ≡ policy)
+        × IsMomentByPolicy zone.now (date_time (day_of date) time) p result }
+{
+    let date = or_error!(MomentResult, valid_date(date), INVALID_DATE);
+    let time = or_error!(MomentResult, valid_time(time), INVALID_TIME);
+    let policy = or_error!(MomentResult, Policy::from_number(policy), INVALID_POLICY);
+    moment_by_policy(zone, PlainDateTime::new(date, time), policy)
+}
+
+/// Returns the moment of a reading by a policy.
+fn moment_by_policy(zone: &Zone<'_>, reading: PlainDateTime, policy: Policy) -> MomentResult
+    ensures { IsMomentByPolicy zone.now reading policy result }
+{
+    policy.moment(zone.resolve(reading))
+}
