@@ -90,6 +90,22 @@ typedef struct fots_recurrence {
     fots_rule_weekday weekdays[FOTS_MAX_VALUES];
 } fots_recurrence;
 
+/* The maximum number of items of a format, and the bytes that the text of each takes at most. */
+#define FOTS_MAX_ITEMS 64
+#define FOTS_MAX_ITEM_LENGTH 10
+
+/* An item of a format, by its kind and a number, as fots_format_new makes it. */
+typedef struct fots_format_item {
+    uint8_t kind;
+    uint8_t value;
+} fots_format_item;
+
+/* A format of texts: as many items as its length says. */
+typedef struct fots_format {
+    uint32_t length;
+    fots_format_item items[FOTS_MAX_ITEMS];
+} fots_format;
+
 #define FOTS_MIN_JULIAN_DAY (-363521074)
 #define FOTS_MAX_JULIAN_DAY 366963559
 #define FOTS_MIN_YEAR (-999999)
@@ -143,6 +159,12 @@ enum fots_status {
     FOTS_TOO_MANY_VALUES = 34, /* a part has more than 62 values */
     FOTS_INVALID_VALUE = 35, /* a part has an invalid value */
     FOTS_MISSING_FREQUENCY = 36, /* FREQ is missing */
+    FOTS_INVALID_FORMAT = 37, /* a fots_format has other numbers than a call makes */
+    FOTS_UNKNOWN_ITEM = 38, /* no item begins at a position of the text of a format */
+    FOTS_TOO_MANY_ITEMS = 39, /* a format has more than 64 items */
+    FOTS_UNSUPPORTED_ITEM = 40, /* a format shows something that the value doesn't have */
+    FOTS_INSUFFICIENT_FORMAT = 41, /* the texts of a format don't determine such a value */
+    FOTS_BUFFER_TOO_SHORT = 42, /* a buffer has no room for the text */
     FOTS_DAY_OUT_OF_RANGE = 64,
     FOTS_ORDINAL_OUT_OF_RANGE = 65,
     FOTS_WEEK_OUT_OF_RANGE = 66,
@@ -191,6 +213,12 @@ static inline const char *fots_status_name(int32_t status)
     case FOTS_TOO_MANY_VALUES: return "too many values";
     case FOTS_INVALID_VALUE: return "invalid value";
     case FOTS_MISSING_FREQUENCY: return "missing FREQ";
+    case FOTS_INVALID_FORMAT: return "invalid format";
+    case FOTS_UNKNOWN_ITEM: return "unknown item";
+    case FOTS_TOO_MANY_ITEMS: return "too many items";
+    case FOTS_UNSUPPORTED_ITEM: return "unsupported item";
+    case FOTS_INSUFFICIENT_FORMAT: return "insufficient format";
+    case FOTS_BUFFER_TOO_SHORT: return "buffer too short";
     case FOTS_DAY_OUT_OF_RANGE: return "day";
     case FOTS_ORDINAL_OUT_OF_RANGE: return "ordinal";
     case FOTS_WEEK_OUT_OF_RANGE: return "week";
@@ -318,6 +346,17 @@ typedef struct fots_parse_moment_result {
     fots_offset offset; /* or {FOTS_NO_VALUE} */
     size_t position; /* as above */
 } fots_parse_moment_result;
+
+typedef struct fots_format_result {
+    int32_t status;
+    fots_format format; /* or one that calls reject */
+    size_t position; /* of the fault, or SIZE_MAX */
+} fots_format_result;
+
+typedef struct fots_length_result {
+    int32_t status;
+    size_t length; /* in bytes; also for FOTS_BUFFER_TOO_SHORT, else 0 after an error */
+} fots_length_result;
 
 /* Years, months and days, all positive or 0, or all negative or 0. */
 typedef struct fots_period_result {
@@ -943,6 +982,27 @@ fots_parse_moment_result fots_moment_parse(const char *text, size_t length);
 /* Parses a Unix time, such as "@1709164800.5", to a moment at UTC: @, a minus sign if negative, at
  * most 18 digits, and optionally a fraction of at most 9. Error: FOTS_TIMESTAMP_OUT_OF_RANGE. */
 fots_parse_moment_result fots_unix_parse(const char *text, size_t length);
+
+/* ---- formats
+ *
+ * A format is a struct that you copy as you like. FORMATS.md lists the items, and says which values
+ * a format holds: those that are read back from their texts. */
+
+/* Return the format of a text in the syntax of strftime, such as "%d/%m/%Y", or of the Rust crate
+ * time, such as "[day]/[month]/[year]". FOTS_UNEXPECTED_BYTE at the first byte that isn't UTF-8,
+ * FOTS_UNKNOWN_ITEM at a position, or FOTS_TOO_MANY_ITEMS. */
+fots_format_result fots_format_new(const char *text, size_t text_length);
+fots_format_result fots_format_from_description(const char *text, size_t text_length);
+
+/* Write the text of a value to the front of the bytes, without a zero byte, and return its length.
+ * Errors: FOTS_INVALID_FORMAT; FOTS_UNSUPPORTED_ITEM, as for the hour of a date;
+ * FOTS_BUFFER_TOO_SHORT with the length. After an error the bytes are as before. No text is longer
+ * than FOTS_MAX_ITEMS * FOTS_MAX_ITEM_LENGTH. */
+fots_length_result fots_date_format(fots_date date, const fots_format *format, char *bytes, size_t bytes_length);
+fots_length_result fots_time_format(fots_time time, const fots_format *format, char *bytes, size_t bytes_length);
+fots_length_result fots_offset_format(fots_offset offset, const fots_format *format, char *bytes, size_t bytes_length);
+fots_length_result fots_pair_format(fots_date date, fots_time time, const fots_format *format, char *bytes, size_t bytes_length);
+fots_length_result fots_moment_format(fots_moment moment, const fots_format *format, char *bytes, size_t bytes_length);
 
 /* ---- whole columns
  *

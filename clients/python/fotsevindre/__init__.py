@@ -28,7 +28,8 @@ from ._core import days_in_month, days_in_year, days_in_year_month, is_leap_year
 from ._core import parse_unix, rfc3339_text, sub_from_pair, unix_duration, unix_pair, unix_text
 from ._core import weeks_in_year
 from .enums import Convention, DayCount, Frequency, Month, Period, Weekday, YearFraction
-from .errors import ComponentRange, ParseError, ParseRuleError, ParseRuleErrorKind, status_error
+from .errors import ComponentRange, FormatError, ParseError, ParseRuleError, ParseRuleErrorKind
+from .errors import status_error
 
 _core.setup(Weekday, Convention, DayCount, Period, YearFraction, status_error, datetime.timedelta,
     *Month, *Weekday)
@@ -42,13 +43,15 @@ from .calls import dates_to_ordinal_dates, dates_weekdays, dates_workdays_betwee
 from .calls import moments_texts
 from .columns import CalendarDateColumns, DateColumns, IsoWeekDateColumns, MomentColumns
 from .columns import NumberColumns, OrdinalDateColumns, TextColumns, WeekdayColumns
+from .formats import Format
 from .schedules import Days, Recurrence, Rule, Workdays
 
 __version__ = "0.1.0"
 
 __all__ = [
     "CalendarDateColumns", "ComponentRange", "Convention", "Date", "DateColumns", "DayCount",
-    "Days", "Frequency", "IsoWeekDateColumns", "MomentColumns", "Month", "NumberColumns",
+    "Days", "Format", "FormatError", "Frequency", "IsoWeekDateColumns", "MomentColumns", "Month",
+    "NumberColumns",
     "OffsetDateTime", "OrdinalDateColumns", "ParseError", "ParseRuleError", "ParseRuleErrorKind",
     "Period", "PlainDateTime", "Recurrence", "Rule", "SignedDuration", "TextColumns", "Time",
     "UtcOffset", "Weekday", "WeekdayColumns", "Workdays", "YearFraction", "add_to_pair",

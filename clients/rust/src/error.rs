@@ -79,6 +79,42 @@ impl fmt::Display for ParseError {
 
 impl core::error::Error for ParseError {}
 
+/// A text is not a format.
+///
+/// It prints as `unknown item at 4` or `too many items`.
+#[derive(Clone, Copy, Debug, PartialEq, Eq, Hash)]
+pub enum FormatError {
+    /// No item begins at this position.
+    UnknownItem(usize),
+    /// The format has more than 64 items.
+    TooLong,
+}
+
+impl fmt::Display for FormatError {
+    fn fmt(&self, f: &mut fmt::Formatter<'_>) -> fmt::Result {
+        match self {
+            Self::UnknownItem(position) => write!(f, "unknown item at {position}"),
+            Self::TooLong => f.write_str("too many items"),
+        }
+    }
+}
+
+impl core::error::Error for FormatError {}
+
+/// A format shows something that the value doesn't have, such as the hour of a date.
+///
+/// It prints as `the format shows something that the value doesn't have`.
+#[derive(Clone, Copy, Debug, PartialEq, Eq, Hash)]
+pub struct UnsupportedItem;
+
+impl fmt::Display for UnsupportedItem {
+    fn fmt(&self, f: &mut fmt::Formatter<'_>) -> fmt::Result {
+        f.write_str("the format shows something that the value doesn't have")
+    }
+}
+
+impl core::error::Error for UnsupportedItem {}
+
 /// A duration is outside the range of the target type.
 ///
 /// It prints as `Source value is out of range for the target type`.

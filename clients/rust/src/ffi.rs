@@ -6,7 +6,7 @@
 //! `#[inline]`, which saves a call.
 
 use crate::columns::RowError;
-use crate::error::{ComponentRange, ParseError};
+use crate::error::{ComponentRange, FormatError, ParseError};
 use crate::recurrence::ParseRuleError;
 use crate::rule::{ByDay, Rule};
 use crate::Date;
@@ -17,6 +17,9 @@ pub(crate) type Status = i32;
 
 /// The parts of a rule, from [`with_parts`] only.
 pub(crate) type CRulePointer<'a> = &'a CRule;
+
+/// A format, from [`Format`](crate::Format) only.
+pub(crate) type CFormatPointer<'a> = &'a CFormat;
 
 /// The result of a column call if lengths differ.
 const LENGTH_MISMATCH: usize = usize::MAX;
@@ -178,6 +181,17 @@ impl ParseError {
             UNEXPECTED_BYTE => Self::UnexpectedByte(position),
             UNEXPECTED_END => Self::UnexpectedEnd(position),
             status => Self::OutOfRange(ComponentRange::from_status(status)),
+        }
+    }
+}
+
+impl FormatError {
+    /// Converts from a status and the position.
+    fn from_status(status: Status, position: usize) -> Self {
+        match status {
+            UNKNOWN_ITEM => Self::UnknownItem(position),
+            TOO_MANY_ITEMS => Self::TooLong,
+            status => unexpected(status),
         }
     }
 }

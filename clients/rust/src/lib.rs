@@ -24,6 +24,7 @@ mod duration;
 pub mod error;
 #[allow(unsafe_code)]
 mod ffi;
+mod format;
 pub mod iter;
 mod month;
 mod offset_date_time;
@@ -43,6 +44,7 @@ mod workdays;
 
 pub use date::Date;
 pub use duration::{Duration, SignedDuration};
+pub use format::{Format, FormatText};
 pub use month::Month;
 pub use offset_date_time::OffsetDateTime;
 pub use pair::{add_to_pair, sub_from_pair};

@@ -15,3 +15,5 @@ pub mod Unreads
 pub mod Recurring
 pub mod Walks
 pub mod OneAnswer
+pub mod FormatItems
+pub mod FormatPrinting

@@ -11,3 +11,5 @@ pub mod TextColumns
 pub mod RecurrenceTexts
 pub mod Recurrences
 pub mod RecurrenceParts
+pub mod Formats
+pub mod FormatTexts

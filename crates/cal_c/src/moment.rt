@@ -11,7 +11,7 @@ mod constructors;
 mod unix;
 
 /// Returns the moment of three numbers, or `None` if one of them is invalid.
-fn valid_moment(moment: Moment) -> Option<OffsetDateTime>
+pub fn valid_moment(moment: Moment) -> Option<OffsetDateTime>
     ensures { SomeIff result (IsMoment moment) (local_and_offset_in moment) }
 {
     let date = valid_date(moment.date)?;
