@@ -165,6 +165,7 @@ enum fots_status {
     FOTS_UNSUPPORTED_ITEM = 40, /* a format shows something that the value doesn't have */
     FOTS_INSUFFICIENT_FORMAT = 41, /* the texts of a format don't determine such a value */
     FOTS_BUFFER_TOO_SHORT = 42, /* a buffer has no room for the text */
+    FOTS_CONTRADICTION = 43, /* a component of a text isn't that of the value, as a weekday */
     FOTS_DAY_OUT_OF_RANGE = 64,
     FOTS_ORDINAL_OUT_OF_RANGE = 65,
     FOTS_WEEK_OUT_OF_RANGE = 66,
@@ -219,6 +220,7 @@ static inline const char *fots_status_name(int32_t status)
     case FOTS_UNSUPPORTED_ITEM: return "unsupported item";
     case FOTS_INSUFFICIENT_FORMAT: return "insufficient format";
     case FOTS_BUFFER_TOO_SHORT: return "buffer too short";
+    case FOTS_CONTRADICTION: return "contradiction";
     case FOTS_DAY_OUT_OF_RANGE: return "day";
     case FOTS_ORDINAL_OUT_OF_RANGE: return "ordinal";
     case FOTS_WEEK_OUT_OF_RANGE: return "week";
@@ -332,7 +334,8 @@ typedef struct fots_text_result {
 } fots_text_result;
 
 /* The position of an error: the first wrong byte, from 0, for FOTS_UNEXPECTED_BYTE; the length for
- * FOTS_UNEXPECTED_END; else SIZE_MAX. */
+ * FOTS_UNEXPECTED_END; the status of the component, such as FOTS_WEEKDAY_OUT_OF_RANGE, for
+ * FOTS_CONTRADICTION; else SIZE_MAX. */
 typedef struct fots_parse_date_result {
     int32_t status;
     fots_date date; /* or {FOTS_NO_VALUE} */
@@ -346,6 +349,18 @@ typedef struct fots_parse_moment_result {
     fots_offset offset; /* or {FOTS_NO_VALUE} */
     size_t position; /* as above */
 } fots_parse_moment_result;
+
+typedef struct fots_parse_time_result {
+    int32_t status;
+    fots_time time; /* or FOTS_NO_TIME */
+    size_t position; /* as above */
+} fots_parse_time_result;
+
+typedef struct fots_parse_offset_result {
+    int32_t status;
+    fots_offset offset; /* or {FOTS_NO_VALUE} */
+    size_t position; /* as above */
+} fots_parse_offset_result;
 
 typedef struct fots_format_result {
     int32_t status;
@@ -1004,6 +1019,16 @@ fots_length_result fots_offset_format(fots_offset offset, const fots_format *for
 fots_length_result fots_pair_format(fots_date date, fots_time time, const fots_format *format, char *bytes, size_t bytes_length);
 fots_length_result fots_moment_format(fots_moment moment, const fots_format *format, char *bytes, size_t bytes_length);
 
+/* Parse the text of a value that the format holds, and accept no other text. Errors:
+ * FOTS_INVALID_FORMAT; FOTS_INSUFFICIENT_FORMAT, as for "%m" and a date; FOTS_UNEXPECTED_BYTE,
+ * FOTS_UNEXPECTED_END, the first component out of range, or FOTS_CONTRADICTION, as for the weekday
+ * of "Wed 2024-02-29". The pair is a date and a time of day at the offset 0. */
+fots_parse_date_result fots_date_parse_format(const char *text, size_t text_length, const fots_format *format);
+fots_parse_time_result fots_time_parse_format(const char *text, size_t text_length, const fots_format *format);
+fots_parse_offset_result fots_offset_parse_format(const char *text, size_t text_length, const fots_format *format);
+fots_parse_moment_result fots_pair_parse_format(const char *text, size_t text_length, const fots_format *format);
+fots_parse_moment_result fots_moment_parse_format(const char *text, size_t text_length, const fots_format *format);
+
 /* ---- whole columns
  *
  * A column is one array for each component of a value: Julian days and years as int32_t, ordinals
@@ -1085,6 +1110,14 @@ size_t fots_dates_calendar_texts(const int32_t *dates, size_t dates_length, char
 /* Prints like fots_moment_text, in the same way, with FOTS_MAX_MOMENT_LENGTH bytes for each row. */
 size_t fots_moments_texts(const int32_t *dates, size_t dates_length, const uint64_t *times, size_t times_length, const int32_t *offsets,
     size_t offsets_length, char *bytes, size_t bytes_length, int32_t *bounds, size_t bounds_length, uint8_t *statuses, size_t length);
+
+/* Parses like fots_date_parse_format, without positions, and prints like fots_date_format, in the
+ * same way. Each row of the bytes has room for FOTS_MAX_ITEM_LENGTH bytes for each item of the
+ * format, or for one item if there is none. */
+size_t fots_dates_parse_format(const char *bytes, size_t bytes_length, const int32_t *bounds, size_t bounds_length, const fots_format *format,
+    int32_t *dates, size_t dates_length, uint8_t *statuses, size_t length);
+size_t fots_dates_format(const int32_t *dates, size_t dates_length, const fots_format *format, char *bytes, size_t bytes_length,
+    int32_t *bounds, size_t bounds_length, uint8_t *statuses, size_t length);
 
 #ifdef __cplusplus
 }

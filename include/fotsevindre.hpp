@@ -45,7 +45,8 @@ public:
 
     // Returns the position of the first wrong byte for FOTS_UNEXPECTED_BYTE, the length of the text
     // for FOTS_UNEXPECTED_END, and the position of the part for a parse_rule_error, or of the item
-    // for FOTS_UNKNOWN_ITEM.
+    // for FOTS_UNKNOWN_ITEM. For FOTS_CONTRADICTION it is the status of the component, such as
+    // FOTS_WEEKDAY_OUT_OF_RANGE.
     std::size_t position() const noexcept { return position_; }
 
 private:
@@ -59,6 +60,9 @@ private:
         }
         if ((status >= FOTS_UNKNOWN_PART && status <= FOTS_MISSING_FREQUENCY) || status == FOTS_UNKNOWN_ITEM) {
             return fots_status_name(status) + (" at " + std::to_string(position));
+        }
+        if (status == FOTS_CONTRADICTION) {
+            return fots_status_name(static_cast<std::int32_t>(position)) + std::string(" contradicts the other components");
         }
         const bool is_component = (status >= FOTS_YEAR_OUT_OF_RANGE && status <= FOTS_TIMESTAMP_OUT_OF_RANGE)
             || fots_status_is_conditional(status) != 0;
@@ -233,6 +237,12 @@ public:
         return Time(detail::value_or_throw(fots_time_from_hms_nano(hour, minute, second, nanosecond)).time, {});
     }
 
+    // Parses the text of a value by a format, and no other text.
+    static Time parse(std::string_view text, const Format &format)
+    {
+        return Time(detail::parsed_or_throw(fots_time_parse_format(detail::data(text), text.size(), format.c())).time, {});
+    }
+
     std::uint32_t hour() const { return detail::value_or_throw(fots_time_hour(value_)).number; }
     std::uint32_t minute() const { return detail::value_or_throw(fots_time_minute(value_)).number; }
     std::uint32_t second() const { return detail::value_or_throw(fots_time_second(value_)).number; }
@@ -274,6 +284,12 @@ public:
     static UtcOffset from_whole_seconds(std::int64_t seconds)
     {
         return UtcOffset(detail::value_or_throw(fots_offset_from_whole_seconds(seconds)).offset, {});
+    }
+
+    // Parses the text of a value by a format, and no other text.
+    static UtcOffset parse(std::string_view text, const Format &format)
+    {
+        return UtcOffset(detail::parsed_or_throw(fots_offset_parse_format(detail::data(text), text.size(), format.c())).offset, {});
     }
 
     std::int32_t whole_seconds() const noexcept { return value_.seconds; }
@@ -346,6 +362,11 @@ public:
     }
     // Parses a calendar date, an ordinal date or an ISO week date, such as "2024-W09-4".
     static Date parse(std::string_view text) { return Date(detail::parsed_or_throw(fots_date_parse(detail::data(text), text.size())).date, {}); }
+    // Parses the text of a value by a format, and no other text.
+    static Date parse(std::string_view text, const Format &format)
+    {
+        return Date(detail::parsed_or_throw(fots_date_parse_format(detail::data(text), text.size(), format.c())).date, {});
+    }
 
     std::int32_t to_julian_day() const noexcept { return value_.julian_day; }
     std::tuple<std::int32_t, Month, std::uint32_t> to_calendar_date() const
@@ -776,6 +797,12 @@ class OffsetDateTime;
 class PlainDateTime : public detail::Ordered<PlainDateTime> {
 public:
     PlainDateTime(Date date, Time time) : value_(detail::value_or_throw(fots_moment_new(date.c(), time.c(), fots_offset{0})).moment) {}
+    // Parses the text of a value by a format, and no other text.
+    static PlainDateTime parse(std::string_view text, const Format &format)
+    {
+        const fots_parse_moment_result found = detail::parsed_or_throw(fots_pair_parse_format(detail::data(text), text.size(), format.c()));
+        return {Date(found.date, {}), Time(found.time, {})};
+    }
 
     Date date() const noexcept { return Date(value_.date, {}); }
     Time time() const noexcept { return Time(value_.time, {}); }
@@ -837,6 +864,12 @@ public:
     static OffsetDateTime new_utc(Date date, Time time) { return new_in_offset(date, time, UtcOffset::utc()); }
     static OffsetDateTime from_unix_timestamp(std::int64_t seconds) { return from(fots_moment_from_unix_timestamp(seconds)); }
     static OffsetDateTime from_unix_duration(Duration duration) { return from(fots_moment_from_unix_time(duration.c())); }
+    // Parses the text of a value by a format, and no other text.
+    static OffsetDateTime parse(std::string_view text, const Format &format)
+    {
+        const fots_parse_moment_result found = detail::parsed_or_throw(fots_moment_parse_format(detail::data(text), text.size(), format.c()));
+        return OffsetDateTime(fots_moment{found.date, found.offset, found.time}, {});
+    }
 
     Date date() const noexcept { return Date(value_.date, {}); }
     Time time() const noexcept { return Time(value_.time, {}); }

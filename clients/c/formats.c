@@ -154,7 +154,8 @@ static void filled_by_hand(void)
     }
     memset(&format, 0, sizeof format);
     check(fots_moment_format(a_moment(), &format, buffer, 0).status == FOTS_OK, "no items", 0, 0);
-    for (format.length = 65; format.length >= 65; format.length *= 3) {
+    for (uint32_t length = 65; length >= 65; length <<= 1) {
+        format.length = length;
         check(fots_moment_format(a_moment(), &format, buffer, ROOM).status == FOTS_INVALID_FORMAT, "too long", format.length, 0);
     }
     for (int round = 0; round < 200000; round++) {
@@ -165,6 +166,8 @@ static void filled_by_hand(void)
         format.length = drawn() % 70;
         fots_length_result result = fots_moment_format(a_moment(), &format, buffer, ROOM);
         check(result.status == FOTS_OK || (result.status == FOTS_INVALID_FORMAT && result.length == 0), "drawn", result.status, round);
+        fots_parse_moment_result read = fots_moment_parse_format(buffer, result.length, &format);
+        check(read.status == FOTS_OK || read.time == FOTS_NO_TIME, "drawn and parsed", read.status, round);
     }
 }
 
@@ -204,10 +207,102 @@ static void buffers(void)
     check(fots_time_format(UINT64_C(123456789), &format, buffer, ROOM - 1).status == FOTS_BUFFER_TOO_SHORT, "one byte less", 0, 0);
 }
 
+/* A format, a text, and the status and the position of its error. */
+typedef struct Rejected {
+    const char *format, *text;
+    int32_t status;
+    size_t position;
+} Rejected;
+
+static const Rejected REJECTED[] = {
+    {"%F", "", FOTS_UNEXPECTED_END, 0}, {"%F", "2024-02-2", FOTS_UNEXPECTED_END, 9}, {"%F", "2024-02-29 ", FOTS_UNEXPECTED_BYTE, 10},
+    {"%F", "2024/02/29", FOTS_UNEXPECTED_BYTE, 4}, {"%d %b %Y", "29 feb 2024", FOTS_UNEXPECTED_BYTE, 3},
+    {"%-d.%-m.%Y", "29.02.2024", FOTS_UNEXPECTED_BYTE, 4}, {"%F", "2023-02-29", FOTS_DAY_OUT_OF_RANGE, SIZE_MAX},
+    {"%F", "2024-13-01", FOTS_MONTH_OUT_OF_RANGE, SIZE_MAX}, {"%Y-%j", "2023-366", FOTS_ORDINAL_OUT_OF_RANGE, SIZE_MAX},
+    {"%a %F", "Wed 2024-02-29", FOTS_CONTRADICTION, FOTS_WEEKDAY_OUT_OF_RANGE}, {"%m", "02", FOTS_INSUFFICIENT_FORMAT, SIZE_MAX},
+    {"%y-%m-%d", "24-02-29", FOTS_INSUFFICIENT_FORMAT, SIZE_MAX}, {"%F %H", "2024-02-29 09", FOTS_INSUFFICIENT_FORMAT, SIZE_MAX},
+    {"%Y%-m%d", "2024229", FOTS_INSUFFICIENT_FORMAT, SIZE_MAX},
+};
+
+static void parsed_dates(void)
+{
+    static const char *const formats[] = {"%F", "%d/%m/%Y", "%A, %-d %B %Y", "%a %e %b %C%y", "%Y-%j", "%G-W%V-%u", "%Y%m%d %U %W %w"};
+    for (int k = 0; k < COUNT(formats); k++) {
+        fots_format format = format_of(formats[k]);
+        for (int32_t day = 1721060; day < 5373485; day += 1237) {
+            fots_length_result printed = fots_date_format(date_at(day), &format, buffer, ROOM);
+            fots_parse_date_result read = fots_date_parse_format(buffer, printed.length, &format);
+            int32_t year = fots_date_to_iso_week_date(date_at(day)).year;
+            if (year >= 0 && year < 10000) {
+                check(read.status == FOTS_OK && read.date.julian_day == day && read.position == SIZE_MAX, formats[k], day, read.status);
+            }
+        }
+    }
+    for (int k = 0; k < COUNT(REJECTED); k++) {
+        fots_format format = format_of(REJECTED[k].format);
+        fots_parse_date_result read = fots_date_parse_format(REJECTED[k].text, strlen(REJECTED[k].text), &format);
+        check(read.status == REJECTED[k].status && read.position == REJECTED[k].position && read.date.julian_day == FOTS_NO_VALUE,
+            REJECTED[k].text, read.status, (long long)read.position);
+    }
+}
+
+static void parsed_others(void)
+{
+    fots_format time = format_of("%-I:%M %p"), offset = format_of("%z"), pair = format_of("%F %T%.f"), moment = format_of("%d/%b/%Y:%T%.f %:z");
+    fots_parse_time_result read_time = fots_time_parse_format("9:05 PM", 7, &time);
+    check(read_time.status == FOTS_OK && read_time.time == UINT64_C(75900000000000), "a time", read_time.status, 0);
+    fots_parse_offset_result read_offset = fots_offset_parse_format("-0530", 5, &offset);
+    check(read_offset.status == FOTS_OK && read_offset.offset.seconds == -19800, "an offset", read_offset.status, 0);
+    fots_parse_moment_result read = fots_pair_parse_format("2024-02-29 09:05:07.25", 22, &pair);
+    check(read.status == FOTS_OK && read.date.julian_day == 2460370 && read.time == a_moment().time && read.offset.seconds == 0, "a pair",
+        read.status, 0);
+    read = fots_moment_parse_format("29/Feb/2024:09:05:07.25 +05:30", 30, &moment);
+    check(read.status == FOTS_OK && read.date.julian_day == 2460370 && read.time == a_moment().time && read.offset.seconds == 19800,
+        "a moment", read.status, 0);
+    check(fots_time_parse_format("9:05 XM", 7, &time).status == FOTS_UNEXPECTED_BYTE, "no half of a day", 0, 0);
+    check(fots_time_parse_format("13:05 PM", 8, &time).status == FOTS_HOUR_OUT_OF_RANGE, "no such hour", 0, 0);
+    check(fots_offset_parse_format("-0000", 5, &offset).status != FOTS_OK, "no negative zero", 0, 0);
+    check(fots_time_parse_format("+0000", 5, &offset).status == FOTS_INSUFFICIENT_FORMAT, "no time", 0, 0);
+    check(fots_moment_parse_format("", 0, &pair).status == FOTS_INSUFFICIENT_FORMAT, "no offset", 0, 0);
+}
+
+/* Columns have the texts and the statuses of single calls. */
+static void columns(void)
+{
+    static const char texts[] = "29/02/202430/02/202429/02/2024";
+    fots_format named = format_of("%A %-d "), day_first = format_of("%d/%m/%Y"), hour = format_of("%H");
+    int32_t dates[3] = {2460370, FOTS_NO_VALUE, 2451545}, bounds[4] = {0, 10, 20, 19}, read[3];
+    uint8_t statuses[3];
+    memset(buffer, '~', ROOM);
+    check(fots_dates_format(dates, 3, &named, buffer, 119, bounds, 4, statuses, 3) == FOTS_LENGTH_MISMATCH, "no room", 0, 0);
+    check(is_filled(0, '~') && bounds[3] == 19, "nothing written", 0, 0);
+    check(fots_dates_format(dates, 3, &named, buffer, 120, bounds, 4, statuses, 3) == 1, "printed", 0, 0);
+    check(bounds[0] == 0 && bounds[1] == 12 && bounds[2] == 12 && bounds[3] == 23, "bounds", bounds[1], bounds[3]);
+    check(memcmp(buffer, "Thursday 29 Saturday 1 ", 23) == 0 && is_filled(23, '~'), "texts", 0, 0);
+    check(statuses[0] == FOTS_OK && statuses[1] == FOTS_INVALID_DATE && statuses[2] == FOTS_OK, "statuses", statuses[1], 0);
+    check(fots_dates_format(dates, 3, &hour, buffer, ROOM, bounds, 4, statuses, 3) == 3 && statuses[0] == FOTS_UNSUPPORTED_ITEM
+        && bounds[3] == 0, "unsupported", statuses[0], 0);
+    bounds[1] = 10, bounds[2] = 20, bounds[3] = 19;
+    check(fots_dates_parse_format(texts, 30, bounds, 4, &day_first, read, 3, statuses, 3) == 2, "parsed", 0, 0);
+    check(read[0] == 2460370 && read[1] == FOTS_NO_VALUE && statuses[0] == FOTS_OK && statuses[1] == FOTS_DAY_OUT_OF_RANGE
+        && statuses[2] == FOTS_INVALID_BOUNDS, "parsed rows", statuses[1], statuses[2]);
+    day_first.items[0].kind = 255;
+    check(fots_dates_parse_format(texts, 30, bounds, 4, &day_first, read, 3, statuses, 3) == 3 && statuses[0] == FOTS_INVALID_FORMAT, "by hand",
+        statuses[0], 0);
+    check(fots_dates_format(dates, 3, &day_first, buffer, ROOM, bounds, 4, statuses, 3) == 3 && statuses[0] == FOTS_INVALID_FORMAT, "by hand",
+        statuses[0], 0);
+    day_first.length = UINT32_MAX;
+    check(fots_dates_format(dates, 1, &day_first, buffer, ROOM, bounds, 2, statuses, 1) == 1 && statuses[0] == FOTS_INVALID_FORMAT, "too long",
+        statuses[0], 0);
+}
+
 int main(void)
 {
+    columns();
     rows();
     each_type();
+    parsed_dates();
+    parsed_others();
     faults();
     filled_by_hand();
     buffers();

@@ -10,7 +10,7 @@ from typing_extensions import Self
 from .conversions import _DateMembers, _DateTimeMembers, _DurationMembers, _MomentMembers
 from .conversions import _OffsetMembers, _PlainMembers, _TimeMembers, _ValueMembers
 from .enums import Convention, DayCount, Month, Period, Weekday, YearFraction
-from .formats import _FormatMembers
+from .formats import Format, _FormatMembers
 
 # An int. One that doesn't fit the parameter in C becomes the nearest number, or one that the call
 # rejects by its name. One that must fit raises OverflowError.

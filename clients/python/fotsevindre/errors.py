@@ -36,6 +36,7 @@ _MESSAGES = {
     40: "the format shows something that the value doesn't have",
     41: "the texts of the format don't determine such a value",
     42: "the buffer has no room for the text",
+    43: "a component of the text contradicts the others",
 }
 
 
@@ -70,6 +71,18 @@ class ParseError(ValueError):
 
     def __str__(self) -> str:
         return f"unexpected {'end' if self.is_end else 'byte'} at {self.position}"
+
+
+class ContradictionError(ValueError):
+    """A component of a text isn't the component of the value that the others determine, such as the
+    weekday of `Wed 2024-02-29`. `name` is its name."""
+
+    def __init__(self, name: str) -> None:
+        super().__init__(name)
+        self.name = name
+
+    def __str__(self) -> str:
+        return f"{self.name} contradicts the other components"
 
 
 class FormatError(ValueError):
@@ -133,6 +146,8 @@ def status_error(status: int, position: int | None = None, part: int = 0) -> Exc
         return ComponentRange(_core.status_name(status), status >= 64)
     if position is not None and status in (8, 31):
         return ParseError(position, status == 31)
+    if position is not None and status == 43:
+        return ContradictionError(_core.status_name(position))
     if position is not None and status in (38, 39):
         return FormatError(position if status == 38 else None)
     if position is not None and 32 <= status <= 36:

@@ -65,6 +65,11 @@ pub enum ParseError {
     UnexpectedEnd(usize),
     /// The text has the form, and this component is out of range.
     OutOfRange(ComponentRange),
+    /// The component with this name isn't the component of the value that the others determine: the
+    /// weekday of `Wed 2024-02-29`. Only for a [`Format`](crate::Format).
+    Contradiction(&'static str),
+    /// The texts of the [`Format`](crate::Format) don't determine a value.
+    InsufficientFormat,
 }
 
 impl fmt::Display for ParseError {
@@ -73,6 +78,8 @@ impl fmt::Display for ParseError {
             Self::UnexpectedByte(position) => write!(f, "unexpected byte at {position}"),
             Self::UnexpectedEnd(position) => write!(f, "unexpected end at {position}"),
             Self::OutOfRange(error) => error.fmt(f),
+            Self::Contradiction(name) => write!(f, "{name} contradicts the other components"),
+            Self::InsufficientFormat => f.write_str("the texts of the format don't determine a value"),
         }
     }
 }

@@ -180,6 +180,8 @@ impl ParseError {
         match status {
             UNEXPECTED_BYTE => Self::UnexpectedByte(position),
             UNEXPECTED_END => Self::UnexpectedEnd(position),
+            CONTRADICTION => Self::Contradiction(component(position as Status).unwrap_or_else(|| unexpected(status))),
+            INSUFFICIENT_FORMAT => Self::InsufficientFormat,
             status => Self::OutOfRange(ComponentRange::from_status(status)),
         }
     }
@@ -248,6 +250,9 @@ pub(crate) fn row_error_of_status(status: Status) -> Option<RowError> {
         INVALID_BOUNDS => Some(RowError::InvalidBounds),
         UNEXPECTED_BYTE => Some(RowError::UnexpectedByte),
         UNEXPECTED_END => Some(RowError::UnexpectedEnd),
+        UNSUPPORTED_ITEM => Some(RowError::UnsupportedItem),
+        INSUFFICIENT_FORMAT => Some(RowError::InsufficientFormat),
+        CONTRADICTION => Some(RowError::Contradiction),
         status => Some(RowError::OutOfRange(ComponentRange::from_status(status))),
     }
 }

@@ -1,6 +1,6 @@
 //! Formats of texts.
 
-use crate::error::{FormatError, UnsupportedItem};
+use crate::error::{FormatError, ParseError, UnsupportedItem};
 use crate::ffi::{self, Answer, CFormat, CFormatPointer, UNSUPPORTED_ITEM};
 use crate::{Date, OffsetDateTime, PlainDateTime, Time, UtcOffset};
 use core::{fmt, str};
@@ -16,6 +16,7 @@ const CAPACITY: usize = 640;
 /// let day = Date::from_calendar_date(2024, Month::February, 29).unwrap();
 /// let format = Format::new("%A, %-d %B %Y").unwrap();
 /// assert_eq!(day.format(&format).unwrap().as_str(), "Thursday, 29 February 2024");
+/// assert_eq!(Date::parse("Thursday, 29 February 2024", &format), Ok(day));
 /// ```
 #[derive(Clone, Copy)]
 pub struct Format {
@@ -37,6 +38,11 @@ impl Format {
     /// `[day]/[month]/[year]`, with the errors of [`Self::new`].
     pub fn from_description(text: &str) -> Result<Self, FormatError> {
         ffi::fots_format_from_description(text.as_bytes()).map(|(parts, _)| Self { parts })
+    }
+
+    /// Returns the struct of C.
+    pub(crate) fn c(&self) -> CFormatPointer<'_> {
+        &self.parts
     }
 }
 
@@ -77,7 +83,7 @@ impl fmt::Debug for FormatText {
 
 /// Defines the methods of values that take a format.
 macro_rules! values {
-    ($($kind:ident by $call:ident($self:ident: $($number:expr),+);)*) => {
+    ($($kind:ident: $format:ident($self:ident => $($number:expr),+), $parse:ident($found:pat => $value:expr);)*) => {
         $(
             impl $kind {
                 /// Returns the text by a format.
@@ -86,8 +92,18 @@ macro_rules! values {
                 ///
                 /// If the format shows something that the value doesn't have.
                 pub fn format($self, format: &Format) -> Result<FormatText, UnsupportedItem> {
-                    let format: CFormatPointer = &format.parts;
-                    FormatText::written(|bytes| ffi::$call($($number,)+ format, bytes))
+                    FormatText::written(|bytes| ffi::$format($($number,)+ format.c(), bytes))
+                }
+
+                /// Parses the text of a value that the format holds, and no other text.
+                ///
+                /// # Errors
+                ///
+                /// `InsufficientFormat`, `UnexpectedByte` or `UnexpectedEnd`, `OutOfRange` for the
+                /// first component out of range, or else `Contradiction`.
+                pub fn parse(text: &str, format: &Format) -> Result<Self, ParseError> {
+                    let $found = ffi::$parse(text.as_bytes(), format.c())?;
+                    Ok($value)
                 }
             }
         )*
@@ -95,9 +111,12 @@ macro_rules! values {
 }
 
 values! {
-    Date by fots_date_format(self: self.to_c());
-    Time by fots_time_format(self: self.to_c());
-    UtcOffset by fots_offset_format(self: self.whole_seconds());
-    PlainDateTime by fots_pair_format(self: self.date().to_c(), self.time().to_c());
-    OffsetDateTime by fots_moment_format(self: self.to_c());
+    Date: fots_date_format(self => self.to_c()), fots_date_parse_format((date, _) => Self::from_c(date));
+    Time: fots_time_format(self => self.to_c()), fots_time_parse_format((time, _) => Self::from_c(time));
+    UtcOffset: fots_offset_format(self => self.whole_seconds()), fots_offset_parse_format((offset, _) => Self::from_c(offset));
+    PlainDateTime: fots_pair_format(self => self.date().to_c(), self.time().to_c()),
+        fots_pair_parse_format((date, time, _, _) => Self::new(Date::from_c(date), Time::from_c(time)));
+    OffsetDateTime: fots_moment_format(self => self.to_c()),
+        fots_moment_parse_format((date, time, offset, _) =>
+            Self::new_in_offset(Date::from_c(date), Time::from_c(time), UtcOffset::from_c(offset)));
 }

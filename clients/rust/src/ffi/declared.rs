@@ -19,6 +19,8 @@ pub(crate) const MISSING_FREQUENCY: Status = 36;
 pub(crate) const UNKNOWN_ITEM: Status = 38;
 pub(crate) const TOO_MANY_ITEMS: Status = 39;
 pub(crate) const UNSUPPORTED_ITEM: Status = 40;
+pub(crate) const INSUFFICIENT_FORMAT: Status = 41;
+pub(crate) const CONTRADICTION: Status = 43;
 pub(crate) const DAY_OUT_OF_RANGE: Status = 64;
 
 /// Returns the name of the component that is out of range.
@@ -84,6 +86,8 @@ results! {
     TextResult { length: u32, bytes: [u8; 40] } else Status;
     ParseDateResult { date: i32, position: usize } else ParseError(position);
     ParseMomentResult { date: i32, time: u64, offset: i32, position: usize } else ParseError(position);
+    ParseTimeResult { time: u64, position: usize } else ParseError(position);
+    ParseOffsetResult { offset: i32, position: usize } else ParseError(position);
     FormatResult { format: CFormat, position: usize } else FormatError(position);
     LengthResult { length: usize } else Status;
     PeriodResult { years: i32, months: i32, days: i32 } else Status;
@@ -260,6 +264,11 @@ calls! {
     fots_offset_format(offset: i32, format: CFormatPointer, bytes: &mut [u8]) -> LengthResult;
     fots_pair_format(date: i32, time: u64, format: CFormatPointer, bytes: &mut [u8]) -> LengthResult;
     fots_moment_format(moment: CMoment, format: CFormatPointer, bytes: &mut [u8]) -> LengthResult;
+    fots_date_parse_format(text: &[u8], format: CFormatPointer) -> ParseDateResult;
+    fots_time_parse_format(text: &[u8], format: CFormatPointer) -> ParseTimeResult;
+    fots_offset_parse_format(text: &[u8], format: CFormatPointer) -> ParseOffsetResult;
+    fots_pair_parse_format(text: &[u8], format: CFormatPointer) -> ParseMomentResult;
+    fots_moment_parse_format(text: &[u8], format: CFormatPointer) -> ParseMomentResult;
     fots_dates_from_julian_days(julian_days: &[i64], dates: &mut [i32], statuses: &mut [u8]) -> usize;
     fots_dates_from_calendar_dates(years: &[i32], months: &[u8], days: &[u8], dates: &mut [i32], statuses: &mut [u8]) -> usize;
     fots_dates_from_ordinal_dates(years: &[i32], ordinals: &[u16], dates: &mut [i32], statuses: &mut [u8]) -> usize;
@@ -292,4 +301,6 @@ calls! {
     fots_moments_texts(
         dates: &[i32], times: &[u64], offsets: &[i32], bytes: &mut [u8], bounds: &mut [i32], statuses: &mut [u8],
     ) -> usize;
+    fots_dates_parse_format(bytes: &[u8], bounds: &[i32], format: CFormatPointer, dates: &mut [i32], statuses: &mut [u8]) -> usize;
+    fots_dates_format(dates: &[i32], format: CFormatPointer, bytes: &mut [u8], bounds: &mut [i32], statuses: &mut [u8]) -> usize;
 }
