@@ -102,6 +102,22 @@ typedef struct fots_workdays {
     uint16_t marked_before[1025]; /* the holidays before each index that are days of the weekmask */
 } fots_workdays;
 
+/* The maximum number of items of a format, and the bytes that the text of each takes at most. */
+#define FOTS_MAX_ITEMS 64
+#define FOTS_MAX_ITEM_LENGTH 10
+
+/* An item of a format, by its kind and a number, as fots_format_new makes it. */
+typedef struct fots_format_item {
+    uint8_t kind;
+    uint8_t value;
+} fots_format_item;
+
+/* A format of texts: as many items as its length says. */
+typedef struct fots_format {
+    uint32_t length;
+    fots_format_item items[FOTS_MAX_ITEMS];
+} fots_format;
+
 #define FOTS_MIN_JULIAN_DAY (-363521074)
 #define FOTS_MAX_JULIAN_DAY 366963559
 #define FOTS_MIN_YEAR (-999999)
@@ -155,6 +171,13 @@ enum fots_status {
     FOTS_TOO_MANY_VALUES = 34, /* a part has more than 62 values */
     FOTS_INVALID_VALUE = 35, /* a part has an invalid value */
     FOTS_MISSING_FREQUENCY = 36, /* FREQ is missing */
+    FOTS_INVALID_FORMAT = 37, /* a fots_format has other numbers than a call makes */
+    FOTS_UNKNOWN_ITEM = 38, /* no item begins at a position of the text of a format */
+    FOTS_TOO_MANY_ITEMS = 39, /* a format has more than 64 items */
+    FOTS_UNSUPPORTED_ITEM = 40, /* a format shows something that the value doesn't have */
+    FOTS_INSUFFICIENT_FORMAT = 41, /* the texts of a format don't determine such a value */
+    FOTS_BUFFER_TOO_SHORT = 42, /* a buffer has no room for the text */
+    FOTS_CONTRADICTION = 43, /* a component of a text isn't that of the value, as a weekday */
     FOTS_INVALID_ZONE = 45, /* the form of a zone is not a fots_zone_form */
     FOTS_INVALID_POLICY = 46, /* not a fots_policy */
     FOTS_SKIPPED_TIME = 47, /* the clocks of a zone skip the date and time */
@@ -222,6 +245,13 @@ static inline const char *fots_status_name(int32_t status)
     case FOTS_TOO_MANY_VALUES: return "too many values";
     case FOTS_INVALID_VALUE: return "invalid value";
     case FOTS_MISSING_FREQUENCY: return "missing FREQ";
+    case FOTS_INVALID_FORMAT: return "invalid format";
+    case FOTS_UNKNOWN_ITEM: return "unknown item";
+    case FOTS_TOO_MANY_ITEMS: return "too many items";
+    case FOTS_UNSUPPORTED_ITEM: return "unsupported item";
+    case FOTS_INSUFFICIENT_FORMAT: return "insufficient format";
+    case FOTS_BUFFER_TOO_SHORT: return "buffer too short";
+    case FOTS_CONTRADICTION: return "contradiction";
     case FOTS_INVALID_ZONE: return "invalid zone";
     case FOTS_INVALID_POLICY: return "invalid policy";
     case FOTS_SKIPPED_TIME: return "skipped time";
@@ -354,7 +384,8 @@ typedef struct fots_text_result {
 } fots_text_result;
 
 /* The position of an error: the first wrong byte, from 0, for FOTS_UNEXPECTED_BYTE; the length for
- * FOTS_UNEXPECTED_END; else SIZE_MAX. */
+ * FOTS_UNEXPECTED_END; the status of the component, such as FOTS_WEEKDAY_OUT_OF_RANGE, for
+ * FOTS_CONTRADICTION; else SIZE_MAX. */
 typedef struct fots_parse_date_result {
     int32_t status;
     fots_date date; /* or {FOTS_NO_VALUE} */
@@ -368,6 +399,29 @@ typedef struct fots_parse_moment_result {
     fots_offset offset; /* or {FOTS_NO_VALUE} */
     size_t position; /* as above */
 } fots_parse_moment_result;
+
+typedef struct fots_parse_time_result {
+    int32_t status;
+    fots_time time; /* or FOTS_NO_TIME */
+    size_t position; /* as above */
+} fots_parse_time_result;
+
+typedef struct fots_parse_offset_result {
+    int32_t status;
+    fots_offset offset; /* or {FOTS_NO_VALUE} */
+    size_t position; /* as above */
+} fots_parse_offset_result;
+
+typedef struct fots_format_result {
+    int32_t status;
+    fots_format format; /* or one that calls reject */
+    size_t position; /* of the fault, or SIZE_MAX */
+} fots_format_result;
+
+typedef struct fots_length_result {
+    int32_t status;
+    size_t length; /* in bytes; also for FOTS_BUFFER_TOO_SHORT, else 0 after an error */
+} fots_length_result;
 
 /* Years, months and days, all positive or 0, or all negative or 0. */
 typedef struct fots_period_result {
@@ -1018,6 +1072,37 @@ fots_parse_moment_result fots_moment_parse(const char *text, size_t length);
  * most 18 digits, and optionally a fraction of at most 9. Error: FOTS_TIMESTAMP_OUT_OF_RANGE. */
 fots_parse_moment_result fots_unix_parse(const char *text, size_t length);
 
+/* ---- formats
+ *
+ * A format is a struct that you copy as you like. FORMATS.md lists the items, and says which values
+ * a format holds: those that are read back from their texts. */
+
+/* Return the format of a text in the syntax of strftime, such as "%d/%m/%Y", or of the Rust crate
+ * time, such as "[day]/[month]/[year]". FOTS_UNEXPECTED_BYTE at the first byte that isn't UTF-8,
+ * FOTS_UNKNOWN_ITEM at a position, or FOTS_TOO_MANY_ITEMS. */
+fots_format_result fots_format_new(const char *text, size_t text_length);
+fots_format_result fots_format_from_description(const char *text, size_t text_length);
+
+/* Write the text of a value to the front of the bytes, without a zero byte, and return its length.
+ * Errors: FOTS_INVALID_FORMAT; FOTS_UNSUPPORTED_ITEM, as for the hour of a date;
+ * FOTS_BUFFER_TOO_SHORT with the length. After an error the bytes are as before. No text is longer
+ * than FOTS_MAX_ITEMS * FOTS_MAX_ITEM_LENGTH. */
+fots_length_result fots_date_format(fots_date date, const fots_format *format, char *bytes, size_t bytes_length);
+fots_length_result fots_time_format(fots_time time, const fots_format *format, char *bytes, size_t bytes_length);
+fots_length_result fots_offset_format(fots_offset offset, const fots_format *format, char *bytes, size_t bytes_length);
+fots_length_result fots_pair_format(fots_date date, fots_time time, const fots_format *format, char *bytes, size_t bytes_length);
+fots_length_result fots_moment_format(fots_moment moment, const fots_format *format, char *bytes, size_t bytes_length);
+
+/* Parse the text of a value that the format holds, and accept no other text. Errors:
+ * FOTS_INVALID_FORMAT; FOTS_INSUFFICIENT_FORMAT, as for "%m" and a date; FOTS_UNEXPECTED_BYTE,
+ * FOTS_UNEXPECTED_END, the first component out of range, or FOTS_CONTRADICTION, as for the weekday
+ * of "Wed 2024-02-29". The pair is a date and a time of day at the offset 0. */
+fots_parse_date_result fots_date_parse_format(const char *text, size_t text_length, const fots_format *format);
+fots_parse_time_result fots_time_parse_format(const char *text, size_t text_length, const fots_format *format);
+fots_parse_offset_result fots_offset_parse_format(const char *text, size_t text_length, const fots_format *format);
+fots_parse_moment_result fots_pair_parse_format(const char *text, size_t text_length, const fots_format *format);
+fots_parse_moment_result fots_moment_parse_format(const char *text, size_t text_length, const fots_format *format);
+
 /* ---- whole columns
  *
  * A column is one array for each component of a value: Julian days and years as int32_t, ordinals
@@ -1099,6 +1184,14 @@ size_t fots_dates_calendar_texts(const int32_t *dates, size_t dates_length, char
 /* Prints like fots_moment_text, in the same way, with FOTS_MAX_MOMENT_LENGTH bytes for each row. */
 size_t fots_moments_texts(const int32_t *dates, size_t dates_length, const uint64_t *times, size_t times_length, const int32_t *offsets,
     size_t offsets_length, char *bytes, size_t bytes_length, int32_t *bounds, size_t bounds_length, uint8_t *statuses, size_t length);
+
+/* Parses like fots_date_parse_format, without positions, and prints like fots_date_format, in the
+ * same way. Each row of the bytes has room for FOTS_MAX_ITEM_LENGTH bytes for each item of the
+ * format, or for one item if there is none. */
+size_t fots_dates_parse_format(const char *bytes, size_t bytes_length, const int32_t *bounds, size_t bounds_length, const fots_format *format,
+    int32_t *dates, size_t dates_length, uint8_t *statuses, size_t length);
+size_t fots_dates_format(const int32_t *dates, size_t dates_length, const fots_format *format, char *bytes, size_t bytes_length,
+    int32_t *bounds, size_t bounds_length, uint8_t *statuses, size_t length);
 
 /* ---- time zones
  *

@@ -44,8 +44,9 @@ public:
     bool is_conditional() const noexcept { return fots_status_is_conditional(status_) != 0; }
 
     // Returns the position of the first wrong byte for FOTS_UNEXPECTED_BYTE, the length of the text
-    // for FOTS_UNEXPECTED_END, the position of the part for a parse_rule_error, and of the first
-    // wrong byte of a zone.
+    // for FOTS_UNEXPECTED_END, the position of the part for a parse_rule_error, of the item for
+    // FOTS_UNKNOWN_ITEM, and of the first wrong byte of a zone. For FOTS_CONTRADICTION it is the
+    // status of the component, such as FOTS_WEEKDAY_OUT_OF_RANGE.
     std::size_t position() const noexcept { return position_; }
 
 private:
@@ -57,9 +58,12 @@ private:
         if (status == FOTS_UNEXPECTED_END) {
             return "unexpected end at " + std::to_string(position);
         }
-        if ((status >= FOTS_UNKNOWN_PART && status <= FOTS_MISSING_FREQUENCY)
+        if ((status >= FOTS_UNKNOWN_PART && status <= FOTS_MISSING_FREQUENCY) || status == FOTS_UNKNOWN_ITEM
             || (status >= FOTS_NOT_A_ZONE_FILE && status <= FOTS_TRAILING_BYTES && position != SIZE_MAX)) {
             return fots_status_name(status) + (" at " + std::to_string(position));
+        }
+        if (status == FOTS_CONTRADICTION) {
+            return fots_status_name(static_cast<std::int32_t>(position)) + std::string(" contradicts the other components");
         }
         const bool is_component = (status >= FOTS_YEAR_OUT_OF_RANGE && status <= FOTS_TIMESTAMP_OUT_OF_RANGE)
             || fots_status_is_conditional(status) != 0;
@@ -126,6 +130,16 @@ inline std::string text(fots_text_result result)
     return std::string(value_or_throw(result).bytes, result.length);
 }
 
+// Returns the text that a call writes to a buffer.
+template <class Call> std::string written(Call call)
+{
+    char bytes[FOTS_MAX_ITEMS * FOTS_MAX_ITEM_LENGTH];
+    return std::string(bytes, value_or_throw(call(bytes, sizeof bytes)).length);
+}
+
+// Returns the first byte of a text, which is never null.
+inline const char *data(std::string_view text) noexcept { return text.empty() ? "" : text.data(); }
+
 // Compares by a key.
 template <class Value> struct Ordered {
     friend bool operator==(const Value &one, const Value &other) { return one.key() == other.key(); }
@@ -148,6 +162,24 @@ inline std::string to_string(Month month) { return detail::text(fots_month_name(
 inline std::string to_string(Weekday weekday) { return detail::text(fots_weekday_name(static_cast<std::uint32_t>(weekday))); }
 inline std::ostream &operator<<(std::ostream &out, Month month) { return out << to_string(month); }
 inline std::ostream &operator<<(std::ostream &out, Weekday weekday) { return out << to_string(weekday); }
+
+// A format of texts, such as "%d/%m/%Y".
+class Format {
+public:
+    // Take a text in the syntax of strftime, or of the Rust crate time.
+    explicit Format(std::string_view text) : Format(fots_format_new(detail::data(text), text.size())) {}
+    static Format from_description(std::string_view text)
+    {
+        return Format(fots_format_from_description(detail::data(text), text.size()));
+    }
+
+    const fots_format *c() const noexcept { return &value_; }
+
+private:
+    explicit Format(const fots_format_result &result) : value_(detail::parsed_or_throw(result).format) {}
+
+    fots_format value_;
+};
 
 // A signed length of time in nanoseconds.
 class Duration : public detail::Ordered<Duration> {
@@ -206,6 +238,12 @@ public:
         return Time(detail::value_or_throw(fots_time_from_hms_nano(hour, minute, second, nanosecond)).time, {});
     }
 
+    // Parses the text of a value by a format, and no other text.
+    static Time parse(std::string_view text, const Format &format)
+    {
+        return Time(detail::parsed_or_throw(fots_time_parse_format(detail::data(text), text.size(), format.c())).time, {});
+    }
+
     std::uint32_t hour() const { return detail::value_or_throw(fots_time_hour(value_)).number; }
     std::uint32_t minute() const { return detail::value_or_throw(fots_time_minute(value_)).number; }
     std::uint32_t second() const { return detail::value_or_throw(fots_time_second(value_)).number; }
@@ -218,6 +256,12 @@ public:
     friend Duration operator-(Time time, Time other)
     {
         return Duration(detail::value_or_throw(fots_time_difference(time.value_, other.value_)).duration, {});
+    }
+
+    // Returns the text by a format, such as "23:59" by "%H:%M".
+    std::string format(const Format &format) const
+    {
+        return detail::written([&](char *bytes, std::size_t length) { return fots_time_format(value_, format.c(), bytes, length); });
     }
 
     fots_time c() const noexcept { return value_; }
@@ -243,6 +287,12 @@ public:
         return UtcOffset(detail::value_or_throw(fots_offset_from_whole_seconds(seconds)).offset, {});
     }
 
+    // Parses the text of a value by a format, and no other text.
+    static UtcOffset parse(std::string_view text, const Format &format)
+    {
+        return UtcOffset(detail::parsed_or_throw(fots_offset_parse_format(detail::data(text), text.size(), format.c())).offset, {});
+    }
+
     std::int32_t whole_seconds() const noexcept { return value_.seconds; }
     // Returns the hours, minutes and seconds, with one sign.
     std::tuple<std::int32_t, std::int32_t, std::int32_t> as_hms() const
@@ -251,6 +301,12 @@ public:
         return {components.hours, components.minutes, components.seconds};
     }
     UtcOffset operator-() const { return UtcOffset(detail::value_or_throw(fots_offset_neg(value_)).offset, {}); }
+
+    // Returns the text by a format, such as "+05:30" by "%:z".
+    std::string format(const Format &format) const
+    {
+        return detail::written([&](char *bytes, std::size_t length) { return fots_offset_format(value_, format.c(), bytes, length); });
+    }
 
     fots_offset c() const noexcept { return value_; }
     std::int32_t key() const noexcept { return value_.seconds; }
@@ -306,7 +362,12 @@ public:
         return from(fots_date_from_iso_week_date(year, week, static_cast<std::uint32_t>(weekday)));
     }
     // Parses a calendar date, an ordinal date or an ISO week date, such as "2024-W09-4".
-    static Date parse(std::string_view text) { return Date(detail::parsed_or_throw(fots_date_parse(data(text), text.size())).date, {}); }
+    static Date parse(std::string_view text) { return Date(detail::parsed_or_throw(fots_date_parse(detail::data(text), text.size())).date, {}); }
+    // Parses the text of a value by a format, and no other text.
+    static Date parse(std::string_view text, const Format &format)
+    {
+        return Date(detail::parsed_or_throw(fots_date_parse_format(detail::data(text), text.size(), format.c())).date, {});
+    }
 
     std::int32_t to_julian_day() const noexcept { return value_.julian_day; }
     std::tuple<std::int32_t, Month, std::uint32_t> to_calendar_date() const
@@ -410,6 +471,12 @@ public:
     std::string ordinal_text() const { return detail::text(fots_date_ordinal_text(value_)); }
     std::string week_text() const { return detail::text(fots_date_week_text(value_)); }
 
+    // Returns the text by a format, such as "29/02/2024" by "%d/%m/%Y".
+    std::string format(const Format &format) const
+    {
+        return detail::written([&](char *bytes, std::size_t length) { return fots_date_format(value_, format.c(), bytes, length); });
+    }
+
 #if __cplusplus >= 202002L
     // Converts a day of <chrono>, or throws FOTS_JULIAN_DAY_OUT_OF_RANGE.
     static Date from_sys_days(std::chrono::sys_days day)
@@ -436,7 +503,6 @@ private:
     // The Julian day of 1970-01-01.
     static constexpr std::int32_t unix_epoch = 2440588;
 
-    static const char *data(std::string_view text) noexcept { return text.empty() ? "" : text.data(); }
     static Date from(fots_date_result result) { return Date(detail::value_or_throw(result).date, {}); }
 
     fots_date value_;
@@ -700,7 +766,7 @@ inline std::optional<std::string> rfc3339_text(Date date, Time time, UtcOffset o
 // Parses a date, a time of day and an offset in RFC 3339.
 inline std::tuple<Date, Time, UtcOffset> parse_rfc3339(std::string_view text)
 {
-    const fots_parse_moment_result found = detail::parsed_or_throw(fots_moment_parse(text.empty() ? "" : text.data(), text.size()));
+    const fots_parse_moment_result found = detail::parsed_or_throw(fots_moment_parse(detail::data(text), text.size()));
     return {Date(found.date, {}), Time(found.time, {}), UtcOffset(found.offset, {})};
 }
 
@@ -724,6 +790,12 @@ class Zone;
 class PlainDateTime : public detail::Ordered<PlainDateTime> {
 public:
     PlainDateTime(Date date, Time time) : value_(detail::value_or_throw(fots_moment_new(date.c(), time.c(), fots_offset{0})).moment) {}
+    // Parses the text of a value by a format, and no other text.
+    static PlainDateTime parse(std::string_view text, const Format &format)
+    {
+        const fots_parse_moment_result found = detail::parsed_or_throw(fots_pair_parse_format(detail::data(text), text.size(), format.c()));
+        return {Date(found.date, {}), Time(found.time, {})};
+    }
 
     Date date() const noexcept { return Date(value_.date, {}); }
     Time time() const noexcept { return Time(value_.time, {}); }
@@ -746,6 +818,12 @@ public:
     friend Duration operator-(PlainDateTime one, PlainDateTime other)
     {
         return Duration(detail::value_or_throw(fots_moment_duration_since(one.value_, other.value_)).duration, {});
+    }
+
+    // Returns the text by a format, such as "2024-02-29 23:59" by "%F %R".
+    std::string format(const Format &format) const
+    {
+        return detail::written([&](char *bytes, std::size_t length) { return fots_pair_format(value_.date, value_.time, format.c(), bytes, length); });
     }
 
     // Return this date and time at an offset.
@@ -779,6 +857,12 @@ public:
     static OffsetDateTime new_utc(Date date, Time time) { return new_in_offset(date, time, UtcOffset::utc()); }
     static OffsetDateTime from_unix_timestamp(std::int64_t seconds) { return from(fots_moment_from_unix_timestamp(seconds)); }
     static OffsetDateTime from_unix_duration(Duration duration) { return from(fots_moment_from_unix_time(duration.c())); }
+    // Parses the text of a value by a format, and no other text.
+    static OffsetDateTime parse(std::string_view text, const Format &format)
+    {
+        const fots_parse_moment_result found = detail::parsed_or_throw(fots_moment_parse_format(detail::data(text), text.size(), format.c()));
+        return OffsetDateTime(fots_moment{found.date, found.offset, found.time}, {});
+    }
 
     Date date() const noexcept { return Date(value_.date, {}); }
     Time time() const noexcept { return Time(value_.time, {}); }
@@ -815,6 +899,12 @@ public:
     friend Duration operator-(OffsetDateTime moment, OffsetDateTime other)
     {
         return Duration(detail::value_or_throw(fots_moment_duration_since(moment.value_, other.value_)).duration, {});
+    }
+
+    // Returns the text by a format, such as "29/Feb/2024:23:59:59 +0530".
+    std::string format(const Format &format) const
+    {
+        return detail::written([&](char *bytes, std::size_t length) { return fots_moment_format(value_, format.c(), bytes, length); });
     }
 
     fots_moment c() const noexcept { return value_; }

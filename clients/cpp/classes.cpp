@@ -300,6 +300,29 @@ void zones()
     throws([] { Zone::from_file("TZif"); }, FOTS_UNEXPECTED_END, "unexpected end at 4", "no header");
 }
 
+void formats()
+{
+    const Date day = Date::parse("2024-02-29");
+    const OffsetDateTime night = OffsetDateTime::new_in_offset(day, Time::from_hms(23, 59, 59), UtcOffset::from_hms(5, 30, 0));
+    const Format day_first("%d/%m/%Y"), described = Format::from_description("[weekday], [day padding:none] [month repr:long]");
+    check(day.format(day_first) == "29/02/2024" && day.format(described) == "Thursday, 29 February", "dates by formats");
+    check(night.time().format(Format("%H:%M")) == "23:59" && night.offset().format(Format("%:z")) == "+05:30", "others by formats");
+    check(night.local().format(Format("%F %R")) == "2024-02-29 23:59", "a local date-time by a format");
+    check(night.format(Format("%d/%b/%Y:%T %z")) == "29/Feb/2024:23:59:59 +0530", "a date-time at an offset by a format");
+    check(day.format(Format("")).empty() && day.format(Format("%Y\xe5\xb9\xb4")) == "2024\xe5\xb9\xb4", "texts of formats");
+    check(Date::parse("29/02/2024", day_first) == day && Time::parse("9:05 PM", Format("%-I:%M %p")) == Time::from_hms(21, 5, 0), "parsed");
+    check(UtcOffset::parse("-0530", Format("%z")) == UtcOffset::from_hms(-5, -30, 0), "an offset, parsed");
+    check(PlainDateTime::parse("2024-02-29 23:59:59", Format("%F %T")) == night.local(), "a local date-time, parsed");
+    check(OffsetDateTime::parse("29/Feb/2024:23:59:59 +0530", Format("%d/%b/%Y:%T %z")) == night, "a date-time at an offset, parsed");
+    throws([] { Date::parse("29.02.2024", Format("%d/%m/%Y")); }, FOTS_UNEXPECTED_BYTE, "unexpected byte at 2", "a wrong byte");
+    throws([] { Date::parse("Wed 2024-02-29", Format("%a %F")); }, FOTS_CONTRADICTION, "weekday contradicts the other components",
+        "a wrong weekday");
+    throws([] { Date::parse("02", Format("%m")); }, FOTS_INSUFFICIENT_FORMAT, "insufficient format", "a month only");
+    throws([] { Format("ab%"); }, FOTS_UNKNOWN_ITEM, "unknown item at 2", "no item");
+    throws([] { Format(std::string(65, 'a')); }, FOTS_TOO_MANY_ITEMS, "too many items", "65 items");
+    throws([day] { day.format(Format("%H")); }, FOTS_UNSUPPORTED_ITEM, "unsupported item", "the hour of a date");
+}
+
 #if __cplusplus >= 202002L
 void days_of_chrono()
 {
@@ -340,6 +363,7 @@ int main()
     recurrences();
     plain_moments();
     zones();
+    formats();
 #if __cplusplus >= 202002L
     days_of_chrono();
 #endif

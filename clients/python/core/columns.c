@@ -20,20 +20,21 @@ void PyBuffer_Release(Py_buffer *view);
 #define PyBUF_C_CONTIGUOUS (0x0020 | 0x0010 | 0x0008)
 #endif
 
-/* The columns that a call reads and then those that it writes, and its working days. */
+/* The columns that a call reads and then those that it writes, and its working days or format. */
 typedef struct Columns {
     Py_buffer views[8];
     void *data[8];
     size_t lengths[8];
     int count;
     const fots_workdays *workdays;
+    fots_format format;
 } Columns;
 
 /* A call. The columns that it reads and writes have the letters of the module array, and "W" if it
  * writes weekdays: Monday is 0 in Python, and 1 in C. */
 typedef struct ColumnCall {
     const char *name, *reads, *writes;
-    int has_workdays;
+    int has_workdays, has_format;
     size_t (*call)(const Columns *columns);
 } ColumnCall;
 extern const ColumnCall column_calls[];
@@ -81,11 +82,11 @@ static void shift_weekdays(const Columns *columns, const ColumnCall *call)
     }
 }
 
-/* Takes the name of a call, a tuple of columns, and working days or None. Returns the number of
+/* Takes the name of a call, a tuple of columns, and working days, a format or None. Returns the number of
  * rows without a result. */
 static PyObject *core_over_columns(PyObject *self, PyObject *const *given, Py_ssize_t count)
 {
-    PyTypeObject *workdays = state_of_module(self)->workdays;
+    const State *state = state_of_module(self);
     const ColumnCall *call = column_calls;
     size_t error_count = FOTS_LENGTH_MISMATCH;
     Columns columns;
@@ -99,8 +100,11 @@ static PyObject *core_over_columns(PyObject *self, PyObject *const *given, Py_ss
         PyErr_Format(PyExc_TypeError, "no call '%S'", given[0]);
         return NULL;
     }
-    if (call->has_workdays && !PyObject_TypeCheck(given[2], workdays)) {
-        wrong_kind(given[2], (PyObject *)workdays);
+    if (call->has_workdays && !PyObject_TypeCheck(given[2], state->workdays)) {
+        wrong_kind(given[2], (PyObject *)state->workdays);
+        return NULL;
+    }
+    if (call->has_format && !to_format(state, given[2], &columns.format)) {
         return NULL;
     }
     columns.count = 0;

@@ -64,7 +64,12 @@ def zone_resolve(
 def zone_columns(
     zone: tuple[bytes, int], policy: int | None, column: Any, results: Any, statuses: Any
 ) -> int: ...
-def over_columns(name: str, columns: tuple[Any, ...], workdays: Workdays | None) -> int: ...
+def format_new(text: str, is_description: bool) -> bytes: ...
+def format_value(value: object, format: str | bytes) -> str: ...
+def parse_value(kind: type, text: str, format: str | bytes) -> Any: ...
+def over_columns(
+    name: str, columns: tuple[Any, ...], extra: Workdays | bytes | None
+) -> int: ...
 def is_aligned(column: Any) -> bool: ...
 
 # ---- columns, which columns.py prepares
@@ -123,3 +128,15 @@ def dates_calendar_texts(dates: object) -> TextColumns:
 def moments_texts(dates: object, times: object, offsets: object) -> TextColumns:
     """Returns the texts of RFC 3339 of dates, nanoseconds since midnight and seconds of offsets,
     one after another."""
+def dates_parse_format(texts: object, bounds: object, format: str | Format) -> DateColumns:
+    """Parses texts in a buffer of bytes like `Date.strptime`.
+
+    >>> tuple(dates_parse_format(b"29/02/202430/02/2024", [0, 10, 20], "%d/%m/%Y"))
+    (array('i', [2460370, -2147483648]), array('B', [0, 64]), 1)
+    """
+def dates_format(dates: object, format: str | Format) -> TextColumns:
+    """Returns the texts of dates by a format, one after another.
+
+    >>> tuple(dates_format([Date(2024, 2, 29)], "%A"))
+    (b'Thursday', array('i', [0, 8]), array('B', [0]), 0)
+    """

@@ -5,6 +5,7 @@
 #include "operators.c"
 #include "workdays.c"
 #include "recurrence.c"
+#include "formats.c"
 #include "columns.c"
 #include "zones.c"
 

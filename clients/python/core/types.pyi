@@ -10,6 +10,7 @@ from typing_extensions import Self
 from .conversions import _DateMembers, _DateTimeMembers, _DurationMembers, _MomentMembers
 from .conversions import _OffsetMembers, _PlainMembers, _TimeMembers, _ValueMembers
 from .enums import Convention, DayCount, Month, Period, Weekday, YearFraction
+from .formats import Format, _FormatMembers
 
 # An int. One that doesn't fit the parameter in C becomes the nearest number, or one that the call
 # rejects by its name. One that must fit raises OverflowError.
@@ -66,7 +67,7 @@ class _TimeParts:
     def truncate_to_{hour,minute,second,millisecond,microsecond}(self) -> Self:
         "Sets all below the {hour,minute,second,millisecond,microsecond} to zero."
 
-class Date(_Value, _DateParts, _DateMembers):
+class Date(_Value, _DateParts, _DateMembers, _FormatMembers):
     """Date(year, month, day): a day of the proleptic Gregorian calendar, from MIN, -999999-01-01,
     to MAX, 999999-12-31.
 
@@ -150,7 +151,7 @@ class Date(_Value, _DateParts, _DateMembers):
         """Returns the {first day from this one on,last day up to this one} with a Weekday, or None
         out of range."""
 
-class Time(_Value, _TimeParts, _TimeMembers):
+class Time(_Value, _TimeParts, _TimeMembers, _FormatMembers):
     """Time(hour=0, minute=0, second=0, nanosecond=0): a time of day, from MIDNIGHT to MAX,
     23:59:59.999999999.
 
@@ -184,7 +185,7 @@ class Time(_Value, _TimeParts, _TimeMembers):
         """Returns a carry of -1, 0 or 1 days beyond whole days, and the time a duration
         {later,earlier}."""
 
-class UtcOffset(_Value, _OffsetMembers):
+class UtcOffset(_Value, _OffsetMembers, _FormatMembers):
     """UtcOffset(hours=0, minutes=0, seconds=0): an offset from UTC, from -25:59:59 to +25:59:59,
     positive to the east."""
     UTC: ClassVar[UtcOffset]
@@ -256,7 +257,7 @@ class SignedDuration(_Value, _DurationMembers):
     def saturating_mul(self, number: Fits) -> SignedDuration:
         "Returns the product with an int of 32 bits, or the nearest limit."
 
-class _DateTime(_Value, _DateParts, _TimeParts, _DateTimeMembers):
+class _DateTime(_Value, _DateParts, _TimeParts, _DateTimeMembers, _FormatMembers):
     def __add__(self, other: SignedDuration) -> Self: ...
     @overload
     def __sub__(self, other: Self) -> SignedDuration: ...

@@ -169,15 +169,19 @@ TextColumns.__doc__ = """The bytes of texts, one after another, and their bounds
 _R = TypeVar("_R")
 
 
-def call(kind: Callable[..., _R], name: str, reads: str, writes: str, workdays: Workdays | None,
-         **columns: Any) -> _R:
-    """Calls C for columns by their names, with numbers in these letters, and makes the result."""
+def call(kind: Callable[..., _R], name: str, reads: str, writes: str,
+         extra: Workdays | bytes | None, **columns: Any) -> _R:
+    """Calls C for columns by their names, with numbers in these letters and working days or a
+    format, and makes the result."""
     if all(map(_is_scalar, columns.values())):
         raise TypeError("expected a column; call a method of Date for one value")
     found = {one: _column(columns[one], code, one in ("dates", "others"))
         for one, code in zip(columns, reads) if one == "bounds" or not _is_scalar(columns[one])}
     rows = len(found["bounds"]) - 1 if "bounds" in found else len(next(iter(found.values())))
     room = {"dates_calendar_texts": 13, "moments_texts": 38}.get(name, 0)
+    if name == "dates_format" and isinstance(extra, bytes):
+        # 10 bytes for each item, of which the number comes first.
+        room = 10 * max(1, int.from_bytes(extra[:4], sys.byteorder))
     if rows < 0:
         raise ValueError("no bounds; expected one more than there are texts")
     if rows * room > 2**31 - 1:
@@ -193,7 +197,7 @@ def call(kind: Callable[..., _R], name: str, reads: str, writes: str, workdays: 
     made: dict[str, Any] = {one: array.array(code.replace("W", "B"), [0]) * lengths.get(one, rows)
         for one, code in zip(getattr(kind, "_fields"), writes)}
     read = (found[one] for one in columns)
-    error_count = _core.over_columns(name, (*read, *made.values()), workdays)
+    error_count = _core.over_columns(name, (*read, *made.values()), extra)
     if "texts" in made:
         made["texts"] = made["texts"][:made["bounds"][rows]].tobytes()
     like = _Like(columns)

@@ -21,8 +21,8 @@ def _adds_to(*kinds: type) -> Callable[[type], None]:
 
     def add(methods: type) -> None:
         for name, member in vars(methods).items():
-            if callable(member):
-                function = getattr(member, "__func__", member)
+            function = getattr(member, "__func__", member)
+            if callable(function):
                 # Errors and pickles name it as a member of a type of the package.
                 function.__module__ = "fotsevindre"
                 function.__qualname__ = f"{kinds[0].__name__}.{name}"

@@ -32,6 +32,11 @@ _MESSAGES = {
     34: "too many values in a part of a recurrence; expected at most 62",
     35: "invalid value in a part of a recurrence",
     36: "missing FREQ in a recurrence",
+    37: "invalid format; expected one that `Format` makes",
+    40: "the format shows something that the value doesn't have",
+    41: "the texts of the format don't determine such a value",
+    42: "the buffer has no room for the text",
+    43: "a component of the text contradicts the others",
     45: "invalid zone; expected the bytes of a file or a POSIX text",
     46: "invalid policy; expected a Policy",
     47: "the clocks of the zone skip the date and time",
@@ -70,6 +75,32 @@ class ParseError(ValueError):
 
     def __str__(self) -> str:
         return f"unexpected {'end' if self.is_end else 'byte'} at {self.position}"
+
+
+class ContradictionError(ValueError):
+    """A component of a text isn't the component of the value that the others determine, such as the
+    weekday of `Wed 2024-02-29`. `name` is its name."""
+
+    def __init__(self, name: str) -> None:
+        super().__init__(name)
+        self.name = name
+
+    def __str__(self) -> str:
+        return f"{self.name} contradicts the other components"
+
+
+class FormatError(ValueError):
+    """A text is not a format. No item begins at `position`, from 0, or it is `None`, if the format
+    has more than 64 items."""
+
+    def __init__(self, position: int | None) -> None:
+        super().__init__(position)
+        self.position = position
+
+    def __str__(self) -> str:
+        if self.position is None:
+            return "too many items in a format; expected at most 64"
+        return f"unknown item in a format at {self.position}"
 
 
 class ParseRuleErrorKind(enum.Enum):
@@ -132,6 +163,10 @@ def status_error(status: int, position: int | None = None, part: int = 0) -> Exc
         return ComponentRange(_core.status_name(status), status >= 64)
     if position is not None and status in (8, 31):
         return ParseError(position, status == 31)
+    if position is not None and status == 43:
+        return ContradictionError(_core.status_name(position))
+    if position is not None and status in (38, 39):
+        return FormatError(position if status == 38 else None)
     if position is not None and 32 <= status <= 36:
         kind = tuple(ParseRuleErrorKind)[status - 32]
         return ParseRuleError(position, kind, _PARTS[part - 1] if part else None)

@@ -28,7 +28,7 @@
 
 use crate::error::ComponentRange;
 use crate::ffi;
-use crate::{Date, Policy, Workdays, Zone};
+use crate::{Date, Format, Policy, Workdays, Zone};
 
 /// Why a row has no result.
 #[derive(Clone, Copy, Debug, PartialEq, Eq, Hash)]
@@ -49,6 +49,12 @@ pub enum RowError {
     UnexpectedByte,
     /// The text ends too early: more bytes could complete it.
     UnexpectedEnd,
+    /// The format shows something that a date doesn't have.
+    UnsupportedItem,
+    /// The texts of the format don't determine a date.
+    InsufficientFormat,
+    /// A component of the text contradicts the others.
+    Contradiction,
     /// The clocks of the zone skip the reading.
     SkippedTime,
     /// The clocks of the zone show the reading twice.
@@ -175,6 +181,9 @@ pub const MAX_DATE_LENGTH: usize = 13;
 /// The bytes for each row of [`moments_texts`].
 pub const MAX_MOMENT_LENGTH: usize = 38;
 
+/// The bytes for each item of the format and each row of [`dates_format`].
+pub const MAX_ITEM_LENGTH: usize = 10;
+
 /// Parses texts, like [`text::date::parse`](crate::text::date::parse).
 ///
 /// The text of row `k` is `bytes[bounds[k]..bounds[k + 1]]`, so there is one bound more than rows.
@@ -243,4 +252,37 @@ pub fn zone_offsets(zone: &Zone<'_>, seconds: &[i64], offsets: &mut [i32], statu
 #[track_caller]
 pub fn zone_instants(zone: &Zone<'_>, readings: &[i64], policy: Policy, seconds: &mut [i64], statuses: &mut [u8]) -> usize {
     zone.with(|zone| ffi::fots_zone_instants(zone, readings, policy as u32, seconds, statuses))
+}
+
+/// Parses dates by a format, like [`Date::parse`], from texts as in [`dates_parse`]. Why a row has
+/// no result is a [`RowError::Contradiction`] or [`RowError::InsufficientFormat`], too.
+///
+/// ```
+/// use fotsevindre::{columns, Format};
+///
+/// let day_first = Format::new("%d/%m/%Y").unwrap();
+/// let (mut dates, mut statuses) = ([0; 1], [0; 1]);
+/// assert_eq!(columns::dates_parse_format(b"29/02/2024", &[0, 10], &day_first, &mut dates, &mut statuses), 0);
+/// assert_eq!(dates, [2_460_370]);
+///
+/// let (mut bytes, mut bounds) = ([0; columns::MAX_ITEM_LENGTH], [0; 2]);
+/// let name = Format::new("%A").unwrap();
+/// assert_eq!(columns::dates_format(&dates, &name, &mut bytes, &mut bounds, &mut statuses), 0);
+/// assert_eq!(&bytes[..bounds[1] as usize], b"Thursday");
+/// ```
+#[track_caller]
+pub fn dates_parse_format(bytes: &[u8], bounds: &[i32], format: &Format, dates: &mut [i32], statuses: &mut [u8]) -> usize {
+    ffi::fots_dates_parse_format(bytes, bounds, format.c(), dates, statuses)
+}
+
+/// Writes dates by a format, like [`Date::format`], one text after another, and their bounds. If
+/// the format shows more than a date, each row is a [`RowError::UnsupportedItem`].
+///
+/// # Panics
+///
+/// Also if there are fewer than [`MAX_ITEM_LENGTH`] bytes for each item and row, or for each row if
+/// there is no item, or these are more than `i32::MAX`.
+#[track_caller]
+pub fn dates_format(dates: &[i32], format: &Format, bytes: &mut [u8], bounds: &mut [i32], statuses: &mut [u8]) -> usize {
+    ffi::fots_dates_format(dates, format.c(), bytes, bounds, statuses)
 }

@@ -73,6 +73,11 @@ pub enum ParseError {
     UnexpectedEnd(usize),
     /// The text has the form, and this component is out of range.
     OutOfRange(ComponentRange),
+    /// The component with this name isn't the component of the value that the others determine: the
+    /// weekday of `Wed 2024-02-29`. Only for a [`Format`](crate::Format).
+    Contradiction(&'static str),
+    /// The texts of the [`Format`](crate::Format) don't determine a value.
+    InsufficientFormat,
 }
 
 impl fmt::Display for ParseError {
@@ -81,11 +86,49 @@ impl fmt::Display for ParseError {
             Self::UnexpectedByte(position) => write!(f, "unexpected byte at {position}"),
             Self::UnexpectedEnd(position) => write!(f, "unexpected end at {position}"),
             Self::OutOfRange(error) => error.fmt(f),
+            Self::Contradiction(name) => write!(f, "{name} contradicts the other components"),
+            Self::InsufficientFormat => f.write_str("the texts of the format don't determine a value"),
         }
     }
 }
 
 impl core::error::Error for ParseError {}
+
+/// A text is not a format.
+///
+/// It prints as `unknown item at 4` or `too many items`.
+#[derive(Clone, Copy, Debug, PartialEq, Eq, Hash)]
+pub enum FormatError {
+    /// No item begins at this position.
+    UnknownItem(usize),
+    /// The format has more than 64 items.
+    TooLong,
+}
+
+impl fmt::Display for FormatError {
+    fn fmt(&self, f: &mut fmt::Formatter<'_>) -> fmt::Result {
+        match self {
+            Self::UnknownItem(position) => write!(f, "unknown item at {position}"),
+            Self::TooLong => f.write_str("too many items"),
+        }
+    }
+}
+
+impl core::error::Error for FormatError {}
+
+/// A format shows something that the value doesn't have, such as the hour of a date.
+///
+/// It prints as `the format shows something that the value doesn't have`.
+#[derive(Clone, Copy, Debug, PartialEq, Eq, Hash)]
+pub struct UnsupportedItem;
+
+impl fmt::Display for UnsupportedItem {
+    fn fmt(&self, f: &mut fmt::Formatter<'_>) -> fmt::Result {
+        f.write_str("the format shows something that the value doesn't have")
+    }
+}
+
+impl core::error::Error for UnsupportedItem {}
 
 /// A duration is outside the range of the target type.
 ///

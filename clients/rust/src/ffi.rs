@@ -6,7 +6,7 @@
 //! `#[inline]`, which saves a call.
 
 use crate::columns::RowError;
-use crate::error::{ComponentRange, ParseError};
+use crate::error::{ComponentRange, FormatError, ParseError};
 use crate::recurrence::ParseRuleError;
 use crate::rule::{ByDay, Rule};
 use crate::zone::ZoneError;
@@ -19,6 +19,8 @@ pub(crate) type Status = i32;
 /// The parts of a rule, from [`with_parts`] only.
 pub(crate) type CRulePointer<'a> = &'a CRule;
 
+/// A format, from [`Format`](crate::Format) only.
+pub(crate) type CFormatPointer<'a> = &'a CFormat;
 /// Working days that a call made, from [`crate::Workdays`] only.
 pub(crate) type CWorkdaysPointer<'a> = &'a CWorkdays;
 /// The bytes of a zone, from [`with_zone`] only.
@@ -183,7 +185,20 @@ impl ParseError {
         match status {
             UNEXPECTED_BYTE => Self::UnexpectedByte(position),
             UNEXPECTED_END => Self::UnexpectedEnd(position),
+            CONTRADICTION => Self::Contradiction(component(position as Status).unwrap_or_else(|| unexpected(status))),
+            INSUFFICIENT_FORMAT => Self::InsufficientFormat,
             status => Self::OutOfRange(ComponentRange::from_status(status)),
+        }
+    }
+}
+
+impl FormatError {
+    /// Converts from a status and the position.
+    fn from_status(status: Status, position: usize) -> Self {
+        match status {
+            UNKNOWN_ITEM => Self::UnknownItem(position),
+            TOO_MANY_ITEMS => Self::TooLong,
+            status => unexpected(status),
         }
     }
 }
@@ -252,6 +267,9 @@ pub(crate) fn row_error_of_status(status: Status) -> Option<RowError> {
         INVALID_BOUNDS => Some(RowError::InvalidBounds),
         UNEXPECTED_BYTE => Some(RowError::UnexpectedByte),
         UNEXPECTED_END => Some(RowError::UnexpectedEnd),
+        UNSUPPORTED_ITEM => Some(RowError::UnsupportedItem),
+        INSUFFICIENT_FORMAT => Some(RowError::InsufficientFormat),
+        CONTRADICTION => Some(RowError::Contradiction),
         SKIPPED_TIME => Some(RowError::SkippedTime),
         REPEATED_TIME => Some(RowError::RepeatedTime),
         status => Some(RowError::OutOfRange(ComponentRange::from_status(status))),

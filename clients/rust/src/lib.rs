@@ -25,6 +25,7 @@ mod duration;
 pub mod error;
 #[allow(unsafe_code)]
 mod ffi;
+mod format;
 pub mod iter;
 mod local;
 mod month;
@@ -46,6 +47,7 @@ mod zone;
 
 pub use date::Date;
 pub use duration::{Duration, SignedDuration};
+pub use format::{Format, FormatText};
 pub use local::{Gap, Local, Policy};
 pub use month::Month;
 pub use offset_date_time::OffsetDateTime;

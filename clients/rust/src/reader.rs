@@ -76,7 +76,7 @@ where
         // If the first part ends too early, the space is wrong.
         Err(ParseError::UnexpectedEnd(_)) if space.is_some() => return Err(ParseError::UnexpectedByte(end)),
         Err(error @ (ParseError::UnexpectedByte(_) | ParseError::UnexpectedEnd(_))) => return Err(error),
-        Ok(_) | Err(ParseError::OutOfRange(_)) => {}
+        _ => {}
     }
     let rest = text.get(end + 1..).ok_or(ParseError::UnexpectedEnd(end))?;
     match rest.parse() {

@@ -17,3 +17,5 @@ pub mod Recurring
 pub mod Walks
 pub mod OneAnswer
 pub mod ZoneResults
+pub mod FormatItems
+pub mod FormatPrinting

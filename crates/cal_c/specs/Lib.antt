@@ -14,3 +14,5 @@ pub mod RecurrenceParts
 pub mod CheckedWorkdays
 pub mod Zones
 pub mod ZoneColumns
+pub mod Formats
+pub mod FormatTexts

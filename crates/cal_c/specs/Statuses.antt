@@ -130,6 +130,29 @@ invalid_value = pos 35
 abbrev pub missing_frequency : ℤ
 missing_frequency = pos 36
 
+-- The numbers are not a format.
+abbrev pub invalid_format : ℤ
+invalid_format = pos 37
+
+-- No item of a format begins at the position, or the format has more than 64 items.
+abbrev pub unknown_item : ℤ
+unknown_item = pos 38
+
+abbrev pub too_many_items : ℤ
+too_many_items = pos 39
+
+-- An item of the format shows something that the value doesn't have.
+abbrev pub unsupported_item : ℤ
+unsupported_item = pos 40
+
+-- The texts of the format don't determine a value, or show more than one.
+abbrev pub insufficient_format : ℤ
+insufficient_format = pos 41
+
+-- The buffer has no room for the text.
+abbrev pub buffer_too_short : ℤ
+buffer_too_short = pos 42
+
 -- The form of a zone or a policy is invalid.
 abbrev pub invalid_zone : ℤ
 invalid_zone = pos 45

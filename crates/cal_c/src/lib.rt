@@ -1,5 +1,5 @@
-//! The calendar for C: calls over `cal_time`, `cal_datetime`, `cal_schedule` and `cal_text`, for
-//! any arguments that C can pass.
+//! The calendar for C: calls over `cal_time`, `cal_datetime`, `cal_format`, `cal_schedule` and
+//! `cal_text`, for any arguments that C can pass.
 //!
 //! Values are plain numbers: a date is its Julian day, a time of day its nanoseconds since
 //! midnight, an offset its seconds, a duration its seconds and nanoseconds, a month is from 1 to
@@ -51,6 +51,7 @@ mod cycle;
 mod date;
 mod day_number;
 mod duration;
+mod formats;
 mod laws;
 mod moment;
 mod offset;

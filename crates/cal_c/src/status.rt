@@ -93,6 +93,24 @@ pub const INVALID_VALUE: i32 = 35;
 /// The recurrence has no frequency.
 pub const MISSING_FREQUENCY: i32 = 36;
 
+/// The numbers are not a format.
+pub const INVALID_FORMAT: i32 = 37;
+
+/// No item of a format begins at the position.
+pub const UNKNOWN_ITEM: i32 = 38;
+
+/// The format has more than 64 items.
+pub const TOO_MANY_ITEMS: i32 = 39;
+
+/// An item of the format shows something that the value doesn't have.
+pub const UNSUPPORTED_ITEM: i32 = 40;
+
+/// The texts of the format don't determine a value, or show more than one.
+pub const INSUFFICIENT_FORMAT: i32 = 41;
+
+/// The buffer has no room for the text.
+pub const BUFFER_TOO_SHORT: i32 = 42;
+
 /// The form of a zone is not a number of one.
 pub const INVALID_ZONE: i32 = 45;
 

@@ -1,5 +1,5 @@
 //! Formats.
-ghost use Rattle.std.specs.Prelude.{◌≡◌, ℕ, ◌+◌, ◌<◌, ◌≤◌, ◌^◌, ◌++◌, ◌∷◌, List, [], Ok, ◌⊎◌, IfOk, OnOk, IfErr, length, get_or};
+ghost use Rattle.std.specs.Prelude.{◌≡◌, ℕ, ◌+◌, ◌<◌, ◌≤◌, ◌^◌, ◌++◌, ◌∷◌, ◌↔◌, List, [], Ok, ◌⊎◌, IsTrue, IfOk, OnOk, IfErr, length, get_or};
 ghost use Rattle.cal_format.specs.declared.item.Item.{Item};
 ghost use Rattle.cal_format.specs.declared.item.Syntax.TheVariants.{Percent, Brackets};
 ghost use Rattle.cal_format.specs.declared.format.FormatError.TheVariants.{UnknownItem, TooLong};
@@ -66,18 +66,39 @@ impl Format {
         ensures value { IfOk result (λ items. Spells syntax text.now items [] × (length items ≤ 64)) }
         ensures error { IfErr result (IsFaultOf syntax 0 0 text.now) }
     {
-        let mut format = Format {
-            items: [Item::OffsetSign; CAPACITY],
-            count: 0,
-        };
+        let mut format = Format::empty();
         match format.add(text, 0, syntax) {
             Ok(()) => Ok(format),
             Err(error) => Err(error),
         }
     }
 
+    /// Creates a format without items.
+    pub fn empty() -> Format
+        ensures { result ≡ [] }
+    {
+        Format {
+            items: [Item::OffsetSign; CAPACITY],
+            count: 0,
+        }
+    }
+
+    /// Appends an item and returns `true`. If the format has 64 items, it stays as it is, and the
+    /// result is `false`.
+    pub fn try_push(&mut self, item: Item) -> bool
+        ensures room { IsTrue result ↔ (length self.old < 64) }
+        ensures value { IsTrue result → self.new ≡ self.old ++ item ∷ [] }
+        ensures full { ¬ IsTrue result → self.new ≡ self.old }
+    {
+        if self.room() == 0 {
+            return false;
+        }
+        self.push(item);
+        true
+    }
+
     /// Returns the items.
-    pub(crate) fn items(&self) -> &[Item]
+    pub fn items(&self) -> &[Item]
         ensures items { result.now ≡ self.now }
         ensures few { length result.now ≤ 64 }
     {

@@ -102,7 +102,7 @@ pub enum Item {
 
 /// The syntax of a format.
 #[derive(Clone, Copy)]
-pub(crate) enum Syntax {
+pub enum Syntax {
     /// Letters after percent signs.
     Percent,
     /// Words in brackets.
@@ -157,7 +157,7 @@ impl Component {
 
     /// Returns its place among the components.
     #[inline(always)]
-    pub(crate) fn index(self) -> usize
+    pub fn index(self) -> usize
         ensures value { result ≡ index self }
         ensures range { result < 25 }
     {

@@ -39,6 +39,7 @@ pub use date_format::DateFormat;
 pub use date_time_format::DateTimeFormat;
 pub use error::ParseError;
 pub use format::{Format, FormatError};
+pub use item::{Component, Item, Name, Padding, Syntax};
 pub use offset_date_time_format::OffsetDateTimeFormat;
 pub use offset_format::OffsetFormat;
 pub use time_format::TimeFormat;

@@ -16,6 +16,11 @@ pub(crate) const DUPLICATE_PART: Status = 33;
 pub(crate) const TOO_MANY_VALUES: Status = 34;
 pub(crate) const INVALID_VALUE: Status = 35;
 pub(crate) const MISSING_FREQUENCY: Status = 36;
+pub(crate) const UNKNOWN_ITEM: Status = 38;
+pub(crate) const TOO_MANY_ITEMS: Status = 39;
+pub(crate) const UNSUPPORTED_ITEM: Status = 40;
+pub(crate) const INSUFFICIENT_FORMAT: Status = 41;
+pub(crate) const CONTRADICTION: Status = 43;
 pub(crate) const SKIPPED_TIME: Status = 47;
 pub(crate) const REPEATED_TIME: Status = 48;
 pub(crate) const DAY_OUT_OF_RANGE: Status = 64;
@@ -80,6 +85,8 @@ structs! {
         weekdays_length: u32, months: [u8; 62], month_days: [i8; 62], weekdays: [CRuleWeekday; 62],
     };
     CWorkdays { weekmask: u32, holidays_length: u32, holidays: [i32; 1024], marked_before: [u16; 1025] };
+    CFormatItem { kind: u8, value: u8 };
+    CFormat { length: u32, items: [CFormatItem; 64] };
     CRule {
         start: i32, until: i32, frequency: u32, interval: u32, week_start: u32, months: *const u8, months_length: usize,
         month_days: *const i8, month_days_length: usize, weekdays: *const CRuleWeekday, weekdays_length: usize,
@@ -106,6 +113,10 @@ results! {
     TextResult { length: u32, bytes: [u8; 40] } else Status;
     ParseDateResult { date: i32, position: usize } else ParseError(position);
     ParseMomentResult { date: i32, time: u64, offset: i32, position: usize } else ParseError(position);
+    ParseTimeResult { time: u64, position: usize } else ParseError(position);
+    ParseOffsetResult { offset: i32, position: usize } else ParseError(position);
+    FormatResult { format: CFormat, position: usize } else FormatError(position);
+    LengthResult { length: usize } else Status;
     PeriodResult { years: i32, months: i32, days: i32 } else Status;
     RecurrenceResult { part: u32, length: usize, position: usize } else ParseRuleError(part, position);
     ParseRecurrenceResult { part: u32, position: usize, recurrence: CRecurrence } else ParseRuleError(part, position);
@@ -282,6 +293,18 @@ calls! {
     fots_julian_day_parse(text: &[u8]) -> ParseDateResult;
     fots_moment_parse(text: &[u8]) -> ParseMomentResult;
     fots_unix_parse(text: &[u8]) -> ParseMomentResult;
+    fots_format_new(text: &[u8]) -> FormatResult;
+    fots_format_from_description(text: &[u8]) -> FormatResult;
+    fots_date_format(date: i32, format: CFormatPointer, bytes: &mut [u8]) -> LengthResult;
+    fots_time_format(time: u64, format: CFormatPointer, bytes: &mut [u8]) -> LengthResult;
+    fots_offset_format(offset: i32, format: CFormatPointer, bytes: &mut [u8]) -> LengthResult;
+    fots_pair_format(date: i32, time: u64, format: CFormatPointer, bytes: &mut [u8]) -> LengthResult;
+    fots_moment_format(moment: CMoment, format: CFormatPointer, bytes: &mut [u8]) -> LengthResult;
+    fots_date_parse_format(text: &[u8], format: CFormatPointer) -> ParseDateResult;
+    fots_time_parse_format(text: &[u8], format: CFormatPointer) -> ParseTimeResult;
+    fots_offset_parse_format(text: &[u8], format: CFormatPointer) -> ParseOffsetResult;
+    fots_pair_parse_format(text: &[u8], format: CFormatPointer) -> ParseMomentResult;
+    fots_moment_parse_format(text: &[u8], format: CFormatPointer) -> ParseMomentResult;
     fots_dates_from_julian_days(julian_days: &[i64], dates: &mut [i32], statuses: &mut [u8]) -> usize;
     fots_dates_from_calendar_dates(years: &[i32], months: &[u8], days: &[u8], dates: &mut [i32], statuses: &mut [u8]) -> usize;
     fots_dates_from_ordinal_dates(years: &[i32], ordinals: &[u16], dates: &mut [i32], statuses: &mut [u8]) -> usize;
@@ -308,6 +331,8 @@ calls! {
     fots_moments_texts(
         dates: &[i32], times: &[u64], offsets: &[i32], bytes: &mut [u8], bounds: &mut [i32], statuses: &mut [u8],
     ) -> usize;
+    fots_dates_parse_format(bytes: &[u8], bounds: &[i32], format: CFormatPointer, dates: &mut [i32], statuses: &mut [u8]) -> usize;
+    fots_dates_format(dates: &[i32], format: CFormatPointer, bytes: &mut [u8], bounds: &mut [i32], statuses: &mut [u8]) -> usize;
     fots_zone_check(zone: CZonePointer) -> ZoneResult;
     fots_zone_offset(zone: CZonePointer, seconds: i64) -> OffsetResult;
     fots_zone_local_type(zone: CZonePointer, seconds: i64) -> LocalTypeResult;

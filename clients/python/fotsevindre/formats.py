@@ -1,0 +1,81 @@
+"""Formats of texts, and what the values do with them."""
+
+# mypy: no-warn-return-any
+from __future__ import annotations
+
+from typing import TYPE_CHECKING, Any
+
+from . import _core
+from ._core import Date, OffsetDateTime, PlainDateTime, Time, UtcOffset
+from .conversions import _adds_to
+
+if TYPE_CHECKING:
+    from typing_extensions import Self
+
+
+class Format:
+    """Format(text): a format in the syntax of `strftime`, such as "%d/%m/%Y".
+
+    Values take it in place of such a text, which is then not read anew by each call. A text that
+    isn't a format raises `FormatError`.
+    """
+
+    __slots__ = ("_items", "_is_description", "_text")
+
+    def __init__(self, text: str) -> None:
+        self._set(text, False)
+
+    def _set(self, text: str, is_description: bool) -> None:
+        self._items = _core.format_new(text, is_description)
+        self._text = text
+        self._is_description = is_description
+
+    @classmethod
+    def from_description(cls, text: str) -> Self:
+        """Creates a format in the syntax of the Rust crate `time`, such as
+        "[day]/[month]/[year]"."""
+        format = cls.__new__(cls)
+        format._set(text, True)
+        return format
+
+    def __eq__(self, other: object) -> bool:
+        return self._items == other._items if isinstance(other, Format) else NotImplemented
+
+    def __hash__(self) -> int:
+        return hash(self._items)
+
+    def __repr__(self) -> str:
+        return f"Format{'.from_description' * self._is_description}({self._text!r})"
+
+    def __reduce__(self) -> tuple[Any, ...]:
+        return Format.from_description if self._is_description else Format, (self._text,)
+
+
+def _items_of(format: str | Format) -> str | bytes:
+    return format._items if isinstance(format, Format) else format
+
+
+def bytes_of(format: str | Format) -> bytes:
+    """Returns the struct of C."""
+    return (format if isinstance(format, Format) else Format(format))._items
+
+
+@_adds_to(Date, Time, UtcOffset, PlainDateTime, OffsetDateTime)
+class _FormatMembers:
+    def strftime(self: Any, format: str | Format) -> str:
+        """Returns the text by a format, or raises `ValueError` if the format shows more than the
+        value has."""
+        return _core.format_value(self, _items_of(format))
+
+    @classmethod
+    def strptime(cls, text: str, format: str | Format) -> Self:
+        """Parses the text of a value by a format, and no other text, or raises `ParseError`,
+        `ComponentRange` or `ContradictionError`; `ValueError` if the texts of the format don't
+        determine such a value."""
+        return _core.parse_value(cls, text, _items_of(format))
+
+    def __format__(self: Any, specification: str) -> str:
+        """Formats by a format, which has a percent sign, or else the text of the value."""
+        if "%" in specification:
+            return _core.format_value(self, specification)
+        return format(str(self), specification)

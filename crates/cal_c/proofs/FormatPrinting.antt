@@ -1,0 +1,19 @@
+-- A text of a format that is printed to a buffer of its own, and then written.
+use Rattle.std.proofs.Common.{◌≡◌, ℕ, ◌≤◌, List, length, take, refl, sym, subst, ◌↔◌}
+use Rattle.std.specs.Prelude.{Option, Some, None, IsSome, IfSome, Bool, IsTrue}
+use Rattle.cal_c.specs.FormatTexts.{IsPrinted, IsUnprinted, IsWritten, length_error}
+use Rattle.cal_c.specs.Statuses.{unsupported_item}
+use Rattle.cal_c.specs.declared.formats.results.LengthResult.{LengthResult}
+
+pub printed : (shown : Bool) (text buffer old new : List ℕ) (room : ℕ) (end : Option ℕ) (r : LengthResult)
+    → length text ≤ room → (IsSome end ↔ (IsTrue shown × (length text ≤ room))) → IfSome end (λ n. take n buffer ≡ text)
+    → (end ≡ None → IsUnprinted old new r (length_error unsupported_item)) → IfSome end (λ n. IsWritten (take n buffer) old new r)
+    → IsPrinted shown text old new r
+printed shown text buffer old new room None r short fits is none some = record {
+  unsupported_item = λ _. none refl;
+  written = λ t. let no = fits.1 (t, short) in cc;
+}
+printed shown text buffer old new room (Some n) r short fits is none some = record {
+  unsupported_item = λ no. absurd (no (fits.0 refl).0);
+  written = λ _. subst (λ t. IsWritten t old new r) is some;
+}

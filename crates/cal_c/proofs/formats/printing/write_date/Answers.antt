@@ -1,0 +1,15 @@
+use Rattle.std.proofs.Common.{ℕ, ◌≤◌, length, arith, rules}
+use Rattle.std.proofs.lemmas.List.{length-replicate}
+use Rattle.cal_format.specs.Moment.{IsMoment, moment_of_date}
+use Rattle.cal_format.specs.Reading.{are_date_items}
+use Rattle.cal_format.specs.Text.{text_of}
+use Rattle.cal_format.proofs.Lengths.{text-short}
+use Rattle.cal_c.proofs.FormatPrinting.{printed}
+use Rattle.cal_c.proofs.formats.printing.write_date.Goals as goal
+
+pub returns : goal.returns
+returns c =
+    let moment : IsMoment (moment_of_date c.args.date) = record { date = search rules; time = search rules; offset = search rules } in
+    let short = text-short c.args.format.now (moment_of_date c.args.date) moment in
+    printed (are_date_items c.args.format.now) (text_of c.args.format.now (moment_of_date c.args.date)) c.print_date-end.new.buffer c.args.bytes.now c.write.new.bytes _ c.print_date-end.result c.write.result
+    (omega (arith, short, c.requires, length-replicate {A = ℕ} 640 0)) c.print_date-end.ensures.room c.print_date-end.ensures.text c.write.ensures.none c.write.ensures.some

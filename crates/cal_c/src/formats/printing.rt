@@ -1,0 +1,191 @@
+//! Values in the text of a format.
+ghost use Rattle.std.specs.Prelude.{◌≡◌, ◌≤◌, List, None, IfSome, length, take, true};
+ghost use Rattle.cal_time.specs.Time.{IsTime};
+ghost use Rattle.cal_time.specs.UtcOffset.{IsOffset};
+ghost use Rattle.cal_datetime.specs.DateTime.{date_time};
+ghost use Rattle.cal_format.specs.declared.item.Item.{Item};
+ghost use Rattle.cal_format.specs.Moment.{moment_of_date, moment_of_time, moment_of_offset, moment_of_date_time, moment_of_offset_date_time};
+ghost use Rattle.cal_format.specs.Reading.{are_date_items, are_time_items, are_offset_items, are_date_time_items};
+ghost use Rattle.cal_format.specs.Text.{text_of};
+ghost use Rattle.cal_c.specs.Formats.{HasItems, IsFormat};
+ghost use Rattle.cal_c.specs.FormatTexts.{IsPrinted, IsUnprinted, IsWritten, length_error};
+ghost use Rattle.cal_c.specs.Moments.{IsMoment, local_and_offset_in};
+ghost use Rattle.cal_c.specs.Statuses.{invalid_date, invalid_time, invalid_offset, invalid_moment, invalid_format, unsupported_item};
+ghost use Rattle.cal_c.specs.Values.{IsJulianDay, day_of};
+
+use super::format_parts::FormatParts;
+use super::results::LengthResult;
+use crate::moment::valid_moment;
+use crate::results::Moment;
+use crate::status::{
+    INVALID_DATE, INVALID_FORMAT, INVALID_MOMENT, INVALID_OFFSET, INVALID_TIME, UNSUPPORTED_ITEM,
+};
+use crate::values::{valid_date, valid_offset, valid_time};
+use cal_datetime::{OffsetDateTime, PlainDateTime};
+use cal_format::Format;
+use cal_time::{Date, Time, UtcOffset};
+
+/// The maximum length of a text: 64 items of 10 bytes.
+const MAX_LENGTH: usize = 640;
+
+/// Writes the bytes of a text to the front of a buffer. A text of `None` is one that the format
+/// doesn't have.
+fn write(text: &[u8], end: Option<usize>, bytes: &mut [u8]) -> LengthResult
+    requires { IfSome end (λ n. n ≤ length text.now) }
+    ensures none { end ≡ None → IsUnprinted bytes.old bytes.new result (length_error unsupported_item) }
+    ensures some { IfSome end (λ n. IsWritten (take n text.now) bytes.old bytes.new result) }
+{
+    let length = or_error!(LengthResult, end, UNSUPPORTED_ITEM);
+    if length > bytes.len() {
+        return LengthResult::too_short(length);
+    }
+    bytes[..length].copy_from_slice(&text[..length]);
+    LengthResult::ok(length)
+}
+
+/// Prints a date, such as `29/02/2024` by `%d/%m/%Y`.
+#[unsafe(no_mangle)]
+pub extern "C" fn fots_date_format(
+    date: i32,
+    format: &FormatParts,
+    bytes: &mut [u8],
+) -> LengthResult
+    ensures invalid_date { ¬ IsJulianDay date
+        → IsUnprinted bytes.old bytes.new result (length_error invalid_date) }
+    ensures invalid_format { IsJulianDay date → ¬ IsFormat format.now
+        → IsUnprinted bytes.old bytes.new result (length_error invalid_format) }
+    ensures value { IsJulianDay date → (items : List Item) → HasItems format.now items
+        → IsPrinted (are_date_items items) (text_of items (moment_of_date (day_of date))) bytes.old bytes.new result }
+{
+    let date = or_error!(LengthResult, valid_date(date), INVALID_DATE);
+    let format = or_error!(LengthResult, format.to_format(), INVALID_FORMAT);
+    write_date(date, &format, bytes)
+}
+
+fn write_date(date: Date, format: &Format, bytes: &mut [u8]) -> LengthResult
+    requires { length format.now ≤ 64 }
+    ensures { IsPrinted (are_date_items format.now) (text_of format.now (moment_of_date date)) bytes.old bytes.new result }
+{
+    // This call states that the date is in its range. It costs nothing.
+    let _ = date.to_julian_day();
+    let mut text = [0; MAX_LENGTH];
+    let end = format.print_date(date, &mut text);
+    write(&text, end, bytes)
+}
+
+/// Prints a time of day, such as `23:59` by `%H:%M`.
+#[unsafe(no_mangle)]
+pub extern "C" fn fots_time_format(
+    time: u64,
+    format: &FormatParts,
+    bytes: &mut [u8],
+) -> LengthResult
+    ensures invalid_time { ¬ IsTime time
+        → IsUnprinted bytes.old bytes.new result (length_error invalid_time) }
+    ensures invalid_format { IsTime time → ¬ IsFormat format.now
+        → IsUnprinted bytes.old bytes.new result (length_error invalid_format) }
+    ensures value { IsTime time → (items : List Item) → HasItems format.now items
+        → IsPrinted (are_time_items items) (text_of items (moment_of_time time)) bytes.old bytes.new result }
+{
+    let time = or_error!(LengthResult, valid_time(time), INVALID_TIME);
+    let format = or_error!(LengthResult, format.to_format(), INVALID_FORMAT);
+    write_time(time, &format, bytes)
+}
+
+fn write_time(time: Time, format: &Format, bytes: &mut [u8]) -> LengthResult
+    requires { length format.now ≤ 64 }
+    ensures { IsPrinted (are_time_items format.now) (text_of format.now (moment_of_time time)) bytes.old bytes.new result }
+{
+    let mut text = [0; MAX_LENGTH];
+    let end = format.print_time(time, &mut text);
+    write(&text, end, bytes)
+}
+
+/// Prints an offset, such as `+05:30` by `%:z`.
+#[unsafe(no_mangle)]
+pub extern "C" fn fots_offset_format(
+    offset: i32,
+    format: &FormatParts,
+    bytes: &mut [u8],
+) -> LengthResult
+    ensures invalid_offset { ¬ IsOffset offset
+        → IsUnprinted bytes.old bytes.new result (length_error invalid_offset) }
+    ensures invalid_format { IsOffset offset → ¬ IsFormat format.now
+        → IsUnprinted bytes.old bytes.new result (length_error invalid_format) }
+    ensures value { IsOffset offset → (items : List Item) → HasItems format.now items
+        → IsPrinted (are_offset_items items) (text_of items (moment_of_offset offset)) bytes.old bytes.new result }
+{
+    let offset = or_error!(LengthResult, valid_offset(offset), INVALID_OFFSET);
+    let format = or_error!(LengthResult, format.to_format(), INVALID_FORMAT);
+    write_offset(offset, &format, bytes)
+}
+
+fn write_offset(offset: UtcOffset, format: &Format, bytes: &mut [u8]) -> LengthResult
+    requires { length format.now ≤ 64 }
+    ensures { IsPrinted (are_offset_items format.now) (text_of format.now (moment_of_offset offset)) bytes.old bytes.new result }
+{
+    let mut text = [0; MAX_LENGTH];
+    let end = format.print_offset(offset, &mut text);
+    write(&text, end, bytes)
+}
+
+/// Prints a date, a time of day and an offset.
+#[unsafe(no_mangle)]
+pub extern "C" fn fots_moment_format(
+    moment: Moment,
+    format: &FormatParts,
+    bytes: &mut [u8],
+) -> LengthResult
+    ensures invalid_moment { ¬ IsMoment moment
+        → IsUnprinted bytes.old bytes.new result (length_error invalid_moment) }
+    ensures invalid_format { IsMoment moment → ¬ IsFormat format.now
+        → IsUnprinted bytes.old bytes.new result (length_error invalid_format) }
+    ensures value { IsMoment moment → (items : List Item) → HasItems format.now items
+        → IsPrinted true (text_of items (moment_of_offset_date_time (local_and_offset_in moment))) bytes.old bytes.new result }
+{
+    let moment = or_error!(LengthResult, valid_moment(moment), INVALID_MOMENT);
+    let format = or_error!(LengthResult, format.to_format(), INVALID_FORMAT);
+    write_offset_date_time(moment, &format, bytes)
+}
+
+fn write_offset_date_time(moment: OffsetDateTime, format: &Format, bytes: &mut [u8]) -> LengthResult
+    requires { length format.now ≤ 64 }
+    ensures { IsPrinted true (text_of format.now (moment_of_offset_date_time moment)) bytes.old bytes.new result }
+{
+    let mut text = [0; MAX_LENGTH];
+    let end = format.print_offset_date_time(moment, &mut text);
+    write(&text, end, bytes)
+}
+
+/// Prints a date and a time of day.
+#[unsafe(no_mangle)]
+pub extern "C" fn fots_pair_format(
+    date: i32,
+    time: u64,
+    format: &FormatParts,
+    bytes: &mut [u8],
+) -> LengthResult
+    ensures invalid_date { ¬ IsJulianDay date
+        → IsUnprinted bytes.old bytes.new result (length_error invalid_date) }
+    ensures invalid_time { IsJulianDay date → ¬ IsTime time
+        → IsUnprinted bytes.old bytes.new result (length_error invalid_time) }
+    ensures invalid_format { IsJulianDay date → IsTime time → ¬ IsFormat format.now
+        → IsUnprinted bytes.old bytes.new result (length_error invalid_format) }
+    ensures value { IsJulianDay date → IsTime time → (items : List Item) → HasItems format.now items
+        → IsPrinted (are_date_time_items items)
+        (text_of items (moment_of_date_time (date_time (day_of date) time))) bytes.old bytes.new result }
+{
+    let date = or_error!(LengthResult, valid_date(date), INVALID_DATE);
+    let time = or_error!(LengthResult, valid_time(time), INVALID_TIME);
+    let format = or_error!(LengthResult, format.to_format(), INVALID_FORMAT);
+    write_date_time(PlainDateTime::new(date, time), &format, bytes)
+}
+
+fn write_date_time(date_time: PlainDateTime, format: &Format, bytes: &mut [u8]) -> LengthResult
+    requires { length format.now ≤ 64 }
+    ensures { IsPrinted (are_date_time_items format.now) (text_of format.now (moment_of_date_time date_time)) bytes.old bytes.new result }
+{
+    let mut text = [0; MAX_LENGTH];
+    let end = format.print_date_time(date_time, &mut text);
+    write(&text, end, bytes)
+}
