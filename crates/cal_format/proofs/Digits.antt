@@ -4,9 +4,7 @@ use Rattle.std.specs.Prelude.{decimal, fold}
 use Rattle.std.proofs.lemmas.Fmt.{decimal_by_steps, length-decimal-le}
 use Rattle.std.proofs.lemmas.List.{length-replicate, take-replicate, take_all}
 use Rattle.std.proofs.lemmas.List.Sums.{fold-append}
-use Rattle.cal_units.proofs.Decimals.{decimals-few}
-use Rattle.cal_units.proofs.Digits.{digits_at_least-two}
-use Rattle.cal_units.proofs.YearTexts.{four_digits}
+use Rattle.cal_time.specs.Laws.{digits_at_least-two, digits_at_least-four, length-decimals}
 use Rattle.cal_format.specs.declared.item.Padding.{Padding}
 use Rattle.cal_format.specs.declared.item.Padding.TheVariants as padding
 use Rattle.cal_format.specs.declared.item.Component.{Component}
@@ -15,7 +13,7 @@ use Rattle.cal_format.specs.Moment.{width}
 use Rattle.cal_format.specs.Text.{padded}
 use Rattle.cal_format.specs.Scanning.{step, AreDigits, BeginsApart}
 
-pub ruleset digits = (digits_at_least-two, four_digits)
+pub ruleset digits = (digits_at_least-two, digits_at_least-four)
 
 -- ---- the number that digits spell
 pub step-digit : (n m : ℕ) → m ≡ n / 10 → n < 2 ^ 32 → step m (48 + n % 10) ≡ n
@@ -84,7 +82,7 @@ pub ruleset short_decimals = (short-decimal)
 
 pub ruleset fills = (fill-is)
 
-pub ruleset short_fractions = (decimals-few)
+pub ruleset short_fractions = (length-decimals)
 
 -- Digits at the front of a text, one by one.
 pub digits-empty : (digits after text : List ℕ) → text ≡ digits ++ after → length text ≡ 0 → 0 ≡ length digits

@@ -10,14 +10,14 @@ use Rattle.cal_text.specs.Shape.{decimals_value}
 use Rattle.cal_text.proofs.DigitParts.{has_value, is_digit}
 use Rattle.cal_text.proofs.ReadDigits.{value-of, all-append}
 use Rattle.cal_time.specs.Digits.{nine_digits, prepend_digit, without_trailing_zeros, decimals}
-use Rattle.cal_units.proofs.Decimals.{is-before-other, none-of-zero}
+use Rattle.cal_time.specs.Laws.{prepend_digit-other, prepend_digit-zero}
 use Rattle.cal_format.specs.Text.{fraction_text}
 use Rattle.cal_format.specs.Form.{ParsesDecimals}
 
 -- ---- a digit, and other digits
 one-last : (d : ℕ) (ds : List ℕ) → d ≢ 48 → without_trailing_zeros ds ≡ ds → without_trailing_zeros (d ∷ ds) ≡ d ∷ ds
 unfolding without_trailing_zeros
-one-last d ds other last = ap (prepend_digit d) last ∙ is-before-other d ds other
+one-last d ds other last = ap (prepend_digit d) last ∙ prepend_digit-other d ds other
 
 zero-last : (ds : List ℕ) → 0 < length ds → without_trailing_zeros ds ≡ ds → without_trailing_zeros (48 ∷ ds) ≡ 48 ∷ ds
 unfolding without_trailing_zeros
@@ -95,7 +95,7 @@ all-zeros (suc k) = (omega (arith, value-of 0 (omega arith)), all-zeros k)
 last-zeros : (k : ℕ) → without_trailing_zeros (replicate k 48) ≡ []
 unfolding without_trailing_zeros
 last-zeros zero = refl
-last-zeros (suc k) = ap (prepend_digit 48) (last-zeros k) ∙ none-of-zero 48 refl
+last-zeros (suc k) = ap (prepend_digit 48) (last-zeros k) ∙ prepend_digit-zero 48 refl
 
 last-fill : (k : ℕ) (ds : List ℕ) → without_trailing_zeros (ds ++ replicate k 48) ≡ without_trailing_zeros ds
 unfolding without_trailing_zeros
@@ -105,8 +105,8 @@ last-fill k (d ∷ ds) = ap (prepend_digit d) (last-fill k ds)
 prepended : (d : ℕ) (w ds : List ℕ) → prepend_digit d w ≡ d ∷ ds → w ≡ ds
 prepended d [] ds e =
     elim (cases_eq d 48) as (λ _. [] ≡ ds) [
-      | inl zero_is ↦ absurd (omega (arith, ap length (sym (none-of-zero d zero_is) ∙ e)))
-      | inr other ↦ ap (λ l. drop 1 l) (sym (is-before-other d [] other) ∙ e)
+      | inl zero_is ↦ absurd (omega (arith, ap length (sym (prepend_digit-zero d zero_is) ∙ e)))
+      | inr other ↦ ap (λ l. drop 1 l) (sym (prepend_digit-other d [] other) ∙ e)
     ]
 prepended d (x ∷ xs) ds e = ap (λ l. drop 1 l) e
 

@@ -6,7 +6,7 @@ use Rattle.std.proofs.lemmas.Bool.Decides.{nat_tests}
 use Rattle.std.proofs.lemmas.List.{take_all}
 use Rattle.std.proofs.lemmas.List.Sums.{fold-append}
 use Rattle.cal_time.specs.Digits.{digit, nine_digits, prepend_digit, without_trailing_zeros, decimals}
-use Rattle.cal_units.proofs.Decimals.{is-before-other, none-of-zero, decimals-few}
+use Rattle.cal_time.specs.Laws.{length-decimals, prepend_digit-other, prepend_digit-zero}
 use Rattle.cal_format.specs.Text.{fraction_text}
 use Rattle.cal_format.specs.Scanning.{step, fraction_number, AreDigits, BeginsApart, BeginsPastPoint}
 use Rattle.cal_format.proofs.Digits.{step-digit, step-one}
@@ -19,10 +19,10 @@ prepend-zeros d [] ds h =
     elim (cases_eq d 48) as (λ _. P (prepend_digit d [])) [
       | inl zero_is ↦ (let e : suc (length ds) - 0 ≡ suc (length ds - 0) = omega arith in
           let own : P [] = ap (λ k. replicate k 48) e ∙ (λ i. sym zero_is i ∷ h i) in
-          subst P (sym (none-of-zero d zero_is)) own)
+          subst P (sym (prepend_digit-zero d zero_is)) own)
       | inr other ↦ (let e : suc (length ds) - 1 ≡ length ds - 0 = omega arith in
           let own : P (d ∷ []) = ap (λ k. d ∷ replicate k 48) e ∙ ap (λ l. d ∷ l) h in
-          subst P (sym (is-before-other d [] other)) own)
+          subst P (sym (prepend_digit-other d [] other)) own)
     ]
 prepend-zeros d (x ∷ xs) ds h =
     let e : suc (length ds) - suc (suc (length xs)) ≡ length ds - suc (length xs) = omega arith in
@@ -44,8 +44,8 @@ decimals-zeros n = joined-zeros (digit (n / 100_000_000)) (drop 1 (nine_digits n
 prepend-digits : (d : ℕ) (w : List ℕ) → 48 ≤ d → d ≤ 57 → AreDigits w → AreDigits (prepend_digit d w)
 prepend-digits d [] low high h =
     elim (cases_eq d 48) as (λ _. AreDigits (prepend_digit d [])) [
-      | inl zero_is ↦ subst AreDigits (sym (none-of-zero d zero_is)) tt
-      | inr other ↦ subst AreDigits (sym (is-before-other d [] other)) (low, high, tt)
+      | inl zero_is ↦ subst AreDigits (sym (prepend_digit-zero d zero_is)) tt
+      | inr other ↦ subst AreDigits (sym (prepend_digit-other d [] other)) (low, high, tt)
     ]
 prepend-digits d (x ∷ xs) low high h = (low, high, h)
 
@@ -87,7 +87,7 @@ fraction-some n h = grind (arith, nat_tests)
 
 pub length-fraction : (n : ℕ) → length (fraction_text n) ≤ 10
 length-fraction n = elim (cases_lt 0 n) [
-  | inl some ↦ omega (arith, ap length (fraction-some n some), decimals-few n)
+  | inl some ↦ omega (arith, ap length (fraction-some n some), length-decimals n)
   | inr none ↦ (let e : n ≡ 0 = omega arith in omega (arith, ap length (fraction-none n e)))
 ]
 
@@ -123,7 +123,7 @@ fraction-present n r text after small apart past e point later = elim (cases_lt 
       let front : text ≡ 46 ∷ (decimals n ++ after) = e ∙ ap (λ l. l ++ after) (fraction-some n some) in
       let others : take (length text - 1) (drop 1 text) ≡ decimals n ++ after =
       ap (λ l. take (length l - 1) (drop 1 l)) front ∙ take_all (length (46 ∷ (decimals n ++ after)) - 1) (decimals n ++ after) (omega arith) in
-      let few : length (decimals n) ≤ 9 = decimals-few n in
+      let few : length (decimals n) ≤ 9 = length-decimals n in
       let got = later (decimals n) after (AreDigits-decimals n small) apart few others in
       omega (arith, got, ap length (fraction-some n some))
       )

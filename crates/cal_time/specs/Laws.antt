@@ -1,5 +1,5 @@
 -- Laws for callers: relations between the terms of the contracts.
-use Rattle.std.proofs.Common.{◌≡◌, ℕ, zero, suc, ◌+◌, ◌-◌, ◌*◌, ◌%◌, ◌<◌, ◌≤◌, ℤ, Option, Some, None, refl, sym, ap, ◌∙◌, arith, inl, inr, true, false, if◌then◌else◌, nat_le, length}
+use Rattle.std.proofs.Common.{◌≡◌, ◌≢◌, ℕ, zero, suc, ◌+◌, ◌-◌, ◌*◌, ◌/◌, ◌%◌, ◌<◌, ◌≤◌, ℤ, List, [], ◌∷◌, ◌++◌, Option, Some, None, refl, sym, ap, ◌∙◌, arith, inl, inr, true, false, if◌then◌else◌, nat_le, length}
 use Rattle.std.specs.Prelude.{IsSome}
 use Rattle.std.proofs.lemmas.Bool.{cases_lt}
 use Rattle.std.proofs.lemmas.Bool.Decides.{nat_tests}
@@ -9,6 +9,10 @@ use Rattle.cal_date.specs.Occurrences.{next_occurrences, prev_occurrences, kth}
 use Rattle.cal_date.specs.DateIter.{Walk, walk, walk_between, days_of, days_between}
 use Rattle.cal_date.specs.DateText.{text}
 use Rattle.cal_time.specs.Pair.{HasPairNumber, IsPairWithNumber}
+use Rattle.cal_units.specs.Digits.{digit, digits_at_least, two_digits, prepend_digit, decimals}
+use Rattle.cal_units.proofs.Decimals as fractions
+use Rattle.cal_units.proofs.Digits as digits
+use Rattle.cal_units.proofs.YearTexts as years
 use Rattle.cal_date.proofs.Calendar as calendar
 use Rattle.cal_date.proofs.DateIters as iters
 use Rattle.cal_date.proofs.Dates.{in_range}
@@ -37,6 +41,24 @@ text-one = texts.text-one
 
 -- the same for a caller's `#[tactic(auto, using(..))]`, which takes no name with a dash
 pub ruleset distinct_texts = (text-one)
+
+-- The digits of a number below 100 and of a number below 10000.
+pub digits_at_least-two : (n : ℕ) → n < 100 → digits_at_least 2 n ≡ two_digits n
+digits_at_least-two n low = digits.digits_at_least-two n low
+
+pub digits_at_least-four : (n : ℕ) → n < 10_000 → digits_at_least 4 n ≡ two_digits (n / 100 % 100) ++ two_digits (n % 100)
+digits_at_least-four n low = years.four_digits n low
+
+-- The decimals of a fraction of a second are at most nine. A digit before no other digits is kept if
+-- it isn't 0.
+pub length-decimals : (n : ℕ) → length (decimals n) ≤ 9
+length-decimals n = fractions.decimals-few n
+
+pub prepend_digit-other : (d : ℕ) (ds : List ℕ) → d ≢ digit 0 → prepend_digit d ds ≡ d ∷ ds
+prepend_digit-other d ds other = fractions.is-before-other d ds other
+
+pub prepend_digit-zero : (d : ℕ) → d ≡ digit 0 → prepend_digit d [] ≡ []
+prepend_digit-zero d e = fractions.none-of-zero d e
 
 -- The k-th occurrence, counted from 1, is the days to the first occurrence, from 1 to 7, and seven
 -- days for each further one.
