@@ -1,10 +1,11 @@
 -- The message for arguments that make no sense: the error and the expected words.
-use Rattle.std.specs.Prelude.{ℕ, ◌-◌, ◌==◌, Bool, true, false, List, [], ◌∷◌, ◌++◌, Result, Ok, Err, codes, slice_get, if◌then◌else◌}
+use Rattle.std.specs.Prelude.{ℕ, ◌-◌, ◌==◌, ◌&&◌, ◌||◌, Bool, true, false, not, is_some, position, List, [], ◌∷◌, ◌++◌, Result, Ok, Err, codes, slice_get, if◌then◌else◌}
 use Rattle.std.specs.Option.{option_map_or}
 use Rattle.cal_recurrence.specs.FaultText.{fault_text}
 use Rattle.cal_recurrence.specs.Text.{recurrence_of}
 use Rattle.cal_recurrence.specs.declared.fault.ParseRuleError.{ParseRuleError}
 use Rattle.cal_recurrence.specs.declared.recurrence.Recurrence.{Recurrence}
+use Rattle.caldate_run.specs.Offsets.{is_digit}
 use Rattle.caldate_run.specs.Requests.{is_option}
 use Rattle.caldate_run.specs.Shown.{shown}
 use Rattle.caldate_run.specs.declared.senseless.Senseless.{Senseless}
@@ -116,11 +117,21 @@ abbrev pub rule_error_in : Wanted → List ℕ → List ℕ
 rule_error_in wanted.Rule word = rule_error (recurrence_of word)
 rule_error_in what word = []
 
+-- the word has a dot or a slash, and does not begin with a digit
+abbrev pub is_file_like : List ℕ → Bool
+is_file_like [] = false
+is_file_like (byte ∷ bytes) =
+    not (is_digit byte) && (is_some (position (λ b. b == 46) (byte ∷ bytes)) || is_some (position (λ b. b == 47) (byte ∷ bytes)))
+
+abbrev pub file_hint : Wanted → List ℕ → List ℕ
+file_hint wanted.End word = if is_file_like word then codes "; to read a file, write '<' before its name" else []
+file_hint what word = []
+
 -- the message on a word: `unknown unit 'fortnights'; expected ..`, `duplicate --field`
 abbrev pub on_word : Wanted → List ℕ → List ℕ
 on_word what word =
     if is_duplicate what word then codes "duplicate " ++ shown word else
-    error_phrase what ++ codes " " ++ quoted word ++ expected_phrase what ++ rule_error_in what word
+    error_phrase what ++ codes " " ++ quoted word ++ expected_phrase what ++ rule_error_in what word ++ file_hint what word
 
 -- the word before an index: the index 0 has none
 abbrev pub after_word : List (List ℕ) → ℕ → List ℕ

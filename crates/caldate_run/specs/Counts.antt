@@ -1,6 +1,6 @@
 -- The whole units from one date or moment to another, truncated toward zero.
 use Rattle.std.specs.Prelude.{◌≡◌, ℕ, ◌≤◌, ◌<◌, ℤ, pos, ◌+ℤ◌, ◌-ℤ◌, ◌*ℤ◌, length}
-use Rattle.cal_time.specs.Date.{IsDate}
+use Rattle.cal_date.specs.Arithmetic.{clamped_date}
 use Rattle.cal_time.specs.SignedDuration.{cut, whole_days, week, day, hour, minute, second}
 use Rattle.cal_datetime.specs.DateTime.{date_at}
 use Rattle.cal_datetime.specs.OffsetDateTime.{LocalAndOffset, instant}
@@ -14,10 +14,10 @@ use Rattle.caldate_run.specs.declared.request.TimeUnit.TheVariants as unit
 abbrev pub duration_between : LocalAndOffset → LocalAndOffset → ℤ
 duration_between from to = instant to -ℤ instant from
 
--- Day t is the whole days of the duration after the local date of `from`.
-pub record IsReached (from to : LocalAndOffset) (t : ℕ) : Type 0 where
-  pub date : IsDate t
-  pub moved : pos t ≡ pos (date_at from.local) +ℤ whole_days (duration_between from to)
+-- The day that is reached: the whole days of the duration after the local date of `from`. For a day
+-- outside of the range, the nearest day of the range stands in.
+abbrev pub reached : LocalAndOffset → LocalAndOffset → ℕ
+reached from to = clamped_date (pos (date_at from.local) +ℤ whole_days (duration_between from to))
 
 -- The number z is the maximum that does not pass day t, or backward the minimum.
 abbrev pub IsCut : ℕ → ℕ → (ℤ → Type 0) → (ℤ → Type 0) → ℤ → Type 0
@@ -27,7 +27,7 @@ IsCut n t Up Back z = (n ≤ t → IsGreatest Up z) × (t < n → IsLeast Back z
 unfoldable pub AreYears : ℕ → ℕ → ℤ → Type 0
 AreYears n t z = IsCut n t (λ y. IsMonthsUpTo n t (pos 12 *ℤ y)) (λ y. IsMonthsBackTo n t (pos 12 *ℤ y)) z
 
-abbrev pub AreMonths : ℕ → ℕ → ℤ → Type 0
+unfoldable pub AreMonths : ℕ → ℕ → ℤ → Type 0
 AreMonths n t z = IsCut n t (IsMonthsUpTo n t) (IsMonthsBackTo n t) z
 
 abbrev pub AreWorkdays : ℕ → ℕ → ℤ → Type 0
@@ -35,9 +35,9 @@ AreWorkdays n t z = z ≡ pos (length (workdays_within monday_to_friday n t)) -�
 
 -- The number of units from one moment to another is z.
 abbrev pub IsCount : TimeUnit → LocalAndOffset → LocalAndOffset → ℤ → Type 0
-IsCount unit.Years from to z = (t : ℕ) × IsReached from to t × AreYears (date_at from.local) t z
-IsCount unit.Months from to z = (t : ℕ) × IsReached from to t × AreMonths (date_at from.local) t z
-IsCount unit.Workdays from to z = (t : ℕ) × IsReached from to t × AreWorkdays (date_at from.local) t z
+IsCount unit.Years from to z = AreYears (date_at from.local) (reached from to) z
+IsCount unit.Months from to z = AreMonths (date_at from.local) (reached from to) z
+IsCount unit.Workdays from to z = AreWorkdays (date_at from.local) (reached from to) z
 IsCount unit.Weeks from to z = z ≡ cut (duration_between from to) (pos week)
 IsCount unit.Days from to z = z ≡ cut (duration_between from to) (pos day)
 IsCount unit.Hours from to z = z ≡ cut (duration_between from to) (pos hour)

@@ -1,6 +1,6 @@
 -- The command that the arguments give, or the first invalid word and its expected kind.
 use denote.Ref.{Bor}
-use Rattle.std.specs.Prelude.{ℕ, ◌+◌, nat_lt, not, ◌&&◌, ◌||◌, Bool, true, false, is_none, is_some, unwrap_or, ℤ, pos, neg_ℤ, ◌*ℤ◌, int_le, nat_abs, List, [], ◌∷◌, ◌==◌, length, take, Option, Some, None, MatchOption, option_map, option_and_then, ok_or, Result, Ok, Err, slice_get, position, bytes_eq, codes, if◌then◌else◌, ◌*◌}
+use Rattle.std.specs.Prelude.{ℕ, ◌+◌, nat_lt, not, ◌&&◌, ◌||◌, Bool, true, false, is_none, is_some, unwrap_or, ℤ, pos, neg_ℤ, ◌*ℤ◌, int_le, nat_abs, List, [], ◌∷◌, ◌==◌, length, take, drop, Option, Some, None, MatchOption, option_map, option_and_then, ok_or, Result, Ok, Err, slice_get, position, bytes_eq, codes, if◌then◌else◌, ◌*◌}
 use Rattle.std.specs.List.{All, slice_split}
 use Rattle.std.specs.Option.{option_map_or}
 use Rattle.std.specs.Result.{result_ok}
@@ -128,10 +128,10 @@ weekday_of word =
 
 unfoldable pub period_of : List ℕ → Option Period
 period_of word =
-    if spells word (codes "week") then Some period.Week else
-    if spells word (codes "month") then Some period.Month else
-    if spells word (codes "quarter") then Some period.Quarter else
-    if spells word (codes "year") then Some period.Year else
+    if spells_unit word (codes "week") (codes "weeks") then Some period.Week else
+    if spells_unit word (codes "month") (codes "months") then Some period.Month else
+    if spells_unit word (codes "quarter") (codes "quarters") then Some period.Quarter else
+    if spells_unit word (codes "year") (codes "years") then Some period.Year else
     None
 
 unfoldable pub unit_of : List ℕ → Option TimeUnit
@@ -370,9 +370,16 @@ value_of options word =
     if bytes_eq word (codes "--assume") && is_none options.offset then Some wanted.Offset else
     None
 
+-- `NAME=VALUE`: an option and its value in one word.
+abbrev pub name_of : List ℕ → List ℕ
+name_of word = option_map_or (λ at. take at word) (position (λ b. b == 61) word) word
+
+abbrev pub value_in : List ℕ → List ℕ
+value_in word = option_map_or (λ at. drop (at + 1) word) (position (λ b. b == 61) word) []
+
 -- The word is an option, whatever the others are.
 abbrev pub is_option : List ℕ → Bool
-is_option word = is_some (value_of no_options word)
+is_option word = is_some (value_of no_options (name_of word))
 
 -- The options, with this value for the option that needs it.
 abbrev pub with_value : Options → List ℕ → Wanted → Option Options
@@ -384,12 +391,18 @@ with_value options value wanted.Reading = option_map (λ form. record options { 
 with_value options value wanted.Offset = option_map (λ o. record options { offset = Some o }) (offset_of value)
 with_value options value other = None
 
+-- The options, with the option and its value in this word.
+abbrev pub with_joined : Options → ℕ → List ℕ → Result Options Senseless
+with_joined options at word =
+    option_map_or (λ what. ok_or (with_value options (value_in word) what) (senseless_at at what)) (value_of options (name_of word)) (Ok options)
+
 -- The options at the front of the words, the first of which has index `at`, and the index of the
 -- word after them. The first word may be the value of the option before it.
 abbrev pub options_from : Option Wanted → Options → ℕ → List (List ℕ) → Result (Options × ℕ) Senseless
 options_from None options at [] = Ok (options, at)
 options_from None options at (word ∷ words) =
     if is_some (value_of options word) then options_from (value_of options word) options (at + 1) words else
+    if is_some (value_of options (name_of word)) then and_then (with_joined options at word) (λ more. options_from None more (at + 1) words) else
     Ok (options, at)
 options_from (Some what) options at [] = Err (senseless_at at what)
 options_from (Some what) options at (word ∷ words) =

@@ -108,8 +108,14 @@ fn push_answer_to(buffer: &mut Buffer, request: &Request, text: &[u8], found: &D
             None => false,
         },
         Request::Move(by) => push_moved(buffer, *by, found),
-        Request::Until(target, unit) => push_between(buffer, *unit, found, target),
-        Request::Since(target, unit) => push_between(buffer, *unit, target, found),
+        Request::Until(target, unit) => {
+            push_between(buffer, *unit, found, target);
+            true
+        }
+        Request::Since(target, unit) => {
+            push_between(buffer, *unit, target, found);
+            true
+        }
         Request::At(offset) => push_at(buffer, *offset, moment),
         Request::Keep(bounds) => push_kept(buffer, bounds, text, found),
     }
@@ -274,31 +280,18 @@ fn push_at(buffer: &mut Buffer, offset: UtcOffset, moment: OffsetDateTime) -> bo
     }
 }
 
-/// Appends the number of units, or without a unit the days or the duration. Appends nothing and
-/// returns false if the number is not known.
-fn push_between(
-    buffer: &mut Buffer,
-    unit: Option<TimeUnit>,
-    from: &DateOrMoment,
-    to: &DateOrMoment,
-) -> bool
+/// Appends the number of units, or without a unit the days or the duration.
+fn push_between(buffer: &mut Buffer, unit: Option<TimeUnit>, from: &DateOrMoment, to: &DateOrMoment)
     requires { HasRoom longest_answer buffer.old }
-    ensures has { result ≡ true → AppendsThat
-        (IsBetween unit from.now to.now) buffer.old buffer.new }
-    ensures none { result ≡ false → (buffer.new ≡ buffer.old)
-        × ((words : List ℕ) → ¬ IsBetween unit from.now to.now words) }
+    ensures text { AppendsThat (IsBetween unit from.now to.now) buffer.old buffer.new }
     ensures short { length buffer.new ≤ length buffer.old + longest_answer }
 {
-    let Some(unit) = unit else {
-        push_until(buffer, from, to);
-        return true;
-    };
-    match count_between(unit, moment_of(from), moment_of(to)) {
-        Some(count) => {
+    match unit {
+        Some(unit) => {
+            let count = count_between(unit, moment_of(from), moment_of(to));
             buffer.push(signed_text(i128::from(count)).as_bytes());
-            true
         }
-        None => false,
+        None => push_until(buffer, from, to),
     }
 }
 

@@ -1,12 +1,13 @@
 //! The message for arguments that make no sense.
 ghost use Rattle.std.specs.Prelude.{◌≡◌, ◌+◌, ◌≤◌, ◌++◌, [], length};
 ghost use Rattle.caldate_run.specs.Calls.{Writes, write_failure};
-ghost use Rattle.caldate_run.specs.Complaint.{after_word, complaint, error_phrase, expected_phrase, is_duplicate, missing_noun, names_word, on_missing, on_word, problem, quoted, rule_error_in};
+ghost use Rattle.caldate_run.specs.Complaint.{after_word, complaint, error_phrase, expected_phrase, file_hint, is_duplicate, is_file_like, missing_noun, names_word, on_missing, on_word, problem, quoted, rule_error_in};
 ghost use Rattle.caldate_run.specs.Requests.{arguments_of};
 ghost use Rattle.caldate_run.specs.Runs.{Shown};
 
 use crate::buffer::Buffer;
 use crate::fault::Fault;
+use crate::lines::index_of;
 use crate::options::is_option;
 use crate::output::write_all;
 use crate::senseless::{Senseless, Wanted};
@@ -115,6 +116,7 @@ fn push_on_word(line: &mut Buffer, wanted: Wanted, word: &[u8])
     push_quoted(line, word);
     line.push(expected_phrase(wanted));
     push_rule_error(line, wanted, word);
+    push_file_hint(line, wanted, word);
 }
 
 /// Appends the message on a missing word: `missing number after 'add'; expected ..`.
@@ -170,6 +172,30 @@ fn push_rule_error(line: &mut Buffer, wanted: Wanted, word: &[u8])
         line.push(fault.reason.text().as_bytes());
         line.push(b" at ");
         line.push_number(fault.position as u64);
+    }
+}
+
+/// Appends a hint if a word too many looks like a file.
+fn push_file_hint(line: &mut Buffer, wanted: Wanted, word: &[u8])
+    requires { length line.old ≤ 450 }
+    ensures text { line.new ≡ line.old ++ file_hint wanted word.now }
+    ensures short { length line.new ≤ length line.old + 50 }
+{
+    if wanted == Wanted::End && is_file_like(word) {
+        line.push(b"; to read a file, write '<' before its name");
+    }
+}
+
+/// Returns whether the word has a dot or a slash, and doesn't begin like a date.
+fn is_file_like(word: &[u8]) -> bool
+    ensures { result ≡ is_file_like word.now }
+{
+    match word {
+        [first, ..] => {
+            !first.is_ascii_digit()
+                && (index_of(b'.', word).is_some() || index_of(b'/', word).is_some())
+        }
+        [] => false,
     }
 }
 

@@ -1,6 +1,6 @@
 //! The whole units from one moment to another.
-ghost use Rattle.std.specs.Prelude.{◌≡◌, ℕ, ℤ, MatchOption};
-ghost use Rattle.caldate_run.specs.Counts.{AreYears, IsCount, IsReached, duration_between};
+ghost use Rattle.std.specs.Prelude.{◌≡◌};
+ghost use Rattle.caldate_run.specs.Counts.{AreMonths, AreWorkdays, AreYears, IsCount, duration_between, reached};
 
 use crate::moves::workdays;
 use crate::request::TimeUnit;
@@ -9,31 +9,20 @@ use cal_schedule::{months_until, years_until};
 use cal_time::{Date, SignedDuration};
 
 /// Returns the number of whole units from one moment to another, truncated toward zero. Years,
-/// months and workdays count up to the first date plus the whole days of the duration, or give
-/// `None` if that is out of range.
-pub fn count_between(unit: TimeUnit, from: OffsetDateTime, to: OffsetDateTime) -> Option<i64>
-    ensures { MatchOption result ((z : ℤ) → ¬ IsCount unit from to z) (IsCount unit from to) }
+/// months and workdays count up to the first date plus the whole days of the duration, or up to an
+/// end of the range.
+pub fn count_between(unit: TimeUnit, from: OffsetDateTime, to: OffsetDateTime) -> i64
+    ensures { IsCount unit from to result }
 {
     match unit {
-        TimeUnit::Years => years_between(from, to),
-        TimeUnit::Months => months_between(from, to),
-        TimeUnit::Workdays => workdays_between(from, to),
-        TimeUnit::Weeks => Some(between(from, to).whole_weeks()),
-        TimeUnit::Days => Some(between(from, to).whole_days()),
-        TimeUnit::Hours => Some(between(from, to).whole_hours()),
-        TimeUnit::Minutes => Some(between(from, to).whole_minutes()),
-        TimeUnit::Seconds => Some(between(from, to).whole_seconds()),
-    }
-}
-
-/// Returns the whole years to the day that is reached.
-fn years_between(from: OffsetDateTime, to: OffsetDateTime) -> Option<i64>
-    ensures { MatchOption result ((z : ℤ) → ¬ IsCount TimeUnit.Years from to z)
-        (IsCount TimeUnit.Years from to) }
-{
-    match reached(from, to) {
-        Some(day) => Some(years_to(from.date(), day)),
-        None => None,
+        TimeUnit::Years => years_to(from.date(), reached(from, to)),
+        TimeUnit::Months => months_to(from.date(), reached(from, to)),
+        TimeUnit::Workdays => workdays_to(from.date(), reached(from, to)),
+        TimeUnit::Weeks => between(from, to).whole_weeks(),
+        TimeUnit::Days => between(from, to).whole_days(),
+        TimeUnit::Hours => between(from, to).whole_hours(),
+        TimeUnit::Minutes => between(from, to).whole_minutes(),
+        TimeUnit::Seconds => between(from, to).whole_seconds(),
     }
 }
 
@@ -43,26 +32,17 @@ fn years_to(from: Date, to: Date) -> i64
     i64::from(years_until(from, to))
 }
 
-/// Returns the whole months to the day that is reached.
-fn months_between(from: OffsetDateTime, to: OffsetDateTime) -> Option<i64>
-    ensures { MatchOption result ((z : ℤ) → ¬ IsCount TimeUnit.Months from to z)
-        (IsCount TimeUnit.Months from to) }
+fn months_to(from: Date, to: Date) -> i64
+    ensures { AreMonths from to result }
 {
-    match reached(from, to) {
-        Some(day) => Some(i64::from(months_until(from.date(), day))),
-        None => None,
-    }
+    i64::from(months_until(from, to))
 }
 
-/// Returns the working days to the day that is reached, without the later of the two days.
-fn workdays_between(from: OffsetDateTime, to: OffsetDateTime) -> Option<i64>
-    ensures { MatchOption result ((z : ℤ) → ¬ IsCount TimeUnit.Workdays from to z)
-        (IsCount TimeUnit.Workdays from to) }
+/// Returns the working days to a day, without the later of the two days.
+fn workdays_to(from: Date, to: Date) -> i64
+    ensures { AreWorkdays from to result }
 {
-    match reached(from, to) {
-        Some(day) => Some(i64::from(workdays().workdays_between(from.date(), day))),
-        None => None,
-    }
+    i64::from(workdays().workdays_between(from, to))
 }
 
 fn between(from: OffsetDateTime, to: OffsetDateTime) -> SignedDuration
@@ -71,9 +51,9 @@ fn between(from: OffsetDateTime, to: OffsetDateTime) -> SignedDuration
     to - from
 }
 
-/// Adds the whole days of the duration to the local date of the first moment.
-fn reached(from: OffsetDateTime, to: OffsetDateTime) -> Option<Date>
-    ensures { MatchOption result ((t : ℕ) → ¬ IsReached from to t) (IsReached from to) }
+/// Adds the whole days of the duration to the local date of the first moment, within the range.
+fn reached(from: OffsetDateTime, to: OffsetDateTime) -> Date
+    ensures { result ≡ reached from to }
 {
-    from.date().checked_add(between(from, to))
+    from.date().saturating_add(between(from, to))
 }

@@ -4,7 +4,11 @@
 pub const VERSION: &[u8] = b"caldate 0.1.0\n";
 
 /// The text of `--help`.
-pub const HELP: &[u8] = b"caldate answers each line of its input, a date or a moment, with one line.
+pub const HELP: &[u8] = b"Usage: caldate [OPTION].. COMMAND <FILE
+       caldate list from A to B [by N UNIT or by RULE]
+
+Answers each line of the input, a date or a moment, with one line. The status is 0, 1 if a line has
+no answer, or 2 if the arguments are invalid, or the input or the output fails.
 
   caldate to FORM                 the same as calendar, ordinal, week, julian, weekday,
                                   short-weekday, month, quarter, basic, rfc3339, unix, unix-ms,
@@ -30,7 +34,7 @@ pub const HELP: &[u8] = b"caldate answers each line of its input, a date or a mo
                                   (the default with --field), answer for the reason (the default
                                   without it), drop for nothing, or stop to end there
   caldate --field N ...           reads the N-th field of each line and replaces it by its
-                                  answer; fields end at a tab
+                                  answer; fields end at a tab; --field=N is the same
   caldate --separator C ...       with --field: fields end at the byte C
   caldate --skip K ...            writes the first K lines unchanged
   caldate --read FORM ...         reads lines in this form: basic, dmy, mdy, unix-ms, unix-us,

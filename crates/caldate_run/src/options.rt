@@ -1,7 +1,8 @@
 //! The options before a request.
 ghost use Rattle.std.specs.Prelude.{◌≡◌, ◌+◌, ◌≤◌, ◌^◌, IfOk, None, length};
-ghost use Rattle.caldate_run.specs.Requests.{arguments_of, byte_of, field_number_of, field_of, is_local, invalid_of, is_option, lacking, no_options, options_from, reading_at, reading_of, skip_of, value_of, with_value, words_left};
+ghost use Rattle.caldate_run.specs.Requests.{arguments_of, byte_of, field_number_of, field_of, is_local, invalid_of, is_option, lacking, name_of, no_options, options_from, reading_at, reading_of, skip_of, value_in, value_of, with_value, words_left};
 
+use crate::lines::index_of;
 use crate::offset::offset_of;
 use crate::on_invalid::OnInvalid;
 use crate::reading::Reading;
@@ -70,9 +71,28 @@ fn options_from(
         let more = with_value(options, word, wanted).ok_or(senseless_at(at, wanted))?;
         return options_from(None, &more, at + 1, rest);
     }
-    match value_of(options, word) {
-        Some(wanted) => options_from(Some(wanted), options, at + 1, rest),
+    if let Some(wanted) = value_of(options, word) {
+        return options_from(Some(wanted), options, at + 1, rest);
+    }
+    let (name, value) = cut_value(word);
+    match value_of(options, name) {
+        Some(wanted) => {
+            let more = with_value(options, value, wanted).ok_or(senseless_at(at, wanted))?;
+            options_from(None, &more, at + 1, rest)
+        }
         None => Ok((*options, at)),
+    }
+}
+
+/// Splits `NAME=VALUE` into the name of an option and its value, which is empty without a `=`.
+#[tactic(auto, using(std::proofs::lemmas::List::take_rest))]
+fn cut_value(word: &[u8]) -> (&[u8], &[u8])
+    ensures name { result.0.now ≡ name_of word.now }
+    ensures value { result.1.now ≡ value_in word.now }
+{
+    match index_of(b'=', word) {
+        Some(at) => (&word[..at], &word[at + 1..]),
+        None => (word, b""),
     }
 }
 
@@ -102,7 +122,7 @@ fn value_of(options: &Options, word: &[u8]) -> Option<Wanted>
 pub fn is_option(word: &[u8]) -> bool
     ensures { result ≡ is_option word.now }
 {
-    value_of(&NO_OPTIONS, word).is_some()
+    value_of(&NO_OPTIONS, cut_value(word).0).is_some()
 }
 
 /// Sets the option that needs `wanted`, or returns `None` if the value is invalid.

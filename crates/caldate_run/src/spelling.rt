@@ -119,18 +119,18 @@ pub fn weekday_of(word: &[u8]) -> Option<Weekday>
     }
 }
 
-/// Parses a period. `month`, `MONTH` and `mon` are the same.
+/// Parses a period. `month`, `MONTHS` and `mon` are the same.
 #[tactic(auto, unfolding(crate::specs::Requests::period_of))]
 pub fn period_of(word: &[u8]) -> Option<Period>
     ensures { result ≡ period_of word.now }
 {
-    if spells(word, b"week") {
+    if spells_unit(word, b"week", b"weeks") {
         Some(Period::Week)
-    } else if spells(word, b"month") {
+    } else if spells_unit(word, b"month", b"months") {
         Some(Period::Month)
-    } else if spells(word, b"quarter") {
+    } else if spells_unit(word, b"quarter", b"quarters") {
         Some(Period::Quarter)
-    } else if spells(word, b"year") {
+    } else if spells_unit(word, b"year", b"years") {
         Some(Period::Year)
     } else {
         None
