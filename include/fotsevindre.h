@@ -93,8 +93,8 @@ typedef struct fots_recurrence {
 /* The maximum number of holidays. */
 #define FOTS_MAX_HOLIDAYS 1024
 
-/* Working days. fots_workdays_new fills it. Every call is safe for any numbers in it, but if others
- * than these are changed by hand the results can be wrong. */
+/* Working days, which fots_workdays_new fills. After a change by hand results can be wrong, but no
+ * call reads past the struct. */
 typedef struct fots_workdays {
     uint32_t weekmask;
     uint32_t holidays_length;
@@ -645,9 +645,9 @@ fots_date_result fots_date_adjust(fots_date date, uint32_t convention, uint32_t 
 
 /* ---- working days, checked once
  *
- * The calls above check all holidays each time. fots_workdays_new checks them once, and makes
- * working days for any number of calls, which take up to 40 times less time. A struct with
- * invalid numbers is reported first, as FOTS_INVALID_WEEKMASK or FOTS_TOO_MANY_HOLIDAYS. */
+ * The calls above check all holidays each time. fots_workdays_new checks them once, for any number
+ * of faster calls. These report a struct with an invalid weekmask or length first, as
+ * FOTS_INVALID_WEEKMASK or FOTS_TOO_MANY_HOLIDAYS. */
 fots_workdays_result fots_workdays_new(uint32_t weekmask, const fots_date *holidays, size_t holidays_length);
 
 /* Like fots_date_is_workday, fots_date_add_workdays, fots_date_workdays_between, fots_date_adjust,

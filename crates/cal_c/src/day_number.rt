@@ -118,9 +118,15 @@ pub fn clamped_number(date: i32) -> u32
     ensures value { IsJulianDay date → result ≡ day_of date }
     ensures max { IsDate result }
 {
-    date.cast_unsigned()
-        .wrapping_add(DAY_ZERO.cast_unsigned())
-        .min(LAST_DAY_NUMBER)
+    wrapped_number(date).min(LAST_DAY_NUMBER)
+}
+
+/// Returns the number of a date, or some number if the date is invalid.
+#[inline(always)]
+pub fn wrapped_number(date: i32) -> u32
+    ensures { IsJulianDay date → result ≡ day_of date }
+{
+    date.cast_unsigned().wrapping_add(DAY_ZERO.cast_unsigned())
 }
 
 /// Returns the duration between two dates.

@@ -6,7 +6,7 @@ ghost use Rattle.cal_c.specs.Statuses.{invalid_holidays, invalid_weekmask, ok_st
 ghost use Rattle.cal_c.specs.Values.{IsJulianDay};
 ghost use Rattle.cal_c.specs.Weekmasks.{max_holidays, weekmask_in, work_week, AreHolidays, IsWeekmask};
 
-use crate::day_number::clamped_number;
+use crate::day_number::wrapped_number;
 use crate::schedule::workdays::calendar::{Calendar, valid_weekmask};
 use crate::schedule::workdays::checked_workdays::{
     CheckedWorkdays, MAX, MAX_INDEXES, WorkdaysResult,
@@ -42,7 +42,7 @@ impl CheckedWorkdays {
         for index in 0..holidays.len() {
             let holiday = holidays[index];
             workdays.holidays[index] = holiday;
-            marked += u16::from(marks[(clamped_number(holiday) % 7) as usize]);
+            marked += u16::from(marks[(wrapped_number(holiday) % 7) as usize]);
             workdays.marked_before[index + 1] = marked;
         }
         workdays.holidays_length = holidays.len() as u32;

@@ -8,7 +8,7 @@ ghost use Rattle.cal_c.specs.CheckedWorkdays.{holidays_of, week_of, HasLimits, I
 ghost use Rattle.cal_c.specs.Statuses.{invalid_weekmask, too_many_holidays};
 ghost use Rattle.cal_c.specs.Weekmasks.{holidays_in, max_holidays, workdays_between, IsWeekmask};
 
-use crate::day_number::{LAST_DAY_NUMBER, clamped_number};
+use crate::day_number::{LAST_DAY_NUMBER, wrapped_number};
 use crate::schedule::workdays::calendar::valid_weekmask;
 use crate::schedule::workdays::checked_workdays::{CheckedWorkdays, MAX};
 use crate::status::{INVALID_WEEKMASK, TOO_MANY_HOLIDAYS};
@@ -88,11 +88,10 @@ impl<'a> RankedWorkdays<'a> {
     /// Returns the number of the holiday at an index.
     fn holiday(&self, index: usize) -> u32
         requires { index < self.now.holidays_length }
-        ensures value { IsChecked self.now → result ≡ slice_index (holidays_in (holidays_of self.now)) index }
-        ensures range { IsDate result }
+        ensures { IsChecked self.now → result ≡ slice_index (holidays_in (holidays_of self.now)) index }
     {
         let workdays = self.workdays;
-        clamped_number(workdays.holidays[index])
+        wrapped_number(workdays.holidays[index])
     }
 
     /// Returns the number of holidays with a marked weekday before an index.

@@ -24,11 +24,11 @@ loop-index-preserved c =
     let same : to_z w32 (of_z w32 (get_or hs index (pos 0))) ≡ get_or hs index (pos 0) = simp to_z-of_z refl in
     let low : index < length hs = omega arith in
     let inside : index < length held = omega (arith, kept.holidays_length, c.requires.holidays.0) in
-    let its = simp to_z-of_z at c.clamped_number.ensures.value in
+    let its = simp to_z-of_z at c.wrapped_number.ensures in
     let day = its (c.requires.holidays.1.dates index (pos 0) low) in
     let at : get_or (holidays_in hs) index 0 ≡ day_of (get_or hs index (pos 0)) = get_or-map day_of hs index (pos 0) 0 low in
-    let mark : get_or c.args.marks (c.clamped_number.result % 7) false ≡ is_marked w (get_or (holidays_in hs) index 0) =
-    ap (λ m. get_or m (c.clamped_number.result % 7) false) c.requires.weekmask.1 ∙ ap (λ n. get_or (weekmask_in c.args.weekmask) (n % 7) false) (day ∙ sym at)
+    let mark : get_or c.args.marks (c.wrapped_number.result % 7) false ≡ is_marked w (get_or (holidays_in hs) index 0) =
+    ap (λ m. get_or m (c.wrapped_number.result % 7) false) c.requires.weekmask.1 ∙ ap (λ n. get_or (weekmask_in c.args.weekmask) (n % 7) false) (day ∙ sym at)
     ∙ sym (marked-is w (get_or (holidays_in hs) index 0)) in
     let next = held-next w index _ _ (omega (arith, length-map hs day_of)) mark c.from-marked.ensures in
     let sum : c.loop-index.marked + c.from-marked.result ≡ marked_count w (index + 1) = omega (arith, next, kept.marked) in

@@ -5,11 +5,11 @@ use Rattle.cal_c.specs.Weekmasks.{holidays_in}
 use Rattle.cal_c.proofs.CheckedHolidays.{held-at}
 use Rattle.cal_c.proofs.schedule.workdays.ranks.RankedWorkdays.holiday.Goals as goal
 
-pub returns-clause-value : goal.returns-clause-value
-returns-clause-value c = λ checked.
+pub returns : goal.returns
+returns c = λ checked.
     let inside = c.self.inside.workdays.now in
     let f : FitsSigned w32 (get_or inside.holidays c.args.index (pos 0)) = search rules in
-    let its = simp to_z-of_z at c.clamped_number.ensures.value in
+    let its = simp to_z-of_z at c.wrapped_number.ensures in
     let same = subst IsChecked (sym c.self.view_is) checked in
     let at = held-at inside.holidays inside.holidays_length c.args.index (omega (arith, ap (λ w. w.holidays_length) c.self.view_is))
     (omega (arith, c.self.invariant.0.length, c.self.invariant.1)) same.holidays.dates in

@@ -22,7 +22,7 @@ loop-low-preserved-then-holiday-day c =
     record {
       order = omega arith;
       most = c.loop-low.invariant.most;
-      before = λ checked. low-more days (rises days checked.holidays.rising) middle c.args.day low (omega (arith, c.holiday.ensures.value checked));
+      before = λ checked. low-more days (rises days checked.holidays.rising) middle c.args.day low (omega (arith, c.holiday.ensures checked));
       after = c.loop-low.invariant.after;
     }
 
@@ -34,7 +34,7 @@ loop-low-preserved c =
       order = omega arith;
       most = omega (arith, c.loop-low.invariant.most);
       before = c.loop-low.invariant.before;
-      after = λ checked. high-less days (rises days checked.holidays.rising) middle c.args.day (omega (arith, c.holiday.ensures.value checked));
+      after = λ checked. high-less days (rises days checked.holidays.rising) middle c.args.day (omega (arith, c.holiday.ensures checked));
     }
 
 pub returns-clause-split : goal.returns-clause-split

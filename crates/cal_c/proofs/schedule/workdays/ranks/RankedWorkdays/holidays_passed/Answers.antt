@@ -28,7 +28,7 @@ loop-low-preserved-then-marked-rank c =
       most = c.loop-low.invariant.most;
       before = λ checked.
           let r = rises days checked.holidays.rising in
-          let at = ap (count_before (is_marked w)) (c.holiday.ensures.value checked) in
+          let at = ap (count_before (is_marked w)) (c.holiday.ensures checked) in
           passed-more w r middle c.args.rank low (omega (arith, rank-at w r middle low, at, c.marked_before.ensures.value, c.from-marked.ensures, c.marked_holidays.ensures.value checked));
       after = c.loop-low.invariant.after;
     }
@@ -45,7 +45,7 @@ loop-low-preserved c =
       before = c.loop-low.invariant.before;
       after = λ checked.
           let r = rises days checked.holidays.rising in
-          let at = ap (count_before (is_marked w)) (c.holiday.ensures.value checked) in
+          let at = ap (count_before (is_marked w)) (c.holiday.ensures checked) in
           left-less w r middle c.args.rank (omega (arith, rank-at w r middle low, at, c.marked_before.ensures.value, c.from-marked.ensures, c.marked_holidays.ensures.value checked));
     }
 
