@@ -17,3 +17,5 @@ pub mod Walks
 pub mod OneAnswer
 pub mod FormatItems
 pub mod FormatPrinting
+pub mod FormatParsing
+pub mod FormatRows

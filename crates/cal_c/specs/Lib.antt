@@ -13,3 +13,5 @@ pub mod Recurrences
 pub mod RecurrenceParts
 pub mod Formats
 pub mod FormatTexts
+pub mod FormatParsing
+pub mod FormatColumns

@@ -153,6 +153,10 @@ insufficient_format = pos 41
 abbrev pub buffer_too_short : ℤ
 buffer_too_short = pos 42
 
+-- A component of a text isn't the component of the value that the others determine.
+abbrev pub contradiction : ℤ
+contradiction = pos 43
+
 -- The errors of components whose range depends on other components.
 abbrev pub day_status : ℤ
 day_status = pos 64

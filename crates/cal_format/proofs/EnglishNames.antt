@@ -1,13 +1,13 @@
 -- Months and weekdays by their names.
-use Rattle.std.proofs.Common.{◌≡◌, ◌⊎◌, ℕ, ◌+◌, ◌-◌, ◌/◌, ◌%◌, ◌<◌, ◌≤◌, List, [], ◌∷◌, ◌++◌, length, take, drop, get_or, refl, sym, ap, ◌∙◌, arith, inl, inr, lit<, lit≤, append_assoc}
+use Rattle.std.proofs.Common.{◌≡◌, ℕ, ◌-◌, ◌/◌, ◌<◌, ◌≤◌, List, ◌∷◌, ◌++◌, length, drop, get_or, refl, sym, ap, ◌∙◌, arith, inl, inr, lit<, lit≤, append_assoc}
 use Rattle.std.specs.Prelude.{◌==◌, if◌then◌else◌, nat_lt, codes, Bool, true, false}
 use Rattle.std.proofs.lemmas.List.{take-append-drop}
 use Rattle.std.proofs.lemmas.Bool.{cases_lt}
 use Rattle.std.proofs.lemmas.Bool.Decides.{nat_tests}
 use Rattle.cal_time.specs.declared.Month.{Month}
-use Rattle.cal_time.specs.declared.Month.TheVariants.{January, February, March, April, May, June, July, August, September, October, November, December}
+use Rattle.cal_time.specs.declared.Month.TheVariants.{January}
 use Rattle.cal_time.specs.declared.Weekday.{Weekday}
-use Rattle.cal_time.specs.declared.Weekday.TheVariants.{Monday, Tuesday, Wednesday, Thursday, Friday, Saturday, Sunday}
+use Rattle.cal_time.specs.declared.Weekday.TheVariants.{Monday}
 use Rattle.cal_time.specs.Month as month
 use Rattle.cal_time.specs.Weekday as weekday
 use Rattle.cal_time.specs.MonthCycle.{month_of_index-index, index-month_of_index}

@@ -1,6 +1,6 @@
 -- What an item's text says of its number.
-use Rattle.std.proofs.Common.{◌≡◌, ℕ, ◌+◌, ◌-◌, ◌/◌, ◌%◌, ◌<◌, ◌≤◌, ◌^◌, List, [], ◌∷◌, ◌++◌, length, take, get_or, refl, sym, ap, subst, ◌∙◌, arith}
-use Rattle.std.specs.Prelude.{Bool, true, false, ℤ, pos, negsuc, fold, ◌==◌, int_lt, if◌then◌else◌}
+use Rattle.std.proofs.Common.{◌≡◌, ℕ, ◌<◌, ◌^◌, List, ◌++◌, length, take, get_or, refl, sym, ap, subst, ◌∙◌, arith}
+use Rattle.std.specs.Prelude.{Bool, false, ℤ, pos, negsuc, fold, ◌==◌, int_lt, if◌then◌else◌}
 use borrow.Author.Tests.{le-ltb}
 use Rattle.std.proofs.lemmas.List.{take_at}
 use Rattle.cal_time.specs.Time.{nanosecond_of}
@@ -10,7 +10,7 @@ use Rattle.cal_format.specs.declared.item.Item.TheVariants as item
 use Rattle.cal_format.specs.declared.item.Padding.{Padding}
 use Rattle.cal_format.specs.declared.item.Padding.TheVariants as padding
 use Rattle.cal_format.specs.declared.item.Component.{Component}
-use Rattle.cal_format.specs.declared.item.Component.TheVariants.{Nanosecond, OffsetSign}
+use Rattle.cal_format.specs.declared.item.Component.TheVariants.{OffsetSign}
 use Rattle.cal_format.specs.declared.moment.Moment.{Moment}
 use Rattle.cal_format.specs.Moment.{number, width}
 use Rattle.cal_format.specs.Text.{padded, fraction_text, item_text}

@@ -1,6 +1,6 @@
 -- What a format holds of a moment.
-use Rattle.std.proofs.Common.{◌≡◌, ◌⊎◌, ℕ, ◌+◌, ◌*◌, ◌<◌, ◌≤◌, ◌^◌, List, [], ◌∷◌, ◌++◌, length, refl, sym, ap, subst, arith, inl, inr, lit≤, length-append}
-use Rattle.std.specs.Prelude.{Bool, ◌==◌, ◌||◌, ◌&&◌, not, IsTrue, ℤ, pos, negsuc, unsigned_abs}
+use Rattle.std.proofs.Common.{◌≡◌, ℕ, ◌*◌, ◌<◌, ◌≤◌, ◌^◌, List, [], ◌∷◌, ◌++◌, length, refl, sym, ap, subst, arith, inl, inr, lit≤, length-append}
+use Rattle.std.specs.Prelude.{Bool, ◌==◌, ◌&&◌, not, IsTrue, ℤ, pos, negsuc, unsigned_abs}
 use Rattle.cal_time.specs.DateText.{sign_text}
 use Rattle.cal_time.specs.Time.{IsTime, nanosecond_of}
 use Rattle.cal_time.specs.UtcOffset.{sign as offset_sign}
@@ -9,7 +9,7 @@ use Rattle.cal_format.specs.declared.item.Item.TheVariants as item
 use Rattle.cal_format.specs.declared.item.Padding.{Padding}
 use Rattle.cal_format.specs.declared.item.Padding.TheVariants as padding
 use Rattle.cal_format.specs.declared.item.Component.{Component}
-use Rattle.cal_format.specs.declared.item.Component.TheVariants.{Year, Century, YearOfCentury, IsoYear, Month, Day, Ordinal, IsoWeek, Weekday, DaysFromSunday, SundayWeekday, SundayWeek, MondayWeek, Hour, Hour12, Minute, Second, Period, Millisecond, Microsecond, Nanosecond, OffsetHour, OffsetMinute, OffsetSecond, OffsetSign}
+use Rattle.cal_format.specs.declared.item.Component.TheVariants.{Hour, Hour12, Minute, Second, Period, Millisecond, Microsecond, Nanosecond}
 use Rattle.cal_format.specs.declared.item.Name.TheVariants as name
 use Rattle.cal_format.specs.declared.moment.Moment.{Moment}
 use Rattle.cal_format.specs.Moment.{number, width, moment_of_time}

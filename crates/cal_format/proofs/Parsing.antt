@@ -1,11 +1,11 @@
 -- What parsing reads of a text that a format prints.
-use Rattle.std.proofs.Common.{◌≡◌, ℕ, ◌<◌, ◌≤◌, List, sym, ap, ◌∙◌, subst, arith, lit<, lit≤}
-use Rattle.std.specs.Prelude.{Bool, IsTrue, if◌then◌else◌, ℤ, pos}
+use Rattle.std.proofs.Common.{◌≡◌, ℕ, List, sym, ap, ◌∙◌, subst, lit<, lit≤}
+use Rattle.std.specs.Prelude.{Bool, IsTrue, if◌then◌else◌, ℤ}
 use Rattle.cal_time.specs.Date.{IsDate}
 use Rattle.cal_time.specs.Time.{IsTime}
 use Rattle.cal_time.specs.UtcOffset.{IsOffset}
 use Rattle.cal_datetime.specs.OffsetDateTime.{LocalAndOffset}
-use Rattle.cal_datetime.specs.DateTime.{IsDateTime, date_at, time_at}
+use Rattle.cal_datetime.specs.DateTime.{IsDateTime}
 use Rattle.cal_datetime.specs.DateTimeLaws.{IsDate-date_at, IsTime-time_at}
 use Rattle.cal_format.specs.declared.fields.Fields.{Fields}
 use Rattle.cal_format.specs.declared.item.Item.{Item}

@@ -1,6 +1,5 @@
 -- The items of the components of `time`'s format descriptions.
 use Rattle.std.specs.Prelude.{ℕ, ◌==◌, ◌&&◌, Bool, true, false, List, [], ◌∷◌, codes, if◌then◌else◌}
-use Rattle.cal_format.specs.declared.item.Item.{Item}
 use Rattle.cal_format.specs.declared.item.Item.TheVariants as item
 use Rattle.cal_format.specs.declared.item.Component.TheVariants.{Year, Century, YearOfCentury, IsoYear, Month, Day, Ordinal, IsoWeek, Weekday, SundayWeekday, SundayWeek, MondayWeek, Hour, Hour12, Minute, Second, Millisecond, Microsecond, Nanosecond, OffsetHour, OffsetMinute, OffsetSecond}
 use Rattle.cal_format.specs.declared.item.Name.TheVariants as name

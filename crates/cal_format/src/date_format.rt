@@ -1,16 +1,19 @@
 //! Dates from texts of a format.
-ghost use Rattle.std.specs.Prelude.{◌≡◌, ℕ, ◌↔◌, Some, IsTrue, IsSome, IfSome};
+ghost use Rattle.std.specs.Prelude.{◌≡◌, ℕ, ◌↔◌, Some, IsTrue, IsSome, IfOk, IfErr, IfSome};
 ghost use Rattle.cal_time.specs.Date.{IsDate};
 ghost use Rattle.cal_format.specs.Moment.{moment_of_date};
 ghost use Rattle.cal_format.specs.Text.{text_of};
 ghost use Rattle.cal_format.specs.Reading.{are_apart, are_date_items, shows_date};
+ghost use Rattle.cal_format.specs.Rejection.{IsRejection};
 ghost use Rattle.cal_format.specs.Scanning.{AreHeld};
 
 use crate::date_parts::date_of;
 use crate::determines::{are_apart, shows_date};
+use crate::error::ParseError;
 use crate::fields::{Fields, set_items};
 use crate::format::Format;
 use crate::held::{are_held, is_text_of};
+use crate::rejection::rejection;
 use crate::value::{are_date_items, moment_of_date};
 use cal_time::Date;
 use std::marker::Model;
@@ -52,7 +55,21 @@ impl Format {
 impl DateFormat {
     /// Parses a text. Returns the date that the format holds and prints as this text, if it is the
     /// text of a date. The format holds a date if each year that it shows is from 0 to 9999.
-    pub fn parse(&self, text: &[u8]) -> Option<Date>
+    pub fn parse(&self, text: &[u8]) -> Result<Date, ParseError>
+        ensures every { (n : ℕ) → IsDate n → AreHeld (moment_of_date n) self.now
+            → text.now ≡ text_of self.now (moment_of_date n)
+            → result ≡ Ok n }
+        ensures value { IfOk result (λ n. IsDate n × AreHeld (moment_of_date n) self.now
+            × (text.now ≡ text_of self.now (moment_of_date n))) }
+        ensures error { IfErr result (IsRejection self.now text.now) }
+    {
+        match self.find(text) {
+            Some(value) => Ok(value),
+            None => Err(rejection(self.format.items(), text)),
+        }
+    }
+
+    fn find(&self, text: &[u8]) -> Option<Date>
         ensures every { (n : ℕ) → IsDate n → AreHeld (moment_of_date n) self.now
             → text.now ≡ text_of self.now (moment_of_date n)
             → result ≡ Some n }

@@ -2,13 +2,17 @@
 ghost use Rattle.std.specs.Prelude.{◌≡◌, ℕ, ◌+◌, ◌*◌, ◌<◌, ◌≤◌, Some, IsTrue, IfSome, pos};
 ghost use Rattle.cal_time.specs.Date.{IsDate, HasCalendarDate, HasOrdinalDate, year_at, weekday_at};
 ghost use Rattle.cal_time.specs.IsoWeekDate.{HasIsoWeekDate};
+ghost use Rattle.cal_format.specs.declared.item.Component.{Component};
 ghost use Rattle.cal_format.specs.declared.moment.Moment.{Moment};
 ghost use Rattle.cal_format.specs.Reading.{shows_year, shows_weekday, shows_date};
-ghost use Rattle.cal_format.specs.Scanning.{AreHeld, Agrees};
+ghost use Rattle.cal_format.specs.Ranges.{maximum};
+ghost use Rattle.cal_format.specs.Scanning.{number_at, AreHeld, Agrees};
+ghost use Rattle.cal_format.specs.Values.{year_in, weekday_in, IsDateOf, date_error};
 
 use crate::determines::{any_shows, shows_calendar_date, shows_ordinal_date};
 use crate::fields::Fields;
 use crate::item::{Component, Item};
+use cal_time::error::{Component as Named, ComponentRange};
 use cal_time::{Date, Month, Weekday};
 
 /// Returns the date with the numbers of the fields.
@@ -17,6 +21,12 @@ pub(crate) fn date_of(items: &[Item], fields: &Fields) -> Option<Date>
         → IsTrue (shows_date items.now)
         → result ≡ Some v.date }
     ensures in_range { IfSome result IsDate }
+    ensures value { ((c : Component) → number_at c fields.now ≤ maximum c)
+        → IsTrue (shows_date items.now)
+        → IfSome result (IsDateOf items.now (λ c. number_at c fields.now)) }
+    ensures none { ((c : Component) → number_at c fields.now ≤ maximum c)
+        → IsTrue (shows_date items.now) → (n : ℕ) → IsDate n
+        → IsDateOf items.now (λ c. number_at c fields.now) n → result ≡ Some n }
 {
     if shows_calendar_date(items) {
         let month = fields.get(Component::Month);
@@ -32,11 +42,27 @@ pub(crate) fn date_of(items: &[Item], fields: &Fields) -> Option<Date>
     iso_week_date(iso_year, week, weekday_of(items, fields))
 }
 
+/// Returns the error of numbers that no date has: the day of the month, the day of the year or the
+/// ISO week.
+pub(crate) fn date_error(items: &[Item]) -> ComponentRange
+    ensures { result ≡ date_error items.now }
+{
+    if shows_calendar_date(items) {
+        return ComponentRange::conditional(Named::Day);
+    }
+    if shows_ordinal_date(items) {
+        return ComponentRange::conditional(Named::Ordinal);
+    }
+    ComponentRange::conditional(Named::Week)
+}
+
 /// Returns the year.
 fn year_of(items: &[Item], fields: &Fields) -> u32
-    ensures { (v : Moment) → AreHeld v items.now → Agrees items.now fields.now v
+    ensures every { (v : Moment) → AreHeld v items.now → Agrees items.now fields.now v
         → IsTrue (shows_year items.now)
         → (pos result ≡ year_at v.date) × (result < 10000) }
+    ensures value { ((c : Component) → number_at c fields.now ≤ maximum c)
+        → (result ≡ year_in items.now (λ c. number_at c fields.now)) × (result < 10000) }
 {
     if any_shows(items, Component::Year) {
         return fields.get(Component::Year);
@@ -58,6 +84,8 @@ fn weekday_of(items: &[Item], fields: &Fields) -> u8
         → IsTrue (shows_weekday items.now)
         → result ≡ weekday_at v.date }
     ensures range { result < 7 }
+    ensures exact { ((c : Component) → number_at c fields.now ≤ maximum c)
+        → result ≡ weekday_in items.now (λ c. number_at c fields.now) }
 {
     if any_shows(items, Component::Weekday) {
         let number = fields.get(Component::Weekday);
@@ -76,6 +104,7 @@ fn calendar_date(year: u32, month: u32, day: u32) -> Option<Date>
         → HasCalendarDate (pos year) month day n
         → result ≡ Some n }
     ensures in_range { IfSome result IsDate }
+    ensures value { IfSome result (HasCalendarDate (pos year) month day) }
 {
     if year > 9999 || month > 99 || day > 99 {
         return None;
@@ -87,6 +116,7 @@ fn calendar_date(year: u32, month: u32, day: u32) -> Option<Date>
 fn month_date(year: i32, month: u8, day: u8) -> Option<Date>
     ensures every { (n : ℕ) → IsDate n → HasCalendarDate year month day n → result ≡ Some n }
     ensures in_range { IfSome result IsDate }
+    ensures value { IfSome result (HasCalendarDate year month day) }
 {
     match Month::try_from(month) {
         Ok(month) => match Date::from_calendar_date(year, month, day) {
@@ -102,6 +132,7 @@ fn ordinal_date(year: u32, ordinal: u32) -> Option<Date>
         → HasOrdinalDate (pos year) ordinal n
         → result ≡ Some n }
     ensures in_range { IfSome result IsDate }
+    ensures value { IfSome result (HasOrdinalDate (pos year) ordinal) }
 {
     if year > 9999 || ordinal > 999 {
         return None;
@@ -118,6 +149,7 @@ fn iso_week_date(year: u32, week: u32, weekday: u8) -> Option<Date>
         → HasIsoWeekDate (pos year) week weekday n
         → result ≡ Some n }
     ensures in_range { IfSome result IsDate }
+    ensures value { IfSome result (HasIsoWeekDate (pos year) week weekday) }
 {
     if year > 9999 || week > 99 {
         return None;

@@ -1,16 +1,19 @@
 //! Date-times from texts of a format.
-ghost use Rattle.std.specs.Prelude.{◌≡◌, ℤ, ◌↔◌, Some, IsTrue, IsSome, IfSome};
+ghost use Rattle.std.specs.Prelude.{◌≡◌, ℤ, ◌↔◌, Some, IsTrue, IsSome, IfOk, IfErr, IfSome};
 ghost use Rattle.cal_datetime.specs.DateTime.{IsDateTime, time_at};
 ghost use Rattle.cal_format.specs.Moment.{moment_of_date_time};
 ghost use Rattle.cal_format.specs.Text.{text_of};
 ghost use Rattle.cal_format.specs.Reading.{are_apart, are_date_time_items, shows_date, shows_time, holds_time};
+ghost use Rattle.cal_format.specs.Rejection.{IsRejection};
 ghost use Rattle.cal_format.specs.Scanning.{AreHeld};
 
 use crate::date_parts::date_of;
 use crate::determines::{are_apart, holds_time, shows_date, shows_time};
+use crate::error::ParseError;
 use crate::fields::{Fields, set_items};
 use crate::format::Format;
 use crate::held::{are_held, is_text_of};
+use crate::rejection::rejection;
 use crate::time_parts::time_of;
 use crate::value::{are_date_time_items, moment_of_date_time};
 use cal_datetime::PlainDateTime;
@@ -60,7 +63,23 @@ impl DateTimeFormat {
     /// Parses a text. Returns the date-time that the format holds and prints as this text, if it is
     /// the text of a date-time. The format holds a date-time if each year that it shows is
     /// from 0 to 9999, and each part of the time of day that it doesn't show is 0.
-    pub fn parse(&self, text: &[u8]) -> Option<PlainDateTime>
+    pub fn parse(&self, text: &[u8]) -> Result<PlainDateTime, ParseError>
+        ensures every { (z : ℤ) → IsDateTime z → AreHeld (moment_of_date_time z) self.now
+            → IsTrue (holds_time self.now (time_at z))
+            → text.now ≡ text_of self.now (moment_of_date_time z)
+            → result ≡ Ok z }
+        ensures value { IfOk result (λ z. IsDateTime z × AreHeld (moment_of_date_time z) self.now
+            × IsTrue (holds_time self.now (time_at z))
+            × (text.now ≡ text_of self.now (moment_of_date_time z))) }
+        ensures error { IfErr result (IsRejection self.now text.now) }
+    {
+        match self.find(text) {
+            Some(value) => Ok(value),
+            None => Err(rejection(self.format.items(), text)),
+        }
+    }
+
+    fn find(&self, text: &[u8]) -> Option<PlainDateTime>
         ensures every { (z : ℤ) → IsDateTime z → AreHeld (moment_of_date_time z) self.now
             → IsTrue (holds_time self.now (time_at z))
             → text.now ≡ text_of self.now (moment_of_date_time z)

@@ -11,6 +11,7 @@ ghost use Rattle.cal_format.specs.Moment.{number, IsMoment};
 ghost use Rattle.cal_format.specs.Names.{short_month, short_weekday, name_text};
 ghost use Rattle.cal_format.specs.Text.{padded, item_text, text_of};
 ghost use Rattle.cal_format.specs.Reading.{index, name_component, shows, any_shows, are_apart};
+ghost use Rattle.cal_format.specs.Values.{number_in};
 ghost use Rattle.cal_format.specs.Scanning.{number_at, BeginsApart, IsEnded, IsHeld, AreHeld};
 
 use crate::fraction::{fraction_length, fraction_number};
@@ -47,6 +48,33 @@ impl Fields {
             ≡ (if index component == index c then number else number_at c self.old) }
     {
         self.numbers[component.index()] = number;
+    }
+
+    /// Sets the numbers of the items. The first item that shows a component has its number.
+    pub(crate) fn fill(&mut self, items: &[Item], numbers: &[u32])
+        requires { (c : Component) → number_at c self.old ≡ 0 }
+        ensures { (c : Component) → number_at c self.new ≡ number_in items.now numbers.now c }
+    {
+        if let [item, others @ ..] = items
+            && let [number, rest @ ..] = numbers
+        {
+            self.fill(others, rest);
+            self.set_shown(*item, *number);
+        }
+    }
+
+    /// Sets the number of the component that the item shows.
+    fn set_shown(&mut self, item: Item, number: u32)
+        ensures { (c : Component) → number_at c self.new
+            ≡ (if shows c item then number else number_at c self.old) }
+    {
+        match item {
+            Item::Literal(_) => {}
+            Item::Number(component, _) => self.set(component, number),
+            Item::Name(name) => self.set(name.component(), number),
+            Item::Fraction => self.set(Component::Nanosecond, number),
+            Item::OffsetSign => self.set(Component::OffsetSign, number),
+        }
     }
 
     /// Sets the number of the item's component, and returns the number of bytes that the text has

@@ -10,12 +10,13 @@ ghost use Rattle.cal_format.specs.Scanning.{AreHeld};
 
 use crate::date_format::DateFormat;
 use crate::date_time_format::DateTimeFormat;
+use crate::error::ParseError;
 use crate::time_format::TimeFormat;
 use cal_datetime::PlainDateTime;
 use cal_time::{Date, Time};
 
 /// States that a text is the text of at most one date.
-pub(crate) fn one_date(format: &DateFormat, text: &[u8]) -> Option<Date>
+pub(crate) fn one_date(format: &DateFormat, text: &[u8]) -> Result<Date, ParseError>
     ensures { (m n : ℕ) → IsDate m → IsDate n → AreHeld (moment_of_date m) format.now
         → AreHeld (moment_of_date n) format.now
         → text.now ≡ text_of format.now (moment_of_date m)
@@ -26,7 +27,7 @@ pub(crate) fn one_date(format: &DateFormat, text: &[u8]) -> Option<Date>
 }
 
 /// States that a text is the text of at most one time of day.
-pub(crate) fn one_time(format: &TimeFormat, text: &[u8]) -> Option<Time>
+pub(crate) fn one_time(format: &TimeFormat, text: &[u8]) -> Result<Time, ParseError>
     ensures { (m n : ℕ) → IsTime m → IsTime n → IsTrue (holds_time format.now m)
         → IsTrue (holds_time format.now n)
         → text.now ≡ text_of format.now (moment_of_time m)
@@ -37,7 +38,10 @@ pub(crate) fn one_time(format: &TimeFormat, text: &[u8]) -> Option<Time>
 }
 
 /// States that a text is the text of at most one date-time.
-pub(crate) fn one_date_time(format: &DateTimeFormat, text: &[u8]) -> Option<PlainDateTime>
+pub(crate) fn one_date_time(
+    format: &DateTimeFormat,
+    text: &[u8],
+) -> Result<PlainDateTime, ParseError>
     ensures { (y z : ℤ) → IsDateTime y → IsDateTime z → AreHeld (moment_of_date_time y) format.now
         → AreHeld (moment_of_date_time z) format.now
         → IsTrue (holds_time format.now (time_at y)) → IsTrue (holds_time format.now (time_at z))

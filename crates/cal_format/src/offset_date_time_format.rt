@@ -1,21 +1,24 @@
 //! Date-times at an offset from texts of a format.
-ghost use Rattle.std.specs.Prelude.{◌≡◌, ◌↔◌, Some, IsTrue, IsSome, IfSome};
+ghost use Rattle.std.specs.Prelude.{◌≡◌, ◌↔◌, Some, IsTrue, IsSome, IfOk, IfErr, IfSome};
 ghost use Rattle.cal_datetime.specs.DateTime.{IsDateTime, time_at};
 ghost use Rattle.cal_datetime.specs.OffsetDateTime.{LocalAndOffset};
 ghost use Rattle.cal_time.specs.UtcOffset.{IsOffset};
 ghost use Rattle.cal_format.specs.Moment.{moment_of_offset_date_time};
 ghost use Rattle.cal_format.specs.Text.{text_of};
 ghost use Rattle.cal_format.specs.Reading.{are_apart, shows_date, shows_time, shows_offset, holds_time, holds_offset};
+ghost use Rattle.cal_format.specs.Rejection.{IsRejection};
 ghost use Rattle.cal_format.specs.Scanning.{AreHeld};
 
 use crate::date_parts::date_of;
 use crate::determines::{
     are_apart, holds_offset, holds_time, shows_date, shows_offset, shows_time,
 };
+use crate::error::ParseError;
 use crate::fields::{Fields, set_items};
 use crate::format::Format;
 use crate::held::{are_held, is_text_of};
 use crate::offset_parts::offset_of;
+use crate::rejection::rejection;
 use crate::time_parts::time_of;
 use crate::value::moment_of_offset_date_time;
 use cal_datetime::OffsetDateTime;
@@ -68,7 +71,27 @@ impl OffsetDateTimeFormat {
     /// Parses a text. Returns the date-time that the format holds and prints as this text, if it is
     /// the text of a date-time. The format holds a date-time if each year that it shows is
     /// from 0 to 9999, and each part of the time of day and of the offset that it doesn't show is 0.
-    pub fn parse(&self, text: &[u8]) -> Option<OffsetDateTime>
+    pub fn parse(&self, text: &[u8]) -> Result<OffsetDateTime, ParseError>
+        ensures every { (m : LocalAndOffset) → IsDateTime m.local → IsOffset m.offset
+            → AreHeld (moment_of_offset_date_time m) self.now
+            → IsTrue (holds_time self.now (time_at m.local))
+            → IsTrue (holds_offset self.now m.offset)
+            → text.now ≡ text_of self.now (moment_of_offset_date_time m)
+            → result ≡ Ok m }
+        ensures value { IfOk result (λ m. IsDateTime m.local × IsOffset m.offset
+            × AreHeld (moment_of_offset_date_time m) self.now
+            × IsTrue (holds_time self.now (time_at m.local))
+            × IsTrue (holds_offset self.now m.offset)
+            × (text.now ≡ text_of self.now (moment_of_offset_date_time m))) }
+        ensures error { IfErr result (IsRejection self.now text.now) }
+    {
+        match self.find(text) {
+            Some(value) => Ok(value),
+            None => Err(rejection(self.format.items(), text)),
+        }
+    }
+
+    fn find(&self, text: &[u8]) -> Option<OffsetDateTime>
         ensures every { (m : LocalAndOffset) → IsDateTime m.local → IsOffset m.offset
             → AreHeld (moment_of_offset_date_time m) self.now
             → IsTrue (holds_time self.now (time_at m.local))

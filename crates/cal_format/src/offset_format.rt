@@ -1,15 +1,18 @@
 //! Offsets from texts of a format.
-ghost use Rattle.std.specs.Prelude.{◌≡◌, ℤ, ◌↔◌, Some, IsTrue, IsSome, IfSome};
+ghost use Rattle.std.specs.Prelude.{◌≡◌, ℤ, ◌↔◌, Some, IsTrue, IsSome, IfOk, IfErr, IfSome};
 ghost use Rattle.cal_time.specs.UtcOffset.{IsOffset};
 ghost use Rattle.cal_format.specs.Moment.{moment_of_offset};
 ghost use Rattle.cal_format.specs.Text.{text_of};
 ghost use Rattle.cal_format.specs.Reading.{are_apart, are_offset_items, shows_offset, holds_offset};
+ghost use Rattle.cal_format.specs.Rejection.{IsRejection};
 
 use crate::determines::{are_apart, holds_offset, shows_offset};
+use crate::error::ParseError;
 use crate::fields::{Fields, set_items};
 use crate::format::Format;
 use crate::held::is_text_of;
 use crate::offset_parts::offset_of;
+use crate::rejection::rejection;
 use crate::value::{are_offset_items, moment_of_offset};
 use cal_time::UtcOffset;
 use std::marker::Model;
@@ -51,7 +54,21 @@ impl Format {
 impl OffsetFormat {
     /// Parses a text. Returns the offset that the format holds and prints as this text, if it is the
     /// text of an offset. The format holds an offset if each part that it doesn't show is 0.
-    pub fn parse(&self, text: &[u8]) -> Option<UtcOffset>
+    pub fn parse(&self, text: &[u8]) -> Result<UtcOffset, ParseError>
+        ensures every { (o : ℤ) → IsOffset o → IsTrue (holds_offset self.now o)
+            → text.now ≡ text_of self.now (moment_of_offset o)
+            → result ≡ Ok o }
+        ensures value { IfOk result (λ o. IsOffset o × IsTrue (holds_offset self.now o)
+            × (text.now ≡ text_of self.now (moment_of_offset o))) }
+        ensures error { IfErr result (IsRejection self.now text.now) }
+    {
+        match self.find(text) {
+            Some(value) => Ok(value),
+            None => Err(rejection(self.format.items(), text)),
+        }
+    }
+
+    fn find(&self, text: &[u8]) -> Option<UtcOffset>
         ensures every { (o : ℤ) → IsOffset o → IsTrue (holds_offset self.now o)
             → text.now ≡ text_of self.now (moment_of_offset o)
             → result ≡ Some o }

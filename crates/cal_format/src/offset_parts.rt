@@ -1,9 +1,12 @@
 //! Offsets from the numbers of a text.
 ghost use Rattle.std.specs.Prelude.{◌≡◌, ◌+◌, ◌*◌, ◌<◌, ◌≤◌, Some, IsTrue, IfSome, unsigned_abs};
 ghost use Rattle.cal_time.specs.UtcOffset.{IsOffset};
+ghost use Rattle.cal_format.specs.declared.item.Component.{Component};
 ghost use Rattle.cal_format.specs.declared.moment.Moment.{Moment};
 ghost use Rattle.cal_format.specs.Reading.{shows_offset, holds_offset};
-ghost use Rattle.cal_format.specs.Scanning.{Agrees, signed_offset};
+ghost use Rattle.cal_format.specs.Ranges.{maximum};
+ghost use Rattle.cal_format.specs.Scanning.{number_at, Agrees, signed_offset};
+ghost use Rattle.cal_format.specs.Values.{offset_in};
 
 use crate::fields::Fields;
 use crate::item::{Component, Item};
@@ -15,6 +18,8 @@ pub(crate) fn offset_of(items: &[Item], fields: &Fields) -> Option<UtcOffset>
         → IsTrue (shows_offset items.now) → IsTrue (holds_offset items.now v.offset)
         → result ≡ Some v.offset }
     ensures in_range { IfSome result IsOffset }
+    ensures value { ((c : Component) → number_at c fields.now ≤ maximum c)
+        → result ≡ Some (offset_in (λ c. number_at c fields.now)) }
 {
     let sign = fields.get(Component::OffsetSign);
     let hour = fields.get(Component::OffsetHour);

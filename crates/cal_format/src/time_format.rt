@@ -1,14 +1,17 @@
 //! Times of day from texts of a format.
-ghost use Rattle.std.specs.Prelude.{◌≡◌, ℕ, ◌↔◌, Some, IsTrue, IsSome, IfSome};
+ghost use Rattle.std.specs.Prelude.{◌≡◌, ℕ, ◌↔◌, Some, IsTrue, IsSome, IfOk, IfErr, IfSome};
 ghost use Rattle.cal_time.specs.Time.{IsTime};
 ghost use Rattle.cal_format.specs.Moment.{moment_of_time};
 ghost use Rattle.cal_format.specs.Text.{text_of};
 ghost use Rattle.cal_format.specs.Reading.{are_apart, are_time_items, shows_time, holds_time};
+ghost use Rattle.cal_format.specs.Rejection.{IsRejection};
 
 use crate::determines::{are_apart, holds_time, shows_time};
+use crate::error::ParseError;
 use crate::fields::{Fields, set_items};
 use crate::format::Format;
 use crate::held::is_text_of;
+use crate::rejection::rejection;
 use crate::time_parts::time_of;
 use crate::value::{are_time_items, moment_of_time};
 use cal_time::Time;
@@ -51,7 +54,21 @@ impl Format {
 impl TimeFormat {
     /// Parses a text. Returns the time of day that the format holds and prints as this text, if it is
     /// the text of a time. The format holds a time if each part that it doesn't show is 0.
-    pub fn parse(&self, text: &[u8]) -> Option<Time>
+    pub fn parse(&self, text: &[u8]) -> Result<Time, ParseError>
+        ensures every { (n : ℕ) → IsTime n → IsTrue (holds_time self.now n)
+            → text.now ≡ text_of self.now (moment_of_time n)
+            → result ≡ Ok n }
+        ensures value { IfOk result (λ n. IsTime n × IsTrue (holds_time self.now n)
+            × (text.now ≡ text_of self.now (moment_of_time n))) }
+        ensures error { IfErr result (IsRejection self.now text.now) }
+    {
+        match self.find(text) {
+            Some(value) => Ok(value),
+            None => Err(rejection(self.format.items(), text)),
+        }
+    }
+
+    fn find(&self, text: &[u8]) -> Option<Time>
         ensures every { (n : ℕ) → IsTime n → IsTrue (holds_time self.now n)
             → text.now ≡ text_of self.now (moment_of_time n)
             → result ≡ Some n }

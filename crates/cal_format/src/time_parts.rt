@@ -1,9 +1,12 @@
 //! Times of day from the numbers of a text.
-ghost use Rattle.std.specs.Prelude.{◌≡◌, ℕ, ◌<◌, ◌≤◌, Some, IsTrue, IfSome};
+ghost use Rattle.std.specs.Prelude.{◌≡◌, ◌<◌, ◌≤◌, Some, IsTrue, IfSome};
 ghost use Rattle.cal_time.specs.Time.{IsTime, hour_of as hour_at, nanosecond_of as nanosecond_at, time_of as time_with};
+ghost use Rattle.cal_format.specs.declared.item.Component.{Component};
 ghost use Rattle.cal_format.specs.declared.moment.Moment.{Moment};
 ghost use Rattle.cal_format.specs.Reading.{shows_hour, shows_time, holds_subsecond, holds_time};
-ghost use Rattle.cal_format.specs.Scanning.{Agrees};
+ghost use Rattle.cal_format.specs.Ranges.{maximum};
+ghost use Rattle.cal_format.specs.Scanning.{number_at, Agrees};
+ghost use Rattle.cal_format.specs.Values.{hour_in, nanosecond_in, time_in};
 
 use crate::determines::any_shows;
 use crate::fields::Fields;
@@ -16,6 +19,8 @@ pub(crate) fn time_of(items: &[Item], fields: &Fields) -> Option<Time>
         → IsTrue (shows_time items.now) → IsTrue (holds_time items.now v.time)
         → result ≡ Some v.time }
     ensures in_range { IfSome result IsTime }
+    ensures value { ((c : Component) → number_at c fields.now ≤ maximum c)
+        → result ≡ Some (time_in items.now (λ c. number_at c fields.now)) }
 {
     let minute = fields.get(Component::Minute);
     let second = fields.get(Component::Second);
@@ -43,9 +48,11 @@ fn time_with(hour: u32, minute: u32, second: u32, nanosecond: u32) -> Option<Tim
 }
 
 fn hour_of(items: &[Item], fields: &Fields) -> u32
-    ensures { (v : Moment) → IsTime v.time → Agrees items.now fields.now v
+    ensures every { (v : Moment) → IsTime v.time → Agrees items.now fields.now v
         → IsTrue (shows_hour items.now)
         → result ≡ hour_at v.time }
+    ensures value { ((c : Component) → number_at c fields.now ≤ maximum c)
+        → (result ≡ hour_in items.now (λ c. number_at c fields.now)) × (result ≤ 23) }
 {
     if any_shows(items, Component::Hour) {
         return fields.get(Component::Hour);
@@ -56,9 +63,12 @@ fn hour_of(items: &[Item], fields: &Fields) -> u32
 }
 
 fn nanosecond_of(items: &[Item], fields: &Fields) -> u32
-    ensures { (v : Moment) → Agrees items.now fields.now v
+    ensures every { (v : Moment) → Agrees items.now fields.now v
         → IsTrue (holds_subsecond items.now (nanosecond_at v.time))
         → result ≡ nanosecond_at v.time }
+    ensures value { ((c : Component) → number_at c fields.now ≤ maximum c)
+        → (result ≡ nanosecond_in items.now (λ c. number_at c fields.now))
+        × (result ≤ 999_999_999) }
 {
     if any_shows(items, Component::Nanosecond) {
         return fields.get(Component::Nanosecond);

@@ -1,5 +1,6 @@
 //! The values that a format prints.
 ghost use Rattle.std.specs.Prelude.{◌≡◌, ◌≤◌, ◌↔◌, IsTrue, IsSome, IfSome, length, take};
+ghost use Rattle.cal_time.specs.Date.{IsDate};
 ghost use Rattle.cal_format.specs.Moment.{moment_of_date, moment_of_time, moment_of_date_time, moment_of_offset, moment_of_offset_date_time};
 ghost use Rattle.cal_format.specs.Reading.{is_date, is_time, is_date_item, is_time_item, are_date_items, are_time_items, are_date_time_items, is_offset_item, are_offset_items};
 ghost use Rattle.cal_format.specs.Text.{text_of};
@@ -157,8 +158,9 @@ pub(crate) fn moment_of_offset_date_time(date_time: OffsetDateTime) -> Moment
 }
 
 /// Returns the first date of the range.
-fn first_date() -> Date
-    ensures { result ≡ 0 }
+pub(crate) fn first_date() -> Date
+    ensures value { result ≡ 0 }
+    ensures range { IsDate result }
 {
     Date::MIN
 }

@@ -4,6 +4,7 @@ use cal_format::{DateFormat, DateTimeFormat, Format, TimeFormat};
 use cal_time::{Date, Time};
 use std::process::Abort;
 
+mod errors;
 mod formats;
 mod offsets;
 mod rows;
@@ -69,17 +70,17 @@ fn is_date_time_text(format: &Format, date_time: PlainDateTime, text: &str) -> b
 /// Checks that a format prints the date as this text, and parses the text.
 fn date_row(spelling: &str, date: Date, text: &str, rt: &impl Abort) {
     assert!(rt; is_date_text(&format(spelling, rt), date, text));
-    assert!(rt; date_format(spelling, rt).parse(text.as_bytes()) == Some(date));
+    assert!(rt; date_format(spelling, rt).parse(text.as_bytes()) == Ok(date));
 }
 
 /// Checks that a format prints the time of day as this text, and parses the text.
 fn time_row(spelling: &str, time: Time, text: &str, rt: &impl Abort) {
     assert!(rt; is_time_text(&format(spelling, rt), time, text));
-    assert!(rt; time_format(spelling, rt).parse(text.as_bytes()) == Some(time));
+    assert!(rt; time_format(spelling, rt).parse(text.as_bytes()) == Ok(time));
 }
 
 /// Checks that a format prints the date-time as this text, and parses the text.
 fn date_time_row(spelling: &str, date_time: PlainDateTime, text: &str, rt: &impl Abort) {
     assert!(rt; is_date_time_text(&format(spelling, rt), date_time, text));
-    assert!(rt; date_time_format(spelling, rt).parse(text.as_bytes()) == Some(date_time));
+    assert!(rt; date_time_format(spelling, rt).parse(text.as_bytes()) == Ok(date_time));
 }

@@ -31,7 +31,7 @@ fn decimal_digit_value(byte: u8) -> Option<u32>
 }
 
 /// Parses a number above 0 without leading zeros, of up to `more + 1` digits.
-pub(crate) fn scan_positive_number(scanner: &mut Scanner, more: usize) -> Option<u64>
+pub fn scan_positive_number(scanner: &mut Scanner, more: usize) -> Option<u64>
     requires { more ≤ 17 }
     ensures scans { Scans (Number more) scanner.old.rest.now scanner.new.rest.now result }
     ensures value { IfSome result (λ n.

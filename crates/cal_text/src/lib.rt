@@ -17,4 +17,6 @@ pub mod unix;
 mod year;
 
 pub use any::{DateForm, DateOrMoment, MomentForm, parse_any};
+pub use digits::scan_positive_number;
 pub use error::ParseError;
+pub use scanner::Scanner;

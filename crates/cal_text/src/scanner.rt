@@ -8,14 +8,14 @@ use crate::digits::two_digit_value;
 
 /// The rest of a text. A call that returns `None` leaves it at the wrong byte, or at the end.
 #[derive(Drop)]
-pub(crate) struct Scanner<'a> {
-    pub(crate) rest: &'a [u8],
+pub struct Scanner<'a> {
+    pub rest: &'a [u8],
 }
 
 impl Scanner<'_> {
     /// Parses a byte from `low` to `low + above`.
     #[inline(always)]
-    pub(crate) fn byte_from(&mut self, low: u8, above: u8) -> Option<u8>
+    pub fn byte_from(&mut self, low: u8, above: u8) -> Option<u8>
         requires { low + above < 256 }
         ensures scans { Scans (ByteRange low above) self.old.rest.now self.new.rest.now result }
         ensures branches { Branches low above self.old.rest.now self.new.rest.now result }
@@ -32,7 +32,7 @@ impl Scanner<'_> {
     }
 
     #[inline(always)]
-    pub(crate) fn byte(&mut self, byte: u8) -> Option<()>
+    pub fn byte(&mut self, byte: u8) -> Option<()>
         ensures scans { Scans (Byte byte) self.old.rest.now self.new.rest.now result }
         ensures branches { Branches byte 0 self.old.rest.now self.new.rest.now result }
         ensures value { IfSome result (λ _. self.old.rest.now ≡ byte ∷ self.new.rest.now) }
@@ -44,7 +44,7 @@ impl Scanner<'_> {
 
     /// Parses a digit from 1 to 9.
     #[inline(always)]
-    pub(crate) fn digit_from_1(&mut self) -> Option<u32>
+    pub fn digit_from_1(&mut self) -> Option<u32>
         ensures scans { Scans (ByteRange 49 8) self.old.rest.now self.new.rest.now result }
         ensures branches { Branches 49 8 self.old.rest.now self.new.rest.now result }
         ensures value { IfSome result (λ d.
@@ -56,7 +56,7 @@ impl Scanner<'_> {
     }
 
     #[inline(always)]
-    pub(crate) fn digit(&mut self) -> Option<u32>
+    pub fn digit(&mut self) -> Option<u32>
         ensures scans { Scans (Digits 1) self.old.rest.now self.new.rest.now result }
         ensures branches { Branches 48 9 self.old.rest.now self.new.rest.now result }
         ensures value { IfSome result (λ d.
@@ -69,7 +69,7 @@ impl Scanner<'_> {
 
     /// Parses a sign, and returns `true` for minus. The choice between them needs no branch.
     #[inline(always)]
-    pub(crate) fn sign(&mut self) -> Option<bool>
+    pub fn sign(&mut self) -> Option<bool>
         ensures scans { Scans Sign self.old.rest.now self.new.rest.now result }
         ensures value { IfSome result (λ is_minus.
             self.old.rest.now ≡ sign_byte is_minus ∷ self.new.rest.now) }
@@ -140,7 +140,7 @@ impl Scanner<'_> {
 
     /// Returns `Some(())` at the end of the text.
     #[inline(always)]
-    pub(crate) fn end(&mut self) -> Option<()>
+    pub fn end(&mut self) -> Option<()>
         ensures scans { ScansWhole End self.old.rest.now self.new.rest.now result }
         ensures value { IfSome result (λ _. self.old.rest.now ≡ []) }
         ensures unchanged { self.new.rest.now ≡ self.old.rest.now }

@@ -20,6 +20,10 @@ pub(super) const INVALID_WEEKDAY: u8 = status::INVALID_WEEKDAY as u8;
 
 pub(super) const INVALID_BOUNDS: u8 = status::INVALID_BOUNDS as u8;
 
+pub(super) const INVALID_FORMAT: u8 = status::INVALID_FORMAT as u8;
+
+pub(super) const UNSUPPORTED_ITEM: u8 = status::UNSUPPORTED_ITEM as u8;
+
 pub(super) const YEAR_OUT_OF_RANGE: u8 = status::YEAR_OUT_OF_RANGE as u8;
 
 pub(super) const MONTH_OUT_OF_RANGE: u8 = status::MONTH_OUT_OF_RANGE as u8;

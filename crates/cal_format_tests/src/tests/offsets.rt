@@ -33,24 +33,24 @@ fn is_offset_date_time_text(format: &Format, date_time: OffsetDateTime, text: &s
 }
 
 fn is_rejected(spelling: &str, text: &str, rt: &impl Abort) -> bool {
-    offset_format(spelling, rt).parse(text.as_bytes()).is_none()
+    offset_format(spelling, rt).parse(text.as_bytes()).is_err()
 }
 
 /// Checks that a format prints the offset as this text, and parses the text.
 fn offset_row(spelling: &str, offset: UtcOffset, text: &str, rt: &impl Abort) {
     assert!(rt; is_offset_text(&format(spelling, rt), offset, text));
-    assert!(rt; offset_format(spelling, rt).parse(text.as_bytes()) == Some(offset));
+    assert!(rt; offset_format(spelling, rt).parse(text.as_bytes()) == Ok(offset));
 }
 
 /// Checks that a format prints the date-time as this text, and parses the text at this offset.
 fn offset_date_time_row(spelling: &str, date_time: OffsetDateTime, text: &str, rt: &impl Abort) {
     assert!(rt; is_offset_date_time_text(&format(spelling, rt), date_time, text));
     match offset_date_time_format(spelling, rt).parse(text.as_bytes()) {
-        Some(parsed) => {
+        Ok(parsed) => {
             assert!(rt; parsed == date_time);
             assert!(rt; parsed.offset() == date_time.offset());
         }
-        None => panic!(rt; "rejected"),
+        Err(_) => panic!(rt; "rejected"),
     }
 }
 

@@ -1,4 +1,4 @@
-use Rattle.std.proofs.Common.{◌≡◌, ◌++◌, length, drop, sym, ap, ◌∙◌}
+use Rattle.std.proofs.Common.{◌++◌, length, drop, sym, ap, ◌∙◌}
 use Rattle.cal_time.specs.Month as month
 use Rattle.cal_time.specs.Weekday as weekday
 use Rattle.cal_format.specs.Names.{name_text, month_of, weekday_of}

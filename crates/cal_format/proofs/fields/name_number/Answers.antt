@@ -1,4 +1,4 @@
-use Rattle.std.proofs.Common.{◌≡◌, ◌<◌, ◌+◌, ◌++◌, drop, sym, ap, ◌∙◌, arith}
+use Rattle.std.proofs.Common.{◌<◌, ◌+◌, ◌++◌, drop, sym, ap, ◌∙◌, arith}
 use Rattle.cal_time.specs.Month as month
 use Rattle.cal_time.specs.Weekday as weekday
 use Rattle.cal_time.specs.Time.{hour_of}

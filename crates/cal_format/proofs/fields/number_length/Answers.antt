@@ -1,4 +1,4 @@
-use Rattle.std.proofs.Common.{◌≡◌, length, ◌++◌, sym, ap, ◌∙◌}
+use Rattle.std.proofs.Common.{length, ◌++◌, sym, ap, ◌∙◌}
 use Rattle.std.specs.Prelude.{decimal}
 use Rattle.cal_format.specs.Text.{padded}
 use Rattle.cal_format.proofs.Digits.{length-zeros, length-spaces, length-decimal, AreDigits-decimal}

@@ -1,6 +1,4 @@
-use Rattle.std.proofs.Common.{◌≡◌, ◌≤◌, ◌<◌, length, drop, sym, ap, ◌∙◌, arith}
-use Rattle.cal_format.specs.Format.{spelled}
-use Rattle.cal_format.proofs.Spellings.{IsFront, front-fits, front-long, slice-all}
+use Rattle.cal_format.proofs.Spellings.{front-fits, front-long, slice-all}
 use Rattle.cal_format.proofs.format.front_directive.Goals as goal
 
 pub returns-then-directive-text-clause-items : goal.returns-then-directive-text-clause-items

@@ -1,4 +1,4 @@
-use Rattle.std.proofs.Common.{◌≡◌, ◌≢◌, get_or, arith}
+use Rattle.std.proofs.Common.{arith}
 use Rattle.cal_format.proofs.Fractions.{fraction-empty, fraction-absent, fraction-present}
 use Rattle.cal_format.proofs.fraction.fraction_length.Goals as goal
 

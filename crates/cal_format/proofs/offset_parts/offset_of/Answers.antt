@@ -1,8 +1,8 @@
-use Rattle.std.proofs.Common.{◌≡◌, ◌/◌, ◌%◌, ap, ◌∙◌}
+use Rattle.std.proofs.Common.{◌+◌, ◌*◌, ◌/◌, ◌%◌, ap, ◌∙◌, arith}
 use Rattle.std.specs.Prelude.{Some, unsigned_abs}
 use Rattle.cal_format.specs.declared.item.Component.TheVariants as shown
 use Rattle.cal_format.specs.Reading.{any_shows}
-use Rattle.cal_format.specs.Scanning.{number_at}
+use Rattle.cal_format.specs.Scanning.{number_at, signed_offset}
 use Rattle.cal_format.proofs.Apart.{agrees-whole}
 use Rattle.cal_format.proofs.Offsets.{offset-shown, offset-parts, signed-is}
 use Rattle.cal_format.proofs.Parts.{agreed}
@@ -19,3 +19,8 @@ returns-clause-every c v range agrees shows holds =
     let second = c.get-second.ensures ∙ agrees-whole (any_shows shown.OffsetSecond items) (number_at shown.OffsetSecond fields) (unsigned_abs v.offset % 60) s.second (agrees shown.OffsetSecond) in
     let parts = offset-parts v.offset _ _ _ range hour minute second in
     c.offset_with.ensures.value parts.hour parts.minute parts.second ∙ ap (λ o. Some o) (signed-is v.offset c.get-sign.result _ sign parts.magnitude)
+
+pub returns-clause-value : goal.returns-clause-value
+returns-clause-value c low =
+    c.offset_with.ensures.value (omega (arith, c.get-hour.ensures, low shown.OffsetHour)) (omega (arith, c.get-minute.ensures, low shown.OffsetMinute)) (omega (arith, c.get-second.ensures, low shown.OffsetSecond))
+    ∙ (λ i. Some (signed_offset (c.get-sign.ensures i) (c.get-hour.ensures i * 3_600 + c.get-minute.ensures i * 60 + c.get-second.ensures i)))

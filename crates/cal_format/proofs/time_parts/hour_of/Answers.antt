@@ -1,12 +1,26 @@
-use Rattle.std.proofs.Common.{◌≡◌, sym, ◌∙◌}
+use Rattle.std.proofs.Common.{◌≡◌, ◌+◌, ◌*◌, ◌%◌, ◌≤◌, sym, ◌∙◌, arith}
 use Rattle.std.specs.Prelude.{IsTrue}
 use Rattle.cal_format.specs.declared.item.Component.TheVariants as shown
 use Rattle.cal_format.specs.Reading.{any_shows}
 use Rattle.cal_format.proofs.Parts.{agreed}
+use Rattle.cal_format.specs.Scanning.{number_at}
+use Rattle.cal_format.proofs.Choices.{first-choice, other-choice}
 use Rattle.cal_format.proofs.time_parts.hour_of.Goals as goal
 
-pub returns-then-any_shows : goal.returns-then-any_shows
-returns-then-any_shows c v time agrees h =
+pub returns-then-any_shows-clause-every : goal.returns-then-any_shows-clause-every
+returns-then-any_shows-clause-every c v time agrees h =
     let items = c.args.items.now in
     let hour : IsTrue (any_shows shown.Hour items) = sym c.any_shows.ensures ∙ c.if-any_shows.true in
     agreed items c.args.fields.now v shown.Hour c.get.result agrees hour c.get.ensures
+
+pub returns-then-any_shows-clause-value : goal.returns-then-any_shows-clause-value
+returns-then-any_shows-clause-value c low =
+    (c.get.ensures ∙ first-choice (any_shows shown.Hour c.args.items.now) _ _ (sym c.any_shows.ensures ∙ c.if-any_shows.true), omega (arith, c.get.ensures, low shown.Hour))
+
+pub returns-clause-value : goal.returns-clause-value
+returns-clause-value c low =
+    let f = c.args.fields.now in
+    let other = other-choice (any_shows shown.Hour c.args.items.now) (number_at shown.Hour f) (number_at shown.Hour12 f % 12 + number_at shown.Period f * 12) (sym c.any_shows.ensures ∙ c.if-any_shows.false) in
+    let period : c.get-period.result ≤ 1 = omega (arith, c.get-period.ensures, low shown.Period) in
+    let same : c.get-hour.result % 12 + c.get-period.result % 2 * 12 ≡ number_at shown.Hour12 f % 12 + number_at shown.Period f * 12 = omega (arith, c.get-hour.ensures, c.get-period.ensures, period) in
+    (same ∙ other, omega (arith, period))

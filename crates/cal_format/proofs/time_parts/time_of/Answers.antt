@@ -1,6 +1,6 @@
-use Rattle.std.proofs.Common.{◌≡◌, ap, ◌∙◌}
+use Rattle.std.proofs.Common.{ap, ◌∙◌, arith}
 use Rattle.std.specs.Prelude.{Some}
-use Rattle.cal_time.specs.Time.{minute_of, second_of}
+use Rattle.cal_time.specs.Time.{minute_of, second_of, time_of as time_at}
 use Rattle.cal_format.specs.declared.item.Component.TheVariants as shown
 use Rattle.cal_format.specs.Reading.{any_shows}
 use Rattle.cal_format.specs.Scanning.{number_at}
@@ -13,9 +13,16 @@ returns-clause-every c v time agrees shows holds =
     let items = c.args.items.now in
     let fields = c.args.fields.now in
     let s = time-shown items v.time shows holds in
-    let hour = c.hour_of.ensures v time agrees s.hour in
+    let hour = c.hour_of.ensures.every v time agrees s.hour in
     let minute = c.get-minute.ensures ∙ agrees-whole (any_shows shown.Minute items) (number_at shown.Minute fields) (minute_of v.time) s.minute (agrees shown.Minute) in
     let second = c.get-second.ensures ∙ agrees-whole (any_shows shown.Second items) (number_at shown.Second fields) (second_of v.time) s.second (agrees shown.Second) in
-    let nanosecond = c.nanosecond_of.ensures v agrees s.subsecond in
+    let nanosecond = c.nanosecond_of.ensures.every v agrees s.subsecond in
     let parts = parts-of v.time _ _ _ _ time hour minute second nanosecond in
     c.time_with.ensures.value parts.hour parts.minute parts.second parts.nanosecond ∙ ap (λ t. Some t) parts.time
+
+pub returns-clause-value : goal.returns-clause-value
+returns-clause-value c low =
+    let hour = c.hour_of.ensures.value low in
+    let nanosecond = c.nanosecond_of.ensures.value low in
+    c.time_with.ensures.value hour.1 (omega (arith, c.get-minute.ensures, low shown.Minute)) (omega (arith, c.get-second.ensures, low shown.Second)) nanosecond.1
+    ∙ (λ i. Some (time_at (hour.0 i) (c.get-minute.ensures i) (c.get-second.ensures i) (nanosecond.0 i)))

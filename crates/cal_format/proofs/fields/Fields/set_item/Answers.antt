@@ -1,8 +1,7 @@
-use Rattle.std.proofs.Common.{◌≡◌, ℕ, length, refl, sym, ap, subst, ◌∙◌, arith}
-use Rattle.cal_format.specs.declared.item.Item.{Item}
+use Rattle.std.proofs.Common.{length, sym, ap, ◌∙◌}
 use Rattle.cal_format.specs.declared.item.Item.TheVariants as item
 use Rattle.cal_format.specs.declared.item.Component.TheVariants.{Nanosecond, OffsetSign}
-use Rattle.cal_format.specs.Reading.{shows, name_component}
+use Rattle.cal_format.specs.Reading.{name_component}
 use Rattle.cal_format.specs.Text.{item_text}
 use Rattle.cal_format.proofs.Apart.{set-number, shown-number, shown-name, shown-fraction, shown-sign, shown-literal}
 use Rattle.cal_format.proofs.Fronts.{as-item, number-length, number-value, fraction-used, fraction-value, sign-value, sign-length}

@@ -1,0 +1,168 @@
+-- Numbers that no item contradicts are the numbers of a moment whose text they print.
+use Rattle.std.proofs.Common.{◌≡◌, ℕ, zero, suc, ◌+◌, ◌-◌, ◌*◌, ◌/◌, ◌%◌, ◌≤◌, List, [], ◌∷◌, ◌++◌, refl, sym, ap, ◌∙◌, arith, inl, inr}
+use Rattle.std.specs.Prelude.{Bool, true, false, IsTrue, None, ◌==◌, ◌&&◌, ◌||◌, nat_lt, if◌then◌else◌, ℤ, pos, negsuc, neg_ℤ, int_lt, unsigned_abs, codes}
+use Rattle.std.proofs.lemmas.Bool.{cases_lt}
+use Rattle.std.proofs.lemmas.Bool.Decides.{nat_tests}
+use borrow.Author.Tests.{eq-eqb, le-ltb}
+use Rattle.cal_time.specs.Time.{hour_of, minute_of, second_of, nanosecond_of, time_of}
+use Rattle.cal_time.specs.Date.{weekday_at}
+use Rattle.cal_time.specs.Month.{month_of_index}
+use Rattle.cal_time.specs.Weekday.{weekday_of_index}
+use Rattle.cal_time.specs.Month as month
+use Rattle.cal_time.specs.Weekday as weekday
+use Rattle.cal_time.specs.UtcOffset.{sign as offset_sign}
+use Rattle.cal_format.specs.declared.item.Item.{Item}
+use Rattle.cal_format.specs.declared.item.Item.TheVariants as item
+use Rattle.cal_format.specs.declared.item.Name.{Name}
+use Rattle.cal_format.specs.declared.item.Name.TheVariants as name
+use Rattle.cal_format.specs.declared.item.Component.{Component}
+use Rattle.cal_format.specs.declared.item.Component.TheVariants.{Hour, Hour12, Minute, Second, Period, Millisecond, Microsecond, Nanosecond, OffsetHour, OffsetMinute, OffsetSecond, OffsetSign}
+use Rattle.cal_format.specs.declared.moment.Moment.{Moment}
+use Rattle.cal_format.specs.Form.{period_text, numbered_name, numbered_item, numbered_text, IsNumber, AreNumbers}
+use Rattle.cal_format.specs.Moment.{number, width}
+use Rattle.cal_format.specs.Names.{name_text, short_month, short_weekday}
+use Rattle.cal_format.specs.Ranges.{maximum}
+use Rattle.cal_format.specs.Reading.{shows, name_component, any_shows, holds_time, holds_offset}
+use Rattle.cal_format.specs.Scanning.{IsHeld, AreHeld}
+use Rattle.cal_format.specs.Text.{sign, padded, fraction_text, item_text, text_of}
+use Rattle.cal_format.specs.Values.{number_in, hour_in, nanosecond_in, time_in, offset_in, is_empty, differing, item_contradiction, first_contradiction}
+use Rattle.cal_format.proofs.Apart.{both_tests, same_test}
+use Rattle.cal_format.proofs.Rejections.{none-first}
+
+-- ---- the text
+same : (c : Component) (b : Bool) → differing c b ≡ None → IsTrue b
+same c true e = refl
+same c false e = cc
+
+empty : (l : List ℕ) → IsTrue (is_empty l) → l ≡ []
+empty [] h = refl
+empty (x ∷ xs) h = cc
+
+period : (h n : ℕ) → h / 12 ≡ n → period_text n ≡ (if nat_lt h 12 then codes "AM" else codes "PM")
+period h n e = elim (cases_lt h 12) as (λ _. period_text n ≡ (if nat_lt h 12 then codes "AM" else codes "PM")) [
+  | inl low ↦ (let none : n ≡ 0 = omega (arith, e, low) in grind (arith, nat_tests))
+  | inr high ↦ (let some : 1 ≤ n = omega (arith, e, high) in grind (arith, nat_tests))
+]
+
+pub name-same : (k : Name) (n : ℕ) (v : Moment) → number (name_component k) v ≡ n → numbered_name k n ≡ name_text k v
+name-same name.Month n v e = ap (λ j. month.name (month_of_index (j - 1))) (sym e)
+name-same name.ShortMonth n v e = ap (λ j. short_month (month_of_index (j - 1))) (sym e)
+name-same name.Weekday n v e = (let less : n - 1 ≡ weekday_at v.date = omega (arith, e) in ap (λ j. weekday.name (weekday_of_index j)) less)
+name-same name.ShortWeekday n v e = (let less : n - 1 ≡ weekday_at v.date = omega (arith, e) in ap (λ j. short_weekday (weekday_of_index j)) less)
+name-same name.Period n v e = period (hour_of v.time) n e
+
+pub sign-same : (o : ℤ) (n : ℕ) → (if int_lt o (pos 0) then 1 else 0) ≡ n → (if n == 1 then codes "-" else codes "+") ≡ offset_sign o
+sign-same (pos k) n e =
+    let low : int_lt (pos k) (pos 0) ≡ false = le-ltb k 0 (omega arith) in
+    let none : n ≡ 0 = sym e ∙ ap (λ b. if b then 1 else 0) low in
+    ap (λ j. if j == 1 then codes "-" else codes "+") none
+sign-same (negsuc k) n e = ap (λ j. if j == 1 then codes "-" else codes "+") (sym e)
+
+item-same : (i : Item) (n : ℕ) (v : Moment) → IsNumber i n → item_contradiction i n v ≡ None → (numbered_item i n ≡ item_text v i) × IsHeld v i
+item-same (item.Literal b) n v fit e = (refl, tt)
+item-same (item.Number c p) n v fit e =
+    let both = both_tests (number c v == n) (is_empty (sign c v)) (same c ((number c v == n) && is_empty (sign c v)) e) in
+    let equal : number c v ≡ n = same_test (number c v) n both.0 in
+    let plain = empty (sign c v) both.1 in
+    (ap (padded p (width c)) (sym equal) ∙ ap (λ l. l ++ padded p (width c) (number c v)) (sym plain), (omega (arith, fit, equal), plain))
+item-same (item.Name k) n v fit e = (name-same k n v (same_test (number (name_component k) v) n (same (name_component k) _ e)), tt)
+item-same item.Fraction n v fit e = (ap fraction_text (sym (same_test (number Nanosecond v) n (same Nanosecond _ e))), tt)
+item-same item.OffsetSign n v fit e = (sign-same v.offset n (same_test (number OffsetSign v) n (same OffsetSign _ e)), tt)
+
+pub same-text : (items : List Item) (numbers : List ℕ) (v : Moment) → AreNumbers items numbers → first_contradiction items numbers v ≡ None
+    → (numbered_text items numbers ≡ text_of items v) × AreHeld v items
+same-text [] numbers v fit e = (refl, tt)
+same-text (i ∷ items) [] v fit e = absurd fit
+same-text (i ∷ items) (n ∷ numbers) v fit e =
+    let none = none-first (item_contradiction i n v) (first_contradiction items numbers v) e in
+    let first = item-same i n v fit.0 none.0 in
+    let rest = same-text items numbers v fit.1 none.1 in
+    ((λ j. first.0 j ++ rest.0 j), (first.1, rest.1))
+
+-- ---- what isn't shown is 0
+neither : (a b : Bool) → (a || b) ≡ false → (a ≡ false) × (b ≡ false)
+neither true b e = cc
+neither false b e = (refl, e)
+
+skipped : (b : Bool) (x y : ℕ) → b ≡ false → y ≡ 0 → (if b then x else y) ≡ 0
+skipped true x y e f = cc
+skipped false x y e f = f
+
+not-shown : (items : List Item) (numbers : List ℕ) (c : Component) → any_shows c items ≡ false → number_in items numbers c ≡ 0
+not-shown [] numbers c e = refl
+not-shown (i ∷ items) [] c e = refl
+not-shown (i ∷ items) (n ∷ numbers) c e =
+    let none = neither (shows c i) (any_shows c items) e in
+    skipped (shows c i) n (number_in items numbers c) none.0 (not-shown items numbers c none.1)
+
+-- ---- the format holds the moment
+if-most : (b : Bool) (x y m : ℕ) → x ≤ m → y ≤ m → (if b then x else y) ≤ m
+if-most true x y m h k = h
+if-most false x y m h k = k
+
+abbrev AreMost : (Component → ℕ) → Type 0
+AreMost at = (c : Component) → at c ≤ maximum c
+
+hour-most : (items : List Item) (at : Component → ℕ) → AreMost at → hour_in items at ≤ 23
+hour-most items at most = if-most (any_shows Hour items) (at Hour) (at Hour12 % 12 + at Period * 12) 23 (most Hour) (omega (arith, most Period))
+
+nanosecond-most : (items : List Item) (at : Component → ℕ) → AreMost at → nanosecond_in items at ≤ 999_999_999
+nanosecond-most items at most =
+    if-most (any_shows Nanosecond items) (at Nanosecond) _ 999_999_999 (most Nanosecond)
+    (if-most (any_shows Microsecond items) (at Microsecond * 1_000) _ 999_999_999 (omega (arith, most Microsecond))
+    (if-most (any_shows Millisecond items) (at Millisecond * 1_000_000) 0 999_999_999 (omega (arith, most Millisecond)) (omega arith)))
+
+record PartsAre (t m s n : ℕ) : Type 0 where
+  minute : minute_of t ≡ m
+  second : second_of t ≡ s
+  nanosecond : nanosecond_of t ≡ n
+
+parts-are : (t h m s n : ℕ) → h ≤ 23 → m ≤ 59 → s ≤ 59 → n ≤ 999_999_999 → t ≡ time_of h m s n → PartsAre t m s n
+parts-are t h m s n a b c d e = record { minute = omega (arith, a, b, c, d, e); second = omega (arith, a, b, c, d, e); nanosecond = omega (arith, a, b, c, d, e) }
+
+shown-or : (b : Bool) (x y : ℕ) → x ≡ y → (b ≡ false → y ≡ 0) → IsTrue (b || (x == 0))
+shown-or true x y e h = refl
+shown-or false x y e h = eq-eqb x 0 (e ∙ h refl)
+
+subsecond-held : (a b c : Bool) (x y z n : ℕ) → n ≡ (if a then x else (if b then y * 1_000 else (if c then z * 1_000_000 else 0)))
+    → IsTrue (if a then true else (if b then n % 1_000 == 0 else (if c then n % 1_000_000 == 0 else n == 0)))
+subsecond-held true b c x y z n e = refl
+subsecond-held false true c x y z n e = eq-eqb (n % 1_000) 0 (omega (arith, e))
+subsecond-held false false true x y z n e = eq-eqb (n % 1_000_000) 0 (omega (arith, e))
+subsecond-held false false false x y z n e = eq-eqb n 0 e
+
+both-true : (a b : Bool) → IsTrue a → IsTrue b → IsTrue (a && b)
+both-true true b h k = k
+both-true false b h k = cc
+
+pub time-holds : (items : List Item) (numbers : List ℕ) (t : ℕ) → AreMost (number_in items numbers) → t ≡ time_in items (number_in items numbers) → IsTrue (holds_time items t)
+time-holds items numbers t most e =
+    let at = number_in items numbers in
+    let parts = parts-are t (hour_in items (number_in items numbers)) (number_in items numbers Minute) (number_in items numbers Second) (nanosecond_in items (number_in items numbers))
+    (hour-most items (number_in items numbers) most) (most Minute) (most Second) (nanosecond-most items (number_in items numbers) most) e in
+    both-true _ _ (shown-or (any_shows Minute items) (minute_of t) _ parts.minute (λ f. not-shown items numbers Minute f))
+    (both-true _ _ (shown-or (any_shows Second items) (second_of t) _ parts.second (λ f. not-shown items numbers Second f))
+    (subsecond-held (any_shows Nanosecond items) (any_shows Microsecond items) (any_shows Millisecond items) _ _ _ (nanosecond_of t) parts.nanosecond))
+
+negative-abs : (m : ℕ) → unsigned_abs (neg_ℤ (pos m)) ≡ m
+negative-abs zero = refl
+negative-abs (suc m) = refl
+
+signed-abs : (b : Bool) (m : ℕ) → unsigned_abs (if b then neg_ℤ (pos m) else pos m) ≡ m
+signed-abs true m = negative-abs m
+signed-abs false m = refl
+
+record OffsetPartsAre (x m s : ℕ) : Type 0 where
+  minute : x / 60 % 60 ≡ m
+  second : x % 60 ≡ s
+
+offset-parts-are : (x h m s : ℕ) → m ≤ 59 → s ≤ 59 → x ≡ h * 3_600 + m * 60 + s → OffsetPartsAre x m s
+offset-parts-are x h m s a b e = record { minute = omega (arith, a, b, e); second = omega (arith, b, e) }
+
+pub offset-holds : (items : List Item) (numbers : List ℕ) (o : ℤ) → AreMost (number_in items numbers) → o ≡ offset_in (number_in items numbers) → IsTrue (holds_offset items o)
+offset-holds items numbers o most e =
+    let size : unsigned_abs o ≡ number_in items numbers OffsetHour * 3_600 + number_in items numbers OffsetMinute * 60 + number_in items numbers OffsetSecond =
+    ap unsigned_abs e ∙ signed-abs (number_in items numbers OffsetSign == 1) _ in
+    let parts = offset-parts-are (unsigned_abs o) _ _ _ (most OffsetMinute) (most OffsetSecond) size in
+    both-true _ _ (shown-or (any_shows OffsetMinute items) (unsigned_abs o / 60 % 60) _ parts.minute (λ f. not-shown items numbers OffsetMinute f))
+    (shown-or (any_shows OffsetSecond items) (unsigned_abs o % 60) _ parts.second (λ f. not-shown items numbers OffsetSecond f))

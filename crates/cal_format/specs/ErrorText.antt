@@ -1,0 +1,11 @@
+-- The text of an error.
+use Rattle.std.specs.Prelude.{ℕ, List, ◌++◌, codes, decimal}
+use Rattle.cal_time.specs.ComponentError.{component_name}
+use Rattle.cal_format.specs.declared.error.ParseError.{ParseError}
+use Rattle.cal_format.specs.declared.error.ParseError.TheVariants.{UnexpectedByte, UnexpectedEnd, OutOfRange, Contradiction}
+
+abbrev pub error_text : ParseError → List ℕ
+error_text (UnexpectedByte position) = codes "unexpected byte at " ++ decimal position
+error_text (UnexpectedEnd position) = codes "unexpected end at " ++ decimal position
+error_text (OutOfRange e) = component_name e.component ++ codes " was not in range"
+error_text (Contradiction c) = component_name c ++ codes " contradicts the other components"

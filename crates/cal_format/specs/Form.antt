@@ -1,0 +1,179 @@
+-- The form of the texts of a format: its literals, and digits and names for its components, whatever
+-- their numbers are.
+use Rattle.std.specs.Prelude.{◌≡◌, ℕ, zero, suc, ◌+◌, ◌-◌, ◌<◌, ◌≤◌, ◌^◌, ◌==◌, ◌++◌, Bool, true, false, List, [], ◌∷◌, length, codes, if◌then◌else◌}
+use Rattle.std.specs.Str.Parse.{AllDigits}
+use Rattle.cal_text.specs.Shape.{Shape, End, ByteRange, Branch, Byte, Digits, Sign, Number, unmatched_bytes, decimals_value}
+use Rattle.cal_time.specs.Digits.{without_trailing_zeros}
+use Rattle.cal_time.specs.Month.{month_of_index}
+use Rattle.cal_time.specs.Weekday.{weekday_of_index}
+use Rattle.cal_time.specs.Month as month
+use Rattle.cal_time.specs.Weekday as weekday
+use Rattle.cal_format.specs.declared.item.Item.{Item}
+use Rattle.cal_format.specs.declared.item.Item.TheVariants as item
+use Rattle.cal_format.specs.declared.item.Name.{Name}
+use Rattle.cal_format.specs.declared.item.Name.TheVariants as name
+use Rattle.cal_format.specs.declared.item.Padding.{Padding}
+use Rattle.cal_format.specs.declared.item.Padding.TheVariants as padding
+use Rattle.cal_format.specs.Moment.{width}
+use Rattle.cal_format.specs.Names.{short_month, short_weekday}
+use Rattle.cal_format.specs.Text.{padded, fraction_text}
+
+-- ---- numbers
+-- Spaces and a number without leading zeros, one byte more than this many in all.
+abbrev pub AfterSpaces : ℕ → Shape → Shape
+AfterSpaces zero f = Digits 1 f
+AfterSpaces (suc k) f = Branch 32 0 (AfterSpaces k f) (ByteRange 49 8 (Digits (suc k) f))
+
+-- A number without leading zeros, of at most one digit more than this many.
+abbrev pub Decimal : ℕ → Shape → Shape
+Decimal more f = Branch 48 0 f (Number more f)
+
+abbrev pub Padded : Padding → ℕ → Shape → Shape
+Padded padding.Zero w f = Digits w f
+Padded padding.Space w f = AfterSpaces (w - 1) f
+Padded padding.None w f = Decimal (w - 1) f
+
+-- At most one digit more than this many, the last of which isn't 0. There may be none if the digits
+-- may end.
+abbrev pub Decimals : Bool → ℕ → Shape → Shape
+Decimals false zero f = ByteRange 49 8 f
+Decimals true zero f = Branch 49 8 f f
+Decimals false (suc k) f = Branch 49 8 (Decimals true k f) (Byte 48 (Decimals false k f))
+Decimals true (suc k) f = Branch 49 8 (Decimals true k f) (Branch 48 0 (Decimals false k f) f)
+
+-- The parser went past at most more + 1 digits, the last of which isn't 0, with the value n. There
+-- may be none if the digits may end.
+pub record ParsesDecimals (old new : List ℕ) (may_end : Bool) (more unit n : ℕ) : Type 0 where
+  pub digits : List ℕ
+  pub all : AllDigits 10 digits
+  pub few : length digits ≤ more + 1
+  pub last : without_trailing_zeros digits ≡ digits
+  pub some : may_end ≡ false → 0 < length digits
+  pub value : decimals_value unit digits ≡ n
+  pub bytes_are : old ≡ digits ++ new
+
+-- ---- names
+abbrev pub Word : List ℕ → Shape → Shape
+Word [] f = f
+Word (b ∷ bytes) f = Byte b (Word bytes f)
+
+-- Letters, and the other letters of the name if it is long.
+abbrev pub Letters : List ℕ → List ℕ → Bool → Shape → Shape
+Letters letters others long f = Word letters (if long then Word others f else f)
+
+unfoldable pub MonthOfJ : Bool → Shape → Shape
+MonthOfJ long f =
+    Branch 97 0 (Letters (codes "n") (codes "uary") long f) (Byte 117 (Branch 110 0 (Letters [] (codes "e") long f) (Byte 108 (Letters [] (codes "y") long f))))
+
+unfoldable pub MonthOfM : Bool → Shape → Shape
+MonthOfM long f = Byte 97 (Branch 114 0 (Letters [] (codes "ch") long f) (Letters (codes "y") [] long f))
+
+unfoldable pub MonthOfA : Bool → Shape → Shape
+MonthOfA long f = Branch 112 0 (Letters (codes "r") (codes "il") long f) (Letters (codes "ug") (codes "ust") long f)
+
+-- Months that begin with F, S, O, N or D.
+unfoldable pub OtherMonth : Bool → Shape → Shape
+OtherMonth long f =
+    Branch 70 0 (Letters (codes "eb") (codes "ruary") long f)
+    (Branch 83 0 (Letters (codes "ep") (codes "tember") long f)
+    (Branch 79 0 (Letters (codes "ct") (codes "ober") long f)
+    (Branch 78 0 (Letters (codes "ov") (codes "ember") long f) (Byte 68 (Letters (codes "ec") (codes "ember") long f)))))
+
+unfoldable pub MonthName : Bool → Shape → Shape
+MonthName long f = Branch 74 0 (MonthOfJ long f) (Branch 77 0 (MonthOfM long f) (Branch 65 0 (MonthOfA long f) (OtherMonth long f)))
+
+-- Weekdays that begin with T or S.
+unfoldable pub WeekdayOfT : Bool → Shape → Shape
+WeekdayOfT long f = Branch 117 0 (Letters (codes "e") (codes "sday") long f) (Letters (codes "hu") (codes "rsday") long f)
+
+unfoldable pub WeekdayOfS : Bool → Shape → Shape
+WeekdayOfS long f = Branch 97 0 (Letters (codes "t") (codes "urday") long f) (Letters (codes "un") (codes "day") long f)
+
+unfoldable pub WeekdayName : Bool → Shape → Shape
+WeekdayName long f =
+    Branch 77 0 (Letters (codes "on") (codes "day") long f)
+    (Branch 84 0 (WeekdayOfT long f)
+    (Branch 87 0 (Letters (codes "ed") (codes "nesday") long f) (Branch 70 0 (Letters (codes "ri") (codes "day") long f) (Byte 83 (WeekdayOfS long f)))))
+
+unfoldable pub PeriodName : Shape → Shape
+PeriodName f = Branch 65 0 (Byte 77 f) (Byte 80 (Byte 77 f))
+
+abbrev pub NameShape : Name → Shape → Shape
+NameShape name.Month f = MonthName true f
+NameShape name.ShortMonth f = MonthName false f
+NameShape name.Weekday f = WeekdayName true f
+NameShape name.ShortWeekday f = WeekdayName false f
+NameShape name.Period f = PeriodName f
+
+-- ---- items
+abbrev pub ItemShape : Item → Shape → Shape
+ItemShape (item.Literal b) f = Byte b f
+ItemShape (item.Number c p) f = Padded p (width c) f
+ItemShape (item.Name k) f = NameShape k f
+ItemShape item.Fraction f = Branch 46 0 (Decimals false 8 f) f
+ItemShape item.OffsetSign f = Sign f
+
+-- A text has the form of the items if it has this shape.
+abbrev pub shape_of : List Item → Shape
+shape_of [] = End
+shape_of (i ∷ items) = ItemShape i (shape_of items)
+
+abbrev pub HasForm : List Item → List ℕ → Type 0
+HasForm items text = unmatched_bytes (shape_of items) text ≡ 0
+
+-- ---- the numbers of a text
+-- The name of a month or a weekday, numbered from 1.
+abbrev pub month_text : Bool → ℕ → List ℕ
+month_text long n = if long then month.name (month_of_index (n - 1)) else short_month (month_of_index (n - 1))
+
+abbrev pub weekday_text : Bool → ℕ → List ℕ
+weekday_text long n = if long then weekday.name (weekday_of_index (n - 1)) else short_weekday (weekday_of_index (n - 1))
+
+abbrev pub period_text : ℕ → List ℕ
+period_text n = if n == 0 then codes "AM" else codes "PM"
+
+abbrev pub numbered_name : Name → ℕ → List ℕ
+numbered_name name.Month n = month_text true n
+numbered_name name.ShortMonth n = month_text false n
+numbered_name name.Weekday n = weekday_text true n
+numbered_name name.ShortWeekday n = weekday_text false n
+numbered_name name.Period n = period_text n
+
+-- The text of an item with the number n.
+abbrev pub numbered_item : Item → ℕ → List ℕ
+numbered_item (item.Literal b) n = b ∷ []
+numbered_item (item.Number c p) n = padded p (width c) n
+numbered_item (item.Name k) n = numbered_name k n
+numbered_item item.Fraction n = fraction_text n
+numbered_item item.OffsetSign n = if n == 1 then codes "-" else codes "+"
+
+-- The text of items with these numbers, one for each item.
+abbrev pub numbered_text : List Item → List ℕ → List ℕ
+numbered_text [] numbers = []
+numbered_text (i ∷ items) [] = []
+numbered_text (i ∷ items) (n ∷ numbers) = numbered_item i n ++ numbered_text items numbers
+
+-- The number has as many digits as the item, or is the number of a name.
+abbrev pub IsNameNumber : Name → ℕ → Type 0
+IsNameNumber name.Month n = (1 ≤ n) × (n ≤ 12)
+IsNameNumber name.ShortMonth n = (1 ≤ n) × (n ≤ 12)
+IsNameNumber name.Weekday n = (1 ≤ n) × (n ≤ 7)
+IsNameNumber name.ShortWeekday n = (1 ≤ n) × (n ≤ 7)
+IsNameNumber name.Period n = n < 2
+
+abbrev pub IsNumber : Item → ℕ → Type 0
+IsNumber (item.Literal b) n = n ≡ 0
+IsNumber (item.Number c p) n = n < 10 ^ width c
+IsNumber (item.Name k) n = IsNameNumber k n
+IsNumber item.Fraction n = n < 1_000_000_000
+IsNumber item.OffsetSign n = n < 2
+
+abbrev pub AreNumbers : List Item → List ℕ → Type 0
+AreNumbers [] numbers = Unit {0}
+AreNumbers (i ∷ items) [] = ⊥
+AreNumbers (i ∷ items) (n ∷ numbers) = IsNumber i n × AreNumbers items numbers
+
+-- The text has these numbers for the items.
+pub record HasNumbers (items : List Item) (numbers text : List ℕ) : Type 0 where
+  pub fit : AreNumbers items numbers
+  pub text_is : text ≡ numbered_text items numbers

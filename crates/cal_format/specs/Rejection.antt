@@ -1,0 +1,37 @@
+-- Why a text is rejected.
+use Rattle.std.specs.Prelude.{◌≡◌, ◌⊎◌, ℕ, ◌<◌, List, length, Some, None}
+use Rattle.cal_time.specs.Date.{IsDate}
+use Rattle.cal_units.specs.declared.error.Component.{Component as Named}
+use Rattle.cal_units.specs.declared.error.ComponentRange.{ComponentRange}
+use Rattle.cal_text.specs.Position.{IsPosition}
+use Rattle.cal_format.specs.declared.error.ParseError.{ParseError}
+use Rattle.cal_format.specs.declared.error.ParseError.TheVariants.{UnexpectedByte, UnexpectedEnd, OutOfRange, Contradiction}
+use Rattle.cal_format.specs.declared.item.Item.{Item}
+use Rattle.cal_format.specs.declared.moment.Moment.{Moment}
+use Rattle.cal_format.specs.Form.{HasForm, HasNumbers}
+use Rattle.cal_format.specs.Ranges.{first_range_error}
+use Rattle.cal_format.specs.Values.{number_in, IsDateOf, date_error, IsMomentOf, first_contradiction}
+
+-- A number is out of range, or the numbers are in range but no day has them.
+abbrev pub IsRangeError : List Item → List ℕ → ComponentRange → Type 0
+IsRangeError items numbers why =
+    (first_range_error items numbers ≡ Some why)
+    ⊎ ((first_range_error items numbers ≡ None) × (why ≡ date_error items) × ((n : ℕ) → IsDate n → ¬ IsDateOf items (number_in items numbers) n))
+
+-- Without a component out of range it is the first component that isn't the component of the value.
+abbrev pub IsContradiction : List Item → List ℕ → Named → Type 0
+IsContradiction items numbers c =
+    (first_range_error items numbers ≡ None) × ((v : Moment) × IsMomentOf items (number_in items numbers) v × (first_contradiction items numbers v ≡ Some c))
+
+-- Numbers that are not the numbers of a value.
+abbrev pub IsNumberRejection : List Item → List ℕ → ParseError → Type 0
+IsNumberRejection items numbers (OutOfRange why) = IsRangeError items numbers why
+IsNumberRejection items numbers (Contradiction c) = IsContradiction items numbers c
+IsNumberRejection items numbers e = ⊥
+
+-- An error names the position at which the text stops matching the form. If the text has the form,
+-- the error is an error of its numbers.
+abbrev pub IsRejection : List Item → List ℕ → ParseError → Type 0
+IsRejection items text (UnexpectedByte p) = IsPosition (HasForm items) text p × (p < length text)
+IsRejection items text (UnexpectedEnd p) = IsPosition (HasForm items) text p × (p ≡ length text)
+IsRejection items text e = (numbers : List ℕ) × HasNumbers items numbers text × IsNumberRejection items numbers e

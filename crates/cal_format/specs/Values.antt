@@ -1,0 +1,93 @@
+-- The value that the numbers of a text determine.
+use Rattle.std.specs.Prelude.{◌≡◌, ℕ, ◌+◌, ◌*◌, ◌%◌, ◌==◌, ◌&&◌, List, [], ◌∷◌, Bool, true, false, not, Option, Some, None, IsTrue, ℤ, pos, if◌then◌else◌}
+use Rattle.cal_units.specs.ComponentError.{conditional}
+use Rattle.cal_units.specs.declared.error.Component.{Component as Named}
+use Rattle.cal_units.specs.declared.error.Component.TheVariants as error
+use Rattle.cal_units.specs.declared.error.ComponentRange.{ComponentRange}
+use Rattle.cal_time.specs.Date.{IsDate, HasCalendarDate, HasOrdinalDate}
+use Rattle.cal_time.specs.IsoWeekDate.{HasIsoWeekDate}
+use Rattle.cal_time.specs.Time.{time_of}
+use Rattle.cal_format.specs.declared.item.Item.{Item}
+use Rattle.cal_format.specs.declared.item.Item.TheVariants as item
+use Rattle.cal_format.specs.declared.item.Component.{Component}
+use Rattle.cal_format.specs.declared.item.Component.TheVariants.{Year, Century, YearOfCentury, IsoYear, Month, Day, Ordinal, IsoWeek, Weekday, DaysFromSunday, SundayWeekday, Hour, Hour12, Minute, Second, Period, Millisecond, Microsecond, Nanosecond, OffsetHour, OffsetMinute, OffsetSecond, OffsetSign}
+use Rattle.cal_format.specs.declared.moment.Moment.{Moment}
+use Rattle.cal_format.specs.Moment.{number}
+use Rattle.cal_format.specs.Ranges.{named, either}
+use Rattle.cal_format.specs.Reading.{shows, any_shows, name_component, shows_calendar_date, shows_ordinal_date, shows_iso_week_date, shows_date}
+use Rattle.cal_format.specs.Scanning.{signed_offset}
+use Rattle.cal_format.specs.Text.{sign}
+
+-- The number of the first item that shows a component, or 0.
+abbrev pub number_in : List Item → List ℕ → Component → ℕ
+number_in [] numbers c = 0
+number_in (i ∷ items) [] c = 0
+number_in (i ∷ items) (n ∷ numbers) c = if shows c i then n else number_in items numbers c
+
+-- The year, the weekday, the time of day and the offset of the numbers `at` of the components.
+abbrev pub year_in : List Item → (Component → ℕ) → ℕ
+year_in items at = if any_shows Year items then at Year else at Century * 100 + at YearOfCentury
+
+abbrev pub weekday_in : List Item → (Component → ℕ) → ℕ
+weekday_in items at =
+    if any_shows Weekday items then (at Weekday + 6) % 7
+    else (if any_shows DaysFromSunday items then (at DaysFromSunday + 6) % 7
+    else (at SundayWeekday + 5) % 7)
+
+abbrev pub hour_in : List Item → (Component → ℕ) → ℕ
+hour_in items at = if any_shows Hour items then at Hour else at Hour12 % 12 + at Period * 12
+
+abbrev pub nanosecond_in : List Item → (Component → ℕ) → ℕ
+nanosecond_in items at =
+    if any_shows Nanosecond items then at Nanosecond
+    else (if any_shows Microsecond items then at Microsecond * 1_000
+    else (if any_shows Millisecond items then at Millisecond * 1_000_000
+    else 0))
+
+abbrev pub time_in : List Item → (Component → ℕ) → ℕ
+time_in items at = time_of (hour_in items at) (at Minute) (at Second) (nanosecond_in items at)
+
+abbrev pub offset_in : (Component → ℕ) → ℤ
+offset_in at = signed_offset (at OffsetSign) (at OffsetHour * 3_600 + at OffsetMinute * 60 + at OffsetSecond)
+
+-- A day has the numbers of a calendar date, or else of an ordinal date, or else of an ISO week date.
+-- Without a date it is day 0.
+pub record IsDateOf (items : List Item) (at : Component → ℕ) (n : ℕ) : Type 0 where
+  pub calendar : IsTrue (shows_calendar_date items) → HasCalendarDate (pos (year_in items at)) (at Month) (at Day) n
+  pub ordinal : IsTrue (not (shows_calendar_date items)) → IsTrue (shows_ordinal_date items) → HasOrdinalDate (pos (year_in items at)) (at Ordinal) n
+  pub week : IsTrue (not (shows_calendar_date items)) → IsTrue (not (shows_ordinal_date items)) → IsTrue (shows_iso_week_date items) → HasIsoWeekDate (pos (at IsoYear)) (at IsoWeek) (weekday_in items at) n
+  pub none : IsTrue (not (shows_date items)) → n ≡ 0
+
+-- The error of numbers that no day has.
+abbrev pub date_error : List Item → ComponentRange
+date_error items =
+    if shows_calendar_date items then conditional error.Day
+    else (if shows_ordinal_date items then conditional error.Ordinal
+    else conditional error.Week)
+
+-- The moment of the numbers. What they lack is 0.
+pub record IsMomentOf (items : List Item) (at : Component → ℕ) (v : Moment) : Type 0 where
+  pub in_range : IsDate v.date
+  pub date : IsDateOf items at v.date
+  pub time : v.time ≡ time_in items at
+  pub offset : v.offset ≡ offset_in at
+
+-- The component of the first item whose number isn't the number of the moment.
+abbrev pub is_empty : List ℕ → Bool
+is_empty [] = true
+is_empty (x ∷ xs) = false
+
+abbrev pub differing : Component → Bool → Option Named
+differing c same = if same then None else Some (named c)
+
+abbrev pub item_contradiction : Item → ℕ → Moment → Option Named
+item_contradiction (item.Literal b) n v = None
+item_contradiction (item.Number c p) n v = differing c ((number c v == n) && is_empty (sign c v))
+item_contradiction (item.Name k) n v = differing (name_component k) (number (name_component k) v == n)
+item_contradiction item.Fraction n v = differing Nanosecond (number Nanosecond v == n)
+item_contradiction item.OffsetSign n v = differing OffsetSign (number OffsetSign v == n)
+
+abbrev pub first_contradiction : List Item → List ℕ → Moment → Option Named
+first_contradiction [] numbers v = None
+first_contradiction (i ∷ items) [] v = None
+first_contradiction (i ∷ items) (n ∷ numbers) v = either (item_contradiction i n v) (first_contradiction items numbers v)

@@ -1,0 +1,166 @@
+//! The form of the texts of a format: digits, names and literal bytes, whatever the numbers are.
+ghost use Rattle.std.specs.Prelude.{◌≡◌, ◌+◌, ◌-◌, ◌*◌, ◌<◌, ◌≤◌, ◌^◌, ◌++◌, length, take, drop, IfSome, decimal};
+ghost use Rattle.cal_text.specs.Shape.{Scans, ScansWhole, ParsesMoreDigits, Digits};
+ghost use Rattle.cal_format.specs.declared.item.Padding.TheVariants as paddings;
+ghost use Rattle.cal_format.specs.declared.item.Item.TheVariants as items_;
+ghost use Rattle.cal_format.specs.Text.{padded, fraction_text};
+ghost use Rattle.cal_format.specs.Form.{AfterSpaces, Decimal, Padded, Decimals, ItemShape, shape_of, numbered_item, IsNumber, HasNumbers, ParsesDecimals};
+
+use crate::form_names::scan_name;
+use crate::item::{Item, Padding};
+use cal_text::{Scanner, scan_positive_number};
+
+/// Parses the numbers of the items up to the end of the text, and writes them from this place on. A
+/// literal has the number 0.
+pub(crate) fn scan_items(
+    items: &[Item],
+    scanner: &mut Scanner,
+    numbers: &mut [u32],
+    at: usize,
+) -> Option<()>
+    requires { at + length items.now ≤ length numbers.old }
+    ensures scans { ScansWhole (shape_of items.now) scanner.old.rest.now scanner.new.rest.now
+        result }
+    ensures value { IfSome result (λ _.
+        HasNumbers items.now (drop at numbers.new) scanner.old.rest.now) }
+    ensures kept { take at numbers.new ≡ take at numbers.old }
+{
+    match items {
+        [] => scanner.end(),
+        [item, others @ ..] => {
+            numbers[at] = scan_item(scanner, *item)?;
+            scan_items(others, scanner, numbers, at + 1)
+        }
+    }
+}
+
+/// Parses the number of an item.
+fn scan_item(scanner: &mut Scanner, item: Item) -> Option<u32>
+    ensures scans { Scans (ItemShape item) scanner.old.rest.now scanner.new.rest.now result }
+    ensures value { IfSome result (λ n.
+        scanner.old.rest.now ≡ numbered_item item n ++ scanner.new.rest.now) }
+    ensures range { IfSome result (λ n. IsNumber item n) }
+{
+    match item {
+        Item::Literal(byte) => {
+            scanner.byte(byte)?;
+            Some(0)
+        }
+        Item::Number(component, pad) => scan_number(scanner, pad, component.width()),
+        Item::Name(name) => scan_name(scanner, name),
+        Item::Fraction => scan_fraction(scanner),
+        Item::OffsetSign => {
+            let is_minus = scanner.sign()?;
+            Some(u32::from(is_minus))
+        }
+    }
+}
+
+fn scan_number(scanner: &mut Scanner, pad: Padding, width: u8) -> Option<u32>
+    requires { (1 ≤ width) × (width ≤ 9) }
+    ensures scans { Scans (Padded pad width) scanner.old.rest.now scanner.new.rest.now result }
+    ensures value { IfSome result (λ n.
+        scanner.old.rest.now ≡ padded pad width n ++ scanner.new.rest.now) }
+    ensures range { IfSome result (λ n. n < 10 ^ width) }
+{
+    match pad {
+        Padding::Zero => scan_digits(scanner, 0, width),
+        Padding::Space => scan_after_spaces(scanner, width - 1),
+        Padding::None => scan_decimal(scanner, width - 1),
+    }
+}
+
+/// Parses this many digits after the digits of `number`, and returns the new number.
+fn scan_digits(scanner: &mut Scanner, number: u32, count: u8) -> Option<u32>
+    requires { (number + 1) * 10 ^ count ≤ 10 ^ 9 }
+    ensures scans { Scans (Digits count) scanner.old.rest.now scanner.new.rest.now result }
+    ensures value { IfSome result (ParsesMoreDigits scanner.old.rest.now scanner.new.rest.now count
+        number) }
+    ensures count { IfSome result (λ _.
+        length scanner.old.rest.now ≡ count + length scanner.new.rest.now) }
+    ensures range { IfSome result (λ n. n < (number + 1) * 10 ^ count) }
+{
+    if count == 0 {
+        return Some(number);
+    }
+    let digit = scanner.digit()?;
+    scan_digits(scanner, number * 10 + digit, count - 1)
+}
+
+/// Parses spaces and a number without leading zeros, `more + 1` bytes in all.
+fn scan_after_spaces(scanner: &mut Scanner, more: u8) -> Option<u32>
+    requires { more ≤ 8 }
+    ensures scans { Scans (AfterSpaces more) scanner.old.rest.now scanner.new.rest.now result }
+    ensures value { IfSome result (λ n.
+        scanner.old.rest.now ≡ padded paddings.Space (more + 1) n ++ scanner.new.rest.now) }
+    ensures range { IfSome result (λ n. n < 10 ^ (more + 1)) }
+{
+    if more == 0 {
+        return scanner.digit();
+    }
+    match scanner.byte(b' ') {
+        Some(()) => scan_after_spaces(scanner, more - 1),
+        None => {
+            let first = scanner.digit_from_1()?;
+            scan_digits(scanner, first, more)
+        }
+    }
+}
+
+/// Parses a number without leading zeros, of up to `more + 1` digits.
+fn scan_decimal(scanner: &mut Scanner, more: u8) -> Option<u32>
+    requires { more ≤ 8 }
+    ensures scans { Scans (Decimal more) scanner.old.rest.now scanner.new.rest.now result }
+    ensures value { IfSome result (λ n.
+        scanner.old.rest.now ≡ decimal n ++ scanner.new.rest.now) }
+    ensures range { IfSome result (λ n. n < 10 ^ (more + 1)) }
+{
+    match scanner.byte(b'0') {
+        Some(()) => Some(0),
+        None => {
+            let number = scan_positive_number(scanner, usize::from(more))?;
+            Some(number as u32)
+        }
+    }
+}
+
+/// Parses a fraction of a second, and returns its nanoseconds: nothing, or a point and up to nine
+/// digits, of which the last is not 0.
+fn scan_fraction(scanner: &mut Scanner) -> Option<u32>
+    ensures scans { Scans (ItemShape items_.Fraction) scanner.old.rest.now scanner.new.rest.now result }
+    ensures value { IfSome result (λ n.
+        scanner.old.rest.now ≡ fraction_text n ++ scanner.new.rest.now) }
+    ensures range { IfSome result (λ n. n < 1_000_000_000) }
+{
+    match scanner.byte(b'.') {
+        Some(()) => scan_decimals(scanner, 100_000_000, 8, false),
+        None => Some(0),
+    }
+}
+
+/// Parses up to `more + 1` digits of a fraction, of which the last is not 0, and returns their
+/// nanoseconds. The first digit counts `unit` nanoseconds. There may be no digit if `may_end` is
+/// `true`.
+fn scan_decimals(scanner: &mut Scanner, unit: u32, more: u8, may_end: bool) -> Option<u32>
+    requires { unit * 10 ≤ 1_000_000_000 }
+    ensures scans { Scans (Decimals may_end more) scanner.old.rest.now scanner.new.rest.now
+        result }
+    ensures value { IfSome result (ParsesDecimals scanner.old.rest.now scanner.new.rest.now may_end
+        more unit) }
+    ensures range { IfSome result (λ n. n ≤ unit * 10) }
+{
+    if let Some(digit) = scanner.digit_from_1() {
+        if more == 0 {
+            return Some(digit * unit);
+        }
+        let others = scan_decimals(scanner, unit / 10, more - 1, true)?;
+        return Some(digit * unit + others);
+    }
+    if more == 0 {
+        return if may_end { Some(0) } else { None };
+    }
+    match scanner.byte(b'0') {
+        Some(()) => scan_decimals(scanner, unit / 10, more - 1, false),
+        None => { if may_end { Some(0) } else { None } }
+    }
+}
