@@ -1,7 +1,7 @@
 -- The items of numbers, one by one.
 use Rattle.std.proofs.Common.{◌≡◌, ℕ, ◌-◌, ◌≤◌, List, [], ◌∷◌, length, map, take, drop, get_or, refl, sym, ap, ◌∙◌, subst, arith}
 use Rattle.std.proofs.lemmas.List.{take_all}
-use Rattle.std.specs.Prelude.{Option, Some, None}
+use Rattle.std.specs.Prelude.{Option, Some, None, IsSome}
 use Rattle.cal_format.specs.declared.item.Item.{Item}
 use Rattle.cal_c.specs.Formats.{item_parts, parts}
 use Rattle.cal_c.specs.declared.formats.format_parts.FormatItem.{FormatItem}
@@ -37,3 +37,7 @@ none_some (Some x) a e f = cc
 -- What holds of the items that were read holds of the items that the numbers are.
 pub at_items : (P : List Item → Type 0) (o : Option (List Item)) (found items : List Item) → o ≡ Some found → o ≡ Some items → P found → P items
 at_items P o found items e f p = subst P (some_one o found items e f) p
+
+pub no_some : {A : Type 0} (o : Option A) → o ≡ None → IsSome o → ⊥
+no_some None e some = cc
+no_some (Some x) e some = cc

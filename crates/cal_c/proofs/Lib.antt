@@ -19,3 +19,5 @@ pub mod OneAnswer
 pub mod ZoneResults
 pub mod FormatItems
 pub mod FormatPrinting
+pub mod FormatParsing
+pub mod FormatRows

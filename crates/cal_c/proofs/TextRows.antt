@@ -10,7 +10,7 @@ use Rattle.cal_c.specs.Moments.{moment_ok, moment_error}
 use Rattle.cal_c.specs.Results.{date_ok, date_error, no_value}
 use Rattle.cal_c.specs.Statuses.{ok_status, component_status}
 use Rattle.cal_c.specs.TextColumns.{moment_row}
-use Rattle.cal_c.specs.Texts.{IsDateSyntaxError, IsMomentSyntaxError, StopsAt, parsed_date_ok, parsed_date_error, parsed_moment_ok, parsed_moment_error}
+use Rattle.cal_c.specs.Texts.{IsDateSyntaxError, IsMomentSyntaxError, StopsAt, no_position, parsed_date_ok, parsed_date_error, parsed_date_error_at, parsed_moment_ok, parsed_moment_error}
 use Rattle.cal_c.specs.declared.texts.ParseDateResult.{ParseDateResult}
 use Rattle.cal_c.specs.declared.texts.ParseMomentResult.{ParseMomentResult}
 
@@ -58,9 +58,13 @@ pub date_of_done : (r : ParseDateResult) (b n : ℕ) → FitsSigned w32 r.date �
 date_of_done r b n fits byte e =
     date-row r b ok_status (julian_day_at n) fits byte (omega (arith, ints), omega (arith, ints)) (ap (λ x. x.status) e) (ap (λ x. x.date) e)
 
+pub date_of_refused_at : (r : ParseDateResult) (b : ℕ) (s : ℤ) (at : ℕ) → FitsSigned w32 r.date → IsByteOf b r.status → IsByte s → r ≡ parsed_date_error_at s at
+    → date_row (to_z w32 (of_z w32 r.date)) b ≡ date_error s
+date_of_refused_at r b s at fits byte is e = date-row r b s no_value fits byte is (ap (λ x. x.status) e) (ap (λ x. x.date) e)
+
 pub date_of_refused : (r : ParseDateResult) (b : ℕ) (s : ℤ) → FitsSigned w32 r.date → IsByteOf b r.status → IsByte s → r ≡ parsed_date_error s
     → date_row (to_z w32 (of_z w32 r.date)) b ≡ date_error s
-date_of_refused r b s fits byte is e = date-row r b s no_value fits byte is (ap (λ x. x.status) e) (ap (λ x. x.date) e)
+date_of_refused r b s fits byte is e = date_of_refused_at r b s no_position fits byte is e
 
 pub date_of_unreadable : (IsText : List ℕ → Type 0) (bytes : List ℕ) (r : ParseDateResult) (b : ℕ) → FitsSigned w32 r.date → IsByteOf b r.status
     → IsDateSyntaxError IsText bytes r → (at : ℕ) × (s : ℤ) × StopsAt IsText bytes at s × (date_row (to_z w32 (of_z w32 r.date)) b ≡ date_error s)

@@ -16,3 +16,5 @@ pub mod Zones
 pub mod ZoneColumns
 pub mod Formats
 pub mod FormatTexts
+pub mod FormatParsing
+pub mod FormatColumns

@@ -153,6 +153,10 @@ insufficient_format = pos 41
 abbrev pub buffer_too_short : ℤ
 buffer_too_short = pos 42
 
+-- A component of a text isn't the component of the value that the others determine.
+abbrev pub contradiction : ℤ
+contradiction = pos 43
+
 -- The form of a zone or a policy is invalid.
 abbrev pub invalid_zone : ℤ
 invalid_zone = pos 45

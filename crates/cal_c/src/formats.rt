@@ -1,8 +1,10 @@
 //! Formats: values in text by a format that C passes.
 mod components;
-mod format_parts;
+pub mod format_parts;
 mod items;
 mod making;
 mod names;
-mod printing;
+mod parse_results;
+pub mod parsing;
+pub mod printing;
 mod results;

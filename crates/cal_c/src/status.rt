@@ -111,6 +111,9 @@ pub const INSUFFICIENT_FORMAT: i32 = 41;
 /// The buffer has no room for the text.
 pub const BUFFER_TOO_SHORT: i32 = 42;
 
+/// A component of a text isn't the component of the value that the others determine.
+pub const CONTRADICTION: i32 = 43;
+
 /// The form of a zone is not a number of one.
 pub const INVALID_ZONE: i32 = 45;
 
@@ -180,7 +183,14 @@ pub const WEEKDAY_OUT_OF_RANGE: i32 = 67;
 pub fn error_status(error: ComponentRange) -> i32
     ensures { result ≡ component_status error.component }
 {
-    match error.component() {
+    component_status(error.component())
+}
+
+/// Returns the status of a component that is out of range.
+pub fn component_status(component: Component) -> i32
+    ensures { result ≡ component_status component }
+{
+    match component {
         Component::Year => YEAR_OUT_OF_RANGE,
         Component::Month => MONTH_OUT_OF_RANGE,
         Component::JulianDay => JULIAN_DAY_OUT_OF_RANGE,

@@ -90,7 +90,7 @@ impl ParseDateResult {
         }
     }
 
-    fn error_at(status: i32, position: usize) -> Self
+    pub fn error_at(status: i32, position: usize) -> Self
         ensures { result ≡ parsed_date_error_at status position }
     {
         ParseDateResult {
@@ -124,7 +124,7 @@ impl ParseMomentResult {
         }
     }
 
-    fn error_at(status: i32, position: usize) -> Self
+    pub fn error_at(status: i32, position: usize) -> Self
         ensures { result ≡ parsed_moment_error_at status position }
     {
         ParseMomentResult {

@@ -20,6 +20,10 @@ pub(super) const INVALID_WEEKDAY: u8 = status::INVALID_WEEKDAY as u8;
 
 pub(super) const INVALID_BOUNDS: u8 = status::INVALID_BOUNDS as u8;
 
+pub(super) const INVALID_FORMAT: u8 = status::INVALID_FORMAT as u8;
+
+pub(super) const UNSUPPORTED_ITEM: u8 = status::UNSUPPORTED_ITEM as u8;
+
 pub(super) const INVALID_POLICY: u8 = status::INVALID_POLICY as u8;
 
 pub(super) const SKIPPED_TIME: u8 = status::SKIPPED_TIME as u8;

@@ -54,7 +54,7 @@ impl FormatParts {
     }
 
     /// Returns the format of these numbers, or `None` if they are not a format.
-    pub(super) fn to_format(&self) -> Option<Format>
+    pub fn to_format(&self) -> Option<Format>
         ensures every { (items : List Item) → HasItems self.now items → result ≡ Some items }
         ensures value { IfSome result (HasItems self.now) }
     {

@@ -26,7 +26,7 @@ use cal_format::Format;
 use cal_time::{Date, Time, UtcOffset};
 
 /// The maximum length of a text: 64 items of 10 bytes.
-const MAX_LENGTH: usize = 640;
+pub const MAX_LENGTH: usize = 640;
 
 /// Writes the bytes of a text to the front of a buffer. A text of `None` is one that the format
 /// doesn't have.

@@ -58,7 +58,7 @@ pub extern "C" fn fots_dates_calendar_texts(
 }
 
 /// Returns `true` if the bytes have room for rows of this length, and the bounds fit in an `i32`.
-fn has_room(rows: usize, longest: usize, bytes: &[u8]) -> bool
+pub(super) fn has_room(rows: usize, longest: usize, bytes: &[u8]) -> bool
     requires { 0 < longest }
     ensures { IsTrue result ↔ HasRoomFor longest rows (length bytes.now) }
 {
@@ -66,7 +66,7 @@ fn has_room(rows: usize, longest: usize, bytes: &[u8]) -> bool
 }
 
 /// Writes a text at `end`, and returns the new end.
-fn put(bytes: &mut [u8], end: usize, text: &[u8]) -> usize
+pub(super) fn put(bytes: &mut [u8], end: usize, text: &[u8]) -> usize
     requires { end + length text.now ≤ length bytes.old }
     ensures value { result ≡ end + length text.now }
     ensures length { length bytes.new ≡ length bytes.old }

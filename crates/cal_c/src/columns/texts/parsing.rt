@@ -76,7 +76,7 @@ pub(super) fn are_bounds(bounds: &[i32], rows: usize) -> bool
 }
 
 /// Returns the bytes between two bounds, or `None` if the bounds are invalid.
-fn bytes_between(bytes: &[u8], from: i32, to: i32) -> Option<&[u8]>
+pub(super) fn bytes_between(bytes: &[u8], from: i32, to: i32) -> Option<&[u8]>
     ensures { MatchOption result (¬ AreBoundsWithin bytes.now from to)
         (λ text. AreBoundsWithin bytes.now from to × (text.now ≡ bytes_between bytes.now from to)) }
 {

@@ -1,0 +1,152 @@
+//! Values from texts of a format.
+ghost use Rattle.std.specs.Prelude.{◌≡◌, List};
+ghost use Rattle.cal_format.specs.declared.item.Item.{Item};
+ghost use Rattle.cal_format.specs.Rejection.{IsRejection};
+ghost use Rattle.cal_c.specs.Formats.{HasItems, IsFormat};
+ghost use Rattle.cal_c.specs.FormatParsing.{IsParsed, DeterminesDate, DeterminesTime, DeterminesOffset, DeterminesPair, DeterminesMoment, IsTextOfDate, IsTextOfTime, IsTextOfOffset, IsTextOfPair, IsTextOfMoment, parsed_time_ok, parsed_time_error_at, parsed_offset_ok, parsed_offset_error_at, parsed_pair_ok};
+ghost use Rattle.cal_c.specs.Statuses.{invalid_format, insufficient_format};
+ghost use Rattle.cal_c.specs.Texts.{no_position, parsed_date_ok, parsed_date_error_at, parsed_moment_ok, parsed_moment_error_at};
+
+use super::format_parts::FormatParts;
+use super::parse_results::{ParseOffsetResult, ParseTimeResult, status_and_position};
+use crate::status::{INSUFFICIENT_FORMAT, INVALID_FORMAT};
+use crate::texts::{ParseDateResult, ParseMomentResult};
+use cal_format::{DateFormat, DateTimeFormat, OffsetDateTimeFormat, OffsetFormat, TimeFormat};
+
+/// The position of an error that has none.
+const NO_POSITION: usize = usize::MAX;
+
+/// Parses a date in the text of a format, such as `29/02/2024` by `%d/%m/%Y`.
+#[unsafe(no_mangle)]
+pub extern "C" fn fots_date_parse_format(text: &[u8], format: &FormatParts) -> ParseDateResult
+    ensures invalid_format { ¬ IsFormat format.now
+        → result ≡ parsed_date_error_at invalid_format no_position }
+    ensures insufficient_format { (items : List Item) → HasItems format.now items
+        → ¬ DeterminesDate items → result ≡ parsed_date_error_at insufficient_format no_position }
+    ensures value { (items : List Item) → HasItems format.now items → DeterminesDate items
+        → IsParsed (IsTextOfDate items text.now) (IsRejection items text.now) parsed_date_ok parsed_date_error_at result }
+{
+    let format = or_return!(format.to_format(), ParseDateResult::error_at(INVALID_FORMAT, NO_POSITION));
+    let format = or_return!(format.for_dates(), ParseDateResult::error_at(INSUFFICIENT_FORMAT, NO_POSITION));
+    parse_date(text, &format)
+}
+
+fn parse_date(text: &[u8], format: &DateFormat) -> ParseDateResult
+    ensures { IsParsed (IsTextOfDate format.now text.now) (IsRejection format.now text.now) parsed_date_ok parsed_date_error_at result }
+{
+    match format.parse(text) {
+        Ok(date) => ParseDateResult::ok(date),
+        Err(error) => {
+            let (status, position) = status_and_position(error);
+            ParseDateResult::error_at(status, position)
+        }
+    }
+}
+
+/// Parses a time of day in the text of a format, such as `23:59` by `%H:%M`.
+#[unsafe(no_mangle)]
+pub extern "C" fn fots_time_parse_format(text: &[u8], format: &FormatParts) -> ParseTimeResult
+    ensures invalid_format { ¬ IsFormat format.now
+        → result ≡ parsed_time_error_at invalid_format no_position }
+    ensures insufficient_format { (items : List Item) → HasItems format.now items
+        → ¬ DeterminesTime items → result ≡ parsed_time_error_at insufficient_format no_position }
+    ensures value { (items : List Item) → HasItems format.now items → DeterminesTime items
+        → IsParsed (IsTextOfTime items text.now) (IsRejection items text.now) parsed_time_ok parsed_time_error_at result }
+{
+    let format = or_return!(format.to_format(), ParseTimeResult::error_at(INVALID_FORMAT, NO_POSITION));
+    let format = or_return!(format.for_times(), ParseTimeResult::error_at(INSUFFICIENT_FORMAT, NO_POSITION));
+    parse_time(text, &format)
+}
+
+fn parse_time(text: &[u8], format: &TimeFormat) -> ParseTimeResult
+    ensures { IsParsed (IsTextOfTime format.now text.now) (IsRejection format.now text.now) parsed_time_ok parsed_time_error_at result }
+{
+    match format.parse(text) {
+        Ok(time) => ParseTimeResult::ok(time),
+        Err(error) => {
+            let (status, position) = status_and_position(error);
+            ParseTimeResult::error_at(status, position)
+        }
+    }
+}
+
+/// Parses an offset in the text of a format, such as `+05:30` by `%:z`.
+#[unsafe(no_mangle)]
+pub extern "C" fn fots_offset_parse_format(text: &[u8], format: &FormatParts) -> ParseOffsetResult
+    ensures invalid_format { ¬ IsFormat format.now
+        → result ≡ parsed_offset_error_at invalid_format no_position }
+    ensures insufficient_format { (items : List Item) → HasItems format.now items
+        → ¬ DeterminesOffset items → result ≡ parsed_offset_error_at insufficient_format no_position }
+    ensures value { (items : List Item) → HasItems format.now items → DeterminesOffset items
+        → IsParsed (IsTextOfOffset items text.now) (IsRejection items text.now) parsed_offset_ok parsed_offset_error_at result }
+{
+    let format = or_return!(format.to_format(), ParseOffsetResult::error_at(INVALID_FORMAT, NO_POSITION));
+    let format = or_return!(format.for_offsets(), ParseOffsetResult::error_at(INSUFFICIENT_FORMAT, NO_POSITION));
+    parse_offset(text, &format)
+}
+
+fn parse_offset(text: &[u8], format: &OffsetFormat) -> ParseOffsetResult
+    ensures { IsParsed (IsTextOfOffset format.now text.now) (IsRejection format.now text.now) parsed_offset_ok parsed_offset_error_at result }
+{
+    match format.parse(text) {
+        Ok(offset) => ParseOffsetResult::ok(offset),
+        Err(error) => {
+            let (status, position) = status_and_position(error);
+            ParseOffsetResult::error_at(status, position)
+        }
+    }
+}
+
+/// Parses a date and a time of day in the text of a format. The offset is 0.
+#[unsafe(no_mangle)]
+pub extern "C" fn fots_pair_parse_format(text: &[u8], format: &FormatParts) -> ParseMomentResult
+    ensures invalid_format { ¬ IsFormat format.now
+        → result ≡ parsed_moment_error_at invalid_format no_position }
+    ensures insufficient_format { (items : List Item) → HasItems format.now items
+        → ¬ DeterminesPair items → result ≡ parsed_moment_error_at insufficient_format no_position }
+    ensures value { (items : List Item) → HasItems format.now items → DeterminesPair items
+        → IsParsed (IsTextOfPair items text.now) (IsRejection items text.now) parsed_pair_ok parsed_moment_error_at result }
+{
+    let format = or_return!(format.to_format(), ParseMomentResult::error_at(INVALID_FORMAT, NO_POSITION));
+    let format = or_return!(format.for_date_times(), ParseMomentResult::error_at(INSUFFICIENT_FORMAT, NO_POSITION));
+    parse_pair(text, &format)
+}
+
+fn parse_pair(text: &[u8], format: &DateTimeFormat) -> ParseMomentResult
+    ensures { IsParsed (IsTextOfPair format.now text.now) (IsRejection format.now text.now) parsed_pair_ok parsed_moment_error_at result }
+{
+    match format.parse(text) {
+        Ok(date_time) => ParseMomentResult::ok(date_time.assume_utc()),
+        Err(error) => {
+            let (status, position) = status_and_position(error);
+            ParseMomentResult::error_at(status, position)
+        }
+    }
+}
+
+/// Parses a date, a time of day and an offset in the text of a format.
+#[unsafe(no_mangle)]
+pub extern "C" fn fots_moment_parse_format(text: &[u8], format: &FormatParts) -> ParseMomentResult
+    ensures invalid_format { ¬ IsFormat format.now
+        → result ≡ parsed_moment_error_at invalid_format no_position }
+    ensures insufficient_format { (items : List Item) → HasItems format.now items
+        → ¬ DeterminesMoment items → result ≡ parsed_moment_error_at insufficient_format no_position }
+    ensures value { (items : List Item) → HasItems format.now items → DeterminesMoment items
+        → IsParsed (IsTextOfMoment items text.now) (IsRejection items text.now) parsed_moment_ok parsed_moment_error_at result }
+{
+    let format = or_return!(format.to_format(), ParseMomentResult::error_at(INVALID_FORMAT, NO_POSITION));
+    let format = or_return!(format.for_offset_date_times(), ParseMomentResult::error_at(INSUFFICIENT_FORMAT, NO_POSITION));
+    parse_moment(text, &format)
+}
+
+fn parse_moment(text: &[u8], format: &OffsetDateTimeFormat) -> ParseMomentResult
+    ensures { IsParsed (IsTextOfMoment format.now text.now) (IsRejection format.now text.now) parsed_moment_ok parsed_moment_error_at result }
+{
+    match format.parse(text) {
+        Ok(moment) => ParseMomentResult::ok(moment),
+        Err(error) => {
+            let (status, position) = status_and_position(error);
+            ParseMomentResult::error_at(status, position)
+        }
+    }
+}
