@@ -63,8 +63,12 @@ abbrev pub recurrence_text_ok : List ℕ → RecurrenceTextResult
 recurrence_text_ok text =
     record { status = ok_status; part = 0; position = no_position; length = length text; bytes = text ++ replicate (2284 - length text) 0 }
 
+-- The result with the first wrong part of the text.
+abbrev pub recurrence_text_error : ParseRuleError → RecurrenceTextResult
+recurrence_text_error fault =
+    record { status = reason_status fault.reason; part = error_part fault.reason; position = fault.position; length = 0; bytes = replicate 2284 0 }
+
 -- The result of parsing a text and writing its recurrence.
 abbrev pub recurrence_text_result : Result Recurrence ParseRuleError → RecurrenceTextResult
 recurrence_text_result (Ok its) = recurrence_text_ok (text_of its)
-recurrence_text_result (Err fault) =
-    record { status = reason_status fault.reason; part = error_part fault.reason; position = fault.position; length = 0; bytes = replicate 2284 0 }
+recurrence_text_result (Err fault) = recurrence_text_error fault
