@@ -652,7 +652,7 @@ static void read_recurrence(const char *bytes, size_t length)
         return;
     }
     const int names_part = found.status >= FOTS_DUPLICATE_PART && found.status <= FOTS_INVALID_VALUE;
-    check(names_part ? found.part >= FOTS_RULE_FREQ && found.part <= FOTS_RULE_BYSETPOS : found.part == 0, "its part", found.status, found.part);
+    check(names_part ? found.part >= FOTS_RULE_FREQ && found.part <= FOTS_RULE_BYYEARDAY : found.part == 0, "its part", found.status, found.part);
     check(found.length == 0 && days[0].julian_day == -1, "no day", found.status, (long long)found.length);
     if (found.status == FOTS_MISSING_FREQUENCY) {
         check(found.position == length, "missing frequency", (long long)found.position, (long long)length);

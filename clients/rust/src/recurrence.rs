@@ -45,11 +45,13 @@ pub enum RulePart {
     Count = 8,
     /// `BYSETPOS`
     Positions = 9,
+    /// `BYYEARDAY`
+    YearDays = 10,
 }
 
 impl RulePart {
     /// The parts by their numbers, from 1.
-    const ALL: [Self; 9] = [
+    const ALL: [Self; 10] = [
         Self::Frequency,
         Self::Interval,
         Self::WeekStart,
@@ -59,6 +61,7 @@ impl RulePart {
         Self::Until,
         Self::Count,
         Self::Positions,
+        Self::YearDays,
     ];
 
     /// Returns the name, such as `BYDAY`.

@@ -13,6 +13,7 @@ moved a b = record {
   interval = b.interval;
   week_start = b.week_start;
   months = record { ref_ptr = a.months.ref_ptr; now = b.months.now };
+  year_days = record { ref_ptr = a.year_days.ref_ptr; now = b.year_days.now };
   month_days = record { ref_ptr = a.month_days.ref_ptr; now = b.month_days.now };
   weekdays = record { ref_ptr = a.weekdays.ref_ptr; now = b.weekdays.now };
   set_positions = record { ref_ptr = a.set_positions.ref_ptr; now = b.set_positions.now };
@@ -30,6 +31,7 @@ moved-same r first a b p q = λ i. record {
   interval = (p.interval ∙ sym q.interval) i;
   week_start = (p.week_start ∙ sym q.week_start) i;
   months = record { ref_ptr = a.months.ref_ptr; now = (p.months ∙ sym q.months) i };
+  year_days = record { ref_ptr = a.year_days.ref_ptr; now = (p.year_days ∙ sym q.year_days) i };
   month_days = record { ref_ptr = a.month_days.ref_ptr; now = (p.month_days ∙ sym q.month_days) i };
   weekdays = record { ref_ptr = a.weekdays.ref_ptr; now = (p.weekdays ∙ sym q.weekdays) i };
   set_positions = record { ref_ptr = a.set_positions.ref_ptr; now = (p.set_positions ∙ sym q.set_positions) i };

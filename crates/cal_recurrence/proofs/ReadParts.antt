@@ -8,8 +8,11 @@ use Rattle.cal_time.specs.declared.Weekday.{Weekday}
 use Rattle.cal_time.specs.declared.Weekday.TheVariants as weekday
 use Rattle.cal_schedule.specs.declared.rule.rule.Frequency.{Frequency}
 use Rattle.cal_schedule.specs.declared.rule.rule.ByDay.{ByDay}
+use Rattle.std.specs.Option.{option_map_or}
+use Rattle.cal_recurrence.specs.Days.{ranks_alone}
+use Rattle.cal_recurrence.specs.FaultText.{part_name}
 use Rattle.cal_recurrence.specs.Spelled.{IsCount, IsMonthDay, IsByDay, IsPosition, IsEnd, IsSpelled}
-use Rattle.cal_recurrence.specs.Text.{checked, fault, list_of, fresh, parts_say, place_of, changed, put, put_value, put_part, and_on, read_on, nothing, recurrence_of}
+use Rattle.cal_recurrence.specs.Text.{checked, fault, later, list_of, fresh, parts_say, place_of, changed, put, put_value, put_part, and_on, read_on, nothing, recurrence_of}
 use Rattle.cal_recurrence.specs.Words.{bytes_after, first_bytes, has_name, parts_at, frequency_of, weekday_of, count_of, month_of, month_day_of, by_day_of, position_of, date_of}
 use Rattle.cal_recurrence.specs.Written.{frequency_text, weekday_text, month_text, month_day_text, by_day_text, position_text, day_text, interval_text, end_text, list_text, week_start_text, text_of}
 use Rattle.cal_recurrence.specs.declared.draft.Draft.{Draft}
@@ -109,6 +112,19 @@ months-said d (x ∷ xs) rest r words few h =
     (given none part.Months text (list_of month_of) (x ∷ xs) (λ o. record d { months = Some o }) value refl)
     (h (Some (x ∷ xs)) refl)
 
+year_days-said : (d : Draft) (xs : List ℤ) (rest : List ℕ) (r : Recurrence) → AreWords position_of position_text xs → length xs ≤ 62
+    → ((o : Option (List ℤ)) → unwrap_or o [] ≡ xs → Says (record d { year_days = o }) rest r)
+    → Says (record d { year_days = None }) (list_text (codes ";BYYEARDAY=") position_text xs ++ rest) r
+year_days-said d [] rest r words few h = h None refl
+year_days-said d (x ∷ xs) rest r words few h =
+    let none : Draft = record d { year_days = None } in
+    let text = position_text x ++ list_text (codes ",") position_text xs in
+    let value = list-value position_of position_text x xs words few in
+    one-part none (record d { year_days = Some (x ∷ xs) }) (codes "BYYEARDAY=" ++ text) rest r
+    (avoids-append 59 (codes "BYYEARDAY=") text refl value.semicolon)
+    (given none part.YearDays text (list_of position_of) (x ∷ xs) (λ o. record d { year_days = Some o }) value refl)
+    (h (Some (x ∷ xs)) refl)
+
 month_days-said : (d : Draft) (xs : List ℤ) (rest : List ℕ) (r : Recurrence) → AreWords month_day_of month_day_text xs → length xs ≤ 62
     → ((o : Option (List ℤ)) → unwrap_or o [] ≡ xs → Says (record d { month_days = o }) rest r)
     → Says (record d { month_days = None }) (list_text (codes ";BYMONTHDAY=") month_day_text xs ++ rest) r
@@ -168,30 +184,33 @@ week_start-said d weekday.Friday rest r h = week_start-given d weekday.Friday re
 week_start-said d weekday.Saturday rest r h = week_start-given d weekday.Saturday rest r (h (Some weekday.Saturday) refl)
 week_start-said d weekday.Sunday rest r h = week_start-given d weekday.Sunday rest r (h (Some weekday.Sunday) refl)
 
-abbrev draft_of : Frequency → Option ℕ → Option RuleEnd → Option (List Month) → Option (List ℤ) → Option (List ByDay) → Option (List ℤ)
-    → Option Weekday → Draft
-draft_of f interval end months month_days weekdays set_positions week_start = record {
+abbrev draft_of : Frequency → Option ℕ → Option RuleEnd → Option (List Month) → Option (List ℤ) → Option (List ℤ) → Option (List ByDay)
+    → Option (List ℤ) → Option Weekday → Draft
+draft_of f interval end months year_days month_days weekdays set_positions week_start = record {
   frequency = Some f;
   interval = interval;
   week_start = week_start;
   months = months;
+  year_days = year_days;
   month_days = month_days;
   weekdays = weekdays;
   set_positions = set_positions;
   end = end;
 }
 
-all-said : (r : Recurrence) (i : Option ℕ) (e : Option RuleEnd) (m : Option (List Month)) (d : Option (List ℤ))
-    (w : Option (List ByDay)) (p : Option (List ℤ)) (s : Option Weekday) → unwrap_or i 1 ≡ r.interval → unwrap_or e Never ≡ r.end → unwrap_or m [] ≡ r.months
-    → unwrap_or d [] ≡ r.month_days → unwrap_or w [] ≡ r.weekdays → unwrap_or p [] ≡ r.set_positions → unwrap_or s weekday.Monday ≡ r.week_start
-    → Says (draft_of r.frequency i e m d w p s) [] r
-all-said r i e m d w p s is ends months month_days weekdays positions starts = record {
+all-said : (r : Recurrence) (i : Option ℕ) (e : Option RuleEnd) (m : Option (List Month)) (y : Option (List ℤ)) (d : Option (List ℤ))
+    (w : Option (List ByDay)) (p : Option (List ℤ)) (s : Option Weekday) → unwrap_or i 1 ≡ r.interval → unwrap_or e Never ≡ r.end
+    → unwrap_or m [] ≡ r.months → unwrap_or y [] ≡ r.year_days → unwrap_or d [] ≡ r.month_days → unwrap_or w [] ≡ r.weekdays
+    → unwrap_or p [] ≡ r.set_positions → unwrap_or s weekday.Monday ≡ r.week_start
+    → Says (draft_of r.frequency i e m y d w p s) [] r
+all-said r i e m y d w p s is ends months year_days month_days weekdays positions starts = record {
   cut = λ text clean. ap (parts_at 59) (append-nil text) ∙ cut-nowhere 59 text clean;
   reads = λ at j. Ok (record {
     frequency = r.frequency;
     interval = is j;
     week_start = starts j;
     months = months j;
+    year_days = year_days j;
     month_days = month_days j;
     weekdays = weekdays j;
     set_positions = positions j;
@@ -216,12 +235,14 @@ month-words [] = tt
 month-words (x ∷ xs) = (month-word x, month-words xs)
 
 -- ---- the whole
-grouped : (a b c d e f g h : List ℕ) → a ++ b ++ c ++ d ++ e ++ f ++ g ++ h ≡ a ++ (b ++ (c ++ (d ++ (e ++ (f ++ (g ++ (h ++ [])))))))
-grouped a b c d e f g h =
-    append_assoc (a ++ b ++ c ++ d ++ e ++ f) g h ∙ append_assoc (a ++ b ++ c ++ d ++ e) f (g ++ h) ∙ append_assoc (a ++ b ++ c ++ d) e (f ++ (g ++ h))
-    ∙ append_assoc (a ++ b ++ c) d (e ++ (f ++ (g ++ h))) ∙ append_assoc (a ++ b) c (d ++ (e ++ (f ++ (g ++ h))))
-    ∙ append_assoc a b (c ++ (d ++ (e ++ (f ++ (g ++ h)))))
-    ∙ ap (λ last. a ++ (b ++ (c ++ (d ++ (e ++ (f ++ (g ++ last))))))) (sym (append-nil h))
+grouped : (a b c d e f g h k : List ℕ)
+    → a ++ b ++ c ++ d ++ e ++ f ++ g ++ h ++ k ≡ a ++ (b ++ (c ++ (d ++ (e ++ (f ++ (g ++ (h ++ (k ++ []))))))))
+grouped a b c d e f g h k =
+    append_assoc (a ++ b ++ c ++ d ++ e ++ f ++ g) h k ∙ append_assoc (a ++ b ++ c ++ d ++ e ++ f) g (h ++ k)
+    ∙ append_assoc (a ++ b ++ c ++ d ++ e) f (g ++ (h ++ k)) ∙ append_assoc (a ++ b ++ c ++ d) e (f ++ (g ++ (h ++ k)))
+    ∙ append_assoc (a ++ b ++ c) d (e ++ (f ++ (g ++ (h ++ k)))) ∙ append_assoc (a ++ b) c (d ++ (e ++ (f ++ (g ++ (h ++ k)))))
+    ∙ append_assoc a b (c ++ (d ++ (e ++ (f ++ (g ++ (h ++ k))))))
+    ∙ ap (λ last. a ++ (b ++ (c ++ (d ++ (e ++ (f ++ (g ++ (h ++ last)))))))) (sym (append-nil k))
 
 no-name : (r : Recurrence) → has_name (text_of r) ≡ false
 unfolding first_bytes
@@ -233,33 +254,38 @@ no-name r = and-false (nat_le 6 (length (text_of r)))
 
 said : (r : Recurrence) → IsSpelled r → read_on 0 nothing (parts_at 59 (text_of r)) ≡ Ok r
 said r h =
-    let from : Option ℕ → Option RuleEnd → Option (List Month) → Option (List ℤ) → Option (List ByDay) → Option (List ℤ) → Draft = λ i e m d w p. draft_of r.frequency i e m d w p None in
+    let from : Option ℕ → Option RuleEnd → Option (List Month) → Option (List ℤ) → Option (List ℤ) → Option (List ByDay) → Option (List ℤ) → Draft = λ i e m y d w p. draft_of r.frequency i e m y d w p None in
     let starts = week_start_text r.week_start ++ [] in
     let positions = list_text (codes ";BYSETPOS=") position_text r.set_positions ++ starts in
     let weekdays = list_text (codes ";BYDAY=") by_day_text r.weekdays ++ positions in
     let month_days = list_text (codes ";BYMONTHDAY=") month_day_text r.month_days ++ weekdays in
-    let months = list_text (codes ";BYMONTH=") month_text r.months ++ month_days in
+    let year_days = list_text (codes ";BYYEARDAY=") position_text r.year_days ++ month_days in
+    let months = list_text (codes ";BYMONTH=") month_text r.months ++ year_days in
     let end = end_text r.end ++ months in
     let interval = interval_text r.interval ++ end in
+    let year_day_words = words IsPosition position_of position_text position-word r.year_days h.each_year_day in
     let day_words = words IsMonthDay month_day_of month_day_text month_day-word r.month_days h.each_month_day in
     let weekday_words = words IsByDay by_day_of by_day_text by_day-word r.weekdays h.each_weekday in
     let position_words = words IsPosition position_of position_text position-word r.set_positions h.each_position in
     ap (λ text. read_on 0 nothing (parts_at 59 text)) (grouped (codes "FREQ=" ++ frequency_text r.frequency) (interval_text r.interval) (end_text r.end)
-    (list_text (codes ";BYMONTH=") month_text r.months) (list_text (codes ";BYMONTHDAY=") month_day_text r.month_days)
+    (list_text (codes ";BYMONTH=") month_text r.months) (list_text (codes ";BYYEARDAY=") position_text r.year_days) (list_text (codes ";BYMONTHDAY=") month_day_text r.month_days)
     (list_text (codes ";BYDAY=") by_day_text r.weekdays) (list_text (codes ";BYSETPOS=") position_text r.set_positions) (week_start_text r.week_start))
-    ∙ frequency-said r.frequency interval r (interval-said (from None None None None None None) r.interval end r h.interval (λ i a.
-    end-said (from i None None None None None) r.end months r h.end (λ e b.
-    months-said (from i e None None None None) r.months month_days r (month-words r.months) h.months (λ m c.
-    month_days-said (from i e m None None None) r.month_days weekdays r day_words h.month_days (λ d p.
-    weekdays-said (from i e m d None None) r.weekdays positions r weekday_words h.weekdays (λ w q.
-    positions-said (from i e m d w None) r.set_positions starts r position_words h.set_positions (λ k t.
-    week_start-said (from i e m d w k) r.week_start [] r (λ s o.
-    all-said r i e m d w k s a b c p q t o))))))))
+    ∙ frequency-said r.frequency interval r (interval-said (from None None None None None None None) r.interval end r h.interval (λ i a.
+    end-said (from i None None None None None None) r.end months r h.end (λ e b.
+    months-said (from i e None None None None None) r.months year_days r (month-words r.months) h.months (λ m c.
+    year_days-said (from i e m None None None None) r.year_days month_days r year_day_words h.year_days (λ y u.
+    month_days-said (from i e m y None None None) r.month_days weekdays r day_words h.month_days (λ d p.
+    weekdays-said (from i e m y d None None) r.weekdays positions r weekday_words h.weekdays (λ w q.
+    positions-said (from i e m y d w None) r.set_positions starts r position_words h.set_positions (λ k t.
+    week_start-said (from i e m y d w k) r.week_start [] r (λ s o.
+    all-said r i e m y d w k s a b c u p q t o)))))))))
 
 reads_back_of : (r : Recurrence) → IsSpelled r → recurrence_of (text_of r) ≡ Ok r
 reads_back_of r h =
     ap (λ b. cond b (parts_say 6 (parts_at 59 (bytes_after 6 (text_of r)))) (parts_say 0 (parts_at 59 (text_of r)))) (no-name r)
     ∙ ap (checked 0 (parts_at 59 (text_of r))) (said r h)
+    ∙ ap (λ o. option_map_or (λ p. Err (later p (place_of (part_name p) 0 (parts_at 59 (text_of r))) (place_of (codes "FREQ") 0 (parts_at 59 (text_of r))))) o
+    (cond (ranks_alone r) (Err (fault (place_of (codes "BYSETPOS") 0 (parts_at 59 (text_of r))) (Alone part.Positions))) (Ok r))) h.allowed
     ∙ ap (λ b. cond b (Err (fault (place_of (codes "BYSETPOS") 0 (parts_at 59 (text_of r))) (Alone part.Positions))) (Ok r)) h.ranked
 
 pub reads_back : (r : Recurrence) (text : List ℕ) → text ≡ text_of r → IsSpelled r → recurrence_of text ≡ Ok r

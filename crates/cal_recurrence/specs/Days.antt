@@ -1,5 +1,12 @@
 -- The days of a recurrence: the days of its rule from a start, or with a COUNT the first of them.
-use Rattle.std.specs.Prelude.{◌≡◌, ◌==◌, ◌&&◌, Bool, not, ℕ, List, length, take, Option, Some, None}
+use Rattle.std.specs.Prelude.{◌≡◌, ◌==◌, ◌&&◌, Bool, true, false, not, if◌then◌else◌, ℕ, List, length, take, Option, Some, None}
+use Rattle.std.specs.List.{list_any}
+use Rattle.cal_schedule.specs.declared.rule.rule.ByDay.{ByDay}
+use Rattle.cal_schedule.specs.declared.rule.rule.ByDay.TheVariants.{Every, Nth}
+use Rattle.cal_schedule.specs.declared.rule.rule.Frequency.{Frequency}
+use Rattle.cal_schedule.specs.declared.rule.rule.Frequency.TheVariants.{Daily, Weekly, Monthly, Yearly}
+use Rattle.cal_recurrence.specs.declared.fault.RulePart.{RulePart}
+use Rattle.cal_recurrence.specs.declared.fault.RulePart.TheVariants.{YearDays, MonthDays, Weekdays}
 use Rattle.cal_schedule.specs.declared.rule.rule.Rule.{Rule}
 use Rattle.cal_schedule.specs.Rule.{occurrences}
 use Rattle.cal_recurrence.specs.declared.recurrence.Recurrence.{Recurrence}
@@ -14,7 +21,28 @@ last_of (Count count) = None
 
 -- The recurrence has positions, and no list that selects the days that they rank.
 abbrev pub ranks_alone : Recurrence → Bool
-ranks_alone r = not (length r.set_positions == 0) && ((length r.months == 0) && ((length r.month_days == 0) && (length r.weekdays == 0)))
+ranks_alone r = not (length r.set_positions == 0) && ((length r.months == 0) && ((length r.year_days == 0) && ((length r.month_days == 0) && (length r.weekdays == 0))))
+
+-- A weekday has a number.
+abbrev pub is_numbered : ByDay → Bool
+is_numbered (Every w) = false
+is_numbered (Nth k w) = true
+
+-- The frequency excludes numbers of weekdays in a day or a week, days of the month in a week, and
+-- days of the year in shorter periods than a year.
+abbrev pub excludes_year_days : Recurrence → Option RulePart
+excludes_year_days r = if length r.year_days == 0 then None else Some YearDays
+
+abbrev pub excluded_at : Frequency → Recurrence → Option RulePart
+excluded_at Daily r = if list_any is_numbered r.weekdays then Some Weekdays else excludes_year_days r
+excluded_at Weekly r =
+    if list_any is_numbered r.weekdays then Some Weekdays else
+    if not (length r.month_days == 0) then Some MonthDays else excludes_year_days r
+excluded_at Monthly r = excludes_year_days r
+excluded_at Yearly r = None
+
+abbrev pub excluded : Recurrence → Option RulePart
+excluded r = excluded_at r.frequency r
 
 -- The rule has the start and the parts of the recurrence.
 pub record IsRuleOf (recurrence : Recurrence) (first : ℕ) (rule : Rule) : Type 0 where
@@ -23,6 +51,7 @@ pub record IsRuleOf (recurrence : Recurrence) (first : ℕ) (rule : Rule) : Type
   pub interval : rule.interval ≡ recurrence.interval
   pub week_start : rule.week_start ≡ recurrence.week_start
   pub months : rule.months.now ≡ recurrence.months
+  pub year_days : rule.year_days.now ≡ recurrence.year_days
   pub month_days : rule.month_days.now ≡ recurrence.month_days
   pub weekdays : rule.weekdays.now ≡ recurrence.weekdays
   pub set_positions : rule.set_positions.now ≡ recurrence.set_positions

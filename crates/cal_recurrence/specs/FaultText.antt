@@ -4,13 +4,14 @@ use Rattle.cal_recurrence.specs.declared.fault.ParseRuleError.{ParseRuleError}
 use Rattle.cal_recurrence.specs.declared.fault.RulePart.{RulePart}
 use Rattle.cal_recurrence.specs.declared.fault.RulePart.TheVariants as part
 use Rattle.cal_recurrence.specs.declared.fault.ParseRuleErrorKind.{ParseRuleErrorKind}
-use Rattle.cal_recurrence.specs.declared.fault.ParseRuleErrorKind.TheVariants.{Unknown, Twice, TooMany, Value, Alone, Missing}
+use Rattle.cal_recurrence.specs.declared.fault.ParseRuleErrorKind.TheVariants.{Unknown, Twice, TooMany, Value, Excluded, Alone, Missing}
 
 abbrev pub part_name : RulePart → List ℕ
 part_name part.Frequency = codes "FREQ"
 part_name part.Interval = codes "INTERVAL"
 part_name part.WeekStart = codes "WKST"
 part_name part.Months = codes "BYMONTH"
+part_name part.YearDays = codes "BYYEARDAY"
 part_name part.MonthDays = codes "BYMONTHDAY"
 part_name part.Weekdays = codes "BYDAY"
 part_name part.Positions = codes "BYSETPOS"
@@ -23,6 +24,7 @@ reason_text Unknown = codes "unknown part"
 reason_text (Twice at) = codes "duplicate " ++ part_name at
 reason_text (TooMany at) = codes "too many values in " ++ part_name at
 reason_text (Value at) = codes "invalid value of " ++ part_name at
+reason_text (Excluded at) = codes "excluded " ++ part_name at
 reason_text (Alone at) = codes "no other part with " ++ part_name at
 reason_text Missing = codes "missing FREQ"
 

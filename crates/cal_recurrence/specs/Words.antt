@@ -59,6 +59,7 @@ part_of word =
     if is_alike word (codes "INTERVAL") then Some part.Interval else
     if is_alike word (codes "WKST") then Some part.WeekStart else
     if is_alike word (codes "BYMONTH") then Some part.Months else
+    if is_alike word (codes "BYYEARDAY") then Some part.YearDays else
     if is_alike word (codes "BYMONTHDAY") then Some part.MonthDays else
     if is_alike word (codes "BYDAY") then Some part.Weekdays else
     if is_alike word (codes "BYSETPOS") then Some part.Positions else
@@ -117,6 +118,7 @@ month_of word = option_map (λ n. month_with_index (n - 1)) (short_count_of 2 12
 abbrev pub month_day_of : List ℕ → Option ℤ
 month_day_of word = index_of 2 31 word
 
+-- A day of the year or a position.
 abbrev pub position_of : List ℕ → Option ℤ
 position_of word = index_of 3 366 word
 

@@ -19,6 +19,7 @@ pub struct Draft {
     pub interval: Option<u32>,
     pub week_start: Option<Weekday>,
     pub months: Option<Values<Month>>,
+    pub year_days: Option<Values<i16>>,
     pub month_days: Option<Values<i8>>,
     pub weekdays: Option<Values<ByDay>>,
     pub set_positions: Option<Values<i16>>,
@@ -48,6 +49,7 @@ impl Draft {
             interval: None,
             week_start: None,
             months: None,
+            year_days: None,
             month_days: None,
             weekdays: None,
             set_positions: None,
@@ -104,6 +106,14 @@ impl Draft {
                 )?);
                 Ok(self)
             }
+            RulePart::YearDays => {
+                self.year_days = Some(fresh(
+                    part,
+                    self.year_days.is_some(),
+                    values_of(value, 0i16),
+                )?);
+                Ok(self)
+            }
             RulePart::MonthDays => {
                 self.month_days = Some(fresh(
                     part,
@@ -156,6 +166,7 @@ impl Draft {
             interval: self.interval.unwrap_or(1),
             week_start: self.week_start.unwrap_or(Weekday::Monday),
             months: self.months.unwrap_or(Values::none(Month::January)),
+            year_days: self.year_days.unwrap_or(Values::none(0)),
             month_days: self.month_days.unwrap_or(Values::none(0)),
             weekdays: self
                 .weekdays

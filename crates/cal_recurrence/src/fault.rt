@@ -16,6 +16,8 @@ pub enum RulePart {
     WeekStart,
     /// `BYMONTH`
     Months,
+    /// `BYYEARDAY`
+    YearDays,
     /// `BYMONTHDAY`
     MonthDays,
     /// `BYDAY`
@@ -39,7 +41,9 @@ pub enum ParseRuleErrorKind {
     TooMany(RulePart),
     /// The part has no value of those that are read, as `FREQ=HOURLY`.
     Value(RulePart),
-    /// The part needs another one that selects days: `BYMONTH`, `BYMONTHDAY` or `BYDAY`.
+    /// The part and an earlier one exclude each other, as `BYMONTHDAY=1` and `FREQ=WEEKLY`.
+    Excluded(RulePart),
+    /// The part needs another one that selects days: `BYMONTH`, `BYYEARDAY`, `BYMONTHDAY` or `BYDAY`.
     Alone(RulePart),
     /// No part says the frequency.
     Missing,
@@ -67,6 +71,7 @@ impl RulePart {
             RulePart::Interval => "INTERVAL",
             RulePart::WeekStart => "WKST",
             RulePart::Months => "BYMONTH",
+            RulePart::YearDays => "BYYEARDAY",
             RulePart::MonthDays => "BYMONTHDAY",
             RulePart::Weekdays => "BYDAY",
             RulePart::Positions => "BYSETPOS",
@@ -95,6 +100,10 @@ impl ParseRuleErrorKind {
             }
             ParseRuleErrorKind::Value(part) => {
                 text.push("invalid value of ");
+                text.push(part.name());
+            }
+            ParseRuleErrorKind::Excluded(part) => {
+                text.push("excluded ");
                 text.push(part.name());
             }
             ParseRuleErrorKind::Alone(part) => {

@@ -1,7 +1,7 @@
 //! Parses the text of a recurrence.
 ghost use Rattle.std.specs.Prelude.{◌≡◌, ◌+◌, ◌<◌, ◌^◌, length, IfOk};
 ghost use Rattle.cal_recurrence.specs.Spelled.{IsSpelled};
-ghost use Rattle.cal_recurrence.specs.Text.{parts_say, place_of, read_on, recurrence_of};
+ghost use Rattle.cal_recurrence.specs.Text.{later, parts_say, place_of, read_on, recurrence_of};
 ghost use Rattle.cal_recurrence.specs.Words.{parts_at};
 
 use crate::draft::Draft;
@@ -12,12 +12,12 @@ use crate::words::{cut, has_name, is_alike, split};
 /// Parses a recurrence of RFC 5545, such as `FREQ=MONTHLY;BYDAY=-1FR;COUNT=12`, with or without
 /// `RRULE:` in front.
 ///
-/// The parts are `FREQ`, `INTERVAL`, `WKST`, `BYMONTH`, `BYMONTHDAY`, `BYDAY`, `BYSETPOS`, and
-/// `UNTIL` or `COUNT`, in any order and any case. `UNTIL` has a date, or a date and time, and then its date
+/// The parts are `FREQ`, `INTERVAL`, `WKST`, `BYMONTH`, `BYYEARDAY`, `BYMONTHDAY`, `BYDAY`,
+/// `BYSETPOS`, and `UNTIL` or `COUNT`, in any order and any case. `UNTIL` has a date, or a date and time, and then its date
 /// counts. The first bad part gives the error: `Unknown` for
 /// any other name, `Twice` for a repeated part or a second end, `TooMany` for more than 62 words,
-/// `Value` for an invalid value, and `Missing` if there is no `FREQ`. Then `Alone` means a
-/// `BYSETPOS` without `BYMONTH`, `BYMONTHDAY` and `BYDAY`.
+/// `Value` for an invalid value, and `Missing` if there is no `FREQ`. Then `Excluded`
+/// means a part that the frequency excludes, and `Alone` a `BYSETPOS` without another list.
 pub fn parse(text: &[u8]) -> Result<Recurrence, ParseRuleError>
     ensures value { result ≡ recurrence_of text.now }
     ensures spelled { IfOk result IsSpelled }
@@ -37,7 +37,10 @@ fn parse_parts(position: usize, text: &[u8]) -> Result<Recurrence, ParseRuleErro
 {
     match read_on(position, Draft::new(), text) {
         Ok(recurrence) => {
-            if recurrence.ranks_alone() {
+            if let Some(part) = recurrence.excluded() {
+                let place = place_of(part.name().as_bytes(), position, text);
+                Err(later(part, place, place_of(b"FREQ", position, text)))
+            } else if recurrence.ranks_alone() {
                 Err(ParseRuleError {
                     position: place_of(b"BYSETPOS", position, text),
                     reason: ParseRuleErrorKind::Alone(RulePart::Positions),
@@ -47,6 +50,23 @@ fn parse_parts(position: usize, text: &[u8]) -> Result<Recurrence, ParseRuleErro
             }
         }
         Err(fault) => Err(fault),
+    }
+}
+
+/// Returns the error of a part and a frequency that exclude each other, at the later one.
+fn later(part: RulePart, place: usize, frequency: usize) -> ParseRuleError
+    ensures { result ≡ later part place frequency }
+{
+    if place < frequency {
+        ParseRuleError {
+            position: frequency,
+            reason: ParseRuleErrorKind::Excluded(RulePart::Frequency),
+        }
+    } else {
+        ParseRuleError {
+            position: place,
+            reason: ParseRuleErrorKind::Excluded(part),
+        }
     }
 }
 

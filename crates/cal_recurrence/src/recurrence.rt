@@ -1,7 +1,9 @@
 //! Recurrences and their days.
 ghost use Rattle.std.specs.Prelude.{◌≡◌};
-ghost use Rattle.cal_recurrence.specs.Days.{last_of, ranks_alone, AreDays, IsRuleOf};
+ghost use Rattle.std.specs.List.{list_any};
+ghost use Rattle.cal_recurrence.specs.Days.{excluded, is_numbered, last_of, ranks_alone, AreDays, IsRuleOf};
 
+use crate::fault::RulePart;
 use crate::values::Values;
 use cal_schedule::{ByDay, Frequency, Rule, RuleDays};
 use cal_time::{Date, Month, Weekday};
@@ -30,6 +32,8 @@ pub struct Recurrence {
     pub week_start: Weekday,
     /// The months.
     pub months: Values<Month>,
+    /// The days of the year, counted from 1, or from the end with -1 for the last one.
+    pub year_days: Values<i16>,
     /// The days of the month, counted from 1, or from the end with -1 for the last one.
     pub month_days: Values<i8>,
     /// The weekdays.
@@ -41,6 +45,19 @@ pub struct Recurrence {
     pub end: RuleEnd,
 }
 
+fn is_numbered(by: ByDay) -> bool
+    ensures { result ≡ is_numbered by }
+{
+    matches!(by, ByDay::Nth(_, _))
+}
+
+/// Returns `true` if one of the weekdays has a number.
+fn any_numbered(weekdays: &[ByDay]) -> bool
+    ensures { result ≡ list_any is_numbered weekdays.now }
+{
+    weekdays.iter().any(|by| is_numbered(*by))
+}
+
 impl Recurrence {
     /// Returns `true` if the recurrence has positions, and no list that selects the days that they
     /// rank.
@@ -49,8 +66,37 @@ impl Recurrence {
     {
         !self.set_positions.as_slice().is_empty()
             && self.months.as_slice().is_empty()
+            && self.year_days.as_slice().is_empty()
             && self.month_days.as_slice().is_empty()
             && self.weekdays.as_slice().is_empty()
+    }
+
+    /// Returns a part that the frequency excludes, if there is one.
+    pub(crate) fn excluded(&self) -> Option<RulePart>
+        ensures { result ≡ excluded self.now }
+    {
+        match self.frequency {
+            Frequency::Daily => {
+                if any_numbered(self.weekdays.as_slice()) {
+                    return Some(RulePart::Weekdays);
+                }
+            }
+            Frequency::Weekly => {
+                if any_numbered(self.weekdays.as_slice()) {
+                    return Some(RulePart::Weekdays);
+                }
+                if !self.month_days.as_slice().is_empty() {
+                    return Some(RulePart::MonthDays);
+                }
+            }
+            Frequency::Monthly => {}
+            Frequency::Yearly => return None,
+        }
+        if self.year_days.as_slice().is_empty() {
+            None
+        } else {
+            Some(RulePart::YearDays)
+        }
     }
 
     fn last(&self) -> Option<Date>
@@ -72,6 +118,7 @@ impl Recurrence {
             interval: self.interval,
             week_start: self.week_start,
             months: self.months.as_slice(),
+            year_days: self.year_days.as_slice(),
             month_days: self.month_days.as_slice(),
             weekdays: self.weekdays.as_slice(),
             set_positions: self.set_positions.as_slice(),

@@ -67,6 +67,8 @@ pub fn part_of(name: &[u8]) -> Option<RulePart>
         Some(RulePart::WeekStart)
     } else if is_alike(name, b"BYMONTH") {
         Some(RulePart::Months)
+    } else if is_alike(name, b"BYYEARDAY") {
+        Some(RulePart::YearDays)
     } else if is_alike(name, b"BYMONTHDAY") {
         Some(RulePart::MonthDays)
     } else if is_alike(name, b"BYDAY") {
@@ -194,7 +196,7 @@ pub fn month_day_of(word: &[u8]) -> Option<i8>
     Some(index_of(word, 2, 31)? as i8)
 }
 
-/// Parses a position, from 1 to 366, or from -1 for the last one to -366.
+/// Parses a day of the year or a position, from 1 to 366, or from -1 for the last one to -366.
 pub fn position_of(word: &[u8]) -> Option<i16>
     ensures { result ≡ position_of word.now }
 {

@@ -16,7 +16,7 @@ use Rattle.cal_schedule.specs.declared.rule.rule.ByDay.{ByDay}
 use Rattle.cal_schedule.specs.declared.rule.rule.ByDay.TheVariants.{Every, Nth}
 use Rattle.cal_schedule.specs.declared.rule.rule.Rule.{Rule}
 use Rattle.cal_schedule.specs.Months.{month_number_at}
-use Rattle.cal_schedule.specs.Rule.{allows, matches_start, matches_until, is_empty, matches_months, is_month_day, is_nth_weekday, matches_days, matches_by_day, is_yearly, interval_or_1, passes, period_index, periods_past}
+use Rattle.cal_schedule.specs.Rule.{allows, matches_start, matches_until, is_empty, matches_months, is_month_day, is_year_day, is_nth_weekday, matches_days, matches_by_day, is_yearly, interval_or_1, passes, period_index, periods_past}
 use Rattle.cal_schedule.proofs.MonthMoves.{month_numbers-rise}
 
 -- Two days that differ only in number and year, as far as a rule can see.
@@ -131,6 +131,10 @@ is_month_day-alike : (m n : ℕ) → IsAlike m n → (k : ℤ) → is_month_day 
 unfolding is_month_day
 is_month_day-alike m n h k = rw (h.day, h.length) refl
 
+is_year_day-alike : (m n : ℕ) → IsAlike m n → (k : ℤ) → is_year_day m k ≡ is_year_day n k
+unfolding is_year_day
+is_year_day-alike m n h k = rw (h.ordinal, h.days) refl
+
 is_nth_weekday-alike : (b : Bool) (m n : ℕ) → IsAlike m n → (k : ℤ) → is_nth_weekday b m k ≡ is_nth_weekday b n k
 unfolding is_nth_weekday
 is_nth_weekday-alike true m n h k = rw (h.ordinal, h.days) refl
@@ -156,6 +160,7 @@ matches_days-alike rule m n h =
     let b = is_yearly rule.frequency && is_empty rule.months.now in
     rw (
       matches_start-alike rule.frequency rule.start m n h,
+      allows-alike (is_year_day m) (is_year_day n) rule.year_days.now (is_year_day-alike m n h),
       allows-alike (is_month_day m) (is_month_day n) rule.month_days.now (is_month_day-alike m n h),
       allows-alike (matches_by_day b m) (matches_by_day b n) rule.weekdays.now (matches_by_day-alike b m n h),
     ) refl

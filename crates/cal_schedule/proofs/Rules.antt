@@ -24,7 +24,7 @@ use Rattle.cal_schedule.specs.declared.rule.rule.ByDay.TheVariants.{Every, Nth}
 use Rattle.cal_schedule.specs.declared.rule.rule.Frequency.TheVariants.{Monthly, Yearly}
 use Rattle.cal_schedule.specs.declared.rule.rule.Rule.{Rule}
 use Rattle.cal_schedule.specs.Months.{HasMonthIndex}
-use Rattle.cal_schedule.specs.Rule.{allows, occurrences_after, occurrences_left, occurrences, is_empty, matches_months, matches_until, is_month_day, is_occurrence, passes, matches_days, matches_by_day, is_yearly, interval_or_1, period_index, periods_past}
+use Rattle.cal_schedule.specs.Rule.{allows, occurrences_after, occurrences_left, occurrences, is_empty, matches_months, matches_until, is_month_day, is_year_day, is_occurrence, passes, matches_days, matches_by_day, is_yearly, interval_or_1, period_index, periods_past}
 use Rattle.cal_schedule.specs.RuleSearch.{may_fall_on, by_day_weekday, IsCandidate, IsFirstOfPeriod, IsNextBefore, IsNextFrom, IsSkip, NoDayBetween}
 use Rattle.cal_schedule.proofs.MonthMoves.{IsMonthNumber-date, same_month}
 use Rattle.cal_schedule.proofs.RulePeriods.{matches_months-alike, matches_until-earlier, pos-months, pos-years, period_index-rises}
@@ -118,11 +118,13 @@ any-more p q h (x ∷ xs) e =
       | inr later ↦ or_right (q x) (list_any q xs) (any-more p q h xs later)
     ]
 
-then_allows : {X Y : Type 0} (a : Bool) (p : X → Bool) (q r : Y → Bool) (xs : List X) (ys : List Y) → ((y : Y) → q y ≡ true → r y ≡ true)
-    → (if is_empty xs && is_empty ys then a else allows p xs && allows q ys) ≡ true → allows r ys ≡ true
-then_allows a p q r xs [] h e = refl
-then_allows a p q r [] (y ∷ ys) h e = any-more q r h (y ∷ ys) e
-then_allows a p q r (x ∷ xs) (y ∷ ys) h e = any-more q r h (y ∷ ys) (and_parts _ _ e).1
+then_allows : {X Y Z : Type 0} (a : Bool) (o : Z → Bool) (p : X → Bool) (q r : Y → Bool) (zs : List Z) (xs : List X) (ys : List Y)
+    → ((y : Y) → q y ≡ true → r y ≡ true)
+    → (if is_empty zs && (is_empty xs && is_empty ys) then a else allows o zs && (allows p xs && allows q ys)) ≡ true → allows r ys ≡ true
+then_allows a o p q r zs xs [] h e = refl
+then_allows a o p q r [] [] (y ∷ ys) h e = any-more q r h (y ∷ ys) e
+then_allows a o p q r [] (x ∷ xs) (y ∷ ys) h e = any-more q r h (y ∷ ys) (and_parts _ _ e).1
+then_allows a o p q r (z ∷ zs) xs (y ∷ ys) h e = any-more q r h (y ∷ ys) (and_parts _ _ (and_parts _ _ e).1).1
 
 weekday_is : (b : Bool) (n : ℕ) (by : ByDay) → matches_by_day b n by ≡ true → (weekday_at n == index (by_day_weekday by)) ≡ true
 unfolding matches_by_day
@@ -133,7 +135,7 @@ may_fall_on-days : (rule : Rule) (n : ℕ) → matches_days rule n ≡ true → 
 unfolding matches_days
 may_fall_on-days rule n e =
     let b = is_yearly rule.frequency && is_empty rule.months.now in
-    then_allows _ (is_month_day n) (matches_by_day b n) _ rule.month_days.now rule.weekdays.now (weekday_is b n) e
+    then_allows _ (is_year_day n) (is_month_day n) (matches_by_day b n) _ rule.year_days.now rule.month_days.now rule.weekdays.now (weekday_is b n) e
 
 off_weekday : (rule : Rule) (k : ℕ) → may_fall_on rule (weekday_at k) ≡ false → passes rule k ≡ false
 unfolding passes

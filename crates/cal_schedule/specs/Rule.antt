@@ -45,6 +45,10 @@ is_empty (x ∷ xs) = false
 unfoldable pub is_month_day : ℕ → ℤ → Bool
 is_month_day n k = is_nth k (day_of_month_at n) (days_in_month (year_at n) (month_at n) + 1 - day_of_month_at n)
 
+-- Day n is day k of its year.
+unfoldable pub is_year_day : ℕ → ℤ → Bool
+is_year_day n k = is_nth k (ordinal_at n) (days_in_year (year_at n) + 1 - ordinal_at n)
+
 -- Day n is the k-th of its weekday in its year, or in its month. Every seven days have one.
 unfoldable pub is_nth_weekday : Bool → ℕ → ℤ → Bool
 is_nth_weekday true n k = is_nth k ((ordinal_at n + 6) / 7) ((days_in_year (year_at n) - ordinal_at n) / 7 + 1)
@@ -60,9 +64,9 @@ abbrev pub is_yearly : Frequency → Bool
 is_yearly Yearly = true
 is_yearly f = false
 
--- A rule names no day: it has neither days of the month nor weekdays.
+-- A rule names no day: it has no days of the year or of the month, and no weekdays.
 abbrev pub names_no_day : Rule → Bool
-names_no_day rule = is_empty rule.month_days.now && is_empty rule.weekdays.now
+names_no_day rule = is_empty rule.year_days.now && (is_empty rule.month_days.now && is_empty rule.weekdays.now)
 
 -- Day n is in a month of the rule. A yearly rule that names neither months nor days has the month
 -- of its start.
@@ -79,13 +83,14 @@ matches_start Weekly start n = weekday_at n == weekday_at start
 matches_start Monthly start n = day_of_month_at n == day_of_month_at start
 matches_start Yearly start n = day_of_month_at n == day_of_month_at start
 
--- Day n passes the days of the month and the weekdays, or has the day of the start if the rule
+-- Day n passes the days of the year and of the month and the weekdays, or has the day of the start if the rule
 -- names no day.
 unfoldable pub matches_days : Rule → ℕ → Bool
 matches_days rule n =
     if names_no_day rule then matches_start rule.frequency rule.start n
-    else allows (is_month_day n) rule.month_days.now
-    && allows (matches_by_day (is_yearly rule.frequency && is_empty rule.months.now) n) rule.weekdays.now
+    else allows (is_year_day n) rule.year_days.now
+    && (allows (is_month_day n) rule.month_days.now
+    && allows (matches_by_day (is_yearly rule.frequency && is_empty rule.months.now) n) rule.weekdays.now)
 
 -- Day n is not after the last day, if there is one.
 abbrev pub matches_until : Option ℕ → ℕ → Bool

@@ -414,6 +414,43 @@ fn yearly_rules(rt: HostRuntime) {
     );
 }
 
+/// An example of RFC 5545, and others by hand: day 60 is 29 February in a leap year.
+#[test]
+fn days_of_years(rt: HostRuntime) {
+    let rt = &rt;
+    begins(
+        rt,
+        "FREQ=YEARLY;INTERVAL=3;COUNT=10;BYYEARDAY=1,100,200",
+        1997_01_01,
+        &[
+            1997_01_01, 1997_04_10, 1997_07_19, 2000_01_01, 2000_04_09, 2000_07_18, 2003_01_01,
+            2003_04_10, 2003_07_19, 2006_01_01,
+        ],
+        true,
+    );
+    begins(
+        rt,
+        "FREQ=YEARLY;BYYEARDAY=-1,-366",
+        2023_01_01,
+        &[2023_12_31, 2024_01_01, 2024_12_31, 2025_12_31],
+        false,
+    );
+    begins(
+        rt,
+        "FREQ=YEARLY;BYMONTH=3;BYYEARDAY=60",
+        2023_01_01,
+        &[2023_03_01, 2025_03_01],
+        false,
+    );
+    begins(
+        rt,
+        "FREQ=YEARLY;BYYEARDAY=1,2,3;BYDAY=MO,TU;BYSETPOS=-1",
+        2024_01_01,
+        &[2024_01_02, 2028_01_03, 2029_01_02, 2030_01_01],
+        false,
+    );
+}
+
 #[test]
 fn other_rules(rt: HostRuntime) {
     let rt = &rt;

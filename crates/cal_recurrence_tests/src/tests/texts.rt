@@ -62,7 +62,7 @@ fn faults(rt: HostRuntime) {
     );
     refused(
         rt,
-        "FREQ=YEARLY;BYYEARDAY=1,100,200",
+        "FREQ=YEARLY;BYMINUTE=1,30",
         12,
         ParseRuleErrorKind::Unknown,
     );
@@ -180,6 +180,12 @@ fn texts_of_faults(rt: HostRuntime) -> Result<(), Fail> {
         "FREQ=MONTHLY;BYSETPOS=-1",
         "no other part with BYSETPOS at 13",
     )?;
+    refused_as(
+        rt,
+        alloc,
+        "FREQ=WEEKLY;BYMONTHDAY=1",
+        "excluded BYMONTHDAY at 12",
+    )?;
     refused_as(rt, alloc, "BYDAY=MO", "missing FREQ at 8")
 }
 
@@ -233,6 +239,11 @@ fn wrong_values(rt: HostRuntime) {
             "FREQ=DAILY;BYDAY=-1",
             "FREQ=DAILY;BYDAY=MO,,TU",
         ],
+    );
+    refused_value(
+        rt,
+        RulePart::YearDays,
+        &["FREQ=DAILY;BYYEARDAY=0", "FREQ=DAILY;BYYEARDAY=367"],
     );
     refused_value(
         rt,
@@ -325,6 +336,23 @@ fn orders_and_cases(rt: HostRuntime) {
     );
 }
 
+/// A frequency excludes some parts, and the later of the two is at fault.
+#[test]
+fn excluded(rt: HostRuntime) {
+    let rt = &rt;
+    let excluded = ParseRuleErrorKind::Excluded(RulePart::Weekdays);
+    refused(rt, "FREQ=DAILY;BYDAY=MO,1TU", 11, excluded);
+    refused(rt, "RRULE:FREQ=WEEKLY;BYMONTH=1;BYDAY=-1TU", 28, excluded);
+    let excluded = ParseRuleErrorKind::Excluded(RulePart::MonthDays);
+    refused(rt, "FREQ=WEEKLY;BYMONTHDAY=1", 12, excluded);
+    let excluded = ParseRuleErrorKind::Excluded(RulePart::YearDays);
+    refused(rt, "FREQ=DAILY;BYYEARDAY=1", 11, excluded);
+    refused(rt, "FREQ=WEEKLY;BYYEARDAY=1", 12, excluded);
+    refused(rt, "FREQ=MONTHLY;BYYEARDAY=1;BYSETPOS=1", 13, excluded);
+    let excluded = ParseRuleErrorKind::Excluded(RulePart::Frequency);
+    refused(rt, "BYMONTHDAY=1;INTERVAL=2;FREQ=WEEKLY", 24, excluded);
+}
+
 /// Fails unless the text is daily until 31 December 2024.
 fn until(rt: &impl Abort, text: &str) {
     let Ok(last) = Date::from_calendar_date(2024, Month::December, 31) else {
@@ -358,6 +386,7 @@ fn by_fields(rt: HostRuntime) {
         interval: 1,
         week_start: Weekday::Monday,
         months,
+        year_days: Values::none(0),
         month_days: Values::none(0),
         weekdays,
         set_positions: Values::none(0),

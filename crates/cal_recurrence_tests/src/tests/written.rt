@@ -52,6 +52,7 @@ fn examples_of_the_rfc(rt: HostRuntime) {
             "FREQ=MONTHLY;INTERVAL=2;BYDAY=TU",
             "FREQ=YEARLY;COUNT=10;BYMONTH=6,7",
             "FREQ=YEARLY;INTERVAL=2;COUNT=10;BYMONTH=1,2,3",
+            "FREQ=YEARLY;INTERVAL=3;COUNT=10;BYYEARDAY=1,100,200",
             "FREQ=YEARLY;BYDAY=20MO",
             "FREQ=YEARLY;BYMONTH=3;BYDAY=TH",
         ],
@@ -123,13 +124,14 @@ fn longest(rt: HostRuntime) {
         interval: u32::MAX,
         week_start: Weekday::Sunday,
         months: full(Month::December),
+        year_days: full(-32768),
         month_days: full(-128),
         weekdays: full(ByDay::Nth(-128, Weekday::Friday)),
         set_positions: full(-32768),
         end: RuleEnd::Until(Date::MIN),
     };
     let text = recurrence.text();
-    assert!(rt; text.len() == 1456);
+    assert!(rt; text.len() == 1900);
     let text = text.as_str();
     assert!(rt;
         text.starts_with("FREQ=MONTHLY;INTERVAL=4294967295;UNTIL=-9999990101;BYMONTH=12,12,")

@@ -4,7 +4,7 @@ ghost use Rattle.std.specs.List.{list_any};
 ghost use Rattle.cal_time.specs.Date.{last_day, IsDate, month_at, ordinal_at, year_at};
 ghost use Rattle.cal_time.specs.Lengths.{days_in_year};
 ghost use Rattle.cal_time.specs.Month.{number as month_number};
-ghost use Rattle.cal_schedule.specs.Rule.{allows, matches_start, matches_until, is_empty, matches_months, is_month_day, is_nth, is_nth_weekday, matches_days, matches_by_day, is_yearly, names_no_day, interval_or_1, passes, period_index, periods_past};
+ghost use Rattle.cal_schedule.specs.Rule.{allows, matches_start, matches_until, is_empty, matches_months, is_month_day, is_year_day, is_nth, is_nth_weekday, matches_days, matches_by_day, is_yearly, names_no_day, interval_or_1, passes, period_index, periods_past};
 
 use crate::months::month_number_and_day;
 use crate::rule::rule::{ByDay, Frequency, Rule};
@@ -51,6 +51,25 @@ fn is_month_day(date: Date, day: i8) -> bool
         u32::from(date.day()),
         u32::from(length + 1 - date.day()),
     )
+}
+
+/// Returns `true` if the date is this day of its year.
+#[tactic(auto, unfolding(crate::specs::Rule::is_year_day))]
+fn is_year_day(date: Date, day: i16) -> bool
+    ensures { result ≡ is_year_day date day }
+{
+    let length = days_in_year(date.year());
+    is_nth(
+        day,
+        u32::from(date.ordinal()),
+        u32::from(length + 1 - date.ordinal()),
+    )
+}
+
+fn any_year_day(days: &[i16], date: Date) -> bool
+    ensures { result ≡ list_any (is_year_day date) days.now }
+{
+    days.iter().any(|day| is_year_day(date, *day))
 }
 
 fn any_month_day(days: &[i8], date: Date) -> bool
@@ -123,7 +142,7 @@ impl Rule<'_> {
     fn names_no_day(&self) -> bool
         ensures { result ≡ names_no_day self.now }
     {
-        self.month_days.is_empty() && self.weekdays.is_empty()
+        self.year_days.is_empty() && self.month_days.is_empty() && self.weekdays.is_empty()
     }
 
     fn is_yearly(&self) -> bool
@@ -167,7 +186,8 @@ impl Rule<'_> {
             return self.matches_start(date);
         }
         let of_year = self.is_yearly() && self.months.is_empty();
-        (self.month_days.is_empty() || any_month_day(self.month_days, date))
+        (self.year_days.is_empty() || any_year_day(self.year_days, date))
+            && (self.month_days.is_empty() || any_month_day(self.month_days, date))
             && (self.weekdays.is_empty() || any_weekday(self.weekdays, of_year, date))
     }
 

@@ -35,14 +35,16 @@ pub struct Rule<'a> {
     pub week_start: Weekday,
     /// The months (`BYMONTH`).
     pub months: &'a [Month],
+    /// The days of the year (`BYYEARDAY`), from 1 at its start and from -1 at its end. No day is the
+    /// 0th.
+    pub year_days: &'a [i16],
     /// The days of the month (`BYMONTHDAY`), from 1 at its start and from -1 at its end. No day is
     /// the 0th.
     pub month_days: &'a [i8],
     /// The weekdays (`BYDAY`).
     pub weekdays: &'a [ByDay],
-    /// The positions (`BYSETPOS`) among the days of a day, week, month or year that pass the months,
-    /// the days of the month and the weekdays, from 1 for the first one and from -1 for the last
-    /// one. No day is the 0th.
+    /// The positions (`BYSETPOS`) among the days of a day, week, month or year that pass the lists
+    /// above, from 1 for the first one and from -1 for the last one. No day is the 0th.
     pub set_positions: &'a [i16],
     /// The last day that can match, if there is one (`UNTIL`).
     pub until: Option<Date>,

@@ -95,7 +95,7 @@ fn debug(rt: HostRuntime) -> Result<(), Fail> {
     let walk = rule(&rt, Daily, 2024_01_01).first_days(2);
     let text = format!(in rt.alloc(); "{walk:?}")?;
     let rule = "Rule { start: 2024-01-01, frequency: Daily, interval: 1, week_start: Monday, \
-        months: [], month_days: [], weekdays: [], set_positions: [], until: None }";
+        months: [], year_days: [], month_days: [], weekdays: [], set_positions: [], until: None }";
     let wanted = format!(in rt.alloc();
         "RuleDays {{ rule: {rule}, front: Some(2024-01-01), left: 2 }}"
     )?;

@@ -2,14 +2,14 @@
 ghost use Rattle.std.specs.Prelude.{◌≡◌, ◌≤◌, length};
 ghost use Rattle.cal_recurrence.specs.RecurrenceText.{capacity};
 ghost use Rattle.cal_recurrence.specs.Text.{recurrence_of};
-ghost use Rattle.cal_c.specs.RecurrenceTexts.{recurrence_text_result, recurrence_text_ok};
+ghost use Rattle.cal_c.specs.RecurrenceTexts.{recurrence_text_error, recurrence_text_result, recurrence_text_ok};
 
 use super::results::{error_part, reason_status};
 use crate::status::OK;
-use cal_recurrence::parse;
+use cal_recurrence::{ParseRuleError, parse};
 
 /// The bytes of a text: enough for the longest recurrence, and zero bytes.
-const CAPACITY: usize = 1844;
+const CAPACITY: usize = 2284;
 
 /// A text in ASCII, followed by zero bytes, or the first wrong part of the text that was passed.
 #[repr(C)]
@@ -39,6 +39,18 @@ impl RecurrenceTextResult {
             bytes,
         }
     }
+
+    fn parse_error(fault: ParseRuleError) -> Self
+        ensures { result ≡ recurrence_text_error fault }
+    {
+        RecurrenceTextResult {
+            status: reason_status(fault.reason),
+            part: error_part(fault.reason),
+            position: fault.position,
+            length: 0,
+            bytes: [0; CAPACITY],
+        }
+    }
 }
 
 /// Parses a recurrence and writes it with its parts in one order.
@@ -49,12 +61,6 @@ pub extern "C" fn fots_recurrence_text(text: &[u8]) -> RecurrenceTextResult
 {
     match parse(text) {
         Ok(recurrence) => RecurrenceTextResult::ok(recurrence.text().as_bytes()),
-        Err(fault) => RecurrenceTextResult {
-            status: reason_status(fault.reason),
-            part: error_part(fault.reason),
-            position: fault.position,
-            length: 0,
-            bytes: [0; CAPACITY],
-        },
+        Err(fault) => RecurrenceTextResult::parse_error(fault),
     }
 }

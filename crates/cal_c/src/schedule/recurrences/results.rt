@@ -32,6 +32,7 @@ fn part_number(part: RulePart) -> u32
         RulePart::Until => 7,
         RulePart::Count => 8,
         RulePart::Positions => 9,
+        RulePart::YearDays => 10,
     }
 }
 
@@ -42,7 +43,9 @@ pub(super) fn reason_status(reason: ParseRuleErrorKind) -> i32
         ParseRuleErrorKind::Unknown => UNKNOWN_PART,
         ParseRuleErrorKind::Twice(_) => DUPLICATE_PART,
         ParseRuleErrorKind::TooMany(_) => TOO_MANY_VALUES,
-        ParseRuleErrorKind::Value(_) | ParseRuleErrorKind::Alone(_) => INVALID_VALUE,
+        ParseRuleErrorKind::Value(_)
+        | ParseRuleErrorKind::Excluded(_)
+        | ParseRuleErrorKind::Alone(_) => INVALID_VALUE,
         ParseRuleErrorKind::Missing => MISSING_FREQUENCY,
     }
 }
@@ -54,6 +57,7 @@ pub(super) fn error_part(reason: ParseRuleErrorKind) -> u32
         ParseRuleErrorKind::Twice(part)
         | ParseRuleErrorKind::TooMany(part)
         | ParseRuleErrorKind::Value(part)
+        | ParseRuleErrorKind::Excluded(part)
         | ParseRuleErrorKind::Alone(part) => { part_number(part) }
         ParseRuleErrorKind::Unknown | ParseRuleErrorKind::Missing => 0,
     }
