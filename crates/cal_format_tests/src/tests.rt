@@ -7,6 +7,7 @@ use std::process::Abort;
 mod errors;
 mod formats;
 mod offsets;
+mod one_answer;
 mod rows;
 mod texts;
 

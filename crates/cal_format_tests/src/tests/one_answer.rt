@@ -1,0 +1,105 @@
+//! Each contract leaves one answer: two calls with the same arguments are proved to return the same.
+ghost use Rattle.std.specs.Prelude.{◌≡◌, length};
+
+use cal_datetime::{OffsetDateTime, PlainDateTime};
+use cal_format::{
+    DateFormat, DateTimeFormat, Format, OffsetDateTimeFormat, OffsetFormat, TimeFormat,
+};
+use cal_time::{Date, Time, UtcOffset};
+
+/// The results of two calls.
+type Twice<T> = (T, T);
+
+fn print_date(format: &Format, date: Date, a: &mut [u8], b: &mut [u8]) -> Twice<Option<usize>>
+    requires { length a.old ≡ length b.old }
+    ensures { result.0 ≡ result.1 }
+{
+    (format.print_date(date, a), format.print_date(date, b))
+}
+
+fn print_time(format: &Format, time: Time, a: &mut [u8], b: &mut [u8]) -> Twice<Option<usize>>
+    requires { length a.old ≡ length b.old }
+    ensures { result.0 ≡ result.1 }
+{
+    (format.print_time(time, a), format.print_time(time, b))
+}
+
+fn print_offset(
+    format: &Format,
+    offset: UtcOffset,
+    a: &mut [u8],
+    b: &mut [u8],
+) -> Twice<Option<usize>>
+    requires { length a.old ≡ length b.old }
+    ensures { result.0 ≡ result.1 }
+{
+    (
+        format.print_offset(offset, a),
+        format.print_offset(offset, b),
+    )
+}
+
+fn print_date_time(
+    format: &Format,
+    date_time: PlainDateTime,
+    a: &mut [u8],
+    b: &mut [u8],
+) -> Twice<Option<usize>>
+    requires { length a.old ≡ length b.old }
+    ensures { result.0 ≡ result.1 }
+{
+    (
+        format.print_date_time(date_time, a),
+        format.print_date_time(date_time, b),
+    )
+}
+
+fn print_offset_date_time(
+    format: &Format,
+    date_time: OffsetDateTime,
+    a: &mut [u8],
+    b: &mut [u8],
+) -> Twice<Option<usize>>
+    requires { length a.old ≡ length b.old }
+    ensures { result.0 ≡ result.1 }
+{
+    (
+        format.print_offset_date_time(date_time, a),
+        format.print_offset_date_time(date_time, b),
+    )
+}
+
+fn for_dates(a: Format, b: Format) -> Twice<Option<DateFormat>>
+    requires { a ≡ b }
+    ensures { result.0 ≡ result.1 }
+{
+    (a.for_dates(), b.for_dates())
+}
+
+fn for_times(a: Format, b: Format) -> Twice<Option<TimeFormat>>
+    requires { a ≡ b }
+    ensures { result.0 ≡ result.1 }
+{
+    (a.for_times(), b.for_times())
+}
+
+fn for_offsets(a: Format, b: Format) -> Twice<Option<OffsetFormat>>
+    requires { a ≡ b }
+    ensures { result.0 ≡ result.1 }
+{
+    (a.for_offsets(), b.for_offsets())
+}
+
+fn for_date_times(a: Format, b: Format) -> Twice<Option<DateTimeFormat>>
+    requires { a ≡ b }
+    ensures { result.0 ≡ result.1 }
+{
+    (a.for_date_times(), b.for_date_times())
+}
+
+fn for_offset_date_times(a: Format, b: Format) -> Twice<Option<OffsetDateTimeFormat>>
+    requires { a ≡ b }
+    ensures { result.0 ≡ result.1 }
+{
+    (a.for_offset_date_times(), b.for_offset_date_times())
+}
