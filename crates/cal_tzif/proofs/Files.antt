@@ -30,13 +30,13 @@ pub position_in : (bytes : List ℕ) (p : Layout) (end n : ℕ) (first : LocalTy
     → length bytes < n → end + 1 < n → (t : TimelineError) → IsTimelineError first table rule t → timeline_position p end t < n
 position_in bytes p end n first table rule inside is room last (timeline.Change FirstOffset) h = omega (arith, inside.types)
 position_in bytes p end n first table rule inside is room last (timeline.Change (Offset k)) h =
-    omega (arith, size bytes p table is, inside.indexes, h.0)
+    omega (arith, size bytes p table is, inside.indexes, h.1)
 position_in bytes p end n first table rule inside is room last (timeline.Change (Instant k)) h =
-    omega (arith, size bytes p table is, inside.times, h.0)
+    omega (arith, size bytes p table is, inside.times, h.1)
 position_in bytes p end n first table rule inside is room last (timeline.Change (NotRising k)) h =
-    omega (arith, size bytes p table is, inside.times, h.0)
+    omega (arith, size bytes p table is, inside.times, h.2)
 position_in bytes p end n first table rule inside is room last (timeline.Change (Overlap k)) h =
-    omega (arith, size bytes p table is, inside.times, h.0)
+    omega (arith, size bytes p table is, inside.times, h.2)
 position_in bytes p end n first table rule inside is room last timeline.Junction h = omega arith
 
 -- The parts of a file, as they are found one after another.

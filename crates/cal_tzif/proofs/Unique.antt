@@ -79,7 +79,7 @@ spelled-one text at kind f g h k =
       changes = rest.changes;
     }
 
-footer_text-one : (bytes : List ℕ) (at : ℕ) (kind : LocalType) (f g : Option Footer) → IsFooterText bytes at f → IsFooterText bytes at g → SayAlike kind f g
+pub footer_text-one : (bytes : List ℕ) (at : ℕ) (kind : LocalType) (f g : Option Footer) → IsFooterText bytes at f → IsFooterText bytes at g → SayAlike kind f g
 footer_text-one bytes at kind None None h k = record { first = refl; changes = refl }
 footer_text-one bytes at kind None (Some g) h k = absurd (k.0 h)
 footer_text-one bytes at kind (Some f) None h k = absurd (h.0 k)

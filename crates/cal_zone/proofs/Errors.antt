@@ -52,17 +52,17 @@ joint first xs ys order some more =
     (sym (ap (after_changes first (xs ++ ys)) e2 ∙ offset_right first xs ys 1 ∙ after_changes-at (after_changes first xs (length xs)) ys 0 more))
     (next_of first (xs ++ ys) order k (let n = length-append xs ys in omega arith))
 
-not_less : (a b : ℤ) → a <ℤ b → b ≤ℤ a → ⊥
+pub not_less : (a b : ℤ) → a <ℤ b → b ≤ℤ a → ⊥
 not_less a b h k = omega (arith, ints)
 
-change_error : (first : ℤ) (cs : List Change) → IsOrdered first cs → (e : ChangeError) → IsChangeError first cs e → ⊥
+pub change_error : (first : ℤ) (cs : List Change) → IsOrdered first cs → (e : ChangeError) → IsChangeError first cs e → ⊥
 change_error first cs order FirstOffset h = h order.offset
-change_error first cs order (Offset k) h = h.1 (order.offsets k h.0)
-change_error first cs order (Instant k) h = h.1 (order.moments k h.0)
-change_error first cs order (NotRising k) h = not_less (at cs k) (at cs (suc k)) (order.rising k h.0) h.1
-change_error first cs order (Overlap k) h = not_less (begins first cs (suc k)) (ends first cs k) h.1 (order.apart k h.0)
+change_error first cs order (Offset k) h = h.3 (order.offsets k h.1)
+change_error first cs order (Instant k) h = h.4 (order.moments k h.1)
+change_error first cs order (NotRising k) h = not_less (at cs k) (at cs (suc k)) (order.rising k h.2) h.4
+change_error first cs order (Overlap k) h = not_less (begins first cs (suc k)) (ends first cs k) h.5 (order.apart k h.2)
 
 pub timeline_error : (first : LocalType) (table : List Change) (rule : Option Rule) (e : TimelineError) → IsTimelineError first table rule e
     → IsOrdered first.offset (zone_of first table rule).changes → ⊥
 timeline_error first table rule (refused.Change e) h order = change_error first.offset table (front first.offset table (filter (is_after table) (rule_changes rule)) order) e h
-timeline_error first table rule refused.Junction h order = h (joint first.offset table (filter (is_after table) (rule_changes rule)) order)
+timeline_error first table rule refused.Junction h order = h.1 (joint first.offset table (filter (is_after table) (rule_changes rule)) order)

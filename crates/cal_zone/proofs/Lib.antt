@@ -8,3 +8,4 @@ pub mod Rules
 pub mod Tables
 pub mod Moments
 pub mod Errors
+pub mod OneError

@@ -44,7 +44,7 @@ Joins first xs ys = 0 < length xs → 0 < length ys → IsNext
     (at xs (length xs - 1)) (at ys 0)
     (after_changes first xs (length xs - 1)) (slice_index_or xs (length xs - 1) no_change).kind.offset (slice_index_or ys 0 no_change).kind.offset
 
--- Why changes and a rule are not a zone.
+-- The first reason why changes and a rule are not a zone.
 abbrev pub IsTimelineError : LocalType → List Change → Option Rule → TimelineError → Type 0
 IsTimelineError first table rule (refused.Change error) = IsChangeError first.offset table error
-IsTimelineError first table rule refused.Junction = ¬ (Joins first.offset table (filter (is_after table) (rule_changes rule)))
+IsTimelineError first table rule refused.Junction = IsOrdered first.offset table × ¬ (Joins first.offset table (filter (is_after table) (rule_changes rule)))

@@ -46,12 +46,14 @@ pub(crate) fn after(first: LocalType, table: &Table<'_>, count: usize) -> i32
 }
 
 impl ChangeError {
-    ghost use Rattle.cal_zone.specs.ChangeError.{IsChangeError, IsSound, Follows};
+    ghost use Rattle.cal_zone.specs.ChangeError.{IsChangeError, IsSound, AreSound, Follows, AllFollow};
     ghost use Rattle.cal_zone.specs.Timeline.{IsOrdered, begins, ends};
 
     /// Returns the error of the change alone, if it has one.
     fn of(table: &Table<'_>, index: usize, first: LocalType) -> Option<ChangeError>
-        requires { index < length table.now }
+        requires index { index < length table.now }
+        requires first { IsOffset first.offset }
+        requires before { AreSound table.now index }
         ensures none { IfNone result (IsSound table.now index) }
         ensures some { IfSome result (IsChangeError first.offset table.now) }
     {
@@ -69,7 +71,7 @@ impl ChangeError {
     fn begin(table: &Table<'_>, index: usize, first: LocalType) -> i64
         requires index { index < length table.now }
         requires first { IsOffset first.offset }
-        requires sound { (k : ℕ) → k < length table.now → IsSound table.now k }
+        requires sound { AreSound table.now (length table.now) }
         ensures value { result ≡ begins first.offset table.now index }
     {
         let change = table.change(index);
@@ -80,7 +82,7 @@ impl ChangeError {
     fn end(table: &Table<'_>, index: usize, first: LocalType) -> i64
         requires index { index < length table.now }
         requires first { IsOffset first.offset }
-        requires sound { (k : ℕ) → k < length table.now → IsSound table.now k }
+        requires sound { AreSound table.now (length table.now) }
         ensures value { result ≡ ends first.offset table.now index }
     {
         let change = table.change(index);
@@ -91,7 +93,8 @@ impl ChangeError {
     fn between(table: &Table<'_>, index: usize, first: LocalType) -> Option<ChangeError>
         requires next { suc index < length table.now }
         requires first { IsOffset first.offset }
-        requires sound { (k : ℕ) → k < length table.now → IsSound table.now k }
+        requires sound { AreSound table.now (length table.now) }
+        requires before { AllFollow first.offset table.now index }
         ensures none { IfNone result (Follows first.offset table.now index) }
         ensures some { IfSome result (IsChangeError first.offset table.now) }
     {

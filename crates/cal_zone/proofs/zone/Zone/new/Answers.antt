@@ -11,8 +11,9 @@ use Rattle.cal_zone.proofs.zone.Zone.new.Goals as goal
 
 pub returns-then-not-joins-clause-error : goal.returns-then-not-joins-clause-error
 returns-then-not-joins-clause-error c =
+    let order : IsOrdered c.args.first.offset c.args.table = search rules in
     subst (λ (rule : Option Rule). IsTimelineError c.args.first c.args.table rule refused.Junction) (sym c.in-Some-rule.is)
-    (λ joins. false≢true (sym c.if-not-joins.true ∙ c.joins.ensures.1 (subst (λ (ys : List Change). Joins c.args.first.offset c.args.table ys) c.skip-skip.ensures.rest joins)))
+    (order, λ joins. false≢true (sym c.if-not-joins.true ∙ c.joins.ensures.1 (subst (λ (ys : List Change). Joins c.args.first.offset c.args.table ys) c.skip-skip.ensures.rest joins)))
 
 pub invariant_of-result-in-Some-rule : goal.invariant_of-result-in-Some-rule
 invariant_of-result-in-Some-rule c =
