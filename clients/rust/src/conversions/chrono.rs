@@ -50,8 +50,7 @@ impl TryFrom<NaiveTime> for Time {
 impl From<Time> for NaiveTime {
     fn from(time: Time) -> Self {
         let (seconds, nanosecond) = (time.to_c() / 1_000_000_000, time.to_c() % 1_000_000_000);
-        Self::from_num_seconds_from_midnight_opt(seconds as u32, nanosecond as u32)
-            .expect("chrono has each time of day")
+        Self::from_num_seconds_from_midnight_opt(seconds as u32, nanosecond as u32).expect("chrono has each time of day")
     }
 }
 
