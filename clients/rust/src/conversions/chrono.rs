@@ -114,8 +114,9 @@ impl TryFrom<DateTime<FixedOffset>> for OffsetDateTime {
     type Error = ComponentRange;
 
     fn try_from(date_time: DateTime<FixedOffset>) -> Result<Self, Self::Error> {
-        let local = PlainDateTime::try_from(date_time.naive_local())?;
-        Ok(local.assume_offset((*date_time.offset()).into()))
+        // The local date can be outside the range of `chrono`.
+        let utc = PlainDateTime::try_from(date_time.naive_utc())?.assume_utc();
+        Ok(utc.to_offset((*date_time.offset()).into()))
     }
 }
 
