@@ -18,8 +18,12 @@ fn folders() -> Vec<PathBuf> {
         println!("cargo:rerun-if-env-changed=PWD");
         return vec![env::var_os("PWD").map_or_else(PathBuf::new, PathBuf::from).join(folder)];
     }
-    let mut folders: Vec<_> =
-        env::var_os("CARGO_MANIFEST_DIR").map(|folder| PathBuf::from(folder).join("lib")).into_iter().collect();
+    // The folder conversions has a manifest of its own.
+    let mut folders: Vec<_> = env::var_os("CARGO_MANIFEST_DIR")
+        .map(PathBuf::from)
+        .into_iter()
+        .flat_map(|folder| [folder.join("lib"), folder.join("../lib")])
+        .collect();
     let output = Command::new("pkg-config").args(["--variable=libdir", "fotsevindre"]).output();
     if let Ok(output) = output {
         if output.status.success() {

@@ -7,14 +7,12 @@ import dataclasses
 import datetime
 import itertools
 import operator
-from typing import Any, Iterable, Iterator, Sequence, SupportsIndex, TypeVar, overload
+from typing import Any, Iterable, Iterator, Sequence, SupportsIndex, overload
 
 from . import _core
 from ._core import Date
 from .enums import Frequency, Month, Weekday
 from .errors import check
-
-_T = TypeVar("_T")
 
 
 def _refuse_datetime(value: object) -> None:
@@ -125,9 +123,9 @@ def _fit(number: SupportsIndex, minimum: int, maximum: int) -> int:
     return number
 
 
-def _listed(values: _T | Iterable[_T]) -> Iterable[_T]:
+def _listed(values: object) -> Iterable[Any]:
     """Returns the values, or the only one."""
-    return (values,) if isinstance(values, int) else values  # type: ignore[return-value]
+    return values if isinstance(values, Iterable) else (values,)
 
 
 def _rule_weekday(weekday: Weekday | tuple[int, Weekday]) -> bytes:

@@ -5,8 +5,8 @@ mod chrono;
 #[cfg(feature = "time")]
 mod time;
 
-#[cfg(any(feature = "chrono", feature = "time"))]
 /// Converts an enum to another with the same variants, and back.
+#[cfg(any(feature = "chrono", feature = "time"))]
 macro_rules! same_variants {
     ($own:ident, $other:ty, $($variant:ident)*) => {
         impl From<$other> for $own {

@@ -1,11 +1,11 @@
 -- The working days that a struct of C holds.
-use Rattle.std.specs.Prelude.{◌≡◌, ◌⊎◌, ℕ, ◌+◌, ◌<◌, ◌≤◌, List, length, take, get_or, ℤ, pos, ◌<ℤ◌, ◌≤ℤ◌, true}
+use Rattle.std.specs.Prelude.{◌≡◌, ◌⊎◌, ℕ, ◌+◌, ◌<◌, ◌≤◌, List, length, take, get_or, ℤ, pos, ◌<ℤ◌, ◌≤ℤ◌, true, Option, IfSome}
 use Rattle.cal_time.specs.Date.{last_day, IsDate}
 use Rattle.cal_time.specs.IsoWeekDate.{count_before}
 use Rattle.cal_schedule.specs.Workdays.{WorkWeek, is_workday, nth_workday}
 use Rattle.cal_schedule.specs.WorkdaysSplit.{marked_count}
 use Rattle.cal_c.specs.Results.{date_or_out_of_range, date_error, number_ok, number_error}
-use Rattle.cal_c.specs.Statuses.{invalid_date, invalid_weekmask, too_many_holidays}
+use Rattle.cal_c.specs.Statuses.{invalid_date, invalid_weekmask, ok_status, too_many_holidays}
 use Rattle.cal_c.specs.Values.{IsJulianDay, day_of}
 use Rattle.cal_c.specs.Weekmasks.{max_holidays, work_week, workdays_between, AreHolidays, IsWeekmask}
 use Rattle.cal_c.specs.declared.results.DateResult.{DateResult}
@@ -31,11 +31,17 @@ pub record IsChecked (c : CheckedWorkdays) : Type 0 where
   pub holidays : AreHolidays (holidays_of c)
   pub counts : (i : ℕ) → i ≤ c.holidays_length → get_or c.marked_before i 0 ≡ marked_count (week_of c) i
 
+-- The result is a date of the range, or out of range. So is each result of a struct that isn't
+-- checked.
+abbrev pub IsSomeDate : DateResult → Type 0
+IsSomeDate r = (found : Option ℕ) × IfSome found IsDate × (r ≡ date_or_out_of_range found)
+
 -- The result of `fots_workdays_add`.
 pub record IsDateWorkdaysLaterIn (c : CheckedWorkdays) (date days : ℤ) (r : DateResult) : Type 0 where
   pub invalid_weekmask : (IsWeekmask c.weekmask → ⊥) → r ≡ date_error invalid_weekmask
   pub too_many_holidays : IsWeekmask c.weekmask → max_holidays < c.holidays_length → r ≡ date_error too_many_holidays
   pub invalid_date : HasLimits c → (IsJulianDay date → ⊥) → r ≡ date_error invalid_date
+  pub any : HasLimits c → IsJulianDay date → IsSomeDate r
   pub day : IsChecked c → IsJulianDay date → r ≡ date_or_out_of_range (nth_workday (week_of c) days (day_of date))
 
 -- The result of `fots_workdays_between`.
@@ -43,6 +49,7 @@ pub record IsWorkdaysBetweenIn (c : CheckedWorkdays) (date other : ℤ) (r : Num
   pub invalid_weekmask : (IsWeekmask c.weekmask → ⊥) → r ≡ number_error invalid_weekmask
   pub too_many_holidays : IsWeekmask c.weekmask → max_holidays < c.holidays_length → r ≡ number_error too_many_holidays
   pub invalid_date : HasLimits c → (IsJulianDay date × IsJulianDay other → ⊥) → r ≡ number_error invalid_date
+  pub any : HasLimits c → IsJulianDay date → IsJulianDay other → r.status ≡ ok_status
   pub value : IsChecked c → IsJulianDay date → IsJulianDay other → r ≡ number_ok (workdays_between (week_of c) (day_of date) (day_of other))
 
 -- The rank of a day is the number of working days before it. The first i holidays are those with at

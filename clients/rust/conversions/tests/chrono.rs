@@ -41,6 +41,9 @@ fn date_times_and_durations() {
     let other = DateTime::<FixedOffset>::try_from(date_time).unwrap();
     assert_eq!((other.timestamp(), other.timestamp_subsec_millis(), other.offset().local_minus_utc()), (1_709_247_599, 250, 3600));
     assert_eq!(OffsetDateTime::try_from(other), Ok(date_time));
+    let first = DateTime::<FixedOffset>::from_utc(NaiveDateTime::MIN, FixedOffset::west_opt(3600).unwrap());
+    assert_eq!(OffsetDateTime::try_from(first).unwrap().to_utc().date(), Date::from(NaiveDate::MIN));
+    assert!(DateTime::<FixedOffset>::try_from(OffsetDateTime::try_from(first).unwrap()).is_err());
     let local: PlainDateTime = "2024-02-29 23:59:59.25".parse().unwrap();
     assert_eq!(NaiveDateTime::try_from(local).unwrap().try_into(), Ok(local));
     let offset = UtcOffset::from_hms(-5, -30, 0).unwrap();

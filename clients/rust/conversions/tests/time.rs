@@ -39,6 +39,9 @@ fn date_times_and_durations() {
     let other = time::OffsetDateTime::try_from(date_time).unwrap();
     assert_eq!((other.unix_timestamp(), other.offset().whole_seconds()), (1_709_247_599, 3600));
     assert_eq!(OffsetDateTime::from(other), date_time);
+    let past: OffsetDateTime = "9999-12-31T23:59:59-01:00".parse().unwrap();
+    assert!(time::OffsetDateTime::try_from(past).is_err());
+    assert!(time::OffsetDateTime::try_from(past.replace_date(Date::MAX)).is_err());
     let local: PlainDateTime = "2024-02-29 23:59:59.25".parse().unwrap();
     assert_eq!(PlainDateTime::from(time::PrimitiveDateTime::try_from(local).unwrap()), local);
     let offset = UtcOffset::from_hms(-5, -30, 0).unwrap();

@@ -50,8 +50,7 @@ impl TryFrom<NaiveTime> for Time {
 impl From<Time> for NaiveTime {
     fn from(time: Time) -> Self {
         let (seconds, nanosecond) = (time.to_c() / 1_000_000_000, time.to_c() % 1_000_000_000);
-        Self::from_num_seconds_from_midnight_opt(seconds as u32, nanosecond as u32)
-            .expect("chrono has each time of day")
+        Self::from_num_seconds_from_midnight_opt(seconds as u32, nanosecond as u32).expect("chrono has each time of day")
     }
 }
 
@@ -115,8 +114,9 @@ impl TryFrom<DateTime<FixedOffset>> for OffsetDateTime {
     type Error = ComponentRange;
 
     fn try_from(date_time: DateTime<FixedOffset>) -> Result<Self, Self::Error> {
-        let local = PlainDateTime::try_from(date_time.naive_local())?;
-        Ok(local.assume_offset((*date_time.offset()).into()))
+        // The local date can be outside the range of `chrono`.
+        let utc = PlainDateTime::try_from(date_time.naive_utc())?.assume_utc();
+        Ok(utc.to_offset((*date_time.offset()).into()))
     }
 }
 

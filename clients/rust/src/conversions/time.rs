@@ -87,12 +87,15 @@ impl From<::time::OffsetDateTime> for OffsetDateTime {
     }
 }
 
-/// Fails if the date or the offset is out of the range of `time`. Panics if the date at UTC is.
+/// Fails if the local date, the date at UTC or the offset is out of the range of `time`.
 impl TryFrom<OffsetDateTime> for ::time::OffsetDateTime {
     type Error = ComponentRange;
 
     fn try_from(date_time: OffsetDateTime) -> Result<Self, Self::Error> {
-        ::time::PrimitiveDateTime::try_from(date_time.local())
-            .and_then(|local| Ok(local.assume_offset(date_time.offset().try_into()?)))
+        let local = ::time::PrimitiveDateTime::try_from(date_time.local())?;
+        // No crate has a date with the maximum Julian day.
+        let at_utc = date_time.checked_to_utc().map_or(i32::MAX, |utc| utc.date().to_julian_day());
+        ::time::Date::from_julian_day(at_utc)?;
+        Ok(local.assume_offset(date_time.offset().try_into()?))
     }
 }

@@ -1,10 +1,10 @@
 //! Columns of dates plus working days, and of working days between dates, by checked working days.
-ghost use Rattle.std.specs.Prelude.{◌≡◌, IfErr, IfOk, length, ◌∷◌, []};
+ghost use Rattle.std.specs.Prelude.{◌≡◌, IfErr, IfOk, length, pos, ◌∷◌, []};
 ghost use Rattle.cal_schedule.specs.Workdays.{nth_workday};
-ghost use Rattle.cal_c.specs.CheckedWorkdays.{week_of, IsChecked, IsDateWorkdaysLaterIn, IsWorkdaysBetweenIn};
+ghost use Rattle.cal_c.specs.CheckedWorkdays.{week_of, IsChecked, IsDateWorkdaysLaterIn, IsSomeDate, IsWorkdaysBetweenIn};
 ghost use Rattle.cal_c.specs.Columns.{int_at, nat_at, SameLength, AreRows, date_row, number_row, IsByte};
 ghost use Rattle.cal_c.specs.Results.{date_or_out_of_range, date_error, number_ok, number_error};
-ghost use Rattle.cal_c.specs.Statuses.{invalid_date};
+ghost use Rattle.cal_c.specs.Statuses.{invalid_date, ok_status};
 ghost use Rattle.cal_c.specs.Values.{need◌else◌then◌, IsJulianDay, day_of};
 ghost use Rattle.cal_c.specs.Weekmasks.{workdays_between};
 
@@ -56,6 +56,7 @@ fn add_row(date: i32, days: i32, workdays: &Result<RankedWorkdays<'_>, i32>) -> 
         → date_row result.0 result.1 ≡ date_error status) }
     ensures invalid_date { IfOk workdays.now (λ c. ¬ IsJulianDay date
         → date_row result.0 result.1 ≡ date_error invalid_date) }
+    ensures any { IfOk workdays.now (λ c. IsJulianDay date → IsSomeDate (date_row result.0 result.1)) }
     ensures value { IfOk workdays.now (λ c. IsChecked c → IsJulianDay date → date_row result.0 result.1
         ≡ date_or_out_of_range (nth_workday (week_of c) days (day_of date))) }
 {
@@ -73,6 +74,8 @@ fn between_row(date: i32, other: i32, workdays: &Result<RankedWorkdays<'_>, i32>
         → number_row result.0 result.1 ≡ number_error status) }
     ensures invalid_date { IfOk workdays.now (λ c. ¬ (IsJulianDay date × IsJulianDay other)
         → number_row result.0 result.1 ≡ number_error invalid_date) }
+    ensures any { IfOk workdays.now (λ c. IsJulianDay date → IsJulianDay other
+        → pos result.1 ≡ ok_status) }
     ensures value { IfOk workdays.now (λ c. IsChecked c → IsJulianDay date → IsJulianDay other
         → number_row result.0 result.1
         ≡ number_ok (workdays_between (week_of c) (day_of date) (day_of other))) }

@@ -1,9 +1,9 @@
 //! Calls that take checked working days.
-ghost use Rattle.std.specs.Prelude.{◌≡◌, ◌<◌, ◌≤◌, pos, if◌then◌else◌};
+ghost use Rattle.std.specs.Prelude.{◌≡◌, ◌<◌, ◌≤◌, Bool, pos, if◌then◌else◌};
 ghost use Rattle.cal_schedule.specs.declared.workdays.convention.Convention.{Convention};
 ghost use Rattle.cal_schedule.specs.Workdays.{is_workday};
 ghost use Rattle.cal_schedule.specs.WorkdaysConvention.{adjusted_date};
-ghost use Rattle.cal_c.specs.CheckedWorkdays.{week_of, HasLimits, IsChecked, IsDateWorkdaysLaterIn, IsWorkdaysBetweenIn};
+ghost use Rattle.cal_c.specs.CheckedWorkdays.{week_of, HasLimits, IsChecked, IsDateWorkdaysLaterIn, IsSomeDate, IsWorkdaysBetweenIn};
 ghost use Rattle.cal_c.specs.Results.{date_or_out_of_range, date_error, number_ok, number_error};
 ghost use Rattle.cal_c.specs.Statuses.{invalid_convention, invalid_date, invalid_weekmask, too_many_holidays};
 ghost use Rattle.cal_c.specs.Values.{IsJulianDay, day_of};
@@ -23,6 +23,8 @@ pub extern "C" fn fots_workdays_contains(workdays: &CheckedWorkdays, date: i32) 
     ensures too_many_holidays { IsWeekmask workdays.now.weekmask → max_holidays < workdays.now.holidays_length
         → result ≡ number_error too_many_holidays }
     ensures invalid_date { HasLimits workdays.now → ¬ IsJulianDay date → result ≡ number_error invalid_date }
+    ensures any { HasLimits workdays.now → IsJulianDay date
+        → (b : Bool) × (result ≡ number_ok (if b then pos 1 else pos 0)) }
     ensures value { IsChecked workdays.now → IsJulianDay date
         → result ≡ number_ok (if is_workday (week_of workdays.now) (day_of date) then pos 1 else pos 0) }
 {
@@ -69,6 +71,8 @@ pub extern "C" fn fots_workdays_adjust(
     ensures invalid_date { HasLimits workdays.now → ¬ IsJulianDay date → result ≡ date_error invalid_date }
     ensures invalid_convention { HasLimits workdays.now → IsJulianDay date → ¬ IsConvention convention
         → result ≡ date_error invalid_convention }
+    ensures any { HasLimits workdays.now → IsJulianDay date → IsConvention convention
+        → IsSomeDate result }
     ensures value { IsChecked workdays.now → IsJulianDay date
         → (c : Convention) → convention_number c ≡ convention
         → result ≡ date_or_out_of_range (adjusted_date (week_of workdays.now) c (day_of date)) }

@@ -17,6 +17,7 @@ returns c =
       invalid_weekmask = search rules;
       too_many_holidays = search rules;
       invalid_date = search rules;
+      any = λ limits h. (c.add.result, c.add.ensures.range, c.date_result.ensures);
       day = λ checked h.
           let same = one c.in-Ok.value workdays (c.in-Ok.ensures.value checked.limits) in
           let its = adds (subst IsChecked (sym same) checked) in

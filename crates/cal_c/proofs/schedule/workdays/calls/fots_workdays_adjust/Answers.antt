@@ -7,6 +7,9 @@ use Rattle.cal_c.specs.Results.{date_or_out_of_range}
 use Rattle.cal_c.proofs.Schedules.{same_convention}
 use Rattle.cal_c.proofs.schedule.workdays.calls.fots_workdays_adjust.Goals as goal
 
+pub returns-clause-any : goal.returns-clause-any
+returns-clause-any c = λ limits h by. (c.adjust.result, c.adjust.ensures.range, c.date_result.ensures)
+
 pub returns-clause-value : goal.returns-clause-value
 returns-clause-value c = λ checked h by number.
     let f = c.ranges.date in

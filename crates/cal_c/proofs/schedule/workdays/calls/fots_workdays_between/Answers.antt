@@ -20,6 +20,7 @@ returns c =
       invalid_weekmask = search rules;
       too_many_holidays = search rules;
       invalid_date = search rules;
+      any = λ limits h k. ap (λ r. r.status) c.ok.ensures;
       value = λ checked h k.
           let same = one c.in-Ok.value workdays (c.in-Ok.ensures.value checked.limits) in
           let its = c.between.ensures (subst IsChecked (sym same) checked) in

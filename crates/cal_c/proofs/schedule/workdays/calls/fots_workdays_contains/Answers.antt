@@ -1,4 +1,4 @@
-use Rattle.std.proofs.Common.{ap, ◌∙◌, sym, subst, rules, FitsSigned, w32}
+use Rattle.std.proofs.Common.{ap, refl, ◌∙◌, sym, subst, rules, FitsSigned, w32}
 use Rattle.std.proofs.lemmas.Int.{to_z-of_z}
 use Rattle.cal_schedule.specs.Workdays.{is_workday}
 use Rattle.cal_text.proofs.Results.{one}
@@ -6,6 +6,12 @@ use Rattle.cal_c.specs.CheckedWorkdays.{week_of, IsChecked}
 use Rattle.cal_c.specs.Results.{number_ok}
 use Rattle.cal_c.proofs.CheckedHolidays.{bit-of}
 use Rattle.cal_c.proofs.schedule.workdays.calls.fots_workdays_contains.Goals as goal
+
+pub returns-clause-any : goal.returns-clause-any
+returns-clause-any c = λ limits h.
+    let fits : FitsSigned w32 c.from.result = search rules in
+    let ok = simp to_z-of_z at c.ok.ensures in
+    (c.contains.result, ok ∙ ap number_ok (c.from.ensures ∙ bit-of c.contains.result c.contains.result refl))
 
 pub returns-clause-value : goal.returns-clause-value
 returns-clause-value c = λ checked h.
