@@ -172,6 +172,8 @@ def status_error(status: int, position: int | None = None, part: int = 0) -> Exc
         return ParseRuleError(position, kind, _PARTS[part - 1] if part else None)
     if 49 <= status <= 63:
         reason = _core.status_name(status)
-        return ValueError(reason) if position is None else ZoneError(position, reason)
+        if position is None:
+            return ValueError(f"invalid time zone: {reason}")
+        return ZoneError(position, reason)
     message = _MESSAGES.get(status, f"unknown status {status}")
     return OverflowError(message) if status in (1, 7) else ValueError(message)

@@ -1,5 +1,5 @@
 -- The result of parsing a zone, and what a call makes of it.
-use Rattle.std.specs.Prelude.{◌≡◌, ℕ, ℤ, pos, ◌≤ℤ◌, IfErr, IfOk, MatchOption, Option, Some, None, Result, Ok, Err}
+use Rattle.std.specs.Prelude.{◌≡◌, ℕ, ℤ, IfErr, IfOk, MatchOption, Option, Some, None, Result, Ok, Err}
 use Rattle.std.proofs.Common.{sym, subst, arith}
 use Rattle.std.proofs.lemmas.Int.{ints}
 use Rattle.cal_zone.specs.Timeline.{Timeline}

@@ -6,15 +6,12 @@ use Rattle.cal_zone.specs.Changes.{IsNextChange, NoNextChange, IsPreviousChange,
 use Rattle.cal_zone.specs.declared.change.Change.{Change}
 use Rattle.cal_zone.specs.declared.change_error.ChangeError.TheVariants.{FirstOffset, Offset, Instant, NotRising, Overlap}
 use Rattle.cal_zone.specs.declared.gap.Gap as gaps
-use Rattle.cal_zone.specs.declared.instants.Instants.{Instants}
-use Rattle.cal_zone.specs.declared.instants.Instants.TheVariants as instants
 use Rattle.cal_zone.specs.declared.local.Local.{Local}
 use Rattle.cal_zone.specs.declared.local.Local.TheVariants.{Single, Gap, Fold}
 use Rattle.cal_zone.specs.declared.local_type.LocalType.{LocalType}
 use Rattle.cal_zone.specs.declared.timeline_error.TimelineError.{TimelineError}
 use Rattle.cal_zone.specs.declared.timeline_error.TimelineError.TheVariants as timeline
-use Rattle.cal_zone.specs.Instants.{Names}
-use Rattle.cal_zone.specs.Local.{Shows, NamesMoment, IsLocal, IsInRange, IsCompatible, IsEarlier, IsLater, reject}
+use Rattle.cal_zone.specs.Local.{Shows, NamesMoment, IsLocal, IsCompatible, IsEarlier, IsLater, reject}
 use Rattle.cal_zone.specs.Timeline as zones
 use Rattle.cal_zone.specs.Timeline.{Timeline}
 use Rattle.cal_tzif.specs.declared.zone_error.ZoneError.{ZoneError}
@@ -28,7 +25,6 @@ use Rattle.cal_c.specs.Statuses.{ok_status, result_out_of_range, unexpected_end,
 use Rattle.cal_c.specs.Texts.{no_position}
 use Rattle.cal_c.specs.declared.results.Int64Result.{Int64Result}
 use Rattle.cal_c.specs.declared.results.MomentResult.{MomentResult}
-use Rattle.cal_c.specs.declared.results.OffsetResult.{OffsetResult}
 use Rattle.cal_c.specs.declared.zones.policy.Policy.{Policy}
 use Rattle.cal_c.specs.declared.zones.policy.Policy.TheVariants.{Compatible, Earlier, Later, Reject}
 use Rattle.cal_c.specs.declared.zones.results.LocalResult.{LocalResult}

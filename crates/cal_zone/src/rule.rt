@@ -96,6 +96,7 @@ impl Rule {
     }
 
     /// Returns the change at an index, counted from the first year of the range.
+    #[inline(always)]
     pub(crate) fn change(&self, index: u32) -> Change
         requires { index < 3_999_998 }
         ensures value { result ≡ change_of self.now.one self.now.other index }

@@ -144,6 +144,7 @@ impl<'a> Table<'a> {
     }
 
     /// Returns the change at an index.
+    #[inline(always)]
     pub fn change(&self, index: usize) -> Change
         requires { index < length self.now }
         ensures value { result ≡ slice_index_or self.now index no_change }

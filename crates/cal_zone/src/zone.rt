@@ -47,6 +47,7 @@ fn later_len(rule: &Option<Rule>, skip: u32) -> usize
 }
 
 /// Returns the rule's change at an index, counted from the table's end.
+#[inline(always)]
 fn later_change(rule: &Option<Rule>, skip: u32, index: usize) -> Change
     requires skip { skip ≤ 3_999_998 }
     requires index { index < length (later rule.now skip) }
@@ -116,6 +117,7 @@ impl<'a> Zone<'a> {
     }
 
     /// Returns the change at an index.
+    #[inline(always)]
     fn change(&self, index: usize) -> Change
         requires { index < length self.now.changes }
         ensures value { result ≡ slice_index_or self.now.changes index no_change }
@@ -134,6 +136,7 @@ impl<'a> Zone<'a> {
     }
 
     /// Returns the offset after the first `count` changes.
+    #[inline(always)]
     fn after(&self, count: usize) -> i32
         requires { count ≤ length self.now.changes }
         ensures value { result ≡ after_changes self.now.first.offset self.now.changes count }
@@ -147,11 +150,22 @@ impl<'a> Zone<'a> {
         }
     }
 
-    /// Returns about the index of the last change before an instant, if it is after the table.
-    fn index_near(&self, instant: i64) -> usize
-        ensures { result < 2 ^ 61 }
-    {
-        self.table.len() + index_near(instant).saturating_sub(self.skip) as usize
+    /// Checks that an instant, or a reading, is more than two days before the last change of the
+    /// table. No offset moves it past that change.
+    fn is_in_table(&self, instant: i64) -> bool {
+        let count = self.table.len();
+        count > 0 && instant < self.table.time(count - 1).saturating_sub(200_000)
+    }
+
+    /// Returns two indexes between which the search for an instant probably ends. They make it
+    /// short, and need not be right.
+    fn indexes_near(&self, instant: i64) -> (usize, usize) {
+        let count = self.table.len();
+        if self.is_in_table(instant) {
+            return (usize::MAX, count.saturating_sub(1));
+        }
+        let index = count + index_near(instant).saturating_sub(self.skip) as usize;
+        (index, index + 3)
     }
 
     /// Returns where a search begins: no change before it is after the instant.
@@ -199,9 +213,9 @@ impl<'a> Zone<'a> {
             → instant <ℤ at self.now.changes k }
     {
         let _ = self.len();
-        let index = self.index_near(instant);
-        let mut low = self.count_start(instant, index);
-        let mut high = self.count_end(instant, low, index + 3);
+        let (from, to) = self.indexes_near(instant);
+        let mut low = self.count_start(instant, from);
+        let mut high = self.count_end(instant, low, to);
         while low < high {
             let middle = low + (high - low) / 2;
             if self.change(middle).at <= instant {
@@ -313,9 +327,9 @@ impl<'a> Zone<'a> {
         ensures ordered { IsOrdered self.now.first.offset self.now.changes }
     {
         let _ = self.len();
-        let index = self.index_near(reading);
-        let mut low = self.passed_start(reading, index);
-        let mut high = self.passed_end(reading, low, index + 3);
+        let (from, to) = self.indexes_near(reading);
+        let mut low = self.passed_start(reading, from);
+        let mut high = self.passed_end(reading, low, to);
         while low < high {
             let middle = low + (high - low) / 2;
             if self.end(middle) <= reading {

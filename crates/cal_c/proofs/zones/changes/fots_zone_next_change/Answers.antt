@@ -1,4 +1,4 @@
-use Rattle.std.proofs.Common.{◌≡◌, ◌∙◌, ap, rules, FitsSigned, w32, w64}
+use Rattle.std.proofs.Common.{◌∙◌, ap, rules, FitsSigned, w32, w64}
 use Rattle.std.proofs.Math.Facts.{to_z-of_z}
 use Rattle.cal_c.specs.Results.{int64_ok, int64_error}
 use Rattle.cal_c.specs.Zones.IsForZone.{zone, error}

@@ -1,4 +1,4 @@
-use Rattle.std.proofs.Common.{◌≡◌, ◌∙◌, ap, rules, FitsSigned, w32}
+use Rattle.std.proofs.Common.{◌∙◌, ap, rules, FitsSigned, w32}
 use Rattle.std.proofs.Math.Facts.{to_z-of_z}
 use Rattle.cal_zone.specs.declared.local_type.LocalType.{LocalType}
 use Rattle.cal_c.specs.Zones.{local_type_ok, local_type_error}
