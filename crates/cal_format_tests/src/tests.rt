@@ -6,6 +6,7 @@ use std::process::Abort;
 
 mod errors;
 mod formats;
+mod items;
 mod offsets;
 mod one_answer;
 mod rows;

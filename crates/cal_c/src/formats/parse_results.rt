@@ -2,7 +2,9 @@
 ghost use Rattle.std.specs.Prelude.{◌≡◌};
 ghost use Rattle.cal_c.specs.FormatParsing.{parse_status, parse_position, parsed_time_ok, parsed_time_error_at, parsed_offset_ok, parsed_offset_error_at};
 
-use crate::status::{CONTRADICTION, OK, UNEXPECTED_BYTE, UNEXPECTED_END, component_status, error_status};
+use crate::status::{
+    CONTRADICTION, OK, UNEXPECTED_BYTE, UNEXPECTED_END, component_status, error_status,
+};
 use crate::values::nanoseconds_since_midnight;
 use cal_format::ParseError;
 use cal_time::{Time, UtcOffset};

@@ -26,8 +26,14 @@ pub extern "C" fn fots_date_parse_format(text: &[u8], format: &FormatParts) -> P
     ensures value { (items : List Item) → HasItems format.now items → DeterminesDate items
         → IsParsed (IsTextOfDate items text.now) (IsRejection items text.now) parsed_date_ok parsed_date_error_at result }
 {
-    let format = or_return!(format.to_format(), ParseDateResult::error_at(INVALID_FORMAT, NO_POSITION));
-    let format = or_return!(format.for_dates(), ParseDateResult::error_at(INSUFFICIENT_FORMAT, NO_POSITION));
+    let format = or_return!(
+        format.to_format(),
+        ParseDateResult::error_at(INVALID_FORMAT, NO_POSITION)
+    );
+    let format = or_return!(
+        format.for_dates(),
+        ParseDateResult::error_at(INSUFFICIENT_FORMAT, NO_POSITION)
+    );
     parse_date(text, &format)
 }
 
@@ -53,8 +59,14 @@ pub extern "C" fn fots_time_parse_format(text: &[u8], format: &FormatParts) -> P
     ensures value { (items : List Item) → HasItems format.now items → DeterminesTime items
         → IsParsed (IsTextOfTime items text.now) (IsRejection items text.now) parsed_time_ok parsed_time_error_at result }
 {
-    let format = or_return!(format.to_format(), ParseTimeResult::error_at(INVALID_FORMAT, NO_POSITION));
-    let format = or_return!(format.for_times(), ParseTimeResult::error_at(INSUFFICIENT_FORMAT, NO_POSITION));
+    let format = or_return!(
+        format.to_format(),
+        ParseTimeResult::error_at(INVALID_FORMAT, NO_POSITION)
+    );
+    let format = or_return!(
+        format.for_times(),
+        ParseTimeResult::error_at(INSUFFICIENT_FORMAT, NO_POSITION)
+    );
     parse_time(text, &format)
 }
 
@@ -80,8 +92,14 @@ pub extern "C" fn fots_offset_parse_format(text: &[u8], format: &FormatParts) ->
     ensures value { (items : List Item) → HasItems format.now items → DeterminesOffset items
         → IsParsed (IsTextOfOffset items text.now) (IsRejection items text.now) parsed_offset_ok parsed_offset_error_at result }
 {
-    let format = or_return!(format.to_format(), ParseOffsetResult::error_at(INVALID_FORMAT, NO_POSITION));
-    let format = or_return!(format.for_offsets(), ParseOffsetResult::error_at(INSUFFICIENT_FORMAT, NO_POSITION));
+    let format = or_return!(
+        format.to_format(),
+        ParseOffsetResult::error_at(INVALID_FORMAT, NO_POSITION)
+    );
+    let format = or_return!(
+        format.for_offsets(),
+        ParseOffsetResult::error_at(INSUFFICIENT_FORMAT, NO_POSITION)
+    );
     parse_offset(text, &format)
 }
 
@@ -107,8 +125,14 @@ pub extern "C" fn fots_pair_parse_format(text: &[u8], format: &FormatParts) -> P
     ensures value { (items : List Item) → HasItems format.now items → DeterminesPair items
         → IsParsed (IsTextOfPair items text.now) (IsRejection items text.now) parsed_pair_ok parsed_moment_error_at result }
 {
-    let format = or_return!(format.to_format(), ParseMomentResult::error_at(INVALID_FORMAT, NO_POSITION));
-    let format = or_return!(format.for_date_times(), ParseMomentResult::error_at(INSUFFICIENT_FORMAT, NO_POSITION));
+    let format = or_return!(
+        format.to_format(),
+        ParseMomentResult::error_at(INVALID_FORMAT, NO_POSITION)
+    );
+    let format = or_return!(
+        format.for_date_times(),
+        ParseMomentResult::error_at(INSUFFICIENT_FORMAT, NO_POSITION)
+    );
     parse_pair(text, &format)
 }
 
@@ -134,8 +158,14 @@ pub extern "C" fn fots_moment_parse_format(text: &[u8], format: &FormatParts) ->
     ensures value { (items : List Item) → HasItems format.now items → DeterminesMoment items
         → IsParsed (IsTextOfMoment items text.now) (IsRejection items text.now) parsed_moment_ok parsed_moment_error_at result }
 {
-    let format = or_return!(format.to_format(), ParseMomentResult::error_at(INVALID_FORMAT, NO_POSITION));
-    let format = or_return!(format.for_offset_date_times(), ParseMomentResult::error_at(INSUFFICIENT_FORMAT, NO_POSITION));
+    let format = or_return!(
+        format.to_format(),
+        ParseMomentResult::error_at(INVALID_FORMAT, NO_POSITION)
+    );
+    let format = or_return!(
+        format.for_offset_date_times(),
+        ParseMomentResult::error_at(INSUFFICIENT_FORMAT, NO_POSITION)
+    );
     parse_moment(text, &format)
 }
 

@@ -41,8 +41,12 @@ pub extern "C" fn fots_dates_parse_format(
         return LENGTH_MISMATCH;
     }
     for row in 0..rows {
-        (dates[row], statuses[row]) =
-            parse_date_between(bytes, bounds[row], bounds[row + 1], format);
+        (dates[row], statuses[row]) = parse_date_between(
+            bytes,
+            bounds[row],
+            bounds[row + 1],
+            format,
+        );
     }
     count_errors(statuses)
 }

@@ -1,4 +1,5 @@
-use Rattle.std.proofs.Common.{◌≡◌, ◌≤◌, ◌<◌, ◌+◌, ◌*◌, get_or, pos, arith, rules, refl, take, length, FitsSigned, w32, to_z}
+use Rattle.std.proofs.Common.{◌≡◌, ◌≤◌, ◌<◌, ◌+◌, ◌*◌, get_or, pos, arith, rules, refl, ap, sym, subst, ◌∙◌, take, drop, length, FitsSigned, w32, to_z}
+use Rattle.std.specs.Prelude.{unsigned_abs}
 use Rattle.std.proofs.lemmas.List.{length-set, length-take-le}
 use Rattle.std.proofs.lemmas.Int.{to_z-of_z, ints}
 use Rattle.cal_c.specs.FormatColumns.{IsTextByFormatRow, room_for_text}
@@ -10,7 +11,7 @@ use Rattle.cal_c.proofs.columns.texts.formats.fots_dates_format.Goals as goal
 pub put-end-requires : goal.put-end-requires
 put-end-requires c =
     let room = room_for_text c.args.format.now in
-    let all : HasRoomFor room (length c.args.dates.now) (length c.args.bytes.now) = c.if-not-has_room.ensures.0 refl in
+    let all : HasRoomFor room (length c.args.dates.now) (length c.args.bytes.now) = subst (λ n. HasRoomFor n (length c.args.dates.now) (length c.args.bytes.now)) c.room_for_text.ensures.value (c.if-not-has_room.ensures.0 refl) in
     let below : c.loop-row.row < length c.args.dates.now = omega arith in
     let fits : Fits c.loop-row.end c.text_row-length.result.0 c.loop-row.row room (length c.args.bytes.now) = next-fits c.loop-row.end c.text_row-length.result.0 c.loop-row.row (length c.args.dates.now) room (length c.args.bytes.now) c.loop-row.invariant.printed.few c.text_row-length.ensures.max_length below all.room in
     let long : length (take c.text_row-length.result.0 c.text_row-length.new.text) ≡ c.text_row-length.result.0 = length-take-le c.text_row-length.result.0 c.text_row-length.new.text (omega (arith, c.text_row-length.ensures.max_length, c.room_for_text.ensures.range.1, c.room_for_text.ensures.value, c.text_row-length.ensures.room)) in
@@ -19,7 +20,7 @@ put-end-requires c =
 pub overflow_cast-bounds : goal.overflow_cast-bounds
 overflow_cast-bounds c =
     let room = room_for_text c.args.format.now in
-    let all : HasRoomFor room (length c.args.dates.now) (length c.args.bytes.now) = c.if-not-has_room.ensures.0 refl in
+    let all : HasRoomFor room (length c.args.dates.now) (length c.args.bytes.now) = subst (λ n. HasRoomFor n (length c.args.dates.now) (length c.args.bytes.now)) c.room_for_text.ensures.value (c.if-not-has_room.ensures.0 refl) in
     let below : c.loop-row.row < length c.args.dates.now = omega arith in
     let fits : Fits c.loop-row.end c.text_row-length.result.0 c.loop-row.row room 2_147_483_647 = next-fits c.loop-row.end c.text_row-length.result.0 c.loop-row.row (length c.args.dates.now) room 2_147_483_647 c.loop-row.invariant.printed.few c.text_row-length.ensures.max_length below all.few in
     let long : length (take c.text_row-length.result.0 c.text_row-length.new.text) ≡ c.text_row-length.result.0 = length-take-le c.text_row-length.result.0 c.text_row-length.new.text (omega (arith, c.text_row-length.ensures.max_length, c.room_for_text.ensures.range.1, c.room_for_text.ensures.value, c.text_row-length.ensures.room)) in
@@ -29,7 +30,7 @@ overflow_cast-bounds c =
 pub loop-row-preserved : goal.loop-row-preserved
 loop-row-preserved c =
     let room = room_for_text c.args.format.now in
-    let all : HasRoomFor room (length c.args.dates.now) (length c.args.bytes.now) = c.if-not-has_room.ensures.0 refl in
+    let all : HasRoomFor room (length c.args.dates.now) (length c.args.bytes.now) = subst (λ n. HasRoomFor n (length c.args.dates.now) (length c.args.bytes.now)) c.room_for_text.ensures.value (c.if-not-has_room.ensures.0 refl) in
     let below : c.loop-row.row < length c.args.dates.now = omega arith in
     let count = c.text_row-length.result.0 in
     let text = take count c.text_row-length.new.text in
@@ -57,4 +58,19 @@ loop-row-preserved c =
     }
 
 pub returns : goal.returns
-returns c = let printed = c.loop-row.invariant.printed in search rules
+returns c =
+    let room = room_for_text c.args.format.now in
+    let all : HasRoomFor room (length c.args.dates.now) (length c.args.bytes.now) = subst (λ n. HasRoomFor n (length c.args.dates.now) (length c.args.bytes.now)) c.room_for_text.ensures.value (c.if-not-has_room.ensures.0 refl) in
+    let printed = c.loop-row.invariant.printed in
+    let long : length c.loop-row.statuses ≡ c.loop-row.row = omega arith in
+    record {
+      error = λ no. absurd (no (c.if-not-are_bounds.ensures.0 refl, omega arith, all));
+      value = λ yes. record {
+        first = printed.first;
+        bytes_between = λ k below. printed.part k (omega (arith, below, long));
+        text = λ k below. printed.text k (omega (arith, below, long));
+        rest =
+            subst (λ n. drop n c.loop-row.bytes ≡ drop n c.args.bytes.now) (sym (ap (λ n. unsigned_abs (get_or c.loop-row.bounds n (pos 0))) long ∙ ap unsigned_abs printed.last)) printed.rest;
+        count = c.count_errors.ensures;
+      };
+    }
