@@ -1,10 +1,12 @@
 -- The meaning of the arguments: a command, or a line that says why they are invalid.
 use denote.Ref.{Bor}
-use Rattle.std.specs.Prelude.{◌≡◌, ℕ, List, Option, Some, None, Ok, Err, codes, ◌++◌, [], ◌∷◌}
+use Rattle.std.specs.Prelude.{◌≡◌, ℕ, List, Option, Some, None, Ok, Err, codes, ◌++◌, [], ◌∷◌, slice_get, unwrap_or}
 use Rattle.cal_text.specs.declared.any.DateOrMoment.{DateOrMoment}
 use Rattle.caldate_run.specs.Complaint.{complaint}
 use Rattle.caldate_run.specs.Requests.{IsReading, arguments_of, asked_of}
 use Rattle.caldate_run.specs.declared.request.Asked.{Asked}
+use Rattle.caldate_run.specs.declared.request.Asked.TheVariants.{Once}
+use Rattle.caldate_run.specs.declared.request.Filter.{Filter}
 use Rattle.caldate_run.specs.declared.senseless.Senseless.{Senseless}
 
 -- The arguments give this command. They are None if they have too many bytes.
@@ -12,6 +14,15 @@ abbrev pub Asks : Option (Bor (List ℕ)) → Asked → Type 0
 Asks None asked = ⊥
 Asks (Some arguments) asked = (reading : List ℕ → Option DateOrMoment)
     × IsReading reading (arguments_of arguments.now) × (asked_of reading (arguments_of arguments.now) ≡ Ok asked)
+
+-- The text after `--date`, or an empty one.
+abbrev pub given_text : List ℕ → List ℕ
+given_text arguments = unwrap_or (slice_get (arguments_of arguments) 1) []
+
+-- The arguments give a request for this text.
+abbrev pub AsksOnce : Option (Bor (List ℕ)) → Filter → List ℕ → Type 0
+AsksOnce None filter text = ⊥
+AsksOnce (Some arguments) filter text = Asks (Some arguments) (Once filter) × (text ≡ given_text arguments.now)
 
 -- The arguments are invalid, and these words say why.
 abbrev pub HasComplaint : Option (Bor (List ℕ)) → List ℕ → Type 0

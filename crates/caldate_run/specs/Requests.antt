@@ -41,7 +41,7 @@ use Rattle.caldate_run.specs.declared.request.Request.TheVariants.{To, Add, Move
 use Rattle.caldate_run.specs.declared.request.Bounds.{Bounds}
 use Rattle.caldate_run.specs.declared.request.Bounds.TheVariants.{FromTo, After, Before}
 use Rattle.caldate_run.specs.declared.request.Asked.{Asked}
-use Rattle.caldate_run.specs.declared.request.Asked.TheVariants.{Help, Version, Lines, Dates, Recurring}
+use Rattle.caldate_run.specs.declared.request.Asked.TheVariants.{Help, Version, Lines, Once, Dates, Recurring}
 use Rattle.caldate_run.specs.declared.senseless.Senseless.{Senseless}
 use Rattle.caldate_run.specs.declared.senseless.Wanted.{Wanted}
 use Rattle.caldate_run.specs.declared.senseless.Wanted.TheVariants as wanted
@@ -450,11 +450,21 @@ filter_of options request = record {
   skip = unwrap_or options.skip 0;
 }
 
-abbrev pub lines_of : (List ℕ → Option DateOrMoment) → List (List ℕ) → Result Asked Senseless
-lines_of reading words =
-    and_then (options_from None no_options 0 words) (λ front.
+-- The options and the request from an index on.
+abbrev pub filter_at : (List ℕ → Option DateOrMoment) → List (List ℕ) → ℕ → Result Filter Senseless
+filter_at reading words at =
+    and_then (options_from None no_options at (drop at words)) (λ front.
     option_map_or (λ what. Err (senseless_at front.1 what)) (lacking front.0)
-    (and_then (request_at reading words front.1) (λ request. Ok (Lines (filter_of front.0 request)))))
+    (and_then (request_at reading words front.1) (λ request. Ok (filter_of front.0 request))))
+
+-- `--date TEXT`, and the options and the request
+abbrev pub some_text : List ℕ → Option (List ℕ)
+some_text word = if bytes_eq word [] then None else Some word
+
+abbrev pub once_of : (List ℕ → Option DateOrMoment) → List (List ℕ) → Result Asked Senseless
+once_of reading words =
+    and_then (word_as words 1 some_text wanted.Target) (λ text.
+    and_then (filter_at reading words 2) (λ filter. Ok (Once filter)))
 
 -- A single empty argument counts as no arguments.
 abbrev pub asked_of : (List ℕ → Option DateOrMoment) → List (List ℕ) → Result Asked Senseless
@@ -464,4 +474,5 @@ asked_of reading words =
     if asks_for_help first then ended words 1 Help else
     if bytes_eq first (codes "--version") then ended words 1 Version else
     if bytes_eq first (codes "list") then list_of reading words else
-    lines_of reading words)
+    if bytes_eq first (codes "--date") then once_of reading words else
+    and_then (filter_at reading words 0) (λ filter. Ok (Lines filter)))

@@ -1,9 +1,9 @@
 //! The command that the arguments give.
-ghost use Rattle.std.specs.Prelude.{◌≡◌, ◌+◌, ◌<◌, ◌^◌, ℕ, List, Option, IfOk};
+ghost use Rattle.std.specs.Prelude.{◌≡◌, ◌+◌, ◌<◌, ◌^◌, ◌≤◌, ℕ, List, Option, IfOk, drop};
 ghost use Rattle.cal_text.specs.declared.any.DateOrMoment.{DateOrMoment};
 ghost use Rattle.caldate_run.specs.Lists.{IsAsked};
 ghost use Rattle.caldate_run.specs.Offsets.{offset_of};
-ghost use Rattle.caldate_run.specs.Requests.{IsReading, amount_at, amount_of, arguments_of, asked_of, count_at, default_mode, duration_of, filter_of, further_request_at, in_unit_at, lines_of, occurrence_at, only_at, request_at, target_at, unit_at, verb_wanted};
+ghost use Rattle.caldate_run.specs.Requests.{IsReading, amount_at, amount_of, arguments_of, asked_of, count_at, default_mode, duration_of, filter_at, filter_of, further_request_at, in_unit_at, occurrence_at, once_of, only_at, request_at, target_at, unit_at, verb_wanted, words_left};
 
 use crate::bounds::bounds_at;
 use crate::listing::list_of;
@@ -15,7 +15,7 @@ use crate::senseless::{Senseless, Wanted, senseless_at};
 use crate::spelling::{
     asks_for_help, count_of, form_of, number_of, period_of, unit_of, weekday_of,
 };
-use crate::words::{ended, ends_at, found_at, keyword_at, only_at, word_as, word_at};
+use crate::words::{cut, ended, ends_at, found_at, keyword_at, only_at, word_as, word_at};
 use cal_text::DateOrMoment;
 use cal_time::{SignedDuration, UtcOffset, Weekday};
 
@@ -37,24 +37,43 @@ pub fn asked_of(words: &[u8]) -> Result<Asked, Senseless>
         ended(words, 1, Asked::Version)
     } else if first == b"list".as_slice() {
         list_of(words)
+    } else if first == b"--date".as_slice() {
+        once_of(words)
     } else {
-        lines_of(words)
+        Ok(Asked::Lines(filter_at(words, Some(words), 0)?))
     }
 }
 
-/// Parses options and a request.
-fn lines_of(words: &[u8]) -> Result<Asked, Senseless>
+/// Parses the text after `--date`, options and a request.
+fn once_of(words: &[u8]) -> Result<Asked, Senseless>
     ensures steps { IfOk result IsAsked }
     ensures asked { (reading : List ℕ → Option DateOrMoment)
         → IsReading reading (arguments_of words.now)
-        → result ≡ lines_of reading (arguments_of words.now) }
+        → result ≡ once_of reading (arguments_of words.now) }
 {
-    let (options, at) = options_of(words)?;
+    let Some(rest) = cut(words).1 else {
+        return Err(senseless_at(1, Wanted::Target));
+    };
+    let (text, rest) = cut(rest);
+    if text == b"".as_slice() {
+        return Err(senseless_at(1, Wanted::Target));
+    }
+    Ok(Asked::Once(filter_at(words, rest, 2)?))
+}
+
+/// Parses options and a request from the word at an index on, where `rest` is.
+fn filter_at(words: &[u8], rest: Option<&[u8]>, at: usize) -> Result<Filter, Senseless>
+    requires few { at ≤ 2 }
+    requires rest { words_left rest ≡ drop at (arguments_of words.now) }
+    ensures { (reading : List ℕ → Option DateOrMoment) → IsReading reading (arguments_of words.now)
+        → result ≡ filter_at reading (arguments_of words.now) at }
+{
+    let (options, at) = options_of(rest, at)?;
     if let Some(wanted) = lacking(&options) {
         return Err(senseless_at(at, wanted));
     }
     let request = request_at(words, at)?;
-    Ok(Asked::Lines(filter_of(&options, request)))
+    Ok(filter_of(&options, request))
 }
 
 fn filter_of(options: &Options, request: Request) -> Filter

@@ -30,6 +30,7 @@ no answer, or 2 if the arguments are invalid, or the input or the output fails.
   caldate list from A to B        without input: all dates from A to B; with by N UNIT every N
                                   days, weeks, months or years; with by RULE the dates of a
                                   recurrence, such as FREQ=MONTHLY;BYDAY=-1FR
+  caldate --date DATE ...         answers for this date or moment, without input
   caldate --invalid MODE ...      what is written for a line without an answer: keep for the line
                                   (the default with --field), answer for the reason (the default
                                   without it), drop for nothing, or stop to end there

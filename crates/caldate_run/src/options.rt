@@ -39,13 +39,14 @@ const NO_OPTIONS: Options = Options {
     offset: None,
 };
 
-/// Parses the options at the front, and returns them with the index of the word after them.
-#[tactic(auto, using(crate::proofs::Indices::few_words))]
-pub fn options_of(arguments: &[u8]) -> Result<(Options, usize), Senseless>
-    ensures options { result ≡ options_from None no_options 0 (arguments_of arguments.now) }
+/// Parses the options from the word at an index on, and returns them with the index of the word
+/// after them.
+pub fn options_of(words: Option<&[u8]>, at: usize) -> Result<(Options, usize), Senseless>
+    requires { at + length (words_left words) ≤ 2 ^ 63 }
+    ensures options { result ≡ options_from None no_options at (words_left words.entry) }
     ensures within { IfOk result (λ front. front.1 ≤ 2 ^ 63) }
 {
-    options_from(None, &NO_OPTIONS, 0, Some(arguments))
+    options_from(None, &NO_OPTIONS, at, words)
 }
 
 /// Parses the options at the front of the words, whose first has index `at`. If `wanted` is given,

@@ -3,7 +3,7 @@ ghost use Rattle.std.specs.Prelude.{◌≡◌, ℕ, List, Option, Some, None, Re
 ghost use Rattle.caldate_run.specs.Calls.{Reads, Writes, has_read_failure, most_reads, write_failure};
 ghost use Rattle.caldate_run.specs.Ending.{Tells};
 ghost use Rattle.caldate_run.specs.Lists.{Lists};
-ghost use Rattle.caldate_run.specs.Program.{Asks, HasComplaint};
+ghost use Rattle.caldate_run.specs.Program.{Asks, AsksOnce, HasComplaint, given_text};
 ghost use Rattle.caldate_run.specs.Recurring.{ListsOccurrences};
 ghost use Rattle.caldate_run.specs.Runs.{Ended, Shown};
 ghost use Rattle.caldate_run.specs.declared.fault.Fault.{Fault};
@@ -22,6 +22,7 @@ use crate::recurring::list_occurrences;
 use crate::request::Asked;
 use crate::run::run;
 use crate::streams::{Sink, Source};
+use crate::words::word_at;
 
 /// The status for invalid arguments.
 const SENSELESS: u8 = 2;
@@ -43,6 +44,11 @@ pub fn perform<R: Source, W: Sink, E: Sink>(
         × Reads R.read_gives most_reads reader.old (has_read_failure outcome) reader.new
         × Writes W.write_gives writer.old (write_failure outcome) writer.new
         × Tells outcome result (E.contents errors.old) (E.contents errors.new) }
+    ensures once { (filter : Filter) (text : List ℕ) → AsksOnce arguments.entry filter text
+        → (reader.new ≡ reader.old) × ((outcome : Result Unit Fault) × (rest : Option (List ℕ))
+        × Ended filter outcome (Some text) rest (W.contents writer.old) (W.contents writer.new)
+        × Writes W.write_gives writer.old (write_failure outcome) writer.new
+        × Tells outcome result (E.contents errors.old) (E.contents errors.new)) }
     ensures list { (listing : Listing) → Asks arguments.entry (Asked.Dates listing)
         → (reader.new ≡ reader.old) × ((outcome : Result Unit Fault)
         × Lists listing outcome (W.contents writer.old) (W.contents writer.new)
@@ -79,6 +85,11 @@ pub fn perform<R: Source, W: Sink, E: Sink>(
             let outcome = run(filter, reader, writer);
             end(outcome, errors)
         }
+        Ok(Asked::Once(filter)) => {
+            let mut text = given_text(arguments);
+            let outcome = run(filter, &mut text, writer);
+            end(outcome, errors)
+        }
         Ok(Asked::Dates(listing)) => {
             let outcome = list(&listing, writer);
             end(outcome, errors)
@@ -99,5 +110,15 @@ pub fn perform<R: Source, W: Sink, E: Sink>(
             status: SENSELESS,
             told: complain(arguments, senseless, errors),
         },
+    }
+}
+
+/// Returns the text after `--date`, or an empty one.
+fn given_text(arguments: &[u8]) -> &[u8]
+    ensures { result.now ≡ given_text arguments.now }
+{
+    match word_at(arguments, 1) {
+        Some(text) => text,
+        None => b"",
     }
 }

@@ -183,6 +183,8 @@ pub enum Asked {
     Version,
     /// A request for the lines of the input.
     Lines(Filter),
+    /// `--date TEXT` and a request: for the second argument instead of an input.
+    Once(Filter),
     /// `list from A to B [by N UNIT]`: the dates from A to B.
     Dates(Listing),
     /// `list from A to B by RULE`: the dates of the recurrence.
