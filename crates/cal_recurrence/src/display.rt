@@ -14,7 +14,8 @@ impl Recurrence {
     /// Returns the text that the recurrence prints, such as `FREQ=MONTHLY;COUNT=12;BYDAY=-1FR`.
     ///
     /// The order is `FREQ`, `INTERVAL`, `UNTIL` or `COUNT`, `BYMONTH`, `BYYEARDAY`, `BYMONTHDAY`,
-    /// `BYDAY`, `BYSETPOS`, `WKST`. An interval of 1, weeks from Monday, empty lists and a missing end are left out.
+    /// `BYDAY`, `BYSETPOS`, `WKST`. An interval of 1, weeks from Monday, empty lists and a missing
+    /// end are left out.
     pub fn text(&self) -> RecurrenceText
         ensures text { result ≡ text_of self.now }
         ensures reads_back { IsSpelled self.now → recurrence_of result ≡ Ok self.now }

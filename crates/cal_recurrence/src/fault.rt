@@ -43,7 +43,8 @@ pub enum ParseRuleErrorKind {
     Value(RulePart),
     /// The part and an earlier one exclude each other, as `BYMONTHDAY=1` and `FREQ=WEEKLY`.
     Excluded(RulePart),
-    /// The part needs another one that selects days: `BYMONTH`, `BYYEARDAY`, `BYMONTHDAY` or `BYDAY`.
+    /// The part needs another one that selects days: `BYMONTH`, `BYYEARDAY`, `BYMONTHDAY` or
+    /// `BYDAY`.
     Alone(RulePart),
     /// No part says the frequency.
     Missing,

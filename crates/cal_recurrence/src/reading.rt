@@ -13,11 +13,11 @@ use crate::words::{cut, has_name, is_alike, split};
 /// `RRULE:` in front.
 ///
 /// The parts are `FREQ`, `INTERVAL`, `WKST`, `BYMONTH`, `BYYEARDAY`, `BYMONTHDAY`, `BYDAY`,
-/// `BYSETPOS`, and `UNTIL` or `COUNT`, in any order and any case. `UNTIL` has a date, or a date and time, and then its date
-/// counts. The first bad part gives the error: `Unknown` for
-/// any other name, `Twice` for a repeated part or a second end, `TooMany` for more than 62 words,
-/// `Value` for an invalid value, and `Missing` if there is no `FREQ`. Then `Excluded`
-/// means a part that the frequency excludes, and `Alone` a `BYSETPOS` without another list.
+/// `BYSETPOS`, and `UNTIL` or `COUNT`, in any order and any case. `UNTIL` has a date, or a date and
+/// time, and then its date counts. The first bad part gives the error: `Unknown` for any other
+/// name, `Twice` for a repeated part or a second end, `TooMany` for more than 62 words, `Value` for
+/// an invalid value, and `Missing` if there is no `FREQ`. Then `Excluded` means a part that the
+/// frequency excludes, and `Alone` a `BYSETPOS` without another list.
 pub fn parse(text: &[u8]) -> Result<Recurrence, ParseRuleError>
     ensures value { result ≡ recurrence_of text.now }
     ensures spelled { IfOk result IsSpelled }
