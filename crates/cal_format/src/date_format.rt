@@ -55,6 +55,11 @@ impl Format {
 impl DateFormat {
     /// Parses a text. Returns the date that the format holds and prints as this text, if it is the
     /// text of a date. The format holds a date if each year that it shows is from 0 to 9999.
+    ///
+    /// Returns `UnexpectedByte` or `UnexpectedEnd` if the text doesn't have the form of the format,
+    /// `OutOfRange` with the first component out of range, or `Contradiction` with the first
+    /// component that isn't the component of the value. For example, `%F`
+    /// rejects `2023-02-29` with `OutOfRange` of the day.
     pub fn parse(&self, text: &[u8]) -> Result<Date, ParseError>
         ensures every { (n : ℕ) → IsDate n → AreHeld (moment_of_date n) self.now
             → text.now ≡ text_of self.now (moment_of_date n)

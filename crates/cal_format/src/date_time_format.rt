@@ -63,6 +63,11 @@ impl DateTimeFormat {
     /// Parses a text. Returns the date-time that the format holds and prints as this text, if it is
     /// the text of a date-time. The format holds a date-time if each year that it shows is
     /// from 0 to 9999, and each part of the time of day that it doesn't show is 0.
+    ///
+    /// Returns `UnexpectedByte` or `UnexpectedEnd` if the text doesn't have the form of the format,
+    /// `OutOfRange` with the first component out of range, or `Contradiction` with the first
+    /// component that isn't the component of the value. For example, `%F %R`
+    /// rejects `2024-02-29 24:00` with `OutOfRange` of the hour.
     pub fn parse(&self, text: &[u8]) -> Result<PlainDateTime, ParseError>
         ensures every { (z : ℤ) → IsDateTime z → AreHeld (moment_of_date_time z) self.now
             → IsTrue (holds_time self.now (time_at z))

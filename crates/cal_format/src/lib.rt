@@ -4,7 +4,8 @@
 //! A [`Format`] is made from a text in the syntax of `strftime` or of the crate `time`. A
 //! [`DateFormat`], [`TimeFormat`], [`OffsetFormat`], [`DateTimeFormat`] or [`OffsetDateTimeFormat`]
 //! also parses: it accepts exactly the texts that the format prints of the values that it holds. It
-//! checks a weekday beside a date, and rejects other spellings and other bytes after the value.
+//! checks a weekday beside a date, and rejects other spellings and other bytes after the value. A
+//! [`ParseError`] says why.
 #![tactic(auto)]
 
 mod date_format;

@@ -71,6 +71,11 @@ impl OffsetDateTimeFormat {
     /// Parses a text. Returns the date-time that the format holds and prints as this text, if it is
     /// the text of a date-time. The format holds a date-time if each year that it shows is
     /// from 0 to 9999, and each part of the time of day and of the offset that it doesn't show is 0.
+    ///
+    /// Returns `UnexpectedByte` or `UnexpectedEnd` if the text doesn't have the form of the format,
+    /// `OutOfRange` with the first component out of range, or `Contradiction` with the first
+    /// component that isn't the component of the value. For example, `%F %R %z`
+    /// rejects `2024-02-30 12:00 +0000` with `OutOfRange` of the day.
     pub fn parse(&self, text: &[u8]) -> Result<OffsetDateTime, ParseError>
         ensures every { (m : LocalAndOffset) → IsDateTime m.local → IsOffset m.offset
             → AreHeld (moment_of_offset_date_time m) self.now

@@ -54,6 +54,11 @@ impl Format {
 impl OffsetFormat {
     /// Parses a text. Returns the offset that the format holds and prints as this text, if it is the
     /// text of an offset. The format holds an offset if each part that it doesn't show is 0.
+    ///
+    /// Returns `UnexpectedByte` or `UnexpectedEnd` if the text doesn't have the form of the format,
+    /// `OutOfRange` with the first component out of range, or `Contradiction` with the first
+    /// component that isn't the component of the value. For example, `%z`
+    /// rejects `+2600` with `OutOfRange` of the hours.
     pub fn parse(&self, text: &[u8]) -> Result<UtcOffset, ParseError>
         ensures every { (o : ℤ) → IsOffset o → IsTrue (holds_offset self.now o)
             → text.now ≡ text_of self.now (moment_of_offset o)

@@ -54,6 +54,11 @@ impl Format {
 impl TimeFormat {
     /// Parses a text. Returns the time of day that the format holds and prints as this text, if it is
     /// the text of a time. The format holds a time if each part that it doesn't show is 0.
+    ///
+    /// Returns `UnexpectedByte` or `UnexpectedEnd` if the text doesn't have the form of the format,
+    /// `OutOfRange` with the first component out of range, or `Contradiction` with the first
+    /// component that isn't the component of the value. For example, `%T`
+    /// rejects `24:00:00` with `OutOfRange` of the hour.
     pub fn parse(&self, text: &[u8]) -> Result<Time, ParseError>
         ensures every { (n : ℕ) → IsTime n → IsTrue (holds_time self.now n)
             → text.now ≡ text_of self.now (moment_of_time n)
