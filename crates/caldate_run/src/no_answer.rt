@@ -1,6 +1,5 @@
 //! The reasons why a line has no answer.
 
-use cal_text::ParseError;
 use cal_time::error::ComponentRange;
 
 /// A reason why a line has no answer.

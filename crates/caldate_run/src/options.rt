@@ -1,6 +1,6 @@
 //! The options before a request.
 ghost use Rattle.std.specs.Prelude.{◌≡◌, ◌+◌, ◌≤◌, ◌^◌, IfOk, None, length};
-ghost use Rattle.caldate_run.specs.Requests.{arguments_of, byte_of, field_number_of, field_of, is_local, invalid_of, is_option, lacking, name_of, no_options, options_from, reading_at, reading_of, skip_of, value_in, value_of, with_value, words_left};
+ghost use Rattle.caldate_run.specs.Requests.{byte_of, field_number_of, field_of, is_local, invalid_of, is_option, lacking, name_of, no_options, options_from, reading_at, reading_of, skip_of, value_in, value_of, with_value, words_left};
 
 use crate::lines::index_of;
 use crate::offset::offset_of;
