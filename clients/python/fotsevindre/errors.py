@@ -33,6 +33,8 @@ _MESSAGES = {
     35: "invalid value in a part of a recurrence",
     36: "missing FREQ in a recurrence",
     37: "invalid format; expected one that `Format` makes",
+    38: "unknown item in a format",
+    39: "too many items in a format; expected at most 64",
     40: "the format shows something that the value doesn't have",
     41: "the texts of the format don't determine such a value",
     42: "the buffer has no room for the text",
