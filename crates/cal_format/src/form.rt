@@ -2,7 +2,7 @@
 ghost use Rattle.std.specs.Prelude.{◌≡◌, ◌+◌, ◌-◌, ◌*◌, ◌<◌, ◌≤◌, ◌^◌, ◌++◌, length, take, drop, IfSome, decimal};
 ghost use Rattle.cal_text.specs.Shape.{Scans, ScansWhole, ParsesMoreDigits, Digits};
 ghost use Rattle.cal_format.specs.declared.item.Padding.TheVariants as paddings;
-ghost use Rattle.cal_format.specs.declared.item.Item.TheVariants as items_;
+ghost use Rattle.cal_format.specs.declared.item.Item.TheVariants as item_variants;
 ghost use Rattle.cal_format.specs.Text.{padded, fraction_text};
 ghost use Rattle.cal_format.specs.Form.{AfterSpaces, Decimal, Padded, Decimals, ItemShape, shape_of, numbered_item, IsNumber, HasNumbers, ParsesDecimals};
 
@@ -127,7 +127,7 @@ fn scan_decimal(scanner: &mut Scanner, more: u8) -> Option<u32>
 /// Parses a fraction of a second, and returns its nanoseconds: nothing, or a point and up to nine
 /// digits, of which the last is not 0.
 fn scan_fraction(scanner: &mut Scanner) -> Option<u32>
-    ensures scans { Scans (ItemShape items_.Fraction) scanner.old.rest.now scanner.new.rest.now result }
+    ensures scans { Scans (ItemShape item_variants.Fraction) scanner.old.rest.now scanner.new.rest.now result }
     ensures value { IfSome result (λ n.
         scanner.old.rest.now ≡ fraction_text n ++ scanner.new.rest.now) }
     ensures range { IfSome result (λ n. n < 1_000_000_000) }

@@ -55,6 +55,13 @@ fn descriptions(rt: HostRuntime) -> Result<(), Fail> {
     description_row("[hour]:[minute]:[second]", date_time, "19:05:09", &rt);
     description_row("[hour repr:12] [period]", date_time, "07 PM", &rt);
     description_row("[hour repr:12 padding:none]", date_time, "7", &rt);
+    description_row(
+        "[day padding:zero].[month repr:numerical].[year base:calendar] [hour repr:24]",
+        date_time,
+        "09.02.2024 19",
+        &rt,
+    );
+    description_row("[hour padding:none repr:12]", date_time, "7", &rt);
     description_row("[subsecond digits:3]", date_time, "500", &rt);
     description_row("[subsecond digits:9]%", date_time, "500000000%", &rt);
     Ok(())
