@@ -1198,7 +1198,7 @@ size_t fots_dates_format(const int32_t *dates, size_t dates_length, const fots_f
  *
  * A zone is the bytes of a TZif file, such as /usr/share/zoneinfo/Europe/Berlin, or a POSIX text,
  * such as CET-1CEST,M3.5.0,M10.5.0/3. Keep them unchanged during a call. Each call parses them
- * first, in 1.4 microseconds for Europe/Berlin, and returns the errors of fots_zone_check. Use a
+ * first, in 1.5 microseconds for Europe/Berlin, and returns the errors of fots_zone_check. Use a
  * column for many values. Unix times are in seconds. The examples are for Europe/Berlin. */
 typedef struct fots_zone {
     const uint8_t *bytes;
