@@ -153,7 +153,7 @@ pub const CHANGES_OUT_OF_ORDER: i32 = 56;
 /// The gaps or folds of two changes overlap.
 pub const OVERLAPPING_CHANGES: i32 = 57;
 
-/// There is no newline before or after the footer.
+/// A newline before or after the footer is missing.
 pub const MISSING_NEWLINE: i32 = 58;
 
 /// A POSIX text has no offset of at most 24 hours.

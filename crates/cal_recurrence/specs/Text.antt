@@ -110,7 +110,7 @@ abbrev pub place_of : List ℕ → ℕ → List (List ℕ) → ℕ
 place_of name at [] = at - 1
 place_of name at (text ∷ texts) = if is_alike (front_at 61 text) name then at else place_of name (at + length text + 1) texts
 
--- Of a part and a frequency that exclude each other, the later one is at fault.
+-- If a part and a frequency exclude each other, the later one is at fault.
 abbrev pub later : RulePart → ℕ → ℕ → ParseRuleError
 later at place freq = if nat_lt place freq then fault freq (Excluded part.Frequency) else fault place (Excluded at)
 

@@ -1,5 +1,4 @@
--- What a TZif file says (RFC 9636, 3): two headers, each before its data block, and a footer between
--- newlines.
+-- TZif files (RFC 9636, 3): two headers, each before its data block, and a footer between newlines.
 use Rattle.std.specs.Prelude.{◌≡◌, ◌≢◌, ℕ, ◌+◌, ◌-◌, ◌*◌, ◌<◌, List, [], length, take, slice_index, nat_lt, Option, Some, None, if◌then◌else◌}
 use Rattle.cal_zone.specs.declared.change_error.ChangeError.TheVariants.{FirstOffset, Offset, Instant, NotRising, Overlap}
 use Rattle.cal_zone.specs.declared.layout.Layout.{Layout}

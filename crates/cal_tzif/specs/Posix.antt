@@ -179,7 +179,7 @@ pub record IsYearlyAt (text : List ℕ) (at : ℕ) (kind : LocalType) (r : Yearl
 abbrev pub end_at : List ℕ → ℕ → ℕ
 end_at text at = change_end text (daylight_end text at)
 
--- Between the two months lies another month, also over the new year.
+-- Another month lies between the two months, also over the new year.
 abbrev pub IsApart : ℕ → ℕ → Type 0
 IsApart m n = (m + 2 ≤ n) × (n ≤ m + 10)
 

@@ -1,4 +1,4 @@
--- Why a text is not the POSIX text of a zone. Each error names what is missing first, and where.
+-- Texts that are not POSIX texts of zones. An error names the first part that is missing, and where.
 use Rattle.std.specs.Prelude.{◌≡◌, ◌≢◌, ℕ, ◌+◌, false, List, length}
 use Rattle.cal_tzif.specs.declared.zone_error.ZoneError.{ZoneError}
 use Rattle.cal_tzif.specs.declared.zone_error.ZoneErrorKind.{ZoneErrorKind}

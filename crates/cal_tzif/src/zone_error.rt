@@ -14,7 +14,7 @@ pub enum ZoneErrorKind {
     Version,
     /// There are leap seconds.
     LeapSeconds,
-    /// There is no local time type.
+    /// The file has no local time type.
     NoType,
     /// The index of a change's local time type is too large.
     TypeIndex,
@@ -28,7 +28,7 @@ pub enum ZoneErrorKind {
     NotAscii,
     /// The changes are not in order.
     Timeline(TimelineError),
-    /// There is no newline before or after the footer.
+    /// A newline before or after the footer is missing.
     Newline,
     /// A footer or a POSIX text has no name of three letters or more.
     Name,

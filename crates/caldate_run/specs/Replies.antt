@@ -67,7 +67,7 @@ abbrev pub with_reason : Filter → List ℕ → NoAnswer → List ℕ
 with_reason filter text why.TooLong = reason why.TooLong
 with_reason filter text other = text_with filter.field text (reason other)
 
--- What goes out in its place, if anything does.
+-- The bytes that go out in its place, if any.
 abbrev pub in_place : OnInvalid → Filter → List ℕ → NoAnswer → Option (List ℕ)
 in_place invalid.Keep filter text any = Some text
 in_place invalid.Answer filter text any = Some (with_reason filter text any)

@@ -8,7 +8,7 @@ use crate::status::RESULT_OUT_OF_RANGE;
 use crate::zones::parsing::zone_of;
 use crate::zones::zone_parts::ZoneParts;
 
-/// Returns the Unix time of the first change after another one. Fails if there is none.
+/// Returns the Unix time of the first change after another one. Fails without one.
 #[unsafe(no_mangle)]
 pub extern "C" fn fots_zone_next_change(zone: &ZoneParts<'_>, seconds: i64) -> Int64Result
     ensures { IsForZone zone.now (λ z. IsNextResult z seconds result)
@@ -21,7 +21,7 @@ pub extern "C" fn fots_zone_next_change(zone: &ZoneParts<'_>, seconds: i64) -> I
     }
 }
 
-/// Returns the Unix time of the last change that is not after another one. Fails if there is none.
+/// Returns the Unix time of the last change that is not after another one. Fails without one.
 #[unsafe(no_mangle)]
 pub extern "C" fn fots_zone_previous_change(zone: &ZoneParts<'_>, seconds: i64) -> Int64Result
     ensures { IsForZone zone.now (λ z. IsPreviousResult z seconds result)
