@@ -39,7 +39,9 @@ class Format:
         return format
 
     def __eq__(self, other: object) -> bool:
-        return self._items == other._items if isinstance(other, Format) else NotImplemented
+        if not isinstance(other, Format):
+            return NotImplemented
+        return self._items == other._items
 
     def __hash__(self) -> int:
         return hash(self._items)
