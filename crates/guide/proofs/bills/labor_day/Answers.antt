@@ -1,10 +1,9 @@
 use Rattle.std.proofs.Common.{refl, subst, arith, ◌≡◌, ◌+◌, ◌-◌, ◌%◌, ℤ, to_z, of_z, w32}
 use Rattle.std.proofs.lemmas.Int.{ints}
 use Rattle.cal_time.specs.Date.{IsYear, NoDate}
-use Rattle.cal_time.specs.Days.{day_with}
 use Rattle.cal_schedule.specs.Weekdays.{IsNthWeekday}
-use Rattle.cal_schedule.proofs.Ends.{days_in_month-least}
-use Rattle.cal_schedule.proofs.WeekdaysOfMonths.{index-nth}
+use Rattle.cal_time.specs.Days.{day_with, days_in_month-least}
+use Rattle.cal_schedule.specs.WeekdaysLaws.{index-nth}
 use Rattle.guide.proofs.bills.labor_day.Goals as goal
 
 -- the first Monday is there: it is one of the first seven days
