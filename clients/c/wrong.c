@@ -663,8 +663,10 @@ static void read_recurrence(const char *bytes, size_t length)
             (long long)length) || found.position == 0) {
         return;
     }
-    const int32_t before = fots_recurrence_days(bytes, found.position - 1, start, start, days, 0).status;
-    check(before == FOTS_OK || before == FOTS_MISSING_FREQUENCY, "the parts before", before, (long long)found.position);
+    const fots_recurrence_result before = fots_recurrence_days(bytes, found.position - 1, start, start, days, 0);
+    /* A BYSETPOS needs another part, which can come after the wrong one. */
+    const int is_alone = before.status == FOTS_INVALID_VALUE && before.part == FOTS_RULE_BYSETPOS;
+    check(before.status == FOTS_OK || before.status == FOTS_MISSING_FREQUENCY || is_alone, "the parts before", before.status, (long long)found.position);
 }
 
 /* Takes texts of recurrences in the same way, and random parts. */
