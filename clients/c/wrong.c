@@ -664,9 +664,10 @@ static void read_recurrence(const char *bytes, size_t length)
         return;
     }
     const fots_recurrence_result before = fots_recurrence_days(bytes, found.position - 1, start, start, days, 0);
-    /* A BYSETPOS needs another part, which can come after the wrong one. */
-    const int is_alone = before.status == FOTS_INVALID_VALUE && before.part == FOTS_RULE_BYSETPOS;
-    check(before.status == FOTS_OK || before.status == FOTS_MISSING_FREQUENCY || is_alone, "the parts before", before.status, (long long)found.position);
+    /* Parts that exclude each other, or a BYSETPOS without another list, are wrong only if all parts are right by themselves. */
+    const int is_later = before.status == FOTS_INVALID_VALUE && (before.part == FOTS_RULE_FREQ || before.part == FOTS_RULE_BYDAY ||
+        before.part == FOTS_RULE_BYMONTHDAY || before.part == FOTS_RULE_BYYEARDAY || before.part == FOTS_RULE_BYSETPOS);
+    check(before.status == FOTS_OK || before.status == FOTS_MISSING_FREQUENCY || is_later, "the parts before", before.status, (long long)found.position);
 }
 
 /* Takes texts of recurrences in the same way, and random parts. */
