@@ -1,5 +1,7 @@
 """Tests of the columns with arrays of numpy: days of numpy, whole numbers of any bits, arrays in steps, and what is refused."""
 
+import pathlib
+import re
 import unittest
 
 import numpy
@@ -26,6 +28,13 @@ class Numpy(unittest.TestCase):
         self.assertTrue((calendar.years == every.astype("datetime64[Y]").astype(int) + 1970).all())
         self.assertTrue((calendar.months == months.astype(int) % 12 + 1).all())
         self.assertTrue((calendar.days == (every - months).astype(int) + 1).all())
+
+    def test_the_block_of_the_page(self):
+        page = (pathlib.Path(__file__).resolve().parents[3] / "docs/COLUMNS.md").read_text(encoding="utf-8")
+        block, said = re.search(r"```python\n(days = numpy.*?)  # (.*?)\n```", page, re.DOTALL).groups()
+        names = {"numpy": numpy, "dates_add_months": fotsevindre.dates_add_months}
+        exec(block, names)
+        self.assertEqual((", ".join(map(str, names["moved"])), names["error_count"]), (said, 1))
 
     def test_days_moved(self):
         days = numpy.array(["2024-02-29", "2024-12-31"], dtype="datetime64[D]")
