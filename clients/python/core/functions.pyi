@@ -72,7 +72,19 @@ def over_columns(
 ) -> int: ...
 def is_aligned(column: Any) -> bool: ...
 
-# ---- columns, which columns.py prepares
+# ---- columns, which columns.py prepares. A class has the columns that a call writes.
+
+class DateColumns: "Julian days in 32 bits, or `datetime64[D]` if the dates were."
+class CalendarDateColumns: "Years in 32 bits, and months and days in 8."
+class OrdinalDateColumns: "Years in 32 bits, and ordinals in 16."
+class IsoWeekDateColumns: "ISO years in 32 bits, and weeks and weekdays in 8."
+class WeekdayColumns: "Weekdays from Monday, 0, in 8 bits; 255 in a row without one."
+class NumberColumns: "Numbers in 32 bits; -2147483648 in a row without one."
+class MomentColumns:
+    "Julian days in 32 bits, nanoseconds since midnight in 64, and seconds of offsets in 32."
+class TextColumns:
+    """The bytes of texts, one after another, and their bounds, one more than rows: a text is
+    `texts[bounds[k]:bounds[k + 1]]`, and has no bytes in a row without one."""
 
 def dates_from_julian_days(julian_days: object) -> DateColumns:
     """Creates the dates of Julian days.

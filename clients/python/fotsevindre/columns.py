@@ -4,7 +4,7 @@ from __future__ import annotations
 
 import array
 import sys
-from typing import Any, Callable, NamedTuple, TypeVar
+from typing import Any, Callable, TypeVar
 
 from . import _core
 from ._core import Date
@@ -129,40 +129,6 @@ class _Like:
             found = self.numpy.ma.MaskedArray(found, self.numpy.logical_or.reduce(self.masks))
         return found if self.series is None else type(self.series)(found, index=self.series.index)
 
-
-DateColumns = NamedTuple("DateColumns",
-    [("dates", Any), ("statuses", Any), ("error_count", int)])
-DateColumns.__doc__ = """Dates: Julian days in 32 bits, or `datetime64[D]` if the dates were. A
-    status for each row, and the number of rows without a date."""
-CalendarDateColumns = NamedTuple("CalendarDateColumns",
-    [("years", Any), ("months", Any), ("days", Any), ("statuses", Any), ("error_count", int)])
-CalendarDateColumns.__doc__ = """Years in 32 bits, months and days in 8, a status for each row, and
-    the number of rows without a result."""
-OrdinalDateColumns = NamedTuple("OrdinalDateColumns",
-    [("years", Any), ("ordinals", Any), ("statuses", Any), ("error_count", int)])
-OrdinalDateColumns.__doc__ = """Years in 32 bits, ordinals in 16, a status for each row, and the
-    number of rows without a result."""
-IsoWeekDateColumns = NamedTuple("IsoWeekDateColumns",
-    [("years", Any), ("weeks", Any), ("weekdays", Any), ("statuses", Any), ("error_count", int)])
-IsoWeekDateColumns.__doc__ = """ISO years in 32 bits, weeks and weekdays in 8, a status for each
-    row, and the number of rows without a result."""
-WeekdayColumns = NamedTuple("WeekdayColumns",
-    [("weekdays", Any), ("statuses", Any), ("error_count", int)])
-WeekdayColumns.__doc__ = """Weekdays from Monday, 0, in 8 bits, a status for each row, and the
-    number of rows without a result, which have 255."""
-NumberColumns = NamedTuple("NumberColumns",
-    [("numbers", Any), ("statuses", Any), ("error_count", int)])
-NumberColumns.__doc__ = """Numbers in 32 bits, a status for each row, and the number of rows without
-    a result, which have -2147483648."""
-MomentColumns = NamedTuple("MomentColumns", [("dates", Any), ("times", Any), ("offsets", Any),
-    ("statuses", Any), ("error_count", int)])
-MomentColumns.__doc__ = """Dates in 32 bits, nanoseconds since midnight in 64, seconds of offsets in
-    32, a status for each row, and the number of rows without a result."""
-TextColumns = NamedTuple("TextColumns",
-    [("texts", bytes), ("bounds", Any), ("statuses", Any), ("error_count", int)])
-TextColumns.__doc__ = """The bytes of texts, one after another, and their bounds, one more than
-    rows: a text is `texts[bounds[k]:bounds[k + 1]]`. A status for each row, and the number of rows
-    without a text, which have no bytes."""
 
 # ---- calls
 
