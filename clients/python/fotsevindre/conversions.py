@@ -288,7 +288,7 @@ class _PlainMembers:
     def parse(text: str) -> PlainDateTime:
         """Parses a date, T or a space, and a time, such as 2024-02-29T23:59:59.25; errors like
         `Date.parse` and `Time.parse`."""
-        return _plain(text, len(check(text, str)))
+        return _plain(text, _PARTS_OF_TEXT.search(check(text, str)), len(text))
 
     fromisoformat = parse
 
@@ -330,17 +330,17 @@ class _MomentMembers:
     def parse(text: str) -> OffsetDateTime:
         """Parses a date-time and an offset, such as 2024-02-29T23:59:59.25+01:00; a space may come
         before the offset."""
-        at = _separator(text)
-        found = re.search("[ Zz+-]", text[at + 1:])
-        end = at + 1 + found.start() if found else len(text)
-        local = _plain(text, end)
-        end += text[end:end + 1] == " "
-        return local.assume_offset(_within(_offset, text, end))
+        parts: Any = _PARTS_OF_TEXT.search(check(text, str))
+        local = _plain(text, parts, parts.end("time"))
+        return local.assume_offset(_within(_offset, text, parts.start("offset")))
 
     fromisoformat = parse
 
 
 # ---- texts
+
+_PARTS_OF_TEXT = re.compile(
+    "(?P<date>[^Tt ]*)(?P<separator>[Tt ]?)(?P<time>[^ Zz+-]*) ?(?P<offset>.*)", re.DOTALL)
 
 
 def _within(parse: Callable[[str], Any], text: str, start: int, end: int | None = None) -> Any:
@@ -383,15 +383,9 @@ def _offset(text: str) -> UtcOffset:
     return UtcOffset(*(sign * int(part) for part in text[1:].split(":")))
 
 
-def _separator(text: str) -> int:
-    """Returns the position of the T or the space between a date and a time."""
-    found = re.search("[Tt ]", check(text, str))
-    return found.start() if found else len(text)
-
-
-def _plain(text: str, end: int) -> PlainDateTime:
-    at = _separator(text[:end])
-    date = _within(Date.parse, text, 0, at)
-    if at >= end:
-        raise ParseError(at, at == len(text))
-    return PlainDateTime(date, _within(_time, text, at + 1, end))
+def _plain(text: str, parts: Any, end: int) -> PlainDateTime:
+    """Parses a date, and a time up to an end."""
+    date = _within(Date.parse, text, 0, parts.end("date"))
+    if not parts["separator"]:
+        raise ParseError(len(text), True)
+    return PlainDateTime(date, _within(_time, text, parts.start("time"), end))

@@ -4,7 +4,6 @@ from __future__ import annotations
 
 import array
 import dataclasses
-import enum
 import importlib.resources
 import operator
 import os
@@ -14,6 +13,7 @@ from typing import Any, NamedTuple, SupportsIndex
 from . import _core
 from ._core import OffsetDateTime, PlainDateTime, UtcOffset
 from .columns import numbers_of
+from .enums import Choice
 from .errors import ParseError, ZoneError, check
 
 _FILE, _POSIX = 1, 2
@@ -21,7 +21,7 @@ _FILE, _POSIX = 1, 2
 _SYSTEM = "/usr/share/zoneinfo"
 
 
-class LocalKind(enum.Enum):
+class LocalKind(Choice):
     """How often the clocks of a zone show a reading: once, never or twice."""
 
     Single = 1
@@ -29,7 +29,7 @@ class LocalKind(enum.Enum):
     Fold = 3
 
 
-class Policy(enum.IntEnum):
+class Policy(Choice):
     """What a reading in a gap or a fold means. In a gap, `Compatible` and `Later` move it forward
     by the length of the gap, and `Earlier` back. In a fold, `Compatible` and `Earlier` mean the
     first. `Reject` means neither."""
