@@ -12,7 +12,7 @@ from typing import Any, NamedTuple, SupportsIndex
 
 from . import _core
 from ._core import OffsetDateTime, PlainDateTime, UtcOffset
-from .columns import numbers_of
+from .columns import seconds_of
 from .enums import Choice
 from .errors import ParseError, ZoneError, check
 
@@ -85,8 +85,8 @@ class OffsetColumns(NamedTuple):
 
 
 class InstantColumns(NamedTuple):
-    """Unix times in 64 bits, a status for each row, and the number of rows without one, which have
-    -2**63."""
+    """Unix times in 64 bits, or `datetime64[s]` if the readings were `datetime64`, a status for
+    each row, and the number of rows without one, which have -2**63 or `NaT`."""
 
     seconds: Any
     statuses: Any
@@ -193,20 +193,20 @@ class Zone:
         return _core.moment_in_zone(moment, self._zone)
 
     def offsets(self, seconds: Any) -> OffsetColumns:
-        """Returns the offsets at a column of Unix times."""
-        return OffsetColumns(*self._rows(None, seconds, "i"))
+        """Returns the offsets at a column of Unix times, in seconds or `datetime64`."""
+        return OffsetColumns(*self._rows(None, seconds, "i", "offsets"))
 
     def instants(self, readings: Any, policy: Policy = Policy.Compatible) -> InstantColumns:
         """Returns the Unix times of a column of readings, which are the seconds by the clock since
-        1970-01-01 0:00, by a policy."""
-        return InstantColumns(*self._rows(int(check(policy, Policy)), readings, "q"))
+        1970-01-01 0:00, or `datetime64`, by a policy."""
+        return InstantColumns(*self._rows(int(check(policy, Policy)), readings, "q", "seconds"))
 
-    def _rows(self, policy: int | None, values: Any, code: str) -> tuple[Any, Any, int]:
-        column, like = numbers_of(values, "q")
+    def _rows(self, policy: int | None, values: Any, code: str, name: str) -> tuple[Any, Any, int]:
+        column, like = seconds_of(values, policy is not None)
         results = array.array(code, [0]) * len(column)
         statuses = array.array("B", [0]) * len(column)
         error_count = _core.zone_columns(self._zone, policy, column, results, statuses)
-        return like(results), like(statuses), error_count
+        return like(name, results), like("statuses", statuses), error_count
 
     def __eq__(self, other: object) -> bool:
         if not isinstance(other, Zone):
