@@ -100,6 +100,7 @@ TO_VALUE(time, time)
 TO_VALUE(offset, offset)
 TO_VALUE(duration, duration)
 TO_VALUE(plain, moment)
+TO_VALUE(moment, moment)
 
 /* Converts a member of an enum. */
 static int to_member(PyObject *type, PyObject *object, uint32_t *number)

@@ -6,8 +6,8 @@
 #include "workdays.c"
 #include "recurrence.c"
 #include "formats.c"
-#include "columns.c"
 #include "zones.c"
+#include "columns.c"
 
 #define POINTERS (sizeof(State) / sizeof(PyObject *))
 

@@ -15,6 +15,8 @@ from .formats import Format, _FormatMembers
 # An int. One that doesn't fit the parameter in C becomes the nearest number, or one that the call
 # rejects by its name. One that must fit raises OverflowError.
 {Int,Fits} = SupportsIndex
+# What to_rule and to_zone in C take.
+{_Rule,_Zone} = tuple[Any, ...]
 
 class _Value(_ValueMembers):
     def __{lt,le,gt,ge}__(self, other: Self) -> bool: ...

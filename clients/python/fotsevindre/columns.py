@@ -13,7 +13,9 @@ from .schedules import Workdays
 # The Julian day of 1970-01-01, from which numpy counts, and the number of a row without a date.
 _UNIX_EPOCH = 2440588
 _NO_DATE = -2**31
-_UNITS = {"D": "days", "s": "seconds"}
+_WORDS = {"D": "days", "s": "seconds"}
+# The units of datetime64 in columns with these names.
+_UNITS = {"dates": "D", "others": "D", "seconds": "s", "readings": "s"}
 _LIMITS = {"B": (0, 2**8 - 1), "H": (0, 2**16 - 1), "i": (-2**31, 2**31 - 1),
     "q": (-2**63, 2**63 - 1), "Q": (0, 2**64 - 1)}
 
@@ -26,7 +28,7 @@ def _whole(values: Any, unit: str) -> Any:
     kind = values.dtype.name.partition("[")[0]
     found = values.astype(f"{kind}[{unit}]")
     if not ((found == values) | (found != found)).all():
-        raise ValueError(f"expected whole {_UNITS[unit]} in a column of {values.dtype}; "
+        raise ValueError(f"expected whole {_WORDS[unit]} in a column of {values.dtype}; "
             f".astype('{kind}[{unit}]'), or of pandas .dt.floor('{unit}'), truncates")
     return found.view("int64")
 
@@ -80,13 +82,6 @@ def _column(values: Any, code: str, unit: str) -> Any:
     return array.array(code, view.tolist())
 
 
-def seconds_of(values: Any, takes_nat: bool) -> tuple[Any, Callable[[str, Any], Any]]:
-    """Returns the seconds of a column of times, and what makes another column like it."""
-    if not takes_nat and hasattr(values, "dtype") and (values != values).any():
-        raise ValueError("expected a time in each row, not NaT; drop or mask these rows")
-    return _column(values, "q", "s"), _Like({"seconds": values}).made
-
-
 def _is_scalar(values: Any) -> bool:
     is_number = hasattr(values, "__index__") and not getattr(values, "ndim", 0)
     return is_number or isinstance(values, Date)
@@ -101,8 +96,9 @@ class _Like:
     def __init__(self, columns: dict[str, Any]) -> None:
         arrays = [one for name, one in columns.items() if hasattr(one, "dtype") and name != "texts"]
         self.numpy: Any = sys.modules.get("numpy") if arrays else None
-        self.times = [name for name in ("dates", "seconds")
-            if getattr(getattr(columns.get(name), "dtype", None), "kind", "") == "M"]
+        # The names of results that are times if what was given is.
+        self.times = [made for given, made in (("dates", "dates"), ("readings", "seconds"))
+            if getattr(getattr(columns.get(given), "dtype", None), "kind", "") == "M"]
         self.series = next((one for one in arrays if hasattr(one, "to_numpy")), None)
         masked = self.numpy.ma.MaskedArray if self.numpy else ()
         self.masks = [one.mask for one in arrays if isinstance(one, masked)]
@@ -130,12 +126,12 @@ _R = TypeVar("_R")
 
 
 def call(kind: Callable[..., _R], name: str, reads: str, writes: str,
-         extra: Workdays | bytes | None, **columns: Any) -> _R:
-    """Calls C for columns by their names, with numbers in these letters and working days or a
-    format, and makes the result."""
+         extra: Workdays | bytes | tuple[Any, ...] | None, **columns: Any) -> _R:
+    """Calls C for columns by their names, with numbers in these letters and working days, a format
+    or a zone, and makes the result."""
     if all(map(_is_scalar, columns.values())):
-        raise TypeError("expected a column; call a method of Date for one value")
-    found = {one: _column(columns[one], code, "D" if one in ("dates", "others") else "")
+        raise TypeError("expected a column; call a method of Date or Zone for one value")
+    found = {one: _column(columns[one], code, _UNITS.get(one, ""))
         for one, code in zip(columns, reads) if one == "bounds" or not _is_scalar(columns[one])}
     rows = len(found["bounds"]) - 1 if "bounds" in found else len(next(iter(found.values())))
     room = {"dates_calendar_texts": 13, "moments_texts": 38}.get(name, 0)

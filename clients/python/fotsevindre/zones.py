@@ -2,7 +2,6 @@
 
 from __future__ import annotations
 
-import array
 import dataclasses
 import importlib.resources
 import operator
@@ -12,7 +11,7 @@ from typing import Any, NamedTuple, SupportsIndex
 
 from . import _core
 from ._core import OffsetDateTime, PlainDateTime, UtcOffset
-from .columns import seconds_of
+from .columns import call
 from .enums import Choice
 from .errors import ParseError, ZoneError, check
 
@@ -172,7 +171,8 @@ class Zone:
 
     def abbreviation_at(self, moment: OffsetDateTime | SupportsIndex) -> str:
         """Returns the abbreviation at an instant, such as CEST."""
-        return _core.zone_local_type(self._zone, _seconds(moment))[2]
+        _, _, start, length = _core.zone_local_type(self._zone, _seconds(moment))
+        return self._zone[0][start:start + length].decode()
 
     def next_change(self, moment: OffsetDateTime | SupportsIndex) -> int | None:
         """Returns the Unix time of the first change after an instant, or `None`."""
@@ -184,7 +184,8 @@ class Zone:
 
     def resolve(self, reading: PlainDateTime) -> Local:
         """Returns exactly the instants at which the clocks show a reading."""
-        kind, earlier, later, before, after = _core.zone_resolve(self._zone, reading)
+        date, time = check(reading, PlainDateTime).date(), reading.time()
+        kind, earlier, later, before, after = _core.zone_resolve(self._zone, date, time)
         instants = ((earlier,), (), (earlier, later))[kind - 1]
         return Local(reading, LocalKind(kind), instants, before, after)
 
@@ -194,19 +195,15 @@ class Zone:
 
     def offsets(self, seconds: Any) -> OffsetColumns:
         """Returns the offsets at a column of Unix times, in seconds or `datetime64`."""
-        return OffsetColumns(*self._rows(None, seconds, "i", "offsets"))
+        if hasattr(seconds, "dtype") and (seconds != seconds).any():
+            raise ValueError("expected a time in each row, not NaT; drop or mask these rows")
+        return call(OffsetColumns, "zone_offsets", "q", "iB", self._zone, seconds=seconds)
 
     def instants(self, readings: Any, policy: Policy = Policy.Compatible) -> InstantColumns:
         """Returns the Unix times of a column of readings, which are the seconds by the clock since
         1970-01-01 0:00, or `datetime64`, by a policy."""
-        return InstantColumns(*self._rows(int(check(policy, Policy)), readings, "q", "seconds"))
-
-    def _rows(self, policy: int | None, values: Any, code: str, name: str) -> tuple[Any, Any, int]:
-        column, like = seconds_of(values, policy is not None)
-        results = array.array(code, [0]) * len(column)
-        statuses = array.array("B", [0]) * len(column)
-        error_count = _core.zone_columns(self._zone, policy, column, results, statuses)
-        return like(name, results), like("statuses", statuses), error_count
+        zone = *self._zone, int(check(policy, Policy))
+        return call(InstantColumns, "zone_instants", "q", "qB", zone, readings=readings)
 
     def __eq__(self, other: object) -> bool:
         if not isinstance(other, Zone):
