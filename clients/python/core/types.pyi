@@ -2,7 +2,7 @@
 # strings and type hints. A row with lists in braces is one for each place of the lists. A function
 # without `self` is static. The order of the types is that of `State` in core.c. conversions.py adds
 # the members of the classes that are imported from there.
-import datetime
+from datetime import timedelta
 from typing import Any, Callable, ClassVar, SupportsIndex, overload
 
 from typing_extensions import Self
@@ -22,6 +22,15 @@ class _Value(_ValueMembers):
     def __{lt,le,gt,ge}__(self, other: Self) -> bool: ...
     def __hash__(self) -> int: ...
     def __str__(self) -> str: ...
+
+class _Formatted(_FormatMembers):
+    def strftime(self, format: str | Format) -> str:
+        """Returns the text by a format, or raises ValueError if the format shows more than the
+        value has."""
+    def strptime(text: str, format: str | Format) -> Self:
+        """Parses the text of a value by a format, and no other text, or raises ParseError,
+        ComponentRange or ContradictionError; ValueError if the texts of the format don't determine
+        such a value."""
 
 class _DateParts:
     @property
@@ -69,7 +78,7 @@ class _TimeParts:
     def truncate_to_{hour,minute,second,millisecond,microsecond}(self) -> Self:
         "Sets all below the {hour,minute,second,millisecond,microsecond} to zero."
 
-class Date(_Value, _DateParts, _DateMembers, _FormatMembers):
+class Date(_Value, _DateParts, _DateMembers, _Formatted):
     """Date(year, month, day): a day of the proleptic Gregorian calendar, from MIN, -999999-01-01,
     to MAX, 999999-12-31.
 
@@ -77,11 +86,9 @@ class Date(_Value, _DateParts, _DateMembers, _FormatMembers):
     """
     {MIN,MAX}: ClassVar[Date]
     def __new__(cls, year: Int, month: Int, day: Int) -> Date: ...
-    def __add__(self, other: SignedDuration | datetime.timedelta) -> Date: ...
+    def __add__(self, other: SignedDuration | timedelta) -> Date: ...
     @overload
-    def __sub__(self, other: Date) -> SignedDuration: ...
-    @overload
-    def __sub__(self, other: SignedDuration | datetime.timedelta) -> Date: ...
+    def __sub__(self, other: {Date,SignedDuration | timedelta}) -> {SignedDuration,Date}: ...
     def from_calendar_date(year: Int, month: Int, day: Int) -> Date:
         "Creates the date of a year, a Month or its number, and a day of the month."
     def from_ordinal_date(year: Int, ordinal: Int) -> Date:
@@ -153,7 +160,7 @@ class Date(_Value, _DateParts, _DateMembers, _FormatMembers):
         """Returns the {first day from this one on,last day up to this one} with a Weekday, or None
         out of range."""
 
-class Time(_Value, _TimeParts, _TimeMembers, _FormatMembers):
+class Time(_Value, _TimeParts, _TimeMembers, _Formatted):
     """Time(hour=0, minute=0, second=0, nanosecond=0): a time of day, from MIDNIGHT to MAX,
     23:59:59.999999999.
 
@@ -165,9 +172,7 @@ class Time(_Value, _TimeParts, _TimeMembers, _FormatMembers):
     ) -> Time: ...
     def __add__(self, other: SignedDuration) -> Time: ...
     @overload
-    def __sub__(self, other: Time) -> SignedDuration: ...
-    @overload
-    def __sub__(self, other: SignedDuration) -> Time: ...
+    def __sub__(self, other: {Time,SignedDuration}) -> {SignedDuration,Time}: ...
     def from_hms(hour: Int, minute: Int, second: Int) -> Time:
         "Creates the time of an hour, a minute and a second."
     def from_hms_{milli,micro,nano}(
@@ -187,7 +192,7 @@ class Time(_Value, _TimeParts, _TimeMembers, _FormatMembers):
         """Returns a carry of -1, 0 or 1 days beyond whole days, and the time a duration
         {later,earlier}."""
 
-class UtcOffset(_Value, _OffsetMembers, _FormatMembers):
+class UtcOffset(_Value, _OffsetMembers, _Formatted):
     """UtcOffset(hours=0, minutes=0, seconds=0): an offset from UTC, from -25:59:59 to +25:59:59,
     positive to the east."""
     UTC: ClassVar[UtcOffset]
@@ -259,12 +264,10 @@ class SignedDuration(_Value, _DurationMembers):
     def saturating_mul(self, number: Fits) -> SignedDuration:
         "Returns the product with an int of 32 bits, or the nearest limit."
 
-class _DateTime(_Value, _DateParts, _TimeParts, _DateTimeMembers, _FormatMembers):
+class _DateTime(_Value, _DateParts, _TimeParts, _DateTimeMembers, _Formatted):
     def __add__(self, other: SignedDuration) -> Self: ...
     @overload
-    def __sub__(self, other: Self) -> SignedDuration: ...
-    @overload
-    def __sub__(self, other: SignedDuration) -> Self: ...
+    def __sub__(self, other: {Self,SignedDuration}) -> {SignedDuration,Self}: ...
     def date(self) -> Date: "Returns the date."
     def time(self) -> Time: "Returns the time of day."
     def replace_date(self, date: Date) -> Self: "Replaces the date."

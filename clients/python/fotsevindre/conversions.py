@@ -105,6 +105,16 @@ SignedDuration.MAX = SignedDuration.new(2**63 - 1, 999999999)
 
 @_adds_to(SignedDuration)
 class _DurationMembers:
+    def __str__(self: Any) -> str:
+        seconds, below = self.unsigned_abs()
+        numbers = (seconds // 86400, seconds // 3600 % 24, seconds // 60 % 60, seconds % 60,
+            below // 10**6, below // 1000 % 1000, below % 1000)
+        units = zip(numbers, ("d", "h", "m", "s", "ms", "µs", "ns"))
+        text = "".join(f"{number}{unit}" for number, unit in units if number)
+        return f"{'-' * self.is_negative()}{text or '0s'}"
+
+    __repr__ = __str__
+
     @staticmethod
     def nanoseconds_i128(nanoseconds: SupportsIndex) -> SignedDuration:
         """Creates a duration of nanoseconds, from `MIN` to `MAX`."""
