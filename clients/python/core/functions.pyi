@@ -74,6 +74,10 @@ class CalendarDateColumns: "Years in 32 bits, and months and days in 8."
 class OrdinalDateColumns: "Years in 32 bits, and ordinals in 16."
 class IsoWeekDateColumns: "ISO years in 32 bits, and weeks and weekdays in 8."
 class WeekdayColumns: "Weekdays from Monday, 0, in 8 bits; 255 in a row without one."
+class OffsetColumns: "Seconds of offsets in 32 bits."
+class InstantColumns:
+    """Unix times in 64 bits, or `datetime64[s]` if the readings were `datetime64`; -2**63 or `NaT`
+    in a row without one."""
 class NumberColumns: "Numbers in 32 bits; -2147483648 in a row without one."
 class MomentColumns:
     "Julian days in 32 bits, nanoseconds since midnight in 64, and seconds of offsets in 32."

@@ -11,6 +11,7 @@ from .conversions import _DateMembers, _DateTimeMembers, _DurationMembers, _Mome
 from .conversions import _OffsetMembers, _PlainMembers, _TimeMembers, _ValueMembers
 from .enums import Convention, DayCount, Month, Period, Weekday, YearFraction
 from .formats import Format, _FormatMembers
+from .zones import _ZoneMembers
 
 # An int. One that doesn't fit the parameter in C becomes the nearest number, or one that the call
 # rejects by its name. One that must fit raises OverflowError.
@@ -291,7 +292,7 @@ class PlainDateTime(_DateTime, _PlainMembers):
     def assume_offset(self, offset: UtcOffset) -> OffsetDateTime:
         "Returns the same date and time at an offset."
 
-class OffsetDateTime(_DateTime, _MomentMembers):
+class OffsetDateTime(_DateTime, _MomentMembers, _ZoneMembers):
     """OffsetDateTime(date, time, offset): a date and a time of day at an offset from UTC.
 
     Values compare and hash by instant, regardless of offset. + and - with a SignedDuration keep

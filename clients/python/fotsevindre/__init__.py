@@ -39,19 +39,18 @@ from . import calls as _calls
 from .calls import *
 from .formats import Format
 from .schedules import Days, Recurrence, Rule, Workdays
-from .zones import InstantColumns, Local, LocalKind, OffsetColumns, Policy, Zone
+from .zones import Local, LocalKind, Policy, Zone
 
 __version__ = "0.1.0"
 
 __all__ = [
     "ComponentRange", "ContradictionError", "Convention", "Date", "DayCount", "Days", "Format",
-    "FormatError", "Frequency", "InstantColumns", "Local", "LocalKind", "Month", "OffsetColumns",
-    "OffsetDateTime", "ParseError", "ParseRuleError", "ParseRuleErrorKind", "Period",
-    "PlainDateTime", "Policy", "Recurrence", "Rule", "SignedDuration", "Time", "UtcOffset",
-    "Weekday", "Workdays", "YearFraction", "Zone", "ZoneError", "add_to_pair", "days_in_month",
-    "days_in_year", "days_in_year_month", "is_leap_year", "parse_rfc3339", "parse_unix",
-    "rfc3339_text", "status_error", "sub_from_pair", "unix_duration", "unix_pair", "unix_text",
-    "weeks_in_year",
+    "FormatError", "Frequency", "Local", "LocalKind", "Month", "OffsetDateTime", "ParseError",
+    "ParseRuleError", "ParseRuleErrorKind", "Period", "PlainDateTime", "Policy", "Recurrence",
+    "Rule", "SignedDuration", "Time", "UtcOffset", "Weekday", "Workdays", "YearFraction", "Zone",
+    "ZoneError", "add_to_pair", "days_in_month", "days_in_year", "days_in_year_month",
+    "is_leap_year", "parse_rfc3339", "parse_unix", "rfc3339_text", "status_error", "sub_from_pair",
+    "unix_duration", "unix_pair", "unix_text", "weeks_in_year",
 ]
 __all__ += _calls.__all__
 

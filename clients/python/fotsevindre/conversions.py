@@ -13,7 +13,6 @@ from . import _core
 from ._core import Date, OffsetDateTime, PlainDateTime, SignedDuration, Time, UtcOffset
 from .errors import ParseError, check
 from .schedules import Days
-from .zones import Zone
 
 
 def _adds_to(*kinds: type) -> Callable[[type], None]:
@@ -305,10 +304,6 @@ class _PlainMembers:
 
 @_adds_to(OffsetDateTime)
 class _MomentMembers:
-    def in_zone(self: Any, zone: Zone) -> OffsetDateTime:
-        """Returns the same instant in a time zone, or raises `OverflowError`."""
-        return check(zone, Zone).in_zone(self)
-
     def to_datetime(self: Any) -> datetime.datetime:
         """Converts to a `datetime.datetime` in the `datetime.timezone` of the offset; errors like
         its parts."""

@@ -7,11 +7,12 @@ import importlib.resources
 import operator
 import os
 import pathlib
-from typing import Any, NamedTuple, SupportsIndex
+from typing import Any, SupportsIndex
 
 from . import _core
 from ._core import OffsetDateTime, PlainDateTime, UtcOffset
-from .columns import call
+from .calls import InstantColumns, OffsetColumns, _zone_instants, _zone_offsets
+from .conversions import _adds_to
 from .enums import Choice
 from .errors import ParseError, ZoneError, check
 
@@ -73,23 +74,6 @@ class Local:
     def reject(self) -> OffsetDateTime | None:
         """Returns the date-time if clocks show the reading once, else `None`."""
         return self.earlier() if self.kind is LocalKind.Single else None
-
-
-class OffsetColumns(NamedTuple):
-    """Seconds of offsets in 32 bits, a status for each row, and the number of rows without one."""
-
-    offsets: Any
-    statuses: Any
-    error_count: int
-
-
-class InstantColumns(NamedTuple):
-    """Unix times in 64 bits, or `datetime64[s]` if the readings were `datetime64`, a status for
-    each row, and the number of rows without one, which have -2**63 or `NaT`."""
-
-    seconds: Any
-    statuses: Any
-    error_count: int
 
 
 def _seconds(moment: OffsetDateTime | SupportsIndex) -> int:
@@ -197,13 +181,12 @@ class Zone:
         """Returns the offsets at a column of Unix times, in seconds or `datetime64`."""
         if hasattr(seconds, "dtype") and (seconds != seconds).any():
             raise ValueError("expected a time in each row, not NaT; drop or mask these rows")
-        return call(OffsetColumns, "zone_offsets", "q", "iB", self._zone, seconds=seconds)
+        return _zone_offsets(seconds, self._zone)
 
     def instants(self, readings: Any, policy: Policy = Policy.Compatible) -> InstantColumns:
         """Returns the Unix times of a column of readings, which are the seconds by the clock since
         1970-01-01 0:00, or `datetime64`, by a policy."""
-        zone = *self._zone, int(check(policy, Policy))
-        return call(InstantColumns, "zone_instants", "q", "qB", zone, readings=readings)
+        return _zone_instants(readings, (*self._zone, int(check(policy, Policy))))
 
     def __eq__(self, other: object) -> bool:
         if not isinstance(other, Zone):
@@ -228,3 +211,10 @@ def _zone(kind: type[Zone], key: str, data: bytes, form: int) -> Zone:
     zone = kind.__new__(kind)
     zone._set(key, data, form)
     return zone
+
+
+@_adds_to(OffsetDateTime)
+class _ZoneMembers:
+    def in_zone(self: Any, zone: Zone) -> OffsetDateTime:
+        """Returns the same instant in a time zone, or raises `OverflowError`."""
+        return check(zone, Zone).in_zone(self)
