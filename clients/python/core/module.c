@@ -27,12 +27,6 @@ static PyObject *core_setup(PyObject *self, PyObject *given)
     return new_reference(Py_None);
 }
 
-static PyObject *core_status_name(UNUSED(module), PyObject *object)
-{
-    int32_t status;
-    return fit_int32(NULL, object, &status) ? PyUnicode_FromString(fots_status_name(status)) : NULL;
-}
-
 /* ---- types */
 
 /* A type: its name, its specification and its static functions. */

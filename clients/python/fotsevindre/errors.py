@@ -6,8 +6,7 @@ import dataclasses
 import enum
 from typing import Any
 
-from . import _core
-from .messages import MESSAGES
+from .messages import MESSAGES, NAMES
 
 _PARTS = ("FREQ", "INTERVAL", "WKST", "BYMONTH", "BYMONTHDAY", "BYDAY", "UNTIL", "COUNT",
     "BYSETPOS", "BYYEARDAY")
@@ -125,18 +124,18 @@ def status_error(status: int, position: int | None = None, part: int = 0) -> Exc
     if status == 0:
         return None
     if 16 <= status <= 29 or 64 <= status <= 67:
-        return ComponentRange(_core.status_name(status), status >= 64)
+        return ComponentRange(NAMES[status], status >= 64)
     if position is not None:
         if status in (8, 31):
             return ParseError(position, status == 31)
         if status in (38, 39):
             return FormatError(position if status == 38 else None)
         if status == 43:
-            return ContradictionError(_core.status_name(position))
+            return ContradictionError(NAMES[position])
         if 32 <= status <= 36:
             kind = tuple(ParseRuleErrorKind)[status - 32]
             return ParseRuleError(position, kind, _PARTS[part - 1] if part else None)
         if 49 <= status <= 63:
-            return ZoneError(position, _core.status_name(status))
+            return ZoneError(position, NAMES[status])
     message = _MESSAGES.get(status, f"unknown status {status}")
     return OverflowError(message) if status in (1, 7) else ValueError(message)
