@@ -44,7 +44,7 @@ typedef struct WorkdaysObject {
 typedef struct State {
     PyTypeObject *date, *time, *offset, *duration, *plain, *moment, *workdays;
     PyObject *weekday, *convention, *day_count, *period, *year_fraction, *status_error, *timedelta;
-    PyObject *months[12], *weekdays[7];
+    PyObject *units[4], *months[12], *weekdays[7];
 } State;
 
 static inline const State *state_of_type(PyTypeObject *type) { return PyType_GetModuleState(type); }

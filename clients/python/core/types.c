@@ -85,6 +85,30 @@ static uint32_t duration_is_negative(fots_duration duration) { return sign_of(du
 static uint32_t duration_is_positive(fots_duration duration) { return sign_of(duration) > 0; }
 static int32_t duration_subsec_nanoseconds(fots_duration duration) { return duration.nanoseconds; }
 
+static unsigned long long magnitude(int64_t number)
+{
+    return number < 0 ? -(unsigned long long)number : (unsigned long long)number;
+}
+
+/* Returns the text, such as -1d2h3m4s5ms. */
+static PyObject *duration_string(PyObject *self)
+{
+    static const char *const names[] = {"d", "h", "m", "s", "ms", "\xc2\xb5s", "ns"};
+    unsigned long long seconds = magnitude(DURATION(self).seconds);
+    unsigned long long below = magnitude(DURATION(self).nanoseconds);
+    unsigned long long numbers[] = {seconds / 86400, seconds / 3600 % 24, seconds / 60 % 60,
+        seconds % 60, below / 1000000, below / 1000 % 1000, below % 1000};
+    char bytes[80] = "-";
+    int length = sign_of(DURATION(self)) < 0, unit;
+    for (unit = 0; unit < 7; unit++) {
+        if (numbers[unit]) {
+            length += snprintf(bytes + length, sizeof bytes - (size_t)length, "%llu%s",
+                numbers[unit], names[unit]);
+        }
+    }
+    return length ? PyUnicode_FromStringAndSize(bytes, length) : PyUnicode_FromString("0s");
+}
+
 /* ---- date-times */
 
 static const fots_offset utc = {0};

@@ -32,7 +32,7 @@ from .errors import ComponentRange, ContradictionError, FormatError, ParseError,
 from .errors import ParseRuleErrorKind, ZoneError, status_error
 
 _core.setup(Weekday, Convention, DayCount, Period, YearFraction, status_error, datetime.timedelta,
-    *Month, *Weekday)
+    "days", "seconds", "microseconds", "nanoseconds", *Month, *Weekday)
 
 from . import conversions as _conversions
 from . import calls as _calls

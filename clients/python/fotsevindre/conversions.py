@@ -48,7 +48,7 @@ def _whole_microseconds(nanoseconds: int, name: str) -> int:
 
 # The arguments that make a value.
 _PARTS: dict[type, Callable[[Any], tuple[Any, ...]]] = {
-    Date: Date.to_calendar_date,
+    Date: lambda value: (value.year, int(value.month), value.day),
     Time: Time.as_hms_nano,
     UtcOffset: UtcOffset.as_hms,
     SignedDuration: lambda value: (value.whole_seconds(), value.subsec_nanoseconds()),
@@ -104,16 +104,6 @@ SignedDuration.MAX = SignedDuration.new(2**63 - 1, 999999999)
 
 @_adds_to(SignedDuration)
 class _DurationMembers:
-    def __str__(self: Any) -> str:
-        seconds, below = self.unsigned_abs()
-        numbers = (seconds // 86400, seconds // 3600 % 24, seconds // 60 % 60, seconds % 60,
-            below // 10**6, below // 1000 % 1000, below % 1000)
-        units = zip(numbers, ("d", "h", "m", "s", "ms", "µs", "ns"))
-        text = "".join(f"{number}{unit}" for number, unit in units if number)
-        return f"{'-' * self.is_negative()}{text or '0s'}"
-
-    __repr__ = __str__
-
     @staticmethod
     def nanoseconds_i128(nanoseconds: SupportsIndex) -> SignedDuration:
         """Creates a duration of nanoseconds, from `MIN` to `MAX`."""
@@ -297,7 +287,11 @@ class _PlainMembers:
     def parse(text: str) -> PlainDateTime:
         """Parses a date, T or a space, and a time, such as 2024-02-29T23:59:59.25; errors like
         `Date.parse` and `Time.parse`."""
-        return _plain(text, _PARTS_OF_TEXT.search(check(text, str)), len(text))
+        try:
+            return PlainDateTime(*_core.parse_rfc3339(f"{check(text, str)}Z")[:2])
+        except ValueError:
+            pass  # It has another form, or an error.
+        return _plain(text, _PARTS_OF_TEXT.search(text), len(text))
 
     fromisoformat = parse
 
@@ -335,7 +329,11 @@ class _MomentMembers:
     def parse(text: str) -> OffsetDateTime:
         """Parses a date-time and an offset, such as 2024-02-29T23:59:59.25+01:00; a space may come
         before the offset."""
-        parts: Any = _PARTS_OF_TEXT.search(check(text, str))
+        try:
+            return OffsetDateTime(*_core.parse_rfc3339(text))
+        except ValueError:
+            pass  # It has another form, or an error.
+        parts: Any = _PARTS_OF_TEXT.search(text)
         local = _plain(text, parts, parts.end("time"))
         return local.assume_offset(_within(_offset, text, parts.start("offset")))
 
