@@ -41,7 +41,7 @@ def {hours,minutes}(number: Fits) -> SignedDuration:
     """Creates a duration of {hours,minutes}, from -{2562047788015215,153722867280912930} to
     {2562047788015215,153722867280912930}."""
 def {seconds,milliseconds,microseconds,nanoseconds}(number: Fits) -> SignedDuration:
-    "Creates a duration of {seconds,milliseconds,microseconds,nanoseconds}, in 64 bits."
+    "Creates a duration of {}, in 64 bits."
 def setup(*types: Any) -> None: ...
 def rule_first(rule: _Rule) -> Date | None: ...
 def rule_next_after(rule: _Rule, date: Date) -> Date | None: ...
@@ -108,8 +108,7 @@ def calendar_dates_to_iso_week_dates(
     years: object, months: object, days: object
 ) -> IsoWeekDateColumns:
     "Converts years, months and days to ISO years, weeks and weekdays from Monday, 0."
-def dates_add_days(dates: object, days: object) -> DateColumns:
-    "Returns the dates some days later."
+def dates_add_days(dates: object, days: object) -> DateColumns: "Returns the dates some days later."
 def dates_add_months(dates: object, months: object) -> DateColumns:
     "Returns the dates some months later, like `Date.checked_add_months`."
 def dates_add_workdays(dates: object, days: object, workdays: Workdays) -> DateColumns:
@@ -139,11 +138,7 @@ def moments_texts(dates: object, times: object, offsets: object) -> TextColumns:
     """Returns the texts of RFC 3339 of dates, nanoseconds since midnight and seconds of offsets,
     one after another."""
 def dates_parse_format(texts: object, bounds: object, format: str | Format) -> DateColumns:
-    """Parses texts in a buffer of bytes like `Date.strptime`.
-
-    >>> tuple(dates_parse_format(b"29/02/202430/02/2024", [0, 10, 20], "%d/%m/%Y"))
-    (array('i', [2460370, -2147483648]), array('B', [0, 64]), 1)
-    """
+    "Parses texts in a buffer of bytes like `Date.strptime`."
 def dates_format(dates: object, format: str | Format) -> TextColumns:
     """Returns the texts of dates by a format, one after another.
 
