@@ -1,7 +1,7 @@
 # The types of the module `_core`. From this file tools/python_members writes their code in C, doc
 # strings and type hints. A row with lists in braces is one for each place of the lists, and empty
 # braces are the first list. A function without `self` is static. The order of the types is that of
-# `State` in core.c. conversions.py, formats.py and zones.py add the members of the imported classes.
+# `State` in core.c. The imported classes have the members in Python.
 from datetime import timedelta
 from typing import Any, Callable, ClassVar, SupportsIndex, overload
 
