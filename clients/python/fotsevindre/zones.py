@@ -217,4 +217,4 @@ def _zone(kind: type[Zone], key: str, data: bytes, form: int) -> Zone:
 class _ZoneMembers:
     def in_zone(self: Any, zone: Zone) -> OffsetDateTime:
         """Returns the same instant in a time zone, or raises `OverflowError`."""
-        return check(zone, Zone).in_zone(self)
+        return Zone.in_zone(check(zone, Zone), self)
