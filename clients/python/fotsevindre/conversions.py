@@ -357,6 +357,10 @@ def _within(parse: Callable[[str], Any], text: str, start: int, end: int | None 
 
 def _time(text: str) -> Time:
     """Parses 9:05, 09:05:00 or 09:05:00.25, by a moment of RFC 3339."""
+    try:
+        return _core.parse_rfc3339(f"1970-01-01T{text}Z")[1]
+    except ValueError:
+        pass  # It has another form, or an error.
     clock = re.split("[^0-9:.]", text)[0]
     length, added = len(clock), clock[1:2] == ":"
     full = "0" * added + clock
