@@ -26,8 +26,8 @@ _LIMITS = {"B": (0, 2**8 - 1), "H": (0, 2**16 - 1), "i": (-2**31, 2**31 - 1),
 def _whole(values: Any, unit: str) -> Any:
     """Returns the days or seconds of an array of datetime64 or timedelta64 in 64 bits."""
     kind = values.dtype.name.partition("[")[0]
-    found = values.astype(f"{kind}[{unit}]")
-    if not ((found == values) | (found != found)).all():
+    found = values.astype(f"{kind}[{unit}]", copy=False)
+    if found is not values and not ((found == values) | (found != found)).all():
         raise ValueError(f"expected whole {_WORDS[unit]} in a column of {values.dtype}; "
             f".astype('{kind}[{unit}]'), or of pandas .dt.floor('{unit}'), truncates")
     return found.view("int64")
@@ -35,21 +35,20 @@ def _whole(values: Any, unit: str) -> Any:
 
 def _of_array(values: Any, code: str, unit: str) -> Any:
     """Returns the numbers of an array of numpy, in one piece and in the bits of the code."""
+    low, high = _LIMITS[code]
     letter = values.dtype.kind
     if letter == "M" and unit:
         values = _whole(values, unit)
         if unit == "D":
-            # Not a time is the minimum number, which is no date.
-            is_far = (values < -2**40) | (values > 2**40)
-            values = values + _UNIX_EPOCH
-            values[is_far] = _NO_DATE
+            # Not a time is the minimum number. It and what is far away become no dates.
+            values = values.clip(low - _UNIX_EPOCH, high - _UNIX_EPOCH) + _UNIX_EPOCH
+            return values.astype(code, order="C")
     elif letter == "m" and code == "q":
         values = _whole(values, "D")
     elif letter not in "iu":
         raise TypeError(f"expected a column of integers, not {values.dtype}")
-    low, high = _LIMITS[code]
-    is_filled = values.ndim == 1 and len(values)
-    if is_filled and not low <= int(values.min()) <= int(values.max()) <= high:
+    can_exceed = values.dtype != code and values.ndim == 1 and len(values)
+    if can_exceed and not low <= int(values.min()) <= int(values.max()) <= high:
         raise OverflowError(f"a number in a column is out of range; expected {low} to {high}")
     return values.astype(code, order="C", copy=False)
 
