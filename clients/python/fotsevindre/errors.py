@@ -6,10 +6,8 @@ import dataclasses
 import enum
 from typing import Any
 
-from .messages import MESSAGES, NAMES
+from .messages import MESSAGES, NAMES, PARTS
 
-_PARTS = ("FREQ", "INTERVAL", "WKST", "BYMONTH", "BYMONTHDAY", "BYDAY", "UNTIL", "COUNT",
-    "BYSETPOS", "BYYEARDAY")
 # C counts weekdays from 1.
 _MESSAGES = {**MESSAGES, 6: "invalid weekday; expected 0 (Monday) to 6 (Sunday)"}
 
@@ -134,7 +132,7 @@ def status_error(status: int, position: int | None = None, part: int = 0) -> Exc
             return ContradictionError(NAMES[position])
         if 32 <= status <= 36:
             kind = tuple(ParseRuleErrorKind)[status - 32]
-            return ParseRuleError(position, kind, _PARTS[part - 1] if part else None)
+            return ParseRuleError(position, kind, PARTS[part - 1] if part else None)
         if 49 <= status <= 63:
             return ZoneError(position, NAMES[status])
     message = _MESSAGES.get(status, f"unknown status {status}")
