@@ -41,14 +41,13 @@ def _of_array(values: Any, code: str, unit: str) -> Any:
         values = _whole(values, unit)
         if unit == "D":
             # Not a time is the minimum number. It and what is far away become no dates.
-            values = values.clip(low - _UNIX_EPOCH, high - _UNIX_EPOCH) + _UNIX_EPOCH
-            return values.astype(code, order="C")
+            days = sys.modules["numpy"].asarray(values).clip(low - _UNIX_EPOCH, high - _UNIX_EPOCH)
+            return (days + _UNIX_EPOCH).astype(code, order="C")
     elif letter == "m" and code == "q":
         values = _whole(values, "D")
     elif letter not in "iu":
         raise TypeError(f"expected a column of integers, not {values.dtype}")
-    can_exceed = values.dtype != code and values.ndim == 1 and len(values)
-    if can_exceed and not low <= int(values.min()) <= int(values.max()) <= high:
+    if values.dtype != code and ((values < low) | (values > high)).any():
         raise OverflowError(f"a number in a column is out of range; expected {low} to {high}")
     return values.astype(code, order="C", copy=False)
 
@@ -93,14 +92,17 @@ class _Like:
     """What the columns of a result are like: those that were given."""
 
     def __init__(self, columns: dict[str, Any]) -> None:
-        arrays = [one for name, one in columns.items() if hasattr(one, "dtype") and name != "texts"]
+        arrays = {name: one for name, one in columns.items() if hasattr(one, "dtype")}
+        arrays.pop("texts", None)
         self.numpy: Any = sys.modules.get("numpy") if arrays else None
         # The names of results that are times if what was given is.
         self.times = [made for given, made in (("dates", "dates"), ("readings", "seconds"))
-            if getattr(getattr(columns.get(given), "dtype", None), "kind", "") == "M"]
-        self.series = next((one for one in arrays if hasattr(one, "to_numpy")), None)
+            if given in arrays and arrays[given].dtype.kind == "M"]
+        # There is one more bound than there are rows.
+        rows = [one for name, one in arrays.items() if name != "bounds"]
+        self.series = next((one for one in rows if hasattr(one, "to_numpy")), None)
         masked = self.numpy.ma.MaskedArray if self.numpy else ()
-        self.masks = [one.mask for one in arrays if isinstance(one, masked)]
+        self.masks = [one.mask for one in rows if isinstance(one, masked)]
 
     def made(self, name: str, column: Any) -> Any:
         """Returns a column of a result: of datetime64 if that was given, masked like what was
@@ -108,6 +110,8 @@ class _Like:
         if not self.numpy or name == "texts":
             return column
         found = self.numpy.asarray(column)
+        if name == "bounds":
+            return found
         if name in self.times and name == "dates":
             missing = found == _NO_DATE
             found = (found.astype("int64") - _UNIX_EPOCH).view("datetime64[D]")

@@ -16,9 +16,10 @@ class Numpy(unittest.TestCase):
         found = fotsevindre.dates_to_calendar_dates(days)
         self.assertEqual([row for row in zip(*found[:3])], [(2024, 2, 29), (1969, 12, 31), (-2**31, 0, 0), (-1, 12, 31)])
         self.assertEqual((found.error_count, isinstance(fotsevindre.status_error(found.statuses[2]), ValueError)), (1, True))
-        past = numpy.array([2**62, -2**62, 2**63 - 1], dtype="int64").view("datetime64[D]")
-        self.assertEqual(fotsevindre.dates_weekdays(past).error_count, 3)
-        self.assertTrue((past.view("int64") == [2**62, -2**62, 2**63 - 1]).all())
+        far = [2**62, -2**62, 2**63 - 1, 2**40, 2**31, -2**31, 364522972, -365961663]
+        past = numpy.array(far, dtype="int64").view("datetime64[D]")
+        self.assertEqual(fotsevindre.dates_weekdays(past).error_count, len(far))
+        self.assertTrue((past.view("int64") == far).all())
         every = numpy.arange("1600-01-01", "2400-01-01", 7, dtype="datetime64[D]")
         calendar = fotsevindre.dates_to_calendar_dates(every)
         months = every.astype("datetime64[M]")
@@ -49,6 +50,9 @@ class Numpy(unittest.TestCase):
         self.assertEqual((str(found.dates[0]), found.dates.mask.tolist(), found.statuses.mask.tolist()), ("2024-03-01", [False, True], [False, True]))
         years = fotsevindre.dates_to_calendar_dates(days).years
         self.assertEqual((years.mask.tolist(), years[0]), ([False, True], 2024))
+        texts = fotsevindre.dates_calendar_texts(days)
+        self.assertEqual((texts.texts, list(texts.bounds), texts.statuses.mask.tolist()), (b"2024-02-292024-03-01", [0, 10, 20], [False, True]))
+        self.assertTrue(fotsevindre.dates_weekdays(numpy.ma.array([2451545], mask=[True])).weekdays.mask.all())
 
     def test_scalars(self):
         days = numpy.array(["2024-02-29", "2024-03-01"], dtype="datetime64[D]")

@@ -29,6 +29,10 @@ class Pandas(unittest.TestCase):
         between = fotsevindre.dates_workdays_between(self.DAYS, Date(2025, 1, 1), Workdays())
         wanted = numpy.busday_count(self.DAYS.dropna().to_numpy().astype("datetime64[D]"), numpy.datetime64("2025-01-01"))
         self.assertEqual((list(between.numbers[["a", "c"]]), between.numbers["b"]), (list(wanted), -2**31))
+        texts = fotsevindre.dates_calendar_texts(self.DAYS)
+        self.assertEqual((texts.texts, list(texts.bounds), list(texts.statuses.index)), (b"2024-02-292024-12-31", [0, 10, 10, 20], ["a", "b", "c"]))
+        parsed = fotsevindre.dates_parse(texts.texts, pandas.Series(texts.bounds))
+        self.assertEqual((list(parsed.dates), parsed.error_count), ([2460370, -2**31, 2460676], 1))
         times = Zone.from_posix("CET-1CEST,M3.5.0,M10.5.0/3").instants(self.DAYS).seconds
         self.assertEqual(([str(time) for time in times], list(times.index)), (["2024-02-28 23:00:00", "NaT", "2024-12-30 23:00:00"], ["a", "b", "c"]))
 
