@@ -59,12 +59,12 @@ static int is_value(PyObject *object)
  * has nanoseconds, too. */
 static int days_of(const State *state, PyObject *object, fots_duration *duration)
 {
-    int is_plain = (PyObject *)Py_TYPE(object) == state->timedelta, unit;
+    int is_exact = (PyObject *)Py_TYPE(object) == state->timedelta, unit;
     int64_t numbers[4] = {0};
-    if (!is_plain && PyObject_IsInstance(object, state->timedelta) != 1) {
+    if (!is_exact && PyObject_IsInstance(object, state->timedelta) != 1) {
         return PyErr_Occurred() ? -1 : 0;
     }
-    for (unit = 0; unit < 4 && (unit < 3 || !is_plain); unit++) {
+    for (unit = 0; unit < 4 && (unit < 3 || !is_exact); unit++) {
         PyObject *value = unit == 3 && !PyObject_HasAttr(object, state->units[unit]) ?
             PyLong_FromLong(0) : PyObject_GetAttr(object, state->units[unit]);
         int done = value && to_int64(NULL, value, &numbers[unit]);
