@@ -20,7 +20,7 @@ void PyBuffer_Release(Py_buffer *view);
 #define PyBUF_C_CONTIGUOUS (0x0020 | 0x0010 | 0x0008)
 #endif
 
-/* The columns that a call reads and then those that it writes, and its working days or format. */
+/* The columns that a call reads and then those that it writes, and what it takes beside them. */
 typedef struct Columns {
     Py_buffer views[8];
     void *data[8];
@@ -28,13 +28,16 @@ typedef struct Columns {
     int count;
     const fots_workdays *workdays;
     fots_format format;
+    fots_zone zone;
+    uint32_t policy;
 } Columns;
 
 /* A call. The columns that it reads and writes have the letters of the module array, and "W" if it
- * writes weekdays: Monday is 0 in Python, and 1 in C. */
+ * writes weekdays: Monday is 0 in Python, and 1 in C. `extra` is the first letter of what it takes
+ * beside them, or 0. */
 typedef struct ColumnCall {
     const char *name, *reads, *writes;
-    int has_workdays, has_format;
+    char extra;
     size_t (*call)(const Columns *columns);
 } ColumnCall;
 extern const ColumnCall column_calls[];
@@ -82,8 +85,25 @@ static void shift_weekdays(const Columns *columns, const ColumnCall *call)
     }
 }
 
-/* Takes the name of a call, a tuple of columns, and working days, a format or None. Returns the number of
- * rows without a result. */
+/* Converts what a call takes beside its columns. */
+static int get_extra(Columns *columns, char extra, const State *state, PyObject *object)
+{
+    switch (extra) {
+    case 'w':
+        columns->workdays = WORKDAYS(object);
+        return PyObject_TypeCheck(object, state->workdays) ||
+            wrong_kind(object, (PyObject *)state->workdays);
+    case 'f':
+        return to_format(state, object, &columns->format);
+    case 'z':
+        return to_zone_and_policy(object, &columns->zone, &columns->policy);
+    default:
+        return 1;
+    }
+}
+
+/* Takes the name of a call, a tuple of columns, and working days, a format, a zone or None. Returns
+ * the number of rows without a result. */
 static PyObject *core_over_columns(PyObject *self, PyObject *const *given, Py_ssize_t count)
 {
     const State *state = state_of_module(self);
@@ -100,16 +120,9 @@ static PyObject *core_over_columns(PyObject *self, PyObject *const *given, Py_ss
         PyErr_Format(PyExc_TypeError, "no call '%S'", given[0]);
         return NULL;
     }
-    if (call->has_workdays && !PyObject_TypeCheck(given[2], state->workdays)) {
-        wrong_kind(given[2], (PyObject *)state->workdays);
-        return NULL;
-    }
-    if (call->has_format && !to_format(state, given[2], &columns.format)) {
-        return NULL;
-    }
     columns.count = 0;
-    columns.workdays = WORKDAYS(given[2]);
-    if (get_columns(&columns, given[1], call->reads, 0) &&
+    if (get_extra(&columns, call->extra, state, given[2]) &&
+        get_columns(&columns, given[1], call->reads, 0) &&
         get_columns(&columns, given[1], call->writes, PyBUF_WRITABLE)) {
         /* The call runs without the lock of the interpreter. */
         PyThreadState *thread = PyEval_SaveThread();

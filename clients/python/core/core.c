@@ -44,7 +44,7 @@ typedef struct WorkdaysObject {
 typedef struct State {
     PyTypeObject *date, *time, *offset, *duration, *plain, *moment, *workdays;
     PyObject *weekday, *convention, *day_count, *period, *year_fraction, *status_error, *timedelta;
-    PyObject *months[12], *weekdays[7];
+    PyObject *units[4], *months[12], *weekdays[7];
 } State;
 
 static inline const State *state_of_type(PyTypeObject *type) { return PyType_GetModuleState(type); }
@@ -100,6 +100,7 @@ TO_VALUE(time, time)
 TO_VALUE(offset, offset)
 TO_VALUE(duration, duration)
 TO_VALUE(plain, moment)
+TO_VALUE(moment, moment)
 
 /* Converts a member of an enum. */
 static int to_member(PyObject *type, PyObject *object, uint32_t *number)

@@ -22,15 +22,20 @@ static PyObject *raise_text_error(const State *state, int32_t status, size_t pos
     return raise_position(state, status, position, 0);
 }
 
-/* Converts the bytes of a format, or a text in the syntax of strftime. */
+/* Converts a Format, the bytes of one, or a text in the syntax of strftime. */
 static int to_format(const State *state, PyObject *object, fots_format *format)
 {
+    PyObject *bytes = PyBytes_Check(object) ? new_reference(object) : PyUnicode_Check(object) ?
+        NULL : PyObject_GetAttrString(object, "_items");
     Text text = {NULL, NULL, 0};
     fots_format_result result;
-    if (PyBytes_Check(object) && (size_t)PyBytes_Size(object) == sizeof *format) {
-        memcpy(format, PyBytes_AsString(object), sizeof *format);
+    if (bytes && PyBytes_Check(bytes) && (size_t)PyBytes_Size(bytes) == sizeof *format) {
+        memcpy(format, PyBytes_AsString(bytes), sizeof *format);
+        Py_DECREF(bytes);
         return 1;
     }
+    Py_XDECREF(bytes);
+    PyErr_Clear();
     if (!to_text(state, object, &text)) {
         return 0;
     }
@@ -62,82 +67,49 @@ static PyObject *core_format_new(PyObject *self, PyObject *const *given, Py_ssiz
     return new_bytes(&result.format, sizeof result.format);
 }
 
-/* Returns the text of a value by a format. */
-static PyObject *core_format_value(PyObject *self, PyObject *const *given, Py_ssize_t count)
-{
-    const State *state = state_of_module(self);
-    char bytes[FOTS_MAX_ITEMS * FOTS_MAX_ITEM_LENGTH];
-    fots_format format;
-    fots_length_result result;
-    PyTypeObject *type;
-    if (!is_count("format_value", count, 2) || !to_format(state, given[1], &format)) {
-        return NULL;
-    }
-    type = Py_TYPE(given[0]);
-    if (type == state->date) {
-        result = fots_date_format(DATE(given[0]), &format, bytes, sizeof bytes);
-    } else if (type == state->time) {
-        result = fots_time_format(TIME(given[0]), &format, bytes, sizeof bytes);
-    } else if (type == state->offset) {
-        result = fots_offset_format(OFFSET(given[0]), &format, bytes, sizeof bytes);
-    } else if (type == state->plain) {
-        fots_moment moment = MOMENT(given[0]);
-        result = fots_pair_format(moment.date, moment.time, &format, bytes, sizeof bytes);
-    } else if (is_kind(given[0], state->moment)) {
-        result = fots_moment_format(MOMENT(given[0]), &format, bytes, sizeof bytes);
-    } else {
-        return NULL;
-    }
-    return result.status ? raise_status(state, result.status) :
-        PyUnicode_FromStringAndSize(bytes, (Py_ssize_t)result.length);
-}
+/* ---- the methods strftime and strptime, by the name of the value in C */
 
-/* Parses a text by a format to a value of a type. */
-static PyObject *core_parse_value(PyObject *self, PyObject *const *given, Py_ssize_t count)
-{
-    const State *state = state_of_module(self);
-    PyTypeObject *type;
-    Text text = {NULL, NULL, 0};
-    fots_format format;
-    fots_parse_moment_result found = {FOTS_OK, {0}, 0, {0}, 0};
-    if (!is_count("parse_value", count, 3) || !to_format(state, given[2], &format) ||
-        !to_text(state, given[1], &text)) {
-        return NULL;
-    }
-    type = (PyTypeObject *)given[0];
-#define PARSED_AS(part) \
+#define STRFTIME(name, part, ...) \
+    static PyObject *name(PyObject *self, PyObject *object) \
     { \
-        fots_parse_##part##_result result = \
-            fots_##part##_parse_format(text.start, text.length, &format); \
-        found.status = result.status; \
-        found.position = result.position; \
-        found.part = result.part; \
+        char bytes[FOTS_MAX_ITEMS * FOTS_MAX_ITEM_LENGTH]; \
+        fots_format format; \
+        fots_length_result result; \
+        if (!to_format(state_of(self), object, &format)) { \
+            return NULL; \
+        } \
+        result = fots_##part##_format(__VA_ARGS__, &format, bytes, sizeof bytes); \
+        return result.status ? raise_status(state_of(self), result.status) : \
+            PyUnicode_FromStringAndSize(bytes, (Py_ssize_t)result.length); \
     }
-    if (type == state->date) {
-        PARSED_AS(date)
-    } else if (type == state->time) {
-        PARSED_AS(time)
-    } else if (type == state->offset) {
-        PARSED_AS(offset)
-    } else if (type == state->plain) {
-        found = fots_pair_parse_format(text.start, text.length, &format);
-    } else {
-        found = fots_moment_parse_format(text.start, text.length, &format);
+STRFTIME(date_strftime, date, DATE(self))
+STRFTIME(time_strftime, time, TIME(self))
+STRFTIME(offset_strftime, offset, OFFSET(self))
+STRFTIME(plain_strftime, pair, MOMENT(self).date, MOMENT(self).time)
+STRFTIME(moment_strftime, moment, MOMENT(self))
+
+#define STRPTIME(name, part, kind, value) \
+    static PyObject *name(PyObject *self, PyObject *const *given, Py_ssize_t count) \
+    { \
+        const State *state = state_of_type((PyTypeObject *)self); \
+        Text text = {NULL, NULL, 0}; \
+        fots_format format; \
+        fots_parse_##kind##_result result; \
+        if (!is_count("strptime", count, 2) || !to_format(state, given[1], &format) || \
+            !to_text(state, given[0], &text)) { \
+            return NULL; \
+        } \
+        result = fots_##part##_parse_format(text.start, text.length, &format); \
+        if (result.status) { \
+            return raise_text_error(state, result.status, result.position, &text); \
+        } \
+        Py_XDECREF(text.bytes); \
+        return value; \
     }
-#undef PARSED_AS
-    if (found.status) {
-        return raise_text_error(state, found.status, found.position, &text);
-    }
-    Py_XDECREF(text.bytes);
-    if (type == state->date) {
-        return new_date(state, found.date);
-    }
-    if (type == state->time) {
-        return new_time(state, found.time);
-    }
-    if (type == state->offset) {
-        return new_offset(state, found.offset);
-    }
-    return new_moment(type == state->plain ? type : state->moment,
-        (fots_moment){found.date, found.offset, found.time});
-}
+STRPTIME(date_strptime, date, date, new_date(state, result.date))
+STRPTIME(time_strptime, time, time, new_time(state, result.time))
+STRPTIME(offset_strptime, offset, offset, new_offset(state, result.offset))
+STRPTIME(plain_strptime, pair, moment,
+    new_moment(state->plain, (fots_moment){result.date, {0}, result.time}))
+STRPTIME(moment_strptime, moment, moment,
+    new_moment(state->moment, (fots_moment){result.date, result.offset, result.time}))

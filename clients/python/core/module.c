@@ -6,8 +6,8 @@
 #include "workdays.c"
 #include "recurrence.c"
 #include "formats.c"
-#include "columns.c"
 #include "zones.c"
+#include "columns.c"
 
 #define POINTERS (sizeof(State) / sizeof(PyObject *))
 
@@ -25,12 +25,6 @@ static PyObject *core_setup(PyObject *self, PyObject *given)
         fields[index] = new_reference(PyTuple_GetItem(given, index));
     }
     return new_reference(Py_None);
-}
-
-static PyObject *core_status_name(UNUSED(module), PyObject *object)
-{
-    int32_t status;
-    return fit_int32(NULL, object, &status) ? PyUnicode_FromString(fots_status_name(status)) : NULL;
 }
 
 /* ---- types */

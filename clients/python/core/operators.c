@@ -55,34 +55,30 @@ static int is_value(PyObject *object)
     return PyType_GetSlot(Py_TYPE(object), Py_tp_dealloc) == (void *)value_free;
 }
 
-/* Reads an int attribute of a timedelta. One of pandas has nanoseconds, too. */
-static int read_number(PyObject *object, const char *name, int64_t *number)
-{
-    PyObject *value = PyObject_GetAttrString(object, name);
-    int done = value && to_int64(NULL, value, number);
-    Py_XDECREF(value);
-    return done;
-}
-
-/* Returns 1 and the days of a timedelta, 0 for another object, or -1 after an error. */
+/* Returns 1 and the days of a timedelta, 0 for another object, or -1 after an error. One of pandas
+ * has nanoseconds, too. */
 static int days_of(const State *state, PyObject *object, fots_duration *duration)
 {
-    int64_t days, seconds, microseconds, nanoseconds = 0;
-    if (PyObject_IsInstance(object, state->timedelta) != 1) {
+    int is_exact = (PyObject *)Py_TYPE(object) == state->timedelta, unit;
+    int64_t numbers[4] = {0};
+    if (!is_exact && PyObject_IsInstance(object, state->timedelta) != 1) {
         return PyErr_Occurred() ? -1 : 0;
     }
-    if (!read_number(object, "days", &days) || !read_number(object, "seconds", &seconds) ||
-        !read_number(object, "microseconds", &microseconds) ||
-        (PyObject_HasAttrString(object, "nanoseconds") &&
-            !read_number(object, "nanoseconds", &nanoseconds))) {
-        return -1;
+    for (unit = 0; unit < 4 && (unit < 3 || !is_exact); unit++) {
+        PyObject *value = unit == 3 && !PyObject_HasAttr(object, state->units[unit]) ?
+            PyLong_FromLong(0) : PyObject_GetAttr(object, state->units[unit]);
+        int done = value && to_int64(NULL, value, &numbers[unit]);
+        Py_XDECREF(value);
+        if (!done) {
+            return -1;
+        }
     }
-    if (seconds || microseconds || nanoseconds) {
+    if (numbers[1] || numbers[2] || numbers[3]) {
         PyErr_SetString(PyExc_ValueError, "expected a timedelta of whole days; convert others "
             "with SignedDuration.from_timedelta");
         return -1;
     }
-    duration->seconds = days * 86400;
+    duration->seconds = numbers[0] * 86400;
     return 1;
 }
 

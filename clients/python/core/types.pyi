@@ -1,8 +1,8 @@
 # The types of the module `_core`. From this file tools/python_members writes their code in C, doc
-# strings and type hints. A row with lists in braces is one for each place of the lists. A function
-# without `self` is static. The order of the types is that of `State` in core.c. conversions.py adds
-# the members of the classes that are imported from there.
-import datetime
+# strings and type hints. A row with lists in braces is one for each place of the lists, and empty
+# braces are the first list. A function without `self` is static. The order of the types is that of
+# `State` in core.c. The imported classes have the members in Python.
+from datetime import timedelta
 from typing import Any, Callable, ClassVar, SupportsIndex, overload
 
 from typing_extensions import Self
@@ -11,15 +11,26 @@ from .conversions import _DateMembers, _DateTimeMembers, _DurationMembers, _Mome
 from .conversions import _OffsetMembers, _PlainMembers, _TimeMembers, _ValueMembers
 from .enums import Convention, DayCount, Month, Period, Weekday, YearFraction
 from .formats import Format, _FormatMembers
+from .zones import _ZoneMembers
 
 # An int. One that doesn't fit the parameter in C becomes the nearest number, or one that the call
 # rejects by its name. One that must fit raises OverflowError.
 {Int,Fits} = SupportsIndex
+# What to_rule and to_zone in C take.
+{_Rule,_Zone} = tuple[Any, ...]
 
 class _Value(_ValueMembers):
     def __{lt,le,gt,ge}__(self, other: Self) -> bool: ...
     def __hash__(self) -> int: ...
     def __str__(self) -> str: ...
+
+class _Formatted(_FormatMembers):
+    def strftime(self, format: str | Format) -> str:
+        "Returns the text by a format, or raises ValueError if that shows more than the value has."
+    def strptime(text: str, format: str | Format) -> Self:
+        """Parses the text of a value by a format, and no other text, or raises ParseError,
+        ComponentRange or ContradictionError; ValueError if the texts of the format don't determine
+        such a value."""
 
 class _DateParts:
     @property
@@ -42,16 +53,14 @@ class _DateParts:
     def to_iso_week_date(self) -> tuple[int, int, Weekday]:
         "Returns the ISO year, the week and the Weekday."
     def to_julian_day(self) -> int: "Returns the Julian day."
-    def replace_{year,month,ordinal}(self, number: Int) -> Self:
-        "Replaces the {year,month,ordinal}."
+    def replace_{year,month,ordinal}(self, number: Int) -> Self: "Replaces the {}."
     def replace_day(self, number: Int) -> Self: "Replaces the day of the month."
 
 class _TimeParts:
     @property
     def hour(self) -> int: "The hour, from 0 to 23."
     @property
-    def {minute,second}(self) -> int:
-        "The {minute,second} of the {hour,minute}, from 0 to 59."
+    def {minute,second}(self) -> int: "The {} of the {hour,minute}, from 0 to 59."
     @property
     def {millisecond,microsecond}(self) -> int:
         "The whole {milliseconds,microseconds} of the second, from 0 to {999,999999}."
@@ -59,15 +68,14 @@ class _TimeParts:
     def nanosecond(self) -> int: "The nanoseconds of the second, from 0 to 999999999."
     def as_hms(self) -> tuple[int, int, int]: "Returns the hour, minute and second."
     def as_hms_{milli,micro,nano}(self) -> tuple[int, int, int, int]:
-        "Returns the hour, minute, second and {milli,micro,nano}second."
-    def replace_{hour,minute,second}(self, number: Int) -> Self:
-        "Replaces the {hour,minute,second}."
+        "Returns the hour, minute, second and {}second."
+    def replace_{hour,minute,second}(self, number: Int) -> Self: "Replaces the {}."
     def replace_{millisecond,microsecond,nanosecond}(self, number: Int) -> Self:
         "Replaces all below the second by {milliseconds,microseconds,nanoseconds}."
     def truncate_to_{hour,minute,second,millisecond,microsecond}(self) -> Self:
-        "Sets all below the {hour,minute,second,millisecond,microsecond} to zero."
+        "Sets all below the {} to zero."
 
-class Date(_Value, _DateParts, _DateMembers, _FormatMembers):
+class Date(_Value, _DateParts, _DateMembers, _Formatted):
     """Date(year, month, day): a day of the proleptic Gregorian calendar, from MIN, -999999-01-01,
     to MAX, 999999-12-31.
 
@@ -75,11 +83,9 @@ class Date(_Value, _DateParts, _DateMembers, _FormatMembers):
     """
     {MIN,MAX}: ClassVar[Date]
     def __new__(cls, year: Int, month: Int, day: Int) -> Date: ...
-    def __add__(self, other: SignedDuration | datetime.timedelta) -> Date: ...
+    def __add__(self, other: SignedDuration | timedelta) -> Date: ...
     @overload
-    def __sub__(self, other: Date) -> SignedDuration: ...
-    @overload
-    def __sub__(self, other: SignedDuration | datetime.timedelta) -> Date: ...
+    def __sub__(self, other: {Date,SignedDuration | timedelta}) -> {SignedDuration,Date}: ...
     def from_calendar_date(year: Int, month: Int, day: Int) -> Date:
         "Creates the date of a year, a Month or its number, and a day of the month."
     def from_ordinal_date(year: Int, ordinal: Int) -> Date:
@@ -104,14 +110,13 @@ class Date(_Value, _DateParts, _DateMembers, _FormatMembers):
         "Returns the {ordinal,ISO week} date, such as 2024-{060,W09-4}."
     def julian_text(self) -> str: "Returns the Julian day, such as J2460370."
     def {next,previous}_day(self) -> Date | None:
-        "Returns the {next,previous} day, or None {after MAX,before MIN}."
+        "Returns the {} day, or None {after MAX,before MIN}."
     def checked_{add,sub}(self, duration: SignedDuration) -> Date | None:
         "Returns the day {later,earlier} by the whole days of a duration, or None out of range."
     def saturating_{add,sub}(self, duration: SignedDuration) -> Date:
         "Returns the day {later,earlier} by a duration, or the nearest end of the range."
     def {next,prev}_occurrence(self, weekday: Weekday) -> Date:
-        """Returns the {first,last} day {after,before} this one with a Weekday, or raises
-        OverflowError."""
+        "Returns the {first,last} day {after,before} this one with a Weekday, else OverflowError."
     def checked_{next,prev}_occurrence(self, weekday: Weekday) -> Date | None:
         "Returns the {first,last} day {after,before} this one with a Weekday, or None."
     def nth_{next,prev}_occurrence(self, weekday: Weekday, n: Int) -> Date:
@@ -123,15 +128,13 @@ class Date(_Value, _DateParts, _DateMembers, _FormatMembers):
     ) -> Date:
         "Replaces the components that are given by name: year, month, day."
     def checked_add_{months,years}(self, number: Int) -> Date | None:
-        "Returns the day some {months,years} later, or None out of range."
+        "Returns the day some {} later, or None out of range."
     def add_months(self, number: Int) -> Date:
-        """Returns the day some months later, the last one in a shorter month, or raises
-        OverflowError."""
+        "Returns the day some months later, the last one in a shorter month, else OverflowError."
     def saturating_add_months(self, number: Int) -> Date:
         "Returns the day some months later, or the nearest end of the range."
     def add_years(self, number: Int) -> Date:
-        """Returns the day some years later, 28 February for the 29th in a common year, or raises
-        OverflowError."""
+        "Returns the day some years later, for 29 February the 28th if need be, else OverflowError."
     def months_until(self, other: Date) -> int:
         "Returns the largest number of months that doesn't pass the other day; negative back."
     def years_until(self, other: Date) -> int:
@@ -140,18 +143,15 @@ class Date(_Value, _DateParts, _DateMembers, _FormatMembers):
         "Returns the years, months and days to the other day."
     def day_count(self, other: Date, convention: DayCount) -> YearFraction:
         "Returns the fraction of a year to the other day by a DayCount."
-    def first_of_{month,quarter,year}(self) -> Date:
-        "Returns the first day of the {month,quarter,year}."
-    def last_of_{month,quarter,year}(self) -> Date:
-        "Returns the last day of the {month,quarter,year}."
+    def first_of_{month,quarter,year}(self) -> Date: "Returns the first day of the {}."
+    def last_of_{month,quarter,year}(self) -> Date: "Returns the last day of the {}."
     def first_of_iso_week(self) -> Date: "Returns the Monday of the ISO week."
     def last_of_iso_week(self) -> Date | None:
         "Returns the Sunday of the ISO week, or None past MAX."
     def on_or_{after,before}(self, weekday: Weekday) -> Date | None:
-        """Returns the {first day from this one on,last day up to this one} with a Weekday, or None
-        out of range."""
+        "Returns the {first day from this one on,last day up to this one} with a Weekday, or None."
 
-class Time(_Value, _TimeParts, _TimeMembers, _FormatMembers):
+class Time(_Value, _TimeParts, _TimeMembers, _Formatted):
     """Time(hour=0, minute=0, second=0, nanosecond=0): a time of day, from MIDNIGHT to MAX,
     23:59:59.999999999.
 
@@ -163,9 +163,7 @@ class Time(_Value, _TimeParts, _TimeMembers, _FormatMembers):
     ) -> Time: ...
     def __add__(self, other: SignedDuration) -> Time: ...
     @overload
-    def __sub__(self, other: Time) -> SignedDuration: ...
-    @overload
-    def __sub__(self, other: SignedDuration) -> Time: ...
+    def __sub__(self, other: {Time,SignedDuration}) -> {SignedDuration,Time}: ...
     def from_hms(hour: Int, minute: Int, second: Int) -> Time:
         "Creates the time of an hour, a minute and a second."
     def from_hms_{milli,micro,nano}(
@@ -185,7 +183,7 @@ class Time(_Value, _TimeParts, _TimeMembers, _FormatMembers):
         """Returns a carry of -1, 0 or 1 days beyond whole days, and the time a duration
         {later,earlier}."""
 
-class UtcOffset(_Value, _OffsetMembers, _FormatMembers):
+class UtcOffset(_Value, _OffsetMembers, _Formatted):
     """UtcOffset(hours=0, minutes=0, seconds=0): an offset from UTC, from -25:59:59 to +25:59:59,
     positive to the east."""
     UTC: ClassVar[UtcOffset]
@@ -198,14 +196,12 @@ class UtcOffset(_Value, _OffsetMembers, _FormatMembers):
         "Creates the offset of seconds, from -93599 to 93599."
     def as_hms(self) -> tuple[int, int, int]:
         "Returns the hours, minutes and seconds, with one sign."
-    def whole_{hours,minutes}(self) -> int:
-        "Returns the whole {hours,minutes}, truncated toward zero."
+    def whole_{hours,minutes}(self) -> int: "Returns the whole {}, truncated toward zero."
     def whole_seconds(self) -> int: "Returns the seconds."
     def {minutes_past_hour,seconds_past_minute}(self) -> int:
         "Returns the {minutes,seconds} past the whole {hours,minutes}, from -59 to 59."
     def is_utc(self) -> bool: "Returns whether the offset is zero."
-    def is_{positive,negative}(self) -> bool:
-        "Returns whether the offset is {east,west} of UTC."
+    def is_{positive,negative}(self) -> bool: "Returns whether the offset is {east,west} of UTC."
 
 class _Unit:
     def __get__(self, instance: None, owner: Any) -> Callable[[SupportsIndex], SignedDuration]: ...
@@ -236,10 +232,9 @@ class SignedDuration(_Value, _DurationMembers):
     def __bool__(self) -> bool: ...
     def new(seconds: Fits, nanoseconds: Fits) -> SignedDuration:
         "Creates the sum of seconds, in 64 bits, and nanoseconds, in 32 bits."
-    def is_{zero,negative,positive}(self) -> bool:
-        "Returns whether the duration is {zero,negative,positive}."
+    def is_{zero,negative,positive}(self) -> bool: "Returns whether the duration is {}."
     def whole_{weeks,days,hours,minutes,seconds}(self) -> int:
-        "Returns the whole {weeks,days,hours,minutes,seconds}, truncated toward zero."
+        "Returns the whole {}, truncated toward zero."
     def subsec_{milliseconds,microseconds,nanoseconds}(self) -> int:
         """Returns the {milliseconds,microseconds,nanoseconds} below the second, from
         -{999,999999,999999999} to {999,999999,999999999}."""
@@ -257,19 +252,16 @@ class SignedDuration(_Value, _DurationMembers):
     def saturating_mul(self, number: Fits) -> SignedDuration:
         "Returns the product with an int of 32 bits, or the nearest limit."
 
-class _DateTime(_Value, _DateParts, _TimeParts, _DateTimeMembers, _FormatMembers):
+class _DateTime(_Value, _DateParts, _TimeParts, _DateTimeMembers, _Formatted):
     def __add__(self, other: SignedDuration) -> Self: ...
     @overload
-    def __sub__(self, other: Self) -> SignedDuration: ...
-    @overload
-    def __sub__(self, other: SignedDuration) -> Self: ...
+    def __sub__(self, other: {Self,SignedDuration}) -> {SignedDuration,Self}: ...
     def date(self) -> Date: "Returns the date."
     def time(self) -> Time: "Returns the time of day."
     def replace_date(self, date: Date) -> Self: "Replaces the date."
     def replace_time(self, time: Time) -> Self: "Replaces the time of day."
     def checked_{add,sub}(self, duration: SignedDuration) -> Self | None:
-        """Returns the date-time a duration {later,earlier}, at the same offset, or None out of
-        range."""
+        "Returns the date-time a duration {later,earlier}, or None out of range."
     def saturating_{add,sub}(self, duration: SignedDuration) -> Self:
         "Returns the date-time a duration {later,earlier}, or the nearest end of the range."
 
@@ -286,7 +278,7 @@ class PlainDateTime(_DateTime, _PlainMembers):
     def assume_offset(self, offset: UtcOffset) -> OffsetDateTime:
         "Returns the same date and time at an offset."
 
-class OffsetDateTime(_DateTime, _MomentMembers):
+class OffsetDateTime(_DateTime, _MomentMembers, _ZoneMembers):
     """OffsetDateTime(date, time, offset): a date and a time of day at an offset from UTC.
 
     Values compare and hash by instant, regardless of offset. + and - with a SignedDuration keep
@@ -327,10 +319,9 @@ class Workdays:
     def _holidays(self) -> list[Date]: ...
     def is_workday(self, date: Date) -> bool: "Returns whether the day is a working day."
     def {next,previous}_workday(self, date: Date) -> Date | None:
-        """Returns the {first,last} working day {after,before} the day, or None out of range."""
+        "Returns the {first,last} working day {after,before} the day, or None out of range."
     def add_workdays(self, date: Date, days: Int) -> Date:
-        """Returns the n-th working day after the day, or before it for a negative number; for 0
-        the day or the first one after it."""
+        "Returns the n-th working day after the day, or before it; for 0 the first from the day on."
     def checked_add_workdays(self, date: Date, days: Int) -> Date | None:
         "Returns the same, or None out of range."
     def workdays_between(self, start: Date, end: Date) -> int:

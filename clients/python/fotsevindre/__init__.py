@@ -32,41 +32,27 @@ from .errors import ComponentRange, ContradictionError, FormatError, ParseError,
 from .errors import ParseRuleErrorKind, ZoneError, status_error
 
 _core.setup(Weekday, Convention, DayCount, Period, YearFraction, status_error, datetime.timedelta,
-    *Month, *Weekday)
+    "days", "seconds", "microseconds", "nanoseconds", *Month, *Weekday)
 
 from . import conversions as _conversions
-from .calls import calendar_dates_to_iso_week_dates, dates_add_days, dates_add_months
-from .calls import dates_add_workdays, dates_calendar_texts, dates_format
-from .calls import dates_from_calendar_dates, dates_from_iso_week_dates, dates_from_julian_days
-from .calls import dates_from_ordinal_dates, dates_parse, dates_parse_format
-from .calls import dates_to_calendar_dates, dates_to_iso_week_dates
-from .calls import dates_to_ordinal_dates, dates_weekdays, dates_workdays_between, moments_parse
-from .calls import moments_texts
-from .columns import CalendarDateColumns, DateColumns, IsoWeekDateColumns, MomentColumns
-from .columns import NumberColumns, OrdinalDateColumns, TextColumns, WeekdayColumns
+from . import calls as _calls
+from .calls import *
 from .formats import Format
 from .schedules import Days, Recurrence, Rule, Workdays
-from .zones import InstantColumns, Local, LocalKind, OffsetColumns, Policy, Zone
+from .zones import Local, LocalKind, Policy, Zone
 
 __version__ = "0.1.0"
 
 __all__ = [
-    "CalendarDateColumns", "ComponentRange", "ContradictionError", "Convention", "Date",
-    "DateColumns", "DayCount", "Days", "Format", "FormatError", "Frequency", "InstantColumns",
-    "IsoWeekDateColumns", "Local", "LocalKind", "MomentColumns", "Month", "NumberColumns",
-    "OffsetColumns", "OffsetDateTime", "OrdinalDateColumns", "ParseError", "ParseRuleError",
-    "ParseRuleErrorKind", "Period", "PlainDateTime", "Policy", "Recurrence", "Rule",
-    "SignedDuration", "TextColumns", "Time", "UtcOffset", "Weekday", "WeekdayColumns", "Workdays",
-    "YearFraction", "Zone", "ZoneError", "add_to_pair", "calendar_dates_to_iso_week_dates",
-    "dates_add_days", "dates_add_months", "dates_add_workdays", "dates_calendar_texts",
-    "dates_format", "dates_from_calendar_dates", "dates_from_iso_week_dates",
-    "dates_from_julian_days", "dates_from_ordinal_dates", "dates_parse", "dates_parse_format",
-    "dates_to_calendar_dates", "dates_to_iso_week_dates", "dates_to_ordinal_dates",
-    "dates_weekdays", "dates_workdays_between", "days_in_month", "days_in_year",
-    "days_in_year_month", "is_leap_year", "moments_parse", "moments_texts", "parse_rfc3339",
-    "parse_unix", "rfc3339_text", "status_error", "sub_from_pair", "unix_duration", "unix_pair",
-    "unix_text", "weeks_in_year",
+    "ComponentRange", "ContradictionError", "Convention", "Date", "DayCount", "Days", "Format",
+    "FormatError", "Frequency", "Local", "LocalKind", "Month", "OffsetDateTime", "ParseError",
+    "ParseRuleError", "ParseRuleErrorKind", "Period", "PlainDateTime", "Policy", "Recurrence",
+    "Rule", "SignedDuration", "Time", "UtcOffset", "Weekday", "Workdays", "YearFraction", "Zone",
+    "ZoneError", "add_to_pair", "days_in_month", "days_in_year", "days_in_year_month",
+    "is_leap_year", "parse_rfc3339", "parse_unix", "rfc3339_text", "status_error", "sub_from_pair",
+    "unix_duration", "unix_pair", "unix_text", "weeks_in_year",
 ]
+__all__ += _calls.__all__
 
 # Names in errors and pickles are those of the package.
 for _name in __all__:

@@ -13,7 +13,6 @@ from . import _core
 from ._core import Date, OffsetDateTime, PlainDateTime, SignedDuration, Time, UtcOffset
 from .errors import ParseError, check
 from .schedules import Days
-from .zones import Zone
 
 
 def _adds_to(*kinds: type) -> Callable[[type], None]:
@@ -49,7 +48,7 @@ def _whole_microseconds(nanoseconds: int, name: str) -> int:
 
 # The arguments that make a value.
 _PARTS: dict[type, Callable[[Any], tuple[Any, ...]]] = {
-    Date: Date.to_calendar_date,
+    Date: lambda value: (value.year, int(value.month), value.day),
     Time: Time.as_hms_nano,
     UtcOffset: UtcOffset.as_hms,
     SignedDuration: lambda value: (value.whole_seconds(), value.subsec_nanoseconds()),
@@ -288,17 +287,17 @@ class _PlainMembers:
     def parse(text: str) -> PlainDateTime:
         """Parses a date, T or a space, and a time, such as 2024-02-29T23:59:59.25; errors like
         `Date.parse` and `Time.parse`."""
-        return _plain(text, len(check(text, str)))
+        try:
+            return PlainDateTime(*_core.parse_rfc3339(f"{check(text, str)}Z")[:2])
+        except ValueError:
+            pass  # It has another form, or an error.
+        return _plain(text, _PARTS_OF_TEXT.search(text), len(text))
 
     fromisoformat = parse
 
 
 @_adds_to(OffsetDateTime)
 class _MomentMembers:
-    def in_zone(self: Any, zone: Zone) -> OffsetDateTime:
-        """Returns the same instant in a time zone, or raises `OverflowError`."""
-        return check(zone, Zone).in_zone(self)
-
     def to_datetime(self: Any) -> datetime.datetime:
         """Converts to a `datetime.datetime` in the `datetime.timezone` of the offset; errors like
         its parts."""
@@ -330,17 +329,21 @@ class _MomentMembers:
     def parse(text: str) -> OffsetDateTime:
         """Parses a date-time and an offset, such as 2024-02-29T23:59:59.25+01:00; a space may come
         before the offset."""
-        at = _separator(text)
-        found = re.search("[ Zz+-]", text[at + 1:])
-        end = at + 1 + found.start() if found else len(text)
-        local = _plain(text, end)
-        end += text[end:end + 1] == " "
-        return local.assume_offset(_within(_offset, text, end))
+        try:
+            return OffsetDateTime(*_core.parse_rfc3339(text))
+        except ValueError:
+            pass  # It has another form, or an error.
+        parts: Any = _PARTS_OF_TEXT.search(text)
+        local = _plain(text, parts, parts.end("time"))
+        return local.assume_offset(_within(_offset, text, parts.start("offset")))
 
     fromisoformat = parse
 
 
 # ---- texts
+
+_PARTS_OF_TEXT = re.compile(
+    "(?P<date>[^Tt ]*)(?P<separator>[Tt ]?)(?P<time>[^ Zz+-]*) ?(?P<offset>.*)", re.DOTALL)
 
 
 def _within(parse: Callable[[str], Any], text: str, start: int, end: int | None = None) -> Any:
@@ -354,6 +357,10 @@ def _within(parse: Callable[[str], Any], text: str, start: int, end: int | None 
 
 def _time(text: str) -> Time:
     """Parses 9:05, 09:05:00 or 09:05:00.25, by a moment of RFC 3339."""
+    try:
+        return _core.parse_rfc3339(f"1970-01-01T{text}Z")[1]
+    except ValueError:
+        pass  # It has another form, or an error.
     clock = re.split("[^0-9:.]", text)[0]
     length, added = len(clock), clock[1:2] == ":"
     full = "0" * added + clock
@@ -383,15 +390,9 @@ def _offset(text: str) -> UtcOffset:
     return UtcOffset(*(sign * int(part) for part in text[1:].split(":")))
 
 
-def _separator(text: str) -> int:
-    """Returns the position of the T or the space between a date and a time."""
-    found = re.search("[Tt ]", check(text, str))
-    return found.start() if found else len(text)
-
-
-def _plain(text: str, end: int) -> PlainDateTime:
-    at = _separator(text[:end])
-    date = _within(Date.parse, text, 0, at)
-    if at >= end:
-        raise ParseError(at, at == len(text))
-    return PlainDateTime(date, _within(_time, text, at + 1, end))
+def _plain(text: str, parts: Any, end: int) -> PlainDateTime:
+    """Parses a date, and a time up to an end."""
+    date = _within(Date.parse, text, 0, parts.end("date"))
+    if not parts["separator"]:
+        raise ParseError(len(text), True)
+    return PlainDateTime(date, _within(_time, text, parts.start("time"), end))

@@ -119,7 +119,20 @@ YearFraction = NamedTuple("YearFraction", [("numerator", int), ("denominator", i
 YearFraction.__doc__ = "A fraction of a year: what was counted, over what a year counts."
 
 
-class DayCount(enum.IntEnum):
+class Choice(enum.IntEnum):
+    """A number with a name, and the text of both is the name, such as Frequency.Daily."""
+
+    def __str__(self) -> str:
+        return f"{type(self).__name__}.{self.name}"
+
+    def __repr__(self) -> str:
+        return str(self)
+
+    def __format__(self, specification: str) -> str:
+        return format(str(self), specification)
+
+
+class DayCount(Choice):
     """How the days of interest are counted, by the names of the 2006 ISDA Definitions."""
 
     Actual360 = 1
@@ -129,7 +142,7 @@ class DayCount(enum.IntEnum):
     ActualActual = 5
 
 
-class Convention(enum.IntEnum):
+class Convention(Choice):
     """How a day moves to a working day, with the names of the ISDA Definitions."""
 
     Unadjusted = 0
@@ -139,7 +152,7 @@ class Convention(enum.IntEnum):
     ModifiedPreceding = 4
 
 
-class Frequency(enum.IntEnum):
+class Frequency(Choice):
     """The unit of the interval of a rule."""
 
     Daily = 1

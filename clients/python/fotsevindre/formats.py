@@ -53,10 +53,6 @@ class Format:
         return Format.from_description if self._is_description else Format, (self._text,)
 
 
-def _items_of(format: str | Format) -> str | bytes:
-    return format._items if isinstance(format, Format) else format
-
-
 def bytes_of(format: str | Format) -> bytes:
     """Returns the struct of C."""
     return (format if isinstance(format, Format) else Format(format))._items
@@ -64,20 +60,7 @@ def bytes_of(format: str | Format) -> bytes:
 
 @_adds_to(Date, Time, UtcOffset, PlainDateTime, OffsetDateTime)
 class _FormatMembers:
-    def strftime(self: Any, format: str | Format) -> str:
-        """Returns the text by a format, or raises `ValueError` if the format shows more than the
-        value has."""
-        return _core.format_value(self, _items_of(format))
-
-    @classmethod
-    def strptime(cls, text: str, format: str | Format) -> Self:
-        """Parses the text of a value by a format, and no other text, or raises `ParseError`,
-        `ComponentRange` or `ContradictionError`; `ValueError` if the texts of the format don't
-        determine such a value."""
-        return _core.parse_value(cls, text, _items_of(format))
-
     def __format__(self: Any, specification: str) -> str:
         """Formats by a format, which has a percent sign, or else the text of the value."""
-        if "%" in specification:
-            return _core.format_value(self, specification)
-        return format(str(self), specification)
+        return self.strftime(specification) if "%" in specification else \
+            format(str(self), specification)

@@ -53,9 +53,6 @@ class Days(Sequence[Date]):
     def __iter__(self) -> Iterator[Date]:
         return map(Date.from_julian_day, self._julian_days)
 
-    def __reversed__(self) -> Iterator[Date]:
-        return map(Date.from_julian_day, reversed(self._julian_days))
-
     def __contains__(self, date: object) -> bool:
         _refuse_datetime(date)
         return isinstance(date, Date) and date.to_julian_day() in self._julian_days
@@ -197,9 +194,6 @@ class Rule:
     def __contains__(self, date: object) -> bool:
         _refuse_datetime(date)
         return isinstance(date, Date) and _core.rule_contains(getattr(self, "_parts"), date)
-
-    def __reduce__(self) -> tuple[Any, ...]:
-        return Rule, tuple(getattr(self, field.name) for field in dataclasses.fields(self))
 
     def _walk(self, date: Date) -> Iterator[Date]:
         days = [date] * 64

@@ -2,18 +2,18 @@
 
 from __future__ import annotations
 
-import array
 import dataclasses
-import enum
 import importlib.resources
 import operator
 import os
 import pathlib
-from typing import Any, NamedTuple, SupportsIndex
+from typing import Any, SupportsIndex
 
 from . import _core
 from ._core import OffsetDateTime, PlainDateTime, UtcOffset
-from .columns import numbers_of
+from .calls import InstantColumns, OffsetColumns, _zone_instants, _zone_offsets
+from .conversions import _adds_to
+from .enums import Choice
 from .errors import ParseError, ZoneError, check
 
 _FILE, _POSIX = 1, 2
@@ -21,7 +21,7 @@ _FILE, _POSIX = 1, 2
 _SYSTEM = "/usr/share/zoneinfo"
 
 
-class LocalKind(enum.Enum):
+class LocalKind(Choice):
     """How often the clocks of a zone show a reading: once, never or twice."""
 
     Single = 1
@@ -29,7 +29,7 @@ class LocalKind(enum.Enum):
     Fold = 3
 
 
-class Policy(enum.IntEnum):
+class Policy(Choice):
     """What a reading in a gap or a fold means. In a gap, `Compatible` and `Later` move it forward
     by the length of the gap, and `Earlier` back. In a fold, `Compatible` and `Earlier` mean the
     first. `Reject` means neither."""
@@ -74,23 +74,6 @@ class Local:
     def reject(self) -> OffsetDateTime | None:
         """Returns the date-time if clocks show the reading once, else `None`."""
         return self.earlier() if self.kind is LocalKind.Single else None
-
-
-class OffsetColumns(NamedTuple):
-    """Seconds of offsets in 32 bits, a status for each row, and the number of rows without one."""
-
-    offsets: Any
-    statuses: Any
-    error_count: int
-
-
-class InstantColumns(NamedTuple):
-    """Unix times in 64 bits, a status for each row, and the number of rows without one, which have
-    -2**63."""
-
-    seconds: Any
-    statuses: Any
-    error_count: int
 
 
 def _seconds(moment: OffsetDateTime | SupportsIndex) -> int:
@@ -172,7 +155,8 @@ class Zone:
 
     def abbreviation_at(self, moment: OffsetDateTime | SupportsIndex) -> str:
         """Returns the abbreviation at an instant, such as CEST."""
-        return _core.zone_local_type(self._zone, _seconds(moment))[2]
+        _, _, start, length = _core.zone_local_type(self._zone, _seconds(moment))
+        return self._zone[0][start:start + length].decode()
 
     def next_change(self, moment: OffsetDateTime | SupportsIndex) -> int | None:
         """Returns the Unix time of the first change after an instant, or `None`."""
@@ -184,7 +168,8 @@ class Zone:
 
     def resolve(self, reading: PlainDateTime) -> Local:
         """Returns exactly the instants at which the clocks show a reading."""
-        kind, earlier, later, before, after = _core.zone_resolve(self._zone, reading)
+        date, time = check(reading, PlainDateTime).date(), reading.time()
+        kind, earlier, later, before, after = _core.zone_resolve(self._zone, date, time)
         instants = ((earlier,), (), (earlier, later))[kind - 1]
         return Local(reading, LocalKind(kind), instants, before, after)
 
@@ -193,20 +178,15 @@ class Zone:
         return _core.moment_in_zone(moment, self._zone)
 
     def offsets(self, seconds: Any) -> OffsetColumns:
-        """Returns the offsets at a column of Unix times."""
-        return OffsetColumns(*self._rows(None, seconds, "i"))
+        """Returns the offsets at a column of Unix times, in seconds or `datetime64`."""
+        if hasattr(seconds, "dtype") and (seconds != seconds).any():
+            raise ValueError("expected a time in each row, not NaT; drop or mask these rows")
+        return _zone_offsets(seconds, self._zone)
 
     def instants(self, readings: Any, policy: Policy = Policy.Compatible) -> InstantColumns:
         """Returns the Unix times of a column of readings, which are the seconds by the clock since
-        1970-01-01 0:00, by a policy."""
-        return InstantColumns(*self._rows(int(check(policy, Policy)), readings, "q"))
-
-    def _rows(self, policy: int | None, values: Any, code: str) -> tuple[Any, Any, int]:
-        column, like = numbers_of(values, "q")
-        results = array.array(code, [0]) * len(column)
-        statuses = array.array("B", [0]) * len(column)
-        error_count = _core.zone_columns(self._zone, policy, column, results, statuses)
-        return like(results), like(statuses), error_count
+        1970-01-01 0:00, or `datetime64`, by a policy."""
+        return _zone_instants(readings, (*self._zone, int(check(policy, Policy))))
 
     def __eq__(self, other: object) -> bool:
         if not isinstance(other, Zone):
@@ -231,3 +211,10 @@ def _zone(kind: type[Zone], key: str, data: bytes, form: int) -> Zone:
     zone = kind.__new__(kind)
     zone._set(key, data, form)
     return zone
+
+
+@_adds_to(OffsetDateTime)
+class _ZoneMembers:
+    def in_zone(self: Any, zone: Zone) -> OffsetDateTime:
+        """Returns the same instant in a time zone, or raises `OverflowError`."""
+        return Zone.in_zone(check(zone, Zone), self)

@@ -1,4 +1,5 @@
-"""Times calls from Python beside `datetime`, and rows of columns. It prints the minimum of the rounds, in nanoseconds of processor time.
+"""Times calls from Python beside `datetime`, and rows of columns. It prints the minimum of the
+rounds, in nanoseconds of processor time.
 
 Nothing tests the output.
 """
@@ -9,7 +10,7 @@ import time
 import timeit
 
 import fotsevindre
-from fotsevindre import Date, SignedDuration, Workdays
+from fotsevindre import Date, Format, OffsetDateTime, SignedDuration, Time, Workdays
 
 VALUES = 4096
 ROUNDS = 9
@@ -21,6 +22,10 @@ dates = [Date.from_julian_day(number) for number in julian_days]
 others = [date.to_date() for date in dates]
 calendar = [date.to_calendar_date() for date in dates]
 texts = [str(date) for date in dates]
+form = Format("%d/%m/%Y")
+shown = [date.strftime(form) for date in dates]
+stamps = [f"{date}T{number % 24:02}:59:59.25+01:00" for number, date in enumerate(dates)]
+clocks = [stamp[11:19] for stamp in stamps]
 day, delta = SignedDuration.DAY, datetime.timedelta(days=1)
 many = Workdays(holidays=[Date.from_julian_day(2451545 + 9 * number) for number in range(1024)])
 none = Workdays()
@@ -31,11 +36,17 @@ LOOPS = [
     ("weekday", lambda: [date.weekday() for date in dates], lambda: [date.weekday() for date in others]),
     ("to_calendar_date", lambda: [date.to_calendar_date() for date in dates], lambda: [(date.year, date.month, date.day) for date in others]),
     ("+ a day", lambda: [date + day for date in dates], lambda: [date + delta for date in others]),
+    ("+ timedelta(days=1)", lambda: [date + delta for date in dates], lambda: [date + delta for date in others]),
     ("==", lambda: [date == dates[7] for date in dates], lambda: [date == others[7] for date in others]),
     ("<", lambda: [date < dates[7] for date in dates], lambda: [date < others[7] for date in others]),
     ("hash", lambda: [hash(date) for date in dates], lambda: [hash(date) for date in others]),
     ("str", lambda: [str(date) for date in dates], lambda: [str(date) for date in others]),
     ("parse", lambda: [Date.parse(text) for text in texts], lambda: [datetime.date.fromisoformat(text) for text in texts]),
+    ("OffsetDateTime.parse", lambda: [OffsetDateTime.parse(text) for text in stamps], lambda: [datetime.datetime.fromisoformat(text) for text in stamps]),
+    ("Time.parse", lambda: [Time.parse(text) for text in clocks], lambda: [datetime.time.fromisoformat(text) for text in clocks]),
+    ("strftime", lambda: [date.strftime("%d/%m/%Y") for date in dates], lambda: [date.strftime("%d/%m/%Y") for date in others]),
+    ("strptime", lambda: [Date.strptime(text, "%d/%m/%Y") for text in shown], lambda: [datetime.datetime.strptime(text, "%d/%m/%Y") for text in shown]),
+    ("strftime and strptime by a Format", lambda: [Date.strptime(date.strftime(form), form) for date in dates], None),
     ("next_day", lambda: [date.next_day() for date in dates], None),
     ("next_workday, no holidays", lambda: [none.next_workday(date) for date in dates], None),
     ("next_workday, 1024 holidays", lambda: [many.next_workday(date) for date in dates], None),

@@ -13,7 +13,7 @@ import unittest
 
 import fotsevindre
 from fotsevindre import (
-    ComponentRange, Convention, Date, Frequency, Month, OffsetDateTime, ParseError, PlainDateTime, Rule, SignedDuration, Time, UtcOffset, Weekday, Workdays,
+    ComponentRange, Convention, Date, DayCount, Frequency, LocalKind, Month, OffsetDateTime, ParseError, PlainDateTime, Policy, Rule, SignedDuration, Time, UtcOffset, Weekday, Workdays, Zone,
 )
 
 LEAP_DAY = Date(2024, 2, 29)
@@ -27,6 +27,11 @@ class SilentlyWrong(unittest.TestCase):
         self.assertEqual((f"{year}-{month:02}-{day:02}", "%d-%02d-%02d" % (year, month, day)), ("2024-02-29",) * 2)
         self.assertEqual((f"{LEAP_DAY.year}-{LEAP_DAY.month}-{LEAP_DAY.day}", "{:>3}".format(month)), ("2024-2-29", "  2"))
         self.assertEqual((f"{LEAP_DAY.weekday()}", json.dumps([month, LEAP_DAY.weekday()])), ("3", "[2, 3]"))
+
+    def test_choices_in_texts(self):
+        for choice in (Policy.Later, LocalKind.Gap, Frequency.Daily, Convention.Following, DayCount.Thirty360):
+            name = f"{type(choice).__name__}.{choice.name}"
+            self.assertEqual((str(choice), repr(choice), f"{choice}", f"{choice:>30}", f"{int(choice)}"), (name, name, name, name.rjust(30), str(choice.value)))
 
     def test_weekdays_are_numbers_of_datetime(self):
         for number in range(7):
@@ -124,11 +129,13 @@ class Construction(unittest.TestCase):
         self.assertEqual((Date.MAX.checked_add_months(1), Date.MAX.saturating_add_months(1)), (None, Date.MAX))
 
     def test_references_are_counted(self):
+        zone = Zone.from_posix("CET-1CEST,M3.5.0,M10.5.0/3")
         calls = [
             lambda: Date(2024, 2, 29), lambda: LEAP_DAY.to_iso_week_date(), lambda: LEAP_DAY.replace(day=1), lambda: str(SignedDuration.MIN),
             lambda: Workdays(holidays=[LEAP_DAY]).holidays, lambda: SignedDuration(days=1, hours=2), lambda: OffsetDateTime.UNIX_EPOCH.isoformat(),
             lambda: LEAP_DAY + datetime.timedelta(1), lambda: Rule(LEAP_DAY, Frequency.Daily).first_days(70), lambda: fotsevindre.dates_weekdays([LEAP_DAY]),
-            lambda: Date.parse("2024-02-29"),
+            lambda: Date.parse("2024-02-29"), lambda: Date.strptime(LEAP_DAY.strftime("%d %B %Y"), "%d %B %Y"), lambda: zone.offsets([0, 1]),
+            lambda: OffsetDateTime.UNIX_EPOCH.in_zone(zone), lambda: zone.abbreviation_at(0), lambda: zone.resolve(PlainDateTime.MIN),
         ]
         singles = [Date, Time, UtcOffset, SignedDuration, PlainDateTime, OffsetDateTime, Workdays, *Month, *Weekday, LEAP_DAY]
         # From 3.12 on these are immortal: their counts mean nothing.
@@ -140,7 +147,6 @@ class Construction(unittest.TestCase):
             for _ in range(1000):
                 call()
             self.assertLess(max(abs(sys.getrefcount(single) - count) for single, count in zip(singles, before)), 500)
-
 
     def test_interpreters(self):
         """Each interpreter of a process has its own module, also with a lock of its own."""

@@ -1,4 +1,4 @@
-"""Tests of the columns with arrays of numpy: days of numpy, whole numbers of any bits, arrays in steps, and what is refused."""
+"""Tests of the columns with arrays of numpy: days and times of numpy, whole numbers of any bits, arrays in steps, and what is refused."""
 
 import pathlib
 import re
@@ -7,7 +7,7 @@ import unittest
 import numpy
 
 import fotsevindre
-from fotsevindre import Date, columns
+from fotsevindre import Date, Policy, Zone, columns
 
 EPOCH = 2440588
 
@@ -18,9 +18,10 @@ class Numpy(unittest.TestCase):
         found = fotsevindre.dates_to_calendar_dates(days)
         self.assertEqual([row for row in zip(*found[:3])], [(2024, 2, 29), (1969, 12, 31), (-2**31, 0, 0), (-1, 12, 31)])
         self.assertEqual((found.error_count, isinstance(fotsevindre.status_error(found.statuses[2]), ValueError)), (1, True))
-        past = numpy.array([2**62, -2**62, 2**63 - 1], dtype="int64").view("datetime64[D]")
-        self.assertEqual(fotsevindre.dates_weekdays(past).error_count, 3)
-        self.assertTrue((past.view("int64") == [2**62, -2**62, 2**63 - 1]).all())
+        far = [2**62, -2**62, 2**63 - 1, 2**40, 2**31, -2**31, 364522972, -365961663]
+        past = numpy.array(far, dtype="int64").view("datetime64[D]")
+        self.assertEqual(fotsevindre.dates_weekdays(past).error_count, len(far))
+        self.assertTrue((past.view("int64") == far).all())
         every = numpy.arange("1600-01-01", "2400-01-01", 7, dtype="datetime64[D]")
         calendar = fotsevindre.dates_to_calendar_dates(every)
         months = every.astype("datetime64[M]")
@@ -58,6 +59,9 @@ class Numpy(unittest.TestCase):
         self.assertEqual((str(found.dates[0]), found.dates.mask.tolist(), found.statuses.mask.tolist()), ("2024-03-01", [False, True], [False, True]))
         years = fotsevindre.dates_to_calendar_dates(days).years
         self.assertEqual((years.mask.tolist(), years[0]), ([False, True], 2024))
+        texts = fotsevindre.dates_calendar_texts(days)
+        self.assertEqual((texts.texts, list(texts.bounds), texts.statuses.mask.tolist()), (b"2024-02-292024-03-01", [0, 10, 20], [False, True]))
+        self.assertTrue(fotsevindre.dates_weekdays(numpy.ma.array([2451545], mask=[True])).weekdays.mask.all())
 
     def test_scalars(self):
         days = numpy.array(["2024-02-29", "2024-03-01"], dtype="datetime64[D]")
@@ -125,7 +129,7 @@ class Numpy(unittest.TestCase):
 
     def test_what_is_refused(self):
         for wrong, words in [
-            (numpy.array(["2024-02-29T12"], dtype="datetime64[h]"), "datetime64\\[h\\]"), (numpy.array([1.0]), "float64"),
+            (numpy.array([1.0]), "float64"),
             (numpy.array([True]), "bool"), (numpy.array([[1]]), "one dimension"), (numpy.array(["2024"]), "integers"),
             (numpy.array([None]), "integers"),
         ]:
@@ -137,8 +141,33 @@ class Numpy(unittest.TestCase):
                 fotsevindre.dates_to_ordinal_dates(days[:, None])
             with self.assertRaises(TypeError):
                 fotsevindre.dates_from_ordinal_dates(wrong, wrong)
-        with self.assertRaisesRegex(TypeError, "timedelta64\\[h\\]"):
-            fotsevindre.dates_add_days(days, numpy.array([1], dtype="timedelta64[h]"))
+        for call in (
+            lambda: fotsevindre.dates_to_ordinal_dates(numpy.array(["2024-02-29T12"], dtype="datetime64[h]")),
+            lambda: fotsevindre.dates_add_days(days, numpy.array([1], dtype="timedelta64[h]")),
+        ):
+            self.assertRaisesRegex(ValueError, "expected whole days in a column of .*64\\[h\\]", call)
+
+    def test_times_of_zones(self):
+        zone = Zone.from_posix("CET-1CEST,M3.5.0,M10.5.0/3")
+        readings = numpy.array(["2024-03-31T02:30", "2024-10-27T02:30", "2023-11-14T22:13:20", "NaT"], dtype="datetime64[s]")
+        for policy, times, statuses in (
+            (Policy.Compatible, ["2024-03-31T01:30", "2024-10-27T00:30", "2023-11-14T21:13:20", "NaT"], [0, 0, 0, 1]),
+            (Policy.Reject, ["NaT", "NaT", "2023-11-14T21:13:20", "NaT"], [47, 48, 0, 1]),
+        ):
+            found = zone.instants(readings, policy)
+            numpy.testing.assert_array_equal(found.seconds, numpy.array(times, dtype="datetime64[s]"))
+            self.assertEqual((list(found.statuses), found.error_count), (statuses, sum(map(bool, statuses))))
+        masked = zone.instants(numpy.ma.MaskedArray(readings, [1, 0, 0, 0]))
+        self.assertEqual((masked.seconds.dtype, list(masked.seconds.mask)), ("datetime64[s]", [1, 0, 0, 0]))
+        # Other units, and the seconds that a list has.
+        instants = zone.instants(readings[:3].astype("datetime64[ns]")).seconds
+        self.assertEqual(list(zone.instants(list(readings[:3].astype("int64"))).seconds), list(instants.astype("int64")))
+        self.assertEqual([list(zone.offsets(times).offsets) for times in (instants, instants.astype("int64"))], [[7200, 7200, 3600]] * 2)
+        for wrong, words in (
+            (lambda: zone.instants(numpy.array(["2024-03-31T02:30:00.5"], dtype="datetime64[ms]")), "expected whole seconds"),
+            (lambda: zone.offsets(readings), "not NaT"),
+        ):
+            self.assertRaisesRegex(ValueError, words, wrong)
 
     def test_numbers_of_numpy(self):
         date = Date.from_calendar_date(numpy.int32(2024), numpy.uint8(2), numpy.int64(29))

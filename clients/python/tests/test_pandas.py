@@ -6,7 +6,7 @@ import numpy
 import pandas
 
 import fotsevindre
-from fotsevindre import Date, SignedDuration, Workdays
+from fotsevindre import Date, SignedDuration, Workdays, Zone
 
 
 class Pandas(unittest.TestCase):
@@ -29,6 +29,12 @@ class Pandas(unittest.TestCase):
         between = fotsevindre.dates_workdays_between(self.DAYS, Date(2025, 1, 1), Workdays())
         wanted = numpy.busday_count(self.DAYS.dropna().to_numpy().astype("datetime64[D]"), numpy.datetime64("2025-01-01"))
         self.assertEqual((list(between.numbers[["a", "c"]]), between.numbers["b"]), (list(wanted), -2**31))
+        texts = fotsevindre.dates_calendar_texts(self.DAYS)
+        self.assertEqual((texts.texts, list(texts.bounds), list(texts.statuses.index)), (b"2024-02-292024-12-31", [0, 10, 10, 20], ["a", "b", "c"]))
+        parsed = fotsevindre.dates_parse(texts.texts, pandas.Series(texts.bounds))
+        self.assertEqual((list(parsed.dates), parsed.error_count), ([2460370, -2**31, 2460676], 1))
+        times = Zone.from_posix("CET-1CEST,M3.5.0,M10.5.0/3").instants(self.DAYS).seconds
+        self.assertEqual(([str(time) for time in times], list(times.index)), (["2024-02-28 23:00:00", "NaT", "2024-12-30 23:00:00"], ["a", "b", "c"]))
 
     def test_timedeltas(self):
         self.assertEqual(Date(2024, 2, 29) + pandas.Timedelta(days=1), Date(2024, 3, 1))
@@ -38,8 +44,8 @@ class Pandas(unittest.TestCase):
 
     def test_what_is_refused(self):
         noon = pandas.Series(pandas.to_datetime(["2024-02-29 12:00"]))
-        with self.assertRaisesRegex(ValueError, "times of day"):
-            fotsevindre.dates_weekdays(noon)
+        for call in (lambda: fotsevindre.dates_weekdays(noon), lambda: fotsevindre.dates_add_days(self.DAYS, pandas.Series([noon[0] - self.DAYS[0]] * len(self.DAYS)))):
+            self.assertRaisesRegex(ValueError, "expected whole days", call)
         for wrong in (pandas.Series([1.5]), pandas.Series(["2024-02-29"]), pandas.Series([True])):
             with self.assertRaisesRegex(TypeError, "expected a column of integers"):
                 fotsevindre.dates_weekdays(wrong)

@@ -4,7 +4,7 @@ import datetime
 from typing import List, Optional, Tuple
 
 from fotsevindre import Frequency, OffsetDateTime, ParseRuleError, ParseRuleErrorKind, PlainDateTime, Recurrence, Rule, Workdays
-from fotsevindre import Date, Days, Month, SignedDuration, Time, UtcOffset, Weekday, add_to_pair, rfc3339_text
+from fotsevindre import Date, Days, Format, Local, Month, Policy, SignedDuration, Time, UtcOffset, Weekday, Zone, add_to_pair, rfc3339_text
 
 day: Date = Date.from_calendar_date(2024, Month.February, 29)
 same: Date = Date.from_calendar_date(2024, 2, 29)
@@ -40,6 +40,9 @@ by_text: List[Date] = list(Recurrence.parse("FREQ=DAILY;COUNT=2").days(day)) + l
 recurrence: Recurrence = Recurrence.parse("FREQ=DAILY;COUNT=2")
 of_text: Tuple[str, Rule, Optional[int], Optional[Date]] = (recurrence.text, recurrence.rule(day), recurrence.count, recurrence.until)
 lists: Tuple[Tuple[Month, ...], Tuple[int, ...]] = (recurrence.months, recurrence.month_days)
+printed: Tuple[str, Date, Time] = (day.strftime(Format("%d")), Date.strptime("2024-02-29", "%F"), Time.strptime("9:05", "%-H:%M"))
+zone: Zone = Zone.from_posix("CET-1CEST,M3.5.0,M10.5.0/3")
+zoned: Tuple[OffsetDateTime, Local, int] = (moment.in_zone(zone), zone.resolve(local), zone.instants([0], Policy.Reject).error_count)
 fault: Tuple[int, Optional[str]] = (ParseRuleError(1, ParseRuleErrorKind.Missing).position, ParseRuleError(1, ParseRuleErrorKind.Missing).part)
 
 Date.from_calendar_date("2024", 2, 29)  # refused
@@ -69,3 +72,7 @@ Recurrence.parse(b"FREQ=DAILY")  # refused
 recurrence.rule(1)  # refused
 recurrence.count + 1  # refused
 shown.unix_timestamp()  # refused
+day.add_months(number=1)  # refused
+day.strftime(29)  # refused
+zone.instants([0], 3)  # refused
+moment.in_zone("Europe/Berlin")  # refused
