@@ -16,7 +16,7 @@ from .zones import _ZoneMembers
 # An int. One that doesn't fit the parameter in C becomes the nearest number, or one that the call
 # rejects by its name. One that must fit raises OverflowError.
 {Int,Fits} = SupportsIndex
-# What to_rule and to_zone in C take.
+# The tuples that to_rule and to_zone in C take.
 {_Rule,_Zone} = tuple[Any, ...]
 
 class _Value(_ValueMembers):
