@@ -20,7 +20,7 @@ void PyBuffer_Release(Py_buffer *view);
 #define PyBUF_C_CONTIGUOUS (0x0020 | 0x0010 | 0x0008)
 #endif
 
-/* The columns that a call reads and then those that it writes, and what it takes beside them. */
+/* The columns that a call reads and then those that it writes, and its other arguments. */
 typedef struct Columns {
     Py_buffer views[8];
     void *data[8];
@@ -33,8 +33,8 @@ typedef struct Columns {
 } Columns;
 
 /* A call. The columns that it reads and writes have the letters of the module array, and "W" if it
- * writes weekdays: Monday is 0 in Python, and 1 in C. `extra` is the first letter of what it takes
- * beside them, or 0. */
+ * writes weekdays: Monday is 0 in Python, and 1 in C. `extra` is the first letter of its other
+ * argument, or 0. */
 typedef struct ColumnCall {
     const char *name, *reads, *writes;
     char extra;
@@ -85,7 +85,7 @@ static void shift_weekdays(const Columns *columns, const ColumnCall *call)
     }
 }
 
-/* Converts what a call takes beside its columns. */
+/* Converts the other argument of a call. */
 static int get_extra(Columns *columns, char extra, const State *state, PyObject *object)
 {
     switch (extra) {

@@ -146,3 +146,43 @@ static fots_moment_result moment_to_utc(fots_moment moment)
 {
     return fots_moment_to_offset(moment, utc);
 }
+
+/* ---- texts of ISO 8601 */
+
+/* Parses a text between two others by RFC 3339. Returns 0 after it has raised an error. */
+static int parse_between(const State *state, const char *before, PyObject *object,
+    const char *after, fots_parse_moment_result *result)
+{
+    char bytes[64];
+    size_t start = strlen(before), added = strlen(after);
+    Text text = {NULL, NULL, 0};
+    if (!to_text(state, object, &text)) {
+        return 0;
+    }
+    result->status = FOTS_UNEXPECTED_BYTE;
+    if (start + text.length + added <= sizeof bytes) {
+        memcpy(bytes, before, start);
+        memcpy(bytes + start, text.start, text.length);
+        memcpy(bytes + start + text.length, after, added);
+        *result = fots_moment_parse(bytes, start + text.length + added);
+    }
+    Py_XDECREF(text.bytes);
+    return 1;
+}
+
+/* A function that parses the usual form, and leaves other ones and errors to Python. */
+#define PARSE(name, before, after, value) \
+    static PyObject *name(PyObject *self, PyObject *object) \
+    { \
+        const State *state = state_of_type((PyTypeObject *)self); \
+        fots_parse_moment_result result; \
+        if (!parse_between(state, before, object, after, &result)) { \
+            return NULL; \
+        } \
+        return result.status ? PyObject_CallMethod(self, "_parse", "O", object) : value; \
+    }
+PARSE(time_parse, "1970-01-01T", "Z", new_time(state, result.time))
+PARSE(plain_parse, "", "Z",
+    new_moment(state->plain, (fots_moment){result.date, result.offset, result.time}))
+PARSE(moment_parse, "", "",
+    new_moment(state->moment, (fots_moment){result.date, result.offset, result.time}))

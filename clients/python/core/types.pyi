@@ -16,7 +16,7 @@ from .zones import _ZoneMembers
 # An int. One that doesn't fit the parameter in C becomes the nearest number, or one that the call
 # rejects by its name. One that must fit raises OverflowError.
 {Int,Fits} = SupportsIndex
-# What to_rule and to_zone in C take.
+# The tuples that to_rule and to_zone in C take.
 {_Rule,_Zone} = tuple[Any, ...]
 
 class _Value(_ValueMembers):
@@ -170,6 +170,9 @@ class Time(_Value, _TimeParts, _TimeMembers, _Formatted):
         hour: Int, minute: Int, second: Int, {milli,micro,nano}second: Int
     ) -> Time:
         "Creates the time of an hour, a minute, a second and {milli,micro,nano}seconds."
+    def {parse,fromisoformat}(text: str) -> Time:
+        """Parses a time, such as 9:05, 09:05:00 or 9:05:00.25, or raises ParseError or
+        ComponentRange."""
     def isoformat(self) -> str:
         "Returns the time like datetime.time, with nine digits if there are nanoseconds."
     def replace(
@@ -274,6 +277,9 @@ class PlainDateTime(_DateTime, _PlainMembers):
     def __new__(cls, date: Date, time: Time) -> PlainDateTime: ...
     def new(date: Date, time: Time) -> PlainDateTime:
         "Creates the date-time of a date and a time of day."
+    def {parse,fromisoformat}(text: str) -> PlainDateTime:
+        """Parses a date, T or a space, and a time, such as 2024-02-29T23:59:59.25; errors like
+        Date.parse and Time.parse."""
     def assume_utc(self) -> OffsetDateTime: "Returns the same date and time at UTC."
     def assume_offset(self, offset: UtcOffset) -> OffsetDateTime:
         "Returns the same date and time at an offset."
@@ -292,6 +298,9 @@ class OffsetDateTime(_DateTime, _MomentMembers, _ZoneMembers):
         "Creates the date-time of a date, a time of day and an offset."
     def new_utc(date: Date, time: Time) -> OffsetDateTime:
         "Creates the date-time of a date and a time of day at UTC."
+    def {parse,fromisoformat}(text: str) -> OffsetDateTime:
+        """Parses a date-time and an offset, such as 2024-02-29T23:59:59.25+01:00; a space may come
+        before the offset."""
     def from_unix_timestamp(seconds: Int) -> OffsetDateTime:
         "Creates the date-time at UTC of Unix seconds."
     def from_unix_duration(duration: SignedDuration) -> OffsetDateTime:

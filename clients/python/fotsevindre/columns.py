@@ -105,8 +105,8 @@ class _Like:
         self.masks = [one.mask for one in rows if isinstance(one, masked)]
 
     def made(self, name: str, column: Any) -> Any:
-        """Returns a column of a result: of datetime64 if that was given, masked like what was
-        given, and with its index."""
+        """Returns a column of a result: of datetime64 if that was given, with the same mask and
+        index."""
         if not self.numpy or name == "texts":
             return column
         found = self.numpy.asarray(column)

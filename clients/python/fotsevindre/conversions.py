@@ -207,12 +207,8 @@ class _TimeMembers:
         return datetime.time(self.hour, self.minute, self.second, microsecond)
 
     @staticmethod
-    def parse(text: str) -> Time:
-        """Parses a time, such as 9:05, 09:05:00 or 9:05:00.25, or raises `ParseError` or
-        `ComponentRange`."""
-        return _time(check(text, str))
-
-    fromisoformat = parse
+    def _parse(text: str) -> Time:
+        return _time(text)
 
 
 @_adds_to(UtcOffset)
@@ -284,16 +280,8 @@ class _PlainMembers:
         return PlainDateTime(Date.from_date(value.date()), Time.from_time(value.time()))
 
     @staticmethod
-    def parse(text: str) -> PlainDateTime:
-        """Parses a date, T or a space, and a time, such as 2024-02-29T23:59:59.25; errors like
-        `Date.parse` and `Time.parse`."""
-        try:
-            return PlainDateTime(*_core.parse_rfc3339(f"{check(text, str)}Z")[:2])
-        except ValueError:
-            pass  # It has another form, or an error.
+    def _parse(text: str) -> PlainDateTime:
         return _plain(text, _PARTS_OF_TEXT.search(text), len(text))
-
-    fromisoformat = parse
 
 
 @_adds_to(OffsetDateTime)
@@ -326,18 +314,10 @@ class _MomentMembers:
         return self.unix_duration().whole_nanoseconds()
 
     @staticmethod
-    def parse(text: str) -> OffsetDateTime:
-        """Parses a date-time and an offset, such as 2024-02-29T23:59:59.25+01:00; a space may come
-        before the offset."""
-        try:
-            return OffsetDateTime(*_core.parse_rfc3339(text))
-        except ValueError:
-            pass  # It has another form, or an error.
+    def _parse(text: str) -> OffsetDateTime:
         parts: Any = _PARTS_OF_TEXT.search(text)
         local = _plain(text, parts, parts.end("time"))
         return local.assume_offset(_within(_offset, text, parts.start("offset")))
-
-    fromisoformat = parse
 
 
 # ---- texts
@@ -357,10 +337,6 @@ def _within(parse: Callable[[str], Any], text: str, start: int, end: int | None 
 
 def _time(text: str) -> Time:
     """Parses 9:05, 09:05:00 or 09:05:00.25, by a moment of RFC 3339."""
-    try:
-        return _core.parse_rfc3339(f"1970-01-01T{text}Z")[1]
-    except ValueError:
-        pass  # It has another form, or an error.
     clock = re.split("[^0-9:.]", text)[0]
     length, added = len(clock), clock[1:2] == ":"
     full = "0" * added + clock
