@@ -26,3 +26,6 @@ returns-clause-year c =
 
 pub returns-clause-week : goal.returns-clause-week
 returns-clause-week c = c.div_7.ensures ∙ sym (week_of_thursday c.args.number _ _ (has c)).1
+
+pub returns-clause-weekday : goal.returns-clause-weekday
+returns-clause-weekday c = omega (arith, weekday_at-is c.args.number)
