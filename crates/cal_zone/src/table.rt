@@ -8,24 +8,42 @@ use crate::{Change, Layout, LocalType};
 use std::marker::Model;
 
 /// Returns the byte at a position, or 0 after the end.
+#[inline(always)]
 fn byte(bytes: &[u8], at: usize) -> u8
     ensures { result ≡ slice_index bytes.now at }
 {
     if at < bytes.len() { bytes[at] } else { 0 }
 }
 
-/// Returns the signed number of the four bytes at a position.
-fn signed(bytes: &[u8], at: usize) -> i32
-    requires { at + 4 < 2 ^ 64 }
-    ensures { result ≡ two_complement 31 (big_endian bytes.now at 4) }
+/// Returns the signed number of four bytes, the highest first.
+#[inline(always)]
+fn signed_of(a: u8, b: u8, c: u8, d: u8) -> i32
+    ensures { result ≡ two_complement 31 (((a * 256 + b) * 256 + c) * 256 + d) }
 {
-    let high = u32::from(byte(bytes, at)) * 256 + u32::from(byte(bytes, at + 1));
-    let n = (high * 256 + u32::from(byte(bytes, at + 2))) * 256 + u32::from(byte(bytes, at + 3));
+    let high = u32::from(a) * 256 + u32::from(b);
+    let n = (high * 256 + u32::from(c)) * 256 + u32::from(d);
     if n < 0x8000_0000 {
         n as i32
     } else {
         -((u32::MAX - n) as i32) - 1
     }
+}
+
+/// Returns the signed number of the four bytes at a position.
+#[inline(always)]
+fn signed(bytes: &[u8], at: usize) -> i32
+    requires { at + 4 < 2 ^ 64 }
+    ensures { result ≡ two_complement 31 (big_endian bytes.now at 4) }
+{
+    if at + 4 <= bytes.len() {
+        return signed_of(bytes[at], bytes[at + 1], bytes[at + 2], bytes[at + 3]);
+    }
+    signed_of(
+        byte(bytes, at),
+        byte(bytes, at + 1),
+        byte(bytes, at + 2),
+        byte(bytes, at + 3),
+    )
 }
 
 /// Returns the signed number of the eight bytes at a position.
@@ -45,6 +63,7 @@ fn signed_long(bytes: &[u8], at: usize) -> i64
 }
 
 /// Returns the local time type that begins at a position.
+#[inline(always)]
 fn local_type(bytes: &[u8], at: usize, names: usize, names_end: usize) -> LocalType
     requires at { at + 6 < 2 ^ 64 }
     requires names { names + 255 < 2 ^ 64 }
@@ -183,10 +202,16 @@ impl<'a> Table<'a> {
         let _ = bytes.len();
         let layout = self.layout;
         let kind = usize::from(bytes[layout.indexes + index]);
-        local_type(bytes, layout.types + 6 * kind, layout.names, layout.names_end)
+        local_type(
+            bytes,
+            layout.types + 6 * kind,
+            layout.names,
+            layout.names_end,
+        )
     }
 
     /// Returns the change at an index.
+    #[inline(always)]
     pub fn change(&self, index: usize) -> Change
         requires { index < length self.now }
         ensures value { result ≡ slice_index_or self.now index no_change }

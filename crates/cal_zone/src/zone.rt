@@ -4,7 +4,9 @@ ghost use Rattle.cal_zone.specs.Timeline.{offset_at, kind_at, local_at, InOrder,
 ghost use Rattle.cal_zone.specs.Instants.{Names, IsExplained};
 ghost use Rattle.cal_zone.specs.Zone.{held, made_of, zone_of, AreParts, IsTimelineError};
 
-use crate::{Change, ChangeError, Instants, LocalType, Rule, Table, TimelineError, UncheckedZone, ZoneParts};
+use crate::{
+    Change, ChangeError, Instants, LocalType, Rule, Table, TimelineError, UncheckedZone, ZoneParts,
+};
 use std::marker::Model;
 
 /// A time zone: the local time type before the first change, the changes of a file, whose bytes
@@ -29,11 +31,7 @@ impl<'a> Model for Zone<'a> {
 
 /// Checks that changes and then the changes of a rule are in order. Returns the number of changes of
 /// the rule, from -999999 on, that are not after the last one of the table.
-pub fn join(
-    first: LocalType,
-    table: &Table<'_>,
-    rule: Option<Rule>,
-) -> Result<u32, TimelineError>
+pub fn join(first: LocalType, table: &Table<'_>, rule: Option<Rule>) -> Result<u32, TimelineError>
     ensures value { IfOk result (λ skip. held first table.now rule skip ≡ zone_of first table.now rule) }
     ensures range { IfOk result (λ skip. skip ≤ 3_999_998) }
     ensures ordered { OnOk result (IsOrdered first.offset (zone_of first table.now rule).changes) }
@@ -104,14 +102,14 @@ impl<'a> Zone<'a> {
         ensures value { result ≡ offset_at self.now instant }
         ensures offset { IsOffset result }
     {
+        let _ = &self.unchecked;
         self.kind_at(instant).offset
     }
 
     /// Returns how the clocks are set at a Unix time.
     #[inline(always)]
     pub fn kind_at(&self, instant: i64) -> LocalType
-        ensures value { result ≡ kind_at self.now instant }
-        ensures offset { IsOffset result.offset }
+        ensures { result ≡ kind_at self.now instant }
     {
         self.unchecked.kind_at(instant)
     }

@@ -3,7 +3,8 @@ use Rattle.cal_zone.specs.declared.change.Change.{Change}
 use Rattle.cal_zone.specs.declared.layout.Layout.{Layout}
 use Rattle.cal_zone.specs.Table.{HasNoType}
 use Rattle.cal_zone.specs.Zone.{held}
-use Rattle.cal_tzif.specs.File.{HasFooter, IsFooterError, IsFileError}
+use Rattle.cal_zone.specs.Timeline.{Timeline}
+use Rattle.cal_tzif.specs.File.{HasFooter, IsFooterError, IsFile, IsFileError}
 use Rattle.cal_tzif.specs.Header.{second_header}
 use Rattle.cal_tzif.specs.Types.{HasTypes, IsTypesError}
 use Rattle.cal_tzif.specs.PosixError.{error_at}
@@ -20,7 +21,7 @@ returns-in-Err-clause-error c =
 
 pub returns-in_err-footer-clause-none : goal.returns-in_err-footer-clause-none
 returns-in_err-footer-clause-none c =
-    on_err _ _
+    on_err c.from_residual-in_err-footer.result ((zone : Timeline) → IsFile c.args.bytes.now zone → ⊥)
     (λ zone h. not_footer c.args.bytes.now (second_header c.args.bytes.now).end c.in_err-footer.field-0.0 h.footer
         (subst (λ (n : ℕ). IsFooterError c.args.bytes.now n c.in_err-footer.field-0.0) c.in_ok-layout.ensures.value.1 c.in_err-footer.ensures.error) h.text)
 
