@@ -305,8 +305,11 @@ fn errors_of_headers(rt: HostRuntime) {
 /// Checks that a file is too short for a count of 2^32 - 1, which is at a position.
 fn check_count(rt: &impl Abort, at: usize) {
     let mut bytes = FREETOWN;
-    for index in 0..4 {
-        bytes[at + index] = 255;
+    if at < 300 {
+        bytes[at] = 255;
+        bytes[at + 1] = 255;
+        bytes[at + 2] = 255;
+        bytes[at + 3] = 255;
     }
     let (kind, position) = (ZoneErrorKind::Truncated, 324);
     same(
