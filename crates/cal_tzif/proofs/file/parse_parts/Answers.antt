@@ -23,7 +23,7 @@ pub returns-in_err-footer-clause-none : goal.returns-in_err-footer-clause-none
 returns-in_err-footer-clause-none c =
     on_err c.from_residual-in_err-footer.result ((zone : Timeline) → IsFile c.args.bytes.now zone → ⊥)
     (λ zone h. not_footer c.args.bytes.now (second_header c.args.bytes.now).end c.in_err-footer.field-0.0 h.footer
-        (subst (λ (n : ℕ). IsFooterError c.args.bytes.now n c.in_err-footer.field-0.0) c.in_ok-layout.ensures.value.1 c.in_err-footer.ensures.error) h.text)
+    (subst (λ (n : ℕ). IsFooterError c.args.bytes.now n c.in_err-footer.field-0.0) c.in_ok-layout.ensures.value.1 c.in_err-footer.ensures.error) h.text)
 
 pub returns-in-Err-new-clause-error : goal.returns-in-Err-new-clause-error
 returns-in-Err-new-clause-error c =

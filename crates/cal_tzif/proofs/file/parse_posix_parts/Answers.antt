@@ -18,4 +18,4 @@ pub returns-clause-value : goal.returns-clause-value
 returns-clause-value c =
     posix_is c.args.text.now c.in_ok-footer.footer c.rule_type-first.result c.empty.result _ c.in_ok-footer.ensures.value c.rule_type-first.ensures c.empty.ensures
     (ap (λ (t : List Change). held c.rule_type-first.result t c.in_ok-footer.footer.rule c.in-Ok.skip) (ap (changes_in c.args.text.now) c.empty-in-Ok.ensures ∙ sym c.empty.ensures)
-        ∙ c.in-Ok.ensures.value)
+    ∙ c.in-Ok.ensures.value)
