@@ -941,6 +941,14 @@ struct Local {
     UtcOffset earlier_offset, later_offset;
 };
 
+// What Zone::instants returns: for each reading a Unix time and FOTS_OK, or the reason why it has
+// none. The number of errors counts the reasons.
+struct InstantColumn {
+    std::vector<std::int64_t> seconds;
+    std::vector<std::uint8_t> statuses;
+    std::size_t errors;
+};
+
 // A time zone. Its bytes must not change.
 class Zone {
 public:
@@ -983,6 +991,30 @@ public:
         const fots_moment_result found =
             with(fots_zone_moment, reading.date().c(), reading.time().c(), static_cast<std::uint32_t>(policy));
         return OffsetDateTime(detail::value_or_throw(found).moment, {});
+    }
+
+    // Returns the offsets at Unix times, in seconds.
+    std::vector<std::int32_t> offsets(const std::vector<std::int64_t> &seconds) const
+    {
+        std::vector<std::int32_t> found(seconds.size());
+        std::vector<std::uint8_t> statuses(seconds.size());
+        // Without a row, data() may be null.
+        if (!seconds.empty()) {
+            with(fots_zone_offsets, seconds.data(), seconds.size(), found.data(), found.size(), statuses.data(), statuses.size());
+        }
+        return found;
+    }
+
+    // Returns the Unix times at which clocks show readings, by a policy. A reading is the seconds by
+    // the clock since 1970-01-01 0:00.
+    InstantColumn instants(const std::vector<std::int64_t> &readings, Policy policy = Policy::Compatible) const
+    {
+        InstantColumn found{std::vector<std::int64_t>(readings.size()), std::vector<std::uint8_t>(readings.size()), 0};
+        if (!readings.empty()) {
+            found.errors = with(fots_zone_instants, readings.data(), readings.size(), static_cast<std::uint32_t>(policy), found.seconds.data(),
+                found.seconds.size(), found.statuses.data(), found.statuses.size());
+        }
+        return found;
     }
 
     // Returns the struct of C, which uses the bytes of this zone.

@@ -296,6 +296,12 @@ void zones()
     check(OffsetDateTime::from_unix_timestamp(1729989000).in_zone(berlin).local() == in_fold, "in a zone");
     throws([&] { berlin.date_time(in_gap, Policy::Reject); }, FOTS_SKIPPED_TIME, "skipped time", "in a gap");
     throws([&] { berlin.date_time(in_fold, Policy::Reject); }, FOTS_REPEATED_TIME, "repeated time", "in a fold");
+    check(berlin.offsets({1711846799, 1711846800}) == std::vector<std::int32_t>{3600, 7200} && berlin.offsets({}).empty(), "a column of offsets");
+    const InstantColumn instants = berlin.instants({1711852200, 1729996200, 1719801000});
+    check(instants.seconds == std::vector<std::int64_t>{1711848600, 1729989000, 1719793800} && instants.errors == 0, "a column of instants");
+    const InstantColumn rejected = berlin.instants({1711852200, 1729996200, 1719801000}, Policy::Reject);
+    check(rejected.statuses == std::vector<std::uint8_t>{FOTS_SKIPPED_TIME, FOTS_REPEATED_TIME, FOTS_OK} && rejected.errors == 2, "rejected");
+    check(rejected.seconds[2] == 1719793800 && berlin.instants({}).errors == 0, "the others");
     throws([] { Zone::from_posix("CET"); }, FOTS_INVALID_POSIX_OFFSET, "invalid POSIX offset at 3", "no offset");
     throws([] { Zone::from_file("TZif"); }, FOTS_UNEXPECTED_END, "unexpected end at 4", "no header");
 }

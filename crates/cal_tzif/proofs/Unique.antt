@@ -1,6 +1,6 @@
 -- A text spells one footer, and so a file says one zone.
 use Rattle.std.proofs.Common.{◌≡◌, ℕ, ◌+◌, List, sym, ap, ◌∙◌, arith, refl, inl, inr}
-use Rattle.std.specs.Prelude.{Option, Some, None, Result, Ok, ◌⊎◌, ℤ}
+use Rattle.std.specs.Prelude.{Option, Some, None, Result, Ok, Err, OnErr, ◌⊎◌, ℤ}
 use Rattle.cal_time.specs.Components.{number-one, index-one}
 use Rattle.cal_time.specs.declared.Month.{Month}
 use Rattle.cal_time.specs.declared.Weekday.{Weekday}
@@ -102,3 +102,7 @@ posix-one text y z h k =
 
 pub ok_same : (y z : Timeline) → y ≡ z → ◌≡◌ {A = Result Timeline ZoneError} (Ok y) (Ok z)
 ok_same y z e = ap (λ (t : Timeline). Ok t) e
+
+pub on_err : {T E : Type 0} (r : Result T E) (P : Type 0) → P → OnErr r P
+on_err (Ok t) P h = tt
+on_err (Err e) P h = h

@@ -1,8 +1,8 @@
 //! TZif files and POSIX texts as zones.
-ghost use Rattle.std.specs.Prelude.{◌≡◌, ◌+◌, ◌*◌, ◌^◌, ◌<◌, ◌≤◌, length, IfOk, IfErr};
+ghost use Rattle.std.specs.Prelude.{◌≡◌, ◌+◌, ◌*◌, ◌^◌, ◌<◌, ◌≤◌, length, IfOk, IfErr, OnErr};
 ghost use Rattle.cal_zone.specs.Table.{IsInside, changes_in};
-ghost use Rattle.cal_zone.specs.Timeline.{Timeline};
-ghost use Rattle.cal_zone.specs.Zone.{IsTimelineError};
+ghost use Rattle.cal_zone.specs.Timeline.{Timeline, InOrder};
+ghost use Rattle.cal_zone.specs.Zone.{made_of, AreParts, IsTimelineError};
 ghost use Rattle.cal_tzif.specs.File.{HasFooter, IsFooterError, footer_rule, rule_type, first_type, timeline_position, IsFile, IsFileError, IsPosix};
 ghost use Rattle.cal_tzif.specs.PosixError.{IsTextError};
 
@@ -11,7 +11,7 @@ use crate::footer::{Footer, parse_text};
 use crate::header::read_headers;
 use crate::types::check_types;
 use crate::zone_error::{ZoneError, ZoneErrorKind};
-use cal_zone::{ChangeError, Layout, LocalType, Rule, Table, TimelineError, Zone};
+use cal_zone::{ChangeError, Layout, LocalType, Rule, Table, TimelineError, Zone, ZoneParts, join};
 
 /// Parses the footer between two newlines, of which the second ends the file. An empty footer is
 /// `None`.
@@ -86,13 +86,11 @@ fn timeline_position(layout: Layout, end: usize, error: TimelineError) -> usize
     }
 }
 
-/// Parses a TZif file of the versions 2 to 4 (RFC 9636). The zone borrows the bytes.
-///
-/// Returns the kind and the position of the first part that is missing or wrong. No bytes are
-/// `Truncated` at 0, and a file of version 1 is `Version` at 4.
-pub fn parse(bytes: &[u8]) -> Result<Zone<'_>, ZoneError>
-    ensures value { IfOk result (IsFile bytes.now) }
-    ensures every { (zone : Timeline) → IsFile bytes.now zone → result ≡ Ok zone }
+/// Parses a TZif file to the parts of its zone.
+pub fn parse_parts(bytes: &[u8]) -> Result<ZoneParts<'_>, ZoneError>
+    ensures value { IfOk result (λ parts. IsFile bytes.now (made_of parts)) }
+    ensures parts { IfOk result (λ parts. AreParts parts × (parts.bytes.now ≡ bytes.now)) }
+    ensures none { OnErr result ((zone : Timeline) → ¬ IsFile bytes.now zone) }
     ensures error { IfErr result (IsFileError bytes.now) }
 {
     let _ = bytes.len();
@@ -105,16 +103,57 @@ pub fn parse(bytes: &[u8]) -> Result<Zone<'_>, ZoneError>
         Ok(table) => table,
         Err(position) => return Err(ZoneErrorKind::TypeIndex.at(position)),
     };
-    match Zone::new(
-        first_type(bytes, layout, footer),
-        table,
-        footer_rule(footer),
-    ) {
-        Ok(zone) => Ok(zone),
+    let first = first_type(bytes, layout, footer);
+    let rule = footer_rule(footer);
+    match join(first, &table, rule) {
+        Ok(skip) => Ok(ZoneParts {
+            first,
+            bytes,
+            layout,
+            rule,
+            skip,
+        }),
         Err(error) => {
             let position = timeline_position(layout, end, error);
             Err(ZoneErrorKind::Timeline(error).at(position))
         }
+    }
+}
+
+/// Parses a TZif file of the versions 2 to 4 (RFC 9636). The zone borrows the bytes.
+///
+/// Returns the kind and the position of the first part that is missing or wrong. No bytes are
+/// `Truncated` at 0, and a file of version 1 is `Version` at 4.
+pub fn parse(bytes: &[u8]) -> Result<Zone<'_>, ZoneError>
+    ensures value { IfOk result (IsFile bytes.now) }
+    ensures every { (zone : Timeline) → IsFile bytes.now zone → result ≡ Ok zone }
+    ensures error { IfErr result (IsFileError bytes.now) }
+{
+    match parse_parts(bytes) {
+        Ok(parts) => Ok(Zone::from_parts(parts)),
+        Err(error) => Err(error),
+    }
+}
+
+/// Parses a POSIX text to the parts of its zone.
+pub fn parse_posix_parts(text: &[u8]) -> Result<ZoneParts<'_>, ZoneError>
+    ensures value { IfOk result (λ parts. IsPosix text.now (made_of parts)) }
+    ensures parts { IfOk result (λ parts. AreParts parts × InOrder (made_of parts)
+        × (parts.bytes.now ≡ text.now)) }
+    ensures none { OnErr result ((zone : Timeline) → ¬ IsPosix text.now zone) }
+    ensures error { IfErr result (IsTextError text.now 0) }
+{
+    let footer = parse_text(text, 0)?;
+    let first = rule_type(footer.standard, footer.rule);
+    match join(first, &Table::empty(text), footer.rule) {
+        Ok(skip) => Ok(ZoneParts {
+            first,
+            bytes: text,
+            layout: Layout::empty(),
+            rule: footer.rule,
+            skip,
+        }),
+        Err(_) => unreachable!(),
     }
 }
 
@@ -127,10 +166,8 @@ pub fn parse_posix(text: &[u8]) -> Result<Zone<'_>, ZoneError>
     ensures every { (zone : Timeline) → IsPosix text.now zone → result ≡ Ok zone }
     ensures error { IfErr result (IsTextError text.now 0) }
 {
-    let footer = parse_text(text, 0)?;
-    let first = rule_type(footer.standard, footer.rule);
-    match Zone::new(first, Table::empty(text), footer.rule) {
-        Ok(zone) => Ok(zone),
-        Err(_) => unreachable!(),
+    match parse_posix_parts(text) {
+        Ok(parts) => Ok(Zone::from_parts(parts)),
+        Err(error) => Err(error),
     }
 }

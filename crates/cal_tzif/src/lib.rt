@@ -11,5 +11,5 @@ mod posix;
 mod types;
 mod zone_error;
 
-pub use file::{parse, parse_posix};
+pub use file::{parse, parse_parts, parse_posix, parse_posix_parts};
 pub use zone_error::{ZoneError, ZoneErrorKind};

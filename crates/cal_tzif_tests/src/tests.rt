@@ -6,8 +6,8 @@ mod one_answer;
 use crate::files::{APIA, CASABLANCA, FREETOWN};
 use cal_datetime::{OffsetDateTime, PlainDateTime, with_hms_nano};
 use cal_time::{Date, Month};
-use cal_tzif::{ZoneError, ZoneErrorKind, parse, parse_posix};
-use cal_zone::{ChangeError, TimelineError, Zone};
+use cal_tzif::{ZoneError, ZoneErrorKind, parse, parse_parts, parse_posix, parse_posix_parts};
+use cal_zone::{ChangeError, TimelineError, UncheckedZone, Zone, ZoneParts};
 use std::fmt::Debug;
 use std::process::Abort;
 
@@ -236,6 +236,32 @@ fn casablanca(rt: HostRuntime) {
     check_name(rt, &zone, &CASABLANCA, 1_710_936_000, b"+00", true);
 }
 
+/// Returns the offset at a Unix time by parts of a zone, if they have one.
+fn offset_by(parts: ZoneParts<'_>, instant: i64) -> Option<i32> {
+    let zone = UncheckedZone::new(parts)?;
+    Some(zone.utc_offset_at(instant)?.whole_seconds())
+}
+
+#[test]
+fn parts(rt: HostRuntime) {
+    let rt = &rt;
+    let mut parts = parse_parts(&CASABLANCA).expect(rt, "no zone");
+    same(rt, offset_by(parts, 1_710_035_999), Some(3_600));
+    same(rt, offset_by(parts, 1_710_036_000), Some(0));
+    let zone = UncheckedZone::new(parts).expect(rt, "no zone");
+    let next = zone.next_change(1_710_036_000).map(|change| change.at);
+    same(rt, next, Some(1_713_060_000));
+    let previous = zone.previous_change(1_713_059_999).map(|change| change.at);
+    same(rt, previous, Some(1_710_036_000));
+    let at = reading(rt, (2024, Month::April, 14), 2, 30);
+    let local = zone.resolve(at).expect(rt, "no reading");
+    same(rt, moment(local.later()), Some((1_713_061_800, 3_600)));
+    parts.layout.times = CASABLANCA.len();
+    same(rt, offset_by(parts, 0), None);
+    let posix = parse_posix_parts(b"<-03>3").expect(rt, "no zone");
+    same(rt, offset_by(posix, i64::MAX), Some(-10_800));
+}
+
 /// Returns the error, if there is one.
 fn error_of(parsed: Result<Zone<'_>, ZoneError>) -> Option<ZoneError> {
     match parsed {
@@ -276,9 +302,31 @@ fn errors_of_headers(rt: HostRuntime) {
     check_byte(rt, 83, 255, ZoneErrorKind::Truncated, 324);
 }
 
+/// Checks that a file is too short for a count of 2^32 - 1, which is at a position.
+fn check_count(rt: &impl Abort, at: usize) {
+    let mut bytes = FREETOWN;
+    if at < 300 {
+        bytes[at] = 255;
+        bytes[at + 1] = 255;
+        bytes[at + 2] = 255;
+        bytes[at + 3] = 255;
+    }
+    let (kind, position) = (ZoneErrorKind::Truncated, 324);
+    same(
+        rt,
+        error_of(parse(&bytes)),
+        Some(ZoneError { kind, position }),
+    );
+}
+
 #[test]
 fn errors_of_counts(rt: HostRuntime) {
     let rt = &rt;
+    for header in 0..2 {
+        for count in 0..6 {
+            check_count(rt, header * 51 + 20 + 4 * count);
+        }
+    }
     let mut bytes = FREETOWN;
     bytes[82] = 1;
     bytes[94] = 10;

@@ -9,3 +9,4 @@ pub mod Tables
 pub mod Moments
 pub mod Errors
 pub mod OneError
+pub mod Counts

@@ -2,12 +2,13 @@
 use Rattle.std.proofs.Common.{◌≡◌, ◌≢◌, add-one, ℕ, zero, suc, ◌+◌, ◌-◌, ◌<◌, ◌≤◌, ◌⊎◌, ◌↔◌, length, sym, ap, ◌∙◌, arith, inl, inr, subst}
 use Rattle.std.proofs.lemmas.Int.{ints, clamps, by_lt_z}
 use Rattle.std.proofs.lemmas.Bool.{cases_lt, cases_eq}
-use Rattle.std.specs.Prelude.{ℤ, pos, ◌<ℤ◌, ◌≤ℤ◌, ◌+ℤ◌, ◌-ℤ◌}
+use Rattle.std.specs.Prelude.{ℤ, Option, Some, None, SomeIff, IfNone, int_le, true, pos, ◌<ℤ◌, ◌≤ℤ◌, ◌+ℤ◌, ◌-ℤ◌}
 use Rattle.std.specs.Int.{int_min, int_max}
 use Rattle.cal_zone.specs.Timeline.{Timeline, IsOrdered, at, ends, after_changes, offset_at, local_at, IsMoment, IsOffset}
 use Rattle.cal_zone.specs.Instants.{IsGap}
-use Rattle.cal_zone.specs.Split.{IsSplit}
-use Rattle.cal_zone.proofs.Orders.{at_rises}
+use Rattle.cal_zone.specs.Split.{IsBracket, IsSplit}
+use Rattle.cal_zone.proofs.Orders.{at_rises, ends_rise}
+use Rattle.cal_zone.proofs.Splits.{rising_split}
 use Rattle.cal_zone.proofs.Offsets.{offset_from-count, after_changes-offset}
 
 -- the offset after the first n changes
@@ -57,6 +58,11 @@ trans a b c p q = omega (arith, ints)
 
 less_trans : (a b c : ℤ) → a <ℤ b → b ≤ℤ c → a <ℤ c
 less_trans a b c p q = omega (arith, ints)
+
+-- the code's test that a change is past
+pub past_test : (p q t L m x y : ℤ) → p ≡ t → {a : ℤ} → t ≡ a → q ≡ (L -ℤ m) → m ≡ int_max x y
+    → (int_le p q ≡ true → (a +ℤ int_max x y) ≤ℤ L) × ((a +ℤ int_max x y) ≤ℤ L → int_le p q ≡ true)
+past_test p q t L m x y e {a} f g h = (λ test. grind (arith, ints), λ past. grind (arith, ints))
 
 -- what is known of a count n of the changes that lie wholly before a reading
 abbrev pub Passed : Timeline → ℤ → ℕ → Type 0
@@ -253,12 +259,17 @@ just_at zone order n some = offset_from-count zone.first zone.changes (at zone.c
     above k more inside = less_trans (at zone.changes n) (at zone.changes (suc n)) (at zone.changes k) (order.rising n (omega arith)) (at_rises zone order (suc n) k more inside)
 
 -- as the code finds them: M is the reading that was passed on, b and f are the offsets that were looked up
-pub near : (zone : Timeline) (L M : ℤ) (n : ℕ) (a e l b f : ℤ) → M ≡ L → IsOrdered zone.first.offset zone.changes → Passed zone M n → n ≢ length zone.changes
+pub passed : (zone : Timeline) (L M : ℤ) (n : ℕ) → M ≡ L → IsOrdered zone.first.offset zone.changes
+    → IsBracket (ends zone.first.offset zone.changes) (length zone.changes) M n n → Passed zone L n
+passed zone L M n same order b =
+    subst (λ (x : ℤ). Passed zone x n) same (rising_split (ends zone.first.offset zone.changes) (length zone.changes) M n (ends_rise zone order) b)
+
+pub near : (zone : Timeline) (L : ℤ) (n : ℕ) (a e l b f : ℤ) → IsOrdered zone.first.offset zone.changes → Passed zone L n → n ≢ length zone.changes
     → a ≡ at zone.changes n → b ≡ after zone n → f ≡ after zone (n + 1) → e ≡ (L -ℤ b) → l ≡ (L -ℤ f)
     → IsNear zone L n a e l
-near zone L M n a e l b f same order split other at_is b_is f_is e_is l_is = record {
+near zone L n a e l b f order split other at_is b_is f_is e_is l_is = record {
   order = order;
-  split = subst (λ (x : ℤ). Passed zone x n) same split;
+  split = split;
   some = let i = split.inside in omega arith;
   at_is = at_is;
   earlier_is = e_is ∙ ap (λ x. L -ℤ x) b_is;
@@ -284,3 +295,14 @@ explained zone L n a e l b f near b_is f_is none less =
 
     upto : l ≡ (L -ℤ f) → l <ℤ a → L <ℤ (a +ℤ f)
     upto p q = omega (arith, ints)
+
+-- the offset at an instant
+pub offset_in : (zone : Timeline) → IsOrdered zone.first.offset zone.changes → (i : ℤ) → IsOffset (offset_at zone i)
+offset_in zone order i =
+    let r = some_count zone order i (length zone.changes) (omega arith) in
+    subst IsOffset (sym (offset_from-count zone.first zone.changes i r.0 (λ k less inside. r.2 k less) r.3))
+    (after_changes-offset zone.first.offset zone.changes r.0 order.offset order.offsets)
+
+pub none_in : (r : Option ℤ) (P Q : Type 0) (x : ℤ) → SomeIff r P x → (Q → P) → IfNone r (¬ Q)
+none_in None P Q x out h = λ q. out (h q)
+none_in (Some y) P Q x given h = tt

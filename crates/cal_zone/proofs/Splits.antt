@@ -1,11 +1,8 @@
--- A binary search over numbers that rise: what is known between its steps.
-use Rattle.std.proofs.Common.{◌≡◌, ℕ, ◌+◌, ◌<◌, ◌≤◌, arith, subst}
+-- A binary search over numbers: what is known between its steps, and of numbers that rise at its end.
+use Rattle.std.proofs.Common.{◌≡◌, ℕ, suc, ◌+◌, ◌-◌, ◌<◌, ◌≤◌, arith, subst}
 use Rattle.std.proofs.lemmas.Int.{ints}
-use Rattle.std.specs.Prelude.{ℤ, ◌<ℤ◌, ◌≤ℤ◌, int_le, true, false}
-use Rattle.cal_zone.specs.Split.{IsSplit}
-
-pub at_first : (f : ℕ → ℤ) (n : ℕ) (x : ℤ) → IsSplit f n x 0 n
-at_first f n x = record { ordered = omega arith; inside = omega arith; below = λ k h. absurd (omega arith); above = λ k h p. absurd (omega arith) }
+use Rattle.std.specs.Prelude.{ℤ, ◌<ℤ◌, ◌≤ℤ◌, int_le, int_lt, true, false}
+use Rattle.cal_zone.specs.Split.{IsBracket, IsSplit}
 
 trans : (a b c : ℤ) → a ≤ℤ b → b ≤ℤ c → a ≤ℤ c
 trans a b c p q = omega (arith, ints)
@@ -13,39 +10,54 @@ trans a b c p q = omega (arith, ints)
 trans_less : (a b c : ℤ) → a <ℤ b → b ≤ℤ c → a <ℤ c
 trans_less a b c p q = omega (arith, ints)
 
-pub upward : (f : ℕ → ℤ) (n : ℕ) (x : ℤ) (low high middle : ℕ) → ((j k : ℕ) → j ≤ k → k < n → f j ≤ℤ f k) → IsSplit f n x low high
-    → middle < high → f middle ≤ℤ x → IsSplit f n x (middle + 1) high
-upward f n x low high middle rises split less here = record {
+pub from_index : (f : ℕ → ℤ) (n : ℕ) (x : ℤ) (k low high : ℕ) → low ≡ k + 1 → low ≤ high → high ≤ n → f k ≤ℤ x → (high < n → x <ℤ f high) → IsBracket f n x low high
+from_index f n x k low high e ordered inside here above = record {
+  ordered = ordered;
+  inside = inside;
+  below = λ j g. let same : j ≡ k = omega arith in rw same here;
+  above = above;
+}
+
+pub from_zero : (f : ℕ → ℤ) (n : ℕ) (x : ℤ) (high : ℕ) → high ≤ n → (high < n → x <ℤ f high) → IsBracket f n x 0 high
+from_zero f n x high inside above = record { ordered = omega arith; inside = inside; below = λ j g. absurd (omega arith); above = above }
+
+pub upward : (f : ℕ → ℤ) (n : ℕ) (x : ℤ) (low high middle : ℕ) → IsBracket f n x low high → middle < high → f middle ≤ℤ x → IsBracket f n x (middle + 1) high
+upward f n x low high middle b less here = from_index f n x middle (middle + 1) high (omega arith) (omega arith) b.inside here b.above
+
+pub downward : (f : ℕ → ℤ) (n : ℕ) (x : ℤ) (low high middle : ℕ) → IsBracket f n x low high → low ≤ middle → middle < high → x <ℤ f middle → IsBracket f n x low middle
+downward f n x low high middle b more less here = record { ordered = more; inside = (let i = b.inside in omega arith); below = b.below; above = λ _. here }
+
+pub rising_split : (f : ℕ → ℤ) (n : ℕ) (x : ℤ) (m : ℕ) → ((j k : ℕ) → j ≤ k → k < n → f j ≤ℤ f k) → IsBracket f n x m m → IsSplit f n x m m
+rising_split f n x m rises b = record {
   ordered = omega arith;
-  inside = split.inside;
-  below = λ k h. trans (f k) (f middle) x (rises k middle (omega arith) (omega arith)) here;
-  above = split.above;
+  inside = b.inside;
+  below = λ k h.
+      let inside = b.inside in
+      trans (f k) (f (m - 1)) x (rises k (m - 1) (omega arith) (omega arith)) (b.below (m - 1) (omega arith));
+  above = λ k h p. trans_less x (f m) (f k) (b.above (omega arith)) (rises m k h p);
 }
 
-pub downward : (f : ℕ → ℤ) (n : ℕ) (x : ℤ) (low high middle : ℕ) → ((j k : ℕ) → j ≤ k → k < n → f j ≤ℤ f k) → IsSplit f n x low high
-    → low ≤ middle → middle < high → x <ℤ f middle → IsSplit f n x low middle
-downward f n x low high middle rises split more less here = record {
-  ordered = more;
-  inside = omega arith;
-  below = split.below;
-  above = λ k h p. trans_less x (f middle) (f k) here (rises middle k h p);
-}
+pub ended : (f : ℕ → ℤ) (n : ℕ) (x : ℤ) (low high : ℕ) → high ≤ low → IsBracket f n x low high → IsBracket f n x low low
+ended f n x low high h b =
+    let ordered = b.ordered in
+    let e : high ≡ low = omega arith in
+    subst (λ (m : ℕ). IsBracket f n x low m) e b
 
--- what a test of the code says of the number that it stands for
-pub tested_true : (a b y : ℤ) → int_le a y ≡ true → a ≡ b → b ≤ℤ y
-tested_true a b y h e = grind (arith, ints)
+pub same_bracket : (f : ℕ → ℤ) (n : ℕ) (x y : ℤ) (low high : ℕ) → y ≡ x → IsBracket f n y low high → IsBracket f n x low high
+same_bracket f n x y low high e b = subst (λ (z : ℤ). IsBracket f n z low high) e b
 
-pub tested_false : (a b y : ℤ) → int_le a y ≡ false → a ≡ b → y <ℤ b
-tested_false a b y h e = grind (arith, ints)
+-- what a test of the code says of the numbers that it stands for
+pub is_past : (p q a x : ℤ) → int_le p q ≡ true → p ≡ a → q ≡ x → a ≤ℤ x
+is_past p q a x h e f = grind (arith, ints)
 
--- A count of the numbers that are not after x, if the code writes y for x.
-pub split_of : (f : ℕ → ℤ) (size : ℕ) (x y : ℤ) (m n : ℕ) → y ≡ x → m ≡ n → n ≤ size → ((k : ℕ) → k < n → f k ≤ℤ y) → ((k : ℕ) → n ≤ k → k < size → y <ℤ f k) → IsSplit f size x m m
-split_of f size x y m n e g inside below above = record {
-  ordered = omega arith;
-  inside = omega arith;
-  below = λ k h. subst (λ (z : ℤ). f k ≤ℤ z) e (below k (omega arith));
-  above = λ k h p. subst (λ (z : ℤ). z <ℤ f k) e (above k (omega arith) p);
-}
+pub not_past : (p q a x : ℤ) → int_le p q ≡ false → p ≡ a → q ≡ x → x <ℤ a
+not_past p q a x h e f = grind (arith, ints)
+
+pub is_ahead : (p q x a : ℤ) → int_lt p q ≡ true → p ≡ x → q ≡ a → x <ℤ a
+is_ahead p q x a h e f = grind (arith, ints)
+
+pub not_ahead : (p q x a : ℤ) → int_lt p q ≡ false → p ≡ x → q ≡ a → a ≤ℤ x
+not_ahead p q x a h e f = grind (arith, ints)
 
 pub same_split : (f : ℕ → ℤ) (n : ℕ) (x y : ℤ) (low high : ℕ) → y ≡ x → IsSplit f n y low high → IsSplit f n x low high
 same_split f n x y low high e split = subst (λ (z : ℤ). IsSplit f n z low high) e split

@@ -1,5 +1,5 @@
 -- The date-times that a reading names in a zone, and what the policies make of it.
-use Rattle.std.specs.Prelude.{◌≡◌, ◌⊎◌, ℤ, pos, ◌<ℤ◌, ◌+ℤ◌, ◌-ℤ◌, ◌*ℤ◌, Option, Some, None, SomeIff}
+use Rattle.std.specs.Prelude.{◌≡◌, ◌⊎◌, ◌↔◌, ℤ, pos, ◌<ℤ◌, ◌+ℤ◌, ◌-ℤ◌, ◌*ℤ◌, Option, Some, None, SomeIff}
 use Rattle.cal_time.specs.SignedDuration.{second}
 use Rattle.cal_datetime.specs.DateTime.{IsDateTime}
 use Rattle.cal_datetime.specs.OffsetDateTime.{LocalAndOffset, instant, unix_seconds}
@@ -25,6 +25,11 @@ abbrev pub IsLocal : Timeline → ℤ → Local → Type 0
 IsLocal zone reading (Single moment) = Unit {0}
 IsLocal zone reading (Gap gap) = (gap.reading ≡ reading) × IsGap zone (unix_seconds reading) gap.at gap.before gap.after
 IsLocal zone reading (Fold earlier later) = instant earlier <ℤ instant later
+
+-- The date-times are exactly those at which the clocks of the zone show the reading.
+pub record IsLocalOf (zone : Timeline) (reading : ℤ) (local : Local) : Type 0 where
+  pub set : (m : LocalAndOffset) → NamesMoment local m ↔ Shows zone reading m
+  pub explained : IsLocal zone reading local
 
 -- The reading of a gap moved by the length of the gap, back or forward.
 abbrev pub moved_back : gaps.Gap → LocalAndOffset

@@ -36,10 +36,14 @@ pub record IsInside (bytes : List ℕ) (p : Layout) : Type 0 where
   pub types : p.types + 6 * p.kinds ≤ length bytes
   pub names : p.names ≤ length bytes
 
--- All parts are there, and each change has a type.
-pub record IsTable (bytes : List ℕ) (p : Layout) : Type 0 where
+-- All parts are there, and an index has room.
+pub record IsReadable (bytes : List ℕ) (p : Layout) : Type 0 where
   pub inside : IsInside bytes p
   pub few : p.changes < 2 ^ 60
+
+-- Each change has a type, too.
+pub record IsTable (bytes : List ℕ) (p : Layout) : Type 0 where
+  pub readable : IsReadable bytes p
   pub typed : (k : ℕ) → k < p.changes → slice_index bytes (p.indexes + k) < p.kinds
 
 -- At the position the first change has the index of a type that doesn't exist.

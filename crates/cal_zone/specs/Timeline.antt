@@ -63,6 +63,9 @@ pub record IsOrdered (first : ℤ) (changes : List Change) : Type 0 where
   pub rising : (k : ℕ) → suc k < length changes → at changes k <ℤ at changes (suc k)
   pub apart : (k : ℕ) → suc k < length changes → ends first changes k ≤ℤ begins first changes (suc k)
 
+abbrev pub InOrder : Timeline → Type 0
+InOrder zone = IsOrdered zone.first.offset zone.changes
+
 -- The same of a change at a and the next at b, with the offsets before, between and after them.
 pub record IsNext (a b before between after : ℤ) : Type 0 where
   pub rising : a <ℤ b

@@ -1,13 +1,15 @@
 -- A zone: the changes of a file, and after the last of them the changes of its rule.
 use Rattle.std.specs.List.{slice_index_or}
-use Rattle.std.specs.Prelude.{ℕ, ◌-◌, ◌^◌, ◌<◌, ◌≤◌, Bool, true, ℤ, List, [], ◌∷◌, ◌++◌, length, filter, Option, Some, None, int_lt}
+use Rattle.std.specs.Prelude.{ℕ, ◌-◌, ◌<◌, ◌≤◌, Bool, true, ℤ, List, [], ◌∷◌, ◌++◌, length, filter, Option, Some, None, int_lt}
 use Rattle.cal_zone.specs.declared.change.Change.{Change}
 use Rattle.cal_zone.specs.declared.local_type.LocalType.{LocalType}
 use Rattle.cal_zone.specs.declared.rule.Rule.{Rule}
 use Rattle.cal_zone.specs.declared.timeline_error.TimelineError.{TimelineError}
 use Rattle.cal_zone.specs.declared.timeline_error.TimelineError.TheVariants as refused
+use Rattle.cal_zone.specs.declared.zone_parts.ZoneParts.{ZoneParts}
 use Rattle.cal_zone.specs.ChangeError.{IsChangeError}
 use Rattle.cal_zone.specs.Rule.{changes_from}
+use Rattle.cal_zone.specs.Table.{changes_in, IsReadable}
 use Rattle.cal_zone.specs.Timeline.{Timeline, at, after_changes, no_change, IsNext, IsOrdered}
 
 -- All changes of a rule.
@@ -32,11 +34,13 @@ later (Some rule) skip = changes_from rule.one rule.other skip
 abbrev pub held : LocalType → List Change → Option Rule → ℕ → Timeline
 held first table rule skip = record { first = first; changes = table ++ later rule skip }
 
--- All changes are in order.
-pub record IsWhole (first : LocalType) (table : List Change) (rule : Option Rule) (skip : ℕ) : Type 0 where
-  pub skipped : skip ≤ 3_999_998
-  pub size : length table < 2 ^ 60
-  pub order : IsOrdered first.offset (held first table rule skip).changes
+-- The zone that is made of these parts. They are readable without a look at each change.
+abbrev pub made_of : ZoneParts → Timeline
+made_of p = held p.first (changes_in p.bytes.now p.layout) p.rule p.skip
+
+pub record AreParts (p : ZoneParts) : Type 0 where
+  pub readable : IsReadable p.bytes.now p.layout
+  pub skip : p.skip ≤ 3_999_998
 
 -- The first of the changes ys is after the last of xs, and so is its gap or fold.
 abbrev pub Joins : ℤ → List Change → List Change → Type 0

@@ -1,13 +1,13 @@
 //! Date-times in a zone.
-ghost use Rattle.std.specs.Prelude.{◌≡◌, ◌↔◌, ℤ, pos, ◌+ℤ◌, ◌*ℤ◌, Some, IfSome, SomeIff};
+ghost use Rattle.std.specs.Prelude.{◌≡◌, ◌↔◌, ℤ, pos, ◌+ℤ◌, ◌*ℤ◌, Some, IfSome, IfNone, SomeIff};
 ghost use Rattle.cal_time.specs.SignedDuration.{second};
 ghost use Rattle.cal_datetime.specs.DateTime.{IsDateTime};
 ghost use Rattle.cal_datetime.specs.OffsetDateTime.{LocalAndOffset, instant, local_at, unix_epoch, unix_seconds};
-ghost use Rattle.cal_zone.specs.Local.{Shows, NamesMoment, IsLocal};
-ghost use Rattle.cal_zone.specs.Timeline.{offset_at, IsMoment, IsOffset};
+ghost use Rattle.cal_zone.specs.Local.{Shows, NamesMoment, IsLocal, IsLocalOf};
+ghost use Rattle.cal_zone.specs.Timeline.{offset_at, InOrder, IsMoment, IsOffset};
 
 use crate::gap::local_date_time;
-use crate::{Gap, Instants, Local, Zone};
+use crate::{Gap, Instants, Local, UncheckedZone, Zone};
 use cal_datetime::{OffsetDateTime, PlainDateTime};
 use cal_time::UtcOffset;
 
@@ -22,14 +22,13 @@ pub fn in_zone(moment: OffsetDateTime, zone: &Zone<'_>) -> Option<OffsetDateTime
     moment.checked_to_offset(zone.utc_offset_at(moment.unix_timestamp()))
 }
 
-/// Returns an offset that is in range.
-fn utc_offset(seconds: i32) -> UtcOffset
-    requires { IsOffset seconds }
-    ensures { result ≡ seconds }
+/// Returns an offset, or `None` if it is out of range.
+fn utc_offset(seconds: i32) -> Option<UtcOffset>
+    ensures { SomeIff result (IsOffset seconds) seconds }
 {
     match UtcOffset::from_whole_seconds(seconds) {
-        Ok(offset) => offset,
-        Err(_) => unreachable!(),
+        Ok(offset) => Some(offset),
+        Err(_) => None,
     }
 }
 
@@ -41,12 +40,58 @@ fn reading_seconds(local: PlainDateTime) -> i64
     local.assume_utc().unix_timestamp()
 }
 
+impl<'a> UncheckedZone<'a> {
+    /// Returns the offset at a Unix time. `None` says that the changes are not in order.
+    pub fn utc_offset_at(&self, instant: i64) -> Option<UtcOffset>
+        ensures none { IfNone result (¬ InOrder self.now) }
+        ensures some { IfSome result (λ offset. InOrder self.now → offset ≡ offset_at self.now instant) }
+    {
+        utc_offset(self.kind_at(instant).offset)
+    }
+
+    /// Returns the date-time of a reading at the offset that clocks have at an instant.
+    fn shown_at(&self, local: PlainDateTime, instant: i64) -> Option<OffsetDateTime>
+        ensures none { IfNone result (¬ InOrder self.now) }
+        ensures some { IfSome result (λ m. InOrder self.now
+            → m ≡ record { local = local; offset = offset_at self.now instant }) }
+    {
+        match self.utc_offset_at(instant) {
+            Some(offset) => Some(local.assume_offset(offset)),
+            None => None,
+        }
+    }
+
+    /// Returns the date-times at which clocks show a reading. `None` says that the changes are not
+    /// in order.
+    pub fn resolve(&self, reading: PlainDateTime) -> Option<Local>
+        ensures none { IfNone result (¬ InOrder self.now) }
+        ensures some { IfSome result (λ local. InOrder self.now → IsLocalOf self.now reading local) }
+    {
+        match self.instants_of(reading_seconds(reading)) {
+            Instants::Single(instant) => Some(Local::Single(self.shown_at(reading, instant)?)),
+            Instants::Gap { at, before, after } => Some(Local::Gap(Gap {
+                reading,
+                at,
+                before: utc_offset(before)?,
+                after: utc_offset(after)?,
+            })),
+            Instants::Fold { earlier, later } => Some(Local::Fold {
+                earlier: self.shown_at(reading, earlier)?,
+                later: self.shown_at(reading, later)?,
+            }),
+        }
+    }
+}
+
 impl<'a> Zone<'a> {
     /// Returns the offset at a Unix time.
     pub fn utc_offset_at(&self, instant: i64) -> UtcOffset
         ensures { result ≡ offset_at self.now instant }
     {
-        utc_offset(self.offset_at(instant))
+        match self.unchecked.utc_offset_at(instant) {
+            Some(offset) => offset,
+            None => unreachable!(),
+        }
     }
 
     /// Returns the date-time that clocks show at a Unix time, or `None` if it is out of range.
@@ -62,31 +107,15 @@ impl<'a> Zone<'a> {
         }
     }
 
-    /// Returns the date-time of a reading at the offset that clocks have at an instant.
-    fn shown_at(&self, local: PlainDateTime, instant: i64) -> OffsetDateTime
-        ensures value { result ≡ record { local = local; offset = offset_at self.now instant } }
-    {
-        local.assume_offset(self.utc_offset_at(instant))
-    }
-
     /// Returns the date-times at which clocks show a reading: exactly those whose offset is the
     /// zone's at their own instant.
     pub fn resolve(&self, reading: PlainDateTime) -> Local
         ensures set { (m : LocalAndOffset) → NamesMoment result m ↔ Shows self.now reading m }
         ensures explained { IsLocal self.now reading result }
     {
-        match self.instants_of(reading_seconds(reading)) {
-            Instants::Single(instant) => Local::Single(self.shown_at(reading, instant)),
-            Instants::Gap { at, before, after } => Local::Gap(Gap {
-                reading,
-                at,
-                before: utc_offset(before),
-                after: utc_offset(after),
-            }),
-            Instants::Fold { earlier, later } => Local::Fold {
-                earlier: self.shown_at(reading, earlier),
-                later: self.shown_at(reading, later),
-            },
+        match self.unchecked.resolve(reading) {
+            Some(local) => local,
+            None => unreachable!(),
         }
     }
 }

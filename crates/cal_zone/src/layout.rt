@@ -1,4 +1,5 @@
 //! Where the parts of a TZif file are.
+ghost use Rattle.std.specs.Prelude.{◌≡◌};
 
 /// Where a TZif file has the parts of its data block (RFC 9636, 3.2).
 #[derive(Clone, Copy)]
@@ -17,4 +18,21 @@ pub struct Layout {
     pub changes: usize,
     /// The number of local time types.
     pub kinds: usize,
+}
+
+impl Layout {
+    /// Creates the layout of no changes and no types.
+    pub fn empty() -> Self
+        ensures { result ≡ record { times = 0; indexes = 0; types = 0; names = 0; names_end = 0; changes = 0; kinds = 0 } }
+    {
+        Layout {
+            times: 0,
+            indexes: 0,
+            types: 0,
+            names: 0,
+            names_end: 0,
+            changes: 0,
+            kinds: 0,
+        }
+    }
 }

@@ -4,7 +4,7 @@ ghost use Rattle.cal_zone.specs.Rule.{IsCalm};
 ghost use Rattle.cal_zone.specs.Timeline.{IsMoment, IsNext, IsOffset};
 
 use crate::change_error::after;
-use crate::{Change, LocalType, Table, Yearly};
+use crate::{LocalType, Table, Yearly};
 
 /// Checks that the gap or fold of a change at one instant ends before the gap or fold of the next
 /// change begins. The offsets are those before, between and after the changes.
@@ -29,25 +29,25 @@ pub struct Rule {
 /// The number of changes in the years of the range.
 const COUNT: u32 = 3_999_998;
 
-/// Returns about the index of the last change before an instant, from the first year of the range.
-/// It makes a search short, and need not be exact.
-pub(crate) fn index_near(instant: i64) -> u32
-    ensures { result ≤ 3_999_990 }
+/// Returns about the index of the first change in the year of an instant, from the first year of
+/// the range. It makes a search short, and need not be right.
+fn index_near(instant: i64) -> u32
+    ensures { (1 ≤ result) × (result ≤ 3_999_990) }
 {
     let year = instant.div_euclid(31_556_952);
     if year < -1_001_968 {
-        return 1;
+        return 2;
     }
     if year > 998_020 {
         return 3_999_990;
     }
-    ((year + 1_001_969) * 2 - 1) as u32
+    ((year + 1_001_969) * 2) as u32
 }
 
 impl Rule {
     ghost use Rattle.cal_zone.specs.Rule.{change_of, changes_from, instant_at, rule_count};
     ghost use Rattle.cal_zone.specs.Zone.{is_after, Joins};
-    ghost use Rattle.cal_zone.specs.Split.{IsSplit};
+    ghost use Rattle.cal_zone.specs.Split.{IsBracket, IsSplit};
     ghost use Rattle.cal_zone.specs.Timeline.{IsOrdered, at};
 
     /// Creates the rule of two changes. Returns `None` if a field is out of range, if the months
@@ -95,26 +95,65 @@ impl Rule {
         COUNT
     }
 
-    /// Returns the change at an index, counted from the first year of the range.
+    /// Returns the two changes of a year.
+    pub fn changes(&self) -> (Yearly, Yearly)
+        ensures value { (result.0 ≡ self.now.one) × (result.1 ≡ self.now.other) }
+        ensures calm { IsCalm result.0 result.1 }
+    {
+        (self.one, self.other)
+    }
+
+    /// Returns the time of the change at an index, counted from the first year of the range.
     #[inline(always)]
-    pub(crate) fn change(&self, index: u32) -> Change
+    pub(crate) fn time(&self, index: u32) -> i64
         requires { index < 3_999_998 }
-        ensures value { result ≡ change_of self.now.one self.now.other index }
-        ensures moment { IsMoment result.at }
-        ensures offset { IsOffset result.kind.offset }
+        ensures value { result ≡ instant_at self.now.one self.now.other index }
+        ensures moment { IsMoment result }
     {
         let year = (index / 2) as i32 - 999_999;
         if index % 2 == 0 {
-            Change {
-                at: self.one.moment(self.other.kind.offset, year),
-                kind: self.one.kind,
-            }
+            self.one.moment(self.other.kind.offset, year)
         } else {
-            Change {
-                at: self.other.moment(self.one.kind.offset, year),
-                kind: self.other.kind,
-            }
+            self.other.moment(self.one.kind.offset, year)
         }
+    }
+
+    /// Returns how the clocks are set from the change at an index on.
+    #[inline(always)]
+    pub(crate) fn kind(&self, index: u32) -> LocalType
+        ensures value { result ≡ (change_of self.now.one self.now.other index).kind }
+        ensures offset { IsOffset result.offset }
+    {
+        let _ = self.len();
+        if index % 2 == 0 {
+            self.one.kind
+        } else {
+            self.other.kind
+        }
+    }
+
+    /// Returns two indexes between which the search for an instant ends: the same ones, unless it is
+    /// near the turn of a year.
+    #[inline(always)]
+    fn indexes_near(&self, instant: i64) -> (u32, u32)
+        ensures { IsBracket (instant_at self.now.one self.now.other) rule_count
+            instant result.0 result.1 }
+    {
+        let count = self.len();
+        let index = index_near(instant);
+        if instant < self.time(index) {
+            if self.time(index - 1) <= instant {
+                return (index, index);
+            }
+            return (0, index);
+        }
+        if instant < self.time(index + 1) {
+            return (index + 1, index + 1);
+        }
+        if instant < self.time(index + 2) {
+            return (index + 2, index + 2);
+        }
+        (index + 3, count)
     }
 
     /// Returns the number of changes that are not after an instant.
@@ -122,11 +161,13 @@ impl Rule {
         ensures split { IsSplit (instant_at self.now.one self.now.other) rule_count
             instant result result }
     {
-        let mut low = 0;
-        let mut high = self.len();
+        let _ = self.len();
+        let near = self.indexes_near(instant);
+        let mut low = near.0;
+        let mut high = near.1;
         while low < high {
             let middle = low + (high - low) / 2;
-            if self.change(middle).at <= instant {
+            if self.time(middle) <= instant {
                 low = middle + 1;
             } else {
                 high = middle;
@@ -170,13 +211,12 @@ impl Rule {
         }
         let index = count - 1;
         let last = table.change(index);
-        let next = self.change(skip);
         is_next(
             last.at,
-            next.at,
+            self.time(skip),
             after(first, table, index),
             last.kind.offset,
-            next.kind.offset,
+            self.kind(skip).offset,
         )
     }
 }

@@ -7,18 +7,43 @@ ghost use Rattle.cal_zone.specs.Table.{local_type};
 use crate::{Change, Layout, LocalType};
 use std::marker::Model;
 
-/// Returns the signed number of the four bytes at a position.
-fn signed(bytes: &[u8], at: usize) -> i32
-    requires { at + 4 ≤ length bytes.now }
-    ensures { result ≡ two_complement 31 (big_endian bytes.now at 4) }
+/// Returns the byte at a position, or 0 after the end.
+#[inline(always)]
+fn byte(bytes: &[u8], at: usize) -> u8
+    ensures { result ≡ slice_index bytes.now at }
 {
-    let high = u32::from(bytes[at]) * 256 + u32::from(bytes[at + 1]);
-    let n = (high * 256 + u32::from(bytes[at + 2])) * 256 + u32::from(bytes[at + 3]);
+    if at < bytes.len() { bytes[at] } else { 0 }
+}
+
+/// Returns the signed number of four bytes, the highest first.
+#[inline(always)]
+fn signed_of(a: u8, b: u8, c: u8, d: u8) -> i32
+    ensures { result ≡ two_complement 31 (((a * 256 + b) * 256 + c) * 256 + d) }
+{
+    let high = u32::from(a) * 256 + u32::from(b);
+    let n = (high * 256 + u32::from(c)) * 256 + u32::from(d);
     if n < 0x8000_0000 {
         n as i32
     } else {
         -((u32::MAX - n) as i32) - 1
     }
+}
+
+/// Returns the signed number of the four bytes at a position.
+#[inline(always)]
+fn signed(bytes: &[u8], at: usize) -> i32
+    requires { at + 4 < 2 ^ 64 }
+    ensures { result ≡ two_complement 31 (big_endian bytes.now at 4) }
+{
+    if at + 4 <= bytes.len() {
+        return signed_of(bytes[at], bytes[at + 1], bytes[at + 2], bytes[at + 3]);
+    }
+    signed_of(
+        byte(bytes, at),
+        byte(bytes, at + 1),
+        byte(bytes, at + 2),
+        byte(bytes, at + 3),
+    )
 }
 
 /// Returns the signed number of the eight bytes at a position.
@@ -38,16 +63,17 @@ fn signed_long(bytes: &[u8], at: usize) -> i64
 }
 
 /// Returns the local time type that begins at a position.
+#[inline(always)]
 fn local_type(bytes: &[u8], at: usize, names: usize, names_end: usize) -> LocalType
-    requires inside { at + 6 ≤ length bytes.now }
+    requires at { at + 6 < 2 ^ 64 }
     requires names { names + 255 < 2 ^ 64 }
     ensures value { result ≡ local_type bytes.now at names names_end }
     ensures fits { FitsSigned w32 result.offset }
 {
     LocalType {
         offset: signed(bytes, at),
-        is_daylight: bytes[at + 4] != 0,
-        name_start: names + usize::from(bytes[at + 5]),
+        is_daylight: byte(bytes, at + 4) != 0,
+        name_start: names + usize::from(byte(bytes, at + 5)),
         name_end: names_end,
     }
 }
@@ -74,21 +100,31 @@ pub struct Table<'a> {
     layout: Layout,
 }
 
+/// Returns about the index of the first change after an instant, at two changes a year before the
+/// last one. It makes a search short, and need not be right.
+fn index_near(last: i64, instant: i64, index: usize) -> usize
+    ensures { result ≤ index }
+{
+    let changes = last.wrapping_sub(instant).cast_unsigned() / 15_778_476;
+    index.saturating_sub(changes as usize)
+}
+
 impl<'a> Model for Table<'a> {
     ghost use Rattle.std.specs.Prelude.{List};
     ghost use Rattle.cal_zone.specs.declared.change.Change.{Change};
-    ghost use Rattle.cal_zone.specs.Table.{changes_in, IsTable};
+    ghost use Rattle.cal_zone.specs.Table.{changes_in, IsReadable};
 
     ghost Value = { List Change };
 
     ghost view = { λ t. changes_in t.bytes.now t.layout };
 
-    ghost invariant = { λ t. IsTable t.bytes.now t.layout };
+    ghost invariant = { λ t. IsReadable t.bytes.now t.layout };
 }
 
 impl<'a> Table<'a> {
-    ghost use Rattle.cal_zone.specs.Table.{changes_in, IsInside, IsTable, HasNoType};
-    ghost use Rattle.cal_zone.specs.Timeline.{no_change};
+    ghost use Rattle.cal_zone.specs.Table.{changes_in, IsInside, IsReadable, IsTable, HasNoType};
+    ghost use Rattle.cal_zone.specs.Timeline.{at, no_change};
+    ghost use Rattle.cal_zone.specs.Split.{IsBracket};
     ghost use Rattle.std.specs.Prelude.{IfOk, IfErr, OnOk, []};
 
     /// Creates the table of the changes of a file. Returns the position of the first index of a
@@ -109,19 +145,30 @@ impl<'a> Table<'a> {
         Ok(Table { bytes, layout })
     }
 
+    /// Creates a table without a look at its changes. Returns `None` if the bytes don't have all
+    /// parts.
+    pub(crate) fn from_parts(bytes: &'a [u8], layout: Layout) -> Option<Self>
+        ensures some { IfSome result (λ table. table ≡ changes_in bytes.now layout) }
+        ensures none { IfNone result (¬ IsReadable bytes.now layout) }
+    {
+        let len = bytes.len();
+        if layout.changes > len / 8 || layout.kinds > len / 6 {
+            return None;
+        }
+        if layout.times > len - 8 * layout.changes || layout.indexes > len - layout.changes {
+            return None;
+        }
+        if layout.types > len - 6 * layout.kinds || layout.names > len {
+            return None;
+        }
+        Some(Table { bytes, layout })
+    }
+
     /// Creates a table without changes.
     pub fn empty(bytes: &'a [u8]) -> Self
         ensures { result ≡ [] }
     {
-        let layout = Layout {
-            times: 0,
-            indexes: 0,
-            types: 0,
-            names: 0,
-            names_end: 0,
-            changes: 0,
-            kinds: 0,
-        };
+        let layout = Layout::empty();
         Table { bytes, layout }
     }
 
@@ -134,13 +181,33 @@ impl<'a> Table<'a> {
     }
 
     /// Returns the time of the change at an index.
+    #[inline(always)]
     pub fn time(&self, index: usize) -> i64
         requires { index < length self.now }
-        ensures { result ≡ (slice_index_or self.now index no_change).at }
+        ensures { result ≡ at self.now index }
     {
         let bytes = self.bytes;
         let _ = bytes.len();
         signed_long(bytes, self.layout.times + 8 * index)
+    }
+
+    /// Returns how the clocks are set from the change at an index on.
+    #[inline(always)]
+    pub fn kind(&self, index: usize) -> LocalType
+        requires { index < length self.now }
+        ensures value { result ≡ (slice_index_or self.now index no_change).kind }
+        ensures fits { FitsSigned w32 result.offset }
+    {
+        let bytes = self.bytes;
+        let _ = bytes.len();
+        let layout = self.layout;
+        let kind = usize::from(bytes[layout.indexes + index]);
+        local_type(
+            bytes,
+            layout.types + 6 * kind,
+            layout.names,
+            layout.names_end,
+        )
     }
 
     /// Returns the change at an index.
@@ -148,21 +215,60 @@ impl<'a> Table<'a> {
     pub fn change(&self, index: usize) -> Change
         requires { index < length self.now }
         ensures value { result ≡ slice_index_or self.now index no_change }
-        ensures at { result.at ≡ (slice_index_or self.now index no_change).at }
+        ensures at { result.at ≡ at self.now index }
         ensures offset { result.kind.offset
             ≡ (slice_index_or self.now index no_change).kind.offset }
         ensures fits { FitsSigned w32 result.kind.offset }
         ensures room { index < 2 ^ 60 }
     {
-        let time = self.time(index);
-        let bytes = self.bytes;
-        let _ = bytes.len();
-        let layout = self.layout;
-        let kind = usize::from(bytes[layout.indexes + index]);
-        let at = layout.types + 6 * kind;
+        let _ = self.len();
         Change {
-            at: time,
-            kind: local_type(bytes, at, layout.names, layout.names_end),
+            at: self.time(index),
+            kind: self.kind(index),
         }
+    }
+
+    /// Returns two indexes between which the search for an instant ends: the same ones, if there
+    /// are about two changes a year.
+    fn indexes_near(&self, instant: i64) -> (usize, usize)
+        ensures { IsBracket (at self.now) (length self.now) instant result.0 result.1 }
+    {
+        let len = self.len();
+        if len == 0 {
+            return (0, 0);
+        }
+        let last = self.time(len - 1);
+        if last <= instant {
+            return (len, len);
+        }
+        let index = index_near(last, instant, len - 1);
+        if index < len - 1 && self.time(index) <= instant {
+            if instant < self.time(index + 1) {
+                return (index + 1, index + 1);
+            }
+            return (index + 1, len - 1);
+        }
+        if 0 < index && self.time(index - 1) <= instant {
+            return (index, index);
+        }
+        (0, index)
+    }
+
+    /// Returns the number of changes that are not after an instant, if they rise.
+    pub(crate) fn count(&self, instant: i64) -> usize
+        ensures { IsBracket (at self.now) (length self.now) instant result result }
+    {
+        let near = self.indexes_near(instant);
+        let mut low = near.0;
+        let mut high = near.1;
+        while low < high {
+            let middle = low + (high - low) / 2;
+            if self.time(middle) <= instant {
+                low = middle + 1;
+            } else {
+                high = middle;
+            }
+        }
+        low
     }
 }

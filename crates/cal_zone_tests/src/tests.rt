@@ -184,9 +184,13 @@ const APIA: [u8; 21] = [
     0, 0, 0, 0, 0x4e, 0xfd, 0x8b, 0xa0, 1, 0xff, 0xff, 0x73, 0x60, 1, 0, 0, 0, 0xc4, 0xe0, 1, 0,
 ];
 
-#[test]
-fn a_day_left_out(rt: HostRuntime) {
-    let rt = &rt;
+/// The change of Kiritimati on 1994-12-30 at midnight, over the whole next day.
+const KIRITIMATI: [u8; 21] = [
+    0, 0, 0, 0, 0x2f, 0x05, 0x2b, 0xa0, 1, 0xff, 0xff, 0x73, 0x60, 0, 0, 0, 0, 0xc4, 0xe0, 0, 0,
+];
+
+/// The zone of one change, from -10:00 to +14:00, in its bytes.
+fn island<'a>(rt: &impl Abort, bytes: &'a [u8; 21]) -> Zone<'a> {
     let layout = Layout {
         times: 0,
         indexes: 8,
@@ -196,8 +200,14 @@ fn a_day_left_out(rt: HostRuntime) {
         changes: 1,
         kinds: 2,
     };
-    let table = Table::new(&APIA, layout).expect(rt, "no table");
-    let apia = Zone::new(kind(-36_000, true), table, None).expect(rt, "no zone");
+    let table = Table::new(bytes, layout).expect(rt, "no table");
+    Zone::new(kind(-36_000, true), table, None).expect(rt, "no zone")
+}
+
+#[test]
+fn a_day_left_out(rt: HostRuntime) {
+    let rt = &rt;
+    let apia = island(rt, &APIA);
     let at = reading(rt, (2011, Month::December, 30), 12, 0);
     check_gap(
         rt,
@@ -210,6 +220,19 @@ fn a_day_left_out(rt: HostRuntime) {
     check_single(rt, &apia, at, (1_325_239_140, -36_000));
     let at = reading(rt, (2011, Month::December, 31), 0, 0);
     check_single(rt, &apia, at, (1_325_239_200, 50_400));
+    let kiritimati = island(rt, &KIRITIMATI);
+    let at = reading(rt, (1994, Month::December, 31), 12, 0);
+    check_gap(
+        rt,
+        &kiritimati,
+        at,
+        (788_824_800, -36_000),
+        (788_911_200, 50_400),
+    );
+    let at = reading(rt, (1994, Month::December, 30), 23, 59);
+    check_single(rt, &kiritimati, at, (788_867_940, -36_000));
+    let at = reading(rt, (1995, Month::January, 1), 0, 0);
+    check_single(rt, &kiritimati, at, (788_868_000, 50_400));
 }
 
 #[test]

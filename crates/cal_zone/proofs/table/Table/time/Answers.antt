@@ -8,7 +8,6 @@ overflow_mul-index c =
     let r = read c.self.inside.bytes.now c.self.inside.layout c.args.self.now c.args.index c.self.invariant c.self.view_is c.requires in
     let time = r.time in
     let index = r.index in
-    let type = r.type in
     omega arith
 
 pub overflow_add-self-inside : goal.overflow_add-self-inside
@@ -16,7 +15,6 @@ overflow_add-self-inside c =
     let r = read c.self.inside.bytes.now c.self.inside.layout c.args.self.now c.args.index c.self.invariant c.self.view_is c.requires in
     let time = r.time in
     let index = r.index in
-    let type = r.type in
     omega arith
 
 pub signed_long-requires : goal.signed_long-requires
@@ -24,7 +22,6 @@ signed_long-requires c =
     let r = read c.self.inside.bytes.now c.self.inside.layout c.args.self.now c.args.index c.self.invariant c.self.view_is c.requires in
     let time = r.time in
     let index = r.index in
-    let type = r.type in
     omega arith
 
 pub returns : goal.returns

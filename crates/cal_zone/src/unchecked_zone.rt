@@ -1,0 +1,260 @@
+//! Zones whose changes need not be in order.
+ghost use Rattle.std.specs.List.{slice_index_or};
+ghost use Rattle.std.specs.Prelude.{◌≡◌, ◌+◌, ◌^◌, ◌<◌, ◌≤◌, ◌↔◌, ℤ, ◌≤ℤ◌, length, IsTrue, IfSome, IfNone};
+ghost use Rattle.cal_zone.specs.Timeline.{kind_at, local_at, after_changes, at, ends, no_change, InOrder, IsMoment, IsOffset};
+ghost use Rattle.cal_zone.specs.Rule.{change_of};
+ghost use Rattle.cal_zone.specs.Split.{IsBracket};
+ghost use Rattle.cal_zone.specs.Zone.{later, made_of, AreParts};
+ghost use Rattle.cal_zone.specs.Instants.{Names, IsExplained};
+
+use crate::{Change, Instants, LocalType, Rule, Table, ZoneParts};
+use std::marker::Model;
+
+/// A zone whose changes need not be in order. If they are not, each call returns any answer.
+///
+/// Contracts see the same as of a [`Zone`](crate::Zone).
+#[derive(Drop)]
+pub struct UncheckedZone<'a> {
+    pub(crate) first: LocalType,
+    pub(crate) table: Table<'a>,
+    pub(crate) rule: Option<Rule>,
+    pub(crate) skip: u32,
+}
+
+impl<'a> Model for UncheckedZone<'a> {
+    ghost use Rattle.std.specs.Prelude.{◌≤◌, ◌<◌, ◌^◌, length};
+    ghost use Rattle.cal_zone.specs.Timeline.{Timeline};
+    ghost use Rattle.cal_zone.specs.Zone.{held};
+
+    ghost Value = { Timeline };
+
+    ghost view = { λ z. held z.first z.table z.rule z.skip };
+
+    ghost invariant = { λ z. (z.skip ≤ 3_999_998) × (length z.table < 2 ^ 60) };
+}
+
+/// Returns the number of changes that the rule makes after the table.
+fn later_len(rule: &Option<Rule>, skip: u32) -> usize
+    requires { skip ≤ 3_999_998 }
+    ensures len { result ≡ length (later rule.now skip) }
+    ensures bound { result ≤ 3_999_998 }
+{
+    match rule {
+        Some(rule) => (rule.len() - skip) as usize,
+        None => 0,
+    }
+}
+
+/// Returns the rule, and its index of the change at an index that is counted from the table's end.
+#[inline(always)]
+fn later_change(rule: &Option<Rule>, skip: u32, index: usize) -> (Rule, u32)
+    requires skip { skip ≤ 3_999_998 }
+    requires index { index < length (later rule.now skip) }
+    ensures value { change_of result.0.one result.0.other result.1
+        ≡ slice_index_or (later rule.now skip) index no_change }
+    ensures bound { result.1 < 3_999_998 }
+{
+    match rule {
+        Some(rule) => {
+            let _ = rule.len();
+            (*rule, skip + index as u32)
+        }
+        None => unreachable!(),
+    }
+}
+
+impl<'a> UncheckedZone<'a> {
+    ghost use Rattle.cal_zone.specs.Changes.{IsNextChange, NoNextChange, IsPreviousChange, NoPreviousChange};
+
+    /// Creates a zone from its parts. Returns `None` if the bytes don't have all changes.
+    pub fn new(parts: ZoneParts<'a>) -> Option<Self>
+        ensures some { IfSome result (λ zone. zone ≡ made_of parts.entry) }
+        ensures none { IfNone result (¬ AreParts parts.entry) }
+    {
+        if parts.skip > 3_999_998 {
+            return None;
+        }
+        match Table::from_parts(parts.bytes, parts.layout) {
+            Some(table) => {
+                let _ = table.len();
+                Some(UncheckedZone {
+                    first: parts.first,
+                    table,
+                    rule: parts.rule,
+                    skip: parts.skip,
+                })
+            }
+            None => None,
+        }
+    }
+
+    /// Returns the number of changes.
+    fn len(&self) -> usize
+        ensures len { result ≡ length self.now.changes }
+        ensures room { result < 2 ^ 63 }
+    {
+        self.table.len() + later_len(&self.rule, self.skip)
+    }
+
+    /// Returns the time of the change at an index.
+    #[inline(always)]
+    fn time(&self, index: usize) -> i64
+        requires { index < length self.now.changes }
+        ensures { result ≡ at self.now.changes index }
+    {
+        let table = &self.table;
+        let count = table.len();
+        if index < count {
+            return table.time(index);
+        }
+        let change = later_change(&self.rule, self.skip, index - count);
+        change.0.time(change.1)
+    }
+
+    /// Returns how the clocks are set from the change at an index on.
+    #[inline(always)]
+    fn kind(&self, index: usize) -> LocalType
+        requires { index < length self.now.changes }
+        ensures { result ≡ (slice_index_or self.now.changes index no_change).kind }
+    {
+        let table = &self.table;
+        let count = table.len();
+        if index < count {
+            return table.kind(index);
+        }
+        let change = later_change(&self.rule, self.skip, index - count);
+        change.0.kind(change.1)
+    }
+
+    /// Returns the offset after the first `count` changes.
+    #[inline(always)]
+    fn after(&self, count: usize) -> i32
+        requires { count ≤ length self.now.changes }
+        ensures { result ≡ after_changes self.now.first.offset self.now.changes count }
+    {
+        if count == 0 {
+            self.first.offset
+        } else {
+            self.kind(count - 1).offset
+        }
+    }
+
+    /// Returns the number of changes that are not after an instant.
+    fn count(&self, instant: i64) -> usize
+        ensures { IsBracket (at self.now.changes) (length self.now.changes) instant result result }
+    {
+        let count = self.table.count(instant);
+        if count < self.table.len() {
+            return count;
+        }
+        match &self.rule {
+            Some(rule) => count + rule.count(instant).saturating_sub(self.skip) as usize,
+            None => count,
+        }
+    }
+
+    /// Returns how the clocks are set at a Unix time.
+    pub fn kind_at(&self, instant: i64) -> LocalType
+        ensures { InOrder self.now → result ≡ kind_at self.now instant }
+    {
+        let count = self.count(instant);
+        if count == 0 {
+            self.first
+        } else {
+            self.kind(count - 1)
+        }
+    }
+
+    /// Returns the first change after a Unix time, or `None` if there is none.
+    pub fn next_change(&self, instant: i64) -> Option<Change>
+        ensures some { InOrder self.now → IfSome result (IsNextChange self.now instant) }
+        ensures none { InOrder self.now → IfNone result (NoNextChange self.now instant) }
+    {
+        let count = self.count(instant);
+        if count < self.len() {
+            Some(Change {
+                at: self.time(count),
+                kind: self.kind(count),
+            })
+        } else {
+            None
+        }
+    }
+
+    /// Returns the last change that is not after a Unix time, or `None` if there is none.
+    pub fn previous_change(&self, instant: i64) -> Option<Change>
+        ensures some { InOrder self.now → IfSome result (IsPreviousChange self.now instant) }
+        ensures none { InOrder self.now → IfNone result (NoPreviousChange self.now instant) }
+    {
+        let count = self.count(instant);
+        if count == 0 {
+            None
+        } else {
+            Some(Change {
+                at: self.time(count - 1),
+                kind: self.kind(count - 1),
+            })
+        }
+    }
+
+    /// Checks that the gap or fold of the change at an index ends before a reading.
+    #[inline(always)]
+    fn is_past(&self, index: usize, reading: i64) -> bool
+        requires index { index < length self.now.changes }
+        requires reading { IsMoment reading }
+        ensures { IsTrue result
+            ↔ (ends self.now.first.offset self.now.changes index ≤ℤ reading) }
+    {
+        let _ = self.len();
+        let most = self.after(index).max(self.after(index + 1));
+        self.time(index) <= reading - i64::from(most)
+    }
+
+    /// Returns the number of changes whose gaps or folds lie before a reading. No offset moves it
+    /// past many changes.
+    fn passed(&self, reading: i64) -> usize
+        requires { IsMoment reading }
+        ensures { IsBracket (ends self.now.first.offset self.now.changes)
+            (length self.now.changes) reading result result }
+    {
+        let len = self.len();
+        let mut count = self.count(reading);
+        'back: while 0 < count && !self.is_past(count - 1, reading) {
+            count -= 1;
+        }
+        'on: while count < len && self.is_past(count, reading) {
+            count += 1;
+        }
+        count
+    }
+
+    /// Returns the instants at which clocks show a reading, in seconds since 1970-01-01 0:00 by
+    /// the clock.
+    pub fn instants_of(&self, reading: i64) -> Instants
+        requires { IsMoment reading }
+        ensures set { InOrder self.now
+            → (i : ℤ) → Names result i ↔ (local_at self.now i ≡ reading) }
+        ensures explained { InOrder self.now → IsExplained self.now reading result }
+    {
+        let count = self.passed(reading);
+        let before = self.after(count);
+        let earlier = reading - i64::from(before);
+        if count == self.len() {
+            return Instants::Single(earlier);
+        }
+        let at = self.time(count);
+        let after = self.after(count + 1);
+        let later = reading - i64::from(after);
+        if earlier < at {
+            if at <= later {
+                Instants::Fold { earlier, later }
+            } else {
+                Instants::Single(earlier)
+            }
+        } else if at <= later {
+            Instants::Single(later)
+        } else {
+            Instants::Gap { at, before, after }
+        }
+    }
+}
