@@ -7,7 +7,7 @@ from typing import Any
 
 from . import _core
 
-_PARTS = ("FREQ", "INTERVAL", "WKST", "BYMONTH", "BYMONTHDAY", "BYDAY", "UNTIL", "COUNT", "BYSETPOS", "BYYEARDAY")
+_PARTS = ("FREQ", "INTERVAL", "WKST", "BYMONTH", "BYMONTHDAY", "BYDAY", "UNTIL", "COUNT", "BYSETPOS", "BYYEARDAY", "BYWEEKNO")
 # The messages of the statuses that name no component.
 _MESSAGES = {
     1: "the result is out of range",
