@@ -238,9 +238,9 @@ fn wrong_values(rt: HostRuntime) {
         rt,
         RulePart::Weeks,
         &[
-            "FREQ=YEARLY;BYWEEKNO=0",
-            "FREQ=YEARLY;BYWEEKNO=54",
-            "FREQ=YEARLY;BYWEEKNO=-001",
+            "FREQ=DAILY;BYWEEKNO=0",
+            "FREQ=DAILY;BYWEEKNO=54",
+            "FREQ=DAILY;BYWEEKNO=-001",
         ],
     );
     refused_value(
