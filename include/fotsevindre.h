@@ -459,7 +459,7 @@ typedef struct fots_recurrence_text_result {
     uint32_t part; /* this and position as above */
     size_t position;
     uint32_t length; /* in bytes, or 0 */
-    char bytes[2284]; /* ASCII, then zero bytes */
+    char bytes[2728]; /* ASCII, then zero bytes */
 } fots_recurrence_text_result;
 
 typedef struct fots_workdays_result {
@@ -731,7 +731,8 @@ enum fots_rule_part {
     FOTS_RULE_UNTIL = 7,
     FOTS_RULE_COUNT = 8,
     FOTS_RULE_BYSETPOS = 9,
-    FOTS_RULE_BYYEARDAY = 10
+    FOTS_RULE_BYYEARDAY = 10,
+    FOTS_RULE_BYWEEKNO = 11
 };
 
 /* Parses the text of a recurrence, as RFC 5545 has it after RRULE:. Calls with such a text return

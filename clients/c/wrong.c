@@ -652,7 +652,7 @@ static void read_recurrence(const char *bytes, size_t length)
         return;
     }
     const int names_part = found.status >= FOTS_DUPLICATE_PART && found.status <= FOTS_INVALID_VALUE;
-    check(names_part ? found.part >= FOTS_RULE_FREQ && found.part <= FOTS_RULE_BYYEARDAY : found.part == 0, "its part", found.status, found.part);
+    check(names_part ? found.part >= FOTS_RULE_FREQ && found.part <= FOTS_RULE_BYWEEKNO : found.part == 0, "its part", found.status, found.part);
     check(found.length == 0 && days[0].julian_day == -1, "no day", found.status, (long long)found.length);
     if (found.status == FOTS_MISSING_FREQUENCY) {
         check(found.position == length, "missing frequency", (long long)found.position, (long long)length);
@@ -666,7 +666,7 @@ static void read_recurrence(const char *bytes, size_t length)
     const fots_recurrence_result before = fots_recurrence_days(bytes, found.position - 1, start, start, days, 0);
     /* Parts that exclude each other, or a BYSETPOS without another list, are wrong only if all parts are right by themselves. */
     const int is_later = before.status == FOTS_INVALID_VALUE && (before.part == FOTS_RULE_FREQ || before.part == FOTS_RULE_BYDAY ||
-        before.part == FOTS_RULE_BYMONTHDAY || before.part == FOTS_RULE_BYYEARDAY || before.part == FOTS_RULE_BYSETPOS);
+        before.part == FOTS_RULE_BYMONTHDAY || before.part == FOTS_RULE_BYYEARDAY || before.part == FOTS_RULE_BYWEEKNO || before.part == FOTS_RULE_BYSETPOS);
     check(before.status == FOTS_OK || before.status == FOTS_MISSING_FREQUENCY || is_later, "the parts before", before.status, (long long)found.position);
 }
 

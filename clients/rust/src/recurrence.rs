@@ -47,11 +47,13 @@ pub enum RulePart {
     Positions = 9,
     /// `BYYEARDAY`
     YearDays = 10,
+    /// `BYWEEKNO`
+    Weeks = 11,
 }
 
 impl RulePart {
     /// The parts by their numbers, from 1.
-    const ALL: [Self; 10] = [
+    const ALL: [Self; 11] = [
         Self::Frequency,
         Self::Interval,
         Self::WeekStart,
@@ -62,6 +64,7 @@ impl RulePart {
         Self::Count,
         Self::Positions,
         Self::YearDays,
+        Self::Weeks,
     ];
 
     /// Returns the name, such as `BYDAY`.

@@ -75,9 +75,9 @@ no_parts = record {
 }
 
 -- The result of parsing: the parts of the recurrence, or the first wrong part of the text. The parts
--- have no days of the year and no positions, so a recurrence with some has an unknown part.
+-- have no weeks, days of the year and positions, so a recurrence with some has an unknown part.
 abbrev pub parse_recurrence_result : Result Recurrence ParseRuleError → ParseRecurrenceResult
 parse_recurrence_result (Ok its) =
-    if (length its.set_positions == 0) && (length its.year_days == 0) then record { status = ok_status; part = 0; position = no_position; recurrence = parts_of its }
+    if (length its.set_positions == 0) && ((length its.year_days == 0) && (length its.weeks == 0)) then record { status = ok_status; part = 0; position = no_position; recurrence = parts_of its }
     else record { status = unknown_part; part = 0; position = 0; recurrence = no_parts }
 parse_recurrence_result (Err fault) = record { status = reason_status fault.reason; part = error_part fault.reason; position = fault.position; recurrence = no_parts }

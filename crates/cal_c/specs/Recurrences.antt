@@ -89,6 +89,7 @@ pub record IsPlainRuleFromParts (p : RuleParts) (rule : Rule) : Type 0 where
   pub interval : rule.interval ≡ p.interval
   pub week_start : index rule.week_start + 1 ≡ p.week_start
   pub month_days : rule.month_days.now ≡ p.month_days.now
+  pub weeks : rule.weeks.now ≡ []
   pub year_days : rule.year_days.now ≡ []
   pub set_positions : rule.set_positions.now ≡ []
 

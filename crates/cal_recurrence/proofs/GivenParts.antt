@@ -15,10 +15,10 @@ use Rattle.cal_time.specs.declared.Weekday.{Weekday}
 use Rattle.cal_schedule.specs.declared.rule.rule.Frequency.{Frequency}
 use Rattle.cal_schedule.specs.declared.rule.rule.ByDay.TheVariants.{Every, Nth}
 use Rattle.cal_recurrence.specs.Days.{excluded, ranks_alone}
-use Rattle.cal_recurrence.specs.Spelled.{IsCount, IsIndex, IsMonthDay, IsByDay, IsPosition, IsEnd, IsSpelled}
+use Rattle.cal_recurrence.specs.Spelled.{IsCount, IsIndex, IsMonthDay, IsByDay, IsPosition, IsWeek, IsEnd, IsSpelled}
 use Rattle.cal_recurrence.specs.Text.{fault, each, list_of, has_few_words, fresh, changed, put, put_value, put_part, with_frequency, and_on, read_on, nothing}
 use Rattle.cal_recurrence.specs.Values.{most_values}
-use Rattle.cal_recurrence.specs.Words.{bytes_after, first_bytes, is_time, parts_at, front_at, rest_at, part_of, frequency_of, is_number, number_of, from_one_to, count_of, short_count_of, index_of, weekday_of, month_of, month_day_of, by_day_of, position_of, has_digits, day_with, date_of}
+use Rattle.cal_recurrence.specs.Words.{bytes_after, first_bytes, is_time, parts_at, front_at, rest_at, part_of, frequency_of, is_number, number_of, from_one_to, count_of, short_count_of, index_of, weekday_of, month_of, month_day_of, week_of, by_day_of, position_of, has_digits, day_with, date_of}
 use Rattle.cal_recurrence.specs.declared.draft.Draft.{Draft}
 use Rattle.cal_recurrence.specs.declared.fault.ParseRuleError.{ParseRuleError}
 use Rattle.cal_recurrence.specs.declared.fault.ParseRuleErrorKind.{ParseRuleErrorKind}
@@ -177,6 +177,7 @@ list-is {X = X} P meaning h value few = fewer (list_of meaning value) (each-is P
 record IsDraft (d : Draft) : Type 0 where
   interval : IfSome d.interval IsCount
   months : IfSome d.months (AreFew (λ month. ⊤))
+  weeks : IfSome d.weeks (AreFew IsWeek)
   year_days : IfSome d.year_days (AreFew IsPosition)
   month_days : IfSome d.month_days (AreFew IsMonthDay)
   weekdays : IfSome d.weekdays (AreFew IsByDay)
@@ -194,43 +195,47 @@ put-is : (d : Draft) (at : RulePart) (value : List ℕ) → IsDraft d → has_fe
 put-is d part.Frequency value h few =
     is-put (λ x. ⊤) part.Frequency (is_some d.frequency) (frequency_of value) (λ x. record d { frequency = Some x })
     (any (frequency_of value))
-    (λ x p. record { interval = h.interval; months = h.months; year_days = h.year_days; month_days = h.month_days; weekdays = h.weekdays; set_positions = h.set_positions; end = h.end })
+    (λ x p. record { interval = h.interval; months = h.months; weeks = h.weeks; year_days = h.year_days; month_days = h.month_days; weekdays = h.weekdays; set_positions = h.set_positions; end = h.end })
 put-is d part.Interval value h few =
     is-put (IsCount) part.Interval (is_some d.interval) (count_of 4294967295 value) (λ x. record d { interval = Some x })
     (counts value)
-    (λ x p. record { interval = p; months = h.months; year_days = h.year_days; month_days = h.month_days; weekdays = h.weekdays; set_positions = h.set_positions; end = h.end })
+    (λ x p. record { interval = p; months = h.months; weeks = h.weeks; year_days = h.year_days; month_days = h.month_days; weekdays = h.weekdays; set_positions = h.set_positions; end = h.end })
 put-is d part.WeekStart value h few =
     is-put (λ x. ⊤) part.WeekStart (is_some d.week_start) (weekday_of value) (λ x. record d { week_start = Some x })
     (any (weekday_of value))
-    (λ x p. record { interval = h.interval; months = h.months; year_days = h.year_days; month_days = h.month_days; weekdays = h.weekdays; set_positions = h.set_positions; end = h.end })
+    (λ x p. record { interval = h.interval; months = h.months; weeks = h.weeks; year_days = h.year_days; month_days = h.month_days; weekdays = h.weekdays; set_positions = h.set_positions; end = h.end })
 put-is d part.Months value h few =
     is-put (AreFew (λ month. ⊤)) part.Months (is_some d.months) (list_of month_of value) (λ x. record d { months = Some x })
     (list-is (λ month. ⊤) month_of (λ word. any (month_of word)) value few)
-    (λ x p. record { interval = h.interval; months = p; year_days = h.year_days; month_days = h.month_days; weekdays = h.weekdays; set_positions = h.set_positions; end = h.end })
+    (λ x p. record { interval = h.interval; months = p; weeks = h.weeks; year_days = h.year_days; month_days = h.month_days; weekdays = h.weekdays; set_positions = h.set_positions; end = h.end })
+put-is d part.Weeks value h few =
+    is-put (AreFew IsWeek) part.Weeks (is_some d.weeks) (list_of week_of value) (λ x. record d { weeks = Some x })
+    (list-is IsWeek week_of (indexed 2 53) value few)
+    (λ x p. record { interval = h.interval; months = h.months; weeks = p; year_days = h.year_days; month_days = h.month_days; weekdays = h.weekdays; set_positions = h.set_positions; end = h.end })
 put-is d part.YearDays value h few =
     is-put (AreFew IsPosition) part.YearDays (is_some d.year_days) (list_of position_of value) (λ x. record d { year_days = Some x })
     (list-is IsPosition position_of (indexed 3 366) value few)
-    (λ x p. record { interval = h.interval; months = h.months; year_days = p; month_days = h.month_days; weekdays = h.weekdays; set_positions = h.set_positions; end = h.end })
+    (λ x p. record { interval = h.interval; months = h.months; weeks = h.weeks; year_days = p; month_days = h.month_days; weekdays = h.weekdays; set_positions = h.set_positions; end = h.end })
 put-is d part.MonthDays value h few =
     is-put (AreFew IsMonthDay) part.MonthDays (is_some d.month_days) (list_of month_day_of value) (λ x. record d { month_days = Some x })
     (list-is IsMonthDay month_day_of (indexed 2 31) value few)
-    (λ x p. record { interval = h.interval; months = h.months; year_days = h.year_days; month_days = p; weekdays = h.weekdays; set_positions = h.set_positions; end = h.end })
+    (λ x p. record { interval = h.interval; months = h.months; weeks = h.weeks; year_days = h.year_days; month_days = p; weekdays = h.weekdays; set_positions = h.set_positions; end = h.end })
 put-is d part.Weekdays value h few =
     is-put (AreFew IsByDay) part.Weekdays (is_some d.weekdays) (list_of by_day_of value) (λ x. record d { weekdays = Some x })
     (list-is IsByDay by_day_of by_days value few)
-    (λ x p. record { interval = h.interval; months = h.months; year_days = h.year_days; month_days = h.month_days; weekdays = p; set_positions = h.set_positions; end = h.end })
+    (λ x p. record { interval = h.interval; months = h.months; weeks = h.weeks; year_days = h.year_days; month_days = h.month_days; weekdays = p; set_positions = h.set_positions; end = h.end })
 put-is d part.Positions value h few =
     is-put (AreFew IsPosition) part.Positions (is_some d.set_positions) (list_of position_of value) (λ x. record d { set_positions = Some x })
     (list-is IsPosition position_of (indexed 3 366) value few)
-    (λ x p. record { interval = h.interval; months = h.months; year_days = h.year_days; month_days = h.month_days; weekdays = h.weekdays; set_positions = p; end = h.end })
+    (λ x p. record { interval = h.interval; months = h.months; weeks = h.weeks; year_days = h.year_days; month_days = h.month_days; weekdays = h.weekdays; set_positions = p; end = h.end })
 put-is d part.Until value h few =
     is-put (λ day. IsEnd (Until day)) part.Until (is_some d.end) (date_of value) (λ x. record d { end = Some (Until x) })
     (dates value)
-    (λ x p. record { interval = h.interval; months = h.months; year_days = h.year_days; month_days = h.month_days; weekdays = h.weekdays; set_positions = h.set_positions; end = p })
+    (λ x p. record { interval = h.interval; months = h.months; weeks = h.weeks; year_days = h.year_days; month_days = h.month_days; weekdays = h.weekdays; set_positions = h.set_positions; end = p })
 put-is d part.Count value h few =
     is-put (IsCount) part.Count (is_some d.end) (count_of 4294967295 value) (λ x. record d { end = Some (Count x) })
     (counts value)
-    (λ x p. record { interval = h.interval; months = h.months; year_days = h.year_days; month_days = h.month_days; weekdays = h.weekdays; set_positions = h.set_positions; end = p })
+    (λ x p. record { interval = h.interval; months = h.months; weeks = h.weeks; year_days = h.year_days; month_days = h.month_days; weekdays = h.weekdays; set_positions = h.set_positions; end = p })
 
 ok-if : {E : Type 0} (b : Bool) (r : Result Draft E) (why : E) → (b ≡ true → IfOk r IsDraft) → IfOk (cond b r (Err why)) IsDraft
 ok-if true r why h = h refl
@@ -255,6 +260,7 @@ record IsRead (r : Recurrence) : Type 0 where
 spelled : (d : Draft) (f : Frequency) → IsDraft d → IsRead (with_frequency d f)
 spelled d f h =
     let months = or_else (AreFew (λ month. ⊤)) d.months [] h.months (omega arith, λ k x less. absurd (omega (arith, less))) in
+    let weeks = or_else (AreFew IsWeek) d.weeks [] h.weeks (omega arith, λ k x less. absurd (omega (arith, less))) in
     let year_days = or_else (AreFew IsPosition) d.year_days [] h.year_days (omega arith, λ k x less. absurd (omega (arith, less))) in
     let month_days = or_else (AreFew IsMonthDay) d.month_days [] h.month_days (omega arith, λ k x less. absurd (omega (arith, less))) in
     let weekdays = or_else (AreFew IsByDay) d.weekdays [] h.weekdays (omega arith, λ k x less. absurd (omega (arith, less))) in
@@ -263,10 +269,12 @@ spelled d f h =
       spelled = λ allowed ranked. record {
         interval = or_else IsCount d.interval 1 h.interval (omega arith, omega arith);
         months = months.0;
+        weeks = weeks.0;
         year_days = year_days.0;
         month_days = month_days.0;
         weekdays = weekdays.0;
         set_positions = positions.0;
+        each_week = weeks.1;
         each_year_day = year_days.1;
         each_month_day = month_days.1;
         each_weekday = weekdays.1;
@@ -298,5 +306,5 @@ pub read_is_spelled : (at : ℕ) (draft : Draft) (texts : List (List ℕ)) (r : 
 read_is_spelled at draft texts r e f allowed ranked =
     let is : IfOk {E = ParseRuleError} (Ok r) IsRead =
     subst (λ s. IfOk s IsRead) (sym (f ∙ ap (λ d. read_on at d texts) e))
-    (read-on at nothing texts (record { interval = tt; months = tt; year_days = tt; month_days = tt; weekdays = tt; set_positions = tt; end = tt })) in
+    (read-on at nothing texts (record { interval = tt; months = tt; weeks = tt; year_days = tt; month_days = tt; weekdays = tt; set_positions = tt; end = tt })) in
     is.spelled allowed ranked

@@ -10,11 +10,10 @@ use Rattle.cal_schedule.specs.declared.rule.rule.Frequency.{Frequency}
 use Rattle.cal_schedule.specs.declared.rule.rule.ByDay.{ByDay}
 use Rattle.std.specs.Option.{option_map_or}
 use Rattle.cal_recurrence.specs.Days.{ranks_alone}
-use Rattle.cal_recurrence.specs.FaultText.{part_name}
-use Rattle.cal_recurrence.specs.Spelled.{IsCount, IsMonthDay, IsByDay, IsPosition, IsEnd, IsSpelled}
-use Rattle.cal_recurrence.specs.Text.{checked, fault, later, list_of, fresh, parts_say, place_of, changed, put, put_value, put_part, and_on, read_on, nothing, recurrence_of}
-use Rattle.cal_recurrence.specs.Words.{bytes_after, first_bytes, has_name, parts_at, frequency_of, weekday_of, count_of, month_of, month_day_of, by_day_of, position_of, date_of}
-use Rattle.cal_recurrence.specs.Written.{frequency_text, weekday_text, month_text, month_day_text, by_day_text, position_text, day_text, interval_text, end_text, list_text, week_start_text, text_of}
+use Rattle.cal_recurrence.specs.Spelled.{IsCount, IsMonthDay, IsByDay, IsPosition, IsWeek, IsEnd, IsSpelled}
+use Rattle.cal_recurrence.specs.Text.{checked, fault, later_of, list_of, fresh, parts_say, place_of, changed, put, put_value, put_part, and_on, read_on, nothing, recurrence_of}
+use Rattle.cal_recurrence.specs.Words.{bytes_after, first_bytes, has_name, parts_at, frequency_of, weekday_of, count_of, month_of, month_day_of, week_of, by_day_of, position_of, date_of}
+use Rattle.cal_recurrence.specs.Written.{frequency_text, weekday_text, month_text, by_day_text, position_text, day_text, interval_text, end_text, list_text, week_start_text, text_of}
 use Rattle.cal_recurrence.specs.declared.draft.Draft.{Draft}
 use Rattle.cal_recurrence.specs.declared.fault.RulePart.{RulePart}
 use Rattle.cal_recurrence.specs.declared.fault.RulePart.TheVariants as part
@@ -25,7 +24,7 @@ use Rattle.cal_recurrence.specs.declared.recurrence.RuleEnd.TheVariants.{Never, 
 use Rattle.cal_recurrence.proofs.Avoided.{avoids, avoids-append, cut-here, cut-nowhere}
 use Rattle.cal_recurrence.proofs.ReadDates.{day-word}
 use Rattle.cal_recurrence.proofs.ReadValues.{IsWord, IsValue, AreWords, one-word, list-value}
-use Rattle.cal_recurrence.proofs.ReadWords.{count-word, month-word, month_day-word, by_day-word, position-word, frequency-word, weekday-word}
+use Rattle.cal_recurrence.proofs.ReadWords.{count-word, month-word, month_day-word, week-word, by_day-word, position-word, frequency-word, weekday-word}
 
 -- ---- parts, each after a mark
 abbrev parts_after : List ℕ → List (List ℕ)
@@ -99,70 +98,22 @@ end-said d (Count n) rest r is h =
     (given none part.Count (decimal n) (count_of 4294967295) n (λ x. record d { end = Some (Count x) }) value refl)
     (h (Some (Count n)) refl)
 
-months-said : (d : Draft) (xs : List Month) (rest : List ℕ) (r : Recurrence) → AreWords month_of month_text xs → length xs ≤ 62
-    → ((o : Option (List Month)) → unwrap_or o [] ≡ xs → Says (record d { months = o }) rest r)
-    → Says (record d { months = None }) (list_text (codes ";BYMONTH=") month_text xs ++ rest) r
-months-said d [] rest r words few h = h None refl
-months-said d (x ∷ xs) rest r words few h =
-    let none : Draft = record d { months = None } in
-    let text = month_text x ++ list_text (codes ",") month_text xs in
-    let value = list-value month_of month_text x xs words few in
-    one-part none (record d { months = Some (x ∷ xs) }) (codes "BYMONTH=" ++ text) rest r
-    (avoids-append 59 (codes "BYMONTH=") text refl value.semicolon)
-    (given none part.Months text (list_of month_of) (x ∷ xs) (λ o. record d { months = Some o }) value refl)
-    (h (Some (x ∷ xs)) refl)
-
-year_days-said : (d : Draft) (xs : List ℤ) (rest : List ℕ) (r : Recurrence) → AreWords position_of position_text xs → length xs ≤ 62
-    → ((o : Option (List ℤ)) → unwrap_or o [] ≡ xs → Says (record d { year_days = o }) rest r)
-    → Says (record d { year_days = None }) (list_text (codes ";BYYEARDAY=") position_text xs ++ rest) r
-year_days-said d [] rest r words few h = h None refl
-year_days-said d (x ∷ xs) rest r words few h =
-    let none : Draft = record d { year_days = None } in
-    let text = position_text x ++ list_text (codes ",") position_text xs in
-    let value = list-value position_of position_text x xs words few in
-    one-part none (record d { year_days = Some (x ∷ xs) }) (codes "BYYEARDAY=" ++ text) rest r
-    (avoids-append 59 (codes "BYYEARDAY=") text refl value.semicolon)
-    (given none part.YearDays text (list_of position_of) (x ∷ xs) (λ o. record d { year_days = Some o }) value refl)
-    (h (Some (x ∷ xs)) refl)
-
-month_days-said : (d : Draft) (xs : List ℤ) (rest : List ℕ) (r : Recurrence) → AreWords month_day_of month_day_text xs → length xs ≤ 62
-    → ((o : Option (List ℤ)) → unwrap_or o [] ≡ xs → Says (record d { month_days = o }) rest r)
-    → Says (record d { month_days = None }) (list_text (codes ";BYMONTHDAY=") month_day_text xs ++ rest) r
-month_days-said d [] rest r words few h = h None refl
-month_days-said d (x ∷ xs) rest r words few h =
-    let none : Draft = record d { month_days = None } in
-    let text = month_day_text x ++ list_text (codes ",") month_day_text xs in
-    let value = list-value month_day_of month_day_text x xs words few in
-    one-part none (record d { month_days = Some (x ∷ xs) }) (codes "BYMONTHDAY=" ++ text) rest r
-    (avoids-append 59 (codes "BYMONTHDAY=") text refl value.semicolon)
-    (given none part.MonthDays text (list_of month_day_of) (x ∷ xs) (λ o. record d { month_days = Some o }) value refl)
-    (h (Some (x ∷ xs)) refl)
-
-weekdays-said : (d : Draft) (xs : List ByDay) (rest : List ℕ) (r : Recurrence) → AreWords by_day_of by_day_text xs → length xs ≤ 62
-    → ((o : Option (List ByDay)) → unwrap_or o [] ≡ xs → Says (record d { weekdays = o }) rest r)
-    → Says (record d { weekdays = None }) (list_text (codes ";BYDAY=") by_day_text xs ++ rest) r
-weekdays-said d [] rest r words few h = h None refl
-weekdays-said d (x ∷ xs) rest r words few h =
-    let none : Draft = record d { weekdays = None } in
-    let text = by_day_text x ++ list_text (codes ",") by_day_text xs in
-    let value = list-value by_day_of by_day_text x xs words few in
-    one-part none (record d { weekdays = Some (x ∷ xs) }) (codes "BYDAY=" ++ text) rest r
-    (avoids-append 59 (codes "BYDAY=") text refl value.semicolon)
-    (given none part.Weekdays text (list_of by_day_of) (x ∷ xs) (λ o. record d { weekdays = Some o }) value refl)
-    (h (Some (x ∷ xs)) refl)
-
-positions-said : (d : Draft) (xs : List ℤ) (rest : List ℕ) (r : Recurrence) → AreWords position_of position_text xs → length xs ≤ 62
-    → ((o : Option (List ℤ)) → unwrap_or o [] ≡ xs → Says (record d { set_positions = o }) rest r)
-    → Says (record d { set_positions = None }) (list_text (codes ";BYSETPOS=") position_text xs ++ rest) r
-positions-said d [] rest r words few h = h None refl
-positions-said d (x ∷ xs) rest r words few h =
-    let none : Draft = record d { set_positions = None } in
-    let text = position_text x ++ list_text (codes ",") position_text xs in
-    let value = list-value position_of position_text x xs words few in
-    one-part none (record d { set_positions = Some (x ∷ xs) }) (codes "BYSETPOS=" ++ text) rest r
-    (avoids-append 59 (codes "BYSETPOS=") text refl value.semicolon)
-    (given none part.Positions text (list_of position_of) (x ∷ xs) (λ o. record d { set_positions = Some o }) value refl)
-    (h (Some (x ∷ xs)) refl)
+-- a list, with the draft for each value of its part
+list-said : {X : Type 0} (to : Option (List X) → Draft) (at : RulePart) (name : List ℕ) (meaning : List ℕ → Option X) (text : X → List ℕ)
+    → ((value : List ℕ) → put_part (to None) (name ++ value) ≡ put_value (to None) value at)
+    → ((value : List ℕ) → put (to None) at value ≡ changed (λ xs. to (Some xs)) (fresh at false (list_of meaning value)))
+    → avoids 59 name ≡ true → (xs : List X) (rest : List ℕ) (r : Recurrence) → AreWords meaning text xs → length xs ≤ 62
+    → ((o : Option (List X)) → unwrap_or o [] ≡ xs → Says (to o) rest r)
+    → Says (to None) (list_text (59 ∷ name) text xs ++ rest) r
+list-said to at name meaning text named putting plain [] rest r words few h = h None refl
+list-said to at name meaning text named putting plain (x ∷ xs) rest r words few h =
+    let value = text x ++ list_text (codes ",") text xs in
+    let is = list-value meaning text x xs words few in
+    subst (λ words. Says (to None) (59 ∷ (words ++ rest)) r) (sym (append_assoc name (text x) (list_text (codes ",") text xs)))
+    (one-part (to None) (to (Some (x ∷ xs))) (name ++ value) rest r
+    (avoids-append 59 name value plain is.semicolon)
+    (named value ∙ given (to None) at value (list_of meaning) (x ∷ xs) (λ o. to (Some o)) is (putting value))
+    (h (Some (x ∷ xs)) refl))
 
 week_start-given : (d : Draft) (s : Weekday) (rest : List ℕ) (r : Recurrence) → Says (record d { week_start = Some s }) rest r
     → Says (record d { week_start = None }) ((codes ";WKST=" ++ weekday_text s) ++ rest) r
@@ -184,13 +135,14 @@ week_start-said d weekday.Friday rest r h = week_start-given d weekday.Friday re
 week_start-said d weekday.Saturday rest r h = week_start-given d weekday.Saturday rest r (h (Some weekday.Saturday) refl)
 week_start-said d weekday.Sunday rest r h = week_start-given d weekday.Sunday rest r (h (Some weekday.Sunday) refl)
 
-abbrev draft_of : Frequency → Option ℕ → Option RuleEnd → Option (List Month) → Option (List ℤ) → Option (List ℤ) → Option (List ByDay)
+abbrev draft_of : Frequency → Option ℕ → Option RuleEnd → Option (List Month) → Option (List ℤ) → Option (List ℤ) → Option (List ℤ) → Option (List ByDay)
     → Option (List ℤ) → Option Weekday → Draft
-draft_of f interval end months year_days month_days weekdays set_positions week_start = record {
+draft_of f interval end months weeks year_days month_days weekdays set_positions week_start = record {
   frequency = Some f;
   interval = interval;
   week_start = week_start;
   months = months;
+  weeks = weeks;
   year_days = year_days;
   month_days = month_days;
   weekdays = weekdays;
@@ -198,18 +150,19 @@ draft_of f interval end months year_days month_days weekdays set_positions week_
   end = end;
 }
 
-all-said : (r : Recurrence) (i : Option ℕ) (e : Option RuleEnd) (m : Option (List Month)) (y : Option (List ℤ)) (d : Option (List ℤ))
+all-said : (r : Recurrence) (i : Option ℕ) (e : Option RuleEnd) (m : Option (List Month)) (n : Option (List ℤ)) (y : Option (List ℤ)) (d : Option (List ℤ))
     (w : Option (List ByDay)) (p : Option (List ℤ)) (s : Option Weekday) → unwrap_or i 1 ≡ r.interval → unwrap_or e Never ≡ r.end
-    → unwrap_or m [] ≡ r.months → unwrap_or y [] ≡ r.year_days → unwrap_or d [] ≡ r.month_days → unwrap_or w [] ≡ r.weekdays
+    → unwrap_or m [] ≡ r.months → unwrap_or n [] ≡ r.weeks → unwrap_or y [] ≡ r.year_days → unwrap_or d [] ≡ r.month_days → unwrap_or w [] ≡ r.weekdays
     → unwrap_or p [] ≡ r.set_positions → unwrap_or s weekday.Monday ≡ r.week_start
-    → Says (draft_of r.frequency i e m y d w p s) [] r
-all-said r i e m y d w p s is ends months year_days month_days weekdays positions starts = record {
+    → Says (draft_of r.frequency i e m n y d w p s) [] r
+all-said r i e m n y d w p s is ends months weeks year_days month_days weekdays positions starts = record {
   cut = λ text clean. ap (parts_at 59) (append-nil text) ∙ cut-nowhere 59 text clean;
   reads = λ at j. Ok (record {
     frequency = r.frequency;
     interval = is j;
     week_start = starts j;
     months = months j;
+    weeks = weeks j;
     year_days = year_days j;
     month_days = month_days j;
     weekdays = weekdays j;
@@ -235,14 +188,15 @@ month-words [] = tt
 month-words (x ∷ xs) = (month-word x, month-words xs)
 
 -- ---- the whole
-grouped : (a b c d e f g h k : List ℕ)
-    → a ++ b ++ c ++ d ++ e ++ f ++ g ++ h ++ k ≡ a ++ (b ++ (c ++ (d ++ (e ++ (f ++ (g ++ (h ++ (k ++ []))))))))
-grouped a b c d e f g h k =
-    append_assoc (a ++ b ++ c ++ d ++ e ++ f ++ g) h k ∙ append_assoc (a ++ b ++ c ++ d ++ e ++ f) g (h ++ k)
-    ∙ append_assoc (a ++ b ++ c ++ d ++ e) f (g ++ (h ++ k)) ∙ append_assoc (a ++ b ++ c ++ d) e (f ++ (g ++ (h ++ k)))
-    ∙ append_assoc (a ++ b ++ c) d (e ++ (f ++ (g ++ (h ++ k)))) ∙ append_assoc (a ++ b) c (d ++ (e ++ (f ++ (g ++ (h ++ k)))))
-    ∙ append_assoc a b (c ++ (d ++ (e ++ (f ++ (g ++ (h ++ k))))))
-    ∙ ap (λ last. a ++ (b ++ (c ++ (d ++ (e ++ (f ++ (g ++ (h ++ last)))))))) (sym (append-nil k))
+grouped : (a b c d e f g h k l : List ℕ)
+    → a ++ b ++ c ++ d ++ e ++ f ++ g ++ h ++ k ++ l ≡ a ++ (b ++ (c ++ (d ++ (e ++ (f ++ (g ++ (h ++ (k ++ (l ++ [])))))))))
+grouped a b c d e f g h k l =
+    append_assoc (a ++ b ++ c ++ d ++ e ++ f ++ g ++ h) k l ∙ append_assoc (a ++ b ++ c ++ d ++ e ++ f ++ g) h (k ++ l)
+    ∙ append_assoc (a ++ b ++ c ++ d ++ e ++ f) g (h ++ (k ++ l))
+    ∙ append_assoc (a ++ b ++ c ++ d ++ e) f (g ++ (h ++ (k ++ l))) ∙ append_assoc (a ++ b ++ c ++ d) e (f ++ (g ++ (h ++ (k ++ l))))
+    ∙ append_assoc (a ++ b ++ c) d (e ++ (f ++ (g ++ (h ++ (k ++ l))))) ∙ append_assoc (a ++ b) c (d ++ (e ++ (f ++ (g ++ (h ++ (k ++ l))))))
+    ∙ append_assoc a b (c ++ (d ++ (e ++ (f ++ (g ++ (h ++ (k ++ l)))))))
+    ∙ ap (λ last. a ++ (b ++ (c ++ (d ++ (e ++ (f ++ (g ++ (h ++ (k ++ last))))))))) (sym (append-nil l))
 
 no-name : (r : Recurrence) → has_name (text_of r) ≡ false
 unfolding first_bytes
@@ -254,37 +208,42 @@ no-name r = and-false (nat_le 6 (length (text_of r)))
 
 said : (r : Recurrence) → IsSpelled r → read_on 0 nothing (parts_at 59 (text_of r)) ≡ Ok r
 said r h =
-    let from : Option ℕ → Option RuleEnd → Option (List Month) → Option (List ℤ) → Option (List ℤ) → Option (List ByDay) → Option (List ℤ) → Draft = λ i e m y d w p. draft_of r.frequency i e m y d w p None in
+    let from : Option ℕ → Option RuleEnd → Option (List Month) → Option (List ℤ) → Option (List ℤ) → Option (List ℤ) → Option (List ByDay) → Option (List ℤ) → Draft =
+    λ i e m n y d w p. draft_of r.frequency i e m n y d w p None in
     let starts = week_start_text r.week_start ++ [] in
     let positions = list_text (codes ";BYSETPOS=") position_text r.set_positions ++ starts in
     let weekdays = list_text (codes ";BYDAY=") by_day_text r.weekdays ++ positions in
-    let month_days = list_text (codes ";BYMONTHDAY=") month_day_text r.month_days ++ weekdays in
+    let month_days = list_text (codes ";BYMONTHDAY=") position_text r.month_days ++ weekdays in
     let year_days = list_text (codes ";BYYEARDAY=") position_text r.year_days ++ month_days in
-    let months = list_text (codes ";BYMONTH=") month_text r.months ++ year_days in
+    let weeks = list_text (codes ";BYWEEKNO=") position_text r.weeks ++ year_days in
+    let months = list_text (codes ";BYMONTH=") month_text r.months ++ weeks in
     let end = end_text r.end ++ months in
     let interval = interval_text r.interval ++ end in
+    let week_words = words IsWeek week_of position_text week-word r.weeks h.each_week in
     let year_day_words = words IsPosition position_of position_text position-word r.year_days h.each_year_day in
-    let day_words = words IsMonthDay month_day_of month_day_text month_day-word r.month_days h.each_month_day in
+    let day_words = words IsMonthDay month_day_of position_text month_day-word r.month_days h.each_month_day in
     let weekday_words = words IsByDay by_day_of by_day_text by_day-word r.weekdays h.each_weekday in
     let position_words = words IsPosition position_of position_text position-word r.set_positions h.each_position in
     ap (λ text. read_on 0 nothing (parts_at 59 text)) (grouped (codes "FREQ=" ++ frequency_text r.frequency) (interval_text r.interval) (end_text r.end)
-    (list_text (codes ";BYMONTH=") month_text r.months) (list_text (codes ";BYYEARDAY=") position_text r.year_days) (list_text (codes ";BYMONTHDAY=") month_day_text r.month_days)
+    (list_text (codes ";BYMONTH=") month_text r.months) (list_text (codes ";BYWEEKNO=") position_text r.weeks) (list_text (codes ";BYYEARDAY=") position_text r.year_days)
+    (list_text (codes ";BYMONTHDAY=") position_text r.month_days)
     (list_text (codes ";BYDAY=") by_day_text r.weekdays) (list_text (codes ";BYSETPOS=") position_text r.set_positions) (week_start_text r.week_start))
-    ∙ frequency-said r.frequency interval r (interval-said (from None None None None None None None) r.interval end r h.interval (λ i a.
-    end-said (from i None None None None None None) r.end months r h.end (λ e b.
-    months-said (from i e None None None None None) r.months year_days r (month-words r.months) h.months (λ m c.
-    year_days-said (from i e m None None None None) r.year_days month_days r year_day_words h.year_days (λ y u.
-    month_days-said (from i e m y None None None) r.month_days weekdays r day_words h.month_days (λ d p.
-    weekdays-said (from i e m y d None None) r.weekdays positions r weekday_words h.weekdays (λ w q.
-    positions-said (from i e m y d w None) r.set_positions starts r position_words h.set_positions (λ k t.
-    week_start-said (from i e m y d w k) r.week_start [] r (λ s o.
-    all-said r i e m y d w k s a b c u p q t o)))))))))
+    ∙ frequency-said r.frequency interval r (interval-said (from None None None None None None None None) r.interval end r h.interval (λ i a.
+    end-said (from i None None None None None None None) r.end months r h.end (λ e b.
+    list-said (λ o. from i e o None None None None None) part.Months (codes "BYMONTH=") month_of month_text (λ v. refl) (λ v. refl) refl r.months weeks r (month-words r.months) h.months (λ m c.
+    list-said (λ o. from i e m o None None None None) part.Weeks (codes "BYWEEKNO=") week_of position_text (λ v. refl) (λ v. refl) refl r.weeks year_days r week_words h.weeks (λ n v.
+    list-said (λ o. from i e m n o None None None) part.YearDays (codes "BYYEARDAY=") position_of position_text (λ v. refl) (λ v. refl) refl r.year_days month_days r year_day_words h.year_days (λ y u.
+    list-said (λ o. from i e m n y o None None) part.MonthDays (codes "BYMONTHDAY=") month_day_of position_text (λ v. refl) (λ v. refl) refl r.month_days weekdays r day_words h.month_days (λ d p.
+    list-said (λ o. from i e m n y d o None) part.Weekdays (codes "BYDAY=") by_day_of by_day_text (λ v. refl) (λ v. refl) refl r.weekdays positions r weekday_words h.weekdays (λ w q.
+    list-said (λ o. from i e m n y d w o) part.Positions (codes "BYSETPOS=") position_of position_text (λ v. refl) (λ v. refl) refl r.set_positions starts r position_words h.set_positions (λ k t.
+    week_start-said (from i e m n y d w k) r.week_start [] r (λ s o.
+    all-said r i e m n y d w k s a b c v u p q t o))))))))))
 
 reads_back_of : (r : Recurrence) → IsSpelled r → recurrence_of (text_of r) ≡ Ok r
 reads_back_of r h =
     ap (λ b. cond b (parts_say 6 (parts_at 59 (bytes_after 6 (text_of r)))) (parts_say 0 (parts_at 59 (text_of r)))) (no-name r)
     ∙ ap (checked 0 (parts_at 59 (text_of r))) (said r h)
-    ∙ ap (λ o. option_map_or (λ p. Err (later p (place_of (part_name p) 0 (parts_at 59 (text_of r))) (place_of (codes "FREQ") 0 (parts_at 59 (text_of r))))) o
+    ∙ ap (λ o. option_map_or (λ both. Err (later_of 0 (parts_at 59 (text_of r)) both)) o
     (cond (ranks_alone r) (Err (fault (place_of (codes "BYSETPOS") 0 (parts_at 59 (text_of r))) (Alone part.Positions))) (Ok r))) h.allowed
     ∙ ap (λ b. cond b (Err (fault (place_of (codes "BYSETPOS") 0 (parts_at 59 (text_of r))) (Alone part.Positions))) (Ok r)) h.ranked
 

@@ -20,8 +20,8 @@ use Rattle.cal_schedule.specs.declared.rule.rule.Frequency.TheVariants as freque
 use Rattle.cal_schedule.specs.declared.rule.rule.ByDay.{ByDay}
 use Rattle.cal_schedule.specs.declared.rule.rule.ByDay.TheVariants.{Every, Nth}
 use Rattle.cal_recurrence.specs.Spelled.{IsCount, IsIndex, IsByDay}
-use Rattle.cal_recurrence.specs.Words.{is_number, number_of, from_one_to, count_of, short_count_of, index_of, frequency_of, weekday_of, month_of, month_day_of, position_of, by_day_of}
-use Rattle.cal_recurrence.specs.Written.{frequency_text, weekday_text, month_text, month_day_text, position_text, by_day_text}
+use Rattle.cal_recurrence.specs.Words.{is_number, number_of, from_one_to, count_of, short_count_of, index_of, frequency_of, weekday_of, month_of, month_day_of, week_of, position_of, by_day_of}
+use Rattle.cal_recurrence.specs.Written.{frequency_text, weekday_text, month_text, position_text, by_day_text}
 use Rattle.cal_recurrence.proofs.Avoided.{avoids, avoids-append, avoids-cons}
 use Rattle.cal_recurrence.proofs.Numbers.{digits, numeral_is}
 use Rattle.cal_recurrence.proofs.ReadValues.{IsWord}
@@ -100,11 +100,18 @@ signed-avoids byte most (negsuc n) two h minus out =
     let high : suc n ≤ most = h.1 in
     avoids-cons byte 45 (decimal (suc n)) minus (decimal-avoids byte (suc n) out (omega (arith, high, two)))
 
-pub month_day-word : (z : ℤ) → IsIndex 31 z → IsWord month_day_of z (month_day_text z)
+pub month_day-word : (z : ℤ) → IsIndex 31 z → IsWord month_day_of z (position_text z)
 month_day-word z h = record {
   comma = signed-avoids 44 31 z (lit< tt) h refl (inl (lit< tt));
   semicolon = signed-avoids 59 31 z (lit< tt) h refl (inr (lit< tt));
   means = index-back 2 31 z (lit< tt) (lit< tt) (lit< tt) h;
+}
+
+pub week-word : (z : ℤ) → IsIndex 53 z → IsWord week_of z (position_text z)
+week-word z h = record {
+  comma = signed-avoids 44 53 z (lit< tt) h refl (inl (lit< tt));
+  semicolon = signed-avoids 59 53 z (lit< tt) h refl (inr (lit< tt));
+  means = index-back 2 53 z (lit< tt) (lit< tt) (lit< tt) h;
 }
 
 pub position-word : (z : ℤ) → IsIndex 366 z → IsWord position_of z (position_text z)

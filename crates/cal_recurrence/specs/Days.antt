@@ -6,7 +6,7 @@ use Rattle.cal_schedule.specs.declared.rule.rule.ByDay.TheVariants.{Every, Nth}
 use Rattle.cal_schedule.specs.declared.rule.rule.Frequency.{Frequency}
 use Rattle.cal_schedule.specs.declared.rule.rule.Frequency.TheVariants.{Daily, Weekly, Monthly, Yearly}
 use Rattle.cal_recurrence.specs.declared.fault.RulePart.{RulePart}
-use Rattle.cal_recurrence.specs.declared.fault.RulePart.TheVariants.{YearDays, MonthDays, Weekdays}
+use Rattle.cal_recurrence.specs.declared.fault.RulePart.TheVariants as part
 use Rattle.cal_schedule.specs.declared.rule.rule.Rule.{Rule}
 use Rattle.cal_schedule.specs.Rule.{occurrences}
 use Rattle.cal_recurrence.specs.declared.recurrence.Recurrence.{Recurrence}
@@ -21,27 +21,29 @@ last_of (Count count) = None
 
 -- The recurrence has positions, and no list that selects the days that they rank.
 abbrev pub ranks_alone : Recurrence → Bool
-ranks_alone r = not (length r.set_positions == 0) && ((length r.months == 0) && ((length r.year_days == 0) && ((length r.month_days == 0) && (length r.weekdays == 0))))
+ranks_alone r = not (length r.set_positions == 0) && ((length r.months == 0) && ((length r.weeks == 0) && ((length r.year_days == 0) && ((length r.month_days == 0) && (length r.weekdays == 0)))))
 
 -- A weekday has a number.
 abbrev pub is_numbered : ByDay → Bool
 is_numbered (Every w) = false
 is_numbered (Nth k w) = true
 
--- The frequency excludes numbers of weekdays in a day or a week, days of the month in a week, and
--- days of the year in shorter periods than a year.
-abbrev pub excludes_year_days : Recurrence → Option RulePart
-excludes_year_days r = if length r.year_days == 0 then None else Some YearDays
+-- Two parts that exclude each other. A day or a week has no numbers of weekdays, nor a year of
+-- numbered weeks; a week has no days of the month; and only a year has days and weeks by number.
+abbrev pub excluded_days : Recurrence → Option (RulePart × RulePart)
+excluded_days r =
+    if not (length r.year_days == 0) then Some (part.YearDays, part.Frequency) else
+    if not (length r.weeks == 0) then Some (part.Weeks, part.Frequency) else None
 
-abbrev pub excluded_at : Frequency → Recurrence → Option RulePart
-excluded_at Daily r = if list_any is_numbered r.weekdays then Some Weekdays else excludes_year_days r
+abbrev pub excluded_at : Frequency → Recurrence → Option (RulePart × RulePart)
+excluded_at Daily r = if list_any is_numbered r.weekdays then Some (part.Weekdays, part.Frequency) else excluded_days r
 excluded_at Weekly r =
-    if list_any is_numbered r.weekdays then Some Weekdays else
-    if not (length r.month_days == 0) then Some MonthDays else excludes_year_days r
-excluded_at Monthly r = excludes_year_days r
-excluded_at Yearly r = None
+    if list_any is_numbered r.weekdays then Some (part.Weekdays, part.Frequency) else
+    if not (length r.month_days == 0) then Some (part.MonthDays, part.Frequency) else excluded_days r
+excluded_at Monthly r = excluded_days r
+excluded_at Yearly r = if not (length r.weeks == 0) && list_any is_numbered r.weekdays then Some (part.Weekdays, part.Weeks) else None
 
-abbrev pub excluded : Recurrence → Option RulePart
+abbrev pub excluded : Recurrence → Option (RulePart × RulePart)
 excluded r = excluded_at r.frequency r
 
 -- The rule has the start and the parts of the recurrence.
@@ -51,6 +53,7 @@ pub record IsRuleOf (recurrence : Recurrence) (first : ℕ) (rule : Rule) : Type
   pub interval : rule.interval ≡ recurrence.interval
   pub week_start : rule.week_start ≡ recurrence.week_start
   pub months : rule.months.now ≡ recurrence.months
+  pub weeks : rule.weeks.now ≡ recurrence.weeks
   pub year_days : rule.year_days.now ≡ recurrence.year_days
   pub month_days : rule.month_days.now ≡ recurrence.month_days
   pub weekdays : rule.weekdays.now ≡ recurrence.weekdays

@@ -2,7 +2,7 @@
 use Rattle.std.specs.Prelude.{ℕ, ◌+◌, ◌≤◌, List, length}
 
 abbrev pub capacity : ℕ
-capacity = 2280
+capacity = 2724
 
 -- There is room for n more bytes.
 abbrev pub HasRoom : ℕ → List ℕ → Type 0

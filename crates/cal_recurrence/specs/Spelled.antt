@@ -20,6 +20,9 @@ IsIndex most z = (1 ≤ unsigned_abs z) × (unsigned_abs z ≤ most)
 abbrev pub IsMonthDay : ℤ → Type 0
 IsMonthDay day = IsIndex 31 day
 
+abbrev pub IsWeek : ℤ → Type 0
+IsWeek week = IsIndex 53 week
+
 abbrev pub IsPosition : ℤ → Type 0
 IsPosition position = IsIndex 366 position
 
@@ -36,10 +39,12 @@ IsEnd (Count n) = IsCount n
 pub record IsSpelled (r : Recurrence) : Type 0 where
   pub interval : IsCount r.interval
   pub months : length r.months ≤ most_values
+  pub weeks : length r.weeks ≤ most_values
   pub year_days : length r.year_days ≤ most_values
   pub month_days : length r.month_days ≤ most_values
   pub weekdays : length r.weekdays ≤ most_values
   pub set_positions : length r.set_positions ≤ most_values
+  pub each_week : All IsWeek r.weeks
   pub each_year_day : All IsPosition r.year_days
   pub each_month_day : All IsMonthDay r.month_days
   pub each_weekday : All IsByDay r.weekdays

@@ -8,7 +8,7 @@ use Rattle.cal_schedule.specs.declared.rule.rule.Frequency.{Frequency}
 use Rattle.cal_recurrence.specs.Days.{excluded, ranks_alone}
 use Rattle.cal_recurrence.specs.FaultText.{part_name}
 use Rattle.cal_recurrence.specs.Values.{most_values}
-use Rattle.cal_recurrence.specs.Words.{bytes_after, has_name, is_alike, parts_at, front_at, rest_at, part_of, frequency_of, weekday_of, count_of, month_of, month_day_of, by_day_of, position_of, date_of}
+use Rattle.cal_recurrence.specs.Words.{bytes_after, has_name, is_alike, parts_at, front_at, rest_at, part_of, frequency_of, weekday_of, count_of, month_of, month_day_of, week_of, by_day_of, position_of, date_of}
 use Rattle.cal_recurrence.specs.declared.draft.Draft.{Draft}
 use Rattle.cal_recurrence.specs.declared.fault.RulePart.{RulePart}
 use Rattle.cal_recurrence.specs.declared.fault.RulePart.TheVariants as part
@@ -51,6 +51,8 @@ put draft part.WeekStart value =
     changed (λ x. record draft { week_start = Some x }) (fresh part.WeekStart (is_some draft.week_start) (weekday_of value))
 put draft part.Months value =
     changed (λ x. record draft { months = Some x }) (fresh part.Months (is_some draft.months) (list_of month_of value))
+put draft part.Weeks value =
+    changed (λ x. record draft { weeks = Some x }) (fresh part.Weeks (is_some draft.weeks) (list_of week_of value))
 put draft part.YearDays value =
     changed (λ x. record draft { year_days = Some x }) (fresh part.YearDays (is_some draft.year_days) (list_of position_of value))
 put draft part.MonthDays value =
@@ -82,6 +84,7 @@ with_frequency draft f = record {
   interval = unwrap_or draft.interval 1;
   week_start = unwrap_or draft.week_start Monday;
   months = unwrap_or draft.months [];
+  weeks = unwrap_or draft.weeks [];
   year_days = unwrap_or draft.year_days [];
   month_days = unwrap_or draft.month_days [];
   weekdays = unwrap_or draft.weekdays [];
@@ -102,7 +105,7 @@ read_on at draft [] = finished (at - 1) draft
 read_on at draft (text ∷ texts) = and_on at (λ more. read_on (at + length text + 1) more texts) (put_part draft text)
 
 abbrev pub nothing : Draft
-nothing = record { frequency = None; interval = None; week_start = None; months = None; year_days = None; month_days = None; weekdays = None; set_positions = None; end = None }
+nothing = record { frequency = None; interval = None; week_start = None; months = None; weeks = None; year_days = None; month_days = None; weekdays = None; set_positions = None; end = None }
 
 -- The position of the first part with a name, or the end. The first of the parts begins at byte
 -- `at`.
@@ -110,13 +113,16 @@ abbrev pub place_of : List ℕ → ℕ → List (List ℕ) → ℕ
 place_of name at [] = at - 1
 place_of name at (text ∷ texts) = if is_alike (front_at 61 text) name then at else place_of name (at + length text + 1) texts
 
--- If a part and a frequency exclude each other, the later one is at fault.
-abbrev pub later : RulePart → ℕ → ℕ → ParseRuleError
-later at place freq = if nat_lt place freq then fault freq (Excluded part.Frequency) else fault place (Excluded at)
+-- If two parts exclude each other, the later one is at fault.
+abbrev pub later : RulePart → ℕ → RulePart → ℕ → ParseRuleError
+later at place other other_place = if nat_lt place other_place then fault other_place (Excluded other) else fault place (Excluded at)
 
--- The frequency excludes no part, and a BYSETPOS has days to rank.
+abbrev pub later_of : ℕ → List (List ℕ) → RulePart × RulePart → ParseRuleError
+later_of at texts both = later both.0 (place_of (part_name both.0) at texts) both.1 (place_of (part_name both.1) at texts)
+
+-- No parts exclude each other, and a BYSETPOS has days to rank.
 abbrev pub checked : ℕ → List (List ℕ) → Result Recurrence ParseRuleError → Result Recurrence ParseRuleError
-checked at texts (Ok r) = option_map_or (λ p. Err (later p (place_of (part_name p) at texts) (place_of (codes "FREQ") at texts))) (excluded r)
+checked at texts (Ok r) = option_map_or (λ both. Err (later_of at texts both)) (excluded r)
     (if ranks_alone r then Err (fault (place_of (codes "BYSETPOS") at texts) (Alone part.Positions)) else Ok r)
 checked at texts (Err why) = Err why
 

@@ -1,6 +1,6 @@
 -- The words of the text of a rule. Letters match in any case.
 use denote.Ref.{Bor}
-use Rattle.std.specs.Prelude.{ℕ, ◌+◌, ◌-◌, ◌/◌, ◌%◌, nat_lt, nat_le, ◌==◌, ◌&&◌, ◌||◌, Bool, true, false, ℤ, pos, neg_ℤ, List, [], length, take, drop, slice_get, slice_index, filter, Option, Some, None, option_map, option_and_then, codes, if◌then◌else◌}
+use Rattle.std.specs.Prelude.{ℕ, min, ◌+◌, ◌-◌, ◌/◌, ◌%◌, nat_lt, nat_le, ◌==◌, ◌&&◌, ◌||◌, Bool, true, false, ℤ, pos, neg_ℤ, List, [], length, take, drop, slice_get, slice_index, filter, Option, Some, None, option_map, option_and_then, codes, if◌then◌else◌}
 use Rattle.std.specs.List.{slice_split, before_first, after_first}
 use Rattle.std.specs.Option.{option_map_or, option_zip}
 use Rattle.std.specs.Ordering.{int_eq}
@@ -59,6 +59,7 @@ part_of word =
     if is_alike word (codes "INTERVAL") then Some part.Interval else
     if is_alike word (codes "WKST") then Some part.WeekStart else
     if is_alike word (codes "BYMONTH") then Some part.Months else
+    if is_alike word (codes "BYWEEKNO") then Some part.Weeks else
     if is_alike word (codes "BYYEARDAY") then Some part.YearDays else
     if is_alike word (codes "BYMONTHDAY") then Some part.MonthDays else
     if is_alike word (codes "BYDAY") then Some part.Weekdays else
@@ -115,8 +116,15 @@ index_of size most word =
 abbrev pub month_of : List ℕ → Option Month
 month_of word = option_map (λ n. month_with_index (n - 1)) (short_count_of 2 12 word)
 
+-- A day of the month or a week. No week is past the 53rd.
+abbrev pub small_index_of : ℕ → List ℕ → Option ℤ
+small_index_of most word = index_of 2 (min most 53) word
+
 abbrev pub month_day_of : List ℕ → Option ℤ
-month_day_of word = index_of 2 31 word
+month_day_of word = small_index_of 31 word
+
+abbrev pub week_of : List ℕ → Option ℤ
+week_of word = small_index_of 53 word
 
 -- A day of the year or a position.
 abbrev pub position_of : List ℕ → Option ℤ

@@ -34,9 +34,7 @@ weekday_text weekday.Sunday = codes "SU"
 abbrev pub month_text : Month → List ℕ
 month_text month = decimal (number month)
 
-abbrev pub month_day_text : ℤ → List ℕ
-month_day_text day = signed_decimal day
-
+-- A day of the month or the year, a week or a position.
 abbrev pub position_text : ℤ → List ℕ
 position_text position = signed_decimal position
 
@@ -70,7 +68,7 @@ week_start_text weekday = codes ";WKST=" ++ weekday_text weekday
 abbrev pub text_of : Recurrence → List ℕ
 text_of r =
     codes "FREQ=" ++ frequency_text r.frequency ++ interval_text r.interval ++ end_text r.end
-    ++ list_text (codes ";BYMONTH=") month_text r.months ++ list_text (codes ";BYYEARDAY=") position_text r.year_days
-    ++ list_text (codes ";BYMONTHDAY=") month_day_text r.month_days
+    ++ list_text (codes ";BYMONTH=") month_text r.months ++ list_text (codes ";BYWEEKNO=") position_text r.weeks ++ list_text (codes ";BYYEARDAY=") position_text r.year_days
+    ++ list_text (codes ";BYMONTHDAY=") position_text r.month_days
     ++ list_text (codes ";BYDAY=") by_day_text r.weekdays ++ list_text (codes ";BYSETPOS=") position_text r.set_positions
     ++ week_start_text r.week_start

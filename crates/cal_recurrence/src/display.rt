@@ -13,9 +13,9 @@ use std::fmt;
 impl Recurrence {
     /// Returns the text that the recurrence prints, such as `FREQ=MONTHLY;COUNT=12;BYDAY=-1FR`.
     ///
-    /// The order is `FREQ`, `INTERVAL`, `UNTIL` or `COUNT`, `BYMONTH`, `BYYEARDAY`, `BYMONTHDAY`,
-    /// `BYDAY`, `BYSETPOS`, `WKST`. An interval of 1, weeks from Monday, empty lists and a missing
-    /// end are left out.
+    /// The order is `FREQ`, `INTERVAL`, `UNTIL` or `COUNT`, `BYMONTH`, `BYWEEKNO`, `BYYEARDAY`,
+    /// `BYMONTHDAY`, `BYDAY`, `BYSETPOS`, `WKST`. An interval of 1, weeks from Monday, empty lists
+    /// and a missing end are left out.
     pub fn text(&self) -> RecurrenceText
         ensures text { result ≡ text_of self.now }
         ensures reads_back { IsSpelled self.now → recurrence_of result ≡ Ok self.now }
@@ -26,6 +26,7 @@ impl Recurrence {
         push_interval(&mut text, self.interval);
         push_end(&mut text, self.end);
         push_list(&mut text, ";BYMONTH=", self.months.as_slice());
+        push_list(&mut text, ";BYWEEKNO=", self.weeks.as_slice());
         push_list(&mut text, ";BYYEARDAY=", self.year_days.as_slice());
         push_list(&mut text, ";BYMONTHDAY=", self.month_days.as_slice());
         push_list(&mut text, ";BYDAY=", self.weekdays.as_slice());

@@ -19,6 +19,7 @@ pub struct Draft {
     pub interval: Option<u32>,
     pub week_start: Option<Weekday>,
     pub months: Option<Values<Month>>,
+    pub weeks: Option<Values<i8>>,
     pub year_days: Option<Values<i16>>,
     pub month_days: Option<Values<i8>>,
     pub weekdays: Option<Values<ByDay>>,
@@ -49,6 +50,7 @@ impl Draft {
             interval: None,
             week_start: None,
             months: None,
+            weeks: None,
             year_days: None,
             month_days: None,
             weekdays: None,
@@ -102,15 +104,19 @@ impl Draft {
                 self.months = Some(fresh(
                     part,
                     self.months.is_some(),
-                    values_of(value, Month::January),
+                    values_of(value, Month::January, 12),
                 )?);
+                Ok(self)
+            }
+            RulePart::Weeks => {
+                self.weeks = Some(fresh(part, self.weeks.is_some(), values_of(value, 0i8, 53))?);
                 Ok(self)
             }
             RulePart::YearDays => {
                 self.year_days = Some(fresh(
                     part,
                     self.year_days.is_some(),
-                    values_of(value, 0i16),
+                    values_of(value, 0i16, 366),
                 )?);
                 Ok(self)
             }
@@ -118,7 +124,7 @@ impl Draft {
                 self.month_days = Some(fresh(
                     part,
                     self.month_days.is_some(),
-                    values_of(value, 0),
+                    values_of(value, 0i8, 31),
                 )?);
                 Ok(self)
             }
@@ -126,7 +132,7 @@ impl Draft {
                 self.weekdays = Some(fresh(
                     part,
                     self.weekdays.is_some(),
-                    values_of(value, ByDay::Every(Weekday::Monday)),
+                    values_of(value, ByDay::Every(Weekday::Monday), 53),
                 )?);
                 Ok(self)
             }
@@ -134,7 +140,7 @@ impl Draft {
                 self.set_positions = Some(fresh(
                     part,
                     self.set_positions.is_some(),
-                    values_of(value, 0i16),
+                    values_of(value, 0i16, 366),
                 )?);
                 Ok(self)
             }
@@ -166,6 +172,7 @@ impl Draft {
             interval: self.interval.unwrap_or(1),
             week_start: self.week_start.unwrap_or(Weekday::Monday),
             months: self.months.unwrap_or(Values::none(Month::January)),
+            weeks: self.weeks.unwrap_or(Values::none(0)),
             year_days: self.year_days.unwrap_or(Values::none(0)),
             month_days: self.month_days.unwrap_or(Values::none(0)),
             weekdays: self

@@ -16,6 +16,8 @@ pub enum RulePart {
     WeekStart,
     /// `BYMONTH`
     Months,
+    /// `BYWEEKNO`
+    Weeks,
     /// `BYYEARDAY`
     YearDays,
     /// `BYMONTHDAY`
@@ -43,8 +45,8 @@ pub enum ParseRuleErrorKind {
     Value(RulePart),
     /// The part and an earlier one exclude each other, as `BYMONTHDAY=1` and `FREQ=WEEKLY`.
     Excluded(RulePart),
-    /// The part needs another one that selects days: `BYMONTH`, `BYYEARDAY`, `BYMONTHDAY` or
-    /// `BYDAY`.
+    /// The part needs another one that selects days: `BYMONTH`, `BYWEEKNO`, `BYYEARDAY`,
+    /// `BYMONTHDAY` or `BYDAY`.
     Alone(RulePart),
     /// No part says the frequency.
     Missing,
@@ -72,6 +74,7 @@ impl RulePart {
             RulePart::Interval => "INTERVAL",
             RulePart::WeekStart => "WKST",
             RulePart::Months => "BYMONTH",
+            RulePart::Weeks => "BYWEEKNO",
             RulePart::YearDays => "BYYEARDAY",
             RulePart::MonthDays => "BYMONTHDAY",
             RulePart::Weekdays => "BYDAY",

@@ -28,16 +28,17 @@ pub fn has_few_words(value: &[u8]) -> bool
     commas(value) < MOST
 }
 
-/// Parses values with commas between them. `filler` fills the unused places of the list.
-pub fn values_of<T: Word>(value: &[u8], filler: T) -> Option<Values<T>>
+/// Parses values up to `most` with commas between them. `filler` fills the unused places of the
+/// list.
+pub fn values_of<T: Word>(value: &[u8], filler: T, most: u16) -> Option<Values<T>>
     requires { length (parts_at 44 value.now) ≤ most_values }
-    ensures { result ≡ list_of T.meaning_of value.now }
+    ensures { result ≡ list_of (T.meaning_of most) value.now }
 {
     let mut values = Values::none(filler);
     let mut words = Some(value);
     while let Some(left) = words {
         let (word, rest) = cut(left, b',');
-        values.push(T::read(word)?);
+        values.push(T::read(word, most)?);
         words = rest;
     }
     Some(values)

@@ -12,12 +12,12 @@ use crate::words::{cut, has_name, is_alike, split};
 /// Parses a recurrence of RFC 5545, such as `FREQ=MONTHLY;BYDAY=-1FR;COUNT=12`, with or without
 /// `RRULE:` in front.
 ///
-/// The parts are `FREQ`, `INTERVAL`, `WKST`, `BYMONTH`, `BYYEARDAY`, `BYMONTHDAY`, `BYDAY`,
-/// `BYSETPOS`, and `UNTIL` or `COUNT`, in any order and any case. `UNTIL` has a date, or a date and
+/// The parts are `FREQ`, `INTERVAL`, `WKST`, `BYMONTH`, `BYWEEKNO`, `BYYEARDAY`, `BYMONTHDAY`,
+/// `BYDAY`, `BYSETPOS`, and `UNTIL` or `COUNT`, in any order and any case. `UNTIL` has a date, or a date and
 /// time, and then its date counts. The first bad part gives the error: `Unknown` for any other
 /// name, `Twice` for a repeated part or a second end, `TooMany` for more than 62 words, `Value` for
-/// an invalid value, and `Missing` if there is no `FREQ`. Then `Excluded` means a part that the
-/// frequency excludes, and `Alone` a `BYSETPOS` without another list.
+/// an invalid value, and `Missing` if there is no `FREQ`. Then `Excluded` means a part that an
+/// earlier one excludes, and `Alone` a `BYSETPOS` without another list.
 pub fn parse(text: &[u8]) -> Result<Recurrence, ParseRuleError>
     ensures value { result ≡ recurrence_of text.now }
     ensures spelled { IfOk result IsSpelled }
@@ -37,9 +37,10 @@ fn parse_parts(position: usize, text: &[u8]) -> Result<Recurrence, ParseRuleErro
 {
     match read_on(position, Draft::new(), text) {
         Ok(recurrence) => {
-            if let Some(part) = recurrence.excluded() {
+            if let Some((part, other)) = recurrence.excluded() {
                 let place = place_of(part.name().as_bytes(), position, text);
-                Err(later(part, place, place_of(b"FREQ", position, text)))
+                let other_place = place_of(other.name().as_bytes(), position, text);
+                Err(later(part, place, other, other_place))
             } else if recurrence.ranks_alone() {
                 Err(ParseRuleError {
                     position: place_of(b"BYSETPOS", position, text),
@@ -53,20 +54,18 @@ fn parse_parts(position: usize, text: &[u8]) -> Result<Recurrence, ParseRuleErro
     }
 }
 
-/// Returns the error of a part and a frequency that exclude each other, at the later one.
-fn later(part: RulePart, place: usize, frequency: usize) -> ParseRuleError
-    ensures { result ≡ later part place frequency }
+/// Returns the error of two parts that exclude each other, at the later one.
+fn later(part: RulePart, place: usize, other: RulePart, other_place: usize) -> ParseRuleError
+    ensures { result ≡ later part place other other_place }
 {
-    if place < frequency {
-        ParseRuleError {
-            position: frequency,
-            reason: ParseRuleErrorKind::Excluded(RulePart::Frequency),
-        }
+    let (position, part) = if place < other_place {
+        (other_place, other)
     } else {
-        ParseRuleError {
-            position: place,
-            reason: ParseRuleErrorKind::Excluded(part),
-        }
+        (place, part)
+    };
+    ParseRuleError {
+        position,
+        reason: ParseRuleErrorKind::Excluded(part),
     }
 }
 

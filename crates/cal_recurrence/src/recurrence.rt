@@ -32,6 +32,8 @@ pub struct Recurrence {
     pub week_start: Weekday,
     /// The months.
     pub months: Values<Month>,
+    /// The weeks of the year, counted from 1, or from the end with -1 for the last one.
+    pub weeks: Values<i8>,
     /// The days of the year, counted from 1, or from the end with -1 for the last one.
     pub year_days: Values<i16>,
     /// The days of the month, counted from 1, or from the end with -1 for the last one.
@@ -66,36 +68,44 @@ impl Recurrence {
     {
         !self.set_positions.as_slice().is_empty()
             && self.months.as_slice().is_empty()
+            && self.weeks.as_slice().is_empty()
             && self.year_days.as_slice().is_empty()
             && self.month_days.as_slice().is_empty()
             && self.weekdays.as_slice().is_empty()
     }
 
-    /// Returns a part that the frequency excludes, if there is one.
-    pub(crate) fn excluded(&self) -> Option<RulePart>
+    /// Returns two parts that exclude each other, if there are such.
+    pub(crate) fn excluded(&self) -> Option<(RulePart, RulePart)>
         ensures { result ≡ excluded self.now }
     {
         match self.frequency {
             Frequency::Daily => {
                 if any_numbered(self.weekdays.as_slice()) {
-                    return Some(RulePart::Weekdays);
+                    return Some((RulePart::Weekdays, RulePart::Frequency));
                 }
             }
             Frequency::Weekly => {
                 if any_numbered(self.weekdays.as_slice()) {
-                    return Some(RulePart::Weekdays);
+                    return Some((RulePart::Weekdays, RulePart::Frequency));
                 }
                 if !self.month_days.as_slice().is_empty() {
-                    return Some(RulePart::MonthDays);
+                    return Some((RulePart::MonthDays, RulePart::Frequency));
                 }
             }
             Frequency::Monthly => {}
-            Frequency::Yearly => return None,
+            Frequency::Yearly => {
+                if !self.weeks.as_slice().is_empty() && any_numbered(self.weekdays.as_slice()) {
+                    return Some((RulePart::Weekdays, RulePart::Weeks));
+                }
+                return None;
+            }
         }
-        if self.year_days.as_slice().is_empty() {
-            None
+        if !self.year_days.as_slice().is_empty() {
+            Some((RulePart::YearDays, RulePart::Frequency))
+        } else if !self.weeks.as_slice().is_empty() {
+            Some((RulePart::Weeks, RulePart::Frequency))
         } else {
-            Some(RulePart::YearDays)
+            None
         }
     }
 
@@ -118,6 +128,7 @@ impl Recurrence {
             interval: self.interval,
             week_start: self.week_start,
             months: self.months.as_slice(),
+            weeks: self.weeks.as_slice(),
             year_days: self.year_days.as_slice(),
             month_days: self.month_days.as_slice(),
             weekdays: self.weekdays.as_slice(),

@@ -9,9 +9,9 @@ use std::marker::Model;
 use std::str::from_utf8_unchecked;
 
 /// The capacity in bytes. A recurrence with 62 values in each of its lists needs fewer.
-const CAPACITY: usize = 2280;
+const CAPACITY: usize = 2724;
 
-/// A text of a recurrence, of at most 2280 bytes, without allocation or a formatter.
+/// A text of a recurrence, of at most 2724 bytes, without allocation or a formatter.
 #[derive(Drop)]
 pub struct RecurrenceText {
     bytes: [u8; CAPACITY],
@@ -57,7 +57,7 @@ impl RecurrenceText {
         &self.bytes[..self.filled]
     }
 
-    /// Returns the number of bytes, at most 2280.
+    /// Returns the number of bytes, at most 2724.
     pub fn len(&self) -> usize
         ensures value { result ≡ length self.now }
         ensures max { result ≤ capacity }

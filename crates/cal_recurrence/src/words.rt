@@ -1,6 +1,6 @@
 //! Single words of the text of a rule.
 ghost use Rattle.std.specs.Prelude.{◌≡◌, true, ◌+◌, ◌<◌, ◌≤◌, ◌==◌, ◌∷◌, length, position, slice_index, MatchOption, IfSome, unsigned_abs};
-ghost use Rattle.cal_recurrence.specs.Words.{by_day_of, bytes_after, bytes_left, count_of, date_of, day_with, first_bytes, frequency_of, from_one_to, front_at, has_name, is_alike, is_clock, is_time, is_zone, month_day_of, month_of, number_of, part_of, parts_at, parts_left, index_of, position_of, rest_at, short_count_of, weekday_of};
+ghost use Rattle.cal_recurrence.specs.Words.{by_day_of, bytes_after, bytes_left, count_of, date_of, day_with, first_bytes, frequency_of, from_one_to, front_at, has_name, is_alike, is_clock, is_time, is_zone, month_of, number_of, part_of, parts_at, parts_left, index_of, position_of, rest_at, short_count_of, small_index_of, weekday_of};
 
 use crate::fault::RulePart;
 use cal_schedule::{ByDay, Frequency};
@@ -67,6 +67,8 @@ pub fn part_of(name: &[u8]) -> Option<RulePart>
         Some(RulePart::WeekStart)
     } else if is_alike(name, b"BYMONTH") {
         Some(RulePart::Months)
+    } else if is_alike(name, b"BYWEEKNO") {
+        Some(RulePart::Weeks)
     } else if is_alike(name, b"BYYEARDAY") {
         Some(RulePart::YearDays)
     } else if is_alike(name, b"BYMONTHDAY") {
@@ -189,11 +191,12 @@ pub fn month_of(word: &[u8]) -> Option<Month>
     Month::try_from(short_count_of(word, 2, 12)? as u8).ok()
 }
 
-/// Parses a day of the month, from 1 to 31, or from -1 for the last day to -31.
-pub fn month_day_of(word: &[u8]) -> Option<i8>
-    ensures { result ≡ month_day_of word.now }
+/// Parses a day of the month or a week, from 1 to `most`, or from -1 for the last one to `-most`.
+/// It is at most 53.
+pub fn small_index_of(word: &[u8], most: u16) -> Option<i8>
+    ensures { result ≡ small_index_of most word.now }
 {
-    Some(index_of(word, 2, 31)? as i8)
+    Some(index_of(word, 2, most.min(53))? as i8)
 }
 
 /// Parses a day of the year or a position, from 1 to 366, or from -1 for the last one to -366.

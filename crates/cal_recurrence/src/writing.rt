@@ -3,12 +3,12 @@ ghost use Rattle.std.specs.Prelude.{◌≡◌, ◌+◌, ◌*◌, ◌≤◌, ◌+
 ghost use Rattle.std.specs.Fmt.{signed_decimal};
 ghost use Rattle.cal_recurrence.specs.RecurrenceText.{HasRoom};
 ghost use Rattle.cal_recurrence.specs.Values.{most_values};
-ghost use Rattle.cal_recurrence.specs.Words.{by_day_of, month_day_of, month_of, position_of};
-ghost use Rattle.cal_recurrence.specs.Written.{by_day_text, day_text, end_text, frequency_text, interval_text, list_text, month_day_text, month_text, position_text, week_start_text, weekday_text};
+ghost use Rattle.cal_recurrence.specs.Words.{by_day_of, month_of, position_of, small_index_of};
+ghost use Rattle.cal_recurrence.specs.Written.{by_day_text, day_text, end_text, frequency_text, interval_text, list_text, month_text, position_text, week_start_text, weekday_text};
 
 use crate::recurrence::RuleEnd;
 use crate::text::RecurrenceText;
-use crate::words::{by_day_of, month_day_of, month_of, position_of};
+use crate::words::{by_day_of, month_of, position_of, small_index_of};
 use cal_schedule::{ByDay, Frequency};
 use cal_time::{Cycle, Date, Month, ShortText, Weekday};
 
@@ -16,24 +16,24 @@ use cal_time::{Cycle, Date, Month, ShortText, Weekday};
 pub trait Word: Copy {
     ghost text_of: { Self → List ℕ };
 
-    ghost meaning_of: { List ℕ → Option Self };
+    ghost meaning_of: { ℕ → List ℕ → Option Self };
 
     /// Returns the text of the value, such as `-1FR`.
     fn word(self) -> ShortText
         ensures text { result ≡ text_of self }
         ensures short { length result ≤ 6 };
 
-    /// Parses a value.
-    fn read(word: &[u8]) -> Option<Self>
-        ensures { result ≡ meaning_of word.now };
+    /// Parses a value. A day of the month or a week is at most `most`.
+    fn read(word: &[u8], most: u16) -> Option<Self>
+        ensures { result ≡ meaning_of most word.now };
 }
 
 impl Word for Month {
     ghost text_of = { month_text };
 
-    ghost meaning_of = { month_of };
+    ghost meaning_of = { λ most. month_of };
 
-    fn read(word: &[u8]) -> Option<Self> {
+    fn read(word: &[u8], _most: u16) -> Option<Self> {
         month_of(word)
     }
 
@@ -46,12 +46,12 @@ impl Word for Month {
 }
 
 impl Word for i8 {
-    ghost text_of = { month_day_text };
+    ghost text_of = { position_text };
 
-    ghost meaning_of = { month_day_of };
+    ghost meaning_of = { small_index_of };
 
-    fn read(word: &[u8]) -> Option<Self> {
-        month_day_of(word)
+    fn read(word: &[u8], most: u16) -> Option<Self> {
+        small_index_of(word, most)
     }
 
     fn word(self) -> ShortText {
@@ -62,9 +62,9 @@ impl Word for i8 {
 impl Word for i16 {
     ghost text_of = { position_text };
 
-    ghost meaning_of = { position_of };
+    ghost meaning_of = { λ most. position_of };
 
-    fn read(word: &[u8]) -> Option<Self> {
+    fn read(word: &[u8], _most: u16) -> Option<Self> {
         position_of(word)
     }
 
@@ -79,9 +79,9 @@ impl Word for i16 {
 impl Word for ByDay {
     ghost text_of = { by_day_text };
 
-    ghost meaning_of = { by_day_of };
+    ghost meaning_of = { λ most. by_day_of };
 
-    fn read(word: &[u8]) -> Option<Self> {
+    fn read(word: &[u8], _most: u16) -> Option<Self> {
         by_day_of(word)
     }
 

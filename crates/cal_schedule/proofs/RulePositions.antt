@@ -1,5 +1,5 @@
 -- The positions of the days of a rule, by counts of the days that pass.
-use Rattle.std.proofs.Common.{◌≡◌, ℕ, zero, suc, ◌+◌, ◌-◌, ◌*◌, ◌%◌, ◌<◌, ◌≤◌, min, refl, sym, ap, ◌∙◌, arith, Bool, true, false, ◌&&◌, Option, Some, None, inl, inr, List, [], ◌∷◌, length}
+use Rattle.std.proofs.Common.{◌≡◌, ℕ, zero, suc, ◌+◌, ◌-◌, ◌*◌, ◌%◌, ◌<◌, ◌≤◌, min, refl, sym, ap, ◌∙◌, arith, ◌<ℤ◌, Bool, true, false, ◌&&◌, Option, Some, None, inl, inr, List, [], ◌∷◌, length}
 use Rattle.std.specs.Prelude.{◌==◌}
 use Rattle.std.specs.Int.{from_bool}
 use Rattle.std.proofs.lemmas.Int.{ints}
@@ -9,16 +9,15 @@ use Rattle.cal_time.specs.Components.{ordinals-apart}
 use Rattle.cal_time.specs.Days.{month_at-range}
 use Rattle.cal_time.specs.IsoWeekDate.{count_before}
 use Rattle.cal_time.specs.WeekdayCycle.{index-below}
-use Rattle.cal_time.specs.declared.Weekday.{Weekday}
 use Rattle.cal_time.proofs.Dates.{ordinal-most, ordinal_of_date}
 use Rattle.cal_schedule.specs.Ranks.{count-most, count-next, count-no, count-none, count-rises, count-yes, length-from}
-use Rattle.cal_schedule.specs.Rule.{allows, is_nth, is_occurrence, interval_or_1, matches_positions, matches_until, passes, passes_with, period_index, periods_past}
+use Rattle.cal_schedule.specs.Rule.{allows, fourth_day, is_nth, is_occurrence, interval_or_1, matches_positions, matches_until, passes, passes_with, period_index, periods_past, unit_of}
 use Rattle.cal_schedule.specs.RuleSearch.{IsCandidate, IsFirstOfPeriod, IsPeriodEnd, IsPeriodStart, IsSkip, NoDayBetween, NonePass}
 use Rattle.cal_schedule.specs.Weekdays.{count_from}
-use Rattle.cal_schedule.specs.declared.rule.rule.Frequency.{Frequency}
-use Rattle.cal_schedule.specs.declared.rule.rule.Frequency.TheVariants.{Daily, Weekly, Monthly, Yearly}
 use Rattle.cal_schedule.specs.declared.rule.rule.Rule.{Rule}
-use Rattle.cal_schedule.proofs.RulePeriods.{days-is, weeks-is, pos-months, pos-years, matches_until-earlier, passes-alike, period_index-periods, period_index-rises, periods, periods_past-periods, turns_in}
+use Rattle.cal_schedule.specs.declared.rule.unit.PeriodUnit.{PeriodUnit}
+use Rattle.cal_schedule.specs.declared.rule.unit.PeriodUnit.TheVariants as unit
+use Rattle.cal_schedule.proofs.RulePeriods.{days-is, fourth-is, weeks-is, pos-months, pos-week_years, pos-years, matches_until-earlier, passes-periods, period_index-periods, period_index-rises, periods_past-periods, turns_in}
 
 -- ---- counts
 -- The count stays over days that fail.
@@ -60,32 +59,30 @@ count-moved s t q a (suc c) h same =
     ]
 
 -- ---- the days that pass in a period
-with-other : (rule : Rule) (n k : ℕ) → ¬ (period_index rule.frequency rule.week_start k ≡ period_index rule.frequency rule.week_start n) → passes_with rule n k ≡ false
+with-other : (rule : Rule) (n k : ℕ) → ¬ (period_index (unit_of rule) k ≡ period_index (unit_of rule) n) → passes_with rule n k ≡ false
 with-other rule n k h = false_from_ne_true _ (λ on. h (eqb-true _ _ (and_parts _ _ on).0))
 
-with-same : (rule : Rule) (n k : ℕ) → period_index rule.frequency rule.week_start k ≡ period_index rule.frequency rule.week_start n → passes_with rule n k ≡ passes rule k
+with-same : (rule : Rule) (n k : ℕ) → period_index (unit_of rule) k ≡ period_index (unit_of rule) n → passes_with rule n k ≡ passes rule k
 with-same rule n k h = ap (λ b. b && passes rule k) (eq-eqb _ _ h)
 
 -- Between the bounds of a period they are the days that pass.
 pub ahead-is : (rule : Rule) (n s count : ℕ) → IsPeriodStart rule n s → count + count_before (passes rule) s ≡ count_before (passes rule) (n + 1)
     → count ≡ count_before (passes_with rule n) (n + 1)
 ahead-is rule n s count h e =
-    let f = rule.frequency in
-    let w = rule.week_start in
+    let u = unit_of rule in
     let none = count-zero (passes_with rule n) s (λ k less. with-other rule n k (λ same. omega (arith, same, h.before k less))) in
     let same = count-alike (passes_with rule n) (passes rule) s (n + 1) (omega (arith, h.first))
-    (λ k low high. with-same rule n k (omega (arith, h.from k low, period_index-rises f w k n (omega arith)))) in
+    (λ k low high. with-same rule n k (omega (arith, h.from k low, period_index-rises u k n (omega arith)))) in
     omega (arith, e, none, same)
 
 pub back-is : (rule : Rule) (n e count : ℕ) → IsPeriodEnd rule n e → count + count_before (passes rule) n ≡ count_before (passes rule) e
     → count ≡ count_from (passes_with rule n) n
 back-is rule n e count h is =
-    let f = rule.frequency in
-    let w = rule.week_start in
+    let u = unit_of rule in
     let t = passes_with rule n in
     let none = count-same t e (last_day + 1) h.range (λ k low high. with-other rule n k (λ same. omega (arith, same, h.after k low (omega arith)))) in
     let same = count-alike t (passes rule) n e (omega (arith, h.last))
-    (λ k low high. with-same rule n k (omega (arith, h.within k high, period_index-rises f w n k low))) in
+    (λ k low high. with-same rule n k (omega (arith, h.within k high, period_index-rises u n k low))) in
     let all : n + (last_day + 1 - n) ≡ last_day + 1 = omega (arith, h.last, h.range) in
     omega (arith, is, none, same, length-from t n (last_day + 1 - n), ap (count_before t) all)
 
@@ -106,25 +103,25 @@ unfolding matches_positions
 no-positions rule n h = sym (allows-none _ rule.set_positions.now h)
 
 -- ---- the bounds of a period
-pub period_start : (rule : Rule) (n t x : ℕ) → t ≡ period_index rule.frequency rule.week_start n
-    → IsFirstOfPeriod rule.frequency rule.week_start t (Some x) → IsPeriodStart rule n x
+pub period_start : (rule : Rule) (n t x : ℕ) → t ≡ period_index (unit_of rule) n
+    → IsFirstOfPeriod (unit_of rule) t (Some x) → IsPeriodStart rule n x
 period_start rule n t x e h = record {
   first = elim (cases_lt n x) as (λ _. x ≤ n) [ inl less ↦ absurd (omega (arith, e, h.2 n less)) | inr most ↦ most ];
   before = λ k less. omega (arith, e, h.2 k less);
-  from = λ k low. omega (arith, e, h.1, period_index-rises rule.frequency rule.week_start x k low);
+  from = λ k low. omega (arith, e, h.1, period_index-rises (unit_of rule) x k low);
 }
 
-pub period_end : (rule : Rule) (n t x y : ℕ) → t ≡ period_index rule.frequency rule.week_start n + 1 → y ≡ x
-    → IsFirstOfPeriod rule.frequency rule.week_start t (Some x) → IsPeriodEnd rule n y
+pub period_end : (rule : Rule) (n t x y : ℕ) → t ≡ period_index (unit_of rule) n + 1 → y ≡ x
+    → IsFirstOfPeriod (unit_of rule) t (Some x) → IsPeriodEnd rule n y
 period_end rule n t x y e same h = record {
-  last = elim (cases_lt n y) as (λ _. n < y) [ inl less ↦ less | inr most ↦ absurd (omega (arith, e, h.1, period_index-rises rule.frequency rule.week_start x n (omega arith))) ];
+  last = elim (cases_lt n y) as (λ _. n < y) [ inl less ↦ less | inr most ↦ absurd (omega (arith, e, h.1, period_index-rises (unit_of rule) x n (omega arith))) ];
   range = omega (arith, h.0);
   within = λ k less. omega (arith, e, h.2 k (omega arith));
-  after = λ k low in_range. omega (arith, e, h.1, period_index-rises rule.frequency rule.week_start x k (omega arith));
+  after = λ k low in_range. omega (arith, e, h.1, period_index-rises (unit_of rule) x k (omega arith));
 }
 
-pub last_period : (rule : Rule) (n t y : ℕ) → IsDate n → t ≡ period_index rule.frequency rule.week_start n + 1 → y ≡ last_day + 1
-    → IsFirstOfPeriod rule.frequency rule.week_start t None → IsPeriodEnd rule n y
+pub last_period : (rule : Rule) (n t y : ℕ) → IsDate n → t ≡ period_index (unit_of rule) n + 1 → y ≡ last_day + 1
+    → IsFirstOfPeriod (unit_of rule) t None → IsPeriodEnd rule n y
 last_period rule n t y date e same h = record {
   last = omega arith;
   range = omega arith;
@@ -134,7 +131,7 @@ last_period rule n t y date e same h = record {
 
 -- The bounds are those of each day between them.
 abbrev IsWithin : Rule → ℕ → ℕ → Type 0
-IsWithin rule n m = period_index rule.frequency rule.week_start m ≡ period_index rule.frequency rule.week_start n
+IsWithin rule n m = period_index (unit_of rule) m ≡ period_index (unit_of rule) n
 
 start-moved : (rule : Rule) (n m s : ℕ) → n ≤ m → IsWithin rule n m → IsPeriodStart rule n s → IsPeriodStart rule m s
 start-moved rule n m s less same h = record {
@@ -152,7 +149,7 @@ end-moved rule n m e less same h = record {
 }
 
 pub moved : (rule : Rule) (n m e : ℕ) → n ≤ m → m < e → IsPeriodEnd rule n e → IsWithin rule n m
-moved rule n m e low high h = omega (arith, h.within m high, period_index-rises rule.frequency rule.week_start n m low)
+moved rule n m e low high h = omega (arith, h.within m high, period_index-rises (unit_of rule) n m low)
 
 -- ---- counting from candidate to candidate
 pub counted-more : (rule : Rule) (from end day next count bit : ℕ) → day < end → count + count_before (passes rule) from ≡ count_before (passes rule) day
@@ -164,20 +161,23 @@ counted-more rule from end day next count bit less h e later none =
     omega (arith, h, one, rest)
 
 -- ---- periods of 400 years
--- A year later the period is another one.
-far-year : (w : Weekday) (k n : ℕ) → k + 366 ≤ n → period_index Yearly w k < period_index Yearly w n
-far-year w k n h = elim (cases_lt (period_index Yearly w k) (period_index Yearly w n)) as (λ _. period_index Yearly w k < period_index Yearly w n) [
-  | inl less ↦ less
+-- A year later the period is another one, also for whole weeks.
+far-year : (k n : ℕ) → k + 366 ≤ n → year_at k <ℤ year_at n
+far-year k n h = elim (cases_lt (period_index unit.Year k) (period_index unit.Year n)) as (λ _. year_at k <ℤ year_at n) [
+  | inl less ↦ omega (arith, ints, pos-years k, pos-years n)
   | inr most ↦
-      let same : year_at k ≡ year_at n = omega (arith, ints, pos-years w k, pos-years w n, period_index-rises Yearly w k n (omega arith)) in
+      let same : year_at k ≡ year_at n = omega (arith, ints, pos-years k, pos-years n, period_index-rises unit.Year k n (omega arith)) in
       absurd (omega (arith, ordinals-apart k n same, (ordinal_of_date k).0, ordinal-most n))
 ]
 
-far : (f : Frequency) (w : Weekday) (k n : ℕ) → k + 366 ≤ n → period_index f w k < period_index f w n
-far Daily w k n h = omega (arith, days-is w k, days-is w n)
-far Weekly w k n h = omega (arith, weeks-is w k, weeks-is w n, index-below w)
-far Monthly w k n h = omega (arith, ints, pos-months w k, pos-months w n, pos-years w k, pos-years w n, far-year w k n h, (month_at-range k).1, (month_at-range n).0)
-far Yearly w k n h = far-year w k n h
+far : (u : PeriodUnit) (k n : ℕ) → k + 372 ≤ n → period_index u k < period_index u n
+far unit.Day k n h = omega (arith, days-is k, days-is n)
+far (unit.Week w) k n h = omega (arith, weeks-is w k, weeks-is w n, index-below w)
+far unit.Month k n h = omega (arith, ints, pos-months k, pos-months n, far-year k n (omega arith), (month_at-range k).1, (month_at-range n).0)
+far unit.Year k n h = omega (arith, ints, pos-years k, pos-years n, far-year k n (omega arith))
+far (unit.WeekYear w) k n h =
+    let fourth : fourth_day w k + 366 ≤ fourth_day w n = omega (arith, fourth-is w k, fourth-is w n, weeks-is w k, weeks-is w n, index-below w) in
+    omega (arith, ints, pos-week_years w k, pos-week_years w n, far-year (fourth_day w k) (fourth_day w n) fourth)
 
 same-test : (a b t : ℕ) → (a + t == b + t) ≡ (a == b)
 same-test a b t = elim (cases_Bool (a == b)) as (λ _. (a + t == b + t) ≡ (a == b)) [
@@ -187,48 +187,46 @@ same-test a b t = elim (cases_Bool (a == b)) as (λ _. (a + t == b + t) ≡ (a =
 
 with-period : (rule : Rule) (n k j : ℕ) → passes_with rule (n + 146097 * j) (k + 146097 * j) ≡ passes_with rule n k
 with-period rule n k j =
-    let f = rule.frequency in
-    let w = rule.week_start in
-    let t = turns_in f * j in
-    ap (λ i. (i == period_index f w (n + 146097 * j)) && passes rule (k + 146097 * j)) (period_index-periods f w k j)
-    ∙ ap (λ i. (period_index f w k + t == i) && passes rule (k + 146097 * j)) (period_index-periods f w n j)
-    ∙ ap (λ b. b && passes rule (k + 146097 * j)) (same-test (period_index f w k) (period_index f w n) t)
-    ∙ ap (λ b. (period_index f w k == period_index f w n) && b) (passes-alike rule (k + 146097 * j) k (periods k j).alike)
+    let u = unit_of rule in
+    let t = turns_in u * j in
+    ap (λ i. (i == period_index u (n + 146097 * j)) && passes rule (k + 146097 * j)) (period_index-periods u k j)
+    ∙ ap (λ i. (period_index u k + t == i) && passes rule (k + 146097 * j)) (period_index-periods u n j)
+    ∙ ap (λ b. b && passes rule (k + 146097 * j)) (same-test (period_index u k) (period_index u n) t)
+    ∙ ap (λ b. (period_index u k == period_index u n) && b) (passes-periods rule k j)
 
 -- The ranks are the same if the days of a year before and after are in the range.
 record HasSameRanks (rule : Rule) (m n : ℕ) : Type 0 where
   ahead : count_before (passes_with rule m) (m + 1) ≡ count_before (passes_with rule n) (n + 1)
   back : count_from (passes_with rule m) m ≡ count_from (passes_with rule n) n
 
-same-ranks : (rule : Rule) (n j : ℕ) → 366 ≤ n → n + 146097 * j + 366 ≤ last_day → HasSameRanks rule (n + 146097 * j) n
+same-ranks : (rule : Rule) (n j : ℕ) → 372 ≤ n → n + 146097 * j + 372 ≤ last_day → HasSameRanks rule (n + 146097 * j) n
 same-ranks rule n j low high =
-    let f = rule.frequency in
-    let w = rule.week_start in
+    let u = unit_of rule in
     let q = 146097 * j in
     let s = passes_with rule (n + q) in
     let t = passes_with rule n in
-    let a = n - 366 in
-    let s_none = count-zero s (a + q) (λ k less. with-other rule (n + q) k (λ same. omega (arith, same, far f w k (n + q) (omega arith)))) in
-    let t_none = count-zero t a (λ k less. with-other rule n k (λ same. omega (arith, same, far f w k n (omega arith)))) in
+    let a = n - 372 in
+    let s_none = count-zero s (a + q) (λ k less. with-other rule (n + q) k (λ same. omega (arith, same, far u k (n + q) (omega arith)))) in
+    let t_none = count-zero t a (λ k less. with-other rule n k (λ same. omega (arith, same, far u k n (omega arith)))) in
     let moved : (c : ℕ) → count_before s (a + c + q) ≡ count_before t (a + c) = λ c. count-moved s t q a c (s_none ∙ sym t_none) (λ k. with-period rule n k j) in
-    let s_rest = count-same s (n + q + 366) (last_day + 1) (omega arith) (λ k from less. with-other rule (n + q) k (λ same. omega (arith, same, far f w (n + q) k (omega arith)))) in
-    let t_rest = count-same t (n + 366) (last_day + 1) (omega arith) (λ k from less. with-other rule n k (λ same. omega (arith, same, far f w n k (omega arith)))) in
+    let s_rest = count-same s (n + q + 372) (last_day + 1) (omega arith) (λ k from less. with-other rule (n + q) k (λ same. omega (arith, same, far u (n + q) k (omega arith)))) in
+    let t_rest = count-same t (n + 372) (last_day + 1) (omega arith) (λ k from less. with-other rule n k (λ same. omega (arith, same, far u n k (omega arith)))) in
     let s_all : n + q + (last_day + 1 - (n + q)) ≡ last_day + 1 = omega arith in
     let t_all : n + (last_day + 1 - n) ≡ last_day + 1 = omega arith in
-    let here : a + 366 ≡ n = omega arith in
-    let here_q : a + 366 + q ≡ n + q = omega arith in
-    let next : a + 367 ≡ n + 1 = omega arith in
-    let next_q : a + 367 + q ≡ n + q + 1 = omega arith in
-    let end : a + 732 ≡ n + 366 = omega arith in
-    let end_q : a + 732 + q ≡ n + q + 366 = omega arith in
-    let at : count_before s (n + q) ≡ count_before t n = ap (count_before s) (sym here_q) ∙ moved 366 ∙ ap (count_before t) here in
-    let past : count_before s (n + q + 366) ≡ count_before t (n + 366) = ap (count_before s) (sym end_q) ∙ moved 732 ∙ ap (count_before t) end in
+    let here : a + 372 ≡ n = omega arith in
+    let here_q : a + 372 + q ≡ n + q = omega arith in
+    let next : a + 373 ≡ n + 1 = omega arith in
+    let next_q : a + 373 + q ≡ n + q + 1 = omega arith in
+    let end : a + 744 ≡ n + 372 = omega arith in
+    let end_q : a + 744 + q ≡ n + q + 372 = omega arith in
+    let at : count_before s (n + q) ≡ count_before t n = ap (count_before s) (sym here_q) ∙ moved 372 ∙ ap (count_before t) here in
+    let past : count_before s (n + q + 372) ≡ count_before t (n + 372) = ap (count_before s) (sym end_q) ∙ moved 744 ∙ ap (count_before t) end in
     record {
-      ahead = ap (count_before s) (sym next_q) ∙ moved 367 ∙ ap (count_before t) next;
+      ahead = ap (count_before s) (sym next_q) ∙ moved 373 ∙ ap (count_before t) next;
       back = omega (arith, at, past, s_rest, t_rest, length-from s (n + q) (last_day + 1 - (n + q)), length-from t n (last_day + 1 - n), ap (count_before s) s_all, ap (count_before t) t_all);
     }
 
-positions-period : (rule : Rule) (n j : ℕ) → 366 ≤ n → n + 146097 * j + 366 ≤ last_day → matches_positions rule (n + 146097 * j) ≡ matches_positions rule n
+positions-period : (rule : Rule) (n j : ℕ) → 372 ≤ n → n + 146097 * j + 372 ≤ last_day → matches_positions rule (n + 146097 * j) ≡ matches_positions rule n
 unfolding matches_positions
 positions-period rule n j low high =
     let same = same-ranks rule n j low high in
@@ -259,7 +257,7 @@ is_occurrence-IsOn rule n h =
 
 -- A day this many periods before a day of the rule is a day of the rule, if it isn't before the
 -- start, and neither day is in a year at an end of the range.
-pub is_occurrence-period : (rule : Rule) (n : ℕ) → rule.start ≤ n → 366 ≤ n → n + 146097 * interval_or_1 rule + 366 ≤ last_day
+pub is_occurrence-period : (rule : Rule) (n : ℕ) → rule.start ≤ n → 372 ≤ n → n + 146097 * interval_or_1 rule + 372 ≤ last_day
     → is_occurrence rule (n + 146097 * interval_or_1 rule) ≡ true → is_occurrence rule n ≡ true
 is_occurrence-period rule n h low high on =
     let is = IsOn-is_occurrence rule (n + 146097 * interval_or_1 rule) on in
@@ -267,7 +265,7 @@ is_occurrence-period rule n h low high on =
       start = h;
       by = matches_until-earlier rule.until n (n + 146097 * interval_or_1 rule) (omega arith) is.by;
       turn = sym (periods_past-periods rule n h) ∙ is.turn;
-      passes = sym (passes-alike rule _ n (periods n (interval_or_1 rule)).alike) ∙ is.passes;
+      passes = sym (passes-periods rule n (interval_or_1 rule)) ∙ is.passes;
       positions = sym (positions-period rule n (interval_or_1 rule) low high) ∙ is.positions;
     })
 
@@ -390,7 +388,7 @@ scanned-passes rule n e m x ahead after h later within none on off =
 -- The next candidate is at a position.
 periods_past-same : (rule : Rule) (m n : ℕ) → IsWithin rule n m → periods_past rule m ≡ periods_past rule n
 unfolding periods_past
-periods_past-same rule m n same = ap (λ i. (i - period_index rule.frequency rule.week_start rule.start) % interval_or_1 rule) same
+periods_past-same rule m n same = ap (λ i. (i - period_index (unit_of rule) rule.start) % interval_or_1 rule) same
 
 pub found-position : (rule : Rule) (n e m x ahead after : ℕ) → IsScanned rule n e m ahead after → m < x → x < e → IsDate x → NonePass rule (m + 1) x → passes rule x ≡ true
     → rule.start ≤ n → periods_past rule n ≡ 0 → matches_positions rule x ≡ true → matches_until rule.until x ≡ true

@@ -9,53 +9,97 @@ use Rattle.std.proofs.lemmas.List.Sums.{count_by-le-length, length-filter}
 use Rattle.std.proofs.lemmas.Nat.{div-add-mod'}
 use Rattle.std.proofs.Math.Nat.{mul-le-mul_left}
 use Rattle.cal_time.specs.Date.{last_day, IsDate, year_at, month_at, day_of_month_at, weekday_at}
-use Rattle.cal_time.specs.DateLimits.{months_in_range}
-use Rattle.cal_time.specs.Days.{day_of_month_at-range, month_at-range}
+use Rattle.cal_date.specs.CountLaws.{days_of_years, days_of_years-closed, year_start}
+use Rattle.cal_time.specs.DateLimits.{months_in_range, years_in_range}
+use Rattle.cal_time.specs.Days.{day_at-last, day_of_month_at-range, month_at-range}
 use Rattle.cal_time.specs.Filters.{IsFirstDay, filter-first, filter-none, first_matching, none_matching}
 use Rattle.cal_time.specs.Laws.{weekday_at-is}
 use Rattle.cal_time.specs.Lengths.{days_in_month}
 use Rattle.cal_time.specs.Occurrences.{days_from}
 use Rattle.cal_time.specs.Components.{day_of_month_at-rises}
 use Rattle.cal_time.specs.Weekday.{index}
+use Rattle.cal_time.specs.WeekdayCycle.{index-below}
 use Rattle.cal_time.specs.declared.Weekday.{Weekday}
 use Rattle.cal_time.proofs.DateIters.{length-days_from}
 use Rattle.cal_schedule.specs.declared.rule.rule.ByDay.{ByDay}
 use Rattle.cal_schedule.specs.declared.rule.rule.ByDay.TheVariants.{Every, Nth}
-use Rattle.cal_schedule.specs.declared.rule.rule.Frequency.TheVariants.{Monthly, Yearly}
 use Rattle.cal_schedule.specs.declared.rule.rule.Rule.{Rule}
+use Rattle.cal_schedule.specs.declared.rule.unit.PeriodUnit.{PeriodUnit}
+use Rattle.cal_schedule.specs.declared.rule.unit.PeriodUnit.TheVariants as unit
 use Rattle.cal_schedule.specs.Months.{HasMonthIndex}
-use Rattle.cal_schedule.specs.Rule.{allows, occurrences_after, occurrences_left, occurrences, is_empty, matches_months, matches_until, is_month_day, is_year_day, is_occurrence, passes, matches_days, matches_by_day, is_yearly, interval_or_1, period_index, periods_past}
+use Rattle.cal_schedule.specs.Rule.{allows, fourth_day, is_nth_weekday, is_week, matches_weeks, unit_of, occurrences_after, occurrences_left, occurrences, is_empty, matches_months, matches_until, is_month_day, is_year_day, is_occurrence, passes, matches_days, matches_by_day, is_yearly, interval_or_1, period_index, periods_past}
 use Rattle.cal_schedule.specs.RuleSearch.{may_fall_on, by_day_weekday, IsCandidate, IsFirstOfPeriod, IsNextBefore, IsNextFrom, IsSkip, NoDayBetween}
 use Rattle.cal_schedule.proofs.MonthMoves.{IsMonthNumber-date, same_month}
-use Rattle.cal_schedule.proofs.RulePeriods.{matches_months-alike, matches_until-earlier, pos-months, pos-years, period_index-rises}
+use Rattle.cal_schedule.proofs.RulePeriods.{fourth-is, matches_months-alike, matches_until-earlier, pos-months, pos-week_years, pos-years, period_index-rises, weeks-is, year_from, year_until}
 use Rattle.cal_schedule.proofs.RulePositions.{IsOn-is_occurrence, is_occurrence-period, is_off}
 
--- the first day of a month, and of a year
-pub first_day-month : (w : Weekday) (p x : ℕ) → HasMonthIndex p x → IsDate x
-    → day_of_month_at x ≡ min 1 (days_in_month (year_at x) (month_at x)) → IsFirstOfPeriod Monthly w p (Some x)
-first_day-month w p x e h day =
-    let at : period_index Monthly w x ≡ p = omega (arith, ints, pos-months w x) in (
+-- the first day of a month, of a year, and of a year of weeks
+pub first_day-month : (p x : ℕ) → HasMonthIndex p x → IsDate x
+    → day_of_month_at x ≡ min 1 (days_in_month (year_at x) (month_at x)) → IsFirstOfPeriod unit.Month p (Some x)
+first_day-month p x e h day =
+    let at : period_index unit.Month x ≡ p = omega (arith, ints, pos-months x) in (
       h,
       omega arith,
       λ k less.
-          elim (cases_lt (period_index Monthly w k) p) as (λ _. period_index Monthly w k < p) [
+          elim (cases_lt (period_index unit.Month k) p) as (λ _. period_index unit.Month k < p) [
             | inl before ↦ before
             | inr most ↦
-                let same = same_month k x (omega (arith, ints, pos-months w k, pos-months w x, period_index-rises Monthly w k x (omega arith))) in
+                let same = same_month k x (omega (arith, ints, pos-months k, pos-months x, period_index-rises unit.Month k x (omega arith))) in
                 absurd (omega (arith, day_of_month_at-rises k x less same.year same.month, (day_of_month_at-range k).0, (day_of_month_at-range x).0))
           ],
     )
 
-pub no_month : (w : Weekday) (p : ℕ) → months_in_range ≤ p → IsFirstOfPeriod Monthly w p None
-no_month w p h = λ k date. omega (arith, ints, pos-months w k, (IsMonthNumber-date k date).not_after)
+pub no_month : (p : ℕ) → months_in_range ≤ p → IsFirstOfPeriod unit.Month p None
+no_month p h = λ k date. omega (arith, ints, pos-months k, (IsMonthNumber-date k date).not_after)
 
-pub first_of_year : (w : Weekday) (t : ℕ) (r : Option ℕ) → IsFirstOfPeriod Monthly w (12 * t) r → IsFirstOfPeriod Yearly w t r
-first_of_year w t None h = λ k date. omega (arith, ints, pos-months w k, pos-years w k, (month_at-range k).0, h k date)
-first_of_year w t (Some x) h = (
+pub first_of_year : (t : ℕ) (r : Option ℕ) → IsFirstOfPeriod unit.Month (12 * t) r → IsFirstOfPeriod unit.Year t r
+first_of_year t None h = λ k date. omega (arith, ints, pos-months k, pos-years k, (month_at-range k).0, h k date)
+first_of_year t (Some x) h = (
   h.0,
-  omega (arith, ints, pos-months w x, pos-years w x, (month_at-range x).1, h.1),
-  λ k less. omega (arith, ints, pos-months w k, pos-years w k, (month_at-range k).0, h.2 k less),
+  omega (arith, ints, pos-months x, pos-years x, (month_at-range x).1, h.1),
+  λ k less. omega (arith, ints, pos-months k, pos-years k, (month_at-range k).0, h.2 k less),
 )
+
+pub year_number : (t x : ℕ) → IsFirstOfPeriod unit.Month (12 * t) (Some x) → x ≡ days_of_years t
+year_number t x first =
+    let d = days_of_years t in
+    let h = first_of_year t (Some x) first in
+    let start : period_index unit.Year d ≡ t = omega (arith, ints, pos-years d, ap (λ c. c.year) (year_start t).day_is) in
+    elim (cases_lt x d) as (λ _. x ≡ d) [
+      | inl less ↦ absurd (omega (arith, ints, h.1, pos-years x, year_until t x less))
+      | inr most ↦ elim (cases_lt d x) as (λ _. x ≡ d) [
+        | inl less ↦ absurd (omega (arith, h.2 d less, start))
+        | inr same ↦ omega arith
+      ]
+    ]
+
+pub past_years : (t : ℕ) → IsFirstOfPeriod unit.Month (12 * t) None → years_in_range ≤ t
+past_years t h = omega (arith, ints, first_of_year t None h last_day (omega arith), pos-years last_day, ap (λ c. c.year) day_at-last)
+
+-- Each day is in the year before the range or a later one.
+pub week_year-any : (w : Weekday) (t : ℕ) (r : Option ℕ) → t ≡ 0 → IsFirstOfPeriod (unit.Week w) 0 r → IsFirstOfPeriod (unit.WeekYear w) t r
+week_year-any w t None e h = λ k date. absurd (omega (arith, h k date))
+week_year-any w t (Some x) e h = (h.0, omega arith, λ k less. absurd (omega (arith, h.2 k less)))
+
+pub week_year-none : (w : Weekday) (t : ℕ) → years_in_range + 401 ≤ t → IsFirstOfPeriod (unit.WeekYear w) t None
+week_year-none w t h = λ k date.
+    let fourth = year_until (years_in_range + 401) (fourth_day w k) (omega (arith, fourth-is w k, weeks-is w k, index-below w, days_of_years-closed (years_in_range + 401))) in
+    omega (arith, ints, pos-week_years w k, fourth)
+
+-- A year of weeks begins with the week that has 4 January.
+week_year-from : (w : Weekday) (t i j k : ℕ) → 1 ≤ t → j ≡ days_of_years (t - 1) → i ≡ (j + 10 - index w) / 7
+    → (i ≤ period_index (unit.Week w) k → t ≤ period_index (unit.WeekYear w) k) × (period_index (unit.Week w) k < i → period_index (unit.WeekYear w) k < t)
+week_year-from w t i j k some e f =
+    let first : days_of_years (t + 399) ≡ j + 146097 = omega (arith, days_of_years-closed (t + 399), days_of_years-closed (t - 1)) in (
+      λ low. omega (arith, ints, pos-week_years w k, year_from (t + 399) (fourth_day w k) (omega (arith, fourth-is w k, index-below w))),
+      λ less. omega (arith, ints, pos-week_years w k, year_until (t + 399) (fourth_day w k) (omega (arith, fourth-is w k, index-below w))),
+    )
+
+pub week_year-first : (w : Weekday) (t i j : ℕ) (r : Option ℕ) → 1 ≤ t → j ≡ days_of_years (t - 1) → i ≡ (j + 10 - index w) / 7
+    → IsFirstOfPeriod (unit.Week w) i r → IsFirstOfPeriod (unit.WeekYear w) t r
+week_year-first w t i j None some e f h = λ k date. (week_year-from w t i j k some e f).1 (h k date)
+week_year-first w t i j (Some x) some e f h =
+    (h.0, (week_year-from w t i j x some e f).0 h.1, λ k less. (week_year-from w t i j k some e f).1 (h.2 k less))
 
 -- No multiple lies between a number past a multiple and the next multiple.
 none_within : (a b i : ℕ) → 0 < a % i → a ≤ b → b < a + (i - a % i) → b % i ≡ 0 → ⊥
@@ -70,44 +114,61 @@ none_within a b i some h g e =
     ]
 
 periods_past-none : (rule : Rule) (n k : ℕ) → rule.start ≤ n → n ≤ k → 0 < periods_past rule n
-    → period_index rule.frequency rule.week_start k < period_index rule.frequency rule.week_start n + (interval_or_1 rule - periods_past rule n) → ¬ (periods_past rule k ≡ 0)
+    → period_index (unit_of rule) k < period_index (unit_of rule) n + (interval_or_1 rule - periods_past rule n) → ¬ (periods_past rule k ≡ 0)
 unfolding periods_past
 periods_past-none rule n k start h some less = λ e.
-    let a = period_index-rises rule.frequency rule.week_start rule.start n start in
-    let b = period_index-rises rule.frequency rule.week_start n k h in
+    let a = period_index-rises (unit_of rule) rule.start n start in
+    let b = period_index-rises (unit_of rule) n k h in
     none_within _ _ (interval_or_1 rule) some (omega arith) (omega arith) e
 
 -- so the rule has none before its next turn, nor in a month that it does not take
 pub skip-turn : (rule : Rule) (n t : ℕ) (r : Option ℕ) → rule.start ≤ n → 0 < periods_past rule n
-    → t ≡ period_index rule.frequency rule.week_start n + (interval_or_1 rule - periods_past rule n) → periods_past rule n < interval_or_1 rule
-    → IsFirstOfPeriod rule.frequency rule.week_start t r → IsSkip rule n r
+    → t ≡ period_index (unit_of rule) n + (interval_or_1 rule - periods_past rule n) → periods_past rule n < interval_or_1 rule
+    → IsFirstOfPeriod (unit_of rule) t r → IsSkip rule n r
 skip-turn rule n t None start some e less h = λ k low high.
     is_off rule k (λ on. periods_past-none rule n k start low some (omega (arith, h k (omega arith))) (IsOn-is_occurrence rule k on).turn)
 skip-turn rule n t (Some x) start some e less h = (
   elim (cases_lt n x) as (λ _. n < x) [
     | inl before ↦ before
-    | inr most ↦ absurd (omega (arith, h.1, period_index-rises rule.frequency rule.week_start x n most))
+    | inr most ↦ absurd (omega (arith, h.1, period_index-rises (unit_of rule) x n most))
   ],
   h.0,
   λ k low high. is_off rule k (λ on. periods_past-none rule n k start low some (omega (arith, h.2 k high)) (IsOn-is_occurrence rule k on).turn),
 )
 
-off_month : (rule : Rule) (w : Weekday) (n k : ℕ) → matches_months rule n ≡ false → n ≤ k → period_index Monthly w k < period_index Monthly w n + 1 → passes rule k ≡ false
+off_month : (rule : Rule) (n k : ℕ) → matches_months rule n ≡ false → period_index unit.Month k ≡ period_index unit.Month n → passes rule k ≡ false
 unfolding passes
-off_month rule w n k off h less =
-    let same = same_month k n (omega (arith, ints, pos-months w k, pos-months w n, period_index-rises Monthly w n k h)) in
-    ap (λ b. b && matches_days rule k) (matches_months-alike rule k n same.month ∙ off)
+off_month rule n k off e =
+    let same = same_month k n (omega (arith, ints, pos-months k, pos-months n)) in
+    ap (λ b. b && (matches_weeks rule k && matches_days rule k)) (matches_months-alike rule k n same.month ∙ off)
 
-pub skip-month : (rule : Rule) (w : Weekday) (n t : ℕ) (r : Option ℕ) → matches_months rule n ≡ false → t ≡ period_index Monthly w n + 1 → IsFirstOfPeriod Monthly w t r → IsCandidate rule n r
-skip-month rule w n t None off e h = λ k low high. off_month rule w n k off (omega arith) (omega (arith, h k (omega arith)))
-skip-month rule w n t (Some x) off e h = (
+off_week : (rule : Rule) (n k : ℕ) → matches_weeks rule n ≡ false → period_index (unit.Week rule.week_start) k ≡ period_index (unit.Week rule.week_start) n → passes rule k ≡ false
+unfolding passes matches_weeks is_week
+off_week rule n k off e =
+    let w = rule.week_start in
+    let same : fourth_day w k ≡ fourth_day w n = omega (arith, fourth-is w k, fourth-is w n) in
+    false_from_ne_true _ (λ on. false≢true (sym off ∙ ap (λ m. allows (λ z. is_nth_weekday true m z) rule.weeks.now) (sym same) ∙ (and_parts _ _ (and_parts _ _ on).1).0))
+
+-- so the next candidate is the first day of the next month or week
+skip-period : (rule : Rule) (u : PeriodUnit) (n : ℕ) (r : Option ℕ) → ((k : ℕ) → period_index u k ≡ period_index u n → passes rule k ≡ false)
+    → IsFirstOfPeriod u (period_index u n + 1) r → IsCandidate rule n r
+skip-period rule u n None off h = λ k low high. off k (omega (arith, h k (omega arith), period_index-rises u n k (omega arith)))
+skip-period rule u n (Some x) off h = (
   elim (cases_lt n x) as (λ _. n < x) [
     | inl before ↦ before
-    | inr most ↦ absurd (omega (arith, h.1, period_index-rises Monthly w x n most))
+    | inr most ↦ absurd (omega (arith, h.1, period_index-rises u x n most))
   ],
   h.0,
-  λ k low high. off_month rule w n k off (omega arith) (omega (arith, h.2 k high)),
+  λ k low high. off k (omega (arith, h.2 k high, period_index-rises u n k (omega arith))),
 )
+
+pub skip-month : (rule : Rule) (n : ℕ) (r : Option ℕ) → matches_months rule n ≡ false → IsFirstOfPeriod unit.Month (period_index unit.Month n + 1) r
+    → IsCandidate rule n r
+skip-month rule n r off = skip-period rule unit.Month n r (λ k e. off_month rule n k off e)
+
+pub skip-week : (rule : Rule) (n : ℕ) (r : Option ℕ) → matches_weeks rule n ≡ false
+    → IsFirstOfPeriod (unit.Week rule.week_start) (period_index (unit.Week rule.week_start) n + 1) r → IsCandidate rule n r
+skip-week rule n r off = skip-period rule (unit.Week rule.week_start) n r (λ k e. off_week rule n k off e)
 
 -- nor on a day whose weekday it does not take
 any-more : {X : Type 0} (p q : X → Bool) → ((x : X) → p x ≡ true → q x ≡ true) → (xs : List X) → list_any p xs ≡ true → list_any q xs ≡ true
@@ -139,7 +200,7 @@ may_fall_on-days rule n e =
 
 off_weekday : (rule : Rule) (k : ℕ) → may_fall_on rule (weekday_at k) ≡ false → passes rule k ≡ false
 unfolding passes
-off_weekday rule k off = false_from_ne_true _ (λ on. false≢true (sym off ∙ may_fall_on-days rule k (and_parts _ _ on).1))
+off_weekday rule k off = false_from_ne_true _ (λ on. false≢true (sym off ∙ may_fall_on-days rule k (and_parts _ _ (and_parts _ _ on).1).1))
 
 pub takes-further : (rule : Rule) (n d : ℕ) → ((k : ℕ) → n < k → k < n + d → may_fall_on rule (weekday_at k) ≡ false)
     → may_fall_on rule ((weekday_at n + d) % 7) ≡ false → (k : ℕ) → n < k → k < n + (d + 1) → may_fall_on rule (weekday_at k) ≡ false
@@ -172,11 +233,11 @@ none-joined rule l m n a b = λ k low high. elim (cases_lt k m) as (λ _. is_occ
 -- If this many periods have no day of the rule, no later day is one: a later day would have one
 -- this many periods earlier. In the last year of the range, periods can be cut.
 none_later : (rule : Rule) (m : ℕ) → 1 ≤ interval_or_1 rule → rule.start ≤ m
-    → IsNextBefore rule m (m + 366 + 146097 * interval_or_1 rule) None
-    → (fuel k : ℕ) → k < fuel → m ≤ k → k + 366 ≤ last_day → is_occurrence rule k ≡ false
+    → IsNextBefore rule m (m + 372 + 146097 * interval_or_1 rule) None
+    → (fuel k : ℕ) → k < fuel → m ≤ k → k + 372 ≤ last_day → is_occurrence rule k ≡ false
 none_later rule m some start none zero k less low high = absurd (omega arith)
 none_later rule m some start none (suc fuel) k less low high =
-    elim (cases_lt k (m + 366 + 146097 * interval_or_1 rule)) as (λ _. is_occurrence rule k ≡ false) [
+    elim (cases_lt k (m + 372 + 146097 * interval_or_1 rule)) as (λ _. is_occurrence rule k ≡ false) [
       | inl before ↦ none k low before (omega arith)
       | inr most ↦
           let back = k - 146097 * interval_or_1 rule in
@@ -185,8 +246,8 @@ none_later rule m some start none (suc fuel) k less low high =
           ∙ is_occurrence-period rule back (omega arith) (omega arith) (omega arith) (ap (is_occurrence rule) e ∙ on)))
     ]
 
-pub none_until_rest : (rule : Rule) (m e x : ℕ) → 1 ≤ interval_or_1 rule → rule.start ≤ m → e ≡ m + 366 + 146097 * interval_or_1 rule
-    → IsNextBefore rule m e None → x ≡ max m (last_day - 366) → NoDayBetween rule m x
+pub none_until_rest : (rule : Rule) (m e x : ℕ) → 1 ≤ interval_or_1 rule → rule.start ≤ m → e ≡ m + 372 + 146097 * interval_or_1 rule
+    → IsNextBefore rule m e None → x ≡ max m (last_day - 372) → NoDayBetween rule m x
 none_until_rest rule m e x some start is none rest = λ k low high.
     none_later rule m some start (λ j from less date. none j from (omega arith) date) (k + 1) k (omega arith) low (omega arith)
 

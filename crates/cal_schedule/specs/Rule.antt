@@ -1,6 +1,6 @@
 -- The days of a rule in a subset of RFC 5545 (recurrence rule), which filters the days of the
 -- range.
-use Rattle.std.specs.Prelude.{ℕ, suc, max, ◌+◌, ◌-◌, ◌/◌, ◌%◌, Bool, true, false, not, ◌&&◌, ◌||◌, ◌==◌, nat_le, if◌then◌else◌, ℤ, pos, negsuc, ◌-ℤ◌, ◌*ℤ◌, unsigned_abs, List, [], ◌∷◌, Option, Some, None, filter}
+use Rattle.std.specs.Prelude.{ℕ, suc, max, ◌+◌, ◌-◌, ◌/◌, ◌%◌, Bool, true, false, not, ◌&&◌, ◌||◌, ◌==◌, nat_le, if◌then◌else◌, ℤ, pos, negsuc, ◌+ℤ◌, ◌-ℤ◌, ◌*ℤ◌, unsigned_abs, List, [], ◌∷◌, Option, Some, None, filter}
 use Rattle.std.specs.List.{list_any}
 use Rattle.cal_time.specs.Date.{first_year, last_day, year_at, month_at, day_of_month_at, ordinal_at, weekday_at}
 use Rattle.cal_time.specs.IsoWeekDate.{count_before}
@@ -16,14 +16,22 @@ use Rattle.cal_schedule.specs.declared.rule.rule.Frequency.TheVariants.{Daily, W
 use Rattle.cal_schedule.specs.declared.rule.rule.ByDay.{ByDay}
 use Rattle.cal_schedule.specs.declared.rule.rule.ByDay.TheVariants.{Every, Nth}
 use Rattle.cal_schedule.specs.declared.rule.rule.Rule.{Rule}
+use Rattle.cal_schedule.specs.declared.rule.unit.PeriodUnit.{PeriodUnit}
+use Rattle.cal_schedule.specs.declared.rule.unit.PeriodUnit.TheVariants as unit
 
--- The index of the day, week, month or year of day n, from the start of the range. Weeks begin on
--- the weekday `first`.
-unfoldable pub period_index : Frequency → Weekday → ℕ → ℕ
-period_index Daily first n = n
-period_index Weekly first n = (n + 7 - index first) / 7
-period_index Monthly first n = unsigned_abs (month_number_at n -ℤ first_year *ℤ pos 12)
-period_index Yearly first n = unsigned_abs (year_at n -ℤ first_year)
+-- The fourth day of the week of day n, 400 years later: the week can begin before the range, and
+-- the calendar repeats. A week belongs to the year of this day, which has most of its days.
+unfoldable pub fourth_day : Weekday → ℕ → ℕ
+fourth_day first n = n + 146100 - (weekday_at n + 7 - index first) % 7
+
+-- The index of the period of day n, from the start of the range. Weeks begin on the weekday
+-- `first`. The first days of the range can be in the last week of the year before it.
+unfoldable pub period_index : PeriodUnit → ℕ → ℕ
+period_index unit.Day n = n
+period_index (unit.Week first) n = (n + 7 - index first) / 7
+period_index unit.Month n = unsigned_abs (month_number_at n -ℤ first_year *ℤ pos 12)
+period_index unit.Year n = unsigned_abs (year_at n -ℤ first_year)
+period_index (unit.WeekYear first) n = unsigned_abs (year_at (fourth_day first n) -ℤ (first_year +ℤ pos 399))
 
 -- An item is the k-th if it is number k from the start, or number -k from the end if k is negative.
 -- `ahead` and `back` are its numbers from the start and the end, both from 1.
@@ -54,6 +62,10 @@ unfoldable pub is_nth_weekday : Bool → ℕ → ℤ → Bool
 is_nth_weekday true n k = is_nth k ((ordinal_at n + 6) / 7) ((days_in_year (year_at n) - ordinal_at n) / 7 + 1)
 is_nth_weekday false n k = is_nth k ((day_of_month_at n + 6) / 7) ((days_in_month (year_at n) (month_at n) - day_of_month_at n) / 7 + 1)
 
+-- The week of day n is the k-th of its year: its fourth day is the k-th with its weekday.
+unfoldable pub is_week : Weekday → ℕ → ℤ → Bool
+is_week first n k = is_nth_weekday true (fourth_day first n) k
+
 -- Day n has the weekday of a part, and its number if it has one.
 unfoldable pub matches_by_day : Bool → ℕ → ByDay → Bool
 matches_by_day of_year n (Every w) = weekday_at n == index w
@@ -68,12 +80,27 @@ is_yearly f = false
 abbrev pub names_no_day : Rule → Bool
 names_no_day rule = is_empty rule.year_days.now && (is_empty rule.month_days.now && is_empty rule.weekdays.now)
 
--- Day n is in a month of the rule. A yearly rule that names neither months nor days has the month
--- of its start.
+-- The periods that a rule counts. A yearly rule with weeks has the years of its weeks.
+abbrev pub unit_by : Frequency → Weekday → Bool → PeriodUnit
+unit_by Daily first no_weeks = unit.Day
+unit_by Weekly first no_weeks = unit.Week first
+unit_by Monthly first no_weeks = unit.Month
+unit_by Yearly first true = unit.Year
+unit_by Yearly first false = unit.WeekYear first
+
+unfoldable pub unit_of : Rule → PeriodUnit
+unit_of rule = unit_by rule.frequency rule.week_start (is_empty rule.weeks.now)
+
+-- Day n is in a month of the rule. A yearly rule that names neither months nor weeks nor days has
+-- the month of its start.
 unfoldable pub matches_months : Rule → ℕ → Bool
 matches_months rule n =
     allows (λ m. number m == month_at n) rule.months.now
-    && (not (is_yearly rule.frequency && is_empty rule.months.now && names_no_day rule) || (month_at n == month_at rule.start))
+    && (not (is_yearly rule.frequency && is_empty rule.months.now && is_empty rule.weeks.now && names_no_day rule) || (month_at n == month_at rule.start))
+
+-- Day n is in a week of the rule.
+unfoldable pub matches_weeks : Rule → ℕ → Bool
+matches_weeks rule n = allows (is_week rule.week_start n) rule.weeks.now
 
 -- Day n has the day of the start: the weekday in a weekly rule, the day of the month in a monthly
 -- or yearly rule.
@@ -83,11 +110,11 @@ matches_start Weekly start n = weekday_at n == weekday_at start
 matches_start Monthly start n = day_of_month_at n == day_of_month_at start
 matches_start Yearly start n = day_of_month_at n == day_of_month_at start
 
--- Day n passes the days of the year and of the month and the weekdays, or has the day of the start if the rule
--- names no day.
+-- Day n passes the days of the year and of the month and the weekdays. If the rule names no day, it
+-- has the day of the start, by the weekday if there are weeks.
 unfoldable pub matches_days : Rule → ℕ → Bool
 matches_days rule n =
-    if names_no_day rule then matches_start rule.frequency rule.start n
+    if names_no_day rule then matches_start (if is_empty rule.weeks.now then rule.frequency else Weekly) rule.start n
     else allows (is_year_day n) rule.year_days.now
     && (allows (is_month_day n) rule.month_days.now
     && allows (matches_by_day (is_yearly rule.frequency && is_empty rule.months.now) n) rule.weekdays.now)
@@ -104,16 +131,16 @@ interval_or_1 rule = max rule.interval 1
 -- The number of periods from the last selected period to the period of day n. A period is selected
 -- if it comes a multiple of the step after the period of the start.
 unfoldable pub periods_past : Rule → ℕ → ℕ
-periods_past rule n = (period_index rule.frequency rule.week_start n - period_index rule.frequency rule.week_start rule.start) % interval_or_1 rule
+periods_past rule n = (period_index (unit_of rule) n - period_index (unit_of rule) rule.start) % interval_or_1 rule
 
--- Day n passes the months and the days.
+-- Day n passes the months, the weeks and the days.
 unfoldable pub passes : Rule → ℕ → Bool
-passes rule n = matches_months rule n && matches_days rule n
+passes rule n = matches_months rule n && (matches_weeks rule n && matches_days rule n)
 
 -- Day k is one of the days that pass in the period of day n.
 abbrev pub passes_with : Rule → ℕ → ℕ → Bool
 passes_with rule n k =
-    (period_index rule.frequency rule.week_start k == period_index rule.frequency rule.week_start n) && passes rule k
+    (period_index (unit_of rule) k == period_index (unit_of rule) n) && passes rule k
 
 -- Day n has a position of the rule: its rank among the days of the range that pass in its period,
 -- counted from the first or from the last one.
@@ -122,7 +149,7 @@ matches_positions rule n =
     allows (λ k. is_nth k (count_before (passes_with rule n) (n + 1)) (count_from (passes_with rule n) n)) rule.set_positions.now
 
 -- Day n is a day of the rule if it isn't before the start or after the last day, is in a selected
--- period, passes the months and the days, and has a position.
+-- period, passes the months, the weeks and the days, and has a position.
 unfoldable pub is_occurrence : Rule → ℕ → Bool
 is_occurrence rule n =
     nat_le rule.start n

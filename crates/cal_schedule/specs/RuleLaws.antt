@@ -3,25 +3,25 @@
 use Rattle.std.specs.Prelude.{◌≡◌, ℕ, ◌+◌, ◌↔◌, true, false, ⊤, pos, negsuc}
 use Rattle.cal_time.specs.Date.{year_at, month_at, day_of_month_at, weekday_at}
 use Rattle.cal_time.specs.Weekday.{index}
-use Rattle.cal_time.specs.declared.Weekday.{Weekday}
-use Rattle.cal_schedule.specs.Rule.{is_nth_weekday, period_index}
+use Rattle.cal_schedule.specs.Rule.{is_nth_weekday, is_week, period_index}
 use Rattle.cal_schedule.specs.Weekdays.{IsNthWeekday, IsLastWeekday, IsNthWeekdayFromEnd, IsNthWeekdayOfYear, IsNthWeekdayOfYearFromEnd}
-use Rattle.cal_schedule.specs.declared.rule.rule.Frequency.{Frequency}
-use Rattle.cal_schedule.specs.declared.rule.rule.Frequency.TheVariants.{Daily, Weekly, Monthly, Yearly}
+use Rattle.cal_schedule.specs.declared.rule.unit.PeriodUnit.{PeriodUnit}
+use Rattle.cal_schedule.specs.declared.rule.unit.PeriodUnit.TheVariants as unit
 
--- Day n begins a period: a day, a week on the weekday `first`, a month on its first day, or a year
--- on 1 January.
-abbrev pub BeginsPeriod : Frequency → Weekday → ℕ → Type 0
-BeginsPeriod Daily first n = ⊤
-BeginsPeriod Weekly first n = weekday_at n ≡ index first
-BeginsPeriod Monthly first n = day_of_month_at n ≡ 1
-BeginsPeriod Yearly first n = (month_at n ≡ 1) × (day_of_month_at n ≡ 1)
+-- Day n begins a period: a day, a week on the weekday `first`, a month on its first day, a year on
+-- 1 January, or a year of weeks on the first day of its first week.
+abbrev pub BeginsPeriod : PeriodUnit → ℕ → Type 0
+BeginsPeriod unit.Day n = ⊤
+BeginsPeriod (unit.Week first) n = weekday_at n ≡ index first
+BeginsPeriod unit.Month n = day_of_month_at n ≡ 1
+BeginsPeriod unit.Year n = (month_at n ≡ 1) × (day_of_month_at n ≡ 1)
+BeginsPeriod (unit.WeekYear first) n = (weekday_at n ≡ index first) × (is_week first n (pos 1) ≡ true)
 
 -- From day n to the next day, the index of the period rises by 1 exactly if the next day begins a
 -- period, else it stays.
-pub record RisesAtBeginning (f : Frequency) (first : Weekday) (n : ℕ) : Type 0 where
-  pub rises : (period_index f first (n + 1) ≡ period_index f first n + 1) ↔ BeginsPeriod f first (n + 1)
-  pub stays : (period_index f first (n + 1) ≡ period_index f first n) ↔ ¬ BeginsPeriod f first (n + 1)
+pub record RisesAtBeginning (u : PeriodUnit) (n : ℕ) : Type 0 where
+  pub rises : (period_index u (n + 1) ≡ period_index u n + 1) ↔ BeginsPeriod u (n + 1)
+  pub stays : (period_index u (n + 1) ≡ period_index u n) ↔ ¬ BeginsPeriod u (n + 1)
 
 -- Day n is the k-th of its weekday in its month or year exactly if there are k such days up to it,
 -- or from it on if counted from the end. `negsuc k` is the (k + 1)-th from the end, so `negsuc 0`

@@ -3,11 +3,11 @@ use Rattle.std.specs.Prelude.{◌≡◌, ℕ, ◌+◌, ◌<◌, ◌≤◌, ◌==
 use Rattle.cal_time.specs.Date.{last_day, IsDate}
 use Rattle.cal_time.specs.Weekday.{index}
 use Rattle.cal_time.specs.declared.Weekday.{Weekday}
-use Rattle.cal_schedule.specs.declared.rule.rule.Frequency.{Frequency}
 use Rattle.cal_schedule.specs.declared.rule.rule.ByDay.{ByDay}
 use Rattle.cal_schedule.specs.declared.rule.rule.ByDay.TheVariants.{Every, Nth}
 use Rattle.cal_schedule.specs.declared.rule.rule.Rule.{Rule}
-use Rattle.cal_schedule.specs.Rule.{allows, is_occurrence, passes, period_index}
+use Rattle.cal_schedule.specs.declared.rule.unit.PeriodUnit.{PeriodUnit}
+use Rattle.cal_schedule.specs.Rule.{allows, is_occurrence, passes, period_index, unit_of}
 
 -- No day of the rule is from day m on and before day n.
 abbrev pub NoDayBetween : Rule → ℕ → ℕ → Type 0
@@ -23,26 +23,26 @@ abbrev pub may_fall_on : Rule → ℕ → Bool
 may_fall_on rule at = allows (λ by. at == index (by_day_weekday by)) rule.weekdays.now
 
 -- r is the first day of the range in period t or a later one.
-abbrev pub IsFirstOfPeriod : Frequency → Weekday → ℕ → Option ℕ → Type 0
-IsFirstOfPeriod f w t r =
-    MatchOption r ((k : ℕ) → IsDate k → period_index f w k < t) (λ x. IsDate x × (t ≤ period_index f w x) × ((k : ℕ) → k < x → period_index f w k < t))
+abbrev pub IsFirstOfPeriod : PeriodUnit → ℕ → Option ℕ → Type 0
+IsFirstOfPeriod u t r =
+    MatchOption r ((k : ℕ) → IsDate k → period_index u k < t) (λ x. IsDate x × (t ≤ period_index u x) × ((k : ℕ) → k < x → period_index u k < t))
 
 -- Day s is the first day of the range in the period of day n.
 pub record IsPeriodStart (rule : Rule) (n s : ℕ) : Type 0 where
   pub first : s ≤ n
   pub before : (k : ℕ) → k < s
-      → period_index rule.frequency rule.week_start k < period_index rule.frequency rule.week_start n
+      → period_index (unit_of rule) k < period_index (unit_of rule) n
   pub from : (k : ℕ) → s ≤ k
-      → period_index rule.frequency rule.week_start n ≤ period_index rule.frequency rule.week_start k
+      → period_index (unit_of rule) n ≤ period_index (unit_of rule) k
 
 -- Day e comes after the last day of the range in the period of day n.
 pub record IsPeriodEnd (rule : Rule) (n e : ℕ) : Type 0 where
   pub last : n < e
   pub range : e ≤ last_day + 1
   pub within : (k : ℕ) → k < e
-      → period_index rule.frequency rule.week_start k ≤ period_index rule.frequency rule.week_start n
+      → period_index (unit_of rule) k ≤ period_index (unit_of rule) n
   pub after : (k : ℕ) → e ≤ k → IsDate k
-      → period_index rule.frequency rule.week_start n < period_index rule.frequency rule.week_start k
+      → period_index (unit_of rule) n < period_index (unit_of rule) k
 
 -- No day from day m on and before day n passes.
 abbrev pub NonePass : Rule → ℕ → ℕ → Type 0

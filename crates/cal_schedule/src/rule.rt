@@ -6,7 +6,11 @@ mod periods;
 mod positions;
 mod rule;
 mod search;
+mod unit;
+mod weeks;
 
 pub use iter::RuleDays;
-pub(crate) use matching::{is_nth_in_period, period_of};
+pub(crate) use matching::is_nth_in_period;
+pub(crate) use periods::period_of;
 pub use rule::{ByDay, Frequency, Rule};
+pub use unit::PeriodUnit;

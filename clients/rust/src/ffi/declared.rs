@@ -74,8 +74,8 @@ pub(crate) fn zone_error(status: Status) -> Option<&'static str> {
 }
 
 /// The names of the parts of a recurrence, by their numbers from 1.
-pub(crate) const PARTS: [&str; 10] = [
-    "FREQ", "INTERVAL", "WKST", "BYMONTH", "BYMONTHDAY", "BYDAY", "UNTIL", "COUNT", "BYSETPOS", "BYYEARDAY",
+pub(crate) const PARTS: [&str; 11] = [
+    "FREQ", "INTERVAL", "WKST", "BYMONTH", "BYMONTHDAY", "BYDAY", "UNTIL", "COUNT", "BYSETPOS", "BYYEARDAY", "BYWEEKNO",
 ];
 
 structs! {
@@ -122,7 +122,7 @@ results! {
     PeriodResult { years: i32, months: i32, days: i32 } else Status;
     RecurrenceResult { part: u32, length: usize, position: usize } else ParseRuleError(part, position);
     ParseRecurrenceResult { part: u32, position: usize, recurrence: CRecurrence } else ParseRuleError(part, position);
-    RecurrenceTextResult { part: u32, position: usize, length: u32, bytes: [u8; 2284] } else ParseRuleError(part, position);
+    RecurrenceTextResult { part: u32, position: usize, length: u32, bytes: [u8; 2728] } else ParseRuleError(part, position);
     WorkdaysResult { workdays: CWorkdays } else Status;
     YearFractionResult { denominator: u32, numerator: i64 } else Status;
     ZoneResult { position: usize } else ZoneError(position);

@@ -37,6 +37,7 @@ fn rule(recurrence: &Recurrence, start: Date) -> Twice<Rule<'_>>
     ensures interval { result.0.interval ≡ result.1.interval }
     ensures week_start { result.0.week_start ≡ result.1.week_start }
     ensures months { result.0.months.now ≡ result.1.months.now }
+    ensures weeks { result.0.weeks.now ≡ result.1.weeks.now }
     ensures year_days { result.0.year_days.now ≡ result.1.year_days.now }
     ensures month_days { result.0.month_days.now ≡ result.1.month_days.now }
     ensures weekdays { result.0.weekdays.now ≡ result.1.weekdays.now }

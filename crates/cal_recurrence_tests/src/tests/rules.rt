@@ -414,6 +414,63 @@ fn yearly_rules(rt: HostRuntime) {
     );
 }
 
+/// An example of RFC 5545, and others by ISO weeks or by hand.
+#[test]
+fn weeks_of_years(rt: HostRuntime) {
+    let rt = &rt;
+    begins(
+        rt,
+        "FREQ=YEARLY;BYWEEKNO=20;BYDAY=MO",
+        1997_05_12,
+        &[1997_05_12, 1998_05_11, 1999_05_17],
+        false,
+    );
+    // Without a weekday it is that of the start. 31 December 2025 is in the first week of 2026.
+    begins(
+        rt,
+        "FREQ=YEARLY;BYWEEKNO=1",
+        2024_01_03,
+        &[2024_01_03, 2025_01_01, 2025_12_31, 2027_01_06],
+        false,
+    );
+    begins(
+        rt,
+        "FREQ=YEARLY;BYWEEKNO=-1,53;BYDAY=SU",
+        2024_01_01,
+        &[2024_12_29, 2025_12_28, 2027_01_03, 2028_01_02],
+        false,
+    );
+    // The period is the year of the weeks, for positions and for the interval.
+    begins(
+        rt,
+        "FREQ=YEARLY;BYWEEKNO=1;BYDAY=MO,TU,WE;BYSETPOS=1",
+        2024_06_01,
+        &[2024_12_30, 2025_12_29, 2027_01_04],
+        false,
+    );
+    begins(
+        rt,
+        "FREQ=YEARLY;INTERVAL=2;BYWEEKNO=1;BYDAY=MO",
+        2024_12_30,
+        &[2024_12_30, 2027_01_04, 2029_01_01],
+        false,
+    );
+    begins(
+        rt,
+        "FREQ=YEARLY;BYWEEKNO=1;BYDAY=SU;WKST=SU",
+        2024_01_01,
+        &[2024_12_29, 2026_01_04, 2027_01_03],
+        false,
+    );
+    begins(
+        rt,
+        "FREQ=YEARLY;BYWEEKNO=53;BYMONTH=1;BYDAY=MO,FR",
+        2015_01_01,
+        &[2016_01_01, 2021_01_01, 2027_01_01],
+        false,
+    );
+}
+
 /// An example of RFC 5545, and others by hand: day 60 is 29 February in a leap year.
 #[test]
 fn days_of_years(rt: HostRuntime) {

@@ -56,12 +56,6 @@ fn faults(rt: HostRuntime) {
     );
     refused(
         rt,
-        "FREQ=YEARLY;BYWEEKNO=20",
-        12,
-        ParseRuleErrorKind::Unknown,
-    );
-    refused(
-        rt,
         "FREQ=YEARLY;BYMINUTE=1,30",
         12,
         ParseRuleErrorKind::Unknown,
@@ -242,6 +236,15 @@ fn wrong_values(rt: HostRuntime) {
     );
     refused_value(
         rt,
+        RulePart::Weeks,
+        &[
+            "FREQ=DAILY;BYWEEKNO=0",
+            "FREQ=DAILY;BYWEEKNO=54",
+            "FREQ=DAILY;BYWEEKNO=-001",
+        ],
+    );
+    refused_value(
+        rt,
         RulePart::YearDays,
         &["FREQ=DAILY;BYYEARDAY=0", "FREQ=DAILY;BYYEARDAY=367"],
     );
@@ -336,7 +339,7 @@ fn orders_and_cases(rt: HostRuntime) {
     );
 }
 
-/// A frequency excludes some parts, and the later of the two is at fault.
+/// Some parts exclude each other, and the later of the two is at fault.
 #[test]
 fn excluded(rt: HostRuntime) {
     let rt = &rt;
@@ -349,6 +352,13 @@ fn excluded(rt: HostRuntime) {
     refused(rt, "FREQ=DAILY;BYYEARDAY=1", 11, excluded);
     refused(rt, "FREQ=WEEKLY;BYYEARDAY=1", 12, excluded);
     refused(rt, "FREQ=MONTHLY;BYYEARDAY=1;BYSETPOS=1", 13, excluded);
+    let excluded = ParseRuleErrorKind::Excluded(RulePart::Weeks);
+    refused(rt, "FREQ=DAILY;BYWEEKNO=1", 11, excluded);
+    refused(rt, "FREQ=WEEKLY;BYWEEKNO=1", 12, excluded);
+    refused(rt, "FREQ=MONTHLY;BYDAY=1MO;BYWEEKNO=1", 23, excluded);
+    refused(rt, "BYDAY=MO,1MO;BYWEEKNO=1;FREQ=YEARLY", 13, excluded);
+    let excluded = ParseRuleErrorKind::Excluded(RulePart::Weekdays);
+    refused(rt, "FREQ=YEARLY;BYWEEKNO=1;BYDAY=1MO", 23, excluded);
     let excluded = ParseRuleErrorKind::Excluded(RulePart::Frequency);
     refused(rt, "BYMONTHDAY=1;INTERVAL=2;FREQ=WEEKLY", 24, excluded);
 }
@@ -386,6 +396,7 @@ fn by_fields(rt: HostRuntime) {
         interval: 1,
         week_start: Weekday::Monday,
         months,
+        weeks: Values::none(0),
         year_days: Values::none(0),
         month_days: Values::none(0),
         weekdays,

@@ -54,6 +54,7 @@ fn examples_of_the_rfc(rt: HostRuntime) {
             "FREQ=YEARLY;INTERVAL=2;COUNT=10;BYMONTH=1,2,3",
             "FREQ=YEARLY;INTERVAL=3;COUNT=10;BYYEARDAY=1,100,200",
             "FREQ=YEARLY;BYDAY=20MO",
+            "FREQ=YEARLY;BYWEEKNO=20;BYDAY=MO",
             "FREQ=YEARLY;BYMONTH=3;BYDAY=TH",
         ],
     );
@@ -124,6 +125,7 @@ fn longest(rt: HostRuntime) {
         interval: u32::MAX,
         week_start: Weekday::Sunday,
         months: full(Month::December),
+        weeks: full(-128),
         year_days: full(-32768),
         month_days: full(-128),
         weekdays: full(ByDay::Nth(-128, Weekday::Friday)),
@@ -131,7 +133,7 @@ fn longest(rt: HostRuntime) {
         end: RuleEnd::Until(Date::MIN),
     };
     let text = recurrence.text();
-    assert!(rt; text.len() == 1900);
+    assert!(rt; text.len() == 2219);
     let text = text.as_str();
     assert!(rt;
         text.starts_with("FREQ=MONTHLY;INTERVAL=4294967295;UNTIL=-9999990101;BYMONTH=12,12,")

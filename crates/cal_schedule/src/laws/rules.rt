@@ -3,21 +3,20 @@ ghost use Rattle.std.specs.Prelude.{◌≡◌};
 ghost use Rattle.cal_schedule.specs.Rule.{is_nth_weekday, period_index};
 ghost use Rattle.cal_schedule.specs.RuleLaws.{NumbersByCount, RisesAtBeginning};
 
-use crate::Frequency;
+use crate::PeriodUnit;
 use crate::rule::{is_nth_in_period, period_of};
-use cal_time::{Date, Weekday};
+use cal_time::Date;
 
-/// Returns the index of the day, week, month or year of a date, by which a rule counts its
-/// interval.
+/// Returns the index of the period of a date, by which a rule counts its interval.
 ///
 /// From one date to the next, the index rises by 1 if the next date begins a period, else it stays.
 /// For example, from Sunday 2024-01-07 to Monday it rises if weeks begin on Monday, and stays if
 /// they begin on Sunday.
-pub fn period_index(frequency: Frequency, first: Weekday, date: Date) -> u32
-    ensures value { result ≡ period_index frequency first date }
-    ensures rises { RisesAtBeginning frequency first date }
+pub fn period_index(unit: PeriodUnit, date: Date) -> u32
+    ensures value { result ≡ period_index unit date }
+    ensures rises { RisesAtBeginning unit date }
 {
-    period_of(frequency, first, date)
+    period_of(unit, date)
 }
 
 /// Returns `true` if a date is the n-th of its weekday in its month or year, by the number of a

@@ -5,9 +5,9 @@ ghost use Rattle.cal_time.specs.Date.{weekday_at};
 ghost use Rattle.cal_time.specs.Weekday.{index};
 ghost use Rattle.cal_schedule.specs.RuleSearch.{may_fall_on, by_day_weekday, IsCandidate};
 
-use crate::months::month_number_and_day;
-use crate::rule::periods::first_of_month_number;
+use crate::rule::periods::next_period;
 use crate::rule::rule::{ByDay, Rule};
+use crate::rule::unit::PeriodUnit;
 use cal_time::day_number::{date_from_number, day_number};
 use cal_time::{Cycle, Date, Weekday};
 
@@ -52,14 +52,16 @@ impl Rule<'_> {
         days
     }
 
-    /// Returns a later day, or `None`. No day between them passes the months and the days.
+    /// Returns a later day, or `None`. No day between them passes the months, the weeks and the days.
     pub(super) fn next_candidate(&self, day: Date) -> Option<Date>
         ensures { IsCandidate self.now day result }
     {
-        if self.matches_months(day) {
-            return date_from_number(u64::from(day_number(day)) + u64::from(self.days_to_skip(day)));
+        if !self.matches_months(day) {
+            return next_period(PeriodUnit::Month, day);
         }
-        let (index, _) = month_number_and_day(day);
-        first_of_month_number(u64::from(index) + 1, self.week_start)
+        if !self.matches_weeks(day) {
+            return next_period(PeriodUnit::Week(self.week_start), day);
+        }
+        date_from_number(u64::from(day_number(day)) + u64::from(self.days_to_skip(day)))
     }
 }

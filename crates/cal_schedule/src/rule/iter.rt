@@ -35,6 +35,7 @@ impl<'a> Rule<'a> {
         ensures interval { result.interval ≡ 1 }
         ensures week_start { result.week_start ≡ Monday }
         ensures months { length result.months.now ≡ 0 }
+        ensures weeks { length result.weeks.now ≡ 0 }
         ensures year_days { length result.year_days.now ≡ 0 }
         ensures month_days { length result.month_days.now ≡ 0 }
         ensures weekdays { length result.weekdays.now ≡ 0 }
@@ -47,6 +48,7 @@ impl<'a> Rule<'a> {
             interval: 1,
             week_start: Weekday::Monday,
             months: &[],
+            weeks: &[],
             year_days: &[],
             month_days: &[],
             weekdays: &[],
@@ -65,6 +67,7 @@ impl<'a> Rule<'a> {
             interval: self.interval,
             week_start: self.week_start,
             months: self.months,
+            weeks: self.weeks,
             year_days: self.year_days,
             month_days: self.month_days,
             weekdays: self.weekdays,

@@ -1,17 +1,16 @@
 //! Matching a day against a rule.
-ghost use Rattle.std.specs.Prelude.{◌≡◌, ◌<◌, ◌≤◌, ◌&&◌, ◌==◌};
+ghost use Rattle.std.specs.Prelude.{◌≡◌, ◌<◌, ◌≤◌, ◌&&◌, ◌==◌, if◌then◌else◌};
 ghost use Rattle.std.specs.List.{list_any};
-ghost use Rattle.cal_time.specs.Date.{last_day, IsDate, month_at, ordinal_at, year_at};
+ghost use Rattle.cal_time.specs.Date.{IsDate, month_at, ordinal_at, year_at};
 ghost use Rattle.cal_time.specs.Lengths.{days_in_year};
 ghost use Rattle.cal_time.specs.Month.{number as month_number};
-ghost use Rattle.cal_schedule.specs.Rule.{allows, matches_start, matches_until, is_empty, matches_months, is_month_day, is_year_day, is_nth, is_nth_weekday, matches_days, matches_by_day, is_yearly, names_no_day, interval_or_1, passes, period_index, periods_past};
+ghost use Rattle.cal_schedule.specs.Rule.{allows, matches_start, matches_until, is_empty, matches_months, is_month_day, is_year_day, is_nth, is_nth_weekday, matches_days, matches_by_day, is_yearly, names_no_day, interval_or_1, passes, periods_past, unit_of};
+ghost use Rattle.cal_schedule.specs.declared.rule.rule.Frequency.TheVariants.{Weekly};
 
-use crate::months::month_number_and_day;
 use crate::rule::rule::{ByDay, Frequency, Rule};
-use cal_time::day_number::day_number;
-use cal_time::limits::MIN_YEAR;
+use crate::rule::unit::PeriodUnit;
 use cal_time::util::{days_in_month, days_in_year};
-use cal_time::{Cycle, Date, Month, Weekday};
+use cal_time::{Cycle, Date, Month};
 
 /// Returns `true` if an item with this number from the start and this number from the end, both
 /// from 1, is the n-th. A negative n counts from the end.
@@ -115,21 +114,6 @@ fn any_weekday(weekdays: &[ByDay], of_year: bool, date: Date) -> bool
     weekdays.iter().any(|by| matches_by_day(of_year, date, *by))
 }
 
-/// Returns the index of the day, week, month or year of a date, from 0 at the start of the range.
-#[tactic(auto, unfolding(crate::specs::Rule::period_index))]
-pub(crate) fn period_of(frequency: Frequency, first: Weekday, date: Date) -> u32
-    ensures value { result ≡ period_index frequency first date }
-    ensures max { result ≤ last_day }
-    ensures in_range { IsDate date }
-{
-    match frequency {
-        Frequency::Daily => day_number(date),
-        Frequency::Weekly => (day_number(date) + 7 - u32::from(first.place())) / 7,
-        Frequency::Monthly => month_number_and_day(date).0,
-        Frequency::Yearly => (date.year() - MIN_YEAR) as u32,
-    }
-}
-
 impl Rule<'_> {
     /// Returns the interval, or 1 if it is 0.
     pub(super) fn interval_or_1(&self) -> u32
@@ -145,6 +129,25 @@ impl Rule<'_> {
         self.year_days.is_empty() && self.month_days.is_empty() && self.weekdays.is_empty()
     }
 
+    /// Returns the periods that the rule counts.
+    #[tactic(auto, unfolding(crate::specs::Rule::unit_of))]
+    pub(super) fn unit(&self) -> PeriodUnit
+        ensures { result ≡ unit_of self.now }
+    {
+        match self.frequency {
+            Frequency::Daily => PeriodUnit::Day,
+            Frequency::Weekly => PeriodUnit::Week(self.week_start),
+            Frequency::Monthly => PeriodUnit::Month,
+            Frequency::Yearly => {
+                if self.weeks.is_empty() {
+                    PeriodUnit::Year
+                } else {
+                    PeriodUnit::WeekYear(self.week_start)
+                }
+            }
+        }
+    }
+
     fn is_yearly(&self) -> bool
         ensures { result ≡ is_yearly self.now.frequency }
     {
@@ -158,17 +161,22 @@ impl Rule<'_> {
     {
         let month = month_number_of(date);
         if self.months.is_empty() {
-            !(self.is_yearly() && self.names_no_day()) || month == month_number_of(self.start)
+            !(self.is_yearly() && self.weeks.is_empty() && self.names_no_day())
+                || month == month_number_of(self.start)
         } else {
             any_month(self.months, month)
         }
     }
 
-    /// Returns `true` if the date has the day of the start: its weekday in a weekly rule, its day
-    /// of the month in a monthly or yearly rule.
+    /// Returns `true` if the date has the day of the start: its weekday in a weekly rule or one
+    /// with weeks, its day of the month in another monthly or yearly rule.
     fn matches_start(&self, date: Date) -> bool
-        ensures { result ≡ matches_start self.now.frequency self.now.start date }
+        ensures { result ≡ matches_start
+            (if is_empty self.now.weeks.now then self.now.frequency else Weekly) self.now.start date }
     {
+        if !self.weeks.is_empty() {
+            return date.weekday() == self.start.weekday();
+        }
         match self.frequency {
             Frequency::Daily => true,
             Frequency::Weekly => date.weekday() == self.start.weekday(),
@@ -191,12 +199,12 @@ impl Rule<'_> {
             && (self.weekdays.is_empty() || any_weekday(self.weekdays, of_year, date))
     }
 
-    /// Returns `true` if the date passes the months and the days.
+    /// Returns `true` if the date passes the months, the weeks and the days.
     #[tactic(auto, unfolding(crate::specs::Rule::passes))]
     pub(super) fn passes(&self, date: Date) -> bool
         ensures { result ≡ passes self.now date }
     {
-        self.matches_months(date) && self.matches_days(date)
+        self.matches_months(date) && self.matches_weeks(date) && self.matches_days(date)
     }
 
     pub(super) fn matches_until(&self, date: Date) -> bool
@@ -216,7 +224,6 @@ impl Rule<'_> {
         ensures value { result ≡ periods_past self.now date }
         ensures range { result < interval_or_1 self.now }
     {
-        let start = period_of(self.frequency, self.week_start, self.start);
-        (period_of(self.frequency, self.week_start, date) - start) % self.interval_or_1()
+        (self.period(date) - self.period(self.start)) % self.interval_or_1()
     }
 }

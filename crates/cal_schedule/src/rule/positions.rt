@@ -6,8 +6,7 @@ ghost use Rattle.cal_time.specs.IsoWeekDate.{count_before};
 ghost use Rattle.cal_schedule.specs.Rule.{allows, is_nth, matches_positions, matches_until, passes, periods_past};
 ghost use Rattle.cal_schedule.specs.RuleSearch.{IsPeriodEnd, IsPeriodStart, IsStep};
 
-use crate::rule::matching::{is_nth, period_of};
-use crate::rule::periods::first_of_period;
+use crate::rule::matching::is_nth;
 use crate::rule::rule::Rule;
 use cal_time::day_number::day_number;
 use cal_time::{Date, limits};
@@ -28,8 +27,8 @@ impl Rule<'_> {
     fn period_start(&self, date: Date) -> Date
         ensures { IsPeriodStart self.now date result }
     {
-        let index = u64::from(period_of(self.frequency, self.week_start, date));
-        match first_of_period(self.frequency, self.week_start, index) {
+        let index = u64::from(self.period(date));
+        match self.first_of_period(index) {
             Some(first) => first,
             None => date,
         }
@@ -39,8 +38,8 @@ impl Rule<'_> {
     fn period_end(&self, date: Date) -> u32
         ensures { IsPeriodEnd self.now date result }
     {
-        let index = u64::from(period_of(self.frequency, self.week_start, date));
-        match first_of_period(self.frequency, self.week_start, index + 1) {
+        let index = u64::from(self.period(date));
+        match self.first_of_period(index + 1) {
             Some(next) => day_number(next),
             None => DAYS,
         }

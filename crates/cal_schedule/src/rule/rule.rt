@@ -35,6 +35,9 @@ pub struct Rule<'a> {
     pub week_start: Weekday,
     /// The months (`BYMONTH`).
     pub months: &'a [Month],
+    /// The weeks of the year (`BYWEEKNO`), from 1 for its first week and from -1 for its last one.
+    /// A week belongs to the year that has most of its days. No week is the 0th.
+    pub weeks: &'a [i8],
     /// The days of the year (`BYYEARDAY`), from 1 at its start and from -1 at its end. No day is the
     /// 0th.
     pub year_days: &'a [i16],

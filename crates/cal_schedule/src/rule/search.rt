@@ -4,8 +4,6 @@ ghost use Rattle.cal_time.specs.Date.{IsDate};
 ghost use Rattle.cal_schedule.specs.Rule.{occurrences_after, is_occurrence};
 ghost use Rattle.cal_schedule.specs.RuleSearch.{IsNextBefore, IsNextFrom, IsStep};
 
-use crate::rule::matching::period_of;
-use crate::rule::periods::first_of_period;
 use crate::rule::rule::Rule;
 use cal_time::day_number::{date_from_number, day_number};
 use cal_time::{Date, limits};
@@ -16,9 +14,9 @@ const LAST_DAY: u64 = limits::LAST_DAY as u64;
 /// The number of days in 400 years, after which the calendar and the weekdays repeat.
 const PERIOD: u64 = 146_097;
 
-/// The maximum number of days in a year. At the ends of the range a period can be cut, and then the
-/// days do not repeat.
-const YEAR: u64 = 366;
+/// The maximum number of days from one period to the next: 366, and 6 to whole weeks. At the ends of
+/// the range a period can be cut, and then the days do not repeat.
+const YEAR: u64 = 372;
 
 impl Rule<'_> {
     /// Returns `true` if the rule matches a date. A rule for the last Friday of each month matches
@@ -47,9 +45,9 @@ impl Rule<'_> {
         }
         let past = self.periods_past(day);
         if past != 0 {
-            let turn = period_of(self.frequency, self.week_start, day);
+            let turn = self.period(day);
             let next = u64::from(turn) + u64::from(self.interval_or_1() - past);
-            return Err(first_of_period(self.frequency, self.week_start, next));
+            return Err(self.first_of_period(next));
         }
         if !self.passes(day) {
             return Err(self.next_candidate(day));

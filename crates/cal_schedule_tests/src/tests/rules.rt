@@ -1,6 +1,7 @@
 //! Rules by their fields. The crate of recurrences has the examples of RFC 5545.
 use cal_schedule::ByDay::Nth;
-use cal_schedule::Frequency::{Daily, Monthly, Weekly};
+use cal_schedule::Frequency::{Daily, Monthly};
+use cal_schedule::PeriodUnit::{Week, WeekYear};
 use cal_schedule::laws::rules::{is_nth_weekday, period_index};
 use cal_schedule::{Frequency, Rule};
 use cal_time::Weekday::{Friday, Monday, Sunday};
@@ -74,7 +75,7 @@ fn times(rt: HostRuntime) {
     assert!(rt; rule.contains(date(rt, 2024_05_31)) && !rule.contains(date(rt, 2024_05_24)));
 }
 
-/// By the calendar of 2024; 19 May 1997 is the 20th Monday of its year in an example of RFC 5545.
+/// By the calendar of 2024, whose last ISO week ends on 29 December; 19 May 1997 is the 20th Monday of its year in an example of RFC 5545.
 #[test]
 fn counts(rt: HostRuntime) {
     let rt = &rt;
@@ -84,9 +85,12 @@ fn counts(rt: HostRuntime) {
     assert!(rt; is_nth_weekday(true, date(rt, 1997_05_19), 20));
     let (first, second) = (date(rt, 2024_01_07), date(rt, 2024_01_08));
     for (start, more) in [(Sunday, 0), (Monday, 1)] {
-        let index = period_index(Weekly, start, first);
-        assert!(rt; period_index(Weekly, start, second).abs_diff(index) == more);
+        let index = period_index(Week(start), first);
+        assert!(rt; period_index(Week(start), second).abs_diff(index) == more);
     }
+    let (last, first) = (date(rt, 2024_12_29), date(rt, 2024_12_30));
+    let index = period_index(WeekYear(Monday), last);
+    assert!(rt; period_index(WeekYear(Monday), first).abs_diff(index) == 1);
 }
 
 /// The text for debugging is the text of Rust's `derive`: the type and its fields.
@@ -95,7 +99,8 @@ fn debug(rt: HostRuntime) -> Result<(), Fail> {
     let walk = rule(&rt, Daily, 2024_01_01).first_days(2);
     let text = format!(in rt.alloc(); "{walk:?}")?;
     let rule = "Rule { start: 2024-01-01, frequency: Daily, interval: 1, week_start: Monday, \
-        months: [], year_days: [], month_days: [], weekdays: [], set_positions: [], until: None }";
+        months: [], weeks: [], year_days: [], month_days: [], weekdays: [], set_positions: [], \
+        until: None }";
     let wanted = format!(in rt.alloc();
         "RuleDays {{ rule: {rule}, front: Some(2024-01-01), left: 2 }}"
     )?;

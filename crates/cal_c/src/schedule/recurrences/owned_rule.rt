@@ -51,6 +51,7 @@ fn plain_rule_from_parts<'a>(parts: &RuleParts<'a>) -> Result<Rule<'a>, i32>
         interval: parts.interval,
         week_start,
         months: &[],
+        weeks: &[],
         year_days: &[],
         month_days: parts.month_days,
         weekdays: &[],

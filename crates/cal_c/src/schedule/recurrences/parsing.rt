@@ -23,8 +23,8 @@ pub struct ParseRecurrenceResult {
 /// Parses a recurrence. `FREQ=MONTHLY;BYDAY=-1FR;COUNT=3` gives the frequency 3, the interval 1,
 /// weeks from 1, no last day, the count 3, and one weekday, -1 and 5.
 ///
-/// The parts have no days of the year and no positions, so a text with `BYYEARDAY` or `BYSETPOS`
-/// has an unknown part at 0 here.
+/// The parts have no weeks, days of the year and positions, so a text with `BYWEEKNO`, `BYYEARDAY`
+/// or `BYSETPOS` has an unknown part at 0 here.
 #[unsafe(no_mangle)]
 pub extern "C" fn fots_recurrence_parse(text: &[u8]) -> ParseRecurrenceResult
     ensures { result ≡ parse_recurrence_result (recurrence_of text.now) }
@@ -33,6 +33,7 @@ pub extern "C" fn fots_recurrence_parse(text: &[u8]) -> ParseRecurrenceResult
         Ok(recurrence) => {
             if recurrence.set_positions.as_slice().is_empty()
                 && recurrence.year_days.as_slice().is_empty()
+                && recurrence.weeks.as_slice().is_empty()
             {
                 ParseRecurrenceResult {
                     status: OK,

@@ -33,6 +33,7 @@ fn part_number(part: RulePart) -> u32
         RulePart::Count => 8,
         RulePart::Positions => 9,
         RulePart::YearDays => 10,
+        RulePart::Weeks => 11,
     }
 }
 

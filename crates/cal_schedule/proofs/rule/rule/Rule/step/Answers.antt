@@ -11,7 +11,7 @@ returns-then-not-matches_until c = skip-until c.args.self.now c.args.day (sym c.
 pub returns-then-past-ne0 : goal.returns-then-past-ne0
 returns-then-past-ne0 c =
     let past = c.periods_past-past.ensures in
-    let turn = c.period_of-turn.ensures in
+    let turn = c.period-turn.ensures in
     let some : 0 < periods_past c.args.self.now c.args.day = grind (arith, nat_tests, past.value) in
     skip-turn c.args.self.now c.args.day _ c.first_of_period.result c.requires.start some (omega (arith, past.value, past.range, turn.value)) (omega (arith, past.value, past.range)) c.first_of_period.ensures
 
