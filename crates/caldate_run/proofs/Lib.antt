@@ -1,4 +1,5 @@
 pub mod Parts
+pub mod Quotes
 pub mod Calls
 pub mod Cuts
 pub mod Indices
