@@ -323,7 +323,7 @@ plain_separator field text (Some k) e f =
 -- a text that lacks the field stays as it is
 unchanged : (b : Bool) (text part all : List ℕ) → cond b None (Some part) ≡ None → cond b text all ≡ text
 unchanged true text part all e = refl
-unchanged false text part all e = absurd (none-some (sym e))
+unchanged false text part all e = absurd (none-some part (sym e))
 
 pub no_field : (field : Field) (text words : List ℕ) → asked_text (Some field) text ≡ None → text_with (Some field) text words ≡ text
 no_field field text words none = unchanged (lacks field text) text (within_quotes field (joined_fields field text)) _ none
