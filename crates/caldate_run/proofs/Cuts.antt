@@ -18,7 +18,7 @@ each_append : (c : ℕ) (xs ys : List (List ℕ)) → each_ended c (xs ++ ys) �
 each_append c [] ys = refl
 each_append c (x ∷ xs) ys = ap (λ l. x ++ c ∷ l) (each_append c xs ys) ∙ sym (append_assoc x (c ∷ each_ended c xs) (each_ended c ys))
 
-join_first : (c : ℕ) (words : List ℕ) (more : List (List ℕ)) → 0 < length more → join_with_byte c (words ∷ more) ≡ words ++ c ∷ join_with_byte c more
+pub join_first : (c : ℕ) (words : List ℕ) (more : List (List ℕ)) → 0 < length more → join_with_byte c (words ∷ more) ≡ words ++ c ∷ join_with_byte c more
 join_first c words [] h = absurd (omega (arith, h))
 join_first c words (part ∷ more) h = refl
 

@@ -9,6 +9,7 @@ pub mod Lacks
 pub mod Laters
 pub mod Texts
 pub mod Numbers
+pub mod RecordFields
 pub mod Replied
 pub mod Steps
 pub mod OneCount

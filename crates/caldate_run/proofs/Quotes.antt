@@ -12,11 +12,11 @@ abbrev pub onto : List ℕ → List (List ℕ) → List (List ℕ)
 onto [] parts = parts
 onto (x ∷ xs) parts = onto_first x (onto xs parts)
 
-onto_more : (xs : List ℕ) (x : ℕ) (parts : List (List ℕ)) → onto (xs ++ x ∷ []) parts ≡ onto xs (onto_first x parts)
+pub onto_more : (xs : List ℕ) (x : ℕ) (parts : List (List ℕ)) → onto (xs ++ x ∷ []) parts ≡ onto xs (onto_first x parts)
 onto_more [] x parts = refl
 onto_more (y ∷ ys) x parts = ap (onto_first y) (onto_more ys x parts)
 
-onto_one : (xs part : List ℕ) (parts : List (List ℕ)) → onto xs (part ∷ parts) ≡ (xs ++ part) ∷ parts
+pub onto_one : (xs part : List ℕ) (parts : List (List ℕ)) → onto xs (part ∷ parts) ≡ (xs ++ part) ∷ parts
 onto_one [] part parts = refl
 onto_one (x ∷ xs) part parts = ap (onto_first x) (onto_one xs part parts)
 
