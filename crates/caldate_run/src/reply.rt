@@ -110,7 +110,7 @@ fn push_unanswered(
 
 /// Appends the end of a line that goes out.
 fn push_end(buffer: &mut Buffer, goes_out: bool, with_return: bool)
-    requires { HasRoom (if goes_out then (if has_return then 2 else 1) else 0) buffer.old }
+    requires { HasRoom (if goes_out then (if with_return then 2 else 1) else 0) buffer.old }
     ensures { buffer.new ≡ buffer.old ++ (if goes_out
         then (if with_return then 13 ∷ 10 ∷ [] else 10 ∷ []) else []) }
 {

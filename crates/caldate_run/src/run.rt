@@ -222,7 +222,9 @@ fn pass_on<W: Sink>(on_invalid: OnInvalid, bytes: &[u8], writer: &mut W) -> Resu
 {
     match on_invalid {
         OnInvalid::Keep => write_all(writer, bytes),
-        _ => Ok(()),
+        OnInvalid::Answer => Ok(()),
+        OnInvalid::Drop => Ok(()),
+        OnInvalid::Stop => Ok(()),
     }
 }
 
