@@ -291,7 +291,8 @@ fn expected_phrase(wanted: Wanted) -> &'static [u8]
         Wanted::Start => COMMANDS,
         Wanted::Verb => LINE_COMMANDS,
         Wanted::Invalid => b"; expected keep, answer, drop or stop".as_slice(),
-        Wanted::FieldNumber => b"; expected an integer from 1 to 65535, or two such as 1-2".as_slice(),
+        Wanted::FieldNumber =>
+            b"; expected an integer from 1 to 65535, or two such as 1-2".as_slice(),
         Wanted::Separator => b"; expected one byte".as_slice(),
         Wanted::Skip => b"; expected an integer from 0 to 9223372036854775807".as_slice(),
         Wanted::Reading => READINGS,

@@ -37,7 +37,11 @@ pub fn cut_field(field: Field, text: &[u8]) -> Option<(&[u8], &[u8], &[u8])>
     let start = text.len() - rest.len();
     let end = text.len() - last.len() + first_length(field, last);
     if is_quoted(field, &text[start..end]) {
-        Some((&text[..start + 1], &text[start + 1..end - 1], &text[end - 1..]))
+        Some((
+            &text[..start + 1],
+            &text[start + 1..end - 1],
+            &text[end - 1..],
+        ))
     } else {
         Some((&text[..start], &text[start..end], &text[end..]))
     }

@@ -42,8 +42,7 @@ pub fn record_fields(separator: u8)
     ensures { (fields : List (List ℕ)) → (34 == separator) ≡ false → 0 < length fields
         → All (IsField separator) fields
         → split_record separator false (join_with_byte separator fields) ≡ fields }
-{
-}
+{}
 
 /// Proves that there is a reading of the words of all arguments.
 pub fn have_reading(arguments: &[u8])

@@ -230,11 +230,7 @@ fn pass_on<W: Sink>(on_invalid: OnInvalid, bytes: &[u8], writer: &mut W) -> Resu
 
 /// Writes the buffer if it has no room for a reply, or for a line of this length with its end.
 #[tactic(auto, using(crate::proofs::Calls::no_writes))]
-pub fn make_room<W: Sink>(
-    buffer: &mut Buffer,
-    length: usize,
-    writer: &mut W,
-) -> Result<(), Fault>
+pub fn make_room<W: Sink>(buffer: &mut Buffer, length: usize, writer: &mut W) -> Result<(), Fault>
     requires { length < capacity }
     ensures room { OnOk result (HasRoom longest_reply buffer.new) }
     ensures line { OnOk result (HasRoom (length + 1) buffer.new) }
