@@ -2,7 +2,7 @@
 use Rattle.std.proofs.Common.{◌≡◌, ℕ, ◌+◌, ◌-◌, ◌<◌, ◌≤◌, Bool, true, false, cond, eqb, List, [], ◌∷◌, ◌++◌, length, take, get_or, Option, Some, None, Result, Ok, Err, refl, sym, ap, ◌∙◌, subst, arith, length-append, length-take, append_assoc}
 use Rattle.std.specs.Prelude.{IsSomeAnd, OnOk, MatchBool, MatchOption, is_some, nat_lt, unwrap_or}
 use Rattle.std.proofs.Math.Seq.{take-append-add, take-append_seam}
-use Rattle.std.proofs.lemmas.Bool.{false≢true, le-ltb}
+use Rattle.std.proofs.lemmas.Bool.{le-ltb}
 use Rattle.std.proofs.lemmas.List.{append-nil, get_or-append-add}
 use Rattle.caldate_run.specs.Answers.{Answer, IsAnswer}
 use Rattle.caldate_run.proofs.Steps.{passed_none, shown_front}

@@ -1,4 +1,4 @@
-use Rattle.std.proofs.Common.{◌∙◌, ◌++◌, Some, ap, append_assoc, sym}
+use Rattle.std.proofs.Common.{◌∙◌, ◌++◌, ap, append_assoc, sym}
 use Rattle.caldate_run.specs.Fields.{text_with}
 use Rattle.caldate_run.specs.Replies.{reason}
 use Rattle.caldate_run.proofs.Cuts.{no_field}
