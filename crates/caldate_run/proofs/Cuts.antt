@@ -1,102 +1,329 @@
--- A text is cut at one of its fields.
-use Rattle.std.proofs.Common.{◌≡◌, ℕ, zero, suc, ◌-◌, ◌<◌, ◌≤◌, inl, inr, eqb, List, [], ◌∷◌, ◌++◌, length, take, drop, Some, None, refl, sym, ap, ◌∙◌, arith, append_assoc, length-append}
-use Rattle.std.specs.Prelude.{slice_get, slice_set}
-use Rattle.std.specs.List.{join_with_byte, slice_split}
-use Rattle.std.proofs.Math.Seq.{drop-append_seam, take-append_seam}
-use Rattle.std.proofs.lemmas.List.{append-nil, set_past, take_rest}
-use Rattle.std.proofs.lemmas.Option.{none-some, slice_get_cases}
-use Rattle.caldate_run.specs.Fields.{asked_text, text_with}
-use Rattle.caldate_run.specs.declared.request.Field.{Field}
+-- A text is cut at its fields.
+use Rattle.std.proofs.Common.{◌≡◌, ℕ, ◌+◌, ◌-◌, ◌<◌, ◌≤◌, Bool, true, false, cond, eqb, List, [], ◌∷◌, ◌++◌, length, take, drop, get_or, Option, Some, None, refl, sym, ap, ◌∙◌, subst, arith, add-one, append_assoc, length-append, length-drop, length-take, take-append-drop}
+use Rattle.std.specs.Prelude.{not, nat_le, ◌&&◌, MatchOption, position}
+use Rattle.std.specs.List.{join_with_byte, onto_first, slice_split}
+use Rattle.std.proofs.Math.Seq.{drop-append_seam, take-append_seam, take-append-add}
+use Rattle.std.proofs.lemmas.Bool.{eqb-true, false≢true}
+use Rattle.std.proofs.lemmas.Bool.Decides.{nat_tests}
+use Rattle.std.proofs.lemmas.List.{append-nil, take_more, take_rest}
+use Rattle.std.proofs.lemmas.Option.{none-some}
 use Rattle.std.proofs.lemmas.List.Splits.{join_with_byte-slice_split, length-slice_split}
+use Rattle.caldate_run.specs.Fields.{HasFirst, IsAfter, asked_text, each_ended, fields_of, in_quotes, is_quote, is_quoted, joined_fields, lacks, split_record, text_with, within_quotes}
+use Rattle.caldate_run.specs.declared.request.Field.{Field}
+use Rattle.caldate_run.proofs.Parts.{no_fields}
+use Rattle.caldate_run.proofs.Parts.{some_fields as one_field}
 
-abbrev pub parts : ℕ → List ℕ → List (List ℕ)
-parts c text = slice_split (λ b. eqb b c) text
+-- ---- fields with their separators
+each_append : (c : ℕ) (xs ys : List (List ℕ)) → each_ended c (xs ++ ys) ≡ each_ended c xs ++ each_ended c ys
+each_append c [] ys = refl
+each_append c (x ∷ xs) ys = ap (λ l. x ++ c ∷ l) (each_append c xs ys) ∙ sym (append_assoc x (c ∷ each_ended c xs) (each_ended c ys))
 
--- the rest is the end of the text, and part n of the text is part k of the rest
-pub record IsCut (c n k : ℕ) (text rest : List ℕ) : Type 0 where
-  pub front : List ℕ
-  pub whole : text ≡ front ++ rest
-  pub asked : slice_get (parts c text) n ≡ slice_get (parts c rest) k
-  pub around : (words : List ℕ) → join_with_byte c (slice_set (parts c text) n words) ≡ front ++ join_with_byte c (slice_set (parts c rest) k words)
+pub join_first : (c : ℕ) (words : List ℕ) (more : List (List ℕ)) → 0 < length more → join_with_byte c (words ∷ more) ≡ words ++ c ∷ join_with_byte c more
+join_first c words [] h = absurd (omega (arith, h))
+join_first c words (part ∷ more) h = refl
 
-pub begun : (c n : ℕ) (text : List ℕ) → IsCut c n n text text
-begun c n text = record { front = []; whole = refl; asked = refl; around = λ words. refl }
+join_each : (c : ℕ) (xs more : List (List ℕ)) → 0 < length more → join_with_byte c (xs ++ more) ≡ each_ended c xs ++ join_with_byte c more
+join_each c [] more h = refl
+join_each c (x ∷ xs) more h =
+    join_first c x (xs ++ more) (omega (arith, h, length-append xs more)) ∙ ap (λ l. x ++ c ∷ l) (join_each c xs more h)
+    ∙ sym (append_assoc x (c ∷ each_ended c xs) (join_with_byte c more))
 
-some_parts : (c : ℕ) (text : List ℕ) → 0 < length (parts c text)
-some_parts c text = omega (arith, length-slice_split (λ b. eqb b c) text)
+-- ---- the fields of a text
+onto_some : (x : ℕ) (parts : List (List ℕ)) → 0 < length (onto_first x parts)
+onto_some x [] = omega arith
+onto_some x (part ∷ parts) = omega arith
 
-joined : (c j : ℕ) (first words : List ℕ) (more : List (List ℕ)) → 0 < length more
-    → join_with_byte c (slice_set (first ∷ more) (suc j) words) ≡ first ++ c ∷ join_with_byte c (slice_set more j words)
-joined c j first words [] h = absurd (omega (arith, h))
-joined c zero first words (part ∷ more) h = refl
-joined c (suc j) first words (part ∷ more) h = refl
+abbrev record_more : ℕ → Bool → ℕ → List ℕ → List (List ℕ)
+record_more c quoted x xs = onto_first x (split_record c (cond (is_quote x) (not quoted) quoted) xs)
 
-joined_first : (c : ℕ) (words : List ℕ) (more : List (List ℕ)) → 0 < length more → join_with_byte c (words ∷ more) ≡ words ++ c ∷ join_with_byte c more
-joined_first c words [] h = absurd (omega (arith, h))
-joined_first c words (part ∷ more) h = refl
+some_either : (b : Bool) (xs ys : List (List ℕ)) → 0 < length xs → 0 < length ys → 0 < length (cond b xs ys)
+some_either true xs ys h k = h
+some_either false xs ys h k = k
 
--- one part further on
-pub further : (c n k j : ℕ) (text rest first after : List ℕ) → k ≡ suc j → parts c rest ≡ first ∷ parts c after → rest ≡ first ++ c ∷ after
-    → IsCut c n k text rest → IsCut c n j text after
-further c n k j text rest first after next cut whole h = record {
-  front = h.front ++ (first ++ c ∷ []);
-  whole = h.whole ∙ ap (λ l. h.front ++ l) (whole ∙ sym (append_assoc first (c ∷ []) after)) ∙ sym (append_assoc h.front (first ++ c ∷ []) after);
-  asked = h.asked ∙ ap (slice_get (parts c rest)) next ∙ ap (λ ps. slice_get ps (suc j)) cut;
-  around = λ words. h.around words ∙ ap (λ i. h.front ++ join_with_byte c (slice_set (parts c rest) i words)) next
-      ∙ ap (λ ps. h.front ++ join_with_byte c (slice_set ps (suc j) words)) cut ∙ ap (λ l. h.front ++ l) (joined c j first words (parts c after) (some_parts c after))
-      ∙ ap (λ l. h.front ++ l) (sym (append_assoc first (c ∷ []) (join_with_byte c (slice_set (parts c after) j words))))
-      ∙ sym (append_assoc h.front (first ++ c ∷ []) (join_with_byte c (slice_set (parts c after) j words)));
+record_some : (c : ℕ) (quoted : Bool) (text : List ℕ) → 0 < length (split_record c quoted text)
+record_some c quoted [] = omega arith
+record_some c quoted (x ∷ xs) =
+    some_either (eqb x c && not quoted) ([] ∷ split_record c false xs) (record_more c quoted x xs)
+    (omega arith) (onto_some x (split_record c (cond (is_quote x) (not quoted) quoted) xs))
+
+join_onto : (c x : ℕ) (parts : List (List ℕ)) → 0 < length parts → join_with_byte c (onto_first x parts) ≡ x ∷ join_with_byte c parts
+join_onto c x [] h = absurd (omega (arith, h))
+join_onto c x (part ∷ []) h = refl
+join_onto c x (part ∷ next ∷ parts) h = refl
+
+both_true : (a b : Bool) → (a && b) ≡ true → a ≡ true
+both_true true b e = refl
+both_true false b e = e
+
+join_either : (b : Bool) (c : ℕ) (xs ys : List (List ℕ)) (text : List ℕ) → (b ≡ true → join_with_byte c xs ≡ text) → join_with_byte c ys ≡ text
+    → join_with_byte c (cond b xs ys) ≡ text
+join_either true c xs ys text h k = h refl
+join_either false c xs ys text h k = k
+
+join_record : (c : ℕ) (quoted : Bool) (text : List ℕ) → join_with_byte c (split_record c quoted text) ≡ text
+join_record c quoted [] = refl
+join_record c quoted (x ∷ xs) =
+    let after = cond (is_quote x) (not quoted) quoted in
+    join_either (eqb x c && not quoted) c ([] ∷ split_record c false xs) (record_more c quoted x xs) (x ∷ xs)
+    (λ e. join_first c [] (split_record c false xs) (record_some c false xs) ∙ ap (λ l. c ∷ l) (join_record c false xs)
+    ∙ ap (λ b. b ∷ xs) (sym (eqb-true x c (both_true (eqb x c) (not quoted) e))))
+    (join_onto c x (split_record c after xs) (record_some c after xs) ∙ ap (λ l. x ∷ l) (join_record c after xs))
+
+some_fields : (field : Field) (text : List ℕ) → 0 < length (fields_of field text)
+some_fields field text =
+    some_either field.csv (split_record field.separator false text) (slice_split (λ b. eqb b field.separator) text)
+    (record_some field.separator false text) (omega (arith, length-slice_split (λ b. eqb b field.separator) text))
+
+join_fields : (field : Field) (text : List ℕ) → join_with_byte field.separator (fields_of field text) ≡ text
+join_fields field text =
+    join_either field.csv field.separator (split_record field.separator false text) (slice_split (λ b. eqb b field.separator) text) text
+    (λ e. join_record field.separator false text) (join_with_byte-slice_split field.separator text)
+
+-- ---- one field further on
+pub begun : (field : Field) (text : List ℕ) → IsAfter field 0 text text
+begun field text = record { passed = []; many = refl; fields = refl; whole = refl }
+
+pub further : (field : Field) (count : ℕ) (text rest first after : List ℕ) → fields_of field rest ≡ first ∷ fields_of field after
+    → rest ≡ first ++ field.separator ∷ after → IsAfter field count text rest → IsAfter field (count + 1) text after
+further field count text rest first after cut whole h = record {
+  passed = h.passed ++ first ∷ [];
+  many = omega (arith, h.many, length-append h.passed (first ∷ []));
+  fields = h.fields ∙ ap (λ l. h.passed ++ l) cut ∙ sym (append_assoc h.passed (first ∷ []) (fields_of field after));
+  whole = h.whole ∙ ap (λ l. each_ended field.separator h.passed ++ l) (whole ∙ sym (append_assoc first (field.separator ∷ []) after))
+      ∙ sym (append_assoc (each_ended field.separator h.passed) (first ++ field.separator ∷ []) after)
+      ∙ ap (λ l. l ++ after) (sym (each_append field.separator h.passed (first ∷ [])));
 }
 
--- the part is missing
-pub none_left : (c n k j : ℕ) (text rest : List ℕ) → k ≡ suc j → parts c rest ≡ rest ∷ [] → IsCut c n k text rest → slice_get (parts c text) n ≡ None
-none_left c n k j text rest next cut h = h.asked ∙ ap (slice_get (parts c rest)) next ∙ ap (λ ps. slice_get ps (suc j)) cut
+pub too_few : (field : Field) (count : ℕ) (text rest : List ℕ) → fields_of field rest ≡ rest ∷ [] → IsAfter field count text rest
+    → length (fields_of field text) ≡ count + 1
+too_few field count text rest none h =
+    omega (arith, ap length h.fields, length-append h.passed (fields_of field rest), ap length none, h.many)
 
--- the bytes before the rest
-front_is : (text front rest : List ℕ) → text ≡ front ++ rest → take (length text - length rest) text ≡ front
-front_is text front rest e =
-    ap (λ k. take k text) (omega (arith, ap length e, length-append front rest)) ∙ ap (take (length front)) e ∙ take-append_seam front rest
+pub shorter : (field : Field) (count : ℕ) (text rest : List ℕ) → IsAfter field count text rest → length rest ≤ length text
+shorter field count text rest h = omega (arith, ap length h.whole, length-append (each_ended field.separator h.passed) rest)
 
--- it is the last part, or one comes after it
-pub record Is (c n : ℕ) (text before asked after : List ℕ) : Type 0 where
-  pub found : slice_get (parts c text) n ≡ Some asked
-  pub around : (words : List ℕ) → join_with_byte c (slice_set (parts c text) n words) ≡ before ++ words ++ after
-  pub whole : text ≡ before ++ asked ++ after
-
-pub is_last : (c n k : ℕ) (text rest : List ℕ) → k ≡ 0 → parts c rest ≡ rest ∷ [] → IsCut c n k text rest
-    → Is c n text (take (length text - length rest) text) rest []
-is_last c n k text rest first cut h =
-    let before = sym (front_is text h.front rest h.whole) in
+-- ---- the first field
+pub first_of : (field : Field) (text : List ℕ) (n : ℕ)
+    → (n < length text) × (fields_of field text ≡ take n text ∷ fields_of field (drop (n + 1) text)) × (text ≡ take n text ++ field.separator ∷ drop (n + 1) text)
+    → HasFirst field text n
+first_of field text n (within, cut, whole) =
+    let more = fields_of field (drop (n + 1) text) in
+    let k : length (take n text) ≡ n = omega (arith, within, length-take n text) in
+    let rest : drop n text ≡ field.separator ∷ drop (n + 1) text =
+    ap (λ j. drop j text) (sym k) ∙ ap (drop (length (take n text))) whole ∙ drop-append_seam (take n text) (field.separator ∷ drop (n + 1) text) in
     record {
-      found = h.asked ∙ ap (slice_get (parts c rest)) first ∙ ap (λ ps. slice_get ps 0) cut;
-      around = λ words. h.around words ∙ ap (λ i. h.front ++ join_with_byte c (slice_set (parts c rest) i words)) first
-          ∙ ap (λ ps. h.front ++ join_with_byte c (slice_set ps 0 words)) cut ∙ ap (λ f. f ++ words) before ∙ sym (append-nil (take (length text - length rest) text ++ words));
-      whole = h.whole ∙ ap (λ f. f ++ rest) before ∙ sym (append-nil (take (length text - length rest) text ++ rest));
+      others = more;
+      fields = cut;
+      around = λ words. join_first field.separator words more (some_fields field (drop (n + 1) text))
+          ∙ ap (λ l. words ++ field.separator ∷ l) (join_fields field (drop (n + 1) text)) ∙ ap (λ l. words ++ l) (sym rest);
     }
 
-pub is_not_last : (c n k : ℕ) (text rest asked more : List ℕ) → k ≡ 0 → parts c rest ≡ asked ∷ parts c more → rest ≡ asked ++ c ∷ more → IsCut c n k text rest
-    → Is c n text (take (length text - length rest) text) asked (take (length rest - length asked) (drop (length asked) rest))
-is_not_last c n k text rest asked more first cut whole h =
-    let before = sym (front_is text h.front rest h.whole) in
-    let after : c ∷ more ≡ take (length rest - length asked) (drop (length asked) rest) =
-    sym (take_rest rest (length asked) ∙ ap (drop (length asked)) whole ∙ drop-append_seam asked (c ∷ more)) in
+pub only_first : (field : Field) (text : List ℕ) → fields_of field text ≡ text ∷ [] → HasFirst field text (length text)
+only_first field text none =
+    let all : take (length text) text ≡ text = ap (take (length text)) (sym (append-nil text)) ∙ take-append_seam text [] in
+    let rest : drop (length text) text ≡ [] = ap (drop (length text)) (sym (append-nil text)) ∙ drop-append_seam text [] in
     record {
-      found = h.asked ∙ ap (slice_get (parts c rest)) first ∙ ap (λ ps. slice_get ps 0) cut;
-      around = λ words. h.around words ∙ ap (λ i. h.front ++ join_with_byte c (slice_set (parts c rest) i words)) first
-          ∙ ap (λ ps. h.front ++ join_with_byte c (slice_set ps 0 words)) cut
-          ∙ ap (λ l. h.front ++ l) (joined_first c words (parts c more) (some_parts c more) ∙ ap (λ l. words ++ c ∷ l) (join_with_byte-slice_split c more))
-          ∙ sym (append_assoc h.front words (c ∷ more)) ∙ ap (λ f. f ++ words ++ c ∷ more) before
-          ∙ ap (λ l. take (length text - length rest) text ++ words ++ l) after;
-      whole = h.whole ∙ ap (λ l. h.front ++ l) whole ∙ sym (append_assoc h.front asked (c ∷ more)) ∙ ap (λ f. f ++ asked ++ c ∷ more) before
-          ∙ ap (λ l. take (length text - length rest) text ++ asked ++ l) after;
+      others = [];
+      fields = none ∙ ap (λ t. t ∷ []) (sym all);
+      around = λ words. sym (append-nil words) ∙ ap (λ l. words ++ l) (sym rest);
     }
+
+-- ---- the fields that are asked for
+-- They stand after the first fields, with these bytes around them.
+pub record Found (field : Field) (text before part after : List ℕ) : Type 0 where
+  pub has : lacks field text ≡ false
+  pub asked : joined_fields field text ≡ part
+  pub around : (words : List ℕ) → join_with_byte field.separator (take (field.first - 1) (fields_of field text) ++ words ∷ drop (field.first - 1 + field.joined + 1) (fields_of field text))
+      ≡ before ++ words ++ after
+  pub whole : text ≡ before ++ part ++ after
+
+not_le : (n m : ℕ) → m < n → nat_le n m ≡ false
+not_le n m h = grind (arith, nat_tests)
+
+take_one : (xs ys : List (List ℕ)) (x : List ℕ) (n : ℕ) → n ≡ length xs → take (n + 1) (xs ++ x ∷ ys) ≡ xs ++ x ∷ []
+take_one xs ys x n e = ap (λ k. take (k + 1) (xs ++ x ∷ ys)) e ∙ take-append-add xs (x ∷ ys) 1
+
+drop_front : (xs ys : List (List ℕ)) (n : ℕ) → n ≡ length xs → drop n (xs ++ ys) ≡ ys
+drop_front xs ys n e = ap (λ k. drop k (xs ++ ys)) e ∙ drop-append_seam xs ys
+
+take_front : (xs ys : List (List ℕ)) (n : ℕ) → n ≡ length xs → take n (xs ++ ys) ≡ xs
+take_front xs ys n e = ap (λ k. take k (xs ++ ys)) e ∙ take-append_seam xs ys
+
+pub found : (field : Field) (text rest last : List ℕ) (n : ℕ) → (a : IsAfter field (field.first - 1) text rest) → (b : IsAfter field field.joined rest last)
+    → HasFirst field last n
+    → Found field text (each_ended field.separator a.passed) (each_ended field.separator b.passed ++ take n last) (drop n last)
+found field text rest last n a b first =
+    let c = field.separator in
+    let x = take n last in
+    let parts = fields_of field text in
+    let cut : fields_of field rest ≡ b.passed ++ x ∷ first.others = b.fields ∙ ap (λ l. b.passed ++ l) first.fields in
+    let all : parts ≡ a.passed ++ (b.passed ++ x ∷ first.others) = a.fields ∙ ap (λ l. a.passed ++ l) cut in
+    let ends : parts ≡ (a.passed ++ (b.passed ++ x ∷ [])) ++ first.others =
+    all ∙ ap (λ l. a.passed ++ l) (sym (append_assoc b.passed (x ∷ []) first.others)) ∙ sym (append_assoc a.passed (b.passed ++ x ∷ []) first.others) in
+    let rest_is : drop (field.first - 1) parts ≡ b.passed ++ x ∷ first.others =
+    ap (drop (field.first - 1)) all ∙ drop_front a.passed (b.passed ++ x ∷ first.others) (field.first - 1) (sym a.many) in
+    let others_are : drop (field.first - 1 + field.joined + 1) parts ≡ first.others =
+    ap (drop (field.first - 1 + field.joined + 1)) ends
+    ∙ drop_front (a.passed ++ (b.passed ++ x ∷ [])) first.others (field.first - 1 + field.joined + 1)
+    (omega (arith, a.many, b.many, length-append a.passed (b.passed ++ x ∷ []), length-append b.passed (x ∷ []))) in
+    record {
+      has = not_le (length parts) (field.first - 1 + field.joined)
+          (omega (arith, ap length all, a.many, b.many, length-append a.passed (b.passed ++ x ∷ first.others), length-append b.passed (x ∷ first.others)));
+      asked = ap (λ l. join_with_byte c (take (field.joined + 1) l)) rest_is ∙ ap (join_with_byte c) (take_one b.passed first.others x field.joined (sym b.many))
+          ∙ join_each c b.passed (x ∷ []) (omega arith);
+      around = λ words. ap (λ l. join_with_byte c (take (field.first - 1) parts ++ words ∷ l)) others_are
+          ∙ ap (λ l. join_with_byte c (l ++ words ∷ first.others)) (ap (take (field.first - 1)) all ∙ take_front a.passed (b.passed ++ x ∷ first.others) (field.first - 1) (sym a.many))
+          ∙ join_each c a.passed (words ∷ first.others) (omega arith) ∙ ap (λ l. each_ended c a.passed ++ l) (first.around words)
+          ∙ sym (append_assoc (each_ended c a.passed) words (drop n last));
+      whole = a.whole ∙ ap (λ l. each_ended c a.passed ++ l)
+          (b.whole ∙ ap (λ l. each_ended c b.passed ++ l) (sym (take-append-drop n last)) ∙ sym (append_assoc (each_ended c b.passed) x (drop n last)))
+          ∙ sym (append_assoc (each_ended c a.passed) (each_ended c b.passed ++ x) (drop n last));
+    }
+
+-- ---- the text around them, as slices
+pub record Slices (text before part after : List ℕ) (start end : ℕ) : Type 0 where
+  pub front : take start text ≡ before
+  pub middle : take (end - start) (drop start text) ≡ part
+  pub back : drop end text ≡ after
+
+slices : (text before part after : List ℕ) (start end : ℕ) → text ≡ before ++ part ++ after → start ≡ length before → end ≡ length before + length part
+    → Slices text before part after start end
+slices text before part after start end whole e f =
+    let at : text ≡ before ++ (part ++ after) = whole ∙ append_assoc before part after in
+    record {
+      front = ap (take start) at ∙ ap (λ k. take k (before ++ (part ++ after))) e ∙ take-append_seam before (part ++ after);
+      middle = ap (take (end - start)) (ap (drop start) at ∙ ap (λ k. drop k (before ++ (part ++ after))) e ∙ drop-append_seam before (part ++ after))
+          ∙ ap (λ k. take k (part ++ after)) (omega (arith, e, f)) ∙ take-append_seam part after;
+      back = ap (drop end) whole ∙ ap (λ k. drop k (before ++ part ++ after)) (omega (arith, f, length-append before part)) ∙ drop-append_seam (before ++ part) after;
+    }
+
+places : (field : Field) (text rest last : List ℕ) (n start end : ℕ) → (a : IsAfter field (field.first - 1) text rest) → (b : IsAfter field field.joined rest last)
+    → n ≤ length last → start ≡ length text - length rest → end ≡ length text - length last + n
+    → (start ≡ length (each_ended field.separator a.passed)) × (end ≡ length (each_ended field.separator a.passed) + length (each_ended field.separator b.passed ++ take n last))
+places field text rest last n start end a b within e f =
+    let front = each_ended field.separator a.passed in
+    let middle = each_ended field.separator b.passed in (
+      omega (arith, e, ap length a.whole, length-append front rest),
+      omega (arith, f, within, ap length a.whole, length-append front rest, ap length b.whole, length-append middle last, length-append middle (take n last), length-take n last),
+    )
+
+-- ---- the text to answer, and the words that replace it
+pub record IsCut (field : Field) (text before part after : List ℕ) : Type 0 where
+  pub asked : asked_text (Some field) text ≡ Some part
+  pub around : (words : List ℕ) → text_with (Some field) text words ≡ before ++ words ++ after
+  pub whole : text ≡ before ++ part ++ after
+
+pub plain : (field : Field) (text before part after : List ℕ) → Found field text before part after → is_quoted field part ≡ false → IsCut field text before part after
+plain field text before part after h none = record {
+  asked = ap (λ b. cond b None (Some (within_quotes field (joined_fields field text)))) h.has ∙ ap (λ p. Some (within_quotes field p)) h.asked
+      ∙ ap (λ b. Some (cond b (take (length part - 2) (drop 1 part)) part)) none;
+  around = λ words. ap (λ b. cond b text (join_with_byte field.separator (take (field.first - 1) (fields_of field text) ++ in_quotes field (joined_fields field text) words ∷ drop (field.first - 1 + field.joined + 1) (fields_of field text)))) h.has
+      ∙ ap (λ w. join_with_byte field.separator (take (field.first - 1) (fields_of field text) ++ w ∷ drop (field.first - 1 + field.joined + 1) (fields_of field text)))
+      (ap (λ p. in_quotes field p words) h.asked ∙ ap (λ b. cond b (34 ∷ (words ++ 34 ∷ [])) words) none)
+      ∙ h.around words;
+  whole = h.whole;
+}
+
+-- a field in quotes
+quotes_of : (a b c d : Bool) → (a && (b && (c && d))) ≡ true → (b ≡ true) × (c ≡ true) × (d ≡ true)
+quotes_of true true true d e = (refl, refl, e)
+quotes_of true true false d e = absurd (false≢true e)
+quotes_of true false c d e = absurd (false≢true e)
+quotes_of false b c d e = absurd (false≢true e)
+
+long_part : (n : ℕ) → nat_le 2 n ≡ true → 2 ≤ n
+long_part n e = grind (arith, nat_tests)
+
+last_of : (xs : List ℕ) → 0 < length xs → take (length xs - 1) xs ++ get_or xs (length xs - 1) 0 ∷ [] ≡ xs
+last_of xs h =
+    sym (take_more xs (length xs - 1) 0 (omega (arith, h))) ∙ ap (λ k. take k xs) (omega (arith, h))
+    ∙ ap (take (length xs)) (sym (append-nil xs)) ∙ take-append_seam xs []
+
+around_part : (part : List ℕ) → 2 ≤ length part → get_or part 0 0 ≡ 34 → get_or part (length part - 1) 0 ≡ 34
+    → part ≡ 34 ∷ (take (length part - 2) (drop 1 part) ++ 34 ∷ [])
+around_part [] h first last = absurd (omega (arith, h))
+around_part (x ∷ []) h first last = absurd (omega (arith, h))
+around_part (x ∷ y ∷ xs) h first last =
+    let tail : List ℕ = y ∷ xs in
+    let same : get_or tail (length tail - 1) 0 ≡ 34 = ap (λ k. get_or (x ∷ tail) k 0) (sym (add-one (length tail - 1)) ∙ omega arith) ∙ last in
+    ap (λ b. b ∷ tail) first
+    ∙ ap (λ l. 34 ∷ l) (sym (last_of tail (omega arith)) ∙ ap (λ b. take (length tail - 1) tail ++ b ∷ []) same
+    ∙ ap (λ k. take k tail ++ 34 ∷ []) (omega arith))
+
+pub quoted : (field : Field) (text before part after : List ℕ) → Found field text before part after → is_quoted field part ≡ true
+    → IsCut field text (before ++ 34 ∷ []) (take (length part - 2) (drop 1 part)) (34 ∷ after) × (2 ≤ length part) × (part ≡ 34 ∷ (take (length part - 2) (drop 1 part) ++ 34 ∷ []))
+quoted field text before part after h some =
+    let tests = quotes_of field.csv (nat_le 2 (length part)) (is_quote (get_or part 0 0)) (is_quote (get_or part (length part - 1) 0)) some in
+    let long = long_part (length part) tests.0 in
+    let inner = take (length part - 2) (drop 1 part) in
+    let parts = around_part part long (eqb-true (get_or part 0 0) 34 tests.1) (eqb-true (get_or part (length part - 1) 0) 34 tests.2) in
+    let shifted : (words : List ℕ) → before ++ (34 ∷ (words ++ 34 ∷ [])) ++ after ≡ (before ++ 34 ∷ []) ++ words ++ (34 ∷ after) = λ words.
+    append_assoc before (34 ∷ (words ++ 34 ∷ [])) after ∙ ap (λ l. before ++ 34 ∷ l) (append_assoc words (34 ∷ []) after)
+    ∙ sym (append_assoc before (34 ∷ []) (words ++ 34 ∷ after)) ∙ sym (append_assoc (before ++ 34 ∷ []) words (34 ∷ after)) in (
+      record {
+        asked = ap (λ b. cond b None (Some (within_quotes field (joined_fields field text)))) h.has ∙ ap (λ p. Some (within_quotes field p)) h.asked
+            ∙ ap (λ b. Some (cond b inner part)) some;
+        around = λ words. ap (λ b. cond b text (join_with_byte field.separator (take (field.first - 1) (fields_of field text) ++ in_quotes field (joined_fields field text) words ∷ drop (field.first - 1 + field.joined + 1) (fields_of field text)))) h.has
+            ∙ ap (λ w. join_with_byte field.separator (take (field.first - 1) (fields_of field text) ++ w ∷ drop (field.first - 1 + field.joined + 1) (fields_of field text)))
+            (ap (λ p. in_quotes field p words) h.asked ∙ ap (λ b. cond b (34 ∷ (words ++ 34 ∷ [])) words) some)
+            ∙ h.around (34 ∷ (words ++ 34 ∷ [])) ∙ shifted words;
+        whole = h.whole ∙ ap (λ p. before ++ p ++ after) parts ∙ shifted inner;
+      },
+      long,
+      parts,
+    )
+
+same_cut : (field : Field) (text b p a before part after : List ℕ) → b ≡ before → p ≡ part → a ≡ after → IsCut field text before part after → IsCut field text b p a
+same_cut field text b p a before part after e f g h =
+    subst (λ x. IsCut field text x p a) (sym e) (subst (λ y. IsCut field text before y a) (sym f) (subst (λ z. IsCut field text before part z) (sym g) h))
+
+pub plain_cut : (field : Field) (text rest last : List ℕ) (n start end : ℕ) → IsAfter field (field.first - 1) text rest → IsAfter field field.joined rest last
+    → HasFirst field last n → n ≤ length last → start ≡ length text - length rest → end ≡ length text - length last + n
+    → is_quoted field (take (end - start) (drop start text)) ≡ false
+    → IsCut field text (take start text) (take (end - start) (drop start text)) (take (length text - end) (drop end text))
+plain_cut field text rest last n start end a b first within e f none =
+    let h = found field text rest last n a b first in
+    let at = places field text rest last n start end a b within e f in
+    let before = each_ended field.separator a.passed in
+    let part = each_ended field.separator b.passed ++ take n last in
+    let s = slices text before part (drop n last) start end h.whole at.0 at.1 in
+    same_cut field text _ _ _ before part (drop n last) s.front s.middle (take_rest text end ∙ s.back)
+    (plain field text before part (drop n last) h (ap (is_quoted field) (sym s.middle) ∙ none))
+
+pub quoted_cut : (field : Field) (text rest last : List ℕ) (n start end : ℕ) → IsAfter field (field.first - 1) text rest → IsAfter field field.joined rest last
+    → HasFirst field last n → n ≤ length last → start ≡ length text - length rest → end ≡ length text - length last + n
+    → is_quoted field (take (end - start) (drop start text)) ≡ true
+    → IsCut field text (take (start + 1) text) (take (end - 1 - (start + 1)) (drop (start + 1) text)) (take (length text - (end - 1)) (drop (end - 1) text))
+quoted_cut field text rest last n start end a b first within e f some =
+    let h = found field text rest last n a b first in
+    let at = places field text rest last n start end a b within e f in
+    let before = each_ended field.separator a.passed in
+    let part = each_ended field.separator b.passed ++ take n last in
+    let after = drop n last in
+    let s = slices text before part after start end h.whole at.0 at.1 in
+    let q = quoted field text before part after h (ap (is_quoted field) (sym s.middle) ∙ some) in
+    let inner = take (length part - 2) (drop 1 part) in
+    let within = slices text (before ++ 34 ∷ []) inner (34 ∷ after) (start + 1) (end - 1) q.0.whole
+    (omega (arith, at.0, length-append before (34 ∷ [])))
+    (omega (arith, at.0, at.1, q.1, length-append before (34 ∷ []), length-take (length part - 2) (drop 1 part), length-drop 1 part)) in
+    same_cut field text _ _ _ (before ++ 34 ∷ []) inner (34 ∷ after) within.front within.middle (take_rest text (end - 1) ∙ within.back) q.0
+
+-- ---- a separator that is not in quotes
+plain_fields : (field : Field) (text : List ℕ) → field.csv ≡ false → fields_of field text ≡ slice_split (λ b. eqb b field.separator) text
+plain_fields field text e = ap (λ b. cond b (split_record field.separator false text) (slice_split (λ b. eqb b field.separator) text)) e
+
+pub plain_separator : (field : Field) (text : List ℕ) (r : Option ℕ) → field.csv ≡ false → r ≡ position (λ b. eqb b field.separator) text
+    → MatchOption r (fields_of field text ≡ text ∷ []) (λ at. (at < length text) × (fields_of field text ≡ take at text ∷ fields_of field (drop (at + 1) text))
+    × (text ≡ take at text ++ field.separator ∷ drop (at + 1) text))
+plain_separator field text None e f = plain_fields field text e ∙ no_fields field.separator text (sym f)
+plain_separator field text (Some k) e f =
+    let s = one_field field.separator text k (sym f) in
+    (s.0, plain_fields field text e ∙ s.1 ∙ ap (λ l. take k text ∷ l) (sym (plain_fields field (drop (k + 1) text) e)), s.2)
 
 -- a text that lacks the field stays as it is
+unchanged : (b : Bool) (text part all : List ℕ) → cond b None (Some part) ≡ None → cond b text all ≡ text
+unchanged true text part all e = refl
+unchanged false text part all e = absurd (none-some part (sym e))
+
 pub no_field : (field : Field) (text words : List ℕ) → asked_text (Some field) text ≡ None → text_with (Some field) text words ≡ text
-no_field field text words none =
-    let n = field.number - 1 in
-    let past : length (parts field.separator text) ≤ n = elim (slice_get_cases (parts field.separator text) n).1 [
-      | inl within ↦ absurd (none-some within.0 (sym none ∙ within.2))
-      | inr past ↦ past.0
-    ] in
-    ap (join_with_byte field.separator) (set_past (parts field.separator text) n words past) ∙ join_with_byte-slice_split field.separator text
+no_field field text words none = unchanged (lacks field text) text (within_quotes field (joined_fields field text)) _ none

@@ -2,8 +2,8 @@
 use Rattle.std.proofs.Common.{◌≡◌, ℕ, List, [], ◌∷◌, length, true, None, ap, refl, sym, subst, arith, Option, Result, Ok, Err}
 use Rattle.std.specs.Prelude.{is_some, IfErr, IsErrAnd, IsErrOf, OnErr, OnOk}
 use Rattle.std.specs.Io.KnownBytes.{Appends, IsAtEnd}
-use Rattle.caldate_run.specs.Lines.{ended_lines, lines_of}
-use Rattle.caldate_run.specs.Runs.{AnswersAll, AnswersFront, AppendsFront, Ended, Gives, GivesLines, IsEarly, IsOfWrite, Shown, StopsAt}
+use Rattle.caldate_run.specs.Lines.{lines_of}
+use Rattle.caldate_run.specs.Runs.{AnswersAll, AnswersEnded, AnswersFront, AppendsFront, Ended, Gives, GivesLines, IsEarly, IsOfWrite, Shown, StopsAt}
 use Rattle.caldate_run.specs.declared.request.Filter.{Filter}
 use Rattle.caldate_run.specs.declared.tally.Tally.{Tally}
 use Rattle.caldate_run.specs.declared.unanswered.UnansweredLine.{UnansweredLine}
@@ -29,8 +29,8 @@ wrote bytes (Err fault) old new ok front err = (err, front)
 
 -- ---- what a run read and wrote
 pub early_ended : (filter : Filter) (r : Result Unit Fault) (r0 r1 w0 w1 : Option (List ℕ)) → IsErrAnd r IsEarly
-    → (IsErrAnd r IsOfWrite → GivesLines r0 r1 (λ lines. AnswersFront filter lines w0 w1))
-    → ((told : UnansweredLine) → IsErrOf r (Stopped told) → GivesLines r0 r1 (λ lines. StopsAt filter told lines w0 w1))
+    → (IsErrAnd r IsOfWrite → GivesLines r0 r1 (λ lines rest. AnswersFront filter lines rest w0 w1))
+    → ((told : UnansweredLine) → IsErrOf r (Stopped told) → GivesLines r0 r1 (λ lines rest. StopsAt filter told lines w0 w1))
     → Ended filter r r0 r1 w0 w1
 early_ended filter (Ok done) r0 r1 w0 w1 is write stopped = absurd is
 early_ended filter (Err Read) r0 r1 w0 w1 is write stopped = absurd is
@@ -45,14 +45,13 @@ all_ended filter (Ok done) tally r0 r1 w0 w1 none err end (input, given, all) = 
 all_ended filter (Err fault) tally r0 r1 w0 w1 none err end (input, given, all) =
     subst (λ f. Ended filter (Err f) r0 r1 w0 w1) (sym err.0) (end, (input, given, (tally, (refl, err.1), all)))
 
-pub read_ended : (filter : Filter) (r : Result Unit Fault) (tally : Tally) (r0 r1 w0 w1 : Option (List ℕ)) → IsErrAnd r (λ fault. fault ≡ Read)
-    → Gives r0 r1 (λ input. AnswersAll filter (ended_lines input) tally w0 w1) → Ended filter r r0 r1 w0 w1
-read_ended filter (Ok done) tally r0 r1 w0 w1 is h = absurd is
-read_ended filter (Err fault) tally r0 r1 w0 w1 is (input, given, all) =
-    subst (λ f. Ended filter (Err f) r0 r1 w0 w1) (sym is) (input, given, (tally, all))
+pub read_ended : (filter : Filter) (r : Result Unit Fault) (r0 r1 w0 w1 : Option (List ℕ)) → IsErrAnd r (λ fault. fault ≡ Read)
+    → Gives r0 r1 (λ input. AnswersEnded filter input w0 w1) → Ended filter r r0 r1 w0 w1
+read_ended filter (Ok done) r0 r1 w0 w1 is h = absurd is
+read_ended filter (Err fault) r0 r1 w0 w1 is h = subst (λ f. Ended filter (Err f) r0 r1 w0 w1) (sym is) h
 
 pub write_ended : (filter : Filter) (r : Result Unit Fault) (r0 r1 w0 w1 : Option (List ℕ)) → IsErrAnd r IsOfWrite
-    → GivesLines r0 r1 (λ lines. AnswersFront filter lines w0 w1) → Ended filter r r0 r1 w0 w1
+    → GivesLines r0 r1 (λ lines rest. AnswersFront filter lines rest w0 w1) → Ended filter r r0 r1 w0 w1
 write_ended filter (Ok done) r0 r1 w0 w1 is h = absurd is
 write_ended filter (Err Read) r0 r1 w0 w1 is h = absurd is
 write_ended filter (Err (Write kind)) r0 r1 w0 w1 is h = h

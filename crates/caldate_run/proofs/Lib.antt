@@ -1,4 +1,5 @@
 pub mod Parts
+pub mod Quotes
 pub mod Calls
 pub mod Cuts
 pub mod Indices
@@ -8,6 +9,7 @@ pub mod Lacks
 pub mod Laters
 pub mod Texts
 pub mod Numbers
+pub mod RecordFields
 pub mod Replied
 pub mod Steps
 pub mod OneCount

@@ -2,14 +2,15 @@
 use Rattle.std.proofs.Common.{◌≡◌, ℕ, ◌+◌, ◌-◌, ◌<◌, ◌≤◌, Bool, true, false, cond, eqb, List, [], ◌∷◌, ◌++◌, length, take, get_or, Option, Some, None, Result, Ok, Err, refl, sym, ap, ◌∙◌, subst, arith, length-append, length-take, append_assoc}
 use Rattle.std.specs.Prelude.{IsSomeAnd, OnOk, MatchBool, MatchOption, is_some, nat_lt, unwrap_or}
 use Rattle.std.proofs.Math.Seq.{take-append-add, take-append_seam}
-use Rattle.std.proofs.lemmas.Bool.{false≢true, le-ltb}
+use Rattle.std.proofs.lemmas.Bool.{le-ltb}
 use Rattle.std.proofs.lemmas.List.{append-nil, get_or-append-add}
 use Rattle.caldate_run.specs.Answers.{Answer, IsAnswer}
+use Rattle.caldate_run.proofs.Steps.{passed_none, shown_front}
 use Rattle.caldate_run.specs.Fields.{asked_text, text_with}
 use Rattle.caldate_run.specs.Lines.{has_return, text_of}
-use Rattle.caldate_run.specs.Replies.{Describes, IsAnswerIn, IsAnswerOf, IsAnswerToText, IsReplyTo, ends_at, in_place, in_text, more, with_end}
+use Rattle.caldate_run.specs.Replies.{Counts, Describes, GoesOut, IsAnswerIn, IsAnswerOf, IsAnswerToText, IsReplyTo, in_place, in_text, more, stops, with_end, with_reason}
 use Rattle.caldate_run.specs.Runs.{AppendsThat, Puts, Replied}
-use Rattle.caldate_run.specs.Standing.{AtLine, IsHeld, IsShown}
+use Rattle.caldate_run.specs.Standing.{AtLine, IsHeld, IsShown, passed}
 use Rattle.caldate_run.specs.Shown.{shown, words_shown}
 use Rattle.caldate_run.specs.declared.no_answer.NoAnswer.{NoAnswer}
 use Rattle.caldate_run.specs.declared.no_answer.NoAnswer.TheVariants as why
@@ -21,7 +22,6 @@ use Rattle.caldate_run.specs.declared.request.Filter.{Filter}
 use Rattle.caldate_run.specs.declared.shown.ShownText.{ShownText}
 use Rattle.caldate_run.specs.declared.tally.Tally.{Tally}
 use Rattle.caldate_run.specs.declared.unanswered.UnansweredLine.{UnansweredLine}
-use Rattle.caldate_run.proofs.Steps.{shown_front}
 
 -- ---- a line of which a front was let go
 same_return : (kept line : List ℕ) → 0 < length line → has_return (kept ++ line) ≡ has_return line
@@ -74,12 +74,12 @@ puts_other P Q (Err any) old new f h = (h.0, f (Err any) h.1)
 pub replied_without : (filter : Filter) (progress : Progress) (tally : Tally) (line text old mid new : List ℕ) (cut : Bool) (any : NoAnswer) (r : Result Unit UnansweredLine)
     → text ≡ text_of line → cut ≡ has_return line
     → AtLine progress line (λ before whole. (mid ≡ old) × IsAnswerOf filter before (text_of whole) (Err any))
-    → OnOk r ((line : List ℕ) → text ≡ text_of line → cut ≡ has_return line → AtLine progress line (λ before whole.
-    IsAnswerOf filter before (text_of whole) (Err any) → AppendsThat (λ reply. IsReplyTo filter before whole reply progress.tally tally) mid new))
-    → OnOk r (Replied (IsReplyTo filter) progress tally line old new)
+    → OnOk r ((line : List ℕ) → text ≡ text_of line → cut ≡ has_return line → AtLine progress line (λ before whole. IsAnswerOf filter before (text_of whole) (Err any))
+    → Replied (IsReplyTo filter) filter.on_invalid progress tally line mid new)
+    → OnOk r (Replied (IsReplyTo filter) filter.on_invalid progress tally line old new)
 replied_without filter progress tally line text old mid new cut any (Ok done) e f put h = λ kept before held front number.
-    let put = put kept before held front number in
-    subst (λ l. AppendsThat (λ reply. IsReplyTo filter before (kept ++ line) reply progress.tally tally) l new) put.0 (h line e f kept before held front number put.1)
+    subst (λ l. AppendsThat (λ words. IsReplyTo filter before (kept ++ line) (passed filter.on_invalid kept ++ words) progress.tally tally) l new)
+    ((put kept before held front number).0) (h line e f (λ kept before held front number. (put kept before held front number).1) kept before held front number)
 replied_without filter progress tally line text old mid new cut any (Err told) e f put h = h
 
 pub taken_back : (old mid rest new : List ℕ) (before : ℕ) → before ≡ length old → mid ≡ old ++ rest → new ≡ take before mid → new ≡ old
@@ -90,33 +90,44 @@ pub of_whole : (P : List ℕ → Type 0) (kept line text : List ℕ) → IsHeld 
 of_whole P kept line text h e p = subst P (e ∙ ap (λ k. text_of (k ++ line)) (sym h)) p
 
 -- ---- the words, and the end of the line
--- what goes out, with the end of the line
-pub ended : (b : Bool) (kept line old mid new : List ℕ) (out : Option (List ℕ)) (goes cut : Bool) → IsHeld b kept line → mid ≡ old ++ unwrap_or out [] → goes ≡ is_some out
-    → cut ≡ has_return line → new ≡ mid ++ cond goes (cond cut (13 ∷ 10 ∷ []) (10 ∷ [])) [] → new ≡ old ++ with_end (kept ++ line) out
-ended b kept line old mid new out goes cut h put is e f = f ∙ at out put is
+-- what goes out after a front that was passed on, with the end of the line
+pub ended : (b : Bool) (kept line front old mid new words : List ℕ) (out : Option (List ℕ)) (goes cut : Bool) → IsHeld b kept line → mid ≡ old ++ words
+    → front ++ words ≡ unwrap_or out [] → goes ≡ is_some out → cut ≡ has_return line → new ≡ mid ++ cond goes (cond cut (13 ∷ 10 ∷ []) (10 ∷ [])) []
+    → (rest : List ℕ) × (new ≡ old ++ rest) × (front ++ rest ≡ with_end (kept ++ line) out)
+ended b kept line front old mid new words out goes cut h put whole is e f = (
+  words ++ cond goes (cond cut (13 ∷ 10 ∷ []) (10 ∷ [])) [],
+  f ∙ ap (λ m. m ++ cond goes (cond cut (13 ∷ 10 ∷ []) (10 ∷ [])) []) put ∙ append_assoc old words (cond goes (cond cut (13 ∷ 10 ∷ []) (10 ∷ [])) []),
+  sym (append_assoc front words (cond goes (cond cut (13 ∷ 10 ∷ []) (10 ∷ [])) [])) ∙ ap (λ w. w ++ cond goes (cond cut (13 ∷ 10 ∷ []) (10 ∷ [])) []) whole ∙ at out is,
+)
   where
-    at : (out : Option (List ℕ)) → mid ≡ old ++ unwrap_or out [] → goes ≡ is_some out
-        → mid ++ cond goes (cond cut (13 ∷ 10 ∷ []) (10 ∷ [])) [] ≡ old ++ with_end (kept ++ line) out
-    at None put is = ap (λ g. mid ++ cond g (cond cut (13 ∷ 10 ∷ []) (10 ∷ [])) []) is ∙ append-nil mid ∙ put
-    at (Some words) put is =
-        ap (λ g. mid ++ cond g (cond cut (13 ∷ 10 ∷ []) (10 ∷ [])) []) is ∙ ap (λ m. m ++ cond cut (13 ∷ 10 ∷ []) (10 ∷ [])) put
-        ∙ append_assoc old words (cond cut (13 ∷ 10 ∷ []) (10 ∷ [])) ∙ ap (λ c. old ++ (words ++ cond c (13 ∷ 10 ∷ []) (10 ∷ []))) (e ∙ sym (same_cut b kept line h))
+    at : (out : Option (List ℕ)) → goes ≡ is_some out → unwrap_or out [] ++ cond goes (cond cut (13 ∷ 10 ∷ []) (10 ∷ [])) [] ≡ with_end (kept ++ line) out
+    at None is = ap (λ g. [] ++ cond g (cond cut (13 ∷ 10 ∷ []) (10 ∷ [])) []) is
+    at (Some words) is =
+        ap (λ g. words ++ cond g (cond cut (13 ∷ 10 ∷ []) (10 ∷ [])) []) is ∙ ap (λ c. words ++ cond c (13 ∷ 10 ∷ []) (10 ∷ [])) (e ∙ sym (same_cut b kept line h))
+
+pub replies_with : (filter : Filter) (before : ℕ) (whole front old new : List ℕ) (answer : Answer) (out : Option (List ℕ)) (t u : Tally)
+    → ((rest : List ℕ) × (new ≡ old ++ rest) × (front ++ rest ≡ with_end whole out)) → IsAnswerOf filter before (text_of whole) answer
+    → GoesOut filter whole answer (with_end whole out) → Counts before whole answer t u
+    → AppendsThat (λ words. IsReplyTo filter before whole (front ++ words) t u) old new
+replies_with filter before whole front old new answer out t u h is goes counts =
+    (h.0, h.1, record { answer = answer; is = is; out = subst (GoesOut filter whole answer) (sym h.2) goes; counts = counts })
+
+front_none : (mode : OnInvalid) (kept : List ℕ) → kept ≡ [] → passed mode kept ≡ []
+front_none mode kept e = ap (passed mode) e ∙ passed_none mode
 
 -- a line with an answer
-pub replied : (filter : Filter) (before : ℕ) (b : Bool) (kept line old mid new : List ℕ) (goes cut : Bool) (t u : Tally) → IsHeld b kept line
+pub replied : (filter : Filter) (before : ℕ) (kept line old mid new : List ℕ) (goes cut : Bool) (t u : Tally) → kept ≡ []
     → Puts (IsAnswerOf filter before (text_of (kept ++ line))) (Ok goes) old mid → cut ≡ has_return line
     → new ≡ mid ++ cond goes (cond cut (13 ∷ 10 ∷ []) (10 ∷ [])) [] → u ≡ record { lines = more t.lines; unanswered = t.unanswered; first = t.first }
-    → AppendsThat (λ reply. IsReplyTo filter before (kept ++ line) reply t u) old new
-replied filter before b kept line old mid new true cut t u h put e f counts = (
-  with_end (kept ++ line) (Some put.0),
-  ended b kept line old mid new (Some put.0) true cut h put.1 refl e f,
-  record { answer = Ok (Some put.0); is = put.2; out = refl; counts = counts },
-)
-replied filter before b kept line old mid new false cut t u h put e f counts = (
-  [],
-  ended b kept line old mid new None false cut h (put.0 ∙ sym (append-nil old)) refl e f,
-  record { answer = Ok None; is = put.1; out = refl; counts = counts },
-)
+    → AppendsThat (λ words. IsReplyTo filter before (kept ++ line) (passed filter.on_invalid kept ++ words) t u) old new
+replied filter before kept line old mid new true cut t u h put e f counts =
+    replies_with filter before (kept ++ line) (passed filter.on_invalid kept) old new (Ok (Some put.0)) (Some put.0) t u
+    (ended false kept line (passed filter.on_invalid kept) old mid new put.0 (Some put.0) true cut h put.1 (ap (λ p. p ++ put.0) (front_none filter.on_invalid kept h)) refl e f)
+    put.2 refl counts
+replied filter before kept line old mid new false cut t u h put e f counts =
+    replies_with filter before (kept ++ line) (passed filter.on_invalid kept) old new (Ok None) None t u
+    (ended false kept line (passed filter.on_invalid kept) old mid new [] None false cut h (put.0 ∙ sym (append-nil old)) (ap (λ p. p ++ []) (front_none filter.on_invalid kept h)) refl e f)
+    put.1 refl counts
 
 -- a line without one
 first_counts : (before : ℕ) (line : List ℕ) (any : NoAnswer) (first new : Option UnansweredLine) (told : UnansweredLine) → Describes before line any told
@@ -124,32 +135,53 @@ first_counts : (before : ℕ) (line : List ℕ) (any : NoAnswer) (first new : Op
 first_counts before line any None new told is h = subst (λ o. IsSomeAnd o (Describes before line any)) (sym h) is
 first_counts before line any (Some f) new told is h = h
 
-same_place : (b : Bool) (filter : Filter) (kept line text : List ℕ) (any : NoAnswer) → IsHeld b kept line → text ≡ text_of line
-    → (b ≡ true → any ≡ why.TooLong) → ends_at filter.on_invalid any ≡ false
-    → in_place filter.on_invalid filter text any ≡ in_place filter.on_invalid filter (text_of (kept ++ line)) any
-same_place false filter kept line text any h e long goes = ap (λ t. in_place filter.on_invalid filter t any) (e ∙ ap (λ k. text_of (k ++ line)) (sym h))
-same_place true filter kept line text any h e long goes =
-    subst (λ w. ends_at filter.on_invalid w ≡ false → in_place filter.on_invalid filter text w ≡ in_place filter.on_invalid filter (text_of (kept ++ line)) w) (sym (long refl))
-    (at filter.on_invalid text (text_of (kept ++ line))) goes
-  where
-    at : (mode : OnInvalid) (x y : List ℕ) → ends_at mode why.TooLong ≡ false → in_place mode filter x why.TooLong ≡ in_place mode filter y why.TooLong
-    at invalid.Keep x y goes = absurd (false≢true (sym goes))
-    at invalid.Answer x y goes = refl
-    at invalid.Drop x y goes = refl
-    at invalid.Stop x y goes = refl
+-- the text of a line, after a front that was dropped
+text_at : (cut : Bool) (kept line : List ℕ) → 0 < length line
+    → cond cut (take (length (kept ++ line) - 1) (kept ++ line)) (kept ++ line) ≡ kept ++ cond cut (take (length line - 1) line) line
+text_at true kept line some =
+    let at : length (kept ++ line) - 1 ≡ length kept + (length line - 1) = omega (arith, some, length-append kept line) in
+    ap (λ k. take k (kept ++ line)) at ∙ take-append-add kept line (length line - 1)
+text_at false kept line some = refl
+
+text_after : (b : Bool) (kept line : List ℕ) → IsHeld b kept line → text_of (kept ++ line) ≡ kept ++ text_of line
+text_after false kept line h = ap (λ k. text_of (k ++ line)) h ∙ ap (λ k. k ++ text_of line) (sym h)
+text_after true kept line h =
+    ap (λ c. cond c (take (length (kept ++ line) - 1) (kept ++ line)) (kept ++ line)) (same_cut true kept line h)
+    ∙ text_at (has_return line) kept line (omega (arith, ap length h.2.2))
+
+same_reason : (b : Bool) (filter : Filter) (kept line text : List ℕ) (any : NoAnswer) → IsHeld b kept line → text ≡ text_of line → (b ≡ true → any ≡ why.TooLong)
+    → with_reason filter text any ≡ with_reason filter (text_of (kept ++ line)) any
+same_reason false filter kept line text any h e long = ap (λ t. with_reason filter t any) (e ∙ ap (λ k. text_of (k ++ line)) (sym h))
+same_reason true filter kept line text any h e long =
+    ap (with_reason filter text) (long refl) ∙ ap (with_reason filter (text_of (kept ++ line))) (sym (long refl))
+
+-- what goes out in place of an answer, after the front that was passed on
+same_place : (mode : OnInvalid) (b : Bool) (filter : Filter) (kept line text : List ℕ) (any : NoAnswer) → IsHeld b kept line → text ≡ text_of line
+    → (b ≡ true → any ≡ why.TooLong) → passed mode kept ++ unwrap_or (in_place mode filter text any) [] ≡ unwrap_or (in_place mode filter (text_of (kept ++ line)) any) []
+same_place invalid.Keep b filter kept line text any h e long = ap (λ t. kept ++ t) e ∙ sym (text_after b kept line h)
+same_place invalid.Answer b filter kept line text any h e long = same_reason b filter kept line text any h e long
+same_place invalid.Drop b filter kept line text any h e long = refl
+same_place invalid.Stop b filter kept line text any h e long = refl
+
+same_goes : (mode : OnInvalid) (filter : Filter) (x y : List ℕ) (any : NoAnswer) → is_some (in_place mode filter x any) ≡ is_some (in_place mode filter y any)
+same_goes invalid.Keep filter x y any = refl
+same_goes invalid.Answer filter x y any = refl
+same_goes invalid.Drop filter x y any = refl
+same_goes invalid.Stop filter x y any = refl
 
 pub unanswered : (filter : Filter) (before : ℕ) (b : Bool) (kept line text old mid new : List ℕ) (any : NoAnswer) (goes cut : Bool) (t u : Tally) (told : UnansweredLine)
-    → IsHeld b kept line → text ≡ text_of line → (b ≡ true → any ≡ why.TooLong) → ends_at filter.on_invalid any ≡ false
+    → IsHeld b kept line → text ≡ text_of line → (b ≡ true → any ≡ why.TooLong) → stops filter.on_invalid ≡ false
     → IsAnswerOf filter before (text_of (kept ++ line)) (Err any) → mid ≡ old ++ unwrap_or (in_place filter.on_invalid filter text any) []
     → goes ≡ is_some (in_place filter.on_invalid filter text any) → cut ≡ has_return line → new ≡ mid ++ cond goes (cond cut (13 ∷ 10 ∷ []) (10 ∷ [])) []
     → Describes before (kept ++ line) any told → u.lines ≡ more t.lines → u.unanswered ≡ more t.unanswered → MatchOption t.first (u.first ≡ Some told) (λ f. u.first ≡ Some f)
-    → AppendsThat (λ reply. IsReplyTo filter before (kept ++ line) reply t u) old new
+    → AppendsThat (λ words. IsReplyTo filter before (kept ++ line) (passed filter.on_invalid kept ++ words) t u) old new
 unanswered filter before b kept line text old mid new any goes cut t u told h e long on is put out has f describes lines count first =
-    let same = same_place b filter kept line text any h e long on in (
-      with_end (kept ++ line) (in_place filter.on_invalid filter (text_of (kept ++ line)) any),
-      ended b kept line old mid new _ goes cut h (put ∙ ap (λ o. old ++ unwrap_or o []) same) (out ∙ ap (λ o. is_some o) same) has f,
-      record { answer = Err any; is = is; out = (on, refl); counts = (lines, count, first_counts before (kept ++ line) any t.first u.first told describes first) },
-    )
+    let mode = filter.on_invalid in
+    let place = in_place mode filter (text_of (kept ++ line)) any in
+    replies_with filter before (kept ++ line) (passed mode kept) old new (Err any) place t u
+    (ended b kept line (passed mode kept) old mid new (unwrap_or (in_place mode filter text any) []) place goes cut h put
+    (same_place mode b filter kept line text any h e long) (out ∙ same_goes mode filter text (text_of (kept ++ line)) any) has f)
+    is (on, refl) (lines, count, first_counts before (kept ++ line) any t.first u.first told describes first)
 
 -- ---- the shown text of a line
 shown_cut : (kept line : List ℕ) → 80 ≤ length kept → 0 < length line → shown (take (length (kept ++ line) - 1) (kept ++ line)) ≡ shown kept

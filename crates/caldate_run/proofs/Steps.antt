@@ -1,19 +1,21 @@
 -- How far a run is after each of its steps.
-use Rattle.std.proofs.Common.{◌≡◌, ℕ, ◌+◌, ◌-◌, ◌<◌, ◌≤◌, Bool, true, false, List, [], ◌∷◌, ◌++◌, length, take, drop, Option, refl, sym, ap, ◌∙◌, subst, arith, append_assoc, length-append, length-take, length-drop, take-append-drop}
-use Rattle.std.specs.List.{slice_split}
+use Rattle.std.proofs.Common.{◌≡◌, ℕ, inl, inr, ◌+◌, ◌-◌, ◌<◌, ◌≤◌, Bool, true, false, List, [], ◌∷◌, ◌++◌, length, take, drop, Option, refl, sym, ap, ◌∙◌, subst, arith, append_assoc, length-append, length-take, length-drop, take-append-drop}
+use Rattle.std.specs.List.{onto_first, slice_split}
 use Rattle.std.specs.Io.KnownBytes.{Appends}
 use Rattle.std.proofs.KnownBytes.{Appends-trans, Appends-nil}
 use Rattle.std.proofs.Math.Nat.{min-eq_left}
 use Rattle.std.specs.Prelude.{map}
 use Rattle.std.proofs.lemmas.List.{append-nil, take-append-le}
-use Rattle.std.proofs.lemmas.List.Elements.{All-append, All-head, All-take, All-drop}
-use Rattle.std.proofs.lemmas.List.Splits.{slice_split_at, slice_split_none, length-slice_split}
+use Rattle.std.proofs.lemmas.List.Elements.{All-append, All-head, All-tail, All-take, All-drop}
+use Rattle.std.proofs.lemmas.List.Splits.{slice_split_at, slice_split_none, slice_split-cons_no, length-slice_split}
 use Rattle.std.proofs.lemmas.Bool.{false≢true}
-use Rattle.caldate_run.specs.Lines.{ended_lines, is_end, lines_of, without_empty_last, without_last}
-use Rattle.caldate_run.specs.Replies.{EndsAt, IsReplyTo}
-use Rattle.caldate_run.specs.Runs.{AnswersAll, AnswersFront, AppendsFront, Replied, StopsAt}
-use Rattle.caldate_run.specs.Standing.{AreReplies, AtLine, IsHeld, IsShown, NoEnd, Replies, Stands, counted, no_lines}
+use Rattle.caldate_run.specs.Lines.{ended_lines, is_end, last_part, lines_of, unended, without_empty_last, without_last}
+use Rattle.caldate_run.specs.Replies.{EndsAt, IsReplyTo, stops}
+use Rattle.caldate_run.specs.Runs.{AnswersAll, AnswersEnded, AnswersFront, AppendsFront, IsPassedOn, Replied, StopsAt}
+use Rattle.caldate_run.specs.Standing.{AreReplies, AtLine, IsHeld, IsShown, NoEnd, Replies, Stands, counted, no_lines, passed}
 use Rattle.caldate_run.specs.Shown.{printed, shown, words_shown}
+use Rattle.caldate_run.specs.declared.on_invalid.OnInvalid.{OnInvalid}
+use Rattle.caldate_run.specs.declared.on_invalid.OnInvalid.TheVariants as invalid
 use Rattle.caldate_run.specs.declared.progress.Progress.{Progress}
 use Rattle.caldate_run.specs.declared.request.Filter.{Filter}
 use Rattle.caldate_run.specs.declared.shown.ShownText.{ShownText}
@@ -68,6 +70,38 @@ held_line true kept pending line after h e =
 no_end_append : (xs ys : List ℕ) → NoEnd xs → NoEnd ys → NoEnd (xs ++ ys)
 no_end_append xs ys h e = All-append (λ byte. is_end byte ≡ false) xs ys h e
 
+-- ---- the front that was passed on
+pub passed_none : (mode : OnInvalid) → passed mode [] ≡ []
+passed_none invalid.Keep = refl
+passed_none invalid.Answer = refl
+passed_none invalid.Drop = refl
+passed_none invalid.Stop = refl
+
+passed_append : (mode : OnInvalid) (xs ys : List ℕ) → passed mode (xs ++ ys) ≡ passed mode xs ++ passed mode ys
+passed_append invalid.Keep xs ys = refl
+passed_append invalid.Answer xs ys = refl
+passed_append invalid.Drop xs ys = refl
+passed_append invalid.Stop xs ys = refl
+
+stops_passed : (mode : OnInvalid) (kept : List ℕ) → stops mode ≡ true → passed mode kept ≡ []
+stops_passed invalid.Keep kept e = absurd (false≢true e)
+stops_passed invalid.Answer kept e = refl
+stops_passed invalid.Drop kept e = refl
+stops_passed invalid.Stop kept e = refl
+
+passes_none : (mode : OnInvalid) (line : List ℕ) → IsPassedOn mode line []
+passes_none invalid.Keep line = inl refl
+passes_none invalid.Answer line = refl
+passes_none invalid.Drop line = refl
+passes_none invalid.Stop line = refl
+
+passes : (mode : OnInvalid) (b : Bool) (kept pending rest : List ℕ) → IsHeld b kept pending → IsPassedOn mode (kept ++ rest) (passed mode kept)
+passes invalid.Keep false kept pending rest h = inl h
+passes invalid.Keep true kept pending rest h = inr (h.0, (rest, refl))
+passes invalid.Answer b kept pending rest h = refl
+passes invalid.Drop b kept pending rest h = refl
+passes invalid.Stop b kept pending rest h = refl
+
 -- ---- one line
 cut_line : (kept line after more pending : List ℕ) → NoEnd kept → NoEnd line → pending ≡ line ++ 10 ∷ after
     → slice_split is_end (kept ++ (pending ++ more)) ≡ (kept ++ line) ∷ slice_split is_end (after ++ more)
@@ -79,22 +113,23 @@ cut_line kept line after more pending h n e =
 counted_more : (n m : ℕ) → m ≡ counted n → counted (m + 1) ≡ counted (n + 1)
 counted_more n m e = omega (arith, e)
 
-pub answered : (IsReply : Replies) (input : List ℕ) (start now : Option (List ℕ)) (gathered gathered_now pending line after : List ℕ) (progress progress_now : Progress)
+pub answered : (IsReply : Replies) (mode : OnInvalid) (input : List ℕ) (start now : Option (List ℕ)) (gathered gathered_now pending line after : List ℕ) (progress progress_now : Progress)
     → NoEnd line → pending ≡ line ++ 10 ∷ after
-    → Replied IsReply progress progress_now.tally line gathered gathered_now
+    → Replied IsReply mode progress progress_now.tally line gathered gathered_now
     → progress_now.is_long ≡ false → progress_now.tally.lines ≡ counted (progress.tally.lines + 1)
-    → Stands IsReply input start now gathered pending progress → Stands IsReply input start now gathered_now after progress_now
-answered IsReply input start now gathered gathered_now pending line after progress progress_now n e reply short number s =
+    → Stands IsReply mode input start now gathered pending progress → Stands IsReply mode input start now gathered_now after progress_now
+answered IsReply mode input start now gathered gathered_now pending line after progress progress_now n e reply short number s =
     let r = reply s.kept (length s.lines) (held_line progress.is_long s.kept pending line after s.held e) s.front s.number in
     record {
       lines = s.lines ++ (s.kept ++ line) ∷ [];
       kept = [];
-      out = s.out ++ r.0;
+      out = s.out ++ (passed mode s.kept ++ r.0);
       written = s.written;
       cut = λ more. s.cut more ∙ ap (λ parts. s.lines ++ parts) (cut_line s.kept line after more pending (kept_no_end progress.is_long s.kept pending s.held) n e)
           ∙ sym (append_assoc s.lines ((s.kept ++ line) ∷ []) (slice_split is_end (after ++ more)));
-      replies = one_reply IsReply 0 _ s.lines (s.kept ++ line) s.out r.0 _ _ _ (omega arith) s.replies r.2;
-      whole = ap (λ o. o ++ r.0) s.whole ∙ append_assoc s.written gathered r.0 ∙ ap (λ l. s.written ++ l) (sym r.1);
+      replies = one_reply IsReply 0 _ s.lines (s.kept ++ line) s.out (passed mode s.kept ++ r.0) _ _ _ (omega arith) s.replies r.2;
+      whole = ap (λ p. s.out ++ (passed mode s.kept ++ r.0) ++ p) (passed_none mode) ∙ append-nil (s.out ++ (passed mode s.kept ++ r.0))
+          ∙ sym (append_assoc s.out (passed mode s.kept) r.0) ∙ ap (λ o. o ++ r.0) s.whole ∙ append_assoc s.written gathered r.0 ∙ ap (λ l. s.written ++ l) (sym r.1);
       taken = s.taken;
       held = subst (λ b. IsHeld b [] after) (sym short) refl;
       front = subst (λ b. IsShown b progress_now.front []) (sym short) tt;
@@ -102,10 +137,10 @@ answered IsReply input start now gathered gathered_now pending line after progre
     }
 
 -- ---- the buffer is written, all of it or a front of it
-pub gone : (IsReply : Replies) (input : List ℕ) (start now new : Option (List ℕ)) (gathered left written pending : List ℕ) (progress : Progress)
+pub gone : (IsReply : Replies) (mode : OnInvalid) (input : List ℕ) (start now new : Option (List ℕ)) (gathered left written pending : List ℕ) (progress : Progress)
     → gathered ≡ written ++ left → Appends now new written
-    → Stands IsReply input start now gathered pending progress → Stands IsReply input start new left pending progress
-gone IsReply input start now new gathered left written pending progress e a s = record {
+    → Stands IsReply mode input start now gathered pending progress → Stands IsReply mode input start new left pending progress
+gone IsReply mode input start now new gathered left written pending progress e a s = record {
   lines = s.lines;
   kept = s.kept;
   out = s.out;
@@ -166,6 +201,36 @@ ended_are : (input kept pending : List ℕ) (lines : List (List ℕ))
 ended_are input kept pending lines cut =
     ap without_last (lines_are input kept pending lines cut) ∙ ended_begin lines (slice_split is_end (kept ++ pending)) (split_some (kept ++ pending))
 
+parts_are : (parts : List (List ℕ)) → 0 < length parts → without_last parts ++ last_part parts ∷ [] ≡ parts
+parts_are [] h = absurd (omega (arith, h))
+parts_are (part ∷ []) h = refl
+parts_are (part ∷ next ∷ parts) h = ap (λ ps. part ∷ ps) (parts_are (next ∷ parts) (omega arith))
+
+last_is : (lines : List (List ℕ)) (part : List ℕ) → last_part (lines ++ part ∷ []) ≡ part
+last_is [] part = refl
+last_is (line ∷ []) part = refl
+last_is (line ∷ next ∷ lines) part = last_is (next ∷ lines) part
+
+-- the lines that have ended, and the bytes after them
+rest_is : (input kept pending : List ℕ) (lines : List (List ℕ))
+    → ((more : List ℕ) → slice_split is_end (input ++ more) ≡ lines ++ slice_split is_end (kept ++ (pending ++ more)))
+    → ended_lines input ++ unended input ∷ [] ≡ lines ++ slice_split is_end (kept ++ pending)
+rest_is input kept pending lines cut = parts_are (slice_split is_end input) (split_some input) ∙ lines_are input kept pending lines cut
+
+some_list : (xs : List (List ℕ)) → 0 < length xs → (first : List ℕ) × (rest : List (List ℕ)) × (xs ≡ first ∷ rest)
+some_list [] h = absurd (omega (arith, h))
+some_list (x ∷ xs) h = (x, xs, refl)
+
+-- the first part begins with bytes that have no end
+begins : (kept pending : List ℕ) → NoEnd kept → (rest : List ℕ) × (more : List (List ℕ)) × (slice_split is_end (kept ++ pending) ≡ (kept ++ rest) ∷ more)
+begins [] pending n = some_list (slice_split is_end pending) (split_some pending)
+begins (x ∷ xs) pending n =
+    let tail = begins xs pending (All-tail (λ byte. is_end byte ≡ false) x xs n) in (
+      tail.0,
+      tail.1,
+      slice_split-cons_no is_end x (xs ++ pending) (All-head (λ byte. is_end byte ≡ false) x xs n) ∙ ap (onto_first x) tail.2,
+    )
+
 -- a line that has a byte and no end
 one_line : (line : List ℕ) → NoEnd line → 0 < length line → lines_of line ≡ line ∷ []
 one_line [] n h = absurd (omega arith)
@@ -184,16 +249,21 @@ front_more start now new written gathered out e a f = record {
 
 pub failed : (filter : Filter) (input : List ℕ) (start now new : Option (List ℕ)) (gathered pending : List ℕ) (progress : Progress)
     → AppendsFront now new gathered
-    → Stands (IsReplyTo filter) input start now gathered pending progress → AnswersFront filter (ended_lines input) start new
-failed filter input start now new gathered pending progress f s = record {
-  lines = s.lines;
-  more = ended_lines (s.kept ++ pending);
-  out = s.out;
-  tally = progress.tally;
-  cut = ended_are input s.kept pending s.lines s.cut;
-  replies = s.replies;
-  taken = front_more start now new s.written gathered s.out s.whole s.taken f;
-}
+    → Stands (IsReplyTo filter) filter.on_invalid input start now gathered pending progress → AnswersFront filter (ended_lines input) (unended input) start new
+failed filter input start now new gathered pending progress f s =
+    let parts = begins s.kept pending (kept_no_end progress.is_long s.kept pending s.held) in
+    record {
+      lines = s.lines;
+      next = s.kept ++ parts.0;
+      more = parts.1;
+      out = s.out;
+      front = passed filter.on_invalid s.kept;
+      tally = progress.tally;
+      cut = rest_is input s.kept pending s.lines s.cut ∙ ap (λ ps. s.lines ++ ps) parts.2;
+      replies = s.replies;
+      passed = passes filter.on_invalid progress.is_long s.kept pending parts.0 s.held;
+      taken = front_more start now new s.written gathered (s.out ++ passed filter.on_invalid s.kept) s.whole s.taken f;
+    }
 
 -- ---- a line without an answer
 abbrev pub Ends : Filter → Progress → List ℕ → UnansweredLine → Type 0
@@ -203,11 +273,15 @@ pub all_more : (start now new : Option (List ℕ)) (written gathered out : List 
     → Appends now new gathered → Appends start new out
 all_more start now new written gathered out e a f = subst (Appends start new) (sym e) (Appends-trans start now new _ _ a f)
 
+none_passed : (filter : Filter) (out kept all : List ℕ) → passed filter.on_invalid kept ≡ [] → out ++ passed filter.on_invalid kept ≡ all → out ≡ all
+none_passed filter out kept all none whole = sym (append-nil out) ∙ ap (λ p. out ++ p) (sym none) ∙ whole
+
 pub stopped : (filter : Filter) (input : List ℕ) (start now new : Option (List ℕ)) (gathered pending line after : List ℕ) (progress : Progress) (told : UnansweredLine)
     → NoEnd line → pending ≡ line ++ 10 ∷ after → Ends filter progress line told → Appends now new gathered
-    → Stands (IsReplyTo filter) input start now gathered pending progress → StopsAt filter told (ended_lines input) start new
+    → Stands (IsReplyTo filter) filter.on_invalid input start now gathered pending progress → StopsAt filter told (ended_lines input) start new
 stopped filter input start now new gathered pending line after progress told n e ends f s =
     let held = kept_no_end progress.is_long s.kept pending s.held in
+    let at = ends s.kept (length s.lines) (held_line progress.is_long s.kept pending line after s.held e) s.front s.number in
     let parts = cut_line s.kept line after [] pending held n e in
     let parts = ap (λ p. slice_split is_end (s.kept ++ p)) (sym (append-nil pending)) ∙ parts ∙ ap (λ a. (s.kept ++ line) ∷ slice_split is_end a) (append-nil after) in
     record {
@@ -218,9 +292,9 @@ stopped filter input start now new gathered pending line after progress told n e
       tally = progress.tally;
       cut = ended_are input s.kept pending s.lines s.cut
           ∙ ap (λ p. s.lines ++ without_last p) parts ∙ ap (λ l. s.lines ++ l) (part_ended (s.kept ++ line) (slice_split is_end after) (split_some after));
-      ends = ends s.kept (length s.lines) (held_line progress.is_long s.kept pending line after s.held e) s.front s.number;
+      ends = at;
       replies = s.replies;
-      taken = all_more start now new s.written gathered s.out s.whole s.taken f;
+      taken = all_more start now new s.written gathered s.out (none_passed filter s.out s.kept _ (stops_passed filter.on_invalid s.kept at.ends) s.whole) s.taken f;
     }
 
 -- ---- the end of the input
@@ -232,7 +306,7 @@ held_some : (b : Bool) (kept pending : List ℕ) → IsHeld b kept pending → 0
 held_some b kept pending h l = omega (arith, l, length-append kept pending)
 
 pub all_answered : (filter : Filter) (input : List ℕ) (start now : Option (List ℕ)) (progress : Progress)
-    → Stands (IsReplyTo filter) input start now [] [] progress → AnswersAll filter (lines_of input) progress.tally start now
+    → Stands (IsReplyTo filter) filter.on_invalid input start now [] [] progress → AnswersAll filter (lines_of input) progress.tally start now
 all_answered filter input start now progress s =
     let none = kept_none progress.is_long s.kept s.held in
     let lines : lines_of input ≡ s.lines =
@@ -240,12 +314,12 @@ all_answered filter input start now progress s =
     record {
       out = s.out;
       replies = subst (λ ls. AreReplies (IsReplyTo filter) 0 ls s.out no_lines progress.tally) (sym lines) s.replies;
-      taken = subst (Appends start now) (sym (s.whole ∙ append-nil s.written)) s.taken;
+      taken = subst (Appends start now) (sym (none_passed filter s.out s.kept _ (ap (passed filter.on_invalid) none ∙ passed_none filter.on_invalid) (s.whole ∙ append-nil s.written))) s.taken;
     }
 
 -- the lines, and the last one, which has no end
 with_last : (filter : Filter) (input : List ℕ) (start now : Option (List ℕ)) (gathered line : List ℕ) (progress : Progress)
-    → NoEnd line → 0 < length line → (s : Stands (IsReplyTo filter) input start now gathered line progress)
+    → NoEnd line → 0 < length line → (s : Stands (IsReplyTo filter) filter.on_invalid input start now gathered line progress)
     → lines_of input ≡ s.lines ++ (s.kept ++ line) ∷ []
 with_last filter input start now gathered line progress n l s =
     lines_of_are input s.kept line s.lines s.cut
@@ -253,39 +327,43 @@ with_last filter input start now gathered line progress n l s =
 
 pub last_answered : (filter : Filter) (input : List ℕ) (start now new : Option (List ℕ)) (gathered line : List ℕ) (progress : Progress) (tally : Tally)
     → NoEnd line → 0 < length line
-    → Replied (IsReplyTo filter) progress tally line [] gathered
+    → Replied (IsReplyTo filter) filter.on_invalid progress tally line [] gathered
     → Appends now new gathered
-    → Stands (IsReplyTo filter) input start now [] line progress → AnswersAll filter (lines_of input) tally start new
+    → Stands (IsReplyTo filter) filter.on_invalid input start now [] line progress → AnswersAll filter (lines_of input) tally start new
 last_answered filter input start now new gathered line progress tally n l reply f s =
     let r = reply s.kept (length s.lines) s.held s.front s.number in
     record {
-      out = s.out ++ r.0;
-      replies = subst (λ ls. AreReplies (IsReplyTo filter) 0 ls (s.out ++ r.0) no_lines tally) (sym (with_last filter input start now [] line progress n l s))
-          (one_reply (IsReplyTo filter) 0 _ s.lines (s.kept ++ line) s.out r.0 _ _ _ (omega arith) s.replies r.2);
-      taken = all_more start now new s.written gathered (s.out ++ r.0) (ap (λ o. o ++ r.0) (s.whole ∙ append-nil s.written) ∙ ap (λ g. s.written ++ g) (sym r.1)) s.taken f;
+      out = s.out ++ (passed filter.on_invalid s.kept ++ r.0);
+      replies = subst (λ ls. AreReplies (IsReplyTo filter) 0 ls (s.out ++ (passed filter.on_invalid s.kept ++ r.0)) no_lines tally) (sym (with_last filter input start now [] line progress n l s))
+          (one_reply (IsReplyTo filter) 0 _ s.lines (s.kept ++ line) s.out (passed filter.on_invalid s.kept ++ r.0) _ _ _ (omega arith) s.replies r.2);
+      taken = all_more start now new s.written gathered (s.out ++ (passed filter.on_invalid s.kept ++ r.0)) (sym (append_assoc s.out (passed filter.on_invalid s.kept) r.0) ∙ ap (λ o. o ++ r.0) (s.whole ∙ append-nil s.written) ∙ ap (λ g. s.written ++ g) (sym r.1)) s.taken f;
     }
 
 pub last_failed : (filter : Filter) (input : List ℕ) (start now new : Option (List ℕ)) (gathered line : List ℕ) (progress : Progress) (tally : Tally)
     → NoEnd line → 0 < length line
-    → Replied (IsReplyTo filter) progress tally line [] gathered
+    → Replied (IsReplyTo filter) filter.on_invalid progress tally line [] gathered
     → AppendsFront now new gathered
-    → Stands (IsReplyTo filter) input start now [] line progress → AnswersFront filter (lines_of input) start new
+    → Stands (IsReplyTo filter) filter.on_invalid input start now [] line progress → AnswersFront filter (lines_of input) [] start new
 last_failed filter input start now new gathered line progress tally n l reply f s =
     let r = reply s.kept (length s.lines) s.held s.front s.number in
     record {
       lines = s.lines ++ (s.kept ++ line) ∷ [];
+      next = [];
       more = [];
-      out = s.out ++ r.0;
+      out = s.out ++ (passed filter.on_invalid s.kept ++ r.0);
+      front = [];
       tally = tally;
-      cut = with_last filter input start now [] line progress n l s ∙ sym (append-nil (s.lines ++ (s.kept ++ line) ∷ []));
-      replies = one_reply (IsReplyTo filter) 0 _ s.lines (s.kept ++ line) s.out r.0 _ _ _ (omega arith) s.replies r.2;
-      taken = front_more start now new s.written gathered (s.out ++ r.0) (ap (λ o. o ++ r.0) (s.whole ∙ append-nil s.written) ∙ ap (λ g. s.written ++ g) (sym r.1)) s.taken f;
+      cut = ap (λ ls. ls ++ [] ∷ []) (with_last filter input start now [] line progress n l s);
+      replies = one_reply (IsReplyTo filter) 0 _ s.lines (s.kept ++ line) s.out (passed filter.on_invalid s.kept ++ r.0) _ _ _ (omega arith) s.replies r.2;
+      passed = passes_none filter.on_invalid [];
+      taken = front_more start now new s.written gathered (s.out ++ (passed filter.on_invalid s.kept ++ r.0) ++ []) (append-nil (s.out ++ (passed filter.on_invalid s.kept ++ r.0)) ∙ sym (append_assoc s.out (passed filter.on_invalid s.kept) r.0) ∙ ap (λ o. o ++ r.0) (s.whole ∙ append-nil s.written) ∙ ap (λ g. s.written ++ g) (sym r.1)) s.taken f;
     }
 
 pub last_stopped : (filter : Filter) (input : List ℕ) (start now : Option (List ℕ)) (line : List ℕ) (progress : Progress) (told : UnansweredLine)
     → NoEnd line → 0 < length line → Ends filter progress line told
-    → Stands (IsReplyTo filter) input start now [] line progress → StopsAt filter told (lines_of input) start now
+    → Stands (IsReplyTo filter) filter.on_invalid input start now [] line progress → StopsAt filter told (lines_of input) start now
 last_stopped filter input start now line progress told n l ends s =
+    let at = ends s.kept (length s.lines) s.held s.front s.number in
     record {
       lines = s.lines;
       line = s.kept ++ line;
@@ -293,22 +371,22 @@ last_stopped filter input start now line progress told n l ends s =
       out = s.out;
       tally = progress.tally;
       cut = with_last filter input start now [] line progress n l s;
-      ends = ends s.kept (length s.lines) s.held s.front s.number;
+      ends = at;
       replies = s.replies;
-      taken = subst (Appends start now) (sym (s.whole ∙ append-nil s.written)) s.taken;
+      taken = subst (Appends start now) (sym (none_passed filter s.out s.kept _ (stops_passed filter.on_invalid s.kept at.ends) (s.whole ∙ append-nil s.written))) s.taken;
     }
 
 -- ---- reads
-pub begun : (IsReply : Replies) (start : Option (List ℕ)) (progress : Progress) → progress.is_long ≡ false → progress.tally ≡ no_lines
-    → Stands IsReply [] start start [] [] progress
-begun IsReply start progress short none = record {
+pub begun : (IsReply : Replies) (mode : OnInvalid) (start : Option (List ℕ)) (progress : Progress) → progress.is_long ≡ false → progress.tally ≡ no_lines
+    → Stands IsReply mode [] start start [] [] progress
+begun IsReply mode start progress short none = record {
   lines = [];
   kept = [];
   out = [];
   written = [];
   cut = λ more. refl;
   replies = (refl, none);
-  whole = refl;
+  whole = passed_none mode;
   taken = Appends-nil start;
   held = subst (λ b. IsHeld b [] []) (sym short) refl;
   front = subst (λ b. IsShown b progress.front []) (sym short) tt;
@@ -319,9 +397,9 @@ held_more : (b : Bool) (kept pending given : List ℕ) → IsHeld b kept pending
 held_more false kept pending given h = h
 held_more true kept pending given h = (h.0, h.1, (h.2.0, h.2.1 ++ given, ap (λ p. p ++ given) h.2.2, h.2.3))
 
-pub read : (IsReply : Replies) (input given : List ℕ) (start now : Option (List ℕ)) (gathered pending : List ℕ) (progress : Progress)
-    → Stands IsReply input start now gathered pending progress → Stands IsReply (input ++ given) start now gathered (pending ++ given) progress
-read IsReply input given start now gathered pending progress s = record {
+pub read : (IsReply : Replies) (mode : OnInvalid) (input given : List ℕ) (start now : Option (List ℕ)) (gathered pending : List ℕ) (progress : Progress)
+    → Stands IsReply mode input start now gathered pending progress → Stands IsReply mode (input ++ given) start now gathered (pending ++ given) progress
+read IsReply mode input given start now gathered pending progress s = record {
   lines = s.lines;
   kept = s.kept;
   out = s.out;
@@ -336,15 +414,25 @@ read IsReply input given start now gathered pending progress s = record {
   number = s.number;
 }
 
+-- the parts of the input whose last one is pending
+whole_parts : (filter : Filter) (input : List ℕ) (start now : Option (List ℕ)) (gathered pending : List ℕ) (progress : Progress) → NoEnd pending
+    → (s : Stands (IsReplyTo filter) filter.on_invalid input start now gathered pending progress) → slice_split is_end input ≡ s.lines ++ (s.kept ++ pending) ∷ []
+whole_parts filter input start now gathered pending progress n s =
+    lines_are input s.kept pending s.lines s.cut
+    ∙ ap (λ ps. s.lines ++ ps) (slice_split_none is_end (s.kept ++ pending) (no_end_append s.kept pending (kept_no_end progress.is_long s.kept pending s.held) n))
+
 pub ended_answered : (filter : Filter) (input : List ℕ) (start now : Option (List ℕ)) (pending : List ℕ) (progress : Progress) → NoEnd pending
-    → Stands (IsReplyTo filter) input start now [] pending progress → AnswersAll filter (ended_lines input) progress.tally start now
+    → Stands (IsReplyTo filter) filter.on_invalid input start now [] pending progress → AnswersEnded filter input start now
 ended_answered filter input start now pending progress n s =
-    let none = slice_split_none is_end (s.kept ++ pending) (no_end_append s.kept pending (kept_no_end progress.is_long s.kept pending s.held) n) in
-    let lines : ended_lines input ≡ s.lines =
-    ended_are input s.kept pending s.lines s.cut ∙ ap (λ parts. s.lines ++ without_last parts) none ∙ append-nil s.lines in
+    let parts = whole_parts filter input start now [] pending progress n s in
+    let lines : ended_lines input ≡ s.lines = ap without_last parts ∙ ended_begin s.lines ((s.kept ++ pending) ∷ []) (omega arith) ∙ append-nil s.lines in
     record {
       out = s.out;
+      front = passed filter.on_invalid s.kept;
+      tally = progress.tally;
       replies = subst (λ ls. AreReplies (IsReplyTo filter) 0 ls s.out no_lines progress.tally) (sym lines) s.replies;
+      passed = subst (λ line. IsPassedOn filter.on_invalid line (passed filter.on_invalid s.kept)) (sym (ap last_part parts ∙ last_is s.lines (s.kept ++ pending)))
+          (passes filter.on_invalid progress.is_long s.kept pending pending s.held);
       taken = subst (Appends start now) (sym (s.whole ∙ append-nil s.written)) s.taken;
     }
 
@@ -365,11 +453,11 @@ front_shown false front front_now kept pending k h held is whole same =
 front_shown true front front_now kept pending k h held is whole same =
     ap words_shown (same refl) ∙ is ∙ sym (shown_front kept (take k pending) (omega (arith, held.0)))
 
-pub let_go : (IsReply : Replies) (input : List ℕ) (start now : Option (List ℕ)) (gathered pending pending_now : List ℕ) (progress progress_now : Progress)
-    → NoEnd pending → 4097 < length pending → pending_now ≡ drop (length pending - 1) pending → (progress.is_long ≡ false → words_shown progress_now.front ≡ shown pending)
+pub let_go : (IsReply : Replies) (mode : OnInvalid) (input : List ℕ) (start now new : Option (List ℕ)) (pending pending_now : List ℕ) (progress progress_now : Progress)
+    → NoEnd pending → Appends now new (passed mode (take (length pending - 1) pending)) → 4097 < length pending → pending_now ≡ drop (length pending - 1) pending → (progress.is_long ≡ false → words_shown progress_now.front ≡ shown pending)
     → (progress.is_long ≡ true → progress_now.front ≡ progress.front) → progress_now.is_long ≡ true → progress_now.tally ≡ progress.tally
-    → Stands IsReply input start now gathered pending progress → Stands IsReply input start now gathered pending_now progress_now
-let_go IsReply input start now gathered pending pending_now progress progress_now n long last_byte whole_front same_front is_long same s =
+    → Stands IsReply mode input start now [] pending progress → Stands IsReply mode input start new [] pending_now progress_now
+let_go IsReply mode input start now new pending pending_now progress progress_now n went long last_byte whole_front same_front is_long same s =
     let k = length pending - 1 in
     let front : length (take k pending) ≡ k = length-take k pending ∙ min-eq_left (omega arith) in
     let last : length (drop k pending) ≡ 1 = omega (arith, length-drop k pending) in
@@ -383,17 +471,43 @@ let_go IsReply input start now gathered pending pending_now progress progress_no
       no_end_append s.kept (take k pending) (kept_no_end progress.is_long s.kept pending s.held) n_front,
       one_byte (drop k pending) (omega (arith, last)) n_last,
     ) in
-    subst (λ (p : List ℕ). Stands IsReply input start now gathered p progress_now) (sym last_byte) (record {
+    subst (λ (p : List ℕ). Stands IsReply mode input start new [] p progress_now) (sym last_byte) (record {
       lines = s.lines;
       kept = s.kept ++ take k pending;
       out = s.out;
-      written = s.written;
+      written = s.written ++ passed mode (take k pending);
       cut = λ more. s.cut more ∙ ap (λ p. s.lines ++ slice_split is_end p) (whole more);
       replies = subst (AreReplies IsReply 0 s.lines s.out no_lines) (sym same) s.replies;
-      whole = s.whole;
-      taken = s.taken;
+      whole = ap (λ p. s.out ++ p) (passed_append mode s.kept (take k pending)) ∙ sym (append_assoc s.out (passed mode s.kept) (passed mode (take k pending)))
+          ∙ ap (λ o. o ++ passed mode (take k pending)) (s.whole ∙ append-nil s.written) ∙ sym (append-nil (s.written ++ passed mode (take k pending)));
+      taken = Appends-trans start now new _ _ s.taken went;
       held = subst (λ b. IsHeld b (s.kept ++ take k pending) (drop k pending)) (sym is_long) held;
       front = subst (λ b. IsShown b progress_now.front (s.kept ++ take k pending)) (sym is_long)
           (front_shown progress.is_long progress.front progress_now.front s.kept pending k (omega arith) s.held s.front whole_front same_front);
       number = ap (λ (t : Tally). t.lines) same ∙ s.number;
     })
+
+-- a front of it that is passed on is not written whole
+pub let_go_failed : (filter : Filter) (input : List ℕ) (start now new : Option (List ℕ)) (pending : List ℕ) (progress : Progress) → NoEnd pending
+    → filter.on_invalid ≡ invalid.Keep → 4097 < length pending → AppendsFront now new (take (length pending - 1) pending)
+    → Stands (IsReplyTo filter) filter.on_invalid input start now [] pending progress → AnswersFront filter (ended_lines input) (unended input) start new
+let_go_failed filter input start now new pending progress n keeps long f s =
+    let k = length pending - 1 in
+    let front = s.kept ++ take k pending in
+    let whole : s.kept ++ pending ≡ front ++ drop k pending =
+    ap (λ p. s.kept ++ p) (sym (take-append-drop k pending)) ∙ sym (append_assoc s.kept (take k pending) (drop k pending)) in
+    record {
+      lines = s.lines;
+      next = s.kept ++ pending;
+      more = [];
+      out = s.out;
+      front = front;
+      tally = progress.tally;
+      cut = parts_are (slice_split is_end input) (split_some input) ∙ whole_parts filter input start now [] pending progress n s;
+      replies = s.replies;
+      passed = subst (λ mode. IsPassedOn mode (s.kept ++ pending) front) (sym keeps)
+          (inr (omega (arith, long, length-take k pending, length-append s.kept (take k pending)), (drop k pending, whole)));
+      taken = front_more start now new s.written (take k pending) (s.out ++ front)
+          (sym (append_assoc s.out s.kept (take k pending)) ∙ ap (λ o. o ++ take k pending) (ap (λ mode. s.out ++ passed mode s.kept) (sym keeps) ∙ s.whole ∙ append-nil s.written))
+          s.taken f;
+    }

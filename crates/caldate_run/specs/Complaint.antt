@@ -17,6 +17,8 @@ abbrev pub error_phrase : Wanted → List ℕ
 error_phrase wanted.Something = codes "missing command; try 'caldate --help'"
 error_phrase wanted.Start = codes "unknown command"
 error_phrase wanted.Field = codes "--separator requires --field"
+error_phrase wanted.CsvField = codes "--csv requires --field"
+error_phrase wanted.CsvSeparator = codes "--csv can't use a quote as the separator"
 error_phrase wanted.Invalid = codes "unknown mode"
 error_phrase wanted.FieldNumber = codes "invalid field number"
 error_phrase wanted.Separator = codes "invalid separator"
@@ -67,10 +69,10 @@ missing_noun what = codes "argument"
 
 -- the expected words, if the message needs them
 abbrev pub expected_phrase : Wanted → List ℕ
-expected_phrase wanted.Start = codes "; expected to, add, next, last, until, since, start, end, on-or-after, on-or-before, at, keep, list, --date, --invalid, --field, --separator, --skip, --read, --assume, --help or --version"
+expected_phrase wanted.Start = codes "; expected to, add, next, last, until, since, start, end, on-or-after, on-or-before, at, keep, list, --date, --invalid, --field, --csv, --separator, --skip, --read, --assume, --help or --version"
 expected_phrase wanted.Verb = codes "; expected to, add, next, last, until, since, start, end, on-or-after, on-or-before, at, keep or another option"
 expected_phrase wanted.Invalid = codes "; expected keep, answer, drop or stop"
-expected_phrase wanted.FieldNumber = codes "; expected an integer from 1 to 65535"
+expected_phrase wanted.FieldNumber = codes "; expected an integer from 1 to 65535, or two such as 1-2"
 expected_phrase wanted.Separator = codes "; expected one byte"
 expected_phrase wanted.Skip = codes "; expected an integer from 0 to 9223372036854775807"
 expected_phrase wanted.Reading = codes "; expected basic, dmy, mdy, unix-ms, unix-us, unix-ns or local"
@@ -96,6 +98,8 @@ expected_phrase what = []
 abbrev pub names_word : Wanted → Bool
 names_word wanted.Something = false
 names_word wanted.Field = false
+names_word wanted.CsvField = false
+names_word wanted.CsvSeparator = false
 names_word wanted.Assume = false
 names_word wanted.Local = false
 names_word what = true

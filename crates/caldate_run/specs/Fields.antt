@@ -1,18 +1,69 @@
--- The part of a line to answer: all of its text, or one of its fields.
-use Rattle.std.specs.Prelude.{ℕ, ◌-◌, ◌==◌, List, Option, Some, None, slice_get, slice_set}
-use Rattle.std.specs.List.{join_with_byte, slice_split}
+-- The part of a line to answer: all of its text, or some of its fields.
+use Rattle.std.specs.Prelude.{◌≡◌, ℕ, ◌+◌, ◌-◌, ◌==◌, ◌&&◌, not, nat_le, Bool, false, List, [], ◌∷◌, ◌++◌, length, take, drop, Option, Some, None, slice_index, if◌then◌else◌}
+use Rattle.std.specs.List.{join_with_byte, onto_first, slice_split}
 use Rattle.caldate_run.specs.declared.request.Field.{Field}
+
+-- A quote is byte 34.
+abbrev pub is_quote : ℕ → Bool
+is_quote byte = byte == 34
+
+-- A record is split at each separator outside of quotes.
+abbrev pub split_record : ℕ → Bool → List ℕ → List (List ℕ)
+split_record separator quoted [] = [] ∷ []
+split_record separator quoted (byte ∷ bytes) =
+    if byte == separator && not quoted then [] ∷ split_record separator false bytes else
+    onto_first byte (split_record separator (if is_quote byte then not quoted else quoted) bytes)
 
 -- The fields of a text are between separators.
 abbrev pub fields_of : Field → List ℕ → List (List ℕ)
-fields_of field text = slice_split (λ byte. byte == field.separator) text
+fields_of field text = if field.csv then split_record field.separator false text else slice_split (λ byte. byte == field.separator) text
 
--- The text to answer is all of it, or the field with this number, counted from 1, if there is one.
+-- The text has fewer fields than are asked for.
+abbrev pub lacks : Field → List ℕ → Bool
+lacks field text = nat_le (length (fields_of field text)) (field.first - 1 + field.joined)
+
+-- The fields that are asked for, with the separators between them.
+abbrev pub joined_fields : Field → List ℕ → List ℕ
+joined_fields field text = join_with_byte field.separator (take (field.joined + 1) (drop (field.first - 1) (fields_of field text)))
+
+-- A field of a record may be in quotes.
+abbrev pub is_quoted : Field → List ℕ → Bool
+is_quoted field part = field.csv && (nat_le 2 (length part) && (is_quote (slice_index part 0) && is_quote (slice_index part (length part - 1))))
+
+abbrev pub within_quotes : Field → List ℕ → List ℕ
+within_quotes field part = if is_quoted field part then take (length part - 2) (drop 1 part) else part
+
+abbrev pub in_quotes : Field → List ℕ → List ℕ → List ℕ
+in_quotes field part words = if is_quoted field part then 34 ∷ (words ++ 34 ∷ []) else words
+
+-- The text to answer is all of it, or the fields that are asked for, within their quotes, if the
+-- text has them.
 abbrev pub asked_text : Option Field → List ℕ → Option (List ℕ)
 asked_text None text = Some text
-asked_text (Some field) text = slice_get (fields_of field text) (field.number - 1)
+asked_text (Some field) text = if lacks field text then None else Some (within_quotes field (joined_fields field text))
 
--- The words replace the text to answer.
+-- The words replace the text to answer. The separators around it stay, and so do its quotes.
 abbrev pub text_with : Option Field → List ℕ → List ℕ → List ℕ
 text_with None text words = words
-text_with (Some field) text words = join_with_byte field.separator (slice_set (fields_of field text) (field.number - 1) words)
+text_with (Some field) text words =
+    if lacks field text then text else
+    join_with_byte field.separator (take (field.first - 1) (fields_of field text)
+    ++ in_quotes field (joined_fields field text) words ∷ drop (field.first - 1 + field.joined + 1) (fields_of field text))
+
+-- Each of these fields, with a separator after it.
+abbrev pub each_ended : ℕ → List (List ℕ) → List ℕ
+each_ended separator [] = []
+each_ended separator (part ∷ parts) = part ++ separator ∷ each_ended separator parts
+
+-- The text begins with this many fields, each with its separator, and the rest has the others.
+pub record IsAfter (field : Field) (count : ℕ) (text rest : List ℕ) : Type 0 where
+  pub passed : List (List ℕ)
+  pub many : length passed ≡ count
+  pub fields : fields_of field text ≡ passed ++ fields_of field rest
+  pub whole : text ≡ each_ended field.separator passed ++ rest
+
+-- The first field of the text has this length. Any words may replace it.
+pub record HasFirst (field : Field) (text : List ℕ) (n : ℕ) : Type 0 where
+  pub others : List (List ℕ)
+  pub fields : fields_of field text ≡ take n text ∷ others
+  pub around : (words : List ℕ) → join_with_byte field.separator (words ∷ others) ≡ words ++ drop n text

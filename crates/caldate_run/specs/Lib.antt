@@ -13,6 +13,7 @@ pub mod Moves
 pub mod Offsets
 pub mod Program
 pub mod Readings
+pub mod Records
 pub mod Recurring
 pub mod Replies
 pub mod Requests

@@ -26,6 +26,15 @@ without_last (part ∷ parts) = part ∷ without_last parts
 abbrev pub ended_lines : List ℕ → List (List ℕ)
 ended_lines input = without_last (slice_split is_end input)
 
+-- The bytes after the last line feed of the input.
+abbrev pub last_part : List (List ℕ) → List ℕ
+last_part [] = []
+last_part (part ∷ []) = part
+last_part (part ∷ parts) = last_part parts
+
+abbrev pub unended : List ℕ → List ℕ
+unended input = last_part (slice_split is_end input)
+
 -- The last byte of the line is a carriage return, byte 13.
 abbrev pub has_return : List ℕ → Bool
 has_return line = slice_index line (length line - 1) == 13

@@ -55,11 +55,10 @@ IsAnswerOf filter before text answer =
     (MatchBool (nat_lt before filter.skip) (answer ≡ Ok (Some text)) (IsAnswerToText filter text answer))
 
 -- ---- a line without an answer
--- A run ends at a line that would not be kept.
-abbrev pub ends_at : OnInvalid → NoAnswer → Bool
-ends_at invalid.Stop any = true
-ends_at invalid.Keep why.TooLong = true
-ends_at mode any = false
+-- A run ends at the line.
+abbrev pub stops : OnInvalid → Bool
+stops invalid.Stop = true
+stops mode = false
 
 -- The reason replaces the text to answer, or the line if it is too long. A text that lacks the
 -- field stays as it is.
@@ -99,7 +98,7 @@ with_end line (Some words) = words ++ end_of line
 abbrev pub GoesOut : Filter → List ℕ → Answer → List ℕ → Type 0
 GoesOut filter line (Ok out) reply = reply ≡ with_end line out
 GoesOut filter line (Err any) reply =
-    (ends_at filter.on_invalid any ≡ false) × (reply ≡ with_end line (in_place filter.on_invalid filter (text_of line) any))
+    (stops filter.on_invalid ≡ false) × (reply ≡ with_end line (in_place filter.on_invalid filter (text_of line) any))
 
 -- The reply to a line after `before` lines, and the tally before and after it.
 pub record IsReplyTo (filter : Filter) (before : ℕ) (line reply : List ℕ) (old new : Tally) : Type 0 where
@@ -111,5 +110,5 @@ pub record IsReplyTo (filter : Filter) (before : ℕ) (line reply : List ℕ) (o
 -- The run ends at this line after `before` lines.
 pub record EndsAt (filter : Filter) (before : ℕ) (line : List ℕ) (told : UnansweredLine) : Type 0 where
   pub is : IsAnswerOf filter before (text_of line) (Err told.why)
-  pub ends : ends_at filter.on_invalid told.why ≡ true
+  pub ends : stops filter.on_invalid ≡ true
   pub told_is : Describes before line told.why told

@@ -1,6 +1,6 @@
 -- The command that the arguments give, or the first invalid word and its expected kind.
 use denote.Ref.{Bor}
-use Rattle.std.specs.Prelude.{ℕ, ◌+◌, nat_lt, not, ◌&&◌, ◌||◌, Bool, true, false, is_none, is_some, unwrap_or, ℤ, pos, neg_ℤ, ◌*ℤ◌, int_le, nat_abs, List, [], ◌∷◌, ◌==◌, length, take, drop, Option, Some, None, MatchOption, option_map, option_and_then, ok_or, Result, Ok, Err, slice_get, position, bytes_eq, codes, if◌then◌else◌, ◌*◌}
+use Rattle.std.specs.Prelude.{ℕ, ◌+◌, ◌-◌, nat_lt, not, ◌&&◌, ◌||◌, Bool, true, false, is_none, is_some, unwrap_or, ℤ, pos, neg_ℤ, ◌*ℤ◌, int_le, nat_abs, List, [], ◌∷◌, ◌==◌, length, take, drop, Option, Some, None, MatchOption, option_map, option_and_then, ok_or, Result, Ok, Err, slice_get, position, bytes_eq, codes, if◌then◌else◌, ◌*◌}
 use Rattle.std.specs.List.{All, slice_split}
 use Rattle.std.specs.Option.{option_map_or}
 use Rattle.std.specs.Result.{result_ok}
@@ -23,6 +23,7 @@ use Rattle.caldate_run.specs.declared.options.Options.{Options}
 use Rattle.caldate_run.specs.declared.reading.Reading.{Reading}
 use Rattle.caldate_run.specs.declared.reading.Reading.TheVariants as read
 use Rattle.caldate_run.specs.declared.request.Field.{Field}
+use Rattle.caldate_run.specs.declared.request.FieldNumbers.{FieldNumbers}
 use Rattle.caldate_run.specs.declared.request.Filter.{Filter}
 use Rattle.caldate_run.specs.declared.request.Form.{Form}
 use Rattle.caldate_run.specs.declared.request.Form.TheVariants as form
@@ -323,7 +324,7 @@ list_of reading words =
 
 -- ---- the options before a request, in any order, each at most once
 abbrev pub no_options : Options
-no_options = record { on_invalid = None; number = None; separator = None; skip = None; reading = None; offset = None }
+no_options = record { on_invalid = None; fields = None; csv = false; separator = None; skip = None; reading = None; offset = None }
 
 -- `--invalid MODE`
 abbrev pub invalid_of : List ℕ → Option OnInvalid
@@ -334,9 +335,17 @@ invalid_of word =
     if bytes_eq word (codes "stop") then Some invalid.Stop else
     None
 
--- `--field N`
+-- `--field N`, `--field N-M`
 abbrev pub field_number_of : List ℕ → Option ℕ
 field_number_of word = number_between 1 65535 word
+
+abbrev pub fields_from : ℕ → ℕ → Option FieldNumbers
+fields_from n m = if nat_lt m n then None else Some (record { first = n; joined = m - n })
+
+abbrev pub field_numbers_of : List ℕ → Option FieldNumbers
+field_numbers_of word =
+    option_map_or (λ at. option_and_then (λ n. option_and_then (fields_from n) (field_number_of (drop (at + 1) word))) (field_number_of (take at word)))
+    (position (λ b. b == 45) word) (option_map (λ n. record { first = n; joined = 0 }) (field_number_of word))
 
 -- `--separator C`: one byte
 abbrev pub byte_of : List ℕ → Option ℕ
@@ -359,11 +368,15 @@ reading_of word =
     if bytes_eq word (codes "local") then Some (read.Local (pos 0)) else
     None
 
+-- `--csv`, if it is not given yet.
+abbrev pub is_flag : Options → List ℕ → Bool
+is_flag options word = bytes_eq word (codes "--csv") && not options.csv
+
 -- The value that comes after the word, if the word is an option that is not given yet.
 abbrev pub value_of : Options → List ℕ → Option Wanted
 value_of options word =
     if bytes_eq word (codes "--invalid") && is_none options.on_invalid then Some wanted.Invalid else
-    if bytes_eq word (codes "--field") && is_none options.number then Some wanted.FieldNumber else
+    if bytes_eq word (codes "--field") && is_none options.fields then Some wanted.FieldNumber else
     if bytes_eq word (codes "--separator") && is_none options.separator then Some wanted.Separator else
     if bytes_eq word (codes "--skip") && is_none options.skip then Some wanted.Skip else
     if bytes_eq word (codes "--read") && is_none options.reading then Some wanted.Reading else
@@ -379,12 +392,12 @@ value_in word = option_map_or (λ at. drop (at + 1) word) (position (λ b. b == 
 
 -- The word is an option, whatever the others are.
 abbrev pub is_option : List ℕ → Bool
-is_option word = is_some (value_of no_options (name_of word))
+is_option word = is_flag no_options word || is_some (value_of no_options (name_of word))
 
 -- The options, with this value for the option that needs it.
 abbrev pub with_value : Options → List ℕ → Wanted → Option Options
 with_value options value wanted.Invalid = option_map (λ mode. record options { on_invalid = Some mode }) (invalid_of value)
-with_value options value wanted.FieldNumber = option_map (λ n. record options { number = Some n }) (field_number_of value)
+with_value options value wanted.FieldNumber = option_map (λ numbers. record options { fields = Some numbers }) (field_numbers_of value)
 with_value options value wanted.Separator = option_map (λ c. record options { separator = Some c }) (byte_of value)
 with_value options value wanted.Skip = option_map (λ k. record options { skip = Some k }) (skip_of value)
 with_value options value wanted.Reading = option_map (λ form. record options { reading = Some form }) (reading_of value)
@@ -401,6 +414,7 @@ with_joined options at word =
 abbrev pub options_from : Option Wanted → Options → ℕ → List (List ℕ) → Result (Options × ℕ) Senseless
 options_from None options at [] = Ok (options, at)
 options_from None options at (word ∷ words) =
+    if is_flag options word then options_from None (record options { csv = true }) (at + 1) words else
     if is_some (value_of options word) then options_from (value_of options word) options (at + 1) words else
     if is_some (value_of options (name_of word)) then and_then (with_joined options at word) (λ more. options_from None more (at + 1) words) else
     Ok (options, at)
@@ -412,9 +426,15 @@ options_from (Some what) options at (word ∷ words) =
 abbrev pub asks_for_help : List ℕ → Bool
 asks_for_help word = bytes_eq word (codes "--help") || bytes_eq word (codes "-h") || bytes_eq word (codes "help")
 
--- The field that the options select. The default separator is a tab.
+-- The fields that the options select. The default separator is a tab, or a comma in CSV.
 abbrev pub field_of : Options → Option Field
-field_of options = option_map (λ n. record { number = n; separator = unwrap_or options.separator 9 }) options.number
+field_of options =
+    option_map (λ numbers. record {
+      first = numbers.first;
+      joined = numbers.joined;
+      separator = unwrap_or options.separator (if options.csv then 44 else 9);
+      csv = options.csv;
+    }) options.fields
 
 -- The reading that the options select. The default is any form, and `local` gets its offset.
 abbrev pub reading_at : Option Reading → Option ℤ → Reading
@@ -426,26 +446,28 @@ abbrev pub is_local : Option Reading → Bool
 is_local (Some (read.Local waiting)) = true
 is_local form = false
 
--- The option that is missing: `--separator` requires `--field`, and `--read local` and `--assume`
--- require each other.
+-- The option that is missing: `--separator` and `--csv` require `--field`, and `--read local` and
+-- `--assume` require each other. A quote separates no fields of a record.
 abbrev pub lacking : Options → Option Wanted
 lacking options =
-    if is_some options.separator && is_none options.number then Some wanted.Field else
+    if is_some options.separator && is_none options.fields then Some wanted.Field else
+    if options.csv && is_none options.fields then Some wanted.CsvField else
+    if options.csv && option_map_or (λ c. c == 34) options.separator false then Some wanted.CsvSeparator else
     if is_local options.reading && is_none options.offset then Some wanted.Assume else
     if is_some options.offset && not (is_local options.reading) then Some wanted.Local else
     None
 
 -- The default: `keep` drops a line without an answer, and with `--field` the line is kept.
-abbrev pub default_mode : Request → Option ℕ → OnInvalid
-default_mode (Keep bounds) number = invalid.Drop
-default_mode other (Some number) = invalid.Keep
+abbrev pub default_mode : Request → Option FieldNumbers → OnInvalid
+default_mode (Keep bounds) numbers = invalid.Drop
+default_mode other (Some numbers) = invalid.Keep
 default_mode other None = invalid.Answer
 
 abbrev pub filter_of : Options → Request → Filter
 filter_of options request = record {
   request = request;
   reading = reading_at options.reading options.offset;
-  on_invalid = unwrap_or options.on_invalid (default_mode request options.number);
+  on_invalid = unwrap_or options.on_invalid (default_mode request options.fields);
   field = field_of options;
   skip = unwrap_or options.skip 0;
 }

@@ -1,13 +1,16 @@
 -- The effect of a run on the bytes of its reader and its writer, if they are known.
-use Rattle.std.specs.Prelude.{◌≡◌, ◌⊎◌, ℕ, ⊤, ◌<◌, Bool, true, false, List, ◌∷◌, ◌++◌, length, is_some, Option, Some, None, Result, Ok, Err}
+use Rattle.std.specs.Prelude.{◌≡◌, ◌⊎◌, ℕ, ⊤, ◌<◌, Bool, true, false, List, [], ◌∷◌, ◌++◌, length, is_some, Option, Some, None, Result, Ok, Err}
 use Rattle.std.specs.Io.KnownBytes.{Appends, Consumes, IsAtEnd}
 use Rattle.caldate_run.specs.Answers.{Answer}
-use Rattle.caldate_run.specs.Lines.{ended_lines, lines_of}
+use Rattle.caldate_run.specs.Lines.{ended_lines, lines_of, unended}
 use Rattle.caldate_run.specs.Replies.{EndsAt, IsReplyTo}
-use Rattle.caldate_run.specs.Standing.{AreReplies, AtLine, Replies, Stands, no_lines}
+use Rattle.caldate_run.specs.Room.{longest_text}
+use Rattle.caldate_run.specs.Standing.{AreReplies, IsHeld, IsShown, Replies, Stands, counted, no_lines, passed}
 use Rattle.caldate_run.specs.declared.fault.Fault.{Fault}
 use Rattle.caldate_run.specs.declared.fault.Fault.TheVariants.{Read, Write, Stopped, Unanswered}
 use Rattle.caldate_run.specs.declared.no_answer.NoAnswer.{NoAnswer}
+use Rattle.caldate_run.specs.declared.on_invalid.OnInvalid.{OnInvalid}
+use Rattle.caldate_run.specs.declared.on_invalid.OnInvalid.TheVariants as invalid
 use Rattle.caldate_run.specs.declared.progress.Progress.{Progress}
 use Rattle.caldate_run.specs.declared.request.Filter.{Filter}
 use Rattle.caldate_run.specs.declared.tally.Tally.{Tally}
@@ -23,10 +26,13 @@ Puts Is (Ok true) old new = AppendsThat (λ words. Is (Ok (Some words))) old new
 Puts Is (Ok false) old new = (new ≡ old) × Is (Ok None)
 Puts Is (Err any) old new = (new ≡ old) × Is (Err any)
 
--- The new bytes are the old ones and the reply to the line that the run is at.
-abbrev pub Replied : Replies → Progress → Tally → List ℕ → List ℕ → List ℕ → Type 0
-Replied IsReply progress tally line old new =
-    AtLine progress line (λ before whole. AppendsThat (λ reply. IsReply before whole reply progress.tally tally) old new)
+-- The new bytes are the old ones and the reply to the line that the run is at, without the front
+-- that was passed on.
+abbrev pub Replied : Replies → OnInvalid → Progress → Tally → List ℕ → List ℕ → List ℕ → Type 0
+Replied IsReply mode progress tally line old new =
+    (kept : List ℕ) (before : ℕ) → IsHeld progress.is_long kept line → IsShown progress.is_long progress.front kept
+    → progress.tally.lines ≡ counted before
+    → AppendsThat (λ words. IsReply before (kept ++ line) (passed mode kept ++ words) progress.tally tally) old new
 
 -- The fault is a failed write.
 abbrev pub IsOfWrite : Fault → Type 0
@@ -57,15 +63,35 @@ pub record AnswersAll (filter : Filter) (all : List (List ℕ)) (tally : Tally) 
   pub replies : AreReplies (IsReplyTo filter) 0 all out no_lines tally
   pub taken : Appends old new out
 
--- The writer took a beginning of the replies to the first of these lines, but never all of them.
-pub record AnswersFront (filter : Filter) (all : List (List ℕ)) (old new : Option (List ℕ)) : Type 0 where
+-- The bytes of a line that are passed on before its end was read: none, or in mode `keep` a front
+-- that is longer than the text of a line may be.
+abbrev pub IsPassedOn : OnInvalid → List ℕ → List ℕ → Type 0
+IsPassedOn invalid.Keep line front = (front ≡ []) ⊎ (longest_text < length front) × ((rest : List ℕ) × (line ≡ front ++ rest))
+IsPassedOn mode line front = front ≡ []
+
+-- The writer took a beginning of the replies to the first of these lines, and of what is passed on
+-- of the next one, but never all of it. `rest` comes after the lines.
+pub record AnswersFront (filter : Filter) (all : List (List ℕ)) (rest : List ℕ) (old new : Option (List ℕ)) : Type 0 where
   pub lines : List (List ℕ)
+  pub next : List ℕ
   pub more : List (List ℕ)
   pub out : List ℕ
+  pub front : List ℕ
   pub tally : Tally
-  pub cut : all ≡ lines ++ more
+  pub cut : all ++ rest ∷ [] ≡ lines ++ next ∷ more
   pub replies : AreReplies (IsReplyTo filter) 0 lines out no_lines tally
-  pub taken : AppendsFront old new out
+  pub passed : IsPassedOn filter.on_invalid next front
+  pub taken : AppendsFront old new (out ++ front)
+
+-- The writer took exactly the replies to the lines of an input that have their line feed, and what
+-- is passed on of the rest.
+pub record AnswersEnded (filter : Filter) (input : List ℕ) (old new : Option (List ℕ)) : Type 0 where
+  pub out : List ℕ
+  pub front : List ℕ
+  pub tally : Tally
+  pub replies : AreReplies (IsReplyTo filter) 0 (ended_lines input) out no_lines tally
+  pub passed : IsPassedOn filter.on_invalid (unended input) front
+  pub taken : Appends old new (out ++ front)
 
 -- The writer took exactly the replies to the lines before the one at which the run ends.
 pub record StopsAt (filter : Filter) (told : UnansweredLine) (all : List (List ℕ)) (old new : Option (List ℕ)) : Type 0 where
@@ -83,12 +109,12 @@ pub record StopsAt (filter : Filter) (told : UnansweredLine) (all : List (List �
 abbrev pub Gives : Option (List ℕ) → Option (List ℕ) → (List ℕ → Type 0) → Type 0
 Gives old new P = (input : List ℕ) × Consumes old new input × P input
 
--- The reader gave an input. Its lines with a line feed have this property, or all of its lines at
--- the end of the input.
-pub record GivesLines (old new : Option (List ℕ)) (Holds : List (List ℕ) → Type 0) : Type 0 where
+-- The reader gave an input. Its lines with a line feed and the bytes after them have this property,
+-- or all of its lines at the end of the input.
+pub record GivesLines (old new : Option (List ℕ)) (Holds : List (List ℕ) → List ℕ → Type 0) : Type 0 where
   pub input : List ℕ
   pub given : Consumes old new input
-  pub holds : Holds (ended_lines input) ⊎ IsAtEnd new × Holds (lines_of input)
+  pub holds : Holds (ended_lines input) (unended input) ⊎ IsAtEnd new × Holds (lines_of input) []
 
 -- All lines of the input got their replies, and have such a tally.
 abbrev pub AnswersInput : Filter → (Tally → Type 0) → Option (List ℕ) → Option (List ℕ) → Option (List ℕ) → Option (List ℕ) → Type 0
@@ -99,9 +125,9 @@ AnswersInput filter Has r0 r w0 w =
 abbrev pub Ended : Filter → Result Unit Fault → Option (List ℕ) → Option (List ℕ) → Option (List ℕ) → Option (List ℕ) → Type 0
 Ended filter (Ok done) r0 r w0 w = AnswersInput filter (λ tally. tally.first ≡ None) r0 r w0 w
 Ended filter (Err (Unanswered told)) r0 r w0 w = AnswersInput filter (λ tally. (tally ≡ told) × (is_some tally.first ≡ true)) r0 r w0 w
-Ended filter (Err (Write kind)) r0 r w0 w = GivesLines r0 r (λ lines. AnswersFront filter lines w0 w)
-Ended filter (Err Read) r0 r w0 w = Gives r0 r (λ input. (tally : Tally) × AnswersAll filter (ended_lines input) tally w0 w)
-Ended filter (Err (Stopped told)) r0 r w0 w = GivesLines r0 r (λ lines. StopsAt filter told lines w0 w)
+Ended filter (Err (Write kind)) r0 r w0 w = GivesLines r0 r (λ lines rest. AnswersFront filter lines rest w0 w)
+Ended filter (Err Read) r0 r w0 w = Gives r0 r (λ input. AnswersEnded filter input w0 w)
+Ended filter (Err (Stopped told)) r0 r w0 w = GivesLines r0 r (λ lines rest. StopsAt filter told lines w0 w)
 
 -- All lines of the input got their replies.
 abbrev pub IsComplete : Result Unit Fault → Type 0
@@ -114,19 +140,21 @@ abbrev pub Shown : List ℕ → Result Unit Fault → Option (List ℕ) → Opti
 Shown page (Ok done) old new = Appends old new page
 Shown page (Err fault) old new = IsOfWrite fault × AppendsFront old new page
 
--- ---- from the state of a run, over these lines of its input
+-- ---- from the state of a run, over these lines of its input, and the bytes after them
 -- The run ends as after a failed write.
-abbrev pub FailsFrom : Filter → (List ℕ → List (List ℕ)) → Option (List ℕ) → Option (List ℕ) → List ℕ → List ℕ → Progress → Type 0
-FailsFrom filter lines_in old new gathered pending progress =
-    (input : List ℕ) (start : Option (List ℕ)) → Stands (IsReplyTo filter) input start old gathered pending progress → AnswersFront filter (lines_in input) start new
+abbrev pub FailsFrom : Filter → (List ℕ → List (List ℕ)) → (List ℕ → List ℕ) → Option (List ℕ) → Option (List ℕ) → List ℕ → List ℕ → Progress → Type 0
+FailsFrom filter lines_in rest_in old new gathered pending progress =
+    (input : List ℕ) (start : Option (List ℕ)) → Stands (IsReplyTo filter) filter.on_invalid input start old gathered pending progress
+    → AnswersFront filter (lines_in input) (rest_in input) start new
 
 -- The run ends at this line, which has no answer.
 abbrev pub StopsFrom : Filter → UnansweredLine → (List ℕ → List (List ℕ)) → Option (List ℕ) → Option (List ℕ) → List ℕ → List ℕ → Progress → Type 0
 StopsFrom filter told lines_in old new gathered pending progress =
-    (input : List ℕ) (start : Option (List ℕ)) → Stands (IsReplyTo filter) input start old gathered pending progress → StopsAt filter told (lines_in input) start new
+    (input : List ℕ) (start : Option (List ℕ)) → Stands (IsReplyTo filter) filter.on_invalid input start old gathered pending progress
+    → StopsAt filter told (lines_in input) start new
 
 -- The run ends with all lines answered.
 abbrev pub EndsFrom : Filter → Tally → Option (List ℕ) → Option (List ℕ) → List ℕ → List ℕ → Progress → Type 0
 EndsFrom filter tally old new gathered pending progress =
-    (input : List ℕ) (start : Option (List ℕ)) → Stands (IsReplyTo filter) input start old gathered pending progress
+    (input : List ℕ) (start : Option (List ℕ)) → Stands (IsReplyTo filter) filter.on_invalid input start old gathered pending progress
     → AnswersAll filter (lines_of input) tally start new

@@ -5,6 +5,8 @@ use Rattle.std.specs.Io.KnownBytes.{Appends}
 use Rattle.caldate_run.specs.Lines.{is_end}
 use Rattle.caldate_run.specs.Room.{longest_text}
 use Rattle.caldate_run.specs.Shown.{shown, words_shown}
+use Rattle.caldate_run.specs.declared.on_invalid.OnInvalid.{OnInvalid}
+use Rattle.caldate_run.specs.declared.on_invalid.OnInvalid.TheVariants as invalid
 use Rattle.caldate_run.specs.declared.progress.Progress.{Progress}
 use Rattle.caldate_run.specs.declared.shown.ShownText.{ShownText}
 use Rattle.caldate_run.specs.declared.tally.Tally.{Tally}
@@ -35,6 +37,11 @@ IsHeld false kept pending = kept ≡ []
 IsHeld true kept pending =
     (longest_text < length kept) × NoEnd kept × ((first : ℕ) × (more : List ℕ) × (pending ≡ first ∷ more) × (is_end first ≡ false))
 
+-- The bytes of a dropped front that were passed on: in mode `keep` all of them.
+abbrev pub passed : OnInvalid → List ℕ → List ℕ
+passed invalid.Keep kept = kept
+passed mode kept = []
+
 -- A long line with a dropped front shows that front.
 abbrev pub IsShown : Bool → ShownText → List ℕ → Type 0
 IsShown false front kept = ⊤
@@ -50,23 +57,24 @@ AtLine progress line Holds =
     (kept : List ℕ) (before : ℕ) → IsHeld progress.is_long kept line → IsShown progress.is_long progress.front kept
     → progress.tally.lines ≡ counted before → Holds before (kept ++ line)
 
--- Some lines of the input are answered. The writer has their replies, except for the buffered
--- bytes. The bytes after the lines are pending, except for the dropped front of a long line.
-pub record Stands (IsReply : Replies) (input : List ℕ) (start now : Option (List ℕ)) (gathered pending : List ℕ) (progress : Progress) : Type 0 where
+-- Some lines of the input are answered. The writer has their replies and the front that was passed
+-- on, except for the buffered bytes. The bytes after the lines are pending, except for the dropped
+-- front of a long line.
+pub record Stands (IsReply : Replies) (mode : OnInvalid) (input : List ℕ) (start now : Option (List ℕ)) (gathered pending : List ℕ) (progress : Progress) : Type 0 where
   pub lines : List (List ℕ)
   pub kept : List ℕ
   pub out : List ℕ
   pub written : List ℕ
   pub cut : (more : List ℕ) → slice_split is_end (input ++ more) ≡ lines ++ slice_split is_end (kept ++ (pending ++ more))
   pub replies : AreReplies IsReply 0 lines out no_lines progress.tally
-  pub whole : out ≡ written ++ gathered
+  pub whole : out ++ passed mode kept ≡ written ++ gathered
   pub taken : Appends start now written
   pub held : IsHeld progress.is_long kept pending
   pub front : IsShown progress.is_long progress.front kept
   pub number : progress.tally.lines ≡ counted (length lines)
 
 -- The run advances for any input, and for any bytes that the writer held at the start.
-abbrev pub Advances : Replies → Option (List ℕ) → Option (List ℕ) → List ℕ → List ℕ → List ℕ → List ℕ → Progress → Progress → Type 0
-Advances IsReply old new gathered gathered_now pending pending_now progress progress_now =
-    (input : List ℕ) (start : Option (List ℕ)) → Stands IsReply input start old gathered pending progress
-    → Stands IsReply input start new gathered_now pending_now progress_now
+abbrev pub Advances : Replies → OnInvalid → Option (List ℕ) → Option (List ℕ) → List ℕ → List ℕ → List ℕ → List ℕ → Progress → Progress → Type 0
+Advances IsReply mode old new gathered gathered_now pending pending_now progress progress_now =
+    (input : List ℕ) (start : Option (List ℕ)) → Stands IsReply mode input start old gathered pending progress
+    → Stands IsReply mode input start new gathered_now pending_now progress_now

@@ -10,7 +10,7 @@ use crate::listing::list_of;
 use crate::offset::offset_of;
 use crate::on_invalid::OnInvalid;
 use crate::options::{Options, field_of, lacking, options_of, reading_in};
-use crate::request::{Asked, DayMove, Filter, Request, TimeUnit};
+use crate::request::{Asked, DayMove, FieldNumbers, Filter, Request, TimeUnit};
 use crate::senseless::{Senseless, Wanted, senseless_at};
 use crate::spelling::{
     asks_for_help, count_of, form_of, number_of, period_of, unit_of, weekday_of,
@@ -82,7 +82,7 @@ fn filter_of(options: &Options, request: Request) -> Filter
     Filter {
         on_invalid: match options.on_invalid {
             Some(mode) => mode,
-            None => default_mode(&request, options.number),
+            None => default_mode(&request, options.fields),
         },
         request,
         reading: reading_in(options),
@@ -92,10 +92,10 @@ fn filter_of(options: &Options, request: Request) -> Filter
 }
 
 /// Returns what is written for a line without an answer if no option says it.
-fn default_mode(request: &Request, number: Option<u16>) -> OnInvalid
-    ensures { result ≡ default_mode request.now number }
+fn default_mode(request: &Request, fields: Option<FieldNumbers>) -> OnInvalid
+    ensures { result ≡ default_mode request.now fields }
 {
-    match (request, number) {
+    match (request, fields) {
         (Request::Keep(_), _) => OnInvalid::Drop,
         (_, Some(_)) => OnInvalid::Keep,
         (_, None) => OnInvalid::Answer,

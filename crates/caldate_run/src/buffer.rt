@@ -1,6 +1,6 @@
 //! Replies that are written together.
-ghost use Rattle.std.specs.Prelude.{◌≡◌, ◌↔◌, ◌+◌, ◌≤◌, ◌++◌, ◌∷◌, [], length, decimal, drop, take, IsTrue, if◌then◌else◌};
-ghost use Rattle.caldate_run.specs.Room.{HasRoom, longest_reply};
+ghost use Rattle.std.specs.Prelude.{◌≡◌, ◌↔◌, ◌+◌, ◌<◌, ◌≤◌, ◌++◌, ◌∷◌, [], length, decimal, drop, take, IsTrue, if◌then◌else◌};
+ghost use Rattle.caldate_run.specs.Room.{HasRoom, capacity, longest_reply};
 
 use cal_time::ShortText;
 use std::marker::Model;
@@ -61,11 +61,13 @@ impl Buffer {
         &self.bytes[count..self.filled]
     }
 
-    /// Returns whether there is room for a reply.
-    pub fn has_room_for_a_reply(&self) -> bool
-        ensures { IsTrue result ↔ HasRoom longest_reply self.now }
+    /// Returns whether there is room for a reply, and for a line of this length with its end.
+    pub fn has_room_for(&self, length: usize) -> bool
+        requires { length < capacity }
+        ensures { IsTrue result
+            ↔ (HasRoom longest_reply self.now) × (HasRoom (length + 1) self.now) }
     {
-        self.filled <= CAPACITY - LONGEST_REPLY
+        self.filled <= CAPACITY - LONGEST_REPLY && self.filled + length < CAPACITY
     }
 
     /// Appends the bytes.
@@ -82,7 +84,7 @@ impl Buffer {
     /// Appends the end of a line: LF, or CR LF.
     // The compiler copies a constant length without a call.
     pub fn push_end(&mut self, has_return: bool)
-        requires { HasRoom 2 self.old }
+        requires { HasRoom (if has_return then 2 else 1) self.old }
         ensures { self.new ≡ self.old ++ (if has_return then 13 ∷ 10 ∷ [] else 10 ∷ []) }
     {
         if has_return {

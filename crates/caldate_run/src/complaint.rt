@@ -21,7 +21,7 @@ pub const TOO_LONG: &[u8] = b"caldate: arguments too long; expected at most 4096
 
 /// The commands and options for the first argument.
 const COMMANDS: &[u8] =
-    b"; expected to, add, next, last, until, since, start, end, on-or-after, on-or-before, at, keep, list, --date, --invalid, --field, --separator, --skip, --read, --assume, --help or --version";
+    b"; expected to, add, next, last, until, since, start, end, on-or-after, on-or-before, at, keep, list, --date, --invalid, --field, --csv, --separator, --skip, --read, --assume, --help or --version";
 
 /// The commands after an option.
 const LINE_COMMANDS: &[u8] =
@@ -204,7 +204,8 @@ fn names_word(wanted: Wanted) -> bool
     ensures { result ≡ names_word wanted }
 {
     match wanted {
-        Wanted::Something | Wanted::Field | Wanted::Assume | Wanted::Local => false,
+        Wanted::Something | Wanted::Field | Wanted::CsvField | Wanted::CsvSeparator => false,
+        Wanted::Assume | Wanted::Local => false,
         _ => true,
     }
 }
@@ -225,6 +226,8 @@ fn error_phrase(wanted: Wanted) -> &'static [u8]
         Wanted::Something => b"missing command; try 'caldate --help'".as_slice(),
         Wanted::Start => b"unknown command".as_slice(),
         Wanted::Field => b"--separator requires --field".as_slice(),
+        Wanted::CsvField => b"--csv requires --field".as_slice(),
+        Wanted::CsvSeparator => b"--csv can't use a quote as the separator".as_slice(),
         Wanted::Invalid => b"unknown mode".as_slice(),
         Wanted::FieldNumber => b"invalid field number".as_slice(),
         Wanted::Separator => b"invalid separator".as_slice(),
@@ -288,7 +291,8 @@ fn expected_phrase(wanted: Wanted) -> &'static [u8]
         Wanted::Start => COMMANDS,
         Wanted::Verb => LINE_COMMANDS,
         Wanted::Invalid => b"; expected keep, answer, drop or stop".as_slice(),
-        Wanted::FieldNumber => b"; expected an integer from 1 to 65535".as_slice(),
+        Wanted::FieldNumber =>
+            b"; expected an integer from 1 to 65535, or two such as 1-2".as_slice(),
         Wanted::Separator => b"; expected one byte".as_slice(),
         Wanted::Skip => b"; expected an integer from 0 to 9223372036854775807".as_slice(),
         Wanted::Reading => READINGS,

@@ -1,7 +1,11 @@
-//! Laws: a text has one answer, a line has one reply, and all arguments have a reading.
-ghost use Rattle.std.specs.Prelude.{◌≡◌, ℕ, List, Option};
+//! Laws: a text has one answer, a line has one reply, a record has its fields, and all arguments
+//! have a reading.
+ghost use Rattle.std.specs.List.{join_with_byte};
+ghost use Rattle.std.specs.Prelude.{◌≡◌, ◌==◌, ◌<◌, ℕ, List, All, Option, false, length};
 ghost use Rattle.cal_text.specs.declared.any.DateOrMoment.{DateOrMoment};
 ghost use Rattle.caldate_run.specs.Answers.{Answer, IsAnswer};
+ghost use Rattle.caldate_run.specs.Fields.{split_record};
+ghost use Rattle.caldate_run.specs.Records.{IsField};
 ghost use Rattle.caldate_run.specs.Replies.{IsReplyTo};
 ghost use Rattle.caldate_run.specs.Requests.{IsReading, arguments_of};
 ghost use Rattle.caldate_run.specs.declared.tally.Tally.{Tally};
@@ -30,6 +34,15 @@ pub fn one_reply(filter: &Filter, line: &[u8]) -> Option<Result<DateOrMoment, Pa
     let (text, _has_return) = cut_return(line);
     Some(read_in(filter.reading, asked_text(filter.field, text)?))
 }
+
+/// Proves that the fields of a record of RFC 4180 on one line are split at its separators, which
+/// are not quotes.
+#[tactic(auto, using(crate::proofs::RecordFields::fields_are))]
+pub fn record_fields(separator: u8)
+    ensures { (fields : List (List ℕ)) → (34 == separator) ≡ false → 0 < length fields
+        → All (IsField separator) fields
+        → split_record separator false (join_with_byte separator fields) ≡ fields }
+{}
 
 /// Proves that there is a reading of the words of all arguments.
 pub fn have_reading(arguments: &[u8])

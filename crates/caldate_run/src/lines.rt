@@ -1,5 +1,5 @@
 //! The lines of the input.
-ghost use Rattle.std.specs.Prelude.{◌≡◌, ◌∷◌, ◌++◌, ◌<◌, ◌≤◌, ◌==◌, length, position, MatchOption};
+ghost use Rattle.std.specs.Prelude.{◌≡◌, ◌∷◌, ◌+◌, ◌++◌, ◌<◌, ◌≤◌, ◌==◌, length, position, MatchOption, if◌then◌else◌};
 ghost use Rattle.caldate_run.specs.Lines.{has_return, text_of};
 ghost use Rattle.caldate_run.specs.Standing.{NoEnd};
 
@@ -19,6 +19,7 @@ pub fn first_line(bytes: &[u8]) -> Option<(&[u8], &[u8])>
 pub fn cut_return(line: &[u8]) -> (&[u8], bool)
     ensures text { result.0.now ≡ text_of line.now }
     ensures cut { result.1 ≡ has_return line.now }
+    ensures length { length line.now ≡ length result.0.now + (if result.1 then 1 else 0) }
 {
     match line {
         [text @ .., b'\r'] => (text, true),

@@ -29,7 +29,7 @@ pub fn list<W: Sink>(listing: &Listing, writer: &mut W) -> Result<(), Fault>
     let mut buffer = Buffer::new();
     let mut count = 0;
     while let Some(day) = day_within(listing, count) {
-        make_room(&mut buffer, writer)?;
+        make_room(&mut buffer, 0, writer)?;
         push_line(&mut buffer, day);
         count += listing.step.every;
     }

@@ -3,7 +3,7 @@
 /// What is written for a line without an answer.
 #[derive(Clone, Copy, Debug, PartialEq, Eq)]
 pub enum OnInvalid {
-    /// The line itself. The run ends at a line that is too long, because it is not kept.
+    /// The line itself.
     Keep,
     /// The reason, in place of the text to answer.
     Answer,

@@ -1,12 +1,12 @@
 //! The options before a request.
-ghost use Rattle.std.specs.Prelude.{◌≡◌, ◌+◌, ◌≤◌, ◌^◌, IfOk, None, length};
-ghost use Rattle.caldate_run.specs.Requests.{byte_of, field_number_of, field_of, is_local, invalid_of, is_option, lacking, name_of, no_options, options_from, reading_at, reading_of, skip_of, value_in, value_of, with_value, words_left};
+ghost use Rattle.std.specs.Prelude.{◌≡◌, ◌+◌, ◌≤◌, ◌^◌, IfOk, None, length, true};
+ghost use Rattle.caldate_run.specs.Requests.{byte_of, field_number_of, field_numbers_of, field_of, fields_from, is_flag, is_local, invalid_of, is_option, lacking, name_of, no_options, options_from, reading_at, reading_of, skip_of, value_in, value_of, with_value, words_left};
 
 use crate::lines::index_of;
 use crate::offset::offset_of;
 use crate::on_invalid::OnInvalid;
 use crate::reading::Reading;
-use crate::request::{Field, UnixUnit};
+use crate::request::{Field, FieldNumbers, UnixUnit};
 use crate::senseless::{Senseless, Wanted, senseless_at};
 use crate::spelling::number_of;
 use crate::words::cut;
@@ -17,8 +17,10 @@ use cal_time::UtcOffset;
 pub struct Options {
     /// The mode of `--invalid MODE`.
     pub on_invalid: Option<OnInvalid>,
-    /// The number N of `--field N`.
-    pub number: Option<u16>,
+    /// The numbers of `--field N` or `--field N-M`.
+    pub fields: Option<FieldNumbers>,
+    /// Whether `--csv` is given.
+    pub csv: bool,
     /// The byte C of `--separator C`.
     pub separator: Option<u8>,
     /// The number K of `--skip K`.
@@ -32,7 +34,8 @@ pub struct Options {
 /// The options if the arguments have none.
 const NO_OPTIONS: Options = Options {
     on_invalid: None,
-    number: None,
+    fields: None,
+    csv: false,
     separator: None,
     skip: None,
     reading: None,
@@ -72,6 +75,9 @@ fn options_from(
         let more = with_value(options, word, wanted).ok_or(senseless_at(at, wanted))?;
         return options_from(None, &more, at + 1, rest);
     }
+    if is_flag(options, word) {
+        return options_from(None, &with_csv(options), at + 1, rest);
+    }
     if let Some(wanted) = value_of(options, word) {
         return options_from(Some(wanted), options, at + 1, rest);
     }
@@ -103,7 +109,7 @@ fn value_of(options: &Options, word: &[u8]) -> Option<Wanted>
 {
     if word == b"--invalid".as_slice() && options.on_invalid.is_none() {
         Some(Wanted::Invalid)
-    } else if word == b"--field".as_slice() && options.number.is_none() {
+    } else if word == b"--field".as_slice() && options.fields.is_none() {
         Some(Wanted::FieldNumber)
     } else if word == b"--separator".as_slice() && options.separator.is_none() {
         Some(Wanted::Separator)
@@ -118,12 +124,27 @@ fn value_of(options: &Options, word: &[u8]) -> Option<Wanted>
     }
 }
 
+/// Returns whether the word is `--csv`, and not given yet.
+fn is_flag(options: &Options, word: &[u8]) -> bool
+    ensures { result ≡ is_flag options.now word.now }
+{
+    word == b"--csv".as_slice() && !options.csv
+}
+
+fn with_csv(options: &Options) -> Options
+    ensures { result ≡ record options.now { csv = true } }
+{
+    let mut more = *options;
+    more.csv = true;
+    more
+}
+
 /// Returns whether the word is an option that other options may precede, such as `--field`, and
 /// not `--help`.
 pub fn is_option(word: &[u8]) -> bool
     ensures { result ≡ is_option word.now }
 {
-    value_of(&NO_OPTIONS, cut_value(word).0).is_some()
+    is_flag(&NO_OPTIONS, word) || value_of(&NO_OPTIONS, cut_value(word).0).is_some()
 }
 
 /// Sets the option that needs `wanted`, or returns `None` if the value is invalid.
@@ -133,7 +154,7 @@ fn with_value(options: &Options, value: &[u8], wanted: Wanted) -> Option<Options
     let mut more = *options;
     match wanted {
         Wanted::Invalid => more.on_invalid = Some(invalid_of(value)?),
-        Wanted::FieldNumber => more.number = Some(field_number_of(value)?),
+        Wanted::FieldNumber => more.fields = Some(field_numbers_of(value)?),
         Wanted::Separator => more.separator = Some(byte_of(value)?),
         Wanted::Skip => more.skip = Some(skip_of(value)?),
         Wanted::Reading => more.reading = Some(reading_of(value)?),
@@ -158,6 +179,35 @@ fn invalid_of(word: &[u8]) -> Option<OnInvalid>
     } else {
         None
     }
+}
+
+/// Parses `N` or `N-M`, of which M is not less than N.
+fn field_numbers_of(word: &[u8]) -> Option<FieldNumbers>
+    ensures { result ≡ field_numbers_of word.now }
+{
+    match index_of(b'-', word) {
+        Some(at) => {
+            let first = field_number_of(&word[..at])?;
+            fields_from(first, field_number_of(&word[at + 1..])?)
+        }
+        None => Some(FieldNumbers {
+            first: field_number_of(word)?,
+            joined: 0,
+        }),
+    }
+}
+
+/// Returns the numbers from one to the other, if there are any.
+fn fields_from(first: u16, last: u16) -> Option<FieldNumbers>
+    ensures { result ≡ fields_from first last }
+{
+    if last < first {
+        return None;
+    }
+    Some(FieldNumbers {
+        first,
+        joined: last - first,
+    })
 }
 
 /// Parses a number from 1 to 65535.
@@ -213,13 +263,20 @@ fn reading_of(word: &[u8]) -> Option<Reading>
     }
 }
 
-/// Returns the field that the options select. The default separator is a tab.
+/// Returns the fields that the options select. The default separator is a tab, or a comma in CSV.
 pub fn field_of(options: &Options) -> Option<Field>
     ensures { result ≡ field_of options.now }
 {
+    let numbers = options.fields?;
     Some(Field {
-        number: options.number?,
-        separator: options.separator.unwrap_or(b'\t'),
+        first: numbers.first,
+        joined: numbers.joined,
+        separator: match options.separator {
+            Some(separator) => separator,
+            None if options.csv => b',',
+            None => b'\t',
+        },
+        csv: options.csv,
     })
 }
 
@@ -247,8 +304,12 @@ fn is_local(options: &Options) -> bool
 pub fn lacking(options: &Options) -> Option<Wanted>
     ensures { result ≡ lacking options.now }
 {
-    if options.separator.is_some() && options.number.is_none() {
+    if options.separator.is_some() && options.fields.is_none() {
         Some(Wanted::Field)
+    } else if options.csv && options.fields.is_none() {
+        Some(Wanted::CsvField)
+    } else if options.csv && options.separator == Some(b'"') {
+        Some(Wanted::CsvSeparator)
     } else if is_local(options) && options.offset.is_none() {
         Some(Wanted::Assume)
     } else if options.offset.is_some() && !is_local(options) {

@@ -24,7 +24,7 @@ pub fn list_occurrences<W: Sink>(asked: &Occurrences, writer: &mut W) -> Result<
     let mut buffer = Buffer::new();
     let mut days = asked.recurrence.days(asked.first);
     while let Some(day) = next_within(&mut days, asked.last) {
-        make_room(&mut buffer, writer)?;
+        make_room(&mut buffer, 0, writer)?;
         push_line(&mut buffer, day);
     }
     write_all(writer, buffer.as_bytes())

@@ -1,8 +1,8 @@
 //! The reply to a line.
-ghost use Rattle.std.specs.Prelude.{◌≡◌, ◌⊎◌, ◌+◌, ◌<◌, ◌≤◌, ◌++◌, ◌∷◌, [], ℕ, List, Some, Err, false, true, is_some, length, unwrap_or, IfErr, OnErr, OnOk, if◌then◌else◌};
+ghost use Rattle.std.specs.Prelude.{◌≡◌, ◌⊎◌, ◌+◌, ◌<◌, ◌≤◌, ◌++◌, ◌∷◌, [], ℕ, List, Some, Err, false, true, is_some, length, max, unwrap_or, IfErr, OnErr, OnOk, if◌then◌else◌};
 ghost use Rattle.caldate_run.specs.Fields.{text_with};
 ghost use Rattle.caldate_run.specs.Lines.{has_return, text_of};
-ghost use Rattle.caldate_run.specs.Replies.{Describes, EndsAt, IsAnswerOf, IsAnswerToText, IsReplyTo, ends_at, in_place, more, reason, with_reason};
+ghost use Rattle.caldate_run.specs.Replies.{Describes, EndsAt, IsAnswerOf, IsAnswerToText, IsReplyTo, in_place, more, reason, stops, with_reason};
 ghost use Rattle.caldate_run.specs.Room.{HasRoom, longest_answer, longest_reply, longest_text};
 ghost use Rattle.caldate_run.specs.Runs.{AppendsThat, Puts, Replied};
 ghost use Rattle.caldate_run.specs.Standing.{AtLine, counted};
@@ -25,9 +25,10 @@ pub fn push_reply(
     progress: &mut Progress,
     line: &[u8],
 ) -> Result<(), UnansweredLine>
-    requires { HasRoom longest_reply buffer.old }
-    ensures replied { OnOk result (Replied (IsReplyTo filter.now) progress.old progress.new.tally
-        line.now buffer.old buffer.new) }
+    requires room { HasRoom longest_reply buffer.old }
+    requires line { HasRoom (length line.now + 1) buffer.old }
+    ensures replied { OnOk result (Replied (IsReplyTo filter.now) filter.now.on_invalid progress.old
+        progress.new.tally line.now buffer.old buffer.new) }
     ensures counted { OnOk result (progress.new.tally.lines ≡ more progress.old.tally.lines) }
     ensures short { OnOk result (progress.new.is_long ≡ false) }
     ensures ends { IfErr result (λ told. AtLine progress.old line.now
@@ -58,6 +59,7 @@ fn push_line(
         (λ before whole. Puts (IsAnswerOf filter.now before (text_of whole)) result buffer.old
         buffer.new) }
     ensures same { OnErr result (buffer.new ≡ buffer.old) }
+    ensures whole { OnOk result (progress.now.is_long ≡ false) }
     ensures fits { IfErr result (λ why.
         progress.now.is_long ≡ true ⊎ longest_text < length text.now → why ≡ NoAnswer.TooLong) }
     ensures short { length buffer.new ≤ length buffer.old + longest_text + longest_answer }
@@ -80,22 +82,23 @@ fn push_unanswered(
     why: NoAnswer,
 ) -> Result<(), UnansweredLine>
     requires room { HasRoom longest_reply buffer.old }
+    requires line { HasRoom (length text.now + (if with_return then 2 else 1)) buffer.old }
     requires fits { progress.old.is_long ≡ true ⊎ longest_text < length text.now
         → why ≡ NoAnswer.TooLong }
     ensures replied { OnOk result ((line : List ℕ) → text.now ≡ text_of line
-        → with_return ≡ has_return line → AtLine progress.old line (λ before whole.
-        IsAnswerOf filter.now before (text_of whole) (Err why) → AppendsThat
-        (λ reply. IsReplyTo filter.now before whole reply progress.old.tally progress.new.tally)
-        buffer.old buffer.new)) }
+        → with_return ≡ has_return line
+        → AtLine progress.old line (λ before whole. IsAnswerOf filter.now before (text_of whole) (Err why))
+        → Replied (IsReplyTo filter.now) filter.now.on_invalid progress.old progress.new.tally
+        line buffer.old buffer.new) }
     ensures counted { OnOk result (progress.new.tally.lines ≡ more progress.old.tally.lines) }
     ensures short { OnOk result (progress.new.is_long ≡ false) }
-    ensures ends { IfErr result (λ told. (ends_at filter.now.on_invalid why ≡ true)
+    ensures ends { IfErr result (λ told. (stops filter.now.on_invalid ≡ true)
         × ((line : List ℕ) → text.now ≡ text_of line → AtLine progress.old line
         (λ before whole. Describes before whole why told))) }
     ensures same { OnErr result (buffer.new ≡ buffer.old) }
 {
     let told = describe(progress, text, why);
-    if ends_at(filter.on_invalid, why) {
+    if stops(filter.on_invalid) {
         return Err(told);
     }
     let goes_out = push_in_place(buffer, filter, text, why);
@@ -107,7 +110,7 @@ fn push_unanswered(
 
 /// Appends the end of a line that goes out.
 fn push_end(buffer: &mut Buffer, goes_out: bool, with_return: bool)
-    requires { HasRoom 2 buffer.old }
+    requires { HasRoom (if goes_out then (if with_return then 2 else 1) else 0) buffer.old }
     ensures { buffer.new ≡ buffer.old ++ (if goes_out
         then (if with_return then 13 ∷ 10 ∷ [] else 10 ∷ []) else []) }
 {
@@ -128,25 +131,23 @@ fn describe(progress: &Progress, text: &[u8], why: NoAnswer) -> UnansweredLine
     }
 }
 
-/// Returns whether the run ends at a line that has no answer for this reason.
-fn ends_at(on_invalid: OnInvalid, why: NoAnswer) -> bool
-    ensures { result ≡ ends_at on_invalid why }
+/// Returns whether the run ends at a line without an answer.
+fn stops(on_invalid: OnInvalid) -> bool
+    ensures { result ≡ stops on_invalid }
 {
-    match (on_invalid, why) {
-        (OnInvalid::Stop, _) | (OnInvalid::Keep, NoAnswer::TooLong) => true,
-        _ => false,
-    }
+    on_invalid == OnInvalid::Stop
 }
 
 /// Appends what goes out in place of an answer, and returns whether the line goes out.
 fn push_in_place(buffer: &mut Buffer, filter: &Filter, text: &[u8], why: NoAnswer) -> bool
     requires room { HasRoom longest_reply buffer.old }
-    requires goes_on { ends_at filter.now.on_invalid why ≡ false }
+    requires line { HasRoom (length text.now) buffer.old }
     requires fits { longest_text < length text.now → why ≡ NoAnswer.TooLong }
     ensures text { buffer.new ≡ buffer.old
         ++ unwrap_or (in_place filter.now.on_invalid filter.now text.now why) [] }
     ensures goes_out { result ≡ is_some (in_place filter.now.on_invalid filter.now text.now why) }
-    ensures short { length buffer.new ≤ length buffer.old + longest_text + longest_answer }
+    ensures short { length buffer.new
+        ≤ length buffer.old + max (length text.now) (longest_text + longest_answer) }
 {
     match filter.on_invalid {
         OnInvalid::Keep => {

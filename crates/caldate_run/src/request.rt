@@ -111,13 +111,26 @@ pub enum Request {
     Keep(Bounds),
 }
 
-/// A field of a line.
+/// The numbers of one field, or of neighbouring fields.
+#[derive(Clone, Copy)]
+pub struct FieldNumbers {
+    /// The number of the first field, counted from 1.
+    pub first: u16,
+    /// How many fields after the first one are joined to it.
+    pub joined: u16,
+}
+
+/// One field of a line, or neighbouring fields.
 #[derive(Clone, Copy)]
 pub struct Field {
-    /// The number of the field, counted from 1.
-    pub number: u16,
+    /// The number of the first field, counted from 1.
+    pub first: u16,
+    /// How many fields after the first one are joined to it.
+    pub joined: u16,
     /// The byte between two fields.
     pub separator: u8,
+    /// Whether the line is a CSV record: a separator within quotes ends no field.
+    pub csv: bool,
 }
 
 /// A request with its options.

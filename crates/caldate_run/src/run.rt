@@ -1,18 +1,19 @@
 //! Runs: the answers to the lines of an input of any length.
-ghost use Rattle.std.specs.Prelude.{◌≡◌, ◌≤◌, ◌+◌, ◌-◌, ◌++◌, ℕ, List, [], false, true, is_some, length, drop, None, Option, OnOk, OnErr, IfOk, IfErr, IsErrAnd, IsErrOf};
+ghost use Rattle.std.specs.Prelude.{◌≡◌, ◌<◌, ◌≤◌, ◌+◌, ◌-◌, ◌++◌, ℕ, List, [], false, true, is_some, length, drop, None, Option, OnOk, OnErr, IfOk, IfErr, IsErrAnd, IsErrOf};
 ghost use Rattle.std.specs.Io.KnownBytes.{Appends};
 ghost use Rattle.caldate_run.specs.Calls.{Reads, Writes, has_read_failure, kind_of, most_reads, write_failure};
-ghost use Rattle.caldate_run.specs.Lines.{ended_lines, lines_of};
+ghost use Rattle.caldate_run.specs.Lines.{ended_lines, lines_of, unended};
 ghost use Rattle.caldate_run.specs.Replies.{IsReplyTo};
-ghost use Rattle.caldate_run.specs.Room.{HasRoom, longest_reply, longest_text};
+ghost use Rattle.caldate_run.specs.Room.{HasRoom, capacity, longest_reply, longest_text};
 ghost use Rattle.caldate_run.specs.Runs.{AppendsFront, Ended, EndsFrom, FailsFrom, IsEarly, IsOfWrite, StopsFrom};
-ghost use Rattle.caldate_run.specs.Standing.{Advances, NoEnd};
+ghost use Rattle.caldate_run.specs.Standing.{Advances, NoEnd, passed};
 ghost use Rattle.caldate_run.specs.declared.unanswered.UnansweredLine.{UnansweredLine};
 
 use crate::buffer::Buffer;
 use crate::fault::Fault;
 use crate::input::Input;
 use crate::lines::first_line;
+use crate::on_invalid::OnInvalid;
 use crate::output::write_all;
 use crate::progress::Progress;
 use crate::reply::push_reply;
@@ -72,8 +73,8 @@ pub fn run<R: Source, W: Sink>(filter: Filter, reader: &mut R, writer: &mut W) -
             Err(fault) => return Err(fault),
         };
         input.keep_last(left);
-        let_go(&mut input, &mut progress);
         flush(&mut buffer, writer)?;
+        let_go(&filter, &mut input, &mut progress, writer)?;
         reads -= 1;
     }
     Err(Fault::Read)
@@ -88,14 +89,15 @@ fn answer_lines<W: Sink>(
     writer: &mut W,
     bytes: &[u8],
 ) -> Result<usize, Fault>
+    requires { length bytes.now ≤ capacity }
     ensures within { IfOk result (λ left. left ≤ length bytes.now) }
     ensures no_end { IfOk result (λ left. NoEnd (drop (length bytes.now - left) bytes.now)) }
     ensures ok { IfOk result (λ left.
-        Advances (IsReplyTo filter.now) (W.contents writer.old)
+        Advances (IsReplyTo filter.now) filter.now.on_invalid (W.contents writer.old)
         (W.contents writer.new) buffer.old buffer.new
         bytes.now (drop (length bytes.now - left) bytes.now) progress.old progress.new) }
     ensures write { IsErrAnd result IsOfWrite
-        → FailsFrom filter.now ended_lines (W.contents writer.old)
+        → FailsFrom filter.now ended_lines unended (W.contents writer.old)
         (W.contents writer.new) buffer.old bytes.now progress.old }
     ensures stopped { (told : UnansweredLine) → IsErrOf result (Fault.Stopped told)
         → StopsFrom filter.now told ended_lines (W.contents writer.old)
@@ -105,7 +107,7 @@ fn answer_lines<W: Sink>(
 {
     let mut rest = bytes;
     while let Some((line, after)) = first_line(rest) {
-        make_room(buffer, writer)?;
+        make_room(buffer, line.len(), writer)?;
         match push_reply(buffer, filter, progress, line) {
             Ok(()) => {}
             Err(told) => return Err(stop(told, buffer, writer)),
@@ -142,10 +144,11 @@ fn answer_last<W: Sink>(
 ) -> Result<(), Fault>
     requires no_end { NoEnd line.now }
     requires none { buffer.old ≡ [] }
+    requires few { length line.now ≤ longest_text + 1 }
     ensures ok { OnOk result (EndsFrom filter.now progress.new.tally (W.contents writer.old)
         (W.contents writer.new) [] line.now progress.old) }
     ensures write { IsErrAnd result IsOfWrite
-        → FailsFrom filter.now lines_of (W.contents writer.old)
+        → FailsFrom filter.now lines_of (λ _. []) (W.contents writer.old)
         (W.contents writer.new) [] line.now progress.old }
     ensures stopped { (told : UnansweredLine) → IsErrOf result (Fault.Stopped told)
         → StopsFrom filter.now told lines_of (W.contents writer.old)
@@ -176,27 +179,61 @@ fn outcome(tally: &Tally) -> Result<(), Fault>
     }
 }
 
-/// Drops a line that is too long except for its last byte, which may be a carriage return.
-#[tactic(auto, using(crate::proofs::Steps::let_go))]
-fn let_go(input: &mut Input, progress: &mut Progress)
+/// Drops a line that is too long except for its last byte, which may be a carriage return. In mode
+/// `keep`, passes on what it drops.
+#[tactic(auto, using(crate::proofs::Calls::no_writes))]
+fn let_go<W: Sink>(
+    filter: &Filter,
+    input: &mut Input,
+    progress: &mut Progress,
+    writer: &mut W,
+) -> Result<(), Fault>
     requires { NoEnd input.old }
-    ensures few { length input.new ≤ longest_text + 1 }
-    ensures no_end { NoEnd input.new }
-    ensures advances { (filter : Filter) (now : Option (List ℕ)) (buffer : List ℕ)
-        → Advances (IsReplyTo filter) now now buffer buffer input.old input.new progress.old
-        progress.new }
+    ensures few { OnOk result (length input.new ≤ longest_text + 1) }
+    ensures no_end { OnOk result (NoEnd input.new) }
+    ensures advances { OnOk result (Advances (IsReplyTo filter.now) filter.now.on_invalid
+        (W.contents writer.old) (W.contents writer.new) [] [] input.old input.new progress.old
+        progress.new) }
+    ensures failed { OnErr result (FailsFrom filter.now ended_lines unended
+        (W.contents writer.old) (W.contents writer.new) [] input.old progress.old) }
+    ensures err { IfErr result IsOfWrite }
+    ensures writes { Writes W.write_gives writer.old (write_failure result) writer.new }
 {
     if input.len() > MOST_KEPT {
+        let bytes = input.as_bytes();
+        pass_on(filter.on_invalid, &bytes[..bytes.len() - 1], writer)?;
         progress.front = progress.shown(input.as_bytes());
         input.keep_last(1);
         progress.is_long = true;
     }
+    Ok(())
 }
 
-/// Writes the buffer if it has no room for a reply.
+/// Writes the bytes in mode `keep`.
+#[tactic(auto, using(crate::proofs::Calls::no_writes, crate::proofs::Calls::sent_all))]
+fn pass_on<W: Sink>(on_invalid: OnInvalid, bytes: &[u8], writer: &mut W) -> Result<(), Fault>
+    ensures ok { OnOk result (Appends (W.contents writer.old) (W.contents writer.new)
+        (passed on_invalid bytes.now)) }
+    ensures front { OnErr result (AppendsFront (W.contents writer.old)
+        (W.contents writer.new) bytes.now) }
+    ensures mode { OnErr result (on_invalid ≡ OnInvalid.Keep) }
+    ensures err { IfErr result IsOfWrite }
+    ensures writes { Writes W.write_gives writer.old (write_failure result) writer.new }
+{
+    match on_invalid {
+        OnInvalid::Keep => write_all(writer, bytes),
+        OnInvalid::Answer => Ok(()),
+        OnInvalid::Drop => Ok(()),
+        OnInvalid::Stop => Ok(()),
+    }
+}
+
+/// Writes the buffer if it has no room for a reply, or for a line of this length with its end.
 #[tactic(auto, using(crate::proofs::Calls::no_writes))]
-pub fn make_room<W: Sink>(buffer: &mut Buffer, writer: &mut W) -> Result<(), Fault>
+pub fn make_room<W: Sink>(buffer: &mut Buffer, length: usize, writer: &mut W) -> Result<(), Fault>
+    requires { length < capacity }
     ensures room { OnOk result (HasRoom longest_reply buffer.new) }
+    ensures line { OnOk result (HasRoom (length + 1) buffer.new) }
     ensures ok { OnOk result ((written : List ℕ) × (buffer.old ≡ written ++ buffer.new)
         × Appends (W.contents writer.old) (W.contents writer.new) written) }
     ensures front { OnErr result (AppendsFront (W.contents writer.old)
@@ -204,7 +241,7 @@ pub fn make_room<W: Sink>(buffer: &mut Buffer, writer: &mut W) -> Result<(), Fau
     ensures err { IfErr result IsOfWrite }
     ensures writes { Writes W.write_gives writer.old (write_failure result) writer.new }
 {
-    if !buffer.has_room_for_a_reply() {
+    if !buffer.has_room_for(length) {
         flush(buffer, writer)?;
     }
     Ok(())

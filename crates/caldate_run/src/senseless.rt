@@ -13,9 +13,13 @@ pub enum Wanted {
     Verb,
     /// `--field`, which `--separator` requires.
     Field,
+    /// `--field`, which `--csv` requires.
+    CsvField,
+    /// A separator other than a quote, which `--csv` requires.
+    CsvSeparator,
     /// A mode of `--invalid`, such as `keep`.
     Invalid,
-    /// A number from 1 to 65535.
+    /// A number from 1 to 65535, or two such numbers.
     FieldNumber,
     /// One byte.
     Separator,

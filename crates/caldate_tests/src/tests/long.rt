@@ -80,18 +80,52 @@ fn a_long_line_ends_a_run(rt: HostRuntime) -> Result<(), Fail> {
     Ok(())
 }
 
-// A line of 2000000 bytes isn't at its end when a read fails.
+#[test]
+fn a_long_line_is_kept(rt: HostRuntime) -> Result<(), Fail> {
+    for length in [
+        4095usize, 4096, 4097, 4098, 65_535, 65_536, 65_537, 131_072, 200_000,
+    ] {
+        let words = if length > 4096 {
+            b"caldate: 1 of 3 lines has no answer; first: line 2: line too long: ".as_slice()
+        } else {
+            b"caldate: 1 of 3 lines has no answer; first: line 2: unreadable at 0: ".as_slice()
+        };
+        let told = repeated(rt.alloc(), words, b'x', 80, b"\n")?;
+        for line_end in [b"\n2024-060\n".as_slice(), b"\r\n2024-060\r\n".as_slice()] {
+            let answered = if line_end.len() == 10 {
+                b"\n2024-02-29\n".as_slice()
+            } else {
+                b"\r\n2024-02-29\r\n".as_slice()
+            };
+            let input = repeated(rt.alloc(), b"2024-060\n", b'x', length, line_end)?;
+            let written = repeated(rt.alloc(), b"2024-02-29\n", b'x', length, answered)?;
+            for most in [1000, 4096, 4097, 65_536] {
+                let arguments = b"--invalid\0keep\0to\0calendar".as_slice();
+                check_chunks(&rt, arguments, &input, most, &written, &told);
+            }
+        }
+    }
+    Ok(())
+}
+
+// A line of 2000000 bytes isn't at its end when a read fails. Each read leaves one byte of it.
 #[test]
 fn an_endless_line_is_read_in_place(rt: HostRuntime) -> Result<(), Fail> {
     let input = repeated(rt.alloc(), b"", b'2', 2_000_000, b"")?;
-    let reader = Dripping {
-        rest: &input,
-        most: usize::MAX,
-        fine: 20,
-        failures: 1,
-        kind: ErrorKind::Other,
-    };
+    let passed = repeated(rt.alloc(), b"", b'2', 20 * 65_535, b"")?;
     let told = b"caldate: cannot read standard input\n".as_slice();
-    check_run(&rt, b"to\0calendar", reader, b"", 2, told);
+    for (arguments, written) in [
+        (b"to\0calendar".as_slice(), b"".as_slice()),
+        (b"--field\01\0to\0calendar".as_slice(), passed.as_slice()),
+    ] {
+        let reader = Dripping {
+            rest: &input,
+            most: usize::MAX,
+            fine: 20,
+            failures: 1,
+            kind: ErrorKind::Other,
+        };
+        check_run(&rt, arguments, reader, written, 2, told);
+    }
     Ok(())
 }

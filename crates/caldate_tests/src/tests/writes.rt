@@ -1,6 +1,6 @@
 //! Runs over writers that take one byte in each call, are interrupted or fail.
-use crate::tests::run_by;
-use crate::tests::streams::Sipping;
+use crate::tests::streams::{Dripping, Sipping};
+use crate::tests::{repeated, run_by};
 use caldate_run::ending::end;
 use caldate_run::fault::Fault;
 use caldate_run::no_answer::NoAnswer;
@@ -10,6 +10,7 @@ use caldate_run::tally::Tally;
 use caldate_run::unanswered::UnansweredLine;
 use std::io::ErrorKind;
 use std::process::Abort;
+use std::test::Fail;
 
 const INPUT: &[u8] = b"2024-060\n2024-366\r\nJ2460370\n2024-W09-4";
 
@@ -67,6 +68,33 @@ fn each_write_fails_in_turn(rt: HostRuntime) {
     check_each_write(&rt, b"to\0calendar", ANSWERS);
     let days = b"2024-02-28\n2024-02-29\n2024-03-01\n".as_slice();
     check_each_write(&rt, b"list\0from\02024-02-28\0to\02024-03-01", days);
+}
+
+// A long line is passed on up to the write that fails.
+#[test]
+fn a_write_fails_within_a_long_line(rt: HostRuntime) -> Result<(), Fail> {
+    let input = repeated(rt.alloc(), b"2024-02-29\n", b'x', 9000, b"\n")?;
+    for most in [1000usize, 65_536] {
+        for fine in [0usize, 10, 11, 12, 4107, 4108, 9010, 9011] {
+            let mut reader = Dripping {
+                rest: &input,
+                most,
+                fine: usize::MAX,
+                failures: 0,
+                kind: ErrorKind::Other,
+            };
+            let mut writer = Sipping {
+                taken: Vec::new(rt.alloc()),
+                fine,
+                failures: 1,
+                kind: Some(ErrorKind::StorageFull),
+            };
+            let outcome = run_by(b"--field\01\0to\0calendar", &mut reader, &mut writer);
+            assert!(rt; outcome == Err(Fault::Write(ErrorKind::StorageFull)));
+            assert!(rt; writer.taken.len() == fine && input.starts_with(&writer.taken));
+        }
+    }
+    Ok(())
 }
 
 // The status is the same if standard error fails, and the message stops at the failed write.

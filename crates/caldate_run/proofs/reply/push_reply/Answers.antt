@@ -1,15 +1,19 @@
-use Rattle.std.proofs.Common.{◌∙◌, ◌++◌, Err, ap, refl, subst, sym}
+use Rattle.std.proofs.Common.{◌≡◌, ◌++◌, [], ℕ, Bool, List, Err, false, refl, subst, sym}
 use Rattle.std.proofs.lemmas.Result.{IfErr-weaker}
 use Rattle.caldate_run.specs.Lines.{text_of}
-use Rattle.caldate_run.specs.Replies.{IsAnswerOf, ends_at}
+use Rattle.caldate_run.specs.Replies.{IsAnswerOf}
+use Rattle.caldate_run.specs.Standing.{IsHeld}
 use Rattle.caldate_run.proofs.Replied.{replied, replied_without}
 use Rattle.caldate_run.proofs.reply.push_reply.Goals as goal
+
+held_none : (b : Bool) (kept line : List ℕ) → b ≡ false → IsHeld b kept line → kept ≡ []
+held_none b kept line e h = subst (λ b. IsHeld b kept line) e h
 
 pub returns-in-Ok-clause-replied : goal.returns-in-Ok-clause-replied
 returns-in-Ok-clause-replied c = λ kept before held front number.
     let line = c.args.line.now in
-    replied c.args.filter.now before c.args.progress.now.is_long kept line c.args.buffer.now c.push_line.new.buffer c.push_end.new.buffer c.in-Ok.goes_out _
-    c.args.progress.now.tally c.count.new.self held (c.in-Ok.ensures.answered line c.cut_return-has_return.ensures.text kept before held front number)
+    replied c.args.filter.now before kept line c.args.buffer.now c.push_line.new.buffer c.push_end.new.buffer c.in-Ok.goes_out _
+    c.args.progress.now.tally c.count.new.self (held_none _ kept line c.in-Ok.ensures.whole held) (c.in-Ok.ensures.answered line c.cut_return-has_return.ensures.text kept before held front number)
     c.cut_return-has_return.ensures.cut c.push_end.ensures c.count.ensures
 
 pub returns-in-Err-clause-replied : goal.returns-in-Err-clause-replied
@@ -28,6 +32,6 @@ returns-in-Err-clause-ends c =
     let described = is.1 line cut.text kept before held front number in
     record {
       is = subst (λ w. IsAnswerOf filter before (text_of (kept ++ line)) (Err w)) (sym described.why_is) put.1;
-      ends = ap (ends_at filter.on_invalid) described.why_is ∙ is.0;
+      ends = is.0;
       told_is = record { number_is = described.number_is; why_is = refl; text_is = described.text_is };
     }) c.push_unanswered.ensures.ends

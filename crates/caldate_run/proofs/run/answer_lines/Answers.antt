@@ -15,7 +15,7 @@ returns-in_err-make_room-clause-write g c = λ h input start s.
 pub returns-in-Err-clause-write : goal.returns-in-Err-clause-write
 returns-in-Err-clause-write g c = λ h input start s.
     let room = c.in_ok-make_room.ensures.ok in
-    let s = gone (IsReplyTo c.args.filter.now) input start _ _ c.loop-line.buffer c.make_room.new.buffer room.0 c.loop-line.rest.now c.loop-line.progress room.1 room.2 (c.loop-line.invariant.1 input start s) in
+    let s = gone (IsReplyTo c.args.filter.now) c.args.filter.now.on_invalid input start _ _ c.loop-line.buffer c.make_room.new.buffer room.0 c.loop-line.rest.now c.loop-line.progress room.1 room.2 (c.loop-line.invariant.1 input start s) in
     failed c.args.filter.now input start _ _ c.make_room.new.buffer c.loop-line.rest.now c.loop-line.progress
     (subst (AppendsFront (g.W.Sink.contents c.make_room.new.writer) (g.W.Sink.contents c.stop.new.writer)) c.in-Err.ensures.same (c.stop.ensures.write h)) s
 
@@ -23,7 +23,7 @@ pub returns-in-Err-clause-stopped : goal.returns-in-Err-clause-stopped
 returns-in-Err-clause-stopped g c = λ told h input start s.
     let room = c.in_ok-make_room.ensures.ok in
     let went = c.stop.ensures.stopped told (same_fault c.stop.result (Stopped told) h) in
-    let s = gone (IsReplyTo c.args.filter.now) input start _ _ c.loop-line.buffer c.make_room.new.buffer room.0 c.loop-line.rest.now c.loop-line.progress room.1 room.2 (c.loop-line.invariant.1 input start s) in
+    let s = gone (IsReplyTo c.args.filter.now) c.args.filter.now.on_invalid input start _ _ c.loop-line.buffer c.make_room.new.buffer room.0 c.loop-line.rest.now c.loop-line.progress room.1 room.2 (c.loop-line.invariant.1 input start s) in
     stopped c.args.filter.now input start _ _ c.make_room.new.buffer c.loop-line.rest.now c.in-Some.line.now c.in-Some.after.now c.loop-line.progress told
     c.in-Some.ensures.parts.0 c.in-Some.ensures.parts.1
     (subst (Ends c.args.filter.now c.loop-line.progress c.in-Some.line.now) (sym went.0) c.in-Err.ensures.ends)
@@ -39,8 +39,8 @@ loop-line-preserved g c =
     let reply = c.in-Ok.ensures.replied in (
       (front ++ (line ++ 10 ∷ []), c.loop-line.invariant.0.1 ∙ ap (λ rest. front ++ rest) (parts.1 ∙ sym (append_assoc line (10 ∷ []) after)) ∙ sym (append_assoc front (line ++ 10 ∷ []) after)),
       λ input start s.
-          answered (IsReplyTo c.args.filter.now) input start _ c.make_room.new.buffer c.push_reply.new.buffer c.loop-line.rest.now line after c.loop-line.progress _ parts.0 parts.1 reply
+          answered (IsReplyTo c.args.filter.now) c.args.filter.now.on_invalid input start _ c.make_room.new.buffer c.push_reply.new.buffer c.loop-line.rest.now line after c.loop-line.progress _ parts.0 parts.1 reply
           c.in-Ok.ensures.short c.in-Ok.ensures.counted
-          (gone (IsReplyTo c.args.filter.now) input start _ _ c.loop-line.buffer c.make_room.new.buffer room.0 c.loop-line.rest.now c.loop-line.progress room.1 room.2 (c.loop-line.invariant.1 input start s)),
+          (gone (IsReplyTo c.args.filter.now) c.args.filter.now.on_invalid input start _ _ c.loop-line.buffer c.make_room.new.buffer room.0 c.loop-line.rest.now c.loop-line.progress room.1 room.2 (c.loop-line.invariant.1 input start s)),
       writes_then _ _ _ _ _ c.loop-line.invariant.2 c.in_ok-make_room.ensures.writes,
     )
