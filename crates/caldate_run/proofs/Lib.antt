@@ -24,4 +24,5 @@ pub mod NumberTemplates
 pub mod PartTexts
 pub mod LastBytes
 pub mod FrontDays
-pub mod SomeReading
+pub mod SomeMeanings
+pub mod Printed

@@ -4,8 +4,8 @@ ghost use Rattle.cal_datetime.specs.OffsetDateTime.{LocalAndOffset};
 ghost use Rattle.cal_text.specs.AnyForm.{date_text};
 ghost use Rattle.caldate_run.specs.Answers.{IsAnswer, IsAnswerTo, IsAt, IsBetween, IsDayLater, IsLater, IsMomentLater, IsMoved, form_read, is_date, leaves_out, moment_of, on_day, until_text};
 ghost use Rattle.caldate_run.specs.Bounds.{lies_in};
-ghost use Rattle.caldate_run.specs.Forms.{IsInForm};
-ghost use Rattle.caldate_run.specs.Replies.{reason, reason_of, refused_text};
+ghost use Rattle.caldate_run.specs.Forms.{IsInForm, format_text};
+ghost use Rattle.caldate_run.specs.Replies.{reason, refused_text};
 ghost use Rattle.caldate_run.specs.Room.{HasRoom, longest_answer};
 ghost use Rattle.caldate_run.specs.Runs.{AppendsThat, Puts};
 
@@ -15,18 +15,22 @@ use crate::counts::count_between;
 use crate::forms::{basic_text, month_text, quarter_text, unix_text};
 use crate::moves::led_to;
 use crate::no_answer::NoAnswer;
-use crate::reading::read_in;
+use crate::reading::read;
 use crate::request::{Bounds, DayMove, Filter, Form, Request, TimeUnit};
 use crate::signed::signed_text;
 use cal_datetime::OffsetDateTime;
+use cal_format::Format;
 use cal_text::date::{CalendarText, OrdinalText, WeekText};
 use cal_text::julian_day::JulianText;
-use cal_text::{DateForm, DateOrMoment, MomentForm, ParseError, rfc3339, unix};
+use cal_text::{DateForm, DateOrMoment, MomentForm, rfc3339, unix};
 use cal_time::error::ComponentRange;
 use cal_time::{Date, ShortText, SignedDuration, Time, UtcOffset};
 
 /// The maximum length of the text of a line, in bytes.
 pub const LONGEST_TEXT: usize = 4096;
+
+/// The maximum length of a text that a format prints: 10 bytes for each of 64 items.
+const LONGEST_PRINTED: usize = 640;
 
 /// Appends the answer to `text`, and returns whether its line goes out.
 pub fn push_answer(buffer: &mut Buffer, filter: &Filter, text: &[u8]) -> Result<bool, NoAnswer>
@@ -34,9 +38,9 @@ pub fn push_answer(buffer: &mut Buffer, filter: &Filter, text: &[u8]) -> Result<
     ensures answered { Puts (IsAnswer filter.now text.now) result buffer.old buffer.new }
     ensures short { length buffer.new ≤ length buffer.old + length text.now + longest_answer }
 {
-    let found = match read_in(filter.reading, text) {
+    let found = match read(filter.readers.as_slice(), filter.offset, text) {
         Ok(found) => found,
-        Err(error) => return Err(reason_of(error)),
+        Err(why) => return Err(why),
     };
     if push_answer_to(buffer, &filter.request, text, &found) {
         Ok(true)
@@ -44,18 +48,6 @@ pub fn push_answer(buffer: &mut Buffer, filter: &Filter, text: &[u8]) -> Result<
         Ok(false)
     } else {
         Err(NoAnswer::None)
-    }
-}
-
-/// Returns the reason why a text can't be read.
-fn reason_of(error: ParseError) -> NoAnswer
-    ensures { result ≡ reason_of error }
-{
-    match error {
-        ParseError::UnexpectedByte(position) | ParseError::UnexpectedEnd(position) => {
-            NoAnswer::Unreadable(position)
-        }
-        ParseError::OutOfRange(component) => NoAnswer::Rejected(component),
     }
 }
 
@@ -68,6 +60,7 @@ pub fn push_reason(buffer: &mut Buffer, why: NoAnswer)
     match why {
         NoAnswer::TooLong => buffer.push(b"line too long"),
         NoAnswer::NoField => buffer.push(b"no such field"),
+        NoAnswer::NoForm => buffer.push(b"in no form of --read"),
         NoAnswer::None => buffer.push(b"none"),
         NoAnswer::Rejected(component) => push_refusal(buffer, component),
         NoAnswer::Unreadable(position) => {
@@ -103,6 +96,10 @@ fn push_answer_to(buffer: &mut Buffer, request: &Request, text: &[u8], found: &D
     let form = form_read(found);
     match request {
         Request::To(form) => push_in_form(buffer, *form, moment),
+        Request::Print(format) => {
+            push_printed(buffer, format, moment);
+            true
+        }
         Request::Add(duration) => match later(found, *duration) {
             Some(later) => push_in_form(buffer, form, later),
             None => false,
@@ -207,6 +204,20 @@ fn push_in_form(buffer: &mut Buffer, form: Form, moment: OffsetDateTime) -> bool
         Form::Unix(unit) => buffer.push(unix_text(unit, moment).as_bytes()),
     }
     true
+}
+
+/// Appends a moment in a format.
+#[tactic(auto, using(crate::proofs::Printed::printed))]
+fn push_printed(buffer: &mut Buffer, format: &Format, moment: OffsetDateTime)
+    requires { HasRoom longest_answer buffer.old }
+    ensures text { buffer.new ≡ buffer.old ++ format_text format.now moment }
+    ensures short { length buffer.new ≤ length buffer.old + longest_answer }
+{
+    let mut text = [0u8; LONGEST_PRINTED];
+    match format.print_offset_date_time(moment, &mut text) {
+        Some(end) => buffer.push(&text[..end]),
+        None => unreachable!(),
+    }
 }
 
 fn text_of_date(form: DateForm, date: Date) -> ShortText

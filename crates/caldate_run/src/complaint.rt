@@ -28,11 +28,11 @@ const LINE_COMMANDS: &[u8] =
     b"; expected to, add, next, last, until, since, start, end, on-or-after, on-or-before, at, keep or another option";
 
 /// The forms of `--read`.
-const READINGS: &[u8] = b"; expected basic, dmy, mdy, unix-ms, unix-us, unix-ns or local";
+const READINGS: &[u8] = b"; expected basic, dmy, mdy, unix, unix-ms, unix-us, unix-ns, clf, rfc2822, iso, local or a format such as %d.%m.%Y";
 
 /// The forms of `to`.
 const FORMS: &[u8] =
-    b"; expected calendar, ordinal, week, julian, weekday, short-weekday, month, quarter, basic, rfc3339, unix, unix-ms, unix-us or unix-ns";
+    b"; expected calendar, ordinal, week, julian, weekday, short-weekday, month, quarter, basic, rfc3339, unix, unix-ms, unix-us, unix-ns, clf, rfc2822 or a format such as %d.%m.%Y";
 
 /// The units of `add` and `until`.
 const UNITS: &[u8] = b"; expected days, weeks, months, years, workdays, hours, minutes or seconds";
@@ -219,7 +219,7 @@ fn is_duplicate(wanted: Wanted, word: &[u8]) -> bool
 /// Returns the error, without the word: `unknown unit`.
 fn error_phrase(wanted: Wanted) -> &'static [u8]
     ensures words { result.now ≡ error_phrase wanted }
-    ensures short { length result.now ≤ 40 }
+    ensures short { length result.now ≤ 60 }
 {
     match wanted {
         Wanted::Something => b"missing command; try 'caldate --help'".as_slice(),
@@ -230,8 +230,8 @@ fn error_phrase(wanted: Wanted) -> &'static [u8]
         Wanted::Separator => b"invalid separator".as_slice(),
         Wanted::Skip => b"invalid number of lines".as_slice(),
         Wanted::Reading => b"unknown input form".as_slice(),
-        Wanted::Assume => b"--read local requires --assume".as_slice(),
-        Wanted::Local => b"--assume requires --read local".as_slice(),
+        Wanted::Assume => b"a form without an offset requires --assume".as_slice(),
+        Wanted::Local => b"--assume requires --read of a form without an offset".as_slice(),
         Wanted::Form => b"unknown form".as_slice(),
         Wanted::Number => b"invalid number".as_slice(),
         Wanted::Amount => b"invalid amount".as_slice(),

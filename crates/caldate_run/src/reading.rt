@@ -9,7 +9,12 @@ ghost use Rattle.caldate_run.specs.Readings.{HasFormIn, IsFaultIn, IsTextIn};
 mod local;
 mod number;
 mod parts;
+pub mod reader;
+mod readers;
+pub(crate) mod spelling;
 mod template;
+
+pub use crate::reading::readers::{Readers, read};
 
 use crate::reading::local::read_local;
 use crate::reading::number::read_number;

@@ -3,4 +3,4 @@ use Rattle.caldate_run.proofs.laws.one_answer.Goals as goal
 
 pub returns : goal.returns
 returns c = λ words others.
-    one_answer c.args.filter.now c.args.text.now c.read_in.result words others c.read_in.ensures.every c.read_in.ensures.form c.read_in.ensures.component
+    one_answer c.args.filter.now c.args.text.now c.read.result words others c.read.ensures.every c.read.ensures.every_error

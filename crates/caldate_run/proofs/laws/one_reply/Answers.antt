@@ -17,7 +17,7 @@ returns c = λ before reply other t u v w.
     let filter = c.args.filter.now in
     let asked = c.in_ok-asked_text.field-0.now in
     let one : (a b : Answer) → IsAnswer filter asked a → IsAnswer filter asked b → a ≡ b =
-    λ a b. one_answer filter asked c.read_in.result a b c.read_in.ensures.every c.read_in.ensures.form c.read_in.ensures.component in
+    λ a b. one_answer filter asked c.read.result a b c.read.ensures.every c.read.ensures.every_error in
     let known = subst (IsOneText filter) c.cut_return-has_return.ensures.text
     (λ found is. subst (λ t. (a b : Answer) → IsAnswer filter t a → IsAnswer filter t b → a ≡ b) (same_Some asked found (sym c.in_ok-asked_text.ensures.asked ∙ is)) one) in
     one_reply filter before c.args.line.now reply other t u v w known
