@@ -26,3 +26,4 @@ pub mod LastBytes
 pub mod FrontDays
 pub mod SomeMeanings
 pub mod Printed
+pub mod FirstForms

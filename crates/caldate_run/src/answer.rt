@@ -29,8 +29,8 @@ use cal_time::{Date, ShortText, SignedDuration, Time, UtcOffset};
 /// The maximum length of the text of a line, in bytes.
 pub const LONGEST_TEXT: usize = 4096;
 
-/// The maximum length of a text that a format prints: 10 bytes for each of 64 items.
-const LONGEST_PRINTED: usize = 640;
+/// The maximum length of a text that a format prints: 15 bytes for each of 64 items.
+const LONGEST_PRINTED: usize = 960;
 
 /// Appends the answer to `text`, and returns whether its line goes out.
 pub fn push_answer(buffer: &mut Buffer, filter: &Filter, text: &[u8]) -> Result<bool, NoAnswer>
