@@ -11,7 +11,7 @@ use Rattle.std.proofs.lemmas.List.Elements.{All-cons, All-nil}
 use Rattle.cal_datetime.specs.OffsetDateTime.{LocalAndOffset}
 use Rattle.cal_text.specs.declared.any.DateOrMoment.{DateOrMoment}
 use Rattle.cal_text.specs.declared.any.MomentForm.TheVariants.{Rfc3339, Unix}
-use Rattle.caldate_run.specs.Answers.{Answer, HasNone, IsAnswer, IsAnswerTo, IsBetween, IsReadAs, day_of, form_read, leaves_out, moment_of, on_day}
+use Rattle.caldate_run.specs.Answers.{Answer, HasNone, IsAnswer, IsAnswerTo, IsBetween, IsReadAs, day_of, floored, form_read, leaves_out, moment_of, on_day}
 use Rattle.caldate_run.specs.Forms.{IsInForm}
 use Rattle.caldate_run.specs.Lines.{is_end, lines_of, without_empty_last}
 use Rattle.caldate_run.specs.Readers.{IsUnread}
@@ -27,7 +27,7 @@ use Rattle.caldate_run.specs.declared.request.Form.{Form}
 use Rattle.caldate_run.specs.declared.request.Form.TheVariants.{Date, Weekday, Moment, ShortWeekday, Month, Quarter, Basic}
 use Rattle.caldate_run.specs.declared.request.Form.TheVariants as form
 use Rattle.caldate_run.specs.declared.request.Request.{Request}
-use Rattle.caldate_run.specs.declared.request.Request.TheVariants.{To, Print, Add, Move, Until, Since, At, Keep}
+use Rattle.caldate_run.specs.declared.request.Request.TheVariants.{To, Print, Add, Move, Floor, Until, Since, At, Keep}
 use Rattle.caldate_run.specs.declared.request.TimeUnit.{TimeUnit}
 use Rattle.caldate_run.specs.declared.tally.Tally.{Tally}
 use Rattle.caldate_run.proofs.Laters.{one_later}
@@ -59,6 +59,7 @@ one_answer_to (Print items) text found a b h k = h ∙ sym k
 one_answer_to (Add d) text found a b h k = in_form_at (form_read found) h.0 k.0 a b (one_later found d h.0 k.0 h.1 k.1) h.2 k.2
 one_answer_to (Move by) text found a b h k =
     in_form_at (form_read found) _ _ a b (ap (on_day (moment_of found)) (one_lead by (day_of found) h.0 k.0 h.1 k.1)) h.2 k.2
+one_answer_to (Floor n) text found a b h k = in_form (form_read found) (floored n (moment_of found)) a b h k
 one_answer_to (Until target unit) text found a b h k = between unit found target a b h k
 one_answer_to (Since target unit) text found a b h k = between unit target found a b h k
 one_answer_to (At offset) text found a b h k = in_form_at (Moment Rfc3339) _ _ a b (h.1.shown ∙ sym k.1.shown) h.2 k.2
@@ -71,6 +72,7 @@ stays (To form) text found words h out = false≢true out
 stays (Print items) text found words h out = false≢true out
 stays (Add d) text found words h out = false≢true out
 stays (Move by) text found words h out = false≢true out
+stays (Floor n) text found words h out = false≢true out
 stays (Until target unit) text found words h out = false≢true out
 stays (Since target unit) text found words h out = false≢true out
 stays (At offset) text found words h out = false≢true out

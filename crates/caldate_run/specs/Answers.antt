@@ -1,11 +1,12 @@
 -- The answer to the text of a line.
-use Rattle.std.specs.Prelude.{◌≡◌, ℕ, ◌&&◌, Bool, true, false, not, ℤ, pos, ◌+ℤ◌, ◌-ℤ◌, List, Option, Some, None, Result, Ok, Err, if◌then◌else◌}
+use Rattle.std.specs.Prelude.{◌≡◌, ℕ, ◌+◌, ◌-◌, ◌*◌, ◌%◌, max, ◌&&◌, Bool, true, false, not, ℤ, pos, ◌+ℤ◌, ◌-ℤ◌, List, Option, Some, None, Result, Ok, Err, if◌then◌else◌}
 use Rattle.std.specs.Fmt.{signed_decimal}
 use Rattle.std.specs.Option.{option_map_or}
 use Rattle.cal_time.specs.Date.{IsDate, julian_day_at}
 use Rattle.cal_time.specs.SignedDuration.{whole_days}
 use Rattle.cal_time.specs.SignedDuration as duration
-use Rattle.cal_datetime.specs.DateTime.{IsDateTime, date_time, time_at}
+use Rattle.cal_time.specs.Time.{hour_of, minute_of}
+use Rattle.cal_datetime.specs.DateTime.{IsDateTime, date_at, date_time, time_at}
 use Rattle.cal_datetime.specs.OffsetDateTime.{LocalAndOffset, instant, local_at}
 use Rattle.cal_text.specs.declared.any.DateOrMoment.{DateOrMoment}
 use Rattle.cal_text.specs.declared.any.DateOrMoment.TheVariants as read
@@ -22,7 +23,7 @@ use Rattle.caldate_run.specs.declared.request.DayMove.{DayMove}
 use Rattle.caldate_run.specs.declared.request.Filter.{Filter}
 use Rattle.caldate_run.specs.declared.request.Form.TheVariants.{Moment}
 use Rattle.caldate_run.specs.declared.request.Request.{Request}
-use Rattle.caldate_run.specs.declared.request.Request.TheVariants.{To, Print, Add, Move, Until, Since, At, Keep}
+use Rattle.caldate_run.specs.declared.request.Request.TheVariants.{To, Print, Add, Move, Floor, Until, Since, At, Keep}
 use Rattle.caldate_run.specs.declared.request.TimeUnit.{TimeUnit}
 
 -- Moment m moves to day n and keeps its time of day and offset.
@@ -67,12 +68,20 @@ IsAt offset from words = (m : LocalAndOffset) × IsShownAt offset from m × IsIn
 abbrev pub IsMoved : DayMove → DateOrMoment → List ℕ → Type 0
 IsMoved by found words = (n : ℕ) × LeadsTo by (day_of found) n × IsInForm (form_read found) (on_day (moment_of found) n) words
 
+-- The time of day is rounded down to a multiple of n minutes after midnight, or
+-- of 1 minute for 0.
+abbrev pub floored : ℕ → LocalAndOffset → LocalAndOffset
+floored n m =
+    let minutes = hour_of (time_at m.local) * 60 + minute_of (time_at m.local) in
+    record { local = date_time (date_at m.local) ((minutes - minutes % max n 1) * duration.minute); offset = m.offset }
+
 -- The words replace the text that was read. `keep` leaves it as it is.
 abbrev pub IsAnswerTo : Request → List ℕ → DateOrMoment → List ℕ → Type 0
 IsAnswerTo (To form) text found words = IsInForm form (moment_of found) words
 IsAnswerTo (Print items) text found words = words ≡ format_text items (moment_of found)
 IsAnswerTo (Add d) text found words = (m : LocalAndOffset) × IsLater found d m × IsInForm (form_read found) m words
 IsAnswerTo (Move by) text found words = IsMoved by found words
+IsAnswerTo (Floor n) text found words = IsInForm (form_read found) (floored n (moment_of found)) words
 IsAnswerTo (Until target unit) text found words = IsBetween unit found target words
 IsAnswerTo (Since target unit) text found words = IsBetween unit target found words
 IsAnswerTo (At offset) text found words = IsAt offset (moment_of found) words

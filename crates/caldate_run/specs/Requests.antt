@@ -41,7 +41,7 @@ use Rattle.caldate_run.specs.declared.request.TimeUnit.{TimeUnit}
 use Rattle.caldate_run.specs.declared.request.TimeUnit.TheVariants as unit
 use Rattle.caldate_run.specs.declared.request.UnixUnit.TheVariants.{Milliseconds, Microseconds, Nanoseconds}
 use Rattle.caldate_run.specs.declared.request.Request.{Request}
-use Rattle.caldate_run.specs.declared.request.Request.TheVariants.{To, Print, Add, Move, Until, Since, At, Keep}
+use Rattle.caldate_run.specs.declared.request.Request.TheVariants.{To, Print, Add, Move, Floor, Until, Since, At, Keep}
 use Rattle.caldate_run.specs.declared.request.Bounds.{Bounds}
 use Rattle.caldate_run.specs.declared.request.Bounds.TheVariants.{FromTo, After, Before}
 use Rattle.caldate_run.specs.declared.request.Asked.{Asked}
@@ -245,6 +245,31 @@ bounds_at meanings words at =
     if bytes_eq word (codes "before") then and_then (only_at words (at + 1) (found_in meanings) wanted.Target) (λ bound. Ok (Before bound)) else
     Err (senseless_at at wanted.Bounds))
 
+-- `start PERIOD`, `start day`, `start hour`, `start minute`
+unfoldable pub minutes_in : List ℕ → Option ℕ
+minutes_in word =
+    if spells_unit word (codes "day") (codes "days") then Some 1440 else
+    if spells_unit word (codes "hour") (codes "hours") then Some 60 else
+    if spells_unit word (codes "minute") (codes "minutes") then Some 1 else
+    None
+
+abbrev pub start_of : List ℕ → Option Request
+start_of word = option_map_or (λ p. Some (Move (move.Start p))) (period_of word) (option_map Floor (minutes_in word))
+
+-- `start N minutes`
+abbrev pub minutes_of : List ℕ → Option ℕ
+minutes_of word = number_between 1 1440 word
+
+unfoldable pub minutes_word : List ℕ → Option Unit
+minutes_word word = if spells_unit word (codes "minute") (codes "minutes") then Some tt else None
+
+abbrev pub floor_at : List (List ℕ) → ℕ → ℕ → Result Request Senseless
+floor_at words at n = and_then (only_at words at minutes_word wanted.Minutes) (λ word. Ok (Floor n))
+
+abbrev pub start_at : List (List ℕ) → ℕ → Result Request Senseless
+start_at words at =
+    option_map_or (floor_at words (at + 1)) (option_and_then minutes_of (slice_get words at)) (only_at words at start_of wanted.StartPeriod)
+
 -- The verb comes first. At index 0, an option such as `--help` is allowed too.
 abbrev pub verb_wanted : ℕ → Wanted
 verb_wanted at = if at == 0 then wanted.Start else wanted.Verb
@@ -252,7 +277,7 @@ verb_wanted at = if at == 0 then wanted.Start else wanted.Verb
 -- The other verbs have these requests.
 abbrev pub further_request_at : Meanings → List (List ℕ) → ℕ → List ℕ → Result Request Senseless
 further_request_at meanings words at word =
-    if bytes_eq word (codes "start") then and_then (only_at words (at + 1) period_of wanted.Period) (λ p. Ok (Move (move.Start p))) else
+    if bytes_eq word (codes "start") then start_at words (at + 1) else
     if bytes_eq word (codes "end") then and_then (only_at words (at + 1) period_of wanted.Period) (λ p. Ok (Move (move.End p))) else
     if bytes_eq word (codes "on-or-after") then and_then (only_at words (at + 1) weekday_of wanted.Weekday) (λ w. Ok (Move (move.OnOrAfter w))) else
     if bytes_eq word (codes "on-or-before") then and_then (only_at words (at + 1) weekday_of wanted.Weekday) (λ w. Ok (Move (move.OnOrBefore w))) else

@@ -2,7 +2,7 @@
 ghost use Rattle.std.specs.Prelude.{◌≡◌, ◌+◌, ◌≤◌, ◌++◌, ℕ, List, Some, false, true, length, MatchOption};
 ghost use Rattle.cal_datetime.specs.OffsetDateTime.{LocalAndOffset};
 ghost use Rattle.cal_text.specs.AnyForm.{date_text};
-ghost use Rattle.caldate_run.specs.Answers.{IsAnswer, IsAnswerTo, IsAt, IsBetween, IsDayLater, IsLater, IsMomentLater, IsMoved, form_read, is_date, leaves_out, moment_of, on_day, until_text};
+ghost use Rattle.caldate_run.specs.Answers.{IsAnswer, IsAnswerTo, IsAt, IsBetween, IsDayLater, IsLater, IsMomentLater, IsMoved, floored, form_read, is_date, leaves_out, moment_of, on_day, until_text};
 ghost use Rattle.caldate_run.specs.Bounds.{lies_in};
 ghost use Rattle.caldate_run.specs.Forms.{IsInForm, format_text};
 ghost use Rattle.caldate_run.specs.Replies.{reason, refused_text};
@@ -105,6 +105,7 @@ fn push_answer_to(buffer: &mut Buffer, request: &Request, text: &[u8], found: &D
             None => false,
         },
         Request::Move(by) => push_moved(buffer, *by, found),
+        Request::Floor(minutes) => push_in_form(buffer, form, floored(*minutes, moment)),
         Request::Until(target, unit) => {
             push_between(buffer, *unit, found, target);
             true
@@ -174,6 +175,19 @@ fn on_day(moment: OffsetDateTime, date: Date) -> OffsetDateTime
     ensures { result ≡ on_day moment date }
 {
     OffsetDateTime::new_in_offset(date, moment.time(), moment.offset())
+}
+
+/// Rounds the time of day down to a multiple of `minutes` minutes, or of 1 for 0.
+fn floored(minutes: u16, moment: OffsetDateTime) -> OffsetDateTime
+    ensures { result ≡ floored minutes moment }
+{
+    let time = moment.time();
+    let past = u16::from(time.hour()) * 60 + u16::from(time.minute());
+    let floor = past - past % minutes.max(1);
+    match Time::from_hms((floor / 60) as u8, (floor % 60) as u8, 0) {
+        Ok(time) => OffsetDateTime::new_in_offset(moment.date(), time, moment.offset()),
+        Err(_) => unreachable!(),
+    }
 }
 
 /// Appends a moment in a form, or nothing if the form can't express it. Returns whether it can.

@@ -3,7 +3,7 @@ ghost use Rattle.std.specs.Prelude.{◌≡◌, ◌+◌, ◌<◌, ◌^◌, ◌≤
 ghost use Rattle.caldate_run.specs.Lists.{IsAsked};
 ghost use Rattle.caldate_run.specs.Offsets.{offset_of};
 ghost use Rattle.caldate_run.specs.Meanings.{AreMeanings, Meanings};
-ghost use Rattle.caldate_run.specs.Requests.{amount_at, amount_of, arguments_of, asked_of, count_at, default_mode, duration_of, filter_at, filter_of, further_request_at, in_unit_at, occurrence_at, once_of, only_at, request_at, target_at, to_of, unit_at, verb_wanted, words_left};
+ghost use Rattle.caldate_run.specs.Requests.{amount_at, amount_of, arguments_of, asked_of, count_at, default_mode, duration_of, filter_at, filter_of, floor_at, further_request_at, in_unit_at, occurrence_at, once_of, only_at, request_at, start_at, target_at, to_of, unit_at, verb_wanted, words_left};
 
 use crate::bounds::bounds_at;
 use crate::listing::list_of;
@@ -14,7 +14,8 @@ use crate::options::{Options, field_of, lacking, options_of, readers_in};
 use crate::request::{Asked, DayMove, Filter, Request, TimeUnit};
 use crate::senseless::{Senseless, Wanted, senseless_at};
 use crate::spelling::{
-    asks_for_help, count_of, number_of, period_of, unit_of, weekday_of,
+    asks_for_help, count_of, minutes_of, minutes_word, number_of, period_of, start_of, unit_of,
+    weekday_of,
 };
 use crate::words::{cut, ended, ends_at, found_at, keyword_at, only_at, word_as, word_at};
 use cal_text::DateOrMoment;
@@ -140,7 +141,7 @@ fn further_request_at(words: &[u8], at: usize, verb: &[u8]) -> Result<Request, S
         → result ≡ further_request_at meanings (arguments_of words.now) at verb.now }
 {
     if verb == b"start".as_slice() {
-        Ok(Request::Move(DayMove::Start(only_at(words, at + 1, period_of, Wanted::Period)?)))
+        start_at(words, at + 1)
     } else if verb == b"end".as_slice() {
         Ok(Request::Move(DayMove::End(only_at(words, at + 1, period_of, Wanted::Period)?)))
     } else if verb == b"on-or-after".as_slice() {
@@ -170,6 +171,25 @@ fn to_at(words: &[u8], at: usize) -> Result<Request, Senseless>
         Some(request) => ended(words, at + 1, request),
         None => Err(senseless),
     }
+}
+
+/// Parses `PERIOD`, `day`, `hour`, `minute` or `N minutes`.
+fn start_at(words: &[u8], at: usize) -> Result<Request, Senseless>
+    requires { at + 2 < 2 ^ 64 }
+    ensures { result ≡ start_at (arguments_of words.now) at }
+{
+    match word_at(words, at).and_then(minutes_of) {
+        Some(minutes) => floor_at(words, at + 1, minutes),
+        None => only_at(words, at, start_of, Wanted::StartPeriod),
+    }
+}
+
+fn floor_at(words: &[u8], at: usize, minutes: u16) -> Result<Request, Senseless>
+    requires { at + 1 < 2 ^ 64 }
+    ensures { result ≡ floor_at (arguments_of words.now) at minutes }
+{
+    only_at(words, at, minutes_word, Wanted::Minutes)?;
+    Ok(Request::Floor(minutes))
 }
 
 fn offset_at(words: &[u8], at: usize) -> Result<UtcOffset, Senseless>

@@ -34,6 +34,9 @@ const READINGS: &[u8] = b"; expected basic, dmy, mdy, unix, unix-ms, unix-us, un
 const FORMS: &[u8] =
     b"; expected calendar, ordinal, week, julian, weekday, short-weekday, month, quarter, basic, rfc3339, unix, unix-ms, unix-us, unix-ns, clf, rfc2822 or a format such as %d.%m.%Y";
 
+/// The periods of `start`.
+const STARTS: &[u8] = b"; expected week, month, quarter, year, day, hour, minute or N minutes";
+
 /// The units of `add` and `until`.
 const UNITS: &[u8] = b"; expected days, weeks, months, years, workdays, hours, minutes or seconds";
 
@@ -240,6 +243,8 @@ fn error_phrase(wanted: Wanted) -> &'static [u8]
         Wanted::Count => b"invalid count".as_slice(),
         Wanted::Target => b"invalid date or moment".as_slice(),
         Wanted::Period => b"unknown period".as_slice(),
+        Wanted::StartPeriod => b"unknown start".as_slice(),
+        Wanted::Minutes => b"invalid unit".as_slice(),
         Wanted::Offset => b"invalid offset".as_slice(),
         Wanted::Bounds => b"unknown bound".as_slice(),
         Wanted::Date => b"invalid date".as_slice(),
@@ -265,11 +270,11 @@ fn missing_noun(wanted: Wanted) -> &'static [u8]
         Wanted::Form => b"form".as_slice(),
         Wanted::Number => b"number".as_slice(),
         Wanted::Amount => b"amount".as_slice(),
-        Wanted::UnitOfTime | Wanted::UnitOfDays => b"unit".as_slice(),
+        Wanted::UnitOfTime | Wanted::UnitOfDays | Wanted::Minutes => b"unit".as_slice(),
         Wanted::Weekday => b"weekday".as_slice(),
         Wanted::Count => b"count".as_slice(),
         Wanted::Target => b"date or moment".as_slice(),
-        Wanted::Period => b"period".as_slice(),
+        Wanted::Period | Wanted::StartPeriod => b"period".as_slice(),
         Wanted::Offset => b"offset".as_slice(),
         Wanted::Bounds => b"bound".as_slice(),
         Wanted::Date => b"date".as_slice(),
@@ -300,6 +305,8 @@ fn expected_phrase(wanted: Wanted) -> &'static [u8]
         Wanted::Count => b"; expected an integer from 1 to 255".as_slice(),
         Wanted::Target => MOMENTS,
         Wanted::Period => b"; expected week, month, quarter or year".as_slice(),
+        Wanted::StartPeriod => STARTS,
+        Wanted::Minutes => b"; expected minutes".as_slice(),
         Wanted::Offset => b"; expected one such as +01:00, -05:30 or Z".as_slice(),
         Wanted::Bounds => b"; expected from, after or before".as_slice(),
         Wanted::From => b"; expected 'from'".as_slice(),

@@ -21,6 +21,8 @@ no answer, or 2 if the arguments are invalid, or the input or the output fails.
   caldate on-or-after WEEKDAY     the first such day on or after it
   caldate on-or-before WEEKDAY    the last such day on or before it
   caldate start PERIOD            the first day of its week, month, quarter or year
+  caldate start TIME              its time of day rounded down: TIME is day, hour, minute or
+                                  N minutes
   caldate end PERIOD              the last day of its week, month, quarter or year
   caldate until DATE [in UNIT]    the days until that date, the duration until that moment, or
                                   whole units

@@ -104,6 +104,9 @@ pub enum Request {
     Add(SignedDuration),
     /// The moved day, at the same time of day.
     Move(DayMove),
+    /// `start day`, `start hour`, `start minute` or `start N minutes`: the time of day rounded down to
+    /// a multiple of a number of minutes, from 1 to 1440.
+    Floor(u16),
     /// `until TEXT [in UNIT]`: the days or the duration to TEXT, or the whole units.
     Until(DateOrMoment, Option<TimeUnit>),
     /// `since TEXT [in UNIT]`: the days or the duration from TEXT, or the whole units.
