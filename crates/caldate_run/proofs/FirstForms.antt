@@ -40,14 +40,17 @@ text_by offset (Dates f) form text found e h = absurd (none-some form e)
 text_by offset (Moments f) form text found e h = absurd (none-some form e)
 text_by offset (DateTimes f) form text found e h = absurd (none-some form e)
 
-not_ok : (w : NoAnswer) (f : DateOrMoment) → Err w ≡ Ok f → ⊥
+abbrev ok : DateOrMoment → Result DateOrMoment NoAnswer
+ok found = Ok found
+
+not_ok : (w : NoAnswer) (f : DateOrMoment) → Err w ≡ ok f → ⊥
 not_ok w f e = cc
 
 -- ---- the first form has the text
 pub ok_every : (offset : ℤ) (r : Reader) (rs : List Reader) (form : Reading) (text : List ℕ) (f found : DateOrMoment) → named offset r ≡ Some form
-    → IsTextIn form text f → ((g : DateOrMoment) → IsTextIn form text g → Ok {E = NoAnswer} f ≡ Ok g) → IsFoundBy offset (r ∷ rs) text found → Ok {E = NoAnswer} f ≡ Ok found
+    → IsTextIn form text f → ((g : DateOrMoment) → IsTextIn form text g → ok f ≡ Ok g) → IsFoundBy offset (r ∷ rs) text found → ok f ≡ Ok found
 ok_every offset r rs form text f found e is every (inl h) = every found (text_in offset r form text found e h)
-ok_every offset r rs form text f found e is every (inr (no, h)) = absurd (no f (text_by offset r form text f e is))
+ok_every offset r rs form text f found e is every (inr (lack, h)) = absurd (lack f (text_by offset r form text f e is))
 
 pub ok_error : (offset : ℤ) (r : Reader) (rs : List Reader) (form : Reading) (text : List ℕ) (f : DateOrMoment) (any : NoAnswer) → named offset r ≡ Some form
     → IsTextIn form text f → IsUnread offset (r ∷ rs) text any → ⊥
@@ -55,30 +58,30 @@ ok_error offset r rs form text f any e is h = h.none f (inl (text_by offset r fo
 
 -- ---- the first form doesn't have it
 abbrev pub Lacks : Reading → List ℕ → NoAnswer → Type 0
-Lacks form text w = (g : DateOrMoment) → IsTextIn form text g → Err w ≡ Ok g
+Lacks form text w = (g : DateOrMoment) → IsTextIn form text g → Err w ≡ ok g
 
 lacks_by : (offset : ℤ) (r : Reader) (form : Reading) (text : List ℕ) (w : NoAnswer) → named offset r ≡ Some form → Lacks form text w
     → (g : DateOrMoment) → ¬ IsTextBy offset r text g
-lacks_by offset r form text w e no g h = not_ok w g (no g (text_in offset r form text g e h))
+lacks_by offset r form text w e lack g h = not_ok w g (lack g (text_in offset r form text g e h))
 
 pub other_every : (offset : ℤ) (r : Reader) (rs : List Reader) (form : Reading) (text : List ℕ) (w : NoAnswer) (f found : DateOrMoment) → named offset r ≡ Some form
     → Lacks form text w → ((g : DateOrMoment) → IsFoundBy offset rs text g → Some f ≡ Some g) → IsFoundBy offset (r ∷ rs) text found → f ≡ found
-other_every offset r rs form text w f found e no every (inl h) = absurd (lacks_by offset r form text w e no found h)
-other_every offset r rs form text w f found e no every (inr (lacks, h)) = same_Some f found (every found h)
+other_every offset r rs form text w f found e lack every (inl h) = absurd (lacks_by offset r form text w e lack found h)
+other_every offset r rs form text w f found e lack every (inr (lacks, h)) = same_Some f found (every found h)
 
 pub other_has : (offset : ℤ) (r : Reader) (rs : List Reader) (form : Reading) (text : List ℕ) (w : NoAnswer) (f : DateOrMoment) → named offset r ≡ Some form
     → Lacks form text w → IsFoundBy offset rs text f → IsFoundBy offset (r ∷ rs) text f
-other_has offset r rs form text w f e no h = inr (lacks_by offset r form text w e no, h)
+other_has offset r rs form text w f e lack h = inr (lacks_by offset r form text w e lack, h)
 
 pub none_found : (offset : ℤ) (r : Reader) (rs : List Reader) (form : Reading) (text : List ℕ) (w : NoAnswer) → named offset r ≡ Some form
     → Lacks form text w → ((g : DateOrMoment) → IsFoundBy offset rs text g → None ≡ Some g) → (found : DateOrMoment) → ¬ IsFoundBy offset (r ∷ rs) text found
-none_found offset r rs form text w e no every found (inl h) = lacks_by offset r form text w e no found h
-none_found offset r rs form text w e no every found (inr (lacks, h)) = none-some found (every found h)
+none_found offset r rs form text w e lack every found (inl h) = lacks_by offset r form text w e lack found h
+none_found offset r rs form text w e lack every found (inr (lacks, h)) = none-some found (every found h)
 
 pub none_unread : (offset : ℤ) (r : Reader) (rs : List Reader) (form : Reading) (text : List ℕ) (w : NoAnswer) → named offset r ≡ Some form
     → Lacks form text w → ((g : DateOrMoment) → IsFoundBy offset rs text g → None ≡ Some g) → IsUnreadIn form text w → IsUnread offset (r ∷ rs) text w
-none_unread offset r rs form text w e no every is = record {
-  none = none_found offset r rs form text w e no every;
+none_unread offset r rs form text w e lack every is = record {
+  none = none_found offset r rs form text w e lack every;
   why_is = subst (λ o. MatchOption o (w ≡ why.NoForm) (λ form. IsUnreadIn form text w)) (sym e) is;
 }
 
@@ -101,15 +104,15 @@ why_none offset readers text any e h = subst (λ o. MatchOption o (any ≡ why.N
 pub first_every : (offset : ℤ) (r : Reader) (rs : List Reader) (text : List ℕ) (f found : DateOrMoment) → IsTextBy offset r text f
     → ((g : DateOrMoment) → IsTextBy offset r text g → Some f ≡ Some g) → IsFoundBy offset (r ∷ rs) text found → Some f ≡ Some found
 first_every offset r rs text f found is every (inl h) = every found h
-first_every offset r rs text f found is every (inr (no, h)) = absurd (no f is)
+first_every offset r rs text f found is every (inr (lack, h)) = absurd (lack f is)
 
 pub later_every : (offset : ℤ) (r : Reader) (rs : List Reader) (text : List ℕ) (o : Option DateOrMoment) (found : DateOrMoment)
     → ((g : DateOrMoment) → IsTextBy offset r text g → None ≡ Some g) → ((g : DateOrMoment) → IsFoundBy offset rs text g → o ≡ Some g)
     → IsFoundBy offset (r ∷ rs) text found → o ≡ Some found
-later_every offset r rs text o found no every (inl h) = absurd (none-some found (no found h))
-later_every offset r rs text o found no every (inr (lacks, h)) = every found h
+later_every offset r rs text o found lack every (inl h) = absurd (none-some found (lack found h))
+later_every offset r rs text o found lack every (inr (lacks, h)) = every found h
 
 pub later_has : (offset : ℤ) (r : Reader) (rs : List Reader) (text : List ℕ) (o : Option DateOrMoment)
     → ((g : DateOrMoment) → IsTextBy offset r text g → None ≡ Some g) → IfSome o (IsFoundBy offset rs text) → IfSome o (IsFoundBy offset (r ∷ rs) text)
-later_has offset r rs text None no h = h
-later_has offset r rs text (Some f) no h = inr (λ g is. none-some g (no g is), h)
+later_has offset r rs text None lack h = h
+later_has offset r rs text (Some f) lack h = inr (λ g is. none-some g (lack g is), h)

@@ -27,3 +27,4 @@ pub mod FrontDays
 pub mod SomeMeanings
 pub mod Printed
 pub mod FirstForms
+pub mod MeantWords

@@ -1,9 +1,8 @@
 -- The meanings of words: the date or moment that a word is a text of, and the items of the format
 -- that it spells.
-use Rattle.std.specs.Prelude.{◌≡◌, ℕ, ◌+◌, ◌≤◌, ◌==◌, Bool, true, is_some, List, [], length, take, drop, position, bytes_eq, codes, Option, MatchOption, if◌then◌else◌}
+use Rattle.std.specs.Prelude.{◌≡◌, ℕ, ◌+◌, ◌≤◌, ◌==◌, Bool, IsUtf8, is_some, List, [], length, take, drop, position, bytes_eq, codes, Option, MatchOption, if◌then◌else◌}
 use Rattle.std.specs.List.{All}
 use Rattle.std.specs.Option.{option_map_or}
-use Rattle.std.specs.Str.{is_utf8}
 use Rattle.cal_format.specs.Format.{Spells}
 use Rattle.cal_format.specs.declared.item.Item.{Item}
 use Rattle.cal_format.specs.declared.item.Syntax.TheVariants.{Percent}
@@ -41,7 +40,7 @@ is_format word = is_some (position (λ b. b == 37) (format_named word))
 
 -- The text spells these items in the syntax of `strftime`. A format has at most 64.
 pub record IsItems (text : List ℕ) (items : List Item) : Type 0 where
-  pub utf8 : is_utf8 text ≡ true
+  pub utf8 : IsUtf8 text
   pub spelled : Spells Percent text items []
   pub few : length items ≤ 64
 

@@ -13,7 +13,7 @@ use Rattle.cal_text.specs.AnyForm.{IsTextOf}
 use Rattle.cal_text.specs.Position.{IsPosition}
 use Rattle.cal_text.specs.declared.any.DateForm.TheVariants.{Calendar}
 use Rattle.cal_text.specs.declared.any.DateOrMoment.{DateOrMoment}
-use Rattle.cal_text.specs.declared.any.DateOrMoment.TheVariants as found
+use Rattle.cal_text.specs.declared.any.DateOrMoment.TheVariants as dated
 use Rattle.cal_text.specs.declared.any.MomentForm.TheVariants.{Rfc3339}
 use Rattle.caldate_run.specs.Readings.{HasFormIn, IsFaultIn, IsTextIn}
 use Rattle.caldate_run.specs.Spellings.{full_by}
@@ -50,10 +50,10 @@ abbrev pub IsTextBy : ℤ → Reader → List ℕ → DateOrMoment → Type 0
 IsTextBy offset (Named reading) text found = IsTextIn reading text found
 IsTextBy offset Local text found = IsTextIn (reading.Local offset) text found
 IsTextBy offset (Spelled spelling) text found = IsSomeAnd (full_by spelling text) (λ full. IsTextOf full found)
-IsTextBy offset (Dates items) text found = (n : ℕ) × IsDateText items text n × (found ≡ found.Date Calendar n)
-IsTextBy offset (Moments items) text found = (m : LocalAndOffset) × IsMomentText items text m × (found ≡ found.Moment Rfc3339 m)
+IsTextBy offset (Dates items) text found = (n : ℕ) × IsDateText items text n × (found ≡ dated.Date Calendar n)
+IsTextBy offset (Moments items) text found = (m : LocalAndOffset) × IsMomentText items text m × (found ≡ dated.Moment Rfc3339 m)
 IsTextBy offset (DateTimes items) text found =
-    (z : ℤ) × IsDateTimeText items text z × (found ≡ found.Moment Rfc3339 (record { local = z; offset = offset }))
+    (z : ℤ) × IsDateTimeText items text z × (found ≡ dated.Moment Rfc3339 (record { local = z; offset = offset }))
 
 -- The first form that the text has gives its date or moment.
 abbrev pub IsFoundBy : ℤ → List Reader → List ℕ → DateOrMoment → Type 0

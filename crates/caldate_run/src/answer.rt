@@ -53,7 +53,7 @@ pub fn push_answer(buffer: &mut Buffer, filter: &Filter, text: &[u8]) -> Result<
 
 /// Appends a reason, such as `unreadable at 4`.
 pub fn push_reason(buffer: &mut Buffer, why: NoAnswer)
-    requires { HasRoom longest_answer buffer.old }
+    requires { HasRoom 80 buffer.old }
     ensures text { buffer.new ≡ buffer.old ++ reason why }
     ensures short { length buffer.new ≤ length buffer.old + 80 }
 {
@@ -227,6 +227,8 @@ fn push_printed(buffer: &mut Buffer, format: &Format, moment: OffsetDateTime)
     ensures text { buffer.new ≡ buffer.old ++ format_text format.now moment }
     ensures short { length buffer.new ≤ length buffer.old + longest_answer }
 {
+    let _items = format.items();
+    let _parts = (moment.date(), moment.time(), moment.offset());
     let mut text = [0u8; LONGEST_PRINTED];
     match format.print_offset_date_time(moment, &mut text) {
         Some(end) => buffer.push(&text[..end]),

@@ -51,7 +51,7 @@ impl Readers {
         ensures value { IsTrue result → self.new ≡ self.old ++ reader ∷ [] }
         ensures full { ¬ IsTrue result → self.new ≡ self.old }
     {
-        if self.count >= MOST {
+        if self.as_slice().len() >= MOST {
             return false;
         }
         self.items[self.count] = reader;
