@@ -6,10 +6,10 @@ ghost use Rattle.caldate_run.specs.Meanings.{AreMeanings, Meanings};
 ghost use Rattle.caldate_run.specs.Requests.{amount_at, amount_of, arguments_of, asked_of, count_at, default_mode, duration_of, filter_at, filter_of, floor_at, further_request_at, in_unit_at, occurrence_at, once_of, only_at, request_at, start_at, target_at, to_of, unit_at, verb_wanted, words_left};
 
 use crate::bounds::bounds_at;
+use crate::formats::to_of;
 use crate::listing::list_of;
 use crate::offset::offset_of;
 use crate::on_invalid::OnInvalid;
-use crate::formats::to_of;
 use crate::options::{Options, field_of, lacking, options_of, readers_in};
 use crate::request::{Asked, DayMove, Filter, Request, TimeUnit};
 use crate::senseless::{Senseless, Wanted, senseless_at};

@@ -28,7 +28,8 @@ const LINE_COMMANDS: &[u8] =
     b"; expected to, add, next, last, until, since, start, end, on-or-after, on-or-before, at, keep or another option";
 
 /// The forms of `--read`.
-const READINGS: &[u8] = b"; expected basic, dmy, mdy, unix, unix-ms, unix-us, unix-ns, clf, rfc2822, iso, local or a format such as %d.%m.%Y";
+const READINGS: &[u8] =
+    b"; expected basic, dmy, mdy, unix, unix-ms, unix-us, unix-ns, clf, rfc2822, iso, local or a format such as %d.%m.%Y";
 
 /// The forms of `to`.
 const FORMS: &[u8] =

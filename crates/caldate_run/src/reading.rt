@@ -14,13 +14,12 @@ mod readers;
 pub(crate) mod spelling;
 mod template;
 
-pub use crate::reading::readers::{Readers, read};
-
 use crate::reading::local::read_local;
 use crate::reading::number::read_number;
 use crate::reading::parts::{
     basic_parts, day_first_parts, month_first_parts, parted_template, read_parts,
 };
+pub use crate::reading::readers::{Readers, read};
 use crate::request::UnixUnit;
 use cal_text::{DateOrMoment, ParseError, parse_any};
 use cal_time::UtcOffset;

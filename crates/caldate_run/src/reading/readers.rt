@@ -70,11 +70,7 @@ impl Readers {
 
 /// Parses a text in the first form that it has. If it has none, the first form says why.
 #[inline(always)]
-pub fn read(
-    readers: &[Reader],
-    offset: UtcOffset,
-    text: &[u8],
-) -> Result<DateOrMoment, NoAnswer>
+pub fn read(readers: &[Reader], offset: UtcOffset, text: &[u8]) -> Result<DateOrMoment, NoAnswer>
     ensures every { (found : DateOrMoment) → IsFoundBy offset readers.now text.now found
         → result ≡ Ok found }
     ensures has { IfOk result (IsFoundBy offset readers.now text.now) }

@@ -52,10 +52,7 @@ fn runs<R: Source, W: Sink>(
         → IsComplete result.0 → IsComplete result.1 → W.contents writer.new ≡ W.contents other.new }
 {
     one_reply_each(&filter, input);
-    (
-        run(filter, reader, writer),
-        run(twin_filter, twin, other),
-    )
+    (run(filter, reader, writer), run(twin_filter, twin, other))
 }
 
 fn lists<W: Sink>(
