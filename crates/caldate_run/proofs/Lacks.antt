@@ -1,21 +1,63 @@
--- A text that has no answer, by what its reader says of it.
-use Rattle.std.proofs.Common.{ℕ, List, Err, refl}
-use Rattle.std.specs.Prelude.{◌↔◌}
+-- A text that a form doesn't read, by what its parser says of it.
+use Rattle.std.proofs.Common.{◌≡◌, ℕ, List, Option, Some, None, Result, Ok, Err, ap, refl, sym}
+use Rattle.std.specs.Prelude.{◌↔◌, IfErr, MatchOption}
+use Rattle.std.proofs.lemmas.Option.{none-some, same_Some}
 use Rattle.cal_time.specs.declared.error.ComponentRange.{ComponentRange}
 use Rattle.cal_text.specs.Position.{IsErrorAtStop}
 use Rattle.cal_text.specs.Parsing.{FailsWithComponent, FailsWithSyntax}
 use Rattle.cal_text.specs.declared.any.DateOrMoment.{DateOrMoment}
 use Rattle.cal_text.specs.declared.error.ParseError.{ParseError}
 use Rattle.cal_text.specs.declared.error.ParseError.TheVariants.{UnexpectedByte, UnexpectedEnd, OutOfRange}
+use Rattle.cal_text.proofs.Positions.{one_position}
 use Rattle.caldate_run.specs.Answers.{IsAnswer}
+use Rattle.caldate_run.specs.Readers.{IsUnread, IsUnreadIn, first_named}
 use Rattle.caldate_run.specs.Readings.{HasFormIn, IsFaultIn}
 use Rattle.caldate_run.specs.Replies.{reason_of}
+use Rattle.caldate_run.specs.declared.no_answer.NoAnswer.{NoAnswer}
+use Rattle.caldate_run.specs.declared.no_answer.NoAnswer.TheVariants as why
+use Rattle.caldate_run.specs.declared.reading.Reading.{Reading}
 use Rattle.caldate_run.specs.declared.request.Filter.{Filter}
 
-pub lacks : (filter : Filter) (text : List ℕ) (error : ParseError)
-    → (FailsWithSyntax {V = DateOrMoment} (Err error) ↔ ¬ HasFormIn filter.reading text)
-    → ((why : ComponentRange) → FailsWithComponent {V = DateOrMoment} why (Err error) ↔ IsFaultIn filter.reading text why)
-    → IsErrorAtStop (HasFormIn filter.reading) text error → IsAnswer filter text (Err (reason_of error))
-lacks filter text (UnexpectedByte at) form component stop = (form.0 refl, stop.0)
-lacks filter text (UnexpectedEnd at) form component stop = (form.0 refl, stop.0)
-lacks filter text (OutOfRange e) form component stop = (component e).0 refl
+pub lacks : (reading : Reading) (text : List ℕ) (error : ParseError)
+    → (FailsWithSyntax {V = DateOrMoment} (Err error) ↔ ¬ HasFormIn reading text)
+    → ((why : ComponentRange) → FailsWithComponent {V = DateOrMoment} why (Err error) ↔ IsFaultIn reading text why)
+    → IsErrorAtStop (HasFormIn reading) text error → IsUnreadIn reading text (reason_of error)
+lacks reading text (UnexpectedByte at) form component stop = (form.0 refl, stop.0)
+lacks reading text (UnexpectedEnd at) form component stop = (form.0 refl, stop.0)
+lacks reading text (OutOfRange e) form component stop = (component e).0 refl
+
+-- what the parser says, as an answer
+abbrev pub told : Result DateOrMoment ParseError → Result DateOrMoment NoAnswer
+told (Ok found) = Ok found
+told (Err error) = Err (reason_of error)
+
+pub lacks_only : (reading : Reading) (text : List ℕ) (r : Result DateOrMoment ParseError) (any : NoAnswer)
+    → (FailsWithSyntax r ↔ ¬ HasFormIn reading text) → ((why : ComponentRange) → FailsWithComponent why r ↔ IsFaultIn reading text why)
+    → IfErr r (IsErrorAtStop (HasFormIn reading) text) → IsUnreadIn reading text any → told r ≡ Err any
+lacks_only reading text (Ok found) (why.Rejected e) form component stop h = absurd ((component e).1 h)
+lacks_only reading text (Ok found) (why.Unreadable at) form component stop h = absurd (form.1 h.0)
+lacks_only reading text (Err (OutOfRange o)) (why.Rejected e) form component stop h = ap (λ e. Err (why.Rejected e)) (same_Some o e ((component e).1 h))
+lacks_only reading text (Err (OutOfRange o)) (why.Unreadable at) form component stop h = absurd (none-some o (sym (form.1 h.0)))
+lacks_only reading text (Err (UnexpectedByte p)) (why.Rejected e) form component stop h = absurd (none-some e ((component e).1 h))
+lacks_only reading text (Err (UnexpectedByte p)) (why.Unreadable at) form component stop h =
+    ap (λ at. Err (why.Unreadable at)) (one_position (HasFormIn reading) text p at stop.0 h.1)
+lacks_only reading text (Err (UnexpectedEnd p)) (why.Rejected e) form component stop h = absurd (none-some e ((component e).1 h))
+lacks_only reading text (Err (UnexpectedEnd p)) (why.Unreadable at) form component stop h =
+    ap (λ at. Err (why.Unreadable at)) (one_position (HasFormIn reading) text p at stop.0 h.1)
+lacks_only reading text r why.TooLong form component stop h = absurd h
+lacks_only reading text r why.NoField form component stop h = absurd h
+lacks_only reading text r why.None form component stop h = absurd h
+lacks_only reading text r why.NoForm form component stop h = absurd h
+
+-- a text in none of the forms has no answer
+no_none : (text : List ℕ) (o : Option Reading) → MatchOption o (why.None ≡ why.NoForm) (λ reading. IsUnreadIn reading text why.None) → ⊥
+no_none text None h = cc
+no_none text (Some reading) h = h
+
+pub unread : (filter : Filter) (text : List ℕ) (any : NoAnswer) → IsUnread filter.offset filter.readers text any → IsAnswer filter text (Err any)
+unread filter text why.None h = absurd (no_none text (first_named filter.offset filter.readers) h.why_is)
+unread filter text why.TooLong h = h
+unread filter text why.NoField h = h
+unread filter text why.NoForm h = h
+unread filter text (why.Rejected component) h = h
+unread filter text (why.Unreadable at) h = h

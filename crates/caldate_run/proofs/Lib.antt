@@ -26,4 +26,7 @@ pub mod NumberTemplates
 pub mod PartTexts
 pub mod LastBytes
 pub mod FrontDays
-pub mod SomeReading
+pub mod SomeMeanings
+pub mod Printed
+pub mod FirstForms
+pub mod MeantWords

@@ -2,38 +2,32 @@
 use Rattle.std.proofs.Common.{◌≡◌, ◌⊎◌, ℕ, suc, ◌+◌, true, false, List, [], ◌∷◌, ◌++◌, Option, Some, None, Result, Ok, Err, inl, inr, ap, refl, sym, subst, ◌∙◌, arith}
 use Rattle.std.specs.List.{slice_split}
 use Rattle.std.specs.Option.{option_map_or}
-use Rattle.std.specs.Prelude.{◌↔◌, ⊤, All, not}
+use Rattle.std.specs.Prelude.{⊤, All, not}
 use Rattle.std.specs.Fmt.{signed_decimal}
 use Rattle.std.specs.Io.KnownBytes.{Appends, Consumes, IsAtEnd}
 use Rattle.std.proofs.lemmas.Bool.{false≢true}
 use Rattle.std.proofs.lemmas.List.{append-nil}
-use Rattle.std.proofs.lemmas.Option.{none-some, same_Some}
 use Rattle.std.proofs.lemmas.List.Elements.{All-cons, All-nil}
-use Rattle.cal_time.specs.declared.error.ComponentRange.{ComponentRange}
 use Rattle.cal_datetime.specs.OffsetDateTime.{LocalAndOffset}
-use Rattle.cal_text.specs.Parsing.{FailsWithComponent, FailsWithSyntax}
-use Rattle.cal_text.specs.Position.{IsPosition}
-use Rattle.cal_text.proofs.Positions.{one_position}
 use Rattle.cal_text.specs.declared.any.DateOrMoment.{DateOrMoment}
 use Rattle.cal_text.specs.declared.any.MomentForm.TheVariants.{Rfc3339, Unix}
-use Rattle.cal_text.specs.declared.error.ParseError.{ParseError}
-use Rattle.cal_text.specs.declared.error.ParseError.TheVariants.{UnexpectedByte, UnexpectedEnd, OutOfRange}
-use Rattle.caldate_run.specs.Answers.{Answer, HasNone, IsAnswer, IsAnswerTo, IsBetween, day_of, form_read, leaves_out, moment_of, on_day}
+use Rattle.caldate_run.specs.Answers.{Answer, HasNone, IsAnswer, IsAnswerTo, IsBetween, IsReadAs, day_of, floored, form_read, leaves_out, moment_of, on_day}
 use Rattle.caldate_run.specs.Forms.{IsInForm}
 use Rattle.caldate_run.specs.Lines.{is_end, lines_of, without_empty_last}
-use Rattle.caldate_run.specs.Readings.{HasFormIn, IsFaultIn, IsTextIn}
+use Rattle.caldate_run.specs.Readers.{IsUnread}
 use Rattle.caldate_run.specs.Replies.{IsReplyTo}
 use Rattle.caldate_run.specs.Runs.{AnswersInput, Ended, IsComplete}
 use Rattle.caldate_run.specs.Standing.{AreReplies, no_lines}
 use Rattle.caldate_run.specs.declared.fault.Fault.{Fault}
 use Rattle.caldate_run.specs.declared.fault.Fault.TheVariants.{Read, Write, Stopped, Unanswered}
+use Rattle.caldate_run.specs.declared.no_answer.NoAnswer.{NoAnswer}
 use Rattle.caldate_run.specs.declared.no_answer.NoAnswer.TheVariants as why
 use Rattle.caldate_run.specs.declared.request.Filter.{Filter}
 use Rattle.caldate_run.specs.declared.request.Form.{Form}
 use Rattle.caldate_run.specs.declared.request.Form.TheVariants.{Date, Weekday, Moment, ShortWeekday, Month, Quarter, Basic}
 use Rattle.caldate_run.specs.declared.request.Form.TheVariants as form
 use Rattle.caldate_run.specs.declared.request.Request.{Request}
-use Rattle.caldate_run.specs.declared.request.Request.TheVariants.{To, Add, Move, Until, Since, At, Keep}
+use Rattle.caldate_run.specs.declared.request.Request.TheVariants.{To, Print, Add, Move, Floor, Until, Since, At, Keep}
 use Rattle.caldate_run.specs.declared.request.TimeUnit.{TimeUnit}
 use Rattle.caldate_run.specs.declared.tally.Tally.{Tally}
 use Rattle.caldate_run.proofs.Laters.{one_later}
@@ -61,9 +55,11 @@ between (Some unit) from to a b h k = h.2 ∙ ap signed_decimal (one_count unit 
 
 one_answer_to : (q : Request) (text : List ℕ) (found : DateOrMoment) (a b : List ℕ) → IsAnswerTo q text found a → IsAnswerTo q text found b → a ≡ b
 one_answer_to (To form) text found a b h k = in_form form (moment_of found) a b h k
+one_answer_to (Print items) text found a b h k = h ∙ sym k
 one_answer_to (Add d) text found a b h k = in_form_at (form_read found) h.0 k.0 a b (one_later found d h.0 k.0 h.1 k.1) h.2 k.2
 one_answer_to (Move by) text found a b h k =
     in_form_at (form_read found) _ _ a b (ap (on_day (moment_of found)) (one_lead by (day_of found) h.0 k.0 h.1 k.1)) h.2 k.2
+one_answer_to (Floor n) text found a b h k = in_form (form_read found) (floored n (moment_of found)) a b h k
 one_answer_to (Until target unit) text found a b h k = between unit found target a b h k
 one_answer_to (Since target unit) text found a b h k = between unit target found a b h k
 one_answer_to (At offset) text found a b h k = in_form_at (Moment Rfc3339) _ _ a b (h.1.shown ∙ sym k.1.shown) h.2 k.2
@@ -73,8 +69,10 @@ one_answer_to (Keep bounds) text found a b h k = h.1 ∙ sym k.1
 stays : (q : Request) (text : List ℕ) (found : DateOrMoment) (words : List ℕ) → IsAnswerTo q text found words → leaves_out q found ≡ true → ⊥
 stays (Keep bounds) text found words h out = false≢true (sym (ap (λ lies. option_map_or not lies false) h.0) ∙ out)
 stays (To form) text found words h out = false≢true out
+stays (Print items) text found words h out = false≢true out
 stays (Add d) text found words h out = false≢true out
 stays (Move by) text found words h out = false≢true out
+stays (Floor n) text found words h out = false≢true out
 stays (Until target unit) text found words h out = false≢true out
 stays (Since target unit) text found words h out = false≢true out
 stays (At offset) text found words h out = false≢true out
@@ -86,16 +84,9 @@ ToldOf filter text found answer =
     ⊎ (answer ≡ Ok None) × (leaves_out filter.request found ≡ true)
     ⊎ (answer ≡ Err why.None) × HasNone filter.request text found
 
-abbrev Told : Filter → List ℕ → Result DateOrMoment ParseError → Answer → Type 0
+abbrev Told : Filter → List ℕ → Result DateOrMoment NoAnswer → Answer → Type 0
 Told filter text (Ok found) answer = ToldOf filter text found answer
-Told filter text (Err (OutOfRange e)) answer = answer ≡ Err (why.Rejected e)
-Told filter text (Err other) answer = (at : ℕ) × (answer ≡ Err (why.Unreadable at)) × IsPosition (HasFormIn filter.reading) text at
-
-one_unreadable : (filter : Filter) (text : List ℕ) (a b : Answer)
-    → ((at : ℕ) × (a ≡ Err (why.Unreadable at)) × IsPosition (HasFormIn filter.reading) text at)
-    → ((at : ℕ) × (b ≡ Err (why.Unreadable at)) × IsPosition (HasFormIn filter.reading) text at) → a ≡ b
-one_unreadable filter text a b h k =
-    h.1 ∙ ap (λ at. Err (why.Unreadable at)) (one_position (HasFormIn filter.reading) text h.0 k.0 h.2 k.2) ∙ sym k.1
+Told filter text (Err any) answer = answer ≡ Err any
 
 one_of : (filter : Filter) (text : List ℕ) (found : DateOrMoment) (a b : Answer) → ToldOf filter text found a → ToldOf filter text found b → a ≡ b
 one_of filter text found a b (inl h) (inl k) = h.1 ∙ ap (λ words. Ok (Some words)) (one_answer_to filter.request text found h.0 k.0 h.2 k.2) ∙ sym k.1
@@ -108,48 +99,33 @@ one_of filter text found a b (inr (inr h)) (inl k) = absurd (h.1.1 k.0 k.2)
 one_of filter text found a b (inr (inr h)) (inr (inl k)) = absurd (false≢true (sym h.1.0 ∙ k.1))
 one_of filter text found a b (inr (inr h)) (inr (inr k)) = h.0 ∙ sym k.0
 
-one_told : (filter : Filter) (text : List ℕ) (r : Result DateOrMoment ParseError) (a b : Answer) → Told filter text r a → Told filter text r b → a ≡ b
+one_told : (filter : Filter) (text : List ℕ) (r : Result DateOrMoment NoAnswer) (a b : Answer) → Told filter text r a → Told filter text r b → a ≡ b
 one_told filter text (Ok found) a b h k = one_of filter text found a b h k
-one_told filter text (Err (OutOfRange e)) a b h k = h ∙ sym k
-one_told filter text (Err (UnexpectedByte at)) a b h k = one_unreadable filter text a b h k
-one_told filter text (Err (UnexpectedEnd at)) a b h k = one_unreadable filter text a b h k
+one_told filter text (Err any) a b h k = h ∙ sym k
 
-refused_told : (filter : Filter) (text : List ℕ) (r : Result DateOrMoment ParseError) (e : ComponentRange)
-    → FailsWithComponent e r → Told filter text r (Err (why.Rejected e))
-refused_told filter text (Ok found) e h = absurd h
-refused_told filter text (Err (OutOfRange o)) e h = ap (λ e. Err (why.Rejected e)) (sym (same_Some o e h))
-refused_told filter text (Err (UnexpectedByte at)) e h = absurd (none-some e h)
-refused_told filter text (Err (UnexpectedEnd at)) e h = absurd (none-some e h)
-
-unreadable_told : (filter : Filter) (text : List ℕ) (r : Result DateOrMoment ParseError) (at : ℕ)
-    → FailsWithSyntax r → IsPosition (HasFormIn filter.reading) text at → Told filter text r (Err (why.Unreadable at))
-unreadable_told filter text (Ok found) at h p = absurd h
-unreadable_told filter text (Err (OutOfRange o)) at h p = absurd (none-some o (sym h))
-unreadable_told filter text (Err (UnexpectedByte o)) at h p = (at, refl, p)
-unreadable_told filter text (Err (UnexpectedEnd o)) at h p = (at, refl, p)
-
-found_told : (filter : Filter) (text : List ℕ) (r : Result DateOrMoment ParseError) (found : DateOrMoment) (answer : Answer)
+found_told : (filter : Filter) (text : List ℕ) (r : Result DateOrMoment NoAnswer) (found : DateOrMoment) (answer : Answer)
     → r ≡ Ok found → ToldOf filter text found answer → Told filter text r answer
 found_told filter text r found answer e h = subst (λ r. Told filter text r answer) (sym e) h
 
-told : (filter : Filter) (text : List ℕ) (r : Result DateOrMoment ParseError) (answer : Answer)
-    → ((found : DateOrMoment) → IsTextIn filter.reading text found → r ≡ Ok found)
-    → (FailsWithSyntax r ↔ ¬ HasFormIn filter.reading text) → ((e : ComponentRange) → FailsWithComponent e r ↔ IsFaultIn filter.reading text e)
-    → IsAnswer filter text answer → Told filter text r answer
-told filter text r (Ok (Some words)) every form component h = found_told filter text r h.0 _ (every h.0 h.1) (inl (words, refl, h.2))
-told filter text r (Ok None) every form component h = found_told filter text r h.0 _ (every h.0 h.1) (inr (inl (refl, h.2)))
-told filter text r (Err why.None) every form component h = found_told filter text r h.0 _ (every h.0 h.1) (inr (inr (refl, h.2)))
-told filter text r (Err (why.Rejected e)) every form component h = refused_told filter text r e ((component e).1 h)
-told filter text r (Err (why.Unreadable at)) every form component h = unreadable_told filter text r at (form.1 h.0) h.1
-told filter text r (Err why.TooLong) every form component h = absurd h
-told filter text r (Err why.NoField) every form component h = absurd h
+unread_told : (filter : Filter) (text : List ℕ) (r : Result DateOrMoment NoAnswer) (any : NoAnswer) → r ≡ Err any → Told filter text r (Err any)
+unread_told filter text r any e = subst (λ r. Told filter text r (Err any)) (sym e) refl
 
-pub one_answer : (filter : Filter) (text : List ℕ) (r : Result DateOrMoment ParseError) (a b : Answer)
-    → ((found : DateOrMoment) → IsTextIn filter.reading text found → r ≡ Ok found)
-    → (FailsWithSyntax r ↔ ¬ HasFormIn filter.reading text) → ((e : ComponentRange) → FailsWithComponent e r ↔ IsFaultIn filter.reading text e)
-    → IsAnswer filter text a → IsAnswer filter text b → a ≡ b
-one_answer filter text r a b every form component h k =
-    one_told filter text r a b (told filter text r a every form component h) (told filter text r b every form component k)
+told : (filter : Filter) (text : List ℕ) (r : Result DateOrMoment NoAnswer) (answer : Answer)
+    → ((found : DateOrMoment) → IsReadAs filter text found → r ≡ Ok found)
+    → ((any : NoAnswer) → IsUnread filter.offset filter.readers text any → r ≡ Err any) → IsAnswer filter text answer → Told filter text r answer
+told filter text r (Ok (Some words)) every unread h = found_told filter text r h.0 _ (every h.0 h.1) (inl (words, refl, h.2))
+told filter text r (Ok None) every unread h = found_told filter text r h.0 _ (every h.0 h.1) (inr (inl (refl, h.2)))
+told filter text r (Err why.None) every unread h = found_told filter text r h.0 _ (every h.0 h.1) (inr (inr (refl, h.2)))
+told filter text r (Err (why.Rejected e)) every unread h = unread_told filter text r (why.Rejected e) (unread (why.Rejected e) h)
+told filter text r (Err (why.Unreadable at)) every unread h = unread_told filter text r (why.Unreadable at) (unread (why.Unreadable at) h)
+told filter text r (Err why.TooLong) every unread h = unread_told filter text r why.TooLong (unread why.TooLong h)
+told filter text r (Err why.NoField) every unread h = unread_told filter text r why.NoField (unread why.NoField h)
+told filter text r (Err why.NoForm) every unread h = unread_told filter text r why.NoForm (unread why.NoForm h)
+
+pub one_answer : (filter : Filter) (text : List ℕ) (r : Result DateOrMoment NoAnswer) (a b : Answer)
+    → ((found : DateOrMoment) → IsReadAs filter text found → r ≡ Ok found)
+    → ((any : NoAnswer) → IsUnread filter.offset filter.readers text any → r ≡ Err any) → IsAnswer filter text a → IsAnswer filter text b → a ≡ b
+one_answer filter text r a b every unread h k = one_told filter text r a b (told filter text r a every unread h) (told filter text r b every unread k)
 
 -- ---- the answers to all lines
 -- the line has one reply, whatever came before it

@@ -1,30 +1,29 @@
 -- The answer to the text of a line.
-use Rattle.std.specs.Prelude.{◌≡◌, ℕ, ◌&&◌, Bool, true, false, not, ℤ, pos, ◌+ℤ◌, ◌-ℤ◌, List, Option, Some, None, Result, Ok, Err, if◌then◌else◌}
+use Rattle.std.specs.Prelude.{◌≡◌, ℕ, ◌+◌, ◌-◌, ◌*◌, ◌%◌, max, ◌&&◌, Bool, true, false, not, ℤ, pos, ◌+ℤ◌, ◌-ℤ◌, List, Option, Some, None, Result, Ok, Err, if◌then◌else◌}
 use Rattle.std.specs.Fmt.{signed_decimal}
 use Rattle.std.specs.Option.{option_map_or}
 use Rattle.cal_time.specs.Date.{IsDate, julian_day_at}
 use Rattle.cal_time.specs.SignedDuration.{whole_days}
 use Rattle.cal_time.specs.SignedDuration as duration
-use Rattle.cal_datetime.specs.DateTime.{IsDateTime, date_time, time_at}
+use Rattle.cal_time.specs.Time.{hour_of, minute_of}
+use Rattle.cal_datetime.specs.DateTime.{IsDateTime, date_at, date_time, time_at}
 use Rattle.cal_datetime.specs.OffsetDateTime.{LocalAndOffset, instant, local_at}
-use Rattle.cal_text.specs.Position.{IsPosition}
 use Rattle.cal_text.specs.declared.any.DateOrMoment.{DateOrMoment}
 use Rattle.cal_text.specs.declared.any.DateOrMoment.TheVariants as read
 use Rattle.cal_text.specs.declared.any.MomentForm.TheVariants.{Rfc3339}
 use Rattle.caldate_run.specs.Counts.{IsCount}
 use Rattle.caldate_run.specs.Bounds.{lies_in}
-use Rattle.caldate_run.specs.Forms.{IsInForm}
+use Rattle.caldate_run.specs.Forms.{IsInForm, format_text}
 pub use Rattle.caldate_run.specs.Found.{day_of, form_read, is_date, moment_of}
 use Rattle.caldate_run.specs.Moves.{LeadsTo}
-use Rattle.caldate_run.specs.Readings.{HasFormIn, IsFaultIn, IsTextIn}
+use Rattle.caldate_run.specs.Readers.{IsFoundBy, IsUnread}
 use Rattle.caldate_run.specs.declared.no_answer.NoAnswer.{NoAnswer}
 use Rattle.caldate_run.specs.declared.no_answer.NoAnswer.TheVariants as why
-use Rattle.caldate_run.specs.declared.reading.Reading.{Reading}
 use Rattle.caldate_run.specs.declared.request.DayMove.{DayMove}
 use Rattle.caldate_run.specs.declared.request.Filter.{Filter}
 use Rattle.caldate_run.specs.declared.request.Form.TheVariants.{Moment}
 use Rattle.caldate_run.specs.declared.request.Request.{Request}
-use Rattle.caldate_run.specs.declared.request.Request.TheVariants.{To, Add, Move, Until, Since, At, Keep}
+use Rattle.caldate_run.specs.declared.request.Request.TheVariants.{To, Print, Add, Move, Floor, Until, Since, At, Keep}
 use Rattle.caldate_run.specs.declared.request.TimeUnit.{TimeUnit}
 
 -- Moment m moves to day n and keeps its time of day and offset.
@@ -69,11 +68,20 @@ IsAt offset from words = (m : LocalAndOffset) × IsShownAt offset from m × IsIn
 abbrev pub IsMoved : DayMove → DateOrMoment → List ℕ → Type 0
 IsMoved by found words = (n : ℕ) × LeadsTo by (day_of found) n × IsInForm (form_read found) (on_day (moment_of found) n) words
 
+-- The time of day is rounded down to a multiple of n minutes after midnight, or
+-- of 1 minute for 0.
+abbrev pub floored : ℕ → LocalAndOffset → LocalAndOffset
+floored n m =
+    let minutes = hour_of (time_at m.local) * 60 + minute_of (time_at m.local) in
+    record { local = date_time (date_at m.local) ((minutes - minutes % max n 1) * duration.minute); offset = m.offset }
+
 -- The words replace the text that was read. `keep` leaves it as it is.
 abbrev pub IsAnswerTo : Request → List ℕ → DateOrMoment → List ℕ → Type 0
 IsAnswerTo (To form) text found words = IsInForm form (moment_of found) words
+IsAnswerTo (Print items) text found words = words ≡ format_text items (moment_of found)
 IsAnswerTo (Add d) text found words = (m : LocalAndOffset) × IsLater found d m × IsInForm (form_read found) m words
 IsAnswerTo (Move by) text found words = IsMoved by found words
+IsAnswerTo (Floor n) text found words = IsInForm (form_read found) (floored n (moment_of found)) words
 IsAnswerTo (Until target unit) text found words = IsBetween unit found target words
 IsAnswerTo (Since target unit) text found words = IsBetween unit target found words
 IsAnswerTo (At offset) text found words = IsAt offset (moment_of found) words
@@ -93,14 +101,12 @@ Answer = Result (Option (List ℕ)) NoAnswer
 abbrev pub HasNone : Request → List ℕ → DateOrMoment → Type 0
 HasNone request text found = (leaves_out request found ≡ false) × ((words : List ℕ) → ¬ IsAnswerTo request text found words)
 
--- The text is not in the form, and departs from it at this position.
-abbrev pub IsUnreadable : Reading → List ℕ → ℕ → Type 0
-IsUnreadable reading text at = (¬ HasFormIn reading text) × IsPosition (HasFormIn reading) text at
+-- The text is read, as this date or moment.
+abbrev pub IsReadAs : Filter → List ℕ → DateOrMoment → Type 0
+IsReadAs filter text found = IsFoundBy filter.offset filter.readers text found
 
 abbrev pub IsAnswer : Filter → List ℕ → Answer → Type 0
-IsAnswer filter text (Ok (Some words)) = (found : DateOrMoment) × IsTextIn filter.reading text found × IsAnswerTo filter.request text found words
-IsAnswer filter text (Ok None) = (found : DateOrMoment) × IsTextIn filter.reading text found × (leaves_out filter.request found ≡ true)
-IsAnswer filter text (Err why.None) = (found : DateOrMoment) × IsTextIn filter.reading text found × HasNone filter.request text found
-IsAnswer filter text (Err (why.Rejected component)) = IsFaultIn filter.reading text component
-IsAnswer filter text (Err (why.Unreadable at)) = IsUnreadable filter.reading text at
-IsAnswer filter text (Err other) = ⊥
+IsAnswer filter text (Ok (Some words)) = (found : DateOrMoment) × IsReadAs filter text found × IsAnswerTo filter.request text found words
+IsAnswer filter text (Ok None) = (found : DateOrMoment) × IsReadAs filter text found × (leaves_out filter.request found ≡ true)
+IsAnswer filter text (Err why.None) = (found : DateOrMoment) × IsReadAs filter text found × HasNone filter.request text found
+IsAnswer filter text (Err other) = IsUnread filter.offset filter.readers text other

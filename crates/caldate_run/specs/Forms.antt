@@ -9,6 +9,9 @@ use Rattle.cal_time.specs.SignedDuration.{microsecond, millisecond}
 use Rattle.cal_time.specs.Weekday.{name}
 use Rattle.cal_time.specs.Weekday as weekday
 use Rattle.cal_datetime.specs.DateTime.{date_at}
+use Rattle.cal_format.specs.declared.item.Item.{Item}
+use Rattle.cal_format.specs.Moment.{moment_of_offset_date_time}
+use Rattle.cal_format.specs.Text.{text_of}
 use Rattle.cal_datetime.specs.OffsetDateTime.{LocalAndOffset, instant, unix_nanoseconds}
 use Rattle.cal_schedule.specs.Months.{quarter_at}
 use Rattle.cal_text.specs.AnyForm.{date_text}
@@ -44,6 +47,10 @@ abbrev pub units_in : UnixUnit → ℤ → ℤ
 units_in Milliseconds v = int_div_euclid v (pos millisecond)
 units_in Microseconds v = int_div_euclid v (pos microsecond)
 units_in Nanoseconds v = v
+
+-- The text of a moment in a format.
+abbrev pub format_text : List Item → LocalAndOffset → List ℕ
+format_text items m = text_of items (moment_of_offset_date_time m)
 
 -- The words are the text of a moment in the form.
 abbrev pub IsInForm : Form → LocalAndOffset → List ℕ → Type 0

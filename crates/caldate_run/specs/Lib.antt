@@ -9,9 +9,11 @@ pub mod Forms
 pub mod Found
 pub mod Lines
 pub mod Lists
+pub mod Meanings
 pub mod Moves
 pub mod Offsets
 pub mod Program
+pub mod Readers
 pub mod Readings
 pub mod Records
 pub mod Recurring
@@ -20,5 +22,6 @@ pub mod Requests
 pub mod Room
 pub mod Runs
 pub mod Shown
+pub mod Spellings
 pub mod Standing
 pub mod Templates

@@ -26,6 +26,7 @@ refused_text error = codes "refused " ++ component_name error.component ++ (if e
 abbrev pub reason : NoAnswer → List ℕ
 reason why.TooLong = codes "line too long"
 reason why.NoField = codes "no such field"
+reason why.NoForm = codes "in no form of --read"
 reason why.None = codes "none"
 reason (why.Rejected component) = refused_text component
 reason (why.Unreadable at) = codes "unreadable at " ++ decimal at

@@ -1,6 +1,6 @@
 -- The command that the arguments give, or the first invalid word and its expected kind.
 use denote.Ref.{Bor}
-use Rattle.std.specs.Prelude.{ℕ, ◌+◌, ◌-◌, nat_lt, not, ◌&&◌, ◌||◌, Bool, true, false, is_none, is_some, unwrap_or, ℤ, pos, neg_ℤ, ◌*ℤ◌, int_le, nat_abs, List, [], ◌∷◌, ◌==◌, length, take, drop, Option, Some, None, MatchOption, option_map, option_and_then, ok_or, Result, Ok, Err, slice_get, position, bytes_eq, codes, if◌then◌else◌, ◌*◌}
+use Rattle.std.specs.Prelude.{ℕ, ◌+◌, ◌-◌, nat_lt, not, ◌&&◌, ◌||◌, Bool, true, false, is_none, is_some, unwrap_or, ℤ, pos, neg_ℤ, ◌*ℤ◌, int_le, nat_abs, List, [], ◌∷◌, ◌++◌, ◌==◌, length, take, drop, Option, Some, None, MatchOption, option_map, option_and_then, ok_or, Result, Ok, Err, slice_get, position, bytes_eq, codes, if◌then◌else◌, ◌*◌}
 use Rattle.std.specs.List.{All, slice_split}
 use Rattle.std.specs.Option.{option_map_or}
 use Rattle.std.specs.Result.{result_ok}
@@ -9,19 +9,23 @@ use Rattle.std.specs.Str.Parse.{signed_digits_value, without_leading_sign}
 use Rattle.cal_time.specs.SignedDuration.{second}
 use Rattle.cal_time.specs.declared.Weekday.{Weekday}
 use Rattle.cal_time.specs.declared.Weekday.TheVariants as weekday
-use Rattle.cal_text.specs.AnyForm.{IsTextOf}
+use Rattle.cal_format.specs.Reading.{are_apart, are_date_items, are_date_time_items, shows_date, shows_offset, shows_time}
+use Rattle.cal_format.specs.declared.item.Item.{Item}
 use Rattle.cal_text.specs.declared.any.DateForm.TheVariants.{Calendar, Ordinal, Week, JulianDay}
 use Rattle.cal_text.specs.declared.any.DateOrMoment.{DateOrMoment}
 use Rattle.cal_text.specs.declared.any.DateOrMoment.TheVariants as dated
 use Rattle.cal_text.specs.declared.any.MomentForm.TheVariants.{Rfc3339, Unix}
 use Rattle.cal_recurrence.specs.Text.{recurrence_of}
 use Rattle.cal_recurrence.specs.declared.recurrence.Recurrence.{Recurrence}
+use Rattle.caldate_run.specs.Meanings.{Meanings, found_in, is_format, name_of, value_in}
 use Rattle.caldate_run.specs.Offsets.{offset_of}
 use Rattle.caldate_run.specs.declared.on_invalid.OnInvalid.{OnInvalid}
 use Rattle.caldate_run.specs.declared.on_invalid.OnInvalid.TheVariants as invalid
 use Rattle.caldate_run.specs.declared.options.Options.{Options}
-use Rattle.caldate_run.specs.declared.reading.Reading.{Reading}
 use Rattle.caldate_run.specs.declared.reading.Reading.TheVariants as read
+use Rattle.caldate_run.specs.declared.reading.reader.Reader.{Reader}
+use Rattle.caldate_run.specs.declared.reading.reader.Reader.TheVariants as reader
+use Rattle.caldate_run.specs.declared.reading.spelling.Spelling.TheVariants.{Iso, Seconds}
 use Rattle.caldate_run.specs.declared.request.Field.{Field}
 use Rattle.caldate_run.specs.declared.request.FieldNumbers.{FieldNumbers}
 use Rattle.caldate_run.specs.declared.request.Filter.{Filter}
@@ -38,7 +42,7 @@ use Rattle.caldate_run.specs.declared.request.TimeUnit.{TimeUnit}
 use Rattle.caldate_run.specs.declared.request.TimeUnit.TheVariants as unit
 use Rattle.caldate_run.specs.declared.request.UnixUnit.TheVariants.{Milliseconds, Microseconds, Nanoseconds}
 use Rattle.caldate_run.specs.declared.request.Request.{Request}
-use Rattle.caldate_run.specs.declared.request.Request.TheVariants.{To, Add, Move, Until, Since, At, Keep}
+use Rattle.caldate_run.specs.declared.request.Request.TheVariants.{To, Print, Add, Move, Floor, Until, Since, At, Keep}
 use Rattle.caldate_run.specs.declared.request.Bounds.{Bounds}
 use Rattle.caldate_run.specs.declared.request.Bounds.TheVariants.{FromTo, After, Before}
 use Rattle.caldate_run.specs.declared.request.Asked.{Asked}
@@ -55,14 +59,6 @@ arguments_of bytes = slice_split (λ byte. byte == 0) bytes
 abbrev pub words_left : Option (Bor (List ℕ)) → List (List ℕ)
 words_left None = []
 words_left (Some words) = arguments_of words.now
-
--- The reading of the text is correct: its date or moment, or None if it has none.
-abbrev pub IsRead : (List ℕ → Option DateOrMoment) → List ℕ → Type 0
-IsRead reading text = MatchOption (reading text) ((found : DateOrMoment) → ¬ IsTextOf text found) (IsTextOf text)
-
--- The reading of each word is correct.
-abbrev pub IsReading : (List ℕ → Option DateOrMoment) → List (List ℕ) → Type 0
-IsReading reading words = All (IsRead reading) words
 
 -- ---- words
 -- A number has digits, after an optional sign, and is from -9223372036854775808 to
@@ -183,6 +179,10 @@ abbrev pub only_at : {X : Type 0} → List (List ℕ) → ℕ → (List ℕ → 
 only_at words at meaning what = and_then (word_as words at meaning what) (ended words (at + 1))
 
 -- ---- requests, by the words from an index on
+-- `to FORM`, `to FORMAT`
+abbrev pub to_of : Meanings → List ℕ → Option Request
+to_of meanings word = if is_format word then option_map Print (meanings word).items else option_map To (form_of word)
+
 -- `add N UNIT`: the units must fit in a duration.
 abbrev pub duration_of : ℕ → ℤ → Option Request
 duration_of unit z = option_map Add (seconds_in unit z)
@@ -226,51 +226,76 @@ in_unit_at words at =
     and_then (only_at words (at + 1) unit_of wanted.UnitOfTime) (λ unit. Ok (Some unit)))
 
 -- `TEXT`, `TEXT in UNIT`
-abbrev pub target_at : (List ℕ → Option DateOrMoment) → List (List ℕ) → ℕ → Result (DateOrMoment × Option TimeUnit) Senseless
-target_at reading words at =
-    and_then (word_as words at reading wanted.Target) (λ found.
+abbrev pub target_at : Meanings → List (List ℕ) → ℕ → Result (DateOrMoment × Option TimeUnit) Senseless
+target_at meanings words at =
+    and_then (word_as words at (found_in meanings) wanted.Target) (λ found.
     and_then (in_unit_at words (at + 1)) (λ unit. Ok (found, unit)))
 
 -- `from A to B`, `after A`, `before B`
-abbrev pub range_at : (List ℕ → Option DateOrMoment) → List (List ℕ) → ℕ → Result Bounds Senseless
-range_at reading words at =
-    and_then (word_as words at reading wanted.Target) (λ first.
+abbrev pub range_at : Meanings → List (List ℕ) → ℕ → Result Bounds Senseless
+range_at meanings words at =
+    and_then (word_as words at (found_in meanings) wanted.Target) (λ first.
     and_then (word_as words (at + 1) (keyword (codes "to")) wanted.UpTo) (λ to_word.
-    and_then (only_at words (at + 2) reading wanted.Target) (λ last. Ok (FromTo first last))))
+    and_then (only_at words (at + 2) (found_in meanings) wanted.Target) (λ last. Ok (FromTo first last))))
 
-abbrev pub bounds_at : (List ℕ → Option DateOrMoment) → List (List ℕ) → ℕ → Result Bounds Senseless
-bounds_at reading words at =
+abbrev pub bounds_at : Meanings → List (List ℕ) → ℕ → Result Bounds Senseless
+bounds_at meanings words at =
     and_then (word_as words at Some wanted.Bounds) (λ word.
-    if bytes_eq word (codes "from") then range_at reading words (at + 1) else
-    if bytes_eq word (codes "after") then and_then (only_at words (at + 1) reading wanted.Target) (λ bound. Ok (After bound)) else
-    if bytes_eq word (codes "before") then and_then (only_at words (at + 1) reading wanted.Target) (λ bound. Ok (Before bound)) else
+    if bytes_eq word (codes "from") then range_at meanings words (at + 1) else
+    if bytes_eq word (codes "after") then and_then (only_at words (at + 1) (found_in meanings) wanted.Target) (λ bound. Ok (After bound)) else
+    if bytes_eq word (codes "before") then and_then (only_at words (at + 1) (found_in meanings) wanted.Target) (λ bound. Ok (Before bound)) else
     Err (senseless_at at wanted.Bounds))
+
+-- `start PERIOD`, `start day`, `start hour`, `start minute`
+unfoldable pub minutes_in : List ℕ → Option ℕ
+minutes_in word =
+    if spells_unit word (codes "day") (codes "days") then Some 1440 else
+    if spells_unit word (codes "hour") (codes "hours") then Some 60 else
+    if spells_unit word (codes "minute") (codes "minutes") then Some 1 else
+    None
+
+abbrev pub start_of : List ℕ → Option Request
+start_of word = option_map_or (λ p. Some (Move (move.Start p))) (period_of word) (option_map Floor (minutes_in word))
+
+-- `start N minutes`
+abbrev pub minutes_of : List ℕ → Option ℕ
+minutes_of word = number_between 1 1440 word
+
+unfoldable pub minutes_word : List ℕ → Option Unit
+minutes_word word = if spells_unit word (codes "minute") (codes "minutes") then Some tt else None
+
+abbrev pub floor_at : List (List ℕ) → ℕ → ℕ → Result Request Senseless
+floor_at words at n = and_then (only_at words at minutes_word wanted.Minutes) (λ word. Ok (Floor n))
+
+abbrev pub start_at : List (List ℕ) → ℕ → Result Request Senseless
+start_at words at =
+    option_map_or (floor_at words (at + 1)) (option_and_then minutes_of (slice_get words at)) (only_at words at start_of wanted.StartPeriod)
 
 -- The verb comes first. At index 0, an option such as `--help` is allowed too.
 abbrev pub verb_wanted : ℕ → Wanted
 verb_wanted at = if at == 0 then wanted.Start else wanted.Verb
 
 -- The other verbs have these requests.
-abbrev pub further_request_at : (List ℕ → Option DateOrMoment) → List (List ℕ) → ℕ → List ℕ → Result Request Senseless
-further_request_at reading words at word =
-    if bytes_eq word (codes "start") then and_then (only_at words (at + 1) period_of wanted.Period) (λ p. Ok (Move (move.Start p))) else
+abbrev pub further_request_at : Meanings → List (List ℕ) → ℕ → List ℕ → Result Request Senseless
+further_request_at meanings words at word =
+    if bytes_eq word (codes "start") then start_at words (at + 1) else
     if bytes_eq word (codes "end") then and_then (only_at words (at + 1) period_of wanted.Period) (λ p. Ok (Move (move.End p))) else
     if bytes_eq word (codes "on-or-after") then and_then (only_at words (at + 1) weekday_of wanted.Weekday) (λ w. Ok (Move (move.OnOrAfter w))) else
     if bytes_eq word (codes "on-or-before") then and_then (only_at words (at + 1) weekday_of wanted.Weekday) (λ w. Ok (Move (move.OnOrBefore w))) else
     if bytes_eq word (codes "at") then and_then (only_at words (at + 1) offset_of wanted.Offset) (λ o. Ok (At o)) else
-    if bytes_eq word (codes "keep") then and_then (bounds_at reading words (at + 1)) (λ bounds. Ok (Keep bounds)) else
+    if bytes_eq word (codes "keep") then and_then (bounds_at meanings words (at + 1)) (λ bounds. Ok (Keep bounds)) else
     Err (senseless_at at (verb_wanted at))
 
-abbrev pub request_at : (List ℕ → Option DateOrMoment) → List (List ℕ) → ℕ → Result Request Senseless
-request_at reading words at =
+abbrev pub request_at : Meanings → List (List ℕ) → ℕ → Result Request Senseless
+request_at meanings words at =
     and_then (word_as words at Some (verb_wanted at)) (λ word.
-    if bytes_eq word (codes "to") then and_then (only_at words (at + 1) form_of wanted.Form) (λ form. Ok (To form)) else
+    if bytes_eq word (codes "to") then only_at words (at + 1) (to_of meanings) wanted.Form else
     if bytes_eq word (codes "add") then amount_at words (at + 1) else
     if bytes_eq word (codes "next") then and_then (occurrence_at words (at + 1)) (λ o. Ok (Move (move.Next o.0 o.1))) else
     if bytes_eq word (codes "last") then and_then (occurrence_at words (at + 1)) (λ o. Ok (Move (move.Last o.0 o.1))) else
-    if bytes_eq word (codes "until") then and_then (target_at reading words (at + 1)) (λ t. Ok (Until t.0 t.1)) else
-    if bytes_eq word (codes "since") then and_then (target_at reading words (at + 1)) (λ t. Ok (Since t.0 t.1)) else
-    further_request_at reading words at word)
+    if bytes_eq word (codes "until") then and_then (target_at meanings words (at + 1)) (λ t. Ok (Until t.0 t.1)) else
+    if bytes_eq word (codes "since") then and_then (target_at meanings words (at + 1)) (λ t. Ok (Since t.0 t.1)) else
+    further_request_at meanings words at word)
 
 -- ---- lists: `from A to B`, and a pace
 -- The day of a date. A moment has none.
@@ -278,8 +303,8 @@ abbrev pub date_in : DateOrMoment → Option ℕ
 date_in (dated.Date form n) = Some n
 date_in (dated.Moment form m) = None
 
-abbrev pub date_at : (List ℕ → Option DateOrMoment) → List (List ℕ) → ℕ → Result ℕ Senseless
-date_at reading words at = and_then (word_as words at reading wanted.Date) (λ found. ok_or (date_in found) (senseless_at at wanted.Date))
+abbrev pub date_at : Meanings → List (List ℕ) → ℕ → Result ℕ Senseless
+date_at meanings words at = and_then (word_as words at (found_in meanings) wanted.Date) (λ found. ok_or (date_in found) (senseless_at at wanted.Date))
 
 -- A step of n days, weeks, months or years.
 abbrev pub step_in : ℕ → TimeUnit → Option Step
@@ -314,17 +339,17 @@ abbrev pub paced : ℕ → ℕ → Pace → Asked
 paced a b (Steps step) = Dates (record { first = a; last = b; step = step })
 paced a b (Rule recurrence) = Recurring (record { first = a; last = b; recurrence = recurrence })
 
-abbrev pub list_of : (List ℕ → Option DateOrMoment) → List (List ℕ) → Result Asked Senseless
-list_of reading words =
+abbrev pub list_of : Meanings → List (List ℕ) → Result Asked Senseless
+list_of meanings words =
     and_then (word_as words 1 (keyword (codes "from")) wanted.From) (λ from_word.
-    and_then (date_at reading words 2) (λ first.
+    and_then (date_at meanings words 2) (λ first.
     and_then (word_as words 3 (keyword (codes "to")) wanted.UpTo) (λ to_word.
-    and_then (date_at reading words 4) (λ last.
+    and_then (date_at meanings words 4) (λ last.
     and_then (pace_of words) (λ pace. Ok (paced first last pace))))))
 
 -- ---- the options before a request, in any order, each at most once
 abbrev pub no_options : Options
-no_options = record { on_invalid = None; fields = None; csv = false; separator = None; skip = None; reading = None; offset = None }
+no_options = record { on_invalid = None; fields = None; csv = false; separator = None; skip = None; readers = []; offset = None }
 
 -- `--invalid MODE`
 abbrev pub invalid_of : List ℕ → Option OnInvalid
@@ -356,17 +381,37 @@ byte_of word = None
 abbrev pub skip_of : List ℕ → Option ℕ
 skip_of word = number_between 0 9223372036854775807 word
 
--- `--read FORM`: for `local`, the offset is 0 until the options are complete.
-abbrev pub reading_of : List ℕ → Option Reading
-reading_of word =
-    if bytes_eq word (codes "basic") then Some read.Basic else
-    if bytes_eq word (codes "dmy") then Some read.DayFirst else
-    if bytes_eq word (codes "mdy") then Some read.MonthFirst else
-    if bytes_eq word (codes "unix-ms") then Some (read.Unix Milliseconds) else
-    if bytes_eq word (codes "unix-us") then Some (read.Unix Microseconds) else
-    if bytes_eq word (codes "unix-ns") then Some (read.Unix Nanoseconds) else
-    if bytes_eq word (codes "local") then Some (read.Local (pos 0)) else
+-- `--read FORM`
+abbrev pub reader_named : List ℕ → Option Reader
+reader_named word =
+    if bytes_eq word (codes "basic") then Some (reader.Named read.Basic) else
+    if bytes_eq word (codes "dmy") then Some (reader.Named read.DayFirst) else
+    if bytes_eq word (codes "mdy") then Some (reader.Named read.MonthFirst) else
+    if bytes_eq word (codes "unix-ms") then Some (reader.Named (read.Unix Milliseconds)) else
+    if bytes_eq word (codes "unix-us") then Some (reader.Named (read.Unix Microseconds)) else
+    if bytes_eq word (codes "unix-ns") then Some (reader.Named (read.Unix Nanoseconds)) else
+    if bytes_eq word (codes "unix") then Some (reader.Spelled Seconds) else
+    if bytes_eq word (codes "iso") then Some (reader.Spelled Iso) else
+    if bytes_eq word (codes "local") then Some reader.Local else
     None
+
+-- `--read FORMAT`: the format determines a date, else a moment with its offset, else one without.
+abbrev pub reader_with : List Item → Option Reader
+reader_with items =
+    if are_apart items && (are_date_items items && shows_date items) then Some (reader.Dates items) else
+    if are_apart items && (shows_date items && (shows_time items && shows_offset items)) then Some (reader.Moments items) else
+    if are_apart items && (are_date_time_items items && (shows_date items && shows_time items)) then Some (reader.DateTimes items) else
+    None
+
+abbrev pub reader_of : Meanings → List ℕ → Option Reader
+reader_of meanings word = if is_format word then option_and_then reader_with (meanings word).items else reader_named word
+
+-- Up to four forms may be given.
+abbrev pub has_room : List Reader → Bool
+has_room readers = nat_lt (length readers) 4
+
+abbrev pub with_reader : Options → Reader → Option Options
+with_reader options form = if has_room options.readers then Some (record options { readers = options.readers ++ form ∷ [] }) else None
 
 -- `--csv`, if it is not given yet.
 abbrev pub is_flag : Options → List ℕ → Bool
@@ -379,48 +424,41 @@ value_of options word =
     if bytes_eq word (codes "--field") && is_none options.fields then Some wanted.FieldNumber else
     if bytes_eq word (codes "--separator") && is_none options.separator then Some wanted.Separator else
     if bytes_eq word (codes "--skip") && is_none options.skip then Some wanted.Skip else
-    if bytes_eq word (codes "--read") && is_none options.reading then Some wanted.Reading else
+    if bytes_eq word (codes "--read") && has_room options.readers then Some wanted.Reading else
     if bytes_eq word (codes "--assume") && is_none options.offset then Some wanted.Offset else
     None
-
--- `NAME=VALUE`: an option and its value in one word.
-abbrev pub name_of : List ℕ → List ℕ
-name_of word = option_map_or (λ at. take at word) (position (λ b. b == 61) word) word
-
-abbrev pub value_in : List ℕ → List ℕ
-value_in word = option_map_or (λ at. drop (at + 1) word) (position (λ b. b == 61) word) []
 
 -- The word is an option, whatever the others are.
 abbrev pub is_option : List ℕ → Bool
 is_option word = is_flag no_options word || is_some (value_of no_options (name_of word))
 
 -- The options, with this value for the option that needs it.
-abbrev pub with_value : Options → List ℕ → Wanted → Option Options
-with_value options value wanted.Invalid = option_map (λ mode. record options { on_invalid = Some mode }) (invalid_of value)
-with_value options value wanted.FieldNumber = option_map (λ numbers. record options { fields = Some numbers }) (field_numbers_of value)
-with_value options value wanted.Separator = option_map (λ c. record options { separator = Some c }) (byte_of value)
-with_value options value wanted.Skip = option_map (λ k. record options { skip = Some k }) (skip_of value)
-with_value options value wanted.Reading = option_map (λ form. record options { reading = Some form }) (reading_of value)
-with_value options value wanted.Offset = option_map (λ o. record options { offset = Some o }) (offset_of value)
-with_value options value other = None
+abbrev pub with_value : Meanings → Options → List ℕ → Wanted → Option Options
+with_value meanings options value wanted.Invalid = option_map (λ mode. record options { on_invalid = Some mode }) (invalid_of value)
+with_value meanings options value wanted.FieldNumber = option_map (λ numbers. record options { fields = Some numbers }) (field_numbers_of value)
+with_value meanings options value wanted.Separator = option_map (λ c. record options { separator = Some c }) (byte_of value)
+with_value meanings options value wanted.Skip = option_map (λ k. record options { skip = Some k }) (skip_of value)
+with_value meanings options value wanted.Reading = option_and_then (with_reader options) (reader_of meanings value)
+with_value meanings options value wanted.Offset = option_map (λ o. record options { offset = Some o }) (offset_of value)
+with_value meanings options value other = None
 
 -- The options, with the option and its value in this word.
-abbrev pub with_joined : Options → ℕ → List ℕ → Result Options Senseless
-with_joined options at word =
-    option_map_or (λ what. ok_or (with_value options (value_in word) what) (senseless_at at what)) (value_of options (name_of word)) (Ok options)
+abbrev pub with_joined : Meanings → Options → ℕ → List ℕ → Result Options Senseless
+with_joined meanings options at word =
+    option_map_or (λ what. ok_or (with_value meanings options (value_in word) what) (senseless_at at what)) (value_of options (name_of word)) (Ok options)
 
 -- The options at the front of the words, the first of which has index `at`, and the index of the
 -- word after them. The first word may be the value of the option before it.
-abbrev pub options_from : Option Wanted → Options → ℕ → List (List ℕ) → Result (Options × ℕ) Senseless
-options_from None options at [] = Ok (options, at)
-options_from None options at (word ∷ words) =
-    if is_flag options word then options_from None (record options { csv = true }) (at + 1) words else
-    if is_some (value_of options word) then options_from (value_of options word) options (at + 1) words else
-    if is_some (value_of options (name_of word)) then and_then (with_joined options at word) (λ more. options_from None more (at + 1) words) else
+abbrev pub options_from : Meanings → Option Wanted → Options → ℕ → List (List ℕ) → Result (Options × ℕ) Senseless
+options_from meanings None options at [] = Ok (options, at)
+options_from meanings None options at (word ∷ words) =
+    if is_flag options word then options_from meanings None (record options { csv = true }) (at + 1) words else
+    if is_some (value_of options word) then options_from meanings (value_of options word) options (at + 1) words else
+    if is_some (value_of options (name_of word)) then and_then (with_joined meanings options at word) (λ more. options_from meanings None more (at + 1) words) else
     Ok (options, at)
-options_from (Some what) options at [] = Err (senseless_at at what)
-options_from (Some what) options at (word ∷ words) =
-    option_map_or (λ more. options_from None more (at + 1) words) (with_value options word what) (Err (senseless_at at what))
+options_from meanings (Some what) options at [] = Err (senseless_at at what)
+options_from meanings (Some what) options at (word ∷ words) =
+    option_map_or (λ more. options_from meanings None more (at + 1) words) (with_value meanings options word what) (Err (senseless_at at what))
 
 -- ---- the whole: `--help`, `--version`, a list, or a request, perhaps after options
 abbrev pub asks_for_help : List ℕ → Bool
@@ -436,25 +474,30 @@ field_of options =
       csv = options.csv;
     }) options.fields
 
--- The reading that the options select. The default is any form, and `local` gets its offset.
-abbrev pub reading_at : Option Reading → Option ℤ → Reading
-reading_at None offset = read.Any
-reading_at (Some (read.Local waiting)) (Some offset) = read.Local offset
-reading_at (Some form) offset = form
+-- The forms that the options select. The default is the six forms, and then ISO 8601.
+abbrev pub readers_in : List Reader → List Reader
+readers_in [] = reader.Named read.Any ∷ reader.Spelled Iso ∷ []
+readers_in (form ∷ forms) = form ∷ forms
 
-abbrev pub is_local : Option Reading → Bool
-is_local (Some (read.Local waiting)) = true
+-- The form has no offset.
+abbrev pub is_local : Reader → Bool
+is_local reader.Local = true
+is_local (reader.DateTimes items) = true
 is_local form = false
 
--- The option that is missing: `--separator` and `--csv` require `--field`, and `--read local` and
--- `--assume` require each other. A quote separates no fields of a record.
+abbrev pub any_local : List Reader → Bool
+any_local [] = false
+any_local (form ∷ forms) = is_local form || any_local forms
+
+-- The option that is missing: `--separator` and `--csv` require `--field`, and a form without an
+-- offset and `--assume` require each other. A quote separates no fields of a record.
 abbrev pub lacking : Options → Option Wanted
 lacking options =
     if is_some options.separator && is_none options.fields then Some wanted.Field else
     if options.csv && is_none options.fields then Some wanted.CsvField else
     if options.csv && option_map_or (λ c. c == 34) options.separator false then Some wanted.CsvSeparator else
-    if is_local options.reading && is_none options.offset then Some wanted.Assume else
-    if is_some options.offset && not (is_local options.reading) then Some wanted.Local else
+    if any_local options.readers && is_none options.offset then Some wanted.Assume else
+    if is_some options.offset && not (any_local options.readers) then Some wanted.Local else
     None
 
 -- The default: `keep` drops a line without an answer, and with `--field` the line is kept.
@@ -466,35 +509,36 @@ default_mode other None = invalid.Answer
 abbrev pub filter_of : Options → Request → Filter
 filter_of options request = record {
   request = request;
-  reading = reading_at options.reading options.offset;
+  readers = readers_in options.readers;
+  offset = unwrap_or options.offset (pos 0);
   on_invalid = unwrap_or options.on_invalid (default_mode request options.fields);
   field = field_of options;
   skip = unwrap_or options.skip 0;
 }
 
 -- The options and the request from an index on.
-abbrev pub filter_at : (List ℕ → Option DateOrMoment) → List (List ℕ) → ℕ → Result Filter Senseless
-filter_at reading words at =
-    and_then (options_from None no_options at (drop at words)) (λ front.
+abbrev pub filter_at : Meanings → List (List ℕ) → ℕ → Result Filter Senseless
+filter_at meanings words at =
+    and_then (options_from meanings None no_options at (drop at words)) (λ front.
     option_map_or (λ what. Err (senseless_at front.1 what)) (lacking front.0)
-    (and_then (request_at reading words front.1) (λ request. Ok (filter_of front.0 request))))
+    (and_then (request_at meanings words front.1) (λ request. Ok (filter_of front.0 request))))
 
 -- `--date TEXT`, and the options and the request
 abbrev pub some_text : List ℕ → Option (List ℕ)
 some_text word = if bytes_eq word [] then None else Some word
 
-abbrev pub once_of : (List ℕ → Option DateOrMoment) → List (List ℕ) → Result Asked Senseless
-once_of reading words =
+abbrev pub once_of : Meanings → List (List ℕ) → Result Asked Senseless
+once_of meanings words =
     and_then (word_as words 1 some_text wanted.Target) (λ text.
-    and_then (filter_at reading words 2) (λ filter. Ok (Once filter)))
+    and_then (filter_at meanings words 2) (λ filter. Ok (Once filter)))
 
 -- A single empty argument counts as no arguments.
-abbrev pub asked_of : (List ℕ → Option DateOrMoment) → List (List ℕ) → Result Asked Senseless
-asked_of reading words =
+abbrev pub asked_of : Meanings → List (List ℕ) → Result Asked Senseless
+asked_of meanings words =
     and_then (word_as words 0 Some wanted.Something) (λ first.
     if bytes_eq first [] && ends_at words 1 then Err (senseless_at 0 wanted.Something) else
     if asks_for_help first then ended words 1 Help else
     if bytes_eq first (codes "--version") then ended words 1 Version else
-    if bytes_eq first (codes "list") then list_of reading words else
-    if bytes_eq first (codes "--date") then once_of reading words else
-    and_then (filter_at reading words 0) (λ filter. Ok (Lines filter)))
+    if bytes_eq first (codes "list") then list_of meanings words else
+    if bytes_eq first (codes "--date") then once_of meanings words else
+    and_then (filter_at meanings words 0) (λ filter. Ok (Lines filter)))

@@ -11,10 +11,10 @@ longest_text = 4096
 
 -- The maximum length of an answer, and of a reply with its line end.
 abbrev pub longest_answer : ℕ
-longest_answer = 250
+longest_answer = 1000
 
 abbrev pub longest_reply : ℕ
-longest_reply = 4352
+longest_reply = 5100
 
 -- There is room for n more bytes.
 abbrev pub HasRoom : ℕ → List ℕ → Type 0

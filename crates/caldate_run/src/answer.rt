@@ -2,10 +2,10 @@
 ghost use Rattle.std.specs.Prelude.{◌≡◌, ◌+◌, ◌≤◌, ◌++◌, ℕ, List, Some, false, true, length, MatchOption};
 ghost use Rattle.cal_datetime.specs.OffsetDateTime.{LocalAndOffset};
 ghost use Rattle.cal_text.specs.AnyForm.{date_text};
-ghost use Rattle.caldate_run.specs.Answers.{IsAnswer, IsAnswerTo, IsAt, IsBetween, IsDayLater, IsLater, IsMomentLater, IsMoved, form_read, is_date, leaves_out, moment_of, on_day, until_text};
+ghost use Rattle.caldate_run.specs.Answers.{IsAnswer, IsAnswerTo, IsAt, IsBetween, IsDayLater, IsLater, IsMomentLater, IsMoved, floored, form_read, is_date, leaves_out, moment_of, on_day, until_text};
 ghost use Rattle.caldate_run.specs.Bounds.{lies_in};
-ghost use Rattle.caldate_run.specs.Forms.{IsInForm};
-ghost use Rattle.caldate_run.specs.Replies.{reason, reason_of, refused_text};
+ghost use Rattle.caldate_run.specs.Forms.{IsInForm, format_text};
+ghost use Rattle.caldate_run.specs.Replies.{reason, refused_text};
 ghost use Rattle.caldate_run.specs.Room.{HasRoom, longest_answer};
 ghost use Rattle.caldate_run.specs.Runs.{AppendsThat, Puts};
 
@@ -15,18 +15,22 @@ use crate::counts::count_between;
 use crate::forms::{basic_text, month_text, quarter_text, unix_text};
 use crate::moves::led_to;
 use crate::no_answer::NoAnswer;
-use crate::reading::read_in;
+use crate::reading::read;
 use crate::request::{Bounds, DayMove, Filter, Form, Request, TimeUnit};
 use crate::signed::signed_text;
 use cal_datetime::OffsetDateTime;
+use cal_format::Format;
 use cal_text::date::{CalendarText, OrdinalText, WeekText};
 use cal_text::julian_day::JulianText;
-use cal_text::{DateForm, DateOrMoment, MomentForm, ParseError, rfc3339, unix};
+use cal_text::{DateForm, DateOrMoment, MomentForm, rfc3339, unix};
 use cal_time::error::ComponentRange;
 use cal_time::{Date, ShortText, SignedDuration, Time, UtcOffset};
 
 /// The maximum length of the text of a line, in bytes.
 pub const LONGEST_TEXT: usize = 4096;
+
+/// The maximum length of a text that a format prints: 15 bytes for each of 64 items.
+const LONGEST_PRINTED: usize = 960;
 
 /// Appends the answer to `text`, and returns whether its line goes out.
 pub fn push_answer(buffer: &mut Buffer, filter: &Filter, text: &[u8]) -> Result<bool, NoAnswer>
@@ -34,9 +38,9 @@ pub fn push_answer(buffer: &mut Buffer, filter: &Filter, text: &[u8]) -> Result<
     ensures answered { Puts (IsAnswer filter.now text.now) result buffer.old buffer.new }
     ensures short { length buffer.new ≤ length buffer.old + length text.now + longest_answer }
 {
-    let found = match read_in(filter.reading, text) {
+    let found = match read(filter.readers.as_slice(), filter.offset, text) {
         Ok(found) => found,
-        Err(error) => return Err(reason_of(error)),
+        Err(why) => return Err(why),
     };
     if push_answer_to(buffer, &filter.request, text, &found) {
         Ok(true)
@@ -47,27 +51,16 @@ pub fn push_answer(buffer: &mut Buffer, filter: &Filter, text: &[u8]) -> Result<
     }
 }
 
-/// Returns the reason why a text can't be read.
-fn reason_of(error: ParseError) -> NoAnswer
-    ensures { result ≡ reason_of error }
-{
-    match error {
-        ParseError::UnexpectedByte(position) | ParseError::UnexpectedEnd(position) => {
-            NoAnswer::Unreadable(position)
-        }
-        ParseError::OutOfRange(component) => NoAnswer::Rejected(component),
-    }
-}
-
 /// Appends a reason, such as `unreadable at 4`.
 pub fn push_reason(buffer: &mut Buffer, why: NoAnswer)
-    requires { HasRoom longest_answer buffer.old }
+    requires { HasRoom 80 buffer.old }
     ensures text { buffer.new ≡ buffer.old ++ reason why }
     ensures short { length buffer.new ≤ length buffer.old + 80 }
 {
     match why {
         NoAnswer::TooLong => buffer.push(b"line too long"),
         NoAnswer::NoField => buffer.push(b"no such field"),
+        NoAnswer::NoForm => buffer.push(b"in no form of --read"),
         NoAnswer::None => buffer.push(b"none"),
         NoAnswer::Rejected(component) => push_refusal(buffer, component),
         NoAnswer::Unreadable(position) => {
@@ -103,11 +96,16 @@ fn push_answer_to(buffer: &mut Buffer, request: &Request, text: &[u8], found: &D
     let form = form_read(found);
     match request {
         Request::To(form) => push_in_form(buffer, *form, moment),
+        Request::Print(format) => {
+            push_printed(buffer, format, moment);
+            true
+        }
         Request::Add(duration) => match later(found, *duration) {
             Some(later) => push_in_form(buffer, form, later),
             None => false,
         },
         Request::Move(by) => push_moved(buffer, *by, found),
+        Request::Floor(minutes) => push_in_form(buffer, form, floored(*minutes, moment)),
         Request::Until(target, unit) => {
             push_between(buffer, *unit, found, target);
             true
@@ -179,6 +177,19 @@ fn on_day(moment: OffsetDateTime, date: Date) -> OffsetDateTime
     OffsetDateTime::new_in_offset(date, moment.time(), moment.offset())
 }
 
+/// Rounds the time of day down to a multiple of `minutes` minutes, or of 1 for 0.
+fn floored(minutes: u16, moment: OffsetDateTime) -> OffsetDateTime
+    ensures { result ≡ floored minutes moment }
+{
+    let time = moment.time();
+    let past = u16::from(time.hour()) * 60 + u16::from(time.minute());
+    let floor = past - past % minutes.max(1);
+    match Time::from_hms((floor / 60) as u8, (floor % 60) as u8, 0) {
+        Ok(time) => OffsetDateTime::new_in_offset(moment.date(), time, moment.offset()),
+        Err(_) => unreachable!(),
+    }
+}
+
 /// Appends a moment in a form, or nothing if the form can't express it. Returns whether it can.
 fn push_in_form(buffer: &mut Buffer, form: Form, moment: OffsetDateTime) -> bool
     requires { HasRoom longest_answer buffer.old }
@@ -207,6 +218,22 @@ fn push_in_form(buffer: &mut Buffer, form: Form, moment: OffsetDateTime) -> bool
         Form::Unix(unit) => buffer.push(unix_text(unit, moment).as_bytes()),
     }
     true
+}
+
+/// Appends a moment in a format.
+#[tactic(auto, using(crate::proofs::Printed::printed))]
+fn push_printed(buffer: &mut Buffer, format: &Format, moment: OffsetDateTime)
+    requires { HasRoom longest_answer buffer.old }
+    ensures text { buffer.new ≡ buffer.old ++ format_text format.now moment }
+    ensures short { length buffer.new ≤ length buffer.old + longest_answer }
+{
+    let _items = format.items();
+    let _parts = (moment.date(), moment.time(), moment.offset());
+    let mut text = [0u8; LONGEST_PRINTED];
+    match format.print_offset_date_time(moment, &mut text) {
+        Some(end) => buffer.push(&text[..end]),
+        None => unreachable!(),
+    }
 }
 
 fn text_of_date(form: DateForm, date: Date) -> ShortText

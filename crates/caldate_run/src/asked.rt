@@ -1,19 +1,21 @@
 //! The command that the arguments give.
 ghost use Rattle.std.specs.Prelude.{◌≡◌, ◌+◌, ◌<◌, ◌^◌, ◌≤◌, ℕ, List, Option, IfOk, drop};
-ghost use Rattle.cal_text.specs.declared.any.DateOrMoment.{DateOrMoment};
 ghost use Rattle.caldate_run.specs.Lists.{IsAsked};
 ghost use Rattle.caldate_run.specs.Offsets.{offset_of};
-ghost use Rattle.caldate_run.specs.Requests.{IsReading, amount_at, amount_of, arguments_of, asked_of, count_at, default_mode, duration_of, filter_at, filter_of, further_request_at, in_unit_at, occurrence_at, once_of, only_at, request_at, target_at, unit_at, verb_wanted, words_left};
+ghost use Rattle.caldate_run.specs.Meanings.{AreMeanings, Meanings};
+ghost use Rattle.caldate_run.specs.Requests.{amount_at, amount_of, arguments_of, asked_of, count_at, default_mode, duration_of, filter_at, filter_of, floor_at, further_request_at, in_unit_at, occurrence_at, once_of, only_at, request_at, start_at, target_at, to_of, unit_at, verb_wanted, words_left};
 
 use crate::bounds::bounds_at;
+use crate::formats::to_of;
 use crate::listing::list_of;
 use crate::offset::offset_of;
 use crate::on_invalid::OnInvalid;
-use crate::options::{Options, field_of, lacking, options_of, reading_in};
+use crate::options::{Options, field_of, lacking, options_of, readers_in};
 use crate::request::{Asked, DayMove, FieldNumbers, Filter, Request, TimeUnit};
 use crate::senseless::{Senseless, Wanted, senseless_at};
 use crate::spelling::{
-    asks_for_help, count_of, form_of, number_of, period_of, unit_of, weekday_of,
+    asks_for_help, count_of, minutes_of, minutes_word, number_of, period_of, start_of, unit_of,
+    weekday_of,
 };
 use crate::words::{cut, ended, ends_at, found_at, keyword_at, only_at, word_as, word_at};
 use cal_text::DateOrMoment;
@@ -23,9 +25,9 @@ use cal_time::{SignedDuration, UtcOffset, Weekday};
 /// `add 1 fortnight` the word at index 2 is not a unit.
 pub fn asked_of(words: &[u8]) -> Result<Asked, Senseless>
     ensures steps { IfOk result IsAsked }
-    ensures asked { (reading : List ℕ → Option DateOrMoment)
-        → IsReading reading (arguments_of words.now)
-        → result ≡ asked_of reading (arguments_of words.now) }
+    ensures asked { (meanings : Meanings)
+        → AreMeanings meanings (arguments_of words.now)
+        → result ≡ asked_of meanings (arguments_of words.now) }
 {
     let nothing = senseless_at(0, Wanted::Something);
     let first = word_at(words, 0).ok_or(nothing)?;
@@ -47,9 +49,9 @@ pub fn asked_of(words: &[u8]) -> Result<Asked, Senseless>
 /// Parses the text after `--date`, options and a request.
 fn once_of(words: &[u8]) -> Result<Asked, Senseless>
     ensures steps { IfOk result IsAsked }
-    ensures asked { (reading : List ℕ → Option DateOrMoment)
-        → IsReading reading (arguments_of words.now)
-        → result ≡ once_of reading (arguments_of words.now) }
+    ensures asked { (meanings : Meanings)
+        → AreMeanings meanings (arguments_of words.now)
+        → result ≡ once_of meanings (arguments_of words.now) }
 {
     let Some(rest) = cut(words).1 else {
         return Err(senseless_at(1, Wanted::Target));
@@ -65,19 +67,19 @@ fn once_of(words: &[u8]) -> Result<Asked, Senseless>
 fn filter_at(words: &[u8], rest: Option<&[u8]>, at: usize) -> Result<Filter, Senseless>
     requires few { at ≤ 2 }
     requires rest { words_left rest ≡ drop at (arguments_of words.now) }
-    ensures { (reading : List ℕ → Option DateOrMoment) → IsReading reading (arguments_of words.now)
-        → result ≡ filter_at reading (arguments_of words.now) at }
+    ensures { (meanings : Meanings) → AreMeanings meanings (arguments_of words.now)
+        → result ≡ filter_at meanings (arguments_of words.now) at }
 {
     let (options, at) = options_of(rest, at)?;
     if let Some(wanted) = lacking(&options) {
         return Err(senseless_at(at, wanted));
     }
     let request = request_at(words, at)?;
-    Ok(filter_of(&options, request))
+    Ok(filter_of(options, request))
 }
 
-fn filter_of(options: &Options, request: Request) -> Filter
-    ensures { result ≡ filter_of options.now request }
+fn filter_of(options: Options, request: Request) -> Filter
+    ensures { result ≡ filter_of options request }
 {
     Filter {
         on_invalid: match options.on_invalid {
@@ -85,9 +87,10 @@ fn filter_of(options: &Options, request: Request) -> Filter
             None => default_mode(&request, options.fields),
         },
         request,
-        reading: reading_in(options),
-        field: field_of(options),
+        field: field_of(&options),
         skip: options.skip.unwrap_or(0),
+        offset: options.offset.unwrap_or(UtcOffset::UTC),
+        readers: readers_in(options.readers),
     }
 }
 
@@ -105,13 +108,13 @@ fn default_mode(request: &Request, fields: Option<FieldNumbers>) -> OnInvalid
 /// Parses the request whose verb has this index.
 fn request_at(words: &[u8], at: usize) -> Result<Request, Senseless>
     requires { at + 5 < 2 ^ 64 }
-    ensures { (reading : List ℕ → Option DateOrMoment) → IsReading reading (arguments_of words.now)
-        → result ≡ request_at reading (arguments_of words.now) at }
+    ensures { (meanings : Meanings) → AreMeanings meanings (arguments_of words.now)
+        → result ≡ request_at meanings (arguments_of words.now) at }
 {
     let senseless = senseless_at(at, verb_wanted(at));
     let verb = word_at(words, at).ok_or(senseless)?;
     if verb == b"to".as_slice() {
-        Ok(Request::To(only_at(words, at + 1, form_of, Wanted::Form)?))
+        to_at(words, at + 1)
     } else if verb == b"add".as_slice() {
         amount_at(words, at + 1)
     } else if verb == b"next".as_slice() {
@@ -134,17 +137,17 @@ fn request_at(words: &[u8], at: usize) -> Result<Request, Senseless>
 /// Parses a request that has one of the other verbs.
 fn further_request_at(words: &[u8], at: usize, verb: &[u8]) -> Result<Request, Senseless>
     requires { at + 5 < 2 ^ 64 }
-    ensures { (reading : List ℕ → Option DateOrMoment) → IsReading reading (arguments_of words.now)
-        → result ≡ further_request_at reading (arguments_of words.now) at verb.now }
+    ensures { (meanings : Meanings) → AreMeanings meanings (arguments_of words.now)
+        → result ≡ further_request_at meanings (arguments_of words.now) at verb.now }
 {
     if verb == b"start".as_slice() {
-        Ok(Request::Move(DayMove::Start(only_at(words, at + 1, period_of, Wanted::Period)?)))
+        start_at(words, at + 1)
     } else if verb == b"end".as_slice() {
         Ok(Request::Move(DayMove::End(only_at(words, at + 1, period_of, Wanted::Period)?)))
     } else if verb == b"on-or-after".as_slice() {
-        Ok(Request::Move(DayMove::OnOrAfter(only_at(words, at + 1, weekday_of, Wanted::Weekday)?)))
+        Ok(Request::Move(DayMove::OnOrAfter(weekday_at(words, at + 1)?)))
     } else if verb == b"on-or-before".as_slice() {
-        Ok(Request::Move(DayMove::OnOrBefore(only_at(words, at + 1, weekday_of, Wanted::Weekday)?)))
+        Ok(Request::Move(DayMove::OnOrBefore(weekday_at(words, at + 1)?)))
     } else if verb == b"at".as_slice() {
         Ok(Request::At(offset_at(words, at + 1)?))
     } else if verb == b"keep".as_slice() {
@@ -152,6 +155,49 @@ fn further_request_at(words: &[u8], at: usize, verb: &[u8]) -> Result<Request, S
     } else {
         Err(senseless_at(at, verb_wanted(at)))
     }
+}
+
+/// Parses `WEEKDAY`.
+fn weekday_at(words: &[u8], at: usize) -> Result<Weekday, Senseless>
+    requires { at + 1 < 2 ^ 64 }
+    ensures { result ≡ only_at (arguments_of words.now) at weekday_of Wanted.Weekday }
+{
+    only_at(words, at, weekday_of, Wanted::Weekday)
+}
+
+/// Parses `FORM` or `FORMAT`.
+fn to_at(words: &[u8], at: usize) -> Result<Request, Senseless>
+    requires { at + 1 < 2 ^ 64 }
+    ensures { (meanings : Meanings) → AreMeanings meanings (arguments_of words.now)
+        → result ≡ only_at (arguments_of words.now) at (to_of meanings) Wanted.Form }
+{
+    let senseless = senseless_at(at, Wanted::Form);
+    let Some(word) = word_at(words, at) else {
+        return Err(senseless);
+    };
+    match to_of(word) {
+        Some(request) => ended(words, at + 1, request),
+        None => Err(senseless),
+    }
+}
+
+/// Parses `PERIOD`, `day`, `hour`, `minute` or `N minutes`.
+fn start_at(words: &[u8], at: usize) -> Result<Request, Senseless>
+    requires { at + 2 < 2 ^ 64 }
+    ensures { result ≡ start_at (arguments_of words.now) at }
+{
+    match word_at(words, at).and_then(minutes_of) {
+        Some(minutes) => floor_at(words, at + 1, minutes),
+        None => only_at(words, at, start_of, Wanted::StartPeriod),
+    }
+}
+
+fn floor_at(words: &[u8], at: usize, minutes: u16) -> Result<Request, Senseless>
+    requires { at + 1 < 2 ^ 64 }
+    ensures { result ≡ floor_at (arguments_of words.now) at minutes }
+{
+    only_at(words, at, minutes_word, Wanted::Minutes)?;
+    Ok(Request::Floor(minutes))
 }
 
 fn offset_at(words: &[u8], at: usize) -> Result<UtcOffset, Senseless>
@@ -239,8 +285,8 @@ fn count_at(words: &[u8], at: usize) -> Result<u8, Senseless>
 /// Parses `TEXT` or `TEXT in UNIT`.
 fn target_at(words: &[u8], at: usize) -> Result<(DateOrMoment, Option<TimeUnit>), Senseless>
     requires { at + 3 < 2 ^ 64 }
-    ensures { (reading : List ℕ → Option DateOrMoment) → IsReading reading (arguments_of words.now)
-        → result ≡ target_at reading (arguments_of words.now) at }
+    ensures { (meanings : Meanings) → AreMeanings meanings (arguments_of words.now)
+        → result ≡ target_at meanings (arguments_of words.now) at }
 {
     let target = found_at(words, at, Wanted::Target)?;
     Ok((target, in_unit_at(words, at + 1)?))

@@ -1,8 +1,8 @@
 //! The bounds of `keep`.
 ghost use Rattle.std.specs.Prelude.{◌≡◌, ◌+◌, ◌<◌, ◌^◌, ℕ, List, Option};
-ghost use Rattle.cal_text.specs.declared.any.DateOrMoment.{DateOrMoment};
 ghost use Rattle.caldate_run.specs.Bounds.{are_dates, is_after, is_before, is_within, lies_in};
-ghost use Rattle.caldate_run.specs.Requests.{IsReading, arguments_of, bounds_at, only_at, range_at};
+ghost use Rattle.caldate_run.specs.Meanings.{AreMeanings, Meanings, found_in};
+ghost use Rattle.caldate_run.specs.Requests.{arguments_of, bounds_at, only_at, range_at};
 
 use crate::answer::{is_date, moment_of};
 use crate::request::Bounds;
@@ -13,8 +13,8 @@ use cal_text::DateOrMoment;
 /// Parses `from A to B`, `after A` or `before B`.
 pub fn bounds_at(words: &[u8], at: usize) -> Result<Bounds, Senseless>
     requires { at + 4 < 2 ^ 64 }
-    ensures { (reading : List ℕ → Option DateOrMoment) → IsReading reading (arguments_of words.now)
-        → result ≡ bounds_at reading (arguments_of words.now) at }
+    ensures { (meanings : Meanings) → AreMeanings meanings (arguments_of words.now)
+        → result ≡ bounds_at meanings (arguments_of words.now) at }
 {
     let unbound = senseless_at(at, Wanted::Bounds);
     let word = word_at(words, at).ok_or(unbound)?;
@@ -31,8 +31,8 @@ pub fn bounds_at(words: &[u8], at: usize) -> Result<Bounds, Senseless>
 
 fn bound_at(words: &[u8], at: usize) -> Result<DateOrMoment, Senseless>
     requires { at + 1 < 2 ^ 64 }
-    ensures { (reading : List ℕ → Option DateOrMoment) → IsReading reading (arguments_of words.now)
-        → result ≡ only_at (arguments_of words.now) at reading Wanted.Target }
+    ensures { (meanings : Meanings) → AreMeanings meanings (arguments_of words.now)
+        → result ≡ only_at (arguments_of words.now) at (found_in meanings) Wanted.Target }
 {
     let bound = found_at(words, at, Wanted::Target)?;
     ended(words, at + 1, bound)
@@ -41,8 +41,8 @@ fn bound_at(words: &[u8], at: usize) -> Result<DateOrMoment, Senseless>
 /// Parses `A to B`.
 fn range_at(words: &[u8], at: usize) -> Result<Bounds, Senseless>
     requires { at + 3 < 2 ^ 64 }
-    ensures { (reading : List ℕ → Option DateOrMoment) → IsReading reading (arguments_of words.now)
-        → result ≡ range_at reading (arguments_of words.now) at }
+    ensures { (meanings : Meanings) → AreMeanings meanings (arguments_of words.now)
+        → result ≡ range_at meanings (arguments_of words.now) at }
 {
     let first = found_at(words, at, Wanted::Target)?;
     keyword_at(words, at + 1, b"to", Wanted::UpTo)?;

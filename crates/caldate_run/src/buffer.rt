@@ -8,7 +8,7 @@ use std::marker::Model;
 const CAPACITY: usize = 65_536;
 
 /// The room for one reply, in bytes. The longest reply is shorter.
-const LONGEST_REPLY: usize = 4352;
+const LONGEST_REPLY: usize = 5100;
 
 /// A buffer of replies for one write, of at most 65536 bytes.
 #[derive(Drop)]

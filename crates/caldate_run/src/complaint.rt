@@ -1,7 +1,8 @@
 //! The message for arguments that make no sense.
 ghost use Rattle.std.specs.Prelude.{◌≡◌, ◌+◌, ◌≤◌, ◌++◌, [], length};
 ghost use Rattle.caldate_run.specs.Calls.{Writes, write_failure};
-ghost use Rattle.caldate_run.specs.Complaint.{after_word, complaint, error_phrase, expected_phrase, file_hint, is_duplicate, is_file_like, missing_noun, names_word, on_missing, on_word, problem, quoted, rule_error_in};
+ghost use Rattle.caldate_run.specs.Complaint.{after_word, complaint, error_phrase, expected_phrase, file_hint, is_duplicate, is_file_like, missing_noun, names_word, on_missing, on_word, problem, quoted, rule_error, rule_error_in};
+ghost use Rattle.cal_recurrence.specs.Text.{recurrence_of};
 ghost use Rattle.caldate_run.specs.Requests.{arguments_of};
 ghost use Rattle.caldate_run.specs.Runs.{Shown};
 
@@ -28,11 +29,15 @@ const LINE_COMMANDS: &[u8] =
     b"; expected to, add, next, last, until, since, start, end, on-or-after, on-or-before, at, keep or another option";
 
 /// The forms of `--read`.
-const READINGS: &[u8] = b"; expected basic, dmy, mdy, unix-ms, unix-us, unix-ns or local";
+const READINGS: &[u8] =
+    b"; expected basic, dmy, mdy, unix, unix-ms, unix-us, unix-ns, clf, rfc2822, iso, local or a format such as %d.%m.%Y";
 
 /// The forms of `to`.
 const FORMS: &[u8] =
-    b"; expected calendar, ordinal, week, julian, weekday, short-weekday, month, quarter, basic, rfc3339, unix, unix-ms, unix-us or unix-ns";
+    b"; expected calendar, ordinal, week, julian, weekday, short-weekday, month, quarter, basic, rfc3339, unix, unix-ms, unix-us, unix-ns, clf, rfc2822 or a format such as %d.%m.%Y";
+
+/// The periods of `start`.
+const STARTS: &[u8] = b"; expected week, month, quarter, year, day, hour, minute or N minutes";
 
 /// The units of `add` and `until`.
 const UNITS: &[u8] = b"; expected days, weeks, months, years, workdays, hours, minutes or seconds";
@@ -158,15 +163,23 @@ fn push_quoted(line: &mut Buffer, word: &[u8])
     line.push(b"'");
 }
 
-/// Appends the error in a rule and its position: `: invalid value of FREQ at 0`.
+/// Appends the error in a word that ought to be a rule.
 fn push_rule_error(line: &mut Buffer, wanted: Wanted, word: &[u8])
     requires { length line.old ≤ 400 }
     ensures text { line.new ≡ line.old ++ rule_error_in wanted word.now }
     ensures short { length line.new ≤ length line.old + 68 }
 {
-    if wanted != Wanted::Rule {
-        return;
+    if let Wanted::Rule = wanted {
+        push_error_in_rule(line, word);
     }
+}
+
+/// Appends the error in a rule and its position: `: invalid value of FREQ at 0`.
+fn push_error_in_rule(line: &mut Buffer, word: &[u8])
+    requires { length line.old ≤ 400 }
+    ensures text { line.new ≡ line.old ++ rule_error (recurrence_of word.now) }
+    ensures short { length line.new ≤ length line.old + 68 }
+{
     if let Err(fault) = parse(word) {
         line.push(b": ");
         line.push(fault.reason.text().as_bytes());
@@ -220,7 +233,7 @@ fn is_duplicate(wanted: Wanted, word: &[u8]) -> bool
 /// Returns the error, without the word: `unknown unit`.
 fn error_phrase(wanted: Wanted) -> &'static [u8]
     ensures words { result.now ≡ error_phrase wanted }
-    ensures short { length result.now ≤ 40 }
+    ensures short { length result.now ≤ 60 }
 {
     match wanted {
         Wanted::Something => b"missing command; try 'caldate --help'".as_slice(),
@@ -233,8 +246,8 @@ fn error_phrase(wanted: Wanted) -> &'static [u8]
         Wanted::Separator => b"invalid separator".as_slice(),
         Wanted::Skip => b"invalid number of lines".as_slice(),
         Wanted::Reading => b"unknown input form".as_slice(),
-        Wanted::Assume => b"--read local requires --assume".as_slice(),
-        Wanted::Local => b"--assume requires --read local".as_slice(),
+        Wanted::Assume => b"a form without an offset requires --assume".as_slice(),
+        Wanted::Local => b"--assume requires --read of a form without an offset".as_slice(),
         Wanted::Form => b"unknown form".as_slice(),
         Wanted::Number => b"invalid number".as_slice(),
         Wanted::Amount => b"invalid amount".as_slice(),
@@ -243,6 +256,8 @@ fn error_phrase(wanted: Wanted) -> &'static [u8]
         Wanted::Count => b"invalid count".as_slice(),
         Wanted::Target => b"invalid date or moment".as_slice(),
         Wanted::Period => b"unknown period".as_slice(),
+        Wanted::StartPeriod => b"unknown start".as_slice(),
+        Wanted::Minutes => b"invalid unit".as_slice(),
         Wanted::Offset => b"invalid offset".as_slice(),
         Wanted::Bounds => b"unknown bound".as_slice(),
         Wanted::Date => b"invalid date".as_slice(),
@@ -268,11 +283,11 @@ fn missing_noun(wanted: Wanted) -> &'static [u8]
         Wanted::Form => b"form".as_slice(),
         Wanted::Number => b"number".as_slice(),
         Wanted::Amount => b"amount".as_slice(),
-        Wanted::UnitOfTime | Wanted::UnitOfDays => b"unit".as_slice(),
+        Wanted::UnitOfTime | Wanted::UnitOfDays | Wanted::Minutes => b"unit".as_slice(),
         Wanted::Weekday => b"weekday".as_slice(),
         Wanted::Count => b"count".as_slice(),
         Wanted::Target => b"date or moment".as_slice(),
-        Wanted::Period => b"period".as_slice(),
+        Wanted::Period | Wanted::StartPeriod => b"period".as_slice(),
         Wanted::Offset => b"offset".as_slice(),
         Wanted::Bounds => b"bound".as_slice(),
         Wanted::Date => b"date".as_slice(),
@@ -304,6 +319,8 @@ fn expected_phrase(wanted: Wanted) -> &'static [u8]
         Wanted::Count => b"; expected an integer from 1 to 255".as_slice(),
         Wanted::Target => MOMENTS,
         Wanted::Period => b"; expected week, month, quarter or year".as_slice(),
+        Wanted::StartPeriod => STARTS,
+        Wanted::Minutes => b"; expected minutes".as_slice(),
         Wanted::Offset => b"; expected one such as +01:00, -05:30 or Z".as_slice(),
         Wanted::Bounds => b"; expected from, after or before".as_slice(),
         Wanted::From => b"; expected 'from'".as_slice(),

@@ -12,7 +12,8 @@ no answer, or 2 if the arguments are invalid, or the input or the output fails.
 
   caldate to FORM                 the same as calendar, ordinal, week, julian, weekday,
                                   short-weekday, month, quarter, basic, rfc3339, unix, unix-ms,
-                                  unix-us or unix-ns
+                                  unix-us, unix-ns, clf or rfc2822
+  caldate to FORMAT               the same in a format of strftime, such as '%A, %-d %B %Y'
   caldate add N [UNIT]            N days, weeks, months, years, workdays, hours, minutes or
                                   seconds later
   caldate next WEEKDAY [N]        the N-th such day after it
@@ -20,6 +21,8 @@ no answer, or 2 if the arguments are invalid, or the input or the output fails.
   caldate on-or-after WEEKDAY     the first such day on or after it
   caldate on-or-before WEEKDAY    the last such day on or before it
   caldate start PERIOD            the first day of its week, month, quarter or year
+  caldate start TIME              its time of day rounded down: TIME is day, hour, minute or
+                                  N minutes
   caldate end PERIOD              the last day of its week, month, quarter or year
   caldate until DATE [in UNIT]    the days until that date, the duration until that moment, or
                                   whole units
@@ -41,9 +44,10 @@ no answer, or 2 if the arguments are invalid, or the input or the output fails.
                                   comma
   caldate --separator C ...       with --field: fields end at the byte C
   caldate --skip K ...            writes the first K lines unchanged
-  caldate --read FORM ...         reads lines in this form: basic, dmy, mdy, unix-ms, unix-us,
-                                  unix-ns or local
-  caldate --assume OFFSET ...     with --read local: the offset of the lines
+  caldate --read FORM ...         reads lines in this form: basic, dmy, mdy, unix, unix-ms, unix-us,
+                                  unix-ns, clf, rfc2822, iso or local, or in a format of strftime,
+                                  such as %d.%m.%Y; of up to four, the first that fits wins
+  caldate --assume OFFSET ...     with --read local, or a format without an offset: their offset
   caldate --help, -h, help        this page
   caldate --version               the version
 
@@ -65,6 +69,9 @@ or a moment, such as 2024-02-29T23:59:59.25+01:00 or @1709164800.5.
   echo 2024-02-29T23:30:00+01:00 | caldate at Z            2024-02-29T22:30:00Z
   echo 2024-02-29 | caldate to unix-ms                     1709164800000
   echo 29.02.2024 | caldate --read dmy to calendar         2024-02-29
+  echo '29 February 2024' | caldate --read '%d %B %Y' to week   2024-W09-4
+  echo '29/Feb/2024:13:05:07 +0100' | caldate --read clf at Z  2024-02-29T12:05:07Z
+  echo 2024-02-29 | caldate to '%-d.%-m.%Y'                29.2.2024
   echo 1709164800500 | caldate --read unix-ms at Z         2024-02-29T00:00:00.5Z
   echo a,2024-02-29 | caldate --field 2 --separator , to week   a,2024-W09-4
   echo a,2024-02-29 | caldate --csv --field 2 to week      a,2024-W09-4

@@ -12,6 +12,7 @@ mod counts;
 pub mod ending;
 pub mod fault;
 mod fields;
+mod formats;
 mod forms;
 pub mod help;
 mod input;

@@ -1,9 +1,9 @@
 //! The arguments of `list`.
 ghost use Rattle.std.specs.Prelude.{◌≡◌, ◌≤◌, ℕ, List, Option, IfOk, IfSome, false, slice_get};
 ghost use Rattle.std.specs.Option.{option_map_or};
-ghost use Rattle.cal_text.specs.declared.any.DateOrMoment.{DateOrMoment};
 ghost use Rattle.caldate_run.specs.Lists.{IsAsked, IsPace, IsStep};
-ghost use Rattle.caldate_run.specs.Requests.{IsReading, arguments_of, date_at, date_in, is_rule_like, list_of, pace_of, paced, rule_of, step_in, steps_of};
+ghost use Rattle.caldate_run.specs.Meanings.{AreMeanings, Meanings};
+ghost use Rattle.caldate_run.specs.Requests.{arguments_of, date_at, date_in, is_rule_like, list_of, pace_of, paced, rule_of, step_in, steps_of};
 
 use crate::lines::index_of;
 use crate::request::{Asked, Listing, Occurrences, Pace, Step, StepUnit, TimeUnit};
@@ -17,9 +17,9 @@ use cal_time::Date;
 /// Parses `list from A to B`, `list from A to B by N UNIT` or `list from A to B by RULE`.
 pub fn list_of(words: &[u8]) -> Result<Asked, Senseless>
     ensures steps { IfOk result IsAsked }
-    ensures list { (reading : List ℕ → Option DateOrMoment)
-        → IsReading reading (arguments_of words.now)
-        → result ≡ list_of reading (arguments_of words.now) }
+    ensures list { (meanings : Meanings)
+        → AreMeanings meanings (arguments_of words.now)
+        → result ≡ list_of meanings (arguments_of words.now) }
 {
     keyword_at(words, 1, b"from", Wanted::From)?;
     let first = date_at(words, 2)?;
@@ -31,8 +31,8 @@ pub fn list_of(words: &[u8]) -> Result<Asked, Senseless>
 
 /// Parses the word at an index as a date.
 fn date_at(words: &[u8], at: usize) -> Result<Date, Senseless>
-    ensures { (reading : List ℕ → Option DateOrMoment) → IsReading reading (arguments_of words.now)
-        → result ≡ date_at reading (arguments_of words.now) at }
+    ensures { (meanings : Meanings) → AreMeanings meanings (arguments_of words.now)
+        → result ≡ date_at meanings (arguments_of words.now) at }
 {
     let found = found_at(words, at, Wanted::Date)?;
     date_in(&found).ok_or(senseless_at(at, Wanted::Date))

@@ -13,6 +13,8 @@ pub enum NoAnswer {
     None,
     /// The text has a form, and this component is out of its range.
     Rejected(ComponentRange),
+    /// The text is in none of the forms of `--read`.
+    NoForm,
     /// The text has no form, and this byte is the first that none has there, counted from 0.
     Unreadable(usize),
 }

@@ -1,19 +1,23 @@
 //! The options before a request.
 ghost use Rattle.std.specs.Prelude.{◌≡◌, ◌+◌, ◌≤◌, ◌^◌, IfOk, None, length, true};
-ghost use Rattle.caldate_run.specs.Requests.{byte_of, field_number_of, field_numbers_of, field_of, fields_from, is_flag, is_local, invalid_of, is_option, lacking, name_of, no_options, options_from, reading_at, reading_of, skip_of, value_in, value_of, with_value, words_left};
+ghost use Rattle.caldate_run.specs.Meanings.{AreMeanings, IsMeaning, Meanings, name_of, value_in};
+ghost use Rattle.caldate_run.specs.Requests.{any_local, byte_of, field_number_of, field_numbers_of, field_of, fields_from, has_room, invalid_of, is_flag, is_local, is_option, lacking, no_options, options_from, readers_in, skip_of, value_of, with_reader, with_value, words_left};
 
+use crate::formats::reader_of;
 use crate::lines::index_of;
 use crate::offset::offset_of;
 use crate::on_invalid::OnInvalid;
-use crate::reading::Reading;
-use crate::request::{Field, FieldNumbers, UnixUnit};
+use crate::reading::reader::Reader;
+use crate::reading::spelling::Spelling;
+use crate::reading::{Readers, Reading};
+use crate::request::{Field, FieldNumbers};
 use crate::senseless::{Senseless, Wanted, senseless_at};
 use crate::spelling::number_of;
 use crate::words::cut;
 use cal_time::UtcOffset;
 
 /// A set of options before a request.
-#[derive(Clone, Copy)]
+#[derive(Drop)]
 pub struct Options {
     /// The mode of `--invalid MODE`.
     pub on_invalid: Option<OnInvalid>,
@@ -25,75 +29,81 @@ pub struct Options {
     pub separator: Option<u8>,
     /// The number K of `--skip K`.
     pub skip: Option<u64>,
-    /// The form of `--read FORM`. For `local`, the offset is UTC until the options are complete.
-    pub reading: Option<Reading>,
+    /// The forms of `--read FORM`.
+    pub readers: Readers,
     /// The offset of `--assume OFFSET`.
     pub offset: Option<UtcOffset>,
 }
 
-/// The options if the arguments have none.
-const NO_OPTIONS: Options = Options {
-    on_invalid: None,
-    fields: None,
-    csv: false,
-    separator: None,
-    skip: None,
-    reading: None,
-    offset: None,
-};
+/// Returns the options if the arguments have none.
+fn no_options() -> Options
+    ensures { result ≡ no_options }
+{
+    Options {
+        on_invalid: None,
+        fields: None,
+        csv: false,
+        separator: None,
+        skip: None,
+        readers: Readers::new(),
+        offset: None,
+    }
+}
 
 /// Parses the options from the word at an index on, and returns them with the index of the word
 /// after them.
 pub fn options_of(words: Option<&[u8]>, at: usize) -> Result<(Options, usize), Senseless>
     requires { at + length (words_left words) ≤ 2 ^ 63 }
-    ensures options { result ≡ options_from None no_options at (words_left words.entry) }
+    ensures options { (meanings : Meanings) → AreMeanings meanings (words_left words.entry)
+        → result ≡ options_from meanings None no_options at (words_left words.entry) }
     ensures within { IfOk result (λ front. front.1 ≤ 2 ^ 63) }
 {
-    options_from(None, &NO_OPTIONS, at, words)
+    options_from(None, no_options(), at, words)
 }
 
 /// Parses the options at the front of the words, whose first has index `at`. If `wanted` is given,
 /// it is the value of the option before it.
 fn options_from(
     wanted: Option<Wanted>,
-    options: &Options,
+    options: Options,
     at: usize,
     words: Option<&[u8]>,
 ) -> Result<(Options, usize), Senseless>
     requires { at + length (words_left words) ≤ 2 ^ 63 }
-    ensures options { result ≡ options_from wanted options.now at (words_left words.entry) }
+    ensures options { (meanings : Meanings) → AreMeanings meanings (words_left words.entry)
+        → result ≡ options_from meanings wanted options at (words_left words.entry) }
     ensures within { IfOk result (λ front. front.1 ≤ 2 ^ 63) }
 {
     let Some(words) = words else {
         return match wanted {
             Some(wanted) => Err(senseless_at(at, wanted)),
-            None => Ok((*options, at)),
+            None => Ok((options, at)),
         };
     };
     let (word, rest) = cut(words);
     if let Some(wanted) = wanted {
         let more = with_value(options, word, wanted).ok_or(senseless_at(at, wanted))?;
-        return options_from(None, &more, at + 1, rest);
+        return options_from(None, more, at + 1, rest);
     }
-    if is_flag(options, word) {
-        return options_from(None, &with_csv(options), at + 1, rest);
+    if is_flag(&options, word) {
+        return options_from(None, with_csv(options), at + 1, rest);
     }
-    if let Some(wanted) = value_of(options, word) {
+    if let Some(wanted) = value_of(&options, word) {
         return options_from(Some(wanted), options, at + 1, rest);
     }
     let (name, value) = cut_value(word);
-    match value_of(options, name) {
+    match value_of(&options, name) {
         Some(wanted) => {
             let more = with_value(options, value, wanted).ok_or(senseless_at(at, wanted))?;
-            options_from(None, &more, at + 1, rest)
+            options_from(None, more, at + 1, rest)
         }
-        None => Ok((*options, at)),
+        None => Ok((options, at)),
     }
 }
 
 /// Splits `NAME=VALUE` into the name of an option and its value, which is empty without a `=`.
 #[tactic(auto, using(std::proofs::lemmas::List::take_rest))]
-fn cut_value(word: &[u8]) -> (&[u8], &[u8])
+pub fn cut_value(word: &[u8]) -> (&[u8], &[u8])
     ensures name { result.0.now ≡ name_of word.now }
     ensures value { result.1.now ≡ value_in word.now }
 {
@@ -115,7 +125,7 @@ fn value_of(options: &Options, word: &[u8]) -> Option<Wanted>
         Some(Wanted::Separator)
     } else if word == b"--skip".as_slice() && options.skip.is_none() {
         Some(Wanted::Skip)
-    } else if word == b"--read".as_slice() && options.reading.is_none() {
+    } else if word == b"--read".as_slice() && options.readers.as_slice().len() < 4 {
         Some(Wanted::Reading)
     } else if word == b"--assume".as_slice() && options.offset.is_none() {
         Some(Wanted::Offset)
@@ -131,10 +141,10 @@ fn is_flag(options: &Options, word: &[u8]) -> bool
     word == b"--csv".as_slice() && !options.csv
 }
 
-fn with_csv(options: &Options) -> Options
-    ensures { result ≡ record options.now { csv = true } }
+fn with_csv(options: Options) -> Options
+    ensures { result ≡ record options { csv = true } }
 {
-    let mut more = *options;
+    let mut more = options;
     more.csv = true;
     more
 }
@@ -144,20 +154,21 @@ fn with_csv(options: &Options) -> Options
 pub fn is_option(word: &[u8]) -> bool
     ensures { result ≡ is_option word.now }
 {
-    is_flag(&NO_OPTIONS, word) || value_of(&NO_OPTIONS, cut_value(word).0).is_some()
+    is_flag(&no_options(), word) || value_of(&no_options(), cut_value(word).0).is_some()
 }
 
 /// Sets the option that needs `wanted`, or returns `None` if the value is invalid.
-fn with_value(options: &Options, value: &[u8], wanted: Wanted) -> Option<Options>
-    ensures { result ≡ with_value options.now value.now wanted }
+fn with_value(options: Options, value: &[u8], wanted: Wanted) -> Option<Options>
+    ensures { (meanings : Meanings) → IsMeaning meanings value.now
+        → result ≡ with_value meanings options value.now wanted }
 {
-    let mut more = *options;
+    let mut more = options;
     match wanted {
         Wanted::Invalid => more.on_invalid = Some(invalid_of(value)?),
         Wanted::FieldNumber => more.fields = Some(field_numbers_of(value)?),
         Wanted::Separator => more.separator = Some(byte_of(value)?),
         Wanted::Skip => more.skip = Some(skip_of(value)?),
-        Wanted::Reading => more.reading = Some(reading_of(value)?),
+        Wanted::Reading => return with_reader(more, reader_of(value)?),
         Wanted::Offset => more.offset = Some(offset_of(value)?),
         _ => return None,
     }
@@ -241,28 +252,6 @@ fn skip_of(word: &[u8]) -> Option<u64>
     Some(number as u64)
 }
 
-fn reading_of(word: &[u8]) -> Option<Reading>
-    ensures { result ≡ reading_of word.now }
-{
-    if word == b"basic".as_slice() {
-        Some(Reading::Basic)
-    } else if word == b"dmy".as_slice() {
-        Some(Reading::DayFirst)
-    } else if word == b"mdy".as_slice() {
-        Some(Reading::MonthFirst)
-    } else if word == b"unix-ms".as_slice() {
-        Some(Reading::Unix(UnixUnit::Milliseconds))
-    } else if word == b"unix-us".as_slice() {
-        Some(Reading::Unix(UnixUnit::Microseconds))
-    } else if word == b"unix-ns".as_slice() {
-        Some(Reading::Unix(UnixUnit::Nanoseconds))
-    } else if word == b"local".as_slice() {
-        Some(Reading::Local(UtcOffset::UTC))
-    } else {
-        None
-    }
-}
-
 /// Returns the fields that the options select. The default separator is a tab, or a comma in CSV.
 pub fn field_of(options: &Options) -> Option<Field>
     ensures { result ≡ field_of options.now }
@@ -280,22 +269,46 @@ pub fn field_of(options: &Options) -> Option<Field>
     })
 }
 
-/// Returns the reading that the options select. The default is any form.
-pub fn reading_in(options: &Options) -> Reading
-    ensures { result ≡ reading_at options.now.reading options.now.offset }
+/// Adds a form of `--read`, or returns `None` if four are given.
+fn with_reader(options: Options, reader: Reader) -> Option<Options>
+    ensures { result ≡ with_reader options reader }
 {
-    match (options.reading, options.offset) {
-        (None, _) => Reading::Any,
-        (Some(Reading::Local(_)), Some(offset)) => Reading::Local(offset),
-        (Some(reading), _) => reading,
+    let mut more = options;
+    if more.readers.try_push(reader) {
+        Some(more)
+    } else {
+        None
     }
 }
 
-fn is_local(options: &Options) -> bool
-    ensures { result ≡ is_local options.now.reading }
+/// Returns the forms that lines are read in. The default is the six forms, and then ISO 8601.
+pub fn readers_in(readers: Readers) -> Readers
+    ensures { result ≡ readers_in readers }
 {
-    match options.reading {
-        Some(Reading::Local(_)) => true,
+    if readers.as_slice().len() > 0 {
+        return readers;
+    }
+    let mut default = Readers::new();
+    default.try_push(Reader::Named(Reading::Any));
+    default.try_push(Reader::Spelled(Spelling::Iso));
+    default
+}
+
+/// Returns whether a form has no offset.
+fn any_local(readers: &[Reader]) -> bool
+    ensures { result ≡ any_local readers.now }
+{
+    match readers {
+        [] => false,
+        [first, others @ ..] => is_local(first) || any_local(others),
+    }
+}
+
+fn is_local(reader: &Reader) -> bool
+    ensures { result ≡ is_local reader.now }
+{
+    match reader {
+        Reader::Local | Reader::DateTimes(_) => true,
         _ => false,
     }
 }
@@ -310,9 +323,9 @@ pub fn lacking(options: &Options) -> Option<Wanted>
         Some(Wanted::CsvField)
     } else if options.csv && options.separator == Some(b'"') {
         Some(Wanted::CsvSeparator)
-    } else if is_local(options) && options.offset.is_none() {
+    } else if any_local(options.readers.as_slice()) && options.offset.is_none() {
         Some(Wanted::Assume)
-    } else if options.offset.is_some() && !is_local(options) {
+    } else if options.offset.is_some() && !any_local(options.readers.as_slice()) {
         Some(Wanted::Local)
     } else {
         None

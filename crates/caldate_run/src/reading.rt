@@ -9,6 +9,9 @@ ghost use Rattle.caldate_run.specs.Readings.{HasFormIn, IsFaultIn, IsTextIn};
 mod local;
 mod number;
 mod parts;
+pub mod reader;
+mod readers;
+pub(crate) mod spelling;
 mod template;
 
 use crate::reading::local::read_local;
@@ -16,6 +19,7 @@ use crate::reading::number::read_number;
 use crate::reading::parts::{
     basic_parts, day_first_parts, month_first_parts, parted_template, read_parts,
 };
+pub use crate::reading::readers::{Readers, read};
 use crate::request::UnixUnit;
 use cal_text::{DateOrMoment, ParseError, parse_any};
 use cal_time::UtcOffset;

@@ -1,6 +1,7 @@
 //! Requests, and how they apply to the lines.
 use crate::on_invalid::OnInvalid;
-use crate::reading::Reading;
+use crate::reading::Readers;
+use cal_format::Format;
 use cal_recurrence::Recurrence;
 use cal_text::{DateForm, DateOrMoment, MomentForm};
 use cal_time::{Date, SignedDuration, UtcOffset, Weekday};
@@ -93,14 +94,19 @@ pub enum Bounds {
 }
 
 /// A request for each line.
-#[derive(Clone, Copy)]
+#[derive(Drop)]
 pub enum Request {
     /// `to FORM`: the same date or moment in this form.
     To(Form),
+    /// `to FORMAT`: the same date or moment in this format.
+    Print(Format),
     /// `add N UNIT`: the date or moment after adding a duration.
     Add(SignedDuration),
     /// The moved day, at the same time of day.
     Move(DayMove),
+    /// `start day`, `start hour`, `start minute` or `start N minutes`: the time of day rounded down to
+    /// a multiple of a number of minutes, from 1 to 1440.
+    Floor(u16),
     /// `until TEXT [in UNIT]`: the days or the duration to TEXT, or the whole units.
     Until(DateOrMoment, Option<TimeUnit>),
     /// `since TEXT [in UNIT]`: the days or the duration from TEXT, or the whole units.
@@ -134,11 +140,13 @@ pub struct Field {
 }
 
 /// A request with its options.
-#[derive(Clone, Copy)]
+#[derive(Drop)]
 pub struct Filter {
     pub request: Request,
-    /// How to read a line.
-    pub reading: Reading,
+    /// The forms that a line is read in.
+    pub readers: Readers,
+    /// The offset of a text that has none.
+    pub offset: UtcOffset,
     /// What is written for a line without an answer.
     pub on_invalid: OnInvalid,
     /// The field to answer, or `None` for the whole line.

@@ -47,6 +47,10 @@ pub enum Wanted {
     Target,
     /// A period, such as `month`.
     Period,
+    /// A period, `day`, `hour`, `minute`, or a number of minutes.
+    StartPeriod,
+    /// `minutes`.
+    Minutes,
     /// An offset from UTC, such as `+01:00`.
     Offset,
     /// `from`, `after` or `before`.

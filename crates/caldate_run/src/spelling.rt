@@ -1,9 +1,9 @@
 //! Single words of the arguments.
 ghost use Rattle.std.specs.Prelude.{◌≡◌, ◌≤◌, length};
 ghost use Rattle.std.specs.Str.{str_eq_ignore_ascii_case};
-ghost use Rattle.caldate_run.specs.Requests.{asks_for_help, number_of, count_of, form_of, further_form_of, weekday_of, period_of, unit_of, spells, spells_unit, many_of};
+ghost use Rattle.caldate_run.specs.Requests.{asks_for_help, number_of, count_of, form_of, further_form_of, minutes_in, minutes_of, minutes_word, weekday_of, period_of, start_of, unit_of, spells, spells_unit, many_of};
 
-use crate::request::{Form, Period, TimeUnit, UnixUnit};
+use crate::request::{DayMove, Form, Period, Request, TimeUnit, UnixUnit};
 use cal_text::{DateForm, MomentForm};
 use cal_time::Weekday;
 use std::str;
@@ -132,6 +132,58 @@ pub fn period_of(word: &[u8]) -> Option<Period>
         Some(Period::Quarter)
     } else if spells_unit(word, b"year", b"years") {
         Some(Period::Year)
+    } else {
+        None
+    }
+}
+
+/// Parses the argument of `start`.
+pub fn start_of(word: &[u8]) -> Option<Request>
+    ensures { result ≡ start_of word.now }
+{
+    match period_of(word) {
+        Some(period) => Some(Request::Move(DayMove::Start(period))),
+        None => match minutes_in(word) {
+            Some(minutes) => Some(Request::Floor(minutes)),
+            None => None,
+        },
+    }
+}
+
+/// Returns the minutes of a day, an hour or a minute.
+#[tactic(auto, unfolding(crate::specs::Requests::minutes_in))]
+fn minutes_in(word: &[u8]) -> Option<u16>
+    ensures { result ≡ minutes_in word.now }
+{
+    if spells_unit(word, b"day", b"days") {
+        Some(1440)
+    } else if spells_unit(word, b"hour", b"hours") {
+        Some(60)
+    } else if spells_unit(word, b"minute", b"minutes") {
+        Some(1)
+    } else {
+        None
+    }
+}
+
+/// Parses a number from 1 to 1440.
+pub fn minutes_of(word: &[u8]) -> Option<u16>
+    ensures { result ≡ minutes_of word.now }
+{
+    let number = number_of(word)?;
+    if number < 1 || number > 1_440 {
+        return None;
+    }
+    Some(number as u16)
+}
+
+/// Checks that the word is `minutes`.
+#[tactic(auto, unfolding(crate::specs::Requests::minutes_word))]
+pub fn minutes_word(word: &[u8]) -> Option<()>
+    ensures { result ≡ minutes_word word.now }
+{
+    if spells_unit(word, b"minute", b"minutes") {
+        Some(())
     } else {
         None
     }

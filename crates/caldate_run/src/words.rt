@@ -1,8 +1,8 @@
 //! Words of the arguments by index, and their meaning.
 ghost use Rattle.std.specs.Fn.{FnOnceReturnsAt};
 ghost use Rattle.std.specs.Prelude.{◌≡◌, ◌∷◌, ◌+◌, ◌<◌, ◌^◌, ℕ, List, MatchOption, Option, ok_or, slice_get};
-ghost use Rattle.cal_text.specs.declared.any.DateOrMoment.{DateOrMoment};
-ghost use Rattle.caldate_run.specs.Requests.{IsRead, IsReading, and_then, arguments_of, ended, ends_at, keyword, senseless_at, word_as, words_left};
+ghost use Rattle.caldate_run.specs.Meanings.{AreMeanings, IsMeaning, Meanings, found_in};
+ghost use Rattle.caldate_run.specs.Requests.{and_then, arguments_of, ended, ends_at, keyword, senseless_at, word_as, words_left};
 
 use crate::lines::index_of;
 use crate::senseless::{Senseless, Wanted, senseless_at};
@@ -61,8 +61,8 @@ pub fn keyword_at(words: &[u8], at: usize, name: &[u8], wanted: Wanted) -> Resul
 
 /// Parses the word at an index as a date or a moment.
 pub fn found_at(words: &[u8], at: usize, wanted: Wanted) -> Result<DateOrMoment, Senseless>
-    ensures { (reading : List ℕ → Option DateOrMoment) → IsReading reading (arguments_of words.now)
-        → result ≡ word_as (arguments_of words.now) at reading wanted }
+    ensures { (meanings : Meanings) → AreMeanings meanings (arguments_of words.now)
+        → result ≡ word_as (arguments_of words.now) at (found_in meanings) wanted }
 {
     match word_at(words, at) {
         Some(word) => found_in(word).ok_or(senseless_at(at, wanted)),
@@ -71,8 +71,8 @@ pub fn found_at(words: &[u8], at: usize, wanted: Wanted) -> Result<DateOrMoment,
 }
 
 fn found_in(text: &[u8]) -> Option<DateOrMoment>
-    ensures { (reading : List ℕ → Option DateOrMoment) → IsRead reading text.now
-        → result ≡ reading text.now }
+    ensures { (meanings : Meanings) → IsMeaning meanings text.now
+        → result ≡ found_in meanings text.now }
 {
     match parse_any(text) {
         Ok(found) => Some(found),

@@ -10,7 +10,7 @@ ghost use Rattle.caldate_run.specs.declared.tally.Tally.{Tally};
 
 use caldate_run::asked::asked_of;
 use caldate_run::fault::Fault;
-use caldate_run::laws::{have_reading, one_reply};
+use caldate_run::laws::{have_meanings, one_reply};
 use caldate_run::lines::first_line;
 use caldate_run::list::list;
 use caldate_run::recurring::list_occurrences;
@@ -37,20 +37,22 @@ fn one_reply_each(filter: &Filter, input: &[u8])
 }
 
 fn runs<R: Source, W: Sink>(
-    filter: &Filter,
+    filter: Filter,
+    twin_filter: Filter,
     input: &[u8],
     reader: &mut R,
     twin: &mut R,
     writer: &mut W,
     other: &mut W,
 ) -> (Result<(), Fault>, Result<(), Fault>)
+    requires { filter ≡ twin_filter }
     ensures { (held : List ℕ) → R.remaining reader.old ≡ Some input.now
         → R.remaining twin.old ≡ Some input.now
         → W.contents writer.old ≡ Some held → W.contents other.old ≡ Some held
         → IsComplete result.0 → IsComplete result.1 → W.contents writer.new ≡ W.contents other.new }
 {
-    one_reply_each(filter, input);
-    (run(*filter, reader, writer), run(*filter, twin, other))
+    one_reply_each(&filter, input);
+    (run(filter, reader, writer), run(twin_filter, twin, other))
 }
 
 fn lists<W: Sink>(
@@ -82,6 +84,6 @@ fn occurrences<W: Sink>(
 fn asks(arguments: &[u8]) -> (Result<Asked, Senseless>, Result<Asked, Senseless>)
     ensures { result.0 ≡ result.1 }
 {
-    have_reading(arguments);
+    have_meanings(arguments);
     (asked_of(arguments), asked_of(arguments))
 }

@@ -1,0 +1,61 @@
+-- The meanings of words: the date or moment that a word is a text of, and the items of the format
+-- that it spells.
+use Rattle.std.specs.Prelude.{◌≡◌, ℕ, ◌+◌, ◌≤◌, ◌==◌, Bool, IsUtf8, is_some, List, [], length, take, drop, position, bytes_eq, codes, Option, MatchOption, if◌then◌else◌}
+use Rattle.std.specs.List.{All}
+use Rattle.std.specs.Option.{option_map_or}
+use Rattle.cal_format.specs.Format.{Spells}
+use Rattle.cal_format.specs.declared.item.Item.{Item}
+use Rattle.cal_format.specs.declared.item.Syntax.TheVariants.{Percent}
+use Rattle.cal_text.specs.AnyForm.{IsTextOf}
+use Rattle.cal_text.specs.declared.any.DateOrMoment.{DateOrMoment}
+
+pub record Meaning : Type 0 where
+  pub found : Option DateOrMoment
+  pub items : Option (List Item)
+
+abbrev pub Meanings : Type 0
+Meanings = List ℕ → Meaning
+
+abbrev pub found_in : Meanings → List ℕ → Option DateOrMoment
+found_in meanings word = (meanings word).found
+
+-- `NAME=VALUE`: an option and its value in one word. A `=` is byte 61.
+abbrev pub name_of : List ℕ → List ℕ
+name_of word = option_map_or (λ at. take at word) (position (λ b. b == 61) word) word
+
+abbrev pub value_in : List ℕ → List ℕ
+value_in word = option_map_or (λ at. drop (at + 1) word) (position (λ b. b == 61) word) []
+
+-- ---- formats
+-- Some formats have a name.
+abbrev pub format_named : List ℕ → List ℕ
+format_named word =
+    if bytes_eq word (codes "clf") then codes "%d/%b/%Y:%T %z" else
+    if bytes_eq word (codes "rfc2822") then codes "%a, %d %b %Y %T %z" else
+    word
+
+-- A format contains a `%`, byte 37.
+abbrev pub is_format : List ℕ → Bool
+is_format word = is_some (position (λ b. b == 37) (format_named word))
+
+-- The text spells these items in the syntax of `strftime`. A format has at most 64.
+pub record IsItems (text : List ℕ) (items : List Item) : Type 0 where
+  pub utf8 : IsUtf8 text
+  pub spelled : Spells Percent text items []
+  pub few : length items ≤ 64
+
+-- ---- the meanings are correct
+pub record IsMeaningOf (word : List ℕ) (meaning : Meaning) : Type 0 where
+  pub found : MatchOption meaning.found ((found : DateOrMoment) → ¬ IsTextOf word found) (IsTextOf word)
+  pub items : MatchOption meaning.items ((items : List Item) → ¬ IsItems (format_named word) items) (IsItems (format_named word))
+
+abbrev pub IsMeaning : Meanings → List ℕ → Type 0
+IsMeaning meanings word = IsMeaningOf word (meanings word)
+
+-- Each word has its meaning, and so has the value after a `=` in it.
+pub record AreMeant (meanings : Meanings) (word : List ℕ) : Type 0 where
+  pub whole : IsMeaning meanings word
+  pub value : IsMeaning meanings (value_in word)
+
+abbrev pub AreMeanings : Meanings → List (List ℕ) → Type 0
+AreMeanings meanings words = All (AreMeant meanings) words
