@@ -941,7 +941,7 @@ struct Local {
     UtcOffset earlier_offset, later_offset;
 };
 
-// What Zone::instants returns: for each reading a Unix time and FOTS_OK, or the reason why it has
+// The result of Zone::instants: for each reading a Unix time and FOTS_OK, or the reason why it has
 // none. The number of errors counts the reasons.
 struct InstantColumn {
     std::vector<std::int64_t> seconds;
