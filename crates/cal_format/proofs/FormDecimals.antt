@@ -24,7 +24,7 @@ unfolding without_trailing_zeros
 zero-last [] some last = absurd (omega arith)
 zero-last (d ∷ ds) some last = ap (prepend_digit 48) last
 
-none-last : without_trailing_zeros [] ≡ []
+pub none-last : without_trailing_zeros [] ≡ []
 unfolding without_trailing_zeros
 none-last = refl
 
@@ -110,9 +110,21 @@ prepended d [] ds e =
     ]
 prepended d (x ∷ xs) ds e = ap (λ l. drop 1 l) e
 
-tail-last : (d : ℕ) (ds : List ℕ) → without_trailing_zeros (d ∷ ds) ≡ d ∷ ds → without_trailing_zeros ds ≡ ds
+pub tail-last : (d : ℕ) (ds : List ℕ) → without_trailing_zeros (d ∷ ds) ≡ d ∷ ds → without_trailing_zeros ds ≡ ds
 unfolding without_trailing_zeros
 tail-last d ds e = prepended d (without_trailing_zeros ds) ds e
+
+-- A digit alone isn't 0, and a 0 comes before other digits.
+pub one-high : (x : ℕ) → 48 ≤ x → without_trailing_zeros (x ∷ []) ≡ x ∷ [] → 49 ≤ x
+unfolding without_trailing_zeros
+one-high x low last = elim (cases_eq x 48) as (λ _. 49 ≤ x) [
+  | inl zero_is ↦ absurd (omega (arith, ap length (sym (prepend_digit-zero x zero_is) ∙ last)))
+  | inr other ↦ omega (arith, low, other)
+]
+
+pub more-after : (x : ℕ) (xs : List ℕ) → x ≡ 48 → without_trailing_zeros (x ∷ xs) ≡ x ∷ xs → 0 < length xs
+more-after x [] zero_is last = absurd (omega (arith, zero_is, one-high x (omega (arith, zero_is)) last))
+more-after x (y ∷ ys) zero_is last = omega arith
 
 digit : (x : ℕ) → digit_value x < 10 → digit_value x + 48 ≡ x
 digit x low = has_value x (is_digit x low)

@@ -2,8 +2,12 @@
 ghost use Rattle.std.specs.Prelude.{◌≡◌, ◌≤◌, map};
 ghost use Rattle.cal_format.specs.Directive.{begins_with, front_in};
 
-use crate::item::Component::*;
-use crate::item::Item::{self, Fraction, Literal, Number, OffsetSign};
+use crate::item::Component::{
+    Century, Day, DaysFromSunday, Hour, Hour12, IsoWeek, IsoYear, Microsecond, Millisecond, Minute,
+    MondayWeek, Month, Nanosecond, OffsetHour, OffsetMinute, OffsetSecond, Ordinal, Second,
+    SundayWeek, SundayWeekday, Timestamp, Weekday, Year, YearOfCentury,
+};
+use crate::item::Item::{self, Decimals, Fraction, Literal, Number, OffsetSign, TimestampSign};
 use crate::item::Name::{self, ShortMonth, ShortWeekday};
 use crate::item::Padding::{self, Space, Zero};
 
@@ -15,7 +19,7 @@ pub(crate) struct Directive {
 }
 
 /// The directives of `strftime`, after the percent sign.
-pub(crate) const DIRECTIVES: [(&str, &[Item]); 43] = [
+pub(crate) const DIRECTIVES: [(&str, &[Item]); 44] = [
     ("-m", &[Number(Month, Padding::None)]),
     ("-d", &[Number(Day, Padding::None)]),
     ("-H", &[Number(Hour, Padding::None)]),
@@ -111,13 +115,14 @@ pub(crate) const DIRECTIVES: [(&str, &[Item]); 43] = [
             Number(OffsetSecond, Zero),
         ],
     ),
+    ("s", &[TimestampSign, Number(Timestamp, Padding::None)]),
     ("n", &[Literal(b'\n')]),
     ("t", &[Literal(b'\t')]),
     ("%", &[Literal(b'%')]),
 ];
 
 /// The components of `time`'s format descriptions, after the opening bracket.
-pub(crate) const DESCRIPTIONS: [(&str, &[Item]); 51] = [
+pub(crate) const DESCRIPTIONS: [(&str, &[Item]); 53] = [
     ("year]", &[Number(Year, Zero)]),
     ("year padding:zero]", &[Number(Year, Zero)]),
     ("year repr:full]", &[Number(Year, Zero)]),
@@ -166,6 +171,7 @@ pub(crate) const DESCRIPTIONS: [(&str, &[Item]); 51] = [
     ("minute padding:zero]", &[Number(Minute, Zero)]),
     ("second]", &[Number(Second, Zero)]),
     ("second padding:zero]", &[Number(Second, Zero)]),
+    ("subsecond digits:1+]", &[Decimals]),
     ("subsecond digits:3]", &[Number(Millisecond, Zero)]),
     ("subsecond digits:6]", &[Number(Microsecond, Zero)]),
     ("subsecond digits:9]", &[Number(Nanosecond, Zero)]),
@@ -177,6 +183,10 @@ pub(crate) const DESCRIPTIONS: [(&str, &[Item]); 51] = [
     ("offset_minute padding:zero]", &[Number(OffsetMinute, Zero)]),
     ("offset_second]", &[Number(OffsetSecond, Zero)]),
     ("offset_second padding:zero]", &[Number(OffsetSecond, Zero)]),
+    (
+        "unix_timestamp]",
+        &[TimestampSign, Number(Timestamp, Padding::None)],
+    ),
     ("[", &[Literal(b'[')]),
 ];
 
