@@ -20,3 +20,9 @@ result-or d (Err e) = d
 pub same-result : {A E : Type 0} (r : Result A E) (x y : A) → r ≡ Ok x → r ≡ Ok y → x ≡ y
 unfolding result-or
 same-result r x y e f = ap (result-or x) (sym e ∙ f)
+
+pub same-ok : {A E : Type 0} (x y : A) → Ok {E = E} x ≡ Ok y → x ≡ y
+same-ok x y e = cc
+
+pub no-result : {A E : Type 0} (e : E) (x : A) → Err e ≡ Ok x → ⊥
+no-result e x h = cc
