@@ -1,6 +1,6 @@
 -- The moments that formats of each value hold.
-use Rattle.std.proofs.Common.{◌≡◌, ℕ, List, sym, subst, refl, inl, inr, lit<, lit≤}
-use Rattle.std.specs.Prelude.{Bool, true, false, IsTrue, not, ◌||◌, ◌&&◌, ℤ}
+use Rattle.std.proofs.Common.{◌≡◌, ◌⊎◌, ℕ, List, sym, subst, refl, inl, inr, lit<, lit≤}
+use Rattle.std.specs.Prelude.{Bool, true, false, IsTrue, not, ◌||◌, ◌&&◌, ℤ, Option, Some, None, IfSome, IfNone}
 use Rattle.cal_time.specs.Date.{IsDate}
 use Rattle.cal_time.specs.Time.{IsTime}
 use Rattle.cal_time.specs.UtcOffset.{IsOffset}
@@ -8,7 +8,8 @@ use Rattle.cal_datetime.specs.OffsetDateTime.{LocalAndOffset}
 use Rattle.cal_datetime.specs.DateTime.{IsDateTime, time_at}
 use Rattle.cal_datetime.specs.DateTimeLaws.{IsDate-date_at, IsTime-time_at}
 use Rattle.cal_format.specs.declared.item.Item.{Item}
-use Rattle.cal_format.specs.Moment.{IsMoment, moment_of_date, moment_of_time, moment_of_date_time, moment_of_offset, moment_of_offset_date_time}
+use Rattle.cal_format.specs.declared.moment.Moment.{Moment}
+use Rattle.cal_format.specs.Moment.{ moment_of_date, moment_of_time, moment_of_date_time, moment_of_offset, moment_of_offset_date_time}
 use Rattle.cal_format.specs.Reading.{are_time_items, are_offset_items, shows_date, shows_time, shows_offset, shows_timestamp, shows_moment, holds_time, holds_offset}
 use Rattle.cal_format.specs.Scanning.{AreHeld}
 use Rattle.cal_format.specs.Values.{Holds}
@@ -16,6 +17,7 @@ use Rattle.cal_format.proofs.Apart.{both_tests}
 use Rattle.cal_format.proofs.Contradictions.{zero-holds, zero-offset}
 use Rattle.cal_format.proofs.Holding.{time-held}
 use Rattle.cal_format.proofs.Offsets.{offset-held}
+use Rattle.cal_format.proofs.Outcomes.{no-value}
 
 -- A test of the items of a format.
 pub test-of : (test : List Item → Bool) (format items : List Item) → items ≡ format → IsTrue (test format) → IsTrue (test items)
@@ -78,3 +80,24 @@ moment-holds items m shows h range held holds offset =
       parts = holds;
       offset_parts = offset;
     }
+
+-- ---- what an option holds
+pub not-shown : (b : Bool) (n : ℕ) → IsTrue b ⊎ (n ≡ 0) → b ≡ false → n ≡ 0
+not-shown b n (inl h) e = cc
+not-shown b n (inr h) e = h
+
+pub none-of : (r : Option ℕ) (Valid Has : ℕ → Type 0) → ((n : ℕ) → Valid n → Has n → r ≡ Some n) → IfNone r ((n : ℕ) → Valid n → ¬ Has n)
+none-of None Valid Has f = λ n v h. no-value n (f n v h)
+none-of (Some m) Valid Has f = tt
+
+pub none-moment : (r : Option Moment) (Has : Moment → Type 0) → ((v : Moment) → Has v → r ≡ Some v) → IfNone r ((v : Moment) → ¬ Has v)
+none-moment None Has f = λ v h. no-value v (f v h)
+none-moment (Some m) Has f = tt
+
+pub mapped_moment : (P Q : Moment → Type 0) (r : Option Moment) → ((v : Moment) → P v → Q v) → IfSome r P → IfSome r Q
+mapped_moment P Q None f h = tt
+mapped_moment P Q (Some v) f h = f v h
+
+pub no-both : (b : Bool) → IsTrue b → IsTrue (not b) → ⊥
+no-both true h k = cc
+no-both false h k = cc

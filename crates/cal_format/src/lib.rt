@@ -11,6 +11,7 @@
 mod date_format;
 mod date_parts;
 mod date_time_format;
+mod description;
 mod determines;
 mod directive;
 mod error;

@@ -154,16 +154,25 @@ fn moment_of(items: &[Item], fields: &Fields) -> Result<Moment, ComponentRange>
     ensures error { IfErr result (λ why. (why ≡ value_error items.now) × ((v : Moment)
         → ¬ IsMomentOf items.now (λ c. number_at c fields.now) v)) }
 {
-    let offset = offset_of_numbers(items, fields);
-    let found = if shows_timestamp(items) {
-        moment_at_timestamp(items, fields, offset)
-    } else {
-        moment_at_date(items, fields, offset)
-    };
-    match found {
+    match find_moment(items, fields) {
         Some(moment) => Ok(moment),
         None => Err(value_error(items)),
     }
+}
+
+fn find_moment(items: &[Item], fields: &Fields) -> Option<Moment>
+    requires { (c : Component) → number_at c fields.now ≤ maximum c }
+    ensures every { (v : Moment) → Holds items.now v → Agrees items.now fields.now v
+        → result ≡ Some v }
+    ensures value { IfSome result (IsMomentOf items.now (λ c. number_at c fields.now)) }
+    ensures none { IfNone result ((v : Moment)
+        → ¬ IsMomentOf items.now (λ c. number_at c fields.now) v) }
+{
+    let offset = offset_of_numbers(items, fields);
+    if shows_timestamp(items) {
+        return moment_at_timestamp(items, fields, offset);
+    }
+    moment_at_date(items, fields, offset)
 }
 
 /// Returns the moment of the date and the time of day at the offset.
