@@ -4,9 +4,10 @@
  * them each line is an instant as GNU date reads it, such as @1700000000.250000000. */
 #include <inttypes.h>
 #include <stdlib.h>
+#include <stdio.h>
 #include <string.h>
 
-#include "testing.h"
+#include "fotsevindre.h"
 
 #define MAX_FORMATS 8
 #define FIRST INT64_C(-30610224000) /* 1000-01-01 */
@@ -14,6 +15,14 @@
 #define SECOND UINT64_C(1000000000)
 
 static uint64_t state;
+
+static void need(int holds, const char *what)
+{
+    if (!holds) {
+        fprintf(stderr, "drawn: %s\n", what);
+        exit(1);
+    }
+}
 
 static uint64_t draw(void)
 {
@@ -45,7 +54,7 @@ static void print_texts(fots_moment moment, const fots_format *formats, int coun
     char bytes[FOTS_MAX_ITEMS * FOTS_MAX_ITEM_LENGTH];
     for (int k = 0; k < count; k++) {
         const fots_length_result text = fots_moment_format(moment, &formats[k], bytes, sizeof(bytes));
-        check(text.status == FOTS_OK, "a text", text.status, k);
+        need(text.status == FOTS_OK, "no text");
         fwrite(bytes, 1, text.length, stdout);
         putchar(k + 1 < count ? '|' : '\n');
     }
@@ -60,7 +69,7 @@ int main(int argc, char **argv)
     }
     for (int k = 0; k < count; k++) {
         const fots_format_result made = fots_format_new(argv[k + 4], strlen(argv[k + 4]));
-        check(made.status == FOTS_OK, argv[k + 4], made.status, (long long)made.position);
+        need(made.status == FOTS_OK, argv[k + 4]);
         formats[k] = made.format;
     }
     const int32_t offset = atoi(argv[2]);

@@ -1,5 +1,5 @@
 -- Months and weekdays by their names.
-use Rattle.std.proofs.Common.{◌≡◌, ℕ, ◌-◌, ◌<◌, ◌≤◌, List, ◌∷◌, ◌++◌, length, refl, arith, inr, lit<, lit≤}
+use Rattle.std.proofs.Common.{◌≡◌, ℕ, ◌-◌, ◌<◌, ◌≤◌, List, ◌∷◌, ◌++◌, length, refl, ap, ◌∙◌, arith, inr, lit<, lit≤}
 use Rattle.std.specs.Prelude.{◌==◌, if◌then◌else◌, nat_lt, codes, Bool, true, false}
 use Rattle.cal_time.specs.declared.Month.{Month}
 use Rattle.cal_time.specs.declared.Month.TheVariants.{January}
@@ -7,6 +7,7 @@ use Rattle.cal_time.specs.declared.Weekday.{Weekday}
 use Rattle.cal_time.specs.declared.Weekday.TheVariants.{Monday}
 use Rattle.cal_time.specs.Month as month
 use Rattle.cal_time.specs.Weekday as weekday
+use Rattle.cal_time.specs.MonthCycle.{month_of_index-index}
 use Rattle.cal_time.specs.Time.{hour_of}
 use Rattle.cal_format.specs.declared.item.Name.{Name}
 use Rattle.cal_format.specs.declared.item.Name.TheVariants as name
@@ -14,6 +15,10 @@ use Rattle.cal_format.specs.declared.moment.Moment.{Moment}
 use Rattle.cal_format.specs.Form.{numbered_name}
 use Rattle.cal_format.specs.Names.{short_month, short_weekday, month_of, weekday_of, name_text}
 use Rattle.cal_format.specs.Scanning.{BeginsApart, BeginsPastPoint}
+
+-- ---- the month of a day
+pub same-month : (m : Month) (k : ℕ) → month.number m ≡ k → month.month_of_index (k - 1) ≡ m
+same-month m k e = ap month.month_of_index (let f : k - 1 ≡ month.index m = omega (arith, e) in f) ∙ month_of_index-index m
 
 -- ---- lengths
 pub length-short_month : (m : Month) → length (short_month m) ≡ 3

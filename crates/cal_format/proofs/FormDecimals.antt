@@ -226,3 +226,19 @@ fraction-scanned n old mid new point h =
       omega (arith, below, value-fill 100_000_000 (9 - length h.digits) h.digits, h.value),
       point ∙ ap (λ l. 46 ∷ l) (h.bytes_are ∙ ap (λ ds. ds ++ new) (sym is)) ∙ ap (λ l. l ++ new) (sym (fraction-other n other)),
     )
+
+-- A digit and the digits after it.
+pub decimals-scanned : (d n : ℕ) (old mid new : List ℕ) → (d < 10) × (old ≡ (48 + d) ∷ mid) → ParsesDecimals mid new true 7 10_000_000 n
+    → (d * 100_000_000 + n < 1_000_000_000) × (old ≡ decimals (d * 100_000_000 + n) ++ new)
+decimals-scanned d n old mid new first h =
+    let ds = (48 + d) ∷ h.digits in
+    let all : AllDigits 10 ((48 + d) ∷ h.digits) = (omega (arith, value-of d first.0, first.0), h.all) in
+    let few : length ((48 + d) ∷ h.digits) ≤ 9 = omega (arith, h.few) in
+    let value : decimals_value 100_000_000 ((48 + d) ∷ h.digits) ≡ d * 100_000_000 + n =
+    ap (λ v. v * 100_000_000 + decimals_value 10_000_000 h.digits) (value-of d first.0) ∙ ap (λ v. d * 100_000_000 + v) h.value in
+    let is : decimals (d * 100_000_000 + n) ≡ (48 + d) ∷ h.digits =
+    ap decimals (sym value) ∙ ap first_kept (digits-are ((48 + d) ∷ h.digits) all few) ∙ ap (λ l. (48 + d) ∷ l) (last-fill (9 - suc (length h.digits)) h.digits ∙ h.last) in
+    let below = (filled ((48 + d) ∷ h.digits) all few).below in (
+      omega (arith, below, value-fill 100_000_000 (9 - length ((48 + d) ∷ h.digits)) ((48 + d) ∷ h.digits), value),
+      first.1 ∙ ap (λ l. (48 + d) ∷ l) h.bytes_are ∙ ap (λ l. l ++ new) (sym is),
+    )

@@ -67,18 +67,18 @@ AreDigits-decimals n small =
     (omega arith, first, zeros-digits (drop 1 nine) eight)
 
 -- The decimals of a fraction have no trailing zeros, and there are some.
+zeros-again-gone : (d : ℕ) (w : List ℕ) → without_trailing_zeros w ≡ w → without_trailing_zeros (prepend_digit d w) ≡ prepend_digit d w
+unfolding without_trailing_zeros
+zeros-again-gone d [] h = elim (cases_eq d 48) as (λ _. without_trailing_zeros (prepend_digit d []) ≡ prepend_digit d []) [
+  | inl zero_is ↦ ap without_trailing_zeros (prepend_digit-zero d zero_is) ∙ sym (prepend_digit-zero d zero_is)
+  | inr other ↦ ap without_trailing_zeros (prepend_digit-other d [] other)
+]
+zeros-again-gone d (x ∷ xs) h = ap (prepend_digit d) h
+
 zeros-gone : (ds : List ℕ) → without_trailing_zeros (without_trailing_zeros ds) ≡ without_trailing_zeros ds
 unfolding without_trailing_zeros
 zeros-gone [] = refl
-zeros-gone (d ∷ ds) = again d (without_trailing_zeros ds) (zeros-gone ds)
-  where
-    again : (d : ℕ) (w : List ℕ) → without_trailing_zeros w ≡ w → without_trailing_zeros (prepend_digit d w) ≡ prepend_digit d w
-    unfolding without_trailing_zeros
-    again d [] h = elim (cases_eq d 48) as (λ _. without_trailing_zeros (prepend_digit d []) ≡ prepend_digit d []) [
-      | inl zero_is ↦ ap without_trailing_zeros (prepend_digit-zero d zero_is) ∙ sym (prepend_digit-zero d zero_is)
-      | inr other ↦ ap without_trailing_zeros (prepend_digit-other d [] other)
-    ]
-    again d (x ∷ xs) h = ap (prepend_digit d) h
+zeros-gone (d ∷ ds) = zeros-again-gone d (without_trailing_zeros ds) (zeros-gone ds)
 
 pub decimals-last : (n : ℕ) → 0 < n → without_trailing_zeros (decimals n) ≡ decimals n
 decimals-last n some = ap without_trailing_zeros (decimals-some n some) ∙ zeros-gone (nine_digits n) ∙ sym (decimals-some n some)

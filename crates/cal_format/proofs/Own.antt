@@ -3,8 +3,8 @@ use Rattle.std.proofs.Common.{◌≡◌, ℕ, suc, ◌+◌, ◌-◌, ◌/◌, �
 use Rattle.std.specs.Prelude.{Bool, true, false, IsTrue, None, Some, ◌==◌, ◌||◌, ◌&&◌, nat_le, if◌then◌else◌, pos, int_lt, codes}
 use Rattle.std.proofs.lemmas.Bool.Decides.{nat_tests}
 use borrow.Author.Tests.{eq-eqb}
-use Rattle.cal_date.proofs.Weekdays.{weekday_count-ordinal}
-use Rattle.cal_time.proofs.Dates.{ordinal-most}
+use Rattle.cal_time.proofs.Weekdays.{weekday_count-ordinal}
+use Rattle.cal_time.proofs.Dates.{ordinal-most, stands}
 use Rattle.cal_time.proofs.IsoWeeks.{week_of_thursday}
 use Rattle.cal_time.specs.Date.{year_at, month_at, ordinal_at}
 use Rattle.cal_time.specs.Days.{month_at-range, day_of_month_at-range}
@@ -90,14 +90,14 @@ pub own-agrees : (items : List Item) (numbers : List ℕ) (f : Fields) (v : Mome
 own-agrees items numbers f v e filled c = filled c ∙ ap (λ l. number_in items l c) e ∙ own-in items c v
 
 -- ---- they are in range
+ordinal-least : (n : ℕ) → 1 ≤ ordinal_at n
+ordinal-least n = (stands n).ordinal.0
+
 week-range : (n : ℕ) → (1 ≤ iso_week_at n) × (iso_week_at n ≤ 53)
 week-range n =
     let t = n - n % 7 + 3 in
     let week = (week_of_thursday n (year_at t) (ordinal_at t) (refl, refl)).1 in
     (omega (arith, week, ordinal-least t), omega (arith, week, ordinal-most t))
-  where
-    ordinal-least : (n : ℕ) → 1 ≤ ordinal_at n
-    ordinal-least n = omega arith
 
 count-most : (w n : ℕ) → w < 7 → weekday_count w n ≤ 53
 count-most w n low =
@@ -114,7 +114,7 @@ number-in YearOfCentury v h low = (omega arith, omega arith)
 number-in IsoYear v h low = (omega arith, omega (arith, low))
 number-in Month v h low = let range = month_at-range v.date in (range.0, range.1)
 number-in Day v h low = (omega (arith, (day_of_month_at-range v.date).0), omega (arith, (day_of_month_at-range v.date).1, days_in_month-most (year_at v.date) (month_at v.date)))
-number-in Ordinal v h low = (omega arith, omega (arith, ordinal-most v.date))
+number-in Ordinal v h low = (ordinal-least v.date, ordinal-most v.date)
 number-in IsoWeek v h low = week-range v.date
 number-in Weekday v h low = let is = weekday_at-is v.date in (omega arith, omega arith)
 number-in DaysFromSunday v h low = (omega arith, omega arith)

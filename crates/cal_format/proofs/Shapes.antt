@@ -25,7 +25,7 @@ use Rattle.cal_format.specs.declared.item.Padding.TheVariants as padding
 use Rattle.cal_format.specs.Form.{AfterSpaces, Decimal, Padded, Decimals, MonthOfJ, MonthOfM, MonthOfA, OtherMonth, MonthName, WeekdayOfT, WeekdayOfS, WeekdayName, PeriodName, NameShape, ItemShape, shape_of, numbered_name, numbered_item, numbered_text, period_text, IsNameNumber, IsNumber, AreNumbers, HasNumbers}
 use Rattle.cal_format.specs.Moment.{width, most_digits}
 use Rattle.cal_format.specs.Names.{short_month, short_weekday}
-use Rattle.cal_format.specs.Reading.{are_apart}
+use Rattle.cal_format.specs.Reading.{ends_before, are_apart}
 use Rattle.cal_format.specs.Scanning.{AreDigits, BeginsApart, BeginsPastPoint, BeginsPastMinus, IsEnded}
 use Rattle.cal_format.specs.Text.{padded, fraction_text}
 use Rattle.cal_format.proofs.Apart.{both_tests, numbers-ended}
@@ -212,7 +212,7 @@ items-each : (items : List Item) (numbers : List ℕ) → AreNumbers items numbe
 items-each [] numbers fit apart = unmatched_bytes-done
 items-each (i ∷ items) [] fit apart = absurd fit
 items-each (i ∷ items) (n ∷ numbers) fit apart =
-    let both = both_tests _ (are_apart items) apart in
+    let both = both_tests (ends_before i items) (are_apart items) apart in
     item-each i n (shape_of items) (numbered_text items numbers) fit.0 (numbers-ended i items numbers both.0 fit.1) ∙ items-each items numbers fit.1 both.1
 
 pub has-form : (items : List Item) (numbers text : List ℕ) → IsTrue (are_apart items) → HasNumbers items numbers text → unmatched_bytes (shape_of items) text ≡ 0

@@ -1,7 +1,8 @@
 -- A text has one list of numbers.
 use Rattle.std.proofs.Common.{◌≡◌, ℕ, zero, suc, ◌+◌, ◌-◌, ◌*◌, ◌<◌, ◌≤◌, ◌^◌, ◌⊎◌, List, [], ◌∷◌, ◌++◌, length, get_or, refl, sym, ap, subst, ◌∙◌, arith, inl, inr}
 use Rattle.std.specs.Prelude.{Bool, true, false, IsTrue, decimal, fold, codes, ◌==◌, if◌then◌else◌}
-use Rattle.std.proofs.lemmas.Bool.{cases_lt}
+use Rattle.std.proofs.lemmas.Bool.{cases_eq, cases_lt}
+use borrow.Author.Tests.{eqb-true, eq-eqb}
 use Rattle.std.proofs.lemmas.Bool.Decides.{nat_tests}
 use Rattle.cal_time.specs.declared.Month.{Month}
 use Rattle.cal_time.specs.declared.Month.TheVariants.{January}
@@ -23,7 +24,7 @@ use Rattle.cal_format.specs.declared.item.Padding.TheVariants as padding
 use Rattle.cal_format.specs.Form.{numbered_name, numbered_item, numbered_text, IsNameNumber, IsNumber, AreNumbers, HasNumbers}
 use Rattle.cal_format.specs.Moment.{width, most_digits}
 use Rattle.cal_format.specs.Names.{short_month, short_weekday}
-use Rattle.cal_format.specs.Reading.{are_apart}
+use Rattle.cal_format.specs.Reading.{ends_before, are_apart}
 use Rattle.cal_format.specs.Scanning.{AreDigits, BeginsApart, BeginsPastPoint, BeginsPastMinus, IsEnded}
 use Rattle.cal_format.specs.Text.{padded, fraction_text}
 use Rattle.cal_format.proofs.Apart.{both_tests, numbers-ended}
@@ -164,11 +165,17 @@ weekday-of n m a b c d e =
     let q = index-weekday_of_index (m - 1) (omega arith) in
     omega (arith, p, q, e)
 
+same-bit : (k n m : ℕ) → k < 2 → n < 2 → m < 2 → (n == k) ≡ (m == k) → n ≡ m
+same-bit k n m some low few e = elim (cases_eq n k) as (λ _. n ≡ m) [
+  | inl is ↦ is ∙ sym (eqb-true m k (sym e ∙ eq-eqb n k is))
+  | inr other ↦ elim (cases_eq m k) as (λ _. n ≡ m) [ inl is ↦ absurd (other (eqb-true n k (e ∙ eq-eqb m k is))) | inr too ↦ omega arith ]
+]
+
 zero-of : (n m : ℕ) → n < 2 → m < 2 → (n == 0) ≡ (m == 0) → n ≡ m
-zero-of n m low few e = grind (arith, nat_tests)
+zero-of n m low few e = same-bit 0 n m (omega arith) low few e
 
 one-of : (n m : ℕ) → n < 2 → m < 2 → (n == 1) ≡ (m == 1) → n ≡ m
-one-of n m low few e = grind (arith, nat_tests)
+one-of n m low few e = same-bit 1 n m (omega arith) low few e
 
 name-number : (k : Name) (n m : ℕ) (r s : List ℕ) → IsNameNumber k n → IsNameNumber k m → numbered_name k n ++ r ≡ numbered_name k m ++ s → n ≡ m
 name-number name.Month n m r s h k e = month-of n m h.0 h.1 k.0 k.1 (sym (month-by (month_of_index (n - 1)) r) ∙ ap (λ l. month_by (letters l)) e ∙ month-by (month_of_index (m - 1)) s)
@@ -205,7 +212,7 @@ items-one [] [] (m ∷ ms) apart h k e = absurd k
 items-one (i ∷ items) [] ms apart h k e = absurd h
 items-one (i ∷ items) (n ∷ ns) [] apart h k e = absurd k
 items-one (i ∷ items) (n ∷ ns) (m ∷ ms) apart h k e =
-    let both = both_tests _ (are_apart items) apart in
+    let both = both_tests (ends_before i items) (are_apart items) apart in
     let found = item-one i n m (numbered_text items ns) (numbered_text items ms) h.0 k.0 (numbers-ended i items ns both.0 h.1) (numbers-ended i items ms both.0 k.1) e in
     let rest = items-one items ns ms both.1 h.1 k.1 found.1 in
     λ j. found.0 j ∷ rest j

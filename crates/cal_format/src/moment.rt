@@ -1,5 +1,5 @@
 //! The value that a format prints.
-ghost use Rattle.std.specs.Prelude.{◌≡◌, ◌<◌, ◌/◌, unsigned_abs, pos, int_lt, if◌then◌else◌};
+ghost use Rattle.std.specs.Prelude.{◌≡◌, ◌<◌, ◌/◌, ◌+ℤ◌, ◌-ℤ◌, ◌*ℤ◌, unsigned_abs, pos, int_lt, if◌then◌else◌};
 ghost use Rattle.cal_time.specs.SignedDuration.{second};
 ghost use Rattle.cal_time.specs.Date.{year_at, month_at as month_at_day, weekday_at as weekday_at_day, IsYear};
 ghost use Rattle.cal_time.specs.IsoWeekDate.{iso_year_at};
@@ -68,7 +68,7 @@ impl Moment {
         ensures range { unsigned_abs result < 100_000_000_000_000 }
     {
         let days = i64::from(self.date.to_julian_day()) - EPOCH_JULIAN_DAY;
-        days * 86_400 + self.seconds_of_day() - i64::from(self.offset.whole_seconds())
+        seconds_at(days, self.seconds_of_day(), self.offset.whole_seconds())
     }
 
     fn seconds_of_day(&self) -> i64
@@ -92,6 +92,17 @@ impl Moment {
     {
         self.date.weekday()
     }
+}
+
+/// Returns the seconds of these days and of the day, minus the offset.
+fn seconds_at(days: i64, seconds: i64, offset: i32) -> i64
+    requires days { unsigned_abs days < 1_000_000_000 }
+    requires seconds { unsigned_abs seconds < 86_400 }
+    requires offset { unsigned_abs offset < 100_000 }
+    ensures value { result ≡ days *ℤ pos 86_400 +ℤ seconds -ℤ offset }
+    ensures range { unsigned_abs result < 100_000_000_000_000 }
+{
+    days * 86_400 + seconds - i64::from(offset)
 }
 
 /// Returns the ISO year.

@@ -26,7 +26,7 @@ use crate::offset_parts::offset_of;
 use crate::print::sign_of;
 use crate::ranges::first_range_error;
 use crate::time_parts::{nanosecond_of, time_of};
-use crate::timestamp::{moment_at, signed};
+use crate::timestamp::moment_at;
 use crate::value::first_date;
 use cal_text::Scanner;
 use cal_time::error::{Component as Named, ComponentRange};
@@ -168,7 +168,7 @@ fn find_moment(items: &[Item], fields: &Fields) -> Option<Moment>
     ensures none { IfNone result ((v : Moment)
         → ¬ IsMomentOf items.now (λ c. number_at c fields.now) v) }
 {
-    let offset = offset_of_numbers(items, fields);
+    let offset = offset_of_numbers(items, fields)?;
     if shows_timestamp(items) {
         return moment_at_timestamp(items, fields, offset);
     }
@@ -211,8 +211,8 @@ fn moment_at_timestamp(items: &[Item], fields: &Fields, offset: UtcOffset) -> Op
         → ¬ IsMomentOf items.now (λ c. number_at c fields.now) v) }
 {
     let sign = fields.get(Component::TimestampSign);
-    let seconds = signed(sign, fields.get(Component::Timestamp));
-    moment_at(seconds, nanosecond_of(items, fields), offset)
+    let seconds = fields.get(Component::Timestamp);
+    moment_at(sign, seconds, nanosecond_of(items, fields), offset)
 }
 
 /// Returns the date of the numbers, or the first date of the range if the items determine none.
@@ -250,20 +250,17 @@ fn time_of_numbers(items: &[Item], fields: &Fields) -> Time
 }
 
 /// Returns the offset of the numbers, or UTC if the items determine none.
-fn offset_of_numbers(items: &[Item], fields: &Fields) -> UtcOffset
+fn offset_of_numbers(items: &[Item], fields: &Fields) -> Option<UtcOffset>
     requires { (c : Component) → number_at c fields.now ≤ maximum c }
     ensures every { (v : Moment) → Holds items.now v → Agrees items.now fields.now v
-        → result ≡ v.offset }
-    ensures value { result ≡ (if shows_offset items.now
+        → result ≡ Some v.offset }
+    ensures value { result ≡ Some (if shows_offset items.now
         then offset_in (λ c. number_at c fields.now)
         else pos 0) }
-    ensures range { IsOffset result }
+    ensures range { IfSome result IsOffset }
 {
     if !shows_offset(items) {
-        return UtcOffset::UTC;
+        return Some(UtcOffset::UTC);
     }
-    match offset_of(items, fields) {
-        Some(offset) => offset,
-        None => UtcOffset::UTC,
-    }
+    offset_of(items, fields)
 }

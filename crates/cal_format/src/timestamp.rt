@@ -29,18 +29,24 @@ pub(crate) fn signed(sign: u64, seconds: u64) -> i64
     }
 }
 
-/// Returns the moment with this Unix time in seconds, these nanoseconds of the second and this
-/// offset.
-pub(crate) fn moment_at(seconds: i64, nanosecond: u32, offset: UtcOffset) -> Option<Moment>
-    requires seconds { unsigned_abs seconds < 100_000_000_000_000 }
+/// Returns the moment with a Unix time of these seconds, which are negative if the sign is 1, these
+/// nanoseconds of the second and this offset.
+pub(crate) fn moment_at(
+    sign: u64,
+    seconds: u64,
+    nanosecond: u32,
+    offset: UtcOffset,
+) -> Option<Moment>
+    requires seconds { seconds < 100_000_000_000_000 }
     requires nanosecond { nanosecond < 1_000_000_000 }
-    ensures every { (v : Moment) → IsMoment v → v.offset ≡ offset → timestamp_of v ≡ seconds
+    ensures every { (v : Moment) → IsMoment v → v.offset ≡ offset → timestamp_of v ≡ signed_seconds sign seconds
         → nanosecond_of v.time ≡ nanosecond
         → result ≡ Some v }
     ensures value { IfSome result (λ v. IsMoment v × (v.offset ≡ offset)
-        × (timestamp_of v ≡ seconds) × (nanosecond_of v.time ≡ nanosecond)) }
+        × (timestamp_of v ≡ signed_seconds sign seconds) × (nanosecond_of v.time ≡ nanosecond)) }
 {
-    let local = seconds + i64::from(offset.whole_seconds()) + EPOCH;
+    let timestamp = signed(sign, seconds);
+    let local = timestamp + i64::from(offset.whole_seconds()) + EPOCH;
     if local < 0 {
         return None;
     }

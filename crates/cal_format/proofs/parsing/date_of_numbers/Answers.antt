@@ -1,6 +1,6 @@
 use Rattle.std.proofs.Common.{sym, ap, ◌∙◌}
 use Rattle.std.specs.Prelude.{Some}
-use Rattle.cal_format.proofs.Parsing.{not-shown, none-of}
+use Rattle.cal_format.proofs.Moments.{not-shown, none-of}
 use Rattle.cal_format.proofs.Rejections.{no-date}
 use Rattle.cal_format.proofs.parsing.date_of_numbers.Goals as goal
 

@@ -2,14 +2,14 @@ use Rattle.std.proofs.Common.{◌≡◌, sym, ap, ◌∙◌}
 use Rattle.std.specs.Prelude.{Some}
 use Rattle.cal_format.specs.declared.moment.Moment.{Moment}
 use Rattle.cal_format.proofs.Outcomes.{same-value, no-value}
-use Rattle.cal_format.proofs.Parsing.{no-both}
+use Rattle.cal_format.proofs.Moments.{no-both}
 use Rattle.cal_format.proofs.parsing.moment_at_date.Goals as goal
 
 pub returns-in_err-date-clause-every : goal.returns-in_err-date-clause-every
 returns-in_err-date-clause-every c v holds agrees e = absurd (no-value _ (c.in_err-date.ensures.every v holds agrees))
 
 pub returns-in_err-date-clause-none : goal.returns-in_err-date-clause-none
-returns-in_err-date-clause-none c = λ v is. c.in_err-date.ensures.none v.date is.in_range.date (is.date c.requires.date)
+returns-in_err-date-clause-none c = rw c.from_residual.ensures (λ v is. c.in_err-date.ensures.none v.date is.in_range.date (is.date c.requires.date))
 
 pub returns-clause-every : goal.returns-clause-every
 returns-clause-every c v holds agrees e =

@@ -2,7 +2,7 @@ use Rattle.std.proofs.Common.{sym, ◌∙◌, inl, inr}
 use Rattle.std.specs.Prelude.{IsTrue}
 use Rattle.cal_format.proofs.Choices.{first-choice, other-choice}
 use Rattle.cal_format.proofs.Contradictions.{else-holds}
-use Rattle.cal_format.proofs.Parsing.{not-shown}
+use Rattle.cal_format.proofs.Moments.{not-shown}
 use Rattle.cal_format.proofs.parsing.time_of_numbers.Goals as goal
 
 pub returns-then-not-shows_time-clause-every : goal.returns-then-not-shows_time-clause-every

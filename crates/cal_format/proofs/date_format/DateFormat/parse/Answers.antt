@@ -4,8 +4,8 @@ use Rattle.cal_format.specs.Reading.{are_apart, are_date_items, shows_date}
 use Rattle.cal_format.specs.Rejection.{IsRejection}
 use Rattle.cal_format.specs.Text.{text_of}
 use Rattle.cal_format.specs.Values.{Holds, IsPrinted}
-use Rattle.cal_format.proofs.Outcomes.{same-ok, no-result}
-use Rattle.cal_format.proofs.Parsing.{test-of, date-holds}
+use Rattle.cal_format.proofs.Outcomes.{result-or, no-result}
+use Rattle.cal_format.proofs.Moments.{test-of, date-holds}
 use Rattle.cal_format.proofs.Alike.{dates-alike}
 use Rattle.cal_format.proofs.date_format.DateFormat.parse.Goals as goal
 
@@ -29,7 +29,7 @@ returns-clause-every c n date held text =
     let items : c.items.result.now ≡ c.args.self.now = c.items.ensures.items ∙ c.self.view_is in
     let shows = test-of shows_date c.self.inside.format c.args.self.now (sym c.self.view_is) c.self.invariant.2 in
     let held_by = subst (λ l. Holds l (moment_of_date n)) (sym items) (date-holds c.args.self.now n shows date held) in
-    let same = same-ok _ _ (c.in_ok-moment.ensures.every (moment_of_date n) held_by (text ∙ ap (λ l. text_of l (moment_of_date n)) (sym items))) in
+    let same = ap (result-or c.in_ok-moment.moment) (c.in_ok-moment.ensures.every (moment_of_date n) held_by (text ∙ ap (λ l. text_of l (moment_of_date n)) (sym items))) in
     ap (λ m. Ok m.date) same
 
 pub returns-clause-value : goal.returns-clause-value

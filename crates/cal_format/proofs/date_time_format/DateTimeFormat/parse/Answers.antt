@@ -4,8 +4,8 @@ use Rattle.cal_format.specs.Reading.{are_apart, are_date_time_items, shows_date,
 use Rattle.cal_format.specs.Rejection.{IsRejection}
 use Rattle.cal_format.specs.Text.{text_of}
 use Rattle.cal_format.specs.Values.{Holds, IsPrinted}
-use Rattle.cal_format.proofs.Outcomes.{same-ok, no-result}
-use Rattle.cal_format.proofs.Parsing.{test-of, date_time-holds}
+use Rattle.cal_format.proofs.Outcomes.{result-or, no-result}
+use Rattle.cal_format.proofs.Moments.{test-of, date_time-holds}
 use Rattle.cal_format.proofs.Alike.{date_times-alike}
 use Rattle.std.specs.Prelude.{IsTrue}
 use Rattle.cal_datetime.specs.DateTime.{date_time, date_at, time_at}
@@ -34,7 +34,7 @@ returns-clause-every c z moment held holds text =
     let date = test-of shows_date c.self.inside.format c.args.self.now (sym c.self.view_is) c.self.invariant.2 in
     let time = test-of shows_time c.self.inside.format c.args.self.now (sym c.self.view_is) c.self.invariant.3 in
     let held_by = subst (λ l. Holds l (moment_of_date_time z)) (sym items) (date_time-holds c.args.self.now z date time moment held holds) in
-    let same = same-ok _ _ (c.in_ok-moment.ensures.every (moment_of_date_time z) held_by (text ∙ ap (λ l. text_of l (moment_of_date_time z)) (sym items))) in
+    let same = ap (result-or c.in_ok-moment.moment) (c.in_ok-moment.ensures.every (moment_of_date_time z) held_by (text ∙ ap (λ l. text_of l (moment_of_date_time z)) (sym items))) in
     ap Ok (c.new.ensures.value ∙ (λ i. date_time (same i).date (same i).time) ∙ date_time-parts z moment)
 
 pub returns-clause-value : goal.returns-clause-value

@@ -4,8 +4,8 @@ use Rattle.cal_format.specs.Reading.{are_apart, shows_moment, holds_time}
 use Rattle.cal_format.specs.Rejection.{IsRejection}
 use Rattle.cal_format.specs.Text.{text_of}
 use Rattle.cal_format.specs.Values.{Holds, IsPrinted}
-use Rattle.cal_format.proofs.Outcomes.{same-ok, no-result}
-use Rattle.cal_format.proofs.Parsing.{test-of, moment-holds}
+use Rattle.cal_format.proofs.Outcomes.{result-or, no-result}
+use Rattle.cal_format.proofs.Moments.{test-of, moment-holds}
 use Rattle.std.specs.Prelude.{IsTrue}
 use Rattle.cal_datetime.specs.DateTime.{date_time, date_at, time_at}
 use Rattle.cal_datetime.specs.DateTimeLaws.{IsDateTime-date_time, date_at-date_time, time_at-date_time, date_time-parts}
@@ -33,7 +33,7 @@ returns-clause-every c m local range held holds whole text =
     let items : c.items.result.now ≡ c.args.self.now = c.items.ensures.items ∙ c.self.view_is in
     let shows = test-of shows_moment c.self.inside.format c.args.self.now (sym c.self.view_is) c.self.invariant.1 in
     let held_by = subst (λ l. Holds l (moment_of_offset_date_time m)) (sym items) (moment-holds c.args.self.now m shows local range held holds whole) in
-    let same = same-ok _ _ (c.in_ok-moment.ensures.every (moment_of_offset_date_time m) held_by (text ∙ ap (λ l. text_of l (moment_of_offset_date_time m)) (sym items))) in
+    let same = ap (result-or c.in_ok-moment.moment) (c.in_ok-moment.ensures.every (moment_of_offset_date_time m) held_by (text ∙ ap (λ l. text_of l (moment_of_offset_date_time m)) (sym items))) in
     ap Ok (c.new_in_offset.ensures.value ∙ (λ i. record { local = date_time (same i).date (same i).time; offset = (same i).offset }) ∙ (λ i. record { local = date_time-parts m.local local i; offset = m.offset }))
 
 pub returns-clause-value : goal.returns-clause-value

@@ -4,8 +4,8 @@ use Rattle.cal_format.specs.Reading.{are_apart, are_offset_items}
 use Rattle.cal_format.specs.Rejection.{IsRejection}
 use Rattle.cal_format.specs.Text.{text_of}
 use Rattle.cal_format.specs.Values.{Holds, IsPrinted}
-use Rattle.cal_format.proofs.Outcomes.{same-ok, no-result}
-use Rattle.cal_format.proofs.Parsing.{test-of, offset-holds}
+use Rattle.cal_format.proofs.Outcomes.{result-or, no-result}
+use Rattle.cal_format.proofs.Moments.{test-of, offset-holds}
 use Rattle.cal_format.proofs.Alike.{offsets-alike}
 use Rattle.cal_format.proofs.offset_format.OffsetFormat.parse.Goals as goal
 
@@ -29,7 +29,7 @@ returns-clause-every c o range holds text =
     let items : c.items.result.now ≡ c.args.self.now = c.items.ensures.items ∙ c.self.view_is in
     let offsets = test-of are_offset_items c.self.inside.format c.args.self.now (sym c.self.view_is) c.self.invariant.1 in
     let held_by = subst (λ l. Holds l (moment_of_offset o)) (sym items) (offset-holds c.args.self.now o offsets range holds) in
-    let same = same-ok _ _ (c.in_ok-moment.ensures.every (moment_of_offset o) held_by (text ∙ ap (λ l. text_of l (moment_of_offset o)) (sym items))) in
+    let same = ap (result-or c.in_ok-moment.moment) (c.in_ok-moment.ensures.every (moment_of_offset o) held_by (text ∙ ap (λ l. text_of l (moment_of_offset o)) (sym items))) in
     ap (λ m. Ok m.offset) same
 
 pub returns-clause-value : goal.returns-clause-value

@@ -4,8 +4,8 @@ use Rattle.cal_format.specs.Reading.{are_apart, are_time_items, shows_time}
 use Rattle.cal_format.specs.Rejection.{IsRejection}
 use Rattle.cal_format.specs.Text.{text_of}
 use Rattle.cal_format.specs.Values.{Holds, IsPrinted}
-use Rattle.cal_format.proofs.Outcomes.{same-ok, no-result}
-use Rattle.cal_format.proofs.Parsing.{test-of, time-holds}
+use Rattle.cal_format.proofs.Outcomes.{result-or, no-result}
+use Rattle.cal_format.proofs.Moments.{test-of, time-holds}
 use Rattle.cal_format.proofs.Alike.{times-alike}
 use Rattle.cal_format.proofs.time_format.TimeFormat.parse.Goals as goal
 
@@ -31,7 +31,7 @@ returns-clause-every c n time holds text =
     let times = test-of are_time_items c.self.inside.format c.args.self.now (sym c.self.view_is) c.self.invariant.1 in
     let shows = test-of shows_time c.self.inside.format c.args.self.now (sym c.self.view_is) c.self.invariant.2 in
     let held_by = subst (λ l. Holds l (moment_of_time n)) (sym items) (time-holds c.args.self.now n times shows time holds) in
-    let same = same-ok _ _ (c.in_ok-moment.ensures.every (moment_of_time n) held_by (text ∙ ap (λ l. text_of l (moment_of_time n)) (sym items))) in
+    let same = ap (result-or c.in_ok-moment.moment) (c.in_ok-moment.ensures.every (moment_of_time n) held_by (text ∙ ap (λ l. text_of l (moment_of_time n)) (sym items))) in
     ap (λ m. Ok m.time) same
 
 pub returns-clause-value : goal.returns-clause-value
