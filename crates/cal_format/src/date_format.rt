@@ -65,7 +65,9 @@ impl DateFormat {
             × (text.now ≡ text_of self.now (moment_of_date n))) }
         ensures error { IfErr result (IsRejection self.now text.now) }
     {
-        let moment = parse_moment(self.format.items(), text)?;
-        Ok(moment.date)
+        match parse_moment(self.format.items(), text) {
+            Ok(moment) => Ok(moment.date),
+            Err(error) => Err(error),
+        }
     }
 }

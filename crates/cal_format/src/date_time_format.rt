@@ -74,7 +74,9 @@ impl DateTimeFormat {
             × (text.now ≡ text_of self.now (moment_of_date_time z))) }
         ensures error { IfErr result (IsRejection self.now text.now) }
     {
-        let moment = parse_moment(self.format.items(), text)?;
-        Ok(PlainDateTime::new(moment.date, moment.time))
+        match parse_moment(self.format.items(), text) {
+            Ok(moment) => Ok(PlainDateTime::new(moment.date, moment.time)),
+            Err(error) => Err(error),
+        }
     }
 }

@@ -74,11 +74,13 @@ impl OffsetDateTimeFormat {
             × (text.now ≡ text_of self.now (moment_of_offset_date_time m))) }
         ensures error { IfErr result (IsRejection self.now text.now) }
     {
-        let moment = parse_moment(self.format.items(), text)?;
-        Ok(OffsetDateTime::new_in_offset(
-            moment.date,
-            moment.time,
-            moment.offset,
-        ))
+        match parse_moment(self.format.items(), text) {
+            Ok(moment) => Ok(OffsetDateTime::new_in_offset(
+                moment.date,
+                moment.time,
+                moment.offset,
+            )),
+            Err(error) => Err(error),
+        }
     }
 }

@@ -64,7 +64,9 @@ impl OffsetFormat {
             × (text.now ≡ text_of self.now (moment_of_offset o))) }
         ensures error { IfErr result (IsRejection self.now text.now) }
     {
-        let moment = parse_moment(self.format.items(), text)?;
-        Ok(moment.offset)
+        match parse_moment(self.format.items(), text) {
+            Ok(moment) => Ok(moment.offset),
+            Err(error) => Err(error),
+        }
     }
 }

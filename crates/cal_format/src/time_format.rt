@@ -64,7 +64,9 @@ impl TimeFormat {
             × (text.now ≡ text_of self.now (moment_of_time n))) }
         ensures error { IfErr result (IsRejection self.now text.now) }
     {
-        let moment = parse_moment(self.format.items(), text)?;
-        Ok(moment.time)
+        match parse_moment(self.format.items(), text) {
+            Ok(moment) => Ok(moment.time),
+            Err(error) => Err(error),
+        }
     }
 }
