@@ -195,7 +195,7 @@ time-holds items numbers v most value =
     if-holds (shows_timestamp items) _ _
     (λ h. subsecond-held (any_shows Nanosecond items) (any_shows Microsecond items) (any_shows Millisecond items) _ _ _ (nanosecond_of v.time) (value.timestamp h).1)
     (λ h. either-time (shows_time items) (time_in items (number_in items numbers)) v.time (IsTrue (holds_parts items v.time)) (value.time h)
-        (λ e. shown-parts items numbers v.time most e) (λ e. subst (λ t. IsTrue (holds_parts items t)) (sym e) (zero-parts items)))
+    (λ e. shown-parts items numbers v.time most e) (λ e. subst (λ t. IsTrue (holds_parts items t)) (sym e) (zero-parts items)))
 
 negative-abs : (m : ℕ) → unsigned_abs (neg_ℤ (pos m)) ≡ m
 negative-abs zero = refl

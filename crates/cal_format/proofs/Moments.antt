@@ -9,7 +9,7 @@ use Rattle.cal_datetime.specs.DateTime.{IsDateTime, time_at}
 use Rattle.cal_datetime.specs.DateTimeLaws.{IsDate-date_at, IsTime-time_at}
 use Rattle.cal_format.specs.declared.item.Item.{Item}
 use Rattle.cal_format.specs.declared.moment.Moment.{Moment}
-use Rattle.cal_format.specs.Moment.{ moment_of_date, moment_of_time, moment_of_date_time, moment_of_offset, moment_of_offset_date_time}
+use Rattle.cal_format.specs.Moment.{moment_of_date, moment_of_time, moment_of_date_time, moment_of_offset, moment_of_offset_date_time}
 use Rattle.cal_format.specs.Reading.{are_time_items, are_offset_items, shows_date, shows_time, shows_offset, shows_timestamp, shows_moment, holds_time, holds_offset}
 use Rattle.cal_format.specs.Scanning.{AreHeld}
 use Rattle.cal_format.specs.Values.{Holds}

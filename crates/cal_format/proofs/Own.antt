@@ -133,7 +133,6 @@ number-in OffsetHour v h low = let most = h.offset.magnitude in (omega arith, om
 number-in OffsetMinute v h low = (omega arith, omega arith)
 number-in OffsetSecond v h low = (omega arith, omega arith)
 number-in OffsetSign v h low = (omega arith, omega (arith, bit-low (int_lt v.offset (pos 0))))
-
 number-in Timestamp v h low = (omega arith, omega (arith, low))
 number-in TimestampSign v h low = (omega arith, omega (arith, bit-low (int_lt (timestamp_of v) (pos 0))))
 

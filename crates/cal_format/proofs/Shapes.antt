@@ -127,6 +127,7 @@ decimals-each true (suc k) f (x ∷ xs) rest h last few some out =
           unmatched_bytes-branch_in 49 8 (Decimals true k f) (Branch 48 0 (Decimals false k f) f) x (xs ++ rest) (high x h.0 other, omega (arith, h.1))
           ∙ decimals-each true k f xs rest h.2 (tail-last x xs last) (omega (arith, few)) (λ e. cc) out
     ]
+
 no-point : (g f : Shape) (r : List ℕ) → BeginsPastPoint r → unmatched_bytes (Branch 46 0 g f) r ≡ unmatched_bytes f r
 no-point g f [] p = unmatched_bytes-branch_end 46 0 g f
 no-point g f (x ∷ xs) p = unmatched_bytes-branch_out 46 0 g f x xs (λ z. p (omega (arith, z.0, z.1)))

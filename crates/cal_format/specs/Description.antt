@@ -35,8 +35,8 @@ modifiers_length (suc k) words text =
     let s = spaces text in
     if get_or text s 0 == 93 then s + 1
     else (let n = any_length words (drop s text) in
-      let others = modifiers_length k words (drop (s + n) text) in
-      if (n == 0) || (others == 0) then 0 else s + n + others)
+    let others = modifiers_length k words (drop (s + n) text) in
+    if (n == 0) || (others == 0) then 0 else s + n + others)
 
 -- The length of a component with this name and at most eight of these modifiers, or 0.
 abbrev pub component_length : List ℕ → List (List ℕ) → List ℕ → ℕ

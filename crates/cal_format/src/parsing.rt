@@ -47,10 +47,7 @@ pub(crate) fn parse_moment(items: &[Item], text: &[u8]) -> Result<Moment, ParseE
     let mut scanner = Scanner { rest: text };
     match scan_items(items, &mut scanner, numbers, 0) {
         Some(()) => moment_of_numbers(items, numbers),
-        None => Err(unexpected(
-            text.len() - scanner.rest.len(),
-            text.len(),
-        )),
+        None => Err(unexpected(text.len() - scanner.rest.len(), text.len())),
     }
 }
 

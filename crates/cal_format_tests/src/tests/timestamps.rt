@@ -62,7 +62,12 @@ fn timestamps(rt: HostRuntime) -> Result<(), Fail> {
     let time = Time::from_hms_milli(9, 5, 7, 250)?;
     let moment = OffsetDateTime::new_in_offset(day, time, india);
     timestamp_row("%s.%3N%z", moment, "1709177707.250+0530", &rt);
-    timestamp_row("[%FT%T%.f%:z %s]", moment, "[2024-02-29T09:05:07.25+05:30 1709177707]", &rt);
+    timestamp_row(
+        "[%FT%T%.f%:z %s]",
+        moment,
+        "[2024-02-29T09:05:07.25+05:30 1709177707]",
+        &rt,
+    );
     Ok(())
 }
 
@@ -76,7 +81,12 @@ fn other_texts(rt: HostRuntime) -> Result<(), Fail> {
     rejected("%s", "1.5", ParseError::UnexpectedByte(1), &rt);
     let range = ComponentRange::unconditional(Component::Timestamp);
     rejected("%s", "31494784780800", ParseError::OutOfRange(range), &rt);
-    rejected("%s %Y", "0 1971", ParseError::Contradiction(Component::Year), &rt);
+    rejected(
+        "%s %Y",
+        "0 1971",
+        ParseError::Contradiction(Component::Year),
+        &rt,
+    );
     assert!(rt; format("%s", &rt).for_dates().is_none());
     assert!(rt; format("%s", &rt).for_date_times().is_none());
     assert!(rt; format("%s%H", &rt).for_offset_date_times().is_none());
