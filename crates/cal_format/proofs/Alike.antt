@@ -4,7 +4,7 @@ use Rattle.std.specs.Prelude.{IsTrue, ◌==◌, ◌||◌, codes, if◌then◌els
 use Rattle.cal_format.specs.declared.item.Item.{Item}
 use Rattle.cal_format.specs.declared.item.Item.TheVariants as item
 use Rattle.cal_format.specs.declared.item.Component.{Component}
-use Rattle.cal_format.specs.declared.item.Component.TheVariants.{Year, Century, YearOfCentury, IsoYear, Month, Day, Ordinal, IsoWeek, Weekday, DaysFromSunday, SundayWeekday, SundayWeek, MondayWeek, Hour, Hour12, Minute, Second, Period, Millisecond, Microsecond, Nanosecond, OffsetHour, OffsetMinute, OffsetSecond, OffsetSign, Timestamp, TimestampSign}
+use Rattle.cal_format.specs.declared.item.Component.TheVariants.{Year, Century, YearOfCentury, IsoYear, Month, Day, Ordinal, IsoWeek, Weekday, DaysFromSunday, SundayWeekday, SundayWeek, MondayWeek, Hour, Hour12, Minute, Second, Period, Millisecond, Microsecond, Nanosecond, OffsetHour, OffsetMinute, OffsetSecond, OffsetSign}
 use Rattle.cal_format.specs.declared.moment.Moment.{Moment}
 use Rattle.cal_format.specs.Form.{numbered_name}
 use Rattle.cal_format.specs.Moment.{number, width, moment_of_date, moment_of_time, moment_of_offset}

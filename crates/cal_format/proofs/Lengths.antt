@@ -1,11 +1,11 @@
 -- How long the texts of formats are: each item prints at most 15 bytes.
-use Rattle.std.proofs.Common.{◌≡◌, ℕ, zero, suc, ◌+◌, ◌*◌, ◌-◌, ◌%◌, ◌<◌, ◌≤◌, List, [], ◌∷◌, ◌++◌, length, replicate, refl, arith, lit≤, length-append}
+use Rattle.std.proofs.Common.{ℕ, zero, suc, ◌+◌, ◌*◌, ◌-◌, ◌%◌, ◌<◌, ◌≤◌, List, [], ◌∷◌, length, replicate, refl, arith, lit≤, length-append}
 use Rattle.std.specs.Prelude.{Bool, true, false, if◌then◌else◌, decimal, ℤ, pos, negsuc, unsigned_abs, int_lt, codes}
 use Rattle.std.proofs.lemmas.Bool.Decides.{nat_tests}
 use Rattle.std.proofs.lemmas.Fmt.{length-decimal-le}
 use Rattle.std.proofs.lemmas.Int.{ints}
 use Rattle.std.proofs.lemmas.List.{length-replicate}
-use Rattle.cal_time.specs.Date.{year_at, month_at, day_of_month_at, ordinal_at, IsYear}
+use Rattle.cal_time.specs.Date.{year_at, month_at, ordinal_at, IsYear}
 use Rattle.cal_time.specs.Laws.{weekday_at-is, length-decimals}
 use Rattle.cal_time.specs.Time.{nanosecond_of}
 use Rattle.cal_time.specs.Lengths.{days_in_month}

@@ -1,5 +1,5 @@
 -- The numbers that items have of a moment that they hold.
-use Rattle.std.proofs.Common.{◌≡◌, ℕ, suc, ◌+◌, ◌-◌, ◌/◌, ◌%◌, ◌<◌, ◌≤◌, ◌^◌, List, [], ◌∷◌, ◌++◌, refl, sym, ap, ◌∙◌, arith}
+use Rattle.std.proofs.Common.{◌≡◌, ℕ, ◌+◌, ◌-◌, ◌%◌, ◌<◌, ◌≤◌, ◌^◌, List, [], ◌∷◌, ◌++◌, refl, sym, ap, ◌∙◌, arith}
 use Rattle.std.specs.Prelude.{Bool, true, false, IsTrue, None, Some, ◌==◌, ◌||◌, ◌&&◌, nat_le, if◌then◌else◌, pos, int_lt, codes}
 use Rattle.std.proofs.lemmas.Bool.Decides.{nat_tests}
 use borrow.Author.Tests.{eq-eqb}
@@ -10,7 +10,6 @@ use Rattle.cal_time.specs.Date.{year_at, month_at, ordinal_at}
 use Rattle.cal_time.specs.Days.{month_at-range, day_of_month_at-range}
 use Rattle.cal_time.specs.IsoWeekDate.{iso_week_at, weekday_count}
 use Rattle.cal_time.specs.Laws.{weekday_at-is}
-use Rattle.cal_time.specs.Time.{IsTime}
 use Rattle.cal_units.specs.declared.error.ComponentRange.{ComponentRange}
 use Rattle.cal_format.specs.declared.fields.Fields.{Fields}
 use Rattle.cal_format.specs.declared.item.Item.{Item}
@@ -20,13 +19,12 @@ use Rattle.cal_format.specs.declared.item.Name.TheVariants as name
 use Rattle.cal_format.specs.declared.item.Component.{Component}
 use Rattle.cal_format.specs.declared.item.Component.TheVariants.{Year, Century, YearOfCentury, IsoYear, Month, Day, Ordinal, IsoWeek, Weekday, DaysFromSunday, SundayWeekday, SundayWeek, MondayWeek, Hour, Hour12, Minute, Second, Period, Millisecond, Microsecond, Nanosecond, OffsetHour, OffsetMinute, OffsetSecond, OffsetSign, Timestamp, TimestampSign}
 use Rattle.cal_format.specs.declared.moment.Moment.{Moment}
-use Rattle.cal_format.specs.Form.{item_number, numbers_of, numbered_name, numbered_item, numbered_text, IsNameNumber, IsNumber, AreNumbers, HasNumbers}
+use Rattle.cal_format.specs.Form.{item_number, numbers_of, numbered_item, numbered_text, IsNameNumber, IsNumber, AreNumbers, HasNumbers}
 use Rattle.cal_format.specs.Moment.{IsMoment, timestamp_of, number, width, most_digits}
-use Rattle.cal_format.specs.Names.{name_text}
 use Rattle.cal_format.specs.Ranges.{minimum, maximum, range_error, either, item_error, first_range_error}
 use Rattle.cal_format.specs.Reading.{index, name_component, shows, any_shows}
 use Rattle.cal_format.specs.Scanning.{IsHeld, AreHeld, number_at, Agrees}
-use Rattle.cal_format.specs.Text.{sign, padded, fraction_text, item_text, text_of}
+use Rattle.cal_format.specs.Text.{sign, padded, item_text, text_of}
 use Rattle.cal_format.specs.Values.{number_in, differing, is_empty, item_contradiction, first_contradiction}
 use Rattle.cal_format.proofs.Apart.{same_test, index-one}
 use Rattle.cal_format.proofs.Contradictions.{name-same, sign-same}

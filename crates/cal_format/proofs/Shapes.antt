@@ -1,10 +1,9 @@
 -- A text with numbers has the form of its items.
-use Rattle.std.proofs.Common.{◌≡◌, ◌≢◌, ℕ, zero, suc, ◌+◌, ◌-◌, ◌<◌, ◌≤◌, ◌^◌, ◌⊎◌, List, [], ◌∷◌, ◌++◌, length, get_or, replicate, refl, sym, ap, subst, ◌∙◌, arith, inl, inr, lit≤, append_assoc, length-append}
+use Rattle.std.proofs.Common.{◌≡◌, ◌≢◌, ℕ, zero, suc, ◌+◌, ◌-◌, ◌<◌, ◌≤◌, ◌^◌, List, [], ◌∷◌, ◌++◌, length, get_or, replicate, refl, ap, ◌∙◌, arith, inl, inr, lit≤}
 use Rattle.std.specs.Prelude.{Bool, true, false, IsTrue, decimal, codes, ◌==◌, if◌then◌else◌}
 use Rattle.std.proofs.lemmas.Bool.{cases_eq, cases_lt}
-use Rattle.std.proofs.lemmas.Fmt.{decimal_digit, first_decimal, decimal_nonempty, length-decimal-le}
-use Rattle.std.proofs.lemmas.List.{length-replicate}
-use Rattle.cal_text.specs.Shape.{Shape, End, ByteRange, Branch, Digits, UpTo, Number, Sign, unmatched_bytes}
+use Rattle.std.proofs.lemmas.Fmt.{decimal_digit, first_decimal, decimal_nonempty}
+use Rattle.cal_text.specs.Shape.{Shape, ByteRange, Branch, Digits, UpTo, Number, Sign, unmatched_bytes}
 use Rattle.cal_text.proofs.Stops.{unmatched_bytes-in, unmatched_bytes-branch_in, unmatched_bytes-branch_out, unmatched_bytes-branch_end, unmatched_bytes-done}
 use Rattle.cal_time.specs.declared.Month.{Month}
 use Rattle.cal_time.specs.declared.Month.TheVariants.{January}
@@ -17,19 +16,18 @@ use Rattle.cal_time.specs.Weekday as weekday
 use Rattle.cal_time.specs.Weekday.{weekday_of_index}
 use Rattle.cal_format.specs.declared.item.Item.{Item}
 use Rattle.cal_format.specs.declared.item.Item.TheVariants as item
-use Rattle.cal_format.specs.declared.item.Component.{Component}
 use Rattle.cal_format.specs.declared.item.Name.{Name}
 use Rattle.cal_format.specs.declared.item.Name.TheVariants as name
 use Rattle.cal_format.specs.declared.item.Padding.{Padding}
 use Rattle.cal_format.specs.declared.item.Padding.TheVariants as padding
-use Rattle.cal_format.specs.Form.{AfterSpaces, Decimal, Padded, Decimals, MonthOfJ, MonthOfM, MonthOfA, OtherMonth, MonthName, WeekdayOfT, WeekdayOfS, WeekdayName, PeriodName, NameShape, ItemShape, shape_of, numbered_name, numbered_item, numbered_text, period_text, IsNameNumber, IsNumber, AreNumbers, HasNumbers}
+use Rattle.cal_format.specs.Form.{AfterSpaces, Decimal, Padded, Decimals, MonthOfJ, MonthOfM, MonthOfA, OtherMonth, MonthName, WeekdayOfT, WeekdayOfS, WeekdayName, PeriodName, NameShape, ItemShape, shape_of, numbered_name, numbered_item, numbered_text, IsNumber, AreNumbers, HasNumbers}
 use Rattle.cal_format.specs.Moment.{width, most_digits}
 use Rattle.cal_format.specs.Names.{short_month, short_weekday}
 use Rattle.cal_format.specs.Reading.{ends_before, are_apart}
 use Rattle.cal_format.specs.Scanning.{AreDigits, BeginsApart, BeginsPastPoint, BeginsPastMinus, IsEnded}
 use Rattle.cal_format.specs.Text.{padded, fraction_text}
 use Rattle.cal_format.proofs.Apart.{both_tests, numbers-ended}
-use Rattle.cal_format.proofs.Digits.{AreDigits-decimal, AreDigits-zeros, length-zeros, length-spaces, length-decimal, small-width, width-some, small-digits, digits-some}
+use Rattle.cal_format.proofs.Digits.{AreDigits-decimal, AreDigits-zeros, length-zeros, length-decimal, small-width, width-some, small-digits, digits-some}
 use Rattle.cal_format.proofs.FormDecimals.{tail-last, one-high, more-after, none-last}
 use Rattle.cal_format.proofs.Fractions.{AreDigits-decimals, decimals-present, decimals-last, decimals-many, fraction-none, fraction-some}
 use Rattle.cal_time.specs.Laws.{length-decimals}

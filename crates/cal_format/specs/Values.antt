@@ -4,9 +4,9 @@ use Rattle.cal_units.specs.ComponentError.{conditional, unconditional}
 use Rattle.cal_units.specs.declared.error.Component.{Component as Named}
 use Rattle.cal_units.specs.declared.error.Component.TheVariants as error
 use Rattle.cal_units.specs.declared.error.ComponentRange.{ComponentRange}
-use Rattle.cal_time.specs.Date.{IsDate, HasCalendarDate, HasOrdinalDate}
+use Rattle.cal_time.specs.Date.{HasCalendarDate, HasOrdinalDate}
 use Rattle.cal_time.specs.IsoWeekDate.{HasIsoWeekDate}
-use Rattle.cal_time.specs.Time.{IsTime, nanosecond_of, time_of}
+use Rattle.cal_time.specs.Time.{nanosecond_of, time_of}
 use Rattle.cal_format.specs.declared.item.Item.{Item}
 use Rattle.cal_format.specs.declared.item.Item.TheVariants as item
 use Rattle.cal_format.specs.declared.item.Component.{Component}

@@ -1,9 +1,9 @@
-use Rattle.std.proofs.Common.{◌≡◌, ◌+◌, ◌-◌, ◌<◌, ◌^◌, ◌++◌, ◌∷◌, length, ◌∙◌, sym}
+use Rattle.std.proofs.Common.{◌≡◌, ◌+◌, ◌-◌, ◌<◌, ◌^◌, ◌++◌, length, ◌∙◌, sym}
 use Rattle.cal_text.specs.Shape.{Digits, ParsesMoreDigits}
 use Rattle.cal_format.specs.declared.item.Padding.TheVariants as padding
 use Rattle.cal_format.specs.Text.{padded}
 use Rattle.cal_format.specs.Form.{AfterSpaces}
-use Rattle.cal_format.proofs.Forms.{carried, mapped, mapped_both, few-digits, one-space, more-space, full-space, spaces-past, spaces-none}
+use Rattle.cal_format.proofs.Forms.{carried, mapped_both, few-digits, one-space, more-space, full-space, spaces-past, spaces-none}
 use Rattle.cal_format.proofs.form.+scan_after_spaces.Goals as goal
 
 pub returns-then-more-eq0-clause-value : goal.returns-then-more-eq0-clause-value

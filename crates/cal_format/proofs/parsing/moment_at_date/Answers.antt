@@ -1,6 +1,5 @@
-use Rattle.std.proofs.Common.{◌≡◌, sym, ap, ◌∙◌}
+use Rattle.std.proofs.Common.{sym}
 use Rattle.std.specs.Prelude.{Some}
-use Rattle.cal_format.specs.declared.moment.Moment.{Moment}
 use Rattle.cal_format.proofs.Outcomes.{same-value, no-value}
 use Rattle.cal_format.proofs.Moments.{no-both}
 use Rattle.cal_format.proofs.parsing.moment_at_date.Goals as goal

@@ -1,5 +1,4 @@
 use Rattle.std.proofs.Common.{◌≡◌, sym, ap, ◌∙◌, subst, inr, arith, Ok}
-use Rattle.std.specs.Prelude.{Some, None}
 use Rattle.cal_format.specs.declared.item.Component.{Component}
 use Rattle.cal_format.specs.Scanning.{number_at}
 use Rattle.cal_format.specs.Ranges.{first_range_error}

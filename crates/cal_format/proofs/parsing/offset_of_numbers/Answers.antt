@@ -1,4 +1,4 @@
-use Rattle.std.proofs.Common.{sym, ap, ◌∙◌, lit≤}
+use Rattle.std.proofs.Common.{sym, ap, ◌∙◌}
 use Rattle.std.specs.Prelude.{Some}
 use Rattle.cal_format.proofs.Choices.{first-choice, other-choice, is-not}
 use Rattle.cal_format.proofs.Contradictions.{else-holds}

@@ -1,4 +1,4 @@
-use Rattle.std.proofs.Common.{◌≡◌, ◌∙◌, arith}
+use Rattle.std.proofs.Common.{arith}
 use Rattle.cal_format.proofs.Own.{has-own}
 use Rattle.cal_format.proofs.Rejections.{is-stop, rejected-at}
 use Rattle.cal_format.proofs.Shapes.{has-form}

@@ -1,5 +1,4 @@
-use Rattle.std.proofs.Common.{sym, ◌∙◌, inl, inr}
-use Rattle.std.specs.Prelude.{IsTrue}
+use Rattle.std.proofs.Common.{sym, ◌∙◌}
 use Rattle.cal_format.proofs.Choices.{first-choice, other-choice}
 use Rattle.cal_format.proofs.Contradictions.{else-holds}
 use Rattle.cal_format.proofs.Moments.{not-shown}

@@ -1,4 +1,4 @@
-use Rattle.std.proofs.Common.{◌≡◌, ◌*◌, ap, sym, ◌∙◌, arith}
+use Rattle.std.proofs.Common.{◌*◌, ap, sym, ◌∙◌}
 use Rattle.cal_format.specs.declared.item.Component.TheVariants as shown
 use Rattle.cal_format.specs.Reading.{any_shows}
 use Rattle.cal_format.proofs.Choices.{first-choice, other-choice}

@@ -1,4 +1,4 @@
-use Rattle.std.proofs.Common.{◌≡◌, ap, refl, subst, sym, ◌∙◌, Ok}
+use Rattle.std.proofs.Common.{◌≡◌, ap, subst, sym, ◌∙◌, Ok}
 use Rattle.cal_format.specs.Moment.{moment_of_date_time}
 use Rattle.cal_format.specs.Reading.{are_apart, are_date_time_items, shows_date, shows_time, holds_time}
 use Rattle.cal_format.specs.Rejection.{IsRejection}

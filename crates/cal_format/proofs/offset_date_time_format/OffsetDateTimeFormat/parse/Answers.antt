@@ -1,4 +1,4 @@
-use Rattle.std.proofs.Common.{◌≡◌, ap, refl, subst, sym, ◌∙◌, Ok}
+use Rattle.std.proofs.Common.{◌≡◌, ap, subst, sym, ◌∙◌, Ok}
 use Rattle.cal_format.specs.Moment.{moment_of_offset_date_time}
 use Rattle.cal_format.specs.Reading.{are_apart, shows_moment, holds_time}
 use Rattle.cal_format.specs.Rejection.{IsRejection}
