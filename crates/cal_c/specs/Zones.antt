@@ -78,14 +78,44 @@ pub data IsZoneError (p : ZoneParts) (r : ZoneResult) : Type 0 where
   file : p.form ≡ 1 → (e : ZoneError) → IsFileError p.bytes.now e → r ≡ zone_error e → IsZoneError p r
   text : p.form ≡ 2 → (e : ZoneError) → IsTextError p.bytes.now 0 e → r ≡ zone_error e → IsZoneError p r
 
--- A call that takes a zone: one result if the bytes are one, and another if they are not.
-pub data IsForZone (p : ZoneParts) (Then : Timeline → Type 0) (Else : ℤ → Type 0) : Type 0 where
-  zone : (z : Timeline) → IsZoneOf p z → Then z → IsForZone p Then Else
-  error : (r : ZoneResult) → IsZoneError p r → Else r.status → IsForZone p Then Else
+-- ---- a struct that holds a zone
+abbrev pub clock_in : ZoneClock → LocalType
+clock_in t = record { offset = t.offset; is_daylight = nat_lt 0 t.is_daylight; name_start = t.name_start; name_end = t.name_end }
 
-pub data IsZoneResult (p : ZoneParts) (r : ZoneResult) : Type 0 where
-  zone : (z : Timeline) → IsZoneOf p z → r ≡ zone_result ok_status → IsZoneResult p r
-  error : IsZoneError p r → IsZoneResult p r
+abbrev pub yearly_in : ZoneYearly → Yearly
+yearly_in r = record { month = month_of_index r.month; week = r.week; weekday = weekday_of_index r.weekday; time = r.time; kind = clock_in r.clock }
+
+abbrev pub zone_in : CheckedZone → Timeline
+zone_in c = record {
+  first = clock_in c.first;
+  changes = changes_in c.bytes.now c.layout ++ (if nat_lt 0 c.has_rule then changes_from (yearly_in c.one) (yearly_in c.other) c.skip else []);
+}
+
+-- The two changes are a rule.
+pub record HasRule (c : CheckedZone) : Type 0 where
+  pub first : (c.one.month < 12) × (c.one.weekday < 7)
+  pub second : (c.other.month < 12) × (c.other.weekday < 7)
+  pub calm : IsCalm (yearly_in c.one) (yearly_in c.other)
+
+-- The struct holds this zone, whose changes are in order. So do all structs that are made without an
+-- error. A call doesn't test the order again.
+pub record IsChecked (c : CheckedZone) (z : Timeline) : Type 0 where
+  pub status : c.status ≡ ok_status
+  pub readable : IsReadable c.bytes.now c.layout
+  pub skip : c.skip ≤ 3_999_998
+  pub rule : 0 < c.has_rule → HasRule c
+  pub zone : z ≡ zone_in c
+  pub order : InOrder z
+
+-- A call that takes a zone: one result for a zone, and another for an error.
+pub record IsForZone (c : CheckedZone) (Then : Timeline → Type 0) (Else : ℤ → Type 0) : Type 0 where
+  pub zone : (z : Timeline) → IsChecked c z → Then z
+  pub error : c.status ≢ ok_status → Else c.status
+
+-- A struct that is made of bytes: it holds the zone that they say, or their first error.
+pub data IsMade (bytes : List ℕ) (Says : Timeline → Type 0) (Fails : ZoneError → Type 0) (c : CheckedZone) : Type 0 where
+  zone : (z : Timeline) → Says z → IsChecked c z → c.bytes.now ≡ bytes → IsMade bytes Says Fails c
+  error : (e : ZoneError) → Fails e → c.status ≡ zone_status e.kind → c.position ≡ e.position → IsMade bytes Says Fails c
 
 -- ---- instants
 abbrev pub daylight_number : Bool → ℕ
