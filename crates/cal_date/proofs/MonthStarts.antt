@@ -114,8 +114,8 @@ pub record IsEntry (n low j : ℕ) : Type 0 where
   pub after : start j < low
   pub day : low - start j ≡ day_of_month_at n
 
-pub entry-is : (n low : ℕ) → low ≡ leap_mark (year_at n) + ordinal_at n → IsEntry n low (low / 32 + bool_byte (nat_lt (start (low / 32 + 1)) low))
-entry-is n low bits =
+pub entry-is : (n low flag : ℕ) → low ≡ leap_mark (year_at n) + ordinal_at n → flag ≡ bool_byte (nat_lt (start (low / 32 + 1)) low) → IsEntry n low (low / 32 + flag)
+entry-is n low flag bits begun =
     let at = in_month_of n in
     let y = year_at n in
     let i = at.months in
@@ -128,7 +128,8 @@ entry-is n low bits =
     let after : start j < low = omega (arith, bits, here, at.stands.ordinal_is, at.stands.day.0) in
     let upto : low ≤ start (j + 1) = omega (arith, bits, next, days_of_months-next y i, at.stands.ordinal_is, at.stands.day.1) in
     let remainder : j % 16 ≡ i = omega (arith, below) in
-    subst (IsEntry n low) (sym (quotient-is low j (row_of i leap below) after upto)) (record {
+    let is : low / 32 + flag ≡ j = ap (λ b. low / 32 + b) begun ∙ quotient-is low j (row_of i leap below) after upto in
+    subst (IsEntry n low) (sym is) (record {
       month = omega (arith, remainder, at.month_is);
       below = omega (arith, remainder, below);
       most = omega (arith, mark, below);

@@ -74,5 +74,3 @@ before_late y (suc j) late low =
     (λ h. grind (arith, nat_tests))
     (λ h. grind (arith, nat_tests))
     j (omega arith) (omega arith))
-
-pub ruleset lengths_of_months = (days_of_months-next, nat_tests)

@@ -1,5 +1,5 @@
 //! Dates by year, month and day of the month.
-ghost use Rattle.std.specs.Prelude.{◌≡◌, ℕ, ◌+◌, ◌<◌, ◌≤◌, min, pos, ◌↔◌, ◌⊎◌, IfOk, IfErr, IsErr, IsTrue, Ok, [], ◌∷◌, ℤ};
+ghost use Rattle.std.specs.Prelude.{◌≡◌, ℕ, ◌+◌, ◌<◌, ◌≤◌, min, pos, ◌↔◌, ◌⊎◌, IfOk, IfErr, IsErr, Ok, [], ◌∷◌, ℤ};
 ghost use Rattle.cal_units.specs.Month.{number};
 ghost use Rattle.cal_units.specs.ComponentError.{FailsWith};
 ghost use Rattle.cal_units.specs.Lengths.{is_leap_year, days_in_month};
@@ -19,7 +19,7 @@ use cal_units::{Cycle, Month};
 /// The leap mark plus the days before each month, and at the end plus the days of the year. The
 /// entries of a common year begin at 0. The entries of a leap year begin at 16, because the leap
 /// mark is 16 times 32. The zeros between them aren't used.
-const MONTH_STARTS: [u16; 29] = [
+const MONTH_STARTS: [u32; 29] = [
     0, 31, 59, 90, 120, 151, 181, 212, 243, 273, 304, 334, 365, 0, 0, 0, 512, 543, 572, 603, 633,
     664, 694, 725, 756, 786, 817, 847, 878,
 ];
@@ -47,11 +47,11 @@ impl Date {
         if !is_year(year) {
             return Err(ComponentRange::unconditional(Component::Year));
         }
-        let leap = is_leap_year(year);
-        if !has_day(month, leap, day) {
+        let (start, end) = month_bounds(month.place(), is_leap_year(year));
+        let low = start + u32::from(day);
+        if day == 0 || low > end {
             return Err(ComponentRange::conditional(Component::Day));
         }
-        let low = month_start(month.place(), leap) + u32::from(day);
         Ok(Date::pack_low_bits(year, low))
     }
 
@@ -67,9 +67,9 @@ impl Date {
             (min day (days_in_month year (index + 1))) result }
         ensures range { IsDate result }
     {
-        let leap = is_leap_year(year);
-        let low = month_start(index, leap) + u32::from(day);
-        Date::pack_low_bits(year, low.min(month_start(index + 1, leap)))
+        let (start, end) = month_bounds(index, is_leap_year(year));
+        let low = start + u32::from(day);
+        Date::pack_low_bits(year, low.min(end))
     }
 
     /// Returns the month. For 2020-02-29 it is February.
@@ -125,11 +125,10 @@ impl Date {
         ensures in_range { IsDate self }
     {
         // A month has 28 to 31 days, so a quotient by 32 gives its entry or the one before it.
-        let low = self.low_bits() as usize;
-        let quotient = low / 32;
-        let entry = quotient + usize::from(low > usize::from(MONTH_STARTS[quotient + 1]));
-        let start = usize::from(MONTH_STARTS[entry]);
-        ((entry % 16) as u8, (low - start) as u8)
+        let low = self.low_bits();
+        let quotient = low as usize / 32;
+        let entry = quotient + usize::from(low > MONTH_STARTS[quotient + 1]);
+        ((entry % 16) as u8, (low - MONTH_STARTS[entry]) as u8)
     }
 
     /// Returns the month and the day of the month. It reads no table, so a loop takes several dates
@@ -170,24 +169,16 @@ impl Date {
     }
 }
 
-/// Returns `true` if the month has the day, in a leap year or in a common year.
-#[tactic(auto, using(crate::proofs::Months::lengths_of_months))]
-fn has_day(month: Month, leap: bool, day: u8) -> bool
-    ensures { (year : ℤ) → leap ≡ is_leap_year year
-        → IsTrue result ↔ IsDayOfMonth year (number month) day }
+/// Returns the leap mark plus the days before the month with this index, and the leap mark plus the
+/// days up to the end of the month, in a leap year or in a common year.
+fn month_bounds(index: u8, leap: bool) -> (u32, u32)
+    requires { index < 12 }
+    ensures start { (year : ℤ) → leap ≡ is_leap_year year
+        → result.0 ≡ leap_mark year + days_of_months year index }
+    ensures end { (year : ℤ) → leap ≡ is_leap_year year
+        → result.1 ≡ result.0 + days_in_month year (index + 1) }
+    ensures max { result.0 ≤ 878 }
 {
-    let index = month.place();
-    let low = month_start(index, leap) + u32::from(day);
-    day > 0 && low <= month_start(index + 1, leap)
-}
-
-/// Returns the leap mark plus the days before the month with this index, in a leap year or in a
-/// common year. For 12 it is the leap mark plus the days of the year.
-fn month_start(index: u8, leap: bool) -> u32
-    requires { index ≤ 12 }
-    ensures value { (year : ℤ) → leap ≡ is_leap_year year
-        → result ≡ leap_mark year + days_of_months year index }
-    ensures max { result ≤ 878 }
-{
-    u32::from(MONTH_STARTS[16 * usize::from(leap) + usize::from(index)])
+    let entry = 16 * usize::from(leap) + usize::from(index);
+    (MONTH_STARTS[entry], MONTH_STARTS[entry + 1])
 }

@@ -5,7 +5,6 @@ use Rattle.cal_units.specs.Lengths.{days_in_month}
 use Rattle.cal_date.specs.Date.{IsOrdinal, IsDayOfMonth}
 use Rattle.cal_date.specs.PackedDate.{leap_mark}
 use Rattle.cal_date.proofs.Calendar.{ordinal_in, stands_at, IsOrdinal-ordinal_in}
-use Rattle.cal_date.proofs.Months.{days_of_months-next}
 use Rattle.cal_date.proofs.date.Date.from_month_index_clamped.Goals as goal
 use Rattle.cal_date.proofs.date.Date.from_month_index_clamped.Goals.{After-min}
 
@@ -20,21 +19,20 @@ fits : (c : After-min) → Fits c (min c.args.day (days_in_month c.args.year (c.
 unfolding days_in_month
 fits c =
     let same : to_z w32 (of_z w32 c.args.year) ≡ c.args.year = to_z-of_z w32 _ c.ranges.year in
-    let leap = rw same at c.is_leap_year-leap.ensures in
-    let start = c.month_start.ensures.value c.args.year leap in
-    let next = c.month_start-2.ensures.value c.args.year leap in
+    let leap = rw same at c.is_leap_year.ensures in
+    let start = c.month_bounds-start.ensures.start c.args.year leap in
+    let end = c.month_bounds-start.ensures.end c.args.year leap in
     let some : 1 ≤ days_in_month c.args.year (c.args.index + 1) = grind (arith, nat_tests) in
-    let length = days_of_months-next c.args.year c.args.index in
     let day : IsDayOfMonth c.args.year (c.args.index + 1) (min c.args.day (days_in_month c.args.year (c.args.index + 1))) = (grind (arith, c.requires.day, some), grind arith) in
     record {
       same = same;
       day = day;
-      low_is = grind (arith, start, next, length, c.from.ensures, c.min.ensures);
+      low_is = grind (arith, start, end, c.from.ensures, c.min.ensures);
       ordinal = IsOrdinal-ordinal_in c.args.year c.args.index _ c.requires.year.0 c.requires.index day;
     }
 
 pub overflow_add-low : goal.overflow_add-low
-overflow_add-low c = omega (arith, c.month_start.ensures.max, c.ranges.day)
+overflow_add-low c = omega (arith, c.month_bounds-start.ensures.max, c.ranges.day)
 
 pub pack_low_bits-requires-clause-low : goal.pack_low_bits-requires-clause-low
 pack_low_bits-requires-clause-low c = let f = fits c in rw (f.same, f.low_is) f.ordinal
