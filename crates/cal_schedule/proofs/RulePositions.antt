@@ -1,9 +1,10 @@
 -- The positions of the days of a rule, by counts of the days that pass.
-use Rattle.std.proofs.Common.{◌≡◌, ℕ, zero, suc, ◌+◌, ◌-◌, ◌*◌, ◌%◌, ◌<◌, ◌≤◌, min, refl, sym, ap, ◌∙◌, arith, ◌<ℤ◌, Bool, true, false, ◌&&◌, Option, Some, None, inl, inr, List, [], ◌∷◌, length}
+use Rattle.std.proofs.Common.{◌≡◌, ℕ, zero, suc, ◌+◌, ◌-◌, ◌*◌, ◌%◌, ◌<◌, ◌≤◌, min, refl, sym, ap, ◌∙◌, arith, ◌<ℤ◌, Bool, true, false, ◌&&◌, Option, Some, None, inl, inr, List, [], ◌∷◌, length, ℤ, pos, negsuc}
 use Rattle.std.specs.Prelude.{◌==◌}
 use Rattle.std.specs.Int.{from_bool}
+use Rattle.std.specs.List.{list_any}
 use Rattle.std.proofs.lemmas.Int.{ints}
-use Rattle.std.proofs.lemmas.Bool.{and_from, and_parts, cases_Bool, cases_lt, eq-eqb, eqb-true, false_from_ne_true, false≢true, leb-true, le-leb}
+use Rattle.std.proofs.lemmas.Bool.{and_from, and_parts, cases_Bool, cases_lt, eq-eqb, eqb-true, false_from_ne_true, false≢true, leb-true, le-leb, or_cases, or_left, or_right}
 use Rattle.cal_time.specs.Date.{last_day, year_at, IsDate}
 use Rattle.cal_time.specs.Components.{ordinals-apart}
 use Rattle.cal_time.specs.Days.{month_at-range}
@@ -12,7 +13,7 @@ use Rattle.cal_time.specs.WeekdayCycle.{index-below}
 use Rattle.cal_time.proofs.Dates.{ordinal-most, ordinal_of_date}
 use Rattle.cal_schedule.specs.Ranks.{count-most, count-next, count-no, count-none, count-rises, count-yes, length-from}
 use Rattle.cal_schedule.specs.Rule.{allows, fourth_day, is_nth, is_occurrence, interval_or_1, matches_positions, matches_until, passes, passes_with, period_index, periods_past, unit_of}
-use Rattle.cal_schedule.specs.RuleSearch.{IsCandidate, IsFirstOfPeriod, IsPeriodEnd, IsPeriodStart, IsSkip, NoDayBetween, NonePass}
+use Rattle.cal_schedule.specs.RuleSearch.{is_ahead, IsCandidate, IsFirstOfPeriod, IsPeriodEnd, IsPeriodStart, IsSkip, NoDayBetween, NonePass}
 use Rattle.cal_schedule.specs.Weekdays.{count_from}
 use Rattle.cal_schedule.specs.declared.rule.rule.Rule.{Rule}
 use Rattle.cal_schedule.specs.declared.rule.unit.PeriodUnit.{PeriodUnit}
@@ -93,6 +94,30 @@ unfolding matches_positions
 positions-are rule n s e ahead back start end a b =
     ap (λ i. allows (λ k. is_nth k i back) rule.set_positions.now) (ahead-is rule n s ahead start a)
     ∙ ap (λ i. allows (λ k. is_nth k (count_before (passes_with rule n) (n + 1)) i) rule.set_positions.now) (back-is rule n e back end b)
+
+-- A position from the start says enough.
+pub any-more : {X : Type 0} (p q : X → Bool) → ((x : X) → p x ≡ true → q x ≡ true) → (xs : List X) → list_any p xs ≡ true → list_any q xs ≡ true
+any-more p q h [] e = e
+any-more p q h (x ∷ xs) e =
+    elim (or_cases (p x) (list_any p xs) e) as (λ _. list_any q (x ∷ xs) ≡ true) [
+      | inl here ↦ or_left (q x) (list_any q xs) (h x here)
+      | inr later ↦ or_right (q x) (list_any q xs) (any-more p q h xs later)
+    ]
+
+is_ahead-nth : (i j : ℕ) (k : ℤ) → is_ahead i k ≡ true → is_nth k i j ≡ true
+is_ahead-nth i j (pos k) e = e
+is_ahead-nth i j (negsuc k) e = absurd (false≢true e)
+
+any_ahead-allows : (i j : ℕ) (ks : List ℤ) → list_any (is_ahead i) ks ≡ true → allows (λ k. is_nth k i j) ks ≡ true
+any_ahead-allows i j [] e = refl
+any_ahead-allows i j (k ∷ ks) e = any-more (is_ahead i) (λ k. is_nth k i j) (is_ahead-nth i j) (k ∷ ks) e
+
+pub position-ahead : (rule : Rule) (n s ahead : ℕ) → IsPeriodStart rule n s → ahead + count_before (passes rule) s ≡ count_before (passes rule) (n + 1)
+    → list_any (is_ahead ahead) rule.set_positions.now ≡ true → matches_positions rule n ≡ true
+unfolding matches_positions
+position-ahead rule n s ahead start e on =
+    let back = count_from (passes_with rule n) n in
+    ap (λ i. allows (λ k. is_nth k i back) rule.set_positions.now) (sym (ahead-is rule n s ahead start e)) ∙ any_ahead-allows ahead back rule.set_positions.now on
 
 allows-none : {X : Type 0} (test : X → Bool) (xs : List X) → true ≡ (length xs == 0) → allows test xs ≡ true
 allows-none test [] e = refl

@@ -3,7 +3,7 @@ use Rattle.std.proofs.Common.{◌≡◌, ◌≢◌, refl, ℕ, zero, suc, ◌+�
 use Rattle.std.specs.Prelude.{MatchOption, SomeIff, IfSome, Bool, List, ◌==◌, ◌&&◌, if◌then◌else◌}
 use Rattle.std.specs.List.{list_any}
 use Rattle.std.proofs.lemmas.Int.{ints}
-use Rattle.std.proofs.lemmas.Bool.{and_parts, cases_lt, false_from_ne_true, false≢true, or_cases, or_left, or_right}
+use Rattle.std.proofs.lemmas.Bool.{and_parts, cases_lt, false_from_ne_true, false≢true}
 use Rattle.std.proofs.lemmas.List.{take_all}
 use Rattle.std.proofs.lemmas.List.Sums.{count_by-le-length, length-filter}
 use Rattle.std.proofs.lemmas.Nat.{div-add-mod'}
@@ -31,7 +31,7 @@ use Rattle.cal_schedule.specs.Rule.{allows, fourth_day, is_nth_weekday, is_week,
 use Rattle.cal_schedule.specs.RuleSearch.{may_fall_on, by_day_weekday, IsCandidate, IsFirstOfPeriod, IsNextBefore, IsNextFrom, IsSkip, NoDayBetween}
 use Rattle.cal_schedule.proofs.MonthMoves.{IsMonthNumber-date, same_month}
 use Rattle.cal_schedule.proofs.RulePeriods.{fourth-is, matches_months-alike, matches_until-earlier, pos-months, pos-week_years, pos-years, period_index-rises, weeks-is, year_from, year_until}
-use Rattle.cal_schedule.proofs.RulePositions.{IsOn-is_occurrence, is_occurrence-period, is_off}
+use Rattle.cal_schedule.proofs.RulePositions.{any-more, IsOn-is_occurrence, is_occurrence-period, is_off}
 
 -- the first day of a month, of a year, and of a year of weeks
 pub first_day-month : (p x : ℕ) → HasMonthIndex p x → IsDate x
@@ -171,14 +171,6 @@ pub skip-week : (rule : Rule) (n : ℕ) (r : Option ℕ) → matches_weeks rule 
 skip-week rule n r off = skip-period rule (unit.Week rule.week_start) n r (λ k e. off_week rule n k off e)
 
 -- nor on a day whose weekday it does not take
-any-more : {X : Type 0} (p q : X → Bool) → ((x : X) → p x ≡ true → q x ≡ true) → (xs : List X) → list_any p xs ≡ true → list_any q xs ≡ true
-any-more p q h [] e = e
-any-more p q h (x ∷ xs) e =
-    elim (or_cases (p x) (list_any p xs) e) as (λ _. list_any q (x ∷ xs) ≡ true) [
-      | inl here ↦ or_left (q x) (list_any q xs) (h x here)
-      | inr later ↦ or_right (q x) (list_any q xs) (any-more p q h xs later)
-    ]
-
 then_allows : {X Y Z : Type 0} (a : Bool) (o : Z → Bool) (p : X → Bool) (q r : Y → Bool) (zs : List Z) (xs : List X) (ys : List Y)
     → ((y : Y) → q y ≡ true → r y ≡ true)
     → (if is_empty zs && (is_empty xs && is_empty ys) then a else allows o zs && (allows p xs && allows q ys)) ≡ true → allows r ys ≡ true

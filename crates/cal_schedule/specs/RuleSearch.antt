@@ -1,5 +1,5 @@
 -- The steps of the search for the next day of a rule.
-use Rattle.std.specs.Prelude.{◌≡◌, ℕ, ◌+◌, ◌<◌, ◌≤◌, ◌==◌, Bool, true, false, Option, MatchOption, Result, MatchResult}
+use Rattle.std.specs.Prelude.{◌≡◌, ℕ, ◌+◌, ◌<◌, ◌≤◌, ◌==◌, Bool, true, false, ℤ, pos, negsuc, Option, MatchOption, Result, MatchResult}
 use Rattle.cal_time.specs.Date.{last_day, IsDate}
 use Rattle.cal_time.specs.Weekday.{index}
 use Rattle.cal_time.specs.declared.Weekday.{Weekday}
@@ -43,6 +43,11 @@ pub record IsPeriodEnd (rule : Rule) (n e : ℕ) : Type 0 where
       → period_index (unit_of rule) k ≤ period_index (unit_of rule) n
   pub after : (k : ℕ) → e ≤ k → IsDate k
       → period_index (unit_of rule) n < period_index (unit_of rule) k
+
+-- Position k counts from the start, and is this number.
+abbrev pub is_ahead : ℕ → ℤ → Bool
+is_ahead ahead (pos k) = ahead == k
+is_ahead ahead (negsuc k) = false
 
 -- No day from day m on and before day n passes.
 abbrev pub NonePass : Rule → ℕ → ℕ → Type 0

@@ -4,7 +4,7 @@ ghost use Rattle.std.specs.List.{list_any};
 ghost use Rattle.cal_time.specs.Date.{last_day};
 ghost use Rattle.cal_time.specs.IsoWeekDate.{count_before};
 ghost use Rattle.cal_schedule.specs.Rule.{allows, is_nth, matches_positions, matches_until, passes, periods_past};
-ghost use Rattle.cal_schedule.specs.RuleSearch.{IsPeriodEnd, IsPeriodStart, IsStep};
+ghost use Rattle.cal_schedule.specs.RuleSearch.{is_ahead, IsPeriodEnd, IsPeriodStart, IsStep};
 
 use crate::rule::matching::is_nth;
 use crate::rule::rule::Rule;
@@ -13,6 +13,19 @@ use cal_time::{Date, limits};
 
 /// The number of days in the range.
 const DAYS: u32 = limits::LAST_DAY as u32 + 1;
+
+/// Returns `true` if the position counts from the start, and is this number.
+fn is_ahead(position: i16, ahead: u32) -> bool
+    ensures { result ≡ is_ahead ahead position }
+{
+    position >= 0 && i64::from(ahead) == i64::from(position)
+}
+
+fn any_ahead(positions: &[i16], ahead: u32) -> bool
+    ensures { result ≡ list_any (is_ahead ahead) positions.now }
+{
+    positions.iter().any(|position| is_ahead(*position, ahead))
+}
 
 /// Returns `true` if one of the positions is the number of an item from the start, or its number
 /// from the end.
@@ -95,6 +108,10 @@ impl Rule<'_> {
     {
         let end = self.period_end(day);
         let mut ahead = self.count_passing(self.period_start(day), day_number(day) + 1);
+        if any_ahead(self.set_positions, ahead) {
+            // The later days of the period don't matter.
+            return Ok(day);
+        }
         let back = self.count_passing(day, end);
         if self.is_position(ahead, back) {
             return Ok(day);

@@ -2,8 +2,16 @@ use Rattle.std.proofs.Common.{◌≡◌, ◌+◌, ◌<◌, ap, ◌∙◌, sym, r
 use Rattle.cal_time.specs.IsoWeekDate.{count_before}
 use Rattle.cal_schedule.specs.Ranks.{count-next, count-rises}
 use Rattle.cal_schedule.specs.Rule.{passes}
-use Rattle.cal_schedule.proofs.RulePositions.{HasNumbers, found-position, on-all, past-until, positions-are, scanned-first, scanned-fails, scanned-numbers, scanned-passes, skip-candidate}
+use Rattle.cal_schedule.proofs.RulePositions.{HasNumbers, found-position, on-all, past-until, position-ahead, positions-are, scanned-first, scanned-fails, scanned-numbers, scanned-passes, skip-candidate}
 use Rattle.cal_schedule.proofs.rule.rule.Rule.find_position.Goals as goal
+
+pub returns-then-any_ahead : goal.returns-then-any_ahead
+returns-then-any_ahead c =
+    let rule = c.args.self.now in
+    let ahead = c.count_passing-ahead in
+    on-all rule c.args.day c.requires.start c.day_number.ensures.in_range c.requires.until c.requires.turn c.requires.passes
+    (position-ahead rule c.args.day c.period_start.result ahead.result c.period_start.ensures
+    (ahead.ensures.value ∙ ap (λ n. count_before (passes rule) (n + 1)) c.day_number.ensures.value) (sym c.any_ahead.ensures ∙ c.if-any_ahead.true))
 
 pub returns-then-is_position : goal.returns-then-is_position
 returns-then-is_position c =
