@@ -1,5 +1,6 @@
 //! A run has one answer: two complete runs over the same input leave the same output. So do two
-//! lists, in steps or by a rule. The arguments give one command, since they have a reading.
+//! lists, in steps or by a rule. The arguments give one command, since their words have
+//! meanings.
 ghost use Rattle.std.specs.List.{slice_split};
 ghost use Rattle.std.specs.Prelude.{◌≡◌, List, ℕ, All, Some, IsOk};
 ghost use Rattle.caldate_run.specs.Lines.{is_end};
