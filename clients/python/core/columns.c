@@ -20,10 +20,11 @@ void PyBuffer_Release(Py_buffer *view);
 #define PyBUF_C_CONTIGUOUS (0x0020 | 0x0010 | 0x0008)
 #endif
 
-/* The columns that a call reads and then those that it writes, and its other arguments. */
+/* The columns that a call reads and then those that it writes, and its other arguments. C works on
+ * `data`, which is a copy if the buffer has other numbers. */
 typedef struct Columns {
     Py_buffer views[8];
-    void *data[8];
+    void *data[8], *copies[8];
     size_t lengths[8];
     int count;
     const fots_workdays *workdays;
@@ -32,8 +33,8 @@ typedef struct Columns {
     uint32_t policy;
 } Columns;
 
-/* A call. The columns that it reads and writes have the letters of the module array, and "W" if it
- * writes weekdays: Monday is 0 in Python, and 1 in C. `extra` is the first letter of its other
+/* A call. The columns that it reads and writes have the letters of the module array, and "W" if
+ * they are weekdays: Monday is 0 in Python, and 1 in C. `extra` is the first letter of its other
  * argument, or 0. */
 typedef struct ColumnCall {
     const char *name, *reads, *writes;
@@ -47,40 +48,94 @@ static size_t size_of(char letter)
     return letter == 'q' || letter == 'Q' ? 8 : letter == 'i' ? 4 : letter == 'H' ? 2 : 1;
 }
 
-/* Gets the buffers of columns with the numbers of these letters. */
-static int get_columns(Columns *columns, PyObject *tuple, const char *letters, int flags)
+/* The Julian day of 1970-01-01, from which numpy counts days, in 64 bits. What is far away is no
+ * date, and its days without a date are the minimum. */
+#define UNIX_EPOCH 2440588
+
+static void read_days(int32_t *dates, const char *bytes, size_t rows)
 {
-    static uint64_t nothing;
-    for (; *letters; letters++) {
-        Py_buffer *view = &columns->views[columns->count];
-        PyObject *column = PyTuple_GetItem(tuple, columns->count);
-        size_t size = size_of(*letters);
-        flags |= PyBUF_C_CONTIGUOUS | PyBUF_FORMAT;
-        if (!column || PyObject_GetBuffer(column, view, flags)) {
+    int64_t day;
+    for (size_t row = 0; row < rows; row++) {
+        memcpy(&day, bytes + row * sizeof day, sizeof day);
+        dates[row] = day < INT32_MIN || day > INT32_MAX - UNIX_EPOCH ? FOTS_NO_VALUE :
+            (int32_t)day + UNIX_EPOCH;
+    }
+}
+
+/* The dates lie at the start of the bytes. From the last row on, each becomes 64 bits. */
+static void write_days(char *bytes, size_t rows)
+{
+    int32_t date;
+    int64_t day;
+    while (rows--) {
+        memcpy(&date, bytes + rows * sizeof date, sizeof date);
+        day = date == FOTS_NO_VALUE ? INT64_MIN : (int64_t)date - UNIX_EPOCH;
+        memcpy(bytes + rows * sizeof day, &day, sizeof day);
+    }
+}
+
+/* Gets the buffer of the next column, with the numbers of a letter, or days in 64 bits. */
+static int get_column(Columns *columns, PyObject *column, char letter, int is_read)
+{
+    int index = columns->count;
+    Py_buffer *view = &columns->views[index];
+    size_t size = size_of(letter), rows, row;
+    int flags = PyBUF_C_CONTIGUOUS | PyBUF_FORMAT | (is_read ? 0 : PyBUF_WRITABLE);
+    if (!column || PyObject_GetBuffer(column, view, flags)) {
+        return 0;
+    }
+    columns->count++;
+    columns->copies[index] = NULL;
+    columns->data[index] = view->buf;
+    columns->lengths[index] = rows = (size_t)view->len / (size_t)view->itemsize;
+    int is_days = letter == 'i' && view->itemsize == 8;
+    if (view->ndim != 1 || !(is_days || (size_t)view->itemsize == size)) {
+        PyErr_SetString(PyExc_TypeError, "a column has other numbers than the call takes");
+        return 0;
+    }
+    /* An empty buffer can lie anywhere, and one of another library on odd bytes. */
+    if (!rows || (uintptr_t)view->buf % size || (is_read && (is_days || letter == 'W'))) {
+        uint8_t *copy = columns->copies[index] = columns->data[index] = PyMem_Malloc(rows * size);
+        if (!copy) {
+            PyErr_NoMemory();
             return 0;
         }
-        /* An empty array can point to anything. */
-        columns->data[columns->count] = view->len ? view->buf : &nothing;
-        columns->lengths[columns->count] = (size_t)view->len / size;
-        columns->count++;
-        if ((size_t)view->itemsize != size || view->ndim != 1 ||
-            (view->len && (uintptr_t)view->buf % size)) {
-            PyErr_SetString(PyExc_TypeError, "a column has other numbers than the call takes");
+        if (is_days) {
+            read_days(columns->data[index], view->buf, rows);
+        } else {
+            memcpy(copy, view->buf, rows * size);
+        }
+        for (row = 0; letter == 'W' && row < rows; row++) {
+            copy[row]++;
+        }
+    }
+    return 1;
+}
+
+static int get_columns(Columns *columns, PyObject *tuple, const char *letters, int is_read)
+{
+    for (; *letters; letters++) {
+        PyObject *column = PyTuple_GetItem(tuple, columns->count);
+        if (!get_column(columns, column, *letters, is_read)) {
             return 0;
         }
     }
     return 1;
 }
 
-/* Counts the weekdays that a call wrote from 0. A row without one gets 255. */
-static void shift_weekdays(const Columns *columns, const ColumnCall *call)
+/* Converts the columns that a call wrote to the numbers of Python. A row without a weekday gets
+ * 255. */
+static void put_columns(const Columns *columns, const ColumnCall *call)
 {
-    size_t column, row, read = strlen(call->reads);
-    for (column = 0; call->writes[column]; column++) {
-        uint8_t *weekdays = columns->data[read + column];
-        size_t rows = call->writes[column] == 'W' ? columns->lengths[read + column] : 0;
-        for (row = 0; row < rows; row++) {
-            weekdays[row]--;
+    int index = (int)strlen(call->reads);
+    for (const char *letter = call->writes; *letter; letter++, index++) {
+        uint8_t *bytes = columns->data[index];
+        size_t rows = columns->lengths[index], row;
+        if (*letter == 'i' && columns->views[index].itemsize == 8) {
+            write_days(columns->data[index], rows);
+        }
+        for (row = 0; *letter == 'W' && row < rows; row++) {
+            bytes[row]--;
         }
     }
 }
@@ -122,13 +177,13 @@ static PyObject *core_over_columns(PyObject *self, PyObject *const *given, Py_ss
     }
     columns.count = 0;
     if (get_extra(&columns, call->extra, state, given[2]) &&
-        get_columns(&columns, given[1], call->reads, 0) &&
-        get_columns(&columns, given[1], call->writes, PyBUF_WRITABLE)) {
+        get_columns(&columns, given[1], call->reads, 1) &&
+        get_columns(&columns, given[1], call->writes, 0)) {
         /* The call runs without the lock of the interpreter. */
         PyThreadState *thread = PyEval_SaveThread();
         error_count = call->call(&columns);
         if (error_count != FOTS_LENGTH_MISMATCH) {
-            shift_weekdays(&columns, call);
+            put_columns(&columns, call);
         }
         PyEval_RestoreThread(thread);
         if (error_count == FOTS_LENGTH_MISMATCH) {
@@ -137,19 +192,7 @@ static PyObject *core_over_columns(PyObject *self, PyObject *const *given, Py_ss
     }
     while (columns.count) {
         PyBuffer_Release(&columns.views[--columns.count]);
+        PyMem_Free(columns.copies[columns.count]);
     }
     return error_count == FOTS_LENGTH_MISMATCH ? NULL : PyLong_FromSize_t(error_count);
-}
-
-/* Returns whether the numbers of a buffer lie where C expects them. */
-static PyObject *core_is_aligned(UNUSED(self), PyObject *object)
-{
-    Py_buffer view;
-    int result;
-    if (PyObject_GetBuffer(object, &view, PyBUF_C_CONTIGUOUS)) {
-        return NULL;
-    }
-    result = !view.len || (uintptr_t)view.buf % (uintptr_t)view.itemsize == 0;
-    PyBuffer_Release(&view);
-    return PyBool_FromLong(result);
 }

@@ -29,6 +29,12 @@ typedef struct WorkdaysObject {
     fots_workdays workdays;
 } WorkdaysObject;
 
+typedef struct Delta {
+    PyObject_HEAD
+    Py_hash_t hash;
+    int days, seconds, microseconds;
+} Delta;
+
 /* The size of a value with a field, which takes 8 or 16 bytes. */
 #define SIZE_OF(field) (offsetof(Value, field) + (sizeof(((Value *)0)->field) + 7) / 8 * 8)
 #define VALUE(object) ((Value *)(object))
@@ -42,9 +48,10 @@ typedef struct WorkdaysObject {
 /* What a module has in one interpreter: the types in the order of types.pyi, and then the arguments
  * of setup. All fields are pointers to objects. */
 typedef struct State {
-    PyTypeObject *date, *time, *offset, *duration, *plain, *moment, *workdays;
-    PyObject *weekday, *convention, *day_count, *period, *year_fraction, *status_error, *timedelta;
-    PyObject *units[4], *months[12], *weekdays[7];
+    PyTypeObject *date, *time, *offset, *duration, *plain, *moment, *workdays, *timedelta;
+    PyObject *has_delta; /* True if a timedelta is a Delta, which the limited API doesn't promise */
+    PyObject *weekday, *convention, *day_count, *period, *year_fraction, *status_error;
+    PyObject *months[12], *weekdays[7];
 } State;
 
 static inline const State *state_of_type(PyTypeObject *type) { return PyType_GetModuleState(type); }

@@ -43,6 +43,7 @@ def {hours,minutes}(number: Fits) -> SignedDuration:
 def {seconds,milliseconds,microseconds,nanoseconds}(number: Fits) -> SignedDuration:
     "Creates a duration of {}, in 64 bits."
 def setup(*types: Any) -> None: ...
+def is_delta(delta: timedelta) -> bool: ...
 def rule_first(rule: _Rule) -> Date | None: ...
 def rule_next_after(rule: _Rule, date: Date) -> Date | None: ...
 def rule_contains(rule: _Rule, date: Date) -> bool: ...
@@ -64,14 +65,14 @@ def format_new(text: str, is_description: bool) -> bytes: ...
 def over_columns(
     name: str, columns: tuple[Any, ...], extra: Workdays | bytes | _Zone | None
 ) -> int: ...
-def is_aligned(column: Any) -> bool: ...
 
-# ---- columns, which columns.py prepares. A class has the columns that a call writes.
+# ---- columns, which columns.py prepares. A class has the columns that a call writes. A name has
+# the arguments that fotsevindre.h says.
 
 class DateColumns: "Julian days in 32 bits, or `datetime64[D]` if the dates were."
 class CalendarDateColumns: "Years in 32 bits, and months and days in 8."
 class OrdinalDateColumns: "Years in 32 bits, and ordinals in 16."
-class IsoWeekDateColumns: "ISO years in 32 bits, and weeks and weekdays in 8."
+class IsoWeekDateColumns: "ISO years in 32 bits, and weeks and weekdays from Monday, 0, in 8."
 class WeekdayColumns: "Weekdays from Monday, 0, in 8 bits; 255 in a row without one."
 class OffsetColumns: "Seconds of offsets in 32 bits."
 class InstantColumns:
@@ -84,66 +85,48 @@ class TextColumns:
     """The bytes of texts, one after another, and their bounds, one more than rows: a text is
     `texts[bounds[k]:bounds[k + 1]]`, and has no bytes in a row without one."""
 
-def dates_from_julian_days(julian_days: object) -> DateColumns:
-    """Creates the dates of Julian days.
+dates_from_julian_days: DateColumns = """Creates the dates of Julian days.
 
-    >>> tuple(dates_from_julian_days([2451545, 366963560]))
-    (array('i', [2451545, -2147483648]), array('B', [0, 18]), 1)
-    """
-def dates_from_calendar_dates(years: object, months: object, days: object) -> DateColumns:
-    "Creates the dates of years, months and days."
-def dates_from_ordinal_dates(years: object, ordinals: object) -> DateColumns:
-    "Creates the dates of years and ordinals."
-def dates_from_iso_week_dates(years: object, weeks: object, weekdays: object) -> DateColumns:
-    "Creates the dates of ISO years, weeks and weekdays from Monday, 0."
-def dates_to_calendar_dates(dates: object) -> CalendarDateColumns:
-    "Returns the years, months and days of dates."
-def dates_to_ordinal_dates(dates: object) -> OrdinalDateColumns:
-    "Returns the years and ordinals of dates."
-def dates_to_iso_week_dates(dates: object) -> IsoWeekDateColumns:
-    "Returns the ISO years, weeks and weekdays from Monday, 0, of dates."
-def dates_weekdays(dates: object) -> WeekdayColumns:
-    "Returns the weekdays of dates, from Monday, 0."
-def calendar_dates_to_iso_week_dates(
-    years: object, months: object, days: object
-) -> IsoWeekDateColumns:
-    "Converts years, months and days to ISO years, weeks and weekdays from Monday, 0."
-def dates_add_days(dates: object, days: object) -> DateColumns: "Returns the dates some days later."
-def dates_add_months(dates: object, months: object) -> DateColumns:
-    "Returns the dates some months later, like `Date.checked_add_months`."
-def dates_add_workdays(dates: object, days: object, workdays: Workdays) -> DateColumns:
-    "Returns the dates some working days later, like `Workdays.checked_add_workdays`."
-def dates_workdays_between(dates: object, others: object, workdays: Workdays) -> NumberColumns:
-    """Counts the working days between dates, like `Workdays.workdays_between`.
+>>> tuple(dates_from_julian_days([2451545, 366963560]))
+(array('i', [2451545, -2147483648]), array('B', [0, 18]), 1)
+"""
+dates_from_calendar_dates: DateColumns = "Creates the dates of years, months and days."
+dates_from_ordinal_dates: DateColumns = "Creates the dates of years and ordinals."
+dates_from_iso_week_dates: DateColumns = "Creates the dates of ISO years, weeks and weekdays."
+dates_to_calendar_dates: CalendarDateColumns = "Returns the years, months and days of dates."
+dates_to_ordinal_dates: OrdinalDateColumns = "Returns the years and ordinals of dates."
+dates_to_iso_week_dates: IsoWeekDateColumns = "Returns the ISO years, weeks and weekdays."
+dates_weekdays: WeekdayColumns = "Returns the weekdays of dates, from Monday, 0."
+calendar_dates_to_iso_week_dates: IsoWeekDateColumns = "Converts years, months and days."
+dates_add_days: DateColumns = "Returns the dates some days later."
+dates_add_months: DateColumns = "Returns the dates like `Date.checked_add_months`."
+dates_add_workdays: DateColumns = "Returns the dates like `Workdays.checked_add_workdays`."
+dates_workdays_between: NumberColumns = """Counts the days like `Workdays.workdays_between`.
 
-    >>> tuple(dates_workdays_between([Date(2000, 1, 1)], Date(2001, 1, 1), Workdays()))
-    (array('i', [260]), array('B', [0]), 0)
-    """
-def dates_parse(texts: object, bounds: object) -> DateColumns:
-    """Parses texts in a buffer of bytes like `Date.parse`. Text k is the bytes from bound k to
-    bound k + 1.
+>>> tuple(dates_workdays_between([Date(2000, 1, 1)], Date(2001, 1, 1), Workdays()))
+(array('i', [260]), array('B', [0]), 0)
+"""
+dates_parse: DateColumns = """Parses texts in a buffer of bytes like `Date.parse`.
 
-    >>> tuple(dates_parse(b"2024-02-292024-0602024-02-30", [0, 10, 18, 28]))
-    (array('i', [2460370, 2460370, -2147483648]), array('B', [0, 0, 64]), 1)
-    """
-def moments_parse(texts: object, bounds: object) -> MomentColumns:
-    "Parses such texts like `parse_rfc3339`."
-def dates_calendar_texts(dates: object) -> TextColumns:
-    """Returns the calendar dates of dates, one after another.
+Text k is the bytes from bound k to bound k + 1.
 
-    >>> tuple(dates_calendar_texts([Date(2024, 2, 29)]))
-    (b'2024-02-29', array('i', [0, 10]), array('B', [0]), 0)
-    """
-def moments_texts(dates: object, times: object, offsets: object) -> TextColumns:
-    """Returns the texts of RFC 3339 of dates, nanoseconds since midnight and seconds of offsets,
-    one after another."""
-def dates_parse_format(texts: object, bounds: object, format: str | Format) -> DateColumns:
-    "Parses texts in a buffer of bytes like `Date.strptime`."
-def dates_format(dates: object, format: str | Format) -> TextColumns:
-    """Returns the texts of dates by a format, one after another.
+>>> tuple(dates_parse(b"2024-02-292024-0602024-02-30", [0, 10, 18, 28]))
+(array('i', [2460370, 2460370, -2147483648]), array('B', [0, 0, 64]), 1)
+"""
+moments_parse: MomentColumns = "Parses such texts like `parse_rfc3339`."
+dates_calendar_texts: TextColumns = """Returns the calendar dates of dates, one after another.
 
-    >>> tuple(dates_format([Date(2024, 2, 29)], "%A"))
-    (b'Thursday', array('i', [0, 8]), array('B', [0]), 0)
-    """
-def _zone_offsets(seconds: object, zone: _Zone) -> OffsetColumns: ...
-def _zone_instants(readings: object, zone: _Zone) -> InstantColumns: ...
+>>> tuple(dates_calendar_texts([Date(2024, 2, 29)]))
+(b'2024-02-29', array('i', [0, 10]), array('B', [0]), 0)
+"""
+moments_texts: TextColumns = """Returns the texts of RFC 3339, one after another.
+
+The times are nanoseconds since midnight, and the offsets seconds."""
+dates_parse_format: DateColumns = "Parses texts in a buffer of bytes like `Date.strptime`."
+dates_format: TextColumns = """Returns the texts of dates by a format, one after another.
+
+>>> tuple(dates_format([Date(2024, 2, 29)], "%A"))
+(b'Thursday', array('i', [0, 8]), array('B', [0]), 0)
+"""
+_zone_offsets: OffsetColumns = ...
+_zone_instants: InstantColumns = ...

@@ -11,11 +11,22 @@
 
 #define POINTERS (sizeof(State) / sizeof(PyObject *))
 
+/* Returns whether a timedelta of -1 days, 2 seconds and 3 microseconds is a Delta. */
+static PyObject *core_is_delta(UNUSED(self), PyObject *object)
+{
+    const Delta *delta = (const Delta *)object;
+    PyObject *size = PyObject_GetAttrString((PyObject *)Py_TYPE(object), "__basicsize__");
+    int is_large = size && PyLong_AsLong(size) == sizeof(Delta);
+    Py_XDECREF(size);
+    return !size ? NULL : PyBool_FromLong(is_large && delta->days == -1 && delta->seconds == 2 &&
+        delta->microseconds == 3);
+}
+
 /* Takes what is in Python, in the order of State. */
 static PyObject *core_setup(PyObject *self, PyObject *given)
 {
     State *state = PyModule_GetState(self);
-    PyObject **fields = &state->weekday, **end = (PyObject **)(state + 1);
+    PyObject **fields = (PyObject **)&state->timedelta, **end = (PyObject **)(state + 1);
     Py_ssize_t index;
     if (!is_count("setup", PyTuple_Size(given), end - fields)) {
         return NULL;

@@ -55,49 +55,50 @@ static int is_value(PyObject *object)
     return PyType_GetSlot(Py_TYPE(object), Py_tp_dealloc) == (void *)value_free;
 }
 
-/* Returns 1 and the days of a timedelta, 0 for another object, or -1 after an error. One of pandas
- * has nanoseconds, too. */
-static int days_of(const State *state, PyObject *object, fots_duration *duration)
+/* Converts a SignedDuration or, if `is_delta`, a timedelta. Returns 1, 0 for another object, or -1
+ * after an error. Other types than the usual timedelta, such as that of pandas, convert it in
+ * Python. */
+static int to_move(const State *state, PyObject *object, int *is_delta, fots_duration *by)
 {
-    int is_exact = (PyObject *)Py_TYPE(object) == state->timedelta, unit;
-    int64_t numbers[4] = {0};
-    if (!is_exact && PyObject_IsInstance(object, state->timedelta) != 1) {
-        return PyErr_Occurred() ? -1 : 0;
+    const Delta *delta = (const Delta *)object;
+    PyObject *value = NULL;
+    if (Py_TYPE(object) == state->duration) {
+        *by = DURATION(object);
+        *is_delta = 0;
+        return 1;
     }
-    for (unit = 0; unit < 4 && (unit < 3 || !is_exact); unit++) {
-        PyObject *value = unit == 3 && !PyObject_HasAttr(object, state->units[unit]) ?
-            PyLong_FromLong(0) : PyObject_GetAttr(object, state->units[unit]);
-        int done = value && to_int64(NULL, value, &numbers[unit]);
-        Py_XDECREF(value);
-        if (!done) {
-            return -1;
-        }
+    if (!*is_delta || !PyObject_TypeCheck(object, state->timedelta)) {
+        return 0;
     }
-    if (numbers[1] || numbers[2] || numbers[3]) {
-        PyErr_SetString(PyExc_ValueError, "expected a timedelta of whole days; convert others "
-            "with SignedDuration.from_timedelta");
-        return -1;
+    if (Py_TYPE(object) == state->timedelta && state->has_delta == Py_True) {
+        int is_negative = delta->days < 0 && delta->microseconds;
+        by->seconds = (int64_t)delta->days * 86400 + delta->seconds + is_negative;
+        by->nanoseconds = 1000 * (delta->microseconds - 1000000 * is_negative);
+        return 1;
     }
-    duration->seconds = numbers[0] * 86400;
-    return 1;
+    value = PyObject_CallMethod((PyObject *)state->duration, "from_timedelta", "O", object);
+    *by = value ? DURATION(value) : *by;
+    Py_XDECREF(value);
+    return value ? 1 : -1;
 }
 
-/* Moves a value by a duration, or a date by a timedelta. */
+/* Moves a value by a duration, or a date or date-time by a timedelta. */
 static PyObject *moved(PyObject *self, PyObject *other, int back)
 {
     PyTypeObject *type = Py_TYPE(self);
     const State *state = is_value(self) ? state_of(self) : NULL;
     fots_duration by = {0, 0};
-    int found = state && Py_TYPE(other) == state->duration;
-    if (found) {
-        by = DURATION(other);
-    } else if (state && type == state->date) {
-        found = days_of(state, other, &by);
-    }
-    if (found <= 0 || type == state->offset) {
-        return found < 0 ? NULL : new_reference(Py_NotImplemented);
+    int is_delta = state && type != state->time && type != state->duration, found;
+    found = state && type != state->offset ? to_move(state, other, &is_delta, &by) : 0;
+    if (found <= 0) {
+        return found ? NULL : new_reference(Py_NotImplemented);
     }
     if (type == state->date) {
+        if (is_delta && (by.seconds % 86400 || by.nanoseconds)) {
+            PyErr_SetString(PyExc_ValueError, "expected a timedelta of whole days; convert others "
+                "with SignedDuration.from_timedelta");
+            return NULL;
+        }
         return of_date(state, back ? fots_date_checked_sub(DATE(self), by) :
             fots_date_checked_add(DATE(self), by));
     }
@@ -112,7 +113,11 @@ static PyObject *moved(PyObject *self, PyObject *other, int back)
         fots_moment_checked_add(MOMENT(self), by));
 }
 
-static PyObject *value_add(PyObject *self, PyObject *other) { return moved(self, other, 0); }
+/* A timedelta can also come first. */
+static PyObject *value_add(PyObject *self, PyObject *other)
+{
+    return is_value(self) ? moved(self, other, 0) : moved(other, self, 0);
+}
 
 static PyObject *value_subtract(PyObject *self, PyObject *other)
 {

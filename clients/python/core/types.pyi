@@ -1,7 +1,8 @@
 # The types of the module `_core`. From this file tools/python_members writes their code in C, doc
 # strings and type hints. A row with lists in braces is one for each place of the lists, and empty
-# braces are the first list. A function without `self` is static. The order of the types is that of
-# `State` in core.c. The imported classes have the members in Python.
+# braces are the first list. A function without `self` is static, and a name with a doc string is a
+# property. The order of the types is that of `State` in core.c. The imported classes have the
+# members in Python.
 from datetime import timedelta
 from typing import Any, Callable, ClassVar, SupportsIndex, overload
 
@@ -24,6 +25,12 @@ class _Value(_ValueMembers):
     def __hash__(self) -> int: ...
     def __str__(self) -> str: ...
 
+class _Moved:
+    def checked_{add,sub}(self, duration: SignedDuration) -> Self | None:
+        "Returns the value {plus,minus} a duration, or None out of range."
+    def saturating_{add,sub}(self, duration: SignedDuration) -> Self:
+        "Returns the value {plus,minus} a duration, or the nearest end of the range."
+
 class _Formatted(_FormatMembers):
     def strftime(self, format: str | Format) -> str:
         "Returns the text by a format, or raises ValueError if that shows more than the value has."
@@ -33,19 +40,12 @@ class _Formatted(_FormatMembers):
         such a value."""
 
 class _DateParts:
-    @property
-    def year(self) -> int: "The year, from -999999 to 999999."
-    @property
-    def month(self) -> Month: "The Month."
-    @property
-    def day(self) -> int: "The day of the month, from 1 to 31."
-    @property
-    def ordinal(self) -> int: "The day of the year, from 1 to 366."
-    @property
-    def iso_week(self) -> int: "The week of the ISO week date, from 1 to 53."
-    @property
-    def {sunday,monday}_based_week(self) -> int:
-        "The {Sundays,Mondays} of the year up to the day, from 0 to 53."
+    year: int = "The year, from -999999 to 999999."
+    month: Month = "The Month."
+    day: int = "The day of the month, from 1 to 31."
+    ordinal: int = "The day of the year, from 1 to 366."
+    iso_week: int = "The week of the ISO week date, from 1 to 53."
+    {sunday,monday}_based_week: int = "The {Sundays,Mondays} of the year up to the day, 0 to 53."
     def weekday(self) -> Weekday: "Returns the Weekday."
     def to_calendar_date(self) -> tuple[int, Month, int]:
         "Returns the year, the Month and the day of the month."
@@ -53,19 +53,13 @@ class _DateParts:
     def to_iso_week_date(self) -> tuple[int, int, Weekday]:
         "Returns the ISO year, the week and the Weekday."
     def to_julian_day(self) -> int: "Returns the Julian day."
-    def replace_{year,month,ordinal}(self, number: Int) -> Self: "Replaces the {}."
-    def replace_day(self, number: Int) -> Self: "Replaces the day of the month."
+    def replace_{year,month,day,ordinal}(self, number: Int) -> Self: "Replaces the {}."
 
 class _TimeParts:
-    @property
-    def hour(self) -> int: "The hour, from 0 to 23."
-    @property
-    def {minute,second}(self) -> int: "The {} of the {hour,minute}, from 0 to 59."
-    @property
-    def {millisecond,microsecond}(self) -> int:
-        "The whole {milliseconds,microseconds} of the second, from 0 to {999,999999}."
-    @property
-    def nanosecond(self) -> int: "The nanoseconds of the second, from 0 to 999999999."
+    hour: int = "The hour, from 0 to 23."
+    {minute,second}: int = "The {} of the {hour,minute}, from 0 to 59."
+    {millisecond,microsecond}: int = "The whole {}s of the second, from 0 to {999,999999}."
+    nanosecond: int = "The nanoseconds of the second, from 0 to 999999999."
     def as_hms(self) -> tuple[int, int, int]: "Returns the hour, minute and second."
     def as_hms_{milli,micro,nano}(self) -> tuple[int, int, int, int]:
         "Returns the hour, minute, second and {}second."
@@ -75,7 +69,7 @@ class _TimeParts:
     def truncate_to_{hour,minute,second,millisecond,microsecond}(self) -> Self:
         "Sets all below the {} to zero."
 
-class Date(_Value, _DateParts, _DateMembers, _Formatted):
+class Date(_Value, _DateParts, _DateMembers, _Moved, _Formatted):
     """Date(year, month, day): a day of the proleptic Gregorian calendar, from MIN, -999999-01-01,
     to MAX, 999999-12-31.
 
@@ -84,6 +78,7 @@ class Date(_Value, _DateParts, _DateMembers, _Formatted):
     {MIN,MAX}: ClassVar[Date]
     def __new__(cls, year: Int, month: Int, day: Int) -> Date: ...
     def __add__(self, other: SignedDuration | timedelta) -> Date: ...
+    def __radd__(self, other: timedelta) -> Date: ...
     @overload
     def __sub__(self, other: {Date,SignedDuration | timedelta}) -> {SignedDuration,Date}: ...
     def from_calendar_date(year: Int, month: Int, day: Int) -> Date:
@@ -102,8 +97,7 @@ class Date(_Value, _DateParts, _DateMembers, _Formatted):
         "Parses 2024-02-29, 2024-060 or 2024-W09-4, or raises ParseError or ComponentRange."
     def fromisoformat(text: str) -> Date: "Parses a text, like parse."
     def parse_julian_day(text: str) -> Date: "Parses a Julian day, such as J2460370."
-    @property
-    def quarter(self) -> int: "The quarter of the year, from 1 to 4."
+    quarter: int = "The quarter of the year, from 1 to 4."
     def {isoformat,calendar_text}(self) -> str:
         "Returns the calendar date, such as 2024-02-29, like str."
     def {ordinal,week}_text(self) -> str:
@@ -111,10 +105,6 @@ class Date(_Value, _DateParts, _DateMembers, _Formatted):
     def julian_text(self) -> str: "Returns the Julian day, such as J2460370."
     def {next,previous}_day(self) -> Date | None:
         "Returns the {} day, or None {after MAX,before MIN}."
-    def checked_{add,sub}(self, duration: SignedDuration) -> Date | None:
-        "Returns the day {later,earlier} by the whole days of a duration, or None out of range."
-    def saturating_{add,sub}(self, duration: SignedDuration) -> Date:
-        "Returns the day {later,earlier} by a duration, or the nearest end of the range."
     def {next,prev}_occurrence(self, weekday: Weekday) -> Date:
         "Returns the {first,last} day {after,before} this one with a Weekday, else OverflowError."
     def checked_{next,prev}_occurrence(self, weekday: Weekday) -> Date | None:
@@ -135,10 +125,8 @@ class Date(_Value, _DateParts, _DateMembers, _Formatted):
         "Returns the day some months later, or the nearest end of the range."
     def add_years(self, number: Int) -> Date:
         "Returns the day some years later, for 29 February the 28th if need be, else OverflowError."
-    def months_until(self, other: Date) -> int:
-        "Returns the largest number of months that doesn't pass the other day; negative back."
-    def years_until(self, other: Date) -> int:
-        "Returns the largest number of years that doesn't pass the other day: an age."
+    def {months,years}_until(self, other: Date) -> int:
+        "Returns the whole {} to the other day, such as an age; negative if that is earlier."
     def period_until(self, other: Date) -> Period:
         "Returns the years, months and days to the other day."
     def day_count(self, other: Date, convention: DayCount) -> YearFraction:
@@ -215,7 +203,7 @@ class _Part:
     @overload
     def __get__(self, instance: SignedDuration, owner: Any) -> int: ...
 
-class SignedDuration(_Value, _DurationMembers):
+class SignedDuration(_Value, _DurationMembers, _Moved):
     """SignedDuration(*, weeks, days, hours, minutes, seconds, milliseconds, microseconds,
     nanoseconds): a signed length of time.
 
@@ -244,29 +232,22 @@ class SignedDuration(_Value, _DurationMembers):
     def abs(self) -> SignedDuration: "Returns the absolute value, at most MAX."
     def checked_neg(self) -> SignedDuration | None:
         "Returns the duration with the other sign, or None out of range."
-    def checked_{add,sub}(self, duration: SignedDuration) -> SignedDuration | None:
-        "Returns the {sum,difference}, or None out of range."
     def checked_mul(self, number: Fits) -> SignedDuration | None:
         "Returns the product with an int of 32 bits, or None out of range."
     def checked_div(self, number: Fits) -> SignedDuration | None:
         "Returns the quotient truncated toward zero, or None for 0 and out of range."
-    def saturating_{add,sub}(self, duration: SignedDuration) -> SignedDuration:
-        "Returns the {sum,difference}, or the nearest limit."
     def saturating_mul(self, number: Fits) -> SignedDuration:
         "Returns the product with an int of 32 bits, or the nearest limit."
 
-class _DateTime(_Value, _DateParts, _TimeParts, _DateTimeMembers, _Formatted):
-    def __add__(self, other: SignedDuration) -> Self: ...
+class _DateTime(_Value, _DateParts, _TimeParts, _DateTimeMembers, _Moved, _Formatted):
+    def __add__(self, other: SignedDuration | timedelta) -> Self: ...
+    def __radd__(self, other: timedelta) -> Self: ...
     @overload
-    def __sub__(self, other: {Self,SignedDuration}) -> {SignedDuration,Self}: ...
+    def __sub__(self, other: {Self,SignedDuration | timedelta}) -> {SignedDuration,Self}: ...
     def date(self) -> Date: "Returns the date."
     def time(self) -> Time: "Returns the time of day."
     def replace_date(self, date: Date) -> Self: "Replaces the date."
     def replace_time(self, time: Time) -> Self: "Replaces the time of day."
-    def checked_{add,sub}(self, duration: SignedDuration) -> Self | None:
-        "Returns the date-time a duration {later,earlier}, or None out of range."
-    def saturating_{add,sub}(self, duration: SignedDuration) -> Self:
-        "Returns the date-time a duration {later,earlier}, or the nearest end of the range."
 
 class PlainDateTime(_DateTime, _PlainMembers):
     """PlainDateTime(date, time): a date and a time of day, from MIN to MAX.
@@ -292,8 +273,7 @@ class OffsetDateTime(_DateTime, _MomentMembers, _ZoneMembers):
     """
     UNIX_EPOCH: ClassVar[OffsetDateTime]
     def __new__(cls, date: Date, time: Time, offset: UtcOffset) -> OffsetDateTime: ...
-    @property
-    def offset(self) -> UtcOffset: "The offset from UTC."
+    offset: UtcOffset = "The offset from UTC."
     def new_in_offset(date: Date, time: Time, offset: UtcOffset) -> OffsetDateTime:
         "Creates the date-time of a date, a time of day and an offset."
     def new_utc(date: Date, time: Time) -> OffsetDateTime:
@@ -301,17 +281,12 @@ class OffsetDateTime(_DateTime, _MomentMembers, _ZoneMembers):
     def {parse,fromisoformat}(text: str) -> OffsetDateTime:
         """Parses a date-time and an offset, such as 2024-02-29T23:59:59.25+01:00; a space may come
         before the offset."""
-    def from_unix_timestamp(seconds: Int) -> OffsetDateTime:
-        "Creates the date-time at UTC of Unix seconds."
-    def from_unix_duration(duration: SignedDuration) -> OffsetDateTime:
-        "Creates the date-time at UTC of a Unix time."
-    def to_offset(self, offset: UtcOffset) -> OffsetDateTime:
-        "Returns the same instant at another offset, or raises OverflowError."
-    def checked_to_offset(self, offset: UtcOffset) -> OffsetDateTime | None:
-        "Returns the same instant at another offset, or None out of range."
-    def to_utc(self) -> OffsetDateTime: "Returns the same instant at UTC, or raises OverflowError."
-    def checked_to_utc(self) -> OffsetDateTime | None:
-        "Returns the same instant at UTC, or None out of range."
+    def from_unix_{timestamp,duration}({seconds: Int,duration: SignedDuration}) -> OffsetDateTime:
+        "Creates the date-time at UTC of a Unix time{ in seconds,}."
+    def {to,checked_to}_offset(self, offset: UtcOffset) -> OffsetDateTime{, | None}:
+        "Returns the same instant at another offset, or {raises OverflowError,None out of range}."
+    def {to,checked_to}_utc(self) -> OffsetDateTime{, | None}:
+        "Returns the same instant at UTC, or {raises OverflowError,None out of range}."
     def replace_offset(self, offset: UtcOffset) -> OffsetDateTime:
         "Returns the same date and time at another offset, which is another instant."
     def replace_date_time(self, date_time: PlainDateTime) -> OffsetDateTime:

@@ -20,7 +20,7 @@ Values are immutable. They compare and hash by their number, date-times at an of
 `str` and `repr` are the same text.
 """
 
-import datetime
+from datetime import timedelta
 
 from . import _core
 from ._core import Date, OffsetDateTime, PlainDateTime, SignedDuration, Time, UtcOffset, add_to_pair
@@ -31,8 +31,8 @@ from .enums import Convention, DayCount, Frequency, Month, Period, Weekday, Year
 from .errors import ComponentRange, ContradictionError, FormatError, ParseError, ParseRuleError
 from .errors import ParseRuleErrorKind, ZoneError, status_error
 
-_core.setup(Weekday, Convention, DayCount, Period, YearFraction, status_error, datetime.timedelta,
-    "days", "seconds", "microseconds", "nanoseconds", *Month, *Weekday)
+_core.setup(timedelta, _core.is_delta(timedelta(-1, 2, 3)), Weekday, Convention, DayCount, Period,
+    YearFraction, status_error, *Month, *Weekday)
 
 from . import conversions as _conversions
 from . import calls as _calls

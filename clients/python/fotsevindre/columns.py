@@ -10,9 +10,6 @@ from . import _core
 from ._core import Date
 from .schedules import Workdays
 
-# The Julian day of 1970-01-01, from which numpy counts, and the number of a row without a date.
-_UNIX_EPOCH = 2440588
-_NO_DATE = -2**31
 _WORDS = {"D": "days", "s": "seconds"}
 # The units of datetime64 in columns with these names.
 _UNITS = {"dates": "D", "others": "D", "seconds": "s", "readings": "s"}
@@ -34,19 +31,16 @@ def _whole(values: Any, unit: str) -> Any:
 
 
 def _of_array(values: Any, code: str, unit: str) -> Any:
-    """Returns the numbers of an array of numpy, in one piece and in the bits of the code."""
-    low, high = _LIMITS[code]
+    """Returns the numbers of an array of numpy, in one piece and in the bits of the code. C takes
+    days of numpy in 64 bits."""
     letter = values.dtype.kind
     if letter == "M" and unit:
-        values = _whole(values, unit)
-        if unit == "D":
-            # Not a time is the minimum number. It and what is far away become no dates.
-            days = sys.modules["numpy"].asarray(values).clip(low - _UNIX_EPOCH, high - _UNIX_EPOCH)
-            return (days + _UNIX_EPOCH).astype(code, order="C")
+        values, code = _whole(values, unit), "q"
     elif letter == "m" and code == "q":
         values = _whole(values, "D")
     elif letter not in "iu":
         raise TypeError(f"expected a column of integers, not {values.dtype}")
+    low, high = _LIMITS[code]
     if values.dtype != code and ((values < low) | (values > high)).any():
         raise OverflowError(f"a number in a column is out of range; expected {low} to {high}")
     return values.astype(code, order="C", copy=False)
@@ -65,16 +59,15 @@ def _column(values: Any, code: str, unit: str) -> Any:
         values = values.to_numpy()
     if isinstance(values, (list, tuple)):
         return array.array(code, map(_number, values) if unit == "D" else values)
-    if hasattr(values, "dtype"):
-        values = _of_array(values, code, unit)
-    view = memoryview(values)
+    is_array = hasattr(values, "dtype")
+    view = memoryview(_of_array(values, code, unit) if is_array else values)
     if view.ndim != 1:
         raise TypeError(f"expected a column of one dimension, not {view.ndim}")
     found = view.format.lstrip("@=" + ("<" if sys.byteorder == "little" else ">"))
     if found not in tuple("bhilqBHILQ"):
         raise TypeError(f"expected a column of integers, not of format '{view.format}'")
     is_same = found.islower() == code.islower() and view.itemsize == array.array(code).itemsize
-    if is_same and view.c_contiguous and _core.is_aligned(view):
+    if is_array or is_same and view.c_contiguous:
         return view
     # array raises OverflowError if a number does not fit.
     return array.array(code, view.tolist())
@@ -95,9 +88,9 @@ class _Like:
         arrays = {name: one for name, one in columns.items() if hasattr(one, "dtype")}
         arrays.pop("texts", None)
         self.numpy: Any = sys.modules.get("numpy") if arrays else None
-        # The names of results that are times if what was given is.
-        self.times = [made for given, made in (("dates", "dates"), ("readings", "seconds"))
-            if given in arrays and arrays[given].dtype.kind == "M"]
+        # The units of results that are times because what was given is.
+        self.times = {made: _UNITS[given] for given, made in (("dates", "dates"), ("readings", "seconds"))
+            if given in arrays and arrays[given].dtype.kind == "M"}
         # There is one more bound than there are rows.
         rows = [one for name, one in arrays.items() if name != "bounds"]
         self.series = next((one for one in rows if hasattr(one, "to_numpy")), None)
@@ -112,12 +105,8 @@ class _Like:
         found = self.numpy.asarray(column)
         if name == "bounds":
             return found
-        if name in self.times and name == "dates":
-            missing = found == _NO_DATE
-            found = (found.astype("int64") - _UNIX_EPOCH).view("datetime64[D]")
-            found[missing] = "NaT"
-        elif name in self.times:
-            found = found.view("datetime64[s]")
+        if name in self.times:
+            found = found.view(f"datetime64[{self.times[name]}]")
         if self.masks:
             found = self.numpy.ma.MaskedArray(found, self.numpy.logical_or.reduce(self.masks))
         return found if self.series is None else type(self.series)(found, index=self.series.index)
@@ -134,6 +123,7 @@ def call(kind: Callable[..., _R], name: str, reads: str, writes: str,
     or a zone, and makes the result."""
     if all(map(_is_scalar, columns.values())):
         raise TypeError("expected a column; call a method of Date or Zone for one value")
+    like, reads, writes = _Like(columns), reads.replace("W", "B"), writes.replace("W", "B")
     found = {one: _column(columns[one], code, _UNITS.get(one, ""))
         for one, code in zip(columns, reads) if one == "bounds" or not _is_scalar(columns[one])}
     rows = len(found["bounds"]) - 1 if "bounds" in found else len(next(iter(found.values())))
@@ -148,16 +138,12 @@ def call(kind: Callable[..., _R], name: str, reads: str, writes: str,
     for one, code in zip(columns, reads):
         if one not in found:
             found[one] = array.array(code, [_number(columns[one])]) * rows
-    if "weekdays" in found:
-        # C counts from 1.
-        weekdays = bytes(found["weekdays"]).translate(bytes([*range(1, 256), 0]))
-        found["weekdays"] = array.array("B", weekdays)
     lengths = {"texts": rows * room, "bounds": rows + 1}
-    made: dict[str, Any] = {one: array.array(code.replace("W", "B"), [0]) * lengths.get(one, rows)
+    made: dict[str, Any] = {
+        one: array.array("q" if one in like.times else code, [0]) * lengths.get(one, rows)
         for one, code in zip(getattr(kind, "_fields"), writes)}
     read = (found[one] for one in columns)
     error_count = _core.over_columns(name, (*read, *made.values()), extra)
     if "texts" in made:
         made["texts"] = made["texts"][:made["bounds"][rows]].tobytes()
-    like = _Like(columns)
     return kind(*(like.made(one, column) for one, column in made.items()), error_count)

@@ -25,14 +25,16 @@ class _Cycle(enum.IntEnum):
     def nth_next(self: _C, n: SupportsIndex) -> _C:
         """Returns the value `n` places after. Nine months after July it is April, and ten days
         after Sunday Wednesday."""
-        call = _core.month_nth_next if isinstance(self, Month) else _core.weekday_nth_next
-        return type(self)(call(self, n))  # type: ignore[operator]
+        return self._moved("nth_next", n)
 
     def nth_prev(self: _C, n: SupportsIndex) -> _C:
         """Returns the value `n` places before. Nine months before July it is October, and ten days
         before Sunday Thursday."""
-        call = _core.month_nth_prev if isinstance(self, Month) else _core.weekday_nth_prev
-        return type(self)(call(self, n))  # type: ignore[operator]
+        return self._moved("nth_prev", n)
+
+    def _moved(self: _C, name: str, n: SupportsIndex) -> _C:
+        kind = type(self)
+        return kind(getattr(_core, f"{kind.__name__.lower()}_{name}")(self, n))
 
     def __str__(self) -> str:
         return int.__repr__(self)
@@ -54,18 +56,8 @@ class Month(_Cycle):
     (May, April, 29, '05')
     """
 
-    January = 1
-    February = 2
-    March = 3
-    April = 4
-    May = 5
-    June = 6
-    July = 7
-    August = 8
-    September = 9
-    October = 10
-    November = 11
-    December = 12
+    January, February, March, April, May, June = range(1, 7)
+    July, August, September, October, November, December = range(7, 13)
 
     @classmethod
     def _missing_(cls, value: object) -> None:
@@ -88,13 +80,7 @@ class Weekday(_Cycle):
     True
     """
 
-    Monday = 0
-    Tuesday = 1
-    Wednesday = 2
-    Thursday = 3
-    Friday = 4
-    Saturday = 5
-    Sunday = 6
+    Monday, Tuesday, Wednesday, Thursday, Friday, Saturday, Sunday = range(7)
 
     def number_from_monday(self) -> int:
         """Returns the number from 1 (Monday) to 7 (Sunday)."""
@@ -135,27 +121,16 @@ class Choice(enum.IntEnum):
 class DayCount(Choice):
     """How the days of interest are counted, by the names of the 2006 ISDA Definitions."""
 
-    Actual360 = 1
-    Actual365Fixed = 2
-    Thirty360 = 3
-    ThirtyE360 = 4
-    ActualActual = 5
+    Actual360, Actual365Fixed, Thirty360, ThirtyE360, ActualActual = range(1, 6)
 
 
 class Convention(Choice):
     """How a day moves to a working day, with the names of the ISDA Definitions."""
 
-    Unadjusted = 0
-    Following = 1
-    ModifiedFollowing = 2
-    Preceding = 3
-    ModifiedPreceding = 4
+    Unadjusted, Following, ModifiedFollowing, Preceding, ModifiedPreceding = range(5)
 
 
 class Frequency(Choice):
     """The unit of the interval of a rule."""
 
-    Daily = 1
-    Weekly = 2
-    Monthly = 3
-    Yearly = 4
+    Daily, Weekly, Monthly, Yearly = range(1, 5)
