@@ -45,8 +45,9 @@ public:
 
     // Returns the position of the first wrong byte for FOTS_UNEXPECTED_BYTE, the length of the text
     // for FOTS_UNEXPECTED_END, the position of the part for a parse_rule_error, of the item for
-    // FOTS_UNKNOWN_ITEM, and of the first wrong byte of a zone. For FOTS_CONTRADICTION it is the
-    // status of the component, such as FOTS_WEEKDAY_OUT_OF_RANGE.
+    // FOTS_UNKNOWN_ITEM, of the first wrong byte of a zone, and of the first of the holidays that
+    // isn't after the one before. For FOTS_CONTRADICTION it is the status of the component, such as
+    // FOTS_WEEKDAY_OUT_OF_RANGE.
     std::size_t position() const noexcept { return position_; }
 
 private:
@@ -61,6 +62,9 @@ private:
         if ((status >= FOTS_UNKNOWN_PART && status <= FOTS_MISSING_FREQUENCY) || status == FOTS_UNKNOWN_ITEM
             || (status >= FOTS_NOT_A_ZONE_FILE && status <= FOTS_TRAILING_BYTES && position != SIZE_MAX)) {
             return fots_status_name(status) + (" at " + std::to_string(position));
+        }
+        if (status == FOTS_INVALID_HOLIDAYS && position != SIZE_MAX) {
+            return "holidays[" + std::to_string(position) + "] is not after holidays[" + std::to_string(position - 1) + "]";
         }
         if (status == FOTS_CONTRADICTION) {
             return fots_status_name(static_cast<std::int32_t>(position)) + std::string(" contradicts the other components");
@@ -537,7 +541,15 @@ public:
         for (const Date holiday : holidays) {
             dates.push_back(holiday.c());
         }
-        workdays_ = detail::value_or_throw(fots_workdays_new(weekmask, dates.data(), dates.size())).workdays;
+        const fots_workdays_result made = fots_workdays_new(weekmask, dates.data(), dates.size());
+        if (made.status == FOTS_INVALID_HOLIDAYS) {
+            std::size_t position = 1;
+            while (holidays[position - 1] < holidays[position]) {
+                ++position;
+            }
+            throw error(made.status, position);
+        }
+        workdays_ = detail::value_or_throw(made).workdays;
     }
 
     bool is_workday(Date date) const { return detail::value_or_throw(fots_workdays_contains(&workdays_, date.c())).number == 1; }

@@ -186,7 +186,8 @@ void workdays()
     check(plain.workdays_between(Date::parse("2024-01-01"), Date::parse("2025-01-01")) == 262, "those of 2024");
     check(Workdays({false, false, false, false, false, true, true}, {}).next_workday(friday) == Date::parse("2024-08-31"), "a weekend");
     check(Workdays(std::array<bool, 7>{}, {}).next_workday(friday) == std::nullopt, "no working day");
-    throws([&] { Workdays({labor_day, labor_day}); }, FOTS_INVALID_HOLIDAYS, "invalid holidays", "a holiday twice");
+    throws([&] { Workdays({labor_day, labor_day}); }, FOTS_INVALID_HOLIDAYS, "holidays[1] is not after holidays[0]", "a holiday twice");
+    throws([&] { Workdays({friday, labor_day, tuesday, labor_day}); }, FOTS_INVALID_HOLIDAYS, "holidays[3] is not after holidays[2]", "holidays out of order");
 }
 
 // Examples of RFC 5545.

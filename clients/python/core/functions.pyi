@@ -3,8 +3,7 @@
 # ---- months, weekdays and years
 
 def days_in_month(month: Int, year: Fits) -> int: "Returns the number of days of a month in a year."
-def days_in_year_month(year: Fits, month: Int) -> int:
-    "Returns the number of days of a year's month."
+def days_in_year_month(year: Fits, month: Int) -> int: "Returns the days of a year's month."
 def is_leap_year(year: Fits) -> bool: "Returns whether the year is a leap year."
 def days_in_year(year: Fits) -> int: "Returns the number of days of the year, 365 or 366."
 def weeks_in_year(year: Fits) -> int: "Returns the number of ISO weeks of the year, 52 or 53."

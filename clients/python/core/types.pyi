@@ -11,7 +11,7 @@ from typing_extensions import Self
 from .conversions import _DateMembers, _DateTimeMembers, _DurationMembers, _MomentMembers
 from .conversions import _OffsetMembers, _PlainMembers, _TimeMembers, _ValueMembers
 from .enums import Convention, DayCount, Month, Period, Weekday, YearFraction
-from .formats import Format, _FormatMembers
+from .formats import Format
 from .zones import _ZoneMembers
 
 # An int. One that doesn't fit the parameter in C becomes the nearest number, or one that the call
@@ -31,7 +31,7 @@ class _Moved:
     def saturating_{add,sub}(self, duration: SignedDuration) -> Self:
         "Returns the value {plus,minus} a duration, or the nearest end of the range."
 
-class _Formatted(_FormatMembers):
+class _Formatted:
     def strftime(self, format: str | Format) -> str:
         "Returns the text by a format, or raises ValueError if that shows more than the value has."
     def strptime(text: str, format: str | Format) -> Self:
@@ -50,8 +50,7 @@ class _DateParts:
     def to_calendar_date(self) -> tuple[int, Month, int]:
         "Returns the year, the Month and the day of the month."
     def to_ordinal_date(self) -> tuple[int, int]: "Returns the year and the ordinal."
-    def to_iso_week_date(self) -> tuple[int, int, Weekday]:
-        "Returns the ISO year, the week and the Weekday."
+    def to_iso_week_date(self) -> tuple[int, int, Weekday]: "Returns ISO year, week and Weekday."
     def to_julian_day(self) -> int: "Returns the Julian day."
     def replace_{year,month,day,ordinal}(self, number: Int) -> Self: "Replaces the {}."
 
@@ -73,7 +72,8 @@ class Date(_Value, _DateParts, _DateMembers, _Moved, _Formatted):
     """Date(year, month, day): a day of the proleptic Gregorian calendar, from MIN, -999999-01-01,
     to MAX, 999999-12-31.
 
-    + and - with a SignedDuration move by its whole days; dates have a SignedDuration between them.
+    + and - with a SignedDuration, and calls that add one, move by its whole days; with a timedelta
+    they take only whole days. Dates have a SignedDuration between them.
     """
     {MIN,MAX}: ClassVar[Date]
     def __new__(cls, year: Int, month: Int, day: Int) -> Date: ...
@@ -83,8 +83,7 @@ class Date(_Value, _DateParts, _DateMembers, _Moved, _Formatted):
     def __sub__(self, other: {Date,SignedDuration | timedelta}) -> {SignedDuration,Date}: ...
     def from_calendar_date(year: Int, month: Int, day: Int) -> Date:
         "Creates the date of a year, a Month or its number, and a day of the month."
-    def from_ordinal_date(year: Int, ordinal: Int) -> Date:
-        "Creates the date of a year and an ordinal."
+    def from_ordinal_date(year: Int, ordinal: Int) -> Date: "Creates a date of a year and ordinal."
     def from_iso_week_date(year: Int, week: Int, weekday: Weekday) -> Date:
         "Creates the date of an ISO year, a week and a Weekday."
     def from_julian_day(julian_day: Int) -> Date:
@@ -98,13 +97,11 @@ class Date(_Value, _DateParts, _DateMembers, _Moved, _Formatted):
     def fromisoformat(text: str) -> Date: "Parses a text, like parse."
     def parse_julian_day(text: str) -> Date: "Parses a Julian day, such as J2460370."
     quarter: int = "The quarter of the year, from 1 to 4."
-    def {isoformat,calendar_text}(self) -> str:
-        "Returns the calendar date, such as 2024-02-29, like str."
+    def {isoformat,calendar_text}(self) -> str: "Returns the date, such as 2024-02-29, like str."
     def {ordinal,week}_text(self) -> str:
         "Returns the {ordinal,ISO week} date, such as 2024-{060,W09-4}."
     def julian_text(self) -> str: "Returns the Julian day, such as J2460370."
-    def {next,previous}_day(self) -> Date | None:
-        "Returns the {} day, or None {after MAX,before MIN}."
+    def {next,previous}_day(self) -> Date | None: "Returns the {} day, None {after MAX,before MIN}."
     def {next,prev}_occurrence(self, weekday: Weekday) -> Date:
         "Returns the {first,last} day {after,before} this one with a Weekday, else OverflowError."
     def checked_{next,prev}_occurrence(self, weekday: Weekday) -> Date | None:
@@ -127,15 +124,13 @@ class Date(_Value, _DateParts, _DateMembers, _Moved, _Formatted):
         "Returns the day some years later, for 29 February the 28th if need be, else OverflowError."
     def {months,years}_until(self, other: Date) -> int:
         "Returns the whole {} to the other day, such as an age; negative if that is earlier."
-    def period_until(self, other: Date) -> Period:
-        "Returns the years, months and days to the other day."
+    def period_until(self, other: Date) -> Period: "Returns years, months and days to another day."
     def day_count(self, other: Date, convention: DayCount) -> YearFraction:
         "Returns the fraction of a year to the other day by a DayCount."
     def first_of_{month,quarter,year}(self) -> Date: "Returns the first day of the {}."
     def last_of_{month,quarter,year}(self) -> Date: "Returns the last day of the {}."
     def first_of_iso_week(self) -> Date: "Returns the Monday of the ISO week."
-    def last_of_iso_week(self) -> Date | None:
-        "Returns the Sunday of the ISO week, or None past MAX."
+    def last_of_iso_week(self) -> Date | None: "Returns the Sunday of the ISO week, None past MAX."
     def on_or_{after,before}(self, weekday: Weekday) -> Date | None:
         "Returns the {first day from this one on,last day up to this one} with a Weekday, or None."
 
@@ -185,8 +180,7 @@ class UtcOffset(_Value, _OffsetMembers, _Formatted):
         the sign of all."""
     def from_whole_seconds(seconds: Int) -> UtcOffset:
         "Creates the offset of seconds, from -93599 to 93599."
-    def as_hms(self) -> tuple[int, int, int]:
-        "Returns the hours, minutes and seconds, with one sign."
+    def as_hms(self) -> tuple[int, int, int]: "Returns hours, minutes and seconds, with one sign."
     def whole_{hours,minutes}(self) -> int: "Returns the whole {}, truncated toward zero."
     def whole_seconds(self) -> int: "Returns the seconds."
     def {minutes_past_hour,seconds_past_minute}(self) -> int:
@@ -252,12 +246,12 @@ class _DateTime(_Value, _DateParts, _TimeParts, _DateTimeMembers, _Moved, _Forma
 class PlainDateTime(_DateTime, _PlainMembers):
     """PlainDateTime(date, time): a date and a time of day, from MIN to MAX.
 
-    + and - with a SignedDuration are exact; date-times have a SignedDuration between them.
+    + and - with a SignedDuration or a timedelta are exact; date-times have a SignedDuration between
+    them.
     """
     {MIN,MAX}: ClassVar[PlainDateTime]
     def __new__(cls, date: Date, time: Time) -> PlainDateTime: ...
-    def new(date: Date, time: Time) -> PlainDateTime:
-        "Creates the date-time of a date and a time of day."
+    def new(date: Date, time: Time) -> PlainDateTime: "Creates the date-time of a date and a time."
     def {parse,fromisoformat}(text: str) -> PlainDateTime:
         """Parses a date, T or a space, and a time, such as 2024-02-29T23:59:59.25; errors like
         Date.parse and Time.parse."""
@@ -268,8 +262,8 @@ class PlainDateTime(_DateTime, _PlainMembers):
 class OffsetDateTime(_DateTime, _MomentMembers, _ZoneMembers):
     """OffsetDateTime(date, time, offset): a date and a time of day at an offset from UTC.
 
-    Values compare and hash by instant, regardless of offset. + and - with a SignedDuration keep
-    the offset.
+    Values compare and hash by instant, regardless of offset. + and - with a SignedDuration or a
+    timedelta keep the offset.
     """
     UNIX_EPOCH: ClassVar[OffsetDateTime]
     def __new__(cls, date: Date, time: Time, offset: UtcOffset) -> OffsetDateTime: ...

@@ -60,7 +60,9 @@ _PARTS: dict[type, Callable[[Any], tuple[Any, ...]]] = {
 @_adds_to(Date, Time, UtcOffset, SignedDuration, PlainDateTime, OffsetDateTime)
 class _ValueMembers:
     def __format__(self: Any, specification: str) -> str:
-        """Formats the text of the value."""
+        """Formats by a format, which has a percent sign, or else the text of the value."""
+        if "%" in specification and not isinstance(self, SignedDuration):
+            return self.strftime(specification)
         return format(str(self), specification)
 
     def __reduce__(self: Any) -> tuple[Any, ...]:
@@ -277,7 +279,10 @@ class _PlainMembers:
         """Converts a `datetime.datetime` without a time zone, or raises `ValueError`."""
         if check(value, datetime.datetime).tzinfo is not None:
             raise ValueError("expected a datetime.datetime without tzinfo")
-        return PlainDateTime(Date.from_date(value.date()), Time.from_time(value.time()))
+        # A time of pandas has nanoseconds, too.
+        below = value.microsecond * 1000 + getattr(value, "nanosecond", 0)
+        time = Time(value.hour, value.minute, value.second, below)
+        return PlainDateTime(Date.from_date(value.date()), time)
 
     @staticmethod
     def _parse(text: str) -> PlainDateTime:
@@ -324,6 +329,7 @@ class _MomentMembers:
 
 _PARTS_OF_TEXT = re.compile(
     "(?P<date>[^Tt ]*)(?P<separator>[Tt ]?)(?P<time>[^ Zz+-]*) ?(?P<offset>.*)", re.DOTALL)
+_DIGITS = frozenset("0123456789")
 
 
 def _within(parse: Callable[[str], Any], text: str, start: int, end: int | None = None) -> Any:
@@ -335,35 +341,33 @@ def _within(parse: Callable[[str], Any], text: str, start: int, end: int | None 
         raise ParseError(position, position == len(text)) from None
 
 
+def _fits(text: str, pattern: str) -> int:
+    """Returns how many characters fit a pattern, in which 0 is any digit."""
+    pairs = enumerate(zip(text, pattern))
+    wrong = (place for place, (character, wanted) in pairs
+        if not (character in _DIGITS if wanted == "0" else character == wanted))
+    return next(wrong, min(len(text), len(pattern)))
+
+
 def _time(text: str) -> Time:
-    """Parses 9:05, 09:05:00 or 09:05:00.25, by a moment of RFC 3339."""
-    clock = re.split("[^0-9:.]", text)[0]
-    length, added = len(clock), clock[1:2] == ":"
-    full = "0" * added + clock
-    if len(full) == 5 and length == len(text):
-        full += ":00"
-    try:
-        time = _core.parse_rfc3339(f"1970-01-01T{full}Z")[1]
-    except ParseError as error:
-        position = min(error.position - 11 - added, length)
-        raise ParseError(position, position == len(text)) from None
-    if length < len(text):
-        raise ParseError(length, False)
-    return time
+    """Parses 9:05, 09:05:00 or 09:05:00.25. Digits after the ninth are ignored."""
+    hours = 1 if text[1:2] == ":" else 2
+    found = _fits(text, "0" * hours + ":00:00." + "0" * len(text))
+    if found < len(text) or found - hours not in (3, 6) and found - hours < 8:
+        raise ParseError(found, found == len(text))
+    hour, minute, second, fraction, *_ = (*re.split("[:.]", text), "0", "0")
+    return Time(int(hour), int(minute), int(second), int(fraction[:9].ljust(9, "0")))
 
 
 def _offset(text: str) -> UtcOffset:
     """Parses Z, +01:00 or -05:30:00."""
     if text in ("Z", "z"):
         return UtcOffset.UTC
-    for position, character in enumerate(text[:9]):
-        expected = "+-" if position == 0 else ":" if position % 3 == 0 else "0123456789"
-        if character not in expected:
-            raise ParseError(position, False)
-    if len(text) not in (6, 9):
-        raise ParseError(min(len(text), 9), len(text) < 9)
-    sign = -1 if text[0] == "-" else 1
-    return UtcOffset(*(sign * int(part) for part in text[1:].split(":")))
+    sign = "-" if text[:1] == "-" else "+"
+    found = _fits(text, sign + "00:00:00")
+    if found < len(text) or found not in (6, 9):
+        raise ParseError(found, found == len(text))
+    return UtcOffset(*(int(sign + part) for part in text[1:].split(":")))
 
 
 def _plain(text: str, parts: Any, end: int) -> PlainDateTime:

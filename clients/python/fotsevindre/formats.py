@@ -1,13 +1,10 @@
-"""Formats of texts, and what the values do with them."""
+"""Formats of texts."""
 
-# mypy: no-warn-return-any
 from __future__ import annotations
 
 from typing import TYPE_CHECKING, Any
 
 from . import _core
-from ._core import Date, OffsetDateTime, PlainDateTime, Time, UtcOffset
-from .conversions import _adds_to
 
 if TYPE_CHECKING:
     from typing_extensions import Self
@@ -56,11 +53,3 @@ class Format:
 def bytes_of(format: str | Format) -> bytes:
     """Returns the struct of C."""
     return (format if isinstance(format, Format) else Format(format))._items
-
-
-@_adds_to(Date, Time, UtcOffset, PlainDateTime, OffsetDateTime)
-class _FormatMembers:
-    def __format__(self: Any, specification: str) -> str:
-        """Formats by a format, which has a percent sign, or else the text of the value."""
-        return self.strftime(specification) if "%" in specification else \
-            format(str(self), specification)

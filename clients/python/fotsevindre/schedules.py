@@ -10,18 +10,21 @@ import operator
 from typing import Any, Iterable, Iterator, Sequence, SupportsIndex, overload
 
 from . import _core
-from ._core import Date
+from ._core import Date, OffsetDateTime, PlainDateTime
 from .enums import Frequency, Month, Weekday
 from .errors import check
 
 
 def _refuse_datetime(value: object) -> None:
-    """Raises `TypeError` for a `datetime.date`, of which `in` would be false without a word."""
-    if isinstance(value, datetime.date):
-        found = type(value).__name__
-        raise TypeError(f"expected Date, not {found}; convert it with Date.from_date")
+    """Raises `TypeError` for a date of another library and a date-time, of which `in` would be
+    false without a word."""
+    dates = (datetime.date, PlainDateTime, OffsetDateTime)
+    if isinstance(value, dates) or hasattr(value, "dtype"):
+        way = "use its date()" if hasattr(value, "date") else "convert it with Date.from_date"
+        raise TypeError(f"expected Date, not {type(value).__name__}; {way}")
 
 
+@dataclasses.dataclass(frozen=True, repr=False, slots=True)
 class Days(Sequence[Date]):
     """Days that follow each other, as `Date.iter_to` returns them: a sequence with a length,
     indexes, slices and a reversed order.
@@ -31,10 +34,7 @@ class Days(Sequence[Date]):
     (4, 2024-02-29, [2024-03-02, 2024-03-01], False)
     """
 
-    __slots__ = ("_julian_days",)
-
-    def __init__(self, julian_days: range) -> None:
-        self._julian_days = julian_days
+    _julian_days: range
 
     def __len__(self) -> int:
         return len(self._julian_days)
@@ -56,14 +56,6 @@ class Days(Sequence[Date]):
     def __contains__(self, date: object) -> bool:
         _refuse_datetime(date)
         return isinstance(date, Date) and date.to_julian_day() in self._julian_days
-
-    def __eq__(self, other: object) -> bool:
-        if not isinstance(other, Days):
-            return NotImplemented
-        return self._julian_days == other._julian_days
-
-    def __hash__(self) -> int:
-        return hash(self._julian_days)
 
     def __repr__(self) -> str:
         return f"{self[0]} to {self[-1]}" if len(self) else "no days"

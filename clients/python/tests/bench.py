@@ -9,8 +9,13 @@ import datetime
 import time
 import timeit
 
+try:
+    import numpy
+except ImportError:
+    numpy = None
+
 import fotsevindre
-from fotsevindre import Date, Format, OffsetDateTime, SignedDuration, Time, Workdays
+from fotsevindre import Date, Format, OffsetDateTime, PlainDateTime, SignedDuration, Time, UtcOffset, Workdays
 
 VALUES = 4096
 ROUNDS = 9
@@ -29,6 +34,11 @@ clocks = [stamp[11:19] for stamp in stamps]
 day, delta = SignedDuration.DAY, datetime.timedelta(days=1)
 many = Workdays(holidays=[Date.from_julian_day(2451545 + 9 * number) for number in range(1024)])
 none = Workdays()
+plain = [PlainDateTime(date, Time(1, 2, 3)) for date in dates]
+others_plain = [date_time.to_datetime() for date_time in plain]
+moments = [date_time.assume_offset(UtcOffset(1)) for date_time in plain]
+others_aware = [moment.to_datetime() for moment in moments]
+hour = datetime.timedelta(hours=25, microseconds=7)
 eighty = Workdays(holidays=many.holidays[:80])
 
 LOOPS = [
@@ -37,6 +47,8 @@ LOOPS = [
     ("to_calendar_date", lambda: [date.to_calendar_date() for date in dates], lambda: [(date.year, date.month, date.day) for date in others]),
     ("+ a day", lambda: [date + day for date in dates], lambda: [date + delta for date in others]),
     ("+ timedelta(days=1)", lambda: [date + delta for date in dates], lambda: [date + delta for date in others]),
+    ("PlainDateTime + timedelta", lambda: [one + hour for one in plain], lambda: [one + hour for one in others_plain]),
+    ("OffsetDateTime + timedelta", lambda: [one + hour for one in moments], lambda: [one + hour for one in others_aware]),
     ("==", lambda: [date == dates[7] for date in dates], lambda: [date == others[7] for date in others]),
     ("<", lambda: [date < dates[7] for date in dates], lambda: [date < others[7] for date in others]),
     ("hash", lambda: [hash(date) for date in dates], lambda: [hash(date) for date in others]),
@@ -54,6 +66,14 @@ LOOPS = [
     ("dates_add_days, a row", lambda: fotsevindre.dates_add_days(julian_days, moves), None),
     ("dates_workdays_between, 80 holidays, a row", lambda: fotsevindre.dates_workdays_between(julian_days, later, eighty), None),
 ]
+if numpy:
+    days, days_later = ((numpy.array(column, dtype="int64") - 2440588).view("datetime64[D]") for column in (julian_days, later))
+    calendar_of_numpy = numpy.busdaycalendar(holidays=[str(date) for date in eighty.holidays])
+    LOOPS += [
+        ("the same, datetime64, and busday_count", lambda: fotsevindre.dates_workdays_between(days, days_later, eighty),
+            lambda: numpy.busday_count(days, days_later, busdaycal=calendar_of_numpy)),
+        ("dates_add_days, datetime64, and +", lambda: fotsevindre.dates_add_days(days, 1), lambda: days + 1),
+    ]
 
 
 def least(loop):

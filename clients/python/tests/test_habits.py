@@ -13,7 +13,7 @@ import unittest
 
 import fotsevindre
 from fotsevindre import (
-    ComponentRange, Convention, Date, DayCount, Frequency, LocalKind, Month, OffsetDateTime, ParseError, PlainDateTime, Policy, Rule, SignedDuration, Time, UtcOffset, Weekday, Workdays, Zone,
+    ComponentRange, Convention, Date, DayCount, Format, Frequency, LocalKind, Month, OffsetDateTime, ParseError, PlainDateTime, Policy, Recurrence, Rule, SignedDuration, Time, UtcOffset, Weekday, Workdays, Zone, _core,
 )
 
 LEAP_DAY = Date(2024, 2, 29)
@@ -47,6 +47,50 @@ class SilentlyWrong(unittest.TestCase):
                 with self.assertRaises(TypeError):
                     other in container
         self.assertTrue(LEAP_DAY in days and LEAP_DAY in rule and "2024-02-29" not in days and None not in rule)
+        plain = PlainDateTime(LEAP_DAY, Time())
+        for other in (plain, plain.assume_utc()):
+            for container in (days, rule):
+                with self.assertRaisesRegex(TypeError, "use its date"):
+                    other in container
+
+    def test_timedeltas(self):
+        """A timedelta moves a date or a date-time as it does in `datetime`, also if it comes first."""
+        draw = random.Random(71)
+        for _ in range(2000):
+            other = datetime.datetime(draw.randint(1, 9999), 1, 1, draw.randrange(24), 5, 59, draw.randrange(10**6))
+            plain, aware = PlainDateTime.from_datetime(other), other.replace(tzinfo=datetime.timezone(datetime.timedelta(minutes=draw.randint(-1439, 1439))))
+            delta = datetime.timedelta(draw.randint(-9998 * 365, 9998 * 365), draw.randint(0, 86399), draw.choice([0, 1, 999999, draw.randrange(10**6)]))
+            self.assertEqual(plain + delta, plain + SignedDuration.from_timedelta(delta))
+            try:
+                later = other + delta
+            except OverflowError:
+                continue
+            self.assertEqual(((plain + delta).to_datetime(), (delta + plain).to_datetime(), (plain - -delta).to_datetime()), (later,) * 3)
+            moved = OffsetDateTime.from_datetime(aware) + delta
+            self.assertEqual((moved, moved.offset, moved.to_datetime()), (delta + OffsetDateTime.from_datetime(aware), UtcOffset.from_timezone(aware.tzinfo), aware + delta))
+        self.assertEqual((datetime.timedelta(1) + LEAP_DAY, LEAP_DAY - datetime.timedelta(-1)), (Date(2024, 3, 1),) * 2)
+        for value in (PlainDateTime.MAX, Date.MAX, OffsetDateTime.new_utc(Date.MAX, Time())):
+            self.assertRaises(OverflowError, lambda: value + datetime.timedelta(999999999))
+        for value in (Time(), UtcOffset.UTC, SignedDuration.DAY):
+            for move in (lambda: value + datetime.timedelta(1), lambda: datetime.timedelta(1) + value, lambda: value - datetime.timedelta(1)):
+                self.assertRaises(TypeError, move)
+        for value in (LEAP_DAY, PlainDateTime.MIN, OffsetDateTime.UNIX_EPOCH):
+            self.assertRaises(TypeError, lambda: datetime.timedelta(1) - value)
+
+    def test_timedeltas_of_others(self):
+        """What extends timedelta is read by its own arithmetic, and a timedelta with another layout as well."""
+        class Other(datetime.timedelta):
+            pass
+
+        self.assertEqual((LEAP_DAY + Other(1), PlainDateTime.MIN + Other(0, 1, 2)), (Date(2024, 3, 1), PlainDateTime.MIN + SignedDuration(seconds=1, microseconds=2)))
+        self.assertTrue(_core.is_delta(datetime.timedelta(-1, 2, 3)))
+        self.assertFalse(_core.is_delta(datetime.timedelta(-1, 2, 4)) or _core.is_delta(b"of another size"))
+        setup = (Weekday, Convention, DayCount, fotsevindre.Period, fotsevindre.YearFraction, fotsevindre.status_error, *Month, *Weekday)
+        try:
+            _core.setup(datetime.timedelta, False, *setup)
+            self.assertEqual((LEAP_DAY + datetime.timedelta(1), PlainDateTime.MIN + datetime.timedelta(0, 1, 2)), (Date(2024, 3, 1), PlainDateTime.MIN + Other(0, 1, 2)))
+        finally:
+            _core.setup(datetime.timedelta, True, *setup)
 
     def test_components_of_differences(self):
         self.assertTrue((Date(2024, 3, 1) - LEAP_DAY).days == 1 and (LEAP_DAY - Date(2024, 3, 1)).days == -1)
@@ -113,6 +157,29 @@ class Construction(unittest.TestCase):
         for function in (Date.parse, Date.from_date, Time.parse, UtcOffset.fromisoformat, PlainDateTime.parse, OffsetDateTime.parse, SignedDuration.days,
                 Date.next_day, OffsetDateTime.isoformat, fotsevindre.dates_add_days, fotsevindre.is_leap_year):
             self.assertEqual(pickle.loads(pickle.dumps(function)), function)
+
+    def test_copies(self):
+        """Each value is equal to its copies and pickles of any protocol, also to those that an earlier version wrote."""
+        moment = OffsetDateTime(LEAP_DAY, Time(1, 2, 3, 4), UtcOffset(-5, 30))
+        values = [LEAP_DAY, moment.time(), moment.offset, SignedDuration.MIN, moment.local(), moment, Workdays(holidays=[LEAP_DAY]), Rule(LEAP_DAY, Frequency.Daily, 2),
+            Recurrence("FREQ=DAILY;COUNT=2"), Format("%d"), Zone.from_posix("CET-1"), Month.May, Weekday.Sunday, LEAP_DAY.iter_to(Date(2024, 3, 2)), Policy.Later]
+        for value in values:
+            pickled = [pickle.loads(pickle.dumps(value, protocol)) for protocol in range(pickle.HIGHEST_PROTOCOL + 1)]
+            for same in (copy.copy(value), copy.deepcopy(value), *pickled):
+                self.assertEqual((same, type(same), hash(same), repr(same)), (value, type(value), hash(value), repr(value)))
+        rows = [(b"Date", b"I2024\nI2\nI29\n", LEAP_DAY), (b"Time", b"I1\nI2\nI3\nI4\n", moment.time()), (b"UtcOffset", b"I-5\nI-30\nI0\n", moment.offset)]
+        for name, arguments, value in rows:
+            self.assertEqual(pickle.loads(b"cfotsevindre\n%s\n(%stR." % (name, arguments)), value)
+
+    def test_closed_types(self):
+        """No class extends a value, and no value takes other attributes: their methods can be relied on."""
+        for value in (LEAP_DAY, Time(), UtcOffset(), SignedDuration(), PlainDateTime.MIN, OffsetDateTime.UNIX_EPOCH):
+            self.assertRaises(TypeError, type, "Other", (type(value),), {})
+            self.assertRaises(AttributeError, setattr, value, "other", 1)
+            for call in (iter, len, int, float, lambda one: 1 in one, json.dumps, lambda one: sum([one, one]), lambda one: one + 1, lambda one: one < None):
+                self.assertRaises(TypeError, call, value)
+            self.assertRaises(ValueError, format, value, "d")
+            self.assertEqual((f"{value:>50}", f"{value}", f"{value!r}"), (str(value).rjust(50), str(value), repr(value)))
 
     def test_today(self):
         before, found, after = datetime.date.today(), Date.today(), datetime.date.today()

@@ -7,7 +7,7 @@ import unittest
 import numpy
 
 import fotsevindre
-from fotsevindre import Date, Policy, Zone, columns
+from fotsevindre import Date, Frequency, Policy, Rule, Zone, columns
 
 EPOCH = 2440588
 
@@ -29,6 +29,27 @@ class Numpy(unittest.TestCase):
         self.assertTrue((calendar.years == every.astype("datetime64[Y]").astype(int) + 1970).all())
         self.assertTrue((calendar.months == months.astype(int) % 12 + 1).all())
         self.assertTrue((calendar.days == (every - months).astype(int) + 1).all())
+
+    def test_where_days_lie(self):
+        """Days of numpy are read on odd bytes, in steps, backward and in other orders of bytes, and written for no row."""
+        days = numpy.array(["2024-02-29", "NaT", "1969-12-31"], dtype="datetime64[D]")
+        odd = numpy.frombuffer(b"-" + days.tobytes(), dtype="datetime64[D]", count=3, offset=1)
+        self.assertFalse(odd.flags.aligned)
+        for same in (odd, days.astype(">M8[D]"), numpy.repeat(days, 2)[::2], days[::-1].copy()[::-1], days.astype("datetime64[s]")):
+            found = fotsevindre.dates_add_days(same, numpy.frombuffer(b"-" + bytes([1, *[0] * 7] * 3), dtype="int64", offset=1))
+            self.assertEqual((list(found.dates.view("int64")), found.error_count), ([19783, -2**63, 0], 1))
+            weeks = fotsevindre.dates_to_iso_week_dates(same)
+            self.assertEqual(([*zip(*weeks[:3])], weeks.error_count), ([(2024, 9, 3), (-2**31, 0, 255), (1970, 1, 2)], 1))
+            back = fotsevindre.dates_from_iso_week_dates(*weeks[:3])
+            self.assertEqual(([date - EPOCH for date in back.dates[[0, 2]]], back.error_count), ([19782, -1], 1))
+        self.assertEqual(fotsevindre.dates_add_days(days[:0], 1).dates.dtype, "datetime64[D]")
+        self.assertRaisesRegex(TypeError, "one dimension, not 2", fotsevindre.dates_weekdays, days.reshape(3, 1))
+
+    def test_what_is_in_a_rule(self):
+        day = Date(2024, 2, 29)
+        for container in (day.iter_to(day), Rule(day, Frequency.Daily)):
+            with self.assertRaisesRegex(TypeError, "expected Date, not datetime64"):
+                numpy.datetime64("2024-02-29") in container
 
     def test_the_block_of_the_page(self):
         page = (pathlib.Path(__file__).resolve().parents[3] / "docs/COLUMNS.md").read_text(encoding="utf-8")

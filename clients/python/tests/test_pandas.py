@@ -6,7 +6,7 @@ import numpy
 import pandas
 
 import fotsevindre
-from fotsevindre import Date, SignedDuration, Workdays, Zone
+from fotsevindre import Date, OffsetDateTime, PlainDateTime, SignedDuration, Time, UtcOffset, Workdays, Zone
 
 
 class Pandas(unittest.TestCase):
@@ -41,6 +41,18 @@ class Pandas(unittest.TestCase):
         self.assertEqual(SignedDuration.from_timedelta(pandas.Timedelta(nanoseconds=-1)), -SignedDuration.NANOSECOND)
         with self.assertRaises(ValueError):
             Date(2024, 2, 29) + pandas.Timedelta(days=1, nanoseconds=1)
+        noon = PlainDateTime(Date(2024, 2, 29), Time(12))
+        delta = pandas.Timedelta(days=1, nanoseconds=1)
+        self.assertEqual((noon + delta, delta + noon, noon - delta), (noon + SignedDuration(days=1, nanoseconds=1),) * 2 + (noon - SignedDuration(days=1, nanoseconds=1),))
+
+    def test_nanoseconds_of_times(self):
+        time = pandas.Timestamp("2024-02-29 12:00:00.000001002")
+        noon = PlainDateTime(Date(2024, 2, 29), Time(12, 0, 0, 1002))
+        self.assertEqual(PlainDateTime.from_datetime(time), noon)
+        self.assertEqual(OffsetDateTime.from_datetime(time.tz_localize("Europe/Berlin")), noon.assume_offset(UtcOffset(1)))
+        with self.assertRaisesRegex(TypeError, "use its date"):
+            time in noon.date().iter_to(Date.MAX)
+        self.assertRaises(TypeError, lambda: noon + pandas.NaT)
 
     def test_what_is_refused(self):
         noon = pandas.Series(pandas.to_datetime(["2024-02-29 12:00"]))

@@ -18,6 +18,8 @@ work: Workdays = Workdays(holidays={day})
 working: Tuple[Tuple[Weekday, ...], Date, int] = (work.weekdays, work.add_workdays(day, 3), work.workdays_between(day, last))
 no_time: SignedDuration = SignedDuration.ZERO
 later: Date = day + SignedDuration.days(366) + datetime.timedelta(days=1)
+by_delta: Tuple[Date, Date, PlainDateTime, OffsetDateTime] = (
+    datetime.timedelta(1) + day, day - datetime.timedelta(1), PlainDateTime.MIN + datetime.timedelta(hours=1), datetime.timedelta(1) + OffsetDateTime.UNIX_EPOCH)
 between: SignedDuration = last - day
 next_day: Optional[Date] = day.next_day()
 parts: Tuple[int, Month, int] = day.to_calendar_date()
@@ -59,6 +61,8 @@ day.next_day().year  # refused
 day.next_occurrence(1)  # refused
 SignedDuration.days(1.5)  # refused
 Time.MIDNIGHT + datetime.timedelta(hours=1)  # refused
+datetime.timedelta(1) - day  # refused
+SignedDuration.DAY + datetime.timedelta(1)  # refused
 same.to_calendar_date()[0].upper()  # refused
 local < moment  # refused
 moment - local  # refused
