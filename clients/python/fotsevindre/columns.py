@@ -130,8 +130,8 @@ def call(kind: Callable[..., _R], name: str, reads: str, writes: str,
     rows = len(found["bounds"]) - 1 if "bounds" in found else len(next(iter(found.values())))
     room = {"dates_calendar_texts": 13, "moments_texts": 38}.get(name, 0)
     if name == "dates_format" and isinstance(extra, bytes):
-        # 10 bytes for each item, of which the number comes first.
-        room = 10 * max(1, int.from_bytes(extra[:4], sys.byteorder))
+        # 15 bytes for each item, of which the number comes first.
+        room = 15 * max(1, int.from_bytes(extra[:4], sys.byteorder))
     if rows < 0:
         raise ValueError("no bounds; expected one more than there are texts")
     if rows * room > 2**31 - 1:
