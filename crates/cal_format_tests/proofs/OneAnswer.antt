@@ -14,7 +14,6 @@ use Rattle.cal_format.specs.declared.error.ParseError.TheVariants.{UnexpectedByt
 use Rattle.cal_format.specs.declared.item.Component.{Component}
 use Rattle.cal_format.specs.declared.item.Component.TheVariants.{IsoYear, Month, Day, Ordinal, IsoWeek}
 use Rattle.cal_format.specs.declared.item.Item.{Item}
-use Rattle.cal_format.specs.declared.moment.Moment.{Moment}
 use Rattle.cal_format.specs.Form.{HasForm, HasNumbers}
 use Rattle.cal_format.specs.Moment.{timestamp_of}
 use Rattle.cal_format.specs.Reading.{are_apart, shows_calendar_date, shows_date, shows_iso_week_date, shows_ordinal_date, shows_timestamp}
@@ -52,7 +51,7 @@ date-one : (items : List Item) (at : Component → ℕ) (m n : ℕ) → IsDate m
 date-one items at m n h k a b (inl c) = calendar_date-one (pos (year_in items at)) (at Month) (at Day) m n h k (a.calendar c) (b.calendar c)
 date-one items at m n h k a b (inr c) = ordinal-one items at m n h k a b c (decide (shows_ordinal_date items))
 
-moment-one : (items : List Item) (at : Component → ℕ) (v w : Moment) → IsMomentOf items at v → IsMomentOf items at w → IsTrue (shows_timestamp items) ⊎ IsTrue (not (shows_timestamp items)) → v ≡ w
+moment-one : (items : List Item) (at : Component → ℕ) (v w : _) → IsMomentOf items at v → IsMomentOf items at w → IsTrue (shows_timestamp items) ⊎ IsTrue (not (shows_timestamp items)) → v ≡ w
 moment-one items at v w a b (inl s) =
     let offset = a.offset ∙ sym (b.offset) in
     let seconds : timestamp_of v ≡ timestamp_of w = (a.timestamp s).0 ∙ sym (b.timestamp s).0 in
@@ -75,12 +74,12 @@ range-one items numbers x y (inr a) (inr b) = a.1 ∙ sym b.1
 
 no-both : (items : List Item) (numbers : List ℕ) (x : ComponentRange) (c : Named) → IsRangeError items numbers x → IsContradiction items numbers c → ⊥
 no-both items numbers x c (inl a) b = no-value x (sym b.0 ∙ a)
-no-both items numbers x c (inr a) b = a.2 b.1 b.2
+no-both items numbers x c (inr a) b = a.2 b.1.0 b.1.1
 
 contradiction-one : (items : List Item) (numbers : List ℕ) (c d : Named) → IsContradiction items numbers c → IsContradiction items numbers d → c ≡ d
 contradiction-one items numbers c d a b =
-    let same = moment-one items _ a.1 b.1 a.2 b.2 (decide (shows_timestamp items)) in
-    same-value c d (sym a.3 ∙ ap (first_contradiction items numbers) same ∙ b.3)
+    let same = moment-one items _ a.1.0 b.1.0 a.1.1 b.1.1 (decide (shows_timestamp items)) in
+    same-value c d (sym a.1.2 ∙ ap (first_contradiction items numbers) same ∙ b.1.2)
 
 number_error-one : (items : List Item) (numbers : List ℕ) (e f : ParseError) → IsNumberRejection items numbers e → IsNumberRejection items numbers f → e ≡ f
 number_error-one items numbers (OutOfRange x) (OutOfRange y) a b = ap OutOfRange (range-one items numbers x y a b)
