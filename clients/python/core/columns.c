@@ -54,11 +54,13 @@ static size_t size_of(char letter)
 
 static void read_days(int32_t *dates, const char *bytes, size_t rows)
 {
-    int64_t day;
+    /* A date plus 2^31 has 32 bits. */
+    const uint64_t half = UINT64_C(1) << 31;
+    uint64_t day;
     for (size_t row = 0; row < rows; row++) {
         memcpy(&day, bytes + row * sizeof day, sizeof day);
-        dates[row] = day < INT32_MIN || day > INT32_MAX - UNIX_EPOCH ? FOTS_NO_VALUE :
-            (int32_t)day + UNIX_EPOCH;
+        day += UNIX_EPOCH + half;
+        dates[row] = day >> 32 ? FOTS_NO_VALUE : (int32_t)((int64_t)day - (int64_t)half);
     }
 }
 

@@ -22,7 +22,7 @@ _LIMITS = {"B": (0, 2**8 - 1), "H": (0, 2**16 - 1), "i": (-2**31, 2**31 - 1),
 
 def _whole(values: Any, unit: str) -> Any:
     """Returns the days or seconds of an array of datetime64 or timedelta64 in 64 bits."""
-    kind = values.dtype.name.partition("[")[0]
+    kind = "datetime64" if values.dtype.kind == "M" else "timedelta64"
     found = values.astype(f"{kind}[{unit}]", copy=False)
     if found is not values and not ((found == values) | (found != found)).all():
         raise ValueError(f"expected whole {_WORDS[unit]} in a column of {values.dtype}; "
