@@ -5,13 +5,8 @@
 /* These are in the limited API from 3.11 on. Python 3.10 has the same ones, with the same
  * struct. */
 typedef struct {
-    void *buf;
-    PyObject *obj;
-    Py_ssize_t len, itemsize;
-    int readonly, ndim;
-    char *format;
-    Py_ssize_t *shape, *strides, *suboffsets;
-    void *internal;
+    void *buf; PyObject *obj; Py_ssize_t len, itemsize; int readonly, ndim; char *format;
+    Py_ssize_t *shape, *strides, *suboffsets; void *internal;
 } Py_buffer;
 int PyObject_GetBuffer(PyObject *object, Py_buffer *view, int flags);
 void PyBuffer_Release(Py_buffer *view);
