@@ -8,8 +8,8 @@ from typing import Any, Callable, ClassVar, SupportsIndex, overload
 
 from typing_extensions import Self
 
-from .conversions import _DateMembers, _DateTimeMembers, _DurationMembers, _MomentMembers
-from .conversions import _OffsetMembers, _PlainMembers, _TimeMembers, _ValueMembers
+from .conversions import _ClockMembers, _DateMembers, _DateTimeMembers, _DurationMembers
+from .conversions import _MomentMembers, _OffsetMembers, _PlainMembers, _TimeMembers, _ValueMembers
 from .enums import Convention, DayCount, Month, Period, Weekday, YearFraction
 from .formats import Format
 from .zones import _ZoneMembers
@@ -134,7 +134,7 @@ class Date(_Value, _DateParts, _DateMembers, _Moved, _Formatted):
     def on_or_{after,before}(self, weekday: Weekday) -> Date | None:
         "Returns the {first day from this one on,last day up to this one} with a Weekday, or None."
 
-class Time(_Value, _TimeParts, _TimeMembers, _Formatted):
+class Time(_Value, _TimeParts, _TimeMembers, _ClockMembers, _Formatted):
     """Time(hour=0, minute=0, second=0, nanosecond=0): a time of day, from MIDNIGHT to MAX,
     23:59:59.999999999.
 
@@ -156,8 +156,6 @@ class Time(_Value, _TimeParts, _TimeMembers, _Formatted):
     def {parse,fromisoformat}(text: str) -> Time:
         """Parses a time, such as 9:05, 09:05:00 or 9:05:00.25, or raises ParseError or
         ComponentRange."""
-    def isoformat(self) -> str:
-        "Returns the time like datetime.time, with nine digits if there are nanoseconds."
     def replace(
         self, *, hour: Int | None = None, minute: Int | None = None, second: Int | None = None,
         nanosecond: Int | None = None
@@ -233,7 +231,9 @@ class SignedDuration(_Value, _DurationMembers, _Moved):
     def saturating_mul(self, number: Fits) -> SignedDuration:
         "Returns the product with an int of 32 bits, or the nearest limit."
 
-class _DateTime(_Value, _DateParts, _TimeParts, _DateTimeMembers, _Moved, _Formatted):
+class _DateTime(
+    _Value, _DateParts, _TimeParts, _DateTimeMembers, _ClockMembers, _Moved, _Formatted
+):
     def __add__(self, other: SignedDuration | timedelta) -> Self: ...
     def __radd__(self, other: timedelta) -> Self: ...
     @overload

@@ -12,6 +12,7 @@ from typing import Any, Callable, Iterable, SupportsIndex
 from . import _core
 from ._core import Date, OffsetDateTime, PlainDateTime, SignedDuration, Time, UtcOffset
 from .errors import ParseError, check
+from .formats import Format
 from .schedules import Days
 
 
@@ -192,6 +193,28 @@ class _DateMembers:
 Time.MIDNIGHT = Time()
 Time.MAX = Time(23, 59, 59, 999999999)
 UtcOffset.UTC = UtcOffset()
+_OFFSET = Format("%::z")
+# The formats of `str` for a whole second, and for others.
+_CLOCKS: dict[type, tuple[Format, Format]] = {
+    kind: (Format(f"{date}%-H:%M:%S.0{offset}"), Format(f"{date}%-H:%M:%S%.f{offset}"))
+    for kind, date, offset in (
+        (Time, "", ""), (PlainDateTime, "%F ", ""), (OffsetDateTime, "%F ", " %::z"))}
+
+
+@_adds_to(Time, PlainDateTime, OffsetDateTime)
+class _ClockMembers:
+    def __str__(self: Any) -> str:
+        return self.strftime(_CLOCKS[type(self)][self.nanosecond > 0])
+
+    __repr__ = __str__
+
+    def isoformat(self: Any) -> str:
+        """Returns the text that `datetime` has, with nine digits if there are nanoseconds."""
+        below = self.nanosecond
+        clock = "%T" if not below else "%T.%N" if below % 1000 else "%T.%f"
+        if isinstance(self, OffsetDateTime):
+            clock += "%::z" if self.offset.seconds_past_minute() else "%:z"
+        return self.strftime(clock if isinstance(self, Time) else f"%FT{clock}")
 
 
 @_adds_to(Time)
@@ -227,6 +250,11 @@ class _OffsetMembers:
         """Converts to a `datetime.timezone`, or raises `ValueError` from 24 hours on."""
         return datetime.timezone(datetime.timedelta(seconds=self.whole_seconds()))
 
+    def __str__(self: Any) -> str:
+        return self.strftime(_OFFSET)
+
+    __repr__ = __str__
+
     @staticmethod
     def parse(text: str) -> UtcOffset:
         """Parses an offset, such as Z, +01:00 or -05:30:00, or raises `ParseError` or
@@ -245,12 +273,6 @@ OffsetDateTime.UNIX_EPOCH = OffsetDateTime(Date(1970, 1, 1), Time.MIDNIGHT, UtcO
 
 @_adds_to(PlainDateTime, OffsetDateTime)
 class _DateTimeMembers:
-    def __str__(self: Any) -> str:
-        offset = f" {self.offset}" if isinstance(self, OffsetDateTime) else ""
-        return f"{self.date()} {self.time()}{offset}"
-
-    __repr__ = __str__
-
     def replace(self: Any, *, year: SupportsIndex | None = None, month: SupportsIndex | None = None,
                 day: SupportsIndex | None = None, hour: SupportsIndex | None = None,
                 minute: SupportsIndex | None = None, second: SupportsIndex | None = None,
@@ -259,12 +281,6 @@ class _DateTimeMembers:
         date = self.date().replace(year=year, month=month, day=day)
         time = self.time().replace(hour=hour, minute=minute, second=second, nanosecond=nanosecond)
         return self.replace_date(date).replace_time(time)
-
-    def isoformat(self: Any) -> str:
-        """Returns the text of `datetime.isoformat`, with nine digits if there are nanoseconds."""
-        offset = str(self.offset) if isinstance(self, OffsetDateTime) else ""
-        offset = offset.removesuffix(":00") if len(offset) == 9 else offset
-        return f"{self.date()}T{self.time().isoformat()}{offset}"
 
 
 @_adds_to(PlainDateTime)
