@@ -2,13 +2,12 @@
 
 /* ---- order and hashes */
 
-/* Py_RETURN_RICHCOMPARE of 3.12 and later adds no reference, which earlier versions need. */
 static PyObject *compared(int64_t one, int64_t other, int operation)
 {
     int is_true = operation == Py_LT ? one < other : operation == Py_LE ? one <= other :
         operation == Py_EQ ? one == other : operation == Py_NE ? one != other :
         operation == Py_GT ? one > other : one >= other;
-    return new_reference(is_true ? Py_True : Py_False);
+    return PyBool_FromLong(is_true);
 }
 
 #define COMPARE(name, value, other_value) \

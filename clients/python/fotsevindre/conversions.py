@@ -32,12 +32,6 @@ def _adds_to(*kinds: type) -> Callable[[type], None]:
     return add
 
 
-def _cut(number: int, divisor: int) -> tuple[int, int]:
-    """Returns the quotient truncated toward zero, and what is left of the number, with its sign."""
-    quotient, rest = divmod(abs(number), divisor)
-    return (quotient, rest) if number >= 0 else (-quotient, -rest)
-
-
 def _whole_microseconds(nanoseconds: int, name: str) -> int:
     if nanoseconds % 1000:
         raise ValueError(
@@ -110,7 +104,9 @@ class _DurationMembers:
     @staticmethod
     def nanoseconds_i128(nanoseconds: SupportsIndex) -> SignedDuration:
         """Creates a duration of nanoseconds, from `MIN` to `MAX`."""
-        return SignedDuration.new(*_cut(operator.index(nanoseconds), 10**9))
+        sign = -1 if operator.index(nanoseconds) < 0 else 1
+        seconds, rest = divmod(abs(operator.index(nanoseconds)), 10**9)
+        return SignedDuration.new(sign * seconds, sign * rest)
 
     def whole_nanoseconds(self: Any) -> int:
         """Returns the nanoseconds, as an int of any size."""
@@ -143,7 +139,7 @@ class _DurationMembers:
     def from_timedelta(delta: datetime.timedelta) -> SignedDuration:
         """Converts a `datetime.timedelta`, exactly."""
         microseconds = check(delta, datetime.timedelta) // datetime.timedelta(microseconds=1)
-        seconds, rest = _cut(microseconds, 10**6)
+        seconds, rest = divmod(microseconds, 10**6)
         return SignedDuration.new(seconds, rest * 1000 + getattr(delta, "nanoseconds", 0))
 
     def to_timedelta(self: Any) -> datetime.timedelta:
@@ -326,7 +322,7 @@ class _MomentMembers:
     def from_unix_timestamp_nanos(timestamp: SupportsIndex) -> OffsetDateTime:
         """Creates the date-time at UTC of Unix nanoseconds, or raises `ComponentRange` as
         `timestamp`."""
-        seconds, rest = _cut(operator.index(timestamp), 10**9)
+        seconds, rest = divmod(operator.index(timestamp), 10**9)
         seconds = max(-2**62, min(seconds, 2**62))
         return OffsetDateTime.from_unix_duration(SignedDuration.new(seconds, rest))
 
