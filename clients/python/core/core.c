@@ -58,11 +58,7 @@ static inline const State *state_of_type(PyTypeObject *type) { return PyType_Get
 static inline const State *state_of(PyObject *self) { return state_of_type(Py_TYPE(self)); }
 static inline const State *state_of_module(PyObject *module) { return PyModule_GetState(module); }
 
-static inline PyObject *new_reference(PyObject *object)
-{
-    Py_INCREF(object);
-    return object;
-}
+#define new_reference(object) Py_NewRef(object)
 #define UNUSED(name) PyObject *Py_UNUSED(name)
 
 /* ---- arguments: each function converts one, or returns 0 after it has raised an error */

@@ -122,7 +122,7 @@ static PyObject *value_subtract(PyObject *self, PyObject *other)
 {
     PyTypeObject *type = Py_TYPE(self);
     const State *state;
-    if (type != Py_TYPE(other)) {
+    if (type != Py_TYPE(other) || type == state_of(self)->duration) {
         return moved(self, other, 1);
     }
     state = state_of(self);
@@ -132,8 +132,7 @@ static PyObject *value_subtract(PyObject *self, PyObject *other)
     if (type == state->time) {
         return of_duration(state, fots_time_difference(TIME(self), TIME(other)));
     }
-    return type == state->duration ? moved(self, other, 1) :
-        of_duration(state, fots_moment_duration_since(MOMENT(self), MOMENT(other)));
+    return of_duration(state, fots_moment_duration_since(MOMENT(self), MOMENT(other)));
 }
 
 /* ---- operators of durations */

@@ -92,14 +92,12 @@ class Date(_Value, _DateParts, _DateMembers, _Moved, _Formatted):
         "Returns the n-th day, from 1, with a Weekday in a year and month."
     def last_weekday_of_month(year: Int, month: Int, weekday: Weekday) -> Date:
         "Returns the last day with a Weekday in a year and month."
-    def parse(text: str) -> Date:
+    def {parse,fromisoformat}(text: str) -> Date:
         "Parses 2024-02-29, 2024-060 or 2024-W09-4, or raises ParseError or ComponentRange."
-    def fromisoformat(text: str) -> Date: "Parses a text, like parse."
     def parse_julian_day(text: str) -> Date: "Parses a Julian day, such as J2460370."
     quarter: int = "The quarter of the year, from 1 to 4."
     def {isoformat,calendar_text}(self) -> str: "Returns the date, such as 2024-02-29, like str."
-    def {ordinal,week}_text(self) -> str:
-        "Returns the {ordinal,ISO week} date, such as 2024-{060,W09-4}."
+    def {ordinal,week}_text(self) -> str: "Returns the {} date, such as 2024-{060,W09-4}."
     def julian_text(self) -> str: "Returns the Julian day, such as J2460370."
     def {next,previous}_day(self) -> Date | None: "Returns the {} day, None {after MAX,before MIN}."
     def {next,prev}_occurrence(self, weekday: Weekday) -> Date:
@@ -179,12 +177,10 @@ class UtcOffset(_Value, _OffsetMembers, _Formatted):
     def from_whole_seconds(seconds: Int) -> UtcOffset:
         "Creates the offset of seconds, from -93599 to 93599."
     def as_hms(self) -> tuple[int, int, int]: "Returns hours, minutes and seconds, with one sign."
-    def whole_{hours,minutes}(self) -> int: "Returns the whole {}, truncated toward zero."
-    def whole_seconds(self) -> int: "Returns the seconds."
+    def whole_{hours,minutes,seconds}(self) -> int: "Returns the whole {}, truncated toward zero."
     def {minutes_past_hour,seconds_past_minute}(self) -> int:
         "Returns the {minutes,seconds} past the whole {hours,minutes}, from -59 to 59."
-    def is_utc(self) -> bool: "Returns whether the offset is zero."
-    def is_{positive,negative}(self) -> bool: "Returns whether the offset is {east,west} of UTC."
+    def is_{utc,positive,negative}(self) -> bool: "Returns whether it is {0,positive,negative}."
 
 class _Unit:
     def __get__(self, instance: None, owner: Any) -> Callable[[SupportsIndex], SignedDuration]: ...
