@@ -27,9 +27,8 @@ build_over_ci() (
     for one in $(uses_of "$name"); do
         set -- "$@" --extern "$one=$folder/$one/out/rlib/$one.rlib"
     done
-    jobs=1
-    [ "$(sed -n 's/^MemAvailable: *\([0-9]*\) kB/\1/p' /proc/meminfo)" -lt 8000000 ] || jobs=2
-    set -- --crate-name "$name" --extern "std=$kit/rlibs/std.rlib" -L "dependency=$kit/rlibs" "$@" --links "$name=" --jobs "$jobs" \
+    # Two jobs take a fifth more processor time.
+    set -- --crate-name "$name" --extern "std=$kit/rlibs/std.rlib" -L "dependency=$kit/rlibs" "$@" --links "$name=" --jobs 1 \
         --antt-project "$kit/rattle/logic/antt-project.json" --logic-built "$kit/logic_built" --incremental out/incremental_ci \
         --toolchain "$kit/toolchain" --backend llvm
     # A build by rt locks the folder, too.
