@@ -104,7 +104,7 @@ typedef struct fots_workdays {
 
 /* The maximum number of items of a format, and the bytes that the text of each takes at most. */
 #define FOTS_MAX_ITEMS 64
-#define FOTS_MAX_ITEM_LENGTH 10
+#define FOTS_MAX_ITEM_LENGTH 15
 
 /* An item of a format, by its kind and a number, as fots_format_new makes it. */
 typedef struct fots_format_item {

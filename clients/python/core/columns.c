@@ -5,13 +5,8 @@
 /* These are in the limited API from 3.11 on. Python 3.10 has the same ones, with the same
  * struct. */
 typedef struct {
-    void *buf;
-    PyObject *obj;
-    Py_ssize_t len, itemsize;
-    int readonly, ndim;
-    char *format;
-    Py_ssize_t *shape, *strides, *suboffsets;
-    void *internal;
+    void *buf; PyObject *obj; Py_ssize_t len, itemsize; int readonly, ndim; char *format;
+    Py_ssize_t *shape, *strides, *suboffsets; void *internal;
 } Py_buffer;
 int PyObject_GetBuffer(PyObject *object, Py_buffer *view, int flags);
 void PyBuffer_Release(Py_buffer *view);
@@ -54,11 +49,13 @@ static size_t size_of(char letter)
 
 static void read_days(int32_t *dates, const char *bytes, size_t rows)
 {
-    int64_t day;
+    /* A date plus 2^31 has 32 bits. */
+    const uint64_t half = UINT64_C(1) << 31;
+    uint64_t day;
     for (size_t row = 0; row < rows; row++) {
         memcpy(&day, bytes + row * sizeof day, sizeof day);
-        dates[row] = day < INT32_MIN || day > INT32_MAX - UNIX_EPOCH ? FOTS_NO_VALUE :
-            (int32_t)day + UNIX_EPOCH;
+        day += UNIX_EPOCH + half;
+        dates[row] = day >> 32 ? FOTS_NO_VALUE : (int32_t)((int64_t)day - (int64_t)half);
     }
 }
 

@@ -58,11 +58,7 @@ static inline const State *state_of_type(PyTypeObject *type) { return PyType_Get
 static inline const State *state_of(PyObject *self) { return state_of_type(Py_TYPE(self)); }
 static inline const State *state_of_module(PyObject *module) { return PyModule_GetState(module); }
 
-static inline PyObject *new_reference(PyObject *object)
-{
-    Py_INCREF(object);
-    return object;
-}
+#define new_reference(object) Py_NewRef(object)
 #define UNUSED(name) PyObject *Py_UNUSED(name)
 
 /* ---- arguments: each function converts one, or returns 0 after it has raised an error */
@@ -125,26 +121,14 @@ static int to_weekday(const State *state, PyObject *object, uint32_t *number)
     return to_member(state->weekday, object, number) && ++*number;
 }
 
-/* Converts an int, and sets overflow to its sign if 64 bits don't hold it. */
-static int to_wide(PyObject *object, int64_t *number, int *overflow)
-{
-    PyObject *index = PyLong_Check(object) ? new_reference(object) : PyNumber_Index(object);
-    *overflow = 0;
-    if (!index) {
-        return 0;
-    }
-    *number = PyLong_AsLongLongAndOverflow(index, overflow);
-    Py_DECREF(index);
-    return *number != -1 || *overflow || !PyErr_Occurred();
-}
-
 /* Converts an int to the nearest number from minimum to maximum. If it must fit, others raise
  * OverflowError. */
 static int to_number(PyObject *object, int must_fit, int64_t minimum, int64_t maximum,
     int64_t *number)
 {
     int overflow;
-    if (!to_wide(object, number, &overflow)) {
+    *number = PyLong_AsLongLongAndOverflow(object, &overflow);
+    if (*number == -1 && !overflow && PyErr_Occurred()) {
         return 0;
     }
     if (must_fit && (overflow || *number < minimum || *number > maximum)) {

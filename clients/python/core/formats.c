@@ -1,22 +1,14 @@
 /* Formats, for the file formats.py. A format is the bytes of its struct. The library checks each of
  * its numbers. */
 
-/* Returns the number of characters before the one that has the byte at a position. */
-static size_t characters_before(const Text *text, size_t position)
-{
-    size_t characters = 0, index;
-    for (index = 0; index <= position && index < text->length; index++) {
-        characters += ((unsigned char)text->start[index] & 0xC0) != 0x80;
-    }
-    return index <= position ? characters : characters - 1;
-}
-
 /* Raises the error of a text, and releases that. The position of a byte becomes that of its
  * character. For FOTS_CONTRADICTION there is a status in its place. */
 static PyObject *raise_text_error(const State *state, int32_t status, size_t position, Text *text)
 {
     if (status != FOTS_CONTRADICTION && position <= text->length) {
-        position = characters_before(text, position);
+        PyObject *front = PyUnicode_DecodeUTF8(text->start, (Py_ssize_t)position, "ignore");
+        position = front ? (size_t)PyUnicode_GetLength(front) : position;
+        Py_XDECREF(front);
     }
     Py_XDECREF(text->bytes);
     return raise_position(state, status, position, 0);

@@ -2,13 +2,12 @@
 
 /* ---- order and hashes */
 
-/* Py_RETURN_RICHCOMPARE of 3.12 and later adds no reference, which earlier versions need. */
 static PyObject *compared(int64_t one, int64_t other, int operation)
 {
     int is_true = operation == Py_LT ? one < other : operation == Py_LE ? one <= other :
         operation == Py_EQ ? one == other : operation == Py_NE ? one != other :
         operation == Py_GT ? one > other : one >= other;
-    return new_reference(is_true ? Py_True : Py_False);
+    return PyBool_FromLong(is_true);
 }
 
 #define COMPARE(name, value, other_value) \
@@ -123,7 +122,7 @@ static PyObject *value_subtract(PyObject *self, PyObject *other)
 {
     PyTypeObject *type = Py_TYPE(self);
     const State *state;
-    if (type != Py_TYPE(other)) {
+    if (type != Py_TYPE(other) || type == state_of(self)->duration) {
         return moved(self, other, 1);
     }
     state = state_of(self);
@@ -133,8 +132,7 @@ static PyObject *value_subtract(PyObject *self, PyObject *other)
     if (type == state->time) {
         return of_duration(state, fots_time_difference(TIME(self), TIME(other)));
     }
-    return type == state->duration ? moved(self, other, 1) :
-        of_duration(state, fots_moment_duration_since(MOMENT(self), MOMENT(other)));
+    return of_duration(state, fots_moment_duration_since(MOMENT(self), MOMENT(other)));
 }
 
 /* ---- operators of durations */

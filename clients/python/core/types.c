@@ -10,52 +10,12 @@ static void value_free(PyObject *self)
 
 static int32_t date_to_julian_day(fots_date date) { return date.julian_day; }
 
-/* ---- times */
-
-/* Prints the time with nine digits below the second, and returns the length. */
-static int print_time(PyObject *self, char *bytes, size_t size, const char *format)
-{
-    fots_hms_nano_result clock = fots_time_as_hms_nano(TIME(self));
-    return snprintf(bytes, size, format, (unsigned)clock.hour, (unsigned)clock.minute,
-        (unsigned)clock.second, (unsigned)clock.nanosecond);
-}
-
-/* Returns the text, such as 9:05:00.12. */
-static PyObject *time_string(PyObject *self)
-{
-    char bytes[64];
-    int length = print_time(self, bytes, sizeof bytes, "%u:%02u:%02u.%09u");
-    while (bytes[length - 1] == '0' && bytes[length - 2] != '.') {
-        length--;
-    }
-    return PyUnicode_FromStringAndSize(bytes, length);
-}
-
-static PyObject *time_isoformat(PyObject *self, UNUSED(none))
-{
-    char bytes[64];
-    int length = print_time(self, bytes, sizeof bytes, "%02u:%02u:%02u.%09u");
-    uint32_t nanosecond = fots_time_nanosecond(TIME(self)).number;
-    length -= !nanosecond ? 10 : nanosecond % 1000 ? 0 : 3;
-    return PyUnicode_FromStringAndSize(bytes, length);
-}
-
 /* ---- offsets */
 
 static int32_t offset_whole_seconds(fots_offset offset) { return offset.seconds; }
 static uint32_t offset_is_utc(fots_offset offset) { return offset.seconds == 0; }
 static uint32_t offset_is_positive(fots_offset offset) { return offset.seconds > 0; }
 static uint32_t offset_is_negative(fots_offset offset) { return offset.seconds < 0; }
-
-/* Returns the text, such as -05:30:00. */
-static PyObject *offset_string(PyObject *self)
-{
-    int seconds = OFFSET(self).seconds, size = abs(seconds);
-    char bytes[32];
-    int length = snprintf(bytes, sizeof bytes, "%c%02d:%02d:%02d", seconds < 0 ? '-' : '+',
-        size / 3600, size / 60 % 60, size % 60);
-    return PyUnicode_FromStringAndSize(bytes, length);
-}
 
 /* ---- durations */
 

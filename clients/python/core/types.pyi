@@ -8,8 +8,8 @@ from typing import Any, Callable, ClassVar, SupportsIndex, overload
 
 from typing_extensions import Self
 
-from .conversions import _DateMembers, _DateTimeMembers, _DurationMembers, _MomentMembers
-from .conversions import _OffsetMembers, _PlainMembers, _TimeMembers, _ValueMembers
+from .conversions import _ClockMembers, _DateMembers, _DateTimeMembers, _DurationMembers
+from .conversions import _MomentMembers, _OffsetMembers, _PlainMembers, _TimeMembers, _ValueMembers
 from .enums import Convention, DayCount, Month, Period, Weekday, YearFraction
 from .formats import Format
 from .zones import _ZoneMembers
@@ -92,14 +92,12 @@ class Date(_Value, _DateParts, _DateMembers, _Moved, _Formatted):
         "Returns the n-th day, from 1, with a Weekday in a year and month."
     def last_weekday_of_month(year: Int, month: Int, weekday: Weekday) -> Date:
         "Returns the last day with a Weekday in a year and month."
-    def parse(text: str) -> Date:
+    def {parse,fromisoformat}(text: str) -> Date:
         "Parses 2024-02-29, 2024-060 or 2024-W09-4, or raises ParseError or ComponentRange."
-    def fromisoformat(text: str) -> Date: "Parses a text, like parse."
     def parse_julian_day(text: str) -> Date: "Parses a Julian day, such as J2460370."
     quarter: int = "The quarter of the year, from 1 to 4."
     def {isoformat,calendar_text}(self) -> str: "Returns the date, such as 2024-02-29, like str."
-    def {ordinal,week}_text(self) -> str:
-        "Returns the {ordinal,ISO week} date, such as 2024-{060,W09-4}."
+    def {ordinal,week}_text(self) -> str: "Returns the {} date, such as 2024-{060,W09-4}."
     def julian_text(self) -> str: "Returns the Julian day, such as J2460370."
     def {next,previous}_day(self) -> Date | None: "Returns the {} day, None {after MAX,before MIN}."
     def {next,prev}_occurrence(self, weekday: Weekday) -> Date:
@@ -134,7 +132,7 @@ class Date(_Value, _DateParts, _DateMembers, _Moved, _Formatted):
     def on_or_{after,before}(self, weekday: Weekday) -> Date | None:
         "Returns the {first day from this one on,last day up to this one} with a Weekday, or None."
 
-class Time(_Value, _TimeParts, _TimeMembers, _Formatted):
+class Time(_Value, _TimeParts, _TimeMembers, _ClockMembers, _Formatted):
     """Time(hour=0, minute=0, second=0, nanosecond=0): a time of day, from MIDNIGHT to MAX,
     23:59:59.999999999.
 
@@ -156,8 +154,6 @@ class Time(_Value, _TimeParts, _TimeMembers, _Formatted):
     def {parse,fromisoformat}(text: str) -> Time:
         """Parses a time, such as 9:05, 09:05:00 or 9:05:00.25, or raises ParseError or
         ComponentRange."""
-    def isoformat(self) -> str:
-        "Returns the time like datetime.time, with nine digits if there are nanoseconds."
     def replace(
         self, *, hour: Int | None = None, minute: Int | None = None, second: Int | None = None,
         nanosecond: Int | None = None
@@ -181,12 +177,10 @@ class UtcOffset(_Value, _OffsetMembers, _Formatted):
     def from_whole_seconds(seconds: Int) -> UtcOffset:
         "Creates the offset of seconds, from -93599 to 93599."
     def as_hms(self) -> tuple[int, int, int]: "Returns hours, minutes and seconds, with one sign."
-    def whole_{hours,minutes}(self) -> int: "Returns the whole {}, truncated toward zero."
-    def whole_seconds(self) -> int: "Returns the seconds."
+    def whole_{hours,minutes,seconds}(self) -> int: "Returns the whole {}, truncated toward zero."
     def {minutes_past_hour,seconds_past_minute}(self) -> int:
         "Returns the {minutes,seconds} past the whole {hours,minutes}, from -59 to 59."
-    def is_utc(self) -> bool: "Returns whether the offset is zero."
-    def is_{positive,negative}(self) -> bool: "Returns whether the offset is {east,west} of UTC."
+    def is_{utc,positive,negative}(self) -> bool: "Returns whether it is {0,positive,negative}."
 
 class _Unit:
     def __get__(self, instance: None, owner: Any) -> Callable[[SupportsIndex], SignedDuration]: ...
@@ -233,7 +227,9 @@ class SignedDuration(_Value, _DurationMembers, _Moved):
     def saturating_mul(self, number: Fits) -> SignedDuration:
         "Returns the product with an int of 32 bits, or the nearest limit."
 
-class _DateTime(_Value, _DateParts, _TimeParts, _DateTimeMembers, _Moved, _Formatted):
+class _DateTime(
+    _Value, _DateParts, _TimeParts, _DateTimeMembers, _ClockMembers, _Moved, _Formatted
+):
     def __add__(self, other: SignedDuration | timedelta) -> Self: ...
     def __radd__(self, other: timedelta) -> Self: ...
     @overload

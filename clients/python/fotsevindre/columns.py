@@ -22,7 +22,7 @@ _LIMITS = {"B": (0, 2**8 - 1), "H": (0, 2**16 - 1), "i": (-2**31, 2**31 - 1),
 
 def _whole(values: Any, unit: str) -> Any:
     """Returns the days or seconds of an array of datetime64 or timedelta64 in 64 bits."""
-    kind = values.dtype.name.partition("[")[0]
+    kind = "datetime64" if values.dtype.kind == "M" else "timedelta64"
     found = values.astype(f"{kind}[{unit}]", copy=False)
     if found is not values and not ((found == values) | (found != found)).all():
         raise ValueError(f"expected whole {_WORDS[unit]} in a column of {values.dtype}; "
@@ -60,14 +60,16 @@ def _column(values: Any, code: str, unit: str) -> Any:
     if isinstance(values, (list, tuple)):
         return array.array(code, map(_number, values) if unit == "D" else values)
     is_array = hasattr(values, "dtype")
-    view = memoryview(_of_array(values, code, unit) if is_array else values)
+    view = _of_array(values, code, unit) if is_array else memoryview(values)
     if view.ndim != 1:
         raise TypeError(f"expected a column of one dimension, not {view.ndim}")
+    if is_array:
+        return view
     found = view.format.lstrip("@=" + ("<" if sys.byteorder == "little" else ">"))
     if found not in tuple("bhilqBHILQ"):
         raise TypeError(f"expected a column of integers, not of format '{view.format}'")
     is_same = found.islower() == code.islower() and view.itemsize == array.array(code).itemsize
-    if is_array or is_same and view.c_contiguous:
+    if is_same and view.c_contiguous:
         return view
     # array raises OverflowError if a number does not fit.
     return array.array(code, view.tolist())
@@ -122,16 +124,17 @@ def call(kind: Callable[..., _R], name: str, reads: str, writes: str,
          extra: Workdays | bytes | tuple[Any, ...] | None, **columns: Any) -> _R:
     """Calls C for columns by their names, with numbers in these letters and working days, a format
     or a zone, and makes the result."""
-    if all(map(_is_scalar, columns.values())):
+    single = [one for one, given in columns.items() if _is_scalar(given)]
+    if len(single) == len(columns):
         raise TypeError("expected a column; call a method of Date or Zone for one value")
     like, reads, writes = _Like(columns), reads.replace("W", "B"), writes.replace("W", "B")
     found = {one: _column(columns[one], code, _UNITS.get(one, ""))
-        for one, code in zip(columns, reads) if one == "bounds" or not _is_scalar(columns[one])}
+        for one, code in zip(columns, reads) if one == "bounds" or one not in single}
     rows = len(found["bounds"]) - 1 if "bounds" in found else len(next(iter(found.values())))
     room = {"dates_calendar_texts": 13, "moments_texts": 38}.get(name, 0)
     if name == "dates_format" and isinstance(extra, bytes):
-        # 10 bytes for each item, of which the number comes first.
-        room = 10 * max(1, int.from_bytes(extra[:4], sys.byteorder))
+        # 15 bytes for each item, of which the number comes first.
+        room = 15 * max(1, int.from_bytes(extra[:4], sys.byteorder))
     if rows < 0:
         raise ValueError("no bounds; expected one more than there are texts")
     if rows * room > 2**31 - 1:

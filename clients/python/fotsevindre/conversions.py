@@ -12,6 +12,7 @@ from typing import Any, Callable, Iterable, SupportsIndex
 from . import _core
 from ._core import Date, OffsetDateTime, PlainDateTime, SignedDuration, Time, UtcOffset
 from .errors import ParseError, check
+from .formats import Format
 from .schedules import Days
 
 
@@ -29,12 +30,6 @@ def _adds_to(*kinds: type) -> Callable[[type], None]:
                     setattr(kind, name, member)
 
     return add
-
-
-def _cut(number: int, divisor: int) -> tuple[int, int]:
-    """Returns the quotient truncated toward zero, and what is left of the number, with its sign."""
-    quotient, rest = divmod(abs(number), divisor)
-    return (quotient, rest) if number >= 0 else (-quotient, -rest)
 
 
 def _whole_microseconds(nanoseconds: int, name: str) -> int:
@@ -109,7 +104,9 @@ class _DurationMembers:
     @staticmethod
     def nanoseconds_i128(nanoseconds: SupportsIndex) -> SignedDuration:
         """Creates a duration of nanoseconds, from `MIN` to `MAX`."""
-        return SignedDuration.new(*_cut(operator.index(nanoseconds), 10**9))
+        sign = -1 if operator.index(nanoseconds) < 0 else 1
+        seconds, rest = divmod(abs(operator.index(nanoseconds)), 10**9)
+        return SignedDuration.new(sign * seconds, sign * rest)
 
     def whole_nanoseconds(self: Any) -> int:
         """Returns the nanoseconds, as an int of any size."""
@@ -142,7 +139,7 @@ class _DurationMembers:
     def from_timedelta(delta: datetime.timedelta) -> SignedDuration:
         """Converts a `datetime.timedelta`, exactly."""
         microseconds = check(delta, datetime.timedelta) // datetime.timedelta(microseconds=1)
-        seconds, rest = _cut(microseconds, 10**6)
+        seconds, rest = divmod(microseconds, 10**6)
         return SignedDuration.new(seconds, rest * 1000 + getattr(delta, "nanoseconds", 0))
 
     def to_timedelta(self: Any) -> datetime.timedelta:
@@ -192,6 +189,28 @@ class _DateMembers:
 Time.MIDNIGHT = Time()
 Time.MAX = Time(23, 59, 59, 999999999)
 UtcOffset.UTC = UtcOffset()
+_OFFSET = Format("%::z")
+# The formats of `str` for a whole second, and for others.
+_CLOCKS: dict[type, tuple[Format, Format]] = {
+    kind: (Format(f"{date}%-H:%M:%S.0{offset}"), Format(f"{date}%-H:%M:%S%.f{offset}"))
+    for kind, date, offset in (
+        (Time, "", ""), (PlainDateTime, "%F ", ""), (OffsetDateTime, "%F ", " %::z"))}
+
+
+@_adds_to(Time, PlainDateTime, OffsetDateTime)
+class _ClockMembers:
+    def __str__(self: Any) -> str:
+        return self.strftime(_CLOCKS[type(self)][self.nanosecond > 0])
+
+    __repr__ = __str__
+
+    def isoformat(self: Any) -> str:
+        """Returns the text that `datetime` has, with nine digits if there are nanoseconds."""
+        below = self.nanosecond
+        clock = "%T" if not below else "%T.%N" if below % 1000 else "%T.%f"
+        if isinstance(self, OffsetDateTime):
+            clock += "%::z" if self.offset.seconds_past_minute() else "%:z"
+        return self.strftime(clock if isinstance(self, Time) else f"%FT{clock}")
 
 
 @_adds_to(Time)
@@ -227,6 +246,11 @@ class _OffsetMembers:
         """Converts to a `datetime.timezone`, or raises `ValueError` from 24 hours on."""
         return datetime.timezone(datetime.timedelta(seconds=self.whole_seconds()))
 
+    def __str__(self: Any) -> str:
+        return self.strftime(_OFFSET)
+
+    __repr__ = __str__
+
     @staticmethod
     def parse(text: str) -> UtcOffset:
         """Parses an offset, such as Z, +01:00 or -05:30:00, or raises `ParseError` or
@@ -245,12 +269,6 @@ OffsetDateTime.UNIX_EPOCH = OffsetDateTime(Date(1970, 1, 1), Time.MIDNIGHT, UtcO
 
 @_adds_to(PlainDateTime, OffsetDateTime)
 class _DateTimeMembers:
-    def __str__(self: Any) -> str:
-        offset = f" {self.offset}" if isinstance(self, OffsetDateTime) else ""
-        return f"{self.date()} {self.time()}{offset}"
-
-    __repr__ = __str__
-
     def replace(self: Any, *, year: SupportsIndex | None = None, month: SupportsIndex | None = None,
                 day: SupportsIndex | None = None, hour: SupportsIndex | None = None,
                 minute: SupportsIndex | None = None, second: SupportsIndex | None = None,
@@ -259,12 +277,6 @@ class _DateTimeMembers:
         date = self.date().replace(year=year, month=month, day=day)
         time = self.time().replace(hour=hour, minute=minute, second=second, nanosecond=nanosecond)
         return self.replace_date(date).replace_time(time)
-
-    def isoformat(self: Any) -> str:
-        """Returns the text of `datetime.isoformat`, with nine digits if there are nanoseconds."""
-        offset = str(self.offset) if isinstance(self, OffsetDateTime) else ""
-        offset = offset.removesuffix(":00") if len(offset) == 9 else offset
-        return f"{self.date()}T{self.time().isoformat()}{offset}"
 
 
 @_adds_to(PlainDateTime)
@@ -310,7 +322,7 @@ class _MomentMembers:
     def from_unix_timestamp_nanos(timestamp: SupportsIndex) -> OffsetDateTime:
         """Creates the date-time at UTC of Unix nanoseconds, or raises `ComponentRange` as
         `timestamp`."""
-        seconds, rest = _cut(operator.index(timestamp), 10**9)
+        seconds, rest = divmod(operator.index(timestamp), 10**9)
         seconds = max(-2**62, min(seconds, 2**62))
         return OffsetDateTime.from_unix_duration(SignedDuration.new(seconds, rest))
 

@@ -36,8 +36,7 @@ class _Cycle(enum.IntEnum):
         kind = type(self)
         return kind(getattr(_core, f"{kind.__name__.lower()}_{name}")(self, n))
 
-    def __str__(self) -> str:
-        return int.__repr__(self)
+    __str__ = int.__repr__
 
     def __repr__(self) -> str:
         return self.name
@@ -108,11 +107,7 @@ YearFraction.__doc__ = "A fraction of a year: what was counted, over what a year
 class Choice(enum.IntEnum):
     """A number with a name, and the text of both is the name, such as Frequency.Daily."""
 
-    def __str__(self) -> str:
-        return f"{type(self).__name__}.{self.name}"
-
-    def __repr__(self) -> str:
-        return str(self)
+    __str__ = __repr__ = enum.Enum.__str__
 
     def __format__(self, specification: str) -> str:
         return format(str(self), specification)

@@ -222,11 +222,12 @@ class Construction(unittest.TestCase):
         except ImportError:
             self.skipTest("no subinterpreters")
         script = """if True:
-            import pickle, fotsevindre
+            import datetime, pickle, fotsevindre
             from fotsevindre import Date, Month, Rule, SignedDuration, Weekday, Workdays, Frequency, ComponentRange
             day = Date(2024, 2, 29)
             assert (str(day + SignedDuration(days=1)), day.month is Month.February, day.weekday()) == ("2024-03-01", True, Weekday.Thursday)
             assert pickle.loads(pickle.dumps([day, Workdays(holidays=[day])])) == [day, Workdays(holidays=[day])]
+            assert day + datetime.timedelta(1) == datetime.timedelta(1) + day == Date(2024, 3, 1)
             assert Rule(day, Frequency.Daily).first_days(2) == [day, day.next_day()] and list(fotsevindre.dates_weekdays([day]).weekdays) == [3]
             assert list(fotsevindre.dates_add_workdays([day], 2, Workdays()).dates) == [2460374]
             try:

@@ -182,7 +182,7 @@ pub const MAX_DATE_LENGTH: usize = 13;
 pub const MAX_MOMENT_LENGTH: usize = 38;
 
 /// The bytes for each item of the format and each row of [`dates_format`].
-pub const MAX_ITEM_LENGTH: usize = 10;
+pub const MAX_ITEM_LENGTH: usize = 15;
 
 /// Parses texts, like [`text::date::parse`](crate::text::date::parse).
 ///

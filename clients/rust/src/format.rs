@@ -5,8 +5,8 @@ use crate::ffi::{self, Answer, CFormat, CFormatPointer, UNSUPPORTED_ITEM};
 use crate::{Date, OffsetDateTime, PlainDateTime, Time, UtcOffset};
 use core::{fmt, str};
 
-/// The maximum bytes of a text: 64 items of 10 bytes.
-const CAPACITY: usize = 640;
+/// The maximum bytes of a text: 64 items of 15 bytes.
+const CAPACITY: usize = 960;
 
 /// A format of texts, such as `%d/%m/%Y`.
 ///

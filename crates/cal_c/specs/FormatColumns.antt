@@ -26,9 +26,9 @@ pub record IsDateByFormatRow (f : FormatParts) (bytes : List ℕ) (from to : ℤ
   pub bounds : (AreBoundsWithin bytes from to → ⊥) → r ≡ date_error bounds_status
   pub read : AreBoundsWithin bytes from to → IsDateByFormat f (bytes_between bytes from to) r
 
--- The bytes of room for each text of a format: 10 for each item, and at least 10.
+-- The bytes of room for each text of a format: 15 for each item, and at least 15.
 abbrev pub room_for_text : FormatParts → ℕ
-room_for_text f = max 1 (min f.length 64) * 10
+room_for_text f = max 1 (min f.length 64) * 15
 
 -- The result of `fots_date_format`.
 pub record IsTextByFormatRow (f : FormatParts) (date : ℤ) (bytes : List ℕ) (status : ℕ) : Type 0 where

@@ -1,6 +1,6 @@
 -- Items that show only a part of a moment print the same text of each moment with this part.
 use Rattle.std.proofs.Common.{◌≡◌, List, [], ◌∷◌, ◌++◌, refl, sym, ap, ◌∙◌, arith, inl, inr}
-use Rattle.std.specs.Prelude.{IsTrue, ◌==◌, ◌||◌, nat_le, codes, if◌then◌else◌}
+use Rattle.std.specs.Prelude.{IsTrue, ◌==◌, ◌||◌, codes, if◌then◌else◌}
 use Rattle.cal_format.specs.declared.item.Item.{Item}
 use Rattle.cal_format.specs.declared.item.Item.TheVariants as item
 use Rattle.cal_format.specs.declared.item.Component.{Component}
@@ -8,7 +8,8 @@ use Rattle.cal_format.specs.declared.item.Component.TheVariants.{Year, Century, 
 use Rattle.cal_format.specs.declared.moment.Moment.{Moment}
 use Rattle.cal_format.specs.Form.{numbered_name}
 use Rattle.cal_format.specs.Moment.{number, width, moment_of_date, moment_of_time, moment_of_offset}
-use Rattle.cal_format.specs.Reading.{index, name_component, is_date, is_time, is_date_item, is_time_item, is_offset_item, are_date_items, are_time_items, are_date_time_items, are_offset_items}
+use Rattle.cal_time.specs.Digits.{decimals}
+use Rattle.cal_format.specs.Reading.{name_component, is_date, is_time, is_offset, is_date_item, is_time_item, is_offset_item, are_date_items, are_time_items, are_date_time_items, are_offset_items}
 use Rattle.cal_format.specs.Scanning.{IsHeld, AreHeld}
 use Rattle.cal_format.specs.Text.{sign, padded, fraction_text, item_text, text_of}
 use Rattle.cal_format.proofs.Apart.{both_tests, either_test}
@@ -46,7 +47,7 @@ time-alike Microsecond v m e h = record { number_is = ap (λ x. number Microseco
 time-alike Nanosecond v m e h = record { number_is = ap (λ x. number Nanosecond (moment_of_time x)) e; sign_is = ap (λ x. sign Nanosecond (moment_of_time x)) e }
 time-alike _ v m e h = cc
 
-offset-alike : (c : Component) (v m : Moment) → v.offset ≡ m.offset → IsTrue (nat_le 21 (index c)) → Alike c v m
+offset-alike : (c : Component) (v m : Moment) → v.offset ≡ m.offset → IsTrue (is_offset c) → Alike c v m
 offset-alike OffsetHour v m e h = record { number_is = ap (λ x. number OffsetHour (moment_of_offset x)) e; sign_is = ap (λ x. sign OffsetHour (moment_of_offset x)) e }
 offset-alike OffsetMinute v m e h = record { number_is = ap (λ x. number OffsetMinute (moment_of_offset x)) e; sign_is = ap (λ x. sign OffsetMinute (moment_of_offset x)) e }
 offset-alike OffsetSecond v m e h = record { number_is = ap (λ x. number OffsetSecond (moment_of_offset x)) e; sign_is = ap (λ x. sign OffsetSecond (moment_of_offset x)) e }
@@ -59,13 +60,17 @@ ItemAlike (item.Literal b) v m = Unit {0}
 ItemAlike (item.Number c p) v m = Alike c v m
 ItemAlike (item.Name k) v m = Alike (name_component k) v m
 ItemAlike item.Fraction v m = Alike Nanosecond v m
+ItemAlike item.Decimals v m = Alike Nanosecond v m
 ItemAlike item.OffsetSign v m = Alike OffsetSign v m
+ItemAlike item.TimestampSign v m = ⊥
 
 text-alike : (i : Item) (v m : Moment) → ItemAlike i v m → (item_text v i ≡ item_text m i) × (IsHeld v i → IsHeld m i)
 text-alike (item.Literal b) v m a = (refl, λ h. h)
 text-alike (item.Number c p) v m a = (λ i. a.sign_is i ++ padded p (width c) (a.number_is i), λ h. (omega (arith, a.number_is, h.0), sym a.sign_is ∙ h.1))
 text-alike (item.Name k) v m a = (sym (name-same k (number (name_component k) v) v refl) ∙ ap (numbered_name k) a.number_is ∙ name-same k (number (name_component k) m) m refl, λ h. h)
 text-alike item.Fraction v m a = (ap fraction_text a.number_is, λ h. h)
+text-alike item.Decimals v m a = (ap decimals a.number_is, λ h. h)
+text-alike item.TimestampSign v m a = absurd a
 text-alike item.OffsetSign v m a =
     (sym (sign-same v.offset (number OffsetSign v) refl) ∙ ap (λ j. if j == 1 then codes "-" else codes "+") a.number_is ∙ sign-same m.offset (number OffsetSign m) refl, λ h. h)
 
@@ -74,20 +79,26 @@ date-item (item.Literal b) v m e h = tt
 date-item (item.Number c p) v m e h = date-alike c v m e h
 date-item (item.Name k) v m e h = date-alike (name_component k) v m e h
 date-item item.Fraction v m e h = cc
+date-item item.Decimals v m e h = cc
 date-item item.OffsetSign v m e h = cc
+date-item item.TimestampSign v m e h = cc
 
 time-item : (i : Item) (v m : Moment) → v.time ≡ m.time → IsTrue (is_time_item i) → ItemAlike i v m
 time-item (item.Literal b) v m e h = tt
 time-item (item.Number c p) v m e h = time-alike c v m e h
 time-item (item.Name k) v m e h = time-alike (name_component k) v m e h
 time-item item.Fraction v m e h = time-alike Nanosecond v m e refl
+time-item item.Decimals v m e h = time-alike Nanosecond v m e refl
 time-item item.OffsetSign v m e h = cc
+time-item item.TimestampSign v m e h = cc
 
 offset-item : (i : Item) (v m : Moment) → v.offset ≡ m.offset → IsTrue (is_offset_item i) → ItemAlike i v m
 offset-item (item.Literal b) v m e h = tt
 offset-item (item.Number c p) v m e h = offset-alike c v m e h
 offset-item (item.Name k) v m e h = cc
 offset-item item.Fraction v m e h = cc
+offset-item item.Decimals v m e h = cc
+offset-item item.TimestampSign v m e h = cc
 offset-item item.OffsetSign v m e h = offset-alike OffsetSign v m e refl
 
 -- ---- all items

@@ -1,10 +1,11 @@
 -- Numbers that no item contradicts are the numbers of a moment whose text they print.
-use Rattle.std.proofs.Common.{◌≡◌, ℕ, zero, suc, ◌+◌, ◌-◌, ◌*◌, ◌/◌, ◌%◌, ◌≤◌, List, [], ◌∷◌, ◌++◌, refl, sym, ap, ◌∙◌, arith, inl, inr}
-use Rattle.std.specs.Prelude.{Bool, true, false, IsTrue, None, ◌==◌, ◌&&◌, ◌||◌, nat_lt, if◌then◌else◌, ℤ, pos, negsuc, neg_ℤ, int_lt, unsigned_abs, codes}
+use Rattle.std.proofs.Common.{◌≡◌, ℕ, zero, suc, ◌+◌, ◌-◌, ◌*◌, ◌/◌, ◌%◌, ◌≤◌, List, [], ◌∷◌, ◌++◌, refl, sym, ap, subst, ◌∙◌, arith, inl, inr}
+use Rattle.std.specs.Prelude.{Bool, true, false, IsTrue, None, ◌==◌, ◌&&◌, ◌||◌, not, nat_lt, if◌then◌else◌, ℤ, pos, negsuc, neg_ℤ, int_lt, unsigned_abs, codes}
 use Rattle.std.proofs.lemmas.Bool.{cases_lt}
 use Rattle.std.proofs.lemmas.Bool.Decides.{nat_tests}
 use borrow.Author.Tests.{eq-eqb, le-ltb}
 use Rattle.cal_time.specs.Time.{hour_of, minute_of, second_of, nanosecond_of, time_of}
+use Rattle.cal_time.specs.Digits.{decimals}
 use Rattle.cal_time.specs.Date.{weekday_at}
 use Rattle.cal_time.specs.Month.{month_of_index}
 use Rattle.cal_time.specs.Weekday.{weekday_of_index}
@@ -16,16 +17,16 @@ use Rattle.cal_format.specs.declared.item.Item.TheVariants as item
 use Rattle.cal_format.specs.declared.item.Name.{Name}
 use Rattle.cal_format.specs.declared.item.Name.TheVariants as name
 use Rattle.cal_format.specs.declared.item.Component.{Component}
-use Rattle.cal_format.specs.declared.item.Component.TheVariants.{Hour, Hour12, Minute, Second, Period, Millisecond, Microsecond, Nanosecond, OffsetHour, OffsetMinute, OffsetSecond, OffsetSign}
+use Rattle.cal_format.specs.declared.item.Component.TheVariants.{Hour, Hour12, Minute, Second, Period, Millisecond, Microsecond, Nanosecond, OffsetHour, OffsetMinute, OffsetSecond, OffsetSign, TimestampSign}
 use Rattle.cal_format.specs.declared.moment.Moment.{Moment}
 use Rattle.cal_format.specs.Form.{period_text, numbered_name, numbered_item, numbered_text, IsNumber, AreNumbers}
-use Rattle.cal_format.specs.Moment.{number, width}
+use Rattle.cal_format.specs.Moment.{timestamp_of, number, width}
 use Rattle.cal_format.specs.Names.{name_text, short_month, short_weekday}
 use Rattle.cal_format.specs.Ranges.{maximum}
-use Rattle.cal_format.specs.Reading.{shows, name_component, any_shows, holds_time, holds_offset}
+use Rattle.cal_format.specs.Reading.{shows, name_component, any_shows, shows_time, shows_offset, shows_timestamp, holds_parts, holds_time, holds_offset}
 use Rattle.cal_format.specs.Scanning.{IsHeld, AreHeld}
 use Rattle.cal_format.specs.Text.{sign, padded, fraction_text, item_text, text_of}
-use Rattle.cal_format.specs.Values.{number_in, hour_in, nanosecond_in, time_in, offset_in, is_empty, differing, item_contradiction, first_contradiction}
+use Rattle.cal_format.specs.Values.{number_in, hour_in, nanosecond_in, time_in, offset_in, IsMomentOf, is_empty, differing, item_contradiction, first_contradiction}
 use Rattle.cal_format.proofs.Apart.{both_tests, same_test}
 use Rattle.cal_format.proofs.Rejections.{none-first}
 
@@ -58,6 +59,13 @@ sign-same (pos k) n e =
     ap (λ j. if j == 1 then codes "-" else codes "+") none
 sign-same (negsuc k) n e = ap (λ j. if j == 1 then codes "-" else codes "+") (sym e)
 
+minus-same : (t : ℤ) (n : ℕ) → (if int_lt t (pos 0) then 1 else 0) ≡ n → (if n == 1 then codes "-" else []) ≡ (if int_lt t (pos 0) then codes "-" else [])
+minus-same t n e = ap (λ k. if k == 1 then codes "-" else []) (sym e) ∙ again (int_lt t (pos 0))
+  where
+    again : (b : Bool) → (if (if b then 1 else 0) == 1 then codes "-" else []) ≡ (if b then codes "-" else [])
+    again true = refl
+    again false = refl
+
 item-same : (i : Item) (n : ℕ) (v : Moment) → IsNumber i n → item_contradiction i n v ≡ None → (numbered_item i n ≡ item_text v i) × IsHeld v i
 item-same (item.Literal b) n v fit e = (refl, tt)
 item-same (item.Number c p) n v fit e =
@@ -67,6 +75,8 @@ item-same (item.Number c p) n v fit e =
     (ap (padded p (width c)) (sym equal) ∙ ap (λ l. l ++ padded p (width c) (number c v)) (sym plain), (omega (arith, fit, equal), plain))
 item-same (item.Name k) n v fit e = (name-same k n v (same_test (number (name_component k) v) n (same (name_component k) _ e)), tt)
 item-same item.Fraction n v fit e = (ap fraction_text (sym (same_test (number Nanosecond v) n (same Nanosecond _ e))), tt)
+item-same item.Decimals n v fit e = (ap decimals (sym (same_test (number Nanosecond v) n (same Nanosecond _ e))), tt)
+item-same item.TimestampSign n v fit e = (minus-same (timestamp_of v) n (same_test (number TimestampSign v) n (same TimestampSign _ e)), tt)
 item-same item.OffsetSign n v fit e = (sign-same v.offset n (same_test (number OffsetSign v) n (same OffsetSign _ e)), tt)
 
 pub same-text : (items : List Item) (numbers : List ℕ) (v : Moment) → AreNumbers items numbers → first_contradiction items numbers v ≡ None
@@ -96,6 +106,18 @@ not-shown (i ∷ items) (n ∷ numbers) c e =
     skipped (shows c i) n (number_in items numbers c) none.0 (not-shown items numbers c none.1)
 
 -- ---- the format holds the moment
+pub if-holds : (b x y : Bool) → (IsTrue b → IsTrue x) → (IsTrue (not b) → IsTrue y) → IsTrue (if b then x else y)
+if-holds true x y f g = f refl
+if-holds false x y f g = g refl
+
+pub then-holds : (b x y : Bool) → IsTrue b → IsTrue (if b then x else y) → IsTrue x
+then-holds true x y h k = k
+then-holds false x y h k = cc
+
+pub else-holds : (b x y : Bool) → IsTrue (not b) → IsTrue (if b then x else y) → IsTrue y
+else-holds true x y h k = cc
+else-holds false x y h k = k
+
 if-most : (b : Bool) (x y m : ℕ) → x ≤ m → y ≤ m → (if b then x else y) ≤ m
 if-most true x y m h k = h
 if-most false x y m h k = k
@@ -135,14 +157,45 @@ both-true : (a b : Bool) → IsTrue a → IsTrue b → IsTrue (a && b)
 both-true true b h k = k
 both-true false b h k = cc
 
-pub time-holds : (items : List Item) (numbers : List ℕ) (t : ℕ) → AreMost (number_in items numbers) → t ≡ time_in items (number_in items numbers) → IsTrue (holds_time items t)
-time-holds items numbers t most e =
+shown-parts : (items : List Item) (numbers : List ℕ) (t : ℕ) → AreMost (number_in items numbers) → t ≡ time_in items (number_in items numbers) → IsTrue (holds_parts items t)
+shown-parts items numbers t most e =
     let at = number_in items numbers in
     let parts = parts-are t (hour_in items (number_in items numbers)) (number_in items numbers Minute) (number_in items numbers Second) (nanosecond_in items (number_in items numbers))
     (hour-most items (number_in items numbers) most) (most Minute) (most Second) (nanosecond-most items (number_in items numbers) most) e in
     both-true _ _ (shown-or (any_shows Minute items) (minute_of t) _ parts.minute (λ f. not-shown items numbers Minute f))
     (both-true _ _ (shown-or (any_shows Second items) (second_of t) _ parts.second (λ f. not-shown items numbers Second f))
     (subsecond-held (any_shows Nanosecond items) (any_shows Microsecond items) (any_shows Millisecond items) _ _ _ (nanosecond_of t) parts.nanosecond))
+
+-- What isn't determined is 0.
+subsecond-zero : (a b c : Bool) → IsTrue (if a then true else (if b then 0 % 1_000 == 0 else (if c then 0 % 1_000_000 == 0 else 0 == 0)))
+subsecond-zero true b c = refl
+subsecond-zero false true c = refl
+subsecond-zero false false true = refl
+subsecond-zero false false false = refl
+
+zero-parts : (items : List Item) → IsTrue (holds_parts items 0)
+zero-parts items =
+    both-true _ _ (shown-or (any_shows Minute items) (minute_of 0) 0 refl (λ f. refl))
+    (both-true _ _ (shown-or (any_shows Second items) (second_of 0) 0 refl (λ f. refl)) (subsecond-zero (any_shows Nanosecond items) (any_shows Microsecond items) (any_shows Millisecond items)))
+
+pub zero-holds : (items : List Item) → IsTrue (holds_time items 0)
+zero-holds items =
+    if-holds (shows_timestamp items) _ _ (λ _. subsecond-zero (any_shows Nanosecond items) (any_shows Microsecond items) (any_shows Millisecond items)) (λ _. zero-parts items)
+
+pub zero-offset : (items : List Item) → IsTrue (holds_offset items (pos 0))
+zero-offset items = if-holds (shows_offset items) _ _
+    (λ _. both-true _ _ (shown-or (any_shows OffsetMinute items) 0 0 refl (λ f. refl)) (shown-or (any_shows OffsetSecond items) 0 0 refl (λ f. refl))) (λ _. refl)
+
+either-time : (b : Bool) (x t : ℕ) (P : Type 0) → t ≡ (if b then x else 0) → (t ≡ x → P) → (t ≡ 0 → P) → P
+either-time true x t P e f g = f e
+either-time false x t P e f g = g e
+
+pub time-holds : (items : List Item) (numbers : List ℕ) (v : Moment) → AreMost (number_in items numbers) → IsMomentOf items (number_in items numbers) v → IsTrue (holds_time items v.time)
+time-holds items numbers v most value =
+    if-holds (shows_timestamp items) _ _
+    (λ h. subsecond-held (any_shows Nanosecond items) (any_shows Microsecond items) (any_shows Millisecond items) _ _ _ (nanosecond_of v.time) (value.timestamp h).1)
+    (λ h. either-time (shows_time items) (time_in items (number_in items numbers)) v.time (IsTrue (holds_parts items v.time)) (value.time h)
+    (λ e. shown-parts items numbers v.time most e) (λ e. subst (λ t. IsTrue (holds_parts items t)) (sym e) (zero-parts items)))
 
 negative-abs : (m : ℕ) → unsigned_abs (neg_ℤ (pos m)) ≡ m
 negative-abs zero = refl
@@ -159,10 +212,18 @@ record OffsetPartsAre (x m s : ℕ) : Type 0 where
 offset-parts-are : (x h m s : ℕ) → m ≤ 59 → s ≤ 59 → x ≡ h * 3_600 + m * 60 + s → OffsetPartsAre x m s
 offset-parts-are x h m s a b e = record { minute = omega (arith, a, b, e); second = omega (arith, b, e) }
 
-pub offset-holds : (items : List Item) (numbers : List ℕ) (o : ℤ) → AreMost (number_in items numbers) → o ≡ offset_in (number_in items numbers) → IsTrue (holds_offset items o)
-offset-holds items numbers o most e =
+shown-offset : (items : List Item) (numbers : List ℕ) (o : ℤ) → AreMost (number_in items numbers) → o ≡ offset_in (number_in items numbers)
+    → IsTrue ((any_shows OffsetMinute items || (unsigned_abs o / 60 % 60 == 0)) && (any_shows OffsetSecond items || (unsigned_abs o % 60 == 0)))
+shown-offset items numbers o most e =
     let size : unsigned_abs o ≡ number_in items numbers OffsetHour * 3_600 + number_in items numbers OffsetMinute * 60 + number_in items numbers OffsetSecond =
     ap unsigned_abs e ∙ signed-abs (number_in items numbers OffsetSign == 1) _ in
     let parts = offset-parts-are (unsigned_abs o) _ _ _ (most OffsetMinute) (most OffsetSecond) size in
     both-true _ _ (shown-or (any_shows OffsetMinute items) (unsigned_abs o / 60 % 60) _ parts.minute (λ f. not-shown items numbers OffsetMinute f))
     (shown-or (any_shows OffsetSecond items) (unsigned_abs o % 60) _ parts.second (λ f. not-shown items numbers OffsetSecond f))
+
+either-offset : (b a : Bool) (x o : ℤ) → o ≡ (if b then x else pos 0) → (o ≡ x → IsTrue a) → IsTrue (if b then a else unsigned_abs o == 0)
+either-offset true a x o e f = f e
+either-offset false a x o e f = eq-eqb (unsigned_abs o) 0 (ap unsigned_abs e)
+
+pub offset-holds : (items : List Item) (numbers : List ℕ) (v : Moment) → AreMost (number_in items numbers) → IsMomentOf items (number_in items numbers) v → IsTrue (holds_offset items v.offset)
+offset-holds items numbers v most value = either-offset (shows_offset items) _ (offset_in (number_in items numbers)) v.offset value.offset (λ e. shown-offset items numbers v.offset most e)

@@ -24,7 +24,7 @@ unfolding without_trailing_zeros
 zero-last [] some last = absurd (omega arith)
 zero-last (d ∷ ds) some last = ap (prepend_digit 48) last
 
-none-last : without_trailing_zeros [] ≡ []
+pub none-last : without_trailing_zeros [] ≡ []
 unfolding without_trailing_zeros
 none-last = refl
 
@@ -110,9 +110,21 @@ prepended d [] ds e =
     ]
 prepended d (x ∷ xs) ds e = ap (λ l. drop 1 l) e
 
-tail-last : (d : ℕ) (ds : List ℕ) → without_trailing_zeros (d ∷ ds) ≡ d ∷ ds → without_trailing_zeros ds ≡ ds
+pub tail-last : (d : ℕ) (ds : List ℕ) → without_trailing_zeros (d ∷ ds) ≡ d ∷ ds → without_trailing_zeros ds ≡ ds
 unfolding without_trailing_zeros
 tail-last d ds e = prepended d (without_trailing_zeros ds) ds e
+
+-- A digit alone isn't 0, and a 0 comes before other digits.
+pub one-high : (x : ℕ) → 48 ≤ x → without_trailing_zeros (x ∷ []) ≡ x ∷ [] → 49 ≤ x
+unfolding without_trailing_zeros
+one-high x low last = elim (cases_eq x 48) as (λ _. 49 ≤ x) [
+  | inl zero_is ↦ absurd (omega (arith, ap length (sym (prepend_digit-zero x zero_is) ∙ last)))
+  | inr other ↦ omega (arith, low, other)
+]
+
+pub more-after : (x : ℕ) (xs : List ℕ) → x ≡ 48 → without_trailing_zeros (x ∷ xs) ≡ x ∷ xs → 0 < length xs
+more-after x [] zero_is last = absurd (omega (arith, zero_is, one-high x (omega (arith, zero_is)) last))
+more-after x (y ∷ ys) zero_is last = omega arith
 
 digit : (x : ℕ) → digit_value x < 10 → digit_value x + 48 ≡ x
 digit x low = has_value x (is_digit x low)
@@ -213,4 +225,20 @@ fraction-scanned n old mid new point h =
     let below = (filled h.digits h.all few).below in (
       omega (arith, below, value-fill 100_000_000 (9 - length h.digits) h.digits, h.value),
       point ∙ ap (λ l. 46 ∷ l) (h.bytes_are ∙ ap (λ ds. ds ++ new) (sym is)) ∙ ap (λ l. l ++ new) (sym (fraction-other n other)),
+    )
+
+-- A digit and the digits after it.
+pub decimals-scanned : (d n : ℕ) (old mid new : List ℕ) → (d < 10) × (old ≡ (48 + d) ∷ mid) → ParsesDecimals mid new true 7 10_000_000 n
+    → (d * 100_000_000 + n < 1_000_000_000) × (old ≡ decimals (d * 100_000_000 + n) ++ new)
+decimals-scanned d n old mid new first h =
+    let ds = (48 + d) ∷ h.digits in
+    let all : AllDigits 10 ((48 + d) ∷ h.digits) = (omega (arith, value-of d first.0, first.0), h.all) in
+    let few : length ((48 + d) ∷ h.digits) ≤ 9 = omega (arith, h.few) in
+    let value : decimals_value 100_000_000 ((48 + d) ∷ h.digits) ≡ d * 100_000_000 + n =
+    ap (λ v. v * 100_000_000 + decimals_value 10_000_000 h.digits) (value-of d first.0) ∙ ap (λ v. d * 100_000_000 + v) h.value in
+    let is : decimals (d * 100_000_000 + n) ≡ (48 + d) ∷ h.digits =
+    ap decimals (sym value) ∙ ap first_kept (digits-are ((48 + d) ∷ h.digits) all few) ∙ ap (λ l. (48 + d) ∷ l) (last-fill (9 - suc (length h.digits)) h.digits ∙ h.last) in
+    let below = (filled ((48 + d) ∷ h.digits) all few).below in (
+      omega (arith, below, value-fill 100_000_000 (9 - length ((48 + d) ∷ h.digits)) ((48 + d) ∷ h.digits), value),
+      first.1 ∙ ap (λ l. (48 + d) ∷ l) h.bytes_are ∙ ap (λ l. l ++ new) (sym is),
     )

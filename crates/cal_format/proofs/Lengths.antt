@@ -1,12 +1,13 @@
--- How long the texts of formats are: each item prints at most 10 bytes.
-use Rattle.std.proofs.Common.{◌≡◌, ℕ, zero, suc, ◌+◌, ◌*◌, ◌-◌, ◌%◌, ◌<◌, ◌≤◌, List, [], ◌∷◌, ◌++◌, length, replicate, refl, arith, lit≤, length-append}
-use Rattle.std.specs.Prelude.{Bool, true, false, if◌then◌else◌, decimal, ℤ, pos, negsuc, unsigned_abs, int_lt}
+-- How long the texts of formats are: each item prints at most 15 bytes.
+use Rattle.std.proofs.Common.{ℕ, zero, suc, ◌+◌, ◌*◌, ◌-◌, ◌%◌, ◌<◌, ◌≤◌, List, [], ◌∷◌, length, replicate, refl, arith, lit≤, length-append}
+use Rattle.std.specs.Prelude.{Bool, true, false, if◌then◌else◌, decimal, ℤ, pos, negsuc, unsigned_abs, int_lt, codes}
 use Rattle.std.proofs.lemmas.Bool.Decides.{nat_tests}
 use Rattle.std.proofs.lemmas.Fmt.{length-decimal-le}
 use Rattle.std.proofs.lemmas.Int.{ints}
 use Rattle.std.proofs.lemmas.List.{length-replicate}
-use Rattle.cal_time.specs.Date.{year_at, month_at, day_of_month_at, ordinal_at, IsYear}
-use Rattle.cal_time.specs.Laws.{weekday_at-is}
+use Rattle.cal_time.specs.Date.{year_at, month_at, ordinal_at, IsYear}
+use Rattle.cal_time.specs.Laws.{weekday_at-is, length-decimals}
+use Rattle.cal_time.specs.Time.{nanosecond_of}
 use Rattle.cal_time.specs.Lengths.{days_in_month}
 use Rattle.cal_time.specs.DateText.{sign_text}
 use Rattle.cal_time.specs.Days.{month_at-range, day_of_month_at-range, year_at-range}
@@ -15,13 +16,13 @@ use Rattle.cal_time.specs.UtcOffset.{sign as offset_sign}
 use Rattle.cal_time.proofs.IsoWeeks.{week_of_thursday, IsYear-iso_year_at}
 use Rattle.cal_time.proofs.Dates.{ordinal-most}
 use Rattle.cal_format.specs.declared.item.Component.{Component}
-use Rattle.cal_format.specs.declared.item.Component.TheVariants.{Year, Century, YearOfCentury, IsoYear, Month, Day, Ordinal, IsoWeek, Weekday, DaysFromSunday, SundayWeekday, SundayWeek, MondayWeek, Hour, Hour12, Minute, Second, Period, Millisecond, Microsecond, Nanosecond, OffsetHour, OffsetMinute, OffsetSecond, OffsetSign}
+use Rattle.cal_format.specs.declared.item.Component.TheVariants.{Year, Century, YearOfCentury, IsoYear, Month, Day, Ordinal, IsoWeek, Weekday, DaysFromSunday, SundayWeekday, SundayWeek, MondayWeek, Hour, Hour12, Minute, Second, Period, Millisecond, Microsecond, Nanosecond, OffsetHour, OffsetMinute, OffsetSecond, OffsetSign, Timestamp, TimestampSign}
 use Rattle.cal_format.specs.declared.item.Item.{Item}
 use Rattle.cal_format.specs.declared.item.Item.TheVariants as item
 use Rattle.cal_format.specs.declared.item.Padding.{Padding}
 use Rattle.cal_format.specs.declared.item.Padding.TheVariants as padding
 use Rattle.cal_format.specs.declared.moment.Moment.{Moment}
-use Rattle.cal_format.specs.Moment.{IsMoment, number, width}
+use Rattle.cal_format.specs.Moment.{IsMoment, timestamp_of, number, width}
 use Rattle.cal_format.specs.Text.{sign, padded, item_text, text_of}
 use Rattle.cal_format.proofs.Digits.{width-most}
 use Rattle.cal_format.proofs.EnglishNames.{name-short}
@@ -36,7 +37,7 @@ unfolding count_before
 count-most test zero = lit≤ tt
 count-most test (suc n) = omega (arith, count-bit (test n), count-most test n)
 
-days_in_month-most : (y : ℤ) (m : ℕ) → days_in_month y m ≤ 31
+pub days_in_month-most : (y : ℤ) (m : ℕ) → days_in_month y m ≤ 31
 unfolding days_in_month
 days_in_month-most y m = grind (arith, nat_tests)
 
@@ -48,7 +49,14 @@ iso_week_at-most n =
 year-most : (y : ℤ) → IsYear y → unsigned_abs y < 1_000_000
 year-most y h = omega (arith, ints, h.0, h.1)
 
-number-most : (c : Component) (v : Moment) → IsMoment v → number c v < 1_000_000_000
+pub timestamp-most : (v : Moment) → IsMoment v → unsigned_abs (timestamp_of v) < 100_000_000_000_000
+timestamp-most v h =
+    let days = h.date in
+    let time = h.time.below_day in
+    let offset = h.offset.magnitude in
+    omega (arith, ints)
+
+number-most : (c : Component) (v : Moment) → IsMoment v → number c v < 100_000_000_000_000
 number-most Year v h = omega (arith, year-most (year_at v.date) (year_at-range v.date h.date))
 number-most Century v h = omega (arith, year-most (year_at v.date) (year_at-range v.date h.date))
 number-most YearOfCentury v h = omega arith
@@ -74,6 +82,8 @@ number-most OffsetHour v h = omega (arith, h.offset.magnitude)
 number-most OffsetMinute v h = omega arith
 number-most OffsetSecond v h = omega arith
 number-most OffsetSign v h = grind (arith, nat_tests)
+number-most Timestamp v h = timestamp-most v h
+number-most TimestampSign v h = grind (arith, nat_tests)
 
 year-sign-short : (y : ℤ) → length (sign_text y) ≤ 1
 year-sign-short y = grind (arith, nat_tests)
@@ -84,23 +94,29 @@ sign-short Century v = year-sign-short (year_at v.date)
 sign-short IsoYear v = year-sign-short (iso_year_at v.date)
 sign-short _ v = lit≤ tt
 
-padded-short : (p : Padding) (w n : ℕ) → w ≤ 9 → n < 1_000_000_000 → length (padded p w n) ≤ 9
-padded-short padding.Zero w n few low = omega (arith, few, length-append (replicate (w - length (decimal n)) 48) (decimal n), length-replicate {A = ℕ} (w - length (decimal n)) 48, length-decimal-le 9 n (omega arith) low (omega arith))
-padded-short padding.Space w n few low = omega (arith, few, length-append (replicate (w - length (decimal n)) 32) (decimal n), length-replicate {A = ℕ} (w - length (decimal n)) 32, length-decimal-le 9 n (omega arith) low (omega arith))
-padded-short padding.None w n few low = length-decimal-le 9 n (omega arith) low (omega arith)
+padded-short : (p : Padding) (w n : ℕ) → w ≤ 9 → n < 100_000_000_000_000 → length (padded p w n) ≤ 14
+padded-short padding.Zero w n few low = omega (arith, few, length-append (replicate (w - length (decimal n)) 48) (decimal n), length-replicate {A = ℕ} (w - length (decimal n)) 48, length-decimal-le 14 n (omega arith) low (omega arith))
+padded-short padding.Space w n few low = omega (arith, few, length-append (replicate (w - length (decimal n)) 32) (decimal n), length-replicate {A = ℕ} (w - length (decimal n)) 32, length-decimal-le 14 n (omega arith) low (omega arith))
+padded-short padding.None w n few low = length-decimal-le 14 n (omega arith) low (omega arith)
 
-offset-sign-short : (o : ℤ) → length (offset_sign o) ≤ 10
+offset-sign-short : (o : ℤ) → length (offset_sign o) ≤ 15
 offset-sign-short (pos n) = lit≤ tt
 offset-sign-short (negsuc n) = lit≤ tt
 
-item-short : (i : Item) (v : Moment) → IsMoment v → length (item_text v i) ≤ 10
+minus-short : (b : Bool) → length (if b then codes "-" else []) ≤ 15
+minus-short true = lit≤ tt
+minus-short false = lit≤ tt
+
+item-short : (i : Item) (v : Moment) → IsMoment v → length (item_text v i) ≤ 15
 item-short (item.Literal b) v h = lit≤ tt
 item-short (item.Number c p) v h =
     omega (arith, length-append (sign c v) (padded p (width c) (number c v)), sign-short c v, padded-short p (width c) (number c v) (width-most c) (number-most c v h))
 item-short (item.Name k) v h = omega (arith, name-short k v)
-item-short item.Fraction v h = length-fraction _
+item-short item.Fraction v h = omega (arith, length-fraction (nanosecond_of v.time))
+item-short item.Decimals v h = omega (arith, length-decimals (nanosecond_of v.time))
+item-short item.TimestampSign v h = minus-short (int_lt (timestamp_of v) (pos 0))
 item-short item.OffsetSign v h = offset-sign-short v.offset
 
-pub text-short : (items : List Item) (v : Moment) → IsMoment v → length (text_of items v) ≤ 10 * length items
+pub text-short : (items : List Item) (v : Moment) → IsMoment v → length (text_of items v) ≤ 15 * length items
 text-short [] v h = lit≤ tt
 text-short (i ∷ items) v h = omega (arith, length-append (item_text v i) (text_of items v), item-short i v h, text-short items v h)

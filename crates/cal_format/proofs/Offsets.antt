@@ -1,6 +1,6 @@
 -- The offset that the numbers of a text have.
 use Rattle.std.proofs.Common.{◌≡◌, ℕ, ◌+◌, ◌*◌, ◌/◌, ◌%◌, ◌<◌, ◌≤◌, ◌^◌, List, [], ◌∷◌, refl, ap, ◌∙◌, arith}
-use Rattle.std.specs.Prelude.{Bool, true, false, ◌==◌, ◌||◌, ◌&&◌, not, IsTrue, if◌then◌else◌, nat_le, ℤ, pos, negsuc, int_lt, unsigned_abs}
+use Rattle.std.specs.Prelude.{Bool, true, false, ◌==◌, ◌||◌, ◌&&◌, not, IsTrue, if◌then◌else◌, ℤ, pos, negsuc, int_lt, unsigned_abs}
 use borrow.Author.Tests.{le-ltb}
 use Rattle.cal_time.specs.UtcOffset.{IsOffset}
 use Rattle.cal_format.specs.declared.item.Item.{Item}
@@ -9,9 +9,11 @@ use Rattle.cal_format.specs.declared.item.Component.{Component}
 use Rattle.cal_format.specs.declared.item.Component.TheVariants.{OffsetHour, OffsetMinute, OffsetSecond, OffsetSign}
 use Rattle.cal_format.specs.Moment.{number, width, moment_of_offset}
 use Rattle.cal_format.specs.Text.{sign}
-use Rattle.cal_format.specs.Reading.{index, any_shows, is_offset_item, are_offset_items, shows_offset, holds_offset}
-use Rattle.cal_format.specs.Scanning.{IsHeld, AreHeld, signed_offset}
-use Rattle.cal_format.proofs.Apart.{both_tests}
+use Rattle.cal_format.specs.Reading.{is_offset, any_shows, is_offset_item, are_offset_items, shows_offset, holds_offset}
+use Rattle.cal_format.specs.Scanning.{IsHeld, AreHeld, signed_seconds}
+use Rattle.cal_format.proofs.Apart.{both_tests, same_test}
+use Rattle.cal_format.proofs.Contradictions.{then-holds}
+use Rattle.cal_format.proofs.Digits.{fits-width}
 
 pub record OffsetParts (o : ℤ) (h m s : ℕ) : Type 0 where
   pub hour : h ≤ 25
@@ -25,12 +27,12 @@ offset-parts o h m s range e f g =
     record { hour = omega arith; minute = omega arith; second = omega arith; magnitude = omega arith }
 
 -- The sign and the magnitude are the offset.
-pub signed-is : (o : ℤ) (s m : ℕ) → s ≡ (if int_lt o (pos 0) then 1 else 0) → m ≡ unsigned_abs o → signed_offset s m ≡ o
+pub signed-is : (o : ℤ) (s m : ℕ) → s ≡ (if int_lt o (pos 0) then 1 else 0) → m ≡ unsigned_abs o → signed_seconds s m ≡ o
 signed-is (pos n) s m e f =
     let low : int_lt (pos n) (pos 0) ≡ false = le-ltb n 0 (omega arith) in
     let none : s ≡ 0 = e ∙ ap (λ b. if b then 1 else 0) low in
-    λ i. signed_offset (none i) (f i)
-signed-is (negsuc n) s m e f = λ i. signed_offset (e i) (f i)
+    λ i. signed_seconds (none i) (f i)
+signed-is (negsuc n) s m e f = λ i. signed_seconds (e i) (f i)
 
 pub record OffsetShown (items : List Item) (o : ℤ) : Type 0 where
   pub sign : IsTrue (any_shows OffsetSign items)
@@ -42,7 +44,7 @@ pub offset-shown : (items : List Item) (o : ℤ) → IsTrue (shows_offset items)
 offset-shown items o s h =
     let first = both_tests (any_shows OffsetSign items) (any_shows OffsetHour items && (any_shows OffsetMinute items || not (any_shows OffsetSecond items))) s in
     let hour = both_tests (any_shows OffsetHour items) (any_shows OffsetMinute items || not (any_shows OffsetSecond items)) first.1 in
-    let parts = both_tests (any_shows OffsetMinute items || (unsigned_abs o / 60 % 60 == 0)) (any_shows OffsetSecond items || (unsigned_abs o % 60 == 0)) h in
+    let parts = both_tests (any_shows OffsetMinute items || (unsigned_abs o / 60 % 60 == 0)) (any_shows OffsetSecond items || (unsigned_abs o % 60 == 0)) (then-holds (shows_offset items) _ _ s h) in
     record { sign = first.0; hour = hour.0; minute = parts.0; second = parts.1 }
 
 -- A format of an offset holds each offset.
@@ -50,7 +52,7 @@ sign-low : (b : Bool) (x : ℕ) → x ≡ (if b then 1 else 0) → x < 10
 sign-low true x e = omega arith
 sign-low false x e = omega arith
 
-offset-number : (c : Component) (o : ℤ) → IsOffset o → IsTrue (nat_le 21 (index c)) → (number c (moment_of_offset o) < 10 ^ width c) × (sign c (moment_of_offset o) ≡ [])
+offset-number : (c : Component) (o : ℤ) → IsOffset o → IsTrue (is_offset c) → (number c (moment_of_offset o) < 10 ^ width c) × (sign c (moment_of_offset o) ≡ [])
 offset-number OffsetHour o h u = let most = h.magnitude in (omega arith, refl)
 offset-number OffsetMinute o h u = (omega arith, refl)
 offset-number OffsetSecond o h u = (omega arith, refl)
@@ -59,9 +61,11 @@ offset-number _ o h u = cc
 
 offset-item : (i : Item) (o : ℤ) → IsOffset o → IsTrue (is_offset_item i) → IsHeld (moment_of_offset o) i
 offset-item (item.Literal b) o h u = tt
-offset-item (item.Number c p) o h u = offset-number c o h u
+offset-item (item.Number c p) o h u = let is = offset-number c o h u in (fits-width p c (number c (moment_of_offset o)) is.0, is.1)
 offset-item (item.Name k) o h u = tt
 offset-item item.Fraction o h u = tt
+offset-item item.Decimals o h u = tt
+offset-item item.TimestampSign o h u = tt
 offset-item item.OffsetSign o h u = tt
 
 pub offset-held : (items : List Item) (o : ℤ) → IsOffset o → IsTrue (are_offset_items items) → AreHeld (moment_of_offset o) items
@@ -69,3 +73,7 @@ offset-held [] o h u = tt
 offset-held (i ∷ items) o h u =
     let both = both_tests (is_offset_item i) (are_offset_items items) u in
     (offset-item i o h both.0, offset-held items o h both.1)
+
+pub no-offset : (o : ℤ) → IsTrue (unsigned_abs o == 0) → o ≡ pos 0
+no-offset (pos n) h = ap (λ k. pos k) (same_test n 0 h)
+no-offset (negsuc n) h = absurd (omega (arith, same_test (unsigned_abs (negsuc n)) 0 h))

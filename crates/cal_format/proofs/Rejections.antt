@@ -14,7 +14,7 @@ use Rattle.cal_format.specs.declared.item.Item.TheVariants as item
 use Rattle.cal_format.specs.declared.item.Name.{Name}
 use Rattle.cal_format.specs.declared.item.Name.TheVariants as name
 use Rattle.cal_format.specs.declared.item.Component.{Component}
-use Rattle.cal_format.specs.declared.item.Component.TheVariants.{Nanosecond, OffsetSign}
+use Rattle.cal_format.specs.declared.item.Component.TheVariants.{Nanosecond, OffsetSign, TimestampSign}
 use Rattle.cal_format.specs.Form.{HasForm, shape_of, IsNameNumber, IsNumber, AreNumbers}
 use Rattle.cal_format.specs.Ranges.{minimum, maximum, either, item_error, first_range_error}
 use Rattle.cal_format.specs.Reading.{index, name_component, shows, shows_calendar_date, shows_ordinal_date, shows_iso_week_date, shows_date}
@@ -79,6 +79,8 @@ item-most (item.Number d p) n c fit e h =
     most-of d c n (leb-true n (maximum d) both.1) h
 item-most (item.Name k) n c fit e h = most-of (name_component k) c n (named-most k n fit) h
 item-most item.Fraction n c fit e h = most-of Nanosecond c n (omega (arith, fit)) h
+item-most item.Decimals n c fit e h = most-of Nanosecond c n (omega (arith, fit)) h
+item-most item.TimestampSign n c fit e h = most-of TimestampSign c n (omega (arith, fit)) h
 item-most item.OffsetSign n c fit e h = most-of OffsetSign c n (omega (arith, fit)) h
 
 either-most : (b : Bool) (x y m : ℕ) → (IsTrue b → x ≤ m) → y ≤ m → (if b then x else y) ≤ m

@@ -4,7 +4,7 @@ use Rattle.std.specs.Prelude.{◌==◌, ◌||◌, ◌&&◌, not, IsTrue}
 use Rattle.cal_time.specs.Time.{IsTime, hour_of, minute_of, second_of, nanosecond_of, time_of}
 use Rattle.cal_format.specs.declared.item.Item.{Item}
 use Rattle.cal_format.specs.declared.item.Component.TheVariants.{Minute, Second}
-use Rattle.cal_format.specs.Reading.{any_shows, shows_hour, shows_subsecond, shows_time, holds_subsecond, holds_time}
+use Rattle.cal_format.specs.Reading.{any_shows, shows_hour, shows_subsecond, shows_time, holds_subsecond, holds_parts}
 use Rattle.cal_format.proofs.Apart.{both_tests}
 
 -- ---- all parts
@@ -26,7 +26,7 @@ pub record TimeShown (items : List Item) (t : ℕ) : Type 0 where
   pub second : IsTrue (any_shows Second items || (second_of t == 0))
   pub subsecond : IsTrue (holds_subsecond items (nanosecond_of t))
 
-pub time-shown : (items : List Item) (t : ℕ) → IsTrue (shows_time items) → IsTrue (holds_time items t) → TimeShown items t
+pub time-shown : (items : List Item) (t : ℕ) → IsTrue (shows_time items) → IsTrue (holds_parts items t) → TimeShown items t
 time-shown items t s h =
     let first = both_tests (shows_hour items) ((any_shows Minute items || not (any_shows Second items)) && (any_shows Second items || not (shows_subsecond items))) s in
     let minute = both_tests (any_shows Minute items || (minute_of t == 0)) ((any_shows Second items || (second_of t == 0)) && holds_subsecond items (nanosecond_of t)) h in

@@ -1,7 +1,7 @@
 -- The items that a text spells, by a table of spellings.
 use Rattle.std.specs.Prelude.{ℕ, ◌+◌, ◌==◌, ◌&&◌, Bool, true, false, List, [], ◌∷◌, length, map, Option, Some, None}
 use Rattle.std.specs.List.{find}
-use Rattle.cal_format.specs.declared.directive.TheConstants.{DIRECTIVES, DESCRIPTIONS}
+use Rattle.cal_format.specs.declared.directive.TheConstants.{DIRECTIVES}
 use Rattle.cal_format.specs.declared.item.Item.{Item}
 
 -- Items, and the number of bytes that spell them. Without items nothing is spelled.
@@ -26,9 +26,6 @@ front_of (Some row) = front_with row.1 (length row.0 + 1)
 abbrev pub front_in : List (List ℕ × List Item) → List ℕ → Front
 front_in rows text = front_of (find (λ row. begins_with row.0 text) rows)
 
--- The directives of `strftime` and the components of `time`'s format descriptions.
+-- The directives of `strftime`.
 abbrev pub directives : List (List ℕ × List Item)
 directives = map (λ row. (row.0.now, row.1.now)) DIRECTIVES
-
-abbrev pub descriptions : List (List ℕ × List Item)
-descriptions = map (λ row. (row.0.now, row.1.now)) DESCRIPTIONS

@@ -3,7 +3,7 @@
 use Rattle.std.specs.Prelude.{◌≡◌, ℕ, zero, suc, ◌+◌, ◌-◌, ◌<◌, ◌≤◌, ◌^◌, ◌==◌, ◌++◌, Bool, true, false, List, [], ◌∷◌, length, codes, if◌then◌else◌}
 use Rattle.std.specs.Str.Parse.{AllDigits}
 use Rattle.cal_text.specs.Shape.{Shape, End, ByteRange, Branch, Byte, Digits, Sign, Number, unmatched_bytes, decimals_value}
-use Rattle.cal_time.specs.Digits.{without_trailing_zeros}
+use Rattle.cal_time.specs.Digits.{without_trailing_zeros, decimals}
 use Rattle.cal_time.specs.Month.{month_of_index}
 use Rattle.cal_time.specs.Weekday.{weekday_of_index}
 use Rattle.cal_time.specs.Month as month
@@ -14,8 +14,11 @@ use Rattle.cal_format.specs.declared.item.Name.{Name}
 use Rattle.cal_format.specs.declared.item.Name.TheVariants as name
 use Rattle.cal_format.specs.declared.item.Padding.{Padding}
 use Rattle.cal_format.specs.declared.item.Padding.TheVariants as padding
-use Rattle.cal_format.specs.Moment.{width}
+use Rattle.cal_format.specs.declared.item.Component.TheVariants.{Nanosecond, OffsetSign, TimestampSign}
+use Rattle.cal_format.specs.declared.moment.Moment.{Moment}
+use Rattle.cal_format.specs.Moment.{number, width, width_of}
 use Rattle.cal_format.specs.Names.{short_month, short_weekday}
+use Rattle.cal_format.specs.Reading.{name_component}
 use Rattle.cal_format.specs.Text.{padded, fraction_text}
 
 -- ---- numbers
@@ -108,10 +111,12 @@ NameShape name.Period f = PeriodName f
 -- ---- items
 abbrev pub ItemShape : Item → Shape → Shape
 ItemShape (item.Literal b) f = Byte b f
-ItemShape (item.Number c p) f = Padded p (width c) f
+ItemShape (item.Number c p) f = Padded p (width_of p c) f
 ItemShape (item.Name k) f = NameShape k f
 ItemShape item.Fraction f = Branch 46 0 (Decimals false 8 f) f
+ItemShape item.Decimals f = ByteRange 48 9 (Decimals true 7 f)
 ItemShape item.OffsetSign f = Sign f
+ItemShape item.TimestampSign f = Branch 45 0 f f
 
 -- A text has the form of the items if it has this shape.
 abbrev pub shape_of : List Item → Shape
@@ -145,7 +150,9 @@ numbered_item (item.Literal b) n = b ∷ []
 numbered_item (item.Number c p) n = padded p (width c) n
 numbered_item (item.Name k) n = numbered_name k n
 numbered_item item.Fraction n = fraction_text n
+numbered_item item.Decimals n = decimals n
 numbered_item item.OffsetSign n = if n == 1 then codes "-" else codes "+"
+numbered_item item.TimestampSign n = if n == 1 then codes "-" else []
 
 -- The text of items with these numbers, one for each item.
 abbrev pub numbered_text : List Item → List ℕ → List ℕ
@@ -163,13 +170,16 @@ IsNameNumber name.Period n = n < 2
 
 abbrev pub IsNumber : Item → ℕ → Type 0
 IsNumber (item.Literal b) n = n ≡ 0
-IsNumber (item.Number c p) n = n < 10 ^ width c
+IsNumber (item.Number c p) n = n < 10 ^ width_of p c
 IsNumber (item.Name k) n = IsNameNumber k n
 IsNumber item.Fraction n = n < 1_000_000_000
+IsNumber item.Decimals n = n < 1_000_000_000
 IsNumber item.OffsetSign n = n < 2
+IsNumber item.TimestampSign n = n < 2
 
 abbrev pub AreNumbers : List Item → List ℕ → Type 0
-AreNumbers [] numbers = Unit {0}
+AreNumbers [] [] = Unit {0}
+AreNumbers [] (n ∷ numbers) = ⊥
 AreNumbers (i ∷ items) [] = ⊥
 AreNumbers (i ∷ items) (n ∷ numbers) = IsNumber i n × AreNumbers items numbers
 
@@ -177,3 +187,17 @@ AreNumbers (i ∷ items) (n ∷ numbers) = IsNumber i n × AreNumbers items numb
 pub record HasNumbers (items : List Item) (numbers text : List ℕ) : Type 0 where
   pub fit : AreNumbers items numbers
   pub text_is : text ≡ numbered_text items numbers
+
+-- The numbers of the items of a moment.
+abbrev pub item_number : Moment → Item → ℕ
+item_number v (item.Literal b) = 0
+item_number v (item.Number c p) = number c v
+item_number v (item.Name k) = number (name_component k) v
+item_number v item.Fraction = number Nanosecond v
+item_number v item.Decimals = number Nanosecond v
+item_number v item.OffsetSign = number OffsetSign v
+item_number v item.TimestampSign = number TimestampSign v
+
+abbrev pub numbers_of : List Item → Moment → List ℕ
+numbers_of [] v = []
+numbers_of (i ∷ items) v = item_number v i ∷ numbers_of items v

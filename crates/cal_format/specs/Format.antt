@@ -6,7 +6,8 @@ use Rattle.cal_format.specs.declared.item.Syntax.{Syntax}
 use Rattle.cal_format.specs.declared.item.Syntax.TheVariants.{Percent, Brackets}
 use Rattle.cal_format.specs.declared.format.FormatError.{FormatError}
 use Rattle.cal_format.specs.declared.format.FormatError.TheVariants.{UnknownItem, TooLong}
-use Rattle.cal_format.specs.Directive.{Front, front_with, front_in, directives, descriptions}
+use Rattle.cal_format.specs.Directive.{Front, front_with, front_in, directives}
+use Rattle.cal_format.specs.Description.{description_front}
 
 -- A percent sign or an opening bracket comes before the spelling of items. Any other byte is a
 -- literal.
@@ -17,7 +18,7 @@ escape Brackets = 91
 -- The items of a text that begins with this byte, by the bytes after it.
 abbrev pub spelled : Syntax → List ℕ → Front
 spelled Percent rest = front_in directives rest
-spelled Brackets rest = front_in descriptions rest
+spelled Brackets rest = description_front rest
 
 -- They must lie within the text.
 abbrev pub within : List ℕ → Front → Front

@@ -7,7 +7,7 @@ use Rattle.cal_units.specs.declared.error.ComponentRange.{ComponentRange}
 use Rattle.cal_format.specs.declared.item.Item.{Item}
 use Rattle.cal_format.specs.declared.item.Item.TheVariants as item
 use Rattle.cal_format.specs.declared.item.Component.{Component}
-use Rattle.cal_format.specs.declared.item.Component.TheVariants.{Year, Century, YearOfCentury, IsoYear, Month, Day, Ordinal, IsoWeek, Weekday, DaysFromSunday, SundayWeekday, SundayWeek, MondayWeek, Hour, Hour12, Minute, Second, Period, Millisecond, Microsecond, Nanosecond, OffsetHour, OffsetMinute, OffsetSecond, OffsetSign}
+use Rattle.cal_format.specs.declared.item.Component.TheVariants.{Year, Century, YearOfCentury, IsoYear, Month, Day, Ordinal, IsoWeek, Weekday, DaysFromSunday, SundayWeekday, SundayWeek, MondayWeek, Hour, Hour12, Minute, Second, Period, Millisecond, Microsecond, Nanosecond, OffsetHour, OffsetMinute, OffsetSecond, OffsetSign, Timestamp, TimestampSign}
 
 -- The name of a component in an error.
 abbrev pub named : Component → Named
@@ -36,6 +36,8 @@ named OffsetHour = error.OffsetHour
 named OffsetMinute = error.OffsetMinute
 named OffsetSecond = error.OffsetSecond
 named OffsetSign = error.OffsetHour
+named Timestamp = error.Timestamp
+named TimestampSign = error.Timestamp
 
 -- The minimum and the maximum of a component.
 abbrev pub minimum : Component → ℕ
@@ -74,6 +76,8 @@ maximum OffsetHour = 25
 maximum OffsetMinute = 59
 maximum OffsetSecond = 59
 maximum OffsetSign = 1
+maximum Timestamp = 99_999_999_999_999
+maximum TimestampSign = 1
 
 -- The range of a day and of a week depends on the year.
 abbrev pub range_error : Component → ComponentRange

@@ -1,6 +1,5 @@
 -- Why a text is rejected.
 use Rattle.std.specs.Prelude.{◌≡◌, ◌⊎◌, ℕ, ◌<◌, List, length, Some, None}
-use Rattle.cal_time.specs.Date.{IsDate}
 use Rattle.cal_units.specs.declared.error.Component.{Component as Named}
 use Rattle.cal_units.specs.declared.error.ComponentRange.{ComponentRange}
 use Rattle.cal_text.specs.Position.{IsPosition}
@@ -10,13 +9,13 @@ use Rattle.cal_format.specs.declared.item.Item.{Item}
 use Rattle.cal_format.specs.declared.moment.Moment.{Moment}
 use Rattle.cal_format.specs.Form.{HasForm, HasNumbers}
 use Rattle.cal_format.specs.Ranges.{first_range_error}
-use Rattle.cal_format.specs.Values.{number_in, IsDateOf, date_error, IsMomentOf, first_contradiction}
+use Rattle.cal_format.specs.Values.{number_in, value_error, IsMomentOf, first_contradiction}
 
--- A number is out of range, or the numbers are in range but no day has them.
+-- A number is out of range, or the numbers are in range but no moment has them.
 abbrev pub IsRangeError : List Item → List ℕ → ComponentRange → Type 0
 IsRangeError items numbers why =
     (first_range_error items numbers ≡ Some why)
-    ⊎ ((first_range_error items numbers ≡ None) × (why ≡ date_error items) × ((n : ℕ) → IsDate n → ¬ IsDateOf items (number_in items numbers) n))
+    ⊎ ((first_range_error items numbers ≡ None) × (why ≡ value_error items) × ((v : Moment) → ¬ IsMomentOf items (number_in items numbers) v))
 
 -- Without a component out of range it is the first component that isn't the component of the value.
 abbrev pub IsContradiction : List Item → List ℕ → Named → Type 0

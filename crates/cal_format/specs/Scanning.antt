@@ -1,12 +1,12 @@
 -- Numbers and names of a text, read item by item.
-use Rattle.std.specs.Prelude.{◌≡◌, ◌≢◌, ◌⊎◌, ℕ, ◌+◌, ◌-◌, ◌*◌, ◌%◌, ◌<◌, ◌≤◌, ◌^◌, List, [], ◌∷◌, length, fold, get_or, replicate, if◌then◌else◌, ◌==◌, ℤ, pos, neg_ℤ}
+use Rattle.std.specs.Prelude.{◌≡◌, ◌≢◌, ◌⊎◌, ℕ, ◌<◌, ◌≤◌, ◌^◌, List, [], ◌∷◌, get_or, if◌then◌else◌, ◌==◌, ℤ, pos, neg_ℤ}
 use Rattle.cal_format.specs.declared.fields.Fields.{Fields}
 use Rattle.cal_format.specs.declared.item.Item.{Item}
 use Rattle.cal_format.specs.declared.item.Item.TheVariants as item
 use Rattle.cal_format.specs.declared.item.Padding.TheVariants as padding
 use Rattle.cal_format.specs.declared.item.Component.{Component}
 use Rattle.cal_format.specs.declared.moment.Moment.{Moment}
-use Rattle.cal_format.specs.Moment.{number, width}
+use Rattle.cal_format.specs.Moment.{number, width_of}
 use Rattle.cal_format.specs.Text.{sign}
 use Rattle.cal_format.specs.Reading.{index, any_shows}
 
@@ -14,18 +14,9 @@ use Rattle.cal_format.specs.Reading.{index, any_shows}
 abbrev pub number_at : Component → Fields → ℕ
 number_at c f = get_or f.numbers (index c) 0
 
--- A digit after a number. A space counts as 0.
-abbrev pub step : ℕ → ℕ → ℕ
-step n b = (n * 10 % 2 ^ 32 + b % 16) % 2 ^ 32
-
--- A point and the digits of a fraction have this many nanoseconds: the digits go on with zeros.
-abbrev pub fraction_number : List ℕ → ℕ
-fraction_number [] = 0
-fraction_number (x ∷ digits) = fold step (fold step 0 digits) (replicate (9 - length digits) 48)
-
--- The offset with this sign, which is 1 for minus, and this number of seconds.
-abbrev pub signed_offset : ℕ → ℕ → ℤ
-signed_offset s m = if s == 1 then neg_ℤ (pos m) else pos m
+-- The seconds with this sign, which is 1 for minus.
+abbrev pub signed_seconds : ℕ → ℕ → ℤ
+signed_seconds s m = if s == 1 then neg_ℤ (pos m) else pos m
 
 -- The text doesn't begin with a digit.
 abbrev pub BeginsApart : List ℕ → Type 0
@@ -37,10 +28,17 @@ abbrev pub BeginsPastPoint : List ℕ → Type 0
 BeginsPastPoint [] = Unit {0}
 BeginsPastPoint (x ∷ xs) = x ≢ 46
 
+-- The text doesn't begin with a minus sign.
+abbrev pub BeginsPastMinus : List ℕ → Type 0
+BeginsPastMinus [] = Unit {0}
+BeginsPastMinus (x ∷ xs) = x ≢ 45
+
 -- What comes after the item can't continue it.
 abbrev pub IsEnded : Item → List ℕ → Type 0
 IsEnded (item.Number c padding.None) after = BeginsApart after
 IsEnded item.Fraction after = BeginsApart after × BeginsPastPoint after
+IsEnded item.Decimals after = BeginsApart after
+IsEnded item.TimestampSign after = BeginsPastMinus after
 IsEnded _ after = Unit {0}
 
 abbrev pub AreDigits : List ℕ → Type 0
@@ -49,7 +47,7 @@ AreDigits (x ∷ xs) = (48 ≤ x) × (x ≤ 57) × AreDigits xs
 
 -- An item holds a moment if its number has at most the digits of the item, and no sign.
 abbrev pub IsHeld : Moment → Item → Type 0
-IsHeld v (item.Number c p) = (number c v < 10 ^ width c) × (sign c v ≡ [])
+IsHeld v (item.Number c p) = (number c v < 10 ^ width_of p c) × (sign c v ≡ [])
 IsHeld v _ = Unit {0}
 
 abbrev pub AreHeld : Moment → List Item → Type 0

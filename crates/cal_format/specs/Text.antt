@@ -1,5 +1,5 @@
 -- The texts that a format prints of a moment.
-use Rattle.std.specs.Prelude.{decimal, ℕ, ◌-◌, ◌==◌, List, [], ◌∷◌, ◌++◌, length, replicate, if◌then◌else◌}
+use Rattle.std.specs.Prelude.{codes, pos, int_lt, decimal, ℕ, ◌-◌, ◌==◌, List, [], ◌∷◌, ◌++◌, length, replicate, if◌then◌else◌}
 use Rattle.std.specs.List.{flat_map}
 use Rattle.cal_time.specs.Date.{year_at}
 use Rattle.cal_time.specs.IsoWeekDate.{iso_year_at}
@@ -14,7 +14,7 @@ use Rattle.cal_format.specs.declared.item.Padding.TheVariants as padding
 use Rattle.cal_format.specs.declared.item.Component.{Component}
 use Rattle.cal_format.specs.declared.item.Component.TheVariants.{Year, Century, IsoYear}
 use Rattle.cal_format.specs.declared.moment.Moment.{Moment}
-use Rattle.cal_format.specs.Moment.{number, width}
+use Rattle.cal_format.specs.Moment.{timestamp_of, number, width}
 use Rattle.cal_format.specs.Names.{name_text}
 
 -- A year outside 0 to 9999 has a sign before its digits.
@@ -40,7 +40,9 @@ item_text v (item.Literal b) = b ∷ []
 item_text v (item.Number c p) = sign c v ++ padded p (width c) (number c v)
 item_text v (item.Name k) = name_text k v
 item_text v item.Fraction = fraction_text (nanosecond_of v.time)
+item_text v item.Decimals = decimals (nanosecond_of v.time)
 item_text v item.OffsetSign = offset.sign v.offset
+item_text v item.TimestampSign = if int_lt (timestamp_of v) (pos 0) then codes "-" else []
 
 -- Items print one after the other.
 abbrev pub text_of : List Item → Moment → List ℕ

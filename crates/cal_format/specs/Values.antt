@@ -1,22 +1,22 @@
 -- The value that the numbers of a text determine.
-use Rattle.std.specs.Prelude.{◌≡◌, ℕ, ◌+◌, ◌*◌, ◌%◌, ◌==◌, ◌&&◌, List, [], ◌∷◌, Bool, true, false, not, Option, Some, None, IsTrue, ℤ, pos, if◌then◌else◌}
-use Rattle.cal_units.specs.ComponentError.{conditional}
+use Rattle.std.specs.Prelude.{◌≡◌, ◌⊎◌, ℕ, ◌+◌, ◌*◌, ◌%◌, ◌==◌, ◌&&◌, List, [], ◌∷◌, Bool, true, false, not, Option, Some, None, IsTrue, ℤ, pos, if◌then◌else◌}
+use Rattle.cal_units.specs.ComponentError.{conditional, unconditional}
 use Rattle.cal_units.specs.declared.error.Component.{Component as Named}
 use Rattle.cal_units.specs.declared.error.Component.TheVariants as error
 use Rattle.cal_units.specs.declared.error.ComponentRange.{ComponentRange}
-use Rattle.cal_time.specs.Date.{IsDate, HasCalendarDate, HasOrdinalDate}
+use Rattle.cal_time.specs.Date.{HasCalendarDate, HasOrdinalDate}
 use Rattle.cal_time.specs.IsoWeekDate.{HasIsoWeekDate}
-use Rattle.cal_time.specs.Time.{time_of}
+use Rattle.cal_time.specs.Time.{nanosecond_of, time_of}
 use Rattle.cal_format.specs.declared.item.Item.{Item}
 use Rattle.cal_format.specs.declared.item.Item.TheVariants as item
 use Rattle.cal_format.specs.declared.item.Component.{Component}
-use Rattle.cal_format.specs.declared.item.Component.TheVariants.{Year, Century, YearOfCentury, IsoYear, Month, Day, Ordinal, IsoWeek, Weekday, DaysFromSunday, SundayWeekday, Hour, Hour12, Minute, Second, Period, Millisecond, Microsecond, Nanosecond, OffsetHour, OffsetMinute, OffsetSecond, OffsetSign}
+use Rattle.cal_format.specs.declared.item.Component.TheVariants.{Year, Century, YearOfCentury, IsoYear, Month, Day, Ordinal, IsoWeek, Weekday, DaysFromSunday, SundayWeekday, Hour, Hour12, Minute, Second, Period, Millisecond, Microsecond, Nanosecond, OffsetHour, OffsetMinute, OffsetSecond, OffsetSign, Timestamp, TimestampSign}
 use Rattle.cal_format.specs.declared.moment.Moment.{Moment}
-use Rattle.cal_format.specs.Moment.{number}
+use Rattle.cal_format.specs.Moment.{IsMoment, timestamp_of, number}
 use Rattle.cal_format.specs.Ranges.{named, either}
-use Rattle.cal_format.specs.Reading.{shows, any_shows, name_component, shows_calendar_date, shows_ordinal_date, shows_iso_week_date, shows_date}
-use Rattle.cal_format.specs.Scanning.{signed_offset}
-use Rattle.cal_format.specs.Text.{sign}
+use Rattle.cal_format.specs.Reading.{shows, any_shows, name_component, shows_calendar_date, shows_ordinal_date, shows_iso_week_date, shows_date, shows_time, shows_offset, shows_timestamp, holds_time, holds_offset}
+use Rattle.cal_format.specs.Scanning.{AreHeld, signed_seconds}
+use Rattle.cal_format.specs.Text.{sign, text_of}
 
 -- The number of the first item that shows a component, or 0.
 abbrev pub number_in : List Item → List ℕ → Component → ℕ
@@ -48,7 +48,10 @@ abbrev pub time_in : List Item → (Component → ℕ) → ℕ
 time_in items at = time_of (hour_in items at) (at Minute) (at Second) (nanosecond_in items at)
 
 abbrev pub offset_in : (Component → ℕ) → ℤ
-offset_in at = signed_offset (at OffsetSign) (at OffsetHour * 3_600 + at OffsetMinute * 60 + at OffsetSecond)
+offset_in at = signed_seconds (at OffsetSign) (at OffsetHour * 3_600 + at OffsetMinute * 60 + at OffsetSecond)
+
+abbrev pub timestamp_in : (Component → ℕ) → ℤ
+timestamp_in at = signed_seconds (at TimestampSign) (at Timestamp)
 
 -- A day has the numbers of a calendar date, or else of an ordinal date, or else of an ISO week date.
 -- Without a date it is day 0.
@@ -58,19 +61,22 @@ pub record IsDateOf (items : List Item) (at : Component → ℕ) (n : ℕ) : Typ
   pub week : IsTrue (not (shows_calendar_date items)) → IsTrue (not (shows_ordinal_date items)) → IsTrue (shows_iso_week_date items) → HasIsoWeekDate (pos (at IsoYear)) (at IsoWeek) (weekday_in items at) n
   pub none : IsTrue (not (shows_date items)) → n ≡ 0
 
--- The error of numbers that no day has.
-abbrev pub date_error : List Item → ComponentRange
-date_error items =
-    if shows_calendar_date items then conditional error.Day
+-- The error of numbers that no moment has.
+abbrev pub value_error : List Item → ComponentRange
+value_error items =
+    if shows_timestamp items then unconditional error.Timestamp
+    else (if shows_calendar_date items then conditional error.Day
     else (if shows_ordinal_date items then conditional error.Ordinal
-    else conditional error.Week)
+    else conditional error.Week))
 
--- The moment of the numbers. What they lack is 0.
+-- The moment of the numbers. What they don't determine is 0. A Unix time determines the date and
+-- the time of day at the offset.
 pub record IsMomentOf (items : List Item) (at : Component → ℕ) (v : Moment) : Type 0 where
-  pub in_range : IsDate v.date
-  pub date : IsDateOf items at v.date
-  pub time : v.time ≡ time_in items at
-  pub offset : v.offset ≡ offset_in at
+  pub in_range : IsMoment v
+  pub timestamp : IsTrue (shows_timestamp items) → (timestamp_of v ≡ timestamp_in at) × (nanosecond_of v.time ≡ nanosecond_in items at)
+  pub date : IsTrue (not (shows_timestamp items)) → IsDateOf items at v.date
+  pub time : IsTrue (not (shows_timestamp items)) → v.time ≡ (if shows_time items then time_in items at else 0)
+  pub offset : v.offset ≡ (if shows_offset items then offset_in at else pos 0)
 
 -- The component of the first item whose number isn't the number of the moment.
 abbrev pub is_empty : List ℕ → Bool
@@ -85,9 +91,29 @@ item_contradiction (item.Literal b) n v = None
 item_contradiction (item.Number c p) n v = differing c ((number c v == n) && is_empty (sign c v))
 item_contradiction (item.Name k) n v = differing (name_component k) (number (name_component k) v == n)
 item_contradiction item.Fraction n v = differing Nanosecond (number Nanosecond v == n)
+item_contradiction item.Decimals n v = differing Nanosecond (number Nanosecond v == n)
 item_contradiction item.OffsetSign n v = differing OffsetSign (number OffsetSign v == n)
+item_contradiction item.TimestampSign n v = differing TimestampSign (number TimestampSign v == n)
 
 abbrev pub first_contradiction : List Item → List ℕ → Moment → Option Named
 first_contradiction [] numbers v = None
 first_contradiction (i ∷ items) [] v = None
 first_contradiction (i ∷ items) (n ∷ numbers) v = either (item_contradiction i n v) (first_contradiction items numbers v)
+
+-- The items hold a moment: each number has at most the digits of its item and no sign, and what the
+-- items don't determine is 0.
+pub record Holds (items : List Item) (v : Moment) : Type 0 where
+  pub in_range : IsMoment v
+  pub numbers : AreHeld v items
+  pub date : IsTrue (not (shows_timestamp items)) → IsTrue (shows_date items) ⊎ (v.date ≡ 0)
+  pub time : IsTrue (not (shows_timestamp items)) → IsTrue (shows_time items) ⊎ (v.time ≡ 0)
+  pub parts : IsTrue (holds_time items v.time)
+  pub offset_parts : IsTrue (holds_offset items v.offset)
+
+-- The text is the text of a moment that the items hold.
+pub record IsPrinted (items : List Item) (v : Moment) (text : List ℕ) : Type 0 where
+  pub in_range : IsMoment v
+  pub numbers : AreHeld v items
+  pub parts : IsTrue (holds_time items v.time)
+  pub offset_parts : IsTrue (holds_offset items v.offset)
+  pub text_is : text ≡ text_of items v

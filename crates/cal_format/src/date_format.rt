@@ -1,5 +1,5 @@
 //! Dates from texts of a format.
-ghost use Rattle.std.specs.Prelude.{◌≡◌, ℕ, ◌↔◌, Some, IsTrue, IsSome, IfOk, IfErr, IfSome};
+ghost use Rattle.std.specs.Prelude.{◌≡◌, ℕ, ◌↔◌, Ok, IsTrue, IsSome, IfOk, IfErr, IfSome};
 ghost use Rattle.cal_time.specs.Date.{IsDate};
 ghost use Rattle.cal_format.specs.Moment.{moment_of_date};
 ghost use Rattle.cal_format.specs.Text.{text_of};
@@ -7,14 +7,11 @@ ghost use Rattle.cal_format.specs.Reading.{are_apart, are_date_items, shows_date
 ghost use Rattle.cal_format.specs.Rejection.{IsRejection};
 ghost use Rattle.cal_format.specs.Scanning.{AreHeld};
 
-use crate::date_parts::date_of;
 use crate::determines::{are_apart, shows_date};
 use crate::error::ParseError;
-use crate::fields::{Fields, set_items};
 use crate::format::Format;
-use crate::held::{are_held, is_text_of};
-use crate::rejection::rejection;
-use crate::value::{are_date_items, moment_of_date};
+use crate::parsing::parse_moment;
+use crate::value::are_date_items;
 use cal_time::Date;
 use std::marker::Model;
 
@@ -68,32 +65,9 @@ impl DateFormat {
             × (text.now ≡ text_of self.now (moment_of_date n))) }
         ensures error { IfErr result (IsRejection self.now text.now) }
     {
-        match self.find(text) {
-            Some(value) => Ok(value),
-            None => Err(rejection(self.format.items(), text)),
+        match parse_moment(self.format.items(), text) {
+            Ok(moment) => Ok(moment.date),
+            Err(error) => Err(error),
         }
-    }
-
-    fn find(&self, text: &[u8]) -> Option<Date>
-        ensures every { (n : ℕ) → IsDate n → AreHeld (moment_of_date n) self.now
-            → text.now ≡ text_of self.now (moment_of_date n)
-            → result ≡ Some n }
-        ensures value { IfSome result (λ n. IsDate n × AreHeld (moment_of_date n) self.now
-            × (text.now ≡ text_of self.now (moment_of_date n))) }
-    {
-        let items = self.format.items();
-        let mut fields = Fields::new();
-        if !set_items(items, text, &mut fields) {
-            return None;
-        }
-        let date = date_of(items, &fields)?;
-        let moment = moment_of_date(date);
-        if !are_held(items, &moment) {
-            return None;
-        }
-        if !is_text_of(items, &moment, text) {
-            return None;
-        }
-        Some(date)
     }
 }

@@ -7,9 +7,9 @@ ghost use Rattle.cal_format.specs.declared.moment.Moment.{Moment};
 ghost use Rattle.cal_format.specs.Reading.{shows_year, shows_weekday, shows_date};
 ghost use Rattle.cal_format.specs.Ranges.{maximum};
 ghost use Rattle.cal_format.specs.Scanning.{number_at, AreHeld, Agrees};
-ghost use Rattle.cal_format.specs.Values.{year_in, weekday_in, IsDateOf, date_error};
+ghost use Rattle.cal_format.specs.Values.{year_in, weekday_in, IsDateOf, value_error};
 
-use crate::determines::{any_shows, shows_calendar_date, shows_ordinal_date};
+use crate::determines::{any_shows, shows_calendar_date, shows_ordinal_date, shows_timestamp};
 use crate::fields::Fields;
 use crate::item::{Component, Item};
 use cal_time::error::{Component as Named, ComponentRange};
@@ -42,11 +42,14 @@ pub(crate) fn date_of(items: &[Item], fields: &Fields) -> Option<Date>
     iso_week_date(iso_year, week, weekday_of(items, fields))
 }
 
-/// Returns the error of numbers that no date has: the day of the month, the day of the year or the
-/// ISO week.
-pub(crate) fn date_error(items: &[Item]) -> ComponentRange
-    ensures { result ≡ date_error items.now }
+/// Returns the error of numbers that no moment has: the Unix time, the day of the month, the day of the
+/// year or the ISO week.
+pub(crate) fn value_error(items: &[Item]) -> ComponentRange
+    ensures { result ≡ value_error items.now }
 {
+    if shows_timestamp(items) {
+        return ComponentRange::unconditional(Named::Timestamp);
+    }
     if shows_calendar_date(items) {
         return ComponentRange::conditional(Named::Day);
     }
@@ -57,7 +60,7 @@ pub(crate) fn date_error(items: &[Item]) -> ComponentRange
 }
 
 /// Returns the year.
-fn year_of(items: &[Item], fields: &Fields) -> u32
+fn year_of(items: &[Item], fields: &Fields) -> u64
     ensures every { (v : Moment) → AreHeld v items.now → Agrees items.now fields.now v
         → IsTrue (shows_year items.now)
         → (pos result ≡ year_at v.date) × (result < 10000) }
@@ -72,7 +75,7 @@ fn year_of(items: &[Item], fields: &Fields) -> u32
     year_of_century(century, year)
 }
 
-fn year_of_century(century: u32, year: u32) -> u32
+fn year_of_century(century: u64, year: u64) -> u64
     ensures { century < 100 → year < 100 → result ≡ century * 100 + year }
 {
     century.wrapping_mul(100).wrapping_add(year)
@@ -99,7 +102,7 @@ fn weekday_of(items: &[Item], fields: &Fields) -> u8
     ((number % 8 + 5) % 7) as u8
 }
 
-fn calendar_date(year: u32, month: u32, day: u32) -> Option<Date>
+fn calendar_date(year: u64, month: u64, day: u64) -> Option<Date>
     ensures every { (n : ℕ) → IsDate n → year < 10000 → month < 100 → day < 100
         → HasCalendarDate (pos year) month day n
         → result ≡ Some n }
@@ -127,7 +130,7 @@ fn month_date(year: i32, month: u8, day: u8) -> Option<Date>
     }
 }
 
-fn ordinal_date(year: u32, ordinal: u32) -> Option<Date>
+fn ordinal_date(year: u64, ordinal: u64) -> Option<Date>
     ensures every { (n : ℕ) → IsDate n → year < 10000 → ordinal < 1000
         → HasOrdinalDate (pos year) ordinal n
         → result ≡ Some n }
@@ -143,7 +146,7 @@ fn ordinal_date(year: u32, ordinal: u32) -> Option<Date>
     }
 }
 
-fn iso_week_date(year: u32, week: u32, weekday: u8) -> Option<Date>
+fn iso_week_date(year: u64, week: u64, weekday: u8) -> Option<Date>
     requires { weekday < 7 }
     ensures every { (n : ℕ) → IsDate n → year < 10000 → week < 100
         → HasIsoWeekDate (pos year) week weekday n

@@ -7,15 +7,11 @@ ghost use Rattle.cal_format.specs.Reading.{are_apart, are_date_time_items, shows
 ghost use Rattle.cal_format.specs.Rejection.{IsRejection};
 ghost use Rattle.cal_format.specs.Scanning.{AreHeld};
 
-use crate::date_parts::date_of;
-use crate::determines::{are_apart, holds_time, shows_date, shows_time};
+use crate::determines::{are_apart, shows_date, shows_time};
 use crate::error::ParseError;
-use crate::fields::{Fields, set_items};
 use crate::format::Format;
-use crate::held::{are_held, is_text_of};
-use crate::rejection::rejection;
-use crate::time_parts::time_of;
-use crate::value::{are_date_time_items, moment_of_date_time};
+use crate::parsing::parse_moment;
+use crate::value::are_date_time_items;
 use cal_datetime::PlainDateTime;
 use std::marker::Model;
 
@@ -78,39 +74,9 @@ impl DateTimeFormat {
             × (text.now ≡ text_of self.now (moment_of_date_time z))) }
         ensures error { IfErr result (IsRejection self.now text.now) }
     {
-        match self.find(text) {
-            Some(value) => Ok(value),
-            None => Err(rejection(self.format.items(), text)),
+        match parse_moment(self.format.items(), text) {
+            Ok(moment) => Ok(PlainDateTime::new(moment.date, moment.time)),
+            Err(error) => Err(error),
         }
-    }
-
-    fn find(&self, text: &[u8]) -> Option<PlainDateTime>
-        ensures every { (z : ℤ) → IsDateTime z → AreHeld (moment_of_date_time z) self.now
-            → IsTrue (holds_time self.now (time_at z))
-            → text.now ≡ text_of self.now (moment_of_date_time z)
-            → result ≡ Some z }
-        ensures value { IfSome result (λ z. IsDateTime z × AreHeld (moment_of_date_time z) self.now
-            × IsTrue (holds_time self.now (time_at z))
-            × (text.now ≡ text_of self.now (moment_of_date_time z))) }
-    {
-        let items = self.format.items();
-        let mut fields = Fields::new();
-        if !set_items(items, text, &mut fields) {
-            return None;
-        }
-        let date = date_of(items, &fields)?;
-        let time = time_of(items, &fields)?;
-        let date_time = PlainDateTime::new(date, time);
-        let moment = moment_of_date_time(date_time);
-        if !holds_time(items, time) {
-            return None;
-        }
-        if !are_held(items, &moment) {
-            return None;
-        }
-        if !is_text_of(items, &moment, text) {
-            return None;
-        }
-        Some(date_time)
     }
 }

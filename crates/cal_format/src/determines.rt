@@ -1,9 +1,8 @@
 //! The values that a format determines.
 ghost use Rattle.std.specs.Prelude.{◌≡◌};
-ghost use Rattle.cal_format.specs.Reading.{any_shows, is_apart, begins_apart, is_past_point, begins_past_point, ends_before, are_apart, shows_year, shows_weekday, shows_calendar_date, shows_ordinal_date, shows_iso_week_date, shows_date, shows_hour, shows_subsecond, shows_time, holds_subsecond, holds_time, shows_offset, holds_offset};
+ghost use Rattle.cal_format.specs.Reading.{any_shows, is_apart, begins_apart, is_past_point, begins_past_point, is_decimal, begins_with_decimal, ends_before, are_apart, shows_year, shows_weekday, shows_calendar_date, shows_ordinal_date, shows_iso_week_date, shows_date, shows_hour, shows_subsecond, shows_time, shows_offset, shows_timestamp, shows_moment};
 
 use crate::item::{Component, Item, Padding};
-use cal_time::{Time, UtcOffset};
 
 /// Returns `true` if an item shows the component.
 pub(crate) fn any_shows(items: &[Item], component: Component) -> bool
@@ -35,6 +34,16 @@ fn begins_apart(items: &[Item]) -> bool
     }
 }
 
+/// Returns `true` if the items begin with a number without padding.
+fn begins_with_decimal(items: &[Item]) -> bool
+    ensures { result ≡ begins_with_decimal items.now }
+{
+    match items {
+        [] => false,
+        [item, ..] => item.is_decimal(),
+    }
+}
+
 /// Returns `true` if the items don't begin with a point.
 fn begins_past_point(items: &[Item]) -> bool
     ensures { result ≡ begins_past_point items.now }
@@ -52,6 +61,8 @@ impl Item {
         match self {
             Item::Number(_, Padding::None) => begins_apart(others),
             Item::Fraction => begins_apart(others) && begins_past_point(others),
+            Item::Decimals => begins_apart(others),
+            Item::TimestampSign => begins_with_decimal(others),
             _ => true,
         }
     }
@@ -63,6 +74,15 @@ impl Item {
             Item::Literal(byte) => byte < 48 || byte > 57,
             Item::Name(_) => true,
             Item::OffsetSign => true,
+            _ => false,
+        }
+    }
+
+    fn is_decimal(self) -> bool
+        ensures { result ≡ is_decimal self }
+    {
+        match self {
+            Item::Number(_, Padding::None) => true,
             _ => false,
         }
     }
@@ -144,30 +164,6 @@ pub(crate) fn shows_time(items: &[Item]) -> bool
     shows_hour(items) && (minute || !second) && (second || !shows_subsecond(items))
 }
 
-/// Returns `true` if each part of the time of day that the items don't show is 0.
-pub(crate) fn holds_time(items: &[Item], time: Time) -> bool
-    ensures { result ≡ holds_time items.now time }
-{
-    (any_shows(items, Component::Minute) || time.minute() == 0)
-        && (any_shows(items, Component::Second) || time.second() == 0)
-        && holds_subsecond(items, time.nanosecond())
-}
-
-fn holds_subsecond(items: &[Item], nanosecond: u32) -> bool
-    ensures { result ≡ holds_subsecond items.now nanosecond }
-{
-    if any_shows(items, Component::Nanosecond) {
-        return true;
-    }
-    if any_shows(items, Component::Microsecond) {
-        return nanosecond % 1_000 == 0;
-    }
-    if any_shows(items, Component::Millisecond) {
-        return nanosecond % 1_000_000 == 0;
-    }
-    nanosecond == 0
-}
-
 /// Returns `true` if the items determine an offset.
 pub(crate) fn shows_offset(items: &[Item]) -> bool
     ensures { result ≡ shows_offset items.now }
@@ -178,11 +174,16 @@ pub(crate) fn shows_offset(items: &[Item]) -> bool
         && (minute || !any_shows(items, Component::OffsetSecond))
 }
 
-/// Returns `true` if each part of the offset that the items don't show is 0.
-pub(crate) fn holds_offset(items: &[Item], offset: UtcOffset) -> bool
-    ensures { result ≡ holds_offset items.now offset }
+/// Returns `true` if the items show a Unix time.
+pub(crate) fn shows_timestamp(items: &[Item]) -> bool
+    ensures { result ≡ shows_timestamp items.now }
 {
-    let magnitude = offset.whole_seconds().unsigned_abs();
-    (any_shows(items, Component::OffsetMinute) || magnitude / 60 % 60 == 0)
-        && (any_shows(items, Component::OffsetSecond) || magnitude % 60 == 0)
+    any_shows(items, Component::TimestampSign) && any_shows(items, Component::Timestamp)
+}
+
+/// Returns `true` if the items determine a date-time at an offset.
+pub(crate) fn shows_moment(items: &[Item]) -> bool
+    ensures { result ≡ shows_moment items.now }
+{
+    shows_timestamp(items) || (shows_date(items) && shows_time(items) && shows_offset(items))
 }

@@ -1,9 +1,13 @@
-//! The spellings of items after a percent sign or an opening bracket.
+//! The directives of `strftime`.
 ghost use Rattle.std.specs.Prelude.{◌≡◌, ◌≤◌, map};
 ghost use Rattle.cal_format.specs.Directive.{begins_with, front_in};
 
-use crate::item::Component::*;
-use crate::item::Item::{self, Fraction, Literal, Number, OffsetSign};
+use crate::item::Component::{
+    Century, Day, DaysFromSunday, Hour, Hour12, IsoWeek, IsoYear, Microsecond, Millisecond, Minute,
+    MondayWeek, Month, Nanosecond, OffsetHour, OffsetMinute, OffsetSecond, Ordinal, Second,
+    SundayWeek, Timestamp, Weekday, Year, YearOfCentury,
+};
+use crate::item::Item::{self, Fraction, Literal, Number, OffsetSign, TimestampSign};
 use crate::item::Name::{self, ShortMonth, ShortWeekday};
 use crate::item::Padding::{self, Space, Zero};
 
@@ -15,7 +19,7 @@ pub(crate) struct Directive {
 }
 
 /// The directives of `strftime`, after the percent sign.
-pub(crate) const DIRECTIVES: [(&str, &[Item]); 43] = [
+pub(crate) const DIRECTIVES: [(&str, &[Item]); 44] = [
     ("-m", &[Number(Month, Padding::None)]),
     ("-d", &[Number(Day, Padding::None)]),
     ("-H", &[Number(Hour, Padding::None)]),
@@ -111,73 +115,10 @@ pub(crate) const DIRECTIVES: [(&str, &[Item]); 43] = [
             Number(OffsetSecond, Zero),
         ],
     ),
+    ("s", &[TimestampSign, Number(Timestamp, Padding::None)]),
     ("n", &[Literal(b'\n')]),
     ("t", &[Literal(b'\t')]),
     ("%", &[Literal(b'%')]),
-];
-
-/// The components of `time`'s format descriptions, after the opening bracket.
-pub(crate) const DESCRIPTIONS: [(&str, &[Item]); 51] = [
-    ("year]", &[Number(Year, Zero)]),
-    ("year padding:zero]", &[Number(Year, Zero)]),
-    ("year repr:full]", &[Number(Year, Zero)]),
-    ("year base:calendar]", &[Number(Year, Zero)]),
-    ("year base:iso_week]", &[Number(IsoYear, Zero)]),
-    ("year repr:century]", &[Number(Century, Zero)]),
-    ("year repr:last_two]", &[Number(YearOfCentury, Zero)]),
-    ("month]", &[Number(Month, Zero)]),
-    ("month padding:zero]", &[Number(Month, Zero)]),
-    ("month repr:numerical]", &[Number(Month, Zero)]),
-    ("month padding:none]", &[Number(Month, Padding::None)]),
-    ("month repr:long]", &[Item::Name(Name::Month)]),
-    ("month repr:short]", &[Item::Name(ShortMonth)]),
-    ("day]", &[Number(Day, Zero)]),
-    ("day padding:zero]", &[Number(Day, Zero)]),
-    ("day padding:none]", &[Number(Day, Padding::None)]),
-    ("day padding:space]", &[Number(Day, Space)]),
-    ("ordinal]", &[Number(Ordinal, Zero)]),
-    ("ordinal padding:zero]", &[Number(Ordinal, Zero)]),
-    ("week_number]", &[Number(IsoWeek, Zero)]),
-    ("week_number padding:zero]", &[Number(IsoWeek, Zero)]),
-    ("week_number repr:iso]", &[Number(IsoWeek, Zero)]),
-    ("week_number repr:sunday]", &[Number(SundayWeek, Zero)]),
-    ("week_number repr:monday]", &[Number(MondayWeek, Zero)]),
-    ("weekday]", &[Item::Name(Name::Weekday)]),
-    ("weekday repr:long]", &[Item::Name(Name::Weekday)]),
-    ("weekday repr:short]", &[Item::Name(ShortWeekday)]),
-    ("weekday repr:monday]", &[Number(Weekday, Zero)]),
-    ("weekday repr:sunday]", &[Number(SundayWeekday, Zero)]),
-    ("hour]", &[Number(Hour, Zero)]),
-    ("hour padding:zero]", &[Number(Hour, Zero)]),
-    ("hour repr:24]", &[Number(Hour, Zero)]),
-    ("hour padding:none]", &[Number(Hour, Padding::None)]),
-    ("hour repr:12]", &[Number(Hour12, Zero)]),
-    (
-        "hour repr:12 padding:none]",
-        &[Number(Hour12, Padding::None)],
-    ),
-    (
-        "hour padding:none repr:12]",
-        &[Number(Hour12, Padding::None)],
-    ),
-    ("period]", &[Item::Name(Name::Period)]),
-    ("period case:upper]", &[Item::Name(Name::Period)]),
-    ("minute]", &[Number(Minute, Zero)]),
-    ("minute padding:zero]", &[Number(Minute, Zero)]),
-    ("second]", &[Number(Second, Zero)]),
-    ("second padding:zero]", &[Number(Second, Zero)]),
-    ("subsecond digits:3]", &[Number(Millisecond, Zero)]),
-    ("subsecond digits:6]", &[Number(Microsecond, Zero)]),
-    ("subsecond digits:9]", &[Number(Nanosecond, Zero)]),
-    (
-        "offset_hour sign:mandatory]",
-        &[OffsetSign, Number(OffsetHour, Zero)],
-    ),
-    ("offset_minute]", &[Number(OffsetMinute, Zero)]),
-    ("offset_minute padding:zero]", &[Number(OffsetMinute, Zero)]),
-    ("offset_second]", &[Number(OffsetSecond, Zero)]),
-    ("offset_second padding:zero]", &[Number(OffsetSecond, Zero)]),
-    ("[", &[Literal(b'[')]),
 ];
 
 /// Returns the items of the first row whose spelling begins the text.
@@ -208,7 +149,7 @@ pub(crate) fn front_in(table: &'static [(&'static str, &'static [Item])], text: 
 
 /// Returns `true` if the text begins with this one.
 #[tactic(auto, unfolding(crate::specs::Directive::begins_with))]
-fn begins_with(text: &[u8], front: &[u8]) -> bool
+pub(crate) fn begins_with(text: &[u8], front: &[u8]) -> bool
     ensures { result ≡ begins_with front.now text.now }
 {
     match front {

@@ -3,11 +3,13 @@ ghost use Rattle.std.specs.Prelude.{◌≡◌, ◌+◌, ◌-◌, ◌*◌, ◌<�
 ghost use Rattle.cal_text.specs.Shape.{Scans, ScansWhole, ParsesMoreDigits, Digits};
 ghost use Rattle.cal_format.specs.declared.item.Padding.TheVariants as paddings;
 ghost use Rattle.cal_format.specs.declared.item.Item.TheVariants as item_variants;
+ghost use Rattle.cal_time.specs.Digits.{decimals};
+ghost use Rattle.cal_format.specs.Moment.{width, width_of};
 ghost use Rattle.cal_format.specs.Text.{padded, fraction_text};
 ghost use Rattle.cal_format.specs.Form.{AfterSpaces, Decimal, Padded, Decimals, ItemShape, shape_of, numbered_item, IsNumber, HasNumbers, ParsesDecimals};
 
 use crate::form_names::scan_name;
-use crate::item::{Item, Padding};
+use crate::item::{Component, Item, Padding};
 use cal_text::{Scanner, scan_positive_number};
 
 /// Parses the numbers of the items up to the end of the text, and writes them from this place on. A
@@ -15,10 +17,10 @@ use cal_text::{Scanner, scan_positive_number};
 pub(crate) fn scan_items(
     items: &[Item],
     scanner: &mut Scanner,
-    numbers: &mut [u32],
+    numbers: &mut [u64],
     at: usize,
 ) -> Option<()>
-    requires { at + length items.now ≤ length numbers.old }
+    requires { at + length items.now ≡ length numbers.old }
     ensures scans { ScansWhole (shape_of items.now) scanner.old.rest.now scanner.new.rest.now
         result }
     ensures value { IfSome result (λ _.
@@ -35,7 +37,7 @@ pub(crate) fn scan_items(
 }
 
 /// Parses the number of an item.
-fn scan_item(scanner: &mut Scanner, item: Item) -> Option<u32>
+fn scan_item(scanner: &mut Scanner, item: Item) -> Option<u64>
     ensures scans { Scans (ItemShape item) scanner.old.rest.now scanner.new.rest.now result }
     ensures value { IfSome result (λ n.
         scanner.old.rest.now ≡ numbered_item item n ++ scanner.new.rest.now) }
@@ -46,32 +48,37 @@ fn scan_item(scanner: &mut Scanner, item: Item) -> Option<u32>
             scanner.byte(byte)?;
             Some(0)
         }
-        Item::Number(component, pad) => scan_number(scanner, pad, component.width()),
+        Item::Number(component, pad) => scan_number(scanner, pad, component),
         Item::Name(name) => scan_name(scanner, name),
         Item::Fraction => scan_fraction(scanner),
+        Item::Decimals => scan_some_decimals(scanner),
         Item::OffsetSign => {
             let is_minus = scanner.sign()?;
-            Some(u32::from(is_minus))
+            Some(u64::from(is_minus))
         }
+        Item::TimestampSign => match scanner.byte(b'-') {
+            Some(()) => Some(1),
+            None => Some(0),
+        },
     }
 }
 
-fn scan_number(scanner: &mut Scanner, pad: Padding, width: u8) -> Option<u32>
-    requires { (1 ≤ width) × (width ≤ 9) }
-    ensures scans { Scans (Padded pad width) scanner.old.rest.now scanner.new.rest.now result }
+fn scan_number(scanner: &mut Scanner, pad: Padding, component: Component) -> Option<u64>
+    ensures scans { Scans (Padded pad (width_of pad component)) scanner.old.rest.now
+        scanner.new.rest.now result }
     ensures value { IfSome result (λ n.
-        scanner.old.rest.now ≡ padded pad width n ++ scanner.new.rest.now) }
-    ensures range { IfSome result (λ n. n < 10 ^ width) }
+        scanner.old.rest.now ≡ padded pad (width component) n ++ scanner.new.rest.now) }
+    ensures range { IfSome result (λ n. n < 10 ^ width_of pad component) }
 {
     match pad {
-        Padding::Zero => scan_digits(scanner, 0, width),
-        Padding::Space => scan_after_spaces(scanner, width - 1),
-        Padding::None => scan_decimal(scanner, width - 1),
+        Padding::Zero => scan_digits(scanner, 0, component.width()),
+        Padding::Space => scan_after_spaces(scanner, component.width() - 1),
+        Padding::None => scan_decimal(scanner, component.most_digits() - 1),
     }
 }
 
 /// Parses this many digits after the digits of `number`, and returns the new number.
-fn scan_digits(scanner: &mut Scanner, number: u32, count: u8) -> Option<u32>
+fn scan_digits(scanner: &mut Scanner, number: u64, count: u8) -> Option<u64>
     requires { (number + 1) * 10 ^ count ≤ 10 ^ 9 }
     ensures scans { Scans (Digits count) scanner.old.rest.now scanner.new.rest.now result }
     ensures value { IfSome result (ParsesMoreDigits scanner.old.rest.now scanner.new.rest.now count
@@ -84,11 +91,11 @@ fn scan_digits(scanner: &mut Scanner, number: u32, count: u8) -> Option<u32>
         return Some(number);
     }
     let digit = scanner.digit()?;
-    scan_digits(scanner, number * 10 + digit, count - 1)
+    scan_digits(scanner, number * 10 + u64::from(digit), count - 1)
 }
 
 /// Parses spaces and a number without leading zeros, `more + 1` bytes in all.
-fn scan_after_spaces(scanner: &mut Scanner, more: u8) -> Option<u32>
+fn scan_after_spaces(scanner: &mut Scanner, more: u8) -> Option<u64>
     requires { more ≤ 8 }
     ensures scans { Scans (AfterSpaces more) scanner.old.rest.now scanner.new.rest.now result }
     ensures value { IfSome result (λ n.
@@ -96,20 +103,21 @@ fn scan_after_spaces(scanner: &mut Scanner, more: u8) -> Option<u32>
     ensures range { IfSome result (λ n. n < 10 ^ (more + 1)) }
 {
     if more == 0 {
-        return scanner.digit();
+        let digit = scanner.digit()?;
+        return Some(u64::from(digit));
     }
     match scanner.byte(b' ') {
         Some(()) => scan_after_spaces(scanner, more - 1),
         None => {
             let first = scanner.digit_from_1()?;
-            scan_digits(scanner, first, more)
+            scan_digits(scanner, u64::from(first), more)
         }
     }
 }
 
 /// Parses a number without leading zeros, of up to `more + 1` digits.
-fn scan_decimal(scanner: &mut Scanner, more: u8) -> Option<u32>
-    requires { more ≤ 8 }
+fn scan_decimal(scanner: &mut Scanner, more: u8) -> Option<u64>
+    requires { more ≤ 13 }
     ensures scans { Scans (Decimal more) scanner.old.rest.now scanner.new.rest.now result }
     ensures value { IfSome result (λ n.
         scanner.old.rest.now ≡ decimal n ++ scanner.new.rest.now) }
@@ -117,16 +125,13 @@ fn scan_decimal(scanner: &mut Scanner, more: u8) -> Option<u32>
 {
     match scanner.byte(b'0') {
         Some(()) => Some(0),
-        None => {
-            let number = scan_positive_number(scanner, usize::from(more))?;
-            Some(number as u32)
-        }
+        None => scan_positive_number(scanner, usize::from(more)),
     }
 }
 
 /// Parses a fraction of a second, and returns its nanoseconds: nothing, or a point and up to nine
 /// digits, of which the last is not 0.
-fn scan_fraction(scanner: &mut Scanner) -> Option<u32>
+fn scan_fraction(scanner: &mut Scanner) -> Option<u64>
     ensures scans { Scans (ItemShape item_variants.Fraction) scanner.old.rest.now scanner.new.rest.now result }
     ensures value { IfSome result (λ n.
         scanner.old.rest.now ≡ fraction_text n ++ scanner.new.rest.now) }
@@ -138,10 +143,23 @@ fn scan_fraction(scanner: &mut Scanner) -> Option<u32>
     }
 }
 
+/// Parses one to nine digits of a fraction, of which the last is not 0 if there are several, and
+/// returns their nanoseconds.
+fn scan_some_decimals(scanner: &mut Scanner) -> Option<u64>
+    ensures scans { Scans (ItemShape item_variants.Decimals) scanner.old.rest.now scanner.new.rest.now result }
+    ensures value { IfSome result (λ n.
+        scanner.old.rest.now ≡ decimals n ++ scanner.new.rest.now) }
+    ensures range { IfSome result (λ n. n < 1_000_000_000) }
+{
+    let digit = scanner.digit()?;
+    let others = scan_decimals(scanner, 10_000_000, 7, true)?;
+    Some(u64::from(digit) * 100_000_000 + others)
+}
+
 /// Parses up to `more + 1` digits of a fraction, of which the last is not 0, and returns their
 /// nanoseconds. The first digit counts `unit` nanoseconds. There may be no digit if `may_end` is
 /// `true`.
-fn scan_decimals(scanner: &mut Scanner, unit: u32, more: u8, may_end: bool) -> Option<u32>
+fn scan_decimals(scanner: &mut Scanner, unit: u64, more: u8, may_end: bool) -> Option<u64>
     requires { unit * 10 ≤ 1_000_000_000 }
     ensures scans { Scans (Decimals may_end more) scanner.old.rest.now scanner.new.rest.now
         result }
@@ -151,10 +169,10 @@ fn scan_decimals(scanner: &mut Scanner, unit: u32, more: u8, may_end: bool) -> O
 {
     if let Some(digit) = scanner.digit_from_1() {
         if more == 0 {
-            return Some(digit * unit);
+            return Some(u64::from(digit) * unit);
         }
         let others = scan_decimals(scanner, unit / 10, more - 1, true)?;
-        return Some(digit * unit + others);
+        return Some(u64::from(digit) * unit + others);
     }
     if more == 0 {
         return if may_end { Some(0) } else { None };

@@ -7,7 +7,7 @@ use crate::item::Name;
 use cal_text::Scanner;
 
 /// Parses a name. Returns the number of its month or weekday, from 1, or 0 for `AM` and 1 for `PM`.
-pub(crate) fn scan_name(scanner: &mut Scanner, name: Name) -> Option<u32>
+pub(crate) fn scan_name(scanner: &mut Scanner, name: Name) -> Option<u64>
     ensures scans { Scans (NameShape name) scanner.old.rest.now scanner.new.rest.now result }
     ensures value { IfSome result (λ n.
         scanner.old.rest.now ≡ numbered_name name n ++ scanner.new.rest.now) }
@@ -23,7 +23,7 @@ pub(crate) fn scan_name(scanner: &mut Scanner, name: Name) -> Option<u32>
 }
 
 #[tactic(auto, unfolding(crate::specs::Form::MonthName))]
-fn scan_month(scanner: &mut Scanner, is_long: bool) -> Option<u32>
+fn scan_month(scanner: &mut Scanner, is_long: bool) -> Option<u64>
     ensures scans { Scans (MonthName is_long) scanner.old.rest.now scanner.new.rest.now result }
     ensures value { IfSome result (λ n. scanner.old.rest.now ≡ month_text is_long n ++ scanner.new.rest.now) }
     ensures range { IfSome result (λ n. (1 ≤ n) × (n ≤ 12)) }
@@ -42,7 +42,7 @@ fn scan_month(scanner: &mut Scanner, is_long: bool) -> Option<u32>
 
 /// Parses January, June or July after its first letter.
 #[tactic(auto, unfolding(crate::specs::Form::MonthOfJ))]
-fn scan_month_of_j(scanner: &mut Scanner, is_long: bool) -> Option<u32>
+fn scan_month_of_j(scanner: &mut Scanner, is_long: bool) -> Option<u64>
     ensures scans { Scans (MonthOfJ is_long) scanner.old.rest.now scanner.new.rest.now result }
     ensures value { IfSome result (λ n. 74 ∷ scanner.old.rest.now ≡ month_text is_long n ++ scanner.new.rest.now) }
     ensures range { IfSome result (λ n. (1 ≤ n) × (n ≤ 12)) }
@@ -60,7 +60,7 @@ fn scan_month_of_j(scanner: &mut Scanner, is_long: bool) -> Option<u32>
 
 /// Parses March or May after its first letter.
 #[tactic(auto, unfolding(crate::specs::Form::MonthOfM))]
-fn scan_month_of_m(scanner: &mut Scanner, is_long: bool) -> Option<u32>
+fn scan_month_of_m(scanner: &mut Scanner, is_long: bool) -> Option<u64>
     ensures scans { Scans (MonthOfM is_long) scanner.old.rest.now scanner.new.rest.now result }
     ensures value { IfSome result (λ n. 77 ∷ scanner.old.rest.now ≡ month_text is_long n ++ scanner.new.rest.now) }
     ensures range { IfSome result (λ n. (1 ≤ n) × (n ≤ 12)) }
@@ -74,7 +74,7 @@ fn scan_month_of_m(scanner: &mut Scanner, is_long: bool) -> Option<u32>
 
 /// Parses April or August after its first letter.
 #[tactic(auto, unfolding(crate::specs::Form::MonthOfA))]
-fn scan_month_of_a(scanner: &mut Scanner, is_long: bool) -> Option<u32>
+fn scan_month_of_a(scanner: &mut Scanner, is_long: bool) -> Option<u64>
     ensures scans { Scans (MonthOfA is_long) scanner.old.rest.now scanner.new.rest.now result }
     ensures value { IfSome result (λ n. 65 ∷ scanner.old.rest.now ≡ month_text is_long n ++ scanner.new.rest.now) }
     ensures range { IfSome result (λ n. (1 ≤ n) × (n ≤ 12)) }
@@ -87,7 +87,7 @@ fn scan_month_of_a(scanner: &mut Scanner, is_long: bool) -> Option<u32>
 
 /// Parses a month that begins with another letter.
 #[tactic(auto, unfolding(crate::specs::Form::OtherMonth))]
-fn scan_other_month(scanner: &mut Scanner, is_long: bool) -> Option<u32>
+fn scan_other_month(scanner: &mut Scanner, is_long: bool) -> Option<u64>
     ensures scans { Scans (OtherMonth is_long) scanner.old.rest.now scanner.new.rest.now result }
     ensures value { IfSome result (λ n. scanner.old.rest.now ≡ month_text is_long n ++ scanner.new.rest.now) }
     ensures range { IfSome result (λ n. (1 ≤ n) × (n ≤ 12)) }
@@ -109,7 +109,7 @@ fn scan_other_month(scanner: &mut Scanner, is_long: bool) -> Option<u32>
 }
 
 #[tactic(auto, unfolding(crate::specs::Form::WeekdayName))]
-fn scan_weekday(scanner: &mut Scanner, is_long: bool) -> Option<u32>
+fn scan_weekday(scanner: &mut Scanner, is_long: bool) -> Option<u64>
     ensures scans { Scans (WeekdayName is_long) scanner.old.rest.now scanner.new.rest.now result }
     ensures value { IfSome result (λ n. scanner.old.rest.now ≡ weekday_text is_long n ++ scanner.new.rest.now) }
     ensures range { IfSome result (λ n. (1 ≤ n) × (n ≤ 7)) }
@@ -132,7 +132,7 @@ fn scan_weekday(scanner: &mut Scanner, is_long: bool) -> Option<u32>
 
 /// Parses Tuesday or Thursday after its first letter.
 #[tactic(auto, unfolding(crate::specs::Form::WeekdayOfT))]
-fn scan_weekday_of_t(scanner: &mut Scanner, is_long: bool) -> Option<u32>
+fn scan_weekday_of_t(scanner: &mut Scanner, is_long: bool) -> Option<u64>
     ensures scans { Scans (WeekdayOfT is_long) scanner.old.rest.now scanner.new.rest.now result }
     ensures value { IfSome result (λ n. 84 ∷ scanner.old.rest.now ≡ weekday_text is_long n ++ scanner.new.rest.now) }
     ensures range { IfSome result (λ n. (1 ≤ n) × (n ≤ 7)) }
@@ -145,7 +145,7 @@ fn scan_weekday_of_t(scanner: &mut Scanner, is_long: bool) -> Option<u32>
 
 /// Parses Saturday or Sunday after its first letter.
 #[tactic(auto, unfolding(crate::specs::Form::WeekdayOfS))]
-fn scan_weekday_of_s(scanner: &mut Scanner, is_long: bool) -> Option<u32>
+fn scan_weekday_of_s(scanner: &mut Scanner, is_long: bool) -> Option<u64>
     ensures scans { Scans (WeekdayOfS is_long) scanner.old.rest.now scanner.new.rest.now result }
     ensures value { IfSome result (λ n. 83 ∷ scanner.old.rest.now ≡ weekday_text is_long n ++ scanner.new.rest.now) }
     ensures range { IfSome result (λ n. (1 ≤ n) × (n ≤ 7)) }
@@ -157,7 +157,7 @@ fn scan_weekday_of_s(scanner: &mut Scanner, is_long: bool) -> Option<u32>
 }
 
 #[tactic(auto, unfolding(crate::specs::Form::PeriodName))]
-fn scan_period(scanner: &mut Scanner) -> Option<u32>
+fn scan_period(scanner: &mut Scanner) -> Option<u64>
     ensures scans { Scans PeriodName scanner.old.rest.now scanner.new.rest.now result }
     ensures value { IfSome result (λ n.
         scanner.old.rest.now ≡ period_text n ++ scanner.new.rest.now) }
@@ -178,8 +178,8 @@ fn scan_letters(
     letters: &[u8],
     others: &[u8],
     is_long: bool,
-    number: u32,
-) -> Option<u32>
+    number: u64,
+) -> Option<u64>
     ensures scans { Scans (Letters letters.now others.now is_long) scanner.old.rest.now
         scanner.new.rest.now result }
     ensures value { IfSome result (λ _. scanner.old.rest.now ≡ letters.now

@@ -5,7 +5,8 @@ ghost use Rattle.cal_format.specs.declared.item.Syntax.TheVariants.{Percent, Bra
 ghost use Rattle.cal_format.specs.declared.format.FormatError.TheVariants.{UnknownItem, TooLong};
 ghost use Rattle.cal_format.specs.Format.{Spells, IsFaultOf, escape, spelled, front};
 
-use crate::directive::{DESCRIPTIONS, DIRECTIVES, Directive, front_in};
+use crate::description::description_front;
+use crate::directive::{DIRECTIVES, Directive, front_in};
 use crate::item::{Item, Syntax};
 use std::marker::Model;
 
@@ -213,6 +214,6 @@ fn spelled_directive(text: &[u8], syntax: Syntax) -> Directive
 {
     match syntax {
         Syntax::Percent => front_in(&DIRECTIVES, text),
-        Syntax::Brackets => front_in(&DESCRIPTIONS, text),
+        Syntax::Brackets => description_front(text),
     }
 }

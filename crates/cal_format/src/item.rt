@@ -1,7 +1,7 @@
 //! The items of a format.
-ghost use Rattle.std.specs.Prelude.{◌≡◌, ◌<◌, ◌≤◌, ◌^◌};
+ghost use Rattle.std.specs.Prelude.{◌≡◌, ◌<◌, ◌≤◌};
 ghost use Rattle.cal_format.specs.Format.{escape};
-ghost use Rattle.cal_format.specs.Moment.{width};
+ghost use Rattle.cal_format.specs.Moment.{width, most_digits};
 ghost use Rattle.cal_format.specs.Reading.{index, name_component, shows};
 
 /// A number that a format shows of a value.
@@ -57,6 +57,10 @@ pub enum Component {
     OffsetSecond,
     /// The sign of the offset: 1 for minus.
     OffsetSign,
+    /// The seconds since 1970-01-01 0:00 UTC, without their sign.
+    Timestamp,
+    /// The sign of these seconds: 1 for minus.
+    TimestampSign,
 }
 
 /// The bytes before a number with fewer digits than its width.
@@ -96,8 +100,12 @@ pub enum Item {
     Name(Name),
     /// A point and the digits of the second without trailing zeros, or nothing.
     Fraction,
+    /// The digits of the second's fraction without trailing zeros, at least one.
+    Decimals,
     /// The sign of the offset.
     OffsetSign,
+    /// The minus sign of a negative Unix time, or nothing.
+    TimestampSign,
 }
 
 /// The syntax of a format.
@@ -122,7 +130,7 @@ impl Syntax {
 }
 
 impl Component {
-    /// Returns the number of its digits.
+    /// Returns the number of its digits with padding.
     pub(crate) fn width(self) -> u8
         ensures value { result ≡ width self }
         ensures range { (1 ≤ result) × (result ≤ 9) }
@@ -131,27 +139,25 @@ impl Component {
             Component::Year | Component::IsoYear => 4,
             Component::Ordinal | Component::Millisecond => 3,
             Component::Microsecond => 6,
-            Component::Nanosecond => 9,
+            Component::Nanosecond | Component::Timestamp => 9,
             Component::Weekday
             | Component::DaysFromSunday
             | Component::SundayWeekday
             | Component::Period
-            | Component::OffsetSign => 1,
+            | Component::OffsetSign
+            | Component::TimestampSign => 1,
             _ => 2,
         }
     }
 
-    /// Returns the first number that has more digits than the width.
-    pub(crate) fn limit(self) -> u32
-        ensures { result ≡ 10 ^ width self }
+    /// Returns the maximum number of its digits without padding.
+    pub(crate) fn most_digits(self) -> u8
+        ensures value { result ≡ most_digits self }
+        ensures range { (1 ≤ result) × (result ≤ 14) }
     {
-        match self.width() {
-            1 => 10,
-            2 => 100,
-            3 => 1_000,
-            4 => 10_000,
-            6 => 1_000_000,
-            _ => 1_000_000_000,
+        match self {
+            Component::Timestamp => 14,
+            _ => self.width(),
         }
     }
 
@@ -159,7 +165,7 @@ impl Component {
     #[inline(always)]
     pub fn index(self) -> usize
         ensures value { result ≡ index self }
-        ensures range { result < 25 }
+        ensures range { result < 27 }
     {
         match self {
             Component::Year => 0,
@@ -187,6 +193,8 @@ impl Component {
             Component::OffsetMinute => 22,
             Component::OffsetSecond => 23,
             Component::OffsetSign => 24,
+            Component::Timestamp => 25,
+            Component::TimestampSign => 26,
         }
     }
 }
@@ -200,8 +208,9 @@ impl Item {
             Item::Literal(_) => false,
             Item::Number(shown, _) => shown.index() == component.index(),
             Item::Name(name) => name.component().index() == component.index(),
-            Item::Fraction => Component::Nanosecond.index() == component.index(),
+            Item::Fraction | Item::Decimals => Component::Nanosecond.index() == component.index(),
             Item::OffsetSign => Component::OffsetSign.index() == component.index(),
+            Item::TimestampSign => Component::TimestampSign.index() == component.index(),
         }
     }
 }

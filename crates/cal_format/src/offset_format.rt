@@ -6,14 +6,11 @@ ghost use Rattle.cal_format.specs.Text.{text_of};
 ghost use Rattle.cal_format.specs.Reading.{are_apart, are_offset_items, shows_offset, holds_offset};
 ghost use Rattle.cal_format.specs.Rejection.{IsRejection};
 
-use crate::determines::{are_apart, holds_offset, shows_offset};
+use crate::determines::{are_apart, shows_offset};
 use crate::error::ParseError;
-use crate::fields::{Fields, set_items};
 use crate::format::Format;
-use crate::held::is_text_of;
-use crate::offset_parts::offset_of;
-use crate::rejection::rejection;
-use crate::value::{are_offset_items, moment_of_offset};
+use crate::parsing::parse_moment;
+use crate::value::are_offset_items;
 use cal_time::UtcOffset;
 use std::marker::Model;
 
@@ -67,32 +64,9 @@ impl OffsetFormat {
             × (text.now ≡ text_of self.now (moment_of_offset o))) }
         ensures error { IfErr result (IsRejection self.now text.now) }
     {
-        match self.find(text) {
-            Some(value) => Ok(value),
-            None => Err(rejection(self.format.items(), text)),
+        match parse_moment(self.format.items(), text) {
+            Ok(moment) => Ok(moment.offset),
+            Err(error) => Err(error),
         }
-    }
-
-    fn find(&self, text: &[u8]) -> Option<UtcOffset>
-        ensures every { (o : ℤ) → IsOffset o → IsTrue (holds_offset self.now o)
-            → text.now ≡ text_of self.now (moment_of_offset o)
-            → result ≡ Some o }
-        ensures value { IfSome result (λ o. IsOffset o × IsTrue (holds_offset self.now o)
-            × (text.now ≡ text_of self.now (moment_of_offset o))) }
-    {
-        let items = self.format.items();
-        let mut fields = Fields::new();
-        if !set_items(items, text, &mut fields) {
-            return None;
-        }
-        let offset = offset_of(items, &fields)?;
-        let moment = moment_of_offset(offset);
-        if !holds_offset(items, offset) {
-            return None;
-        }
-        if !is_text_of(items, &moment, text) {
-            return None;
-        }
-        Some(offset)
     }
 }

@@ -5,11 +5,12 @@ ghost use Rattle.cal_format.specs.declared.item.Component.{Component};
 ghost use Rattle.cal_format.specs.declared.moment.Moment.{Moment};
 ghost use Rattle.cal_format.specs.Reading.{shows_offset, holds_offset};
 ghost use Rattle.cal_format.specs.Ranges.{maximum};
-ghost use Rattle.cal_format.specs.Scanning.{number_at, Agrees, signed_offset};
+ghost use Rattle.cal_format.specs.Scanning.{number_at, Agrees, signed_seconds};
 ghost use Rattle.cal_format.specs.Values.{offset_in};
 
 use crate::fields::Fields;
 use crate::item::{Component, Item};
+use crate::timestamp::signed;
 use cal_time::UtcOffset;
 
 /// Returns the offset with the numbers of the fields.
@@ -29,32 +30,19 @@ pub(crate) fn offset_of(items: &[Item], fields: &Fields) -> Option<UtcOffset>
 }
 
 /// Returns the offset with this sign, which is 1 for minus, and these hours, minutes and seconds.
-fn offset_with(sign: u32, hour: u32, minute: u32, second: u32) -> Option<UtcOffset>
+fn offset_with(sign: u64, hour: u64, minute: u64, second: u64) -> Option<UtcOffset>
     ensures value { hour ≤ 25 → minute ≤ 59 → second ≤ 59
-        → result ≡ Some (signed_offset sign (hour * 3_600 + minute * 60 + second)) }
+        → result ≡ Some (signed_seconds sign (hour * 3_600 + minute * 60 + second)) }
     ensures in_range { IfSome result IsOffset }
 {
     if hour > 25 || minute > 59 || second > 59 {
         return None;
     }
-    match UtcOffset::from_whole_seconds(signed(sign, hour * 3_600 + minute * 60 + second)) {
+    match UtcOffset::from_whole_seconds(signed(sign, hour * 3_600 + minute * 60 + second) as i32) {
         Ok(offset) => {
             let _ = offset.whole_seconds();
             Some(offset)
         }
         Err(_) => None,
-    }
-}
-
-/// Returns the seconds, negative if the sign is 1.
-fn signed(sign: u32, seconds: u32) -> i32
-    requires { seconds < 100_000 }
-    ensures value { result ≡ signed_offset sign seconds }
-    ensures magnitude { unsigned_abs result ≡ seconds }
-{
-    if sign == 1 {
-        -(seconds as i32)
-    } else {
-        seconds as i32
     }
 }

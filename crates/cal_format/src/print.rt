@@ -2,7 +2,9 @@
 ghost use Rattle.std.specs.Prelude.{◌≡◌, ℕ, ◌+◌, ◌-◌, ◌<◌, ◌≤◌, ◌/◌, ◌%◌, ◌^◌, ◌++◌, ◌∷◌, [], ◌↔◌, IsSome, IfSome, IfNone, length, take, decimal, replicate, unsigned_abs};
 ghost use Rattle.cal_time.specs.Time.{nanosecond_of};
 ghost use Rattle.cal_time.specs.UtcOffset.{sign as offset_sign};
+ghost use Rattle.cal_time.specs.Digits.{decimals};
 ghost use Rattle.cal_time.specs.DateText.{digits_at_least, sign_text};
+ghost use Rattle.cal_format.specs.declared.item.Item.TheVariants as items;
 ghost use Rattle.cal_format.specs.Names.{name_text};
 ghost use Rattle.cal_format.specs.Moment.{number, width};
 ghost use Rattle.cal_format.specs.Text.{sign, padded, fraction_text, item_text, text_of};
@@ -49,7 +51,9 @@ fn print_item(item: Item, moment: &Moment, buffer: &mut [u8], at: usize) -> Opti
         Item::Number(component, pad) => print_number(component, pad, moment, buffer, at),
         Item::Name(name) => print_name(name, moment, buffer, at),
         Item::Fraction => print_fraction(moment.time.nanosecond(), buffer, at),
+        Item::Decimals => print_decimals(moment.time.nanosecond(), buffer, at),
         Item::OffsetSign => print_sign(moment, buffer, at),
+        Item::TimestampSign => put(buffer, at, timestamp_sign(moment)),
     }
 }
 
@@ -106,7 +110,7 @@ fn year_sign(year: i32) -> &'static [u8]
 
 /// Writes the digits of a number.
 #[inline(always)]
-fn put_padded(number: u32, width: u8, pad: Padding, buffer: &mut [u8], at: usize) -> Option<usize>
+fn put_padded(number: u64, width: u8, pad: Padding, buffer: &mut [u8], at: usize) -> Option<usize>
     requires at { at ≤ length buffer.old }
     requires width { width ≤ 9 }
     ensures room { IsSome result ↔ (at + length (padded pad width number) ≤ length buffer.old) }
@@ -122,7 +126,7 @@ fn put_padded(number: u32, width: u8, pad: Padding, buffer: &mut [u8], at: usize
 }
 
 #[inline(always)]
-fn put_with_zeros(number: u32, width: u8, buffer: &mut [u8], at: usize) -> Option<usize>
+fn put_with_zeros(number: u64, width: u8, buffer: &mut [u8], at: usize) -> Option<usize>
     requires at { at ≤ length buffer.old }
     requires width { width ≤ 9 }
     ensures room { IsSome result ↔ (at + length (digits_at_least width number) ≤ length buffer.old) }
@@ -141,7 +145,7 @@ fn put_with_zeros(number: u32, width: u8, buffer: &mut [u8], at: usize) -> Optio
 
 /// Writes the digits of a number, with this byte before them up to the width.
 #[tactic(auto, using(crate::proofs::Digits::short_decimals))]
-fn put_filled(byte: u8, number: u32, width: u8, buffer: &mut [u8], at: usize) -> Option<usize>
+fn put_filled(byte: u8, number: u64, width: u8, buffer: &mut [u8], at: usize) -> Option<usize>
     requires at { at ≤ length buffer.old }
     requires width { width ≤ 9 }
     ensures room { IsSome result ↔ (at + length (replicate (width - length (decimal number)) byte
@@ -152,7 +156,7 @@ fn put_filled(byte: u8, number: u32, width: u8, buffer: &mut [u8], at: usize) ->
         + length (replicate (width - length (decimal number)) byte ++ decimal number)) }
 {
     let mut digits = ShortText::new();
-    digits.push_number(u64::from(number));
+    digits.push_number(number);
     let fill = usize::from(width).saturating_sub(digits.len());
     let next = put_fill(byte, fill, buffer, at)?;
     put(buffer, next, digits.as_bytes())
@@ -174,14 +178,14 @@ fn put_fill(byte: u8, count: usize, buffer: &mut [u8], at: usize) -> Option<usiz
 }
 
 #[tactic(auto, using(crate::proofs::Digits::short_decimals))]
-fn put_decimal(number: u32, buffer: &mut [u8], at: usize) -> Option<usize>
+fn put_decimal(number: u64, buffer: &mut [u8], at: usize) -> Option<usize>
     requires { at ≤ length buffer.old }
     ensures room { IsSome result ↔ (at + length (decimal number) ≤ length buffer.old) }
     ensures text { IfSome result (λ end. take end buffer.new ≡ take at buffer.old ++ decimal number) }
     ensures end { IfSome result (λ end. end ≡ at + length (decimal number)) }
 {
     let mut digits = ShortText::new();
-    digits.push_number(u64::from(number));
+    digits.push_number(number);
     put(buffer, at, digits.as_bytes())
 }
 
@@ -207,7 +211,6 @@ fn print_name(name: Name, moment: &Moment, buffer: &mut [u8], at: usize) -> Opti
     }
 }
 
-#[tactic(auto, using(crate::proofs::Digits::short_fractions))]
 fn print_fraction(nanosecond: u32, buffer: &mut [u8], at: usize) -> Option<usize>
     requires at { at ≤ length buffer.old }
     requires range { nanosecond < 1_000_000_000 }
@@ -219,10 +222,29 @@ fn print_fraction(nanosecond: u32, buffer: &mut [u8], at: usize) -> Option<usize
     if nanosecond == 0 {
         return put(buffer, at, b"");
     }
+    let next = put(buffer, at, b".")?;
+    print_decimals(nanosecond, buffer, next)
+}
+
+#[tactic(auto, using(crate::proofs::Digits::short_fractions))]
+fn print_decimals(nanosecond: u32, buffer: &mut [u8], at: usize) -> Option<usize>
+    requires at { at ≤ length buffer.old }
+    requires range { nanosecond < 1_000_000_000 }
+    ensures room { IsSome result ↔ (at + length (decimals nanosecond) ≤ length buffer.old) }
+    ensures text { IfSome result (λ end.
+        take end buffer.new ≡ take at buffer.old ++ decimals nanosecond) }
+    ensures end { IfSome result (λ end. end ≡ at + length (decimals nanosecond)) }
+{
     let mut digits = ShortText::new();
     digits.push_decimals(nanosecond);
-    let next = put(buffer, at, b".")?;
-    put(buffer, next, digits.as_bytes())
+    put(buffer, at, digits.as_bytes())
+}
+
+/// Returns the sign of a negative Unix time.
+pub(crate) fn timestamp_sign(moment: &Moment) -> &'static [u8]
+    ensures { result.now ≡ item_text moment.now items.TimestampSign }
+{
+    if moment.timestamp() < 0 { b"-" } else { b"" }
 }
 
 fn print_sign(moment: &Moment, buffer: &mut [u8], at: usize) -> Option<usize>

@@ -6,7 +6,7 @@ use crate::item::{Component, Item};
 use cal_time::error::{Component as Named, ComponentRange};
 
 /// Returns the error of the first number out of range.
-pub(crate) fn first_range_error(items: &[Item], numbers: &[u32]) -> Option<ComponentRange>
+pub(crate) fn first_range_error(items: &[Item], numbers: &[u64]) -> Option<ComponentRange>
     ensures { result ≡ first_range_error items.now numbers.now }
 {
     match items {
@@ -23,7 +23,7 @@ pub(crate) fn first_range_error(items: &[Item], numbers: &[u32]) -> Option<Compo
 
 impl Item {
     /// Returns the error of the number of the item if it is out of range.
-    fn error(self, number: u32) -> Option<ComponentRange>
+    fn error(self, number: u64) -> Option<ComponentRange>
         ensures { result ≡ item_error self number }
     {
         match self {
@@ -40,7 +40,7 @@ impl Item {
 }
 
 impl Component {
-    fn minimum(self) -> u32
+    fn minimum(self) -> u64
         ensures { result ≡ minimum self }
     {
         match self {
@@ -55,7 +55,7 @@ impl Component {
         }
     }
 
-    fn maximum(self) -> u32
+    fn maximum(self) -> u64
         ensures { result ≡ maximum self }
     {
         match self {
@@ -72,11 +72,12 @@ impl Component {
             | Component::Second
             | Component::OffsetMinute
             | Component::OffsetSecond => 59,
-            Component::Period | Component::OffsetSign => 1,
+            Component::Period | Component::OffsetSign | Component::TimestampSign => 1,
             Component::Millisecond => 999,
             Component::Microsecond => 999_999,
             Component::Nanosecond => 999_999_999,
             Component::OffsetHour => 25,
+            Component::Timestamp => 99_999_999_999_999,
         }
     }
 
@@ -103,6 +104,7 @@ impl Component {
             Component::OffsetHour | Component::OffsetSign => Named::OffsetHour,
             Component::OffsetMinute => Named::OffsetMinute,
             Component::OffsetSecond => Named::OffsetSecond,
+            Component::Timestamp | Component::TimestampSign => Named::Timestamp,
         }
     }
 

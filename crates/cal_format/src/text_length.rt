@@ -1,18 +1,19 @@
 //! The lengths of the texts that a format prints.
 ghost use Rattle.std.specs.Prelude.{◌≡◌, ◌+◌, ◌*◌, ◌<◌, ◌≤◌, length};
+ghost use Rattle.cal_time.specs.Digits.{decimals};
 ghost use Rattle.cal_format.specs.Names.{name_text};
 ghost use Rattle.cal_format.specs.Text.{padded, fraction_text, item_text, text_of};
 
 use crate::item::{Item, Name, Padding};
 use crate::moment::Moment;
-use crate::print::sign_of;
+use crate::print::{sign_of, timestamp_sign};
 use cal_time::ShortText;
 
 /// Returns the number of bytes that the items print of a moment.
 pub(crate) fn text_length(items: &[Item], moment: &Moment) -> usize
     requires { length items.now ≤ 64 }
     ensures value { result ≡ length (text_of items.now moment.now) }
-    ensures max { result ≤ 20 * length items.now }
+    ensures max { result ≤ 21 * length items.now }
 {
     match items {
         [] => 0,
@@ -22,7 +23,7 @@ pub(crate) fn text_length(items: &[Item], moment: &Moment) -> usize
 
 fn item_length(item: Item, moment: &Moment) -> usize
     ensures value { result ≡ length (item_text moment.now item) }
-    ensures max { result ≤ 20 }
+    ensures max { result ≤ 21 }
 {
     match item {
         Item::Literal(_) => 1,
@@ -32,18 +33,20 @@ fn item_length(item: Item, moment: &Moment) -> usize
         }
         Item::Name(name) => name_length(name, moment),
         Item::Fraction => fraction_length(moment.time.nanosecond()),
+        Item::Decimals => decimals_length(moment.time.nanosecond()),
         Item::OffsetSign => 1,
+        Item::TimestampSign => timestamp_sign(moment).len(),
     }
 }
 
 #[tactic(auto, using(crate::proofs::Digits::short_decimals))]
-fn padded_length(number: u32, width: u8, pad: Padding) -> usize
+fn padded_length(number: u64, width: u8, pad: Padding) -> usize
     requires { width ≤ 9 }
     ensures value { result ≡ length (padded pad width number) }
-    ensures max { result ≤ 10 }
+    ensures max { result ≤ 20 }
 {
     let mut digits = ShortText::new();
-    digits.push_number(u64::from(number));
+    digits.push_number(number);
     match pad {
         Padding::None => digits.len(),
         Padding::Zero => usize::from(width).max(digits.len()),
@@ -64,7 +67,6 @@ fn name_length(name: Name, moment: &Moment) -> usize
     }
 }
 
-#[tactic(auto, using(crate::proofs::Digits::short_fractions))]
 fn fraction_length(nanosecond: u32) -> usize
     requires { nanosecond < 1_000_000_000 }
     ensures value { result ≡ length (fraction_text nanosecond) }
@@ -73,7 +75,16 @@ fn fraction_length(nanosecond: u32) -> usize
     if nanosecond == 0 {
         return 0;
     }
+    1 + decimals_length(nanosecond)
+}
+
+#[tactic(auto, using(crate::proofs::Digits::short_fractions))]
+fn decimals_length(nanosecond: u32) -> usize
+    requires { nanosecond < 1_000_000_000 }
+    ensures value { result ≡ length (decimals nanosecond) }
+    ensures max { result ≤ 9 }
+{
     let mut digits = ShortText::new();
     digits.push_decimals(nanosecond);
-    1 + digits.len()
+    digits.len()
 }

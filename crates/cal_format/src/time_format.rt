@@ -1,19 +1,16 @@
 //! Times of day from texts of a format.
-ghost use Rattle.std.specs.Prelude.{◌≡◌, ℕ, ◌↔◌, Some, IsTrue, IsSome, IfOk, IfErr, IfSome};
+ghost use Rattle.std.specs.Prelude.{◌≡◌, ℕ, ◌↔◌, Ok, IsTrue, IsSome, IfOk, IfErr, IfSome};
 ghost use Rattle.cal_time.specs.Time.{IsTime};
 ghost use Rattle.cal_format.specs.Moment.{moment_of_time};
 ghost use Rattle.cal_format.specs.Text.{text_of};
 ghost use Rattle.cal_format.specs.Reading.{are_apart, are_time_items, shows_time, holds_time};
 ghost use Rattle.cal_format.specs.Rejection.{IsRejection};
 
-use crate::determines::{are_apart, holds_time, shows_time};
+use crate::determines::{are_apart, shows_time};
 use crate::error::ParseError;
-use crate::fields::{Fields, set_items};
 use crate::format::Format;
-use crate::held::is_text_of;
-use crate::rejection::rejection;
-use crate::time_parts::time_of;
-use crate::value::{are_time_items, moment_of_time};
+use crate::parsing::parse_moment;
+use crate::value::are_time_items;
 use cal_time::Time;
 use std::marker::Model;
 
@@ -67,32 +64,9 @@ impl TimeFormat {
             × (text.now ≡ text_of self.now (moment_of_time n))) }
         ensures error { IfErr result (IsRejection self.now text.now) }
     {
-        match self.find(text) {
-            Some(value) => Ok(value),
-            None => Err(rejection(self.format.items(), text)),
+        match parse_moment(self.format.items(), text) {
+            Ok(moment) => Ok(moment.time),
+            Err(error) => Err(error),
         }
-    }
-
-    fn find(&self, text: &[u8]) -> Option<Time>
-        ensures every { (n : ℕ) → IsTime n → IsTrue (holds_time self.now n)
-            → text.now ≡ text_of self.now (moment_of_time n)
-            → result ≡ Some n }
-        ensures value { IfSome result (λ n. IsTime n × IsTrue (holds_time self.now n)
-            × (text.now ≡ text_of self.now (moment_of_time n))) }
-    {
-        let items = self.format.items();
-        let mut fields = Fields::new();
-        if !set_items(items, text, &mut fields) {
-            return None;
-        }
-        let time = time_of(items, &fields)?;
-        let moment = moment_of_time(time);
-        if !holds_time(items, time) {
-            return None;
-        }
-        if !is_text_of(items, &moment, text) {
-            return None;
-        }
-        Some(time)
     }
 }

@@ -2,7 +2,7 @@
 ghost use Rattle.std.specs.Prelude.{◌≡◌, ◌≤◌, ◌↔◌, IsTrue, IsSome, IfSome, IfNone, length, take};
 ghost use Rattle.cal_time.specs.Date.{IsDate};
 ghost use Rattle.cal_format.specs.Moment.{moment_of_date, moment_of_time, moment_of_date_time, moment_of_offset, moment_of_offset_date_time};
-ghost use Rattle.cal_format.specs.Reading.{is_date, is_time, is_date_item, is_time_item, are_date_items, are_time_items, are_date_time_items, is_offset_item, are_offset_items};
+ghost use Rattle.cal_format.specs.Reading.{is_date, is_time, is_offset, is_date_item, is_time_item, are_date_items, are_time_items, are_date_time_items, is_offset_item, are_offset_items};
 ghost use Rattle.cal_format.specs.Text.{text_of};
 
 use crate::format::Format;
@@ -243,6 +243,12 @@ impl Component {
     {
         13 <= self.index() && self.index() < 21
     }
+
+    fn is_offset(self) -> bool
+        ensures { result ≡ is_offset self }
+    {
+        21 <= self.index() && self.index() < 25
+    }
 }
 
 impl Item {
@@ -253,8 +259,8 @@ impl Item {
             Item::Literal(_) => true,
             Item::Number(component, _) => component.is_date(),
             Item::Name(name) => name.component().is_date(),
-            Item::Fraction => false,
-            Item::OffsetSign => false,
+            Item::Fraction | Item::Decimals => false,
+            Item::OffsetSign | Item::TimestampSign => false,
         }
     }
 
@@ -265,8 +271,8 @@ impl Item {
             Item::Literal(_) => true,
             Item::Number(component, _) => component.is_time(),
             Item::Name(name) => name.component().is_time(),
-            Item::Fraction => true,
-            Item::OffsetSign => false,
+            Item::Fraction | Item::Decimals => true,
+            Item::OffsetSign | Item::TimestampSign => false,
         }
     }
 
@@ -275,10 +281,9 @@ impl Item {
     {
         match self {
             Item::Literal(_) => true,
-            Item::Number(component, _) => 21 <= component.index(),
-            Item::Name(_) => false,
-            Item::Fraction => false,
+            Item::Number(component, _) => component.is_offset(),
             Item::OffsetSign => true,
+            Item::Name(_) | Item::Fraction | Item::Decimals | Item::TimestampSign => false,
         }
     }
 }

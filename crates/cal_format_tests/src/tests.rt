@@ -11,6 +11,7 @@ mod offsets;
 mod one_answer;
 mod rows;
 mod texts;
+mod timestamps;
 
 /// The room for a text of a test.
 const ROOM: usize = 64;

@@ -9,7 +9,7 @@ use Rattle.std.specs.Str.Parse.{signed_digits_value, without_leading_sign}
 use Rattle.cal_time.specs.SignedDuration.{second}
 use Rattle.cal_time.specs.declared.Weekday.{Weekday}
 use Rattle.cal_time.specs.declared.Weekday.TheVariants as weekday
-use Rattle.cal_format.specs.Reading.{are_apart, are_date_items, are_date_time_items, shows_date, shows_offset, shows_time}
+use Rattle.cal_format.specs.Reading.{are_apart, are_date_items, are_date_time_items, shows_date, shows_moment, shows_time}
 use Rattle.cal_format.specs.declared.item.Item.{Item}
 use Rattle.cal_text.specs.declared.any.DateForm.TheVariants.{Calendar, Ordinal, Week, JulianDay}
 use Rattle.cal_text.specs.declared.any.DateOrMoment.{DateOrMoment}
@@ -399,7 +399,7 @@ reader_named word =
 abbrev pub reader_with : List Item → Option Reader
 reader_with items =
     if are_apart items && (are_date_items items && shows_date items) then Some (reader.Dates items) else
-    if are_apart items && (shows_date items && (shows_time items && shows_offset items)) then Some (reader.Moments items) else
+    if are_apart items && shows_moment items then Some (reader.Moments items) else
     if are_apart items && (are_date_time_items items && (shows_date items && shows_time items)) then Some (reader.DateTimes items) else
     None
 

@@ -36,6 +36,8 @@ pub(super) fn component_with(number: u8) -> Option<Component>
         22 => Some(Component::OffsetMinute),
         23 => Some(Component::OffsetSecond),
         24 => Some(Component::OffsetSign),
+        25 => Some(Component::Timestamp),
+        26 => Some(Component::TimestampSign),
         _ => None,
     }
 }

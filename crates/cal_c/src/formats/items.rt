@@ -29,6 +29,8 @@ pub(super) fn item_parts(item: Item) -> FormatItem
         Item::Name(name) => (4, name_number(name)),
         Item::Fraction => (5, 0),
         Item::OffsetSign => (6, 0),
+        Item::TimestampSign => (7, 0),
+        Item::Decimals => (8, 0),
     };
     FormatItem { kind, value }
 }
@@ -46,6 +48,8 @@ pub(super) fn item_with(part: FormatItem) -> Option<Item>
         4 => Some(Item::Name(name_with(part.value)?)),
         5 => single_item(part.value, Item::Fraction),
         6 => single_item(part.value, Item::OffsetSign),
+        7 => single_item(part.value, Item::TimestampSign),
+        8 => single_item(part.value, Item::Decimals),
         _ => None,
     }
 }

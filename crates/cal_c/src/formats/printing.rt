@@ -25,8 +25,8 @@ use cal_datetime::{OffsetDateTime, PlainDateTime};
 use cal_format::Format;
 use cal_time::{Date, Time, UtcOffset};
 
-/// The maximum length of a text: 64 items of 10 bytes.
-pub const MAX_LENGTH: usize = 640;
+/// The maximum length of a text: 64 items of 15 bytes.
+pub const MAX_LENGTH: usize = 960;
 
 /// Writes the bytes of a text to the front of a buffer. A text of `None` is one that the format
 /// doesn't have.

@@ -62,6 +62,20 @@ fn descriptions(rt: HostRuntime) -> Result<(), Fail> {
         &rt,
     );
     description_row("[hour padding:none repr:12]", date_time, "7", &rt);
+    description_row("[ hour  repr:12\tpadding:none ]", date_time, "7", &rt);
+    description_row(
+        "[year sign:automatic base:calendar repr:last_two padding:zero]",
+        date_time,
+        "24",
+        &rt,
+    );
+    description_row(
+        "[weekday one_indexed:false repr:sunday][weekday one_indexed:false]",
+        date_time,
+        "5Friday",
+        &rt,
+    );
+    description_row("[subsecond]", date_time, "5", &rt);
     description_row("[subsecond digits:3]", date_time, "500", &rt);
     description_row("[subsecond digits:9]%", date_time, "500000000%", &rt);
     Ok(())
@@ -93,6 +107,13 @@ fn unknown_items(rt: HostRuntime) -> Result<(), Fail> {
     assert!(rt; is_unknown_description("[year]-[mon]", 7));
     assert!(rt; is_unknown_description("[year]-[month", 7));
     assert!(rt; is_unknown_description("[optional [year]]", 0));
+    assert!(rt; is_unknown_description("[hour padding:zero padding:none]", 0));
+    assert!(rt; is_unknown_description("-[hourpadding:none]", 1));
+    assert!(rt; is_unknown_description("[hour repr:12padding:none]", 0));
+    assert!(rt; is_unknown_description("[hour repr:12", 0));
+    assert!(rt; is_unknown_description("[hour repr:1", 0));
+    assert!(rt; is_unknown_description("[]", 0));
+    assert!(rt; is_unknown_description("[day repr:12]", 0));
     assert!(rt; Format::new("").is_ok());
     Ok(())
 }

@@ -1,14 +1,17 @@
 //! Each contract leaves one answer: two calls with the same arguments are proved to return the same.
-ghost use Rattle.std.specs.Prelude.{◌≡◌, length};
+ghost use Rattle.std.specs.Prelude.{◌≡◌, IfSome, length};
 
 use cal_datetime::{OffsetDateTime, PlainDateTime};
 use cal_format::{
-    DateFormat, DateTimeFormat, Format, OffsetDateTimeFormat, OffsetFormat, TimeFormat,
+    DateFormat, DateTimeFormat, Format, OffsetDateTimeFormat, OffsetFormat, ParseError, TimeFormat,
 };
 use cal_time::{Date, Time, UtcOffset};
 
 /// The results of two calls.
 type Twice<T> = (T, T);
+
+/// The results of two calls of `parse`, or `None` if the format doesn't determine a value.
+type ParsedTwice<T> = Option<Twice<Result<T, ParseError>>>;
 
 fn print_date(format: &Format, date: Date, a: &mut [u8], b: &mut [u8]) -> Twice<Option<usize>>
     requires { length a.old ≡ length b.old }
@@ -102,4 +105,39 @@ fn for_offset_date_times(a: Format, b: Format) -> Twice<Option<OffsetDateTimeFor
     ensures { result.0 ≡ result.1 }
 {
     (a.for_offset_date_times(), b.for_offset_date_times())
+}
+
+fn parse_date(format: Format, text: &[u8]) -> ParsedTwice<Date>
+    ensures { IfSome result (λ both. both.0 ≡ both.1) }
+{
+    let format = format.for_dates()?;
+    Some((format.parse(text), format.parse(text)))
+}
+
+fn parse_time(format: Format, text: &[u8]) -> ParsedTwice<Time>
+    ensures { IfSome result (λ both. both.0 ≡ both.1) }
+{
+    let format = format.for_times()?;
+    Some((format.parse(text), format.parse(text)))
+}
+
+fn parse_offset(format: Format, text: &[u8]) -> ParsedTwice<UtcOffset>
+    ensures { IfSome result (λ both. both.0 ≡ both.1) }
+{
+    let format = format.for_offsets()?;
+    Some((format.parse(text), format.parse(text)))
+}
+
+fn parse_date_time(format: Format, text: &[u8]) -> ParsedTwice<PlainDateTime>
+    ensures { IfSome result (λ both. both.0 ≡ both.1) }
+{
+    let format = format.for_date_times()?;
+    Some((format.parse(text), format.parse(text)))
+}
+
+fn parse_offset_date_time(format: Format, text: &[u8]) -> ParsedTwice<OffsetDateTime>
+    ensures { IfSome result (λ both. both.0 ≡ both.1) }
+{
+    let format = format.for_offset_date_times()?;
+    Some((format.parse(text), format.parse(text)))
 }

@@ -69,7 +69,7 @@ fn parse_date_row(text: &[u8], format: &FormatParts) -> (i32, u8)
     (read.date, byte_status(read.status))
 }
 
-/// Writes the texts of dates, like `fots_date_format`. Writes nothing if the bytes lack room for 10
+/// Writes the texts of dates, like `fots_date_format`. Writes nothing if the bytes lack room for 15
 /// bytes for each item and row, or a bound may not fit in an `i32`.
 #[unsafe(no_mangle)]
 pub extern "C" fn fots_dates_format(
@@ -109,17 +109,17 @@ pub extern "C" fn fots_dates_format(
 /// Returns the bytes of room for each text.
 fn room_for_text(format: &FormatParts) -> usize
     ensures value { result ≡ room_for_text format.now }
-    ensures range { (10 ≤ result) × (result ≤ 640) }
+    ensures range { (15 ≤ result) × (result ≤ 960) }
 {
-    (format.length as usize).min(64).max(1) * 10
+    (format.length as usize).min(64).max(1) * 15
 }
 
 /// Writes the text of a date, or an empty text, and returns its length and the status.
 fn text_row(date: i32, format: &FormatParts, text: &mut [u8]) -> (usize, u8)
-    requires { length text.old ≡ 640 }
+    requires { length text.old ≡ 960 }
     ensures value { IsTextByFormatRow format.now date (take result.0 text.new) result.1 }
     ensures max_length { result.0 ≤ room_for_text format.now }
-    ensures room { length text.new ≡ 640 }
+    ensures room { length text.new ≡ 960 }
 {
     let date = or_return!(valid_date(date), (0, INVALID_DATE));
     let format = or_return!(format.to_format(), (0, INVALID_FORMAT));
@@ -129,14 +129,14 @@ fn text_row(date: i32, format: &FormatParts, text: &mut [u8]) -> (usize, u8)
 /// Writes the text of a date, or an empty text, and returns its length and the status.
 fn print_row(date: Date, format: &Format, text: &mut [u8]) -> (usize, u8)
     requires few { length format.now ≤ 64 }
-    requires room { length text.old ≡ 640 }
+    requires room { length text.old ≡ 960 }
     ensures unsupported_item { ¬ IsTrue (are_date_items format.now)
         → (result.0 ≡ 0) × (pos result.1 ≡ unsupported_item) }
     ensures value { IsTrue (are_date_items format.now)
         → (take result.0 text.new ≡ text_of format.now (moment_of_date date))
         × (pos result.1 ≡ ok_status) }
-    ensures max_length { result.0 ≤ length format.now * 10 }
-    ensures room { length text.new ≡ 640 }
+    ensures max_length { result.0 ≤ length format.now * 15 }
+    ensures room { length text.new ≡ 960 }
 {
     // This call states that the date is in its range. It costs nothing.
     let _ = date.to_julian_day();

@@ -1,22 +1,21 @@
-use Rattle.std.proofs.Common.{◌≡◌, ◌+◌, ◌-◌, ◌<◌, ◌^◌, ◌++◌, ◌∷◌, length, ◌∙◌, sym}
+use Rattle.std.proofs.Common.{◌≡◌, ◌+◌, ◌-◌, ◌<◌, ◌^◌, ◌++◌, length, ◌∙◌, sym}
 use Rattle.cal_text.specs.Shape.{Digits, ParsesMoreDigits}
 use Rattle.cal_format.specs.declared.item.Padding.TheVariants as padding
 use Rattle.cal_format.specs.Text.{padded}
 use Rattle.cal_format.specs.Form.{AfterSpaces}
-use Rattle.cal_format.proofs.Forms.{carried, mapped, mapped_both, few-digits, one-space, more-space, full-space, spaces-past, spaces-none}
+use Rattle.cal_format.proofs.Forms.{carried, mapped_both, few-digits, one-space, more-space, full-space, spaces-past, spaces-none}
 use Rattle.cal_format.proofs.form.+scan_after_spaces.Goals as goal
 
 pub returns-then-more-eq0-clause-value : goal.returns-then-more-eq0-clause-value
 returns-then-more-eq0-clause-value t c =
-    mapped (λ d. (d < 10) × (c.args.scanner.now.rest.now ≡ (48 + d) ∷ c.digit.new.self.rest.now)) (λ d. c.args.scanner.now.rest.now ≡ padded padding.Space (c.args.more + 1) d ++ c.digit.new.self.rest.now) _
-    (λ d h. one-space c.args.more d _ _ c.if-more-eq0.true h.0 h.1) c.digit.ensures.value
+    rw c.from.ensures (one-space c.args.more _ _ _ c.if-more-eq0.true c.in_ok-digit.ensures.value.0 c.in_ok-digit.ensures.value.1)
 
 pub returns-in_err-first-in-None-clause-scans : goal.returns-in_err-first-in-None-clause-scans
 returns-in_err-first-in-None-clause-scans t c =
-    rw c.from_residual.ensures (λ f. spaces-none c.args.more f _ _ c.if-more-eq0.false c.in-None.ensures.branches ∙ c.in_err-first-in-None.ensures.scans (Digits c.args.more f))
+    rw c.from_residual-in_err-first-in-None.ensures (λ f. spaces-none c.args.more f _ _ c.if-more-eq0.false c.in-None.ensures.branches ∙ c.in_err-first-in-None.ensures.scans (Digits c.args.more f))
 
 pub scan_digits-requires : goal.scan_digits-requires
-scan_digits-requires t c = few-digits _ c.args.more c.requires c.in_ok-first-in-None.ensures.value.1
+scan_digits-requires t c = rw c.from-in-None.ensures (few-digits _ c.args.more c.requires c.in_ok-first-in-None.ensures.value.1)
 
 pub returns-in-Some-clause-scans : goal.returns-in-Some-clause-scans
 returns-in-Some-clause-scans t c =
@@ -38,5 +37,5 @@ returns-in_ok-first-in-None-clause-value t c =
     let first = c.in_ok-first-in-None.ensures.value in
     let mid = c.digit_from_1.new.self.rest.now in
     let new = c.scan_digits.new.scanner.rest.now in
-    mapped_both (ParsesMoreDigits mid new c.args.more c.in_ok-first-in-None.first) (λ _. length mid ≡ c.args.more + length new) (λ n. c.args.scanner.now.rest.now ≡ padded padding.Space (c.args.more + 1) n ++ new) _
-    (λ n h long. (full-space c.args.more c.in_ok-first-in-None.first n _ mid new c.requires (first.0, first.1, sym c.in-None.ensures.unchanged ∙ first.2) h long).1) c.scan_digits.ensures.value c.scan_digits.ensures.count
+    mapped_both (ParsesMoreDigits mid new c.args.more c.from-in-None.result) (λ _. length mid ≡ c.args.more + length new) (λ n. c.args.scanner.now.rest.now ≡ padded padding.Space (c.args.more + 1) n ++ new) _
+    (λ n h long. (full-space c.args.more c.in_ok-first-in-None.first n _ mid new c.requires (first.0, first.1, sym c.in-None.ensures.unchanged ∙ first.2) (rw c.from-in-None.ensures at h) long).1) c.scan_digits.ensures.value c.scan_digits.ensures.count

@@ -6,13 +6,13 @@ use Rattle.cal_format.proofs.FormDecimals.{first-decimal, next-decimal, zero-dec
 use Rattle.cal_format.proofs.form.+scan_decimals.Goals as goal
 
 pub returns-then-more-eq0-clause-value : goal.returns-then-more-eq0-clause-value
-returns-then-more-eq0-clause-value t c = first-decimal _ _ _ _ _ _ c.in-Some.ensures.value
+returns-then-more-eq0-clause-value t c = rw c.from.ensures (first-decimal _ _ _ _ _ _ c.in-Some.ensures.value)
 
 pub returns-then-more-eq0-clause-range : goal.returns-then-more-eq0-clause-range
-returns-then-more-eq0-clause-range t c = omega (arith, at_most_nine c.in-Some.digit c.args.unit c.in-Some.ensures.value.1)
+returns-then-more-eq0-clause-range t c = rw c.from.ensures (omega (arith, at_most_nine c.in-Some.digit c.args.unit c.in-Some.ensures.value.1))
 
 pub returns-in-Some-clause-value : goal.returns-in-Some-clause-value
-returns-in-Some-clause-value t c = next-decimal _ _ _ _ _ _ _ _ c.if-more-eq0.false c.in-Some.ensures.value c.in_ok-others.ensures.value
+returns-in-Some-clause-value t c = rw c.from-in-Some.ensures (next-decimal _ _ _ _ _ _ _ _ c.if-more-eq0.false c.in-Some.ensures.value c.in_ok-others.ensures.value)
 
 pub returns-then-may_end-clause-value : goal.returns-then-may_end-clause-value
 returns-then-may_end-clause-value t c = no-decimal _ _ _ _ _ c.if-may_end.true c.in_default.ensures.unchanged

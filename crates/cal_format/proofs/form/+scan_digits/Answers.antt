@@ -15,7 +15,7 @@ overflow_add-number t c =
     omega (arith, small _ _ _ next)
 
 pub scan_digits-requires : goal.scan_digits-requires
-scan_digits-requires t c = (omega (arith, c.if-count-eq0.false), room (10 ^ 9) _ _ _ c.if-count-eq0.false c.in_ok-digit.ensures.value.0 c.requires)
+scan_digits-requires t c = (omega (arith, c.if-count-eq0.false), rw c.from.ensures (room (10 ^ 9) _ _ _ c.if-count-eq0.false c.in_ok-digit.ensures.value.0 c.requires))
 
 pub returns-in_err-digit-clause-scans : goal.returns-in_err-digit-clause-scans
 returns-in_err-digit-clause-scans t c = rw c.from_residual.ensures (λ f. digits-stop c.args.count _ f _ c.if-count-eq0.false c.in_err-digit.ensures.scans)
@@ -25,12 +25,12 @@ returns-clause-scans t c = carried (Digits c.args.count) (Digits (c.args.count -
 
 pub returns-clause-value : goal.returns-clause-value
 returns-clause-value t c =
-    mapped (ParsesMoreDigits _ _ (c.args.count - 1) (c.args.number * 10 + c.in_ok-digit.digit)) (ParsesMoreDigits _ _ c.args.count c.args.number) _
-    (λ n h. more_after c.args.count _ n c.args.number _ _ _ c.if-count-eq0.false c.in_ok-digit.ensures.value h) c.scan_digits.ensures.value
+    mapped (ParsesMoreDigits _ _ (c.args.count - 1) (c.args.number * 10 + c.from.result)) (ParsesMoreDigits _ _ c.args.count c.args.number) _
+    (λ n h. more_after c.args.count _ n c.args.number _ _ _ c.if-count-eq0.false c.in_ok-digit.ensures.value (rw c.from.ensures at h)) c.scan_digits.ensures.value
 
 pub returns-clause-range : goal.returns-clause-range
 returns-clause-range t c =
     let limit = (c.args.number + 1) * 10 ^ c.args.count in
     let same : limit ≤ limit = omega arith in
     let next = room limit _ _ _ c.if-count-eq0.false c.in_ok-digit.ensures.value.0 same in
-    mapped (λ n. n < (c.args.number * 10 + c.in_ok-digit.digit + 1) * 10 ^ (c.args.count - 1)) (λ n. n < limit) _ (λ n h. omega (arith, next, h)) c.scan_digits.ensures.range
+    mapped (λ n. n < (c.args.number * 10 + c.from.result + 1) * 10 ^ (c.args.count - 1)) (λ n. n < limit) _ (λ n h. omega (arith, next, rw c.from.ensures at h)) c.scan_digits.ensures.range

@@ -2,7 +2,7 @@ use Rattle.std.proofs.Common.{◌+◌, ◌*◌, ◌/◌, ◌%◌, ap, ◌∙◌,
 use Rattle.std.specs.Prelude.{Some, unsigned_abs}
 use Rattle.cal_format.specs.declared.item.Component.TheVariants as shown
 use Rattle.cal_format.specs.Reading.{any_shows}
-use Rattle.cal_format.specs.Scanning.{number_at, signed_offset}
+use Rattle.cal_format.specs.Scanning.{number_at, signed_seconds}
 use Rattle.cal_format.proofs.Apart.{agrees-whole}
 use Rattle.cal_format.proofs.Offsets.{offset-shown, offset-parts, signed-is}
 use Rattle.cal_format.proofs.Parts.{agreed}
@@ -23,4 +23,4 @@ returns-clause-every c v range agrees shows holds =
 pub returns-clause-value : goal.returns-clause-value
 returns-clause-value c low =
     c.offset_with.ensures.value (omega (arith, c.get-hour.ensures, low shown.OffsetHour)) (omega (arith, c.get-minute.ensures, low shown.OffsetMinute)) (omega (arith, c.get-second.ensures, low shown.OffsetSecond))
-    ∙ (λ i. Some (signed_offset (c.get-sign.ensures i) (c.get-hour.ensures i * 3_600 + c.get-minute.ensures i * 60 + c.get-second.ensures i)))
+    ∙ (λ i. Some (signed_seconds (c.get-sign.ensures i) (c.get-hour.ensures i * 3_600 + c.get-minute.ensures i * 60 + c.get-second.ensures i)))

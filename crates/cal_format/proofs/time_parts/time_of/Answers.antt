@@ -1,5 +1,4 @@
-use Rattle.std.proofs.Common.{ap, ◌∙◌, arith}
-use Rattle.std.specs.Prelude.{Some}
+use Rattle.std.proofs.Common.{◌∙◌, arith}
 use Rattle.cal_time.specs.Time.{minute_of, second_of, time_of as time_at}
 use Rattle.cal_format.specs.declared.item.Component.TheVariants as shown
 use Rattle.cal_format.specs.Reading.{any_shows}
@@ -7,6 +6,15 @@ use Rattle.cal_format.specs.Scanning.{number_at}
 use Rattle.cal_format.proofs.Apart.{agrees-whole}
 use Rattle.cal_format.proofs.Times.{time-shown, parts-of}
 use Rattle.cal_format.proofs.time_parts.time_of.Goals as goal
+
+pub overflow_cast-minute : goal.overflow_cast-minute
+overflow_cast-minute c = omega (arith, c.get-minute.ensures, c.requires shown.Minute)
+
+pub overflow_cast-second : goal.overflow_cast-second
+overflow_cast-second c = omega (arith, c.get-second.ensures, c.requires shown.Second)
+
+pub time_with-requires : goal.time_with-requires
+time_with-requires c = (c.hour_of.ensures.range, omega (arith, c.get-minute.ensures, c.requires shown.Minute), omega (arith, c.get-second.ensures, c.requires shown.Second), c.nanosecond_of.ensures.range)
 
 pub returns-clause-every : goal.returns-clause-every
 returns-clause-every c v time agrees shows holds =
@@ -18,11 +26,7 @@ returns-clause-every c v time agrees shows holds =
     let second = c.get-second.ensures ∙ agrees-whole (any_shows shown.Second items) (number_at shown.Second fields) (second_of v.time) s.second (agrees shown.Second) in
     let nanosecond = c.nanosecond_of.ensures.every v agrees s.subsecond in
     let parts = parts-of v.time _ _ _ _ time hour minute second nanosecond in
-    c.time_with.ensures.value parts.hour parts.minute parts.second parts.nanosecond ∙ ap (λ t. Some t) parts.time
+    c.time_with.ensures.value ∙ parts.time
 
 pub returns-clause-value : goal.returns-clause-value
-returns-clause-value c low =
-    let hour = c.hour_of.ensures.value low in
-    let nanosecond = c.nanosecond_of.ensures.value low in
-    c.time_with.ensures.value hour.1 (omega (arith, c.get-minute.ensures, low shown.Minute)) (omega (arith, c.get-second.ensures, low shown.Second)) nanosecond.1
-    ∙ (λ i. Some (time_at (hour.0 i) (c.get-minute.ensures i) (c.get-second.ensures i) (nanosecond.0 i)))
+returns-clause-value c = c.time_with.ensures.value ∙ (λ i. time_at (c.hour_of.ensures.value i) (c.get-minute.ensures i) (c.get-second.ensures i) (c.nanosecond_of.ensures.value i))

@@ -12,4 +12,4 @@ returns c =
     let moment : IsMoment (moment_of_date c.args.date) = record { date = search rules; time = search rules; offset = search rules } in
     let short = text-short c.args.format.now (moment_of_date c.args.date) moment in
     printed (are_date_items c.args.format.now) (text_of c.args.format.now (moment_of_date c.args.date)) c.print_date-end.new.buffer c.args.bytes.now c.write.new.bytes _ c.print_date-end.result c.write.result
-    (omega (arith, short, c.requires, length-replicate {A = ℕ} 640 0)) c.print_date-end.ensures.room c.print_date-end.ensures.text c.write.ensures.none c.write.ensures.some
+    (omega (arith, short, c.requires, length-replicate {A = ℕ} 960 0)) c.print_date-end.ensures.room c.print_date-end.ensures.text c.write.ensures.none c.write.ensures.some

@@ -12,4 +12,4 @@ returns c =
     let moment : IsMoment (moment_of_offset c.args.offset) = record { date = search rules; time = search rules; offset = search rules } in
     let short = text-short c.args.format.now (moment_of_offset c.args.offset) moment in
     printed (are_offset_items c.args.format.now) (text_of c.args.format.now (moment_of_offset c.args.offset)) c.print_offset-end.new.buffer c.args.bytes.now c.write.new.bytes _ c.print_offset-end.result c.write.result
-    (omega (arith, short, c.requires, length-replicate {A = ℕ} 640 0)) c.print_offset-end.ensures.room c.print_offset-end.ensures.text c.write.ensures.none c.write.ensures.some
+    (omega (arith, short, c.requires, length-replicate {A = ℕ} 960 0)) c.print_offset-end.ensures.room c.print_offset-end.ensures.text c.write.ensures.none c.write.ensures.some

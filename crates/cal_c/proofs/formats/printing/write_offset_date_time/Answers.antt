@@ -12,5 +12,5 @@ returns c =
     let moment : IsMoment (moment_of_offset_date_time c.args.moment) = record { date = search rules; time = search rules; offset = search rules } in
     let room = c.print_offset_date_time-end.ensures.room in
     let short = text-short c.args.format.now (moment_of_offset_date_time c.args.moment) moment in
-    printed (true) (text_of c.args.format.now (moment_of_offset_date_time c.args.moment)) c.print_offset_date_time-end.new.buffer c.args.bytes.now c.write.new.bytes 640 c.print_offset_date_time-end.result c.write.result
-    (omega (arith, short, c.requires, length-replicate {A = ℕ} 640 0)) (λ some. (refl, room.0 some), λ fits. room.1 fits.1) c.print_offset_date_time-end.ensures.text c.write.ensures.none c.write.ensures.some
+    printed (true) (text_of c.args.format.now (moment_of_offset_date_time c.args.moment)) c.print_offset_date_time-end.new.buffer c.args.bytes.now c.write.new.bytes 960 c.print_offset_date_time-end.result c.write.result
+    (omega (arith, short, c.requires, length-replicate {A = ℕ} 960 0)) (λ some. (refl, room.0 some), λ fits. room.1 fits.1) c.print_offset_date_time-end.ensures.text c.write.ensures.none c.write.ensures.some

@@ -1,0 +1,172 @@
+-- The numbers that items have of a moment that they hold.
+use Rattle.std.proofs.Common.{◌≡◌, ℕ, ◌+◌, ◌-◌, ◌%◌, ◌<◌, ◌≤◌, ◌^◌, List, [], ◌∷◌, ◌++◌, refl, sym, ap, ◌∙◌, arith}
+use Rattle.std.specs.Prelude.{Bool, true, false, IsTrue, None, Some, ◌==◌, ◌||◌, ◌&&◌, nat_le, if◌then◌else◌, pos, int_lt, codes}
+use Rattle.std.proofs.lemmas.Bool.Decides.{nat_tests}
+use borrow.Author.Tests.{eq-eqb}
+use Rattle.cal_time.proofs.Weekdays.{weekday_count-ordinal}
+use Rattle.cal_time.proofs.Dates.{ordinal-most, stands}
+use Rattle.cal_time.proofs.IsoWeeks.{week_of_thursday}
+use Rattle.cal_time.specs.Date.{year_at, month_at, ordinal_at}
+use Rattle.cal_time.specs.Days.{month_at-range, day_of_month_at-range}
+use Rattle.cal_time.specs.IsoWeekDate.{iso_week_at, weekday_count}
+use Rattle.cal_time.specs.Laws.{weekday_at-is}
+use Rattle.cal_units.specs.declared.error.ComponentRange.{ComponentRange}
+use Rattle.cal_format.specs.declared.fields.Fields.{Fields}
+use Rattle.cal_format.specs.declared.item.Item.{Item}
+use Rattle.cal_format.specs.declared.item.Item.TheVariants as item
+use Rattle.cal_format.specs.declared.item.Name.{Name}
+use Rattle.cal_format.specs.declared.item.Name.TheVariants as name
+use Rattle.cal_format.specs.declared.item.Component.{Component}
+use Rattle.cal_format.specs.declared.item.Component.TheVariants.{Year, Century, YearOfCentury, IsoYear, Month, Day, Ordinal, IsoWeek, Weekday, DaysFromSunday, SundayWeekday, SundayWeek, MondayWeek, Hour, Hour12, Minute, Second, Period, Millisecond, Microsecond, Nanosecond, OffsetHour, OffsetMinute, OffsetSecond, OffsetSign, Timestamp, TimestampSign}
+use Rattle.cal_format.specs.declared.moment.Moment.{Moment}
+use Rattle.cal_format.specs.Form.{item_number, numbers_of, numbered_item, numbered_text, IsNameNumber, IsNumber, AreNumbers, HasNumbers}
+use Rattle.cal_format.specs.Moment.{IsMoment, timestamp_of, number, width, most_digits}
+use Rattle.cal_format.specs.Ranges.{minimum, maximum, range_error, either, item_error, first_range_error}
+use Rattle.cal_format.specs.Reading.{index, name_component, shows, any_shows}
+use Rattle.cal_format.specs.Scanning.{IsHeld, AreHeld, number_at, Agrees}
+use Rattle.cal_format.specs.Text.{sign, padded, item_text, text_of}
+use Rattle.cal_format.specs.Values.{number_in, differing, is_empty, item_contradiction, first_contradiction}
+use Rattle.cal_format.proofs.Apart.{same_test, index-one}
+use Rattle.cal_format.proofs.Contradictions.{name-same, sign-same}
+use Rattle.cal_format.proofs.Digits.{fits-most}
+use Rattle.cal_format.proofs.Lengths.{days_in_month-most}
+
+-- ---- they are the numbers of its text
+bit-low : (b : Bool) → (if b then 1 else 0) < 2
+bit-low true = omega arith
+bit-low false = omega arith
+
+name-fits : (k : Name) (v : Moment) → IsMoment v → IsNameNumber k (number (name_component k) v)
+name-fits name.Month v h = let range = month_at-range v.date in (range.0, range.1)
+name-fits name.ShortMonth v h = let range = month_at-range v.date in (range.0, range.1)
+name-fits name.Weekday v h = let is = weekday_at-is v.date in (omega arith, omega arith)
+name-fits name.ShortWeekday v h = let is = weekday_at-is v.date in (omega arith, omega arith)
+name-fits name.Period v h = let below = h.time.below_day in omega arith
+
+minus-own : (b : Bool) → (if b then codes "-" else []) ≡ (if (if b then 1 else 0) == 1 then codes "-" else [])
+minus-own true = refl
+minus-own false = refl
+
+item-own : (i : Item) (v : Moment) → IsMoment v → IsHeld v i → IsNumber i (item_number v i) × (item_text v i ≡ numbered_item i (item_number v i))
+item-own (item.Literal b) v h held = (refl, refl)
+item-own (item.Number c p) v h held = (held.0, ap (λ l. l ++ padded p (width c) (number c v)) held.1)
+item-own (item.Name k) v h held = (name-fits k v h, sym (name-same k (number (name_component k) v) v refl))
+item-own item.Fraction v h held = (omega arith, refl)
+item-own item.Decimals v h held = (omega arith, refl)
+item-own item.TimestampSign v h held = (bit-low (int_lt (timestamp_of v) (pos 0)), minus-own (int_lt (timestamp_of v) (pos 0)))
+item-own item.OffsetSign v h held = (bit-low (int_lt v.offset (pos 0)), sym (sign-same v.offset (number OffsetSign v) refl))
+
+items-own : (items : List Item) (v : Moment) → IsMoment v → AreHeld v items → AreNumbers items (numbers_of items v) × (text_of items v ≡ numbered_text items (numbers_of items v))
+items-own [] v h held = (tt, refl)
+items-own (i ∷ items) v h held =
+    let first = item-own i v h held.0 in
+    let rest = items-own items v h held.1 in
+    ((first.0, rest.0), λ j. first.1 j ++ rest.1 j)
+
+pub has-own : (items : List Item) (v : Moment) (text : List ℕ) → IsMoment v → AreHeld v items → text ≡ text_of items v → HasNumbers items (numbers_of items v) text
+has-own items v text h held e = let own = items-own items v h held in record { fit = own.0; text_is = e ∙ own.1 }
+
+-- ---- they agree with the moment
+own-shown : (i : Item) (c : Component) (v : Moment) → IsTrue (shows c i) → item_number v i ≡ number c v
+own-shown (item.Literal b) c v h = cc
+own-shown (item.Number d p) c v h = ap (λ k. number k v) (index-one d c (same_test (index d) (index c) h))
+own-shown (item.Name k) c v h = ap (λ d. number d v) (index-one (name_component k) c (same_test (index (name_component k)) (index c) h))
+own-shown item.Fraction c v h = ap (λ d. number d v) (index-one Nanosecond c (same_test (index Nanosecond) (index c) h))
+own-shown item.Decimals c v h = ap (λ d. number d v) (index-one Nanosecond c (same_test (index Nanosecond) (index c) h))
+own-shown item.TimestampSign c v h = ap (λ d. number d v) (index-one TimestampSign c (same_test (index TimestampSign) (index c) h))
+own-shown item.OffsetSign c v h = ap (λ d. number d v) (index-one OffsetSign c (same_test (index OffsetSign) (index c) h))
+
+first-shown : (a b : Bool) (x m n : ℕ) → (IsTrue a → x ≡ n) → m ≡ (if b then n else 0) → (if a then x else m) ≡ (if a || b then n else 0)
+first-shown true b x m n f e = f refl
+first-shown false b x m n f e = e
+
+own-in : (items : List Item) (c : Component) (v : Moment) → number_in items (numbers_of items v) c ≡ (if any_shows c items then number c v else 0)
+own-in [] c v = refl
+own-in (i ∷ items) c v = first-shown (shows c i) (any_shows c items) (item_number v i) (number_in items (numbers_of items v) c) (number c v) (own-shown i c v) (own-in items c v)
+
+pub own-agrees : (items : List Item) (numbers : List ℕ) (f : Fields) (v : Moment) → numbers ≡ numbers_of items v → ((c : Component) → number_at c f ≡ number_in items numbers c) → Agrees items f v
+own-agrees items numbers f v e filled c = filled c ∙ ap (λ l. number_in items l c) e ∙ own-in items c v
+
+-- ---- they are in range
+ordinal-least : (n : ℕ) → 1 ≤ ordinal_at n
+ordinal-least n = (stands n).ordinal.0
+
+week-range : (n : ℕ) → (1 ≤ iso_week_at n) × (iso_week_at n ≤ 53)
+week-range n =
+    let t = n - n % 7 + 3 in
+    let week = (week_of_thursday n (year_at t) (ordinal_at t) (refl, refl)).1 in
+    (omega (arith, week, ordinal-least t), omega (arith, week, ordinal-most t))
+
+count-most : (w n : ℕ) → w < 7 → weekday_count w n ≤ 53
+count-most w n low =
+    let count = weekday_count-ordinal w ((n + 7 - w) % 7) n low (omega arith) (omega arith) in
+    omega (arith, count, ordinal-most n)
+
+abbrev IsIn : Component → Moment → Type 0
+IsIn c v = (minimum c ≤ number c v) × (number c v ≤ maximum c)
+
+number-in : (c : Component) (v : Moment) → IsMoment v → number c v < 10 ^ most_digits c → IsIn c v
+number-in Year v h low = (omega arith, omega (arith, low))
+number-in Century v h low = (omega arith, omega (arith, low))
+number-in YearOfCentury v h low = (omega arith, omega arith)
+number-in IsoYear v h low = (omega arith, omega (arith, low))
+number-in Month v h low = let range = month_at-range v.date in (range.0, range.1)
+number-in Day v h low = (omega (arith, (day_of_month_at-range v.date).0), omega (arith, (day_of_month_at-range v.date).1, days_in_month-most (year_at v.date) (month_at v.date)))
+number-in Ordinal v h low = (ordinal-least v.date, ordinal-most v.date)
+number-in IsoWeek v h low = week-range v.date
+number-in Weekday v h low = let is = weekday_at-is v.date in (omega arith, omega arith)
+number-in DaysFromSunday v h low = (omega arith, omega arith)
+number-in SundayWeekday v h low = (omega arith, omega arith)
+number-in SundayWeek v h low = (omega arith, count-most 6 v.date (omega arith))
+number-in MondayWeek v h low = (omega arith, count-most 0 v.date (omega arith))
+number-in Hour v h low = let below = h.time.below_day in (omega arith, omega arith)
+number-in Hour12 v h low = (omega arith, omega arith)
+number-in Minute v h low = (omega arith, omega arith)
+number-in Second v h low = (omega arith, omega arith)
+number-in Period v h low = let below = h.time.below_day in (omega arith, omega arith)
+number-in Millisecond v h low = (omega arith, omega arith)
+number-in Microsecond v h low = (omega arith, omega arith)
+number-in Nanosecond v h low = (omega arith, omega arith)
+number-in OffsetHour v h low = let most = h.offset.magnitude in (omega arith, omega arith)
+number-in OffsetMinute v h low = (omega arith, omega arith)
+number-in OffsetSecond v h low = (omega arith, omega arith)
+number-in OffsetSign v h low = (omega arith, omega (arith, bit-low (int_lt v.offset (pos 0))))
+number-in Timestamp v h low = (omega arith, omega (arith, low))
+number-in TimestampSign v h low = (omega arith, omega (arith, bit-low (int_lt (timestamp_of v) (pos 0))))
+
+no-error : (least most n : ℕ) (e : ComponentRange) → least ≤ n → n ≤ most → (if nat_le least n && nat_le n most then None else Some e) ≡ None
+no-error least most n e low high = grind (arith, nat_tests)
+
+item-in : (i : Item) (v : Moment) → IsMoment v → IsHeld v i → item_error i (item_number v i) ≡ None
+item-in (item.Literal b) v h held = refl
+item-in (item.Number c p) v h held = let is = number-in c v h (fits-most p c (number c v) held.0) in no-error (minimum c) (maximum c) (number c v) (range_error c) is.0 is.1
+item-in (item.Name k) v h held = refl
+item-in item.Fraction v h held = refl
+item-in item.Decimals v h held = refl
+item-in item.OffsetSign v h held = refl
+item-in item.TimestampSign v h held = refl
+
+pub own-range : (items : List Item) (v : Moment) → IsMoment v → AreHeld v items → first_range_error items (numbers_of items v) ≡ None
+own-range [] v h held = refl
+own-range (i ∷ items) v h held = ap (λ e. either e (first_range_error items (numbers_of items v))) (item-in i v h held.0) ∙ own-range items v h held.1
+
+-- ---- and no item contradicts the moment
+no-difference : (c : Component) (a b : Bool) → IsTrue a → IsTrue b → differing c (a && b) ≡ None
+no-difference c true b h k = ap (λ x. differing c x) k
+no-difference c false b h k = cc
+
+same-number : (n : ℕ) → IsTrue (n == n)
+same-number n = eq-eqb n n refl
+
+item-agrees : (i : Item) (v : Moment) → IsHeld v i → item_contradiction i (item_number v i) v ≡ None
+item-agrees (item.Literal b) v held = refl
+item-agrees (item.Number c p) v held = no-difference c (number c v == number c v) (is_empty (sign c v)) (same-number (number c v)) (ap is_empty held.1)
+item-agrees (item.Name k) v held = ap (differing (name_component k)) (same-number (number (name_component k) v))
+item-agrees item.Fraction v held = ap (differing Nanosecond) (same-number (number Nanosecond v))
+item-agrees item.Decimals v held = ap (differing Nanosecond) (same-number (number Nanosecond v))
+item-agrees item.TimestampSign v held = ap (differing TimestampSign) (same-number (number TimestampSign v))
+item-agrees item.OffsetSign v held = ap (differing OffsetSign) (same-number (number OffsetSign v))
+
+pub own-contradiction : (items : List Item) (v : Moment) → AreHeld v items → first_contradiction items (numbers_of items v) v ≡ None
+own-contradiction [] v held = refl
+own-contradiction (i ∷ items) v held = ap (λ e. either e (first_contradiction items (numbers_of items v) v)) (item-agrees i v held.0) ∙ own-contradiction items v held.1

@@ -1,0 +1,323 @@
+//! The components of `time`'s format descriptions.
+ghost use Rattle.std.specs.Prelude.{◌≡◌, ◌+◌, ◌≤◌, List, length, map, get_or};
+ghost use Rattle.cal_format.specs.Description.{is_space, spaces, word_length, any_length, modifiers_length, component_length, component_front, description_front};
+
+use crate::directive::{Directive, begins_with};
+use crate::item::Component::{
+    Century, Day, DaysFromSunday, Hour, Hour12, IsoWeek, IsoYear, Microsecond, Millisecond, Minute,
+    MondayWeek, Month, Nanosecond, OffsetHour, OffsetMinute, OffsetSecond, Ordinal, Second,
+    SundayWeek, SundayWeekday, Timestamp, Weekday, Year, YearOfCentury,
+};
+use crate::item::Item::{self, Decimals, Literal, Number, OffsetSign, TimestampSign};
+use crate::item::Name::{self, ShortMonth, ShortWeekday};
+use crate::item::Padding::{self, Space, Zero};
+
+/// A name, modifiers, and the items that they spell.
+type Row = (&'static str, &'static [&'static str], &'static [Item]);
+
+/// The components. The first row that has all modifiers of a component decides.
+pub(crate) const COMPONENTS: [Row; 42] = [
+    (
+        "year",
+        &[
+            "padding:zero",
+            "repr:full",
+            "base:calendar",
+            "sign:automatic",
+        ],
+        &[Number(Year, Zero)],
+    ),
+    (
+        "year",
+        &[
+            "padding:zero",
+            "repr:full",
+            "base:iso_week",
+            "sign:automatic",
+        ],
+        &[Number(IsoYear, Zero)],
+    ),
+    (
+        "year",
+        &[
+            "padding:zero",
+            "repr:century",
+            "base:calendar",
+            "sign:automatic",
+        ],
+        &[Number(Century, Zero)],
+    ),
+    (
+        "year",
+        &[
+            "padding:zero",
+            "repr:last_two",
+            "base:calendar",
+            "sign:automatic",
+        ],
+        &[Number(YearOfCentury, Zero)],
+    ),
+    (
+        "month",
+        &["padding:zero", "repr:numerical"],
+        &[Number(Month, Zero)],
+    ),
+    (
+        "month",
+        &["padding:none", "repr:numerical"],
+        &[Number(Month, Padding::None)],
+    ),
+    (
+        "month",
+        &["padding:space", "repr:numerical"],
+        &[Number(Month, Space)],
+    ),
+    ("month", &["repr:long"], &[Item::Name(Name::Month)]),
+    ("month", &["repr:short"], &[Item::Name(ShortMonth)]),
+    ("day", &["padding:zero"], &[Number(Day, Zero)]),
+    ("day", &["padding:none"], &[Number(Day, Padding::None)]),
+    ("day", &["padding:space"], &[Number(Day, Space)]),
+    ("ordinal", &["padding:zero"], &[Number(Ordinal, Zero)]),
+    (
+        "week_number",
+        &["padding:zero", "repr:iso"],
+        &[Number(IsoWeek, Zero)],
+    ),
+    (
+        "week_number",
+        &["padding:zero", "repr:sunday"],
+        &[Number(SundayWeek, Zero)],
+    ),
+    (
+        "week_number",
+        &["padding:zero", "repr:monday"],
+        &[Number(MondayWeek, Zero)],
+    ),
+    (
+        "weekday",
+        &["repr:long", "one_indexed:true", "one_indexed:false"],
+        &[Item::Name(Name::Weekday)],
+    ),
+    (
+        "weekday",
+        &["repr:short", "one_indexed:true", "one_indexed:false"],
+        &[Item::Name(ShortWeekday)],
+    ),
+    (
+        "weekday",
+        &["repr:monday", "one_indexed:true"],
+        &[Number(Weekday, Zero)],
+    ),
+    (
+        "weekday",
+        &["repr:sunday", "one_indexed:true"],
+        &[Number(SundayWeekday, Zero)],
+    ),
+    (
+        "weekday",
+        &["repr:sunday", "one_indexed:false"],
+        &[Number(DaysFromSunday, Zero)],
+    ),
+    ("hour", &["padding:zero", "repr:24"], &[Number(Hour, Zero)]),
+    (
+        "hour",
+        &["padding:none", "repr:24"],
+        &[Number(Hour, Padding::None)],
+    ),
+    (
+        "hour",
+        &["padding:space", "repr:24"],
+        &[Number(Hour, Space)],
+    ),
+    (
+        "hour",
+        &["padding:zero", "repr:12"],
+        &[Number(Hour12, Zero)],
+    ),
+    (
+        "hour",
+        &["padding:none", "repr:12"],
+        &[Number(Hour12, Padding::None)],
+    ),
+    (
+        "hour",
+        &["padding:space", "repr:12"],
+        &[Number(Hour12, Space)],
+    ),
+    ("period", &["case:upper"], &[Item::Name(Name::Period)]),
+    ("minute", &["padding:zero"], &[Number(Minute, Zero)]),
+    (
+        "minute",
+        &["padding:none"],
+        &[Number(Minute, Padding::None)],
+    ),
+    ("minute", &["padding:space"], &[Number(Minute, Space)]),
+    ("second", &["padding:zero"], &[Number(Second, Zero)]),
+    (
+        "second",
+        &["padding:none"],
+        &[Number(Second, Padding::None)],
+    ),
+    ("second", &["padding:space"], &[Number(Second, Space)]),
+    ("subsecond", &["digits:1+"], &[Decimals]),
+    ("subsecond", &["digits:3"], &[Number(Millisecond, Zero)]),
+    ("subsecond", &["digits:6"], &[Number(Microsecond, Zero)]),
+    ("subsecond", &["digits:9"], &[Number(Nanosecond, Zero)]),
+    (
+        "offset_hour",
+        &["sign:mandatory", "padding:zero"],
+        &[OffsetSign, Number(OffsetHour, Zero)],
+    ),
+    (
+        "offset_minute",
+        &["padding:zero"],
+        &[Number(OffsetMinute, Zero)],
+    ),
+    (
+        "offset_second",
+        &["padding:zero"],
+        &[Number(OffsetSecond, Zero)],
+    ),
+    (
+        "unix_timestamp",
+        &["precision:second", "sign:automatic"],
+        &[TimestampSign, Number(Timestamp, Padding::None)],
+    ),
+];
+
+/// Returns the items at the front of a text, after an opening bracket.
+pub(crate) fn description_front(text: &[u8]) -> Directive
+    ensures items { result.items.now ≡ (description_front text.now).items }
+    ensures used { result.used ≡ (description_front text.now).used }
+    ensures min { 1 ≤ result.used }
+{
+    match text {
+        [b'[', ..] => Directive {
+            items: &[Literal(b'[')],
+            used: 2,
+        },
+        _ => component_front(&COMPONENTS, text),
+    }
+}
+
+#[tactic(auto, unfolding(crate::specs::Description::component_front))]
+fn component_front(table: &'static [Row], text: &[u8]) -> Directive
+    ensures items { result.items.now
+        ≡ (component_front (map (λ row. (row.0.now, map (λ word. word.now) row.1.now, row.2.now)) table.now) text.now).items }
+    ensures used { result.used
+        ≡ (component_front (map (λ row. (row.0.now, map (λ word. word.now) row.1.now, row.2.now)) table.now) text.now).used }
+    ensures min { 1 ≤ result.used }
+{
+    match table {
+        [] => Directive {
+            items: &[],
+            used: 1,
+        },
+        [row, others @ ..] => match component_length(row.0.as_bytes(), row.1, text) {
+            0 => component_front(others, text),
+            length => Directive {
+                items: row.2,
+                used: length + 1,
+            },
+        },
+    }
+}
+
+/// Returns the length of a component with this name and these modifiers, or 0.
+fn component_length(name: &[u8], words: &[&str], text: &[u8]) -> usize
+    ensures value { result
+        ≡ component_length name.now (map (λ word. word.now) words.now) text.now }
+    ensures max { result ≤ length text.now }
+{
+    let start = spaces(text);
+    let length = word_length(name, &text[start..]);
+    let others = modifiers_length(8, words, &text[start + length..]);
+    if length == 0 || others == 0 {
+        0
+    } else {
+        start + length + others
+    }
+}
+
+/// Returns the length of at most this many modifiers and the closing bracket, or 0.
+#[tactic(auto, unfolding(crate::specs::Description::modifiers_length))]
+fn modifiers_length(count: usize, words: &[&str], text: &[u8]) -> usize
+    ensures value { result
+        ≡ modifiers_length count (map (λ word. word.now) words.now) text.now }
+    ensures max { result ≤ length text.now }
+{
+    let start = spaces(text);
+    if byte_at(text, start) == b']' {
+        return start + 1;
+    }
+    if count == 0 {
+        return 0;
+    }
+    let length = any_length(words, &text[start..]);
+    let others = modifiers_length(count - 1, words, &text[start + length..]);
+    if length == 0 || others == 0 {
+        0
+    } else {
+        start + length + others
+    }
+}
+
+/// Returns the length of the first of these words at the front of a text, or 0.
+#[tactic(auto, unfolding(crate::specs::Description::any_length))]
+fn any_length(words: &[&str], text: &[u8]) -> usize
+    ensures value { result ≡ any_length (map (λ word. word.now) words.now) text.now }
+    ensures max { result ≤ length text.now }
+{
+    match words {
+        [] => 0,
+        [word, others @ ..] => match word_length(word.as_bytes(), text) {
+            0 => any_length(others, text),
+            length => length,
+        },
+    }
+}
+
+/// Returns the length of the word if the text begins with it, and white space or a closing bracket
+/// comes after it. Otherwise returns 0.
+fn word_length(word: &[u8], text: &[u8]) -> usize
+    ensures value { result ≡ word_length word.now text.now }
+    ensures max { result ≤ length text.now }
+{
+    let next = byte_at(text, word.len());
+    if begins_with(text, word) && (is_space(next) || next == b']') {
+        word.len()
+    } else {
+        0
+    }
+}
+
+/// Returns the number of bytes of white space at the front of a text.
+#[tactic(auto, unfolding(crate::specs::Description::spaces))]
+fn spaces(text: &[u8]) -> usize
+    ensures value { result ≡ spaces text.now }
+    ensures max { result ≤ length text.now }
+{
+    match text {
+        [] => 0,
+        [first, others @ ..] => {
+            if is_space(*first) {
+                spaces(others) + 1
+            } else {
+                0
+            }
+        }
+    }
+}
+
+fn is_space(byte: u8) -> bool
+    ensures { result ≡ is_space byte }
+{
+    byte == b' ' || byte == b'\t' || byte == b'\n' || byte == 12 || byte == b'\r'
+}
+
+/// Returns the byte at this index, or 0 past the end.
+fn byte_at(text: &[u8], index: usize) -> u8
+    ensures { result ≡ get_or text.now index 0 }
+{
+    if index < text.len() { text[index] } else { 0 }
+}

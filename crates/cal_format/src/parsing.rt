@@ -1,0 +1,263 @@
+//! Parsing: the numbers of a text, and the moment that they determine.
+ghost use Rattle.std.specs.Prelude.{◌≡◌, ℕ, ◌<◌, ◌≤◌, length, Ok, Some, IsTrue, IfOk, IfErr, IfSome, IfNone, not, pos, if◌then◌else◌};
+ghost use Rattle.cal_time.specs.Date.{IsDate};
+ghost use Rattle.cal_time.specs.Time.{IsTime};
+ghost use Rattle.cal_time.specs.UtcOffset.{IsOffset};
+ghost use Rattle.cal_format.specs.declared.error.ParseError.TheVariants.{UnexpectedByte, UnexpectedEnd};
+ghost use Rattle.cal_format.specs.declared.item.Component.{Component};
+ghost use Rattle.cal_format.specs.declared.moment.Moment.{Moment};
+ghost use Rattle.cal_format.specs.Form.{AreNumbers, numbered_text, numbers_of};
+ghost use Rattle.cal_format.specs.Moment.{IsMoment};
+ghost use Rattle.cal_format.specs.Ranges.{maximum};
+ghost use Rattle.cal_format.specs.Reading.{are_apart, shows_time, shows_offset, shows_timestamp};
+ghost use Rattle.cal_format.specs.Rejection.{IsRejection, IsNumberRejection};
+ghost use Rattle.cal_format.specs.Scanning.{number_at, Agrees};
+ghost use Rattle.cal_format.specs.Text.{text_of};
+ghost use Rattle.cal_format.specs.Values.{Holds, IsPrinted, time_in, offset_in, IsDateOf, value_error, IsMomentOf, differing, item_contradiction, first_contradiction};
+
+use crate::date_parts::{date_of, value_error};
+use crate::determines::{shows_date, shows_offset, shows_time, shows_timestamp};
+use crate::error::ParseError;
+use crate::fields::Fields;
+use crate::form::scan_items;
+use crate::item::{Component, Item};
+use crate::moment::Moment;
+use crate::offset_parts::offset_of;
+use crate::print::sign_of;
+use crate::ranges::first_range_error;
+use crate::time_parts::{nanosecond_of, time_of};
+use crate::timestamp::moment_at;
+use crate::value::first_date;
+use cal_text::Scanner;
+use cal_time::error::{Component as Named, ComponentRange};
+use cal_time::{Date, Time, UtcOffset};
+
+/// Parses a text. Returns the moment that the items hold and print as this text, or why there is
+/// none.
+pub(crate) fn parse_moment(items: &[Item], text: &[u8]) -> Result<Moment, ParseError>
+    requires few { length items.now ≤ 64 }
+    requires apart { IsTrue (are_apart items.now) }
+    ensures every { (v : Moment) → Holds items.now v → text.now ≡ text_of items.now v
+        → result ≡ Ok v }
+    ensures value { IfOk result (λ v. IsPrinted items.now v text.now) }
+    ensures error { IfErr result (IsRejection items.now text.now) }
+{
+    let mut buffer = [0u64; 64];
+    let numbers = &mut buffer[..items.len()];
+    let mut scanner = Scanner { rest: text };
+    match scan_items(items, &mut scanner, numbers, 0) {
+        Some(()) => moment_of_numbers(items, numbers),
+        None => Err(unexpected(text.len() - scanner.rest.len(), text.len())),
+    }
+}
+
+fn unexpected(position: usize, length: usize) -> ParseError
+    requires { position ≤ length }
+    ensures byte { position < length → result ≡ UnexpectedByte position }
+    ensures end { position ≡ length → result ≡ UnexpectedEnd position }
+{
+    if position < length {
+        ParseError::UnexpectedByte(position)
+    } else {
+        ParseError::UnexpectedEnd(position)
+    }
+}
+
+/// Returns the moment with these numbers, or why there is none.
+fn moment_of_numbers(items: &[Item], numbers: &[u64]) -> Result<Moment, ParseError>
+    requires fit { AreNumbers items.now numbers.now }
+    ensures every { (v : Moment) → Holds items.now v → numbers.now ≡ numbers_of items.now v
+        → result ≡ Ok v }
+    ensures value { IfOk result (λ v.
+        IsPrinted items.now v (numbered_text items.now numbers.now)) }
+    ensures error { IfErr result (IsNumberRejection items.now numbers.now) }
+{
+    if let Some(error) = first_range_error(items, numbers) {
+        return Err(ParseError::OutOfRange(error));
+    }
+    let mut fields = Fields::new();
+    fields.fill(items, numbers);
+    match moment_of(items, &fields) {
+        Ok(moment) => match first_contradiction(items, numbers, &moment) {
+            Some(component) => Err(ParseError::Contradiction(component)),
+            None => Ok(moment),
+        },
+        Err(error) => Err(ParseError::OutOfRange(error)),
+    }
+}
+
+/// Returns the component of the first item whose number isn't the number of the moment.
+fn first_contradiction(items: &[Item], numbers: &[u64], moment: &Moment) -> Option<Named>
+    ensures { result ≡ first_contradiction items.now numbers.now moment.now }
+{
+    match items {
+        [] => None,
+        [item, others @ ..] => match numbers {
+            [] => None,
+            [number, rest @ ..] => match item.contradiction(*number, moment) {
+                Some(component) => Some(component),
+                None => first_contradiction(others, rest, moment),
+            },
+        },
+    }
+}
+
+impl Item {
+    /// Returns the component of the item if this number isn't its number of the moment.
+    fn contradiction(self, number: u64, moment: &Moment) -> Option<Named>
+        ensures { result ≡ item_contradiction self number moment.now }
+    {
+        match self {
+            Item::Literal(_) => None,
+            Item::Number(component, _) => differing(
+                component,
+                moment.number(component) == number && sign_of(component, moment).is_empty(),
+            ),
+            Item::Name(name) => {
+                differing(name.component(), moment.number(name.component()) == number)
+            }
+            Item::Fraction | Item::Decimals => differing(
+                Component::Nanosecond,
+                moment.number(Component::Nanosecond) == number,
+            ),
+            Item::OffsetSign => differing(
+                Component::OffsetSign,
+                moment.number(Component::OffsetSign) == number,
+            ),
+            Item::TimestampSign => differing(
+                Component::TimestampSign,
+                moment.number(Component::TimestampSign) == number,
+            ),
+        }
+    }
+}
+
+fn differing(component: Component, is_same: bool) -> Option<Named>
+    ensures { result ≡ differing component is_same }
+{
+    if is_same {
+        None
+    } else {
+        Some(component.named())
+    }
+}
+
+/// Returns the moment with the numbers of the fields, or the error of numbers that no moment has.
+fn moment_of(items: &[Item], fields: &Fields) -> Result<Moment, ComponentRange>
+    requires { (c : Component) → number_at c fields.now ≤ maximum c }
+    ensures every { (v : Moment) → Holds items.now v → Agrees items.now fields.now v
+        → result ≡ Ok v }
+    ensures value { IfOk result (IsMomentOf items.now (λ c. number_at c fields.now)) }
+    ensures error { IfErr result (λ why. (why ≡ value_error items.now) × ((v : Moment)
+        → ¬ IsMomentOf items.now (λ c. number_at c fields.now) v)) }
+{
+    match find_moment(items, fields) {
+        Some(moment) => Ok(moment),
+        None => Err(value_error(items)),
+    }
+}
+
+fn find_moment(items: &[Item], fields: &Fields) -> Option<Moment>
+    requires { (c : Component) → number_at c fields.now ≤ maximum c }
+    ensures every { (v : Moment) → Holds items.now v → Agrees items.now fields.now v
+        → result ≡ Some v }
+    ensures value { IfSome result (IsMomentOf items.now (λ c. number_at c fields.now)) }
+    ensures none { IfNone result ((v : Moment)
+        → ¬ IsMomentOf items.now (λ c. number_at c fields.now) v) }
+{
+    let offset = offset_of_numbers(items, fields)?;
+    if shows_timestamp(items) {
+        return moment_at_timestamp(items, fields, offset);
+    }
+    moment_at_date(items, fields, offset)
+}
+
+/// Returns the moment of the date and the time of day at the offset.
+fn moment_at_date(items: &[Item], fields: &Fields, offset: UtcOffset) -> Option<Moment>
+    requires most { (c : Component) → number_at c fields.now ≤ maximum c }
+    requires date { IsTrue (not (shows_timestamp items.now)) }
+    requires range { IsOffset offset }
+    requires offset { offset ≡ (if shows_offset items.now
+        then offset_in (λ c. number_at c fields.now)
+        else pos 0) }
+    ensures every { (v : Moment) → Holds items.now v → Agrees items.now fields.now v
+        → v.offset ≡ offset
+        → result ≡ Some v }
+    ensures value { IfSome result (IsMomentOf items.now (λ c. number_at c fields.now)) }
+    ensures none { IfNone result ((v : Moment)
+        → ¬ IsMomentOf items.now (λ c. number_at c fields.now) v) }
+{
+    let date = date_of_numbers(items, fields)?;
+    let time = time_of_numbers(items, fields);
+    Some(Moment { date, time, offset })
+}
+
+/// Returns the moment of the Unix time at the offset.
+fn moment_at_timestamp(items: &[Item], fields: &Fields, offset: UtcOffset) -> Option<Moment>
+    requires most { (c : Component) → number_at c fields.now ≤ maximum c }
+    requires timestamp { IsTrue (shows_timestamp items.now) }
+    requires range { IsOffset offset }
+    requires offset { offset ≡ (if shows_offset items.now
+        then offset_in (λ c. number_at c fields.now)
+        else pos 0) }
+    ensures every { (v : Moment) → Holds items.now v → Agrees items.now fields.now v
+        → v.offset ≡ offset
+        → result ≡ Some v }
+    ensures value { IfSome result (IsMomentOf items.now (λ c. number_at c fields.now)) }
+    ensures none { IfNone result ((v : Moment)
+        → ¬ IsMomentOf items.now (λ c. number_at c fields.now) v) }
+{
+    let sign = fields.get(Component::TimestampSign);
+    let seconds = fields.get(Component::Timestamp);
+    moment_at(sign, seconds, nanosecond_of(items, fields), offset)
+}
+
+/// Returns the date of the numbers, or the first date of the range if the items determine none.
+fn date_of_numbers(items: &[Item], fields: &Fields) -> Option<Date>
+    requires most { (c : Component) → number_at c fields.now ≤ maximum c }
+    requires date { IsTrue (not (shows_timestamp items.now)) }
+    ensures every { (v : Moment) → Holds items.now v → Agrees items.now fields.now v
+        → result ≡ Some v.date }
+    ensures range { IfSome result IsDate }
+    ensures value { IfSome result (IsDateOf items.now (λ c. number_at c fields.now)) }
+    ensures none { IfNone result ((n : ℕ) → IsDate n
+        → ¬ IsDateOf items.now (λ c. number_at c fields.now) n) }
+{
+    if !shows_date(items) {
+        return Some(first_date());
+    }
+    date_of(items, fields)
+}
+
+/// Returns the time of day of the numbers, or midnight if the items determine none.
+fn time_of_numbers(items: &[Item], fields: &Fields) -> Time
+    requires most { (c : Component) → number_at c fields.now ≤ maximum c }
+    requires date { IsTrue (not (shows_timestamp items.now)) }
+    ensures every { (v : Moment) → Holds items.now v → Agrees items.now fields.now v
+        → result ≡ v.time }
+    ensures value { result ≡ (if shows_time items.now
+        then time_in items.now (λ c. number_at c fields.now)
+        else 0) }
+    ensures range { IsTime result }
+{
+    if !shows_time(items) {
+        return Time::MIDNIGHT;
+    }
+    time_of(items, fields)
+}
+
+/// Returns the offset of the numbers, or UTC if the items determine none.
+fn offset_of_numbers(items: &[Item], fields: &Fields) -> Option<UtcOffset>
+    requires { (c : Component) → number_at c fields.now ≤ maximum c }
+    ensures every { (v : Moment) → Holds items.now v → Agrees items.now fields.now v
+        → result ≡ Some v.offset }
+    ensures value { result ≡ Some (if shows_offset items.now
+        then offset_in (λ c. number_at c fields.now)
+        else pos 0) }
+    ensures range { IfSome result IsOffset }
+{
+    if !shows_offset(items) {
+        return Some(UtcOffset::UTC);
+    }
+    offset_of(items, fields)
+}
