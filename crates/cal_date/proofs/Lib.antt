@@ -18,6 +18,7 @@ pub mod Occurrences
 pub mod Order
 pub mod Packed
 pub mod PackedOrder
+pub mod QuarterBounds
 pub mod Replacements
 pub mod Rising
 pub mod SameYear

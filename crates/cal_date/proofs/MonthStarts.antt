@@ -1,13 +1,13 @@
 -- The table of the days before each month, and the month of a day by the table.
-use Rattle.std.proofs.Common.{◌≡◌, ℕ, List, pos, ◌+◌, ◌-◌, ◌*◌, ◌/◌, ◌%◌, ◌<◌, ◌≤◌, [], ◌∷◌, slice_index_or, arith, refl, ap, ◌∙◌, if◌then◌else◌, lit≤, lit<, ℤ, Bool, true, false, nat_lt, sym, subst, inl, inr}
+use Rattle.std.proofs.Common.{◌≡◌, ℕ, List, pos, ◌+◌, ◌-◌, ◌*◌, ◌/◌, ◌%◌, ◌<◌, ◌≤◌, [], ◌∷◌, slice_index_or, arith, refl, ap, ◌∙◌, if◌then◌else◌, min, lit≤, lit<, ℤ, Bool, true, false, nat_lt, sym, subst, inl, inr}
 use Rattle.std.proofs.lemmas.Bool.{cases_lt, lt-ltb}
 use Rattle.std.proofs.lemmas.Bool.Decides.{nat_tests}
 use mir.Val.{bool_byte}
 use Rattle.cal_units.specs.Lengths.{is_leap_year, days_in_month}
-use Rattle.cal_date.specs.Date.{year_at, month_at, day_of_month_at, ordinal_at}
+use Rattle.cal_date.specs.Date.{year_at, month_at, day_of_month_at, ordinal_at, IsYear, IsOrdinal, IsDayOfMonth}
 use Rattle.cal_date.specs.CountLaws.{days_of_months}
 use Rattle.cal_date.specs.PackedDate.{leap_mark}
-use Rattle.cal_date.proofs.Calendar.{in_month_of}
+use Rattle.cal_date.proofs.Calendar.{in_month_of, ordinal_in, IsOrdinal-ordinal_in}
 use Rattle.cal_date.proofs.Months.{each_month, days_of_months-next}
 use Rattle.cal_date.proofs.Packed.{bool_byte-most}
 
@@ -135,3 +135,22 @@ entry-is n low bits =
       after = after;
       day = omega (arith, bits, here, at.stands.ordinal_is);
     })
+
+-- A day of a month or its last day, by the leap mark and the days before the month and the next.
+pub record IsClamped (y : ℤ) (i d low : ℕ) : Type 0 where
+  pub day : IsDayOfMonth y (i + 1) (min d (days_in_month y (i + 1)))
+  pub low_is : low - leap_mark y ≡ ordinal_in y i (min d (days_in_month y (i + 1)))
+  pub ordinal : IsOrdinal y (ordinal_in y i (min d (days_in_month y (i + 1))))
+
+pub clamped : (y : ℤ) (i d begin next low : ℕ) → IsYear y → i < 12 → 1 ≤ d → begin ≡ leap_mark y + days_of_months y i → next ≡ leap_mark y + days_of_months y (i + 1)
+    → low ≡ min (begin + d) next → IsClamped y i d low
+unfolding days_in_month
+clamped y i d begin next low year below some first last is =
+    let length = days_of_months-next y i in
+    let one : 1 ≤ days_in_month y (i + 1) = grind (arith, nat_tests) in
+    let day : IsDayOfMonth y (i + 1) (min d (days_in_month y (i + 1))) = (grind (arith, some, one), grind arith) in
+    record {
+      day = day;
+      low_is = grind (arith, first, last, length, is);
+      ordinal = IsOrdinal-ordinal_in y i _ year.0 below day;
+    }

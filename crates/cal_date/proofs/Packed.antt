@@ -1,5 +1,5 @@
 -- The parts of the packed value of an ordinal date.
-use Rattle.std.proofs.Common.{◌≡◌, inl, inr, refl, Bool, ℕ, ◌*◌, ◌+◌, ◌%◌, ◌≤◌, ◌∙◌, sym, ap, subst, arith, rules, ℤ, pos, neg_ℤ, ◌+ℤ◌, ◌*ℤ◌, ◌≤ℤ◌, unsigned_abs, to_z, of_z, w32, Fits, FitsSigned, bit_and, bit_or, ◌^◌, ◌<◌}
+use Rattle.std.proofs.Common.{◌≡◌, inl, inr, refl, Bool, ℕ, ◌*◌, ◌+◌, ◌%◌, ◌≤◌, ◌∙◌, sym, ap, subst, arith, rules, ℤ, pos, neg_ℤ, ◌/◌, ◌+ℤ◌, ◌-ℤ◌, ◌*ℤ◌, ◌≤ℤ◌, unsigned_abs, to_z, of_z, w32, Fits, FitsSigned, bit_and, bit_or, ◌^◌, ◌<◌}
 use Rattle.std.proofs.lemmas.Int.{ints, to_z-of_z}
 use Rattle.std.proofs.lemmas.Bool.Decides.{nat_tests}
 use Rattle.std.proofs.lemmas.Bool.{cases_Bool}
@@ -9,7 +9,7 @@ use lib.Signed.{shr_z, non_neg}
 use mir.Syntax.{Width, w16}
 use mir.Val.{bool_byte}
 use Rattle.cal_units.specs.Lengths.{is_leap_year, days_in_year}
-use Rattle.cal_date.specs.Date.{year_at, ordinal_at, IsYear, IsOrdinal, IsDate}
+use Rattle.cal_date.specs.Date.{first_year, year_at, ordinal_at, IsYear, IsOrdinal, IsDate}
 use Rattle.cal_date.specs.PackedDate.{packed, packing_bias, leap_mark, year_of, ordinal_of, IsPacked, IsPackedDate, IsPacked-fields, fields-IsPacked, ordinal_number, number_of, HasOrdinalDate-number_of, packed_at-number_of}
 use Rattle.cal_date.specs.declared.date.Date.TheInside.{Inside}
 use Rattle.cal_date.proofs.Dates.{IsDate-ordinal_number}
@@ -86,6 +86,14 @@ shifted-of z h = search rules
 
 pub shifted : (y : ℤ) (o : ℕ) → IsYear y → IsOrdinal y o → to_z w32 (of_z w32 (shr_z (to_z w32 (of_z w32 (packed y o))) 1024)) ≡ y
 shifted y o h f = shifted-of (packed y o) (bounded y o h f) ∙ year_of-packed y o h f
+
+-- With the first year subtracted, it is the index of the year.
+pub year_index-is : (y : ℤ) (o : ℕ) → IsYear y → IsOrdinal y o
+    → pos (unsigned_abs (to_z w32 (of_z w32 (to_z w32 (of_z w32 (packed y o)) -ℤ neg_ℤ (pos 1023998976)))) / 1024) ≡ y -ℤ first_year
+unfolding packed
+year_index-is y o h f =
+    let low : leap_mark y + o < 1024 = grind (arith, nat_tests) in
+    grind (arith, ints, low)
 
 lowest_bits-of : (z : ℤ) → IsBounded z → unsigned_abs (to_z w32 (bit_and (of_z w32 z) 511)) ≡ ordinal_of z
 unfolding ordinal_of

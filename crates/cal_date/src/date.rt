@@ -1,6 +1,7 @@
 //! Dates.
-ghost use Rattle.std.specs.Prelude.{◌≡◌, ℕ, true, ◌+◌, ◌-◌, ◌<◌, ◌≤◌, pos, ◌+ℤ◌, ◌<ℤ◌, ◌≤ℤ◌, ◌↔◌, IfOk, IfErr, IsErr, IsTrue, SomeIff, ◌⊎◌, Ok, [], ◌∷◌};
-ghost use Rattle.cal_date.specs.Date.{last_day, year_at, ordinal_at, julian_day_at, IsDate, IsYear, IsOrdinal, HasOrdinalDate, HasJulianDay, NoDate};
+ghost use Rattle.std.specs.Prelude.{◌≡◌, ℕ, true, ◌+◌, ◌-◌, ◌<◌, ◌≤◌, pos, ◌+ℤ◌, ◌-ℤ◌, ◌<ℤ◌, ◌≤ℤ◌, ◌↔◌, IfOk, IfErr, IsErr, IsTrue, SomeIff, ◌⊎◌, Ok, [], ◌∷◌};
+ghost use Rattle.cal_date.specs.Date.{first_year, last_day, year_at, ordinal_at, julian_day_at, IsDate, IsYear, IsOrdinal, HasOrdinalDate, HasJulianDay, NoDate};
+ghost use Rattle.cal_date.specs.DateLimits.{years_in_range};
 ghost use Rattle.cal_date.specs.Order.{IsBefore, ordinal_date_at};
 ghost use Rattle.cal_date.specs.ClosedForms.{julian_day_of, kernel_of, year_of_kernel, ordinal_of_kernel};
 ghost use Rattle.cal_date.specs.PackedDate.{leap_mark, ordinal_number};
@@ -157,6 +158,16 @@ impl Date {
         ensures in_range { IsDate self }
     {
         self.packed >> 10
+    }
+
+    /// Returns the index of the year, from 0 for the first year of the range.
+    fn year_index(self) -> u32
+        ensures value { pos result ≡ year_at self -ℤ first_year }
+        ensures max { result < years_in_range }
+        ensures in_range { IsDate self }
+    {
+        // The difference is before the shift, so a sum with months has a term less.
+        (self.packed - (MIN_YEAR << 10)) as u32 >> 10
     }
 
     /// Returns the day of the year, from 1 to 365, or 366 in a leap year. For 2020-12-31 it is 366.

@@ -1,13 +1,13 @@
 //! Months of days by their numbers, without tables or branches, so that a loop takes several days
 //! at a time.
-ghost use Rattle.std.specs.Prelude.{◌≡◌, ◌<◌, ◌≤◌, min};
-ghost use Rattle.cal_time.specs.Date.{IsDate, year_at, month_at, day_of_month_at};
+ghost use Rattle.std.specs.Prelude.{◌≡◌, ◌+◌, ◌<◌, ◌≤◌, min, pos, ◌+ℤ◌, ◌-ℤ◌, ◌*ℤ◌};
+ghost use Rattle.cal_time.specs.Date.{first_year, IsDate, IsYear, year_at, month_at, day_of_month_at};
 ghost use Rattle.cal_time.specs.DateLimits.{months_in_range};
 ghost use Rattle.cal_time.specs.Lengths.{days_in_month};
 ghost use Rattle.cal_schedule.specs.Months.{HasMonthIndex};
 
-use crate::months::{month_index, year_and_month};
 use cal_time::day_number::{from_calendar_date, month_length, to_calendar_date};
+use cal_time::limits::MIN_YEAR;
 use cal_time::util::is_leap_year;
 
 /// Returns the index of the month of a day of the range, from 0 for January of -999999, and the day
@@ -39,4 +39,24 @@ pub fn clamped_date_in_month(index: u32, day: u8) -> u32
     let month = index + 1;
     let length = month_length(month, is_leap_year(year));
     from_calendar_date(year, month, day.min(length))
+}
+
+/// Returns the index of a month, by its year and its index in the year, from 0 for January.
+fn month_index(year: i32, month: u32) -> u32
+    requires year { IsYear year }
+    requires month { month < 12 }
+    ensures value { pos result ≡ year *ℤ pos 12 +ℤ pos month -ℤ first_year *ℤ pos 12 }
+    ensures max { result < months_in_range }
+{
+    (year - MIN_YEAR) as u32 * 12 + month
+}
+
+/// Returns the year and the month, from 0 for January, of the month with this index.
+fn year_and_month(index: u32) -> (i32, u8)
+    requires { index < months_in_range }
+    ensures value { result.0 *ℤ pos 12 +ℤ pos result.1 ≡ pos index +ℤ first_year *ℤ pos 12 }
+    ensures month { result.1 < 12 }
+    ensures year { IsYear result.0 }
+{
+    ((index / 12) as i32 + MIN_YEAR, (index % 12) as u8)
 }

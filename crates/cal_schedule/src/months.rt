@@ -11,50 +11,17 @@ use cal_time::{Date, limits};
 /// The number of months in the range.
 const MONTHS: i64 = limits::MONTHS as i64;
 
-/// Returns the index of the month, from 0 for January of -999999, and the day of the month.
-pub(crate) fn month_number_and_day(date: Date) -> (u32, u8)
-    ensures month { HasMonthIndex result.0 date }
-    ensures max { result.0 < months_in_range }
-    ensures day { result.1 ≡ day_of_month_at date }
-    ensures first { 1 ≤ result.1 }
-    ensures in_range { IsDate date }
-{
-    let (month, day) = date.month_index_and_day();
-    (month_index(date.year(), u32::from(month)), day)
-}
-
-/// Returns the index of a month, by its year and its index in the year, from 0 for January.
-pub(crate) fn month_index(year: i32, month: u32) -> u32
-    requires year { IsYear year }
-    requires month { month < 12 }
-    ensures value { pos result ≡ year *ℤ pos 12 +ℤ pos month -ℤ first_year *ℤ pos 12 }
-    ensures max { result < months_in_range }
-{
-    (year - MIN_YEAR) as u32 * 12 + month
-}
-
-/// Returns the year and the month, from 0 for January, of the month with this index.
-pub(crate) fn year_and_month(index: u32) -> (i32, u8)
-    requires { index < months_in_range }
-    ensures value { result.0 *ℤ pos 12 +ℤ pos result.1 ≡ pos index +ℤ first_year *ℤ pos 12 }
-    ensures month { result.1 < 12 }
-    ensures year { IsYear result.0 }
-{
-    ((index / 12) as i32 + MIN_YEAR, (index % 12) as u8)
-}
-
 /// Returns the date in a month, by its index, with this day, or the last day of the month if it is
-/// shorter. The index is below 23999988, and the day 1 or more.
-pub(crate) fn clamped_date_in_month(index: u32, day: u8) -> Date
+/// shorter. The index is below 23999988, and the day is from 1 to 31.
+pub(crate) fn clamped_date_in_month(index: u32, day: u32) -> Date
     requires month { index < months_in_range }
-    requires day { 1 ≤ day }
+    requires day { (1 ≤ day) × (day ≤ 31) }
     ensures month { HasMonthIndex index result }
     ensures day { day_of_month_at result
         ≡ min day (days_in_month (year_at result) (month_at result)) }
     ensures range { IsDate result }
 {
-    let (year, month) = year_and_month(index);
-    Date::from_month_index_clamped(year, month, day)
+    Date::from_month_number_clamped(index, day)
 }
 
 /// Adds months, or subtracts them if the number is negative. The day of the month stays, or becomes
@@ -68,7 +35,7 @@ pub fn checked_add_months(date: Date, months: i32) -> Option<Date>
     ensures none { IfNone result (¬ IsMonthNumber (month_number_at date +ℤ months)) }
     ensures in_range { IsDate date }
 {
-    let (index, day) = month_number_and_day(date);
+    let (index, day) = date.month_number_and_day();
     let index = i64::from(index) + i64::from(months);
     if index < 0 || index >= MONTHS {
         return None;

@@ -4,7 +4,7 @@ ghost use Rattle.cal_time.specs.Date.{IsDate};
 ghost use Rattle.cal_schedule.specs.Months.{month_number_at, IsMonthNumber, IsMonthsLater};
 ghost use Rattle.cal_schedule.specs.Until.{months_of, IsGreatest, IsLeast, IsPeriodUntil, IsMonthsUpTo, IsMonthsBackTo};
 
-use crate::months::{checked_add_months, month_number_and_day};
+use crate::months::checked_add_months;
 use crate::period::Period;
 use cal_time::Date;
 
@@ -16,8 +16,8 @@ pub(crate) fn month_difference(from: Date, to: Date) -> i32
     ensures max { result ≤ℤ pos (2 ^ 25) }
     ensures in_range { IsDate from × IsDate to }
 {
-    let (start, _) = month_number_and_day(from);
-    let (end, _) = month_number_and_day(to);
+    let (start, _) = from.month_number_and_day();
+    let (end, _) = to.month_number_and_day();
     end as i32 - start as i32
 }
 

@@ -1,11 +1,12 @@
 //! Dates by year, month and day of the month.
-ghost use Rattle.std.specs.Prelude.{◌≡◌, ℕ, ◌+◌, ◌<◌, ◌≤◌, min, pos, ◌↔◌, ◌⊎◌, IfOk, IfErr, IsErr, IsTrue, Ok, [], ◌∷◌, ℤ};
+ghost use Rattle.std.specs.Prelude.{◌≡◌, ℕ, ◌+◌, ◌<◌, ◌≤◌, ◌-◌, ◌/◌, ◌%◌, min, pos, ◌+ℤ◌, ◌-ℤ◌, ◌*ℤ◌, ◌↔◌, ◌⊎◌, IfOk, IfErr, IsErr, IsTrue, Ok, [], ◌∷◌, ℤ};
 ghost use Rattle.cal_units.specs.Month.{number};
 ghost use Rattle.cal_units.specs.ComponentError.{FailsWith};
 ghost use Rattle.cal_units.specs.Lengths.{is_leap_year, days_in_month};
 ghost use Rattle.cal_date.specs.ClosedForms.{days_in_part, months_before_part, month_of_ordinal, day_of_ordinal};
 ghost use Rattle.cal_date.specs.CountLaws.{days_of_months};
-ghost use Rattle.cal_date.specs.Date.{year_at, month_at, day_of_month_at, ordinal_at, IsDate, IsYear, IsDayOfMonth, HasCalendarDate, NoDate};
+ghost use Rattle.cal_date.specs.Date.{first_year, year_at, month_at, day_of_month_at, ordinal_at, IsDate, IsYear, IsDayOfMonth, HasCalendarDate, NoDate};
+ghost use Rattle.cal_date.specs.DateLimits.{months_in_range};
 ghost use Rattle.cal_date.specs.Order.{IsBefore, calendar_date_at};
 ghost use Rattle.cal_date.specs.PackedDate.{leap_mark};
 ghost use Rattle.cal_date.specs.DateErrors.{year_out_of_range, day_out_of_range};
@@ -13,6 +14,7 @@ ghost use Rattle.cal_date.specs.DateErrors.{year_out_of_range, day_out_of_range}
 use crate::date::{Date, is_year};
 use crate::day_number::days_before_month_in_part;
 use crate::error::{Component, ComponentRange};
+use crate::limits::MIN_YEAR;
 use cal_units::util::is_leap_year;
 use cal_units::{Cycle, Month};
 
@@ -23,6 +25,31 @@ const MONTH_STARTS: [u16; 29] = [
     0, 31, 59, 90, 120, 151, 181, 212, 243, 273, 304, 334, 365, 0, 0, 0, 512, 543, 572, 603, 633,
     664, 694, 725, 756, 786, 817, 847, 878,
 ];
+
+/// The leap mark plus the days before each month, in a common year and in a leap year. Each quarter
+/// has four entries: one for each of its months, and one for its end. The two kinds of year are
+/// side by side, because the month is known before the kind of year.
+const QUARTER_BOUNDS: [[u16; 2]; 16] = [
+    [0, 512],
+    [31, 543],
+    [59, 572],
+    [90, 603],
+    [90, 603],
+    [120, 633],
+    [151, 664],
+    [181, 694],
+    [181, 694],
+    [212, 725],
+    [243, 756],
+    [273, 786],
+    [273, 786],
+    [304, 817],
+    [334, 847],
+    [365, 878],
+];
+
+/// A twelfth of 2^32, rounded up.
+const TWELFTH: u64 = 357_913_942;
 
 impl Date {
     /// Creates a date from a year, a month and a day of the month: the calendar date of ISO 8601.
@@ -70,6 +97,30 @@ impl Date {
         let leap = is_leap_year(year);
         let low = month_start(index, leap) + u32::from(day);
         Date::pack_low_bits(year, low.min(month_start(index + 1, leap)))
+    }
+
+    /// Creates a date from the number of a month and a day, clamped to the last day of the month.
+    ///
+    /// Months are numbered from 0 for January of -999999 to 23999987, and the day is from 1 to 31.
+    /// [`Self::month_number_and_day`] returns such a number.
+    pub fn from_month_number_clamped(number: u32, day: u32) -> Self
+        requires number { number < months_in_range }
+        requires min { 1 ≤ day }
+        requires max { day ≤ 31 }
+        ensures value { let year = first_year +ℤ pos (number / 12) in
+            HasCalendarDate year (number % 12 + 1)
+            (min day (days_in_month year (number % 12 + 1))) result }
+        ensures range { IsDate result }
+    {
+        // The high half of the product is the index of the year, the low half the part of the year
+        // before the month. A month is 4/3 of a sixteenth of a year, so the highest four bits of
+        // this part are the bound where the month begins.
+        let place = u64::from(number) * TWELFTH;
+        let year = (place >> 32) as i32 + MIN_YEAR;
+        let bound = (place % (1 << 32) >> 28) as usize;
+        let leap = is_leap_year(year);
+        let low = quarter_bound(bound, leap) + day;
+        Date::pack_low_bits(year, low.min(quarter_bound(bound + 1, leap)))
     }
 
     /// Returns the month. For 2020-02-29 it is February.
@@ -124,12 +175,39 @@ impl Date {
         ensures max { result.1 ≤ 31 }
         ensures in_range { IsDate self }
     {
+        let (index, day) = self.index_and_day();
+        (index as u8, day as u8)
+    }
+
+    /// Returns the number of the month, from 0 for January of -999999, and the day of the month.
+    pub fn month_number_and_day(self) -> (u32, u32)
+        ensures month { pos result.0 ≡ year_at self *ℤ pos 12 +ℤ pos (month_at self) -ℤ pos 1
+            -ℤ first_year *ℤ pos 12 }
+        ensures number { result.0 < months_in_range }
+        ensures day { result.1 ≡ day_of_month_at self }
+        ensures range { IsDayOfMonth (year_at self) (month_at self) result.1 }
+        ensures max { result.1 ≤ 31 }
+        ensures in_range { IsDate self }
+    {
+        let (index, day) = self.index_and_day();
+        (12 * self.year_index() + index, day)
+    }
+
+    /// Returns the month index and the day of the month.
+    fn index_and_day(self) -> (u32, u32)
+        ensures month { result.0 + 1 ≡ month_at self }
+        ensures day { result.1 ≡ day_of_month_at self }
+        ensures index { result.0 < 12 }
+        ensures range { IsDayOfMonth (year_at self) (month_at self) result.1 }
+        ensures max { result.1 ≤ 31 }
+        ensures in_range { IsDate self }
+    {
         // A month has 28 to 31 days, so a quotient by 32 gives its entry or the one before it.
         let low = self.low_bits() as usize;
         let quotient = low / 32;
         let entry = quotient + usize::from(low > usize::from(MONTH_STARTS[quotient + 1]));
         let start = usize::from(MONTH_STARTS[entry]);
-        ((entry % 16) as u8, (low - start) as u8)
+        ((entry % 16) as u32, (low - start) as u32)
     }
 
     /// Returns the month and the day of the month. It reads no table, so a loop takes several dates
@@ -190,4 +268,15 @@ fn month_start(index: u8, leap: bool) -> u32
     ensures max { result ≤ 878 }
 {
     u32::from(MONTH_STARTS[16 * usize::from(leap) + usize::from(index)])
+}
+
+/// Returns the leap mark plus the days before a bound in [`QUARTER_BOUNDS`], in a leap year or in a
+/// common year. Every fourth bound is the end of a quarter, so no month begins there.
+fn quarter_bound(bound: usize, leap: bool) -> u32
+    requires { bound < 16 }
+    ensures value { (year : ℤ) → leap ≡ is_leap_year year
+        → result ≡ leap_mark year + days_of_months year (bound - bound / 4) }
+    ensures max { result ≤ 878 }
+{
+    u32::from(QUARTER_BOUNDS[bound][usize::from(leap)])
 }

@@ -7,7 +7,7 @@ ghost use Rattle.cal_schedule.specs.Rule.{period_index, unit_of};
 ghost use Rattle.cal_schedule.specs.RuleSearch.{IsFirstOfPeriod};
 ghost use Rattle.cal_schedule.specs.declared.rule.unit.PeriodUnit.TheVariants.{Month, Week, WeekYear, Year};
 
-use crate::months::{clamped_date_in_month, month_number_and_day};
+use crate::months::clamped_date_in_month;
 use crate::rule::rule::Rule;
 use crate::rule::unit::PeriodUnit;
 use crate::rule::weeks::fourth_day;
@@ -28,7 +28,7 @@ pub(crate) fn period_of(unit: PeriodUnit, date: Date) -> u32
     match unit {
         PeriodUnit::Day => day_number(date),
         PeriodUnit::Week(first) => (day_number(date) + 7 - u32::from(first.place())) / 7,
-        PeriodUnit::Month => month_number_and_day(date).0,
+        PeriodUnit::Month => date.month_number_and_day().0,
         PeriodUnit::Year => year_index(date),
         PeriodUnit::WeekYear(first) => week_year(first, date),
     }

@@ -45,6 +45,8 @@ fn check_parts(
     same(rt, date.month(), month);
     same(rt, date.day(), day);
     same(rt, date.month_index_and_day(), (month.place(), day));
+    let number = 12 * (year - FIRST_YEAR) as u32 + u32::from(month.place());
+    same(rt, date.month_number_and_day(), (number, u32::from(day)));
     same(rt, date.to_ordinal_date(), (year, ordinal));
     same(rt, date.ordinal(), ordinal);
     let (iso_year, week, weekday) = date.to_iso_week_date();
@@ -148,6 +150,9 @@ fn check_clamped(rt: &impl Abort, from: (i32, u8, u8), to: (i32, u8, u8)) {
     let wanted = date(rt, to.0, to.1, to.2);
     let (index, _) = wanted.month_index_and_day();
     let found = Date::from_month_index_clamped(wanted.year(), index, day);
+    same(rt, found, wanted);
+    let (number, _) = wanted.month_number_and_day();
+    let found = Date::from_month_number_clamped(number, u32::from(day));
     same(rt, found, wanted);
 }
 

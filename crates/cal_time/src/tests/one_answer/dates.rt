@@ -2,6 +2,7 @@
 ghost use Rattle.std.specs.Prelude.{◌≡◌, ℕ, ◌<◌, ◌≤◌};
 ghost use Rattle.cal_date.specs.ClosedForms.{HasKernel};
 ghost use Rattle.cal_date.specs.Date.{IsDate, IsYear};
+ghost use Rattle.cal_date.specs.DateLimits.{months_in_range};
 
 use crate::error::ComponentRange;
 use crate::tests::one_answer::Twice;
@@ -29,6 +30,15 @@ fn from_month_index_clamped(year: i32, index: u8, day: u8) -> Twice<Date>
     twice!(Date::from_month_index_clamped(year, index, day))
 }
 
+fn from_month_number_clamped(number: u32, day: u32) -> Twice<Date>
+    requires number { number < months_in_range }
+    requires min { 1 ≤ day }
+    requires max { day ≤ 31 }
+    ensures { result.0 ≡ result.1 }
+{
+    twice!(Date::from_month_number_clamped(number, day))
+}
+
 fn from_iso_week_date(year: i32, week: u8, weekday: Weekday) -> Twice<Result<Date, ComponentRange>>
     ensures { result.0 ≡ result.1 }
 {
@@ -51,6 +61,12 @@ fn month_index_and_day(date: Date) -> Twice<(u8, u8)>
     ensures { result.0 ≡ result.1 }
 {
     twice!(date.month_index_and_day())
+}
+
+fn month_number_and_day(date: Date) -> Twice<(u32, u32)>
+    ensures { result.0 ≡ result.1 }
+{
+    twice!(date.month_number_and_day())
 }
 
 fn weekday(date: Date) -> Twice<Weekday>

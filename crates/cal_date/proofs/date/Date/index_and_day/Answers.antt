@@ -3,8 +3,8 @@ use mir.Val.{bool_byte}
 use Rattle.cal_date.proofs.Calendar.{day_of_month-range, day_of_month-most}
 use Rattle.cal_date.proofs.MonthStarts.{IsEntry, entry-is}
 use Rattle.cal_date.specs.Date.{day_of_month_at}
-use Rattle.cal_date.proofs.date.Date.month_index_and_day.Goals as goal
-use Rattle.cal_date.proofs.date.Date.month_index_and_day.Goals.{After-from-2, After-from-start}
+use Rattle.cal_date.proofs.date.Date.index_and_day.Goals as goal
+use Rattle.cal_date.proofs.date.Date.index_and_day.Goals.{After-from-2, After-from-start}
 
 entry : (c : After-from-2) → IsEntry c.args.self c.low_bits-low.result (c.low_bits-low.result / 32 + c.from-2.result)
 entry c =

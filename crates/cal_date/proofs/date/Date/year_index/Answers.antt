@@ -1,0 +1,10 @@
+use Rattle.cal_date.proofs.Packed.{at_number, year_index-is}
+use Rattle.cal_date.proofs.date.Date.year_index.Goals as goal
+
+pub returns-clause-value : goal.returns-clause-value
+returns-clause-value c =
+    let at = at_number c.self.inside c.args.self c.self.invariant c.self.view_is in
+    rw at.packed_is (year_index-is _ _ at.year at.ordinal)
+
+pub returns-clause-in_range : goal.returns-clause-in_range
+returns-clause-in_range c = (at_number c.self.inside c.args.self c.self.invariant c.self.view_is).in_range
