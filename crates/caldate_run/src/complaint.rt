@@ -22,7 +22,7 @@ pub const TOO_LONG: &[u8] = b"caldate: arguments too long; expected at most 4096
 
 /// The commands and options for the first argument.
 const COMMANDS: &[u8] =
-    b"; expected to, add, next, last, until, since, start, end, on-or-after, on-or-before, at, keep, list, --date, --invalid, --field, --csv, --separator, --skip, --read, --assume, --help or --version";
+    b"; expected to, add, next, last, until, since, start, end, on-or-after, on-or-before, at, keep, list, --date, --invalid, --field, --csv, --header, --separator, --skip, --read, --assume, --help or --version";
 
 /// The commands after an option.
 const LINE_COMMANDS: &[u8] =
@@ -300,7 +300,7 @@ fn missing_noun(wanted: Wanted) -> &'static [u8]
 /// Returns the expected words, or nothing if the message needs none.
 fn expected_phrase(wanted: Wanted) -> &'static [u8]
     ensures words { result.now ≡ expected_phrase wanted }
-    ensures short { length result.now ≤ 200 }
+    ensures short { length result.now ≤ 220 }
 {
     match wanted {
         Wanted::Start => COMMANDS,
