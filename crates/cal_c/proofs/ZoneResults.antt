@@ -1,14 +1,18 @@
 -- What a call makes of a zone.
-use Rattle.std.specs.Prelude.{⊤, ◌≡◌, ℕ, MatchOption, Option, Some, None}
+use Rattle.std.specs.Prelude.{⊤, ◌≡◌, ℕ, List, IfOk, IfErr, MatchOption, Option, Some, None, Result, Ok, Err}
 use Rattle.std.proofs.Common.{subst}
 use Rattle.cal_zone.specs.declared.span.Span.{Span}
 use Rattle.cal_zone.specs.Span.{IsSpan}
 use Rattle.cal_zone.specs.Timeline.{Timeline, InOrder}
+use Rattle.cal_zone.specs.Zone.{made_of}
+use Rattle.cal_zone.specs.declared.zone_parts.ZoneParts.{ZoneParts}
+use Rattle.cal_tzif.specs.declared.zone_error.ZoneError.{ZoneError}
 use Rattle.cal_c.proofs.Needs.{met}
 use Rattle.cal_c.specs.Values.{need◌else◌then◌}
-use Rattle.cal_c.specs.Zones.{policy_number, zone_in, HasZone, IsForZone, IsPolicy}
+use Rattle.cal_c.specs.Zones.{policy_number, zone_in, HasZone, IsForZone, IsMade, IsPartsError, IsPartsOf, IsPolicy}
 use Rattle.cal_c.specs.declared.zones.checked_zone.CheckedZone.{CheckedZone}
 use Rattle.cal_c.specs.declared.zones.policy.Policy.{Policy}
+use Rattle.cal_c.specs.declared.zones.results.PartsResult.{PartsResult}
 
 -- The result for a struct that has this zone, and for one that has none.
 pub for_zone : (c : CheckedZone) (z : Timeline) (Then : Timeline → Type 0) (Else : Type 0)
@@ -47,3 +51,17 @@ pub next_span : (o : Option Timeline) (s s' : Span) (Bad : Type 0) (Then : Timel
     → MatchOption o Bad (λ (z : Timeline). InOrder z → Then z) × HasSpan o s'
 next_span (Some z) s s' Bad Then row held = ((λ order. (row order (held order)).1), (λ order. (row order (held order)).0))
 next_span None s s' Bad Then row held = (row, tt)
+
+-- A result for each option, by a result for each value.
+pub match_by : {V : Type 0} (P Q : V → Type 0) (o : Option V) (Bad : Type 0) → ((v : V) → P v → Q v) → MatchOption o Bad P → MatchOption o Bad Q
+match_by P Q (Some v) Bad by is = by v is
+match_by P Q None Bad by is = is
+
+-- The parts that are made of bytes, as the code finds them.
+pub made : (bytes : List ℕ) (Says : Timeline → Type 0) (Fails : ZoneError → Type 0) (Parts : ZoneParts → Type 0) (r : Result ZoneParts ZoneError) (out : PartsResult)
+    → ((p : ZoneParts) → Says (made_of p) → Parts p → InOrder (made_of p) × (p.bytes.now ≡ bytes))
+    → IfOk r (λ (p : ZoneParts). Says (made_of p)) → IfOk r Parts → IfErr r Fails
+    → IfOk r (λ (p : ZoneParts). IsPartsOf p.bytes.now (made_of p) out) → IfErr r (λ (e : ZoneError). IsPartsError e out) → IsMade bytes Says Fails out
+made bytes Says Fails Parts (Ok p) out by says parts fails is error =
+    let g = by p says parts in IsMade.zone (made_of p) says g.0 (subst (λ (b : List ℕ). IsPartsOf b (made_of p) out) g.1 is)
+made bytes Says Fails Parts (Err e) out by says parts fails is error = IsMade.error e fails error

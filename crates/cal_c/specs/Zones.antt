@@ -67,11 +67,15 @@ pub record HasRule (p : CheckedParts) : Type 0 where
   pub second : HasPlaces p.other
   pub calm : IsCalm (yearly_in p.one) (yearly_in p.other)
 
+-- The parts say that they have no rule, or that they have one, and have it.
+abbrev pub HasRuleOrNone : CheckedParts → Type 0
+HasRuleOrNone p = (p.rule ≡ 1) ⊎ ((p.rule ≡ 2) × HasRule p)
+
 -- The bytes have all changes of the parts, which have a rule or none. Each call rejects any others.
 pub record HasParts (bytes : List ℕ) (p : CheckedParts) : Type 0 where
   pub readable : IsReadable bytes p.layout
   pub skip : p.skip ≤ 3_999_998
-  pub rule : (p.rule ≡ 1) ⊎ ((p.rule ≡ 2) × HasRule p)
+  pub rule : HasRuleOrNone p
 
 abbrev pub HasZone : CheckedZone → Type 0
 HasZone c = HasParts c.bytes.now c.parts

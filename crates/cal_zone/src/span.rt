@@ -41,7 +41,7 @@ impl Span {
         self.first <= instant && instant <= self.last
     }
 
-    /// Checks that an instant is at most half a year before or after the span.
+    /// Checks that an instant is less than half a year before or after the span, and not in it.
     #[inline(always)]
     pub(crate) fn is_near(self, instant: i64) -> bool {
         let after = instant.wrapping_sub(self.last).cast_unsigned();

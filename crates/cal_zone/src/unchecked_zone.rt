@@ -70,6 +70,7 @@ impl<'a> UncheckedZone<'a> {
     /// Creates a zone from its parts. Returns `None` if the bytes don't have all changes.
     pub fn new(parts: ZoneParts<'a>) -> Option<Self>
         ensures some { IfSome result (λ zone. zone ≡ made_of parts.entry) }
+        ensures parts { IfSome result (λ zone. AreParts parts.entry) }
         ensures none { IfNone result (¬ AreParts parts.entry) }
     {
         if parts.skip > 3_999_998 {

@@ -90,10 +90,9 @@ fn offset_in(seconds: i64, zone: &UncheckedZone<'_>, span: &mut Span) -> i32
 /// Returns the row of the instant of a reading. Tries the span of the row before first.
 fn row_of_instant(reading: i64, resolver: &Resolver<'_>, span: &mut Span) -> (i64, u8)
     ensures { MatchOption resolver.now.zone (int64_row result.0 result.1 ≡ int64_error invalid_zone)
-        (λ z. MatchOption resolver.now.policy
+        (λ z. InOrder z → IsSpan z span.old → IsSpan z span.new × MatchOption resolver.now.policy
         (int64_row result.0 result.1 ≡ int64_error invalid_policy)
-        (λ policy. InOrder z → IsSpan z span.old → IsSpan z span.new
-        × IsInstantByPolicy z reading policy (int64_row result.0 result.1))) }
+        (λ policy. IsInstantByPolicy z reading policy (int64_row result.0 result.1))) }
 {
     match &resolver.zone {
         Some(zone) => match &resolver.policy {

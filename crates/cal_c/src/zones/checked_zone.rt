@@ -1,7 +1,7 @@
 //! Zones whose bytes are checked once, for C.
 ghost use Rattle.std.specs.Prelude.{◌≡◌, IfNone, IfSome, MatchOption};
-ghost use Rattle.cal_zone.specs.Zone.{made_of, AreParts};
-ghost use Rattle.cal_c.specs.Zones.{local_type_in, yearly_in, zone_in, zone_of_parts, HasParts, HasPlaces, HasRule, HasZone};
+ghost use Rattle.cal_zone.specs.Zone.{later, made_of, AreParts};
+ghost use Rattle.cal_c.specs.Zones.{changes_by_rule, local_type_in, yearly_in, zone_in, zone_of_parts, HasParts, HasPlaces, HasRule, HasRuleOrNone, HasZone};
 
 use cal_time::{Cycle, Month, Weekday};
 use cal_zone::{Layout, LocalType, Rule, UncheckedZone, Yearly, ZoneParts};
@@ -158,8 +158,8 @@ impl CheckedParts {
     /// Returns the numbers of the parts of a zone.
     pub(super) fn new(parts: ZoneParts<'_>) -> Self
         requires { AreParts parts }
-        ensures parts { HasParts parts.bytes.now result }
-        ensures value { zone_of_parts parts.bytes.now result ≡ made_of parts }
+        ensures parts { HasParts parts.entry.bytes.now result }
+        ensures value { zone_of_parts parts.entry.bytes.now result ≡ made_of parts.entry }
     {
         let first = ZoneClock::new(parts.first);
         let (layout, skip) = (parts.layout, parts.skip);
@@ -194,6 +194,25 @@ impl CheckedParts {
     {
         Rule::new(self.one.yearly()?, self.other.yearly()?)
     }
+
+    /// Returns the rule, if there is one, or `None` if the mark of the rule or its changes are
+    /// invalid.
+    fn held_rule(&self) -> Option<Option<Rule>>
+        ensures some { IfSome result (λ rule. later rule self.now.skip ≡ changes_by_rule self.now) }
+        ensures marked { IfSome result (λ rule. HasRuleOrNone self.now) }
+        ensures none { IfNone result (¬ HasRuleOrNone self.now) }
+    {
+        if self.rule == NO_RULE {
+            return Some(None);
+        }
+        if self.rule != RULE {
+            return None;
+        }
+        match self.two_changes() {
+            Some(rule) => Some(Some(rule)),
+            None => None,
+        }
+    }
 }
 
 impl<'a> CheckedZone<'a> {
@@ -204,12 +223,7 @@ impl<'a> CheckedZone<'a> {
             (λ zone. (zone ≡ zone_in self.now) × HasZone self.now) }
     {
         let parts = &self.parts;
-        let mut rule = None;
-        if parts.rule == RULE {
-            rule = Some(parts.two_changes()?);
-        } else if parts.rule != NO_RULE {
-            return None;
-        }
+        let rule = parts.held_rule()?;
         UncheckedZone::new(ZoneParts {
             first: parts.first.kind(),
             bytes: self.bytes,

@@ -58,8 +58,8 @@ fn zone_status(kind: ZoneErrorKind) -> i32
 /// Returns the parts of a zone as numbers, or the status and the position of an error.
 fn parts_result(parsed: Result<ZoneParts<'_>, ZoneError>) -> PartsResult
     requires { IfOk parsed AreParts }
-    ensures value { IfOk parsed (λ parts. IsPartsOf parts.bytes.now (made_of parts) result) }
-    ensures error { IfErr parsed (λ error. IsPartsError error result) }
+    ensures value { IfOk parsed.entry (λ parts. IsPartsOf parts.bytes.now (made_of parts) result) }
+    ensures error { IfErr parsed.entry (λ error. IsPartsError error result) }
 {
     match parsed {
         Ok(parts) => PartsResult {

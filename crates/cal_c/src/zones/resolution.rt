@@ -35,9 +35,9 @@ pub extern "C" fn fots_zone_resolve(zone: &CheckedZone<'_>, date: i32, time: u64
 
 /// Returns the instants at which clocks show a date and a time of day.
 fn resolve(zone: &UncheckedZone<'_>, date: i32, time: u64) -> LocalResult
-    ensures { need IsJulianDay date else result ≡ local_error invalid_date then
+    ensures { InOrder zone.now → need IsJulianDay date else result ≡ local_error invalid_date then
         need IsTime time else result ≡ local_error invalid_time then
-        InOrder zone.now → IsResolved zone.now (date_time (day_of date) time) result }
+        IsResolved zone.now (date_time (day_of date) time) result }
 {
     let date = or_error!(LocalResult, valid_date(date), INVALID_DATE);
     let time = or_error!(LocalResult, valid_time(time), INVALID_TIME);
@@ -82,11 +82,11 @@ pub extern "C" fn fots_zone_moment(
 
 /// Returns the moment of a date and a time of day by the number of a policy.
 fn moment_by_number(zone: &UncheckedZone<'_>, date: i32, time: u64, policy: u32) -> MomentResult
-    ensures { need IsJulianDay date else result ≡ moment_error invalid_date then
+    ensures { InOrder zone.now → need IsJulianDay date else result ≡ moment_error invalid_date then
         need IsTime time else result ≡ moment_error invalid_time then
         need IsPolicy policy else result ≡ moment_error invalid_policy then
         (p : Policy) × (policy_number p ≡ policy)
-        × (InOrder zone.now → IsMomentByPolicy zone.now (date_time (day_of date) time) p result) }
+        × IsMomentByPolicy zone.now (date_time (day_of date) time) p result }
 {
     let date = or_error!(MomentResult, valid_date(date), INVALID_DATE);
     let time = or_error!(MomentResult, valid_time(time), INVALID_TIME);

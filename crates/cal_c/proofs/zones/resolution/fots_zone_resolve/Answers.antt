@@ -1,0 +1,8 @@
+use Rattle.std.proofs.Math.Facts.{to_z-of_z}
+use Rattle.cal_c.proofs.ZoneResults.{for_zone}
+use Rattle.cal_c.proofs.zones.resolution.fots_zone_resolve.Goals as goal
+
+pub returns : goal.returns
+returns c =
+    let g = c.ranges.date in
+    for_zone _ _ _ _ c.in-Some.ensures (simp to_z-of_z at c.resolve.ensures)
