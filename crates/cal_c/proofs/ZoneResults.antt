@@ -1,9 +1,10 @@
 -- What a call makes of a zone.
-use Rattle.std.specs.Prelude.{⊤, ◌≡◌, ℕ, List, IfOk, IfErr, MatchOption, Option, Some, None, Result, Ok, Err}
-use Rattle.std.proofs.Common.{subst}
+use Rattle.std.specs.Prelude.{⊤, ◌≡◌, ℕ, ℤ, pos, neg_ℤ, int_lt, false, List, IfOk, IfErr, MatchOption, Option, Some, None, Result, Ok, Err}
+use Rattle.std.proofs.Common.{subst, arith}
+use Rattle.std.proofs.lemmas.Int.{ints}
 use Rattle.cal_zone.specs.declared.span.Span.{Span}
 use Rattle.cal_zone.specs.Span.{IsSpan}
-use Rattle.cal_zone.specs.Timeline.{Timeline, InOrder}
+use Rattle.cal_zone.specs.Timeline.{Timeline, InOrder, IsMoment}
 use Rattle.cal_zone.specs.Zone.{made_of}
 use Rattle.cal_zone.specs.declared.zone_parts.ZoneParts.{ZoneParts}
 use Rattle.cal_tzif.specs.declared.zone_error.ZoneError.{ZoneError}
@@ -65,3 +66,7 @@ pub made : (bytes : List ℕ) (Says : Timeline → Type 0) (Fails : ZoneError �
 made bytes Says Fails Parts (Ok p) out by says parts fails is error =
     let g = by p says parts in IsMade.zone (made_of p) says g.0 (subst (λ (b : List ℕ). IsPartsOf b (made_of p) out) g.1 is)
 made bytes Says Fails Parts (Err e) out by says parts fails is error = IsMade.error e fails error
+
+-- A reading that passed both tests of the code.
+pub in_moments : (x y : ℤ) → y ≡ x → int_lt y (neg_ℤ (pos 1_152_921_504_606_846_976)) ≡ false → int_lt (pos 1_152_921_504_606_846_976) y ≡ false → IsMoment x
+in_moments x y e low high = (grind (arith, ints), grind (arith, ints))
