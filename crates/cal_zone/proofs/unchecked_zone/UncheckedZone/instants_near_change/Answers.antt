@@ -1,4 +1,4 @@
-use Rattle.std.proofs.Common.{◌≡◌, ℤ, ◌-ℤ◌, ◌+◌, arith, to_z, of_z, w64, w32}
+use Rattle.std.proofs.Common.{◌≡◌, ◌-ℤ◌, ◌+◌, arith, to_z, of_z, w64, w32}
 use Rattle.std.proofs.lemmas.Int.{ints, to_z-of_z}
 use Rattle.cal_zone.specs.Timeline.{at, after_changes}
 use Rattle.cal_zone.proofs.Readings.{passed, near, twice, once_before, once_after, once_at_end, never, explained}

@@ -1,5 +1,5 @@
-use Rattle.std.proofs.Common.{◌≡◌, arith, rules, sym, subst, ◌↔◌, w64}
-use Rattle.std.proofs.lemmas.Int.{ints, to_z-of_z}
+use Rattle.std.proofs.Common.{◌≡◌, rules, sym, subst, ◌↔◌, w64}
+use Rattle.std.proofs.lemmas.Int.{to_z-of_z}
 use Rattle.std.specs.Prelude.{ℤ}
 use Rattle.cal_zone.specs.Timeline.{local_at}
 use Rattle.cal_zone.proofs.unchecked_zone.UncheckedZone.instants_of.Goals as goal

@@ -1,6 +1,5 @@
 use Rattle.std.proofs.Common.{◌≡◌, ◌∙◌, ap, arith, to_z, of_z, w32, w64}
 use Rattle.std.proofs.lemmas.Int.{ints, to_z-of_z}
-use Rattle.std.specs.Prelude.{ℤ}
 use Rattle.cal_zone.specs.declared.local_type.LocalType.{LocalType}
 use Rattle.cal_zone.specs.Timeline.{offset_at, InOrder}
 use Rattle.cal_zone.proofs.Spans.{only}
