@@ -275,8 +275,16 @@ fn spans(rt: HostRuntime) {
     };
     same(rt, zone.span_at(1_710_036_000), ramadan);
     same(rt, zone.span_at(1_713_059_999), ramadan);
-    same(rt, zone.span_after(1_710_035_999, ramadan).last, 1_710_035_999);
-    same(rt, zone.span_after(1_713_060_000, ramadan).first, 1_713_060_000);
+    same(
+        rt,
+        zone.span_after(1_710_035_999, ramadan).last,
+        1_710_035_999,
+    );
+    same(
+        rt,
+        zone.span_after(1_713_060_000, ramadan).first,
+        1_713_060_000,
+    );
     let far = zone.span_after(1_711_000_000, Span::empty());
     same(rt, (far.first, far.last), (1_711_000_000, 1_711_000_000));
     same(rt, far.offset, 0);
