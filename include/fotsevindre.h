@@ -184,7 +184,7 @@ enum fots_status {
     FOTS_INSUFFICIENT_FORMAT = 41, /* the texts of a format don't determine such a value */
     FOTS_BUFFER_TOO_SHORT = 42, /* a buffer has no room for the text */
     FOTS_CONTRADICTION = 43, /* a component of a text isn't that of the value, as a weekday */
-    FOTS_INVALID_ZONE = 45, /* the form of a zone is not a fots_zone_form */
+    FOTS_INVALID_ZONE = 45, /* a fots_zone has other numbers than a call makes */
     FOTS_INVALID_POLICY = 46, /* expected 0 (compatible) to 3 (reject) */
     FOTS_SKIPPED_TIME = 47, /* the clocks of a zone skip the date and time */
     FOTS_REPEATED_TIME = 48, /* the clocks of a zone show the date and time twice */
@@ -1225,20 +1225,61 @@ size_t fots_dates_format(const int32_t *dates, size_t dates_length, const fots_f
 /* ---- time zones
  *
  * A zone is the bytes of a TZif file, such as /usr/share/zoneinfo/Europe/Berlin, or a POSIX text,
- * such as CET-1CEST,M3.5.0,M10.5.0/3. Keep them unchanged during a call. Each call parses them
- * first, in 1.5 microseconds for Europe/Berlin, and returns the errors of fots_zone_check. Use a
- * column for many values. Unix times are in seconds. The examples are for Europe/Berlin. */
+ * such as CET-1CEST,M3.5.0,M10.5.0/3, and where its changes are there. fots_zone_from_file and
+ * fots_zone_from_posix check the bytes once, in 1.5 microseconds for Europe/Berlin. Keep them
+ * unchanged while you use the zone; if they move, set the pointer. After a change by hand results
+ * can be wrong, but no call reads past the bytes. A call rejects numbers that no zone has first, as
+ * FOTS_INVALID_ZONE. Unix times are in seconds. The examples are for Europe/Berlin. */
+typedef struct fots_zone_clock {
+    int32_t offset;
+    uint32_t is_daylight;
+    size_t name_start; /* this and the next field are positions in the bytes of the zone */
+    size_t name_end;
+} fots_zone_clock;
+
+typedef struct fots_zone_yearly {
+    uint8_t month; /* from 0 */
+    uint8_t week; /* 5 for the last one */
+    uint8_t weekday; /* from 0 for Monday */
+    int32_t time;
+    fots_zone_clock clock;
+} fots_zone_yearly;
+
+typedef struct fots_zone_layout {
+    size_t times; /* this and the next fields are positions in the bytes of the zone */
+    size_t indexes;
+    size_t types;
+    size_t names;
+    size_t names_end;
+    size_t changes; /* how many there are, as for the next field */
+    size_t kinds;
+} fots_zone_layout;
+
+typedef struct fots_zone_parts {
+    uint32_t rule; /* 1 for a zone without a rule after its last change, 2 with one */
+    uint32_t skip; /* the changes of the rule that are not after that change */
+    fots_zone_layout layout;
+    fots_zone_clock first;
+    fots_zone_yearly one; /* the changes of the rule, or zeros, as for the next field */
+    fots_zone_yearly other;
+} fots_zone_parts;
+
 typedef struct fots_zone {
     const uint8_t *bytes;
     size_t bytes_length;
-    uint32_t form; /* a fots_zone_form */
+    fots_zone_parts parts;
 } fots_zone;
 
-enum fots_zone_form { FOTS_ZONE_FILE = 1, FOTS_ZONE_POSIX = 2 };
+typedef struct fots_zone_parts_result {
+    int32_t status;
+    size_t position; /* of the first wrong byte, from 0, or the length; or SIZE_MAX */
+    fots_zone_parts parts; /* or some that every call rejects as FOTS_INVALID_ZONE */
+} fots_zone_parts_result;
 
 typedef struct fots_zone_result {
     int32_t status;
-    size_t position; /* of the first wrong byte, from 0, or the length; or SIZE_MAX */
+    size_t position; /* as above */
+    fots_zone zone; /* or one that every call rejects as FOTS_INVALID_ZONE */
 } fots_zone_result;
 
 typedef struct fots_local_type_result {
@@ -1267,28 +1308,26 @@ typedef struct fots_local_result {
  * of the gap, and FOTS_EARLIER back; in a fold, FOTS_COMPATIBLE and FOTS_EARLIER mean the first. */
 enum fots_policy { FOTS_COMPATIBLE = 0, FOTS_EARLIER = 1, FOTS_LATER = 2, FOTS_REJECT = 3 };
 
-/* Return the zone of the bytes of a file, or of a POSIX text. Check it with fots_zone_check. */
-static inline fots_zone fots_zone_from_file(const uint8_t *bytes, size_t length)
+/* Check bytes, and return the parts of their zone, or the first error with its position:
+ * FOTS_UNEXPECTED_END, or one of FOTS_NOT_A_ZONE_FILE to FOTS_TRAILING_BYTES. "CET" is
+ * FOTS_INVALID_POSIX_OFFSET at 3. */
+fots_zone_parts_result fots_zone_file_parts(const uint8_t *bytes, size_t length);
+fots_zone_parts_result fots_zone_posix_parts(const char *text, size_t length);
+
+/* Return the zone of the bytes of a file, or of a POSIX text, or the first error. */
+static inline fots_zone_result fots_zone_from_file(const uint8_t *bytes, size_t length)
 {
-    fots_zone zone;
-    zone.bytes = bytes;
-    zone.bytes_length = length;
-    zone.form = FOTS_ZONE_FILE;
-    return zone;
+    const fots_zone_parts_result found = fots_zone_file_parts(bytes, length);
+    const fots_zone_result made = {found.status, found.position, {bytes, length, found.parts}};
+    return made;
 }
 
-static inline fots_zone fots_zone_from_posix(const char *text, size_t length)
+static inline fots_zone_result fots_zone_from_posix(const char *text, size_t length)
 {
-    fots_zone zone;
-    zone.bytes = (const uint8_t *)text;
-    zone.bytes_length = length;
-    zone.form = FOTS_ZONE_POSIX;
-    return zone;
+    const fots_zone_parts_result found = fots_zone_posix_parts(text, length);
+    const fots_zone_result made = {found.status, found.position, {(const uint8_t *)text, length, found.parts}};
+    return made;
 }
-
-/* Returns the first error of a zone, with its position: FOTS_INVALID_ZONE, FOTS_UNEXPECTED_END, or
- * one of FOTS_NOT_A_ZONE_FILE to FOTS_TRAILING_BYTES. "CET" is FOTS_INVALID_POSIX_OFFSET at 3. */
-fots_zone_result fots_zone_check(const fots_zone *zone);
 
 /* Return the offset at a Unix time; also whether this is daylight saving time, and its
  * abbreviation. 1711846800 is the start of +02:00, CEST. */

@@ -972,13 +972,21 @@ struct InstantColumn {
     std::size_t errors;
 };
 
-// A time zone. Its bytes must not change.
+// A time zone.
 class Zone {
 public:
     // Creates the zone of the bytes of a TZif file, such as /usr/share/zoneinfo/Europe/Berlin.
-    static Zone from_file(std::string bytes) { return Zone(std::move(bytes), FOTS_ZONE_FILE); }
+    static Zone from_file(std::string bytes)
+    {
+        const fots_zone_parts_result found = fots_zone_file_parts(reinterpret_cast<const std::uint8_t *>(bytes.data()), bytes.size());
+        return Zone(std::move(bytes), found);
+    }
     // Creates the zone of a POSIX text, such as CET-1CEST,M3.5.0,M10.5.0/3.
-    static Zone from_posix(std::string text) { return Zone(std::move(text), FOTS_ZONE_POSIX); }
+    static Zone from_posix(std::string text)
+    {
+        const fots_zone_parts_result found = fots_zone_posix_parts(text.data(), text.size());
+        return Zone(std::move(text), found);
+    }
 
     // Return the offset, whether this is daylight saving time, and the abbreviation at a Unix time.
     UtcOffset offset_at(std::int64_t seconds) const
@@ -1041,12 +1049,12 @@ public:
     }
 
     // Returns the struct of C, which uses the bytes of this zone.
-    fots_zone c() const noexcept { return {reinterpret_cast<const std::uint8_t *>(bytes_.data()), bytes_.size(), form_}; }
+    fots_zone c() const noexcept { return {reinterpret_cast<const std::uint8_t *>(bytes_.data()), bytes_.size(), parts_}; }
 
 private:
-    Zone(std::string bytes, std::uint32_t form) : bytes_(std::move(bytes)), form_(form)
+    Zone(std::string bytes, const fots_zone_parts_result &found)
+        : bytes_(std::move(bytes)), parts_(detail::parsed_or_throw(found).parts)
     {
-        detail::parsed_or_throw(with(fots_zone_check));
     }
 
     // Makes a call with the struct of C.
@@ -1067,13 +1075,13 @@ private:
     }
 
     std::string bytes_;
-    std::uint32_t form_;
+    fots_zone_parts parts_;
 };
 
 inline OffsetDateTime OffsetDateTime::in_zone(const Zone &zone) const
 {
-    const fots_zone parts = zone.c();
-    return from(fots_moment_in_zone(value_, &parts));
+    const fots_zone held = zone.c();
+    return from(fots_moment_in_zone(value_, &held));
 }
 
 } // namespace fotsevindre

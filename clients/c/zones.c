@@ -1,6 +1,7 @@
 /* Checks time zones: rows of GNU date, invalid arguments, and for a file, if there is one with the
- * name in the first argument, hostile bytes and drawn instants against localtime_r. */
+ * name in the first argument, hostile bytes and structs, and drawn instants against localtime_r. */
 #define _DEFAULT_SOURCE
+#include <stddef.h>
 #include <stdlib.h>
 #include <string.h>
 #include <time.h>
@@ -24,7 +25,7 @@ static fots_time half_past(uint32_t hour)
 
 static fots_zone posix(const char *text)
 {
-    return fots_zone_from_posix(text, strlen(text));
+    return fots_zone_from_posix(text, strlen(text)).zone;
 }
 
 static void instants(void)
@@ -66,12 +67,30 @@ static void readings(void)
     check(fots_zone_moment(&berlin, day(2024, 10, 27), half_past(2), FOTS_REJECT).status == FOTS_REPEATED_TIME, "repeated", 0, 0);
 }
 
+static void is_rejected(const fots_zone *zone, long long which)
+{
+    const fots_date no_day = {FOTS_NO_VALUE};
+    const fots_moment no_moment = {{FOTS_NO_VALUE}, {0}, 0};
+    int64_t second = 0;
+    int32_t offset;
+    uint8_t status;
+    check(fots_zone_offset(zone, 0).status == FOTS_INVALID_ZONE && fots_zone_offset(zone, 0).offset.seconds == FOTS_NO_VALUE, "offset", which, 0);
+    check(fots_zone_local_type(zone, 0).status == FOTS_INVALID_ZONE, "local type", which, 0);
+    check(fots_zone_next_change(zone, 0).status == FOTS_INVALID_ZONE, "next change", which, 0);
+    check(fots_zone_previous_change(zone, 0).status == FOTS_INVALID_ZONE, "previous change", which, 0);
+    check(fots_zone_resolve(zone, no_day, 0).status == FOTS_INVALID_ZONE && fots_zone_resolve(zone, no_day, 0).kind == 0, "resolve", which, 0);
+    check(fots_zone_moment(zone, no_day, 0, 4).status == FOTS_INVALID_ZONE, "moment", which, 0);
+    check(fots_moment_in_zone(no_moment, zone).status == FOTS_INVALID_MOMENT, "no moment", which, 0);
+    check(fots_moment_in_zone(fots_moment_from_unix_timestamp(0).moment, zone).status == FOTS_INVALID_ZONE, "in zone", which, 0);
+    check(fots_zone_offsets(zone, &second, 1, &offset, 1, &status, 1) == 1 && status == FOTS_INVALID_ZONE, "offsets", which, offset);
+    check(fots_zone_instants(zone, &second, 1, 4, &second, 1, &status, 1) == 1 && status == FOTS_INVALID_ZONE, "instants", which, second);
+}
+
 static void is_error(const char *text, int32_t status, size_t position)
 {
-    const fots_zone zone = posix(text);
-    const fots_zone_result found = fots_zone_check(&zone);
+    const fots_zone_result found = fots_zone_from_posix(text, strlen(text));
     check(found.status == status && found.position == position, text, found.status, (long long)found.position);
-    check(fots_zone_offset(&zone, 0).status == status && fots_zone_offset(&zone, 0).offset.seconds == FOTS_NO_VALUE, text, status, 0);
+    is_rejected(&found.zone, status);
 }
 
 static void errors(void)
@@ -84,33 +103,93 @@ static void errors(void)
     is_error("CET-1CEST,M3.5.0,M4.5.0", FOTS_MONTHS_TOO_CLOSE, 5);
     is_error("CET-1CEST,M3.5.0,M10.5.0/3x", FOTS_TRAILING_BYTES, 26);
 
-    fots_zone zone = posix(CET);
+    const fots_zone zone = posix(CET), fixed = posix("<-03>3");
     const fots_date no_day = {FOTS_NO_VALUE};
     const fots_moment no_moment = {{FOTS_NO_VALUE}, {0}, 0};
     check(fots_zone_resolve(&zone, no_day, 0).status == FOTS_INVALID_DATE, "no date", 0, 0);
     check(fots_zone_resolve(&zone, day(2024, 1, 1), FOTS_NO_TIME).status == FOTS_INVALID_TIME, "no time", 0, 0);
     check(fots_zone_moment(&zone, day(2024, 1, 1), 0, 4).status == FOTS_INVALID_POLICY, "no policy", 0, 0);
     check(fots_moment_in_zone(no_moment, &zone).status == FOTS_INVALID_MOMENT, "no moment", 0, 0);
-    for (zone.form = 0; zone.form < 9; zone.form += 3) {
-        check(fots_zone_check(&zone).status == FOTS_INVALID_ZONE, "no form", zone.form, 0);
-        check(fots_zone_resolve(&zone, no_day, 0).kind == 0, "no form", zone.form, 1);
+    check(fots_zone_from_file((const uint8_t *)CET, strlen(CET)).status == FOTS_UNEXPECTED_END, "a text is not a file", 0, 0);
+    check(fots_zone_from_posix(CET, strlen(CET)).position == SIZE_MAX, "no error", 0, 0);
+
+    fots_zone other;
+    memset(&other, 0, sizeof other);
+    other.bytes = (const uint8_t *)CET;
+    is_rejected(&other, 0);
+    for (other = fixed, other.parts.rule = 0; other.parts.rule < 9; other.parts.rule += 3) {
+        is_rejected(&other, other.parts.rule);
     }
-    zone.form = FOTS_ZONE_FILE;
-    check(fots_zone_check(&zone).status == FOTS_UNEXPECTED_END, "a text is not a file", 0, 0);
+    other = fixed, other.parts.rule = 2;
+    is_rejected(&other, 1);
+    other = fixed, other.parts.skip = 3999999;
+    is_rejected(&other, 2);
+    other = fixed, other.parts.layout.changes = SIZE_MAX;
+    is_rejected(&other, 3);
+    other = zone, other.parts.one.month = 12;
+    is_rejected(&other, 4);
+    other = zone, other.parts.other.weekday = 7;
+    is_rejected(&other, 5);
+    other = zone, other.parts.one.week = 6;
+    is_rejected(&other, 6);
+}
+
+/* Two instants of a reading have its offsets, if the zone is one that a call made. */
+static void is_shown(const fots_zone *zone)
+{
+    const fots_local_result local = fots_zone_resolve(zone, day(2024, 10, 27), half_past(2));
+    check(local.status == FOTS_OK, "a reading", local.status, 0);
+    if (local.kind != FOTS_GAP) {
+        check(fots_zone_offset(zone, local.earlier).offset.seconds == local.earlier_offset.seconds, "the first", local.earlier, 0);
+        check(fots_zone_offset(zone, local.later).offset.seconds == local.later_offset.seconds, "the second", local.later, 0);
+    }
 }
 
 /* The bytes are an error, or a zone whose instants show their readings. */
 static void is_sound(const uint8_t *bytes, size_t length)
 {
-    const fots_zone zone = fots_zone_from_file(bytes, length);
-    const fots_zone_result found = fots_zone_check(&zone);
-    const fots_local_result local = fots_zone_resolve(&zone, day(2024, 10, 27), half_past(2));
-    check(local.status == found.status, "the same error", local.status, found.status);
-    if (found.status != FOTS_OK) {
+    const fots_zone_result found = fots_zone_from_file(bytes, length);
+    if (found.status == FOTS_OK) {
+        is_shown(&found.zone);
+    } else {
         check(found.position <= length, "a position", (long long)found.position, (long long)length);
-    } else if (local.kind != FOTS_GAP) {
-        check(fots_zone_offset(&zone, local.earlier).offset.seconds == local.earlier_offset.seconds, "the first", local.earlier, 0);
-        check(fots_zone_offset(&zone, local.later).offset.seconds == local.later_offset.seconds, "the second", local.later, 0);
+        check(fots_zone_resolve(&found.zone, day(2024, 10, 27), half_past(2)).status == FOTS_INVALID_ZONE, "rejected", found.status, 0);
+    }
+}
+
+/* Makes all calls with a struct that no call made. Only the sanitizers can see an error. */
+static void is_safe(const fots_zone *zone)
+{
+    int64_t seconds[] = {INT64_MIN, -1, 1711846800, INT64_MAX}, found[4];
+    int32_t offsets[4];
+    uint8_t statuses[4];
+    int row;
+    for (row = 0; row < 4; row++) {
+        const fots_local_type_result type = fots_zone_local_type(zone, seconds[row]);
+        check(type.abbreviation_length == 0 || type.abbreviation + type.abbreviation_length <= zone->bytes_length, "inside", row, 0);
+        fots_zone_offset(zone, seconds[row]);
+        fots_zone_next_change(zone, seconds[row]);
+        fots_zone_previous_change(zone, seconds[row]);
+    }
+    fots_zone_resolve(zone, day(2024, 10, 27), half_past(2));
+    fots_zone_moment(zone, day(2024, 3, 31), half_past(2), FOTS_EARLIER);
+    fots_moment_in_zone(fots_moment_from_unix_timestamp(1711846800).moment, zone);
+    fots_zone_offsets(zone, seconds, 4, offsets, 4, statuses, 4);
+    fots_zone_instants(zone, seconds, 4, FOTS_LATER, found, 4, statuses, 4);
+}
+
+/* Changes each byte of a struct. */
+static void hostile_struct(const fots_zone *zone)
+{
+    const size_t start = offsetof(fots_zone, parts);
+    size_t index;
+    int other;
+    for (index = start; index < sizeof *zone; index++) {
+        for (other = 1; other < 256; other += other < 4 ? 1 : 50) {
+            fots_zone changed = *zone;
+            ((uint8_t *)&changed)[index] += (uint8_t)other;
+            is_safe(&changed);
+        }
     }
 }
 
@@ -148,7 +227,7 @@ static void hostile(size_t length)
 /* Compares instants of the years 1834 to 2310 with the C library. */
 static void against_localtime(const char *name, size_t length)
 {
-    const fots_zone zone = fots_zone_from_file(bytes, length);
+    const fots_zone zone = fots_zone_from_file(bytes, length).zone;
     uint64_t state = 88172645463325252ULL;
     int drawn;
     setenv("TZ", name, 1);
@@ -174,8 +253,12 @@ int main(int count, char **arguments)
     instants();
     readings();
     errors();
+    const fots_zone berlin = posix(CET);
+    hostile_struct(&berlin);
     if (count > 1) {
         const size_t length = read_file(arguments[1]);
+        const fots_zone zone = fots_zone_from_file(bytes, length).zone;
+        hostile_struct(&zone);
         hostile(length);
         against_localtime(arguments[1], length);
     }

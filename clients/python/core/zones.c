@@ -1,16 +1,35 @@
 /* Time zones, for the file zones.py. */
 
-/* Converts a tuple: the bytes of a zone, its form, and for readings a policy. */
+/* Takes the bytes of a zone, and whether they are a POSIX text. Returns the bytes of its parts. */
+static PyObject *core_zone_parts(PyObject *self, PyObject *const *given, Py_ssize_t count)
+{
+    fots_zone_parts_result result;
+    char *bytes;
+    Py_ssize_t length;
+    if (!is_count("zone_parts", count, 2) || PyBytes_AsStringAndSize(given[0], &bytes, &length)) {
+        return NULL;
+    }
+    result = given[1] == Py_True ? fots_zone_posix_parts(bytes, (size_t)length) :
+        fots_zone_file_parts((const uint8_t *)bytes, (size_t)length);
+    return !result.status ? new_bytes(&result.parts, sizeof result.parts) :
+        raise_position(state_of_module(self), result.status, result.position, 0);
+}
+
+/* Converts a tuple: the bytes of a zone, those of its parts, and for readings a policy. */
 static int to_zone_and_policy(PyObject *tuple, fots_zone *zone, uint32_t *policy)
 {
-    PyObject *bytes;
-    unsigned form, number = 0;
-    if (!PyArg_ParseTuple(tuple, "SI|I", &bytes, &form, &number)) {
+    PyObject *bytes, *parts;
+    unsigned number = 0;
+    if (!PyArg_ParseTuple(tuple, "SS|I", &bytes, &parts, &number)) {
+        return 0;
+    }
+    if ((size_t)PyBytes_Size(parts) != sizeof zone->parts) {
+        PyErr_SetString(PyExc_TypeError, "expected the parts of a zone");
         return 0;
     }
     zone->bytes = (const uint8_t *)PyBytes_AsString(bytes);
     zone->bytes_length = (size_t)PyBytes_Size(bytes);
-    zone->form = form;
+    memcpy(&zone->parts, PyBytes_AsString(parts), sizeof zone->parts);
     *policy = number;
     return 1;
 }
@@ -22,7 +41,6 @@ static int to_zone(const State *state, PyObject *tuple, fots_zone *zone)
     return to_zone_and_policy(tuple, zone, &policy);
 }
 
-OF_PARSED(zone, zone, 0, new_reference(Py_None))
 /* The offset, whether this is daylight saving time, and where the abbreviation is in the bytes. */
 OF(local_type, local_type, Py_BuildValue("NNnn", new_offset(state, result.offset),
     PyBool_FromLong((long)result.is_daylight), (Py_ssize_t)result.abbreviation,

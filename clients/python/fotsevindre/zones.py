@@ -16,7 +16,6 @@ from .conversions import _adds_to
 from .enums import Choice
 from .errors import ParseError, ZoneError, check
 
-_FILE, _POSIX = 1, 2
 # The folder of the system's zones, if TZDIR names no other.
 _SYSTEM = "/usr/share/zoneinfo"
 
@@ -113,16 +112,17 @@ class Zone:
     2024-03-31 3:30:00.0 +02:00:00
     """
 
-    __slots__ = ("_key", "_zone")
+    __slots__ = ("_key", "_is_posix", "_zone")
 
     def __init__(self, key: str) -> None:
-        self._set(check(key, str), _file_of(key), _FILE)
+        self._set(check(key, str), _file_of(key), False)
 
-    def _set(self, key: str, data: bytes, form: int) -> None:
+    def _set(self, key: str, data: bytes, is_posix: bool) -> None:
         self._key = key
-        self._zone = (data, form)
+        self._is_posix = is_posix
         try:
-            _core.zone_check(self._zone)
+            # The bytes, and what the library found in them.
+            self._zone = (data, _core.zone_parts(data, is_posix))
         except ParseError as error:
             raise ZoneError(error.position, "unexpected end") from None
 
@@ -130,14 +130,14 @@ class Zone:
     def from_file(cls, data: bytes, key: str = "") -> Zone:
         """Creates the zone of the bytes of a TZif file, or raises `ZoneError`."""
         zone = cls.__new__(cls)
-        zone._set(key, bytes(data), _FILE)
+        zone._set(key, bytes(data), False)
         return zone
 
     @classmethod
     def from_posix(cls, text: str) -> Zone:
         """Creates the zone of a POSIX text, such as CET-1CEST,M3.5.0,M10.5.0/3."""
         zone = cls.__new__(cls)
-        zone._set(text, text.encode("utf-8", "surrogatepass"), _POSIX)
+        zone._set(text, text.encode("utf-8", "surrogatepass"), True)
         return zone
 
     @property
@@ -191,10 +191,10 @@ class Zone:
     def __eq__(self, other: object) -> bool:
         if not isinstance(other, Zone):
             return NotImplemented
-        return (self._key, self._zone) == (other._key, other._zone)
+        return (self._key, self._zone[0]) == (other._key, other._zone[0])
 
     def __hash__(self) -> int:
-        return hash((self._key, self._zone))
+        return hash((self._key, self._zone[0]))
 
     def __str__(self) -> str:
         return self._key
@@ -203,13 +203,13 @@ class Zone:
         return f"Zone({self._key!r})"
 
     def __reduce__(self) -> tuple[Any, ...]:
-        return _zone, (type(self), self._key, *self._zone)
+        return _zone, (type(self), self._key, self._zone[0], self._is_posix)
 
 
-def _zone(kind: type[Zone], key: str, data: bytes, form: int) -> Zone:
+def _zone(kind: type[Zone], key: str, data: bytes, is_posix: bool) -> Zone:
     """Returns a pickled zone."""
     zone = kind.__new__(kind)
-    zone._set(key, data, form)
+    zone._set(key, data, is_posix)
     return zone
 
 

@@ -34,7 +34,7 @@ macro_rules! structs {
     ($($name:ident { $($field:ident: $kind:ty),* $(,)? };)*) => {
         $(
             #[repr(C)]
-            #[derive(Clone, Copy)]
+            #[derive(Clone, Copy, Debug, PartialEq, Eq)]
             pub(crate) struct $name {
                 $(pub(crate) $field: $kind),*
             }
@@ -250,8 +250,9 @@ pub(crate) fn with_parts<T>(rule: &Rule<'_>, call: impl FnOnce(CRulePointer) -> 
 }
 
 /// Calls with the bytes of a zone, which live until the call returns.
-pub(crate) fn with_zone<T>(bytes: &[u8], form: u32, call: impl FnOnce(CZonePointer) -> T) -> T {
-    call(&CZone { bytes: bytes.as_ptr(), bytes_length: bytes.len(), form })
+#[inline]
+pub(crate) fn with_zone<T>(bytes: &[u8], parts: CZoneParts, call: impl FnOnce(CZonePointer) -> T) -> T {
+    call(&CZone { bytes: bytes.as_ptr(), bytes_length: bytes.len(), parts })
 }
 
 impl ZoneError {

@@ -1,19 +1,12 @@
 //! Time zones.
 
-use crate::ffi::{self, expect_answer, or_none, with_zone, Answer, CZonePointer};
+use crate::ffi::{self, expect_answer, or_none, with_zone, Answer, CZoneParts, CZonePointer};
 use crate::{Local, OffsetDateTime, PlainDateTime, UtcOffset};
 use core::fmt;
 
-/// The form of the bytes of a file.
-const FILE: u32 = 1;
-
-/// The form of a POSIX text.
-const POSIX: u32 = 2;
-
 /// A time zone over the bytes of a TZif file (RFC 9636), or over a POSIX text.
 ///
-/// Each call parses them first; [`columns`](crate::columns) do so once for all rows. Unix times are
-/// in seconds.
+/// The bytes are checked once. Unix times are in seconds.
 ///
 /// ```
 /// use fotsevindre::{OffsetDateTime, Zone};
@@ -31,7 +24,7 @@ const POSIX: u32 = 2;
 #[derive(Clone, Copy, Debug, PartialEq, Eq)]
 pub struct Zone<'a> {
     bytes: &'a [u8],
-    form: u32,
+    parts: CZoneParts,
 }
 
 /// How clocks are set.
@@ -81,7 +74,7 @@ impl<'a> Zone<'a> {
     ///
     /// The first wrong byte.
     pub fn parse(bytes: &'a [u8]) -> Result<Self, ZoneError> {
-        Self { bytes, form: FILE }.checked()
+        ffi::fots_zone_file_parts(bytes).map(|(_, parts)| Self { bytes, parts })
     }
 
     /// Parses a POSIX text, such as `CET-1CEST,M3.5.0,M10.5.0/3`.
@@ -90,16 +83,13 @@ impl<'a> Zone<'a> {
     ///
     /// The first wrong byte.
     pub fn parse_posix(text: &'a str) -> Result<Self, ZoneError> {
-        Self { bytes: text.as_bytes(), form: POSIX }.checked()
-    }
-
-    fn checked(self) -> Result<Self, ZoneError> {
-        self.with(ffi::fots_zone_check).map(|_| self)
+        let bytes = text.as_bytes();
+        ffi::fots_zone_posix_parts(bytes).map(|(_, parts)| Self { bytes, parts })
     }
 
     /// Calls with the struct of C.
     pub(crate) fn with<T>(&self, call: impl FnOnce(CZonePointer) -> T) -> T {
-        with_zone(self.bytes, self.form, call)
+        with_zone(self.bytes, self.parts, call)
     }
 
     /// Returns the offset at a Unix time.

@@ -1,66 +1,36 @@
--- The result of parsing a zone, and what a call makes of it.
-use Rattle.std.specs.Prelude.{◌≡◌, ℕ, ℤ, IfErr, IfOk, MatchOption, Option, Some, None, Result, Ok, Err}
-use Rattle.std.proofs.Common.{sym, subst, arith}
+-- What a call makes of a zone.
+use Rattle.std.specs.Prelude.{⊤, ◌≡◌, ℕ, ℤ, pos, neg_ℤ, int_lt, false, List, IfOk, IfErr, MatchOption, Option, Some, None, Result, Ok, Err}
+use Rattle.std.proofs.Common.{subst, arith}
 use Rattle.std.proofs.lemmas.Int.{ints}
-use Rattle.cal_zone.specs.Timeline.{Timeline}
-use Rattle.cal_zone.specs.declared.change_error.ChangeError.TheVariants.{FirstOffset, Offset, Instant, NotRising, Overlap}
-use Rattle.cal_zone.specs.declared.timeline_error.TimelineError.{TimelineError}
-use Rattle.cal_zone.specs.declared.timeline_error.TimelineError.TheVariants as timeline
-use Rattle.cal_tzif.specs.declared.zone_error.ZoneErrorKind.{ZoneErrorKind}
-use Rattle.cal_tzif.specs.declared.zone_error.ZoneErrorKind.TheVariants as kinds
-use Rattle.cal_c.specs.Columns.{IsByte}
+use Rattle.cal_zone.specs.declared.span.Span.{Span}
+use Rattle.cal_zone.specs.Span.{IsSpan}
+use Rattle.cal_zone.specs.Timeline.{Timeline, InOrder, IsMoment}
+use Rattle.cal_zone.specs.Zone.{made_of}
+use Rattle.cal_zone.specs.declared.zone_parts.ZoneParts.{ZoneParts}
+use Rattle.cal_tzif.specs.declared.zone_error.ZoneError.{ZoneError}
 use Rattle.cal_c.proofs.Needs.{met}
 use Rattle.cal_c.specs.Values.{need◌else◌then◌}
-use Rattle.cal_c.specs.Zones.{policy_number, timeline_status, zone_status, IsForZone, IsPolicy, IsZoneError, IsZoneOf}
+use Rattle.cal_c.specs.Zones.{policy_number, zone_in, HasZone, IsForZone, IsMade, IsPartsError, IsPartsOf, IsPolicy}
+use Rattle.cal_c.specs.declared.zones.checked_zone.CheckedZone.{CheckedZone}
 use Rattle.cal_c.specs.declared.zones.policy.Policy.{Policy}
-use Rattle.cal_c.specs.Zones.IsForZone.{zone, error}
-use Rattle.cal_c.specs.Zones.IsZoneError.{form, file, text}
-use Rattle.cal_c.specs.declared.zones.results.ZoneResult.{ZoneResult}
-use Rattle.cal_c.specs.declared.zones.zone_parts.ZoneParts.{ZoneParts}
+use Rattle.cal_c.specs.declared.zones.results.PartsResult.{PartsResult}
 
-timeline_byte : (e : TimelineError) → IsByte (timeline_status e)
-timeline_byte (timeline.Change FirstOffset) = (omega (arith, ints), omega (arith, ints))
-timeline_byte (timeline.Change (Offset k)) = (omega (arith, ints), omega (arith, ints))
-timeline_byte (timeline.Change (Instant k)) = (omega (arith, ints), omega (arith, ints))
-timeline_byte (timeline.Change (NotRising k)) = (omega (arith, ints), omega (arith, ints))
-timeline_byte (timeline.Change (Overlap k)) = (omega (arith, ints), omega (arith, ints))
-timeline_byte timeline.Junction = (omega (arith, ints), omega (arith, ints))
+-- The result for a struct that has this zone, and for one that has none.
+pub for_zone : (c : CheckedZone) (z : Timeline) (Then : Timeline → Type 0) (Else : Type 0)
+    → (z ≡ zone_in c) × HasZone c → (InOrder z → Then z) → IsForZone c Then Else
+for_zone c z Then Else is found = record {
+  zone = λ checked. subst (λ (t : Timeline). InOrder t → Then t) is.0 found checked.order;
+  error = λ out. absurd (out is.1);
+}
 
-kind_byte : (kind : ZoneErrorKind) → IsByte (zone_status kind)
-kind_byte kinds.Truncated = (omega (arith, ints), omega (arith, ints))
-kind_byte kinds.Magic = (omega (arith, ints), omega (arith, ints))
-kind_byte kinds.Version = (omega (arith, ints), omega (arith, ints))
-kind_byte kinds.LeapSeconds = (omega (arith, ints), omega (arith, ints))
-kind_byte kinds.NoType = (omega (arith, ints), omega (arith, ints))
-kind_byte kinds.TypeIndex = (omega (arith, ints), omega (arith, ints))
-kind_byte kinds.Offset = (omega (arith, ints), omega (arith, ints))
-kind_byte kinds.Daylight = (omega (arith, ints), omega (arith, ints))
-kind_byte kinds.NameIndex = (omega (arith, ints), omega (arith, ints))
-kind_byte kinds.NotAscii = (omega (arith, ints), omega (arith, ints))
-kind_byte (kinds.Timeline e) = timeline_byte e
-kind_byte kinds.Newline = (omega (arith, ints), omega (arith, ints))
-kind_byte kinds.Name = (omega (arith, ints), omega (arith, ints))
-kind_byte kinds.PosixOffset = (omega (arith, ints), omega (arith, ints))
-kind_byte kinds.Day = (omega (arith, ints), omega (arith, ints))
-kind_byte kinds.Time = (omega (arith, ints), omega (arith, ints))
-kind_byte kinds.Months = (omega (arith, ints), omega (arith, ints))
-kind_byte kinds.Trailing = (omega (arith, ints), omega (arith, ints))
+pub for_none : (c : CheckedZone) (Then : Timeline → Type 0) (Else : Type 0) → (HasZone c → ⊥) → Else → IsForZone c Then Else
+for_none c Then Else none lost = record { zone = λ checked. absurd (none checked.parts); error = λ out. lost }
 
-error_byte : (p : ZoneParts) (r : ZoneResult) → IsZoneError p r → IsByte r.status
-error_byte p r (form not_one not_two is) = subst (λ (o : ZoneResult). IsByte o.status) (sym is) (omega (arith, ints), omega (arith, ints))
-error_byte p r (file one e why is) = subst (λ (o : ZoneResult). IsByte o.status) (sym is) (kind_byte e.kind)
-error_byte p r (text two e why is) = subst (λ (o : ZoneResult). IsByte o.status) (sym is) (kind_byte e.kind)
-
--- A result for each zone, and one for each error, which has a status in a byte.
-pub for_zone : (p : ZoneParts) (r : Result Timeline ZoneResult) (Then : Timeline → Type 0) (Else : ℤ → Type 0)
-    → IfOk r (IsZoneOf p) → IfErr r (IsZoneError p) → IfOk r Then → IfErr r (λ (e : ZoneResult). IsByte e.status → Else e.status) → IsForZone p Then Else
-for_zone p (Ok z) Then Else is why found lost = zone z is found
-for_zone p (Err e) Then Else is why found lost = error e why (lost (error_byte p e why))
-
--- A property of each value, if another one has it.
-pub ok_by : {V E : Type 0} (P Q : V → Type 0) (r : Result V E) → ((v : V) → P v → Q v) → IfOk r P → IfOk r Q
-ok_by P Q (Ok v) by is = by v is
-ok_by P Q (Err e) by is = tt
+-- The same for an option of a zone.
+pub for_some : (c : CheckedZone) (o : Option Timeline) (Then : Timeline → Type 0) (Else : Type 0)
+    → MatchOption o (HasZone c → ⊥) (λ (z : Timeline). (z ≡ zone_in c) × HasZone c) → MatchOption o Else (λ (z : Timeline). InOrder z → Then z) → IsForZone c Then Else
+for_some c (Some z) Then Else is found = for_zone c z Then Else is found
+for_some c None Then Else none lost = for_none c Then Else none lost
 
 -- A result for each policy, and one for a number that is not a policy.
 pub for_policy : (k : ℕ) (o : Option Policy) (Bad : Type 0) (Then : Policy → Type 0)
@@ -68,3 +38,35 @@ pub for_policy : (k : ℕ) (o : Option Policy) (Bad : Type 0) (Then : Policy →
     → need IsPolicy k else Bad then ((q : Policy) × (policy_number q ≡ k) × Then q)
 for_policy k None Bad Then never bad = record { error = λ out. bad; value = λ is. absurd (never is) }
 for_policy k (Some q) Bad Then is found = met is.0 (q, is.1, found)
+
+-- A row of a column gives the next one a span of its zone, if there is one.
+abbrev pub HasSpan : Option Timeline → Span → Type 0
+HasSpan o s = MatchOption o ⊤ (λ (z : Timeline). InOrder z → IsSpan z s)
+
+pub first_span : (o : Option Timeline) (s : Span) → ((z : Timeline) → IsSpan z s) → HasSpan o s
+first_span (Some z) s is = λ order. is z
+first_span None s is = tt
+
+pub next_span : (o : Option Timeline) (s s' : Span) (Bad : Type 0) (Then : Timeline → Type 0)
+    → MatchOption o Bad (λ (z : Timeline). InOrder z → IsSpan z s → IsSpan z s' × Then z) → HasSpan o s
+    → MatchOption o Bad (λ (z : Timeline). InOrder z → Then z) × HasSpan o s'
+next_span (Some z) s s' Bad Then row held = ((λ order. (row order (held order)).1), (λ order. (row order (held order)).0))
+next_span None s s' Bad Then row held = (row, tt)
+
+-- A result for each option, by a result for each value.
+pub match_by : {V : Type 0} (P Q : V → Type 0) (o : Option V) (Bad : Type 0) → ((v : V) → P v → Q v) → MatchOption o Bad P → MatchOption o Bad Q
+match_by P Q (Some v) Bad by is = by v is
+match_by P Q None Bad by is = is
+
+-- The parts that are made of bytes, as the code finds them.
+pub made : (bytes : List ℕ) (Says : Timeline → Type 0) (Fails : ZoneError → Type 0) (Parts : ZoneParts → Type 0) (r : Result ZoneParts ZoneError) (out : PartsResult)
+    → ((p : ZoneParts) → Says (made_of p) → Parts p → InOrder (made_of p) × (p.bytes.now ≡ bytes))
+    → IfOk r (λ (p : ZoneParts). Says (made_of p)) → IfOk r Parts → IfErr r Fails
+    → IfOk r (λ (p : ZoneParts). IsPartsOf p.bytes.now (made_of p) out) → IfErr r (λ (e : ZoneError). IsPartsError e out) → IsMade bytes Says Fails out
+made bytes Says Fails Parts (Ok p) out by says parts fails is error =
+    let g = by p says parts in IsMade.zone (made_of p) says g.0 (subst (λ (b : List ℕ). IsPartsOf b (made_of p) out) g.1 is)
+made bytes Says Fails Parts (Err e) out by says parts fails is error = IsMade.error e fails error
+
+-- A reading that passed both tests of the code.
+pub in_moments : (x y : ℤ) → y ≡ x → int_lt y (neg_ℤ (pos 1_152_921_504_606_846_976)) ≡ false → int_lt (pos 1_152_921_504_606_846_976) y ≡ false → IsMoment x
+in_moments x y e low high = (grind (arith, ints), grind (arith, ints))

@@ -3,16 +3,16 @@ use Rattle.std.specs.Prelude.{◌≡◌, ◌↔◌, ℕ, ℤ, pos, ◌-ℤ◌}
 use Rattle.cal_zone.specs.declared.instants.Instants.{Instants}
 use Rattle.cal_zone.specs.declared.instants.Instants.TheVariants.{Single, Gap, Fold}
 use Rattle.cal_zone.specs.Instants.{Names, IsExplained}
-use Rattle.cal_zone.specs.Timeline.{Timeline, offset_at, local_at, IsMoment, IsOffset}
+use Rattle.cal_zone.specs.Timeline.{Timeline, offset_at, local_at, IsMoment}
 use Rattle.cal_c.specs.Results.{int64_ok, int64_error, offset_ok, offset_error}
-use Rattle.cal_c.specs.Statuses.{invalid_policy, repeated_time, result_out_of_range, skipped_time}
+use Rattle.cal_c.specs.Statuses.{invalid_policy, invalid_zone, repeated_time, result_out_of_range, skipped_time}
 use Rattle.cal_c.specs.Values.{need◌else◌then◌}
 use Rattle.cal_c.specs.Zones.{policy_number, IsForZone, IsPolicy}
 use Rattle.cal_c.specs.declared.results.Int64Result.{Int64Result}
 use Rattle.cal_c.specs.declared.results.OffsetResult.{OffsetResult}
 use Rattle.cal_c.specs.declared.zones.policy.Policy.{Policy}
 use Rattle.cal_c.specs.declared.zones.policy.Policy.TheVariants.{Compatible, Earlier, Later, Reject}
-use Rattle.cal_c.specs.declared.zones.zone_parts.ZoneParts.{ZoneParts}
+use Rattle.cal_c.specs.declared.zones.checked_zone.CheckedZone.{CheckedZone}
 
 -- ---- a row of several arrays, which is the result of the single call
 abbrev pub offset_row : ℤ → ℕ → OffsetResult
@@ -22,8 +22,8 @@ abbrev pub int64_row : ℤ → ℕ → Int64Result
 int64_row number status = record { status = pos status; number = number }
 
 -- The result of `fots_zone_offset`.
-pub record IsOffsetAt (p : ZoneParts) (seconds : ℤ) (r : OffsetResult) : Type 0 where
-  pub answer : IsForZone p (λ z. r ≡ offset_ok (offset_at z seconds)) (λ s. r ≡ offset_error s)
+pub record IsOffsetAt (c : CheckedZone) (seconds : ℤ) (r : OffsetResult) : Type 0 where
+  pub answer : IsForZone c (λ z. r ≡ offset_ok (offset_at z seconds)) (r ≡ offset_error invalid_zone)
 
 -- The instant of a reading by a policy, if these instants show it.
 abbrev pub gap_instant : Policy → ℤ → ℤ → ℤ → Int64Result
@@ -43,12 +43,6 @@ instant_by policy reading (Single instant) = int64_ok instant
 instant_by policy reading (Gap at before after) = gap_instant policy reading before after
 instant_by policy reading (Fold earlier later) = fold_instant policy earlier later
 
--- The offsets of a gap are in range.
-abbrev pub HasOffsets : Instants → Type 0
-HasOffsets (Single instant) = Unit {0}
-HasOffsets (Gap at before after) = IsOffset before × IsOffset after
-HasOffsets (Fold earlier later) = Unit {0}
-
 -- The instants are exactly those at which clocks show the reading.
 pub record AreInstantsOf (z : Timeline) (reading : ℤ) (instants : Instants) : Type 0 where
   pub set : (i : ℤ) → Names instants i ↔ (local_at z i ≡ reading)
@@ -61,9 +55,9 @@ IsInstantByPolicy z reading policy r =
     need IsMoment reading else r ≡ int64_error result_out_of_range then
     ((instants : Instants) × AreInstantsOf z reading instants × (r ≡ instant_by policy reading instants))
 
--- The same for a number of a policy, and for bytes that may not be a zone.
-pub record IsInstantOfReading (p : ZoneParts) (reading : ℤ) (policy : ℕ) (r : Int64Result) : Type 0 where
-  pub answer : IsForZone p
+-- The same for a number of a policy, and for a struct that may have no zone.
+pub record IsInstantOfReading (c : CheckedZone) (reading : ℤ) (policy : ℕ) (r : Int64Result) : Type 0 where
+  pub answer : IsForZone c
       (λ z. need IsPolicy policy else r ≡ int64_error invalid_policy then
       ((q : Policy) × (policy_number q ≡ policy) × IsInstantByPolicy z reading q r))
-      (λ s. r ≡ int64_error s)
+      (r ≡ int64_error invalid_zone)

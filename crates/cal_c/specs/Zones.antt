@@ -1,5 +1,7 @@
--- Time zones for C: bytes and the number of their form, and the results of the calls for them.
-use Rattle.std.specs.Prelude.{◌≡◌, ◌≢◌, ◌⊎◌, ◌↔◌, ℕ, ◌≤◌, Bool, if◌then◌else◌, List, length, ℤ, pos, neg_ℤ, ◌-ℤ◌, Option, Some, None}
+-- Time zones for C: bytes and what a call found in them, and the results of the calls for them.
+use Rattle.std.specs.Prelude.{◌≡◌, ◌⊎◌, ◌==◌, ◌++◌, ℕ, ◌<◌, ◌≤◌, nat_lt, Bool, if◌then◌else◌, List, [], length, ℤ, pos, neg_ℤ, ◌-ℤ◌, Option, Some, None}
+use Rattle.cal_time.specs.Month.{month_of_index}
+use Rattle.cal_time.specs.Weekday.{weekday_of_index}
 use Rattle.cal_datetime.specs.OffsetDateTime.{LocalAndOffset, instant, local_at, unix_seconds}
 use Rattle.cal_zone.specs.Abbreviation.{abbreviation}
 use Rattle.cal_zone.specs.Changes.{IsNextChange, NoNextChange, IsPreviousChange, NoPreviousChange}
@@ -9,19 +11,20 @@ use Rattle.cal_zone.specs.declared.gap.Gap as gaps
 use Rattle.cal_zone.specs.declared.local.Local.{Local}
 use Rattle.cal_zone.specs.declared.local.Local.TheVariants.{Single, Gap, Fold}
 use Rattle.cal_zone.specs.declared.local_type.LocalType.{LocalType}
+use Rattle.cal_zone.specs.declared.yearly.Yearly.{Yearly}
 use Rattle.cal_zone.specs.declared.timeline_error.TimelineError.{TimelineError}
 use Rattle.cal_zone.specs.declared.timeline_error.TimelineError.TheVariants as timeline
-use Rattle.cal_zone.specs.Local.{Shows, NamesMoment, IsLocal, IsCompatible, IsEarlier, IsLater, reject}
+use Rattle.cal_zone.specs.Local.{IsLocalOf, IsCompatible, IsEarlier, IsLater, reject}
+use Rattle.cal_zone.specs.Rule.{changes_from, IsCalm}
+use Rattle.cal_zone.specs.Table.{changes_in, IsReadable}
 use Rattle.cal_zone.specs.Timeline as zones
-use Rattle.cal_zone.specs.Timeline.{Timeline}
+use Rattle.cal_zone.specs.Timeline.{Timeline, InOrder}
 use Rattle.cal_tzif.specs.declared.zone_error.ZoneError.{ZoneError}
 use Rattle.cal_tzif.specs.declared.zone_error.ZoneErrorKind.{ZoneErrorKind}
 use Rattle.cal_tzif.specs.declared.zone_error.ZoneErrorKind.TheVariants as kinds
-use Rattle.cal_tzif.specs.File.{IsFile, IsFileError, IsPosix}
-use Rattle.cal_tzif.specs.PosixError.{IsTextError}
 use Rattle.cal_c.specs.Moments.{moment_ok, moment_error, IsMomentOrError}
 use Rattle.cal_c.specs.Results.{no_value, int64_ok, int64_error}
-use Rattle.cal_c.specs.Statuses.{ok_status, result_out_of_range, unexpected_end, invalid_zone, skipped_time, repeated_time, not_a_zone_file, unsupported_version, leap_seconds, missing_local_type, invalid_type_index, invalid_local_type, invalid_abbreviation, changes_out_of_order, overlapping_changes, missing_newline, invalid_posix_offset, invalid_rule_day, invalid_rule_time, months_too_close, trailing_bytes}
+use Rattle.cal_c.specs.Statuses.{ok_status, result_out_of_range, unexpected_end, skipped_time, repeated_time, not_a_zone_file, unsupported_version, leap_seconds, missing_local_type, invalid_type_index, invalid_local_type, invalid_abbreviation, changes_out_of_order, overlapping_changes, missing_newline, invalid_posix_offset, invalid_rule_day, invalid_rule_time, months_too_close, trailing_bytes}
 use Rattle.cal_c.specs.Texts.{no_position}
 use Rattle.cal_c.specs.declared.results.Int64Result.{Int64Result}
 use Rattle.cal_c.specs.declared.results.MomentResult.{MomentResult}
@@ -29,14 +32,67 @@ use Rattle.cal_c.specs.declared.zones.policy.Policy.{Policy}
 use Rattle.cal_c.specs.declared.zones.policy.Policy.TheVariants.{Compatible, Earlier, Later, Reject}
 use Rattle.cal_c.specs.declared.zones.results.LocalResult.{LocalResult}
 use Rattle.cal_c.specs.declared.zones.results.LocalTypeResult.{LocalTypeResult}
-use Rattle.cal_c.specs.declared.zones.results.ZoneResult.{ZoneResult}
-use Rattle.cal_c.specs.declared.zones.zone_parts.ZoneParts.{ZoneParts}
+use Rattle.cal_c.specs.declared.zones.checked_zone.CheckedParts.{CheckedParts}
+use Rattle.cal_c.specs.declared.zones.checked_zone.CheckedZone.{CheckedZone}
+use Rattle.cal_c.specs.declared.zones.checked_zone.ZoneClock.{ZoneClock}
+use Rattle.cal_c.specs.declared.zones.checked_zone.ZoneYearly.{ZoneYearly}
+use Rattle.cal_c.specs.declared.zones.results.PartsResult.{PartsResult}
+
+-- ---- zones that are checked once
+-- How clocks are set, and a change that comes each year, by their numbers.
+abbrev pub local_type_in : ZoneClock → LocalType
+local_type_in t = record { offset = t.offset; is_daylight = nat_lt 0 t.is_daylight; name_start = t.name_start; name_end = t.name_end }
+
+abbrev pub yearly_in : ZoneYearly → Yearly
+yearly_in r = record { month = month_of_index r.month; week = r.week; weekday = weekday_of_index r.weekday; time = r.time; kind = local_type_in r.clock }
+
+-- The zone of these bytes and parts. Its changes are those of the file, and then the changes of the
+-- rule, if the parts have one.
+abbrev pub changes_by_rule : CheckedParts → List Change
+changes_by_rule p = if p.rule == 2 then changes_from (yearly_in p.one) (yearly_in p.other) p.skip else []
+
+abbrev pub zone_of_parts : List ℕ → CheckedParts → Timeline
+zone_of_parts bytes p = record { first = local_type_in p.first; changes = changes_in bytes p.layout ++ changes_by_rule p }
+
+abbrev pub zone_in : CheckedZone → Timeline
+zone_in c = zone_of_parts c.bytes.now c.parts
+
+-- There are a month and a weekday with these indexes.
+abbrev pub HasPlaces : ZoneYearly → Type 0
+HasPlaces r = (r.month < 12) × (r.weekday < 7)
+
+-- The two changes are a rule.
+pub record HasRule (p : CheckedParts) : Type 0 where
+  pub first : HasPlaces p.one
+  pub second : HasPlaces p.other
+  pub calm : IsCalm (yearly_in p.one) (yearly_in p.other)
+
+-- The parts say that they have no rule, or that they have one, and have it.
+abbrev pub HasRuleOrNone : CheckedParts → Type 0
+HasRuleOrNone p = (p.rule ≡ 1) ⊎ ((p.rule ≡ 2) × HasRule p)
+
+-- The bytes have all changes of the parts, which have a rule or none. Each call rejects any others.
+pub record HasParts (bytes : List ℕ) (p : CheckedParts) : Type 0 where
+  pub readable : IsReadable bytes p.layout
+  pub skip : p.skip ≤ 3_999_998
+  pub rule : HasRuleOrNone p
+
+abbrev pub HasZone : CheckedZone → Type 0
+HasZone c = HasParts c.bytes.now c.parts
+
+-- The changes are in order, too. So are those of all parts that are made without an error, over the
+-- bytes that they are made from. A call doesn't test this again.
+pub record IsChecked (c : CheckedZone) : Type 0 where
+  pub parts : HasZone c
+  pub order : InOrder (zone_in c)
+
+-- A call that takes a zone: one result for the zone of a checked struct, and another for a struct
+-- without a zone.
+pub record IsForZone (c : CheckedZone) (Then : Timeline → Type 0) (Else : Type 0) : Type 0 where
+  pub zone : IsChecked c → Then (zone_in c)
+  pub error : (HasZone c → ⊥) → Else
 
 -- ---- parsing
--- The bytes are a file or a POSIX text of this zone.
-abbrev pub IsZoneOf : ZoneParts → Timeline → Type 0
-IsZoneOf p zone = ((p.form ≡ 1) × IsFile p.bytes.now zone) ⊎ ((p.form ≡ 2) × IsPosix p.bytes.now zone)
-
 -- The status of an error.
 abbrev pub timeline_status : TimelineError → ℤ
 timeline_status (timeline.Change FirstOffset) = invalid_local_type
@@ -66,26 +122,23 @@ zone_status kinds.Time = invalid_rule_time
 zone_status kinds.Months = months_too_close
 zone_status kinds.Trailing = trailing_bytes
 
-abbrev pub zone_error : ZoneError → ZoneResult
-zone_error e = record { status = zone_status e.kind; position = e.position }
+-- The parts of this zone, and the parts of an error, which each call rejects.
+pub record IsPartsOf (bytes : List ℕ) (z : Timeline) (r : PartsResult) : Type 0 where
+  pub status : r.status ≡ ok_status
+  pub position : r.position ≡ no_position
+  pub parts : HasParts bytes r.parts
+  pub zone : zone_of_parts bytes r.parts ≡ z
 
-abbrev pub zone_result : ℤ → ZoneResult
-zone_result s = record { status = s; position = no_position }
+pub record IsPartsError (e : ZoneError) (r : PartsResult) : Type 0 where
+  pub status : r.status ≡ zone_status e.kind
+  pub position : r.position ≡ e.position
+  pub rejected : (bytes : List ℕ) → HasParts bytes r.parts → ⊥
 
--- The bytes are not a zone, for this reason.
-pub data IsZoneError (p : ZoneParts) (r : ZoneResult) : Type 0 where
-  form : p.form ≢ 1 → p.form ≢ 2 → r ≡ zone_result invalid_zone → IsZoneError p r
-  file : p.form ≡ 1 → (e : ZoneError) → IsFileError p.bytes.now e → r ≡ zone_error e → IsZoneError p r
-  text : p.form ≡ 2 → (e : ZoneError) → IsTextError p.bytes.now 0 e → r ≡ zone_error e → IsZoneError p r
-
--- A call that takes a zone: one result if the bytes are one, and another if they are not.
-pub data IsForZone (p : ZoneParts) (Then : Timeline → Type 0) (Else : ℤ → Type 0) : Type 0 where
-  zone : (z : Timeline) → IsZoneOf p z → Then z → IsForZone p Then Else
-  error : (r : ZoneResult) → IsZoneError p r → Else r.status → IsForZone p Then Else
-
-pub data IsZoneResult (p : ZoneParts) (r : ZoneResult) : Type 0 where
-  zone : (z : Timeline) → IsZoneOf p z → r ≡ zone_result ok_status → IsZoneResult p r
-  error : IsZoneError p r → IsZoneResult p r
+-- What bytes say, by a relation to their zone and one to their error: the parts of a zone whose
+-- changes are in order, or an error.
+pub data IsMade (bytes : List ℕ) (Says : Timeline → Type 0) (Fails : ZoneError → Type 0) (r : PartsResult) : Type 0 where
+  zone : (z : Timeline) → Says z → InOrder z → IsPartsOf bytes z r → IsMade bytes Says Fails r
+  error : (e : ZoneError) → Fails e → IsPartsError e r → IsMade bytes Says Fails r
 
 -- ---- instants
 abbrev pub daylight_number : Bool → ℕ
@@ -118,11 +171,6 @@ IsMomentInZone z m r =
     let offset = zones.offset_at z (unix_seconds (instant m)) in IsMomentOrError result_out_of_range (local_at (instant m) offset) offset r
 
 -- ---- readings
--- The date-times are exactly those at which the clocks of the zone show the reading.
-pub record IsLocalOf (z : Timeline) (reading : ℤ) (local : Local) : Type 0 where
-  pub set : (m : LocalAndOffset) → NamesMoment local m ↔ Shows z reading m
-  pub explained : IsLocal z reading local
-
 abbrev pub moments_ok : ℕ → LocalAndOffset → LocalAndOffset → LocalResult
 moments_ok kind earlier later = record {
   status = ok_status;

@@ -9,14 +9,14 @@ ghost use Rattle.cal_c.specs.Columns.{is_error};
 /// Writes the result of a function for each row of the inputs to the outputs and the statuses, and
 /// returns the number of rows with an error. Returns `LENGTH_MISMATCH` if the lengths differ.
 macro_rules! write_rows {
-    ($function:ident($first:ident $(, $input:ident)* $(; $shared:expr)?)
+    ($function:ident($first:ident $(, $input:ident)* $(; $($shared:expr),+)?)
         => $($output:ident),+; $statuses:ident) => {{
         let rows = $first.len();
         if $($input.len() != rows ||)* $($output.len() != rows ||)+ $statuses.len() != rows {
             return LENGTH_MISMATCH;
         }
         for row in 0..rows {
-            ($($output[row],)+ $statuses[row]) = $function($first[row] $(, $input[row])* $(, $shared)?);
+            ($($output[row],)+ $statuses[row]) = $function($first[row] $(, $input[row])* $($(, $shared)+)?);
         }
         count_errors($statuses)
     }};

@@ -7,7 +7,7 @@ use crate::files::{APIA, CASABLANCA, FREETOWN};
 use cal_datetime::{OffsetDateTime, PlainDateTime, with_hms_nano};
 use cal_time::{Date, Month};
 use cal_tzif::{ZoneError, ZoneErrorKind, parse, parse_parts, parse_posix, parse_posix_parts};
-use cal_zone::{ChangeError, TimelineError, UncheckedZone, Zone, ZoneParts};
+use cal_zone::{ChangeError, Span, TimelineError, UncheckedZone, Zone, ZoneParts};
 use std::fmt::Debug;
 use std::process::Abort;
 
@@ -260,6 +260,39 @@ fn parts(rt: HostRuntime) {
     same(rt, offset_by(parts, 0), None);
     let posix = parse_posix_parts(b"<-03>3").expect(rt, "no zone");
     same(rt, offset_by(posix, i64::MAX), Some(-10_800));
+}
+
+/// Around an instant, near another span, and far from it.
+#[test]
+fn spans(rt: HostRuntime) {
+    let rt = &rt;
+    let parts = parse_parts(&CASABLANCA).expect(rt, "no zone");
+    let zone = UncheckedZone::new(parts).expect(rt, "no zone");
+    let ramadan = Span {
+        first: 1_710_036_000,
+        last: 1_713_059_999,
+        offset: 0,
+    };
+    same(rt, zone.span_at(1_710_036_000), ramadan);
+    same(rt, zone.span_at(1_713_059_999), ramadan);
+    same(
+        rt,
+        zone.span_after(1_710_035_999, ramadan).last,
+        1_710_035_999,
+    );
+    same(
+        rt,
+        zone.span_after(1_713_060_000, ramadan).first,
+        1_713_060_000,
+    );
+    let far = zone.span_after(1_711_000_000, Span::empty());
+    same(rt, (far.first, far.last), (1_711_000_000, 1_711_000_000));
+    same(rt, far.offset, 0);
+    same(rt, ramadan.single(1_711_000_000), Some(1_711_000_000));
+    same(rt, ramadan.single(1_710_036_000), None);
+    let fixed = UncheckedZone::new(parse_posix_parts(b"<-03>3").expect(rt, "no zone"));
+    let always = fixed.expect(rt, "no zone").span_at(0);
+    same(rt, (always.first, always.last), (i64::MIN, i64::MAX));
 }
 
 /// Returns the error, if there is one.

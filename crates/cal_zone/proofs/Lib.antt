@@ -1,6 +1,7 @@
 pub mod Offsets
 pub mod Orders
 pub mod Splits
+pub mod Spans
 pub mod Readings
 pub mod RuleDays
 pub mod Joins

@@ -7,9 +7,10 @@ use Rattle.cal_time.specs.SignedDuration.{second}
 use Rattle.cal_datetime.specs.DateTime.{IsDateTime}
 use Rattle.cal_datetime.specs.OffsetDateTime.{LocalAndOffset, instant, unix_seconds, unix_epoch}
 use Rattle.cal_datetime.specs.UnixTimeLaws.{div_euclid-one, seconds-and_past}
-use Rattle.cal_zone.specs.Timeline.{Timeline, offset_at, local_at, IsMoment}
+use Rattle.cal_zone.specs.Timeline.{Timeline, offset_at, local_at, InOrder, IsMoment, IsOffset}
 use Rattle.cal_zone.specs.Instants.{IsGap}
 use Rattle.cal_zone.specs.Local.{Shows}
+use Rattle.cal_zone.proofs.Readings.{offset_in}
 
 past_range : (z : ℤ) → (pos 0 ≤ℤ int_rem_euclid z (pos second)) × (int_rem_euclid z (pos second) <ℤ pos second)
 past_range (pos a) = (omega (arith, ints), omega (arith, ints))
@@ -65,6 +66,21 @@ later_instant L i j o p e h = omega (arith, ints, e, h)
 -- ---- from the instants that show a reading to the moments; s and t are instants as the code passes them on
 abbrev pub moment_of : Timeline → ℤ → ℤ → LocalAndOffset
 moment_of zone L i = record { local = L; offset = offset_at zone i }
+
+-- what the code makes of a reading R and an instant that shows it
+pub shown : (zone : Timeline) (L R s i : ℤ) (m : LocalAndOffset) → local_at zone i ≡ R → s ≡ i → m ≡ record { local = L; offset = R -ℤ s } → m ≡ moment_of zone L s
+shown zone L R s i m shows f e =
+    let own : R -ℤ i ≡ offset_at zone i = back R (offset_at zone i) i shows in
+    e ∙ ap (λ x. record { local = L; offset = R -ℤ x }) f
+    ∙ ap (λ x. record { local = L; offset = x }) (own ∙ ap (offset_at zone) (sym f))
+  where
+    back : (r o x : ℤ) → x +ℤ o ≡ r → r -ℤ x ≡ o
+    back r o x h = omega (arith, ints)
+
+pub in_range : (zone : Timeline) → InOrder zone → (R s i : ℤ) → local_at zone i ≡ R → s ≡ i → IsOffset (R -ℤ s)
+in_range zone order R s i shows f =
+    let own = shown zone R R s i _ shows f refl in
+    subst IsOffset (sym (ap (λ (m : LocalAndOffset). m.offset) own)) (offset_in zone order s)
 
 pub found : (zone : Timeline) (L R s i : ℤ) (moment m : LocalAndOffset) → R ≡ unix_seconds L → local_at zone i ≡ R → moment ≡ moment_of zone L s → s ≡ i → m ≡ moment → Shows zone L m
 found zone L R s i moment m r shows e f g =

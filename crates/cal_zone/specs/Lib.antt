@@ -1,6 +1,7 @@
 pub mod Timeline
 pub mod Instants
 pub mod Split
+pub mod Span
 pub mod ChangeError
 pub mod Rule
 pub mod Zone

@@ -1,5 +1,5 @@
 //! Date-times in a zone.
-ghost use Rattle.std.specs.Prelude.{◌≡◌, ◌↔◌, ℤ, pos, ◌+ℤ◌, ◌*ℤ◌, Some, IfSome, IfNone, SomeIff};
+ghost use Rattle.std.specs.Prelude.{◌≡◌, ◌↔◌, ℤ, pos, ◌+ℤ◌, ◌-ℤ◌, ◌*ℤ◌, Some, IfSome, IfNone, SomeIff};
 ghost use Rattle.cal_time.specs.SignedDuration.{second};
 ghost use Rattle.cal_datetime.specs.DateTime.{IsDateTime};
 ghost use Rattle.cal_datetime.specs.OffsetDateTime.{LocalAndOffset, instant, local_at, unix_epoch, unix_seconds};
@@ -40,6 +40,24 @@ fn reading_seconds(local: PlainDateTime) -> i64
     local.assume_utc().unix_timestamp()
 }
 
+/// Returns the date-time of a reading at the offset with which it is at an instant. Returns `None` if
+/// the offset is out of range.
+fn shown_at(local: PlainDateTime, seconds: i64, instant: i64) -> Option<OffsetDateTime>
+    ensures { SomeIff result (IsOffset (seconds -ℤ instant))
+        (record { local = local; offset = seconds -ℤ instant }) }
+{
+    let Some(difference) = seconds.checked_sub(instant) else {
+        return None;
+    };
+    match i32::try_from(difference) {
+        Ok(offset) => match utc_offset(offset) {
+            Some(offset) => Some(local.assume_offset(offset)),
+            None => None,
+        },
+        Err(_) => None,
+    }
+}
+
 impl<'a> UncheckedZone<'a> {
     /// Returns the offset at a Unix time. `None` says that the changes are not in order.
     pub fn utc_offset_at(&self, instant: i64) -> Option<UtcOffset>
@@ -49,26 +67,15 @@ impl<'a> UncheckedZone<'a> {
         utc_offset(self.kind_at(instant).offset)
     }
 
-    /// Returns the date-time of a reading at the offset that clocks have at an instant.
-    fn shown_at(&self, local: PlainDateTime, instant: i64) -> Option<OffsetDateTime>
-        ensures none { IfNone result (¬ InOrder self.now) }
-        ensures some { IfSome result (λ m. InOrder self.now
-            → m ≡ record { local = local; offset = offset_at self.now instant }) }
-    {
-        match self.utc_offset_at(instant) {
-            Some(offset) => Some(local.assume_offset(offset)),
-            None => None,
-        }
-    }
-
     /// Returns the date-times at which clocks show a reading. `None` says that the changes are not
     /// in order.
     pub fn resolve(&self, reading: PlainDateTime) -> Option<Local>
         ensures none { IfNone result (¬ InOrder self.now) }
         ensures some { IfSome result (λ local. InOrder self.now → IsLocalOf self.now reading local) }
     {
-        match self.instants_of(reading_seconds(reading)) {
-            Instants::Single(instant) => Some(Local::Single(self.shown_at(reading, instant)?)),
+        let seconds = reading_seconds(reading);
+        match self.instants_of(seconds) {
+            Instants::Single(instant) => Some(Local::Single(shown_at(reading, seconds, instant)?)),
             Instants::Gap { at, before, after } => Some(Local::Gap(Gap {
                 reading,
                 at,
@@ -76,8 +83,8 @@ impl<'a> UncheckedZone<'a> {
                 after: utc_offset(after)?,
             })),
             Instants::Fold { earlier, later } => Some(Local::Fold {
-                earlier: self.shown_at(reading, earlier)?,
-                later: self.shown_at(reading, later)?,
+                earlier: shown_at(reading, seconds, earlier)?,
+                later: shown_at(reading, seconds, later)?,
             }),
         }
     }

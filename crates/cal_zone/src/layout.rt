@@ -2,6 +2,7 @@
 ghost use Rattle.std.specs.Prelude.{◌≡◌};
 
 /// Where a TZif file has the parts of its data block (RFC 9636, 3.2).
+#[repr(C)]
 #[derive(Clone, Copy)]
 pub struct Layout {
     /// The position of the times of the changes, of eight bytes each.

@@ -149,6 +149,7 @@ impl<'a> Table<'a> {
     /// parts.
     pub(crate) fn from_parts(bytes: &'a [u8], layout: Layout) -> Option<Self>
         ensures some { IfSome result (λ table. table ≡ changes_in bytes.now layout) }
+        ensures readable { IfSome result (λ table. IsReadable bytes.now layout) }
         ensures none { IfNone result (¬ IsReadable bytes.now layout) }
     {
         let len = bytes.len();

@@ -1,13 +1,14 @@
 //! Zones whose changes need not be in order.
 ghost use Rattle.std.specs.List.{slice_index_or};
-ghost use Rattle.std.specs.Prelude.{◌≡◌, ◌+◌, ◌^◌, ◌<◌, ◌≤◌, ◌↔◌, ℤ, ◌≤ℤ◌, length, IsTrue, IfSome, IfNone};
-ghost use Rattle.cal_zone.specs.Timeline.{kind_at, local_at, after_changes, at, ends, no_change, InOrder, IsMoment, IsOffset};
+ghost use Rattle.std.specs.Prelude.{◌≡◌, ℕ, suc, ◌+◌, ◌^◌, ◌<◌, ◌≤◌, ◌↔◌, ℤ, ◌<ℤ◌, ◌≤ℤ◌, length, IsTrue, IfSome, IfNone};
+ghost use Rattle.cal_zone.specs.Timeline.{kind_at, local_at, offset_at, after_changes, at, ends, no_change, InOrder, IsMoment, IsOffset};
 ghost use Rattle.cal_zone.specs.Rule.{change_of};
 ghost use Rattle.cal_zone.specs.Split.{IsBracket};
 ghost use Rattle.cal_zone.specs.Zone.{later, made_of, AreParts};
 ghost use Rattle.cal_zone.specs.Instants.{Names, IsExplained};
+ghost use Rattle.cal_zone.specs.Span.{IsSpan};
 
-use crate::{Change, Instants, LocalType, Rule, Table, ZoneParts};
+use crate::{Change, Instants, LocalType, Rule, Span, Table, ZoneParts};
 use std::marker::Model;
 
 /// A zone whose changes need not be in order. If they are not, each call returns any answer.
@@ -69,6 +70,7 @@ impl<'a> UncheckedZone<'a> {
     /// Creates a zone from its parts. Returns `None` if the bytes don't have all changes.
     pub fn new(parts: ZoneParts<'a>) -> Option<Self>
         ensures some { IfSome result (λ zone. zone ≡ made_of parts.entry) }
+        ensures parts { IfSome result (λ zone. AreParts parts.entry) }
         ensures none { IfNone result (¬ AreParts parts.entry) }
     {
         if parts.skip > 3_999_998 {
@@ -165,6 +167,62 @@ impl<'a> UncheckedZone<'a> {
         }
     }
 
+    /// Returns the instant of the last of the first `count` changes, or else the first instant.
+    #[inline(always)]
+    fn start_of(&self, count: usize) -> i64
+        requires { count ≤ length self.now.changes }
+        ensures { (k : ℕ) → suc k ≡ count → result ≡ at self.now.changes k }
+    {
+        if count == 0 {
+            i64::MIN
+        } else {
+            self.time(count - 1)
+        }
+    }
+
+    /// Returns the last instant before the change at an index, or else the last one.
+    #[inline(always)]
+    fn end_of(&self, index: usize) -> i64
+        ensures { InOrder self.now → index < length self.now.changes
+            → result <ℤ at self.now.changes index }
+    {
+        if index < self.len() {
+            self.time(index).saturating_sub(1)
+        } else {
+            i64::MAX
+        }
+    }
+
+    /// Returns the offset at a Unix time, and instants around it that have the same.
+    pub fn span_at(&self, instant: i64) -> Span
+        ensures span { InOrder self.now → IsSpan self.now result }
+        ensures offset { InOrder self.now → result.offset ≡ offset_at self.now instant }
+    {
+        let count = self.count(instant);
+        Span {
+            first: self.start_of(count),
+            last: self.end_of(count),
+            offset: self.after(count),
+        }
+    }
+
+    /// Returns the same as `span_at`, or for an instant far from another span only that instant. Then
+    /// it is faster, and a next instant is seldom in the same span.
+    pub fn span_after(&self, instant: i64, other: Span) -> Span
+        ensures span { InOrder self.now → IsSpan self.now result }
+        ensures offset { InOrder self.now → result.offset ≡ offset_at self.now instant }
+    {
+        if other.is_near(instant) {
+            self.span_at(instant)
+        } else {
+            Span {
+                first: instant,
+                last: instant,
+                offset: self.kind_at(instant).offset,
+            }
+        }
+    }
+
     /// Returns the first change after a Unix time, or `None` if there is none.
     pub fn next_change(&self, instant: i64) -> Option<Change>
         ensures some { InOrder self.now → IfSome result (IsNextChange self.now instant) }
@@ -231,6 +289,20 @@ impl<'a> UncheckedZone<'a> {
     /// Returns the instants at which clocks show a reading, in seconds since 1970-01-01 0:00 by
     /// the clock.
     pub fn instants_of(&self, reading: i64) -> Instants
+        requires { IsMoment reading }
+        ensures set { InOrder self.now
+            → (i : ℤ) → Names result i ↔ (local_at self.now i ≡ reading) }
+        ensures explained { InOrder self.now → IsExplained self.now reading result }
+    {
+        match self.span_at(reading).single(reading) {
+            Some(instant) => Instants::Single(instant),
+            None => self.instants_near_change(reading),
+        }
+    }
+
+    /// Returns the instants at which clocks show a reading, like `instants_of`. It is faster if the
+    /// reading is within three days of a change, and else slower.
+    pub fn instants_near_change(&self, reading: i64) -> Instants
         requires { IsMoment reading }
         ensures set { InOrder self.now
             → (i : ℤ) → Names result i ↔ (local_at self.now i ≡ reading) }

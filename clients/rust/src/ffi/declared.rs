@@ -96,7 +96,11 @@ structs! {
         month_days_length: usize, weekdays: *const CRuleWeekday, weekdays_length: usize, set_positions: *const i16,
         set_positions_length: usize,
     };
-    CZone { bytes: *const u8, bytes_length: usize, form: u32 };
+    CZoneClock { offset: i32, is_daylight: u32, name_start: usize, name_end: usize };
+    CZoneYearly { month: u8, week: u8, weekday: u8, time: i32, clock: CZoneClock };
+    CZoneLayout { times: usize, indexes: usize, types: usize, names: usize, names_end: usize, changes: usize, kinds: usize };
+    CZoneParts { rule: u32, skip: u32, layout: CZoneLayout, first: CZoneClock, one: CZoneYearly, other: CZoneYearly };
+    CZone { bytes: *const u8, bytes_length: usize, parts: CZoneParts };
 }
 
 results! {
@@ -128,7 +132,7 @@ results! {
     RecurrenceTextResult { part: u32, position: usize, length: u32, bytes: [u8; 2728] } else ParseRuleError(part, position);
     WorkdaysResult { workdays: CWorkdays } else Status;
     YearFractionResult { denominator: u32, numerator: i64 } else Status;
-    ZoneResult { position: usize } else ZoneError(position);
+    ZonePartsResult { position: usize, parts: CZoneParts } else ZoneError(position);
     LocalTypeResult { offset: i32, is_daylight: u32, abbreviation: usize, abbreviation_length: usize } else Status;
     LocalResult { kind: u32, earlier: i64, later: i64, earlier_offset: i32, later_offset: i32 } else Status;
 }
@@ -338,7 +342,8 @@ calls! {
     ) -> usize;
     fots_dates_parse_format(bytes: &[u8], bounds: &[i32], format: CFormatPointer, dates: &mut [i32], statuses: &mut [u8]) -> usize;
     fots_dates_format(dates: &[i32], format: CFormatPointer, bytes: &mut [u8], bounds: &mut [i32], statuses: &mut [u8]) -> usize;
-    fots_zone_check(zone: CZonePointer) -> ZoneResult;
+    fots_zone_file_parts(bytes: &[u8]) -> ZonePartsResult;
+    fots_zone_posix_parts(text: &[u8]) -> ZonePartsResult;
     fots_zone_offset(zone: CZonePointer, seconds: i64) -> OffsetResult;
     fots_zone_local_type(zone: CZonePointer, seconds: i64) -> LocalTypeResult;
     fots_zone_next_change(zone: CZonePointer, seconds: i64) -> Int64Result;

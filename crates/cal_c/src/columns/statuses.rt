@@ -26,6 +26,8 @@ pub(super) const UNSUPPORTED_ITEM: u8 = status::UNSUPPORTED_ITEM as u8;
 
 pub(super) const INVALID_POLICY: u8 = status::INVALID_POLICY as u8;
 
+pub(super) const INVALID_ZONE: u8 = status::INVALID_ZONE as u8;
+
 pub(super) const SKIPPED_TIME: u8 = status::SKIPPED_TIME as u8;
 
 pub(super) const REPEATED_TIME: u8 = status::REPEATED_TIME as u8;

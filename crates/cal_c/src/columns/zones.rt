@@ -1,26 +1,25 @@
 //! Columns of Unix times and of readings in one zone.
-ghost use Rattle.std.specs.Prelude.{◌≡◌, ◌-ℤ◌, IfErr, IfOk, MatchOption, length, ◌∷◌, []};
-ghost use Rattle.cal_zone.specs.Timeline.{offset_at, IsMoment, IsOffset};
-ghost use Rattle.cal_c.specs.Columns.{int_at, nat_at, SameLength, AreRows, IsByte};
+ghost use Rattle.std.specs.Prelude.{◌≡◌, ◌-ℤ◌, MatchOption, length, ◌∷◌, []};
+ghost use Rattle.cal_zone.specs.Span.{IsSpan};
+ghost use Rattle.cal_zone.specs.Timeline.{offset_at, InOrder, IsMoment};
+ghost use Rattle.cal_c.specs.Columns.{int_at, nat_at, SameLength, AreRows};
 ghost use Rattle.cal_c.specs.Results.{int64_error, offset_error, offset_ok};
-ghost use Rattle.cal_c.specs.Statuses.{invalid_policy};
+ghost use Rattle.cal_c.specs.Statuses.{invalid_policy, invalid_zone};
 ghost use Rattle.cal_c.specs.Values.{need◌else◌then◌};
-ghost use Rattle.cal_c.specs.ZoneColumns.{instant_by, int64_row, offset_row, HasOffsets, IsInstantByPolicy, IsInstantOfReading, IsOffsetAt};
+ghost use Rattle.cal_c.specs.ZoneColumns.{instant_by, int64_row, offset_row, AreInstantsOf, IsInstantByPolicy, IsInstantOfReading, IsOffsetAt};
 
 use super::statuses::{
-    INVALID_POLICY, OK, REPEATED_TIME, RESULT_OUT_OF_RANGE, SKIPPED_TIME, byte_status,
+    INVALID_POLICY, INVALID_ZONE, OK, REPEATED_TIME, RESULT_OUT_OF_RANGE, SKIPPED_TIME,
 };
 use super::{LENGTH_MISMATCH, NO_VALUE, count_errors};
-use crate::zones::parsing::zone_of;
+use crate::zones::checked_zone::CheckedZone;
 use crate::zones::policy::Policy;
-use crate::zones::results::ZoneResult;
-use crate::zones::zone_parts::ZoneParts;
-use cal_zone::{Instants, Zone};
+use cal_zone::{Instants, Span, UncheckedZone};
 
 /// Writes the offsets at Unix times, like `fots_zone_offset`.
 #[unsafe(no_mangle)]
 pub extern "C" fn fots_zone_offsets(
-    zone: &ZoneParts<'_>,
+    zone: &CheckedZone<'_>,
     seconds: &[i64],
     offsets: &mut [i32],
     statuses: &mut [u8],
@@ -30,15 +29,16 @@ pub extern "C" fn fots_zone_offsets(
         AreRows statuses.new result (λ k. IsOffsetAt zone.now (int_at seconds.now k)
         (offset_row (int_at offsets.new k) (nat_at statuses.new k))) }
 {
-    let parsed = zone_of(zone);
-    write_rows!(row_of_offset(seconds; &parsed) => offsets; statuses)
+    let unchecked = zone.unchecked();
+    let mut span = Span::empty();
+    write_rows!(row_of_offset(seconds; &unchecked, &mut span) => offsets; statuses)
 }
 
 /// Writes the Unix times at which clocks show readings, by a policy like `fots_zone_moment`. A
 /// reading is its seconds since 1970-01-01 0:00 by the clock.
 #[unsafe(no_mangle)]
 pub extern "C" fn fots_zone_instants(
-    zone: &ZoneParts<'_>,
+    zone: &CheckedZone<'_>,
     readings: &[i64],
     policy: u32,
     seconds: &mut [i64],
@@ -50,63 +50,95 @@ pub extern "C" fn fots_zone_instants(
         policy (int64_row (int_at seconds.new k) (nat_at statuses.new k))) }
 {
     let resolver = Resolver {
-        zone: zone_of(zone),
+        zone: zone.unchecked(),
         policy: Policy::from_number(policy),
     };
-    write_rows!(row_of_instant(readings; &resolver) => seconds; statuses)
+    let mut span = Span::empty();
+    write_rows!(row_of_instant(readings; &resolver, &mut span) => seconds; statuses)
 }
 
 /// A zone and a policy, or what is wrong with them.
 #[derive(Drop)]
 struct Resolver<'a> {
-    zone: Result<Zone<'a>, ZoneResult>,
+    zone: Option<UncheckedZone<'a>>,
     policy: Option<Policy>,
 }
 
-/// Returns the row of the offset at a Unix time.
-fn row_of_offset(seconds: i64, zone: &Result<Zone<'_>, ZoneResult>) -> (i32, u8)
-    ensures value { IfOk zone.now (λ z. offset_row result.0 result.1
-        ≡ offset_ok (offset_at z seconds)) }
-    ensures error { IfErr zone.now (λ fault. IsByte fault.status
-        → offset_row result.0 result.1 ≡ offset_error fault.status) }
+/// Returns the row of the offset at a Unix time. Tries the span of the row before first.
+fn row_of_offset(seconds: i64, zone: &Option<UncheckedZone<'_>>, span: &mut Span) -> (i32, u8)
+    ensures { MatchOption zone.now (offset_row result.0 result.1 ≡ offset_error invalid_zone)
+        (λ z. InOrder z → IsSpan z span.old → IsSpan z span.new
+        × (offset_row result.0 result.1 ≡ offset_ok (offset_at z seconds))) }
 {
     match zone {
-        Ok(zone) => (zone.offset_at(seconds), OK),
-        Err(fault) => (NO_VALUE, byte_status(fault.status)),
+        Some(zone) => (offset_in(seconds, zone, span), OK),
+        None => (NO_VALUE, INVALID_ZONE),
     }
 }
 
-/// Returns the row of the instant of a reading.
-fn row_of_instant(reading: i64, resolver: &Resolver<'_>) -> (i64, u8)
-    ensures value { IfOk resolver.now.zone (λ z. MatchOption resolver.now.policy
+/// Returns the offset at a Unix time. Keeps the span if that is in it.
+fn offset_in(seconds: i64, zone: &UncheckedZone<'_>, span: &mut Span) -> i32
+    ensures { InOrder zone.now → IsSpan zone.now span.old → IsSpan zone.now span.new
+        × (result ≡ offset_at zone.now seconds) }
+{
+    if !span.contains(seconds) {
+        *span = zone.span_after(seconds, *span);
+    }
+    span.offset
+}
+
+/// Returns the row of the instant of a reading. Tries the span of the row before first.
+fn row_of_instant(reading: i64, resolver: &Resolver<'_>, span: &mut Span) -> (i64, u8)
+    ensures { MatchOption resolver.now.zone (int64_row result.0 result.1 ≡ int64_error invalid_zone)
+        (λ z. InOrder z → IsSpan z span.old → IsSpan z span.new × MatchOption resolver.now.policy
         (int64_row result.0 result.1 ≡ int64_error invalid_policy)
         (λ policy. IsInstantByPolicy z reading policy (int64_row result.0 result.1))) }
-    ensures error { IfErr resolver.now.zone (λ fault. IsByte fault.status
-        → int64_row result.0 result.1 ≡ int64_error fault.status) }
 {
     match &resolver.zone {
-        Ok(zone) => match &resolver.policy {
-            Some(policy) => instant_by_policy(reading, zone, *policy),
+        Some(zone) => match &resolver.policy {
+            Some(policy) => instant_by_policy(reading, zone, *policy, span),
             None => (i64::MIN, INVALID_POLICY),
         },
-        Err(fault) => (i64::MIN, byte_status(fault.status)),
+        None => (i64::MIN, INVALID_ZONE),
     }
 }
 
 /// Returns the row of the instant of a reading by a policy.
-fn instant_by_policy(reading: i64, zone: &Zone<'_>, policy: Policy) -> (i64, u8)
-    ensures { IsInstantByPolicy zone.now reading policy (int64_row result.0 result.1) }
+fn instant_by_policy(
+    reading: i64,
+    zone: &UncheckedZone<'_>,
+    policy: Policy,
+    span: &mut Span,
+) -> (i64, u8)
+    ensures { InOrder zone.now → IsSpan zone.now span.old → IsSpan zone.now span.new
+        × IsInstantByPolicy zone.now reading policy (int64_row result.0 result.1) }
 {
     if reading < -1_152_921_504_606_846_976 || 1_152_921_504_606_846_976 < reading {
         return (i64::MIN, RESULT_OUT_OF_RANGE);
     }
-    choose(reading, zone.instants_of(reading), policy)
+    choose(reading, instants_in(reading, zone, span), policy)
+}
+
+/// Returns the instants at which clocks show a reading. Keeps the span if there is one instant in
+/// it.
+fn instants_in(reading: i64, zone: &UncheckedZone<'_>, span: &mut Span) -> Instants
+    requires { IsMoment reading }
+    ensures { InOrder zone.now → IsSpan zone.now span.old → IsSpan zone.now span.new
+        × AreInstantsOf zone.now reading result }
+{
+    if let Some(instant) = span.single(reading) {
+        return Instants::Single(instant);
+    }
+    *span = zone.span_at(reading);
+    match span.single(reading) {
+        Some(instant) => Instants::Single(instant),
+        None => zone.instants_near_change(reading),
+    }
 }
 
 /// Returns the Unix time of a reading at an offset.
 fn at_offset(reading: i64, offset: i32) -> i64
-    requires reading { IsMoment reading }
-    requires offset { IsOffset offset }
+    requires { IsMoment reading }
     ensures { result ≡ reading -ℤ offset }
 {
     reading - i64::from(offset)
@@ -114,8 +146,7 @@ fn at_offset(reading: i64, offset: i32) -> i64
 
 /// Returns the row of a reading whose instants are known.
 fn choose(reading: i64, instants: Instants, policy: Policy) -> (i64, u8)
-    requires reading { IsMoment reading }
-    requires offsets { HasOffsets instants }
+    requires { IsMoment reading }
     ensures { int64_row result.0 result.1 ≡ instant_by policy reading instants }
 {
     match instants {

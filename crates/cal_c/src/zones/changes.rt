@@ -1,20 +1,20 @@
 //! The changes of a zone's clocks.
 ghost use Rattle.std.specs.Prelude.{◌≡◌};
 ghost use Rattle.cal_c.specs.Results.{int64_error};
+ghost use Rattle.cal_c.specs.Statuses.{invalid_zone};
 ghost use Rattle.cal_c.specs.Zones.{IsForZone, IsNextResult, IsPreviousResult};
 
 use crate::results::Int64Result;
-use crate::status::RESULT_OUT_OF_RANGE;
-use crate::zones::parsing::zone_of;
-use crate::zones::zone_parts::ZoneParts;
+use crate::status::{INVALID_ZONE, RESULT_OUT_OF_RANGE};
+use crate::zones::checked_zone::CheckedZone;
 
 /// Returns the Unix time of the first change after another one. Fails without one.
 #[unsafe(no_mangle)]
-pub extern "C" fn fots_zone_next_change(zone: &ZoneParts<'_>, seconds: i64) -> Int64Result
+pub extern "C" fn fots_zone_next_change(zone: &CheckedZone<'_>, seconds: i64) -> Int64Result
     ensures { IsForZone zone.now (λ z. IsNextResult z seconds result)
-        (λ s. result ≡ int64_error s) }
+        (result ≡ int64_error invalid_zone) }
 {
-    let zone = or_return!(zone_of(zone), fault => Int64Result::error(fault.status));
+    let zone = or_error!(Int64Result, zone.unchecked(), INVALID_ZONE);
     match zone.next_change(seconds) {
         Some(change) => Int64Result::ok(change.at),
         None => Int64Result::error(RESULT_OUT_OF_RANGE),
@@ -23,11 +23,11 @@ pub extern "C" fn fots_zone_next_change(zone: &ZoneParts<'_>, seconds: i64) -> I
 
 /// Returns the Unix time of the last change that is not after another one. Fails without one.
 #[unsafe(no_mangle)]
-pub extern "C" fn fots_zone_previous_change(zone: &ZoneParts<'_>, seconds: i64) -> Int64Result
+pub extern "C" fn fots_zone_previous_change(zone: &CheckedZone<'_>, seconds: i64) -> Int64Result
     ensures { IsForZone zone.now (λ z. IsPreviousResult z seconds result)
-        (λ s. result ≡ int64_error s) }
+        (result ≡ int64_error invalid_zone) }
 {
-    let zone = or_return!(zone_of(zone), fault => Int64Result::error(fault.status));
+    let zone = or_error!(Int64Result, zone.unchecked(), INVALID_ZONE);
     match zone.previous_change(seconds) {
         Some(change) => Int64Result::ok(change.at),
         None => Int64Result::error(RESULT_OUT_OF_RANGE),

@@ -1,62 +1,64 @@
 //! How the clocks of a zone are set at an instant.
 ghost use Rattle.std.specs.Prelude.{◌≡◌};
 ghost use Rattle.cal_c.specs.Moments.{IsMoment, moment_error, local_and_offset_in};
-ghost use Rattle.cal_c.specs.Statuses.{invalid_moment};
+ghost use Rattle.cal_c.specs.Statuses.{invalid_moment, invalid_zone};
 ghost use Rattle.cal_c.specs.Values.{need◌else◌then◌};
 ghost use Rattle.cal_c.specs.Zones.{local_type_error, local_type_ok, IsForZone, IsMomentInZone};
-ghost use Rattle.cal_zone.specs.Timeline.{kind_at, offset_at};
+ghost use Rattle.cal_zone.specs.Timeline.{kind_at, offset_at, InOrder};
 ghost use Rattle.cal_c.specs.Results.{offset_error, offset_ok};
 
 use crate::moment::valid_moment;
 use crate::results::{Moment, MomentResult, OffsetResult};
-use crate::status::{INVALID_MOMENT, RESULT_OUT_OF_RANGE};
-use crate::zones::parsing::zone_of;
+use crate::status::{INVALID_MOMENT, INVALID_ZONE, RESULT_OUT_OF_RANGE};
+use crate::zones::checked_zone::CheckedZone;
 use crate::zones::results::LocalTypeResult;
-use crate::zones::zone_parts::ZoneParts;
 use cal_datetime::OffsetDateTime;
-use cal_zone::{Zone, in_zone};
+use cal_zone::UncheckedZone;
 
 /// Returns the offset at a Unix time.
 #[unsafe(no_mangle)]
-pub extern "C" fn fots_zone_offset(zone: &ZoneParts<'_>, seconds: i64) -> OffsetResult
+pub extern "C" fn fots_zone_offset(zone: &CheckedZone<'_>, seconds: i64) -> OffsetResult
     ensures { IsForZone zone.now (λ z. result ≡ offset_ok (offset_at z seconds))
-        (λ s. result ≡ offset_error s) }
+        (result ≡ offset_error invalid_zone) }
 {
-    let zone = or_return!(zone_of(zone), fault => OffsetResult::error(fault.status));
-    OffsetResult::ok(zone.utc_offset_at(seconds))
+    let zone = or_error!(OffsetResult, zone.unchecked(), INVALID_ZONE);
+    let offset = or_error!(OffsetResult, zone.utc_offset_at(seconds), INVALID_ZONE);
+    OffsetResult::ok(offset)
 }
 
 /// Returns how the clocks are set at a Unix time.
 #[unsafe(no_mangle)]
-pub extern "C" fn fots_zone_local_type(zone: &ZoneParts<'_>, seconds: i64) -> LocalTypeResult
+pub extern "C" fn fots_zone_local_type(zone: &CheckedZone<'_>, seconds: i64) -> LocalTypeResult
     ensures { IsForZone zone.now (λ z. result ≡ local_type_ok zone.now.bytes.now (kind_at z seconds))
-        (λ s. result ≡ local_type_error s) }
+        (result ≡ local_type_error invalid_zone) }
 {
     let bytes = zone.bytes;
-    let zone = or_return!(zone_of(zone), fault => LocalTypeResult::error(fault.status));
+    let zone = or_error!(LocalTypeResult, zone.unchecked(), INVALID_ZONE);
     LocalTypeResult::ok(zone.kind_at(seconds), bytes)
 }
 
 /// Converts a moment to the time of a zone, at the same instant. Fails if the local result is out
 /// of range.
 #[unsafe(no_mangle)]
-pub extern "C" fn fots_moment_in_zone(moment: Moment, zone: &ZoneParts<'_>) -> MomentResult
+pub extern "C" fn fots_moment_in_zone(moment: Moment, zone: &CheckedZone<'_>) -> MomentResult
     ensures { need IsMoment moment else result ≡ moment_error invalid_moment then
         IsForZone zone.now (λ z. IsMomentInZone z (local_and_offset_in moment) result)
-        (λ s. result ≡ moment_error s) }
+        (result ≡ moment_error invalid_zone) }
 {
     let moment = or_error!(MomentResult, valid_moment(moment), INVALID_MOMENT);
-    let zone = or_return!(zone_of(zone), fault => MomentResult::error(fault.status));
+    let zone = or_error!(MomentResult, zone.unchecked(), INVALID_ZONE);
     moment_in_zone(moment, &zone)
 }
 
 /// Converts a moment to the time of a zone.
-fn moment_in_zone(moment: OffsetDateTime, zone: &Zone<'_>) -> MomentResult
-    ensures { IsMomentInZone zone.now moment result }
+fn moment_in_zone(moment: OffsetDateTime, zone: &UncheckedZone<'_>) -> MomentResult
+    ensures { InOrder zone.now → IsMomentInZone zone.now moment result }
 {
-    let moved = or_return!(
-        in_zone(moment, zone),
-        MomentResult::error(RESULT_OUT_OF_RANGE)
+    let offset = or_error!(
+        MomentResult,
+        zone.utc_offset_at(moment.unix_timestamp()),
+        INVALID_ZONE
     );
-    MomentResult::ok(moved)
+    let moved = moment.checked_to_offset(offset);
+    MomentResult::ok(or_error!(MomentResult, moved, RESULT_OUT_OF_RANGE))
 }

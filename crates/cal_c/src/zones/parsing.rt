@@ -1,23 +1,20 @@
 //! Parsing the bytes of a zone.
 ghost use Rattle.std.specs.Prelude.{◌≡◌, IfErr, IfOk};
-ghost use Rattle.cal_c.specs.Zones.{timeline_status, zone_error, zone_status, IsZoneError, IsZoneOf, IsZoneResult};
+ghost use Rattle.cal_zone.specs.Zone.{made_of, AreParts};
+ghost use Rattle.cal_tzif.specs.File.{IsFile, IsFileError, IsPosix};
+ghost use Rattle.cal_tzif.specs.PosixError.{IsTextError};
+ghost use Rattle.cal_c.specs.Zones.{timeline_status, zone_status, IsMade, IsPartsError, IsPartsOf};
 
 use crate::status::{
     CHANGES_OUT_OF_ORDER, INVALID_ABBREVIATION, INVALID_LOCAL_TYPE, INVALID_POSIX_OFFSET,
-    INVALID_RULE_DAY, INVALID_RULE_TIME, INVALID_TYPE_INDEX, INVALID_ZONE, LEAP_SECONDS,
-    MISSING_LOCAL_TYPE, MISSING_NEWLINE, MONTHS_TOO_CLOSE, NOT_A_ZONE_FILE, OK,
-    OVERLAPPING_CHANGES, TRAILING_BYTES, UNEXPECTED_END, UNSUPPORTED_VERSION,
+    INVALID_RULE_DAY, INVALID_RULE_TIME, INVALID_TYPE_INDEX, LEAP_SECONDS, MISSING_LOCAL_TYPE,
+    MISSING_NEWLINE, MONTHS_TOO_CLOSE, NOT_A_ZONE_FILE, OK, OVERLAPPING_CHANGES, TRAILING_BYTES,
+    UNEXPECTED_END, UNSUPPORTED_VERSION,
 };
-use crate::zones::results::ZoneResult;
-use crate::zones::zone_parts::ZoneParts;
-use cal_tzif::{ZoneError, ZoneErrorKind, parse, parse_posix};
-use cal_zone::{ChangeError, TimelineError, Zone};
-
-/// The form of the bytes of a TZif file.
-const FILE: u32 = 1;
-
-/// The form of a POSIX text.
-const POSIX: u32 = 2;
+use crate::zones::checked_zone::CheckedParts;
+use crate::zones::results::PartsResult;
+use cal_tzif::{ZoneError, ZoneErrorKind, parse_parts, parse_posix_parts};
+use cal_zone::{ChangeError, TimelineError, ZoneParts};
 
 /// Returns the status of changes that are not in order.
 fn timeline_status(error: TimelineError) -> i32
@@ -58,43 +55,39 @@ fn zone_status(kind: ZoneErrorKind) -> i32
     }
 }
 
-/// Returns the status and the position of an error.
-fn fault(error: ZoneError) -> ZoneResult
-    ensures { result ≡ zone_error error }
+/// Returns the parts of a zone as numbers, or the status and the position of an error.
+fn parts_result(parsed: Result<ZoneParts<'_>, ZoneError>) -> PartsResult
+    requires { IfOk parsed AreParts }
+    ensures value { IfOk parsed.entry (λ parts. IsPartsOf parts.bytes.now (made_of parts) result) }
+    ensures error { IfErr parsed.entry (λ error. IsPartsError error result) }
 {
-    ZoneResult {
-        status: zone_status(error.kind),
-        position: error.position,
+    match parsed {
+        Ok(parts) => PartsResult {
+            status: OK,
+            position: usize::MAX,
+            parts: CheckedParts::new(parts),
+        },
+        Err(error) => PartsResult {
+            status: zone_status(error.kind),
+            position: error.position,
+            parts: CheckedParts::unset(),
+        },
     }
 }
 
-/// Parses a zone.
-pub(crate) fn zone_of<'a>(parts: &ZoneParts<'a>) -> Result<Zone<'a>, ZoneResult>
-    ensures value { IfOk result (IsZoneOf parts.now) }
-    ensures error { IfErr result (IsZoneError parts.now) }
-{
-    if parts.form == FILE {
-        match parse(parts.bytes) {
-            Ok(zone) => Ok(zone),
-            Err(error) => Err(fault(error)),
-        }
-    } else if parts.form == POSIX {
-        match parse_posix(parts.bytes) {
-            Ok(zone) => Ok(zone),
-            Err(error) => Err(fault(error)),
-        }
-    } else {
-        Err(ZoneResult::of_status(INVALID_ZONE))
-    }
-}
-
-/// Checks the bytes of a zone. Returns the first error, with the position of the first wrong byte.
+/// Checks the bytes of a TZif file once for many calls. Returns the first error, with the position
+/// of the first wrong byte; then every call rejects the parts.
 #[unsafe(no_mangle)]
-pub extern "C" fn fots_zone_check(zone: &ZoneParts<'_>) -> ZoneResult
-    ensures { IsZoneResult zone.now result }
+pub extern "C" fn fots_zone_file_parts(bytes: &[u8]) -> PartsResult
+    ensures { IsMade bytes.now (IsFile bytes.now) (IsFileError bytes.now) result }
 {
-    match zone_of(zone) {
-        Ok(_) => ZoneResult::of_status(OK),
-        Err(fault) => fault,
-    }
+    parts_result(parse_parts(bytes))
+}
+
+/// Checks a POSIX text, like `fots_zone_file_parts`.
+#[unsafe(no_mangle)]
+pub extern "C" fn fots_zone_posix_parts(text: &[u8]) -> PartsResult
+    ensures { IsMade text.now (IsPosix text.now) (IsTextError text.now 0) result }
+{
+    parts_result(parse_posix_parts(text))
 }

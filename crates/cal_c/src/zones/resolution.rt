@@ -4,38 +4,38 @@ ghost use Rattle.cal_time.specs.Time.{IsTime};
 ghost use Rattle.cal_datetime.specs.DateTime.{date_time};
 ghost use Rattle.cal_datetime.specs.OffsetDateTime.{unix_seconds};
 ghost use Rattle.cal_zone.specs.Timeline as zones;
+ghost use Rattle.cal_zone.specs.Timeline.{InOrder};
 ghost use Rattle.cal_c.specs.Moments.{moment_error};
-ghost use Rattle.cal_c.specs.Statuses.{invalid_date, invalid_policy, invalid_time};
+ghost use Rattle.cal_c.specs.Statuses.{invalid_date, invalid_policy, invalid_time, invalid_zone};
 ghost use Rattle.cal_c.specs.Values.{need◌else◌then◌, IsJulianDay, day_of};
 ghost use Rattle.cal_c.specs.Zones.{local_error, policy_number, IsForZone, IsMomentByPolicy, IsPolicy, IsResolved};
 ghost use Rattle.cal_c.specs.declared.zones.policy.Policy.{Policy};
 
 use crate::results::MomentResult;
-use crate::status::{INVALID_DATE, INVALID_POLICY, INVALID_TIME};
+use crate::status::{INVALID_DATE, INVALID_POLICY, INVALID_TIME, INVALID_ZONE};
 use crate::values::{valid_date, valid_time};
-use crate::zones::parsing::zone_of;
+use crate::zones::checked_zone::CheckedZone;
 use crate::zones::policy::Policy;
 use crate::zones::results::LocalResult;
-use crate::zones::zone_parts::ZoneParts;
 use cal_datetime::PlainDateTime;
-use cal_zone::Zone;
+use cal_zone::UncheckedZone;
 
 /// Returns the instants at which clocks show a date and a time of day: one, two in a fold, or those
 /// of the policies `earlier` and `later` in a gap.
 #[unsafe(no_mangle)]
-pub extern "C" fn fots_zone_resolve(zone: &ZoneParts<'_>, date: i32, time: u64) -> LocalResult
+pub extern "C" fn fots_zone_resolve(zone: &CheckedZone<'_>, date: i32, time: u64) -> LocalResult
     ensures { IsForZone zone.now (λ z. need IsJulianDay date else result ≡ local_error invalid_date then
         need IsTime time else result ≡ local_error invalid_time then
         IsResolved z (date_time (day_of date) time) result)
-        (λ s. result ≡ local_error s) }
+        (result ≡ local_error invalid_zone) }
 {
-    let zone = or_return!(zone_of(zone), fault => LocalResult::error(fault.status));
+    let zone = or_error!(LocalResult, zone.unchecked(), INVALID_ZONE);
     resolve(&zone, date, time)
 }
 
 /// Returns the instants at which clocks show a date and a time of day.
-fn resolve(zone: &Zone<'_>, date: i32, time: u64) -> LocalResult
-    ensures { need IsJulianDay date else result ≡ local_error invalid_date then
+fn resolve(zone: &UncheckedZone<'_>, date: i32, time: u64) -> LocalResult
+    ensures { InOrder zone.now → need IsJulianDay date else result ≡ local_error invalid_date then
         need IsTime time else result ≡ local_error invalid_time then
         IsResolved zone.now (date_time (day_of date) time) result }
 {
@@ -45,10 +45,11 @@ fn resolve(zone: &Zone<'_>, date: i32, time: u64) -> LocalResult
 }
 
 /// Returns the instants at which clocks show a reading.
-fn resolve_reading(zone: &Zone<'_>, reading: PlainDateTime) -> LocalResult
-    ensures { IsResolved zone.now reading result }
+fn resolve_reading(zone: &UncheckedZone<'_>, reading: PlainDateTime) -> LocalResult
+    ensures { InOrder zone.now → IsResolved zone.now reading result }
 {
-    LocalResult::ok(reading_seconds(&reading), zone.resolve(reading))
+    let local = or_error!(LocalResult, zone.resolve(reading), INVALID_ZONE);
+    LocalResult::ok(reading_seconds(&reading), local)
 }
 
 /// Returns the whole seconds from 1970-01-01 0:00 to a reading.
@@ -63,7 +64,7 @@ fn reading_seconds(reading: &PlainDateTime) -> i64
 /// earlier, 2 for later, 3 for reject.
 #[unsafe(no_mangle)]
 pub extern "C" fn fots_zone_moment(
-    zone: &ZoneParts<'_>,
+    zone: &CheckedZone<'_>,
     date: i32,
     time: u64,
     policy: u32,
@@ -73,15 +74,15 @@ pub extern "C" fn fots_zone_moment(
         need IsPolicy policy else result ≡ moment_error invalid_policy then
         (p : Policy) × (policy_number p ≡ policy)
         × IsMomentByPolicy z (date_time (day_of date) time) p result)
-        (λ s. result ≡ moment_error s) }
+        (result ≡ moment_error invalid_zone) }
 {
-    let zone = or_return!(zone_of(zone), fault => MomentResult::error(fault.status));
+    let zone = or_error!(MomentResult, zone.unchecked(), INVALID_ZONE);
     moment_by_number(&zone, date, time, policy)
 }
 
 /// Returns the moment of a date and a time of day by the number of a policy.
-fn moment_by_number(zone: &Zone<'_>, date: i32, time: u64, policy: u32) -> MomentResult
-    ensures { need IsJulianDay date else result ≡ moment_error invalid_date then
+fn moment_by_number(zone: &UncheckedZone<'_>, date: i32, time: u64, policy: u32) -> MomentResult
+    ensures { InOrder zone.now → need IsJulianDay date else result ≡ moment_error invalid_date then
         need IsTime time else result ≡ moment_error invalid_time then
         need IsPolicy policy else result ≡ moment_error invalid_policy then
         (p : Policy) × (policy_number p ≡ policy)
@@ -94,8 +95,12 @@ fn moment_by_number(zone: &Zone<'_>, date: i32, time: u64, policy: u32) -> Momen
 }
 
 /// Returns the moment of a reading by a policy.
-fn moment_by_policy(zone: &Zone<'_>, reading: PlainDateTime, policy: Policy) -> MomentResult
-    ensures { IsMomentByPolicy zone.now reading policy result }
+fn moment_by_policy(
+    zone: &UncheckedZone<'_>,
+    reading: PlainDateTime,
+    policy: Policy,
+) -> MomentResult
+    ensures { InOrder zone.now → IsMomentByPolicy zone.now reading policy result }
 {
-    policy.moment(zone.resolve(reading))
+    policy.moment(or_error!(MomentResult, zone.resolve(reading), INVALID_ZONE))
 }

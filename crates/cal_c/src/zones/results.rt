@@ -1,20 +1,22 @@
 //! Results of the calls for zones.
 ghost use Rattle.std.specs.Prelude.{◌≡◌, ◌-ℤ◌};
 ghost use Rattle.cal_zone.specs.Timeline.{IsMoment};
-ghost use Rattle.cal_c.specs.Zones.{gap_ok, local_error, local_ok, local_type_error, local_type_ok, moments_ok, zone_result};
+ghost use Rattle.cal_c.specs.Zones.{gap_ok, local_error, local_ok, local_type_error, local_type_ok, moments_ok};
 
 use crate::status::OK;
+use crate::zones::checked_zone::CheckedParts;
 use cal_datetime::OffsetDateTime;
 use cal_time::UtcOffset;
 use cal_zone::{Gap, Local, LocalType};
 
-/// The first error of the bytes of a zone, if there is one.
+/// What a call found in the bytes of a zone, or their first error.
 #[repr(C)]
 #[derive(Clone, Copy)]
-pub struct ZoneResult {
+pub struct PartsResult {
     pub status: i32,
     /// The position of the first wrong byte.
     pub position: usize,
+    pub parts: CheckedParts,
 }
 
 /// How clocks are set.
@@ -41,18 +43,6 @@ pub struct LocalResult {
     pub later: i64,
     pub earlier_offset: i32,
     pub later_offset: i32,
-}
-
-impl ZoneResult {
-    /// Returns the result with a status, without a position.
-    pub(super) fn of_status(status: i32) -> Self
-        ensures { result ≡ zone_result status }
-    {
-        ZoneResult {
-            status,
-            position: usize::MAX,
-        }
-    }
 }
 
 impl LocalTypeResult {

@@ -1,16 +1,15 @@
 use Rattle.std.proofs.Common.{◌≡◌, get_or, pos, arith, rules, FitsSigned, w64, to_z, of_z}
 use Rattle.std.proofs.lemmas.Int.{to_z-of_z}
 use Rattle.std.specs.Prelude.{MatchOption}
-use Rattle.cal_zone.specs.Timeline.{Timeline}
+use Rattle.cal_zone.specs.Timeline.{Timeline, InOrder}
 use Rattle.cal_c.specs.Results.{int64_error}
-use Rattle.cal_c.specs.Statuses.{invalid_policy}
+use Rattle.cal_c.specs.Statuses.{invalid_policy, invalid_zone}
 use Rattle.cal_c.specs.Values.{need◌else◌then◌}
 use Rattle.cal_c.specs.ZoneColumns.{IsInstantByPolicy, IsInstantOfReading, int64_row}
 use Rattle.cal_c.specs.Zones.{policy_number, IsPolicy}
 use Rattle.cal_c.specs.declared.zones.policy.Policy.{Policy}
-use Rattle.cal_c.proofs.Needs.{met}
 use Rattle.cal_c.proofs.Rows.{rows_two}
-use Rattle.cal_c.proofs.ZoneResults.{for_policy, for_zone, ok_by}
+use Rattle.cal_c.proofs.ZoneResults.{for_policy, for_some, match_by, next_span}
 use Rattle.cal_c.proofs.columns.zones.fots_zone_instants.Goals as goal
 
 pub loop-row-preserved : goal.loop-row-preserved
@@ -19,23 +18,20 @@ loop-row-preserved c =
     let fits : FitsSigned w64 c.row_of_instant.result.0 = search rules in
     let reading = get_or c.args.readings.now c.loop-row.row (pos 0) in
     let row = int64_row c.row_of_instant.result.0 c.row_of_instant.result.1 in
-    let value = simp to_z-of_z at c.row_of_instant.ensures.value in
-    let found = ok_by
+    let found = next_span c.unchecked.result _ _ (row ≡ int64_error invalid_zone)
     (λ (z : Timeline). MatchOption c.from_number.result (row ≡ int64_error invalid_policy) (λ (q : Policy). IsInstantByPolicy z reading q row))
-    (λ (z : Timeline). need IsPolicy c.args.policy else row ≡ int64_error invalid_policy then ((q : Policy) × (policy_number q ≡ c.args.policy) × IsInstantByPolicy z reading q row))
-    c.zone_of.result
-    (λ z is. for_policy c.args.policy c.from_number.result (row ≡ int64_error invalid_policy) (λ (q : Policy). IsInstantByPolicy z reading q row) c.from_number.ensures is)
-    value in
+    (simp to_z-of_z at c.row_of_instant.ensures) c.loop-row.invariant.span in
     let here : IsInstantOfReading c.args.zone.now reading c.args.policy row =
     record {
-      answer = for_zone c.args.zone.now c.zone_of.result
-          (λ (z : Timeline). need IsPolicy c.args.policy else row ≡ int64_error invalid_policy then ((q : Policy) × (policy_number q ≡ c.args.policy) × IsInstantByPolicy z reading q row))
-          (λ s. row ≡ int64_error s)
-          c.zone_of.ensures.value c.zone_of.ensures.error found c.row_of_instant.ensures.error;
+      answer = for_some c.args.zone.now c.unchecked.result _ _ c.unchecked.ensures
+          (match_by
+          (λ (z : Timeline). InOrder z → MatchOption c.from_number.result (row ≡ int64_error invalid_policy) (λ (q : Policy). IsInstantByPolicy z reading q row))
+          (λ (z : Timeline). InOrder z → need IsPolicy c.args.policy else row ≡ int64_error invalid_policy then ((q : Policy) × (policy_number q ≡ c.args.policy) × IsInstantByPolicy z reading q row))
+          c.unchecked.result _
+          (λ z is order. for_policy c.args.policy c.from_number.result (row ≡ int64_error invalid_policy) (λ (q : Policy). IsInstantByPolicy z reading q row) c.from_number.ensures (is order))
+          found.0);
     } in
-    rows_two (λ k second status. IsInstantOfReading c.args.zone.now (get_or c.args.readings.now k (pos 0)) c.args.policy (int64_row second status)) c.loop-row.seconds c.loop-row.statuses c.loop-row.row (to_z w64 (of_z w64 c.row_of_instant.result.0)) (pos 0) c.row_of_instant.result.1 0 (omega arith) (omega arith) c.loop-row.invariant (simp to_z-of_z here)
-
-pub returns : goal.returns
-returns c =
-    met (omega arith, (omega arith, search rules))
-    (record { each = λ k h. c.loop-row.invariant k (omega arith); count = c.count_errors.ensures })
+    record {
+      rows = rows_two (λ k second status. IsInstantOfReading c.args.zone.now (get_or c.args.readings.now k (pos 0)) c.args.policy (int64_row second status)) c.loop-row.seconds c.loop-row.statuses c.loop-row.row (to_z w64 (of_z w64 c.row_of_instant.result.0)) (pos 0) c.row_of_instant.result.1 0 (omega arith) (omega arith) c.loop-row.invariant.rows (simp to_z-of_z here);
+      span = found.1;
+    }

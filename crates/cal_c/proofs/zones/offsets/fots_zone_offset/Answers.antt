@@ -1,16 +1,14 @@
-use Rattle.std.proofs.Common.{◌∙◌, ap, rules, FitsSigned, w32}
+use Rattle.std.proofs.Common.{◌∙◌, ap}
 use Rattle.std.proofs.Math.Facts.{to_z-of_z}
-use Rattle.cal_c.specs.Results.{offset_ok, offset_error}
-use Rattle.cal_c.specs.Zones.IsForZone.{zone, error}
+use Rattle.cal_c.specs.Results.{offset_ok}
+use Rattle.cal_c.proofs.ZoneResults.{for_zone}
 use Rattle.cal_c.proofs.zones.offsets.fots_zone_offset.Goals as goal
 
-pub returns-in-Err : goal.returns-in-Err
-returns-in-Err c =
-    let fits : FitsSigned w32 c.in-Err.fault.status = search rules in
-    error c.in-Err.fault c.in-Err.ensures.error (c.error.ensures ∙ ap offset_error (to_z-of_z fits))
+pub returns-in-None-utc_offset_at : goal.returns-in-None-utc_offset_at
+returns-in-None-utc_offset_at c = for_zone _ _ _ _ c.in-Some.ensures (λ order. absurd (c.in-None-utc_offset_at.ensures.none order))
 
 pub returns : goal.returns
 returns c =
     let g = c.ranges.seconds in
-    let offset = simp to_z-of_z at c.utc_offset_at.ensures in
-    zone c.in-Ok.value c.in-Ok.ensures.value (c.ok.ensures ∙ ap offset_ok offset)
+    let found = simp to_z-of_z at c.in-Some-utc_offset_at.ensures.some in
+    for_zone _ _ _ _ c.in-Some.ensures (λ order. c.ok.ensures ∙ ap offset_ok (found order))

@@ -1,7 +1,7 @@
 use Rattle.std.proofs.Common.{◌≡◌, ◌∙◌, ◌+◌, ◌-◌, ◌≤ℤ◌, ◌<ℤ◌, length, arith, w64}
 use Rattle.std.proofs.lemmas.Int.{ints, to_z-of_z}
 use Rattle.cal_zone.specs.Timeline.{at}
-use Rattle.cal_zone.proofs.Splits.{from_index, from_zero, is_past, not_past, is_ahead, not_ahead}
+use Rattle.cal_zone.proofs.Splits.{from_index, from_zero, is_past, not_past, is_ahead}
 use Rattle.cal_zone.proofs.table.Table.indexes_near.Goals as goal
 use Rattle.cal_zone.proofs.table.Table.indexes_near.Goals.{else-index-len-via-then-index-len+else-time-instant, else-index-len-via-else-index-len}
 

@@ -1,8 +1,7 @@
 use Rattle.std.proofs.Common.{◌≡◌, ℕ, ◌+◌, ◌-◌, ◌++◌, length, ap, ◌∙◌, sym, arith, w64}
 use Rattle.std.proofs.lemmas.Int.{ints, to_z-of_z}
-use Rattle.std.specs.List.{slice_index_or}
 use Rattle.cal_zone.specs.declared.change.Change.{Change}
-use Rattle.cal_zone.specs.Timeline.{Timeline, at, no_change}
+use Rattle.cal_zone.specs.Timeline.{Timeline, at}
 use Rattle.cal_zone.specs.Zone.{later}
 use Rattle.cal_zone.proofs.Joins.{item_left, item_right}
 use Rattle.cal_zone.proofs.unchecked_zone.UncheckedZone.time.Goals as goal

@@ -1,0 +1,235 @@
+//! Zones whose bytes are checked once, for C.
+ghost use Rattle.std.specs.Prelude.{◌≡◌, IfNone, IfSome, MatchOption};
+ghost use Rattle.cal_zone.specs.Zone.{later, made_of, AreParts};
+ghost use Rattle.cal_c.specs.Zones.{changes_by_rule, local_type_in, yearly_in, zone_in, zone_of_parts, HasParts, HasPlaces, HasRule, HasRuleOrNone, HasZone};
+
+use cal_time::{Cycle, Month, Weekday};
+use cal_zone::{Layout, LocalType, Rule, UncheckedZone, Yearly, ZoneParts};
+
+/// The mark of a zone without a rule. A struct of zeros is not a zone.
+const NO_RULE: u32 = 1;
+
+/// The mark of a zone whose last changes are those of a rule.
+const RULE: u32 = 2;
+
+/// How clocks are set.
+#[repr(C)]
+#[derive(Clone, Copy)]
+pub struct ZoneClock {
+    pub offset: i32,
+    /// 1 for daylight saving time, else 0.
+    pub is_daylight: u32,
+    pub name_start: usize,
+    pub name_end: usize,
+}
+
+/// A change that comes each year.
+#[repr(C)]
+#[derive(Clone, Copy)]
+pub struct ZoneYearly {
+    /// The index of the month, from 0.
+    pub month: u8,
+    pub week: u8,
+    /// The index of the weekday, from 0 for Monday.
+    pub weekday: u8,
+    pub time: i32,
+    pub clock: ZoneClock,
+}
+
+/// What a call found in the bytes of a zone.
+#[repr(C)]
+#[derive(Clone, Copy)]
+pub struct CheckedParts {
+    /// 1 for a zone without a rule, 2 for one with a rule.
+    pub rule: u32,
+    pub skip: u32,
+    pub layout: Layout,
+    pub first: ZoneClock,
+    pub one: ZoneYearly,
+    pub other: ZoneYearly,
+}
+
+/// A zone: its bytes, and what a call found in them.
+#[repr(C)]
+#[derive(Clone, Copy)]
+pub struct CheckedZone<'a> {
+    pub bytes: &'a [u8],
+    pub parts: CheckedParts,
+}
+
+impl ZoneClock {
+    /// Creates the clock that no zone has.
+    fn unset() -> Self {
+        ZoneClock {
+            offset: 0,
+            is_daylight: 0,
+            name_start: 0,
+            name_end: 0,
+        }
+    }
+
+    /// Returns the numbers of a local time type.
+    fn new(kind: LocalType) -> Self
+        ensures { local_type_in result ≡ kind }
+    {
+        ZoneClock {
+            offset: kind.offset,
+            is_daylight: u32::from(kind.is_daylight),
+            name_start: kind.name_start,
+            name_end: kind.name_end,
+        }
+    }
+
+    /// Returns the local time type of the numbers.
+    fn kind(self) -> LocalType
+        ensures { result ≡ local_type_in self }
+    {
+        LocalType {
+            offset: self.offset,
+            is_daylight: self.is_daylight > 0,
+            name_start: self.name_start,
+            name_end: self.name_end,
+        }
+    }
+}
+
+impl ZoneYearly {
+    /// Creates the change that no rule has.
+    fn unset() -> Self {
+        ZoneYearly {
+            month: 0,
+            week: 0,
+            weekday: 0,
+            time: 0,
+            clock: ZoneClock::unset(),
+        }
+    }
+
+    /// Returns the numbers of a change.
+    fn new(yearly: Yearly) -> Self
+        ensures value { yearly_in result ≡ yearly }
+        ensures range { HasPlaces result }
+    {
+        ZoneYearly {
+            month: yearly.month.place(),
+            week: yearly.week,
+            weekday: yearly.weekday.place(),
+            time: yearly.time,
+            clock: ZoneClock::new(yearly.kind),
+        }
+    }
+
+    /// Returns the change of the numbers, or `None` if there is no such month or weekday.
+    fn yearly(self) -> Option<Yearly>
+        ensures some { IfSome result (λ yearly. (yearly ≡ yearly_in self) × HasPlaces self) }
+        ensures none { IfNone result (¬ HasPlaces self) }
+    {
+        if self.month >= 12 {
+            return None;
+        }
+        if self.weekday >= 7 {
+            return None;
+        }
+        Some(Yearly {
+            month: Month::at(self.month),
+            week: self.week,
+            weekday: Weekday::at(self.weekday),
+            time: self.time,
+            kind: self.clock.kind(),
+        })
+    }
+}
+
+impl CheckedParts {
+    /// Creates the parts that every call rejects.
+    pub(super) fn unset() -> Self
+        ensures { result.rule ≡ 0 }
+    {
+        CheckedParts {
+            rule: 0,
+            skip: 0,
+            layout: Layout::empty(),
+            first: ZoneClock::unset(),
+            one: ZoneYearly::unset(),
+            other: ZoneYearly::unset(),
+        }
+    }
+
+    /// Returns the numbers of the parts of a zone.
+    pub(super) fn new(parts: ZoneParts<'_>) -> Self
+        requires { AreParts parts }
+        ensures parts { HasParts parts.entry.bytes.now result }
+        ensures value { zone_of_parts parts.entry.bytes.now result ≡ made_of parts.entry }
+    {
+        let first = ZoneClock::new(parts.first);
+        let (layout, skip) = (parts.layout, parts.skip);
+        match parts.rule {
+            Some(rule) => {
+                let (one, other) = rule.changes();
+                CheckedParts {
+                    rule: RULE,
+                    skip,
+                    layout,
+                    first,
+                    one: ZoneYearly::new(one),
+                    other: ZoneYearly::new(other),
+                }
+            }
+            None => CheckedParts {
+                rule: NO_RULE,
+                skip,
+                layout,
+                first,
+                one: ZoneYearly::unset(),
+                other: ZoneYearly::unset(),
+            },
+        }
+    }
+
+    /// Returns the rule of the two changes, or `None` if they are not a rule.
+    fn two_changes(&self) -> Option<Rule>
+        ensures some { IfSome result (λ rule. (rule.one ≡ yearly_in self.now.one)
+            × (rule.other ≡ yearly_in self.now.other) × HasRule self.now) }
+        ensures none { IfNone result (¬ HasRule self.now) }
+    {
+        Rule::new(self.one.yearly()?, self.other.yearly()?)
+    }
+
+    /// Returns the rule, if there is one, or `None` if the mark of the rule or its changes are
+    /// invalid.
+    fn held_rule(&self) -> Option<Option<Rule>>
+        ensures some { IfSome result (λ rule. later rule self.now.skip ≡ changes_by_rule self.now) }
+        ensures marked { IfSome result (λ rule. HasRuleOrNone self.now) }
+        ensures none { IfNone result (¬ HasRuleOrNone self.now) }
+    {
+        if self.rule == NO_RULE {
+            return Some(None);
+        }
+        if self.rule != RULE {
+            return None;
+        }
+        match self.two_changes() {
+            Some(rule) => Some(Some(rule)),
+            None => None,
+        }
+    }
+}
+
+impl<'a> CheckedZone<'a> {
+    /// Returns the zone, or `None` if the struct has none. If the struct or the bytes were changed
+    /// after the call that filled it, the zone can be any.
+    pub(crate) fn unchecked(&self) -> Option<UncheckedZone<'a>>
+        ensures { MatchOption result (¬ HasZone self.now)
+            (λ zone. (zone ≡ zone_in self.now) × HasZone self.now) }
+    {
+        let parts = &self.parts;
+        let rule = parts.held_rule()?;
+        UncheckedZone::new(ZoneParts {
+            first: parts.first.kind(),
+            bytes: self.bytes,
+            layout: parts.layout,
+            rule,
+            skip: parts.skip,
+        })
+    }
+}

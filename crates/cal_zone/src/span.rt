@@ -1,0 +1,67 @@
+//! Instants at which the offset of a zone is the same.
+ghost use Rattle.std.specs.Prelude.{◌≡◌, ◌↔◌, ℤ, ◌≤ℤ◌, IsTrue, IfSome};
+ghost use Rattle.cal_zone.specs.Span.{IsSpan};
+ghost use Rattle.cal_zone.specs.Timeline.{Timeline, local_at, InOrder, IsMoment};
+
+/// The maximum difference of two offsets.
+const MAX_DIFFERENCE: i64 = 187_198;
+
+/// Seconds.
+const HALF_YEAR: u64 = 15_778_476;
+
+/// Instants at which clocks have one offset, from the first to the last. There are none if the last
+/// one is before the first.
+#[derive(Clone, Copy, Debug, PartialEq, Eq)]
+pub struct Span {
+    /// The Unix time of the first instant, in seconds.
+    pub first: i64,
+    /// The Unix time of the last instant.
+    pub last: i64,
+    /// The seconds by which clocks are ahead of UTC.
+    pub offset: i32,
+}
+
+impl Span {
+    /// Creates the span of no instants.
+    pub fn empty() -> Self
+        ensures { (zone : Timeline) → IsSpan zone result }
+    {
+        Span {
+            first: 0,
+            last: -1,
+            offset: 0,
+        }
+    }
+
+    /// Checks that an instant is one of the span.
+    #[inline(always)]
+    pub fn contains(self, instant: i64) -> bool
+        ensures { IsTrue result ↔ ((self.first ≤ℤ instant) × (instant ≤ℤ self.last)) }
+    {
+        self.first <= instant && instant <= self.last
+    }
+
+    /// Checks that an instant is less than half a year before or after the span, and not in it.
+    #[inline(always)]
+    pub(crate) fn is_near(self, instant: i64) -> bool {
+        let after = instant.wrapping_sub(self.last).cast_unsigned();
+        let before = self.first.wrapping_sub(instant).cast_unsigned();
+        after.min(before) < HALF_YEAR
+    }
+
+    /// Returns the one instant at which clocks show a reading, in seconds since 1970-01-01 0:00 by
+    /// the clock. `None` says that the reading may be one of other instants, too.
+    #[inline(always)]
+    pub fn single(self, reading: i64) -> Option<i64>
+        requires { IsMoment reading }
+        ensures { (zone : Timeline) → InOrder zone → IsSpan zone self
+            → IfSome result (λ instant. (i : ℤ) → (i ≡ instant) ↔ (local_at zone i ≡ reading)) }
+    {
+        let instant = reading - i64::from(self.offset);
+        if self.contains(instant - MAX_DIFFERENCE) && self.contains(instant + MAX_DIFFERENCE) {
+            Some(instant)
+        } else {
+            None
+        }
+    }
+}
