@@ -11,3 +11,4 @@ pub mod Moments
 pub mod Errors
 pub mod OneError
 pub mod Counts
+pub mod OneLocal
