@@ -7,7 +7,7 @@ ghost use Rattle.cal_format.specs.Reading.{are_apart, are_date_items, shows_date
 ghost use Rattle.cal_format.specs.Rejection.{IsRejection};
 ghost use Rattle.cal_format.specs.Scanning.{AreHeld};
 
-use crate::determines::{are_apart, shows_date};
+use crate::determines::{Shown, are_apart, shows_date};
 use crate::error::ParseError;
 use crate::format::Format;
 use crate::parsing::parse_moment;
@@ -41,7 +41,10 @@ impl Format {
             × IsTrue (shows_date self) }
         ensures same { IfSome result (λ format. format ≡ self) }
     {
-        if are_apart(self.items()) && are_date_items(self.items()) && shows_date(self.items()) {
+        if are_apart(self.items())
+            && are_date_items(self.items())
+            && shows_date(&Shown::new(self.items()))
+        {
             Some(DateFormat { format: self })
         } else {
             None

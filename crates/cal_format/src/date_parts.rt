@@ -9,14 +9,16 @@ ghost use Rattle.cal_format.specs.Ranges.{maximum};
 ghost use Rattle.cal_format.specs.Scanning.{number_at, AreHeld, Agrees};
 ghost use Rattle.cal_format.specs.Values.{year_in, weekday_in, IsDateOf, value_error};
 
-use crate::determines::{any_shows, shows_calendar_date, shows_ordinal_date, shows_timestamp};
+use crate::determines::{
+    Shown, any_shows, shows_calendar_date, shows_ordinal_date, shows_timestamp,
+};
 use crate::fields::Fields;
-use crate::item::{Component, Item};
+use crate::item::Component;
 use cal_time::error::{Component as Named, ComponentRange};
 use cal_time::{Date, Month, Weekday};
 
 /// Returns the date with the numbers of the fields.
-pub(crate) fn date_of(items: &[Item], fields: &Fields) -> Option<Date>
+pub(crate) fn date_of(items: &Shown, fields: &Fields) -> Option<Date>
     ensures every { (v : Moment) → IsDate v.date → AreHeld v items.now → Agrees items.now fields.now v
         → IsTrue (shows_date items.now)
         → result ≡ Some v.date }
@@ -44,7 +46,7 @@ pub(crate) fn date_of(items: &[Item], fields: &Fields) -> Option<Date>
 
 /// Returns the error of numbers that no moment has: the Unix time, the day of the month, the day of the
 /// year or the ISO week.
-pub(crate) fn value_error(items: &[Item]) -> ComponentRange
+pub(crate) fn value_error(items: &Shown) -> ComponentRange
     ensures { result ≡ value_error items.now }
 {
     if shows_timestamp(items) {
@@ -60,7 +62,7 @@ pub(crate) fn value_error(items: &[Item]) -> ComponentRange
 }
 
 /// Returns the year.
-fn year_of(items: &[Item], fields: &Fields) -> u64
+fn year_of(items: &Shown, fields: &Fields) -> u64
     ensures every { (v : Moment) → AreHeld v items.now → Agrees items.now fields.now v
         → IsTrue (shows_year items.now)
         → (pos result ≡ year_at v.date) × (result < 10000) }
@@ -82,7 +84,7 @@ fn year_of_century(century: u64, year: u64) -> u64
 }
 
 /// Returns the number of days since Monday.
-fn weekday_of(items: &[Item], fields: &Fields) -> u8
+fn weekday_of(items: &Shown, fields: &Fields) -> u8
     ensures value { (v : Moment) → IsDate v.date → Agrees items.now fields.now v
         → IsTrue (shows_weekday items.now)
         → result ≡ weekday_at v.date }

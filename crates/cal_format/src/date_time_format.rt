@@ -7,7 +7,7 @@ ghost use Rattle.cal_format.specs.Reading.{are_apart, are_date_time_items, shows
 ghost use Rattle.cal_format.specs.Rejection.{IsRejection};
 ghost use Rattle.cal_format.specs.Scanning.{AreHeld};
 
-use crate::determines::{are_apart, shows_date, shows_time};
+use crate::determines::{Shown, are_apart, shows_date, shows_time};
 use crate::error::ParseError;
 use crate::format::Format;
 use crate::parsing::parse_moment;
@@ -45,8 +45,8 @@ impl Format {
     {
         if are_apart(self.items())
             && are_date_time_items(self.items())
-            && shows_date(self.items())
-            && shows_time(self.items())
+            && shows_date(&Shown::new(self.items()))
+            && shows_time(&Shown::new(self.items()))
         {
             Some(DateTimeFormat { format: self })
         } else {

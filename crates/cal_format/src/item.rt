@@ -2,7 +2,7 @@
 ghost use Rattle.std.specs.Prelude.{◌≡◌, ◌<◌, ◌≤◌};
 ghost use Rattle.cal_format.specs.Format.{escape};
 ghost use Rattle.cal_format.specs.Moment.{width, most_digits};
-ghost use Rattle.cal_format.specs.Reading.{index, name_component, shows};
+ghost use Rattle.cal_format.specs.Reading.{index, name_component};
 
 /// A number that a format shows of a value.
 #[derive(Clone, Copy, Debug, PartialEq, Eq)]
@@ -195,22 +195,6 @@ impl Component {
             Component::OffsetSign => 24,
             Component::Timestamp => 25,
             Component::TimestampSign => 26,
-        }
-    }
-}
-
-impl Item {
-    /// Returns `true` if the item shows the component.
-    pub(crate) fn shows(self, component: Component) -> bool
-        ensures { result ≡ shows component self }
-    {
-        match self {
-            Item::Literal(_) => false,
-            Item::Number(shown, _) => shown.index() == component.index(),
-            Item::Name(name) => name.component().index() == component.index(),
-            Item::Fraction | Item::Decimals => Component::Nanosecond.index() == component.index(),
-            Item::OffsetSign => Component::OffsetSign.index() == component.index(),
-            Item::TimestampSign => Component::TimestampSign.index() == component.index(),
         }
     }
 }

@@ -9,7 +9,7 @@ ghost use Rattle.cal_format.specs.Reading.{are_apart, shows_moment, holds_time, 
 ghost use Rattle.cal_format.specs.Rejection.{IsRejection};
 ghost use Rattle.cal_format.specs.Scanning.{AreHeld};
 
-use crate::determines::{are_apart, shows_moment};
+use crate::determines::{Shown, are_apart, shows_moment};
 use crate::error::ParseError;
 use crate::format::Format;
 use crate::parsing::parse_moment;
@@ -43,7 +43,7 @@ impl Format {
         ensures determines { IsSome result ↔ IsTrue (are_apart self) × IsTrue (shows_moment self) }
         ensures same { IfSome result (λ format. format ≡ self) }
     {
-        if are_apart(self.items()) && shows_moment(self.items()) {
+        if are_apart(self.items()) && shows_moment(&Shown::new(self.items())) {
             Some(OffsetDateTimeFormat { format: self })
         } else {
             None

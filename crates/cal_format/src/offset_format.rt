@@ -6,7 +6,7 @@ ghost use Rattle.cal_format.specs.Text.{text_of};
 ghost use Rattle.cal_format.specs.Reading.{are_apart, are_offset_items, shows_offset, holds_offset};
 ghost use Rattle.cal_format.specs.Rejection.{IsRejection};
 
-use crate::determines::{are_apart, shows_offset};
+use crate::determines::{Shown, are_apart, shows_offset};
 use crate::error::ParseError;
 use crate::format::Format;
 use crate::parsing::parse_moment;
@@ -40,7 +40,10 @@ impl Format {
             × IsTrue (shows_offset self) }
         ensures same { IfSome result (λ format. format ≡ self) }
     {
-        if are_apart(self.items()) && are_offset_items(self.items()) && shows_offset(self.items()) {
+        if are_apart(self.items())
+            && are_offset_items(self.items())
+            && shows_offset(&Shown::new(self.items()))
+        {
             Some(OffsetFormat { format: self })
         } else {
             None

@@ -8,13 +8,14 @@ ghost use Rattle.cal_format.specs.Ranges.{maximum};
 ghost use Rattle.cal_format.specs.Scanning.{number_at, Agrees, signed_seconds};
 ghost use Rattle.cal_format.specs.Values.{offset_in};
 
+use crate::determines::Shown;
 use crate::fields::Fields;
-use crate::item::{Component, Item};
+use crate::item::Component;
 use crate::timestamp::signed;
 use cal_time::UtcOffset;
 
 /// Returns the offset with the numbers of the fields.
-pub(crate) fn offset_of(items: &[Item], fields: &Fields) -> Option<UtcOffset>
+pub(crate) fn offset_of(items: &Shown, fields: &Fields) -> Option<UtcOffset>
     ensures every { (v : Moment) → IsOffset v.offset → Agrees items.now fields.now v
         → IsTrue (shows_offset items.now) → IsTrue (holds_offset items.now v.offset)
         → result ≡ Some v.offset }

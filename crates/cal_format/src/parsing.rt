@@ -16,7 +16,7 @@ ghost use Rattle.cal_format.specs.Text.{text_of};
 ghost use Rattle.cal_format.specs.Values.{Holds, IsPrinted, time_in, offset_in, IsDateOf, value_error, IsMomentOf, differing, item_contradiction, first_contradiction};
 
 use crate::date_parts::{date_of, value_error};
-use crate::determines::{shows_date, shows_offset, shows_time, shows_timestamp};
+use crate::determines::{Shown, shows_date, shows_offset, shows_time, shows_timestamp};
 use crate::error::ParseError;
 use crate::fields::Fields;
 use crate::form::scan_items;
@@ -151,13 +151,14 @@ fn moment_of(items: &[Item], fields: &Fields) -> Result<Moment, ComponentRange>
     ensures error { IfErr result (λ why. (why ≡ value_error items.now) × ((v : Moment)
         → ¬ IsMomentOf items.now (λ c. number_at c fields.now) v)) }
 {
-    match find_moment(items, fields) {
+    let shown = Shown::new(items);
+    match find_moment(&shown, fields) {
         Some(moment) => Ok(moment),
-        None => Err(value_error(items)),
+        None => Err(value_error(&shown)),
     }
 }
 
-fn find_moment(items: &[Item], fields: &Fields) -> Option<Moment>
+fn find_moment(items: &Shown, fields: &Fields) -> Option<Moment>
     requires { (c : Component) → number_at c fields.now ≤ maximum c }
     ensures every { (v : Moment) → Holds items.now v → Agrees items.now fields.now v
         → result ≡ Some v }
@@ -173,7 +174,7 @@ fn find_moment(items: &[Item], fields: &Fields) -> Option<Moment>
 }
 
 /// Returns the moment of the date and the time of day at the offset.
-fn moment_at_date(items: &[Item], fields: &Fields, offset: UtcOffset) -> Option<Moment>
+fn moment_at_date(items: &Shown, fields: &Fields, offset: UtcOffset) -> Option<Moment>
     requires most { (c : Component) → number_at c fields.now ≤ maximum c }
     requires date { IsTrue (not (shows_timestamp items.now)) }
     requires range { IsOffset offset }
@@ -193,7 +194,7 @@ fn moment_at_date(items: &[Item], fields: &Fields, offset: UtcOffset) -> Option<
 }
 
 /// Returns the moment of the Unix time at the offset.
-fn moment_at_timestamp(items: &[Item], fields: &Fields, offset: UtcOffset) -> Option<Moment>
+fn moment_at_timestamp(items: &Shown, fields: &Fields, offset: UtcOffset) -> Option<Moment>
     requires most { (c : Component) → number_at c fields.now ≤ maximum c }
     requires timestamp { IsTrue (shows_timestamp items.now) }
     requires range { IsOffset offset }
@@ -213,7 +214,7 @@ fn moment_at_timestamp(items: &[Item], fields: &Fields, offset: UtcOffset) -> Op
 }
 
 /// Returns the date of the numbers, or the first date of the range if the items determine none.
-fn date_of_numbers(items: &[Item], fields: &Fields) -> Option<Date>
+fn date_of_numbers(items: &Shown, fields: &Fields) -> Option<Date>
     requires most { (c : Component) → number_at c fields.now ≤ maximum c }
     requires date { IsTrue (not (shows_timestamp items.now)) }
     ensures every { (v : Moment) → Holds items.now v → Agrees items.now fields.now v
@@ -230,7 +231,7 @@ fn date_of_numbers(items: &[Item], fields: &Fields) -> Option<Date>
 }
 
 /// Returns the time of day of the numbers, or midnight if the items determine none.
-fn time_of_numbers(items: &[Item], fields: &Fields) -> Time
+fn time_of_numbers(items: &Shown, fields: &Fields) -> Time
     requires most { (c : Component) → number_at c fields.now ≤ maximum c }
     requires date { IsTrue (not (shows_timestamp items.now)) }
     ensures every { (v : Moment) → Holds items.now v → Agrees items.now fields.now v
@@ -247,7 +248,7 @@ fn time_of_numbers(items: &[Item], fields: &Fields) -> Time
 }
 
 /// Returns the offset of the numbers, or UTC if the items determine none.
-fn offset_of_numbers(items: &[Item], fields: &Fields) -> Option<UtcOffset>
+fn offset_of_numbers(items: &Shown, fields: &Fields) -> Option<UtcOffset>
     requires { (c : Component) → number_at c fields.now ≤ maximum c }
     ensures every { (v : Moment) → Holds items.now v → Agrees items.now fields.now v
         → result ≡ Some v.offset }

@@ -6,7 +6,7 @@ ghost use Rattle.cal_format.specs.Text.{text_of};
 ghost use Rattle.cal_format.specs.Reading.{are_apart, are_time_items, shows_time, holds_time};
 ghost use Rattle.cal_format.specs.Rejection.{IsRejection};
 
-use crate::determines::{are_apart, shows_time};
+use crate::determines::{Shown, are_apart, shows_time};
 use crate::error::ParseError;
 use crate::format::Format;
 use crate::parsing::parse_moment;
@@ -40,7 +40,10 @@ impl Format {
             × IsTrue (shows_time self) }
         ensures same { IfSome result (λ format. format ≡ self) }
     {
-        if are_apart(self.items()) && are_time_items(self.items()) && shows_time(self.items()) {
+        if are_apart(self.items())
+            && are_time_items(self.items())
+            && shows_time(&Shown::new(self.items()))
+        {
             Some(TimeFormat { format: self })
         } else {
             None

@@ -8,13 +8,13 @@ ghost use Rattle.cal_format.specs.Ranges.{maximum};
 ghost use Rattle.cal_format.specs.Scanning.{number_at, Agrees};
 ghost use Rattle.cal_format.specs.Values.{hour_in, nanosecond_in, time_in};
 
-use crate::determines::any_shows;
+use crate::determines::{Shown, any_shows};
 use crate::fields::Fields;
-use crate::item::{Component, Item};
+use crate::item::Component;
 use cal_time::Time;
 
 /// Returns the time of day with the numbers of the fields.
-pub(crate) fn time_of(items: &[Item], fields: &Fields) -> Time
+pub(crate) fn time_of(items: &Shown, fields: &Fields) -> Time
     requires { (c : Component) → number_at c fields.now ≤ maximum c }
     ensures every { (v : Moment) → IsTime v.time → Agrees items.now fields.now v
         → IsTrue (shows_time items.now) → IsTrue (holds_parts items.now v.time)
@@ -44,7 +44,7 @@ fn time_with(hour: u8, minute: u8, second: u8, nanosecond: u32) -> Time
     }
 }
 
-fn hour_of(items: &[Item], fields: &Fields) -> u8
+fn hour_of(items: &Shown, fields: &Fields) -> u8
     requires { (c : Component) → number_at c fields.now ≤ maximum c }
     ensures every { (v : Moment) → IsTime v.time → Agrees items.now fields.now v
         → IsTrue (shows_hour items.now)
@@ -61,7 +61,7 @@ fn hour_of(items: &[Item], fields: &Fields) -> u8
 }
 
 /// Returns the nanoseconds of the second.
-pub(crate) fn nanosecond_of(items: &[Item], fields: &Fields) -> u32
+pub(crate) fn nanosecond_of(items: &Shown, fields: &Fields) -> u32
     requires { (c : Component) → number_at c fields.now ≤ maximum c }
     ensures every { (v : Moment) → Agrees items.now fields.now v
         → IsTrue (holds_subsecond items.now (nanosecond_at v.time))

@@ -16,7 +16,7 @@ use Rattle.cal_format.specs.declared.item.Component.TheVariants.{IsoYear, Month,
 use Rattle.cal_format.specs.declared.item.Item.{Item}
 use Rattle.cal_format.specs.Form.{HasForm, HasNumbers}
 use Rattle.cal_format.specs.Moment.{timestamp_of}
-use Rattle.cal_format.specs.Reading.{are_apart, shows_calendar_date, shows_date, shows_iso_week_date, shows_ordinal_date, shows_timestamp}
+use Rattle.cal_format.specs.Reading.{are_apart, shows_calendar_date, shows_iso_week_date, shows_ordinal_date, shows_timestamp}
 use Rattle.cal_format.specs.Rejection.{IsContradiction, IsNumberRejection, IsRangeError, IsRejection}
 use Rattle.cal_format.specs.Values.{first_contradiction, IsDateOf, IsMomentOf, weekday_in, year_in}
 use Rattle.cal_format.proofs.Outcomes.{no-result, no-value, same-value}
