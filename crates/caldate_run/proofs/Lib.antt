@@ -30,3 +30,5 @@ pub mod SomeMeanings
 pub mod Printed
 pub mod FirstForms
 pub mod MeantWords
+mod ZoneResults
+mod SomeZones

@@ -25,3 +25,5 @@ pub mod Shown
 pub mod Spellings
 pub mod Standing
 pub mod Templates
+pub mod ZoneFaults
+pub mod Zones

@@ -19,6 +19,7 @@ use Rattle.cal_recurrence.specs.Text.{recurrence_of}
 use Rattle.cal_recurrence.specs.declared.recurrence.Recurrence.{Recurrence}
 use Rattle.caldate_run.specs.Meanings.{Meanings, found_in, is_format, name_of, value_in}
 use Rattle.caldate_run.specs.Offsets.{offset_of}
+use Rattle.caldate_run.specs.Zones.{is_zone_like, zone_of}
 use Rattle.caldate_run.specs.declared.on_invalid.OnInvalid.{OnInvalid}
 use Rattle.caldate_run.specs.declared.on_invalid.OnInvalid.TheVariants as invalid
 use Rattle.caldate_run.specs.declared.options.Options.{Options}
@@ -34,6 +35,8 @@ use Rattle.caldate_run.specs.declared.request.Form.TheVariants as form
 use Rattle.caldate_run.specs.declared.request.DayMove.TheVariants as move
 use Rattle.caldate_run.specs.declared.request.Period.{Period}
 use Rattle.caldate_run.specs.declared.request.Period.TheVariants as period
+use Rattle.caldate_run.specs.declared.request.Place.{Place}
+use Rattle.caldate_run.specs.declared.request.Place.TheVariants as place
 use Rattle.caldate_run.specs.declared.request.Pace.{Pace}
 use Rattle.caldate_run.specs.declared.request.Pace.TheVariants.{Steps, Rule}
 use Rattle.caldate_run.specs.declared.request.Step.{Step}
@@ -271,6 +274,12 @@ abbrev pub start_at : List (List ℕ) → ℕ → Result Request Senseless
 start_at words at =
     option_map_or (floor_at words (at + 1)) (option_and_then minutes_of (slice_get words at)) (only_at words at start_of wanted.StartPeriod)
 
+-- `OFFSET`, `ZONE`
+abbrev pub place_at : Meanings → List (List ℕ) → ℕ → Result Place Senseless
+place_at meanings words at =
+    if option_map_or is_zone_like (slice_get words at) false then and_then (only_at words at (zone_of meanings) wanted.Zone) (λ zone. Ok (place.Zone zone)) else
+    and_then (only_at words at offset_of wanted.Place) (λ offset. Ok (place.Offset offset))
+
 -- The verb comes first. At index 0, an option such as `--help` is allowed too.
 abbrev pub verb_wanted : ℕ → Wanted
 verb_wanted at = if at == 0 then wanted.Start else wanted.Verb
@@ -282,7 +291,7 @@ further_request_at meanings words at word =
     if bytes_eq word (codes "end") then and_then (only_at words (at + 1) period_of wanted.Period) (λ p. Ok (Move (move.End p))) else
     if bytes_eq word (codes "on-or-after") then and_then (only_at words (at + 1) weekday_of wanted.Weekday) (λ w. Ok (Move (move.OnOrAfter w))) else
     if bytes_eq word (codes "on-or-before") then and_then (only_at words (at + 1) weekday_of wanted.Weekday) (λ w. Ok (Move (move.OnOrBefore w))) else
-    if bytes_eq word (codes "at") then and_then (only_at words (at + 1) offset_of wanted.Offset) (λ o. Ok (At o)) else
+    if bytes_eq word (codes "at") then and_then (place_at meanings words (at + 1)) (λ place. Ok (At place)) else
     if bytes_eq word (codes "keep") then and_then (bounds_at meanings words (at + 1)) (λ bounds. Ok (Keep bounds)) else
     Err (senseless_at at (verb_wanted at))
 

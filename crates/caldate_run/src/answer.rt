@@ -2,7 +2,7 @@
 ghost use Rattle.std.specs.Prelude.{◌≡◌, ◌+◌, ◌≤◌, ◌++◌, ℕ, List, Some, false, true, length, MatchOption};
 ghost use Rattle.cal_datetime.specs.OffsetDateTime.{LocalAndOffset};
 ghost use Rattle.cal_text.specs.AnyForm.{date_text};
-ghost use Rattle.caldate_run.specs.Answers.{IsAnswer, IsAnswerTo, IsAt, IsBetween, IsDayLater, IsLater, IsMomentLater, IsMoved, floored, form_read, is_date, leaves_out, moment_of, on_day, until_text};
+ghost use Rattle.caldate_run.specs.Answers.{IsAnswer, IsAnswerTo, IsAt, IsBetween, IsDayLater, IsLater, IsMomentLater, IsMoved, floored, form_read, is_date, leaves_out, moment_of, offset_in, on_day, until_text};
 ghost use Rattle.caldate_run.specs.Bounds.{lies_in};
 ghost use Rattle.caldate_run.specs.Forms.{IsInForm, format_text};
 ghost use Rattle.caldate_run.specs.Replies.{reason, refused_text};
@@ -16,7 +16,7 @@ use crate::forms::{basic_text, month_text, quarter_text, unix_text};
 use crate::moves::led_to;
 use crate::no_answer::NoAnswer;
 use crate::reading::read;
-use crate::request::{Bounds, DayMove, Filter, Form, Request, TimeUnit};
+use crate::request::{Bounds, DayMove, Filter, Form, Place, Request, TimeUnit};
 use crate::signed::signed_text;
 use cal_datetime::OffsetDateTime;
 use cal_format::Format;
@@ -33,7 +33,7 @@ pub const LONGEST_TEXT: usize = 4096;
 const LONGEST_PRINTED: usize = 960;
 
 /// Appends the answer to `text`, and returns whether its line goes out.
-pub fn push_answer(buffer: &mut Buffer, filter: &Filter, text: &[u8]) -> Result<bool, NoAnswer>
+pub fn push_answer(buffer: &mut Buffer, filter: &Filter<'_>, text: &[u8]) -> Result<bool, NoAnswer>
     requires { HasRoom (length text.now + longest_answer) buffer.old }
     ensures answered { Puts (IsAnswer filter.now text.now) result buffer.old buffer.new }
     ensures short { length buffer.new ≤ length buffer.old + length text.now + longest_answer }
@@ -84,7 +84,7 @@ fn push_refusal(buffer: &mut Buffer, error: ComponentRange)
 }
 
 /// Appends the answer for the date or moment of `text`, or nothing. Returns whether it did.
-fn push_answer_to(buffer: &mut Buffer, request: &Request, text: &[u8], found: &DateOrMoment) -> bool
+fn push_answer_to(buffer: &mut Buffer, request: &Request<'_>, text: &[u8], found: &DateOrMoment) -> bool
     requires { HasRoom (length text.now + longest_answer) buffer.old }
     ensures has { result ≡ true → AppendsThat
         (IsAnswerTo request.now text.now found.now) buffer.old buffer.new }
@@ -114,7 +114,7 @@ fn push_answer_to(buffer: &mut Buffer, request: &Request, text: &[u8], found: &D
             push_between(buffer, *unit, target, found);
             true
         }
-        Request::At(offset) => push_at(buffer, *offset, moment),
+        Request::At(place) => push_at(buffer, place, moment),
         Request::Keep(bounds) => push_kept(buffer, bounds, text, found),
     }
 }
@@ -138,7 +138,7 @@ fn push_kept(buffer: &mut Buffer, bounds: &Bounds, text: &[u8], found: &DateOrMo
 }
 
 /// Returns whether a `keep` request leaves out the line of this date or moment.
-fn leaves_out(request: &Request, found: &DateOrMoment) -> bool
+fn leaves_out(request: &Request<'_>, found: &DateOrMoment) -> bool
     ensures { result ≡ leaves_out request.now found.now }
 {
     match request {
@@ -293,17 +293,27 @@ fn push_moved(buffer: &mut Buffer, by: DayMove, found: &DateOrMoment) -> bool
     }
 }
 
-/// Appends the moment at this offset, or nothing. Returns whether it has a text.
-fn push_at(buffer: &mut Buffer, offset: UtcOffset, moment: OffsetDateTime) -> bool
+/// Appends the moment in the place, or nothing. Returns whether it has a text.
+fn push_at(buffer: &mut Buffer, place: &Place<'_>, moment: OffsetDateTime) -> bool
     requires { HasRoom longest_answer buffer.old }
-    ensures has { result ≡ true → AppendsThat (IsAt offset moment) buffer.old buffer.new }
+    ensures has { result ≡ true → AppendsThat (IsAt place.now moment) buffer.old buffer.new }
     ensures none { result ≡ false → (buffer.new ≡ buffer.old)
-        × ((words : List ℕ) → ¬ IsAt offset moment words) }
+        × ((words : List ℕ) → ¬ IsAt place.now moment words) }
     ensures short { length buffer.new ≤ length buffer.old + longest_answer }
 {
-    match moment.checked_to_offset(offset) {
+    match moment.checked_to_offset(offset_in(place, moment)) {
         Some(shown) => push_in_form(buffer, Form::Moment(MomentForm::Rfc3339), shown),
         None => false,
+    }
+}
+
+/// Returns the offset of the place at the moment.
+fn offset_in(place: &Place<'_>, moment: OffsetDateTime) -> UtcOffset
+    ensures { result ≡ offset_in place.now moment }
+{
+    match place {
+        Place::Offset(offset) => *offset,
+        Place::Zone(zone) => zone.utc_offset_at(moment.unix_timestamp()),
     }
 }
 

@@ -42,3 +42,6 @@ pub mod streams;
 pub mod tally;
 pub mod unanswered;
 mod words;
+pub mod zone_fault;
+pub mod zone_source;
+pub mod zones;

@@ -5,6 +5,7 @@ use cal_format::Format;
 use cal_recurrence::Recurrence;
 use cal_text::{DateForm, DateOrMoment, MomentForm};
 use cal_time::{Date, SignedDuration, UtcOffset, Weekday};
+use cal_zone::Zone;
 
 /// A form in which a date or a moment is written.
 #[derive(Clone, Copy)]
@@ -93,9 +94,18 @@ pub enum Bounds {
     Before(DateOrMoment),
 }
 
+/// A place whose clocks show a moment.
+#[derive(Drop)]
+pub enum Place<'a> {
+    /// One with this offset from UTC.
+    Offset(UtcOffset),
+    /// One in this time zone.
+    Zone(Zone<'a>),
+}
+
 /// A request for each line.
 #[derive(Drop)]
-pub enum Request {
+pub enum Request<'a> {
     /// `to FORM`: the same date or moment in this form.
     To(Form),
     /// `to FORMAT`: the same date or moment in this format.
@@ -111,8 +121,8 @@ pub enum Request {
     Until(DateOrMoment, Option<TimeUnit>),
     /// `since TEXT [in UNIT]`: the days or the duration from TEXT, or the whole units.
     Since(DateOrMoment, Option<TimeUnit>),
-    /// `at OFFSET`: the moment at this offset.
-    At(UtcOffset),
+    /// `at OFFSET` or `at ZONE`: the moment at this offset, or at the offset of the zone.
+    At(Place<'a>),
     /// `keep BOUNDS`: the line itself if it lies within the bounds, otherwise nothing.
     Keep(Bounds),
 }
@@ -141,8 +151,8 @@ pub struct Field {
 
 /// A request with its options.
 #[derive(Drop)]
-pub struct Filter {
-    pub request: Request,
+pub struct Filter<'a> {
+    pub request: Request<'a>,
     /// The forms that a line is read in.
     pub readers: Readers,
     /// The offset of a text that has none.
@@ -197,15 +207,15 @@ pub enum Pace {
 
 /// A command of the program.
 #[derive(Drop)]
-pub enum Asked {
+pub enum Asked<'a> {
     /// `--help`, `-h` or `help`: the help page.
     Help,
     /// `--version`: the version.
     Version,
     /// A request for the lines of the input.
-    Lines(Filter),
+    Lines(Filter<'a>),
     /// `--date TEXT` and a request: for the second argument instead of an input.
-    Once(Filter),
+    Once(Filter<'a>),
     /// `list from A to B [by N UNIT]`: the dates from A to B.
     Dates(Listing),
     /// `list from A to B by RULE`: the dates of the recurrence.

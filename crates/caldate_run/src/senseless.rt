@@ -53,6 +53,10 @@ pub enum Wanted {
     Minutes,
     /// An offset from UTC, such as `+01:00`.
     Offset,
+    /// An offset from UTC or a zone. The word is not the name of a zone.
+    Place,
+    /// The name of a zone that can be read, such as `Europe/Berlin`.
+    Zone,
     /// `from`, `after` or `before`.
     Bounds,
     /// `in`, or no word.
