@@ -10,3 +10,4 @@ pub mod Moments
 pub mod Errors
 pub mod OneError
 pub mod Counts
+pub mod OneLocal

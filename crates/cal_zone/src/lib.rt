@@ -9,6 +9,7 @@ mod change_error;
 mod conversions;
 mod gap;
 mod instants;
+pub mod laws;
 mod layout;
 mod local;
 mod local_type;

@@ -32,3 +32,4 @@ pub mod FirstForms
 pub mod MeantWords
 mod ZoneResults
 mod SomeZones
+mod OneMoment

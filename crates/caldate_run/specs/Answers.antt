@@ -1,5 +1,5 @@
 -- The answer to the text of a line.
-use Rattle.std.specs.Prelude.{◌≡◌, ℕ, ◌+◌, ◌-◌, ◌*◌, ◌%◌, max, ◌&&◌, Bool, true, false, not, ℤ, pos, ◌+ℤ◌, ◌-ℤ◌, List, Option, Some, None, Result, Ok, Err, if◌then◌else◌}
+use Rattle.std.specs.Prelude.{◌≡◌, ◌⊎◌, ℕ, ◌+◌, ◌-◌, ◌*◌, ◌%◌, max, ◌&&◌, Bool, true, false, not, ℤ, pos, ◌+ℤ◌, ◌-ℤ◌, List, Option, Some, None, Result, Ok, Err, if◌then◌else◌}
 use Rattle.std.specs.Fmt.{signed_decimal}
 use Rattle.std.specs.Option.{option_map_or}
 use Rattle.cal_time.specs.Date.{IsDate, julian_day_at}
@@ -12,6 +12,7 @@ use Rattle.cal_text.specs.declared.any.DateOrMoment.{DateOrMoment}
 use Rattle.cal_text.specs.declared.any.DateOrMoment.TheVariants as read
 use Rattle.cal_text.specs.declared.any.MomentForm.TheVariants.{Rfc3339}
 use Rattle.cal_zone.specs.Timeline.{offset_at}
+use Rattle.caldate_run.specs.Clocks.{IsPlaced}
 use Rattle.caldate_run.specs.Counts.{IsCount}
 use Rattle.caldate_run.specs.Bounds.{lies_in}
 use Rattle.caldate_run.specs.Forms.{IsInForm, format_text}
@@ -109,12 +110,18 @@ Answer = Result (Option (List ℕ)) NoAnswer
 abbrev pub HasNone : Request → List ℕ → DateOrMoment → Type 0
 HasNone request text found = (leaves_out request found ≡ false) × ((words : List ℕ) → ¬ IsAnswerTo request text found words)
 
--- The text is read, as this date or moment.
+-- The text is read, as this date or moment. With a clock, its local time is a reading of the clock.
 abbrev pub IsReadAs : Filter → List ℕ → DateOrMoment → Type 0
-IsReadAs filter text found = IsFoundBy filter.offset filter.readers text found
+IsReadAs filter text found =
+    (first : DateOrMoment) × IsFoundBy filter.offset filter.readers text first × IsPlaced filter.clock first (Ok found)
+
+-- The text is in none of the forms, or its local time is not that of one moment.
+abbrev pub IsNotRead : Filter → List ℕ → NoAnswer → Type 0
+IsNotRead filter text any = IsUnread filter.offset filter.readers text any
+    ⊎ ((first : DateOrMoment) × IsFoundBy filter.offset filter.readers text first × IsPlaced filter.clock first (Err any))
 
 abbrev pub IsAnswer : Filter → List ℕ → Answer → Type 0
 IsAnswer filter text (Ok (Some words)) = (found : DateOrMoment) × IsReadAs filter text found × IsAnswerTo filter.request text found words
 IsAnswer filter text (Ok None) = (found : DateOrMoment) × IsReadAs filter text found × (leaves_out filter.request found ≡ true)
 IsAnswer filter text (Err why.None) = (found : DateOrMoment) × IsReadAs filter text found × HasNone filter.request text found
-IsAnswer filter text (Err other) = IsUnread filter.offset filter.readers text other
+IsAnswer filter text (Err other) = IsNotRead filter text other

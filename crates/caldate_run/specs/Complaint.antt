@@ -29,7 +29,11 @@ error_phrase wanted.FieldNumber = codes "invalid field number"
 error_phrase wanted.Separator = codes "invalid separator"
 error_phrase wanted.Skip = codes "invalid number of lines"
 error_phrase wanted.Reading = codes "unknown input form"
-error_phrase wanted.Assume = codes "a form without an offset requires --assume"
+error_phrase wanted.Assume = codes "a form without an offset requires --assume or --zone"
+error_phrase wanted.ZoneOption = codes "--ambiguous requires --zone"
+error_phrase wanted.OffsetOrZone = codes "--assume can't be used with --zone"
+error_phrase wanted.LocalOnly = codes "--zone requires --read of forms without an offset only"
+error_phrase wanted.Policy = codes "unknown policy"
 error_phrase wanted.Local = codes "--assume requires --read of a form without an offset"
 error_phrase wanted.Form = codes "unknown form"
 error_phrase wanted.Number = codes "invalid number"
@@ -70,6 +74,7 @@ missing_noun wanted.Target = codes "date or moment"
 missing_noun wanted.Period = codes "period"
 missing_noun wanted.StartPeriod = codes "period"
 missing_noun wanted.Minutes = codes "unit"
+missing_noun wanted.Policy = codes "policy"
 missing_noun wanted.Offset = codes "offset"
 missing_noun wanted.Place = codes "offset or zone"
 missing_noun wanted.Zone = codes "zone"
@@ -82,7 +87,7 @@ missing_noun what = codes "argument"
 
 -- the expected words, if the message needs them
 abbrev pub expected_phrase : Wanted → List ℕ
-expected_phrase wanted.Start = codes "; expected to, add, next, last, until, since, start, end, on-or-after, on-or-before, at, keep, list, --date, --invalid, --field, --csv, --separator, --skip, --read, --assume, --help or --version"
+expected_phrase wanted.Start = codes "; expected to, add, next, last, until, since, start, end, on-or-after, on-or-before, at, keep, list, --date, --invalid, --field, --csv, --separator, --skip, --read, --assume, --zone, --ambiguous, --help or --version"
 expected_phrase wanted.Verb = codes "; expected to, add, next, last, until, since, start, end, on-or-after, on-or-before, at, keep or another option"
 expected_phrase wanted.Invalid = codes "; expected keep, answer, drop or stop"
 expected_phrase wanted.FieldNumber = codes "; expected an integer from 1 to 65535, or two such as 1-2"
@@ -99,6 +104,7 @@ expected_phrase wanted.Target = codes "; expected one such as 2024-02-29 or 2024
 expected_phrase wanted.Period = codes "; expected week, month, quarter or year"
 expected_phrase wanted.StartPeriod = codes "; expected week, month, quarter, year, day, hour, minute or N minutes"
 expected_phrase wanted.Minutes = codes "; expected minutes"
+expected_phrase wanted.Policy = codes "; expected compatible, earlier, later or reject"
 expected_phrase wanted.Offset = codes "; expected one such as +01:00, -05:30 or Z"
 expected_phrase wanted.Place = codes "; expected one such as +01:00, -05:30, Z or Europe/Berlin"
 expected_phrase wanted.Bounds = codes "; expected from, after or before"
@@ -117,6 +123,9 @@ names_word wanted.Field = false
 names_word wanted.CsvField = false
 names_word wanted.CsvSeparator = false
 names_word wanted.Assume = false
+names_word wanted.ZoneOption = false
+names_word wanted.OffsetOrZone = false
+names_word wanted.LocalOnly = false
 names_word wanted.Local = false
 names_word what = true
 

@@ -1,6 +1,7 @@
 pub mod Answers
 pub mod Bounds
 pub mod Calls
+pub mod Clocks
 pub mod Complaint
 pub mod Counts
 pub mod Ending

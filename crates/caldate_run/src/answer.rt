@@ -1,16 +1,19 @@
 //! The answer to the text of a line.
-ghost use Rattle.std.specs.Prelude.{◌≡◌, ◌+◌, ◌≤◌, ◌++◌, ℕ, List, Some, false, true, length, MatchOption};
+ghost use Rattle.std.specs.Prelude.{◌≡◌, ◌+◌, ◌≤◌, ◌++◌, ℕ, List, Some, Ok, Err, IfOk, IfErr, false, true, length, MatchOption};
 ghost use Rattle.cal_datetime.specs.OffsetDateTime.{LocalAndOffset};
 ghost use Rattle.cal_text.specs.AnyForm.{date_text};
-ghost use Rattle.caldate_run.specs.Answers.{IsAnswer, IsAnswerTo, IsAt, IsBetween, IsDayLater, IsLater, IsMomentLater, IsMoved, floored, form_read, is_date, leaves_out, moment_of, offset_in, on_day, until_text};
+ghost use Rattle.cal_text.specs.declared.any.DateOrMoment.{DateOrMoment};
+ghost use Rattle.caldate_run.specs.Answers.{IsAnswer, IsAnswerTo, IsAt, IsBetween, IsDayLater, IsLater, IsMomentLater, IsMoved, IsNotRead, IsReadAs, floored, form_read, is_date, leaves_out, moment_of, offset_in, on_day, until_text};
 ghost use Rattle.caldate_run.specs.Bounds.{lies_in};
 ghost use Rattle.caldate_run.specs.Forms.{IsInForm, format_text};
 ghost use Rattle.caldate_run.specs.Replies.{reason, refused_text};
 ghost use Rattle.caldate_run.specs.Room.{HasRoom, longest_answer};
 ghost use Rattle.caldate_run.specs.Runs.{AppendsThat, Puts};
+ghost use Rattle.caldate_run.specs.declared.no_answer.NoAnswer.{NoAnswer};
 
 use crate::bounds::lies_in;
 use crate::buffer::Buffer;
+use crate::clock::placed;
 use crate::counts::count_between;
 use crate::forms::{basic_text, month_text, quarter_text, unix_text};
 use crate::moves::led_to;
@@ -38,7 +41,7 @@ pub fn push_answer(buffer: &mut Buffer, filter: &Filter<'_>, text: &[u8]) -> Res
     ensures answered { Puts (IsAnswer filter.now text.now) result buffer.old buffer.new }
     ensures short { length buffer.new ≤ length buffer.old + length text.now + longest_answer }
 {
-    let found = match read(filter.readers.as_slice(), filter.offset, text) {
+    let found = match read_with(filter, text) {
         Ok(found) => found,
         Err(why) => return Err(why),
     };
@@ -48,6 +51,22 @@ pub fn push_answer(buffer: &mut Buffer, filter: &Filter<'_>, text: &[u8]) -> Res
         Ok(false)
     } else {
         Err(NoAnswer::None)
+    }
+}
+
+/// Parses the text in the first form that it has, and a local time by the clocks of the zone.
+#[inline(always)]
+pub fn read_with(filter: &Filter<'_>, text: &[u8]) -> Result<DateOrMoment, NoAnswer>
+    ensures every { (found : DateOrMoment) → IsReadAs filter.now text.now found
+        → result ≡ Ok found }
+    ensures has { IfOk result (IsReadAs filter.now text.now) }
+    ensures every_error { (why : NoAnswer) → IsNotRead filter.now text.now why
+        → result ≡ Err why }
+    ensures error { IfErr result (IsNotRead filter.now text.now) }
+{
+    match read(filter.readers.as_slice(), filter.offset, text) {
+        Ok(found) => placed(&filter.clock, found),
+        Err(why) => Err(why),
     }
 }
 
@@ -62,6 +81,8 @@ pub fn push_reason(buffer: &mut Buffer, why: NoAnswer)
         NoAnswer::NoField => buffer.push(b"no such field"),
         NoAnswer::NoForm => buffer.push(b"in no form of --read"),
         NoAnswer::None => buffer.push(b"none"),
+        NoAnswer::Skipped => buffer.push(b"skipped time"),
+        NoAnswer::Repeated => buffer.push(b"repeated time"),
         NoAnswer::Rejected(component) => push_refusal(buffer, component),
         NoAnswer::Unreadable(position) => {
             buffer.push(b"unreadable at ");

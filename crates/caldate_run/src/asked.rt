@@ -4,7 +4,7 @@ ghost use Rattle.caldate_run.specs.Lists.{IsAsked};
 ghost use Rattle.caldate_run.specs.Offsets.{offset_of};
 ghost use Rattle.caldate_run.specs.Meanings.{AreMeanings, Meanings};
 ghost use Rattle.caldate_run.specs.Zones.{AreZones};
-ghost use Rattle.caldate_run.specs.Requests.{amount_at, amount_of, arguments_of, asked_of, count_at, default_mode, duration_of, filter_at, filter_of, floor_at, further_request_at, in_unit_at, occurrence_at, once_of, only_at, place_at, request_at, start_at, target_at, to_of, unit_at, verb_wanted, weekday_of, words_left};
+ghost use Rattle.caldate_run.specs.Requests.{amount_at, amount_of, arguments_of, asked_of, clock_of, count_at, default_mode, duration_of, filter_at, filter_of, floor_at, further_request_at, in_unit_at, occurrence_at, once_of, only_at, place_at, request_at, start_at, target_at, to_of, unit_at, verb_wanted, weekday_of, words_left};
 
 use crate::bounds::bounds_at;
 use crate::formats::to_of;
@@ -12,7 +12,7 @@ use crate::listing::list_of;
 use crate::offset::offset_of;
 use crate::on_invalid::OnInvalid;
 use crate::options::{Options, field_of, lacking, options_of, readers_in};
-use crate::request::{Asked, DayMove, FieldNumbers, Filter, Place, Request, TimeUnit};
+use crate::request::{Asked, Clock, DayMove, FieldNumbers, Filter, Place, Policy, Request, TimeUnit};
 use crate::senseless::{Senseless, Wanted, senseless_at};
 use crate::spelling::{
     asks_for_help, count_of, minutes_of, minutes_word, number_of, period_of, start_of, unit_of,
@@ -22,6 +22,7 @@ use crate::words::{cut, ended, ends_at, found_at, keyword_at, only_at, word_as, 
 use crate::zones::{ZoneFiles, is_zone_like, zone_of};
 use cal_text::DateOrMoment;
 use cal_time::{SignedDuration, UtcOffset, Weekday};
+use cal_zone::Zone;
 
 /// Parses arguments with zero bytes between them, or returns the first invalid or missing word. In
 /// `add 1 fortnight` the word at index 2 is not a unit.
@@ -77,7 +78,7 @@ fn filter_at<'a>(
     ensures { (meanings : Meanings) → AreMeanings meanings (arguments_of words.now)
         → AreZones files.now meanings → result ≡ filter_at meanings (arguments_of words.now) at }
 {
-    let (options, at) = options_of(rest, at)?;
+    let (options, at) = options_of(rest, at, files)?;
     if let Some(wanted) = lacking(&options) {
         return Err(senseless_at(at, wanted));
     }
@@ -85,7 +86,7 @@ fn filter_at<'a>(
     Ok(filter_of(options, request))
 }
 
-fn filter_of<'a>(options: Options, request: Request<'a>) -> Filter<'a>
+fn filter_of<'a>(options: Options<'a>, request: Request<'a>) -> Filter<'a>
     ensures { result ≡ filter_of options request }
 {
     Filter {
@@ -98,6 +99,20 @@ fn filter_of<'a>(options: Options, request: Request<'a>) -> Filter<'a>
         skip: options.skip.unwrap_or(0),
         offset: options.offset.unwrap_or(UtcOffset::UTC),
         readers: readers_in(options.readers),
+        clock: clock_of(options.zone, options.policy),
+    }
+}
+
+/// Returns the clocks of the zone. The default policy is `compatible`.
+fn clock_of<'a>(zone: Option<Zone<'a>>, policy: Option<Policy>) -> Option<Clock<'a>>
+    ensures { result ≡ clock_of zone policy }
+{
+    match zone {
+        Some(zone) => Some(Clock {
+            zone,
+            policy: policy.unwrap_or(Policy::Compatible),
+        }),
+        None => None,
     }
 }
 

@@ -26,7 +26,7 @@ pub const TOO_LONG: &[u8] = b"caldate: arguments too long; expected at most 4096
 
 /// The commands and options for the first argument.
 const COMMANDS: &[u8] =
-    b"; expected to, add, next, last, until, since, start, end, on-or-after, on-or-before, at, keep, list, --date, --invalid, --field, --csv, --separator, --skip, --read, --assume, --help or --version";
+    b"; expected to, add, next, last, until, since, start, end, on-or-after, on-or-before, at, keep, list, --date, --invalid, --field, --csv, --separator, --skip, --read, --assume, --zone, --ambiguous, --help or --version";
 
 /// The commands after an option.
 const LINE_COMMANDS: &[u8] =
@@ -111,7 +111,7 @@ fn push_problem(
     requires { length line.old ≤ 9 }
     ensures text { (meanings : Meanings) → AreZones files.now meanings → line.new ≡ line.old
         ++ problem meanings files.now.folder.now (arguments_of arguments.now) senseless }
-    ensures short { length line.new ≤ 800 }
+    ensures short { length line.new ≤ 1_000 }
 {
     if !names_word(senseless.wanted) {
         line.push(error_phrase(senseless.wanted));
@@ -128,7 +128,7 @@ fn push_on_word(line: &mut Buffer, files: &ZoneFiles<'_>, wanted: Wanted, word: 
     requires { length line.old ≤ 9 }
     ensures text { (meanings : Meanings) → AreZones files.now meanings
         → line.new ≡ line.old ++ on_word meanings files.now.folder.now wanted word.now }
-    ensures short { length line.new ≤ 800 }
+    ensures short { length line.new ≤ 1_000 }
 {
     if is_duplicate(wanted, word) {
         line.push(b"duplicate ");
@@ -148,7 +148,7 @@ fn push_on_word(line: &mut Buffer, files: &ZoneFiles<'_>, wanted: Wanted, word: 
 fn push_on_missing(line: &mut Buffer, arguments: &[u8], senseless: Senseless)
     requires { length line.old ≤ 9 }
     ensures text { line.new ≡ line.old ++ on_missing (arguments_of arguments.now) senseless }
-    ensures short { length line.new ≤ 800 }
+    ensures short { length line.new ≤ 1_000 }
 {
     line.push(b"missing ");
     line.push(missing_noun(senseless.wanted));
@@ -185,7 +185,7 @@ fn push_quoted(line: &mut Buffer, word: &[u8])
 
 /// Appends the error in a word that ought to be a rule.
 fn push_rule_error(line: &mut Buffer, wanted: Wanted, word: &[u8])
-    requires { length line.old ≤ 400 }
+    requires { length line.old ≤ 500 }
     ensures text { line.new ≡ line.old ++ rule_error_in wanted word.now }
     ensures short { length line.new ≤ length line.old + 68 }
 {
@@ -196,7 +196,7 @@ fn push_rule_error(line: &mut Buffer, wanted: Wanted, word: &[u8])
 
 /// Appends the error in a rule and its position: `: invalid value of FREQ at 0`.
 fn push_error_in_rule(line: &mut Buffer, word: &[u8])
-    requires { length line.old ≤ 400 }
+    requires { length line.old ≤ 500 }
     ensures text { line.new ≡ line.old ++ rule_error (recurrence_of word.now) }
     ensures short { length line.new ≤ length line.old + 68 }
 {
@@ -210,7 +210,7 @@ fn push_error_in_rule(line: &mut Buffer, word: &[u8])
 
 /// Appends the error in a word that ought to be the name of a zone.
 fn push_zone_error(line: &mut Buffer, files: &ZoneFiles<'_>, wanted: Wanted, word: &[u8])
-    requires { length line.old ≤ 450 }
+    requires { length line.old ≤ 600 }
     ensures text { (meanings : Meanings) → AreZones files.now meanings
         → line.new ≡ line.old ++ zone_error_in meanings files.now.folder.now wanted word.now }
     ensures short { length line.new ≤ length line.old + 250 }
@@ -227,7 +227,7 @@ fn push_zone_error(line: &mut Buffer, files: &ZoneFiles<'_>, wanted: Wanted, wor
 
 /// Appends the file of a zone and its error: `: /usr/share/zoneinfo/Europe/Berln: not found`.
 fn push_error_of(line: &mut Buffer, files: &ZoneFiles<'_>, name: &[u8])
-    requires { length line.old ≤ 450 }
+    requires { length line.old ≤ 600 }
     ensures text { (meanings : Meanings) → AreZones files.now meanings → line.new
         ≡ line.old ++ zone_error files.now.folder.now name.now (meanings name.now).zone }
     ensures short { length line.new ≤ length line.old + 250 }
@@ -244,7 +244,7 @@ fn push_error_of(line: &mut Buffer, files: &ZoneFiles<'_>, name: &[u8])
 
 /// Appends a hint if a word too many looks like a file.
 fn push_file_hint(line: &mut Buffer, wanted: Wanted, word: &[u8])
-    requires { length line.old ≤ 720 }
+    requires { length line.old ≤ 850 }
     ensures text { line.new ≡ line.old ++ file_hint wanted word.now }
     ensures short { length line.new ≤ length line.old + 50 }
 {
@@ -272,7 +272,8 @@ fn names_word(wanted: Wanted) -> bool
 {
     match wanted {
         Wanted::Something | Wanted::Field | Wanted::CsvField | Wanted::CsvSeparator => false,
-        Wanted::Assume | Wanted::Local => false,
+        Wanted::Assume | Wanted::Local | Wanted::ZoneOption => false,
+        Wanted::OffsetOrZone | Wanted::LocalOnly => false,
         _ => true,
     }
 }
@@ -300,7 +301,11 @@ fn error_phrase(wanted: Wanted) -> &'static [u8]
         Wanted::Separator => b"invalid separator".as_slice(),
         Wanted::Skip => b"invalid number of lines".as_slice(),
         Wanted::Reading => b"unknown input form".as_slice(),
-        Wanted::Assume => b"a form without an offset requires --assume".as_slice(),
+        Wanted::Assume => b"a form without an offset requires --assume or --zone".as_slice(),
+        Wanted::ZoneOption => b"--ambiguous requires --zone".as_slice(),
+        Wanted::OffsetOrZone => b"--assume can't be used with --zone".as_slice(),
+        Wanted::LocalOnly => b"--zone requires --read of forms without an offset only".as_slice(),
+        Wanted::Policy => b"unknown policy".as_slice(),
         Wanted::Local => b"--assume requires --read of a form without an offset".as_slice(),
         Wanted::Form => b"unknown form".as_slice(),
         Wanted::Number => b"invalid number".as_slice(),
@@ -344,6 +349,7 @@ fn missing_noun(wanted: Wanted) -> &'static [u8]
         Wanted::Count => b"count".as_slice(),
         Wanted::Target => b"date or moment".as_slice(),
         Wanted::Period | Wanted::StartPeriod => b"period".as_slice(),
+        Wanted::Policy => b"policy".as_slice(),
         Wanted::Offset => b"offset".as_slice(),
         Wanted::Place => b"offset or zone".as_slice(),
         Wanted::Zone => b"zone".as_slice(),
@@ -358,7 +364,7 @@ fn missing_noun(wanted: Wanted) -> &'static [u8]
 /// Returns the expected words, or nothing if the message needs none.
 fn expected_phrase(wanted: Wanted) -> &'static [u8]
     ensures words { result.now ≡ expected_phrase wanted }
-    ensures short { length result.now ≤ 200 }
+    ensures short { length result.now ≤ 300 }
 {
     match wanted {
         Wanted::Start => COMMANDS,
@@ -379,6 +385,7 @@ fn expected_phrase(wanted: Wanted) -> &'static [u8]
         Wanted::Period => b"; expected week, month, quarter or year".as_slice(),
         Wanted::StartPeriod => STARTS,
         Wanted::Minutes => b"; expected minutes".as_slice(),
+        Wanted::Policy => b"; expected compatible, earlier, later or reject".as_slice(),
         Wanted::Offset => b"; expected one such as +01:00, -05:30 or Z".as_slice(),
         Wanted::Place => b"; expected one such as +01:00, -05:30, Z or Europe/Berlin".as_slice(),
         Wanted::Bounds => b"; expected from, after or before".as_slice(),

@@ -11,12 +11,12 @@ ghost use Rattle.caldate_run.specs.Requests.{arguments_of};
 ghost use Rattle.caldate_run.specs.Zones.{AreZones};
 ghost use Rattle.caldate_run.specs.declared.tally.Tally.{Tally};
 
+use crate::answer::read_with;
 use crate::fields::asked_text;
 use crate::formats::format_of;
 use crate::lines::cut_return;
 use crate::no_answer::NoAnswer;
 use crate::options::cut_value;
-use crate::reading::read;
 use crate::request::Filter;
 use crate::words::cut;
 use crate::zones::{ZoneFiles, zone_in};
@@ -27,7 +27,7 @@ pub fn one_answer(filter: &Filter<'_>, text: &[u8]) -> Result<DateOrMoment, NoAn
     ensures { (answer other : Answer) → IsAnswer filter.now text.now answer
         → IsAnswer filter.now text.now other → answer ≡ other }
 {
-    read(filter.readers.as_slice(), filter.offset, text)
+    read_with(filter, text)
 }
 
 /// Proves that no line has two replies.
@@ -38,7 +38,7 @@ pub fn one_reply(filter: &Filter<'_>, line: &[u8]) -> Option<Result<DateOrMoment
 {
     let (text, _has_return) = cut_return(line);
     let asked = asked_text(filter.field, text)?;
-    Some(read(filter.readers.as_slice(), filter.offset, asked))
+    Some(read_with(filter, asked))
 }
 
 /// Proves that the fields of a record of RFC 4180 on one line are split at its separators, which

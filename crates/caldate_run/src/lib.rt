@@ -7,6 +7,7 @@ pub mod arguments;
 pub mod asked;
 mod bounds;
 mod buffer;
+mod clock;
 mod complaint;
 mod counts;
 pub mod ending;

@@ -103,6 +103,27 @@ pub enum Place<'a> {
     Zone(Zone<'a>),
 }
 
+/// A way to choose one moment if clocks skip a local time or show it twice. The names are those of
+/// Temporal.
+#[derive(Clone, Copy)]
+pub enum Policy {
+    /// The time moved forward by what the clocks skip, or the first of two.
+    Compatible,
+    /// The time moved back by what the clocks skip, or the first of two.
+    Earlier,
+    /// The time moved forward by what the clocks skip, or the second of two.
+    Later,
+    /// No moment.
+    Reject,
+}
+
+/// The clocks of a zone, which give a local time its moment.
+#[derive(Drop)]
+pub struct Clock<'a> {
+    pub zone: Zone<'a>,
+    pub policy: Policy,
+}
+
 /// A request for each line.
 #[derive(Drop)]
 pub enum Request<'a> {
@@ -157,6 +178,8 @@ pub struct Filter<'a> {
     pub readers: Readers,
     /// The offset of a text that has none.
     pub offset: UtcOffset,
+    /// The clocks that a text without an offset is read on instead, if a zone is given.
+    pub clock: Option<Clock<'a>>,
     /// What is written for a line without an answer.
     pub on_invalid: OnInvalid,
     /// The field to answer, or `None` for the whole line.

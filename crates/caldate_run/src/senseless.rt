@@ -31,6 +31,14 @@ pub enum Wanted {
     Assume,
     /// `--read local`, which `--assume` requires.
     Local,
+    /// `--zone`, which `--ambiguous` requires.
+    ZoneOption,
+    /// Only one of `--assume` and `--zone`.
+    OffsetOrZone,
+    /// Only forms without an offset, which `--zone` requires.
+    LocalOnly,
+    /// A policy of `--ambiguous`, such as `earlier`.
+    Policy,
     /// A form, such as `week`.
     Form,
     /// A number.
