@@ -55,21 +55,23 @@ index_of zone order L a b f gap (suc m) within below above =
     let here : offset_at zone a ≡ after zone (suc m) = offset_from-count zone.first zone.changes a (suc m) (λ k less inside. below k less) above in
     by_lt_z (at zone.changes m) a
     (λ less.
-        let past : offset_at zone (a -ℤ pos 1) ≡ after zone (suc m) = offset_from-count zone.first zone.changes (a -ℤ pos 1) (suc m)
-        (λ k low inside. one_less (at zone.changes k) (at zone.changes m) a (at_rises zone order k m (omega (arith, low)) (omega (arith, within))) less)
-        (λ k more inside. less_one a (at zone.changes k) (above k more inside)) in
-        absurd (no_gap L a b f (sym gap.before_is ∙ past ∙ sym here ∙ gap.after_is) gap.starts gap.ends))
+    let past : offset_at zone (a -ℤ pos 1) ≡ after zone (suc m) = offset_from-count zone.first zone.changes (a -ℤ pos 1) (suc m)
+    (λ k low inside. one_less (at zone.changes k) (at zone.changes m) a (at_rises zone order k m (omega (arith, low)) (omega (arith, within))) less)
+    (λ k more inside. less_one a (at zone.changes k) (above k more inside)) in
+    absurd (no_gap L a b f (sym gap.before_is ∙ past ∙ sym here ∙ gap.after_is) gap.starts gap.ends))
     (λ not_less.
-        let same : a ≡ at zone.changes m = both_ways (at zone.changes m) a (below m (omega arith)) not_less in
-        let before : offset_at zone (a -ℤ pos 1) ≡ after zone m = subst (λ (i : ℤ). offset_at zone (i -ℤ pos 1) ≡ after zone m) (sym same) (just_before zone order m (omega (arith, within))) in
-        (m, record {
-          inside = omega (arith, within);
-          at_is = same;
-          before_is = sym gap.before_is ∙ before;
-          after_is = sym gap.after_is ∙ here;
-          starts = gap.starts;
-          ends = gap.ends;
-        }))
+    let same : a ≡ at zone.changes m = both_ways (at zone.changes m) a (below m (omega arith)) not_less in
+    let before : offset_at zone (a -ℤ pos 1) ≡ after zone m = subst (λ (i : ℤ). offset_at zone (i -ℤ pos 1) ≡ after zone m) (sym same) (just_before zone order m (omega (arith, within))) in (
+      m,
+      record {
+        inside = omega (arith, within);
+        at_is = same;
+        before_is = sym gap.before_is ∙ before;
+        after_is = sym gap.after_is ∙ here;
+        starts = gap.starts;
+        ends = gap.ends;
+      },
+    ))
 
 gap_index : (zone : Timeline) → IsOrdered zone.first.offset zone.changes → (L a b f : ℤ) → IsGap zone L a b f → (k : ℕ) × IsGapOf zone L a b f k
 gap_index zone order L a b f gap =

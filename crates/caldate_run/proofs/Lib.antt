@@ -33,3 +33,4 @@ pub mod MeantWords
 mod ZoneResults
 mod SomeZones
 mod OneMoment
+mod ReadWith

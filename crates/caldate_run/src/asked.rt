@@ -1,9 +1,10 @@
 //! The command that the arguments give.
-ghost use Rattle.std.specs.Prelude.{◌≡◌, ◌+◌, ◌<◌, ◌^◌, ◌≤◌, ℕ, List, Option, IfOk, drop};
+ghost use Rattle.std.specs.Prelude.{◌≡◌, ◌+◌, ◌<◌, ◌^◌, ◌≤◌, ℕ, List, Option, IfOk, drop, false, slice_get};
 ghost use Rattle.caldate_run.specs.Lists.{IsAsked};
 ghost use Rattle.caldate_run.specs.Offsets.{offset_of};
 ghost use Rattle.caldate_run.specs.Meanings.{AreMeanings, Meanings};
-ghost use Rattle.caldate_run.specs.Zones.{AreZones};
+ghost use Rattle.caldate_run.specs.Zones.{AreZones, is_zone_like, zone_of};
+ghost use Rattle.std.specs.Option.{option_map_or};
 ghost use Rattle.caldate_run.specs.Requests.{amount_at, amount_of, arguments_of, asked_of, clock_of, count_at, default_mode, duration_of, filter_at, filter_of, floor_at, further_request_at, in_unit_at, occurrence_at, once_of, only_at, place_at, request_at, start_at, target_at, to_of, unit_at, verb_wanted, weekday_of, words_left};
 
 use crate::bounds::bounds_at;
@@ -87,7 +88,7 @@ fn filter_at<'a>(
 }
 
 fn filter_of<'a>(options: Options<'a>, request: Request<'a>) -> Filter<'a>
-    ensures { result ≡ filter_of options request }
+    ensures { result ≡ filter_of options.entry request.entry }
 {
     Filter {
         on_invalid: match options.on_invalid {
@@ -105,7 +106,7 @@ fn filter_of<'a>(options: Options<'a>, request: Request<'a>) -> Filter<'a>
 
 /// Returns the clocks of the zone. The default policy is `compatible`.
 fn clock_of<'a>(zone: Option<Zone<'a>>, policy: Option<Policy>) -> Option<Clock<'a>>
-    ensures { result ≡ clock_of zone policy }
+    ensures { result ≡ clock_of zone.entry policy }
 {
     match zone {
         Some(zone) => Some(Clock {
@@ -241,12 +242,40 @@ fn place_at<'a>(
     ensures { (meanings : Meanings) → AreZones files.now meanings
         → result ≡ place_at meanings (arguments_of words.now) at }
 {
+    if names_zone(words, at) {
+        return Ok(Place::Zone(zone_at(words, at, files)?));
+    }
+    let offset = only_at(words, at, offset_of, Wanted::Place)?;
+    Ok(Place::Offset(offset))
+}
+
+/// Returns whether the word is read as the name of a zone.
+fn names_zone(words: &[u8], at: usize) -> bool
+    ensures { result ≡ option_map_or is_zone_like (slice_get (arguments_of words.now) at) false }
+{
     match word_at(words, at) {
-        Some(word) if is_zone_like(word) => match zone_of(files, word) {
-            Some(zone) => ended(words, at + 1, Place::Zone(zone)),
-            None => Err(senseless_at(at, Wanted::Zone)),
-        },
-        _ => Ok(Place::Offset(only_at(words, at, offset_of, Wanted::Place)?)),
+        Some(word) => is_zone_like(word),
+        None => false,
+    }
+}
+
+/// Parses `ZONE`.
+fn zone_at<'a>(
+    words: &[u8],
+    at: usize,
+    files: &ZoneFiles<'a>,
+) -> Result<Zone<'a>, Senseless>
+    requires { at + 1 < 2 ^ 64 }
+    ensures { (meanings : Meanings) → AreZones files.now meanings
+        → result ≡ only_at (arguments_of words.now) at (zone_of meanings) Wanted.Zone }
+{
+    let senseless = senseless_at(at, Wanted::Zone);
+    let Some(word) = word_at(words, at) else {
+        return Err(senseless);
+    };
+    match zone_of(files, word) {
+        Some(zone) => ended(words, at + 1, zone),
+        None => Err(senseless),
     }
 }
 

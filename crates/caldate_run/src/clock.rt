@@ -38,9 +38,11 @@ fn on_clock(
 {
     one_local(&clock.zone);
     let local = clock.zone.resolve(moment.local());
-    match by_policy(clock.policy, local) {
+    let why = why_none(&local);
+    let policy = clock.policy;
+    match by_policy(policy, local) {
         Some(moment) => Ok(DateOrMoment::Moment(form, moment)),
-        None => Err(why_none(local)),
+        None => Err(why),
     }
 }
 
@@ -55,8 +57,8 @@ fn by_policy(policy: Policy, local: Local) -> Option<OffsetDateTime>
     }
 }
 
-fn why_none(local: Local) -> NoAnswer
-    ensures { result ≡ why_none local }
+fn why_none(local: &Local) -> NoAnswer
+    ensures { result ≡ why_none local.now }
 {
     match local {
         Local::Fold { .. } => NoAnswer::Repeated,

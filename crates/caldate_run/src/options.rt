@@ -85,7 +85,7 @@ fn options_from<'a>(
 ) -> Result<(Options<'a>, usize), Senseless>
     requires { at + length (words_left words) ≤ 2 ^ 63 }
     ensures options { (meanings : Meanings) → AreMeanings meanings (words_left words.entry)
-        → AreZones files.now meanings → result ≡ options_from meanings wanted options at (words_left words.entry) }
+        → AreZones files.now meanings → result ≡ options_from meanings wanted options.entry at (words_left words.entry) }
     ensures within { IfOk result (λ front. front.1 ≤ 2 ^ 63) }
 {
     let Some(words) = words else {
@@ -160,7 +160,7 @@ fn is_flag(options: &Options<'_>, word: &[u8]) -> bool
 }
 
 fn with_csv(options: Options<'_>) -> Options<'_>
-    ensures { result ≡ record options { csv = true } }
+    ensures { result ≡ record options.entry { csv = true } }
 {
     let mut more = options;
     more.csv = true;
@@ -183,7 +183,7 @@ fn with_value<'a>(
     files: &ZoneFiles<'a>,
 ) -> Option<Options<'a>>
     ensures { (meanings : Meanings) → IsMeaning meanings value.now
-        → AreZones files.now meanings → result ≡ with_value meanings options value.now wanted }
+        → AreZones files.now meanings → result ≡ with_value meanings options.entry value.now wanted }
 {
     let mut more = options;
     match wanted {
@@ -313,7 +313,7 @@ pub fn field_of(options: &Options<'_>) -> Option<Field>
 
 /// Adds a form of `--read`, or returns `None` if four are given.
 fn with_reader(options: Options<'_>, reader: Reader) -> Option<Options<'_>>
-    ensures { result ≡ with_reader options reader }
+    ensures { result ≡ with_reader options.entry reader }
 {
     let mut more = options;
     if more.readers.try_push(reader) {

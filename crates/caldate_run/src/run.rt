@@ -36,7 +36,7 @@ pub fn run<R: Source, W: Sink>(
     reader: &mut R,
     writer: &mut W,
 ) -> Result<(), Fault>
-    ensures ended { Ended filter result (R.remaining reader.old) (R.remaining reader.new)
+    ensures ended { Ended filter.entry result (R.remaining reader.old) (R.remaining reader.new)
         (W.contents writer.old) (W.contents writer.new) }
     ensures reads { Reads R.read_gives most_reads reader.old (has_read_failure result) reader.new }
     ensures writes { Writes W.write_gives writer.old (write_failure result) writer.new }

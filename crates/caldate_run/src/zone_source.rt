@@ -14,18 +14,18 @@ use std::io::{Error, ErrorKind, Read};
 use std::str;
 
 /// The maximum length of a path, in bytes.
-pub const MOST_PATH_BYTES: usize = 4096;
+pub const MOST_PATH_BYTES: usize = 1024;
 
 /// A file of a zone has fewer bytes.
-pub const MOST_FILE_BYTES: usize = 16_384;
+pub const MOST_FILE_BYTES: usize = 8192;
 
 /// The folder, unless the variable `TZDIR` has another one.
 const FOLDER: &[u8] = b"/usr/share/zoneinfo";
 
 /// Writes the path of the folder of the zones to the front of the buffer, and returns its length.
-/// This is the variable `TZDIR`, if it has 1 to 4096 bytes, or else `/usr/share/zoneinfo`.
+/// This is the variable `TZDIR`, if it has 1 to 1024 bytes, or else `/usr/share/zoneinfo`.
 pub fn find_folder<E: Env>(env: &E, buffer: &mut [u8; MOST_PATH_BYTES]) -> usize
-    ensures { result ≤ 4096 }
+    ensures { result ≤ 1024 }
 {
     match env.var("TZDIR", buffer) {
         Ok(length) if length > 0 => length,
@@ -83,7 +83,7 @@ fn read_file<F: Files>(
     buffer: &mut [u8; MOST_FILE_BYTES],
 ) -> Result<usize, FileError>
     requires { is_zone_name name.now ≡ true }
-    ensures { IfOk result (λ length. length ≤ 16384) }
+    ensures { IfOk result (λ length. length ≤ 8192) }
 {
     let mut path = [0u8; MOST_PATH_BYTES];
     let Some(end) = join_path(folder, name, &mut path) else {
@@ -101,7 +101,7 @@ fn read_file<F: Files>(
 /// Writes the path of a file to the front of the buffer, and returns its length, or `None` if it
 /// doesn't fit.
 fn join_path(folder: &[u8], name: &[u8], path: &mut [u8; MOST_PATH_BYTES]) -> Option<usize>
-    ensures { IfSome result (λ end. end ≤ 4096) }
+    ensures { IfSome result (λ end. end ≤ 1024) }
 {
     let between = folder.len();
     if between >= MOST_PATH_BYTES || name.len() >= MOST_PATH_BYTES - between {
@@ -119,7 +119,7 @@ fn read_whole<R: Read>(
     file: &mut R,
     buffer: &mut [u8; MOST_FILE_BYTES],
 ) -> Result<usize, FileError>
-    ensures { IfOk result (λ length. length ≤ 16384) }
+    ensures { IfOk result (λ length. length ≤ 8192) }
 {
     let mut filled = 0;
     for _ in 0..MOST_FILE_BYTES {

@@ -1,5 +1,5 @@
 //! Time zones by name, from files.
-ghost use Rattle.std.specs.Prelude.{◌≡◌};
+ghost use Rattle.std.specs.Prelude.{◌≡◌, is_none, not, position};
 ghost use Rattle.caldate_run.specs.Meanings.{Meanings};
 ghost use Rattle.caldate_run.specs.Zones.{AreZones, IsZoneOf, file_named, has_name, is_letter, is_name_byte, is_zone_like, is_zone_name, name_in, zone_of};
 
@@ -45,10 +45,21 @@ pub fn is_zone_name(word: &[u8]) -> bool
 {
     match word {
         [first, ..] => {
-            is_letter(*first) && word.iter().position(|byte| !is_name_byte(*byte)).is_none()
+            let letter = is_letter(*first);
+            let others = has_name_bytes(word);
+            letter && others
         }
         [] => false,
     }
+}
+
+/// Returns whether all bytes may be in the name of a zone.
+fn has_name_bytes(word: &[u8]) -> bool
+    ensures { result ≡ is_none (position (λ b. not (is_name_byte b)) word.now) }
+{
+    word.iter()
+        .position(|byte| !is_name_byte(*byte))
+        .is_none()
 }
 
 fn is_letter(byte: u8) -> bool
@@ -87,7 +98,7 @@ pub fn name_in(word: &[u8]) -> &[u8]
 }
 
 fn has_name(name: &[u8], file: Option<ZoneFile<'_>>) -> bool
-    ensures { result ≡ has_name name.now file }
+    ensures { result ≡ has_name name.now file.entry }
 {
     match file {
         Some(file) => file.name == name,
@@ -110,7 +121,7 @@ pub fn file_named<'a>(files: &ZoneFiles<'a>, name: &[u8]) -> Option<ZoneFile<'a>
 
 /// Returns the zone of a file, or why there is none.
 pub fn zone_in<'a>(file: Option<ZoneFile<'a>>) -> Result<Zone<'a>, ZoneFault>
-    ensures { IsZoneOf file result }
+    ensures { IsZoneOf file.entry result }
 {
     let Some(file) = file else {
         return Err(ZoneFault::File(FileError::NotFound));
