@@ -1,6 +1,5 @@
 -- A file has one zone, or one reason why it has none.
 use Rattle.std.proofs.Common.{◌≡◌, ◌∙◌, List, ℕ, Option, None, Some, Result, Ok, Err, ap, sym}
-use Rattle.std.specs.Prelude.{◌×◌}
 use Rattle.cal_tzif.proofs.OneError.{file_error-one}
 use Rattle.cal_tzif.proofs.Unique.{file-one}
 use Rattle.cal_zone.specs.Timeline.{Timeline}

@@ -136,7 +136,6 @@ pub fn zone_in<'a>(file: Option<ZoneFile<'a>>) -> Result<Zone<'a>, ZoneFault>
 }
 
 /// Returns the zone with this name, or why there is none.
-#[tactic(auto, using(crate::proofs::ZoneResults::one_zone))]
 pub fn zone_named<'a>(files: &ZoneFiles<'a>, name: &[u8]) -> Result<Zone<'a>, ZoneFault>
     ensures { (meanings : Meanings) → AreZones files.now meanings
         → result ≡ (meanings name.now).zone }

@@ -1,4 +1,4 @@
-use Rattle.std.proofs.Common.{Ok, Err, inl, inr, subst, sym}
+use Rattle.std.proofs.Common.{◌≡◌, Ok, Err, inl, inr, subst, sym}
 use Rattle.caldate_run.specs.Readers.{IsFoundBy, IsUnread}
 use Rattle.caldate_run.proofs.ReadWith.{is_not_read, is_read, same_placed}
 use Rattle.caldate_run.proofs.answer.read_with.Goals as goal
