@@ -36,6 +36,8 @@ still_meant files r s meanings text m = record {
 pub some_zones : (files : ZoneFiles) (r s : Result Timeline ZoneFault) (words : List (List ℕ)) → IsZoneOf files.first r → IsZoneOf files.second s
     → (meanings : Meanings) × AreMeanings meanings words → (more : Meanings) × AreMeanings more words × AreZones files more
 some_zones files r s words a b (meanings, h) =
-    let more = with_zones files r s meanings in
-    (more, All-weaker (AreMeant meanings) (AreMeant more) (still_meant files r s meanings) words h,
-    λ name. is_zone_by (has_name name files.first) (has_name name files.second) files.first files.second r s a b)
+    let more = with_zones files r s meanings in (
+      more,
+      All-weaker (AreMeant meanings) (AreMeant more) (still_meant files r s meanings) words h,
+      λ name. is_zone_by (has_name name files.first) (has_name name files.second) files.first files.second r s a b,
+    )

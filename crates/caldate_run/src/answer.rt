@@ -105,7 +105,12 @@ fn push_refusal(buffer: &mut Buffer, error: ComponentRange)
 }
 
 /// Appends the answer for the date or moment of `text`, or nothing. Returns whether it did.
-fn push_answer_to(buffer: &mut Buffer, request: &Request<'_>, text: &[u8], found: &DateOrMoment) -> bool
+fn push_answer_to(
+    buffer: &mut Buffer,
+    request: &Request<'_>,
+    text: &[u8],
+    found: &DateOrMoment,
+) -> bool
     requires { HasRoom (length text.now + longest_answer) buffer.old }
     ensures has { result ≡ true → AppendsThat
         (IsAnswerTo request.now text.now found.now) buffer.old buffer.new }

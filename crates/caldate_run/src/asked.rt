@@ -13,7 +13,9 @@ use crate::listing::list_of;
 use crate::offset::offset_of;
 use crate::on_invalid::OnInvalid;
 use crate::options::{Options, field_of, lacking, options_of, readers_in};
-use crate::request::{Asked, Clock, DayMove, FieldNumbers, Filter, Place, Policy, Request, TimeUnit};
+use crate::request::{
+    Asked, Clock, DayMove, FieldNumbers, Filter, Place, Policy, Request, TimeUnit,
+};
 use crate::senseless::{Senseless, Wanted, senseless_at};
 use crate::spelling::{
     asks_for_help, count_of, minutes_of, minutes_word, number_of, period_of, start_of, unit_of,
@@ -129,11 +131,7 @@ fn default_mode(request: &Request<'_>, fields: Option<FieldNumbers>) -> OnInvali
 }
 
 /// Parses the request whose verb has this index.
-fn request_at<'a>(
-    words: &[u8],
-    at: usize,
-    files: &ZoneFiles<'a>,
-) -> Result<Request<'a>, Senseless>
+fn request_at<'a>(words: &[u8], at: usize, files: &ZoneFiles<'a>) -> Result<Request<'a>, Senseless>
     requires { at + 5 < 2 ^ 64 }
     ensures { (meanings : Meanings) → AreMeanings meanings (arguments_of words.now)
         → AreZones files.now meanings → result ≡ request_at meanings (arguments_of words.now) at }
@@ -233,11 +231,7 @@ fn floor_at(words: &[u8], at: usize, minutes: u16) -> Result<Request<'static>, S
 }
 
 /// Parses `OFFSET` or `ZONE`.
-fn place_at<'a>(
-    words: &[u8],
-    at: usize,
-    files: &ZoneFiles<'a>,
-) -> Result<Place<'a>, Senseless>
+fn place_at<'a>(words: &[u8], at: usize, files: &ZoneFiles<'a>) -> Result<Place<'a>, Senseless>
     requires { at + 1 < 2 ^ 64 }
     ensures { (meanings : Meanings) → AreZones files.now meanings
         → result ≡ place_at meanings (arguments_of words.now) at }
@@ -260,11 +254,7 @@ fn names_zone(words: &[u8], at: usize) -> bool
 }
 
 /// Parses `ZONE`.
-fn zone_at<'a>(
-    words: &[u8],
-    at: usize,
-    files: &ZoneFiles<'a>,
-) -> Result<Zone<'a>, Senseless>
+fn zone_at<'a>(words: &[u8], at: usize, files: &ZoneFiles<'a>) -> Result<Zone<'a>, Senseless>
     requires { at + 1 < 2 ^ 64 }
     ensures { (meanings : Meanings) → AreZones files.now meanings
         → result ≡ only_at (arguments_of words.now) at (zone_of meanings) Wanted.Zone }

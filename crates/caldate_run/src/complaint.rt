@@ -1,5 +1,5 @@
 //! The message for arguments that make no sense.
-ghost use Rattle.std.specs.Prelude.{◌≡◌, ◌+◌, ◌≤◌, ◌++◌, [], length};
+ghost use Rattle.std.specs.Prelude.{◌≡◌, ◌+◌, ◌≤◌, ◌++◌, [], Err, length};
 ghost use Rattle.caldate_run.specs.Calls.{Writes, write_failure};
 ghost use Rattle.caldate_run.specs.Complaint.{after_word, complaint, error_phrase, expected_phrase, file_hint, is_duplicate, is_file_like, missing_noun, names_word, on_missing, on_word, problem, quoted, rule_error, rule_error_in, zone_error, zone_error_in};
 ghost use Rattle.cal_recurrence.specs.Text.{recurrence_of};
@@ -17,7 +17,7 @@ use crate::senseless::{Senseless, Wanted};
 use crate::shown::ShownText;
 use crate::streams::Sink;
 use crate::words::word_at;
-use crate::zone_fault::push_fault;
+use crate::zone_fault::{ZoneFault, push_fault};
 use crate::zones::{ZoneFiles, is_zone_name, name_in, zone_named};
 use cal_recurrence::parse;
 
@@ -86,12 +86,7 @@ pub fn complain<W: Sink>(
 }
 
 /// Appends the message, with the program's name and a line feed.
-fn push_complaint(
-    line: &mut Buffer,
-    arguments: &[u8],
-    files: &ZoneFiles<'_>,
-    senseless: Senseless,
-)
+fn push_complaint(line: &mut Buffer, arguments: &[u8], files: &ZoneFiles<'_>, senseless: Senseless)
     requires { line.old ≡ [] }
     ensures { (meanings : Meanings) → AreZones files.now meanings → line.new
         ≡ complaint meanings files.now.folder.now (arguments_of arguments.now) senseless }
@@ -102,12 +97,7 @@ fn push_complaint(
 }
 
 /// Appends the error and the expected words.
-fn push_problem(
-    line: &mut Buffer,
-    arguments: &[u8],
-    files: &ZoneFiles<'_>,
-    senseless: Senseless,
-)
+fn push_problem(line: &mut Buffer, arguments: &[u8], files: &ZoneFiles<'_>, senseless: Senseless)
     requires { length line.old ≤ 9 }
     ensures text { (meanings : Meanings) → AreZones files.now meanings → line.new ≡ line.old
         ++ problem meanings files.now.folder.now (arguments_of arguments.now) senseless }
@@ -233,13 +223,21 @@ fn push_error_of(line: &mut Buffer, files: &ZoneFiles<'_>, name: &[u8])
     ensures short { length line.new ≤ length line.old + 250 }
 {
     if let Err(fault) = zone_named(files, name) {
-        line.push(b": ");
-        line.push(ShownText::new(files.folder).as_bytes());
-        line.push(b"/");
-        line.push(ShownText::new(name).as_bytes());
-        line.push(b": ");
-        push_fault(line, fault);
+        push_fault_of(line, files.folder, name, fault);
     }
+}
+
+fn push_fault_of(line: &mut Buffer, folder: &[u8], name: &[u8], fault: ZoneFault)
+    requires { length line.old ≤ 600 }
+    ensures text { line.new ≡ line.old ++ zone_error folder.now name.now (Err fault) }
+    ensures short { length line.new ≤ length line.old + 250 }
+{
+    line.push(b": ");
+    line.push(ShownText::new(folder).as_bytes());
+    line.push(b"/");
+    line.push(ShownText::new(name).as_bytes());
+    line.push(b": ");
+    push_fault(line, fault);
 }
 
 /// Appends a hint if a word too many looks like a file.

@@ -8,10 +8,9 @@ use crate::words::word_at;
 use crate::zone_fault::FileError;
 use crate::zones::{ZoneFile, ZoneFiles, file_named, is_zone_name, name_in};
 use std::env::Env;
-use std::fs;
 use std::fs::Files;
 use std::io::{Error, ErrorKind, Read};
-use std::str;
+use std::{fs, str};
 
 /// The maximum length of a path, in bytes.
 pub const MOST_PATH_BYTES: usize = 1024;
@@ -115,10 +114,7 @@ fn join_path(folder: &[u8], name: &[u8], path: &mut [u8; MOST_PATH_BYTES]) -> Op
 }
 
 /// Reads to the end of a file, and returns its length.
-fn read_whole<R: Read>(
-    file: &mut R,
-    buffer: &mut [u8; MOST_FILE_BYTES],
-) -> Result<usize, FileError>
+fn read_whole<R: Read>(file: &mut R, buffer: &mut [u8; MOST_FILE_BYTES]) -> Result<usize, FileError>
     ensures { IfOk result (λ length. length ≤ 8192) }
 {
     let mut filled = 0;

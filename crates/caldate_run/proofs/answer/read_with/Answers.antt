@@ -22,8 +22,8 @@ returns-in-Ok-clause-every_error c = λ why h.
     elim h as (λ _. c.placed.result ≡ Err why) [
       | inl unread ↦ absurd (unread.none c.in-Ok.found found)
       | inr other ↦
-        let e = c.in-Ok.ensures.every other.0 (subst (λ forms. IsFoundBy filter.offset forms c.args.text.now other.0) (sym c.as_slice.ensures) other.1) in
-        c.placed.ensures.one (Err why) (same_placed filter.clock c.in-Ok.found other.0 (Err why) e other.2)
+          let e = c.in-Ok.ensures.every other.0 (subst (λ forms. IsFoundBy filter.offset forms c.args.text.now other.0) (sym c.as_slice.ensures) other.1) in
+          c.placed.ensures.one (Err why) (same_placed filter.clock c.in-Ok.found other.0 (Err why) e other.2)
     ]
 
 pub returns-in-Ok-clause-error : goal.returns-in-Ok-clause-error
@@ -44,8 +44,8 @@ returns-in-Err-clause-every_error c = λ why h.
     elim h as (λ _. Err c.in-Err.why ≡ Err why) [
       | inl unread ↦ c.in-Err.ensures.every_error why (subst (λ forms. IsUnread filter.offset forms c.args.text.now why) (sym c.as_slice.ensures) unread)
       | inr other ↦
-        let e = c.in-Err.ensures.every other.0 (subst (λ forms. IsFoundBy filter.offset forms c.args.text.now other.0) (sym c.as_slice.ensures) other.1) in
-        cc
+          let e = c.in-Err.ensures.every other.0 (subst (λ forms. IsFoundBy filter.offset forms c.args.text.now other.0) (sym c.as_slice.ensures) other.1) in
+          cc
     ]
 
 pub returns-in-Err-clause-error : goal.returns-in-Err-clause-error
