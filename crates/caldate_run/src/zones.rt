@@ -57,7 +57,14 @@ pub fn is_zone_name(word: &[u8]) -> bool
 fn has_name_bytes(word: &[u8]) -> bool
     ensures { result ≡ is_none (position (λ b. not (is_name_byte b)) word.now) }
 {
-    word.iter().position(|byte| !is_name_byte(*byte)).is_none()
+    let mut rest = word;
+    while let [first, others @ ..] = rest {
+        if !is_name_byte(*first) {
+            return false;
+        }
+        rest = others;
+    }
+    true
 }
 
 fn is_letter(byte: u8) -> bool
