@@ -3,6 +3,8 @@
 
 use caldate_run::arguments::{MOST_BYTES, join};
 use caldate_run::program::perform;
+use caldate_run::zone_source::{MOST_FILE_BYTES, MOST_PATH_BYTES, find_folder, read_missing};
+use caldate_run::zones::ZoneFiles;
 use std::io;
 use std::process::ExitCode;
 
@@ -13,6 +15,21 @@ fn main(rt: HostRuntime) -> ExitCode {
         Some(length) => Some(&arguments[..length]),
         None => None,
     };
+    let mut folder = [0u8; MOST_PATH_BYTES];
+    let mut bytes = [[0u8; MOST_FILE_BYTES]; 2];
+    let [first, second] = &mut bytes;
+    let length = find_folder(&rt, &mut folder);
+    let mut files = ZoneFiles {
+        folder: &folder[..length],
+        first: None,
+        second: None,
+    };
+    if let Some(arguments) = joined {
+        files.first = read_missing(&rt, arguments, &files, first);
+        files.second = read_missing(&rt, arguments, &files, second);
+    }
     let mut reader = rt.reader();
-    ExitCode::from(perform(joined, &mut reader, &mut io::writer(&rt), &mut rt.stderr()).status)
+    let mut writer = io::writer(&rt);
+    let ending = perform(joined, &files, &mut reader, &mut writer, &mut rt.stderr());
+    ExitCode::from(ending.status)
 }

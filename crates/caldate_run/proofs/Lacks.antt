@@ -1,5 +1,5 @@
 -- A text that a form doesn't read, by what its parser says of it.
-use Rattle.std.proofs.Common.{◌≡◌, ℕ, List, Option, Some, None, Result, Ok, Err, ap, refl, sym}
+use Rattle.std.proofs.Common.{◌≡◌, ℕ, List, Option, Some, None, Result, Ok, Err, ap, inl, inr, refl, sym}
 use Rattle.std.specs.Prelude.{◌↔◌, IfErr, MatchOption}
 use Rattle.std.proofs.lemmas.Option.{none-some, same_Some}
 use Rattle.cal_time.specs.declared.error.ComponentRange.{ComponentRange}
@@ -9,13 +9,20 @@ use Rattle.cal_text.specs.declared.any.DateOrMoment.{DateOrMoment}
 use Rattle.cal_text.specs.declared.error.ParseError.{ParseError}
 use Rattle.cal_text.specs.declared.error.ParseError.TheVariants.{UnexpectedByte, UnexpectedEnd, OutOfRange}
 use Rattle.cal_text.proofs.Positions.{one_position}
-use Rattle.caldate_run.specs.Answers.{IsAnswer}
-use Rattle.caldate_run.specs.Readers.{IsUnread, IsUnreadIn, first_named}
+use Rattle.cal_datetime.specs.OffsetDateTime.{LocalAndOffset}
+use Rattle.cal_text.specs.declared.any.DateOrMoment.TheVariants.{Date, Moment}
+use Rattle.cal_text.specs.declared.any.MomentForm.{MomentForm}
+use Rattle.cal_zone.specs.declared.local.Local.{Local}
+use Rattle.cal_zone.specs.declared.local.Local.TheVariants.{Single, Gap, Fold}
+use Rattle.caldate_run.specs.Answers.{IsAnswer, IsNotRead}
+use Rattle.caldate_run.specs.Clocks.{IsPlaced, placed_as}
+use Rattle.caldate_run.specs.Readers.{IsUnreadIn, first_named}
 use Rattle.caldate_run.specs.Readings.{HasFormIn, IsFaultIn}
 use Rattle.caldate_run.specs.Replies.{reason_of}
 use Rattle.caldate_run.specs.declared.no_answer.NoAnswer.{NoAnswer}
 use Rattle.caldate_run.specs.declared.no_answer.NoAnswer.TheVariants as why
 use Rattle.caldate_run.specs.declared.reading.Reading.{Reading}
+use Rattle.caldate_run.specs.declared.request.Clock.{Clock}
 use Rattle.caldate_run.specs.declared.request.Filter.{Filter}
 
 pub lacks : (reading : Reading) (text : List ℕ) (error : ParseError)
@@ -48,14 +55,33 @@ lacks_only reading text r why.TooLong form component stop h = absurd h
 lacks_only reading text r why.NoField form component stop h = absurd h
 lacks_only reading text r why.None form component stop h = absurd h
 lacks_only reading text r why.NoForm form component stop h = absurd h
+lacks_only reading text r why.Skipped form component stop h = absurd h
+lacks_only reading text r why.Repeated form component stop h = absurd h
 
 -- a text in none of the forms has no answer
 no_none : (text : List ℕ) (o : Option Reading) → MatchOption o (why.None ≡ why.NoForm) (λ reading. IsUnreadIn reading text why.None) → ⊥
 no_none text None h = cc
 no_none text (Some reading) h = h
 
-pub unread : (filter : Filter) (text : List ℕ) (any : NoAnswer) → IsUnread filter.offset filter.readers text any → IsAnswer filter text (Err any)
-unread filter text why.None h = absurd (no_none text (first_named filter.offset filter.readers) h.why_is)
+no_none_placed : (clock : Option Clock) (found : DateOrMoment) → IsPlaced clock found (Err why.None) → ⊥
+no_none_placed None found h = cc
+no_none_placed (Some clock) (Date form n) h = cc
+no_none_placed (Some clock) (Moment form m) h = not_placed form h.local h.taken h.placed
+  where
+    not_placed : (form : MomentForm) (local : Local) (taken : Option LocalAndOffset) → Err why.None ≡ placed_as form local taken → ⊥
+    not_placed form local (Some m) e = cc
+    not_placed form (Single m) None e = cc
+    not_placed form (Gap g) None e = cc
+    not_placed form (Fold a b) None e = cc
+
+no_none_read : (filter : Filter) (text : List ℕ) → IsNotRead filter text why.None → ⊥
+no_none_read filter text (inl h) = no_none text (first_named filter.offset filter.readers) h.why_is
+no_none_read filter text (inr h) = no_none_placed filter.clock h.0 h.2
+
+pub unread : (filter : Filter) (text : List ℕ) (any : NoAnswer) → IsNotRead filter text any → IsAnswer filter text (Err any)
+unread filter text why.None h = absurd (no_none_read filter text h)
+unread filter text why.Skipped h = h
+unread filter text why.Repeated h = h
 unread filter text why.TooLong h = h
 unread filter text why.NoField h = h
 unread filter text why.NoForm h = h

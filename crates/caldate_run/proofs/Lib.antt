@@ -30,3 +30,7 @@ pub mod SomeMeanings
 pub mod Printed
 pub mod FirstForms
 pub mod MeantWords
+mod ZoneResults
+mod SomeZones
+mod OneMoment
+mod ReadWith

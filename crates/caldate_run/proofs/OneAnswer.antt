@@ -11,10 +11,9 @@ use Rattle.std.proofs.lemmas.List.Elements.{All-cons, All-nil}
 use Rattle.cal_datetime.specs.OffsetDateTime.{LocalAndOffset}
 use Rattle.cal_text.specs.declared.any.DateOrMoment.{DateOrMoment}
 use Rattle.cal_text.specs.declared.any.MomentForm.TheVariants.{Rfc3339, Unix}
-use Rattle.caldate_run.specs.Answers.{Answer, HasNone, IsAnswer, IsAnswerTo, IsBetween, IsReadAs, day_of, floored, form_read, leaves_out, moment_of, on_day}
+use Rattle.caldate_run.specs.Answers.{Answer, HasNone, IsAnswer, IsAnswerTo, IsBetween, IsNotRead, IsReadAs, day_of, floored, form_read, leaves_out, moment_of, on_day}
 use Rattle.caldate_run.specs.Forms.{IsInForm}
 use Rattle.caldate_run.specs.Lines.{is_end, lines_of, without_empty_last}
-use Rattle.caldate_run.specs.Readers.{IsUnread}
 use Rattle.caldate_run.specs.Replies.{IsReplyTo}
 use Rattle.caldate_run.specs.Runs.{AnswersInput, Ended, IsComplete}
 use Rattle.caldate_run.specs.Standing.{AreReplies, no_lines}
@@ -112,7 +111,7 @@ unread_told filter text r any e = subst (λ r. Told filter text r (Err any)) (sy
 
 told : (filter : Filter) (text : List ℕ) (r : Result DateOrMoment NoAnswer) (answer : Answer)
     → ((found : DateOrMoment) → IsReadAs filter text found → r ≡ Ok found)
-    → ((any : NoAnswer) → IsUnread filter.offset filter.readers text any → r ≡ Err any) → IsAnswer filter text answer → Told filter text r answer
+    → ((any : NoAnswer) → IsNotRead filter text any → r ≡ Err any) → IsAnswer filter text answer → Told filter text r answer
 told filter text r (Ok (Some words)) every unread h = found_told filter text r h.0 _ (every h.0 h.1) (inl (words, refl, h.2))
 told filter text r (Ok None) every unread h = found_told filter text r h.0 _ (every h.0 h.1) (inr (inl (refl, h.2)))
 told filter text r (Err why.None) every unread h = found_told filter text r h.0 _ (every h.0 h.1) (inr (inr (refl, h.2)))
@@ -121,10 +120,12 @@ told filter text r (Err (why.Unreadable at)) every unread h = unread_told filter
 told filter text r (Err why.TooLong) every unread h = unread_told filter text r why.TooLong (unread why.TooLong h)
 told filter text r (Err why.NoField) every unread h = unread_told filter text r why.NoField (unread why.NoField h)
 told filter text r (Err why.NoForm) every unread h = unread_told filter text r why.NoForm (unread why.NoForm h)
+told filter text r (Err why.Skipped) every unread h = unread_told filter text r why.Skipped (unread why.Skipped h)
+told filter text r (Err why.Repeated) every unread h = unread_told filter text r why.Repeated (unread why.Repeated h)
 
 pub one_answer : (filter : Filter) (text : List ℕ) (r : Result DateOrMoment NoAnswer) (a b : Answer)
     → ((found : DateOrMoment) → IsReadAs filter text found → r ≡ Ok found)
-    → ((any : NoAnswer) → IsUnread filter.offset filter.readers text any → r ≡ Err any) → IsAnswer filter text a → IsAnswer filter text b → a ≡ b
+    → ((any : NoAnswer) → IsNotRead filter text any → r ≡ Err any) → IsAnswer filter text a → IsAnswer filter text b → a ≡ b
 one_answer filter text r a b every unread h k = one_told filter text r a b (told filter text r a every unread h) (told filter text r b every unread k)
 
 -- ---- the answers to all lines

@@ -1,5 +1,5 @@
 -- The answer to the text of a line.
-use Rattle.std.specs.Prelude.{◌≡◌, ℕ, ◌+◌, ◌-◌, ◌*◌, ◌%◌, max, ◌&&◌, Bool, true, false, not, ℤ, pos, ◌+ℤ◌, ◌-ℤ◌, List, Option, Some, None, Result, Ok, Err, if◌then◌else◌}
+use Rattle.std.specs.Prelude.{◌≡◌, ◌⊎◌, ℕ, ◌+◌, ◌-◌, ◌*◌, ◌%◌, max, ◌&&◌, Bool, true, false, not, ℤ, pos, ◌+ℤ◌, ◌-ℤ◌, List, Option, Some, None, Result, Ok, Err, if◌then◌else◌}
 use Rattle.std.specs.Fmt.{signed_decimal}
 use Rattle.std.specs.Option.{option_map_or}
 use Rattle.cal_time.specs.Date.{IsDate, julian_day_at}
@@ -7,10 +7,12 @@ use Rattle.cal_time.specs.SignedDuration.{whole_days}
 use Rattle.cal_time.specs.SignedDuration as duration
 use Rattle.cal_time.specs.Time.{hour_of, minute_of}
 use Rattle.cal_datetime.specs.DateTime.{IsDateTime, date_at, date_time, time_at}
-use Rattle.cal_datetime.specs.OffsetDateTime.{LocalAndOffset, instant, local_at}
+use Rattle.cal_datetime.specs.OffsetDateTime.{LocalAndOffset, instant, local_at, unix_seconds}
 use Rattle.cal_text.specs.declared.any.DateOrMoment.{DateOrMoment}
 use Rattle.cal_text.specs.declared.any.DateOrMoment.TheVariants as read
 use Rattle.cal_text.specs.declared.any.MomentForm.TheVariants.{Rfc3339}
+use Rattle.cal_zone.specs.Timeline.{offset_at}
+use Rattle.caldate_run.specs.Clocks.{IsPlaced}
 use Rattle.caldate_run.specs.Counts.{IsCount}
 use Rattle.caldate_run.specs.Bounds.{lies_in}
 use Rattle.caldate_run.specs.Forms.{IsInForm, format_text}
@@ -22,6 +24,8 @@ use Rattle.caldate_run.specs.declared.no_answer.NoAnswer.TheVariants as why
 use Rattle.caldate_run.specs.declared.request.DayMove.{DayMove}
 use Rattle.caldate_run.specs.declared.request.Filter.{Filter}
 use Rattle.caldate_run.specs.declared.request.Form.TheVariants.{Moment}
+use Rattle.caldate_run.specs.declared.request.Place.{Place}
+use Rattle.caldate_run.specs.declared.request.Place.TheVariants as place
 use Rattle.caldate_run.specs.declared.request.Request.{Request}
 use Rattle.caldate_run.specs.declared.request.Request.TheVariants.{To, Print, Add, Move, Floor, Until, Since, At, Keep}
 use Rattle.caldate_run.specs.declared.request.TimeUnit.{TimeUnit}
@@ -61,8 +65,13 @@ pub record IsShownAt (offset : ℤ) (from m : LocalAndOffset) : Type 0 where
   pub in_range : IsDateTime (local_at (instant from) offset)
   pub shown : m ≡ record { local = local_at (instant from) offset; offset = offset }
 
-abbrev pub IsAt : ℤ → LocalAndOffset → List ℕ → Type 0
-IsAt offset from words = (m : LocalAndOffset) × IsShownAt offset from m × IsInForm (Moment Rfc3339) m words
+-- The offset of a place at a moment.
+abbrev pub offset_in : Place → LocalAndOffset → ℤ
+offset_in (place.Offset offset) from = offset
+offset_in (place.Zone zone) from = offset_at zone (unix_seconds (instant from))
+
+abbrev pub IsAt : Place → LocalAndOffset → List ℕ → Type 0
+IsAt place from words = (m : LocalAndOffset) × IsShownAt (offset_in place from) from m × IsInForm (Moment Rfc3339) m words
 
 -- The words are the moved day in the form that was read, at the same time of day.
 abbrev pub IsMoved : DayMove → DateOrMoment → List ℕ → Type 0
@@ -84,7 +93,7 @@ IsAnswerTo (Move by) text found words = IsMoved by found words
 IsAnswerTo (Floor n) text found words = IsInForm (form_read found) (floored n (moment_of found)) words
 IsAnswerTo (Until target unit) text found words = IsBetween unit found target words
 IsAnswerTo (Since target unit) text found words = IsBetween unit target found words
-IsAnswerTo (At offset) text found words = IsAt offset (moment_of found) words
+IsAnswerTo (At place) text found words = IsAt place (moment_of found) words
 IsAnswerTo (Keep bounds) text found words = (lies_in bounds found ≡ Some true) × (words ≡ text)
 
 -- `keep` leaves out a line whose date or moment lies outside of its bounds.
@@ -101,12 +110,18 @@ Answer = Result (Option (List ℕ)) NoAnswer
 abbrev pub HasNone : Request → List ℕ → DateOrMoment → Type 0
 HasNone request text found = (leaves_out request found ≡ false) × ((words : List ℕ) → ¬ IsAnswerTo request text found words)
 
--- The text is read, as this date or moment.
+-- The text is read, as this date or moment. With a clock, its local time is a reading of the clock.
 abbrev pub IsReadAs : Filter → List ℕ → DateOrMoment → Type 0
-IsReadAs filter text found = IsFoundBy filter.offset filter.readers text found
+IsReadAs filter text found =
+    (first : DateOrMoment) × IsFoundBy filter.offset filter.readers text first × IsPlaced filter.clock first (Ok found)
+
+-- The text is in none of the forms, or its local time is not that of one moment.
+abbrev pub IsNotRead : Filter → List ℕ → NoAnswer → Type 0
+IsNotRead filter text any = IsUnread filter.offset filter.readers text any
+    ⊎ ((first : DateOrMoment) × IsFoundBy filter.offset filter.readers text first × IsPlaced filter.clock first (Err any))
 
 abbrev pub IsAnswer : Filter → List ℕ → Answer → Type 0
 IsAnswer filter text (Ok (Some words)) = (found : DateOrMoment) × IsReadAs filter text found × IsAnswerTo filter.request text found words
 IsAnswer filter text (Ok None) = (found : DateOrMoment) × IsReadAs filter text found × (leaves_out filter.request found ≡ true)
 IsAnswer filter text (Err why.None) = (found : DateOrMoment) × IsReadAs filter text found × HasNone filter.request text found
-IsAnswer filter text (Err other) = IsUnread filter.offset filter.readers text other
+IsAnswer filter text (Err other) = IsNotRead filter text other

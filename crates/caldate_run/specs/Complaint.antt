@@ -6,11 +6,16 @@ use Rattle.cal_recurrence.specs.Text.{recurrence_of}
 use Rattle.cal_recurrence.specs.declared.fault.ParseRuleError.{ParseRuleError}
 use Rattle.cal_recurrence.specs.declared.recurrence.Recurrence.{Recurrence}
 use Rattle.caldate_run.specs.Offsets.{is_digit}
+use Rattle.cal_zone.specs.Timeline.{Timeline}
+use Rattle.caldate_run.specs.Meanings.{Meanings}
 use Rattle.caldate_run.specs.Requests.{is_option}
 use Rattle.caldate_run.specs.Shown.{shown}
+use Rattle.caldate_run.specs.ZoneFaults.{fault_words}
+use Rattle.caldate_run.specs.Zones.{is_zone_name, name_in}
 use Rattle.caldate_run.specs.declared.senseless.Senseless.{Senseless}
 use Rattle.caldate_run.specs.declared.senseless.Wanted.{Wanted}
 use Rattle.caldate_run.specs.declared.senseless.Wanted.TheVariants as wanted
+use Rattle.caldate_run.specs.declared.zone_fault.ZoneFault.{ZoneFault}
 
 -- the error, without the word
 abbrev pub error_phrase : Wanted → List ℕ
@@ -24,7 +29,11 @@ error_phrase wanted.FieldNumber = codes "invalid field number"
 error_phrase wanted.Separator = codes "invalid separator"
 error_phrase wanted.Skip = codes "invalid number of lines"
 error_phrase wanted.Reading = codes "unknown input form"
-error_phrase wanted.Assume = codes "a form without an offset requires --assume"
+error_phrase wanted.Assume = codes "a form without an offset requires --assume or --zone"
+error_phrase wanted.ZoneOption = codes "--ambiguous requires --zone"
+error_phrase wanted.OffsetOrZone = codes "--assume can't be used with --zone"
+error_phrase wanted.LocalOnly = codes "--zone requires --read of forms without an offset only"
+error_phrase wanted.Policy = codes "unknown policy"
 error_phrase wanted.Local = codes "--assume requires --read of a form without an offset"
 error_phrase wanted.Form = codes "unknown form"
 error_phrase wanted.Number = codes "invalid number"
@@ -37,6 +46,8 @@ error_phrase wanted.Period = codes "unknown period"
 error_phrase wanted.StartPeriod = codes "unknown start"
 error_phrase wanted.Minutes = codes "invalid unit"
 error_phrase wanted.Offset = codes "invalid offset"
+error_phrase wanted.Place = codes "invalid offset or zone"
+error_phrase wanted.Zone = codes "cannot read zone"
 error_phrase wanted.Bounds = codes "unknown bound"
 error_phrase wanted.Date = codes "invalid date"
 error_phrase wanted.Many = codes "invalid number or rule"
@@ -63,7 +74,10 @@ missing_noun wanted.Target = codes "date or moment"
 missing_noun wanted.Period = codes "period"
 missing_noun wanted.StartPeriod = codes "period"
 missing_noun wanted.Minutes = codes "unit"
+missing_noun wanted.Policy = codes "policy"
 missing_noun wanted.Offset = codes "offset"
+missing_noun wanted.Place = codes "offset or zone"
+missing_noun wanted.Zone = codes "zone"
 missing_noun wanted.Bounds = codes "bound"
 missing_noun wanted.Date = codes "date"
 missing_noun wanted.Many = codes "number or rule"
@@ -73,7 +87,7 @@ missing_noun what = codes "argument"
 
 -- the expected words, if the message needs them
 abbrev pub expected_phrase : Wanted → List ℕ
-expected_phrase wanted.Start = codes "; expected to, add, next, last, until, since, start, end, on-or-after, on-or-before, at, keep, list, --date, --invalid, --field, --csv, --header, --separator, --skip, --read, --assume, --help or --version"
+expected_phrase wanted.Start = codes "; expected to, add, next, last, until, since, start, end, on-or-after, on-or-before, at, keep, list, --date, --invalid, --field, --csv, --header, --separator, --skip, --read, --assume, --zone, --ambiguous, --help or --version"
 expected_phrase wanted.Verb = codes "; expected to, add, next, last, until, since, start, end, on-or-after, on-or-before, at, keep or another option"
 expected_phrase wanted.Invalid = codes "; expected keep, answer, drop or stop"
 expected_phrase wanted.FieldNumber = codes "; expected an integer from 1 to 65535, or two such as 1-2"
@@ -90,7 +104,9 @@ expected_phrase wanted.Target = codes "; expected one such as 2024-02-29 or 2024
 expected_phrase wanted.Period = codes "; expected week, month, quarter or year"
 expected_phrase wanted.StartPeriod = codes "; expected week, month, quarter, year, day, hour, minute or N minutes"
 expected_phrase wanted.Minutes = codes "; expected minutes"
+expected_phrase wanted.Policy = codes "; expected compatible, earlier, later or reject"
 expected_phrase wanted.Offset = codes "; expected one such as +01:00, -05:30 or Z"
+expected_phrase wanted.Place = codes "; expected one such as +01:00, -05:30, Z or Europe/Berlin"
 expected_phrase wanted.Bounds = codes "; expected from, after or before"
 expected_phrase wanted.From = codes "; expected 'from'"
 expected_phrase wanted.Date = codes "; expected one such as 2024-02-29, 2024-060, 2024-W09-4 or J2460370"
@@ -107,6 +123,9 @@ names_word wanted.Field = false
 names_word wanted.CsvField = false
 names_word wanted.CsvSeparator = false
 names_word wanted.Assume = false
+names_word wanted.ZoneOption = false
+names_word wanted.OffsetOrZone = false
+names_word wanted.LocalOnly = false
 names_word wanted.Local = false
 names_word what = true
 
@@ -127,6 +146,16 @@ abbrev pub rule_error_in : Wanted → List ℕ → List ℕ
 rule_error_in wanted.Rule word = rule_error (recurrence_of word)
 rule_error_in what word = []
 
+-- the file of a zone, and why it can't be read or is not a zone
+abbrev pub zone_error : List ℕ → List ℕ → Result Timeline ZoneFault → List ℕ
+zone_error folder name (Ok zone) = []
+zone_error folder name (Err fault) = codes ": " ++ shown folder ++ codes "/" ++ shown name ++ codes ": " ++ fault_words fault
+
+abbrev pub zone_error_in : Meanings → List ℕ → Wanted → List ℕ → List ℕ
+zone_error_in meanings folder wanted.Zone word =
+    if is_zone_name (name_in word) then zone_error folder (name_in word) (meanings (name_in word)).zone else codes "; expected one such as Europe/Berlin"
+zone_error_in meanings folder what word = []
+
 -- the word has a dot or a slash, and does not begin with a digit
 abbrev pub is_file_like : List ℕ → Bool
 is_file_like [] = false
@@ -138,10 +167,11 @@ file_hint wanted.End word = if is_file_like word then codes "; to read a file, w
 file_hint what word = []
 
 -- the message on a word: `unknown unit 'fortnights'; expected ..`, `duplicate --field`
-abbrev pub on_word : Wanted → List ℕ → List ℕ
-on_word what word =
+abbrev pub on_word : Meanings → List ℕ → Wanted → List ℕ → List ℕ
+on_word meanings folder what word =
     if is_duplicate what word then codes "duplicate " ++ shown word else
-    error_phrase what ++ codes " " ++ quoted word ++ expected_phrase what ++ rule_error_in what word ++ file_hint what word
+    error_phrase what ++ codes " " ++ quoted word ++ expected_phrase what ++ rule_error_in what word ++ zone_error_in meanings folder what word
+    ++ file_hint what word
 
 -- the word before an index: the index 0 has none
 abbrev pub after_word : List (List ℕ) → ℕ → List ℕ
@@ -152,11 +182,11 @@ abbrev pub on_missing : List (List ℕ) → Senseless → List ℕ
 on_missing words senseless =
     codes "missing " ++ missing_noun senseless.wanted ++ after_word words senseless.index ++ expected_phrase senseless.wanted
 
-abbrev pub problem : List (List ℕ) → Senseless → List ℕ
-problem words senseless =
+abbrev pub problem : Meanings → List ℕ → List (List ℕ) → Senseless → List ℕ
+problem meanings folder words senseless =
     if names_word senseless.wanted
-    then option_map_or (on_word senseless.wanted) (slice_get words senseless.index) (on_missing words senseless)
+    then option_map_or (on_word meanings folder senseless.wanted) (slice_get words senseless.index) (on_missing words senseless)
     else error_phrase senseless.wanted
 
-abbrev pub complaint : List (List ℕ) → Senseless → List ℕ
-complaint words senseless = codes "caldate: " ++ problem words senseless ++ 10 ∷ []
+abbrev pub complaint : Meanings → List ℕ → List (List ℕ) → Senseless → List ℕ
+complaint meanings folder words senseless = codes "caldate: " ++ problem meanings folder words senseless ++ 10 ∷ []

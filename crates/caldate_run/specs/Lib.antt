@@ -1,6 +1,7 @@
 pub mod Answers
 pub mod Bounds
 pub mod Calls
+pub mod Clocks
 pub mod Complaint
 pub mod Counts
 pub mod Ending
@@ -25,3 +26,5 @@ pub mod Shown
 pub mod Spellings
 pub mod Standing
 pub mod Templates
+pub mod ZoneFaults
+pub mod Zones

@@ -1,6 +1,6 @@
--- The meanings of words: the date or moment that a word is a text of, and the items of the format
--- that it spells.
-use Rattle.std.specs.Prelude.{◌≡◌, ℕ, ◌+◌, ◌≤◌, ◌==◌, Bool, IsUtf8, is_some, List, [], length, take, drop, position, bytes_eq, codes, Option, MatchOption, if◌then◌else◌}
+-- The meanings of words: the date or moment that a word is a text of, the items of the format that
+-- it spells, and the zone that it names, or why it names none.
+use Rattle.std.specs.Prelude.{◌≡◌, ℕ, ◌+◌, ◌≤◌, ◌==◌, Bool, IsUtf8, is_some, List, [], length, take, drop, position, bytes_eq, codes, Option, MatchOption, Result, if◌then◌else◌}
 use Rattle.std.specs.List.{All}
 use Rattle.std.specs.Option.{option_map_or}
 use Rattle.cal_format.specs.Format.{Spells}
@@ -8,10 +8,13 @@ use Rattle.cal_format.specs.declared.item.Item.{Item}
 use Rattle.cal_format.specs.declared.item.Syntax.TheVariants.{Percent}
 use Rattle.cal_text.specs.AnyForm.{IsTextOf}
 use Rattle.cal_text.specs.declared.any.DateOrMoment.{DateOrMoment}
+use Rattle.cal_zone.specs.Timeline.{Timeline}
+use Rattle.caldate_run.specs.declared.zone_fault.ZoneFault.{ZoneFault}
 
 pub record Meaning : Type 0 where
   pub found : Option DateOrMoment
   pub items : Option (List Item)
+  pub zone : Result Timeline ZoneFault
 
 abbrev pub Meanings : Type 0
 Meanings = List ℕ → Meaning

@@ -28,6 +28,8 @@ reason why.TooLong = codes "line too long"
 reason why.NoField = codes "no such field"
 reason why.NoForm = codes "in no form of --read"
 reason why.None = codes "none"
+reason why.Skipped = codes "skipped time"
+reason why.Repeated = codes "repeated time"
 reason (why.Rejected component) = refused_text component
 reason (why.Unreadable at) = codes "unreadable at " ++ decimal at
 

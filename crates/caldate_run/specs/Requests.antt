@@ -17,8 +17,10 @@ use Rattle.cal_text.specs.declared.any.DateOrMoment.TheVariants as dated
 use Rattle.cal_text.specs.declared.any.MomentForm.TheVariants.{Rfc3339, Unix}
 use Rattle.cal_recurrence.specs.Text.{recurrence_of}
 use Rattle.cal_recurrence.specs.declared.recurrence.Recurrence.{Recurrence}
+use Rattle.cal_zone.specs.Timeline.{Timeline}
 use Rattle.caldate_run.specs.Meanings.{Meanings, found_in, is_format, name_of, value_in}
 use Rattle.caldate_run.specs.Offsets.{offset_of}
+use Rattle.caldate_run.specs.Zones.{is_zone_like, zone_of}
 use Rattle.caldate_run.specs.declared.on_invalid.OnInvalid.{OnInvalid}
 use Rattle.caldate_run.specs.declared.on_invalid.OnInvalid.TheVariants as invalid
 use Rattle.caldate_run.specs.declared.options.Options.{Options}
@@ -26,6 +28,9 @@ use Rattle.caldate_run.specs.declared.reading.Reading.TheVariants as read
 use Rattle.caldate_run.specs.declared.reading.reader.Reader.{Reader}
 use Rattle.caldate_run.specs.declared.reading.reader.Reader.TheVariants as reader
 use Rattle.caldate_run.specs.declared.reading.spelling.Spelling.TheVariants.{Iso, Seconds}
+use Rattle.caldate_run.specs.declared.request.Clock.{Clock}
+use Rattle.caldate_run.specs.declared.request.Policy.{Policy}
+use Rattle.caldate_run.specs.declared.request.Policy.TheVariants as policy
 use Rattle.caldate_run.specs.declared.request.Field.{Field}
 use Rattle.caldate_run.specs.declared.request.FieldNumbers.{FieldNumbers}
 use Rattle.caldate_run.specs.declared.request.Filter.{Filter}
@@ -34,6 +39,8 @@ use Rattle.caldate_run.specs.declared.request.Form.TheVariants as form
 use Rattle.caldate_run.specs.declared.request.DayMove.TheVariants as move
 use Rattle.caldate_run.specs.declared.request.Period.{Period}
 use Rattle.caldate_run.specs.declared.request.Period.TheVariants as period
+use Rattle.caldate_run.specs.declared.request.Place.{Place}
+use Rattle.caldate_run.specs.declared.request.Place.TheVariants as place
 use Rattle.caldate_run.specs.declared.request.Pace.{Pace}
 use Rattle.caldate_run.specs.declared.request.Pace.TheVariants.{Steps, Rule}
 use Rattle.caldate_run.specs.declared.request.Step.{Step}
@@ -271,6 +278,12 @@ abbrev pub start_at : List (List ℕ) → ℕ → Result Request Senseless
 start_at words at =
     option_map_or (floor_at words (at + 1)) (option_and_then minutes_of (slice_get words at)) (only_at words at start_of wanted.StartPeriod)
 
+-- `OFFSET`, `ZONE`
+abbrev pub place_at : Meanings → List (List ℕ) → ℕ → Result Place Senseless
+place_at meanings words at =
+    if option_map_or is_zone_like (slice_get words at) false then and_then (only_at words at (zone_of meanings) wanted.Zone) (λ zone. Ok (place.Zone zone)) else
+    and_then (only_at words at offset_of wanted.Place) (λ offset. Ok (place.Offset offset))
+
 -- The verb comes first. At index 0, an option such as `--help` is allowed too.
 abbrev pub verb_wanted : ℕ → Wanted
 verb_wanted at = if at == 0 then wanted.Start else wanted.Verb
@@ -282,7 +295,7 @@ further_request_at meanings words at word =
     if bytes_eq word (codes "end") then and_then (only_at words (at + 1) period_of wanted.Period) (λ p. Ok (Move (move.End p))) else
     if bytes_eq word (codes "on-or-after") then and_then (only_at words (at + 1) weekday_of wanted.Weekday) (λ w. Ok (Move (move.OnOrAfter w))) else
     if bytes_eq word (codes "on-or-before") then and_then (only_at words (at + 1) weekday_of wanted.Weekday) (λ w. Ok (Move (move.OnOrBefore w))) else
-    if bytes_eq word (codes "at") then and_then (only_at words (at + 1) offset_of wanted.Offset) (λ o. Ok (At o)) else
+    if bytes_eq word (codes "at") then and_then (place_at meanings words (at + 1)) (λ place. Ok (At place)) else
     if bytes_eq word (codes "keep") then and_then (bounds_at meanings words (at + 1)) (λ bounds. Ok (Keep bounds)) else
     Err (senseless_at at (verb_wanted at))
 
@@ -349,7 +362,7 @@ list_of meanings words =
 
 -- ---- the options before a request, in any order, each at most once
 abbrev pub no_options : Options
-no_options = record { on_invalid = None; fields = None; header = false; csv = false; separator = None; skip = None; readers = []; offset = None }
+no_options = record { on_invalid = None; fields = None; header = false; csv = false; separator = None; skip = None; readers = []; offset = None; zone = None; policy = None }
 
 -- `--invalid MODE`
 abbrev pub invalid_of : List ℕ → Option OnInvalid
@@ -358,6 +371,15 @@ invalid_of word =
     if bytes_eq word (codes "answer") then Some invalid.Answer else
     if bytes_eq word (codes "drop") then Some invalid.Drop else
     if bytes_eq word (codes "stop") then Some invalid.Stop else
+    None
+
+-- `--ambiguous POLICY`
+abbrev pub policy_of : List ℕ → Option Policy
+policy_of word =
+    if bytes_eq word (codes "compatible") then Some policy.Compatible else
+    if bytes_eq word (codes "earlier") then Some policy.Earlier else
+    if bytes_eq word (codes "later") then Some policy.Later else
+    if bytes_eq word (codes "reject") then Some policy.Reject else
     None
 
 -- `--field N`, `--field N-M`
@@ -431,6 +453,8 @@ value_of options word =
     if bytes_eq word (codes "--skip") && is_none options.skip then Some wanted.Skip else
     if bytes_eq word (codes "--read") && has_room options.readers then Some wanted.Reading else
     if bytes_eq word (codes "--assume") && is_none options.offset then Some wanted.Offset else
+    if bytes_eq word (codes "--zone") && is_none options.zone then Some wanted.Zone else
+    if bytes_eq word (codes "--ambiguous") && is_none options.policy then Some wanted.Policy else
     None
 
 -- The word is an option, whatever the others are.
@@ -445,6 +469,8 @@ with_value meanings options value wanted.Separator = option_map (λ c. record op
 with_value meanings options value wanted.Skip = option_map (λ k. record options { skip = Some k }) (skip_of value)
 with_value meanings options value wanted.Reading = option_and_then (with_reader options) (reader_of meanings value)
 with_value meanings options value wanted.Offset = option_map (λ o. record options { offset = Some o }) (offset_of value)
+with_value meanings options value wanted.Zone = option_map (λ zone. record options { zone = Some zone }) (zone_of meanings value)
+with_value meanings options value wanted.Policy = option_map (λ p. record options { policy = Some p }) (policy_of value)
 with_value meanings options value other = None
 
 -- The options, with the option and its value in this word.
@@ -494,6 +520,25 @@ abbrev pub any_local : List Reader → Bool
 any_local [] = false
 any_local (form ∷ forms) = is_local form || any_local forms
 
+-- The form has an offset of its own.
+abbrev pub has_own : Reader → Bool
+has_own (reader.Named read.Any) = true
+has_own (reader.Named (read.Unix unit)) = true
+has_own (reader.Spelled spelling) = true
+has_own (reader.Moments items) = true
+has_own form = false
+
+abbrev pub any_own : List Reader → Bool
+any_own [] = false
+any_own (form ∷ forms) = has_own form || any_own forms
+
+-- A zone requires forms without an offset only, and no offset.
+abbrev pub lacking_with_zone : Options → Option Wanted
+lacking_with_zone options =
+    if is_some options.offset then Some wanted.OffsetOrZone else
+    if not (any_local options.readers) || any_own options.readers then Some wanted.LocalOnly else
+    None
+
 -- The option that is missing: `--separator` and `--csv` require `--field`, and a form without an
 -- offset and `--assume` require each other. A quote separates no fields of a record.
 abbrev pub lacking : Options → Option Wanted
@@ -501,6 +546,8 @@ lacking options =
     if is_some options.separator && is_none options.fields then Some wanted.Field else
     if options.csv && is_none options.fields then Some wanted.CsvField else
     if options.csv && option_map_or (λ c. c == 34) options.separator false then Some wanted.CsvSeparator else
+    if is_some options.policy && is_none options.zone then Some wanted.ZoneOption else
+    if is_some options.zone then lacking_with_zone options else
     if any_local options.readers && is_none options.offset then Some wanted.Assume else
     if is_some options.offset && not (any_local options.readers) then Some wanted.Local else
     None
@@ -515,11 +562,16 @@ default_mode other None = invalid.Answer
 abbrev pub skip_in : Options → ℕ
 skip_in options = if options.header then max 1 (unwrap_or options.skip 0) else unwrap_or options.skip 0
 
+-- The clocks of the zone. The default policy is `compatible`.
+abbrev pub clock_of : Option Timeline → Option Policy → Option Clock
+clock_of zone chosen = option_map (λ z. record { zone = z; policy = unwrap_or chosen policy.Compatible }) zone
+
 abbrev pub filter_of : Options → Request → Filter
 filter_of options request = record {
   request = request;
   readers = readers_in options.readers;
   offset = unwrap_or options.offset (pos 0);
+  clock = clock_of options.zone options.policy;
   on_invalid = unwrap_or options.on_invalid (default_mode request options.fields);
   field = field_of options;
   skip = skip_in options;

@@ -1,22 +1,25 @@
 //! The answer to the text of a line.
-ghost use Rattle.std.specs.Prelude.{◌≡◌, ◌+◌, ◌≤◌, ◌++◌, ℕ, List, Some, false, true, length, MatchOption};
+ghost use Rattle.std.specs.Prelude.{◌≡◌, ◌+◌, ◌≤◌, ◌++◌, ℕ, List, Some, Ok, Err, IfOk, IfErr, false, true, length, MatchOption};
 ghost use Rattle.cal_datetime.specs.OffsetDateTime.{LocalAndOffset};
 ghost use Rattle.cal_text.specs.AnyForm.{date_text};
-ghost use Rattle.caldate_run.specs.Answers.{IsAnswer, IsAnswerTo, IsAt, IsBetween, IsDayLater, IsLater, IsMomentLater, IsMoved, floored, form_read, is_date, leaves_out, moment_of, on_day, until_text};
+ghost use Rattle.cal_text.specs.declared.any.DateOrMoment.{DateOrMoment};
+ghost use Rattle.caldate_run.specs.Answers.{IsAnswer, IsAnswerTo, IsAt, IsBetween, IsDayLater, IsLater, IsMomentLater, IsMoved, IsNotRead, IsReadAs, floored, form_read, is_date, leaves_out, moment_of, offset_in, on_day, until_text};
 ghost use Rattle.caldate_run.specs.Bounds.{lies_in};
 ghost use Rattle.caldate_run.specs.Forms.{IsInForm, format_text};
 ghost use Rattle.caldate_run.specs.Replies.{reason, refused_text};
 ghost use Rattle.caldate_run.specs.Room.{HasRoom, longest_answer};
 ghost use Rattle.caldate_run.specs.Runs.{AppendsThat, Puts};
+ghost use Rattle.caldate_run.specs.declared.no_answer.NoAnswer.{NoAnswer};
 
 use crate::bounds::lies_in;
 use crate::buffer::Buffer;
+use crate::clock::placed;
 use crate::counts::count_between;
 use crate::forms::{basic_text, month_text, quarter_text, unix_text};
 use crate::moves::led_to;
 use crate::no_answer::NoAnswer;
 use crate::reading::read;
-use crate::request::{Bounds, DayMove, Filter, Form, Request, TimeUnit};
+use crate::request::{Bounds, DayMove, Filter, Form, Place, Request, TimeUnit};
 use crate::signed::signed_text;
 use cal_datetime::OffsetDateTime;
 use cal_format::Format;
@@ -33,12 +36,12 @@ pub const LONGEST_TEXT: usize = 4096;
 const LONGEST_PRINTED: usize = 960;
 
 /// Appends the answer to `text`, and returns whether its line goes out.
-pub fn push_answer(buffer: &mut Buffer, filter: &Filter, text: &[u8]) -> Result<bool, NoAnswer>
+pub fn push_answer(buffer: &mut Buffer, filter: &Filter<'_>, text: &[u8]) -> Result<bool, NoAnswer>
     requires { HasRoom (length text.now + longest_answer) buffer.old }
     ensures answered { Puts (IsAnswer filter.now text.now) result buffer.old buffer.new }
     ensures short { length buffer.new ≤ length buffer.old + length text.now + longest_answer }
 {
-    let found = match read(filter.readers.as_slice(), filter.offset, text) {
+    let found = match read_with(filter, text) {
         Ok(found) => found,
         Err(why) => return Err(why),
     };
@@ -48,6 +51,22 @@ pub fn push_answer(buffer: &mut Buffer, filter: &Filter, text: &[u8]) -> Result<
         Ok(false)
     } else {
         Err(NoAnswer::None)
+    }
+}
+
+/// Parses the text in the first form that it has, and a local time by the clocks of the zone.
+#[inline(always)]
+pub fn read_with(filter: &Filter<'_>, text: &[u8]) -> Result<DateOrMoment, NoAnswer>
+    ensures every { (found : DateOrMoment) → IsReadAs filter.now text.now found
+        → result ≡ Ok found }
+    ensures has { IfOk result (IsReadAs filter.now text.now) }
+    ensures every_error { (why : NoAnswer) → IsNotRead filter.now text.now why
+        → result ≡ Err why }
+    ensures error { IfErr result (IsNotRead filter.now text.now) }
+{
+    match read(filter.readers.as_slice(), filter.offset, text) {
+        Ok(found) => placed(&filter.clock, found),
+        Err(why) => Err(why),
     }
 }
 
@@ -62,6 +81,8 @@ pub fn push_reason(buffer: &mut Buffer, why: NoAnswer)
         NoAnswer::NoField => buffer.push(b"no such field"),
         NoAnswer::NoForm => buffer.push(b"in no form of --read"),
         NoAnswer::None => buffer.push(b"none"),
+        NoAnswer::Skipped => buffer.push(b"skipped time"),
+        NoAnswer::Repeated => buffer.push(b"repeated time"),
         NoAnswer::Rejected(component) => push_refusal(buffer, component),
         NoAnswer::Unreadable(position) => {
             buffer.push(b"unreadable at ");
@@ -84,7 +105,12 @@ fn push_refusal(buffer: &mut Buffer, error: ComponentRange)
 }
 
 /// Appends the answer for the date or moment of `text`, or nothing. Returns whether it did.
-fn push_answer_to(buffer: &mut Buffer, request: &Request, text: &[u8], found: &DateOrMoment) -> bool
+fn push_answer_to(
+    buffer: &mut Buffer,
+    request: &Request<'_>,
+    text: &[u8],
+    found: &DateOrMoment,
+) -> bool
     requires { HasRoom (length text.now + longest_answer) buffer.old }
     ensures has { result ≡ true → AppendsThat
         (IsAnswerTo request.now text.now found.now) buffer.old buffer.new }
@@ -114,7 +140,7 @@ fn push_answer_to(buffer: &mut Buffer, request: &Request, text: &[u8], found: &D
             push_between(buffer, *unit, target, found);
             true
         }
-        Request::At(offset) => push_at(buffer, *offset, moment),
+        Request::At(place) => push_at(buffer, place, moment),
         Request::Keep(bounds) => push_kept(buffer, bounds, text, found),
     }
 }
@@ -138,7 +164,7 @@ fn push_kept(buffer: &mut Buffer, bounds: &Bounds, text: &[u8], found: &DateOrMo
 }
 
 /// Returns whether a `keep` request leaves out the line of this date or moment.
-fn leaves_out(request: &Request, found: &DateOrMoment) -> bool
+fn leaves_out(request: &Request<'_>, found: &DateOrMoment) -> bool
     ensures { result ≡ leaves_out request.now found.now }
 {
     match request {
@@ -293,17 +319,27 @@ fn push_moved(buffer: &mut Buffer, by: DayMove, found: &DateOrMoment) -> bool
     }
 }
 
-/// Appends the moment at this offset, or nothing. Returns whether it has a text.
-fn push_at(buffer: &mut Buffer, offset: UtcOffset, moment: OffsetDateTime) -> bool
+/// Appends the moment in the place, or nothing. Returns whether it has a text.
+fn push_at(buffer: &mut Buffer, place: &Place<'_>, moment: OffsetDateTime) -> bool
     requires { HasRoom longest_answer buffer.old }
-    ensures has { result ≡ true → AppendsThat (IsAt offset moment) buffer.old buffer.new }
+    ensures has { result ≡ true → AppendsThat (IsAt place.now moment) buffer.old buffer.new }
     ensures none { result ≡ false → (buffer.new ≡ buffer.old)
-        × ((words : List ℕ) → ¬ IsAt offset moment words) }
+        × ((words : List ℕ) → ¬ IsAt place.now moment words) }
     ensures short { length buffer.new ≤ length buffer.old + longest_answer }
 {
-    match moment.checked_to_offset(offset) {
+    match moment.checked_to_offset(offset_in(place, moment)) {
         Some(shown) => push_in_form(buffer, Form::Moment(MomentForm::Rfc3339), shown),
         None => false,
+    }
+}
+
+/// Returns the offset of the place at the moment.
+fn offset_in(place: &Place<'_>, moment: OffsetDateTime) -> UtcOffset
+    ensures { result ≡ offset_in place.now moment }
+{
+    match place {
+        Place::Offset(offset) => *offset,
+        Place::Zone(zone) => zone.utc_offset_at(moment.unix_timestamp()),
     }
 }
 

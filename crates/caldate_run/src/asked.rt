@@ -1,9 +1,11 @@
 //! The command that the arguments give.
-ghost use Rattle.std.specs.Prelude.{◌≡◌, ◌+◌, ◌<◌, ◌^◌, ◌≤◌, ℕ, List, Option, IfOk, drop};
+ghost use Rattle.std.specs.Prelude.{◌≡◌, ◌+◌, ◌<◌, ◌^◌, ◌≤◌, ℕ, List, Option, IfOk, drop, false, slice_get};
 ghost use Rattle.caldate_run.specs.Lists.{IsAsked};
 ghost use Rattle.caldate_run.specs.Offsets.{offset_of};
 ghost use Rattle.caldate_run.specs.Meanings.{AreMeanings, Meanings};
-ghost use Rattle.caldate_run.specs.Requests.{amount_at, amount_of, arguments_of, asked_of, count_at, default_mode, duration_of, filter_at, filter_of, floor_at, further_request_at, in_unit_at, occurrence_at, once_of, only_at, request_at, skip_in, start_at, target_at, to_of, unit_at, verb_wanted, weekday_of, words_left};
+ghost use Rattle.caldate_run.specs.Zones.{AreZones, is_zone_like, zone_of};
+ghost use Rattle.std.specs.Option.{option_map_or};
+ghost use Rattle.caldate_run.specs.Requests.{amount_at, amount_of, arguments_of, asked_of, clock_of, count_at, default_mode, duration_of, filter_at, filter_of, floor_at, further_request_at, in_unit_at, occurrence_at, once_of, only_at, place_at, request_at, skip_in, start_at, target_at, to_of, unit_at, verb_wanted, weekday_of, words_left};
 
 use crate::bounds::bounds_at;
 use crate::formats::to_of;
@@ -11,23 +13,27 @@ use crate::listing::list_of;
 use crate::offset::offset_of;
 use crate::on_invalid::OnInvalid;
 use crate::options::{Options, field_of, lacking, options_of, readers_in};
-use crate::request::{Asked, DayMove, FieldNumbers, Filter, Request, TimeUnit};
+use crate::request::{
+    Asked, Clock, DayMove, FieldNumbers, Filter, Place, Policy, Request, TimeUnit,
+};
 use crate::senseless::{Senseless, Wanted, senseless_at};
 use crate::spelling::{
     asks_for_help, count_of, minutes_of, minutes_word, number_of, period_of, start_of, unit_of,
     weekday_of,
 };
 use crate::words::{cut, ended, ends_at, found_at, keyword_at, only_at, word_as, word_at};
+use crate::zones::{ZoneFiles, is_zone_like, zone_of};
 use cal_text::DateOrMoment;
 use cal_time::{SignedDuration, UtcOffset, Weekday};
+use cal_zone::Zone;
 
 /// Parses arguments with zero bytes between them, or returns the first invalid or missing word. In
 /// `add 1 fortnight` the word at index 2 is not a unit.
-pub fn asked_of(words: &[u8]) -> Result<Asked, Senseless>
+pub fn asked_of<'a>(words: &[u8], files: &ZoneFiles<'a>) -> Result<Asked<'a>, Senseless>
     ensures steps { IfOk result IsAsked }
     ensures asked { (meanings : Meanings)
         → AreMeanings meanings (arguments_of words.now)
-        → result ≡ asked_of meanings (arguments_of words.now) }
+        → AreZones files.now meanings → result ≡ asked_of meanings (arguments_of words.now) }
 {
     let nothing = senseless_at(0, Wanted::Something);
     let first = word_at(words, 0).ok_or(nothing)?;
@@ -40,18 +46,18 @@ pub fn asked_of(words: &[u8]) -> Result<Asked, Senseless>
     } else if first == b"list".as_slice() {
         list_of(words)
     } else if first == b"--date".as_slice() {
-        once_of(words)
+        once_of(words, files)
     } else {
-        Ok(Asked::Lines(filter_at(words, Some(words), 0)?))
+        Ok(Asked::Lines(filter_at(words, Some(words), 0, files)?))
     }
 }
 
 /// Parses the text after `--date`, options and a request.
-fn once_of(words: &[u8]) -> Result<Asked, Senseless>
+fn once_of<'a>(words: &[u8], files: &ZoneFiles<'a>) -> Result<Asked<'a>, Senseless>
     ensures steps { IfOk result IsAsked }
     ensures asked { (meanings : Meanings)
         → AreMeanings meanings (arguments_of words.now)
-        → result ≡ once_of meanings (arguments_of words.now) }
+        → AreZones files.now meanings → result ≡ once_of meanings (arguments_of words.now) }
 {
     let Some(rest) = cut(words).1 else {
         return Err(senseless_at(1, Wanted::Target));
@@ -60,26 +66,31 @@ fn once_of(words: &[u8]) -> Result<Asked, Senseless>
     if text == b"".as_slice() {
         return Err(senseless_at(1, Wanted::Target));
     }
-    Ok(Asked::Once(filter_at(words, rest, 2)?))
+    Ok(Asked::Once(filter_at(words, rest, 2, files)?))
 }
 
 /// Parses options and a request from the word at an index on, where `rest` is.
-fn filter_at(words: &[u8], rest: Option<&[u8]>, at: usize) -> Result<Filter, Senseless>
+fn filter_at<'a>(
+    words: &[u8],
+    rest: Option<&[u8]>,
+    at: usize,
+    files: &ZoneFiles<'a>,
+) -> Result<Filter<'a>, Senseless>
     requires few { at ≤ 2 }
     requires rest { words_left rest ≡ drop at (arguments_of words.now) }
     ensures { (meanings : Meanings) → AreMeanings meanings (arguments_of words.now)
-        → result ≡ filter_at meanings (arguments_of words.now) at }
+        → AreZones files.now meanings → result ≡ filter_at meanings (arguments_of words.now) at }
 {
-    let (options, at) = options_of(rest, at)?;
+    let (options, at) = options_of(rest, at, files)?;
     if let Some(wanted) = lacking(&options) {
         return Err(senseless_at(at, wanted));
     }
-    let request = request_at(words, at)?;
+    let request = request_at(words, at, files)?;
     Ok(filter_of(options, request))
 }
 
-fn filter_of(options: Options, request: Request) -> Filter
-    ensures { result ≡ filter_of options request }
+fn filter_of<'a>(options: Options<'a>, request: Request<'a>) -> Filter<'a>
+    ensures { result ≡ filter_of options.entry request.entry }
 {
     Filter {
         on_invalid: match options.on_invalid {
@@ -91,11 +102,25 @@ fn filter_of(options: Options, request: Request) -> Filter
         skip: skip_in(&options),
         offset: options.offset.unwrap_or(UtcOffset::UTC),
         readers: readers_in(options.readers),
+        clock: clock_of(options.zone, options.policy),
+    }
+}
+
+/// Returns the clocks of the zone. The default policy is `compatible`.
+fn clock_of<'a>(zone: Option<Zone<'a>>, policy: Option<Policy>) -> Option<Clock<'a>>
+    ensures { result ≡ clock_of zone.entry policy }
+{
+    match zone {
+        Some(zone) => Some(Clock {
+            zone,
+            policy: policy.unwrap_or(Policy::Compatible),
+        }),
+        None => None,
     }
 }
 
 /// Returns how many lines are passed on at the start. A header is the first of them.
-fn skip_in(options: &Options) -> u64
+fn skip_in(options: &Options<'_>) -> u64
     ensures { result ≡ skip_in options.now }
 {
     let skip = options.skip.unwrap_or(0);
@@ -103,7 +128,7 @@ fn skip_in(options: &Options) -> u64
 }
 
 /// Returns what is written for a line without an answer if no option says it.
-fn default_mode(request: &Request, fields: Option<FieldNumbers>) -> OnInvalid
+fn default_mode(request: &Request<'_>, fields: Option<FieldNumbers>) -> OnInvalid
     ensures { result ≡ default_mode request.now fields }
 {
     match (request, fields) {
@@ -114,10 +139,10 @@ fn default_mode(request: &Request, fields: Option<FieldNumbers>) -> OnInvalid
 }
 
 /// Parses the request whose verb has this index.
-fn request_at(words: &[u8], at: usize) -> Result<Request, Senseless>
+fn request_at<'a>(words: &[u8], at: usize, files: &ZoneFiles<'a>) -> Result<Request<'a>, Senseless>
     requires { at + 5 < 2 ^ 64 }
     ensures { (meanings : Meanings) → AreMeanings meanings (arguments_of words.now)
-        → result ≡ request_at meanings (arguments_of words.now) at }
+        → AreZones files.now meanings → result ≡ request_at meanings (arguments_of words.now) at }
 {
     let senseless = senseless_at(at, verb_wanted(at));
     let verb = word_at(words, at).ok_or(senseless)?;
@@ -138,15 +163,20 @@ fn request_at(words: &[u8], at: usize) -> Result<Request, Senseless>
         let (target, unit) = target_at(words, at + 1)?;
         Ok(Request::Since(target, unit))
     } else {
-        further_request_at(words, at, verb)
+        further_request_at(words, at, verb, files)
     }
 }
 
 /// Parses a request that has one of the other verbs.
-fn further_request_at(words: &[u8], at: usize, verb: &[u8]) -> Result<Request, Senseless>
+fn further_request_at<'a>(
+    words: &[u8],
+    at: usize,
+    verb: &[u8],
+    files: &ZoneFiles<'a>,
+) -> Result<Request<'a>, Senseless>
     requires { at + 5 < 2 ^ 64 }
     ensures { (meanings : Meanings) → AreMeanings meanings (arguments_of words.now)
-        → result ≡ further_request_at meanings (arguments_of words.now) at verb.now }
+        → AreZones files.now meanings → result ≡ further_request_at meanings (arguments_of words.now) at verb.now }
 {
     if verb == b"start".as_slice() {
         start_at(words, at + 1)
@@ -157,7 +187,7 @@ fn further_request_at(words: &[u8], at: usize, verb: &[u8]) -> Result<Request, S
     } else if verb == b"on-or-before".as_slice() {
         Ok(Request::Move(DayMove::OnOrBefore(weekday_at(words, at + 1)?)))
     } else if verb == b"at".as_slice() {
-        Ok(Request::At(offset_at(words, at + 1)?))
+        Ok(Request::At(place_at(words, at + 1, files)?))
     } else if verb == b"keep".as_slice() {
         Ok(Request::Keep(bounds_at(words, at + 1)?))
     } else {
@@ -174,7 +204,7 @@ fn weekday_at(words: &[u8], at: usize) -> Result<Weekday, Senseless>
 }
 
 /// Parses `FORM` or `FORMAT`.
-fn to_at(words: &[u8], at: usize) -> Result<Request, Senseless>
+fn to_at(words: &[u8], at: usize) -> Result<Request<'static>, Senseless>
     requires { at + 1 < 2 ^ 64 }
     ensures { (meanings : Meanings) → AreMeanings meanings (arguments_of words.now)
         → result ≡ only_at (arguments_of words.now) at (to_of meanings) Wanted.Form }
@@ -190,7 +220,7 @@ fn to_at(words: &[u8], at: usize) -> Result<Request, Senseless>
 }
 
 /// Parses `PERIOD`, `day`, `hour`, `minute` or `N minutes`.
-fn start_at(words: &[u8], at: usize) -> Result<Request, Senseless>
+fn start_at(words: &[u8], at: usize) -> Result<Request<'static>, Senseless>
     requires { at + 2 < 2 ^ 64 }
     ensures { result ≡ start_at (arguments_of words.now) at }
 {
@@ -200,7 +230,7 @@ fn start_at(words: &[u8], at: usize) -> Result<Request, Senseless>
     }
 }
 
-fn floor_at(words: &[u8], at: usize, minutes: u16) -> Result<Request, Senseless>
+fn floor_at(words: &[u8], at: usize, minutes: u16) -> Result<Request<'static>, Senseless>
     requires { at + 1 < 2 ^ 64 }
     ensures { result ≡ floor_at (arguments_of words.now) at minutes }
 {
@@ -208,11 +238,43 @@ fn floor_at(words: &[u8], at: usize, minutes: u16) -> Result<Request, Senseless>
     Ok(Request::Floor(minutes))
 }
 
-fn offset_at(words: &[u8], at: usize) -> Result<UtcOffset, Senseless>
+/// Parses `OFFSET` or `ZONE`.
+fn place_at<'a>(words: &[u8], at: usize, files: &ZoneFiles<'a>) -> Result<Place<'a>, Senseless>
     requires { at + 1 < 2 ^ 64 }
-    ensures { result ≡ only_at (arguments_of words.now) at offset_of Wanted.Offset }
+    ensures { (meanings : Meanings) → AreZones files.now meanings
+        → result ≡ place_at meanings (arguments_of words.now) at }
 {
-    only_at(words, at, offset_of, Wanted::Offset)
+    if names_zone(words, at) {
+        return Ok(Place::Zone(zone_at(words, at, files)?));
+    }
+    let offset = only_at(words, at, offset_of, Wanted::Place)?;
+    Ok(Place::Offset(offset))
+}
+
+/// Returns whether the word is read as the name of a zone.
+fn names_zone(words: &[u8], at: usize) -> bool
+    ensures { result ≡ option_map_or is_zone_like (slice_get (arguments_of words.now) at) false }
+{
+    match word_at(words, at) {
+        Some(word) => is_zone_like(word),
+        None => false,
+    }
+}
+
+/// Parses `ZONE`.
+fn zone_at<'a>(words: &[u8], at: usize, files: &ZoneFiles<'a>) -> Result<Zone<'a>, Senseless>
+    requires { at + 1 < 2 ^ 64 }
+    ensures { (meanings : Meanings) → AreZones files.now meanings
+        → result ≡ only_at (arguments_of words.now) at (zone_of meanings) Wanted.Zone }
+{
+    let senseless = senseless_at(at, Wanted::Zone);
+    let Some(word) = word_at(words, at) else {
+        return Err(senseless);
+    };
+    match zone_of(files, word) {
+        Some(zone) => ended(words, at + 1, zone),
+        None => Err(senseless),
+    }
 }
 
 /// Returns the word expected for the verb. At index 0, options such as `--help` are allowed too.
@@ -223,7 +285,7 @@ fn verb_wanted(at: usize) -> Wanted
 }
 
 /// Parses `N` or `N UNIT`. The default unit is days.
-fn amount_at(words: &[u8], at: usize) -> Result<Request, Senseless>
+fn amount_at(words: &[u8], at: usize) -> Result<Request<'static>, Senseless>
     requires { at + 2 < 2 ^ 64 }
     ensures { result ≡ amount_at (arguments_of words.now) at }
 {
@@ -247,7 +309,7 @@ fn unit_at(words: &[u8], at: usize) -> Result<TimeUnit, Senseless>
 }
 
 /// Returns the request to add `number` units, or `None` if a duration can't hold them.
-fn amount_of(number: i64, unit: TimeUnit) -> Option<Request>
+fn amount_of(number: i64, unit: TimeUnit) -> Option<Request<'static>>
     ensures { result ≡ amount_of number unit }
 {
     match unit {
@@ -263,7 +325,7 @@ fn amount_of(number: i64, unit: TimeUnit) -> Option<Request>
 }
 
 /// Returns the request to add `number` units of `unit` seconds each.
-fn duration_of(number: i64, unit: u32) -> Option<Request>
+fn duration_of(number: i64, unit: u32) -> Option<Request<'static>>
     ensures { result ≡ duration_of unit number }
 {
     let seconds = number.checked_mul(i64::from(unit))?;

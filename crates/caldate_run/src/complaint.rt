@@ -1,10 +1,12 @@
 //! The message for arguments that make no sense.
-ghost use Rattle.std.specs.Prelude.{◌≡◌, ◌+◌, ◌≤◌, ◌++◌, [], length};
+ghost use Rattle.std.specs.Prelude.{◌≡◌, ◌+◌, ◌≤◌, ◌++◌, [], Err, length};
 ghost use Rattle.caldate_run.specs.Calls.{Writes, write_failure};
-ghost use Rattle.caldate_run.specs.Complaint.{after_word, complaint, error_phrase, expected_phrase, file_hint, is_duplicate, is_file_like, missing_noun, names_word, on_missing, on_word, problem, quoted, rule_error, rule_error_in};
+ghost use Rattle.caldate_run.specs.Complaint.{after_word, complaint, error_phrase, expected_phrase, file_hint, is_duplicate, is_file_like, missing_noun, names_word, on_missing, on_word, problem, quoted, rule_error, rule_error_in, zone_error, zone_error_in};
 ghost use Rattle.cal_recurrence.specs.Text.{recurrence_of};
 ghost use Rattle.caldate_run.specs.Requests.{arguments_of};
+ghost use Rattle.caldate_run.specs.Meanings.{Meanings};
 ghost use Rattle.caldate_run.specs.Runs.{Shown};
+ghost use Rattle.caldate_run.specs.Zones.{AreZones};
 
 use crate::buffer::Buffer;
 use crate::fault::Fault;
@@ -15,6 +17,8 @@ use crate::senseless::{Senseless, Wanted};
 use crate::shown::ShownText;
 use crate::streams::Sink;
 use crate::words::word_at;
+use crate::zone_fault::{ZoneFault, push_fault};
+use crate::zones::{ZoneFiles, is_zone_name, name_in, zone_named};
 use cal_recurrence::parse;
 
 /// The message for arguments with too many bytes.
@@ -22,7 +26,7 @@ pub const TOO_LONG: &[u8] = b"caldate: arguments too long; expected at most 4096
 
 /// The commands and options for the first argument.
 const COMMANDS: &[u8] =
-    b"; expected to, add, next, last, until, since, start, end, on-or-after, on-or-before, at, keep, list, --date, --invalid, --field, --csv, --header, --separator, --skip, --read, --assume, --help or --version";
+    b"; expected to, add, next, last, until, since, start, end, on-or-after, on-or-before, at, keep, list, --date, --invalid, --field, --csv, --header, --separator, --skip, --read, --assume, --zone, --ambiguous, --help or --version";
 
 /// The commands after an option.
 const LINE_COMMANDS: &[u8] =
@@ -67,49 +71,54 @@ const NUMBERS_AND_RULES: &[u8] =
 #[tactic(auto, using(crate::proofs::Calls::sent_all))]
 pub fn complain<W: Sink>(
     arguments: &[u8],
+    files: &ZoneFiles<'_>,
     senseless: Senseless,
     writer: &mut W,
 ) -> Result<(), Fault>
-    ensures shown { Shown (complaint (arguments_of arguments.now) senseless) result
-        (W.contents writer.old) (W.contents writer.new) }
+    ensures shown { (meanings : Meanings) → AreZones files.now meanings
+        → Shown (complaint meanings files.now.folder.now (arguments_of arguments.now) senseless)
+        result (W.contents writer.old) (W.contents writer.new) }
     ensures writes { Writes W.write_gives writer.old (write_failure result) writer.new }
 {
     let mut line = Buffer::new();
-    push_complaint(&mut line, arguments, senseless);
+    push_complaint(&mut line, arguments, files, senseless);
     write_all(writer, line.as_bytes())
 }
 
 /// Appends the message, with the program's name and a line feed.
-fn push_complaint(line: &mut Buffer, arguments: &[u8], senseless: Senseless)
+fn push_complaint(line: &mut Buffer, arguments: &[u8], files: &ZoneFiles<'_>, senseless: Senseless)
     requires { line.old ≡ [] }
-    ensures { line.new ≡ complaint (arguments_of arguments.now) senseless }
+    ensures { (meanings : Meanings) → AreZones files.now meanings → line.new
+        ≡ complaint meanings files.now.folder.now (arguments_of arguments.now) senseless }
 {
     line.push(b"caldate: ");
-    push_problem(line, arguments, senseless);
+    push_problem(line, arguments, files, senseless);
     line.push(b"\n");
 }
 
 /// Appends the error and the expected words.
-fn push_problem(line: &mut Buffer, arguments: &[u8], senseless: Senseless)
+fn push_problem(line: &mut Buffer, arguments: &[u8], files: &ZoneFiles<'_>, senseless: Senseless)
     requires { length line.old ≤ 9 }
-    ensures text { line.new ≡ line.old ++ problem (arguments_of arguments.now) senseless }
-    ensures short { length line.new ≤ 500 }
+    ensures text { (meanings : Meanings) → AreZones files.now meanings → line.new ≡ line.old
+        ++ problem meanings files.now.folder.now (arguments_of arguments.now) senseless }
+    ensures short { length line.new ≤ 1_000 }
 {
     if !names_word(senseless.wanted) {
         line.push(error_phrase(senseless.wanted));
         return;
     }
     match word_at(arguments, senseless.index) {
-        Some(word) => push_on_word(line, senseless.wanted, word),
+        Some(word) => push_on_word(line, files, senseless.wanted, word),
         None => push_on_missing(line, arguments, senseless),
     }
 }
 
 /// Appends the message on a word: `unknown unit 'fortnights'; expected ..`, `duplicate --field`.
-fn push_on_word(line: &mut Buffer, wanted: Wanted, word: &[u8])
+fn push_on_word(line: &mut Buffer, files: &ZoneFiles<'_>, wanted: Wanted, word: &[u8])
     requires { length line.old ≤ 9 }
-    ensures text { line.new ≡ line.old ++ on_word wanted word.now }
-    ensures short { length line.new ≤ 500 }
+    ensures text { (meanings : Meanings) → AreZones files.now meanings
+        → line.new ≡ line.old ++ on_word meanings files.now.folder.now wanted word.now }
+    ensures short { length line.new ≤ 1_000 }
 {
     if is_duplicate(wanted, word) {
         line.push(b"duplicate ");
@@ -121,6 +130,7 @@ fn push_on_word(line: &mut Buffer, wanted: Wanted, word: &[u8])
     push_quoted(line, word);
     line.push(expected_phrase(wanted));
     push_rule_error(line, wanted, word);
+    push_zone_error(line, files, wanted, word);
     push_file_hint(line, wanted, word);
 }
 
@@ -128,7 +138,7 @@ fn push_on_word(line: &mut Buffer, wanted: Wanted, word: &[u8])
 fn push_on_missing(line: &mut Buffer, arguments: &[u8], senseless: Senseless)
     requires { length line.old ≤ 9 }
     ensures text { line.new ≡ line.old ++ on_missing (arguments_of arguments.now) senseless }
-    ensures short { length line.new ≤ 500 }
+    ensures short { length line.new ≤ 1_000 }
 {
     line.push(b"missing ");
     line.push(missing_noun(senseless.wanted));
@@ -165,7 +175,7 @@ fn push_quoted(line: &mut Buffer, word: &[u8])
 
 /// Appends the error in a word that ought to be a rule.
 fn push_rule_error(line: &mut Buffer, wanted: Wanted, word: &[u8])
-    requires { length line.old ≤ 400 }
+    requires { length line.old ≤ 500 }
     ensures text { line.new ≡ line.old ++ rule_error_in wanted word.now }
     ensures short { length line.new ≤ length line.old + 68 }
 {
@@ -176,7 +186,7 @@ fn push_rule_error(line: &mut Buffer, wanted: Wanted, word: &[u8])
 
 /// Appends the error in a rule and its position: `: invalid value of FREQ at 0`.
 fn push_error_in_rule(line: &mut Buffer, word: &[u8])
-    requires { length line.old ≤ 400 }
+    requires { length line.old ≤ 500 }
     ensures text { line.new ≡ line.old ++ rule_error (recurrence_of word.now) }
     ensures short { length line.new ≤ length line.old + 68 }
 {
@@ -188,9 +198,51 @@ fn push_error_in_rule(line: &mut Buffer, word: &[u8])
     }
 }
 
+/// Appends the error in a word that ought to be the name of a zone.
+fn push_zone_error(line: &mut Buffer, files: &ZoneFiles<'_>, wanted: Wanted, word: &[u8])
+    requires { length line.old ≤ 600 }
+    ensures text { (meanings : Meanings) → AreZones files.now meanings
+        → line.new ≡ line.old ++ zone_error_in meanings files.now.folder.now wanted word.now }
+    ensures short { length line.new ≤ length line.old + 250 }
+{
+    if let Wanted::Zone = wanted {
+        let name = name_in(word);
+        if is_zone_name(name) {
+            push_error_of(line, files, name);
+        } else {
+            line.push(b"; expected one such as Europe/Berlin");
+        }
+    }
+}
+
+/// Appends the file of a zone and its error: `: /usr/share/zoneinfo/Europe/Berln: not found`.
+fn push_error_of(line: &mut Buffer, files: &ZoneFiles<'_>, name: &[u8])
+    requires { length line.old ≤ 600 }
+    ensures text { (meanings : Meanings) → AreZones files.now meanings → line.new
+        ≡ line.old ++ zone_error files.now.folder.now name.now (meanings name.now).zone }
+    ensures short { length line.new ≤ length line.old + 250 }
+{
+    if let Err(fault) = zone_named(files, name) {
+        push_fault_of(line, files.folder, name, fault);
+    }
+}
+
+fn push_fault_of(line: &mut Buffer, folder: &[u8], name: &[u8], fault: ZoneFault)
+    requires { length line.old ≤ 600 }
+    ensures text { line.new ≡ line.old ++ zone_error folder.now name.now (Err fault) }
+    ensures short { length line.new ≤ length line.old + 250 }
+{
+    line.push(b": ");
+    line.push(ShownText::new(folder).as_bytes());
+    line.push(b"/");
+    line.push(ShownText::new(name).as_bytes());
+    line.push(b": ");
+    push_fault(line, fault);
+}
+
 /// Appends a hint if a word too many looks like a file.
 fn push_file_hint(line: &mut Buffer, wanted: Wanted, word: &[u8])
-    requires { length line.old ≤ 450 }
+    requires { length line.old ≤ 850 }
     ensures text { line.new ≡ line.old ++ file_hint wanted word.now }
     ensures short { length line.new ≤ length line.old + 50 }
 {
@@ -218,7 +270,8 @@ fn names_word(wanted: Wanted) -> bool
 {
     match wanted {
         Wanted::Something | Wanted::Field | Wanted::CsvField | Wanted::CsvSeparator => false,
-        Wanted::Assume | Wanted::Local => false,
+        Wanted::Assume | Wanted::Local | Wanted::ZoneOption => false,
+        Wanted::OffsetOrZone | Wanted::LocalOnly => false,
         _ => true,
     }
 }
@@ -246,7 +299,11 @@ fn error_phrase(wanted: Wanted) -> &'static [u8]
         Wanted::Separator => b"invalid separator".as_slice(),
         Wanted::Skip => b"invalid number of lines".as_slice(),
         Wanted::Reading => b"unknown input form".as_slice(),
-        Wanted::Assume => b"a form without an offset requires --assume".as_slice(),
+        Wanted::Assume => b"a form without an offset requires --assume or --zone".as_slice(),
+        Wanted::ZoneOption => b"--ambiguous requires --zone".as_slice(),
+        Wanted::OffsetOrZone => b"--assume can't be used with --zone".as_slice(),
+        Wanted::LocalOnly => b"--zone requires --read of forms without an offset only".as_slice(),
+        Wanted::Policy => b"unknown policy".as_slice(),
         Wanted::Local => b"--assume requires --read of a form without an offset".as_slice(),
         Wanted::Form => b"unknown form".as_slice(),
         Wanted::Number => b"invalid number".as_slice(),
@@ -259,6 +316,8 @@ fn error_phrase(wanted: Wanted) -> &'static [u8]
         Wanted::StartPeriod => b"unknown start".as_slice(),
         Wanted::Minutes => b"invalid unit".as_slice(),
         Wanted::Offset => b"invalid offset".as_slice(),
+        Wanted::Place => b"invalid offset or zone".as_slice(),
+        Wanted::Zone => b"cannot read zone".as_slice(),
         Wanted::Bounds => b"unknown bound".as_slice(),
         Wanted::Date => b"invalid date".as_slice(),
         Wanted::Many => b"invalid number or rule".as_slice(),
@@ -288,7 +347,10 @@ fn missing_noun(wanted: Wanted) -> &'static [u8]
         Wanted::Count => b"count".as_slice(),
         Wanted::Target => b"date or moment".as_slice(),
         Wanted::Period | Wanted::StartPeriod => b"period".as_slice(),
+        Wanted::Policy => b"policy".as_slice(),
         Wanted::Offset => b"offset".as_slice(),
+        Wanted::Place => b"offset or zone".as_slice(),
+        Wanted::Zone => b"zone".as_slice(),
         Wanted::Bounds => b"bound".as_slice(),
         Wanted::Date => b"date".as_slice(),
         Wanted::Many => b"number or rule".as_slice(),
@@ -300,7 +362,7 @@ fn missing_noun(wanted: Wanted) -> &'static [u8]
 /// Returns the expected words, or nothing if the message needs none.
 fn expected_phrase(wanted: Wanted) -> &'static [u8]
     ensures words { result.now ≡ expected_phrase wanted }
-    ensures short { length result.now ≤ 220 }
+    ensures short { length result.now ≤ 300 }
 {
     match wanted {
         Wanted::Start => COMMANDS,
@@ -321,7 +383,9 @@ fn expected_phrase(wanted: Wanted) -> &'static [u8]
         Wanted::Period => b"; expected week, month, quarter or year".as_slice(),
         Wanted::StartPeriod => STARTS,
         Wanted::Minutes => b"; expected minutes".as_slice(),
+        Wanted::Policy => b"; expected compatible, earlier, later or reject".as_slice(),
         Wanted::Offset => b"; expected one such as +01:00, -05:30 or Z".as_slice(),
+        Wanted::Place => b"; expected one such as +01:00, -05:30, Z or Europe/Berlin".as_slice(),
         Wanted::Bounds => b"; expected from, after or before".as_slice(),
         Wanted::From => b"; expected 'from'".as_slice(),
         Wanted::Date => DATES,

@@ -49,7 +49,7 @@ pub fn format_of(word: &[u8]) -> Option<Format>
 }
 
 /// Parses the argument of `to`: the name of a form, or a format.
-pub fn to_of(word: &[u8]) -> Option<Request>
+pub fn to_of(word: &[u8]) -> Option<Request<'static>>
     ensures { (meanings : Meanings) → IsMeaning meanings word.now
         → result ≡ to_of meanings word.now }
 {

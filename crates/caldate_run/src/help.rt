@@ -27,7 +27,8 @@ no answer, or 2 if the arguments are invalid, or the input or the output fails.
   caldate until DATE [in UNIT]    the days until that date, the duration until that moment, or
                                   whole units
   caldate since DATE [in UNIT]    the same from that date or moment until the line
-  caldate at OFFSET               the moment at that offset
+  caldate at OFFSET               the moment at that offset, such as +01:00
+  caldate at ZONE                 the moment by the clocks of that zone, such as Europe/Berlin
   caldate keep from A to B        the line itself if it is from A to B, otherwise nothing;
                                   also keep after A and keep before B
   caldate list from A to B        without input: all dates from A to B; with by N UNIT every N
@@ -49,12 +50,16 @@ no answer, or 2 if the arguments are invalid, or the input or the output fails.
                                   unix-ns, clf, rfc2822, iso or local, or in a format of strftime,
                                   such as %d.%m.%Y; of up to four, the first that fits wins
   caldate --assume OFFSET ...     with --read local, or a format without an offset: their offset
+  caldate --zone ZONE ...         the same, by the clocks of that zone
+  caldate --ambiguous POLICY ...  with --zone: what is meant by a time that clocks skip or show twice:
+                                  compatible (the default), earlier, later, or reject for none
   caldate --help, -h, help        this page
   caldate --version               the version
 
 Names of weekdays, units and periods may have any case, or only their first three letters: fri, min.
 A unit may be singular: day. A line is a date, such as 2024-02-29, 2024-060, 2024-W09-4 or J2460370,
-or a moment, such as 2024-02-29T23:59:59.25+01:00 or @1709164800.5.
+or a moment, such as 2024-02-29T23:59:59.25+01:00 or @1709164800.5. Zones are the files of the
+folder in the variable TZDIR, or of /usr/share/zoneinfo.
 
   echo 2024-02-29 | caldate to week                        2024-W09-4
   echo 2024-W09-4 | caldate to weekday                     Thursday
@@ -68,6 +73,8 @@ or a moment, such as 2024-02-29T23:59:59.25+01:00 or @1709164800.5.
   echo 2000-01-01 | caldate until 2024-02-29               8825
   echo 1980-06-01 | caldate until 2024-02-29 in years      43
   echo 2024-02-29T23:30:00+01:00 | caldate at Z            2024-02-29T22:30:00Z
+  echo 2024-07-01T12:00:00Z | caldate at Europe/Berlin     2024-07-01T14:00:00+02:00
+  echo 2024-07-01T14:00:00 | caldate --read local --zone Europe/Berlin at Z   2024-07-01T12:00:00Z
   echo 2024-02-29 | caldate to unix-ms                     1709164800000
   echo 29.02.2024 | caldate --read dmy to calendar         2024-02-29
   echo '29 February 2024' | caldate --read '%d %B %Y' to week   2024-W09-4

@@ -8,35 +8,37 @@ ghost use Rattle.caldate_run.specs.Records.{IsField};
 ghost use Rattle.caldate_run.specs.Replies.{IsReplyTo};
 ghost use Rattle.caldate_run.specs.Meanings.{AreMeanings, Meanings};
 ghost use Rattle.caldate_run.specs.Requests.{arguments_of};
+ghost use Rattle.caldate_run.specs.Zones.{AreZones};
 ghost use Rattle.caldate_run.specs.declared.tally.Tally.{Tally};
 
+use crate::answer::read_with;
 use crate::fields::asked_text;
 use crate::formats::format_of;
 use crate::lines::cut_return;
 use crate::no_answer::NoAnswer;
 use crate::options::cut_value;
-use crate::reading::read;
 use crate::request::Filter;
 use crate::words::cut;
+use crate::zones::{ZoneFiles, zone_in};
 use cal_text::{DateOrMoment, parse_any};
 
 /// Proves that no text has two answers to the same request in the same reading.
-pub fn one_answer(filter: &Filter, text: &[u8]) -> Result<DateOrMoment, NoAnswer>
+pub fn one_answer(filter: &Filter<'_>, text: &[u8]) -> Result<DateOrMoment, NoAnswer>
     ensures { (answer other : Answer) → IsAnswer filter.now text.now answer
         → IsAnswer filter.now text.now other → answer ≡ other }
 {
-    read(filter.readers.as_slice(), filter.offset, text)
+    read_with(filter, text)
 }
 
 /// Proves that no line has two replies.
-pub fn one_reply(filter: &Filter, line: &[u8]) -> Option<Result<DateOrMoment, NoAnswer>>
+pub fn one_reply(filter: &Filter<'_>, line: &[u8]) -> Option<Result<DateOrMoment, NoAnswer>>
     ensures { (before : ℕ) (reply other : List ℕ) (t u v w : Tally)
         → IsReplyTo filter.now before line.now reply t u
         → IsReplyTo filter.now before line.now other v w → reply ≡ other }
 {
     let (text, _has_return) = cut_return(line);
     let asked = asked_text(filter.field, text)?;
-    Some(read(filter.readers.as_slice(), filter.offset, asked))
+    Some(read_with(filter, asked))
 }
 
 /// Proves that the fields of a record of RFC 4180 on one line are split at its separators, which
@@ -62,4 +64,15 @@ pub fn have_meanings(arguments: &[u8])
     if let Some(words) = rest {
         have_meanings(words);
     }
+}
+
+/// Proves that the words of all arguments have meanings, and that all names have zones, or a reason
+/// why not.
+pub fn have_zones(arguments: &[u8], files: &ZoneFiles<'_>)
+    ensures { (meanings : Meanings)
+        × AreMeanings meanings (arguments_of arguments.now) × AreZones files.now meanings }
+{
+    have_meanings(arguments);
+    let _first = zone_in(files.first);
+    let _second = zone_in(files.second);
 }

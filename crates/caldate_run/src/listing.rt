@@ -15,7 +15,7 @@ use cal_text::DateOrMoment;
 use cal_time::Date;
 
 /// Parses `list from A to B`, `list from A to B by N UNIT` or `list from A to B by RULE`.
-pub fn list_of(words: &[u8]) -> Result<Asked, Senseless>
+pub fn list_of(words: &[u8]) -> Result<Asked<'static>, Senseless>
     ensures steps { IfOk result IsAsked }
     ensures list { (meanings : Meanings)
         → AreMeanings meanings (arguments_of words.now)
@@ -47,7 +47,7 @@ fn date_in(found: &DateOrMoment) -> Option<Date>
     }
 }
 
-fn paced(first: Date, last: Date, pace: Pace) -> Asked
+fn paced(first: Date, last: Date, pace: Pace) -> Asked<'static>
     requires { IsPace pace }
     ensures steps { IsAsked result }
     ensures list { result ≡ paced first last pace }

@@ -15,6 +15,10 @@ pub enum NoAnswer {
     Rejected(ComponentRange),
     /// The text is in none of the forms of `--read`.
     NoForm,
+    /// The clocks of the zone skip the text's time.
+    Skipped,
+    /// The clocks of the zone show the text's time twice.
+    Repeated,
     /// The text has no form, and this byte is the first that none has there, counted from 0.
     Unreadable(usize),
 }

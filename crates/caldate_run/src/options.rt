@@ -1,7 +1,8 @@
 //! The options before a request.
 ghost use Rattle.std.specs.Prelude.{◌≡◌, ◌+◌, ◌≤◌, ◌^◌, IfOk, None, length, true};
 ghost use Rattle.caldate_run.specs.Meanings.{AreMeanings, IsMeaning, Meanings, name_of, value_in};
-ghost use Rattle.caldate_run.specs.Requests.{any_local, byte_of, field_number_of, field_numbers_of, field_of, fields_from, has_room, invalid_of, is_flag, is_local, is_option, lacking, no_options, options_from, readers_in, skip_of, value_of, with_flag, with_reader, with_value, words_left};
+ghost use Rattle.caldate_run.specs.Requests.{any_local, any_own, byte_of, field_number_of, field_numbers_of, field_of, fields_from, has_own, has_room, invalid_of, is_flag, is_local, is_option, lacking, lacking_with_zone, no_options, options_from, policy_of, readers_in, skip_of, value_of, with_flag, with_reader, with_value, words_left};
+ghost use Rattle.caldate_run.specs.Zones.{AreZones};
 
 use crate::formats::reader_of;
 use crate::lines::index_of;
@@ -10,15 +11,17 @@ use crate::on_invalid::OnInvalid;
 use crate::reading::reader::Reader;
 use crate::reading::spelling::Spelling;
 use crate::reading::{Readers, Reading};
-use crate::request::{Field, FieldNumbers};
+use crate::request::{Field, FieldNumbers, Policy};
 use crate::senseless::{Senseless, Wanted, senseless_at};
 use crate::spelling::number_of;
 use crate::words::cut;
+use crate::zones::{ZoneFiles, zone_of};
 use cal_time::UtcOffset;
+use cal_zone::Zone;
 
 /// A set of options before a request.
 #[derive(Drop)]
-pub struct Options {
+pub struct Options<'a> {
     /// The mode of `--invalid MODE`.
     pub on_invalid: Option<OnInvalid>,
     /// The numbers of `--field N` or `--field N-M`.
@@ -35,10 +38,14 @@ pub struct Options {
     pub readers: Readers,
     /// The offset of `--assume OFFSET`.
     pub offset: Option<UtcOffset>,
+    /// The zone of `--zone NAME`.
+    pub zone: Option<Zone<'a>>,
+    /// The policy of `--ambiguous POLICY`.
+    pub policy: Option<Policy>,
 }
 
 /// Returns the options if the arguments have none.
-fn no_options() -> Options
+fn no_options() -> Options<'static>
     ensures { result ≡ no_options }
 {
     Options {
@@ -50,31 +57,38 @@ fn no_options() -> Options
         skip: None,
         readers: Readers::new(),
         offset: None,
+        zone: None,
+        policy: None,
     }
 }
 
 /// Parses the options from the word at an index on, and returns them with the index of the word
 /// after them.
-pub fn options_of(words: Option<&[u8]>, at: usize) -> Result<(Options, usize), Senseless>
+pub fn options_of<'a>(
+    words: Option<&[u8]>,
+    at: usize,
+    files: &ZoneFiles<'a>,
+) -> Result<(Options<'a>, usize), Senseless>
     requires { at + length (words_left words) ≤ 2 ^ 63 }
     ensures options { (meanings : Meanings) → AreMeanings meanings (words_left words.entry)
-        → result ≡ options_from meanings None no_options at (words_left words.entry) }
+        → AreZones files.now meanings → result ≡ options_from meanings None no_options at (words_left words.entry) }
     ensures within { IfOk result (λ front. front.1 ≤ 2 ^ 63) }
 {
-    options_from(None, no_options(), at, words)
+    options_from(None, no_options(), at, words, files)
 }
 
 /// Parses the options at the front of the words, whose first has index `at`. If `wanted` is given,
 /// it is the value of the option before it.
-fn options_from(
+fn options_from<'a>(
     wanted: Option<Wanted>,
-    options: Options,
+    options: Options<'a>,
     at: usize,
     words: Option<&[u8]>,
-) -> Result<(Options, usize), Senseless>
+    files: &ZoneFiles<'a>,
+) -> Result<(Options<'a>, usize), Senseless>
     requires { at + length (words_left words) ≤ 2 ^ 63 }
     ensures options { (meanings : Meanings) → AreMeanings meanings (words_left words.entry)
-        → result ≡ options_from meanings wanted options at (words_left words.entry) }
+        → AreZones files.now meanings → result ≡ options_from meanings wanted options.entry at (words_left words.entry) }
     ensures within { IfOk result (λ front. front.1 ≤ 2 ^ 63) }
 {
     let Some(words) = words else {
@@ -85,20 +99,20 @@ fn options_from(
     };
     let (word, rest) = cut(words);
     if let Some(wanted) = wanted {
-        let more = with_value(options, word, wanted).ok_or(senseless_at(at, wanted))?;
-        return options_from(None, more, at + 1, rest);
+        let more = with_value(options, word, wanted, files).ok_or(senseless_at(at, wanted))?;
+        return options_from(None, more, at + 1, rest, files);
     }
     if is_flag(&options, word) {
-        return options_from(None, with_flag(options, word), at + 1, rest);
+        return options_from(None, with_flag(options, word), at + 1, rest, files);
     }
     if let Some(wanted) = value_of(&options, word) {
-        return options_from(Some(wanted), options, at + 1, rest);
+        return options_from(Some(wanted), options, at + 1, rest, files);
     }
     let (name, value) = cut_value(word);
     match value_of(&options, name) {
         Some(wanted) => {
-            let more = with_value(options, value, wanted).ok_or(senseless_at(at, wanted))?;
-            options_from(None, more, at + 1, rest)
+            let more = with_value(options, value, wanted, files).ok_or(senseless_at(at, wanted))?;
+            options_from(None, more, at + 1, rest, files)
         }
         None => Ok((options, at)),
     }
@@ -117,7 +131,7 @@ pub fn cut_value(word: &[u8]) -> (&[u8], &[u8])
 }
 
 /// Returns the value that an option needs, or `None` for any other word and a repeated option.
-fn value_of(options: &Options, word: &[u8]) -> Option<Wanted>
+fn value_of(options: &Options<'_>, word: &[u8]) -> Option<Wanted>
     ensures { result ≡ value_of options.now word.now }
 {
     if word == b"--invalid".as_slice() && options.on_invalid.is_none() {
@@ -132,13 +146,17 @@ fn value_of(options: &Options, word: &[u8]) -> Option<Wanted>
         Some(Wanted::Reading)
     } else if word == b"--assume".as_slice() && options.offset.is_none() {
         Some(Wanted::Offset)
+    } else if word == b"--zone".as_slice() && options.zone.is_none() {
+        Some(Wanted::Zone)
+    } else if word == b"--ambiguous".as_slice() && options.policy.is_none() {
+        Some(Wanted::Policy)
     } else {
         None
     }
 }
 
 /// Returns whether the word is `--csv` or `--header`, and not given yet.
-fn is_flag(options: &Options, word: &[u8]) -> bool
+fn is_flag(options: &Options<'_>, word: &[u8]) -> bool
     ensures { result ≡ is_flag options.now word.now }
 {
     if word == b"--csv".as_slice() {
@@ -149,8 +167,8 @@ fn is_flag(options: &Options, word: &[u8]) -> bool
 }
 
 /// Sets `--csv` or `--header`.
-fn with_flag(options: Options, word: &[u8]) -> Options
-    ensures { result ≡ with_flag options word.now }
+fn with_flag(options: Options<'_>, word: &[u8]) -> Options<'_>
+    ensures { result ≡ with_flag options.entry word.now }
 {
     let mut more = options;
     if word == b"--csv".as_slice() {
@@ -170,9 +188,14 @@ pub fn is_option(word: &[u8]) -> bool
 }
 
 /// Sets the option that needs `wanted`, or returns `None` if the value is invalid.
-fn with_value(options: Options, value: &[u8], wanted: Wanted) -> Option<Options>
+fn with_value<'a>(
+    options: Options<'a>,
+    value: &[u8],
+    wanted: Wanted,
+    files: &ZoneFiles<'a>,
+) -> Option<Options<'a>>
     ensures { (meanings : Meanings) → IsMeaning meanings value.now
-        → result ≡ with_value meanings options value.now wanted }
+        → AreZones files.now meanings → result ≡ with_value meanings options.entry value.now wanted }
 {
     let mut more = options;
     match wanted {
@@ -182,6 +205,8 @@ fn with_value(options: Options, value: &[u8], wanted: Wanted) -> Option<Options>
         Wanted::Skip => more.skip = Some(skip_of(value)?),
         Wanted::Reading => return with_reader(more, reader_of(value)?),
         Wanted::Offset => more.offset = Some(offset_of(value)?),
+        Wanted::Zone => more.zone = Some(zone_of(files, value)?),
+        Wanted::Policy => more.policy = Some(policy_of(value)?),
         _ => return None,
     }
     Some(more)
@@ -199,6 +224,23 @@ fn invalid_of(word: &[u8]) -> Option<OnInvalid>
         Some(OnInvalid::Drop)
     } else if word == b"stop".as_slice() {
         Some(OnInvalid::Stop)
+    } else {
+        None
+    }
+}
+
+/// Parses a policy: `compatible`, `earlier`, `later` or `reject`.
+fn policy_of(word: &[u8]) -> Option<Policy>
+    ensures { result ≡ policy_of word.now }
+{
+    if word == b"compatible".as_slice() {
+        Some(Policy::Compatible)
+    } else if word == b"earlier".as_slice() {
+        Some(Policy::Earlier)
+    } else if word == b"later".as_slice() {
+        Some(Policy::Later)
+    } else if word == b"reject".as_slice() {
+        Some(Policy::Reject)
     } else {
         None
     }
@@ -265,7 +307,7 @@ fn skip_of(word: &[u8]) -> Option<u64>
 }
 
 /// Returns the fields that the options select. The default separator is a tab, or a comma in CSV.
-pub fn field_of(options: &Options) -> Option<Field>
+pub fn field_of(options: &Options<'_>) -> Option<Field>
     ensures { result ≡ field_of options.now }
 {
     let numbers = options.fields?;
@@ -282,8 +324,8 @@ pub fn field_of(options: &Options) -> Option<Field>
 }
 
 /// Adds a form of `--read`, or returns `None` if four are given.
-fn with_reader(options: Options, reader: Reader) -> Option<Options>
-    ensures { result ≡ with_reader options reader }
+fn with_reader(options: Options<'_>, reader: Reader) -> Option<Options<'_>>
+    ensures { result ≡ with_reader options.entry reader }
 {
     let mut more = options;
     if more.readers.try_push(reader) {
@@ -325,8 +367,28 @@ fn is_local(reader: &Reader) -> bool
     }
 }
 
+/// Returns whether a form has an offset of its own.
+fn any_own(readers: &[Reader]) -> bool
+    ensures { result ≡ any_own readers.now }
+{
+    match readers {
+        [] => false,
+        [first, others @ ..] => has_own(first) || any_own(others),
+    }
+}
+
+fn has_own(reader: &Reader) -> bool
+    ensures { result ≡ has_own reader.now }
+{
+    match reader {
+        Reader::Named(Reading::Any | Reading::Unix(_)) => true,
+        Reader::Spelled(_) | Reader::Moments(_) => true,
+        _ => false,
+    }
+}
+
 /// Returns the option that is missing, if the others need it.
-pub fn lacking(options: &Options) -> Option<Wanted>
+pub fn lacking(options: &Options<'_>) -> Option<Wanted>
     ensures { result ≡ lacking options.now }
 {
     if options.separator.is_some() && options.fields.is_none() {
@@ -335,10 +397,27 @@ pub fn lacking(options: &Options) -> Option<Wanted>
         Some(Wanted::CsvField)
     } else if options.csv && options.separator == Some(b'"') {
         Some(Wanted::CsvSeparator)
+    } else if options.policy.is_some() && options.zone.is_none() {
+        Some(Wanted::ZoneOption)
+    } else if options.zone.is_some() {
+        lacking_with_zone(options)
     } else if any_local(options.readers.as_slice()) && options.offset.is_none() {
         Some(Wanted::Assume)
     } else if options.offset.is_some() && !any_local(options.readers.as_slice()) {
         Some(Wanted::Local)
+    } else {
+        None
+    }
+}
+
+/// Returns what `--zone` lacks: forms without an offset only, and no offset.
+fn lacking_with_zone(options: &Options<'_>) -> Option<Wanted>
+    ensures { result ≡ lacking_with_zone options.now }
+{
+    if options.offset.is_some() {
+        Some(Wanted::OffsetOrZone)
+    } else if !any_local(options.readers.as_slice()) || any_own(options.readers.as_slice()) {
+        Some(Wanted::LocalOnly)
     } else {
         None
     }

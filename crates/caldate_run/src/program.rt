@@ -23,53 +23,56 @@ use crate::request::Asked;
 use crate::run::run;
 use crate::streams::{Sink, Source};
 use crate::words::word_at;
+use crate::zones::ZoneFiles;
 
 /// The status for invalid arguments.
 const SENSELESS: u8 = 2;
 
-/// Runs the command of the arguments, which have zero bytes between them. Returns the status and
+/// Runs the command of the arguments, which have zero bytes between them, with the files of the zones
+/// that they name. Returns the status and
 /// the result of writing to standard error. If the arguments are invalid, or `None` because they
 /// are too long, this only writes one line to standard error, and the status is 2.
 #[tactic(auto, using(crate::proofs::Calls::sent_all))]
 pub fn perform<R: Source, W: Sink, E: Sink>(
     arguments: Option<&[u8]>,
+    files: &ZoneFiles<'_>,
     reader: &mut R,
     writer: &mut W,
     errors: &mut E,
 ) -> Ending
-    ensures lines { (filter : Filter) → Asks arguments.entry (Asked.Lines filter)
+    ensures lines { (filter : Filter) → Asks arguments.entry files.now (Asked.Lines filter)
         → (outcome : Result Unit Fault)
         × Ended filter outcome (R.remaining reader.old) (R.remaining reader.new)
         (W.contents writer.old) (W.contents writer.new)
         × Reads R.read_gives most_reads reader.old (has_read_failure outcome) reader.new
         × Writes W.write_gives writer.old (write_failure outcome) writer.new
         × Tells outcome result (E.contents errors.old) (E.contents errors.new) }
-    ensures once { (filter : Filter) (text : List ℕ) → AsksOnce arguments.entry filter text
+    ensures once { (filter : Filter) (text : List ℕ) → AsksOnce arguments.entry files.now filter text
         → (reader.new ≡ reader.old) × ((outcome : Result Unit Fault) × (rest : Option (List ℕ))
         × Ended filter outcome (Some text) rest (W.contents writer.old) (W.contents writer.new)
         × Writes W.write_gives writer.old (write_failure outcome) writer.new
         × Tells outcome result (E.contents errors.old) (E.contents errors.new)) }
-    ensures list { (listing : Listing) → Asks arguments.entry (Asked.Dates listing)
+    ensures list { (listing : Listing) → Asks arguments.entry files.now (Asked.Dates listing)
         → (reader.new ≡ reader.old) × ((outcome : Result Unit Fault)
         × Lists listing outcome (W.contents writer.old) (W.contents writer.new)
         × Writes W.write_gives writer.old (write_failure outcome) writer.new
         × Tells outcome result (E.contents errors.old) (E.contents errors.new)) }
-    ensures recurring { (dates : Occurrences) → Asks arguments.entry (Asked.Recurring dates)
+    ensures recurring { (dates : Occurrences) → Asks arguments.entry files.now (Asked.Recurring dates)
         → (reader.new ≡ reader.old) × ((outcome : Result Unit Fault)
         × ListsOccurrences dates outcome (W.contents writer.old) (W.contents writer.new)
         × Writes W.write_gives writer.old (write_failure outcome) writer.new
         × Tells outcome result (E.contents errors.old) (E.contents errors.new)) }
-    ensures help { Asks arguments.entry Asked.Help
+    ensures help { Asks arguments.entry files.now Asked.Help
         → (reader.new ≡ reader.old) × ((outcome : Result Unit Fault)
         × Shown HELP.now outcome (W.contents writer.old) (W.contents writer.new)
         × Writes W.write_gives writer.old (write_failure outcome) writer.new
         × Tells outcome result (E.contents errors.old) (E.contents errors.new)) }
-    ensures version { Asks arguments.entry Asked.Version
+    ensures version { Asks arguments.entry files.now Asked.Version
         → (reader.new ≡ reader.old) × ((outcome : Result Unit Fault)
         × Shown VERSION.now outcome (W.contents writer.old) (W.contents writer.new)
         × Writes W.write_gives writer.old (write_failure outcome) writer.new
         × Tells outcome result (E.contents errors.old) (E.contents errors.new)) }
-    ensures senseless { (words : List ℕ) → HasComplaint arguments.entry words
+    ensures senseless { (words : List ℕ) → HasComplaint arguments.entry files.now words
         → (reader.new ≡ reader.old) × (writer.new ≡ writer.old) × (result.status ≡ 2)
         × Shown words result.told (E.contents errors.old) (E.contents errors.new) }
     ensures told { Writes E.write_gives errors.old (write_failure result.told) errors.new }
@@ -80,7 +83,7 @@ pub fn perform<R: Source, W: Sink, E: Sink>(
             told: write_all(errors, TOO_LONG),
         };
     };
-    match asked_of(arguments) {
+    match asked_of(arguments, files) {
         Ok(Asked::Lines(filter)) => {
             let outcome = run(filter, reader, writer);
             end(outcome, errors)
@@ -108,7 +111,7 @@ pub fn perform<R: Source, W: Sink, E: Sink>(
         }
         Err(senseless) => Ending {
             status: SENSELESS,
-            told: complain(arguments, senseless, errors),
+            told: complain(arguments, files, senseless, errors),
         },
     }
 }

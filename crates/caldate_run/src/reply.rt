@@ -21,7 +21,7 @@ use crate::unanswered::UnansweredLine;
 /// the line. Fails, and appends nothing, if the run ends at the line.
 pub fn push_reply(
     buffer: &mut Buffer,
-    filter: &Filter,
+    filter: &Filter<'_>,
     progress: &mut Progress,
     line: &[u8],
 ) -> Result<(), UnansweredLine>
@@ -50,7 +50,7 @@ pub fn push_reply(
 /// Appends the answer to the text of a line, and returns whether the line goes out.
 fn push_line(
     buffer: &mut Buffer,
-    filter: &Filter,
+    filter: &Filter<'_>,
     progress: &Progress,
     text: &[u8],
 ) -> Result<bool, NoAnswer>
@@ -75,7 +75,7 @@ fn push_line(
 #[cold]
 fn push_unanswered(
     buffer: &mut Buffer,
-    filter: &Filter,
+    filter: &Filter<'_>,
     progress: &mut Progress,
     text: &[u8],
     with_return: bool,
@@ -139,7 +139,7 @@ fn stops(on_invalid: OnInvalid) -> bool
 }
 
 /// Appends what goes out in place of an answer, and returns whether the line goes out.
-fn push_in_place(buffer: &mut Buffer, filter: &Filter, text: &[u8], why: NoAnswer) -> bool
+fn push_in_place(buffer: &mut Buffer, filter: &Filter<'_>, text: &[u8], why: NoAnswer) -> bool
     requires room { HasRoom longest_reply buffer.old }
     requires line { HasRoom (length text.now) buffer.old }
     requires fits { longest_text < length text.now → why ≡ NoAnswer.TooLong }
@@ -164,7 +164,7 @@ fn push_in_place(buffer: &mut Buffer, filter: &Filter, text: &[u8], why: NoAnswe
 
 /// Appends the text with the reason in place of the text to answer, or the reason alone if the line
 /// is too long.
-fn push_with_reason(buffer: &mut Buffer, filter: &Filter, text: &[u8], why: NoAnswer)
+fn push_with_reason(buffer: &mut Buffer, filter: &Filter<'_>, text: &[u8], why: NoAnswer)
     requires room { HasRoom longest_reply buffer.old }
     requires fits { longest_text < length text.now → why ≡ NoAnswer.TooLong }
     ensures text { buffer.new ≡ buffer.old ++ with_reason filter.now text.now why }
@@ -200,7 +200,7 @@ fn push_in_field(buffer: &mut Buffer, field: Option<Field>, text: &[u8], why: No
 /// line goes out.
 fn push_text(
     buffer: &mut Buffer,
-    filter: &Filter,
+    filter: &Filter<'_>,
     number: u64,
     text: &[u8],
 ) -> Result<bool, NoAnswer>
@@ -224,7 +224,7 @@ fn push_text(
 /// Appends the text with the answer in place of the field, and returns whether the line goes out.
 fn push_field(
     buffer: &mut Buffer,
-    filter: &Filter,
+    filter: &Filter<'_>,
     field: Field,
     text: &[u8],
 ) -> Result<bool, NoAnswer>

@@ -5,6 +5,7 @@ use cal_format::Format;
 use cal_recurrence::Recurrence;
 use cal_text::{DateForm, DateOrMoment, MomentForm};
 use cal_time::{Date, SignedDuration, UtcOffset, Weekday};
+use cal_zone::Zone;
 
 /// A form in which a date or a moment is written.
 #[derive(Clone, Copy)]
@@ -93,9 +94,39 @@ pub enum Bounds {
     Before(DateOrMoment),
 }
 
+/// A place whose clocks show a moment.
+#[derive(Drop)]
+pub enum Place<'a> {
+    /// One with this offset from UTC.
+    Offset(UtcOffset),
+    /// One in this time zone.
+    Zone(Zone<'a>),
+}
+
+/// A way to choose one moment if clocks skip a local time or show it twice. The names are those of
+/// Temporal.
+#[derive(Clone, Copy)]
+pub enum Policy {
+    /// The time moved forward by what the clocks skip, or the first of two.
+    Compatible,
+    /// The time moved back by what the clocks skip, or the first of two.
+    Earlier,
+    /// The time moved forward by what the clocks skip, or the second of two.
+    Later,
+    /// No moment.
+    Reject,
+}
+
+/// The clocks of a zone, which give a local time its moment.
+#[derive(Drop)]
+pub struct Clock<'a> {
+    pub zone: Zone<'a>,
+    pub policy: Policy,
+}
+
 /// A request for each line.
 #[derive(Drop)]
-pub enum Request {
+pub enum Request<'a> {
     /// `to FORM`: the same date or moment in this form.
     To(Form),
     /// `to FORMAT`: the same date or moment in this format.
@@ -111,8 +142,8 @@ pub enum Request {
     Until(DateOrMoment, Option<TimeUnit>),
     /// `since TEXT [in UNIT]`: the days or the duration from TEXT, or the whole units.
     Since(DateOrMoment, Option<TimeUnit>),
-    /// `at OFFSET`: the moment at this offset.
-    At(UtcOffset),
+    /// `at OFFSET` or `at ZONE`: the moment at this offset, or at the offset of the zone.
+    At(Place<'a>),
     /// `keep BOUNDS`: the line itself if it lies within the bounds, otherwise nothing.
     Keep(Bounds),
 }
@@ -141,12 +172,14 @@ pub struct Field {
 
 /// A request with its options.
 #[derive(Drop)]
-pub struct Filter {
-    pub request: Request,
+pub struct Filter<'a> {
+    pub request: Request<'a>,
     /// The forms that a line is read in.
     pub readers: Readers,
     /// The offset of a text that has none.
     pub offset: UtcOffset,
+    /// The clocks that a text without an offset is read on instead, if a zone is given.
+    pub clock: Option<Clock<'a>>,
     /// What is written for a line without an answer.
     pub on_invalid: OnInvalid,
     /// The field to answer, or `None` for the whole line.
@@ -197,15 +230,15 @@ pub enum Pace {
 
 /// A command of the program.
 #[derive(Drop)]
-pub enum Asked {
+pub enum Asked<'a> {
     /// `--help`, `-h` or `help`: the help page.
     Help,
     /// `--version`: the version.
     Version,
     /// A request for the lines of the input.
-    Lines(Filter),
+    Lines(Filter<'a>),
     /// `--date TEXT` and a request: for the second argument instead of an input.
-    Once(Filter),
+    Once(Filter<'a>),
     /// `list from A to B [by N UNIT]`: the dates from A to B.
     Dates(Listing),
     /// `list from A to B by RULE`: the dates of the recurrence.

@@ -31,8 +31,12 @@ const MOST_KEPT: usize = 4097;
 /// Writes the answers to one read before the next read. Fails with `Fault::Read` or `Fault::Write`,
 /// with `Fault::Stopped` at a line that ends the run, and with `Fault::Unanswered` if the run is
 /// complete but some of its lines have no answer. 2^64 - 1 reads end like a failed read.
-pub fn run<R: Source, W: Sink>(filter: Filter, reader: &mut R, writer: &mut W) -> Result<(), Fault>
-    ensures ended { Ended filter result (R.remaining reader.old) (R.remaining reader.new)
+pub fn run<R: Source, W: Sink>(
+    filter: Filter<'_>,
+    reader: &mut R,
+    writer: &mut W,
+) -> Result<(), Fault>
+    ensures ended { Ended filter.entry result (R.remaining reader.old) (R.remaining reader.new)
         (W.contents writer.old) (W.contents writer.new) }
     ensures reads { Reads R.read_gives most_reads reader.old (has_read_failure result) reader.new }
     ensures writes { Writes W.write_gives writer.old (write_failure result) writer.new }
@@ -83,7 +87,7 @@ pub fn run<R: Source, W: Sink>(filter: Filter, reader: &mut R, writer: &mut W) -
 /// Answers the lines that end within the bytes, and returns the number of bytes after them.
 #[tactic(auto, using(crate::proofs::Calls::no_writes, crate::proofs::Calls::writes_then))]
 fn answer_lines<W: Sink>(
-    filter: &Filter,
+    filter: &Filter<'_>,
     progress: &mut Progress,
     buffer: &mut Buffer,
     writer: &mut W,
@@ -136,7 +140,7 @@ fn stop<W: Sink>(told: UnansweredLine, buffer: &Buffer, writer: &mut W) -> Fault
 /// Answers the last line if it has no line feed, and writes the answers.
 #[tactic(auto, using(crate::proofs::Calls::no_writes, crate::proofs::Calls::sent_all))]
 fn answer_last<W: Sink>(
-    filter: &Filter,
+    filter: &Filter<'_>,
     progress: &mut Progress,
     buffer: &mut Buffer,
     writer: &mut W,
@@ -183,7 +187,7 @@ fn outcome(tally: &Tally) -> Result<(), Fault>
 /// `keep`, passes on what it drops.
 #[tactic(auto, using(crate::proofs::Calls::no_writes))]
 fn let_go<W: Sink>(
-    filter: &Filter,
+    filter: &Filter<'_>,
     input: &mut Input,
     progress: &mut Progress,
     writer: &mut W,

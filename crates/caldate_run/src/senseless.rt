@@ -31,6 +31,14 @@ pub enum Wanted {
     Assume,
     /// `--read local`, which `--assume` requires.
     Local,
+    /// `--zone`, which `--ambiguous` requires.
+    ZoneOption,
+    /// Only one of `--assume` and `--zone`.
+    OffsetOrZone,
+    /// Only forms without an offset, which `--zone` requires.
+    LocalOnly,
+    /// A policy of `--ambiguous`, such as `earlier`.
+    Policy,
     /// A form, such as `week`.
     Form,
     /// A number.
@@ -53,6 +61,10 @@ pub enum Wanted {
     Minutes,
     /// An offset from UTC, such as `+01:00`.
     Offset,
+    /// An offset from UTC or a zone. The word is not the name of a zone.
+    Place,
+    /// The name of a zone that can be read, such as `Europe/Berlin`.
+    Zone,
     /// `from`, `after` or `before`.
     Bounds,
     /// `in`, or no word.

@@ -138,7 +138,7 @@ pub fn period_of(word: &[u8]) -> Option<Period>
 }
 
 /// Parses the argument of `start`.
-pub fn start_of(word: &[u8]) -> Option<Request>
+pub fn start_of(word: &[u8]) -> Option<Request<'static>>
     ensures { result ≡ start_of word.now }
 {
     match period_of(word) {

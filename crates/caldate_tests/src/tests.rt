@@ -7,6 +7,7 @@ use caldate_run::fault::Fault;
 use caldate_run::list::list;
 use caldate_run::request::Asked;
 use caldate_run::run::run;
+use caldate_run::zones::ZoneFiles;
 use std::alloc::{AllocError, Global};
 use std::io::{ErrorKind, Read, Write};
 use std::process::Abort;
@@ -25,7 +26,7 @@ fn run_by<R: Read, W: Write>(
     reader: &mut R,
     writer: &mut W,
 ) -> Result<(), Fault> {
-    match asked_of(arguments) {
+    match asked_of(arguments, &ZoneFiles::none()) {
         Ok(Asked::Lines(filter)) => run(filter, reader, writer),
         Ok(Asked::Dates(listing)) => list(&listing, writer),
         _ => Err(Fault::Write(ErrorKind::InvalidInput)),

@@ -11,7 +11,7 @@ ghost use Rattle.caldate_run.specs.declared.tally.Tally.{Tally};
 
 use caldate_run::asked::asked_of;
 use caldate_run::fault::Fault;
-use caldate_run::laws::{have_meanings, one_reply};
+use caldate_run::laws::{have_zones, one_reply};
 use caldate_run::lines::first_line;
 use caldate_run::list::list;
 use caldate_run::recurring::list_occurrences;
@@ -19,9 +19,10 @@ use caldate_run::request::{Asked, Filter, Listing, Occurrences};
 use caldate_run::run::run;
 use caldate_run::senseless::Senseless;
 use caldate_run::streams::{Sink, Source};
+use caldate_run::zones::ZoneFiles;
 
 /// Proves that each part of the input between line feeds has one reply.
-fn one_reply_each(filter: &Filter, input: &[u8])
+fn one_reply_each(filter: &Filter<'_>, input: &[u8])
     ensures { All (λ line. (before : ℕ) (reply other : List ℕ) (t u v w : Tally)
         → IsReplyTo filter.now before line reply t u → IsReplyTo filter.now before line other v w
         → reply ≡ other) (slice_split is_end input.now) }
@@ -38,8 +39,8 @@ fn one_reply_each(filter: &Filter, input: &[u8])
 }
 
 fn runs<R: Source, W: Sink>(
-    filter: Filter,
-    twin_filter: Filter,
+    filter: Filter<'_>,
+    twin_filter: Filter<'_>,
     input: &[u8],
     reader: &mut R,
     twin: &mut R,
@@ -82,9 +83,12 @@ fn occurrences<W: Sink>(
     )
 }
 
-fn asks(arguments: &[u8]) -> (Result<Asked, Senseless>, Result<Asked, Senseless>)
+fn asks<'a>(
+    arguments: &[u8],
+    files: &ZoneFiles<'a>,
+) -> (Result<Asked<'a>, Senseless>, Result<Asked<'a>, Senseless>)
     ensures { result.0 ≡ result.1 }
 {
-    have_meanings(arguments);
-    (asked_of(arguments), asked_of(arguments))
+    have_zones(arguments, files);
+    (asked_of(arguments, files), asked_of(arguments, files))
 }

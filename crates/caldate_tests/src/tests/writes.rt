@@ -8,6 +8,7 @@ use caldate_run::program::perform;
 use caldate_run::shown::ShownText;
 use caldate_run::tally::Tally;
 use caldate_run::unanswered::UnansweredLine;
+use caldate_run::zones::ZoneFiles;
 use std::io::ErrorKind;
 use std::process::Abort;
 use std::test::Fail;
@@ -172,7 +173,7 @@ fn check_kind<H: Abort + AllocGlobal>(rt: &H, arguments: &[u8], kind: ErrorKind)
         kind: Some(kind),
     };
     let mut told = Vec::new(rt.alloc());
-    let ending = perform(Some(arguments), &mut INPUT, &mut writer, &mut told);
+    let ending = perform(Some(arguments), &ZoneFiles::none(), &mut INPUT, &mut writer, &mut told);
     let (status, words) = if kind == ErrorKind::BrokenPipe {
         (0, b"".as_slice())
     } else {

@@ -27,5 +27,5 @@ returns-in-At-clause-none c = λ no.
       none.0,
       λ words h.
           let h = subst (λ q. IsAnswerTo q c.args.text.now c.args.found.now words) c.in-At.is h in
-          none.1 words (subst (λ m. IsAt c.in-At.offset m words) (sym c.moment_of-moment.ensures) h),
+          none.1 words (subst (λ m. IsAt c.in-At.place m words) (sym c.moment_of-moment.ensures) h),
     )

@@ -11,23 +11,23 @@ options_of-requires c =
     omega (arith, ap length c.requires.rest, length-drop c.args.at (arguments_of words), few_words words, c.requires.few)
 
 pub returns-in_err-options : goal.returns-in_err-options
-returns-in_err-options c = λ meanings h.
-    let front = c.options_of.ensures.options meanings (subst (AreMeanings meanings) (sym c.requires.rest) (All-drop (AreMeant meanings) c.args.at (arguments_of c.args.words.now) h)) in
+returns-in_err-options c = λ meanings h zones.
+    let front = c.options_of.ensures.options meanings (subst (AreMeanings meanings) (sym c.requires.rest) (All-drop (AreMeant meanings) c.args.at (arguments_of c.args.words.now) h)) zones in
     search rules
 
 pub returns-in-Some : goal.returns-in-Some
-returns-in-Some c = λ meanings h.
-    let front = c.options_of.ensures.options meanings (subst (AreMeanings meanings) (sym c.requires.rest) (All-drop (AreMeant meanings) c.args.at (arguments_of c.args.words.now) h)) in
+returns-in-Some c = λ meanings h zones.
+    let front = c.options_of.ensures.options meanings (subst (AreMeanings meanings) (sym c.requires.rest) (All-drop (AreMeant meanings) c.args.at (arguments_of c.args.words.now) h)) zones in
     search rules
 
 pub returns-in_err-request : goal.returns-in_err-request
-returns-in_err-request c = λ meanings h.
-    let front = c.options_of.ensures.options meanings (subst (AreMeanings meanings) (sym c.requires.rest) (All-drop (AreMeant meanings) c.args.at (arguments_of c.args.words.now) h)) in
-    let request = c.request_at.ensures meanings h in
+returns-in_err-request c = λ meanings h zones.
+    let front = c.options_of.ensures.options meanings (subst (AreMeanings meanings) (sym c.requires.rest) (All-drop (AreMeant meanings) c.args.at (arguments_of c.args.words.now) h)) zones in
+    let request = c.request_at.ensures meanings h zones in
     search rules
 
 pub returns : goal.returns
-returns c = λ meanings h.
-    let front = c.options_of.ensures.options meanings (subst (AreMeanings meanings) (sym c.requires.rest) (All-drop (AreMeant meanings) c.args.at (arguments_of c.args.words.now) h)) in
-    let request = c.request_at.ensures meanings h in
+returns c = λ meanings h zones.
+    let front = c.options_of.ensures.options meanings (subst (AreMeanings meanings) (sym c.requires.rest) (All-drop (AreMeant meanings) c.args.at (arguments_of c.args.words.now) h)) zones in
+    let request = c.request_at.ensures meanings h zones in
     search rules

@@ -3,5 +3,5 @@ use Rattle.caldate_tests.proofs.tests.one_answer.asks.Goals as goal
 
 pub returns : goal.returns
 returns c =
-    let words = c.have_meanings.ensures in
-    c.asked_of.ensures.asked words.0 words.1 ∙ sym (c.asked_of-2.ensures.asked words.0 words.1)
+    let h = c.have_zones.ensures in
+    c.asked_of.ensures.asked h.0 h.1.0 h.1.1 ∙ sym (c.asked_of-2.ensures.asked h.0 h.1.0 h.1.1)

@@ -1,0 +1,163 @@
+//! Time zones by name, from files.
+ghost use Rattle.std.specs.Prelude.{◌≡◌, is_none, not, position};
+ghost use Rattle.caldate_run.specs.Meanings.{Meanings};
+ghost use Rattle.caldate_run.specs.Zones.{AreZones, IsZoneOf, file_named, has_name, is_letter, is_name_byte, is_zone_like, is_zone_name, name_in, zone_of};
+
+use crate::lines::index_of;
+use crate::offset::offset_of;
+use crate::zone_fault::{FileError, ZoneFault};
+use cal_tzif::parse;
+use cal_zone::Zone;
+
+/// The file of a zone.
+#[derive(Clone, Copy)]
+pub struct ZoneFile<'a> {
+    /// The name, such as `Europe/Berlin`.
+    pub name: &'a [u8],
+    /// The bytes, or why they can't be read.
+    pub contents: Result<&'a [u8], FileError>,
+}
+
+/// Up to two files of zones in a folder.
+#[derive(Clone, Copy)]
+pub struct ZoneFiles<'a> {
+    /// The path of the folder, such as `/usr/share/zoneinfo`.
+    pub folder: &'a [u8],
+    pub first: Option<ZoneFile<'a>>,
+    pub second: Option<ZoneFile<'a>>,
+}
+
+impl ZoneFiles<'_> {
+    /// Returns no files.
+    pub fn none() -> ZoneFiles<'static> {
+        ZoneFiles {
+            folder: b"",
+            first: None,
+            second: None,
+        }
+    }
+}
+
+/// Returns whether the word may be the name of a zone: letters, digits, `_`, `-`, `+` and `/`, of
+/// which the first is a letter. So its file lies in the folder.
+pub fn is_zone_name(word: &[u8]) -> bool
+    ensures { result ≡ is_zone_name word.now }
+{
+    match word {
+        [first, ..] => {
+            let letter = is_letter(*first);
+            let others = has_name_bytes(word);
+            letter && others
+        }
+        [] => false,
+    }
+}
+
+/// Returns whether all bytes may be in the name of a zone.
+fn has_name_bytes(word: &[u8]) -> bool
+    ensures { result ≡ is_none (position (λ b. not (is_name_byte b)) word.now) }
+{
+    let mut rest = word;
+    while let [first, others @ ..] = rest {
+        if !is_name_byte(*first) {
+            return false;
+        }
+        rest = others;
+    }
+    true
+}
+
+fn is_letter(byte: u8) -> bool
+    ensures { result ≡ is_letter byte }
+{
+    (byte >= b'A' && byte <= b'Z') || (byte >= b'a' && byte <= b'z')
+}
+
+fn is_name_byte(byte: u8) -> bool
+    ensures { result ≡ is_name_byte byte }
+{
+    is_letter(byte)
+        || (byte >= b'0' && byte <= b'9')
+        || byte == b'_'
+        || byte == b'-'
+        || byte == b'+'
+        || byte == b'/'
+}
+
+/// Returns whether the word is read as the name of a zone, and not as an offset.
+pub fn is_zone_like(word: &[u8]) -> bool
+    ensures { result ≡ is_zone_like word.now }
+{
+    is_zone_name(word) && offset_of(word).is_none()
+}
+
+/// Returns the name in `NAME` or `--zone=NAME`.
+#[tactic(auto, using(std::proofs::lemmas::List::take_rest))]
+pub fn name_in(word: &[u8]) -> &[u8]
+    ensures { result.now ≡ name_in word.now }
+{
+    match index_of(b'=', word) {
+        Some(at) => &word[at + 1..],
+        None => word,
+    }
+}
+
+fn has_name(name: &[u8], file: Option<ZoneFile<'_>>) -> bool
+    ensures { result ≡ has_name name.now file.entry }
+{
+    match file {
+        Some(file) => file.name == name,
+        None => false,
+    }
+}
+
+/// Returns the file with this name, if it is given.
+pub fn file_named<'a>(files: &ZoneFiles<'a>, name: &[u8]) -> Option<ZoneFile<'a>>
+    ensures { result ≡ file_named files.now name.now }
+{
+    if has_name(name, files.first) {
+        files.first
+    } else if has_name(name, files.second) {
+        files.second
+    } else {
+        None
+    }
+}
+
+/// Returns the zone of a file, or why there is none.
+pub fn zone_in<'a>(file: Option<ZoneFile<'a>>) -> Result<Zone<'a>, ZoneFault>
+    ensures { IsZoneOf file.entry result }
+{
+    let Some(file) = file else {
+        return Err(ZoneFault::File(FileError::NotFound));
+    };
+    match file.contents {
+        Ok(bytes) => match parse(bytes) {
+            Ok(zone) => Ok(zone),
+            Err(error) => Err(ZoneFault::Zone(error)),
+        },
+        Err(error) => Err(ZoneFault::File(error)),
+    }
+}
+
+/// Returns the zone with this name, or why there is none.
+pub fn zone_named<'a>(files: &ZoneFiles<'a>, name: &[u8]) -> Result<Zone<'a>, ZoneFault>
+    ensures { (meanings : Meanings) → AreZones files.now meanings
+        → result ≡ (meanings name.now).zone }
+{
+    zone_in(file_named(files, name))
+}
+
+/// Parses the name of a zone.
+pub fn zone_of<'a>(files: &ZoneFiles<'a>, word: &[u8]) -> Option<Zone<'a>>
+    ensures { (meanings : Meanings) → AreZones files.now meanings
+        → result ≡ zone_of meanings word.now }
+{
+    if !is_zone_name(word) {
+        return None;
+    }
+    match zone_named(files, word) {
+        Ok(zone) => Some(zone),
+        Err(_) => None,
+    }
+}
