@@ -1,10 +1,12 @@
 //! Answers each line of standard input, a date or a moment, with one line on standard output.
 #![tactic(auto)]
 
-use caldate_run::arguments::{MOST_BYTES, join};
+use caldate_run::args::arguments::{MOST_BYTES, join};
 use caldate_run::program::perform;
-use caldate_run::zone_source::{MOST_FILE_BYTES, MOST_PATH_BYTES, find_folder, read_missing};
 use caldate_run::zones::ZoneFiles;
+use caldate_run::zones::zone_source::{
+    MOST_FILE_BYTES, MOST_PATH_BYTES, find_folder, read_missing,
+};
 use std::io;
 use std::process::ExitCode;
 

@@ -8,8 +8,8 @@ use Rattle.caldate_run.specs.Calls.Reads.{given, failed as fails}
 use Rattle.caldate_run.specs.Calls.Writes.{no_more, sent, failed}
 use Rattle.caldate_run.specs.Calls.Sends.{all}
 use Rattle.caldate_run.specs.Runs.{IsEarly, IsOfWrite}
-use Rattle.caldate_run.specs.declared.fault.Fault.{Fault}
-use Rattle.caldate_run.specs.declared.fault.Fault.TheVariants.{Read, Write, Stopped, Unanswered}
+use Rattle.caldate_run.specs.declared.run.run_error.RunError.{RunError}
+use Rattle.caldate_run.specs.declared.run.run_error.RunError.TheVariants.{Read, Write, Stopped, Unanswered}
 
 -- no bytes are left
 pub sends_none : {S : Type 0} (write : S → List ℕ → Result ℕ Error → S → Type 0) (retries : ℕ) (s : S) (bytes : List ℕ) → length bytes ≡ 0
@@ -43,20 +43,20 @@ pub reads_failed : {S : Type 0} (read : S → Result ℕ Error → S → Type 0)
 reads_failed read most left s end error e gives = subst (λ most. Reads read most s true end) (sym e) (fails left s end error gives)
 
 -- ---- whether a read failed
-pub read_failed : (r : Result Unit Fault) → IsErrAnd r (λ fault. fault ≡ Read) → has_read_failure r ≡ true
+pub read_failed : (r : Result Unit RunError) → IsErrAnd r (λ error. error ≡ Read) → has_read_failure r ≡ true
 read_failed (Ok done) is = absurd is
-read_failed (Err fault) is = subst (λ fault. is_of_read fault ≡ true) (sym is) refl
+read_failed (Err error) is = subst (λ error. is_of_read error ≡ true) (sym is) refl
 
-pub no_read_failed : (r : Result Unit Fault) → IfErr r IsEarly → has_read_failure r ≡ false
+pub no_read_failed : (r : Result Unit RunError) → IfErr r IsEarly → has_read_failure r ≡ false
 no_read_failed (Ok done) early = refl
 no_read_failed (Err Read) early = absurd early
 no_read_failed (Err (Write kind)) early = refl
-no_read_failed (Err (Stopped told)) early = refl
+no_read_failed (Err (Stopped reported)) early = refl
 no_read_failed (Err (Unanswered tally)) early = refl
 
-pub write_failed : (r : Result Unit Fault) → IsErrAnd r IsOfWrite → has_read_failure r ≡ false
+pub write_failed : (r : Result Unit RunError) → IsErrAnd r IsOfWrite → has_read_failure r ≡ false
 write_failed (Ok done) is = refl
 write_failed (Err Read) is = absurd is
 write_failed (Err (Write kind)) is = refl
-write_failed (Err (Stopped told)) is = absurd is
+write_failed (Err (Stopped reported)) is = absurd is
 write_failed (Err (Unanswered tally)) is = absurd is

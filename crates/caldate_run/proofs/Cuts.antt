@@ -8,7 +8,7 @@ use Rattle.std.proofs.lemmas.Bool.Decides.{nat_tests}
 use Rattle.std.proofs.lemmas.List.{append-nil, take_more, take_rest}
 use Rattle.std.proofs.lemmas.Option.{none-some}
 use Rattle.std.proofs.lemmas.List.Splits.{join_with_byte-slice_split, length-slice_split}
-use Rattle.caldate_run.specs.Fields.{HasFirst, IsAfter, asked_text, each_ended, fields_of, in_quotes, is_quote, is_quoted, joined_fields, lacks, split_record, text_with, within_quotes}
+use Rattle.caldate_run.specs.Fields.{HasFirst, IsAfter, selected_text, each_ended, fields_of, in_quotes, is_quote, is_quoted, joined_fields, has_too_few, split_record, text_with, within_quotes}
 use Rattle.caldate_run.specs.declared.request.Field.{Field}
 use Rattle.caldate_run.proofs.Parts.{no_fields}
 use Rattle.caldate_run.proofs.Parts.{some_fields as one_field}
@@ -131,7 +131,7 @@ only_first field text none =
 -- ---- the fields that are asked for
 -- They stand after the first fields, with these bytes around them.
 pub record Found (field : Field) (text before part after : List ℕ) : Type 0 where
-  pub has : lacks field text ≡ false
+  pub has : has_too_few field text ≡ false
   pub asked : joined_fields field text ≡ part
   pub around : (words : List ℕ) → join_with_byte field.separator (take (field.first - 1) (fields_of field text) ++ words ∷ drop (field.first - 1 + field.joined + 1) (fields_of field text))
       ≡ before ++ words ++ after
@@ -209,7 +209,7 @@ places field text rest last n start end a b within e f =
 
 -- ---- the text to answer, and the words that replace it
 pub record IsCut (field : Field) (text before part after : List ℕ) : Type 0 where
-  pub asked : asked_text (Some field) text ≡ Some part
+  pub asked : selected_text (Some field) text ≡ Some part
   pub around : (words : List ℕ) → text_with (Some field) text words ≡ before ++ words ++ after
   pub whole : text ≡ before ++ part ++ after
 
@@ -325,5 +325,5 @@ unchanged : (b : Bool) (text part all : List ℕ) → cond b None (Some part) �
 unchanged true text part all e = refl
 unchanged false text part all e = absurd (none-some part (sym e))
 
-pub no_field : (field : Field) (text words : List ℕ) → asked_text (Some field) text ≡ None → text_with (Some field) text words ≡ text
-no_field field text words none = unchanged (lacks field text) text (within_quotes field (joined_fields field text)) _ none
+pub no_field : (field : Field) (text words : List ℕ) → selected_text (Some field) text ≡ None → text_with (Some field) text words ≡ text
+no_field field text words none = unchanged (has_too_few field text) text (within_quotes field (joined_fields field text)) _ none

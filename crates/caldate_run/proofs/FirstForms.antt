@@ -7,8 +7,8 @@ use Rattle.std.proofs.lemmas.Option.{none-some, same_Some}
 use Rattle.cal_text.specs.declared.any.DateOrMoment.{DateOrMoment}
 use Rattle.caldate_run.specs.Readers.{IsFoundBy, IsTextBy, IsUnread, IsUnreadIn, first_named, named}
 use Rattle.caldate_run.specs.Readings.{IsTextIn}
-use Rattle.caldate_run.specs.declared.no_answer.NoAnswer.{NoAnswer}
-use Rattle.caldate_run.specs.declared.no_answer.NoAnswer.TheVariants as why
+use Rattle.caldate_run.specs.declared.run.no_answer.NoAnswer.{NoAnswer}
+use Rattle.caldate_run.specs.declared.run.no_answer.NoAnswer.TheVariants as why
 use Rattle.caldate_run.specs.declared.reading.Reading.{Reading}
 use Rattle.caldate_run.specs.declared.reading.Reading.TheVariants as reading
 use Rattle.caldate_run.specs.declared.reading.reader.Reader.{Reader}
@@ -67,7 +67,7 @@ lacks_by offset r form text w e lack g h = not_ok w g (lack g (text_in offset r 
 pub other_every : (offset : ℤ) (r : Reader) (rs : List Reader) (form : Reading) (text : List ℕ) (w : NoAnswer) (f found : DateOrMoment) → named offset r ≡ Some form
     → Lacks form text w → ((g : DateOrMoment) → IsFoundBy offset rs text g → Some f ≡ Some g) → IsFoundBy offset (r ∷ rs) text found → f ≡ found
 other_every offset r rs form text w f found e lack every (inl h) = absurd (lacks_by offset r form text w e lack found h)
-other_every offset r rs form text w f found e lack every (inr (lacks, h)) = same_Some f found (every found h)
+other_every offset r rs form text w f found e lack every (inr (has_too_few, h)) = same_Some f found (every found h)
 
 pub other_has : (offset : ℤ) (r : Reader) (rs : List Reader) (form : Reading) (text : List ℕ) (w : NoAnswer) (f : DateOrMoment) → named offset r ≡ Some form
     → Lacks form text w → IsFoundBy offset rs text f → IsFoundBy offset (r ∷ rs) text f
@@ -76,7 +76,7 @@ other_has offset r rs form text w f e lack h = inr (lacks_by offset r form text 
 pub none_found : (offset : ℤ) (r : Reader) (rs : List Reader) (form : Reading) (text : List ℕ) (w : NoAnswer) → named offset r ≡ Some form
     → Lacks form text w → ((g : DateOrMoment) → IsFoundBy offset rs text g → None ≡ Some g) → (found : DateOrMoment) → ¬ IsFoundBy offset (r ∷ rs) text found
 none_found offset r rs form text w e lack every found (inl h) = lacks_by offset r form text w e lack found h
-none_found offset r rs form text w e lack every found (inr (lacks, h)) = none-some found (every found h)
+none_found offset r rs form text w e lack every found (inr (has_too_few, h)) = none-some found (every found h)
 
 pub none_unread : (offset : ℤ) (r : Reader) (rs : List Reader) (form : Reading) (text : List ℕ) (w : NoAnswer) → named offset r ≡ Some form
     → Lacks form text w → ((g : DateOrMoment) → IsFoundBy offset rs text g → None ≡ Some g) → IsUnreadIn form text w → IsUnread offset (r ∷ rs) text w
@@ -110,7 +110,7 @@ pub later_every : (offset : ℤ) (r : Reader) (rs : List Reader) (text : List �
     → ((g : DateOrMoment) → IsTextBy offset r text g → None ≡ Some g) → ((g : DateOrMoment) → IsFoundBy offset rs text g → o ≡ Some g)
     → IsFoundBy offset (r ∷ rs) text found → o ≡ Some found
 later_every offset r rs text o found lack every (inl h) = absurd (none-some found (lack found h))
-later_every offset r rs text o found lack every (inr (lacks, h)) = every found h
+later_every offset r rs text o found lack every (inr (has_too_few, h)) = every found h
 
 pub later_has : (offset : ℤ) (r : Reader) (rs : List Reader) (text : List ℕ) (o : Option DateOrMoment)
     → ((g : DateOrMoment) → IsTextBy offset r text g → None ≡ Some g) → IfSome o (IsFoundBy offset rs text) → IfSome o (IsFoundBy offset (r ∷ rs) text)

@@ -17,30 +17,30 @@ use Rattle.cal_zone.specs.declared.local.Local.TheVariants.{Single, Gap, Fold}
 use Rattle.caldate_run.specs.Answers.{IsAnswer, IsNotRead}
 use Rattle.caldate_run.specs.Clocks.{IsPlaced, placed_as}
 use Rattle.caldate_run.specs.Readers.{IsUnreadIn, first_named}
-use Rattle.caldate_run.specs.Readings.{HasFormIn, IsFaultIn}
+use Rattle.caldate_run.specs.Readings.{HasFormIn, IsErrorIn}
 use Rattle.caldate_run.specs.Replies.{reason_of}
-use Rattle.caldate_run.specs.declared.no_answer.NoAnswer.{NoAnswer}
-use Rattle.caldate_run.specs.declared.no_answer.NoAnswer.TheVariants as why
+use Rattle.caldate_run.specs.declared.run.no_answer.NoAnswer.{NoAnswer}
+use Rattle.caldate_run.specs.declared.run.no_answer.NoAnswer.TheVariants as why
 use Rattle.caldate_run.specs.declared.reading.Reading.{Reading}
 use Rattle.caldate_run.specs.declared.request.Clock.{Clock}
 use Rattle.caldate_run.specs.declared.request.Filter.{Filter}
 
-pub lacks : (reading : Reading) (text : List ℕ) (error : ParseError)
+pub has_too_few : (reading : Reading) (text : List ℕ) (error : ParseError)
     → (FailsWithSyntax {V = DateOrMoment} (Err error) ↔ ¬ HasFormIn reading text)
-    → ((why : ComponentRange) → FailsWithComponent {V = DateOrMoment} why (Err error) ↔ IsFaultIn reading text why)
+    → ((why : ComponentRange) → FailsWithComponent {V = DateOrMoment} why (Err error) ↔ IsErrorIn reading text why)
     → IsErrorAtStop (HasFormIn reading) text error → IsUnreadIn reading text (reason_of error)
-lacks reading text (UnexpectedByte at) form component stop = (form.0 refl, stop.0)
-lacks reading text (UnexpectedEnd at) form component stop = (form.0 refl, stop.0)
-lacks reading text (OutOfRange e) form component stop = (component e).0 refl
+has_too_few reading text (UnexpectedByte at) form component stop = (form.0 refl, stop.0)
+has_too_few reading text (UnexpectedEnd at) form component stop = (form.0 refl, stop.0)
+has_too_few reading text (OutOfRange e) form component stop = (component e).0 refl
 
 -- what the parser says, as an answer
-abbrev pub told : Result DateOrMoment ParseError → Result DateOrMoment NoAnswer
-told (Ok found) = Ok found
-told (Err error) = Err (reason_of error)
+abbrev pub reported : Result DateOrMoment ParseError → Result DateOrMoment NoAnswer
+reported (Ok found) = Ok found
+reported (Err error) = Err (reason_of error)
 
 pub lacks_only : (reading : Reading) (text : List ℕ) (r : Result DateOrMoment ParseError) (any : NoAnswer)
-    → (FailsWithSyntax r ↔ ¬ HasFormIn reading text) → ((why : ComponentRange) → FailsWithComponent why r ↔ IsFaultIn reading text why)
-    → IfErr r (IsErrorAtStop (HasFormIn reading) text) → IsUnreadIn reading text any → told r ≡ Err any
+    → (FailsWithSyntax r ↔ ¬ HasFormIn reading text) → ((why : ComponentRange) → FailsWithComponent why r ↔ IsErrorIn reading text why)
+    → IfErr r (IsErrorAtStop (HasFormIn reading) text) → IsUnreadIn reading text any → reported r ≡ Err any
 lacks_only reading text (Ok found) (why.Rejected e) form component stop h = absurd ((component e).1 h)
 lacks_only reading text (Ok found) (why.Unreadable at) form component stop h = absurd (form.1 h.0)
 lacks_only reading text (Err (OutOfRange o)) (why.Rejected e) form component stop h = ap (λ e. Err (why.Rejected e)) (same_Some o e ((component e).1 h))

@@ -8,7 +8,7 @@ use Rattle.cal_schedule.specs.Workdays.{WorkWeek, nth_workday, is_workday}
 use Rattle.cal_time.specs.Laws.{calendar_date-one, weekday_at-is}
 use Rattle.cal_schedule.proofs.MonthMoves.{IsMonthNumber-date, one_later}
 use Rattle.cal_schedule.specs.Ranks.{count-most, none-nth_from, none-nth_back}
-use Rattle.caldate_run.specs.Moves.{monday_to_friday, IsFirstOf, IsLastOf, LeadsTo}
+use Rattle.caldate_run.specs.Moves.{monday_to_friday, IsFirstOf, IsLastOf, MovesTo}
 use Rattle.caldate_run.specs.declared.request.DayMove.{DayMove}
 use Rattle.caldate_run.specs.declared.request.DayMove.TheVariants.{Next, Last, OnOrAfter, OnOrBefore, Months, Years, Workdays, Start, End}
 use Rattle.caldate_run.specs.declared.request.Period.{Period}
@@ -93,7 +93,7 @@ last-one Month n a b d e h k = calendar_date-one _ _ _ a b d e h k
 last-one Quarter n a b d e h k = calendar_date-one _ _ _ a b d e h k
 last-one Year n a b d e h k = calendar_date-one _ _ _ a b d e h k
 
-pub one_lead : (by : DayMove) (n a b : ℕ) → LeadsTo by n a → LeadsTo by n b → a ≡ b
+pub one_lead : (by : DayMove) (n a b : ℕ) → MovesTo by n a → MovesTo by n b → a ≡ b
 one_lead (Next w k) n a b h i = one_kth a b _ h i
 one_lead (Last w k) n a b h i = one_kth a b _ h i
 one_lead (OnOrAfter w) n a b h i = one_kth a b _ h i

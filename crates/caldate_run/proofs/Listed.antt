@@ -14,7 +14,7 @@ use Rattle.cal_schedule.specs.Months.{IsMonthsLater}
 use Rattle.cal_schedule.proofs.MonthMoves.{IsMonthNumber-date, one_later}
 use Rattle.caldate_run.specs.Lists.{AreAll, AreFirst, IsAfter, IsListed, TakesLines, line_of}
 use Rattle.caldate_run.specs.Runs.{AppendsFront, IsOfWrite}
-use Rattle.caldate_run.specs.declared.fault.Fault.{Fault}
+use Rattle.caldate_run.specs.declared.run.run_error.RunError.{RunError}
 use Rattle.caldate_run.specs.declared.request.Listing.{Listing}
 use Rattle.caldate_run.specs.declared.request.StepUnit.{StepUnit}
 use Rattle.caldate_run.specs.declared.request.StepUnit.TheVariants.{Days, Months}
@@ -57,11 +57,11 @@ one_more listing days day first next k less =
           (subst (IsListed listing (length days)) (sym (get_or-append_seam days day [] 0)) next)
     ]
 
-pub one_line_more : (days : List ℕ) (day : ℕ) (written gathered : List ℕ) → flat_map line_of days ≡ written ++ gathered
-    → flat_map line_of (days ++ day ∷ []) ≡ written ++ (gathered ++ line_of day)
-one_line_more days day written gathered e =
+pub one_line_more : (days : List ℕ) (day : ℕ) (written buffered : List ℕ) → flat_map line_of days ≡ written ++ buffered
+    → flat_map line_of (days ++ day ∷ []) ≡ written ++ (buffered ++ line_of day)
+one_line_more days day written buffered e =
     flat_map-append line_of days (day ∷ []) ∙ ap (λ l. l ++ (line_of day ++ [])) e
-    ∙ ap (λ l. written ++ gathered ++ l) (append-nil (line_of day)) ∙ append_assoc written gathered (line_of day)
+    ∙ ap (λ l. written ++ buffered ++ l) (append-nil (line_of day)) ∙ append_assoc written buffered (line_of day)
 
 pub next_count : (days : List ℕ) (day count every : ℕ) → count ≡ length days * every → count + every ≡ length (days ++ day ∷ []) * every
 next_count days day count every e =
@@ -69,18 +69,18 @@ next_count days day count every e =
     sym (ap (λ k. k * every) longer ∙ suc-mul (length days) every ∙ ap (λ p. p + every) (sym e))
 
 -- ---- what the writer took
-pub lists_failed : (All First : List ℕ → Type 0) (r : Result Unit Fault) (old new : Option (List ℕ)) (days : List ℕ) → IsErrAnd r IsOfWrite → First days
+pub lists_failed : (All First : List ℕ → Type 0) (r : Result Unit RunError) (old new : Option (List ℕ)) (days : List ℕ) → IsErrAnd r IsOfWrite → First days
     → AppendsFront old new (flat_map line_of days) → TakesLines All First r old new
 lists_failed All First (Ok done) old new days is first front = absurd is
-lists_failed All First (Err fault) old new days is first front = (is, (days, first, front))
+lists_failed All First (Err error) old new days is first front = (is, (days, first, front))
 
-pub lists_ended : (All First : List ℕ → Type 0) (r : Result Unit Fault) (start now new : Option (List ℕ)) (days written gathered : List ℕ) → All days → First days
-    → flat_map line_of days ≡ written ++ gathered → Appends start now written → OnOk r (Appends now new gathered) → OnErr r (AppendsFront now new gathered)
+pub lists_ended : (All First : List ℕ → Type 0) (r : Result Unit RunError) (start now new : Option (List ℕ)) (days written buffered : List ℕ) → All days → First days
+    → flat_map line_of days ≡ written ++ buffered → Appends start now written → OnOk r (Appends now new buffered) → OnErr r (AppendsFront now new buffered)
     → IfErr r IsOfWrite → TakesLines All First r start new
-lists_ended All First (Ok done) start now new days written gathered all first whole taken ok front err =
-    (days, all, all_more start now new written gathered _ whole taken ok)
-lists_ended All First (Err fault) start now new days written gathered all first whole taken ok front err =
-    (err, (days, first, front_more start now new written gathered _ whole taken front))
+lists_ended All First (Ok done) start now new days written buffered all first whole taken ok front err =
+    (days, all, all_more start now new written buffered _ whole taken ok)
+lists_ended All First (Err error) start now new days written buffered all first whole taken ok front err =
+    (err, (days, first, front_more start now new written buffered _ whole taken front))
 
 -- ---- a list has one answer
 pub one_after : (unit : StepUnit) (count n a b : ℕ) → IsAfter unit count n a → IsAfter unit count n b → a ≡ b
@@ -106,7 +106,7 @@ one_list listing days others all too =
     (all.0 k less).after (too.0 k (omega (arith, less, same))).after)
 
 pub lists-one : (All First : List ℕ → Type 0) → ((days others : List ℕ) → All days → All others → days ≡ others)
-    → (held : List ℕ) (r s : Result Unit Fault) (w v : Option (List ℕ)) → IsOk r → IsOk s
+    → (held : List ℕ) (r s : Result Unit RunError) (w v : Option (List ℕ)) → IsOk r → IsOk s
     → TakesLines All First r (Some held) w → TakesLines All First s (Some held) v → w ≡ v
 lists-one All First one held (Err e) s w v ok too first second = absurd (false≢true ok)
 lists-one All First one held (Ok done) (Err e) w v ok too first second = absurd (false≢true too)

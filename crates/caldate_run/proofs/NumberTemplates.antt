@@ -50,9 +50,9 @@ all_digits k [] h = tt
 all_digits zero (x ∷ xs) h = absurd h
 all_digits (suc k) (x ∷ xs) h = (digit_is x (date.is_digit x h.0), all_digits k xs h.1)
 
-printed : (v : ℕ) (ds : List ℕ) → 0 < v → AllDigits 10 ds → (v + 1) * 10 ^ length ds ≤ 10 ^ 64 → decimal (digits_value_after 10 v ds) ≡ decimal v ++ ds
-printed v [] some all fits = sym (append-nil (decimal v))
-printed v (x ∷ xs) some all fits =
+printable : (v : ℕ) (ds : List ℕ) → 0 < v → AllDigits 10 ds → (v + 1) * 10 ^ length ds ≤ 10 ^ 64 → decimal (digits_value_after 10 v ds) ≡ decimal v ++ ds
+printable v [] some all fits = sym (append-nil (decimal v))
+printable v (x ∷ xs) some all fits =
     let value = has_value x (is_digit x all.0) in
     let one : suc (length xs) - 1 ≡ length xs = omega arith in
     let next : (v * 10 + digit_value x + 1) * 10 ^ length xs ≤ 10 ^ 64 =
@@ -61,7 +61,7 @@ printed v (x ∷ xs) some all fits =
     let step = decimal_step_wide (v * 10 + digit_value x) (omega (arith, some)) low in
     let front : (v * 10 + digit_value x) / 10 ≡ v = omega (arith, all.0) in
     let last : 48 + (v * 10 + digit_value x) % 10 ≡ x = omega (arith, all.0, value) in
-    printed (v * 10 + digit_value x) xs (omega (arith, some)) all.1 next ∙ ap (λ ds. ds ++ xs) (step ∙ ap (λ n. decimal n ++ (48 + (v * 10 + digit_value x) % 10) ∷ []) front ∙ ap (λ b. decimal v ++ b ∷ []) last)
+    printable (v * 10 + digit_value x) xs (omega (arith, some)) all.1 next ∙ ap (λ ds. ds ++ xs) (step ∙ ap (λ n. decimal n ++ (48 + (v * 10 + digit_value x) % 10) ∷ []) front ∙ ap (λ b. decimal v ++ b ∷ []) last)
     ∙ append_assoc (decimal v) (x ∷ []) xs
 
 -- the number is one more than this
@@ -88,7 +88,7 @@ spells (x ∷ xs) some h =
     let next : suc (digits_value 10 (x ∷ xs) - 1) ≡ digits_value 10 (x ∷ xs) = omega (arith, most, digit, led.0) in
     let front : decimal v ≡ x ∷ [] = decimal_digit v (omega (arith, digit, led.1)) ∙ ap (λ b. b ∷ []) (omega (arith, digit)) in
     let text : decimal (digits_value 10 (x ∷ xs)) ≡ x ∷ xs =
-    printed v xs (omega (arith, digit, led.0)) all.1 (omega (arith, bound, digit, led.1)) ∙ ap (λ ds. ds ++ xs) front in
+    printable v xs (omega (arith, digit, led.0)) all.1 (omega (arith, bound, digit, led.1)) ∙ ap (λ ds. ds ++ xs) front in
     record { less = digits_value 10 (x ∷ xs) - 1; few = omega (arith, next, low, more); text = sym text ∙ ap decimal (sym next) }
 
 -- ---- the templates

@@ -9,7 +9,7 @@ use Rattle.std.proofs.lemmas.Bool.Decides.{nat_tests}
 use Rattle.std.proofs.lemmas.Fmt.{IsAscii-from_digits}
 use Rattle.std.proofs.lemmas.Str.{IsUtf8-from_ascii, IsAscii-append}
 use Rattle.cal_recurrence.proofs.Numbers.{digits, none_where, ok_where}
-use Rattle.caldate_run.specs.Requests.{is_number, number_of}
+use Rattle.caldate_run.specs.Requests.{is_number, parse_i64}
 
 -- ---- the test of a number
 pub fits : (z : ℤ) → Decides (int_le (negsuc 9223372036854775807) z && int_le z (pos 9223372036854775807)) (FitsSigned w64 z)
@@ -32,7 +32,7 @@ number-no : (bs : List ℕ) → Numeral bs → is_number bs ≡ true
 number-no bs h =
     and_from _ _ ((some_digit _).1 h.0.0) (and_from _ _ (digits.from (without_leading_sign bs) h.0.1) ((fits (signed_digits_value 10 bs)).1 h.1))
 
-pub parsed : {E : Type 0} (bs : List ℕ) (r : Result ℤ E) → ParsesSigned w64 10 bs r → result_ok r ≡ number_of bs
+pub parsed : {E : Type 0} (bs : List ℕ) (r : Result ℤ E) → ParsesSigned w64 10 bs r → result_ok r ≡ parse_i64 bs
 parsed bs r h = elim (cases_Bool (is_number bs)) [
   | inl e ↦ ok_where r _ _ h (number-yes bs e) ∙ sym (cond-true _ _ _ e)
   | inr e ↦ none_where r _ _ h (λ q. false≢true (sym e ∙ number-no bs q)) ∙ sym (cond-false _ _ _ e)
@@ -56,7 +56,7 @@ numeral_is_text (c ∷ cs) h = elim (cases_Bool (eqb c 45)) [
   ]
 ]
 
-pub not_text : (bs : List ℕ) → (IsUtf8 bs → ⊥) → None ≡ number_of bs
+pub not_text : (bs : List ℕ) → (IsUtf8 bs → ⊥) → None ≡ parse_i64 bs
 not_text bs t = elim (cases_Bool (is_number bs)) [
   | inl e ↦ absurd (t (numeral_is_text bs (number-yes bs e).0))
   | inr e ↦ sym (cond-false _ _ _ e)

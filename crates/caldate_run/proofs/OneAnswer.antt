@@ -15,12 +15,12 @@ use Rattle.caldate_run.specs.Answers.{Answer, HasNone, IsAnswer, IsAnswerTo, IsB
 use Rattle.caldate_run.specs.Forms.{IsInForm}
 use Rattle.caldate_run.specs.Lines.{is_end, lines_of, without_empty_last}
 use Rattle.caldate_run.specs.Replies.{IsReplyTo}
-use Rattle.caldate_run.specs.Runs.{AnswersInput, Ended, IsComplete}
-use Rattle.caldate_run.specs.Standing.{AreReplies, no_lines}
-use Rattle.caldate_run.specs.declared.fault.Fault.{Fault}
-use Rattle.caldate_run.specs.declared.fault.Fault.TheVariants.{Read, Write, Stopped, Unanswered}
-use Rattle.caldate_run.specs.declared.no_answer.NoAnswer.{NoAnswer}
-use Rattle.caldate_run.specs.declared.no_answer.NoAnswer.TheVariants as why
+use Rattle.caldate_run.specs.Runs.{AnswersInput, IsRunResult, IsComplete}
+use Rattle.caldate_run.specs.RunStates.{AreReplies, no_lines}
+use Rattle.caldate_run.specs.declared.run.run_error.RunError.{RunError}
+use Rattle.caldate_run.specs.declared.run.run_error.RunError.TheVariants.{Read, Write, Stopped, Unanswered}
+use Rattle.caldate_run.specs.declared.run.no_answer.NoAnswer.{NoAnswer}
+use Rattle.caldate_run.specs.declared.run.no_answer.NoAnswer.TheVariants as why
 use Rattle.caldate_run.specs.declared.request.Filter.{Filter}
 use Rattle.caldate_run.specs.declared.request.Form.{Form}
 use Rattle.caldate_run.specs.declared.request.Form.TheVariants.{Date, Weekday, Moment, ShortWeekday, Month, Quarter, Basic}
@@ -28,7 +28,7 @@ use Rattle.caldate_run.specs.declared.request.Form.TheVariants as form
 use Rattle.caldate_run.specs.declared.request.Request.{Request}
 use Rattle.caldate_run.specs.declared.request.Request.TheVariants.{To, Print, Add, Move, Floor, Until, Since, At, Keep}
 use Rattle.caldate_run.specs.declared.request.TimeUnit.{TimeUnit}
-use Rattle.caldate_run.specs.declared.tally.Tally.{Tally}
+use Rattle.caldate_run.specs.declared.run.tally.Tally.{Tally}
 use Rattle.caldate_run.proofs.Laters.{one_later}
 use Rattle.caldate_run.proofs.OneCount.{one_count}
 use Rattle.caldate_run.proofs.Leads.{one_lead}
@@ -61,7 +61,7 @@ one_answer_to (Move by) text found a b h k =
 one_answer_to (Floor n) text found a b h k = in_form (form_read found) (floored n (moment_of found)) a b h k
 one_answer_to (Until target unit) text found a b h k = between unit found target a b h k
 one_answer_to (Since target unit) text found a b h k = between unit target found a b h k
-one_answer_to (At offset) text found a b h k = in_form_at (Moment Rfc3339) _ _ a b (h.1.shown ∙ sym k.1.shown) h.2 k.2
+one_answer_to (At offset) text found a b h k = in_form_at (Moment Rfc3339) _ _ a b (h.1.excerpt_of ∙ sym k.1.excerpt_of) h.2 k.2
 one_answer_to (Keep bounds) text found a b h k = h.1 ∙ sym k.1
 
 -- a line with an answer is not left out
@@ -109,24 +109,24 @@ found_told filter text r found answer e h = subst (λ r. Told filter text r answ
 unread_told : (filter : Filter) (text : List ℕ) (r : Result DateOrMoment NoAnswer) (any : NoAnswer) → r ≡ Err any → Told filter text r (Err any)
 unread_told filter text r any e = subst (λ r. Told filter text r (Err any)) (sym e) refl
 
-told : (filter : Filter) (text : List ℕ) (r : Result DateOrMoment NoAnswer) (answer : Answer)
+reported : (filter : Filter) (text : List ℕ) (r : Result DateOrMoment NoAnswer) (answer : Answer)
     → ((found : DateOrMoment) → IsReadAs filter text found → r ≡ Ok found)
     → ((any : NoAnswer) → IsNotRead filter text any → r ≡ Err any) → IsAnswer filter text answer → Told filter text r answer
-told filter text r (Ok (Some words)) every unread h = found_told filter text r h.0 _ (every h.0 h.1) (inl (words, refl, h.2))
-told filter text r (Ok None) every unread h = found_told filter text r h.0 _ (every h.0 h.1) (inr (inl (refl, h.2)))
-told filter text r (Err why.None) every unread h = found_told filter text r h.0 _ (every h.0 h.1) (inr (inr (refl, h.2)))
-told filter text r (Err (why.Rejected e)) every unread h = unread_told filter text r (why.Rejected e) (unread (why.Rejected e) h)
-told filter text r (Err (why.Unreadable at)) every unread h = unread_told filter text r (why.Unreadable at) (unread (why.Unreadable at) h)
-told filter text r (Err why.TooLong) every unread h = unread_told filter text r why.TooLong (unread why.TooLong h)
-told filter text r (Err why.NoField) every unread h = unread_told filter text r why.NoField (unread why.NoField h)
-told filter text r (Err why.NoForm) every unread h = unread_told filter text r why.NoForm (unread why.NoForm h)
-told filter text r (Err why.Skipped) every unread h = unread_told filter text r why.Skipped (unread why.Skipped h)
-told filter text r (Err why.Repeated) every unread h = unread_told filter text r why.Repeated (unread why.Repeated h)
+reported filter text r (Ok (Some words)) every unread h = found_told filter text r h.0 _ (every h.0 h.1) (inl (words, refl, h.2))
+reported filter text r (Ok None) every unread h = found_told filter text r h.0 _ (every h.0 h.1) (inr (inl (refl, h.2)))
+reported filter text r (Err why.None) every unread h = found_told filter text r h.0 _ (every h.0 h.1) (inr (inr (refl, h.2)))
+reported filter text r (Err (why.Rejected e)) every unread h = unread_told filter text r (why.Rejected e) (unread (why.Rejected e) h)
+reported filter text r (Err (why.Unreadable at)) every unread h = unread_told filter text r (why.Unreadable at) (unread (why.Unreadable at) h)
+reported filter text r (Err why.TooLong) every unread h = unread_told filter text r why.TooLong (unread why.TooLong h)
+reported filter text r (Err why.NoField) every unread h = unread_told filter text r why.NoField (unread why.NoField h)
+reported filter text r (Err why.NoForm) every unread h = unread_told filter text r why.NoForm (unread why.NoForm h)
+reported filter text r (Err why.Skipped) every unread h = unread_told filter text r why.Skipped (unread why.Skipped h)
+reported filter text r (Err why.Repeated) every unread h = unread_told filter text r why.Repeated (unread why.Repeated h)
 
 pub one_answer : (filter : Filter) (text : List ℕ) (r : Result DateOrMoment NoAnswer) (a b : Answer)
     → ((found : DateOrMoment) → IsReadAs filter text found → r ≡ Ok found)
     → ((any : NoAnswer) → IsNotRead filter text any → r ≡ Err any) → IsAnswer filter text a → IsAnswer filter text b → a ≡ b
-one_answer filter text r a b every unread h k = one_told filter text r a b (told filter text r a every unread h) (told filter text r b every unread k)
+one_answer filter text r a b every unread h k = one_told filter text r a b (reported filter text r a every unread h) (reported filter text r b every unread k)
 
 -- ---- the answers to all lines
 -- the line has one reply, whatever came before it
@@ -162,13 +162,13 @@ took-one held a b None v first second same = absurd first
 took-one held a b (Some x) None first second same = absurd second
 took-one held a b (Some x) (Some y) first second same = ap Some (first ∙ ap (λ more. held ++ more) same ∙ sym second)
 
-complete : (filter : Filter) (r : Result Unit Fault) (r0 r1 w0 w1 : Option (List ℕ)) → IsComplete r → Ended filter r r0 r1 w0 w1
+complete : (filter : Filter) (r : Result Unit RunError) (r0 r1 w0 w1 : Option (List ℕ)) → IsComplete r → IsRunResult filter r r0 r1 w0 w1
     → AnswersInput filter (λ tally. ⊤) r0 r1 w0 w1
 complete filter (Ok done) r0 r1 w0 w1 c (end, (input, given, (tally, has, all))) = (end, (input, given, (tally, tt, all)))
-complete filter (Err (Unanswered told)) r0 r1 w0 w1 c (end, (input, given, (tally, has, all))) = (end, (input, given, (tally, tt, all)))
+complete filter (Err (Unanswered reported)) r0 r1 w0 w1 c (end, (input, given, (tally, has, all))) = (end, (input, given, (tally, tt, all)))
 complete filter (Err Read) r0 r1 w0 w1 c h = absurd c
 complete filter (Err (Write kind)) r0 r1 w0 w1 c h = absurd c
-complete filter (Err (Stopped told)) r0 r1 w0 w1 c h = absurd c
+complete filter (Err (Stopped reported)) r0 r1 w0 w1 c h = absurd c
 
 inputs-one : (filter : Filter) (input held : List ℕ) (left rest w v : Option (List ℕ)) → All (HasOneReply filter) (slice_split is_end input)
     → AnswersInput filter (λ tally. ⊤) (Some input) left (Some held) w → AnswersInput filter (λ tally. ⊤) (Some input) rest (Some held) v → w ≡ v
@@ -178,7 +178,7 @@ inputs-one filter input held left rest w v one (end_left, (bytes, given, (t, has
     let same = replies-one filter 0 (lines_of input) answers.out replies.out no_lines t no_lines u (lines-all (HasOneReply filter) (slice_split is_end input) one) here there in
     took-one held answers.out replies.out w v answers.taken replies.taken same
 
-pub ended-one : (filter : Filter) (input held : List ℕ) (r s : Result Unit Fault) (left rest w v : Option (List ℕ)) → All (HasOneReply filter) (slice_split is_end input)
-    → IsComplete r → IsComplete s → Ended filter r (Some input) left (Some held) w → Ended filter s (Some input) rest (Some held) v → w ≡ v
+pub ended-one : (filter : Filter) (input held : List ℕ) (r s : Result Unit RunError) (left rest w v : Option (List ℕ)) → All (HasOneReply filter) (slice_split is_end input)
+    → IsComplete r → IsComplete s → IsRunResult filter r (Some input) left (Some held) w → IsRunResult filter s (Some input) rest (Some held) v → w ≡ v
 ended-one filter input held r s left rest w v one c d first second =
     inputs-one filter input held left rest w v one (complete filter r (Some input) left (Some held) w c first) (complete filter s (Some input) rest (Some held) v d second)

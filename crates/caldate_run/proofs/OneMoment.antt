@@ -9,7 +9,7 @@ use Rattle.cal_zone.specs.Local.{IsInRange, IsLocalOf, moved_back, moved_forward
 use Rattle.cal_zone.specs.declared.local.Local.{Local}
 use Rattle.cal_zone.specs.declared.local.Local.TheVariants.{Single, Gap, Fold}
 use Rattle.caldate_run.specs.Clocks.{IsByPolicy, IsOnClock, placed_as}
-use Rattle.caldate_run.specs.declared.no_answer.NoAnswer.{NoAnswer}
+use Rattle.caldate_run.specs.declared.run.no_answer.NoAnswer.{NoAnswer}
 use Rattle.caldate_run.specs.declared.request.Clock.{Clock}
 use Rattle.caldate_run.specs.declared.request.Policy.{Policy}
 use Rattle.caldate_run.specs.declared.request.Policy.TheVariants.{Compatible, Earlier, Later, Reject}

@@ -2,17 +2,17 @@
 use Rattle.std.proofs.Common.{◌≡◌, ℕ, Bool, true, false, List, Option, Some, None, Ok, Err, refl, sym, ap, ◌∙◌, subst}
 use Rattle.std.specs.Prelude.{length, MatchBool, MatchOption, nat_lt}
 use Rattle.caldate_run.specs.Answers.{Answer, IsAnswer}
-use Rattle.caldate_run.specs.Fields.{asked_text}
+use Rattle.caldate_run.specs.Fields.{selected_text}
 use Rattle.caldate_run.specs.Lines.{text_of}
-use Rattle.caldate_run.specs.Replies.{GoesOut, IsAnswerIn, IsAnswerOf, IsAnswerToText, IsReplyTo, in_text}
+use Rattle.caldate_run.specs.Replies.{RepliesWith, IsAnswerIn, IsAnswerOf, IsAnswerToText, IsReplyTo, in_text}
 use Rattle.caldate_run.specs.Room.{longest_text}
-use Rattle.caldate_run.specs.declared.no_answer.NoAnswer.TheVariants as why
+use Rattle.caldate_run.specs.declared.run.no_answer.NoAnswer.TheVariants as why
 use Rattle.caldate_run.specs.declared.request.Filter.{Filter}
-use Rattle.caldate_run.specs.declared.tally.Tally.{Tally}
+use Rattle.caldate_run.specs.declared.run.tally.Tally.{Tally}
 
 -- the text to answer has one answer
 abbrev pub IsOneText : Filter → List ℕ → Type 0
-IsOneText filter text = (asked : List ℕ) → asked_text filter.field text ≡ Some asked → (a b : Answer) → IsAnswer filter asked a → IsAnswer filter asked b → a ≡ b
+IsOneText filter text = (asked : List ℕ) → selected_text filter.field text ≡ Some asked → (a b : Answer) → IsAnswer filter asked a → IsAnswer filter asked b → a ≡ b
 
 one_in_text : (P : Answer → Type 0) (Q : Answer → List ℕ → Type 0) (o : Option (List ℕ)) (a b : Answer) → (P a → P b → a ≡ b)
     → ((asked : List ℕ) → o ≡ Some asked → Q a asked → Q b asked → a ≡ b) → MatchOption o (P a) (Q a) → MatchOption o (P b) (Q b) → a ≡ b
@@ -27,10 +27,10 @@ one_of_text : (filter : Filter) (before : ℕ) (text : List ℕ) (a b : Answer) 
 one_of_text filter before text a b one h k =
     one_of_two (nat_lt longest_text (length text)) (λ a. a ≡ Err why.TooLong) (λ a. MatchBool (nat_lt before filter.skip) (a ≡ Ok (Some text)) (IsAnswerToText filter text a)) a b (λ h k. h ∙ sym k)
     (λ h k. one_of_two (nat_lt before filter.skip) (λ a. a ≡ Ok (Some text)) (IsAnswerToText filter text) a b (λ h k. h ∙ sym k)
-    (λ h k. one_in_text (λ a. a ≡ Err why.NoField) (λ a asked. IsAnswerIn filter text a asked) (asked_text filter.field text) a b (λ h k. h ∙ sym k)
+    (λ h k. one_in_text (λ a. a ≡ Err why.NoField) (λ a asked. IsAnswerIn filter text a asked) (selected_text filter.field text) a b (λ h k. h ∙ sym k)
     (λ asked is h k. h.2 ∙ ap (in_text filter text) (one asked is h.0 k.0 h.1 k.1) ∙ sym k.2) h k) h k) h k
 
-one_out : (filter : Filter) (line : List ℕ) (answer : Answer) (reply other : List ℕ) → GoesOut filter line answer reply → GoesOut filter line answer other → reply ≡ other
+one_out : (filter : Filter) (line : List ℕ) (answer : Answer) (reply other : List ℕ) → RepliesWith filter line answer reply → RepliesWith filter line answer other → reply ≡ other
 one_out filter line (Ok out) reply other h k = h ∙ sym k
 one_out filter line (Err any) reply other h k = h.1 ∙ sym k.1
 
@@ -38,4 +38,4 @@ pub one_reply : (filter : Filter) (before : ℕ) (line reply other : List ℕ) (
     → IsReplyTo filter before line reply t u → IsReplyTo filter before line other v w → reply ≡ other
 one_reply filter before line reply other t u v w one h k =
     let same = one_of_text filter before (text_of line) h.answer k.answer one h.is k.is in
-    one_out filter line k.answer reply other (subst (λ a. GoesOut filter line a reply) same h.out) k.out
+    one_out filter line k.answer reply other (subst (λ a. RepliesWith filter line a reply) same h.out) k.out

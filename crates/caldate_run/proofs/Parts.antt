@@ -10,7 +10,7 @@ use Rattle.std.proofs.lemmas.Option.{cond_some}
 use Rattle.std.proofs.lemmas.Bool.Decides.{nat_tests}
 use Rattle.caldate_run.specs.Lines.{is_end}
 use Rattle.caldate_run.specs.Requests.{arguments_of}
-use Rattle.caldate_run.specs.Standing.{NoEnd}
+use Rattle.caldate_run.specs.RunStates.{NoEnd}
 
 -- the first part ends at the position
 split_at_some : (p : ℕ → Bool) (xs : List ℕ) (k : ℕ) → position p xs ≡ Some k

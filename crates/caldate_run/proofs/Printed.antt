@@ -1,4 +1,4 @@
 -- A format prints a short text.
 use Rattle.cal_format.proofs.Lengths.{text-short}
 
-pub ruleset printed = (text-short)
+pub ruleset printable = (text-short)

@@ -16,7 +16,7 @@ use Rattle.cal_datetime.specs.OffsetDateTime.{LocalAndOffset, unix_epoch}
 use Rattle.cal_text.specs.declared.any.DateOrMoment.TheVariants.{Moment}
 use Rattle.cal_text.specs.declared.any.MomentForm.TheVariants.{Unix}
 use Rattle.cal_text.proofs.Results.{one}
-use Rattle.caldate_run.specs.Readings.{IsFaultIn, IsNumber, IsNumberOf, local_of, nanoseconds_in}
+use Rattle.caldate_run.specs.Readings.{IsErrorIn, IsNumber, IsNumberOf, local_of, nanoseconds_in}
 use Rattle.caldate_run.specs.declared.reading.Reading.TheVariants as reading
 use Rattle.caldate_run.specs.declared.request.UnixUnit.{UnixUnit}
 use Rattle.caldate_run.specs.declared.request.UnixUnit.TheVariants.{Milliseconds, Microseconds, Nanoseconds}
@@ -111,7 +111,7 @@ moment_of unit text z v m n e made some =
     (z, n, (m, record { in_range = subst IsDateTime local range; at_utc = one _ _ (made range) ∙ ap at_utc e }, refl))
 
 pub no_fault : (unit : UnixUnit) (text : List ℕ) (z v : ℤ) (why : ComponentRange) → ((x : ℤ) → IsNumber text x → Some z ≡ Some x)
-    → v ≡ z *ℤ pos (nanoseconds_in unit) → (¬ IsDateTime (unix_epoch +ℤ v) → ⊥) → IsFaultIn (reading.Unix unit) text why → ⊥
+    → v ≡ z *ℤ pos (nanoseconds_in unit) → (¬ IsDateTime (unix_epoch +ℤ v) → ⊥) → IsErrorIn (reading.Unix unit) text why → ⊥
 no_fault unit text z v why every e some (is, (x, n, out)) =
     let number = one_number (Some z) z x refl (every x n) in
     some (λ range. out (subst IsDateTime (ap (λ v. unix_epoch +ℤ v) e ∙ ap (local_of unit) number) range))

@@ -5,7 +5,7 @@ use Rattle.cal_text.specs.declared.any.DateOrMoment.{DateOrMoment}
 use Rattle.caldate_run.specs.Answers.{IsNotRead, IsReadAs}
 use Rattle.caldate_run.specs.Clocks.{IsPlaced}
 use Rattle.caldate_run.specs.Readers.{IsFoundBy}
-use Rattle.caldate_run.specs.declared.no_answer.NoAnswer.{NoAnswer}
+use Rattle.caldate_run.specs.declared.run.no_answer.NoAnswer.{NoAnswer}
 use Rattle.caldate_run.specs.declared.request.Clock.{Clock}
 use Rattle.caldate_run.specs.declared.request.Filter.{Filter}
 

@@ -6,22 +6,22 @@ use Rattle.std.proofs.lemmas.Bool.{le-ltb}
 use Rattle.std.proofs.lemmas.List.{append-nil, get_or-append-add}
 use Rattle.caldate_run.specs.Answers.{Answer, IsAnswer}
 use Rattle.caldate_run.proofs.Steps.{passed_none, shown_front}
-use Rattle.caldate_run.specs.Fields.{asked_text, text_with}
+use Rattle.caldate_run.specs.Fields.{selected_text, text_with}
 use Rattle.caldate_run.specs.Lines.{has_return, text_of}
-use Rattle.caldate_run.specs.Replies.{Counts, Describes, GoesOut, IsAnswerIn, IsAnswerOf, IsAnswerToText, IsReplyTo, in_place, in_text, more, stops, with_end, with_reason}
-use Rattle.caldate_run.specs.Runs.{AppendsThat, Puts, Replied}
-use Rattle.caldate_run.specs.Standing.{AtLine, IsHeld, IsShown, passed}
-use Rattle.caldate_run.specs.Shown.{shown, words_shown}
-use Rattle.caldate_run.specs.declared.no_answer.NoAnswer.{NoAnswer}
-use Rattle.caldate_run.specs.declared.no_answer.NoAnswer.TheVariants as why
+use Rattle.caldate_run.specs.Replies.{IsCounted, Describes, RepliesWith, IsAnswerIn, IsAnswerOf, IsAnswerToText, IsReplyTo, in_place, in_text, more, stops, with_end, with_reason}
+use Rattle.caldate_run.specs.Runs.{AppendsSome, AppendsAnswer, AppendsReply}
+use Rattle.caldate_run.specs.RunStates.{AtLine, IsDroppedFront, HasExcerpt, passed}
+use Rattle.caldate_run.specs.Excerpts.{excerpt_of, excerpt_bytes}
+use Rattle.caldate_run.specs.declared.run.no_answer.NoAnswer.{NoAnswer}
+use Rattle.caldate_run.specs.declared.run.no_answer.NoAnswer.TheVariants as why
 use Rattle.caldate_run.specs.declared.on_invalid.OnInvalid.{OnInvalid}
 use Rattle.caldate_run.specs.declared.on_invalid.OnInvalid.TheVariants as invalid
-use Rattle.caldate_run.specs.declared.progress.Progress.{Progress}
+use Rattle.caldate_run.specs.declared.run.progress.Progress.{Progress}
 use Rattle.caldate_run.specs.declared.request.Field.{Field}
 use Rattle.caldate_run.specs.declared.request.Filter.{Filter}
-use Rattle.caldate_run.specs.declared.shown.ShownText.{ShownText}
-use Rattle.caldate_run.specs.declared.tally.Tally.{Tally}
-use Rattle.caldate_run.specs.declared.unanswered.UnansweredLine.{UnansweredLine}
+use Rattle.caldate_run.specs.declared.run.excerpt.Excerpt.{Excerpt}
+use Rattle.caldate_run.specs.declared.run.tally.Tally.{Tally}
+use Rattle.caldate_run.specs.declared.run.unanswered.UnansweredLine.{UnansweredLine}
 
 -- ---- a line of which a front was let go
 same_return : (kept line : List ℕ) → 0 < length line → has_return (kept ++ line) ≡ has_return line
@@ -32,7 +32,7 @@ same_return kept line some =
     tests : ℕ → Bool
     tests byte = eqb byte 13
 
-same_cut : (b : Bool) (kept line : List ℕ) → IsHeld b kept line → has_return (kept ++ line) ≡ has_return line
+same_cut : (b : Bool) (kept line : List ℕ) → IsDroppedFront b kept line → has_return (kept ++ line) ≡ has_return line
 same_cut false kept line h = ap (λ k. has_return (k ++ line)) h
 same_cut true kept line h = same_return kept line (omega (arith, ap length h.2.2))
 
@@ -40,7 +40,7 @@ text_long : (b : Bool) (line : List ℕ) (n : ℕ) → n + 1 < length line → n
 text_long true line n h = omega (arith, h, length-take (length line - 1) line)
 text_long false line n h = omega (arith, h)
 
-pub is_too_long : (kept line : List ℕ) → IsHeld true kept line → 4096 < length (text_of (kept ++ line))
+pub is_too_long : (kept line : List ℕ) → IsDroppedFront true kept line → 4096 < length (text_of (kept ++ line))
 is_too_long kept line h = text_long (has_return (kept ++ line)) (kept ++ line) 4096 (omega (arith, h.0, length-append kept line, ap length h.2.2))
 
 -- ---- the answer to the text of a line
@@ -51,11 +51,11 @@ of_text filter before text answer fits skip h =
     subst (λ b. MatchBool b (answer ≡ Err why.TooLong) (MatchBool (nat_lt before filter.skip) (answer ≡ Ok (Some text)) (IsAnswerToText filter text answer)))
     (sym (le-ltb 4096 (length text) fits)) skipped
 
-pub in_field : (filter : Filter) (field : Option Field) (text asked : List ℕ) (own : Answer) → filter.field ≡ field → asked_text field text ≡ Some asked
+pub in_field : (filter : Filter) (field : Option Field) (text asked : List ℕ) (own : Answer) → filter.field ≡ field → selected_text field text ≡ Some asked
     → IsAnswer filter asked own → IsAnswerToText filter text (in_text filter text own)
 in_field filter field text asked own is e h =
     subst (λ o. MatchOption o (in_text filter text own ≡ Err why.NoField) (IsAnswerIn filter text (in_text filter text own)))
-    (sym (ap (λ f. asked_text f text) is ∙ e)) (own, h, refl)
+    (sym (ap (λ f. selected_text f text) is ∙ e)) (own, h, refl)
 
 same_text : (filter : Filter) (text : List ℕ) (answer : Answer) → filter.field ≡ None → in_text filter text answer ≡ answer
 same_text filter text (Ok (Some words)) e = ap (λ f. Ok (Some (text_with f text words))) e
@@ -65,7 +65,7 @@ same_text filter text (Err any) e = refl
 pub in_whole : (filter : Filter) (text : List ℕ) (answer : Answer) → filter.field ≡ None → IsAnswer filter text answer → IsAnswerToText filter text answer
 in_whole filter text answer none h = subst (IsAnswerToText filter text) (same_text filter text answer none) (in_field filter None text text answer none refl h)
 
-pub puts_other : (P Q : Answer → Type 0) (r : Result Bool NoAnswer) (old new : List ℕ) → ((answer : Answer) → P answer → Q answer) → Puts P r old new → Puts Q r old new
+pub puts_other : (P Q : Answer → Type 0) (r : Result Bool NoAnswer) (old new : List ℕ) → ((answer : Answer) → P answer → Q answer) → AppendsAnswer P r old new → AppendsAnswer Q r old new
 puts_other P Q (Ok true) old new f h = (h.0, h.1, f (Ok (Some h.0)) h.2)
 puts_other P Q (Ok false) old new f h = (h.0, f (Ok None) h.1)
 puts_other P Q (Err any) old new f h = (h.0, f (Err any) h.1)
@@ -75,23 +75,23 @@ pub replied_without : (filter : Filter) (progress : Progress) (tally : Tally) (l
     → text ≡ text_of line → cut ≡ has_return line
     → AtLine progress line (λ before whole. (mid ≡ old) × IsAnswerOf filter before (text_of whole) (Err any))
     → OnOk r ((line : List ℕ) → text ≡ text_of line → cut ≡ has_return line → AtLine progress line (λ before whole. IsAnswerOf filter before (text_of whole) (Err any))
-    → Replied (IsReplyTo filter) filter.on_invalid progress tally line mid new)
-    → OnOk r (Replied (IsReplyTo filter) filter.on_invalid progress tally line old new)
+    → AppendsReply (IsReplyTo filter) filter.on_invalid progress tally line mid new)
+    → OnOk r (AppendsReply (IsReplyTo filter) filter.on_invalid progress tally line old new)
 replied_without filter progress tally line text old mid new cut any (Ok done) e f put h = λ kept before held front number.
-    subst (λ l. AppendsThat (λ words. IsReplyTo filter before (kept ++ line) (passed filter.on_invalid kept ++ words) progress.tally tally) l new)
+    subst (λ l. AppendsSome (λ words. IsReplyTo filter before (kept ++ line) (passed filter.on_invalid kept ++ words) progress.tally tally) l new)
     ((put kept before held front number).0) (h line e f (λ kept before held front number. (put kept before held front number).1) kept before held front number)
-replied_without filter progress tally line text old mid new cut any (Err told) e f put h = h
+replied_without filter progress tally line text old mid new cut any (Err reported) e f put h = h
 
 pub taken_back : (old mid rest new : List ℕ) (before : ℕ) → before ≡ length old → mid ≡ old ++ rest → new ≡ take before mid → new ≡ old
 taken_back old mid rest new before at e f = f ∙ ap (λ k. take k mid) at ∙ ap (λ l. take (length old) l) e ∙ take-append_seam old rest
 
 -- ---- a line that is whole
-pub of_whole : (P : List ℕ → Type 0) (kept line text : List ℕ) → IsHeld false kept line → text ≡ text_of line → P text → P (text_of (kept ++ line))
+pub of_whole : (P : List ℕ → Type 0) (kept line text : List ℕ) → IsDroppedFront false kept line → text ≡ text_of line → P text → P (text_of (kept ++ line))
 of_whole P kept line text h e p = subst P (e ∙ ap (λ k. text_of (k ++ line)) (sym h)) p
 
 -- ---- the words, and the end of the line
 -- what goes out after a front that was passed on, with the end of the line
-pub ended : (b : Bool) (kept line front old mid new words : List ℕ) (out : Option (List ℕ)) (goes cut : Bool) → IsHeld b kept line → mid ≡ old ++ words
+pub ended : (b : Bool) (kept line front old mid new words : List ℕ) (out : Option (List ℕ)) (goes cut : Bool) → IsDroppedFront b kept line → mid ≡ old ++ words
     → front ++ words ≡ unwrap_or out [] → goes ≡ is_some out → cut ≡ has_return line → new ≡ mid ++ cond goes (cond cut (13 ∷ 10 ∷ []) (10 ∷ [])) []
     → (rest : List ℕ) × (new ≡ old ++ rest) × (front ++ rest ≡ with_end (kept ++ line) out)
 ended b kept line front old mid new words out goes cut h put whole is e f = (
@@ -107,19 +107,19 @@ ended b kept line front old mid new words out goes cut h put whole is e f = (
 
 pub replies_with : (filter : Filter) (before : ℕ) (whole front old new : List ℕ) (answer : Answer) (out : Option (List ℕ)) (t u : Tally)
     → ((rest : List ℕ) × (new ≡ old ++ rest) × (front ++ rest ≡ with_end whole out)) → IsAnswerOf filter before (text_of whole) answer
-    → GoesOut filter whole answer (with_end whole out) → Counts before whole answer t u
-    → AppendsThat (λ words. IsReplyTo filter before whole (front ++ words) t u) old new
+    → RepliesWith filter whole answer (with_end whole out) → IsCounted before whole answer t u
+    → AppendsSome (λ words. IsReplyTo filter before whole (front ++ words) t u) old new
 replies_with filter before whole front old new answer out t u h is goes counts =
-    (h.0, h.1, record { answer = answer; is = is; out = subst (GoesOut filter whole answer) (sym h.2) goes; counts = counts })
+    (h.0, h.1, record { answer = answer; is = is; out = subst (RepliesWith filter whole answer) (sym h.2) goes; counts = counts })
 
 front_none : (mode : OnInvalid) (kept : List ℕ) → kept ≡ [] → passed mode kept ≡ []
 front_none mode kept e = ap (passed mode) e ∙ passed_none mode
 
 -- a line with an answer
 pub replied : (filter : Filter) (before : ℕ) (kept line old mid new : List ℕ) (goes cut : Bool) (t u : Tally) → kept ≡ []
-    → Puts (IsAnswerOf filter before (text_of (kept ++ line))) (Ok goes) old mid → cut ≡ has_return line
+    → AppendsAnswer (IsAnswerOf filter before (text_of (kept ++ line))) (Ok goes) old mid → cut ≡ has_return line
     → new ≡ mid ++ cond goes (cond cut (13 ∷ 10 ∷ []) (10 ∷ [])) [] → u ≡ record { lines = more t.lines; unanswered = t.unanswered; first = t.first }
-    → AppendsThat (λ words. IsReplyTo filter before (kept ++ line) (passed filter.on_invalid kept ++ words) t u) old new
+    → AppendsSome (λ words. IsReplyTo filter before (kept ++ line) (passed filter.on_invalid kept ++ words) t u) old new
 replied filter before kept line old mid new true cut t u h put e f counts =
     replies_with filter before (kept ++ line) (passed filter.on_invalid kept) old new (Ok (Some put.0)) (Some put.0) t u
     (ended false kept line (passed filter.on_invalid kept) old mid new put.0 (Some put.0) true cut h put.1 (ap (λ p. p ++ put.0) (front_none filter.on_invalid kept h)) refl e f)
@@ -130,10 +130,10 @@ replied filter before kept line old mid new false cut t u h put e f counts =
     put.1 refl counts
 
 -- a line without one
-first_counts : (before : ℕ) (line : List ℕ) (any : NoAnswer) (first new : Option UnansweredLine) (told : UnansweredLine) → Describes before line any told
-    → MatchOption first (new ≡ Some told) (λ f. new ≡ Some f) → MatchOption first (IsSomeAnd new (Describes before line any)) (λ f. new ≡ Some f)
-first_counts before line any None new told is h = subst (λ o. IsSomeAnd o (Describes before line any)) (sym h) is
-first_counts before line any (Some f) new told is h = h
+first_counts : (before : ℕ) (line : List ℕ) (any : NoAnswer) (first new : Option UnansweredLine) (reported : UnansweredLine) → Describes before line any reported
+    → MatchOption first (new ≡ Some reported) (λ f. new ≡ Some f) → MatchOption first (IsSomeAnd new (Describes before line any)) (λ f. new ≡ Some f)
+first_counts before line any None new reported is h = subst (λ o. IsSomeAnd o (Describes before line any)) (sym h) is
+first_counts before line any (Some f) new reported is h = h
 
 -- the text of a line, after a front that was dropped
 text_at : (cut : Bool) (kept line : List ℕ) → 0 < length line
@@ -143,20 +143,20 @@ text_at true kept line some =
     ap (λ k. take k (kept ++ line)) at ∙ take-append-add kept line (length line - 1)
 text_at false kept line some = refl
 
-text_after : (b : Bool) (kept line : List ℕ) → IsHeld b kept line → text_of (kept ++ line) ≡ kept ++ text_of line
+text_after : (b : Bool) (kept line : List ℕ) → IsDroppedFront b kept line → text_of (kept ++ line) ≡ kept ++ text_of line
 text_after false kept line h = ap (λ k. text_of (k ++ line)) h ∙ ap (λ k. k ++ text_of line) (sym h)
 text_after true kept line h =
     ap (λ c. cond c (take (length (kept ++ line) - 1) (kept ++ line)) (kept ++ line)) (same_cut true kept line h)
     ∙ text_at (has_return line) kept line (omega (arith, ap length h.2.2))
 
-same_reason : (b : Bool) (filter : Filter) (kept line text : List ℕ) (any : NoAnswer) → IsHeld b kept line → text ≡ text_of line → (b ≡ true → any ≡ why.TooLong)
+same_reason : (b : Bool) (filter : Filter) (kept line text : List ℕ) (any : NoAnswer) → IsDroppedFront b kept line → text ≡ text_of line → (b ≡ true → any ≡ why.TooLong)
     → with_reason filter text any ≡ with_reason filter (text_of (kept ++ line)) any
 same_reason false filter kept line text any h e long = ap (λ t. with_reason filter t any) (e ∙ ap (λ k. text_of (k ++ line)) (sym h))
 same_reason true filter kept line text any h e long =
     ap (with_reason filter text) (long refl) ∙ ap (with_reason filter (text_of (kept ++ line))) (sym (long refl))
 
 -- what goes out in place of an answer, after the front that was passed on
-same_place : (mode : OnInvalid) (b : Bool) (filter : Filter) (kept line text : List ℕ) (any : NoAnswer) → IsHeld b kept line → text ≡ text_of line
+same_place : (mode : OnInvalid) (b : Bool) (filter : Filter) (kept line text : List ℕ) (any : NoAnswer) → IsDroppedFront b kept line → text ≡ text_of line
     → (b ≡ true → any ≡ why.TooLong) → passed mode kept ++ unwrap_or (in_place mode filter text any) [] ≡ unwrap_or (in_place mode filter (text_of (kept ++ line)) any) []
 same_place invalid.Keep b filter kept line text any h e long = ap (λ t. kept ++ t) e ∙ sym (text_after b kept line h)
 same_place invalid.Answer b filter kept line text any h e long = same_reason b filter kept line text any h e long
@@ -169,33 +169,33 @@ same_goes invalid.Answer filter x y any = refl
 same_goes invalid.Drop filter x y any = refl
 same_goes invalid.Stop filter x y any = refl
 
-pub unanswered : (filter : Filter) (before : ℕ) (b : Bool) (kept line text old mid new : List ℕ) (any : NoAnswer) (goes cut : Bool) (t u : Tally) (told : UnansweredLine)
-    → IsHeld b kept line → text ≡ text_of line → (b ≡ true → any ≡ why.TooLong) → stops filter.on_invalid ≡ false
+pub unanswered : (filter : Filter) (before : ℕ) (b : Bool) (kept line text old mid new : List ℕ) (any : NoAnswer) (goes cut : Bool) (t u : Tally) (reported : UnansweredLine)
+    → IsDroppedFront b kept line → text ≡ text_of line → (b ≡ true → any ≡ why.TooLong) → stops filter.on_invalid ≡ false
     → IsAnswerOf filter before (text_of (kept ++ line)) (Err any) → mid ≡ old ++ unwrap_or (in_place filter.on_invalid filter text any) []
     → goes ≡ is_some (in_place filter.on_invalid filter text any) → cut ≡ has_return line → new ≡ mid ++ cond goes (cond cut (13 ∷ 10 ∷ []) (10 ∷ [])) []
-    → Describes before (kept ++ line) any told → u.lines ≡ more t.lines → u.unanswered ≡ more t.unanswered → MatchOption t.first (u.first ≡ Some told) (λ f. u.first ≡ Some f)
-    → AppendsThat (λ words. IsReplyTo filter before (kept ++ line) (passed filter.on_invalid kept ++ words) t u) old new
-unanswered filter before b kept line text old mid new any goes cut t u told h e long on is put out has f describes lines count first =
+    → Describes before (kept ++ line) any reported → u.lines ≡ more t.lines → u.unanswered ≡ more t.unanswered → MatchOption t.first (u.first ≡ Some reported) (λ f. u.first ≡ Some f)
+    → AppendsSome (λ words. IsReplyTo filter before (kept ++ line) (passed filter.on_invalid kept ++ words) t u) old new
+unanswered filter before b kept line text old mid new any goes cut t u reported h e long on is put out has f describes lines count first =
     let mode = filter.on_invalid in
     let place = in_place mode filter (text_of (kept ++ line)) any in
     replies_with filter before (kept ++ line) (passed mode kept) old new (Err any) place t u
     (ended b kept line (passed mode kept) old mid new (unwrap_or (in_place mode filter text any) []) place goes cut h put
     (same_place mode b filter kept line text any h e long) (out ∙ same_goes mode filter text (text_of (kept ++ line)) any) has f)
-    is (on, refl) (lines, count, first_counts before (kept ++ line) any t.first u.first told describes first)
+    is (on, refl) (lines, count, first_counts before (kept ++ line) any t.first u.first reported describes first)
 
 -- ---- the shown text of a line
-shown_cut : (kept line : List ℕ) → 80 ≤ length kept → 0 < length line → shown (take (length (kept ++ line) - 1) (kept ++ line)) ≡ shown kept
+shown_cut : (kept line : List ℕ) → 80 ≤ length kept → 0 < length line → excerpt_of (take (length (kept ++ line) - 1) (kept ++ line)) ≡ excerpt_of kept
 shown_cut kept line h some =
     let at : length (kept ++ line) - 1 ≡ length kept + (length line - 1) = omega (arith, some, length-append kept line) in
-    ap (λ k. shown (take k (kept ++ line))) at ∙ ap shown (take-append-add kept line (length line - 1)) ∙ shown_front kept (take (length line - 1) line) h
+    ap (λ k. excerpt_of (take k (kept ++ line))) at ∙ ap excerpt_of (take-append-add kept line (length line - 1)) ∙ shown_front kept (take (length line - 1) line) h
 
 shown_long : (b : Bool) (kept line : List ℕ) → 80 ≤ length kept → 0 < length line
-    → shown (cond b (take (length (kept ++ line) - 1) (kept ++ line)) (kept ++ line)) ≡ shown kept
+    → excerpt_of (cond b (take (length (kept ++ line) - 1) (kept ++ line)) (kept ++ line)) ≡ excerpt_of kept
 shown_long true kept line h some = shown_cut kept line h some
 shown_long false kept line h some = shown_front kept line h
 
-pub text_shown : (b : Bool) (front : ShownText) (kept line text : List ℕ) (told : ShownText) → IsHeld b kept line → IsShown b front kept → text ≡ text_of line
-    → (b ≡ false → words_shown told ≡ shown text) → (b ≡ true → told ≡ front) → words_shown told ≡ shown (text_of (kept ++ line))
-text_shown false front kept line text told held is e whole long = whole refl ∙ ap shown (e ∙ ap (λ k. text_of (k ++ line)) (sym held))
-text_shown true front kept line text told held is e whole long =
-    ap words_shown (long refl) ∙ is ∙ sym (shown_long (has_return (kept ++ line)) kept line (omega (arith, held.0)) (omega (arith, ap length held.2.2)))
+pub text_shown : (b : Bool) (front : Excerpt) (kept line text : List ℕ) (reported : Excerpt) → IsDroppedFront b kept line → HasExcerpt b front kept → text ≡ text_of line
+    → (b ≡ false → excerpt_bytes reported ≡ excerpt_of text) → (b ≡ true → reported ≡ front) → excerpt_bytes reported ≡ excerpt_of (text_of (kept ++ line))
+text_shown false front kept line text reported held is e whole long = whole refl ∙ ap excerpt_of (e ∙ ap (λ k. text_of (k ++ line)) (sym held))
+text_shown true front kept line text reported held is e whole long =
+    ap excerpt_bytes (long refl) ∙ is ∙ sym (shown_long (has_return (kept ++ line)) kept line (omega (arith, held.0)) (omega (arith, ap length held.2.2)))

@@ -8,8 +8,8 @@ use Rattle.cal_format.specs.declared.item.Item.{Item}
 use Rattle.cal_text.specs.AnyForm.{IsTextOf}
 use Rattle.cal_text.specs.declared.any.DateOrMoment.{DateOrMoment}
 use Rattle.cal_text.specs.declared.error.ParseError.{ParseError}
-use Rattle.caldate_run.specs.declared.zone_fault.FileError.TheVariants.{NotFound}
-use Rattle.caldate_run.specs.declared.zone_fault.ZoneFault.TheVariants.{File}
+use Rattle.caldate_run.specs.declared.zones.read_zone_error.FileError.TheVariants.{NotFound}
+use Rattle.caldate_run.specs.declared.zones.read_zone_error.ReadZoneError.TheVariants.{File}
 use Rattle.caldate_run.specs.Meanings.{AreMeanings, AreMeant, IsItems, IsMeaningOf, Meaning, Meanings, format_named, value_in}
 
 abbrev pub HasMeanings : List (List ℕ) → Type 0

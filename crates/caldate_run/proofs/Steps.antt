@@ -11,16 +11,16 @@ use Rattle.std.proofs.lemmas.List.Splits.{slice_split_at, slice_split_none, slic
 use Rattle.std.proofs.lemmas.Bool.{false≢true}
 use Rattle.caldate_run.specs.Lines.{ended_lines, is_end, last_part, lines_of, unended, without_empty_last, without_last}
 use Rattle.caldate_run.specs.Replies.{EndsAt, IsReplyTo, stops}
-use Rattle.caldate_run.specs.Runs.{AnswersAll, AnswersEnded, AnswersFront, AppendsFront, IsPassedOn, Replied, StopsAt}
-use Rattle.caldate_run.specs.Standing.{AreReplies, AtLine, IsHeld, IsShown, NoEnd, Replies, Stands, counted, no_lines, passed}
-use Rattle.caldate_run.specs.Shown.{printed, shown, words_shown}
+use Rattle.caldate_run.specs.Runs.{AnswersAll, AnswersEnded, AnswersFront, AppendsFront, IsPassedOn, AppendsReply, StopsAt}
+use Rattle.caldate_run.specs.RunStates.{AreReplies, AtLine, IsDroppedFront, HasExcerpt, NoEnd, Replies, RunState, counted, no_lines, passed}
+use Rattle.caldate_run.specs.Excerpts.{printable, excerpt_of, excerpt_bytes}
 use Rattle.caldate_run.specs.declared.on_invalid.OnInvalid.{OnInvalid}
 use Rattle.caldate_run.specs.declared.on_invalid.OnInvalid.TheVariants as invalid
-use Rattle.caldate_run.specs.declared.progress.Progress.{Progress}
+use Rattle.caldate_run.specs.declared.run.progress.Progress.{Progress}
 use Rattle.caldate_run.specs.declared.request.Filter.{Filter}
-use Rattle.caldate_run.specs.declared.shown.ShownText.{ShownText}
-use Rattle.caldate_run.specs.declared.tally.Tally.{Tally}
-use Rattle.caldate_run.specs.declared.unanswered.UnansweredLine.{UnansweredLine}
+use Rattle.caldate_run.specs.declared.run.excerpt.Excerpt.{Excerpt}
+use Rattle.caldate_run.specs.declared.run.tally.Tally.{Tally}
+use Rattle.caldate_run.specs.declared.run.unanswered.UnansweredLine.{UnansweredLine}
 
 -- ---- replies
 pub one_reply : (IsReply : Replies) (before n : ℕ) (lines : List (List ℕ)) (line out reply : List ℕ) (t u v : Tally) → n ≡ before + length lines
@@ -43,7 +43,7 @@ one_reply IsReply before n (l ∷ lines) line out reply t u v e h r = (
 )
 
 -- ---- the line that was held
-kept_no_end : (b : Bool) (kept pending : List ℕ) → IsHeld b kept pending → NoEnd kept
+kept_no_end : (b : Bool) (kept pending : List ℕ) → IsDroppedFront b kept pending → NoEnd kept
 kept_no_end false kept pending h = subst NoEnd (sym h) (λ k d l. absurd (omega arith))
 kept_no_end true kept pending h = h.1
 
@@ -61,7 +61,7 @@ first_of first more (x ∷ xs) after e n = (xs, ap (λ f. f ∷ xs) (sym (ap hea
     head_or [] = 0
     head_or (y ∷ ys) = y
 
-pub held_line : (b : Bool) (kept pending line after : List ℕ) → IsHeld b kept pending → pending ≡ line ++ 10 ∷ after → IsHeld b kept line
+pub held_line : (b : Bool) (kept pending line after : List ℕ) → IsDroppedFront b kept pending → pending ≡ line ++ 10 ∷ after → IsDroppedFront b kept line
 held_line false kept pending line after h e = h
 held_line true kept pending line after h e =
     let found = first_of h.2.0 h.2.1 line after (sym h.2.2 ∙ e) h.2.3 in
@@ -95,7 +95,7 @@ passes_none invalid.Answer line = refl
 passes_none invalid.Drop line = refl
 passes_none invalid.Stop line = refl
 
-passes : (mode : OnInvalid) (b : Bool) (kept pending rest : List ℕ) → IsHeld b kept pending → IsPassedOn mode (kept ++ rest) (passed mode kept)
+passes : (mode : OnInvalid) (b : Bool) (kept pending rest : List ℕ) → IsDroppedFront b kept pending → IsPassedOn mode (kept ++ rest) (passed mode kept)
 passes invalid.Keep false kept pending rest h = inl h
 passes invalid.Keep true kept pending rest h = inr (h.0, (rest, refl))
 passes invalid.Answer b kept pending rest h = refl
@@ -113,12 +113,12 @@ cut_line kept line after more pending h n e =
 counted_more : (n m : ℕ) → m ≡ counted n → counted (m + 1) ≡ counted (n + 1)
 counted_more n m e = omega (arith, e)
 
-pub answered : (IsReply : Replies) (mode : OnInvalid) (input : List ℕ) (start now : Option (List ℕ)) (gathered gathered_now pending line after : List ℕ) (progress progress_now : Progress)
+pub answered : (IsReply : Replies) (mode : OnInvalid) (input : List ℕ) (start now : Option (List ℕ)) (buffered buffered_now pending line after : List ℕ) (progress progress_now : Progress)
     → NoEnd line → pending ≡ line ++ 10 ∷ after
-    → Replied IsReply mode progress progress_now.tally line gathered gathered_now
+    → AppendsReply IsReply mode progress progress_now.tally line buffered buffered_now
     → progress_now.is_long ≡ false → progress_now.tally.lines ≡ counted (progress.tally.lines + 1)
-    → Stands IsReply mode input start now gathered pending progress → Stands IsReply mode input start now gathered_now after progress_now
-answered IsReply mode input start now gathered gathered_now pending line after progress progress_now n e reply short number s =
+    → RunState IsReply mode input start now buffered pending progress → RunState IsReply mode input start now buffered_now after progress_now
+answered IsReply mode input start now buffered buffered_now pending line after progress progress_now n e reply short number s =
     let r = reply s.kept (length s.lines) (held_line progress.is_long s.kept pending line after s.held e) s.front s.number in
     record {
       lines = s.lines ++ (s.kept ++ line) ∷ [];
@@ -129,18 +129,18 @@ answered IsReply mode input start now gathered gathered_now pending line after p
           ∙ sym (append_assoc s.lines ((s.kept ++ line) ∷ []) (slice_split is_end (after ++ more)));
       replies = one_reply IsReply 0 _ s.lines (s.kept ++ line) s.out (passed mode s.kept ++ r.0) _ _ _ (omega arith) s.replies r.2;
       whole = ap (λ p. s.out ++ (passed mode s.kept ++ r.0) ++ p) (passed_none mode) ∙ append-nil (s.out ++ (passed mode s.kept ++ r.0))
-          ∙ sym (append_assoc s.out (passed mode s.kept) r.0) ∙ ap (λ o. o ++ r.0) s.whole ∙ append_assoc s.written gathered r.0 ∙ ap (λ l. s.written ++ l) (sym r.1);
+          ∙ sym (append_assoc s.out (passed mode s.kept) r.0) ∙ ap (λ o. o ++ r.0) s.whole ∙ append_assoc s.written buffered r.0 ∙ ap (λ l. s.written ++ l) (sym r.1);
       taken = s.taken;
-      held = subst (λ b. IsHeld b [] after) (sym short) refl;
-      front = subst (λ b. IsShown b progress_now.front []) (sym short) tt;
+      held = subst (λ b. IsDroppedFront b [] after) (sym short) refl;
+      front = subst (λ b. HasExcerpt b progress_now.front []) (sym short) tt;
       number = number ∙ counted_more (length s.lines) progress.tally.lines s.number ∙ ap counted (sym (length-append s.lines ((s.kept ++ line) ∷ [])));
     }
 
 -- ---- the buffer is written, all of it or a front of it
-pub gone : (IsReply : Replies) (mode : OnInvalid) (input : List ℕ) (start now new : Option (List ℕ)) (gathered left written pending : List ℕ) (progress : Progress)
-    → gathered ≡ written ++ left → Appends now new written
-    → Stands IsReply mode input start now gathered pending progress → Stands IsReply mode input start new left pending progress
-gone IsReply mode input start now new gathered left written pending progress e a s = record {
+pub gone : (IsReply : Replies) (mode : OnInvalid) (input : List ℕ) (start now new : Option (List ℕ)) (buffered left written pending : List ℕ) (progress : Progress)
+    → buffered ≡ written ++ left → Appends now new written
+    → RunState IsReply mode input start now buffered pending progress → RunState IsReply mode input start new left pending progress
+gone IsReply mode input start now new buffered left written pending progress e a s = record {
   lines = s.lines;
   kept = s.kept;
   out = s.out;
@@ -237,9 +237,9 @@ one_line [] n h = absurd (omega arith)
 one_line (b ∷ bs) n h = ap without_empty_last (slice_split_none is_end (b ∷ bs) n)
 
 -- ---- a write that failed
-pub front_more : (start now new : Option (List ℕ)) (written gathered out : List ℕ) → out ≡ written ++ gathered → Appends start now written
-    → AppendsFront now new gathered → AppendsFront start new out
-front_more start now new written gathered out e a f = record {
+pub front_more : (start now new : Option (List ℕ)) (written buffered out : List ℕ) → out ≡ written ++ buffered → Appends start now written
+    → AppendsFront now new buffered → AppendsFront start new out
+front_more start now new written buffered out e a f = record {
   front = written ++ f.front;
   rest = f.rest;
   whole = e ∙ ap (λ l. written ++ l) f.whole ∙ sym (append_assoc written f.front f.rest);
@@ -247,10 +247,10 @@ front_more start now new written gathered out e a f = record {
   taken = Appends-trans start now new _ _ a f.taken;
 }
 
-pub failed : (filter : Filter) (input : List ℕ) (start now new : Option (List ℕ)) (gathered pending : List ℕ) (progress : Progress)
-    → AppendsFront now new gathered
-    → Stands (IsReplyTo filter) filter.on_invalid input start now gathered pending progress → AnswersFront filter (ended_lines input) (unended input) start new
-failed filter input start now new gathered pending progress f s =
+pub failed : (filter : Filter) (input : List ℕ) (start now new : Option (List ℕ)) (buffered pending : List ℕ) (progress : Progress)
+    → AppendsFront now new buffered
+    → RunState (IsReplyTo filter) filter.on_invalid input start now buffered pending progress → AnswersFront filter (ended_lines input) (unended input) start new
+failed filter input start now new buffered pending progress f s =
     let parts = begins s.kept pending (kept_no_end progress.is_long s.kept pending s.held) in
     record {
       lines = s.lines;
@@ -262,24 +262,24 @@ failed filter input start now new gathered pending progress f s =
       cut = rest_is input s.kept pending s.lines s.cut ∙ ap (λ ps. s.lines ++ ps) parts.2;
       replies = s.replies;
       passed = passes filter.on_invalid progress.is_long s.kept pending parts.0 s.held;
-      taken = front_more start now new s.written gathered (s.out ++ passed filter.on_invalid s.kept) s.whole s.taken f;
+      taken = front_more start now new s.written buffered (s.out ++ passed filter.on_invalid s.kept) s.whole s.taken f;
     }
 
 -- ---- a line without an answer
 abbrev pub Ends : Filter → Progress → List ℕ → UnansweredLine → Type 0
-Ends filter progress line told = AtLine progress line (λ before whole. EndsAt filter before whole told)
+Ends filter progress line reported = AtLine progress line (λ before whole. EndsAt filter before whole reported)
 
-pub all_more : (start now new : Option (List ℕ)) (written gathered out : List ℕ) → out ≡ written ++ gathered → Appends start now written
-    → Appends now new gathered → Appends start new out
-all_more start now new written gathered out e a f = subst (Appends start new) (sym e) (Appends-trans start now new _ _ a f)
+pub all_more : (start now new : Option (List ℕ)) (written buffered out : List ℕ) → out ≡ written ++ buffered → Appends start now written
+    → Appends now new buffered → Appends start new out
+all_more start now new written buffered out e a f = subst (Appends start new) (sym e) (Appends-trans start now new _ _ a f)
 
 none_passed : (filter : Filter) (out kept all : List ℕ) → passed filter.on_invalid kept ≡ [] → out ++ passed filter.on_invalid kept ≡ all → out ≡ all
 none_passed filter out kept all none whole = sym (append-nil out) ∙ ap (λ p. out ++ p) (sym none) ∙ whole
 
-pub stopped : (filter : Filter) (input : List ℕ) (start now new : Option (List ℕ)) (gathered pending line after : List ℕ) (progress : Progress) (told : UnansweredLine)
-    → NoEnd line → pending ≡ line ++ 10 ∷ after → Ends filter progress line told → Appends now new gathered
-    → Stands (IsReplyTo filter) filter.on_invalid input start now gathered pending progress → StopsAt filter told (ended_lines input) start new
-stopped filter input start now new gathered pending line after progress told n e ends f s =
+pub stopped : (filter : Filter) (input : List ℕ) (start now new : Option (List ℕ)) (buffered pending line after : List ℕ) (progress : Progress) (reported : UnansweredLine)
+    → NoEnd line → pending ≡ line ++ 10 ∷ after → Ends filter progress line reported → Appends now new buffered
+    → RunState (IsReplyTo filter) filter.on_invalid input start now buffered pending progress → StopsAt filter reported (ended_lines input) start new
+stopped filter input start now new buffered pending line after progress reported n e ends f s =
     let held = kept_no_end progress.is_long s.kept pending s.held in
     let at = ends s.kept (length s.lines) (held_line progress.is_long s.kept pending line after s.held e) s.front s.number in
     let parts = cut_line s.kept line after [] pending held n e in
@@ -294,19 +294,19 @@ stopped filter input start now new gathered pending line after progress told n e
           ∙ ap (λ p. s.lines ++ without_last p) parts ∙ ap (λ l. s.lines ++ l) (part_ended (s.kept ++ line) (slice_split is_end after) (split_some after));
       ends = at;
       replies = s.replies;
-      taken = all_more start now new s.written gathered s.out (none_passed filter s.out s.kept _ (stops_passed filter.on_invalid s.kept at.ends) s.whole) s.taken f;
+      taken = all_more start now new s.written buffered s.out (none_passed filter s.out s.kept _ (stops_passed filter.on_invalid s.kept at.ends) s.whole) s.taken f;
     }
 
 -- ---- the end of the input
-kept_none : (b : Bool) (kept : List ℕ) → IsHeld b kept [] → kept ≡ []
+kept_none : (b : Bool) (kept : List ℕ) → IsDroppedFront b kept [] → kept ≡ []
 kept_none false kept h = h
 kept_none true kept h = absurd (omega (arith, ap length h.2.2))
 
-held_some : (b : Bool) (kept pending : List ℕ) → IsHeld b kept pending → 0 < length pending → 0 < length (kept ++ pending)
+held_some : (b : Bool) (kept pending : List ℕ) → IsDroppedFront b kept pending → 0 < length pending → 0 < length (kept ++ pending)
 held_some b kept pending h l = omega (arith, l, length-append kept pending)
 
 pub all_answered : (filter : Filter) (input : List ℕ) (start now : Option (List ℕ)) (progress : Progress)
-    → Stands (IsReplyTo filter) filter.on_invalid input start now [] [] progress → AnswersAll filter (lines_of input) progress.tally start now
+    → RunState (IsReplyTo filter) filter.on_invalid input start now [] [] progress → AnswersAll filter (lines_of input) progress.tally start now
 all_answered filter input start now progress s =
     let none = kept_none progress.is_long s.kept s.held in
     let lines : lines_of input ≡ s.lines =
@@ -318,33 +318,33 @@ all_answered filter input start now progress s =
     }
 
 -- the lines, and the last one, which has no end
-with_last : (filter : Filter) (input : List ℕ) (start now : Option (List ℕ)) (gathered line : List ℕ) (progress : Progress)
-    → NoEnd line → 0 < length line → (s : Stands (IsReplyTo filter) filter.on_invalid input start now gathered line progress)
+with_last : (filter : Filter) (input : List ℕ) (start now : Option (List ℕ)) (buffered line : List ℕ) (progress : Progress)
+    → NoEnd line → 0 < length line → (s : RunState (IsReplyTo filter) filter.on_invalid input start now buffered line progress)
     → lines_of input ≡ s.lines ++ (s.kept ++ line) ∷ []
-with_last filter input start now gathered line progress n l s =
+with_last filter input start now buffered line progress n l s =
     lines_of_are input s.kept line s.lines s.cut
     ∙ ap (λ ls. s.lines ++ ls) (one_line (s.kept ++ line) (no_end_append s.kept line (kept_no_end progress.is_long s.kept line s.held) n) (held_some progress.is_long s.kept line s.held l))
 
-pub last_answered : (filter : Filter) (input : List ℕ) (start now new : Option (List ℕ)) (gathered line : List ℕ) (progress : Progress) (tally : Tally)
+pub last_answered : (filter : Filter) (input : List ℕ) (start now new : Option (List ℕ)) (buffered line : List ℕ) (progress : Progress) (tally : Tally)
     → NoEnd line → 0 < length line
-    → Replied (IsReplyTo filter) filter.on_invalid progress tally line [] gathered
-    → Appends now new gathered
-    → Stands (IsReplyTo filter) filter.on_invalid input start now [] line progress → AnswersAll filter (lines_of input) tally start new
-last_answered filter input start now new gathered line progress tally n l reply f s =
+    → AppendsReply (IsReplyTo filter) filter.on_invalid progress tally line [] buffered
+    → Appends now new buffered
+    → RunState (IsReplyTo filter) filter.on_invalid input start now [] line progress → AnswersAll filter (lines_of input) tally start new
+last_answered filter input start now new buffered line progress tally n l reply f s =
     let r = reply s.kept (length s.lines) s.held s.front s.number in
     record {
       out = s.out ++ (passed filter.on_invalid s.kept ++ r.0);
       replies = subst (λ ls. AreReplies (IsReplyTo filter) 0 ls (s.out ++ (passed filter.on_invalid s.kept ++ r.0)) no_lines tally) (sym (with_last filter input start now [] line progress n l s))
           (one_reply (IsReplyTo filter) 0 _ s.lines (s.kept ++ line) s.out (passed filter.on_invalid s.kept ++ r.0) _ _ _ (omega arith) s.replies r.2);
-      taken = all_more start now new s.written gathered (s.out ++ (passed filter.on_invalid s.kept ++ r.0)) (sym (append_assoc s.out (passed filter.on_invalid s.kept) r.0) ∙ ap (λ o. o ++ r.0) (s.whole ∙ append-nil s.written) ∙ ap (λ g. s.written ++ g) (sym r.1)) s.taken f;
+      taken = all_more start now new s.written buffered (s.out ++ (passed filter.on_invalid s.kept ++ r.0)) (sym (append_assoc s.out (passed filter.on_invalid s.kept) r.0) ∙ ap (λ o. o ++ r.0) (s.whole ∙ append-nil s.written) ∙ ap (λ g. s.written ++ g) (sym r.1)) s.taken f;
     }
 
-pub last_failed : (filter : Filter) (input : List ℕ) (start now new : Option (List ℕ)) (gathered line : List ℕ) (progress : Progress) (tally : Tally)
+pub last_failed : (filter : Filter) (input : List ℕ) (start now new : Option (List ℕ)) (buffered line : List ℕ) (progress : Progress) (tally : Tally)
     → NoEnd line → 0 < length line
-    → Replied (IsReplyTo filter) filter.on_invalid progress tally line [] gathered
-    → AppendsFront now new gathered
-    → Stands (IsReplyTo filter) filter.on_invalid input start now [] line progress → AnswersFront filter (lines_of input) [] start new
-last_failed filter input start now new gathered line progress tally n l reply f s =
+    → AppendsReply (IsReplyTo filter) filter.on_invalid progress tally line [] buffered
+    → AppendsFront now new buffered
+    → RunState (IsReplyTo filter) filter.on_invalid input start now [] line progress → AnswersFront filter (lines_of input) [] start new
+last_failed filter input start now new buffered line progress tally n l reply f s =
     let r = reply s.kept (length s.lines) s.held s.front s.number in
     record {
       lines = s.lines ++ (s.kept ++ line) ∷ [];
@@ -356,13 +356,13 @@ last_failed filter input start now new gathered line progress tally n l reply f 
       cut = ap (λ ls. ls ++ [] ∷ []) (with_last filter input start now [] line progress n l s);
       replies = one_reply (IsReplyTo filter) 0 _ s.lines (s.kept ++ line) s.out (passed filter.on_invalid s.kept ++ r.0) _ _ _ (omega arith) s.replies r.2;
       passed = passes_none filter.on_invalid [];
-      taken = front_more start now new s.written gathered (s.out ++ (passed filter.on_invalid s.kept ++ r.0) ++ []) (append-nil (s.out ++ (passed filter.on_invalid s.kept ++ r.0)) ∙ sym (append_assoc s.out (passed filter.on_invalid s.kept) r.0) ∙ ap (λ o. o ++ r.0) (s.whole ∙ append-nil s.written) ∙ ap (λ g. s.written ++ g) (sym r.1)) s.taken f;
+      taken = front_more start now new s.written buffered (s.out ++ (passed filter.on_invalid s.kept ++ r.0) ++ []) (append-nil (s.out ++ (passed filter.on_invalid s.kept ++ r.0)) ∙ sym (append_assoc s.out (passed filter.on_invalid s.kept) r.0) ∙ ap (λ o. o ++ r.0) (s.whole ∙ append-nil s.written) ∙ ap (λ g. s.written ++ g) (sym r.1)) s.taken f;
     }
 
-pub last_stopped : (filter : Filter) (input : List ℕ) (start now : Option (List ℕ)) (line : List ℕ) (progress : Progress) (told : UnansweredLine)
-    → NoEnd line → 0 < length line → Ends filter progress line told
-    → Stands (IsReplyTo filter) filter.on_invalid input start now [] line progress → StopsAt filter told (lines_of input) start now
-last_stopped filter input start now line progress told n l ends s =
+pub last_stopped : (filter : Filter) (input : List ℕ) (start now : Option (List ℕ)) (line : List ℕ) (progress : Progress) (reported : UnansweredLine)
+    → NoEnd line → 0 < length line → Ends filter progress line reported
+    → RunState (IsReplyTo filter) filter.on_invalid input start now [] line progress → StopsAt filter reported (lines_of input) start now
+last_stopped filter input start now line progress reported n l ends s =
     let at = ends s.kept (length s.lines) s.held s.front s.number in
     record {
       lines = s.lines;
@@ -378,7 +378,7 @@ last_stopped filter input start now line progress told n l ends s =
 
 -- ---- reads
 pub begun : (IsReply : Replies) (mode : OnInvalid) (start : Option (List ℕ)) (progress : Progress) → progress.is_long ≡ false → progress.tally ≡ no_lines
-    → Stands IsReply mode [] start start [] [] progress
+    → RunState IsReply mode [] start start [] [] progress
 begun IsReply mode start progress short none = record {
   lines = [];
   kept = [];
@@ -388,18 +388,18 @@ begun IsReply mode start progress short none = record {
   replies = (refl, none);
   whole = passed_none mode;
   taken = Appends-nil start;
-  held = subst (λ b. IsHeld b [] []) (sym short) refl;
-  front = subst (λ b. IsShown b progress.front []) (sym short) tt;
+  held = subst (λ b. IsDroppedFront b [] []) (sym short) refl;
+  front = subst (λ b. HasExcerpt b progress.front []) (sym short) tt;
   number = ap (λ (t : Tally). t.lines) none;
 }
 
-held_more : (b : Bool) (kept pending given : List ℕ) → IsHeld b kept pending → IsHeld b kept (pending ++ given)
+held_more : (b : Bool) (kept pending given : List ℕ) → IsDroppedFront b kept pending → IsDroppedFront b kept (pending ++ given)
 held_more false kept pending given h = h
 held_more true kept pending given h = (h.0, h.1, (h.2.0, h.2.1 ++ given, ap (λ p. p ++ given) h.2.2, h.2.3))
 
-pub read : (IsReply : Replies) (mode : OnInvalid) (input given : List ℕ) (start now : Option (List ℕ)) (gathered pending : List ℕ) (progress : Progress)
-    → Stands IsReply mode input start now gathered pending progress → Stands IsReply mode (input ++ given) start now gathered (pending ++ given) progress
-read IsReply mode input given start now gathered pending progress s = record {
+pub read : (IsReply : Replies) (mode : OnInvalid) (input given : List ℕ) (start now : Option (List ℕ)) (buffered pending : List ℕ) (progress : Progress)
+    → RunState IsReply mode input start now buffered pending progress → RunState IsReply mode (input ++ given) start now buffered (pending ++ given) progress
+read IsReply mode input given start now buffered pending progress s = record {
   lines = s.lines;
   kept = s.kept;
   out = s.out;
@@ -415,14 +415,14 @@ read IsReply mode input given start now gathered pending progress s = record {
 }
 
 -- the parts of the input whose last one is pending
-whole_parts : (filter : Filter) (input : List ℕ) (start now : Option (List ℕ)) (gathered pending : List ℕ) (progress : Progress) → NoEnd pending
-    → (s : Stands (IsReplyTo filter) filter.on_invalid input start now gathered pending progress) → slice_split is_end input ≡ s.lines ++ (s.kept ++ pending) ∷ []
-whole_parts filter input start now gathered pending progress n s =
+whole_parts : (filter : Filter) (input : List ℕ) (start now : Option (List ℕ)) (buffered pending : List ℕ) (progress : Progress) → NoEnd pending
+    → (s : RunState (IsReplyTo filter) filter.on_invalid input start now buffered pending progress) → slice_split is_end input ≡ s.lines ++ (s.kept ++ pending) ∷ []
+whole_parts filter input start now buffered pending progress n s =
     lines_are input s.kept pending s.lines s.cut
     ∙ ap (λ ps. s.lines ++ ps) (slice_split_none is_end (s.kept ++ pending) (no_end_append s.kept pending (kept_no_end progress.is_long s.kept pending s.held) n))
 
 pub ended_answered : (filter : Filter) (input : List ℕ) (start now : Option (List ℕ)) (pending : List ℕ) (progress : Progress) → NoEnd pending
-    → Stands (IsReplyTo filter) filter.on_invalid input start now [] pending progress → AnswersEnded filter input start now
+    → RunState (IsReplyTo filter) filter.on_invalid input start now [] pending progress → AnswersEnded filter input start now
 ended_answered filter input start now pending progress n s =
     let parts = whole_parts filter input start now [] pending progress n s in
     let lines : ended_lines input ≡ s.lines = ap without_last parts ∙ ended_begin s.lines ((s.kept ++ pending) ∷ []) (omega arith) ∙ append-nil s.lines in
@@ -442,22 +442,22 @@ one_byte [] h n = absurd (omega arith)
 one_byte (x ∷ xs) h n = (x, xs, refl, All-head (λ byte. is_end byte ≡ false) x xs n)
 
 -- a line with a long front shows the same as that front
-pub shown_front : (xs ys : List ℕ) → 80 ≤ length xs → shown (xs ++ ys) ≡ shown xs
-unfolding shown
-shown_front xs ys h = ap (map printed) (take-append-le 80 xs ys h)
+pub shown_front : (xs ys : List ℕ) → 80 ≤ length xs → excerpt_of (xs ++ ys) ≡ excerpt_of xs
+unfolding excerpt_of
+shown_front xs ys h = ap (map printable) (take-append-le 80 xs ys h)
 
-front_shown : (b : Bool) (front front_now : ShownText) (kept pending : List ℕ) (k : ℕ) → 80 ≤ length (take k pending) → IsHeld b kept pending → IsShown b front kept
-    → (b ≡ false → words_shown front_now ≡ shown pending) → (b ≡ true → front_now ≡ front) → words_shown front_now ≡ shown (kept ++ take k pending)
+front_shown : (b : Bool) (front front_now : Excerpt) (kept pending : List ℕ) (k : ℕ) → 80 ≤ length (take k pending) → IsDroppedFront b kept pending → HasExcerpt b front kept
+    → (b ≡ false → excerpt_bytes front_now ≡ excerpt_of pending) → (b ≡ true → front_now ≡ front) → excerpt_bytes front_now ≡ excerpt_of (kept ++ take k pending)
 front_shown false front front_now kept pending k h held is whole same =
-    whole refl ∙ ap shown (sym (take-append-drop k pending)) ∙ shown_front (take k pending) (drop k pending) h ∙ ap (λ l. shown (l ++ take k pending)) (sym held)
+    whole refl ∙ ap excerpt_of (sym (take-append-drop k pending)) ∙ shown_front (take k pending) (drop k pending) h ∙ ap (λ l. excerpt_of (l ++ take k pending)) (sym held)
 front_shown true front front_now kept pending k h held is whole same =
-    ap words_shown (same refl) ∙ is ∙ sym (shown_front kept (take k pending) (omega (arith, held.0)))
+    ap excerpt_bytes (same refl) ∙ is ∙ sym (shown_front kept (take k pending) (omega (arith, held.0)))
 
-pub let_go : (IsReply : Replies) (mode : OnInvalid) (input : List ℕ) (start now new : Option (List ℕ)) (pending pending_now : List ℕ) (progress progress_now : Progress)
-    → NoEnd pending → Appends now new (passed mode (take (length pending - 1) pending)) → 4097 < length pending → pending_now ≡ drop (length pending - 1) pending → (progress.is_long ≡ false → words_shown progress_now.front ≡ shown pending)
+pub discard_long_line : (IsReply : Replies) (mode : OnInvalid) (input : List ℕ) (start now new : Option (List ℕ)) (pending pending_now : List ℕ) (progress progress_now : Progress)
+    → NoEnd pending → Appends now new (passed mode (take (length pending - 1) pending)) → 4097 < length pending → pending_now ≡ drop (length pending - 1) pending → (progress.is_long ≡ false → excerpt_bytes progress_now.front ≡ excerpt_of pending)
     → (progress.is_long ≡ true → progress_now.front ≡ progress.front) → progress_now.is_long ≡ true → progress_now.tally ≡ progress.tally
-    → Stands IsReply mode input start now [] pending progress → Stands IsReply mode input start new [] pending_now progress_now
-let_go IsReply mode input start now new pending pending_now progress progress_now n went long last_byte whole_front same_front is_long same s =
+    → RunState IsReply mode input start now [] pending progress → RunState IsReply mode input start new [] pending_now progress_now
+discard_long_line IsReply mode input start now new pending pending_now progress progress_now n went long last_byte whole_front same_front is_long same s =
     let k = length pending - 1 in
     let front : length (take k pending) ≡ k = length-take k pending ∙ min-eq_left (omega arith) in
     let last : length (drop k pending) ≡ 1 = omega (arith, length-drop k pending) in
@@ -466,12 +466,12 @@ let_go IsReply mode input start now new pending pending_now progress progress_no
     let whole : (more : List ℕ) → s.kept ++ (pending ++ more) ≡ (s.kept ++ take k pending) ++ (drop k pending ++ more) = λ more.
     ap (λ p. s.kept ++ (p ++ more)) (sym (take-append-drop k pending)) ∙ ap (λ l. s.kept ++ l) (append_assoc (take k pending) (drop k pending) more)
     ∙ sym (append_assoc s.kept (take k pending) (drop k pending ++ more)) in
-    let held : IsHeld true (s.kept ++ take k pending) (drop k pending) = (
+    let held : IsDroppedFront true (s.kept ++ take k pending) (drop k pending) = (
       omega (arith, front, length-append s.kept (take k pending)),
       no_end_append s.kept (take k pending) (kept_no_end progress.is_long s.kept pending s.held) n_front,
       one_byte (drop k pending) (omega (arith, last)) n_last,
     ) in
-    subst (λ (p : List ℕ). Stands IsReply mode input start new [] p progress_now) (sym last_byte) (record {
+    subst (λ (p : List ℕ). RunState IsReply mode input start new [] p progress_now) (sym last_byte) (record {
       lines = s.lines;
       kept = s.kept ++ take k pending;
       out = s.out;
@@ -481,8 +481,8 @@ let_go IsReply mode input start now new pending pending_now progress progress_no
       whole = ap (λ p. s.out ++ p) (passed_append mode s.kept (take k pending)) ∙ sym (append_assoc s.out (passed mode s.kept) (passed mode (take k pending)))
           ∙ ap (λ o. o ++ passed mode (take k pending)) (s.whole ∙ append-nil s.written) ∙ sym (append-nil (s.written ++ passed mode (take k pending)));
       taken = Appends-trans start now new _ _ s.taken went;
-      held = subst (λ b. IsHeld b (s.kept ++ take k pending) (drop k pending)) (sym is_long) held;
-      front = subst (λ b. IsShown b progress_now.front (s.kept ++ take k pending)) (sym is_long)
+      held = subst (λ b. IsDroppedFront b (s.kept ++ take k pending) (drop k pending)) (sym is_long) held;
+      front = subst (λ b. HasExcerpt b progress_now.front (s.kept ++ take k pending)) (sym is_long)
           (front_shown progress.is_long progress.front progress_now.front s.kept pending k (omega arith) s.held s.front whole_front same_front);
       number = ap (λ (t : Tally). t.lines) same ∙ s.number;
     })
@@ -490,7 +490,7 @@ let_go IsReply mode input start now new pending pending_now progress progress_no
 -- a front of it that is passed on is not written whole
 pub let_go_failed : (filter : Filter) (input : List ℕ) (start now new : Option (List ℕ)) (pending : List ℕ) (progress : Progress) → NoEnd pending
     → filter.on_invalid ≡ invalid.Keep → 4097 < length pending → AppendsFront now new (take (length pending - 1) pending)
-    → Stands (IsReplyTo filter) filter.on_invalid input start now [] pending progress → AnswersFront filter (ended_lines input) (unended input) start new
+    → RunState (IsReplyTo filter) filter.on_invalid input start now [] pending progress → AnswersFront filter (ended_lines input) (unended input) start new
 let_go_failed filter input start now new pending progress n keeps long f s =
     let k = length pending - 1 in
     let front = s.kept ++ take k pending in

@@ -4,13 +4,13 @@ use Rattle.cal_tzif.proofs.OneError.{file_error-one}
 use Rattle.cal_tzif.proofs.Unique.{file-one}
 use Rattle.cal_zone.specs.Timeline.{Timeline}
 use Rattle.caldate_run.specs.Zones.{IsZoneIn, IsZoneOf}
-use Rattle.caldate_run.specs.declared.zone_fault.FileError.{FileError}
-use Rattle.caldate_run.specs.declared.zone_fault.ZoneFault.{ZoneFault}
-use Rattle.caldate_run.specs.declared.zone_fault.ZoneFault.TheVariants.{File, Zone}
+use Rattle.caldate_run.specs.declared.zones.read_zone_error.FileError.{FileError}
+use Rattle.caldate_run.specs.declared.zones.read_zone_error.ReadZoneError.{ReadZoneError}
+use Rattle.caldate_run.specs.declared.zones.read_zone_error.ReadZoneError.TheVariants.{File, Zone}
 use Rattle.caldate_run.specs.declared.zones.ZoneFile.{ZoneFile}
 use denote.Ref.{Bor}
 
-one_in : (contents : Result (Bor (List ℕ)) FileError) (r s : Result Timeline ZoneFault) → IsZoneIn contents r → IsZoneIn contents s → r ≡ s
+one_in : (contents : Result (Bor (List ℕ)) FileError) (r s : Result Timeline ReadZoneError) → IsZoneIn contents r → IsZoneIn contents s → r ≡ s
 one_in (Err error) r s a b = a ∙ sym b
 one_in (Ok bytes) (Ok y) (Ok z) a b = ap (λ (t : Timeline). Ok t) (file-one bytes.now y z a b)
 one_in (Ok bytes) (Ok y) (Err (Zone error)) a b = absurd (b.0 y a)
@@ -19,6 +19,6 @@ one_in (Ok bytes) (Err (Zone e)) (Err (Zone f)) a b = ap (λ (x : _). Err (Zone 
 one_in (Ok bytes) (Err (File e)) s a b = absurd a
 one_in (Ok bytes) r (Err (File e)) a b = absurd b
 
-pub one_zone : (file : Option ZoneFile) (r s : Result Timeline ZoneFault) → IsZoneOf file r → IsZoneOf file s → r ≡ s
+pub one_zone : (file : Option ZoneFile) (r s : Result Timeline ReadZoneError) → IsZoneOf file r → IsZoneOf file s → r ≡ s
 one_zone None r s a b = a ∙ sym b
 one_zone (Some file) r s a b = one_in file.contents r s a b

@@ -17,10 +17,10 @@ use Rattle.caldate_run.specs.Counts.{IsCount}
 use Rattle.caldate_run.specs.Bounds.{lies_in}
 use Rattle.caldate_run.specs.Forms.{IsInForm, format_text}
 pub use Rattle.caldate_run.specs.Found.{day_of, form_read, is_date, moment_of}
-use Rattle.caldate_run.specs.Moves.{LeadsTo}
+use Rattle.caldate_run.specs.Moves.{MovesTo}
 use Rattle.caldate_run.specs.Readers.{IsFoundBy, IsUnread}
-use Rattle.caldate_run.specs.declared.no_answer.NoAnswer.{NoAnswer}
-use Rattle.caldate_run.specs.declared.no_answer.NoAnswer.TheVariants as why
+use Rattle.caldate_run.specs.declared.run.no_answer.NoAnswer.{NoAnswer}
+use Rattle.caldate_run.specs.declared.run.no_answer.NoAnswer.TheVariants as why
 use Rattle.caldate_run.specs.declared.request.DayMove.{DayMove}
 use Rattle.caldate_run.specs.declared.request.Filter.{Filter}
 use Rattle.caldate_run.specs.declared.request.Form.TheVariants.{Moment}
@@ -63,7 +63,7 @@ IsBetween (Some unit) from to words = (z : ℤ) × IsCount unit (moment_of from)
 -- Moment m is the moment `from` at the offset.
 pub record IsShownAt (offset : ℤ) (from m : LocalAndOffset) : Type 0 where
   pub in_range : IsDateTime (local_at (instant from) offset)
-  pub shown : m ≡ record { local = local_at (instant from) offset; offset = offset }
+  pub excerpt_of : m ≡ record { local = local_at (instant from) offset; offset = offset }
 
 -- The offset of a place at a moment.
 abbrev pub offset_in : Place → LocalAndOffset → ℤ
@@ -75,7 +75,7 @@ IsAt place from words = (m : LocalAndOffset) × IsShownAt (offset_in place from)
 
 -- The words are the moved day in the form that was read, at the same time of day.
 abbrev pub IsMoved : DayMove → DateOrMoment → List ℕ → Type 0
-IsMoved by found words = (n : ℕ) × LeadsTo by (day_of found) n × IsInForm (form_read found) (on_day (moment_of found) n) words
+IsMoved by found words = (n : ℕ) × MovesTo by (day_of found) n × IsInForm (form_read found) (on_day (moment_of found) n) words
 
 -- The time of day is rounded down to a multiple of n minutes after midnight, or
 -- of 1 minute for 0.

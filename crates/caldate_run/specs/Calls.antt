@@ -4,8 +4,8 @@ use Rattle.std.specs.IoError.{error_kind}
 use Rattle.std.specs.declared.io.Error.{Error}
 use Rattle.std.specs.declared.io.ErrorKind.{ErrorKind}
 use Rattle.std.specs.declared.io.ErrorKind.TheVariants.{Interrupted, WriteZero}
-use Rattle.caldate_run.specs.declared.fault.Fault.{Fault}
-use Rattle.caldate_run.specs.declared.fault.Fault.TheVariants.{Read, Write}
+use Rattle.caldate_run.specs.declared.run.run_error.RunError.{RunError}
+use Rattle.caldate_run.specs.declared.run.run_error.RunError.TheVariants.{Read, Write}
 
 -- The maximum number of interrupted calls that are repeated.
 abbrev pub most_retries : ℕ
@@ -59,21 +59,21 @@ module _ {S : Type 0} (read : S → Result ℕ Error → S → Type 0) where
     failed : (most : ℕ) (s end : S) (error : Error) → Gives most_retries s (Err error) end → Reads (most + 1) s true end
     too_many : (s : S) → Reads 0 s true s
 
--- The error kind of a failed write, if the fault is one.
-abbrev pub kind_of : Fault → Option ErrorKind
+-- The error kind of a failed write, if the error is one.
+abbrev pub kind_of : RunError → Option ErrorKind
 kind_of (Write kind) = Some kind
 kind_of other = None
 
--- The fault is a failed read.
-abbrev pub is_of_read : Fault → Bool
+-- The error is a failed read.
+abbrev pub is_of_read : RunError → Bool
 is_of_read Read = true
 is_of_read other = false
 
--- An outcome has the failure of its fault.
-abbrev pub write_failure : {T : Type 0} → Result T Fault → Option ErrorKind
+-- An outcome has the failure of its error.
+abbrev pub write_failure : {T : Type 0} → Result T RunError → Option ErrorKind
 write_failure (Ok value) = None
-write_failure (Err fault) = kind_of fault
+write_failure (Err error) = kind_of error
 
-abbrev pub has_read_failure : {T : Type 0} → Result T Fault → Bool
+abbrev pub has_read_failure : {T : Type 0} → Result T RunError → Bool
 has_read_failure (Ok value) = false
-has_read_failure (Err fault) = is_of_read fault
+has_read_failure (Err error) = is_of_read error

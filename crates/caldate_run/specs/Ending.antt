@@ -4,13 +4,13 @@ use Rattle.std.specs.Option.{option_map_or}
 use Rattle.std.specs.declared.io.ErrorKind.{ErrorKind}
 use Rattle.std.specs.declared.io.ErrorKind.TheVariants.{BrokenPipe}
 use Rattle.caldate_run.specs.Replies.{reason}
-use Rattle.caldate_run.specs.Runs.{Shown}
-use Rattle.caldate_run.specs.Shown.{words_shown}
-use Rattle.caldate_run.specs.declared.ending.Ending.{Ending}
-use Rattle.caldate_run.specs.declared.fault.Fault.{Fault}
-use Rattle.caldate_run.specs.declared.fault.Fault.TheVariants.{Read, Write, Stopped, Unanswered}
-use Rattle.caldate_run.specs.declared.tally.Tally.{Tally}
-use Rattle.caldate_run.specs.declared.unanswered.UnansweredLine.{UnansweredLine}
+use Rattle.caldate_run.specs.Runs.{WritesPage}
+use Rattle.caldate_run.specs.Excerpts.{excerpt_bytes}
+use Rattle.caldate_run.specs.declared.run.ending.Ending.{Ending}
+use Rattle.caldate_run.specs.declared.run.run_error.RunError.{RunError}
+use Rattle.caldate_run.specs.declared.run.run_error.RunError.TheVariants.{Read, Write, Stopped, Unanswered}
+use Rattle.caldate_run.specs.declared.run.tally.Tally.{Tally}
+use Rattle.caldate_run.specs.declared.run.unanswered.UnansweredLine.{UnansweredLine}
 
 -- a write that failed like this says that nobody reads the output any more: a broken pipe, and nothing else
 abbrev pub is_closed : ErrorKind → Bool
@@ -19,7 +19,7 @@ is_closed kind = false
 
 -- the number of a line, why it has no answer, and its text
 abbrev pub description : UnansweredLine → List ℕ
-description line = codes "line " ++ decimal line.number ++ codes ": " ++ reason line.why ++ codes ": " ++ words_shown line.text
+description line = codes "line " ++ decimal line.number ++ codes ": " ++ reason line.why ++ codes ": " ++ excerpt_bytes line.text
 
 -- how many lines have no answer, and which is the first
 abbrev pub summary : Tally → List ℕ
@@ -28,15 +28,15 @@ summary tally =
     ++ option_map_or (λ line. codes "; first: " ++ description line) tally.first []
 
 -- nothing after a run that answered all of its input or whose output was closed, else why it failed, with a line feed
-abbrev pub words_of_end : Result Unit Fault → List ℕ
-words_of_end (Ok done) = []
-words_of_end (Err Read) = codes "caldate: cannot read standard input" ++ 10 ∷ []
-words_of_end (Err (Write kind)) = if is_closed kind then [] else codes "caldate: cannot write to standard output" ++ 10 ∷ []
-words_of_end (Err (Stopped line)) = codes "caldate: " ++ description line ++ 10 ∷ []
-words_of_end (Err (Unanswered tally)) = codes "caldate: " ++ summary tally ++ 10 ∷ []
+abbrev pub end_message : Result Unit RunError → List ℕ
+end_message (Ok done) = []
+end_message (Err Read) = codes "caldate: cannot read standard input" ++ 10 ∷ []
+end_message (Err (Write kind)) = if is_closed kind then [] else codes "caldate: cannot write to standard output" ++ 10 ∷ []
+end_message (Err (Stopped line)) = codes "caldate: " ++ description line ++ 10 ∷ []
+end_message (Err (Unanswered tally)) = codes "caldate: " ++ summary tally ++ 10 ∷ []
 
 -- 0 after a run that answered all of its input or whose output was closed, 1 where a line had no answer, else 2
-abbrev pub status_of : Result Unit Fault → ℕ
+abbrev pub status_of : Result Unit RunError → ℕ
 status_of (Ok done) = 0
 status_of (Err (Stopped line)) = 1
 status_of (Err (Unanswered tally)) = 1
@@ -44,5 +44,5 @@ status_of (Err Read) = 2
 status_of (Err (Write kind)) = if is_closed kind then 0 else 2
 
 -- the status is that of the outcome, and standard error took just its words, or failed and took a beginning of them that is not all
-abbrev pub Tells : Result Unit Fault → Ending → Option (List ℕ) → Option (List ℕ) → Type 0
-Tells outcome ending old new = (ending.status ≡ status_of outcome) × Shown (words_of_end outcome) ending.told old new
+abbrev pub ReportsOutcome : Result Unit RunError → Ending → Option (List ℕ) → Option (List ℕ) → Type 0
+ReportsOutcome outcome ending old new = (ending.status ≡ status_of outcome) × WritesPage (end_message outcome) ending.reported old new

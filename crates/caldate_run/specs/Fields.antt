@@ -19,8 +19,8 @@ abbrev pub fields_of : Field → List ℕ → List (List ℕ)
 fields_of field text = if field.csv then split_record field.separator false text else slice_split (λ byte. byte == field.separator) text
 
 -- The text has fewer fields than are asked for.
-abbrev pub lacks : Field → List ℕ → Bool
-lacks field text = nat_le (length (fields_of field text)) (field.first - 1 + field.joined)
+abbrev pub has_too_few : Field → List ℕ → Bool
+has_too_few field text = nat_le (length (fields_of field text)) (field.first - 1 + field.joined)
 
 -- The fields that are asked for, with the separators between them.
 abbrev pub joined_fields : Field → List ℕ → List ℕ
@@ -38,15 +38,15 @@ in_quotes field part words = if is_quoted field part then 34 ∷ (words ++ 34 �
 
 -- The text to answer is all of it, or the fields that are asked for, within their quotes, if the
 -- text has them.
-abbrev pub asked_text : Option Field → List ℕ → Option (List ℕ)
-asked_text None text = Some text
-asked_text (Some field) text = if lacks field text then None else Some (within_quotes field (joined_fields field text))
+abbrev pub selected_text : Option Field → List ℕ → Option (List ℕ)
+selected_text None text = Some text
+selected_text (Some field) text = if has_too_few field text then None else Some (within_quotes field (joined_fields field text))
 
 -- The words replace the text to answer. The separators around it stay, and so do its quotes.
 abbrev pub text_with : Option Field → List ℕ → List ℕ → List ℕ
 text_with None text words = words
 text_with (Some field) text words =
-    if lacks field text then text else
+    if has_too_few field text then text else
     join_with_byte field.separator (take (field.first - 1) (fields_of field text)
     ++ in_quotes field (joined_fields field text) words ∷ drop (field.first - 1 + field.joined + 1) (fields_of field text))
 

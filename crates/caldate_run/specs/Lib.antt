@@ -2,7 +2,7 @@ pub mod Answers
 pub mod Bounds
 pub mod Calls
 pub mod Clocks
-pub mod Complaint
+pub mod UsageMessages
 pub mod Counts
 pub mod Ending
 pub mod Fields
@@ -22,9 +22,9 @@ pub mod Replies
 pub mod Requests
 pub mod Room
 pub mod Runs
-pub mod Shown
+pub mod Excerpts
 pub mod Spellings
-pub mod Standing
+pub mod RunStates
 pub mod Templates
-pub mod ZoneFaults
+pub mod ReadZoneErrors
 pub mod Zones

@@ -7,9 +7,9 @@ use Rattle.cal_text.specs.AnyForm.{date_text}
 use Rattle.cal_text.specs.declared.any.DateForm.TheVariants.{Calendar}
 use Rattle.cal_time.specs.Date.{IsDate}
 use Rattle.caldate_run.specs.Runs.{AppendsFront, IsOfWrite}
-use Rattle.caldate_run.specs.declared.fault.Fault.{Fault}
-use Rattle.caldate_run.specs.declared.request.Asked.{Asked}
-use Rattle.caldate_run.specs.declared.request.Asked.TheVariants.{Dates}
+use Rattle.caldate_run.specs.declared.run.run_error.RunError.{RunError}
+use Rattle.caldate_run.specs.declared.request.Command.{Command}
+use Rattle.caldate_run.specs.declared.request.Command.TheVariants.{Dates}
 use Rattle.caldate_run.specs.declared.request.Listing.{Listing}
 use Rattle.caldate_run.specs.declared.request.Pace.{Pace}
 use Rattle.caldate_run.specs.declared.request.Pace.TheVariants.{Steps, Rule}
@@ -26,9 +26,9 @@ IsPace (Steps step) = IsStep step
 IsPace (Rule recurrence) = ⊤
 
 -- A list in steps has such a step.
-abbrev pub IsAsked : Asked → Type 0
-IsAsked (Dates listing) = IsStep listing.step
-IsAsked other = ⊤
+abbrev pub HasValidStep : Command → Type 0
+HasValidStep (Dates listing) = IsStep listing.step
+HasValidStep other = ⊤
 
 -- Day r is `count` days or months after day n.
 abbrev pub IsAfter : StepUnit → ℕ → ℕ → ℕ → Type 0
@@ -59,9 +59,9 @@ line_of day = date_text Calendar day ++ 10 ∷ []
 
 -- The writer took the lines of all days. After a failed write it took a beginning of the lines of
 -- the first days, and never all of them.
-abbrev pub TakesLines : (List ℕ → Type 0) → (List ℕ → Type 0) → Result Unit Fault → Option (List ℕ) → Option (List ℕ) → Type 0
+abbrev pub TakesLines : (List ℕ → Type 0) → (List ℕ → Type 0) → Result Unit RunError → Option (List ℕ) → Option (List ℕ) → Type 0
 TakesLines All First (Ok done) old new = (days : List ℕ) × All days × Appends old new (flat_map line_of days)
-TakesLines All First (Err fault) old new = IsOfWrite fault × ((days : List ℕ) × First days × AppendsFront old new (flat_map line_of days))
+TakesLines All First (Err error) old new = IsOfWrite error × ((days : List ℕ) × First days × AppendsFront old new (flat_map line_of days))
 
-abbrev pub Lists : Listing → Result Unit Fault → Option (List ℕ) → Option (List ℕ) → Type 0
+abbrev pub Lists : Listing → Result Unit RunError → Option (List ℕ) → Option (List ℕ) → Type 0
 Lists listing outcome old new = TakesLines (AreAll listing) (AreFirst listing) outcome old new

@@ -9,12 +9,12 @@ use Rattle.cal_format.specs.declared.item.Syntax.TheVariants.{Percent}
 use Rattle.cal_text.specs.AnyForm.{IsTextOf}
 use Rattle.cal_text.specs.declared.any.DateOrMoment.{DateOrMoment}
 use Rattle.cal_zone.specs.Timeline.{Timeline}
-use Rattle.caldate_run.specs.declared.zone_fault.ZoneFault.{ZoneFault}
+use Rattle.caldate_run.specs.declared.zones.read_zone_error.ReadZoneError.{ReadZoneError}
 
 pub record Meaning : Type 0 where
   pub found : Option DateOrMoment
   pub items : Option (List Item)
-  pub zone : Result Timeline ZoneFault
+  pub zone : Result Timeline ReadZoneError
 
 abbrev pub Meanings : Type 0
 Meanings = List ℕ → Meaning

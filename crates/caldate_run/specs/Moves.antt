@@ -31,13 +31,13 @@ IsLastOf Quarter n r = HasCalendarDate (year_at n) (3 * quarter_at n) (days_in_m
 IsLastOf Year n r = HasCalendarDate (year_at n) 12 31 r
 
 -- The move goes from day n to day r.
-abbrev pub LeadsTo : DayMove → ℕ → ℕ → Type 0
-LeadsTo (move.Next w k) n r = kth k (next_occurrences (index w) n) ≡ Some r
-LeadsTo (move.Last w k) n r = kth k (prev_occurrences (index w) n) ≡ Some r
-LeadsTo (move.OnOrAfter w) n r = slice_get (occurrences_from (index w) n) 0 ≡ Some r
-LeadsTo (move.OnOrBefore w) n r = slice_get (occurrences_upto (index w) n) 0 ≡ Some r
-LeadsTo (move.Months z) n r = IsDate r × IsMonthsLater n z r
-LeadsTo (move.Years z) n r = IsDate r × IsMonthsLater n (pos 12 *ℤ z) r
-LeadsTo (move.Workdays z) n r = nth_workday monday_to_friday z n ≡ Some r
-LeadsTo (move.Start period) n r = IsDate r × IsFirstOf period n r
-LeadsTo (move.End period) n r = IsDate r × IsLastOf period n r
+abbrev pub MovesTo : DayMove → ℕ → ℕ → Type 0
+MovesTo (move.Next w k) n r = kth k (next_occurrences (index w) n) ≡ Some r
+MovesTo (move.Last w k) n r = kth k (prev_occurrences (index w) n) ≡ Some r
+MovesTo (move.OnOrAfter w) n r = slice_get (occurrences_from (index w) n) 0 ≡ Some r
+MovesTo (move.OnOrBefore w) n r = slice_get (occurrences_upto (index w) n) 0 ≡ Some r
+MovesTo (move.Months z) n r = IsDate r × IsMonthsLater n z r
+MovesTo (move.Years z) n r = IsDate r × IsMonthsLater n (pos 12 *ℤ z) r
+MovesTo (move.Workdays z) n r = nth_workday monday_to_friday z n ≡ Some r
+MovesTo (move.Start period) n r = IsDate r × IsFirstOf period n r
+MovesTo (move.End period) n r = IsDate r × IsLastOf period n r

@@ -15,10 +15,10 @@ use Rattle.cal_text.specs.declared.any.DateForm.TheVariants.{Calendar}
 use Rattle.cal_text.specs.declared.any.DateOrMoment.{DateOrMoment}
 use Rattle.cal_text.specs.declared.any.DateOrMoment.TheVariants as dated
 use Rattle.cal_text.specs.declared.any.MomentForm.TheVariants.{Rfc3339}
-use Rattle.caldate_run.specs.Readings.{HasFormIn, IsFaultIn, IsTextIn}
+use Rattle.caldate_run.specs.Readings.{HasFormIn, IsErrorIn, IsTextIn}
 use Rattle.caldate_run.specs.Spellings.{full_by}
-use Rattle.caldate_run.specs.declared.no_answer.NoAnswer.{NoAnswer}
-use Rattle.caldate_run.specs.declared.no_answer.NoAnswer.TheVariants as why
+use Rattle.caldate_run.specs.declared.run.no_answer.NoAnswer.{NoAnswer}
+use Rattle.caldate_run.specs.declared.run.no_answer.NoAnswer.TheVariants as why
 use Rattle.caldate_run.specs.declared.reading.Reading.{Reading}
 use Rattle.caldate_run.specs.declared.reading.Reading.TheVariants as reading
 use Rattle.caldate_run.specs.declared.reading.reader.Reader.{Reader}
@@ -35,7 +35,7 @@ pub record IsMomentText (items : List Item) (text : List ℕ) (m : LocalAndOffse
   pub offset : IsOffset m.offset
   pub held : AreHeld (moment_of_offset_date_time m) items
   pub time : IsTrue (holds_time items (time_at m.local))
-  pub shown : IsTrue (holds_offset items m.offset)
+  pub excerpt_of : IsTrue (holds_offset items m.offset)
   pub text_is : text ≡ text_of items (moment_of_offset_date_time m)
 
 pub record IsDateTimeText (items : List Item) (text : List ℕ) (z : ℤ) : Type 0 where
@@ -64,7 +64,7 @@ IsFoundBy offset (reader ∷ readers) text found =
 -- ---- a text in none of the forms
 -- The text has the form, with a component out of range, or departs from the form at a position.
 abbrev pub IsUnreadIn : Reading → List ℕ → NoAnswer → Type 0
-IsUnreadIn reading text (why.Rejected component) = IsFaultIn reading text component
+IsUnreadIn reading text (why.Rejected component) = IsErrorIn reading text component
 IsUnreadIn reading text (why.Unreadable at) = (¬ HasFormIn reading text) × IsPosition (HasFormIn reading) text at
 IsUnreadIn reading text other = ⊥
 

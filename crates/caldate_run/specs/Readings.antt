@@ -78,7 +78,7 @@ HasFormIn (reading.Unix unit) bytes = (z : ℤ) × IsNumber bytes z
 HasFormIn reading bytes = IsSomeAnd (full_text reading bytes) HasAnyForm
 
 -- This component of the bytes is out of range.
-abbrev pub IsFaultIn : Reading → List ℕ → ComponentRange → Type 0
-IsFaultIn (reading.Unix unit) bytes why =
+abbrev pub IsErrorIn : Reading → List ℕ → ComponentRange → Type 0
+IsErrorIn (reading.Unix unit) bytes why =
     (why ≡ timestamp_out_of_range) × ((z : ℤ) × IsNumber bytes z × ¬ IsDateTime (local_of unit z))
-IsFaultIn reading bytes why = IsSomeAnd (full_text reading bytes) (λ text. IsDateOrMomentError text why)
+IsErrorIn reading bytes why = IsSomeAnd (full_text reading bytes) (λ text. IsDateOrMomentError text why)

@@ -2,7 +2,7 @@
 use Rattle.std.specs.Prelude.{◌≡◌, ℕ, nat_le, List, ◌++◌, filter, Option, Result}
 use Rattle.cal_recurrence.specs.Days.{AreDays}
 use Rattle.caldate_run.specs.Lists.{TakesLines}
-use Rattle.caldate_run.specs.declared.fault.Fault.{Fault}
+use Rattle.caldate_run.specs.declared.run.run_error.RunError.{RunError}
 use Rattle.caldate_run.specs.declared.request.Occurrences.{Occurrences}
 
 -- The days that are not past the last.
@@ -17,5 +17,5 @@ AreOccurrences asked dates = (days : List ℕ) × AreDays asked.recurrence asked
 abbrev pub AreFirstOccurrences : Occurrences → List ℕ → Type 0
 AreFirstOccurrences asked dates = (more : List ℕ) × AreOccurrences asked (dates ++ more)
 
-abbrev pub ListsOccurrences : Occurrences → Result Unit Fault → Option (List ℕ) → Option (List ℕ) → Type 0
+abbrev pub ListsOccurrences : Occurrences → Result Unit RunError → Option (List ℕ) → Option (List ℕ) → Type 0
 ListsOccurrences asked outcome old new = TakesLines (AreOccurrences asked) (AreFirstOccurrences asked) outcome old new

@@ -5,18 +5,18 @@ use Rattle.cal_time.specs.declared.error.ComponentRange.{ComponentRange}
 use Rattle.cal_text.specs.declared.error.ParseError.{ParseError}
 use Rattle.cal_text.specs.declared.error.ParseError.TheVariants.{UnexpectedByte, UnexpectedEnd, OutOfRange}
 use Rattle.caldate_run.specs.Answers.{Answer, IsAnswer}
-use Rattle.caldate_run.specs.Fields.{asked_text, text_with}
+use Rattle.caldate_run.specs.Fields.{selected_text, text_with}
 use Rattle.caldate_run.specs.Lines.{end_of, text_of}
 use Rattle.caldate_run.specs.Room.{longest_text}
-use Rattle.caldate_run.specs.Shown.{shown, words_shown}
-use Rattle.caldate_run.specs.Standing.{counted}
-use Rattle.caldate_run.specs.declared.no_answer.NoAnswer.{NoAnswer}
-use Rattle.caldate_run.specs.declared.no_answer.NoAnswer.TheVariants as why
+use Rattle.caldate_run.specs.Excerpts.{excerpt_of, excerpt_bytes}
+use Rattle.caldate_run.specs.RunStates.{counted}
+use Rattle.caldate_run.specs.declared.run.no_answer.NoAnswer.{NoAnswer}
+use Rattle.caldate_run.specs.declared.run.no_answer.NoAnswer.TheVariants as why
 use Rattle.caldate_run.specs.declared.on_invalid.OnInvalid.{OnInvalid}
 use Rattle.caldate_run.specs.declared.on_invalid.OnInvalid.TheVariants as invalid
 use Rattle.caldate_run.specs.declared.request.Filter.{Filter}
-use Rattle.caldate_run.specs.declared.tally.Tally.{Tally}
-use Rattle.caldate_run.specs.declared.unanswered.UnansweredLine.{UnansweredLine}
+use Rattle.caldate_run.specs.declared.run.tally.Tally.{Tally}
+use Rattle.caldate_run.specs.declared.run.unanswered.UnansweredLine.{UnansweredLine}
 
 -- ---- the reasons
 -- The component that is out of range.
@@ -49,7 +49,7 @@ abbrev pub IsAnswerIn : Filter → List ℕ → Answer → List ℕ → Type 0
 IsAnswerIn filter text answer asked = (own : Answer) × IsAnswer filter asked own × (answer ≡ in_text filter text own)
 
 abbrev pub IsAnswerToText : Filter → List ℕ → Answer → Type 0
-IsAnswerToText filter text answer = MatchOption (asked_text filter.field text) (answer ≡ Err why.NoField) (IsAnswerIn filter text answer)
+IsAnswerToText filter text answer = MatchOption (selected_text filter.field text) (answer ≡ Err why.NoField) (IsAnswerIn filter text answer)
 
 -- The answer to the text of a line after `before` lines. A skipped text stays as it is.
 abbrev pub IsAnswerOf : Filter → ℕ → List ℕ → Answer → Type 0
@@ -77,19 +77,19 @@ in_place mode filter text any = None
 
 -- The line after `before` lines is described by its number, counted from 1, its reason and its
 -- text.
-pub record Describes (before : ℕ) (line : List ℕ) (any : NoAnswer) (told : UnansweredLine) : Type 0 where
-  pub number_is : told.number ≡ counted (before + 1)
-  pub why_is : told.why ≡ any
-  pub text_is : words_shown told.text ≡ shown (text_of line)
+pub record Describes (before : ℕ) (line : List ℕ) (any : NoAnswer) (reported : UnansweredLine) : Type 0 where
+  pub number_is : reported.number ≡ counted (before + 1)
+  pub why_is : reported.why ≡ any
+  pub text_is : excerpt_bytes reported.text ≡ excerpt_of (text_of line)
 
 -- ---- the reply
 abbrev pub more : ℕ → ℕ
 more n = min (n + 1) (2 ^ 64 - 1)
 
 -- The line is counted. The first one without an answer is described.
-abbrev pub Counts : ℕ → List ℕ → Answer → Tally → Tally → Type 0
-Counts before line (Ok out) old new = new ≡ record { lines = more old.lines; unanswered = old.unanswered; first = old.first }
-Counts before line (Err any) old new =
+abbrev pub IsCounted : ℕ → List ℕ → Answer → Tally → Tally → Type 0
+IsCounted before line (Ok out) old new = new ≡ record { lines = more old.lines; unanswered = old.unanswered; first = old.first }
+IsCounted before line (Err any) old new =
     (new.lines ≡ more old.lines) × (new.unanswered ≡ more old.unanswered)
     × MatchOption old.first (IsSomeAnd new.first (Describes before line any)) (λ first. new.first ≡ Some first)
 
@@ -98,20 +98,20 @@ abbrev pub with_end : List ℕ → Option (List ℕ) → List ℕ
 with_end line None = []
 with_end line (Some words) = words ++ end_of line
 
-abbrev pub GoesOut : Filter → List ℕ → Answer → List ℕ → Type 0
-GoesOut filter line (Ok out) reply = reply ≡ with_end line out
-GoesOut filter line (Err any) reply =
+abbrev pub RepliesWith : Filter → List ℕ → Answer → List ℕ → Type 0
+RepliesWith filter line (Ok out) reply = reply ≡ with_end line out
+RepliesWith filter line (Err any) reply =
     (stops filter.on_invalid ≡ false) × (reply ≡ with_end line (in_place filter.on_invalid filter (text_of line) any))
 
 -- The reply to a line after `before` lines, and the tally before and after it.
 pub record IsReplyTo (filter : Filter) (before : ℕ) (line reply : List ℕ) (old new : Tally) : Type 0 where
   pub answer : Answer
   pub is : IsAnswerOf filter before (text_of line) answer
-  pub out : GoesOut filter line answer reply
-  pub counts : Counts before line answer old new
+  pub out : RepliesWith filter line answer reply
+  pub counts : IsCounted before line answer old new
 
 -- The run ends at this line after `before` lines.
-pub record EndsAt (filter : Filter) (before : ℕ) (line : List ℕ) (told : UnansweredLine) : Type 0 where
-  pub is : IsAnswerOf filter before (text_of line) (Err told.why)
+pub record EndsAt (filter : Filter) (before : ℕ) (line : List ℕ) (reported : UnansweredLine) : Type 0 where
+  pub is : IsAnswerOf filter before (text_of line) (Err reported.why)
   pub ends : stops filter.on_invalid ≡ true
-  pub told_is : Describes before line told.why told
+  pub reported_is : Describes before line reported.why reported

@@ -23,7 +23,7 @@ use Rattle.caldate_run.specs.Offsets.{offset_of}
 use Rattle.caldate_run.specs.Zones.{is_zone_like, zone_of}
 use Rattle.caldate_run.specs.declared.on_invalid.OnInvalid.{OnInvalid}
 use Rattle.caldate_run.specs.declared.on_invalid.OnInvalid.TheVariants as invalid
-use Rattle.caldate_run.specs.declared.options.Options.{Options}
+use Rattle.caldate_run.specs.declared.args.options.Options.{Options}
 use Rattle.caldate_run.specs.declared.reading.Reading.TheVariants as read
 use Rattle.caldate_run.specs.declared.reading.reader.Reader.{Reader}
 use Rattle.caldate_run.specs.declared.reading.reader.Reader.TheVariants as reader
@@ -52,11 +52,11 @@ use Rattle.caldate_run.specs.declared.request.Request.{Request}
 use Rattle.caldate_run.specs.declared.request.Request.TheVariants.{To, Print, Add, Move, Floor, Until, Since, At, Keep}
 use Rattle.caldate_run.specs.declared.request.Bounds.{Bounds}
 use Rattle.caldate_run.specs.declared.request.Bounds.TheVariants.{FromTo, After, Before}
-use Rattle.caldate_run.specs.declared.request.Asked.{Asked}
-use Rattle.caldate_run.specs.declared.request.Asked.TheVariants.{Help, Version, Lines, Once, Dates, Recurring}
-use Rattle.caldate_run.specs.declared.senseless.Senseless.{Senseless}
-use Rattle.caldate_run.specs.declared.senseless.Wanted.{Wanted}
-use Rattle.caldate_run.specs.declared.senseless.Wanted.TheVariants as wanted
+use Rattle.caldate_run.specs.declared.request.Command.{Command}
+use Rattle.caldate_run.specs.declared.request.Command.TheVariants.{Help, Version, Lines, Once, Dates, Recurring}
+use Rattle.caldate_run.specs.declared.args.usage_error.UsageError.{UsageError}
+use Rattle.caldate_run.specs.declared.args.usage_error.Expected.{Expected}
+use Rattle.caldate_run.specs.declared.args.usage_error.Expected.TheVariants as expected
 
 -- The arguments are separated by zero bytes, which no argument contains.
 abbrev pub arguments_of : List ℕ → List (List ℕ)
@@ -75,19 +75,19 @@ is_number word =
     nat_lt 0 (length (without_leading_sign word)) && (all_ascii_digits (without_leading_sign word)
     && (int_le (neg_ℤ (pos 9223372036854775808)) (signed_digits_value 10 word) && int_le (signed_digits_value 10 word) (pos 9223372036854775807)))
 
-abbrev pub number_of : List ℕ → Option ℤ
-number_of word = if is_number word then Some (signed_digits_value 10 word) else None
+abbrev pub parse_i64 : List ℕ → Option ℤ
+parse_i64 word = if is_number word then Some (signed_digits_value 10 word) else None
 
 -- A number from `low` to `high`, both of which are not negative.
 abbrev pub number_between : ℕ → ℕ → List ℕ → Option ℕ
 number_between low high word =
-    option_and_then (λ z. if int_le (pos low) z && int_le z (pos high) then Some (nat_abs z) else None) (number_of word)
+    option_and_then (λ z. if int_le (pos low) z && int_le z (pos high) then Some (nat_abs z) else None) (parse_i64 word)
 
-abbrev pub count_of : List ℕ → Option ℕ
-count_of word = number_between 1 255 word
+abbrev pub parse_u8 : List ℕ → Option ℕ
+parse_u8 word = number_between 1 255 word
 
-abbrev pub many_of : List ℕ → Option ℕ
-many_of word = number_between 1 4294967295 word
+abbrev pub parse_u32 : List ℕ → Option ℕ
+parse_u32 word = number_between 1 4294967295 word
 
 unfoldable pub further_form_of : List ℕ → Option Form
 further_form_of word =
@@ -158,17 +158,17 @@ seconds_in unit amount =
 
 -- ---- the words, each by its index among the arguments, counted from 0
 -- The first invalid word has this index. A missing word has the index that it would have.
-abbrev pub senseless_at : ℕ → Wanted → Senseless
-senseless_at at what = record { index = at; wanted = what }
+abbrev pub usage_error_at : ℕ → Expected → UsageError
+usage_error_at at what = record { index = at; expected = what }
 
 -- If the first words are valid, the others follow; otherwise the first error remains.
-abbrev pub and_then : {X Y : Type 0} → Result X Senseless → (X → Result Y Senseless) → Result Y Senseless
+abbrev pub and_then : {X Y : Type 0} → Result X UsageError → (X → Result Y UsageError) → Result Y UsageError
 and_then (Ok x) more = more x
-and_then (Err senseless) more = Err senseless
+and_then (Err usage_error) more = Err usage_error
 
 -- The meaning of the word at the index. The error expects `what` there.
-abbrev pub word_as : {X : Type 0} → List (List ℕ) → ℕ → (List ℕ → Option X) → Wanted → Result X Senseless
-word_as words at meaning what = ok_or (option_and_then meaning (slice_get words at)) (senseless_at at what)
+abbrev pub word_as : {X : Type 0} → List (List ℕ) → ℕ → (List ℕ → Option X) → Expected → Result X UsageError
+word_as words at meaning what = ok_or (option_and_then meaning (slice_get words at)) (usage_error_at at what)
 
 -- The word is the keyword.
 abbrev pub keyword : List ℕ → List ℕ → Option Unit
@@ -178,11 +178,11 @@ keyword name word = if bytes_eq word name then Some tt else None
 abbrev pub ends_at : List (List ℕ) → ℕ → Bool
 ends_at words at = is_none (slice_get words at)
 
-abbrev pub ended : {X : Type 0} → List (List ℕ) → ℕ → X → Result X Senseless
-ended words at x = if ends_at words at then Ok x else Err (senseless_at at wanted.End)
+abbrev pub ended : {X : Type 0} → List (List ℕ) → ℕ → X → Result X UsageError
+ended words at x = if ends_at words at then Ok x else Err (usage_error_at at expected.End)
 
 -- The meaning of the word at the index, which must be the last one.
-abbrev pub only_at : {X : Type 0} → List (List ℕ) → ℕ → (List ℕ → Option X) → Wanted → Result X Senseless
+abbrev pub only_at : {X : Type 0} → List (List ℕ) → ℕ → (List ℕ → Option X) → Expected → Result X UsageError
 only_at words at meaning what = and_then (word_as words at meaning what) (ended words (at + 1))
 
 -- ---- requests, by the words from an index on
@@ -205,53 +205,53 @@ amount_of z unit.Minutes = duration_of 60 z
 amount_of z unit.Seconds = duration_of 1 z
 
 -- The default unit of `add` is days.
-abbrev pub unit_at : List (List ℕ) → ℕ → Result TimeUnit Senseless
-unit_at words at = if ends_at words at then Ok unit.Days else only_at words at unit_of wanted.UnitOfTime
+abbrev pub unit_at : List (List ℕ) → ℕ → Result TimeUnit UsageError
+unit_at words at = if ends_at words at then Ok unit.Days else only_at words at unit_of expected.UnitOfTime
 
 -- `N`, `N UNIT`
-abbrev pub amount_at : List (List ℕ) → ℕ → Result Request Senseless
+abbrev pub amount_at : List (List ℕ) → ℕ → Result Request UsageError
 amount_at words at =
-    and_then (word_as words at number_of wanted.Number) (λ z.
+    and_then (word_as words at parse_i64 expected.Number) (λ z.
     and_then (unit_at words (at + 1)) (λ unit.
-    ok_or (amount_of z unit) (senseless_at at wanted.Amount)))
+    ok_or (amount_of z unit) (usage_error_at at expected.Amount)))
 
 -- The default count of a weekday is 1.
-abbrev pub count_at : List (List ℕ) → ℕ → Result ℕ Senseless
-count_at words at = if ends_at words at then Ok 1 else only_at words at count_of wanted.Count
+abbrev pub count_at : List (List ℕ) → ℕ → Result ℕ UsageError
+count_at words at = if ends_at words at then Ok 1 else only_at words at parse_u8 expected.Count
 
 -- `WEEKDAY`, `WEEKDAY N`
-abbrev pub occurrence_at : List (List ℕ) → ℕ → Result (Weekday × ℕ) Senseless
+abbrev pub occurrence_at : List (List ℕ) → ℕ → Result (Weekday × ℕ) UsageError
 occurrence_at words at =
-    and_then (word_as words at weekday_of wanted.Weekday) (λ day.
+    and_then (word_as words at weekday_of expected.Weekday) (λ day.
     and_then (count_at words (at + 1)) (λ n. Ok (day, n)))
 
 -- `in UNIT`, or nothing
-abbrev pub in_unit_at : List (List ℕ) → ℕ → Result (Option TimeUnit) Senseless
+abbrev pub in_unit_at : List (List ℕ) → ℕ → Result (Option TimeUnit) UsageError
 in_unit_at words at =
     if ends_at words at then Ok None else
-    and_then (word_as words at (keyword (codes "in")) wanted.In) (λ in_word.
-    and_then (only_at words (at + 1) unit_of wanted.UnitOfTime) (λ unit. Ok (Some unit)))
+    and_then (word_as words at (keyword (codes "in")) expected.In) (λ in_word.
+    and_then (only_at words (at + 1) unit_of expected.UnitOfTime) (λ unit. Ok (Some unit)))
 
 -- `TEXT`, `TEXT in UNIT`
-abbrev pub target_at : Meanings → List (List ℕ) → ℕ → Result (DateOrMoment × Option TimeUnit) Senseless
+abbrev pub target_at : Meanings → List (List ℕ) → ℕ → Result (DateOrMoment × Option TimeUnit) UsageError
 target_at meanings words at =
-    and_then (word_as words at (found_in meanings) wanted.Target) (λ found.
+    and_then (word_as words at (found_in meanings) expected.Target) (λ found.
     and_then (in_unit_at words (at + 1)) (λ unit. Ok (found, unit)))
 
 -- `from A to B`, `after A`, `before B`
-abbrev pub range_at : Meanings → List (List ℕ) → ℕ → Result Bounds Senseless
+abbrev pub range_at : Meanings → List (List ℕ) → ℕ → Result Bounds UsageError
 range_at meanings words at =
-    and_then (word_as words at (found_in meanings) wanted.Target) (λ first.
-    and_then (word_as words (at + 1) (keyword (codes "to")) wanted.UpTo) (λ to_word.
-    and_then (only_at words (at + 2) (found_in meanings) wanted.Target) (λ last. Ok (FromTo first last))))
+    and_then (word_as words at (found_in meanings) expected.Target) (λ first.
+    and_then (word_as words (at + 1) (keyword (codes "to")) expected.UpTo) (λ to_word.
+    and_then (only_at words (at + 2) (found_in meanings) expected.Target) (λ last. Ok (FromTo first last))))
 
-abbrev pub bounds_at : Meanings → List (List ℕ) → ℕ → Result Bounds Senseless
+abbrev pub bounds_at : Meanings → List (List ℕ) → ℕ → Result Bounds UsageError
 bounds_at meanings words at =
-    and_then (word_as words at Some wanted.Bounds) (λ word.
+    and_then (word_as words at Some expected.Bounds) (λ word.
     if bytes_eq word (codes "from") then range_at meanings words (at + 1) else
-    if bytes_eq word (codes "after") then and_then (only_at words (at + 1) (found_in meanings) wanted.Target) (λ bound. Ok (After bound)) else
-    if bytes_eq word (codes "before") then and_then (only_at words (at + 1) (found_in meanings) wanted.Target) (λ bound. Ok (Before bound)) else
-    Err (senseless_at at wanted.Bounds))
+    if bytes_eq word (codes "after") then and_then (only_at words (at + 1) (found_in meanings) expected.Target) (λ bound. Ok (After bound)) else
+    if bytes_eq word (codes "before") then and_then (only_at words (at + 1) (found_in meanings) expected.Target) (λ bound. Ok (Before bound)) else
+    Err (usage_error_at at expected.Bounds))
 
 -- `start PERIOD`, `start day`, `start hour`, `start minute`
 unfoldable pub minutes_in : List ℕ → Option ℕ
@@ -271,38 +271,38 @@ minutes_of word = number_between 1 1440 word
 unfoldable pub minutes_word : List ℕ → Option Unit
 minutes_word word = if spells_unit word (codes "minute") (codes "minutes") then Some tt else None
 
-abbrev pub floor_at : List (List ℕ) → ℕ → ℕ → Result Request Senseless
-floor_at words at n = and_then (only_at words at minutes_word wanted.Minutes) (λ word. Ok (Floor n))
+abbrev pub floor_at : List (List ℕ) → ℕ → ℕ → Result Request UsageError
+floor_at words at n = and_then (only_at words at minutes_word expected.Minutes) (λ word. Ok (Floor n))
 
-abbrev pub start_at : List (List ℕ) → ℕ → Result Request Senseless
+abbrev pub start_at : List (List ℕ) → ℕ → Result Request UsageError
 start_at words at =
-    option_map_or (floor_at words (at + 1)) (option_and_then minutes_of (slice_get words at)) (only_at words at start_of wanted.StartPeriod)
+    option_map_or (floor_at words (at + 1)) (option_and_then minutes_of (slice_get words at)) (only_at words at start_of expected.StartPeriod)
 
 -- `OFFSET`, `ZONE`
-abbrev pub place_at : Meanings → List (List ℕ) → ℕ → Result Place Senseless
+abbrev pub place_at : Meanings → List (List ℕ) → ℕ → Result Place UsageError
 place_at meanings words at =
-    if option_map_or is_zone_like (slice_get words at) false then and_then (only_at words at (zone_of meanings) wanted.Zone) (λ zone. Ok (place.Zone zone)) else
-    and_then (only_at words at offset_of wanted.Place) (λ offset. Ok (place.Offset offset))
+    if option_map_or is_zone_like (slice_get words at) false then and_then (only_at words at (zone_of meanings) expected.Zone) (λ zone. Ok (place.Zone zone)) else
+    and_then (only_at words at offset_of expected.Place) (λ offset. Ok (place.Offset offset))
 
 -- The verb comes first. At index 0, an option such as `--help` is allowed too.
-abbrev pub verb_wanted : ℕ → Wanted
-verb_wanted at = if at == 0 then wanted.Start else wanted.Verb
+abbrev pub expected_verb : ℕ → Expected
+expected_verb at = if at == 0 then expected.Start else expected.Verb
 
 -- The other verbs have these requests.
-abbrev pub further_request_at : Meanings → List (List ℕ) → ℕ → List ℕ → Result Request Senseless
+abbrev pub further_request_at : Meanings → List (List ℕ) → ℕ → List ℕ → Result Request UsageError
 further_request_at meanings words at word =
     if bytes_eq word (codes "start") then start_at words (at + 1) else
-    if bytes_eq word (codes "end") then and_then (only_at words (at + 1) period_of wanted.Period) (λ p. Ok (Move (move.End p))) else
-    if bytes_eq word (codes "on-or-after") then and_then (only_at words (at + 1) weekday_of wanted.Weekday) (λ w. Ok (Move (move.OnOrAfter w))) else
-    if bytes_eq word (codes "on-or-before") then and_then (only_at words (at + 1) weekday_of wanted.Weekday) (λ w. Ok (Move (move.OnOrBefore w))) else
+    if bytes_eq word (codes "end") then and_then (only_at words (at + 1) period_of expected.Period) (λ p. Ok (Move (move.End p))) else
+    if bytes_eq word (codes "on-or-after") then and_then (only_at words (at + 1) weekday_of expected.Weekday) (λ w. Ok (Move (move.OnOrAfter w))) else
+    if bytes_eq word (codes "on-or-before") then and_then (only_at words (at + 1) weekday_of expected.Weekday) (λ w. Ok (Move (move.OnOrBefore w))) else
     if bytes_eq word (codes "at") then and_then (place_at meanings words (at + 1)) (λ place. Ok (At place)) else
     if bytes_eq word (codes "keep") then and_then (bounds_at meanings words (at + 1)) (λ bounds. Ok (Keep bounds)) else
-    Err (senseless_at at (verb_wanted at))
+    Err (usage_error_at at (expected_verb at))
 
-abbrev pub request_at : Meanings → List (List ℕ) → ℕ → Result Request Senseless
+abbrev pub request_at : Meanings → List (List ℕ) → ℕ → Result Request UsageError
 request_at meanings words at =
-    and_then (word_as words at Some (verb_wanted at)) (λ word.
-    if bytes_eq word (codes "to") then only_at words (at + 1) (to_of meanings) wanted.Form else
+    and_then (word_as words at Some (expected_verb at)) (λ word.
+    if bytes_eq word (codes "to") then only_at words (at + 1) (to_of meanings) expected.Form else
     if bytes_eq word (codes "add") then amount_at words (at + 1) else
     if bytes_eq word (codes "next") then and_then (occurrence_at words (at + 1)) (λ o. Ok (Move (move.Next o.0 o.1))) else
     if bytes_eq word (codes "last") then and_then (occurrence_at words (at + 1)) (λ o. Ok (Move (move.Last o.0 o.1))) else
@@ -316,8 +316,8 @@ abbrev pub date_in : DateOrMoment → Option ℕ
 date_in (dated.Date form n) = Some n
 date_in (dated.Moment form m) = None
 
-abbrev pub date_at : Meanings → List (List ℕ) → ℕ → Result ℕ Senseless
-date_at meanings words at = and_then (word_as words at (found_in meanings) wanted.Date) (λ found. ok_or (date_in found) (senseless_at at wanted.Date))
+abbrev pub date_at : Meanings → List (List ℕ) → ℕ → Result ℕ UsageError
+date_at meanings words at = and_then (word_as words at (found_in meanings) expected.Date) (λ found. ok_or (date_in found) (usage_error_at at expected.Date))
 
 -- A step of n days, weeks, months or years.
 abbrev pub step_in : ℕ → TimeUnit → Option Step
@@ -328,10 +328,10 @@ step_in n unit.Years = Some (record { every = n * 12; unit = steps.Months })
 step_in n other = None
 
 -- `N UNIT`
-abbrev pub steps_of : List (List ℕ) → Result Pace Senseless
+abbrev pub steps_of : List (List ℕ) → Result Pace UsageError
 steps_of words =
-    and_then (word_as words 6 many_of wanted.Many) (λ n.
-    and_then (word_as words 7 (λ word. option_and_then (step_in n) (unit_of word)) wanted.UnitOfDays) (λ step. ended words 8 (Steps step)))
+    and_then (word_as words 6 parse_u32 expected.Many) (λ n.
+    and_then (word_as words 7 (λ word. option_and_then (step_in n) (unit_of word)) expected.UnitOfDays) (λ step. ended words 8 (Steps step)))
 
 -- `RULE`: each recurrence contains a `=` (61), and a number doesn't.
 abbrev pub is_rule_like : List ℕ → Bool
@@ -341,22 +341,22 @@ abbrev pub rule_of : List ℕ → Option Recurrence
 rule_of word = result_ok (recurrence_of word)
 
 -- `by N UNIT`, `by RULE`, or each day
-abbrev pub pace_of : List (List ℕ) → Result Pace Senseless
+abbrev pub pace_of : List (List ℕ) → Result Pace UsageError
 pace_of words =
     if ends_at words 5 then Ok (Steps (record { every = 1; unit = steps.Days })) else
-    and_then (word_as words 5 (keyword (codes "by")) wanted.By) (λ by_word.
-    if option_map_or is_rule_like (slice_get words 6) false then and_then (only_at words 6 rule_of wanted.Rule) (λ rule. Ok (Rule rule)) else
+    and_then (word_as words 5 (keyword (codes "by")) expected.By) (λ by_word.
+    if option_map_or is_rule_like (slice_get words 6) false then and_then (only_at words 6 rule_of expected.Rule) (λ rule. Ok (Rule rule)) else
     steps_of words)
 
-abbrev pub paced : ℕ → ℕ → Pace → Asked
+abbrev pub paced : ℕ → ℕ → Pace → Command
 paced a b (Steps step) = Dates (record { first = a; last = b; step = step })
 paced a b (Rule recurrence) = Recurring (record { first = a; last = b; recurrence = recurrence })
 
-abbrev pub list_of : Meanings → List (List ℕ) → Result Asked Senseless
+abbrev pub list_of : Meanings → List (List ℕ) → Result Command UsageError
 list_of meanings words =
-    and_then (word_as words 1 (keyword (codes "from")) wanted.From) (λ from_word.
+    and_then (word_as words 1 (keyword (codes "from")) expected.From) (λ from_word.
     and_then (date_at meanings words 2) (λ first.
-    and_then (word_as words 3 (keyword (codes "to")) wanted.UpTo) (λ to_word.
+    and_then (word_as words 3 (keyword (codes "to")) expected.UpTo) (λ to_word.
     and_then (date_at meanings words 4) (λ last.
     and_then (pace_of words) (λ pace. Ok (paced first last pace))))))
 
@@ -445,16 +445,16 @@ abbrev pub with_flag : Options → List ℕ → Options
 with_flag options word = if bytes_eq word (codes "--csv") then record options { csv = true } else record options { header = true }
 
 -- The value that comes after the word, if the word is an option that is not given yet.
-abbrev pub value_of : Options → List ℕ → Option Wanted
+abbrev pub value_of : Options → List ℕ → Option Expected
 value_of options word =
-    if bytes_eq word (codes "--invalid") && is_none options.on_invalid then Some wanted.Invalid else
-    if bytes_eq word (codes "--field") && is_none options.fields then Some wanted.FieldNumber else
-    if bytes_eq word (codes "--separator") && is_none options.separator then Some wanted.Separator else
-    if bytes_eq word (codes "--skip") && is_none options.skip then Some wanted.Skip else
-    if bytes_eq word (codes "--read") && has_room options.readers then Some wanted.Reading else
-    if bytes_eq word (codes "--assume") && is_none options.offset then Some wanted.Offset else
-    if bytes_eq word (codes "--zone") && is_none options.zone then Some wanted.Zone else
-    if bytes_eq word (codes "--ambiguous") && is_none options.policy then Some wanted.Policy else
+    if bytes_eq word (codes "--invalid") && is_none options.on_invalid then Some expected.Invalid else
+    if bytes_eq word (codes "--field") && is_none options.fields then Some expected.FieldNumber else
+    if bytes_eq word (codes "--separator") && is_none options.separator then Some expected.Separator else
+    if bytes_eq word (codes "--skip") && is_none options.skip then Some expected.Skip else
+    if bytes_eq word (codes "--read") && has_room options.readers then Some expected.Reading else
+    if bytes_eq word (codes "--assume") && is_none options.offset then Some expected.Offset else
+    if bytes_eq word (codes "--zone") && is_none options.zone then Some expected.Zone else
+    if bytes_eq word (codes "--ambiguous") && is_none options.policy then Some expected.Policy else
     None
 
 -- The word is an option, whatever the others are.
@@ -462,34 +462,34 @@ abbrev pub is_option : List ℕ → Bool
 is_option word = is_flag no_options word || is_some (value_of no_options (name_of word))
 
 -- The options, with this value for the option that needs it.
-abbrev pub with_value : Meanings → Options → List ℕ → Wanted → Option Options
-with_value meanings options value wanted.Invalid = option_map (λ mode. record options { on_invalid = Some mode }) (invalid_of value)
-with_value meanings options value wanted.FieldNumber = option_map (λ numbers. record options { fields = Some numbers }) (field_numbers_of value)
-with_value meanings options value wanted.Separator = option_map (λ c. record options { separator = Some c }) (byte_of value)
-with_value meanings options value wanted.Skip = option_map (λ k. record options { skip = Some k }) (skip_of value)
-with_value meanings options value wanted.Reading = option_and_then (with_reader options) (reader_of meanings value)
-with_value meanings options value wanted.Offset = option_map (λ o. record options { offset = Some o }) (offset_of value)
-with_value meanings options value wanted.Zone = option_map (λ zone. record options { zone = Some zone }) (zone_of meanings value)
-with_value meanings options value wanted.Policy = option_map (λ p. record options { policy = Some p }) (policy_of value)
+abbrev pub with_value : Meanings → Options → List ℕ → Expected → Option Options
+with_value meanings options value expected.Invalid = option_map (λ mode. record options { on_invalid = Some mode }) (invalid_of value)
+with_value meanings options value expected.FieldNumber = option_map (λ numbers. record options { fields = Some numbers }) (field_numbers_of value)
+with_value meanings options value expected.Separator = option_map (λ c. record options { separator = Some c }) (byte_of value)
+with_value meanings options value expected.Skip = option_map (λ k. record options { skip = Some k }) (skip_of value)
+with_value meanings options value expected.Reading = option_and_then (with_reader options) (reader_of meanings value)
+with_value meanings options value expected.Offset = option_map (λ o. record options { offset = Some o }) (offset_of value)
+with_value meanings options value expected.Zone = option_map (λ zone. record options { zone = Some zone }) (zone_of meanings value)
+with_value meanings options value expected.Policy = option_map (λ p. record options { policy = Some p }) (policy_of value)
 with_value meanings options value other = None
 
 -- The options, with the option and its value in this word.
-abbrev pub with_joined : Meanings → Options → ℕ → List ℕ → Result Options Senseless
+abbrev pub with_joined : Meanings → Options → ℕ → List ℕ → Result Options UsageError
 with_joined meanings options at word =
-    option_map_or (λ what. ok_or (with_value meanings options (value_in word) what) (senseless_at at what)) (value_of options (name_of word)) (Ok options)
+    option_map_or (λ what. ok_or (with_value meanings options (value_in word) what) (usage_error_at at what)) (value_of options (name_of word)) (Ok options)
 
 -- The options at the front of the words, the first of which has index `at`, and the index of the
 -- word after them. The first word may be the value of the option before it.
-abbrev pub options_from : Meanings → Option Wanted → Options → ℕ → List (List ℕ) → Result (Options × ℕ) Senseless
+abbrev pub options_from : Meanings → Option Expected → Options → ℕ → List (List ℕ) → Result (Options × ℕ) UsageError
 options_from meanings None options at [] = Ok (options, at)
 options_from meanings None options at (word ∷ words) =
     if is_flag options word then options_from meanings None (with_flag options word) (at + 1) words else
     if is_some (value_of options word) then options_from meanings (value_of options word) options (at + 1) words else
     if is_some (value_of options (name_of word)) then and_then (with_joined meanings options at word) (λ more. options_from meanings None more (at + 1) words) else
     Ok (options, at)
-options_from meanings (Some what) options at [] = Err (senseless_at at what)
+options_from meanings (Some what) options at [] = Err (usage_error_at at what)
 options_from meanings (Some what) options at (word ∷ words) =
-    option_map_or (λ more. options_from meanings None more (at + 1) words) (with_value meanings options word what) (Err (senseless_at at what))
+    option_map_or (λ more. options_from meanings None more (at + 1) words) (with_value meanings options word what) (Err (usage_error_at at what))
 
 -- ---- the whole: `--help`, `--version`, a list, or a request, perhaps after options
 abbrev pub asks_for_help : List ℕ → Bool
@@ -533,23 +533,23 @@ any_own [] = false
 any_own (form ∷ forms) = has_own form || any_own forms
 
 -- A zone requires forms without an offset only, and no offset.
-abbrev pub lacking_with_zone : Options → Option Wanted
-lacking_with_zone options =
-    if is_some options.offset then Some wanted.OffsetOrZone else
-    if not (any_local options.readers) || any_own options.readers then Some wanted.LocalOnly else
+abbrev pub conflict_with_zone : Options → Option Expected
+conflict_with_zone options =
+    if is_some options.offset then Some expected.OffsetOrZone else
+    if not (any_local options.readers) || any_own options.readers then Some expected.LocalOnly else
     None
 
 -- The option that is missing: `--separator` and `--csv` require `--field`, and a form without an
 -- offset and `--assume` require each other. A quote separates no fields of a record.
-abbrev pub lacking : Options → Option Wanted
-lacking options =
-    if is_some options.separator && is_none options.fields then Some wanted.Field else
-    if options.csv && is_none options.fields then Some wanted.CsvField else
-    if options.csv && option_map_or (λ c. c == 34) options.separator false then Some wanted.CsvSeparator else
-    if is_some options.policy && is_none options.zone then Some wanted.ZoneOption else
-    if is_some options.zone then lacking_with_zone options else
-    if any_local options.readers && is_none options.offset then Some wanted.Assume else
-    if is_some options.offset && not (any_local options.readers) then Some wanted.Local else
+abbrev pub conflict_in : Options → Option Expected
+conflict_in options =
+    if is_some options.separator && is_none options.fields then Some expected.Field else
+    if options.csv && is_none options.fields then Some expected.CsvField else
+    if options.csv && option_map_or (λ c. c == 34) options.separator false then Some expected.CsvSeparator else
+    if is_some options.policy && is_none options.zone then Some expected.ZoneOption else
+    if is_some options.zone then conflict_with_zone options else
+    if any_local options.readers && is_none options.offset then Some expected.Assume else
+    if is_some options.offset && not (any_local options.readers) then Some expected.Local else
     None
 
 -- The default: `keep` drops a line without an answer, and with `--field` the line is kept.
@@ -578,26 +578,26 @@ filter_of options request = record {
 }
 
 -- The options and the request from an index on.
-abbrev pub filter_at : Meanings → List (List ℕ) → ℕ → Result Filter Senseless
+abbrev pub filter_at : Meanings → List (List ℕ) → ℕ → Result Filter UsageError
 filter_at meanings words at =
     and_then (options_from meanings None no_options at (drop at words)) (λ front.
-    option_map_or (λ what. Err (senseless_at front.1 what)) (lacking front.0)
+    option_map_or (λ what. Err (usage_error_at front.1 what)) (conflict_in front.0)
     (and_then (request_at meanings words front.1) (λ request. Ok (filter_of front.0 request))))
 
 -- `--date TEXT`, and the options and the request
 abbrev pub some_text : List ℕ → Option (List ℕ)
 some_text word = if bytes_eq word [] then None else Some word
 
-abbrev pub once_of : Meanings → List (List ℕ) → Result Asked Senseless
+abbrev pub once_of : Meanings → List (List ℕ) → Result Command UsageError
 once_of meanings words =
-    and_then (word_as words 1 some_text wanted.Target) (λ text.
+    and_then (word_as words 1 some_text expected.Target) (λ text.
     and_then (filter_at meanings words 2) (λ filter. Ok (Once filter)))
 
 -- A single empty argument counts as no arguments.
-abbrev pub asked_of : Meanings → List (List ℕ) → Result Asked Senseless
-asked_of meanings words =
-    and_then (word_as words 0 Some wanted.Something) (λ first.
-    if bytes_eq first [] && ends_at words 1 then Err (senseless_at 0 wanted.Something) else
+abbrev pub parse_args : Meanings → List (List ℕ) → Result Command UsageError
+parse_args meanings words =
+    and_then (word_as words 0 Some expected.Something) (λ first.
+    if bytes_eq first [] && ends_at words 1 then Err (usage_error_at 0 expected.Something) else
     if asks_for_help first then ended words 1 Help else
     if bytes_eq first (codes "--version") then ended words 1 Version else
     if bytes_eq first (codes "list") then list_of meanings words else

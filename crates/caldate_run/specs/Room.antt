@@ -18,4 +18,4 @@ longest_reply = 5100
 
 -- There is room for n more bytes.
 abbrev pub HasRoom : ℕ → List ℕ → Type 0
-HasRoom n gathered = length gathered + n ≤ capacity
+HasRoom n buffered = length buffered + n ≤ capacity

@@ -5,44 +5,44 @@ use Rattle.caldate_run.specs.Answers.{Answer}
 use Rattle.caldate_run.specs.Lines.{ended_lines, lines_of, unended}
 use Rattle.caldate_run.specs.Replies.{EndsAt, IsReplyTo}
 use Rattle.caldate_run.specs.Room.{longest_text}
-use Rattle.caldate_run.specs.Standing.{AreReplies, IsHeld, IsShown, Replies, Stands, counted, no_lines, passed}
-use Rattle.caldate_run.specs.declared.fault.Fault.{Fault}
-use Rattle.caldate_run.specs.declared.fault.Fault.TheVariants.{Read, Write, Stopped, Unanswered}
-use Rattle.caldate_run.specs.declared.no_answer.NoAnswer.{NoAnswer}
+use Rattle.caldate_run.specs.RunStates.{AreReplies, IsDroppedFront, HasExcerpt, Replies, RunState, counted, no_lines, passed}
+use Rattle.caldate_run.specs.declared.run.run_error.RunError.{RunError}
+use Rattle.caldate_run.specs.declared.run.run_error.RunError.TheVariants.{Read, Write, Stopped, Unanswered}
+use Rattle.caldate_run.specs.declared.run.no_answer.NoAnswer.{NoAnswer}
 use Rattle.caldate_run.specs.declared.on_invalid.OnInvalid.{OnInvalid}
 use Rattle.caldate_run.specs.declared.on_invalid.OnInvalid.TheVariants as invalid
-use Rattle.caldate_run.specs.declared.progress.Progress.{Progress}
+use Rattle.caldate_run.specs.declared.run.progress.Progress.{Progress}
 use Rattle.caldate_run.specs.declared.request.Filter.{Filter}
-use Rattle.caldate_run.specs.declared.tally.Tally.{Tally}
-use Rattle.caldate_run.specs.declared.unanswered.UnansweredLine.{UnansweredLine}
+use Rattle.caldate_run.specs.declared.run.tally.Tally.{Tally}
+use Rattle.caldate_run.specs.declared.run.unanswered.UnansweredLine.{UnansweredLine}
 
 -- The new bytes are the old ones and such words.
-abbrev pub AppendsThat : (List ℕ → Type 0) → List ℕ → List ℕ → Type 0
-AppendsThat IsOne old new = (words : List ℕ) × (new ≡ old ++ words) × IsOne words
+abbrev pub AppendsSome : (List ℕ → Type 0) → List ℕ → List ℕ → Type 0
+AppendsSome IsOne old new = (words : List ℕ) × (new ≡ old ++ words) × IsOne words
 
 -- The new bytes are the old ones and the words that go out, if any do.
-abbrev pub Puts : (Answer → Type 0) → Result Bool NoAnswer → List ℕ → List ℕ → Type 0
-Puts Is (Ok true) old new = AppendsThat (λ words. Is (Ok (Some words))) old new
-Puts Is (Ok false) old new = (new ≡ old) × Is (Ok None)
-Puts Is (Err any) old new = (new ≡ old) × Is (Err any)
+abbrev pub AppendsAnswer : (Answer → Type 0) → Result Bool NoAnswer → List ℕ → List ℕ → Type 0
+AppendsAnswer Is (Ok true) old new = AppendsSome (λ words. Is (Ok (Some words))) old new
+AppendsAnswer Is (Ok false) old new = (new ≡ old) × Is (Ok None)
+AppendsAnswer Is (Err any) old new = (new ≡ old) × Is (Err any)
 
 -- The new bytes are the old ones and the reply to the line that the run is at, without the front
 -- that was passed on.
-abbrev pub Replied : Replies → OnInvalid → Progress → Tally → List ℕ → List ℕ → List ℕ → Type 0
-Replied IsReply mode progress tally line old new =
-    (kept : List ℕ) (before : ℕ) → IsHeld progress.is_long kept line → IsShown progress.is_long progress.front kept
+abbrev pub AppendsReply : Replies → OnInvalid → Progress → Tally → List ℕ → List ℕ → List ℕ → Type 0
+AppendsReply IsReply mode progress tally line old new =
+    (kept : List ℕ) (before : ℕ) → IsDroppedFront progress.is_long kept line → HasExcerpt progress.is_long progress.front kept
     → progress.tally.lines ≡ counted before
-    → AppendsThat (λ words. IsReply before (kept ++ line) (passed mode kept ++ words) progress.tally tally) old new
+    → AppendsSome (λ words. IsReply before (kept ++ line) (passed mode kept ++ words) progress.tally tally) old new
 
--- The fault is a failed write.
-abbrev pub IsOfWrite : Fault → Type 0
+-- The error is a failed write.
+abbrev pub IsOfWrite : RunError → Type 0
 IsOfWrite (Write kind) = ⊤
 IsOfWrite other = ⊥
 
 -- The run ended before the end of its input, but no read failed.
-abbrev pub IsEarly : Fault → Type 0
+abbrev pub IsEarly : RunError → Type 0
 IsEarly (Write kind) = ⊤
-IsEarly (Stopped told) = ⊤
+IsEarly (Stopped reported) = ⊤
 IsEarly other = ⊥
 
 -- The reader gave some bytes, which come after the old ones.
@@ -94,14 +94,14 @@ pub record AnswersEnded (filter : Filter) (input : List ℕ) (old new : Option (
   pub taken : Appends old new (out ++ front)
 
 -- The writer took exactly the replies to the lines before the one at which the run ends.
-pub record StopsAt (filter : Filter) (told : UnansweredLine) (all : List (List ℕ)) (old new : Option (List ℕ)) : Type 0 where
+pub record StopsAt (filter : Filter) (reported : UnansweredLine) (all : List (List ℕ)) (old new : Option (List ℕ)) : Type 0 where
   pub lines : List (List ℕ)
   pub line : List ℕ
   pub more : List (List ℕ)
   pub out : List ℕ
   pub tally : Tally
   pub cut : all ≡ lines ++ line ∷ more
-  pub ends : EndsAt filter (length lines) line told
+  pub ends : EndsAt filter (length lines) line reported
   pub replies : AreReplies (IsReplyTo filter) 0 lines out no_lines tally
   pub taken : Appends old new out
 
@@ -111,7 +111,7 @@ Gives old new P = (input : List ℕ) × Consumes old new input × P input
 
 -- The reader gave an input. Its lines with a line feed and the bytes after them have this property,
 -- or all of its lines at the end of the input.
-pub record GivesLines (old new : Option (List ℕ)) (Holds : List (List ℕ) → List ℕ → Type 0) : Type 0 where
+pub record ReadsLines (old new : Option (List ℕ)) (Holds : List (List ℕ) → List ℕ → Type 0) : Type 0 where
   pub input : List ℕ
   pub given : Consumes old new input
   pub holds : Holds (ended_lines input) (unended input) ⊎ IsAtEnd new × Holds (lines_of input) []
@@ -122,39 +122,39 @@ AnswersInput filter Has r0 r w0 w =
     IsAtEnd r × Gives r0 r (λ input. (tally : Tally) × Has tally × AnswersAll filter (lines_of input) tally w0 w)
 
 -- A run with this outcome read and wrote these bytes.
-abbrev pub Ended : Filter → Result Unit Fault → Option (List ℕ) → Option (List ℕ) → Option (List ℕ) → Option (List ℕ) → Type 0
-Ended filter (Ok done) r0 r w0 w = AnswersInput filter (λ tally. tally.first ≡ None) r0 r w0 w
-Ended filter (Err (Unanswered told)) r0 r w0 w = AnswersInput filter (λ tally. (tally ≡ told) × (is_some tally.first ≡ true)) r0 r w0 w
-Ended filter (Err (Write kind)) r0 r w0 w = GivesLines r0 r (λ lines rest. AnswersFront filter lines rest w0 w)
-Ended filter (Err Read) r0 r w0 w = Gives r0 r (λ input. AnswersEnded filter input w0 w)
-Ended filter (Err (Stopped told)) r0 r w0 w = GivesLines r0 r (λ lines rest. StopsAt filter told lines w0 w)
+abbrev pub IsRunResult : Filter → Result Unit RunError → Option (List ℕ) → Option (List ℕ) → Option (List ℕ) → Option (List ℕ) → Type 0
+IsRunResult filter (Ok done) r0 r w0 w = AnswersInput filter (λ tally. tally.first ≡ None) r0 r w0 w
+IsRunResult filter (Err (Unanswered reported)) r0 r w0 w = AnswersInput filter (λ tally. (tally ≡ reported) × (is_some tally.first ≡ true)) r0 r w0 w
+IsRunResult filter (Err (Write kind)) r0 r w0 w = ReadsLines r0 r (λ lines rest. AnswersFront filter lines rest w0 w)
+IsRunResult filter (Err Read) r0 r w0 w = Gives r0 r (λ input. AnswersEnded filter input w0 w)
+IsRunResult filter (Err (Stopped reported)) r0 r w0 w = ReadsLines r0 r (λ lines rest. StopsAt filter reported lines w0 w)
 
 -- All lines of the input got their replies.
-abbrev pub IsComplete : Result Unit Fault → Type 0
+abbrev pub IsComplete : Result Unit RunError → Type 0
 IsComplete (Ok done) = ⊤
-IsComplete (Err (Unanswered told)) = ⊤
+IsComplete (Err (Unanswered reported)) = ⊤
 IsComplete (Err other) = ⊥
 
 -- The writer took these bytes of a page with this outcome.
-abbrev pub Shown : List ℕ → Result Unit Fault → Option (List ℕ) → Option (List ℕ) → Type 0
-Shown page (Ok done) old new = Appends old new page
-Shown page (Err fault) old new = IsOfWrite fault × AppendsFront old new page
+abbrev pub WritesPage : List ℕ → Result Unit RunError → Option (List ℕ) → Option (List ℕ) → Type 0
+WritesPage page (Ok done) old new = Appends old new page
+WritesPage page (Err error) old new = IsOfWrite error × AppendsFront old new page
 
 -- ---- from the state of a run, over these lines of its input, and the bytes after them
 -- The run ends as after a failed write.
 abbrev pub FailsFrom : Filter → (List ℕ → List (List ℕ)) → (List ℕ → List ℕ) → Option (List ℕ) → Option (List ℕ) → List ℕ → List ℕ → Progress → Type 0
-FailsFrom filter lines_in rest_in old new gathered pending progress =
-    (input : List ℕ) (start : Option (List ℕ)) → Stands (IsReplyTo filter) filter.on_invalid input start old gathered pending progress
+FailsFrom filter lines_in rest_in old new buffered pending progress =
+    (input : List ℕ) (start : Option (List ℕ)) → RunState (IsReplyTo filter) filter.on_invalid input start old buffered pending progress
     → AnswersFront filter (lines_in input) (rest_in input) start new
 
 -- The run ends at this line, which has no answer.
 abbrev pub StopsFrom : Filter → UnansweredLine → (List ℕ → List (List ℕ)) → Option (List ℕ) → Option (List ℕ) → List ℕ → List ℕ → Progress → Type 0
-StopsFrom filter told lines_in old new gathered pending progress =
-    (input : List ℕ) (start : Option (List ℕ)) → Stands (IsReplyTo filter) filter.on_invalid input start old gathered pending progress
-    → StopsAt filter told (lines_in input) start new
+StopsFrom filter reported lines_in old new buffered pending progress =
+    (input : List ℕ) (start : Option (List ℕ)) → RunState (IsReplyTo filter) filter.on_invalid input start old buffered pending progress
+    → StopsAt filter reported (lines_in input) start new
 
 -- The run ends with all lines answered.
 abbrev pub EndsFrom : Filter → Tally → Option (List ℕ) → Option (List ℕ) → List ℕ → List ℕ → Progress → Type 0
-EndsFrom filter tally old new gathered pending progress =
-    (input : List ℕ) (start : Option (List ℕ)) → Stands (IsReplyTo filter) filter.on_invalid input start old gathered pending progress
+EndsFrom filter tally old new buffered pending progress =
+    (input : List ℕ) (start : Option (List ℕ)) → RunState (IsReplyTo filter) filter.on_invalid input start old buffered pending progress
     → AnswersAll filter (lines_of input) tally start new

@@ -7,10 +7,10 @@ use Rattle.cal_tzif.specs.File.{IsFile, IsFileError}
 use Rattle.cal_zone.specs.Timeline.{Timeline}
 use Rattle.caldate_run.specs.Meanings.{Meanings}
 use Rattle.caldate_run.specs.Offsets.{offset_of}
-use Rattle.caldate_run.specs.declared.zone_fault.FileError.{FileError}
-use Rattle.caldate_run.specs.declared.zone_fault.FileError.TheVariants.{NotFound}
-use Rattle.caldate_run.specs.declared.zone_fault.ZoneFault.{ZoneFault}
-use Rattle.caldate_run.specs.declared.zone_fault.ZoneFault.TheVariants.{File, Zone}
+use Rattle.caldate_run.specs.declared.zones.read_zone_error.FileError.{FileError}
+use Rattle.caldate_run.specs.declared.zones.read_zone_error.FileError.TheVariants.{NotFound}
+use Rattle.caldate_run.specs.declared.zones.read_zone_error.ReadZoneError.{ReadZoneError}
+use Rattle.caldate_run.specs.declared.zones.read_zone_error.ReadZoneError.TheVariants.{File, Zone}
 use Rattle.caldate_run.specs.declared.zones.ZoneFile.{ZoneFile}
 use Rattle.caldate_run.specs.declared.zones.ZoneFiles.{ZoneFiles}
 
@@ -47,13 +47,13 @@ file_named files name =
     None
 
 -- The contents of a file are a zone, or why it is not one.
-abbrev pub IsZoneIn : Result (Bor (List ℕ)) FileError → Result Timeline ZoneFault → Type 0
+abbrev pub IsZoneIn : Result (Bor (List ℕ)) FileError → Result Timeline ReadZoneError → Type 0
 IsZoneIn (Err error) r = r ≡ Err (File error)
 IsZoneIn (Ok bytes) (Ok zone) = IsFile bytes.now zone
 IsZoneIn (Ok bytes) (Err (Zone error)) = ((zone : Timeline) → ¬ IsFile bytes.now zone) × IsFileError bytes.now error
 IsZoneIn (Ok bytes) (Err other) = ⊥
 
-abbrev pub IsZoneOf : Option ZoneFile → Result Timeline ZoneFault → Type 0
+abbrev pub IsZoneOf : Option ZoneFile → Result Timeline ReadZoneError → Type 0
 IsZoneOf None r = r ≡ Err (File NotFound)
 IsZoneOf (Some file) r = IsZoneIn file.contents r
 

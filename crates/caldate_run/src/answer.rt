@@ -8,19 +8,25 @@ ghost use Rattle.caldate_run.specs.Bounds.{lies_in};
 ghost use Rattle.caldate_run.specs.Forms.{IsInForm, format_text};
 ghost use Rattle.caldate_run.specs.Replies.{reason, refused_text};
 ghost use Rattle.caldate_run.specs.Room.{HasRoom, longest_answer};
-ghost use Rattle.caldate_run.specs.Runs.{AppendsThat, Puts};
-ghost use Rattle.caldate_run.specs.declared.no_answer.NoAnswer.{NoAnswer};
+ghost use Rattle.caldate_run.specs.Runs.{AppendsSome, AppendsAnswer};
+ghost use Rattle.caldate_run.specs.declared.run.no_answer.NoAnswer.{NoAnswer};
 
-use crate::bounds::lies_in;
-use crate::buffer::Buffer;
-use crate::clock::placed;
-use crate::counts::count_between;
-use crate::forms::{basic_text, month_text, quarter_text, unix_text};
-use crate::moves::led_to;
-use crate::no_answer::NoAnswer;
+pub(crate) mod clock;
+pub(crate) mod counts;
+pub(crate) mod forms;
+pub(crate) mod moves;
+pub(crate) mod signed;
+
+use crate::answer::clock::placed;
+use crate::answer::counts::count_between;
+use crate::answer::forms::{basic_text, month_text, quarter_text, unix_text};
+use crate::answer::moves::moved_day;
+use crate::answer::signed::signed_text;
+use crate::args::bounds::lies_in;
+use crate::output::buffer::Buffer;
 use crate::reading::read;
 use crate::request::{Bounds, DayMove, Filter, Form, Place, Request, TimeUnit};
-use crate::signed::signed_text;
+use crate::run::no_answer::NoAnswer;
 use cal_datetime::OffsetDateTime;
 use cal_format::Format;
 use cal_text::date::{CalendarText, OrdinalText, WeekText};
@@ -38,7 +44,7 @@ const LONGEST_PRINTED: usize = 960;
 /// Appends the answer to `text`, and returns whether its line goes out.
 pub fn push_answer(buffer: &mut Buffer, filter: &Filter<'_>, text: &[u8]) -> Result<bool, NoAnswer>
     requires { HasRoom (length text.now + longest_answer) buffer.old }
-    ensures answered { Puts (IsAnswer filter.now text.now) result buffer.old buffer.new }
+    ensures answered { AppendsAnswer (IsAnswer filter.now text.now) result buffer.old buffer.new }
     ensures short { length buffer.new ≤ length buffer.old + length text.now + longest_answer }
 {
     let found = match read_with(filter, text) {
@@ -112,7 +118,7 @@ fn push_answer_to(
     found: &DateOrMoment,
 ) -> bool
     requires { HasRoom (length text.now + longest_answer) buffer.old }
-    ensures has { result ≡ true → AppendsThat
+    ensures has { result ≡ true → AppendsSome
         (IsAnswerTo request.now text.now found.now) buffer.old buffer.new }
     ensures none { result ≡ false → (buffer.new ≡ buffer.old)
         × ((words : List ℕ) → ¬ IsAnswerTo request.now text.now found.now words) }
@@ -219,7 +225,7 @@ fn floored(minutes: u16, moment: OffsetDateTime) -> OffsetDateTime
 /// Appends a moment in a form, or nothing if the form can't express it. Returns whether it can.
 fn push_in_form(buffer: &mut Buffer, form: Form, moment: OffsetDateTime) -> bool
     requires { HasRoom longest_answer buffer.old }
-    ensures has { result ≡ true → AppendsThat (IsInForm form moment) buffer.old buffer.new }
+    ensures has { result ≡ true → AppendsSome (IsInForm form moment) buffer.old buffer.new }
     ensures none { result ≡ false → (buffer.new ≡ buffer.old)
         × ((words : List ℕ) → ¬ IsInForm form moment words) }
     ensures short { length buffer.new ≤ length buffer.old + longest_answer }
@@ -247,7 +253,7 @@ fn push_in_form(buffer: &mut Buffer, form: Form, moment: OffsetDateTime) -> bool
 }
 
 /// Appends a moment in a format.
-#[tactic(auto, using(crate::proofs::Printed::printed))]
+#[tactic(auto, using(crate::proofs::Printed::printable))]
 fn push_printed(buffer: &mut Buffer, format: &Format, moment: OffsetDateTime)
     requires { HasRoom longest_answer buffer.old }
     ensures text { buffer.new ≡ buffer.old ++ format_text format.now moment }
@@ -306,14 +312,14 @@ fn moment_later(moment: OffsetDateTime, duration: SignedDuration) -> Option<Offs
 /// Appends the moved day at the same time of day, or nothing. Returns whether there is one.
 fn push_moved(buffer: &mut Buffer, by: DayMove, found: &DateOrMoment) -> bool
     requires { HasRoom longest_answer buffer.old }
-    ensures has { result ≡ true → AppendsThat (IsMoved by found.now) buffer.old buffer.new }
+    ensures has { result ≡ true → AppendsSome (IsMoved by found.now) buffer.old buffer.new }
     ensures none { result ≡ false → (buffer.new ≡ buffer.old)
         × ((words : List ℕ) → ¬ IsMoved by found.now words) }
     ensures short { length buffer.new ≤ length buffer.old + longest_answer }
 {
     let moment = moment_of(found);
     let form = form_read(found);
-    match led_to(moment.date(), by) {
+    match moved_day(moment.date(), by) {
         Some(day) => push_in_form(buffer, form, on_day(moment, day)),
         None => false,
     }
@@ -322,13 +328,13 @@ fn push_moved(buffer: &mut Buffer, by: DayMove, found: &DateOrMoment) -> bool
 /// Appends the moment in the place, or nothing. Returns whether it has a text.
 fn push_at(buffer: &mut Buffer, place: &Place<'_>, moment: OffsetDateTime) -> bool
     requires { HasRoom longest_answer buffer.old }
-    ensures has { result ≡ true → AppendsThat (IsAt place.now moment) buffer.old buffer.new }
+    ensures has { result ≡ true → AppendsSome (IsAt place.now moment) buffer.old buffer.new }
     ensures none { result ≡ false → (buffer.new ≡ buffer.old)
         × ((words : List ℕ) → ¬ IsAt place.now moment words) }
     ensures short { length buffer.new ≤ length buffer.old + longest_answer }
 {
     match moment.checked_to_offset(offset_in(place, moment)) {
-        Some(shown) => push_in_form(buffer, Form::Moment(MomentForm::Rfc3339), shown),
+        Some(excerpt_of) => push_in_form(buffer, Form::Moment(MomentForm::Rfc3339), excerpt_of),
         None => false,
     }
 }
@@ -346,7 +352,7 @@ fn offset_in(place: &Place<'_>, moment: OffsetDateTime) -> UtcOffset
 /// Appends the number of units, or without a unit the days or the duration.
 fn push_between(buffer: &mut Buffer, unit: Option<TimeUnit>, from: &DateOrMoment, to: &DateOrMoment)
     requires { HasRoom longest_answer buffer.old }
-    ensures text { AppendsThat (IsBetween unit from.now to.now) buffer.old buffer.new }
+    ensures text { AppendsSome (IsBetween unit from.now to.now) buffer.old buffer.new }
     ensures short { length buffer.new ≤ length buffer.old + longest_answer }
 {
     match unit {

@@ -7,8 +7,10 @@ ghost use Rattle.caldate_run.specs.Calls.{Gives, most_retries};
 ghost use Rattle.caldate_run.specs.Room.{capacity};
 ghost use Rattle.caldate_run.specs.Runs.{HasRead};
 
-use crate::fault::Fault;
+pub(crate) mod fields;
+
 use crate::retries::Retries;
+use crate::run::run_error::RunError;
 use crate::streams::Source;
 use std::io;
 use std::marker::Model;
@@ -60,17 +62,17 @@ impl Input {
     }
 
     /// Appends the bytes of one read and returns their number, which is 0 only at the end of the
-    /// input. Fails with `Fault::Read`.
+    /// input. Fails with `RunError::Read`.
     #[tactic(auto, using(crate::proofs::Known::given_more))]
-    pub fn read_more<R: Source>(&mut self, reader: &mut R) -> Result<usize, Fault>
+    pub fn read_more<R: Source>(&mut self, reader: &mut R) -> Result<usize, RunError>
         requires { length self.old < capacity }
         ensures given { OnOk result (HasRead (R.remaining reader.old)
             (R.remaining reader.new) self.old self.new) }
         ensures count { IfOk result (λ n. length self.new ≡ length self.old + n) }
         ensures end { IsOkAnd result (λ n. n ≡ 0)
             → IsAtEnd (R.remaining reader.new) × (self.new ≡ self.old) }
-        ensures err { IfErr result (λ fault.
-            (fault ≡ Fault.Read) × Keeps (R.remaining reader.old) (R.remaining reader.new)) }
+        ensures err { IfErr result (λ error.
+            (error ≡ RunError.Read) × Keeps (R.remaining reader.old) (R.remaining reader.new)) }
         ensures gives { MatchResult result
             (λ n. Gives R.read_gives most_retries reader.old (Ok n) reader.new)
             (λ _. (error : Error) × Gives R.read_gives most_retries reader.old (Err error) reader.new) }
@@ -80,7 +82,7 @@ impl Input {
                 self.filled += count;
                 Ok(count)
             }
-            Err(_) => Err(Fault::Read),
+            Err(_) => Err(RunError::Read),
         }
     }
 

@@ -9,16 +9,16 @@ ghost use Rattle.caldate_run.specs.Replies.{IsReplyTo};
 ghost use Rattle.caldate_run.specs.Meanings.{AreMeanings, Meanings};
 ghost use Rattle.caldate_run.specs.Requests.{arguments_of};
 ghost use Rattle.caldate_run.specs.Zones.{AreZones};
-ghost use Rattle.caldate_run.specs.declared.tally.Tally.{Tally};
+ghost use Rattle.caldate_run.specs.declared.run.tally.Tally.{Tally};
 
 use crate::answer::read_with;
-use crate::fields::asked_text;
-use crate::formats::format_of;
-use crate::lines::cut_return;
-use crate::no_answer::NoAnswer;
-use crate::options::cut_value;
+use crate::args::formats::format_of;
+use crate::args::options::cut_value;
+use crate::args::words::cut;
+use crate::input::fields::selected_text;
 use crate::request::Filter;
-use crate::words::cut;
+use crate::run::lines::cut_return;
+use crate::run::no_answer::NoAnswer;
 use crate::zones::{ZoneFiles, zone_in};
 use cal_text::{DateOrMoment, parse_any};
 
@@ -37,7 +37,7 @@ pub fn one_reply(filter: &Filter<'_>, line: &[u8]) -> Option<Result<DateOrMoment
         → IsReplyTo filter.now before line.now other v w → reply ≡ other }
 {
     let (text, _has_return) = cut_return(line);
-    let asked = asked_text(filter.field, text)?;
+    let asked = selected_text(filter.field, text)?;
     Some(read_with(filter, asked))
 }
 

@@ -5,11 +5,13 @@ ghost use Rattle.caldate_run.specs.Calls.{Writes, write_failure};
 ghost use Rattle.caldate_run.specs.Lists.{IsAfter, IsStep, IsWithin, Lists, line_of};
 ghost use Rattle.caldate_run.specs.Room.{HasRoom, longest_reply};
 
-use crate::buffer::Buffer;
-use crate::fault::Fault;
+pub mod recurring;
+
+use crate::output::buffer::Buffer;
 use crate::output::write_all;
 use crate::request::{Listing, StepUnit};
 use crate::run::make_room;
+use crate::run::run_error::RunError;
 use crate::streams::Sink;
 use cal_schedule::checked_add_months;
 use cal_text::date::CalendarText;
@@ -19,9 +21,9 @@ use cal_time::Date;
 const FAR: u64 = 1_000_000_000;
 
 /// Writes the dates of the list in order, each in the calendar form with a line feed. After a
-/// `Fault::Write`, only a part of the lines was written.
+/// `RunError::Write`, only a part of the lines was written.
 #[tactic(auto, using(crate::proofs::Calls::sent_all, crate::proofs::Calls::writes_then))]
-pub fn list<W: Sink>(listing: &Listing, writer: &mut W) -> Result<(), Fault>
+pub fn list<W: Sink>(listing: &Listing, writer: &mut W) -> Result<(), RunError>
     requires { IsStep listing.now.step }
     ensures lists { Lists listing.now result (W.contents writer.old) (W.contents writer.new) }
     ensures writes { Writes W.write_gives writer.old (write_failure result) writer.new }

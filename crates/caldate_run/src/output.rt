@@ -4,14 +4,16 @@ ghost use Rattle.std.specs.Io.KnownBytes.{Appends};
 ghost use Rattle.caldate_run.specs.Calls.{Sends, most_retries, write_failure};
 ghost use Rattle.caldate_run.specs.Runs.{AppendsFront, IsOfWrite};
 
-use crate::fault::Fault;
+pub(crate) mod buffer;
+
 use crate::retries::Retries;
+use crate::run::run_error::RunError;
 use crate::streams::Sink;
 use std::io::ErrorKind;
 
 /// Writes all bytes, and repeats an interrupted write while a retry is left. After a
-/// `Fault::Write`, only a part of the bytes was written.
-pub fn write_all<W: Sink>(writer: &mut W, bytes: &[u8]) -> Result<(), Fault>
+/// `RunError::Write`, only a part of the bytes was written.
+pub fn write_all<W: Sink>(writer: &mut W, bytes: &[u8]) -> Result<(), RunError>
     ensures ok { OnOk result (Appends (W.contents writer.old) (W.contents writer.new) bytes.now) }
     ensures front { OnErr result (AppendsFront (W.contents writer.old)
         (W.contents writer.new) bytes.now) }
@@ -23,10 +25,10 @@ pub fn write_all<W: Sink>(writer: &mut W, bytes: &[u8]) -> Result<(), Fault>
     let mut rest = bytes;
     while !rest.is_empty() {
         match writer.write(rest) {
-            Ok(0) => return Err(Fault::Write(ErrorKind::WriteZero)),
+            Ok(0) => return Err(RunError::Write(ErrorKind::WriteZero)),
             Ok(count) => rest = &rest[count..],
             Err(error) if retries.allows(&error) => {}
-            Err(error) => return Err(Fault::Write(error.kind())),
+            Err(error) => return Err(RunError::Write(error.kind())),
         }
     }
     Ok(())

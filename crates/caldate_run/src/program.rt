@@ -1,32 +1,32 @@
 //! The program, from its arguments to its status.
 ghost use Rattle.std.specs.Prelude.{◌≡◌, ℕ, List, Option, Some, None, Result, Ok, Err};
 ghost use Rattle.caldate_run.specs.Calls.{Reads, Writes, has_read_failure, most_reads, write_failure};
-ghost use Rattle.caldate_run.specs.Ending.{Tells};
+ghost use Rattle.caldate_run.specs.Ending.{ReportsOutcome};
 ghost use Rattle.caldate_run.specs.Lists.{Lists};
-ghost use Rattle.caldate_run.specs.Program.{Asks, AsksOnce, HasComplaint, given_text};
+ghost use Rattle.caldate_run.specs.Program.{GivesCommand, GivesCommandOnce, HasUsageMessage, given_text};
 ghost use Rattle.caldate_run.specs.Recurring.{ListsOccurrences};
-ghost use Rattle.caldate_run.specs.Runs.{Ended, Shown};
-ghost use Rattle.caldate_run.specs.declared.fault.Fault.{Fault};
+ghost use Rattle.caldate_run.specs.Runs.{IsRunResult, WritesPage};
+ghost use Rattle.caldate_run.specs.declared.run.run_error.RunError.{RunError};
 ghost use Rattle.caldate_run.specs.declared.request.Filter.{Filter};
 ghost use Rattle.caldate_run.specs.declared.request.Listing.{Listing};
 ghost use Rattle.caldate_run.specs.declared.request.Occurrences.{Occurrences};
-ghost use Rattle.caldate_run.specs.declared.senseless.Senseless.{Senseless};
+ghost use Rattle.caldate_run.specs.declared.args.usage_error.UsageError.{UsageError};
 
-use crate::asked::asked_of;
-use crate::complaint::{TOO_LONG, complain};
-use crate::ending::{Ending, end};
+use crate::args::parse_args;
+use crate::args::usage_message::{TOO_LONG, report_usage_error};
+use crate::args::words::word_at;
 use crate::help::{HELP, VERSION};
 use crate::list::list;
+use crate::list::recurring::list_occurrences;
 use crate::output::write_all;
-use crate::recurring::list_occurrences;
-use crate::request::Asked;
+use crate::request::Command;
+use crate::run::ending::{Ending, end};
 use crate::run::run;
 use crate::streams::{Sink, Source};
-use crate::words::word_at;
 use crate::zones::ZoneFiles;
 
 /// The status for invalid arguments.
-const SENSELESS: u8 = 2;
+const INVALID_ARGUMENTS: u8 = 2;
 
 /// Runs the command of the arguments, which have zero bytes between them, with the files of the zones
 /// that they name. Returns the status and
@@ -40,78 +40,78 @@ pub fn perform<R: Source, W: Sink, E: Sink>(
     writer: &mut W,
     errors: &mut E,
 ) -> Ending
-    ensures lines { (filter : Filter) → Asks arguments.entry files.now (Asked.Lines filter)
-        → (outcome : Result Unit Fault)
-        × Ended filter outcome (R.remaining reader.old) (R.remaining reader.new)
+    ensures lines { (filter : Filter) → GivesCommand arguments.entry files.now (Command.Lines filter)
+        → (outcome : Result Unit RunError)
+        × IsRunResult filter outcome (R.remaining reader.old) (R.remaining reader.new)
         (W.contents writer.old) (W.contents writer.new)
         × Reads R.read_gives most_reads reader.old (has_read_failure outcome) reader.new
         × Writes W.write_gives writer.old (write_failure outcome) writer.new
-        × Tells outcome result (E.contents errors.old) (E.contents errors.new) }
-    ensures once { (filter : Filter) (text : List ℕ) → AsksOnce arguments.entry files.now filter text
-        → (reader.new ≡ reader.old) × ((outcome : Result Unit Fault) × (rest : Option (List ℕ))
-        × Ended filter outcome (Some text) rest (W.contents writer.old) (W.contents writer.new)
+        × ReportsOutcome outcome result (E.contents errors.old) (E.contents errors.new) }
+    ensures once { (filter : Filter) (text : List ℕ) → GivesCommandOnce arguments.entry files.now filter text
+        → (reader.new ≡ reader.old) × ((outcome : Result Unit RunError) × (rest : Option (List ℕ))
+        × IsRunResult filter outcome (Some text) rest (W.contents writer.old) (W.contents writer.new)
         × Writes W.write_gives writer.old (write_failure outcome) writer.new
-        × Tells outcome result (E.contents errors.old) (E.contents errors.new)) }
-    ensures list { (listing : Listing) → Asks arguments.entry files.now (Asked.Dates listing)
-        → (reader.new ≡ reader.old) × ((outcome : Result Unit Fault)
+        × ReportsOutcome outcome result (E.contents errors.old) (E.contents errors.new)) }
+    ensures list { (listing : Listing) → GivesCommand arguments.entry files.now (Command.Dates listing)
+        → (reader.new ≡ reader.old) × ((outcome : Result Unit RunError)
         × Lists listing outcome (W.contents writer.old) (W.contents writer.new)
         × Writes W.write_gives writer.old (write_failure outcome) writer.new
-        × Tells outcome result (E.contents errors.old) (E.contents errors.new)) }
-    ensures recurring { (dates : Occurrences) → Asks arguments.entry files.now (Asked.Recurring dates)
-        → (reader.new ≡ reader.old) × ((outcome : Result Unit Fault)
+        × ReportsOutcome outcome result (E.contents errors.old) (E.contents errors.new)) }
+    ensures recurring { (dates : Occurrences) → GivesCommand arguments.entry files.now (Command.Recurring dates)
+        → (reader.new ≡ reader.old) × ((outcome : Result Unit RunError)
         × ListsOccurrences dates outcome (W.contents writer.old) (W.contents writer.new)
         × Writes W.write_gives writer.old (write_failure outcome) writer.new
-        × Tells outcome result (E.contents errors.old) (E.contents errors.new)) }
-    ensures help { Asks arguments.entry files.now Asked.Help
-        → (reader.new ≡ reader.old) × ((outcome : Result Unit Fault)
-        × Shown HELP.now outcome (W.contents writer.old) (W.contents writer.new)
+        × ReportsOutcome outcome result (E.contents errors.old) (E.contents errors.new)) }
+    ensures help { GivesCommand arguments.entry files.now Command.Help
+        → (reader.new ≡ reader.old) × ((outcome : Result Unit RunError)
+        × WritesPage HELP.now outcome (W.contents writer.old) (W.contents writer.new)
         × Writes W.write_gives writer.old (write_failure outcome) writer.new
-        × Tells outcome result (E.contents errors.old) (E.contents errors.new)) }
-    ensures version { Asks arguments.entry files.now Asked.Version
-        → (reader.new ≡ reader.old) × ((outcome : Result Unit Fault)
-        × Shown VERSION.now outcome (W.contents writer.old) (W.contents writer.new)
+        × ReportsOutcome outcome result (E.contents errors.old) (E.contents errors.new)) }
+    ensures version { GivesCommand arguments.entry files.now Command.Version
+        → (reader.new ≡ reader.old) × ((outcome : Result Unit RunError)
+        × WritesPage VERSION.now outcome (W.contents writer.old) (W.contents writer.new)
         × Writes W.write_gives writer.old (write_failure outcome) writer.new
-        × Tells outcome result (E.contents errors.old) (E.contents errors.new)) }
-    ensures senseless { (words : List ℕ) → HasComplaint arguments.entry files.now words
+        × ReportsOutcome outcome result (E.contents errors.old) (E.contents errors.new)) }
+    ensures usage_error { (words : List ℕ) → HasUsageMessage arguments.entry files.now words
         → (reader.new ≡ reader.old) × (writer.new ≡ writer.old) × (result.status ≡ 2)
-        × Shown words result.told (E.contents errors.old) (E.contents errors.new) }
-    ensures told { Writes E.write_gives errors.old (write_failure result.told) errors.new }
+        × WritesPage words result.reported (E.contents errors.old) (E.contents errors.new) }
+    ensures reported { Writes E.write_gives errors.old (write_failure result.reported) errors.new }
 {
     let Some(arguments) = arguments else {
         return Ending {
-            status: SENSELESS,
-            told: write_all(errors, TOO_LONG),
+            status: INVALID_ARGUMENTS,
+            reported: write_all(errors, TOO_LONG),
         };
     };
-    match asked_of(arguments, files) {
-        Ok(Asked::Lines(filter)) => {
+    match parse_args(arguments, files) {
+        Ok(Command::Lines(filter)) => {
             let outcome = run(filter, reader, writer);
             end(outcome, errors)
         }
-        Ok(Asked::Once(filter)) => {
+        Ok(Command::Once(filter)) => {
             let mut text = given_text(arguments);
             let outcome = run(filter, &mut text, writer);
             end(outcome, errors)
         }
-        Ok(Asked::Dates(listing)) => {
+        Ok(Command::Dates(listing)) => {
             let outcome = list(&listing, writer);
             end(outcome, errors)
         }
-        Ok(Asked::Recurring(dates)) => {
+        Ok(Command::Recurring(dates)) => {
             let outcome = list_occurrences(&dates, writer);
             end(outcome, errors)
         }
-        Ok(Asked::Help) => {
+        Ok(Command::Help) => {
             let outcome = write_all(writer, HELP);
             end(outcome, errors)
         }
-        Ok(Asked::Version) => {
+        Ok(Command::Version) => {
             let outcome = write_all(writer, VERSION);
             end(outcome, errors)
         }
-        Err(senseless) => Ending {
-            status: SENSELESS,
-            told: complain(arguments, files, senseless, errors),
+        Err(usage_error) => Ending {
+            status: INVALID_ARGUMENTS,
+            reported: report_usage_error(arguments, files, usage_error, errors),
         },
     }
 }

@@ -4,7 +4,7 @@ ghost use Rattle.cal_time.specs.declared.error.ComponentRange.{ComponentRange};
 ghost use Rattle.cal_text.specs.Position.{IsErrorAtStop};
 ghost use Rattle.cal_text.specs.Parsing.{FailsWithComponent, FailsWithSyntax};
 ghost use Rattle.cal_text.specs.declared.any.DateOrMoment.{DateOrMoment};
-ghost use Rattle.caldate_run.specs.Readings.{HasFormIn, IsFaultIn, IsTextIn};
+ghost use Rattle.caldate_run.specs.Readings.{HasFormIn, IsErrorIn, IsTextIn};
 
 mod local;
 mod number;
@@ -53,7 +53,7 @@ pub fn read_in(reading: Reading, text: &[u8]) -> Result<DateOrMoment, ParseError
     ensures form { FailsWithSyntax result ↔ ¬ HasFormIn reading text.now }
     ensures position { IfErr result (IsErrorAtStop (HasFormIn reading) text.now) }
     ensures component { (why : ComponentRange)
-        → FailsWithComponent why result ↔ IsFaultIn reading text.now why }
+        → FailsWithComponent why result ↔ IsErrorIn reading text.now why }
 {
     match reading {
         Reading::Any => parse_any(text),

@@ -230,7 +230,7 @@ pub enum Pace {
 
 /// A command of the program.
 #[derive(Drop)]
-pub enum Asked<'a> {
+pub enum Command<'a> {
     /// `--help`, `-h` or `help`: the help page.
     Help,
     /// `--version`: the version.

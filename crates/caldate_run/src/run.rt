@@ -5,38 +5,48 @@ ghost use Rattle.caldate_run.specs.Calls.{Reads, Writes, has_read_failure, kind_
 ghost use Rattle.caldate_run.specs.Lines.{ended_lines, lines_of, unended};
 ghost use Rattle.caldate_run.specs.Replies.{IsReplyTo};
 ghost use Rattle.caldate_run.specs.Room.{HasRoom, capacity, longest_reply, longest_text};
-ghost use Rattle.caldate_run.specs.Runs.{AppendsFront, Ended, EndsFrom, FailsFrom, IsEarly, IsOfWrite, StopsFrom};
-ghost use Rattle.caldate_run.specs.Standing.{Advances, NoEnd, passed};
-ghost use Rattle.caldate_run.specs.declared.unanswered.UnansweredLine.{UnansweredLine};
+ghost use Rattle.caldate_run.specs.Runs.{AppendsFront, IsRunResult, EndsFrom, FailsFrom, IsEarly, IsOfWrite, StopsFrom};
+ghost use Rattle.caldate_run.specs.RunStates.{Advances, NoEnd, passed};
+ghost use Rattle.caldate_run.specs.declared.run.unanswered.UnansweredLine.{UnansweredLine};
 
-use crate::buffer::Buffer;
-use crate::fault::Fault;
+pub mod ending;
+pub mod excerpt;
+pub mod lines;
+pub mod no_answer;
+pub(crate) mod progress;
+pub(crate) mod reply;
+pub mod run_error;
+pub mod tally;
+pub mod unanswered;
+
 use crate::input::Input;
-use crate::lines::first_line;
 use crate::on_invalid::OnInvalid;
+use crate::output::buffer::Buffer;
 use crate::output::write_all;
-use crate::progress::Progress;
-use crate::reply::push_reply;
 use crate::request::Filter;
-use crate::shown::ShownText;
+use crate::run::excerpt::Excerpt;
+use crate::run::lines::first_line;
+use crate::run::progress::Progress;
+use crate::run::reply::push_reply;
+use crate::run::run_error::RunError;
+use crate::run::tally::Tally;
+use crate::run::unanswered::UnansweredLine;
 use crate::streams::{Sink, Source};
-use crate::tally::Tally;
-use crate::unanswered::UnansweredLine;
 
 /// The maximum length of an unfinished line: a text and a carriage return.
 const MOST_KEPT: usize = 4097;
 
 /// Answers the lines of the input, in order, up to its end.
 ///
-/// Writes the answers to one read before the next read. Fails with `Fault::Read` or `Fault::Write`,
-/// with `Fault::Stopped` at a line that ends the run, and with `Fault::Unanswered` if the run is
+/// Writes the answers to one read before the next read. Fails with `RunError::Read` or `RunError::Write`,
+/// with `RunError::Stopped` at a line that ends the run, and with `RunError::Unanswered` if the run is
 /// complete but some of its lines have no answer. 2^64 - 1 reads end like a failed read.
 pub fn run<R: Source, W: Sink>(
     filter: Filter<'_>,
     reader: &mut R,
     writer: &mut W,
-) -> Result<(), Fault>
-    ensures ended { Ended filter.entry result (R.remaining reader.old) (R.remaining reader.new)
+) -> Result<(), RunError>
+    ensures ended { IsRunResult filter.entry result (R.remaining reader.old) (R.remaining reader.new)
         (W.contents writer.old) (W.contents writer.new) }
     ensures reads { Reads R.read_gives most_reads reader.old (has_read_failure result) reader.new }
     ensures writes { Writes W.write_gives writer.old (write_failure result) writer.new }
@@ -50,7 +60,7 @@ pub fn run<R: Source, W: Sink>(
             first: None,
         },
         is_long: false,
-        front: ShownText::new(b""),
+        front: Excerpt::new(b""),
     };
     let mut reads = u64::MAX;
     while reads > 0 {
@@ -63,7 +73,7 @@ pub fn run<R: Source, W: Sink>(
                 input.as_bytes(),
             ) {
                 Ok(()) => return outcome(&progress.tally),
-                Err(fault) => return Err(fault),
+                Err(error) => return Err(error),
             }
         }
         let left = match answer_lines(
@@ -74,14 +84,14 @@ pub fn run<R: Source, W: Sink>(
             input.as_bytes(),
         ) {
             Ok(left) => left,
-            Err(fault) => return Err(fault),
+            Err(error) => return Err(error),
         };
         input.keep_last(left);
         flush(&mut buffer, writer)?;
-        let_go(&filter, &mut input, &mut progress, writer)?;
+        discard_long_line(&filter, &mut input, &mut progress, writer)?;
         reads -= 1;
     }
-    Err(Fault::Read)
+    Err(RunError::Read)
 }
 
 /// Answers the lines that end within the bytes, and returns the number of bytes after them.
@@ -92,7 +102,7 @@ fn answer_lines<W: Sink>(
     buffer: &mut Buffer,
     writer: &mut W,
     bytes: &[u8],
-) -> Result<usize, Fault>
+) -> Result<usize, RunError>
     requires { length bytes.now ≤ capacity }
     ensures within { IfOk result (λ left. left ≤ length bytes.now) }
     ensures no_end { IfOk result (λ left. NoEnd (drop (length bytes.now - left) bytes.now)) }
@@ -103,8 +113,8 @@ fn answer_lines<W: Sink>(
     ensures write { IsErrAnd result IsOfWrite
         → FailsFrom filter.now ended_lines unended (W.contents writer.old)
         (W.contents writer.new) buffer.old bytes.now progress.old }
-    ensures stopped { (told : UnansweredLine) → IsErrOf result (Fault.Stopped told)
-        → StopsFrom filter.now told ended_lines (W.contents writer.old)
+    ensures stopped { (reported : UnansweredLine) → IsErrOf result (RunError.Stopped reported)
+        → StopsFrom filter.now reported ended_lines (W.contents writer.old)
         (W.contents writer.new) buffer.old bytes.now progress.old }
     ensures others { IfErr result IsEarly }
     ensures writes { Writes W.write_gives writer.old (write_failure result) writer.new }
@@ -114,7 +124,7 @@ fn answer_lines<W: Sink>(
         make_room(buffer, line.len(), writer)?;
         match push_reply(buffer, filter, progress, line) {
             Ok(()) => {}
-            Err(told) => return Err(stop(told, buffer, writer)),
+            Err(reported) => return Err(stop(reported, buffer, writer)),
         }
         rest = after;
     }
@@ -123,17 +133,17 @@ fn answer_lines<W: Sink>(
 
 /// Writes the answers before a line without an answer, and returns the line as an error.
 #[tactic(auto, using(crate::proofs::Calls::sent_all))]
-fn stop<W: Sink>(told: UnansweredLine, buffer: &Buffer, writer: &mut W) -> Fault
+fn stop<W: Sink>(reported: UnansweredLine, buffer: &Buffer, writer: &mut W) -> RunError
     ensures write { IsOfWrite result
         → AppendsFront (W.contents writer.old) (W.contents writer.new) buffer.now }
-    ensures stopped { (line : UnansweredLine) → result ≡ Fault.Stopped line → (line ≡ told)
+    ensures stopped { (line : UnansweredLine) → result ≡ RunError.Stopped line → (line ≡ reported)
         × Appends (W.contents writer.old) (W.contents writer.new) buffer.now }
     ensures others { IsEarly result }
     ensures writes { Writes W.write_gives writer.old (kind_of result) writer.new }
 {
     match write_all(writer, buffer.as_bytes()) {
-        Ok(()) => Fault::Stopped(told),
-        Err(fault) => fault,
+        Ok(()) => RunError::Stopped(reported),
+        Err(error) => error,
     }
 }
 
@@ -145,7 +155,7 @@ fn answer_last<W: Sink>(
     buffer: &mut Buffer,
     writer: &mut W,
     line: &[u8],
-) -> Result<(), Fault>
+) -> Result<(), RunError>
     requires no_end { NoEnd line.now }
     requires none { buffer.old ≡ [] }
     requires few { length line.now ≤ longest_text + 1 }
@@ -154,8 +164,8 @@ fn answer_last<W: Sink>(
     ensures write { IsErrAnd result IsOfWrite
         → FailsFrom filter.now lines_of (λ _. []) (W.contents writer.old)
         (W.contents writer.new) [] line.now progress.old }
-    ensures stopped { (told : UnansweredLine) → IsErrOf result (Fault.Stopped told)
-        → StopsFrom filter.now told lines_of (W.contents writer.old)
+    ensures stopped { (reported : UnansweredLine) → IsErrOf result (RunError.Stopped reported)
+        → StopsFrom filter.now reported lines_of (W.contents writer.old)
         (W.contents writer.new) [] line.now progress.old }
     ensures others { IfErr result IsEarly }
     ensures writes { Writes W.write_gives writer.old (write_failure result) writer.new }
@@ -165,20 +175,20 @@ fn answer_last<W: Sink>(
     }
     match push_reply(buffer, filter, progress, line) {
         Ok(()) => write_all(writer, buffer.as_bytes()),
-        Err(told) => Err(Fault::Stopped(told)),
+        Err(reported) => Err(RunError::Stopped(reported)),
     }
 }
 
 /// Returns the outcome of a run that is complete: a failure if a line has no answer.
-fn outcome(tally: &Tally) -> Result<(), Fault>
+fn outcome(tally: &Tally) -> Result<(), RunError>
     ensures ok { OnOk result (tally.now.first ≡ None) }
-    ensures err { IfErr result (λ fault. (fault ≡ Fault.Unanswered tally.now)
+    ensures err { IfErr result (λ error. (error ≡ RunError.Unanswered tally.now)
         × (is_some tally.now.first ≡ true)) }
     ensures read { has_read_failure result ≡ false }
     ensures write { write_failure result ≡ None }
 {
     match &tally.first {
-        Some(_) => Err(Fault::Unanswered(*tally)),
+        Some(_) => Err(RunError::Unanswered(*tally)),
         None => Ok(()),
     }
 }
@@ -186,12 +196,12 @@ fn outcome(tally: &Tally) -> Result<(), Fault>
 /// Drops a line that is too long except for its last byte, which may be a carriage return. In mode
 /// `keep`, passes on what it drops.
 #[tactic(auto, using(crate::proofs::Calls::no_writes))]
-fn let_go<W: Sink>(
+fn discard_long_line<W: Sink>(
     filter: &Filter<'_>,
     input: &mut Input,
     progress: &mut Progress,
     writer: &mut W,
-) -> Result<(), Fault>
+) -> Result<(), RunError>
     requires { NoEnd input.old }
     ensures few { OnOk result (length input.new ≤ longest_text + 1) }
     ensures no_end { OnOk result (NoEnd input.new) }
@@ -206,7 +216,7 @@ fn let_go<W: Sink>(
     if input.len() > MOST_KEPT {
         let bytes = input.as_bytes();
         pass_on(filter.on_invalid, &bytes[..bytes.len() - 1], writer)?;
-        progress.front = progress.shown(input.as_bytes());
+        progress.front = progress.excerpt_of(input.as_bytes());
         input.keep_last(1);
         progress.is_long = true;
     }
@@ -215,7 +225,7 @@ fn let_go<W: Sink>(
 
 /// Writes the bytes in mode `keep`.
 #[tactic(auto, using(crate::proofs::Calls::no_writes, crate::proofs::Calls::sent_all))]
-fn pass_on<W: Sink>(on_invalid: OnInvalid, bytes: &[u8], writer: &mut W) -> Result<(), Fault>
+fn pass_on<W: Sink>(on_invalid: OnInvalid, bytes: &[u8], writer: &mut W) -> Result<(), RunError>
     ensures ok { OnOk result (Appends (W.contents writer.old) (W.contents writer.new)
         (passed on_invalid bytes.now)) }
     ensures front { OnErr result (AppendsFront (W.contents writer.old)
@@ -234,7 +244,11 @@ fn pass_on<W: Sink>(on_invalid: OnInvalid, bytes: &[u8], writer: &mut W) -> Resu
 
 /// Writes the buffer if it has no room for a reply, or for a line of this length with its end.
 #[tactic(auto, using(crate::proofs::Calls::no_writes))]
-pub fn make_room<W: Sink>(buffer: &mut Buffer, length: usize, writer: &mut W) -> Result<(), Fault>
+pub fn make_room<W: Sink>(
+    buffer: &mut Buffer,
+    length: usize,
+    writer: &mut W,
+) -> Result<(), RunError>
     requires { length < capacity }
     ensures room { OnOk result (HasRoom longest_reply buffer.new) }
     ensures line { OnOk result (HasRoom (length + 1) buffer.new) }
@@ -253,7 +267,7 @@ pub fn make_room<W: Sink>(buffer: &mut Buffer, length: usize, writer: &mut W) ->
 
 /// Writes the buffer and clears it.
 #[tactic(auto, using(crate::proofs::Calls::sent_all))]
-fn flush<W: Sink>(buffer: &mut Buffer, writer: &mut W) -> Result<(), Fault>
+fn flush<W: Sink>(buffer: &mut Buffer, writer: &mut W) -> Result<(), RunError>
     ensures ok { OnOk result (Appends (W.contents writer.old) (W.contents writer.new) buffer.old
         × (buffer.new ≡ [])) }
     ensures front { OnErr result (AppendsFront (W.contents writer.old)

@@ -3,9 +3,12 @@ ghost use Rattle.std.specs.Prelude.{◌≡◌, is_none, not, position};
 ghost use Rattle.caldate_run.specs.Meanings.{Meanings};
 ghost use Rattle.caldate_run.specs.Zones.{AreZones, IsZoneOf, file_named, has_name, is_letter, is_name_byte, is_zone_like, is_zone_name, name_in, zone_of};
 
-use crate::lines::index_of;
-use crate::offset::offset_of;
-use crate::zone_fault::{FileError, ZoneFault};
+pub mod read_zone_error;
+pub mod zone_source;
+
+use crate::args::offset::offset_of;
+use crate::run::lines::index_of;
+use crate::zones::read_zone_error::{FileError, ReadZoneError};
 use cal_tzif::parse;
 use cal_zone::Zone;
 
@@ -125,23 +128,23 @@ pub fn file_named<'a>(files: &ZoneFiles<'a>, name: &[u8]) -> Option<ZoneFile<'a>
 }
 
 /// Returns the zone of a file, or why there is none.
-pub fn zone_in<'a>(file: Option<ZoneFile<'a>>) -> Result<Zone<'a>, ZoneFault>
+pub fn zone_in<'a>(file: Option<ZoneFile<'a>>) -> Result<Zone<'a>, ReadZoneError>
     ensures { IsZoneOf file.entry result }
 {
     let Some(file) = file else {
-        return Err(ZoneFault::File(FileError::NotFound));
+        return Err(ReadZoneError::File(FileError::NotFound));
     };
     match file.contents {
         Ok(bytes) => match parse(bytes) {
             Ok(zone) => Ok(zone),
-            Err(error) => Err(ZoneFault::Zone(error)),
+            Err(error) => Err(ReadZoneError::Zone(error)),
         },
-        Err(error) => Err(ZoneFault::File(error)),
+        Err(error) => Err(ReadZoneError::File(error)),
     }
 }
 
 /// Returns the zone with this name, or why there is none.
-pub fn zone_named<'a>(files: &ZoneFiles<'a>, name: &[u8]) -> Result<Zone<'a>, ZoneFault>
+pub fn zone_named<'a>(files: &ZoneFiles<'a>, name: &[u8]) -> Result<Zone<'a>, ReadZoneError>
     ensures { (meanings : Meanings) → AreZones files.now meanings
         → result ≡ (meanings name.now).zone }
 {

@@ -1,12 +1,12 @@
 //! What the rows in `tests/rows` can't show: readers and writers that fail, arguments without room,
 //! and values that the program doesn't print.
 use crate::tests::streams::Dripping;
-use caldate_run::asked::asked_of;
-use caldate_run::ending::end;
-use caldate_run::fault::Fault;
+use caldate_run::args::parse_args;
 use caldate_run::list::list;
-use caldate_run::request::Asked;
+use caldate_run::request::Command;
+use caldate_run::run::ending::end;
 use caldate_run::run::run;
+use caldate_run::run::run_error::RunError;
 use caldate_run::zones::ZoneFiles;
 use std::alloc::{AllocError, Global};
 use std::io::{ErrorKind, Read, Write};
@@ -25,11 +25,11 @@ fn run_by<R: Read, W: Write>(
     arguments: &[u8],
     reader: &mut R,
     writer: &mut W,
-) -> Result<(), Fault> {
-    match asked_of(arguments, &ZoneFiles::none()) {
-        Ok(Asked::Lines(filter)) => run(filter, reader, writer),
-        Ok(Asked::Dates(listing)) => list(&listing, writer),
-        _ => Err(Fault::Write(ErrorKind::InvalidInput)),
+) -> Result<(), RunError> {
+    match parse_args(arguments, &ZoneFiles::none()) {
+        Ok(Command::Lines(filter)) => run(filter, reader, writer),
+        Ok(Command::Dates(listing)) => list(&listing, writer),
+        _ => Err(RunError::Write(ErrorKind::InvalidInput)),
     }
 }
 
@@ -40,7 +40,7 @@ fn check_run<H: Abort + AllocGlobal>(
     mut reader: Dripping<'_>,
     written: &[u8],
     status: u8,
-    told: &[u8],
+    reported: &[u8],
 ) {
     let (most, fine) = (reader.most, reader.fine);
     let mut output = Vec::new(rt.alloc());
@@ -48,7 +48,7 @@ fn check_run<H: Abort + AllocGlobal>(
     let outcome = run_by(arguments, &mut reader, &mut output);
     let ended = end(outcome, &mut words).status;
     assert!(rt;
-        ended == status && output.as_slice() == written && words.as_slice() == told,
+        ended == status && output.as_slice() == written && words.as_slice() == reported,
         "reads of {most}, the first {fine} fine"
     );
 }

@@ -4,7 +4,7 @@ ghost use Rattle.cal_time.specs.declared.error.ComponentRange.{ComponentRange};
 ghost use Rattle.cal_text.specs.Position.{IsErrorAtStop};
 ghost use Rattle.cal_text.specs.Parsing.{FailsWithComponent, FailsWithSyntax};
 ghost use Rattle.cal_text.specs.declared.any.DateOrMoment.{DateOrMoment};
-ghost use Rattle.caldate_run.specs.Readings.{HasFormIn, IsFaultIn, IsTextIn, assumed};
+ghost use Rattle.caldate_run.specs.Readings.{HasFormIn, IsErrorIn, IsTextIn, assumed};
 ghost use Rattle.caldate_run.specs.declared.reading.Reading.TheVariants.{Local};
 
 use crate::reading::template::{at_stop, wrong_at};
@@ -25,7 +25,7 @@ pub fn read_local(offset: UtcOffset, text: &[u8]) -> Result<DateOrMoment, ParseE
     ensures form { FailsWithSyntax result ↔ ¬ HasFormIn (Local offset) text.now }
     ensures position { IfErr result (IsErrorAtStop (HasFormIn (Local offset)) text.now) }
     ensures component { (why : ComponentRange)
-        → FailsWithComponent why result ↔ IsFaultIn (Local offset) text.now why }
+        → FailsWithComponent why result ↔ IsErrorIn (Local offset) text.now why }
 {
     if text.len() > LONGEST {
         return Err(wrong_at(text, TEMPLATE));

@@ -4,14 +4,14 @@ ghost use Rattle.cal_time.specs.declared.error.ComponentRange.{ComponentRange};
 ghost use Rattle.cal_text.specs.Position.{IsErrorAtStop};
 ghost use Rattle.cal_text.specs.Parsing.{FailsWithComponent, FailsWithSyntax};
 ghost use Rattle.cal_text.specs.declared.any.DateOrMoment.{DateOrMoment};
-ghost use Rattle.caldate_run.specs.Readings.{HasFormIn, IsFaultIn, IsNumber, IsTextIn, nanoseconds_in};
+ghost use Rattle.caldate_run.specs.Readings.{HasFormIn, IsErrorIn, IsNumber, IsTextIn, nanoseconds_in};
 ghost use Rattle.caldate_run.specs.Templates.{IsTemplateFor};
 ghost use Rattle.caldate_run.specs.declared.reading.Reading.TheVariants.{Unix};
 ghost use Rattle.caldate_run.specs.declared.request.UnixUnit.{UnixUnit};
 
+use crate::answer::signed::signed_text;
 use crate::reading::template::wrong_at;
 use crate::request::UnixUnit;
-use crate::signed::signed_text;
 use cal_datetime::OffsetDateTime;
 use cal_text::{DateOrMoment, MomentForm, ParseError};
 use std::str;
@@ -27,9 +27,9 @@ pub fn read_number(unit: UnixUnit, text: &[u8]) -> Result<DateOrMoment, ParseErr
     ensures form { FailsWithSyntax result ↔ ¬ HasFormIn (Unix unit) text.now }
     ensures position { IfErr result (IsErrorAtStop (HasFormIn (Unix unit)) text.now) }
     ensures component { (why : ComponentRange)
-        → FailsWithComponent why result ↔ IsFaultIn (Unix unit) text.now why }
+        → FailsWithComponent why result ↔ IsErrorIn (Unix unit) text.now why }
 {
-    let Some(number) = number_of(text) else {
+    let Some(number) = parse_i64(text) else {
         return Err(wrong_at(text, number_template(text)));
     };
     match OffsetDateTime::from_unix_timestamp_nanos(number * i128::from(nanoseconds_in(unit))) {
@@ -50,7 +50,7 @@ fn nanoseconds_in(unit: UnixUnit) -> u32
 }
 
 /// Parses a number of at most 27 digits without a plus sign and without leading zeros.
-fn number_of(text: &[u8]) -> Option<i128>
+fn parse_i64(text: &[u8]) -> Option<i128>
     ensures every { (z : ℤ) → IsNumber text.now z → result ≡ Some z }
     ensures has { IfSome result (IsNumber text.now) }
 {

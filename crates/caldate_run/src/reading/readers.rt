@@ -4,11 +4,11 @@ ghost use Rattle.cal_text.specs.declared.any.DateOrMoment.{DateOrMoment};
 ghost use Rattle.caldate_run.specs.Readers.{IsFoundBy, IsTextBy, IsUnread, IsUnreadIn};
 ghost use Rattle.caldate_run.specs.Readings.{IsTextIn};
 ghost use Rattle.caldate_run.specs.Replies.{reason_of};
-ghost use Rattle.caldate_run.specs.declared.no_answer.NoAnswer.{NoAnswer};
+ghost use Rattle.caldate_run.specs.declared.run.no_answer.NoAnswer.{NoAnswer};
 
-use crate::no_answer::NoAnswer;
 use crate::reading::reader::Reader;
 use crate::reading::{Reading, read_in};
+use crate::run::no_answer::NoAnswer;
 use cal_text::{DateOrMoment, ParseError};
 use cal_time::UtcOffset;
 use std::marker::Model;

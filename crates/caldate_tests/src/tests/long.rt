@@ -12,7 +12,7 @@ fn check_chunks<H: Abort + AllocGlobal>(
     input: &[u8],
     most: usize,
     written: &[u8],
-    told: &[u8],
+    reported: &[u8],
 ) {
     let reader = Dripping {
         rest: input,
@@ -21,8 +21,8 @@ fn check_chunks<H: Abort + AllocGlobal>(
         failures: 0,
         kind: ErrorKind::Other,
     };
-    let status = if told.is_empty() { 0 } else { 1 };
-    check_run(rt, arguments, reader, written, status, told);
+    let status = if reported.is_empty() { 0 } else { 1 };
+    check_run(rt, arguments, reader, written, status, reported);
 }
 
 #[test]
@@ -43,10 +43,17 @@ fn lines_up_to_4096_bytes_and_longer_ones(rt: HostRuntime) -> Result<(), Fail> {
                 b"caldate: 1 of 2 lines has no answer; first: line 1: line too long: ".as_slice(),
             )
         };
-        let told = repeated(rt.alloc(), words, b'x', 80, b"\n")?;
+        let reported = repeated(rt.alloc(), words, b'x', 80, b"\n")?;
         for most in [1000, 4096, 4097, 65_536] {
-            check_chunks(&rt, b"to\0calendar", &plain, most, of_plain, &told);
-            check_chunks(&rt, b"to\0calendar", &returned, most, of_returned, &told);
+            check_chunks(&rt, b"to\0calendar", &plain, most, of_plain, &reported);
+            check_chunks(
+                &rt,
+                b"to\0calendar",
+                &returned,
+                most,
+                of_returned,
+                &reported,
+            );
         }
     }
     Ok(())
@@ -61,7 +68,7 @@ fn a_long_line_ends_a_run(rt: HostRuntime) -> Result<(), Fail> {
         } else {
             b"caldate: line 2: unreadable at 0: ~??".as_slice()
         };
-        let told = repeated(rt.alloc(), words, b'~', tildes.min(77), b"\n")?;
+        let reported = repeated(rt.alloc(), words, b'~', tildes.min(77), b"\n")?;
         for line_end in [b"\n".as_slice(), b"\r\n".as_slice(), b"".as_slice()] {
             let input = repeated(rt.alloc(), b"2024-060\n~\t\xc3", b'~', tildes, line_end)?;
             for most in [1000, 4097, 65_536] {
@@ -72,7 +79,7 @@ fn a_long_line_ends_a_run(rt: HostRuntime) -> Result<(), Fail> {
                     &input,
                     most,
                     written,
-                    &told,
+                    &reported,
                 );
             }
         }
@@ -90,7 +97,7 @@ fn a_long_line_is_kept(rt: HostRuntime) -> Result<(), Fail> {
         } else {
             b"caldate: 1 of 3 lines has no answer; first: line 2: unreadable at 0: ".as_slice()
         };
-        let told = repeated(rt.alloc(), words, b'x', 80, b"\n")?;
+        let reported = repeated(rt.alloc(), words, b'x', 80, b"\n")?;
         for line_end in [b"\n2024-060\n".as_slice(), b"\r\n2024-060\r\n".as_slice()] {
             let answered = if line_end.len() == 10 {
                 b"\n2024-02-29\n".as_slice()
@@ -101,7 +108,7 @@ fn a_long_line_is_kept(rt: HostRuntime) -> Result<(), Fail> {
             let written = repeated(rt.alloc(), b"2024-02-29\n", b'x', length, answered)?;
             for most in [1000, 4096, 4097, 65_536] {
                 let arguments = b"--invalid\0keep\0to\0calendar".as_slice();
-                check_chunks(&rt, arguments, &input, most, &written, &told);
+                check_chunks(&rt, arguments, &input, most, &written, &reported);
             }
         }
     }
@@ -113,7 +120,7 @@ fn a_long_line_is_kept(rt: HostRuntime) -> Result<(), Fail> {
 fn an_endless_line_is_read_in_place(rt: HostRuntime) -> Result<(), Fail> {
     let input = repeated(rt.alloc(), b"", b'2', 2_000_000, b"")?;
     let passed = repeated(rt.alloc(), b"", b'2', 20 * 65_535, b"")?;
-    let told = b"caldate: cannot read standard input\n".as_slice();
+    let reported = b"caldate: cannot read standard input\n".as_slice();
     for (arguments, written) in [
         (b"to\0calendar".as_slice(), b"".as_slice()),
         (b"--field\01\0to\0calendar".as_slice(), passed.as_slice()),
@@ -125,7 +132,7 @@ fn an_endless_line_is_read_in_place(rt: HostRuntime) -> Result<(), Fail> {
             failures: 1,
             kind: ErrorKind::Other,
         };
-        check_run(&rt, arguments, reader, written, 2, told);
+        check_run(&rt, arguments, reader, written, 2, reported);
     }
     Ok(())
 }

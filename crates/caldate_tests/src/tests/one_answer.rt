@@ -7,17 +7,17 @@ ghost use Rattle.caldate_run.specs.Lines.{is_end};
 ghost use Rattle.caldate_run.specs.Lists.{IsStep};
 ghost use Rattle.caldate_run.specs.Replies.{IsReplyTo};
 ghost use Rattle.caldate_run.specs.Runs.{IsComplete};
-ghost use Rattle.caldate_run.specs.declared.tally.Tally.{Tally};
+ghost use Rattle.caldate_run.specs.declared.run.tally.Tally.{Tally};
 
-use caldate_run::asked::asked_of;
-use caldate_run::fault::Fault;
+use caldate_run::args::parse_args;
+use caldate_run::args::usage_error::UsageError;
 use caldate_run::laws::{have_zones, one_reply};
-use caldate_run::lines::first_line;
 use caldate_run::list::list;
-use caldate_run::recurring::list_occurrences;
-use caldate_run::request::{Asked, Filter, Listing, Occurrences};
+use caldate_run::list::recurring::list_occurrences;
+use caldate_run::request::{Command, Filter, Listing, Occurrences};
+use caldate_run::run::lines::first_line;
 use caldate_run::run::run;
-use caldate_run::senseless::Senseless;
+use caldate_run::run::run_error::RunError;
 use caldate_run::streams::{Sink, Source};
 use caldate_run::zones::ZoneFiles;
 
@@ -46,7 +46,7 @@ fn runs<R: Source, W: Sink>(
     twin: &mut R,
     writer: &mut W,
     other: &mut W,
-) -> (Result<(), Fault>, Result<(), Fault>)
+) -> (Result<(), RunError>, Result<(), RunError>)
     requires { filter ≡ twin_filter }
     ensures { (held : List ℕ) → R.remaining reader.old ≡ Some input.now
         → R.remaining twin.old ≡ Some input.now
@@ -61,7 +61,7 @@ fn lists<W: Sink>(
     listing: &Listing,
     writer: &mut W,
     other: &mut W,
-) -> (Result<(), Fault>, Result<(), Fault>)
+) -> (Result<(), RunError>, Result<(), RunError>)
     requires { IsStep listing.now.step }
     ensures { (held : List ℕ) → W.contents writer.old ≡ Some held → W.contents other.old ≡ Some held
         → IsOk result.0 → IsOk result.1 → W.contents writer.new ≡ W.contents other.new }
@@ -73,7 +73,7 @@ fn occurrences<W: Sink>(
     asked: &Occurrences,
     writer: &mut W,
     other: &mut W,
-) -> (Result<(), Fault>, Result<(), Fault>)
+) -> (Result<(), RunError>, Result<(), RunError>)
     ensures { (held : List ℕ) → W.contents writer.old ≡ Some held → W.contents other.old ≡ Some held
         → IsOk result.0 → IsOk result.1 → W.contents writer.new ≡ W.contents other.new }
 {
@@ -86,9 +86,12 @@ fn occurrences<W: Sink>(
 fn asks<'a>(
     arguments: &[u8],
     files: &ZoneFiles<'a>,
-) -> (Result<Asked<'a>, Senseless>, Result<Asked<'a>, Senseless>)
+) -> (
+    Result<Command<'a>, UsageError>,
+    Result<Command<'a>, UsageError>,
+)
     ensures { result.0 ≡ result.1 }
 {
     have_zones(arguments, files);
-    (asked_of(arguments, files), asked_of(arguments, files))
+    (parse_args(arguments, files), parse_args(arguments, files))
 }

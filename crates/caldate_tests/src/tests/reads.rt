@@ -9,7 +9,7 @@ struct Case {
     arguments: &'static [u8],
     input: &'static [u8],
     written: &'static [u8],
-    told: &'static [u8],
+    reported: &'static [u8],
     /// The number of reads of one byte up to the end of the run.
     reads: usize,
 }
@@ -21,63 +21,63 @@ const CASES: [Case; 12] = [
         arguments: b"to\0calendar",
         input: b"2024-060\r\n\n2024-W09-4\nJ2460370",
         written: b"2024-02-29\r\nunreadable at 0\n2024-02-29\n2024-02-29\n",
-        told: b"caldate: 1 of 4 lines has no answer; first: line 2: unreadable at 0: \n",
+        reported: b"caldate: 1 of 4 lines has no answer; first: line 2: unreadable at 0: \n",
         reads: 31,
     },
     Case {
         arguments: b"to\0calendar",
         input: b"2024-060\n2024-367\r\nx\n2024-W09-4",
         written: b"2024-02-29\nrefused ordinal conditional\r\nunreadable at 0\n2024-02-29\n",
-        told: b"caldate: 2 of 4 lines have no answer; first: line 2: refused ordinal conditional: 2024-367\n",
+        reported: b"caldate: 2 of 4 lines have no answer; first: line 2: refused ordinal conditional: 2024-367\n",
         reads: 32,
     },
     Case {
         arguments: b"--field\02\0--separator\0,\0to\0calendar",
         input: b"a,2024-060,c\r\n,2024-W09-4\nJ2460370",
         written: b"a,2024-02-29,c\r\n,2024-02-29\nJ2460370\n",
-        told: b"caldate: 1 of 3 lines has no answer; first: line 3: no such field: J2460370\n",
+        reported: b"caldate: 1 of 3 lines has no answer; first: line 3: no such field: J2460370\n",
         reads: 35,
     },
     Case {
         arguments: STOPPING,
         input: b"",
         written: b"",
-        told: b"",
+        reported: b"",
         reads: 1,
     },
     Case {
         arguments: STOPPING,
         input: b"2024-060\n2024-061\n",
         written: b"2024-02-29\n2024-03-01\n",
-        told: b"",
+        reported: b"",
         reads: 19,
     },
     Case {
         arguments: STOPPING,
         input: b"2024-060\n+999999-12-31",
         written: b"2024-02-29\n+999999-12-31\n",
-        told: b"",
+        reported: b"",
         reads: 23,
     },
     Case {
         arguments: STOPPING,
         input: b"2024-060\n2024-367\n2024-061\n",
         written: b"2024-02-29\n",
-        told: b"caldate: line 2: refused ordinal conditional: 2024-367\n",
+        reported: b"caldate: line 2: refused ordinal conditional: 2024-367\n",
         reads: 18,
     },
     Case {
         arguments: STOPPING,
         input: b"x\n2024-060\n",
         written: b"",
-        told: b"caldate: line 1: unreadable at 0: x\n",
+        reported: b"caldate: line 1: unreadable at 0: x\n",
         reads: 2,
     },
     Case {
         arguments: STOPPING,
         input: b"2024-060\r\n\r\n2024-060\n",
         written: b"2024-02-29\r\n",
-        told: b"caldate: line 2: unreadable at 0: \n",
+        reported: b"caldate: line 2: unreadable at 0: \n",
         reads: 12,
     },
     // A line without a line feed is answered once the input ends.
@@ -85,21 +85,21 @@ const CASES: [Case; 12] = [
         arguments: STOPPING,
         input: b"2024-060\n2024-061\n2024-0",
         written: b"2024-02-29\n2024-03-01\n",
-        told: b"caldate: line 3: unreadable at 6: 2024-0\n",
+        reported: b"caldate: line 3: unreadable at 6: 2024-0\n",
         reads: 25,
     },
     Case {
         arguments: STOPPING,
         input: b"2024-02-",
         written: b"",
-        told: b"caldate: line 1: unreadable at 8: 2024-02-\n",
+        reported: b"caldate: line 1: unreadable at 8: 2024-02-\n",
         reads: 9,
     },
     Case {
         arguments: STOPPING,
         input: b"2024-02-29\n2023-02-29\r",
         written: b"2024-02-29\n",
-        told: b"caldate: line 2: refused day conditional: 2023-02-29\n",
+        reported: b"caldate: line 2: refused day conditional: 2023-02-29\n",
         reads: 23,
     },
 ];
@@ -119,8 +119,15 @@ fn check_ends<H: Abort + AllocGlobal>(
         failures,
         kind: ErrorKind::Interrupted,
     };
-    let status = if case.told.is_empty() { 0 } else { 1 };
-    check_run(rt, case.arguments, reader, case.written, status, case.told);
+    let status = if case.reported.is_empty() { 0 } else { 1 };
+    check_run(
+        rt,
+        case.arguments,
+        reader,
+        case.written,
+        status,
+        case.reported,
+    );
 }
 
 /// Returns the first `count` lines.
@@ -156,8 +163,8 @@ fn check_fails<H: Abort + AllocGlobal>(
     let read = &case.input[..fine.min(case.input.len())];
     let ended = read.iter().filter(|byte| **byte == b'\n').count();
     let written = first_lines(case.written, ended);
-    let told = b"caldate: cannot read standard input\n".as_slice();
-    check_run(rt, case.arguments, reader, written, 2, told);
+    let reported = b"caldate: cannot read standard input\n".as_slice();
+    check_run(rt, case.arguments, reader, written, 2, reported);
 }
 
 #[test]

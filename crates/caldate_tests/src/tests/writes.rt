@@ -1,13 +1,13 @@
 //! Runs over writers that take one byte in each call, are interrupted or fail.
 use crate::tests::streams::{Dripping, Sipping};
 use crate::tests::{repeated, run_by};
-use caldate_run::ending::end;
-use caldate_run::fault::Fault;
-use caldate_run::no_answer::NoAnswer;
 use caldate_run::program::perform;
-use caldate_run::shown::ShownText;
-use caldate_run::tally::Tally;
-use caldate_run::unanswered::UnansweredLine;
+use caldate_run::run::ending::end;
+use caldate_run::run::excerpt::Excerpt;
+use caldate_run::run::no_answer::NoAnswer;
+use caldate_run::run::run_error::RunError;
+use caldate_run::run::tally::Tally;
+use caldate_run::run::unanswered::UnansweredLine;
 use caldate_run::zones::ZoneFiles;
 use std::io::ErrorKind;
 use std::process::Abort;
@@ -23,7 +23,7 @@ fn check_writes<H: Abort + AllocGlobal>(
     rt: &H,
     arguments: &[u8],
     (fine, failures, kind): (usize, usize, Option<ErrorKind>),
-    outcome: Result<(), Fault>,
+    outcome: Result<(), RunError>,
     taken: &[u8],
 ) {
     let mut writer = Sipping {
@@ -49,15 +49,15 @@ fn check_each_write<H: Abort + AllocGlobal>(rt: &H, arguments: &[u8], written: &
             ErrorKind::Other,
             ErrorKind::BrokenPipe,
         ] {
-            let outcome = Err(Fault::Write(kind));
+            let outcome = Err(RunError::Write(kind));
             check_writes(rt, arguments, (fine, 1, Some(kind)), outcome, before);
         }
-        let nothing = Err(Fault::Write(ErrorKind::WriteZero));
+        let nothing = Err(RunError::Write(ErrorKind::WriteZero));
         check_writes(rt, arguments, (fine, 1, None), nothing, before);
         let interrupted = Some(ErrorKind::Interrupted);
         check_writes(rt, arguments, (fine, 1, interrupted), Ok(()), written);
         check_writes(rt, arguments, (fine, 4096, interrupted), Ok(()), written);
-        let outcome = Err(Fault::Write(ErrorKind::Interrupted));
+        let outcome = Err(RunError::Write(ErrorKind::Interrupted));
         check_writes(rt, arguments, (fine, 4097, interrupted), outcome, before);
     }
     let failing = Some(ErrorKind::StorageFull);
@@ -91,7 +91,7 @@ fn a_write_fails_within_a_long_line(rt: HostRuntime) -> Result<(), Fail> {
                 kind: Some(ErrorKind::StorageFull),
             };
             let outcome = run_by(b"--field\01\0to\0calendar", &mut reader, &mut writer);
-            assert!(rt; outcome == Err(Fault::Write(ErrorKind::StorageFull)));
+            assert!(rt; outcome == Err(RunError::Write(ErrorKind::StorageFull)));
             assert!(rt; writer.taken.len() == fine && input.starts_with(&writer.taken));
         }
     }
@@ -110,8 +110,8 @@ fn standard_error_fails(rt: HostRuntime) {
                 failures: 1,
                 kind,
             };
-            let ending = end(Err(Fault::Read), &mut writer);
-            assert!(rt; ending.status == 2 && ending.told.is_ok() == (fine == words.len()));
+            let ending = end(Err(RunError::Read), &mut writer);
+            assert!(rt; ending.status == 2 && ending.reported.is_ok() == (fine == words.len()));
             assert!(rt; writer.taken.as_slice() == &words[..fine]);
         }
     }
@@ -172,14 +172,20 @@ fn check_kind<H: Abort + AllocGlobal>(rt: &H, arguments: &[u8], kind: ErrorKind)
         failures: usize::MAX,
         kind: Some(kind),
     };
-    let mut told = Vec::new(rt.alloc());
-    let ending = perform(Some(arguments), &ZoneFiles::none(), &mut INPUT, &mut writer, &mut told);
+    let mut reported = Vec::new(rt.alloc());
+    let ending = perform(
+        Some(arguments),
+        &ZoneFiles::none(),
+        &mut INPUT,
+        &mut writer,
+        &mut reported,
+    );
     let (status, words) = if kind == ErrorKind::BrokenPipe {
         (0, b"".as_slice())
     } else {
         (2, b"caldate: cannot write to standard output\n".as_slice())
     };
-    assert!(rt; ending.status == status && ending.told.is_ok() && told.as_slice() == words);
+    assert!(rt; ending.status == status && ending.reported.is_ok() && reported.as_slice() == words);
 }
 
 #[test]
@@ -202,10 +208,10 @@ fn a_long_list(rt: HostRuntime) {
 }
 
 /// Checks the message of a run with a line that has no answer.
-fn check_end<H: Abort + AllocGlobal>(rt: &H, fault: Fault, words: &[u8]) {
-    let mut told = Vec::new(rt.alloc());
-    let ending = end(Err(fault), &mut told);
-    assert!(rt; ending.status == 1 && ending.told.is_ok() && told.as_slice() == words);
+fn check_end<H: Abort + AllocGlobal>(rt: &H, error: RunError, words: &[u8]) {
+    let mut reported = Vec::new(rt.alloc());
+    let ending = end(Err(error), &mut reported);
+    assert!(rt; ending.status == 1 && ending.reported.is_ok() && reported.as_slice() == words);
 }
 
 #[test]
@@ -213,7 +219,7 @@ fn the_last_number_of_a_line(rt: HostRuntime) {
     let line = UnansweredLine {
         number: u64::MAX,
         why: NoAnswer::None,
-        text: ShownText::new(b"+999999-12-31"),
+        text: Excerpt::new(b"+999999-12-31"),
     };
     let tally = Tally {
         lines: u64::MAX,
@@ -222,12 +228,12 @@ fn the_last_number_of_a_line(rt: HostRuntime) {
     };
     check_end(
         &rt,
-        Fault::Stopped(line),
+        RunError::Stopped(line),
         b"caldate: line 18446744073709551615: none: +999999-12-31\n",
     );
     check_end(
         &rt,
-        Fault::Unanswered(tally),
+        RunError::Unanswered(tally),
         b"caldate: 18446744073709551615 of 18446744073709551615 lines have no answer; first: line 18446744073709551615: none: +999999-12-31\n",
     );
 }

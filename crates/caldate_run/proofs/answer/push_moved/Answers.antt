@@ -3,7 +3,7 @@ use Rattle.cal_datetime.specs.DateTime.{date_at}
 use Rattle.cal_datetime.specs.OffsetDateTime.{LocalAndOffset}
 use Rattle.caldate_run.specs.Answers.{day_of, form_read, moment_of, on_day}
 use Rattle.caldate_run.specs.Forms.{IsInForm}
-use Rattle.caldate_run.specs.Moves.{LeadsTo}
+use Rattle.caldate_run.specs.Moves.{MovesTo}
 use Rattle.caldate_run.proofs.Leads.{one_lead}
 use Rattle.caldate_run.proofs.answer.push_moved.Goals as goal
 
@@ -14,7 +14,7 @@ returns-in-Some-clause-none c = λ no.
     let day = c.in-Some.day in
     let none = c.push_in_form.ensures.none no in
     let from = c.date.ensures.value ∙ ap (λ (m : LocalAndOffset). date_at m.local) c.moment_of-moment.ensures in
-    let leads : LeadsTo by (day_of found) day = subst (λ n. LeadsTo by n day) from c.in-Some.ensures in
+    let leads : MovesTo by (day_of found) day = subst (λ n. MovesTo by n day) from c.in-Some.ensures in
     let there = c.on_day.ensures ∙ ap (λ (m : LocalAndOffset). on_day m day) c.moment_of-moment.ensures in (
       none.0,
       λ words h.

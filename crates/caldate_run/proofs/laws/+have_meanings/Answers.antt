@@ -1,8 +1,8 @@
 use Rattle.std.proofs.Common.{subst, sym}
 use Rattle.std.specs.Result.{result_ok}
 use Rattle.std.specs.Prelude.{Err}
-use Rattle.caldate_run.specs.declared.zone_fault.FileError.TheVariants.{NotFound}
-use Rattle.caldate_run.specs.declared.zone_fault.ZoneFault.TheVariants.{File}
+use Rattle.caldate_run.specs.declared.zones.read_zone_error.FileError.TheVariants.{NotFound}
+use Rattle.caldate_run.specs.declared.zones.read_zone_error.ReadZoneError.TheVariants.{File}
 use Rattle.caldate_run.specs.Meanings.{IsMeaningOf, Meaning}
 use Rattle.caldate_run.specs.Requests.{words_left}
 use Rattle.caldate_run.proofs.SomeMeanings.{HasMeanings, meant, none_meant, one_more_meant}

@@ -5,7 +5,7 @@ use Rattle.cal_text.specs.Position.{IsErrorAtStop}
 use Rattle.cal_text.specs.Parsing.{FailsWithComponent, FailsWithSyntax}
 use Rattle.cal_text.specs.declared.any.DateOrMoment.{DateOrMoment}
 use Rattle.cal_text.specs.declared.error.ParseError.{ParseError}
-use Rattle.caldate_run.specs.Readings.{HasFormIn, IsFaultIn, IsTextIn}
+use Rattle.caldate_run.specs.Readings.{HasFormIn, IsErrorIn, IsTextIn}
 use Rattle.caldate_run.specs.Templates.{Fits, IsTemplateFor}
 use Rattle.caldate_run.specs.declared.reading.Reading.{Reading}
 use Rattle.caldate_run.specs.declared.reading.Reading.TheVariants as reading
@@ -34,7 +34,7 @@ returns-in-Any-clause-position c =
 
 pub returns-in-Any-clause-component : goal.returns-in-Any-clause-component
 returns-in-Any-clause-component c why =
-    subst (λ r. FailsWithComponent why c.parse_any.result ↔ IsFaultIn r c.args.text.now why) (sym c.in-Any.is) (c.parse_any.ensures.out_of_range why)
+    subst (λ r. FailsWithComponent why c.parse_any.result ↔ IsErrorIn r c.args.text.now why) (sym c.in-Any.is) (c.parse_any.ensures.out_of_range why)
 
 pub returns-in-Basic-clause-every : goal.returns-in-Basic-clause-every
 returns-in-Basic-clause-every c found is =
@@ -71,4 +71,4 @@ returns-in-Unix-clause-every c found is =
 
 pub returns-in-Unix-clause-component : goal.returns-in-Unix-clause-component
 returns-in-Unix-clause-component c why =
-    subst (λ r. FailsWithComponent why c.read_number.result ↔ IsFaultIn r c.args.text.now why) (sym c.in-Unix.is) (c.read_number.ensures.component why)
+    subst (λ r. FailsWithComponent why c.read_number.result ↔ IsErrorIn r c.args.text.now why) (sym c.in-Unix.is) (c.read_number.ensures.component why)

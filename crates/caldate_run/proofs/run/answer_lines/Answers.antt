@@ -2,7 +2,7 @@ use Rattle.std.proofs.Common.{◌++◌, ◌∷◌, [], ◌∙◌, ap, sym, subst
 use Rattle.std.specs.Io.KnownBytes.{Appends}
 use Rattle.caldate_run.specs.Replies.{IsReplyTo}
 use Rattle.caldate_run.specs.Runs.{AppendsFront}
-use Rattle.caldate_run.specs.declared.fault.Fault.TheVariants.{Stopped}
+use Rattle.caldate_run.specs.declared.run.run_error.RunError.TheVariants.{Stopped}
 use Rattle.caldate_run.proofs.Calls.{writes_then}
 use Rattle.caldate_run.proofs.Ends.{same_fault}
 use Rattle.caldate_run.proofs.Steps.{Ends, answered, gone, failed, stopped}
@@ -20,11 +20,11 @@ returns-in-Err-clause-write g c = λ h input start s.
     (subst (AppendsFront (g.W.Sink.contents c.make_room.new.writer) (g.W.Sink.contents c.stop.new.writer)) c.in-Err.ensures.same (c.stop.ensures.write h)) s
 
 pub returns-in-Err-clause-stopped : goal.returns-in-Err-clause-stopped
-returns-in-Err-clause-stopped g c = λ told h input start s.
+returns-in-Err-clause-stopped g c = λ reported h input start s.
     let room = c.in_ok-make_room.ensures.ok in
-    let went = c.stop.ensures.stopped told (same_fault c.stop.result (Stopped told) h) in
+    let went = c.stop.ensures.stopped reported (same_fault c.stop.result (Stopped reported) h) in
     let s = gone (IsReplyTo c.args.filter.now) c.args.filter.now.on_invalid input start _ _ c.loop-line.buffer c.make_room.new.buffer room.0 c.loop-line.rest.now c.loop-line.progress room.1 room.2 (c.loop-line.invariant.1 input start s) in
-    stopped c.args.filter.now input start _ _ c.make_room.new.buffer c.loop-line.rest.now c.in-Some.line.now c.in-Some.after.now c.loop-line.progress told
+    stopped c.args.filter.now input start _ _ c.make_room.new.buffer c.loop-line.rest.now c.in-Some.line.now c.in-Some.after.now c.loop-line.progress reported
     c.in-Some.ensures.parts.0 c.in-Some.ensures.parts.1
     (subst (Ends c.args.filter.now c.loop-line.progress c.in-Some.line.now) (sym went.0) c.in-Err.ensures.ends)
     (subst (Appends (g.W.Sink.contents c.make_room.new.writer) (g.W.Sink.contents c.stop.new.writer)) c.in-Err.ensures.same went.1) s

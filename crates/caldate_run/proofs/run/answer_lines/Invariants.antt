@@ -1,7 +1,7 @@
 use Rattle.std.proofs.Common.{◌≡◌, ◌++◌, ℕ, List, length, None}
 use Rattle.caldate_run.specs.Calls.{Writes}
 use Rattle.caldate_run.specs.Replies.{IsReplyTo}
-use Rattle.caldate_run.specs.Standing.{Advances}
+use Rattle.caldate_run.specs.RunStates.{Advances}
 use Rattle.caldate_run.proofs.run.answer_lines.Given as goal
 
 -- the rest is the end of the bytes, the lines before it are answered, and no write failed

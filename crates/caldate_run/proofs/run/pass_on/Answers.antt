@@ -1,7 +1,7 @@
 use Rattle.std.proofs.Common.{sym, subst}
 use Rattle.std.specs.Io.KnownBytes.{Appends}
 use Rattle.std.proofs.KnownBytes.{Appends-nil}
-use Rattle.caldate_run.specs.Standing.{passed}
+use Rattle.caldate_run.specs.RunStates.{passed}
 use Rattle.caldate_run.specs.declared.on_invalid.OnInvalid.{OnInvalid}
 use Rattle.caldate_run.proofs.run.pass_on.Goals as goal
 

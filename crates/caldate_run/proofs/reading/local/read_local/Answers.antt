@@ -24,7 +24,7 @@ returns-in-Ok-clause-form c =
 pub returns-in-Ok-clause-component : goal.returns-in-Ok-clause-component
 returns-in-Ok-clause-component c why =
     let is = full_is c.args.offset c.args.text.now _ c.if-text-gt-LONGEST.false c.with_offset-full.ensures in
-    (λ e. absurd e, λ fault. (c.in-Ok.ensures.out_of_range why).1 (subst (λ d. IsSomeAnd d (λ text. IsDateOrMomentError text why)) is fault))
+    (λ e. absurd e, λ error. (c.in-Ok.ensures.out_of_range why).1 (subst (λ d. IsSomeAnd d (λ text. IsDateOrMomentError text why)) is error))
 
 pub returns-in-Err-clause-form : goal.returns-in-Err-clause-form
 returns-in-Err-clause-form c =
@@ -40,7 +40,7 @@ returns-in-Err-clause-component c why =
     let same = c.at_stop.ensures.component in
     let component = c.in-Err.ensures.out_of_range why in (
       λ e. subst (λ d. IsSomeAnd d (λ text. IsDateOrMomentError text why)) (sym is) (component.0 (sym same ∙ e)),
-      λ fault. same ∙ component.1 (subst (λ d. IsSomeAnd d (λ text. IsDateOrMomentError text why)) is fault),
+      λ error. same ∙ component.1 (subst (λ d. IsSomeAnd d (λ text. IsDateOrMomentError text why)) is error),
     )
 
 pub returns-then-text-gt-LONGEST-clause-position : goal.returns-then-text-gt-LONGEST-clause-position

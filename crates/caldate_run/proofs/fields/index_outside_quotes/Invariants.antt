@@ -1,6 +1,0 @@
-use Rattle.caldate_run.proofs.Quotes.{Goes}
-use Rattle.caldate_run.proofs.fields.index_outside_quotes.Given as goal
-
--- no separator outside of quotes came so far
-abbrev pub invariant-loop-i : goal.invariant-loop-i
-invariant-loop-i l = Goes l.separator l.bytes l.i l.quoted

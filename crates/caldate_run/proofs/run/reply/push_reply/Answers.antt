@@ -1,0 +1,37 @@
+use Rattle.std.proofs.Common.{◌≡◌, ◌++◌, [], ℕ, Bool, List, Err, false, refl, subst, sym}
+use Rattle.std.proofs.lemmas.Result.{IfErr-weaker}
+use Rattle.caldate_run.specs.Lines.{text_of}
+use Rattle.caldate_run.specs.Replies.{IsAnswerOf}
+use Rattle.caldate_run.specs.RunStates.{IsDroppedFront}
+use Rattle.caldate_run.proofs.Replied.{replied, replied_without}
+use Rattle.caldate_run.proofs.run.reply.push_reply.Goals as goal
+
+held_none : (b : Bool) (kept line : List ℕ) → b ≡ false → IsDroppedFront b kept line → kept ≡ []
+held_none b kept line e h = subst (λ b. IsDroppedFront b kept line) e h
+
+pub returns-in-Ok-clause-replied : goal.returns-in-Ok-clause-replied
+returns-in-Ok-clause-replied c = λ kept before held front number.
+    let line = c.args.line.now in
+    replied c.args.filter.now before kept line c.args.buffer.now c.push_line.new.buffer c.push_end.new.buffer c.in-Ok.goes_out _
+    c.args.progress.now.tally c.count.new.self (held_none _ kept line c.in-Ok.ensures.whole held) (c.in-Ok.ensures.answered line c.cut_return-has_return.ensures.text kept before held front number)
+    c.cut_return-has_return.ensures.cut c.push_end.ensures c.count.ensures
+
+pub returns-in-Err-clause-replied : goal.returns-in-Err-clause-replied
+returns-in-Err-clause-replied c =
+    replied_without c.args.filter.now c.args.progress.now c.push_unanswered.new.progress.tally c.args.line.now _ c.args.buffer.now c.push_line.new.buffer
+    c.push_unanswered.new.buffer _ c.in-Err.why c.push_unanswered.result c.cut_return-has_return.ensures.text c.cut_return-has_return.ensures.cut
+    (c.in-Err.ensures.answered c.args.line.now c.cut_return-has_return.ensures.text) c.push_unanswered.ensures.replied
+
+pub returns-in-Err-clause-ends : goal.returns-in-Err-clause-ends
+returns-in-Err-clause-ends c =
+    IfErr-weaker c.push_unanswered.result _ _ (λ reported is kept before held front number.
+    let line = c.args.line.now in
+    let filter = c.args.filter.now in
+    let cut = c.cut_return-has_return.ensures in
+    let put = c.in-Err.ensures.answered line cut.text kept before held front number in
+    let described = is.1 line cut.text kept before held front number in
+    record {
+      is = subst (λ w. IsAnswerOf filter before (text_of (kept ++ line)) (Err w)) (sym described.why_is) put.1;
+      ends = is.0;
+      reported_is = record { number_is = described.number_is; why_is = refl; text_is = described.text_is };
+    }) c.push_unanswered.ensures.ends

@@ -1,6 +1,0 @@
-use Rattle.std.proofs.Common.{◌≤◌}
-use Rattle.caldate_run.proofs.zone_source.read_whole.Given as goal
-
--- the filled bytes lie within the buffer
-abbrev pub invariant-loop : goal.invariant-loop
-invariant-loop g l = l.filled ≤ 8192

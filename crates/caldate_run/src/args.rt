@@ -1,0 +1,391 @@
+//! The command that the arguments give.
+ghost use Rattle.std.specs.Prelude.{◌≡◌, ◌+◌, ◌<◌, ◌^◌, ◌≤◌, ℕ, List, Option, IfOk, drop, false, slice_get};
+ghost use Rattle.caldate_run.specs.Lists.{HasValidStep};
+ghost use Rattle.caldate_run.specs.Offsets.{offset_of};
+ghost use Rattle.caldate_run.specs.Meanings.{AreMeanings, Meanings};
+ghost use Rattle.caldate_run.specs.Zones.{AreZones, is_zone_like, zone_of};
+ghost use Rattle.std.specs.Option.{option_map_or};
+ghost use Rattle.caldate_run.specs.Requests.{amount_at, amount_of, arguments_of, parse_args, clock_of, count_at, default_mode, duration_of, filter_at, filter_of, floor_at, further_request_at, in_unit_at, occurrence_at, once_of, only_at, place_at, request_at, skip_in, start_at, target_at, to_of, unit_at, expected_verb, weekday_of, words_left};
+
+pub mod arguments;
+pub(crate) mod bounds;
+pub(crate) mod formats;
+pub(crate) mod listing;
+pub(crate) mod offset;
+pub(crate) mod options;
+pub(crate) mod spelling;
+pub mod usage_error;
+pub(crate) mod usage_message;
+pub(crate) mod words;
+
+use crate::args::bounds::bounds_at;
+use crate::args::formats::to_of;
+use crate::args::listing::list_of;
+use crate::args::offset::offset_of;
+use crate::args::options::{Options, conflict_in, field_of, options_of, readers_in};
+use crate::args::spelling::{
+    asks_for_help, minutes_of, minutes_word, parse_i64, parse_u8, period_of, start_of, unit_of,
+    weekday_of,
+};
+use crate::args::usage_error::{Expected, UsageError, usage_error_at};
+use crate::args::words::{cut, ended, ends_at, found_at, keyword_at, only_at, word_as, word_at};
+use crate::on_invalid::OnInvalid;
+use crate::request::{
+    Clock, Command, DayMove, FieldNumbers, Filter, Place, Policy, Request, TimeUnit,
+};
+use crate::zones::{ZoneFiles, is_zone_like, zone_of};
+use cal_text::DateOrMoment;
+use cal_time::{SignedDuration, UtcOffset, Weekday};
+use cal_zone::Zone;
+
+/// Parses arguments with zero bytes between them, or returns the first invalid or missing word. In
+/// `add 1 fortnight` the word at index 2 is not a unit.
+pub fn parse_args<'a>(words: &[u8], files: &ZoneFiles<'a>) -> Result<Command<'a>, UsageError>
+    ensures steps { IfOk result HasValidStep }
+    ensures asked { (meanings : Meanings)
+        → AreMeanings meanings (arguments_of words.now)
+        → AreZones files.now meanings → result ≡ parse_args meanings (arguments_of words.now) }
+{
+    let nothing = usage_error_at(0, Expected::Something);
+    let first = word_at(words, 0).ok_or(nothing)?;
+    if first == b"".as_slice() && ends_at(words, 1) {
+        Err(nothing)
+    } else if asks_for_help(first) {
+        ended(words, 1, Command::Help)
+    } else if first == b"--version".as_slice() {
+        ended(words, 1, Command::Version)
+    } else if first == b"list".as_slice() {
+        list_of(words)
+    } else if first == b"--date".as_slice() {
+        once_of(words, files)
+    } else {
+        Ok(Command::Lines(filter_at(words, Some(words), 0, files)?))
+    }
+}
+
+/// Parses the text after `--date`, options and a request.
+fn once_of<'a>(words: &[u8], files: &ZoneFiles<'a>) -> Result<Command<'a>, UsageError>
+    ensures steps { IfOk result HasValidStep }
+    ensures asked { (meanings : Meanings)
+        → AreMeanings meanings (arguments_of words.now)
+        → AreZones files.now meanings → result ≡ once_of meanings (arguments_of words.now) }
+{
+    let Some(rest) = cut(words).1 else {
+        return Err(usage_error_at(1, Expected::Target));
+    };
+    let (text, rest) = cut(rest);
+    if text == b"".as_slice() {
+        return Err(usage_error_at(1, Expected::Target));
+    }
+    Ok(Command::Once(filter_at(words, rest, 2, files)?))
+}
+
+/// Parses options and a request from the word at an index on, where `rest` is.
+fn filter_at<'a>(
+    words: &[u8],
+    rest: Option<&[u8]>,
+    at: usize,
+    files: &ZoneFiles<'a>,
+) -> Result<Filter<'a>, UsageError>
+    requires few { at ≤ 2 }
+    requires rest { words_left rest ≡ drop at (arguments_of words.now) }
+    ensures { (meanings : Meanings) → AreMeanings meanings (arguments_of words.now)
+        → AreZones files.now meanings → result ≡ filter_at meanings (arguments_of words.now) at }
+{
+    let (options, at) = options_of(rest, at, files)?;
+    if let Some(expected) = conflict_in(&options) {
+        return Err(usage_error_at(at, expected));
+    }
+    let request = request_at(words, at, files)?;
+    Ok(filter_of(options, request))
+}
+
+fn filter_of<'a>(options: Options<'a>, request: Request<'a>) -> Filter<'a>
+    ensures { result ≡ filter_of options.entry request.entry }
+{
+    Filter {
+        on_invalid: match options.on_invalid {
+            Some(mode) => mode,
+            None => default_mode(&request, options.fields),
+        },
+        request,
+        field: field_of(&options),
+        skip: skip_in(&options),
+        offset: options.offset.unwrap_or(UtcOffset::UTC),
+        readers: readers_in(options.readers),
+        clock: clock_of(options.zone, options.policy),
+    }
+}
+
+/// Returns the clocks of the zone. The default policy is `compatible`.
+fn clock_of<'a>(zone: Option<Zone<'a>>, policy: Option<Policy>) -> Option<Clock<'a>>
+    ensures { result ≡ clock_of zone.entry policy }
+{
+    match zone {
+        Some(zone) => Some(Clock {
+            zone,
+            policy: policy.unwrap_or(Policy::Compatible),
+        }),
+        None => None,
+    }
+}
+
+/// Returns how many lines are passed on at the start. A header is the first of them.
+fn skip_in(options: &Options<'_>) -> u64
+    ensures { result ≡ skip_in options.now }
+{
+    let skip = options.skip.unwrap_or(0);
+    if options.header && skip == 0 { 1 } else { skip }
+}
+
+/// Returns what is written for a line without an answer if no option says it.
+fn default_mode(request: &Request<'_>, fields: Option<FieldNumbers>) -> OnInvalid
+    ensures { result ≡ default_mode request.now fields }
+{
+    match (request, fields) {
+        (Request::Keep(_), _) => OnInvalid::Drop,
+        (_, Some(_)) => OnInvalid::Keep,
+        (_, None) => OnInvalid::Answer,
+    }
+}
+
+/// Parses the request whose verb has this index.
+fn request_at<'a>(words: &[u8], at: usize, files: &ZoneFiles<'a>) -> Result<Request<'a>, UsageError>
+    requires { at + 5 < 2 ^ 64 }
+    ensures { (meanings : Meanings) → AreMeanings meanings (arguments_of words.now)
+        → AreZones files.now meanings → result ≡ request_at meanings (arguments_of words.now) at }
+{
+    let usage_error = usage_error_at(at, expected_verb(at));
+    let verb = word_at(words, at).ok_or(usage_error)?;
+    if verb == b"to".as_slice() {
+        to_at(words, at + 1)
+    } else if verb == b"add".as_slice() {
+        amount_at(words, at + 1)
+    } else if verb == b"next".as_slice() {
+        let (weekday, count) = occurrence_at(words, at + 1)?;
+        Ok(Request::Move(DayMove::Next(weekday, count)))
+    } else if verb == b"last".as_slice() {
+        let (weekday, count) = occurrence_at(words, at + 1)?;
+        Ok(Request::Move(DayMove::Last(weekday, count)))
+    } else if verb == b"until".as_slice() {
+        let (target, unit) = target_at(words, at + 1)?;
+        Ok(Request::Until(target, unit))
+    } else if verb == b"since".as_slice() {
+        let (target, unit) = target_at(words, at + 1)?;
+        Ok(Request::Since(target, unit))
+    } else {
+        further_request_at(words, at, verb, files)
+    }
+}
+
+/// Parses a request that has one of the other verbs.
+fn further_request_at<'a>(
+    words: &[u8],
+    at: usize,
+    verb: &[u8],
+    files: &ZoneFiles<'a>,
+) -> Result<Request<'a>, UsageError>
+    requires { at + 5 < 2 ^ 64 }
+    ensures { (meanings : Meanings) → AreMeanings meanings (arguments_of words.now)
+        → AreZones files.now meanings → result ≡ further_request_at meanings (arguments_of words.now) at verb.now }
+{
+    if verb == b"start".as_slice() {
+        start_at(words, at + 1)
+    } else if verb == b"end".as_slice() {
+        Ok(Request::Move(DayMove::End(only_at(words, at + 1, period_of, Expected::Period)?)))
+    } else if verb == b"on-or-after".as_slice() {
+        Ok(Request::Move(DayMove::OnOrAfter(weekday_at(words, at + 1)?)))
+    } else if verb == b"on-or-before".as_slice() {
+        Ok(Request::Move(DayMove::OnOrBefore(weekday_at(words, at + 1)?)))
+    } else if verb == b"at".as_slice() {
+        Ok(Request::At(place_at(words, at + 1, files)?))
+    } else if verb == b"keep".as_slice() {
+        Ok(Request::Keep(bounds_at(words, at + 1)?))
+    } else {
+        Err(usage_error_at(at, expected_verb(at)))
+    }
+}
+
+/// Parses `WEEKDAY`.
+fn weekday_at(words: &[u8], at: usize) -> Result<Weekday, UsageError>
+    requires { at + 1 < 2 ^ 64 }
+    ensures { result ≡ only_at (arguments_of words.now) at weekday_of Expected.Weekday }
+{
+    only_at(words, at, weekday_of, Expected::Weekday)
+}
+
+/// Parses `FORM` or `FORMAT`.
+fn to_at(words: &[u8], at: usize) -> Result<Request<'static>, UsageError>
+    requires { at + 1 < 2 ^ 64 }
+    ensures { (meanings : Meanings) → AreMeanings meanings (arguments_of words.now)
+        → result ≡ only_at (arguments_of words.now) at (to_of meanings) Expected.Form }
+{
+    let usage_error = usage_error_at(at, Expected::Form);
+    let Some(word) = word_at(words, at) else {
+        return Err(usage_error);
+    };
+    match to_of(word) {
+        Some(request) => ended(words, at + 1, request),
+        None => Err(usage_error),
+    }
+}
+
+/// Parses `PERIOD`, `day`, `hour`, `minute` or `N minutes`.
+fn start_at(words: &[u8], at: usize) -> Result<Request<'static>, UsageError>
+    requires { at + 2 < 2 ^ 64 }
+    ensures { result ≡ start_at (arguments_of words.now) at }
+{
+    match word_at(words, at).and_then(minutes_of) {
+        Some(minutes) => floor_at(words, at + 1, minutes),
+        None => only_at(words, at, start_of, Expected::StartPeriod),
+    }
+}
+
+fn floor_at(words: &[u8], at: usize, minutes: u16) -> Result<Request<'static>, UsageError>
+    requires { at + 1 < 2 ^ 64 }
+    ensures { result ≡ floor_at (arguments_of words.now) at minutes }
+{
+    only_at(words, at, minutes_word, Expected::Minutes)?;
+    Ok(Request::Floor(minutes))
+}
+
+/// Parses `OFFSET` or `ZONE`.
+fn place_at<'a>(words: &[u8], at: usize, files: &ZoneFiles<'a>) -> Result<Place<'a>, UsageError>
+    requires { at + 1 < 2 ^ 64 }
+    ensures { (meanings : Meanings) → AreZones files.now meanings
+        → result ≡ place_at meanings (arguments_of words.now) at }
+{
+    if names_zone(words, at) {
+        return Ok(Place::Zone(zone_at(words, at, files)?));
+    }
+    let offset = only_at(words, at, offset_of, Expected::Place)?;
+    Ok(Place::Offset(offset))
+}
+
+/// Returns whether the word is read as the name of a zone.
+fn names_zone(words: &[u8], at: usize) -> bool
+    ensures { result ≡ option_map_or is_zone_like (slice_get (arguments_of words.now) at) false }
+{
+    match word_at(words, at) {
+        Some(word) => is_zone_like(word),
+        None => false,
+    }
+}
+
+/// Parses `ZONE`.
+fn zone_at<'a>(words: &[u8], at: usize, files: &ZoneFiles<'a>) -> Result<Zone<'a>, UsageError>
+    requires { at + 1 < 2 ^ 64 }
+    ensures { (meanings : Meanings) → AreZones files.now meanings
+        → result ≡ only_at (arguments_of words.now) at (zone_of meanings) Expected.Zone }
+{
+    let usage_error = usage_error_at(at, Expected::Zone);
+    let Some(word) = word_at(words, at) else {
+        return Err(usage_error);
+    };
+    match zone_of(files, word) {
+        Some(zone) => ended(words, at + 1, zone),
+        None => Err(usage_error),
+    }
+}
+
+/// Returns the word expected for the verb. At index 0, options such as `--help` are allowed too.
+fn expected_verb(at: usize) -> Expected
+    ensures { result ≡ expected_verb at }
+{
+    if at == 0 {
+        Expected::Start
+    } else {
+        Expected::Verb
+    }
+}
+
+/// Parses `N` or `N UNIT`. The default unit is days.
+fn amount_at(words: &[u8], at: usize) -> Result<Request<'static>, UsageError>
+    requires { at + 2 < 2 ^ 64 }
+    ensures { result ≡ amount_at (arguments_of words.now) at }
+{
+    let number = word_as(words, at, parse_i64, Expected::Number)?;
+    let unit = unit_at(words, at + 1)?;
+    match amount_of(number, unit) {
+        Some(request) => Ok(request),
+        None => Err(usage_error_at(at, Expected::Amount)),
+    }
+}
+
+/// Parses the last word as a unit. The default is days.
+fn unit_at(words: &[u8], at: usize) -> Result<TimeUnit, UsageError>
+    requires { at + 1 < 2 ^ 64 }
+    ensures { result ≡ unit_at (arguments_of words.now) at }
+{
+    if ends_at(words, at) {
+        return Ok(TimeUnit::Days);
+    }
+    only_at(words, at, unit_of, Expected::UnitOfTime)
+}
+
+/// Returns the request to add `number` units, or `None` if a duration can't hold them.
+fn amount_of(number: i64, unit: TimeUnit) -> Option<Request<'static>>
+    ensures { result ≡ amount_of number unit }
+{
+    match unit {
+        TimeUnit::Years => Some(Request::Move(DayMove::Years(number))),
+        TimeUnit::Months => Some(Request::Move(DayMove::Months(number))),
+        TimeUnit::Workdays => Some(Request::Move(DayMove::Workdays(number))),
+        TimeUnit::Weeks => duration_of(number, 604_800),
+        TimeUnit::Days => duration_of(number, 86_400),
+        TimeUnit::Hours => duration_of(number, 3_600),
+        TimeUnit::Minutes => duration_of(number, 60),
+        TimeUnit::Seconds => duration_of(number, 1),
+    }
+}
+
+/// Returns the request to add `number` units of `unit` seconds each.
+fn duration_of(number: i64, unit: u32) -> Option<Request<'static>>
+    ensures { result ≡ duration_of unit number }
+{
+    let seconds = number.checked_mul(i64::from(unit))?;
+    Some(Request::Add(SignedDuration::seconds(seconds)))
+}
+
+/// Parses `WEEKDAY` or `WEEKDAY N`.
+fn occurrence_at(words: &[u8], at: usize) -> Result<(Weekday, u8), UsageError>
+    requires { at + 2 < 2 ^ 64 }
+    ensures { result ≡ occurrence_at (arguments_of words.now) at }
+{
+    let weekday = word_as(words, at, weekday_of, Expected::Weekday)?;
+    Ok((weekday, count_at(words, at + 1)?))
+}
+
+/// Parses the last word as a count. The default is 1.
+fn count_at(words: &[u8], at: usize) -> Result<u8, UsageError>
+    requires { at + 1 < 2 ^ 64 }
+    ensures { result ≡ count_at (arguments_of words.now) at }
+{
+    if ends_at(words, at) {
+        return Ok(1);
+    }
+    only_at(words, at, parse_u8, Expected::Count)
+}
+
+/// Parses `TEXT` or `TEXT in UNIT`.
+fn target_at(words: &[u8], at: usize) -> Result<(DateOrMoment, Option<TimeUnit>), UsageError>
+    requires { at + 3 < 2 ^ 64 }
+    ensures { (meanings : Meanings) → AreMeanings meanings (arguments_of words.now)
+        → result ≡ target_at meanings (arguments_of words.now) at }
+{
+    let target = found_at(words, at, Expected::Target)?;
+    Ok((target, in_unit_at(words, at + 1)?))
+}
+
+/// Parses `in UNIT`, or returns `None` if the words end here.
+fn in_unit_at(words: &[u8], at: usize) -> Result<Option<TimeUnit>, UsageError>
+    requires { at + 2 < 2 ^ 64 }
+    ensures { result ≡ in_unit_at (arguments_of words.now) at }
+{
+    if ends_at(words, at) {
+        return Ok(None);
+    }
+    keyword_at(words, at, b"in", Expected::In)?;
+    let unit = only_at(words, at + 1, unit_of, Expected::UnitOfTime)?;
+    Ok(Some(unit))
+}

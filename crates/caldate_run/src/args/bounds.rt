@@ -1,0 +1,101 @@
+//! The bounds of `keep`.
+ghost use Rattle.std.specs.Prelude.{◌≡◌, ◌+◌, ◌<◌, ◌^◌, ℕ, List, Option};
+ghost use Rattle.caldate_run.specs.Bounds.{are_dates, is_after, is_before, is_within, lies_in};
+ghost use Rattle.caldate_run.specs.Meanings.{AreMeanings, Meanings, found_in};
+ghost use Rattle.caldate_run.specs.Requests.{arguments_of, bounds_at, only_at, range_at};
+
+use crate::answer::{is_date, moment_of};
+use crate::args::usage_error::{Expected, UsageError, usage_error_at};
+use crate::args::words::{ended, found_at, keyword_at, word_at};
+use crate::request::Bounds;
+use cal_text::DateOrMoment;
+
+/// Parses `from A to B`, `after A` or `before B`.
+pub fn bounds_at(words: &[u8], at: usize) -> Result<Bounds, UsageError>
+    requires { at + 4 < 2 ^ 64 }
+    ensures { (meanings : Meanings) → AreMeanings meanings (arguments_of words.now)
+        → result ≡ bounds_at meanings (arguments_of words.now) at }
+{
+    let unbound = usage_error_at(at, Expected::Bounds);
+    let word = word_at(words, at).ok_or(unbound)?;
+    if word == b"from".as_slice() {
+        range_at(words, at + 1)
+    } else if word == b"after".as_slice() {
+        Ok(Bounds::After(bound_at(words, at + 1)?))
+    } else if word == b"before".as_slice() {
+        Ok(Bounds::Before(bound_at(words, at + 1)?))
+    } else {
+        Err(unbound)
+    }
+}
+
+fn bound_at(words: &[u8], at: usize) -> Result<DateOrMoment, UsageError>
+    requires { at + 1 < 2 ^ 64 }
+    ensures { (meanings : Meanings) → AreMeanings meanings (arguments_of words.now)
+        → result ≡ only_at (arguments_of words.now) at (found_in meanings) Expected.Target }
+{
+    let bound = found_at(words, at, Expected::Target)?;
+    ended(words, at + 1, bound)
+}
+
+/// Parses `A to B`.
+fn range_at(words: &[u8], at: usize) -> Result<Bounds, UsageError>
+    requires { at + 3 < 2 ^ 64 }
+    ensures { (meanings : Meanings) → AreMeanings meanings (arguments_of words.now)
+        → result ≡ range_at meanings (arguments_of words.now) at }
+{
+    let first = found_at(words, at, Expected::Target)?;
+    keyword_at(words, at + 1, b"to", Expected::UpTo)?;
+    Ok(Bounds::FromTo(first, bound_at(words, at + 2)?))
+}
+
+/// Returns whether it lies within the bounds, or `None` for a date if a bound is a moment. For
+/// example, `2024-02-29T23:30:00-05:00` is not after 2024-02-29, although at UTC it is 1 March.
+pub fn lies_in(bounds: &Bounds, found: &DateOrMoment) -> Option<bool>
+    ensures { result ≡ lies_in bounds.now found.now }
+{
+    if is_date(found) && !are_dates(bounds) {
+        return None;
+    }
+    Some(is_within(bounds, found))
+}
+
+fn are_dates(bounds: &Bounds) -> bool
+    ensures { result ≡ are_dates bounds.now }
+{
+    match bounds {
+        Bounds::FromTo(first, last) => is_date(first) && is_date(last),
+        Bounds::After(bound) => is_date(bound),
+        Bounds::Before(bound) => is_date(bound),
+    }
+}
+
+fn is_within(bounds: &Bounds, found: &DateOrMoment) -> bool
+    ensures { result ≡ is_within bounds.now found.now }
+{
+    match bounds {
+        Bounds::FromTo(first, last) => !is_before(found, first) && !is_after(found, last),
+        Bounds::After(bound) => is_after(found, bound),
+        Bounds::Before(bound) => is_before(found, bound),
+    }
+}
+
+/// Returns whether its local date is before a date, or its instant before a moment.
+fn is_before(found: &DateOrMoment, bound: &DateOrMoment) -> bool
+    ensures { result ≡ is_before found.now bound.now }
+{
+    match bound {
+        DateOrMoment::Date(_, date) => moment_of(found).date() < *date,
+        DateOrMoment::Moment(_, moment) => moment_of(found) < *moment,
+    }
+}
+
+/// Returns whether its local date is after a date, or its instant after a moment.
+fn is_after(found: &DateOrMoment, bound: &DateOrMoment) -> bool
+    ensures { result ≡ is_after found.now bound.now }
+{
+    match bound {
+        DateOrMoment::Date(_, date) => *date < moment_of(found).date(),
+        DateOrMoment::Moment(_, moment) => *moment < moment_of(found),
+    }
+}

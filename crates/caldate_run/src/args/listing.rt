@@ -1,0 +1,130 @@
+//! The arguments of `list`.
+ghost use Rattle.std.specs.Prelude.{◌≡◌, ◌≤◌, ℕ, List, Option, IfOk, IfSome, false, slice_get};
+ghost use Rattle.std.specs.Option.{option_map_or};
+ghost use Rattle.caldate_run.specs.Lists.{HasValidStep, IsPace, IsStep};
+ghost use Rattle.caldate_run.specs.Meanings.{AreMeanings, Meanings};
+ghost use Rattle.caldate_run.specs.Requests.{arguments_of, date_at, date_in, is_rule_like, list_of, pace_of, paced, rule_of, step_in, steps_of};
+
+use crate::args::spelling::{parse_u32, unit_of};
+use crate::args::usage_error::{Expected, UsageError, usage_error_at};
+use crate::args::words::{ended, ends_at, found_at, keyword_at, only_at, word_as, word_at};
+use crate::request::{Command, Listing, Occurrences, Pace, Step, StepUnit, TimeUnit};
+use crate::run::lines::index_of;
+use cal_recurrence::{Recurrence, parse};
+use cal_text::DateOrMoment;
+use cal_time::Date;
+
+/// Parses `list from A to B`, `list from A to B by N UNIT` or `list from A to B by RULE`.
+pub fn list_of(words: &[u8]) -> Result<Command<'static>, UsageError>
+    ensures steps { IfOk result HasValidStep }
+    ensures list { (meanings : Meanings)
+        → AreMeanings meanings (arguments_of words.now)
+        → result ≡ list_of meanings (arguments_of words.now) }
+{
+    keyword_at(words, 1, b"from", Expected::From)?;
+    let first = date_at(words, 2)?;
+    keyword_at(words, 3, b"to", Expected::UpTo)?;
+    let last = date_at(words, 4)?;
+    let pace = pace_of(words)?;
+    Ok(paced(first, last, pace))
+}
+
+/// Parses the word at an index as a date.
+fn date_at(words: &[u8], at: usize) -> Result<Date, UsageError>
+    ensures { (meanings : Meanings) → AreMeanings meanings (arguments_of words.now)
+        → result ≡ date_at meanings (arguments_of words.now) at }
+{
+    let found = found_at(words, at, Expected::Date)?;
+    date_in(&found).ok_or(usage_error_at(at, Expected::Date))
+}
+
+fn date_in(found: &DateOrMoment) -> Option<Date>
+    ensures { result ≡ date_in found.now }
+{
+    match found {
+        DateOrMoment::Date(_, date) => Some(*date),
+        DateOrMoment::Moment(_, _) => None,
+    }
+}
+
+fn paced(first: Date, last: Date, pace: Pace) -> Command<'static>
+    requires { IsPace pace }
+    ensures steps { HasValidStep result }
+    ensures list { result ≡ paced first last pace }
+{
+    match pace {
+        Pace::Steps(step) => Command::Dates(Listing { first, last, step }),
+        Pace::Rule(recurrence) => Command::Recurring(Occurrences {
+            first,
+            last,
+            recurrence,
+        }),
+    }
+}
+
+const EVERY_DAY: Step = Step {
+    every: 1,
+    unit: StepUnit::Days,
+};
+
+/// Parses `by N UNIT` or `by RULE` after the two dates. The default is every day.
+fn pace_of(words: &[u8]) -> Result<Pace, UsageError>
+    ensures steps { IfOk result IsPace }
+    ensures pace { result ≡ pace_of (arguments_of words.now) }
+{
+    if ends_at(words, 5) {
+        return Ok(Pace::Steps(EVERY_DAY));
+    }
+    keyword_at(words, 5, b"by", Expected::By)?;
+    if is_rule_like(words) {
+        return Ok(Pace::Rule(only_at(words, 6, rule_of, Expected::Rule)?));
+    }
+    steps_of(words)
+}
+
+/// Returns whether word 6 contains a `=`, as every recurrence does and no number does.
+fn is_rule_like(words: &[u8]) -> bool
+    ensures { result ≡ option_map_or is_rule_like (slice_get (arguments_of words.now) 6) false }
+{
+    match word_at(words, 6) {
+        Some(word) => index_of(b'=', word).is_some(),
+        None => false,
+    }
+}
+
+fn rule_of(text: &[u8]) -> Option<Recurrence>
+    ensures { result ≡ rule_of text.now }
+{
+    parse(text).ok()
+}
+
+/// Parses `N UNIT`.
+fn steps_of(words: &[u8]) -> Result<Pace, UsageError>
+    ensures steps { IfOk result IsPace }
+    ensures pace { result ≡ steps_of (arguments_of words.now) }
+{
+    let number = word_as(words, 6, parse_u32, Expected::Many)?;
+    let step = word_as(
+        words,
+        7,
+        |word| step_in(number, unit_of(word)?),
+        Expected::UnitOfDays,
+    )?;
+    ended(words, 8, Pace::Steps(step))
+}
+
+/// Returns a step of `number` days, weeks, months or years, or `None` for any other unit.
+fn step_in(number: u32, unit: TimeUnit) -> Option<Step>
+    ensures steps { 1 ≤ number → IfSome result IsStep }
+    ensures step { result ≡ step_in number unit }
+{
+    let number = u64::from(number);
+    let (every, unit) = match unit {
+        TimeUnit::Days => (number, StepUnit::Days),
+        TimeUnit::Weeks => (number * 7, StepUnit::Days),
+        TimeUnit::Months => (number, StepUnit::Months),
+        TimeUnit::Years => (number * 12, StepUnit::Months),
+        _ => return None,
+    };
+    Some(Step { every, unit })
+}

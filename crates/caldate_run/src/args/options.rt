@@ -1,0 +1,426 @@
+//! The options before a request.
+ghost use Rattle.std.specs.Prelude.{◌≡◌, ◌+◌, ◌≤◌, ◌^◌, IfOk, None, length, true};
+ghost use Rattle.caldate_run.specs.Meanings.{AreMeanings, IsMeaning, Meanings, name_of, value_in};
+ghost use Rattle.caldate_run.specs.Requests.{any_local, any_own, byte_of, field_number_of, field_numbers_of, field_of, fields_from, has_own, has_room, invalid_of, is_flag, is_local, is_option, conflict_in, conflict_with_zone, no_options, options_from, policy_of, readers_in, skip_of, value_of, with_flag, with_reader, with_value, words_left};
+ghost use Rattle.caldate_run.specs.Zones.{AreZones};
+
+use crate::args::formats::reader_of;
+use crate::args::offset::offset_of;
+use crate::args::spelling::parse_i64;
+use crate::args::usage_error::{Expected, UsageError, usage_error_at};
+use crate::args::words::cut;
+use crate::on_invalid::OnInvalid;
+use crate::reading::reader::Reader;
+use crate::reading::spelling::Spelling;
+use crate::reading::{Readers, Reading};
+use crate::request::{Field, FieldNumbers, Policy};
+use crate::run::lines::index_of;
+use crate::zones::{ZoneFiles, zone_of};
+use cal_time::UtcOffset;
+use cal_zone::Zone;
+
+/// A set of options before a request.
+#[derive(Drop)]
+pub struct Options<'a> {
+    /// The mode of `--invalid MODE`.
+    pub on_invalid: Option<OnInvalid>,
+    /// The numbers of `--field N` or `--field N-M`.
+    pub fields: Option<FieldNumbers>,
+    /// Whether `--header` is given.
+    pub header: bool,
+    /// Whether `--csv` is given.
+    pub csv: bool,
+    /// The byte C of `--separator C`.
+    pub separator: Option<u8>,
+    /// The number K of `--skip K`.
+    pub skip: Option<u64>,
+    /// The forms of `--read FORM`.
+    pub readers: Readers,
+    /// The offset of `--assume OFFSET`.
+    pub offset: Option<UtcOffset>,
+    /// The zone of `--zone NAME`.
+    pub zone: Option<Zone<'a>>,
+    /// The policy of `--ambiguous POLICY`.
+    pub policy: Option<Policy>,
+}
+
+/// Returns the options if the arguments have none.
+fn no_options() -> Options<'static>
+    ensures { result ≡ no_options }
+{
+    Options {
+        on_invalid: None,
+        fields: None,
+        header: false,
+        csv: false,
+        separator: None,
+        skip: None,
+        readers: Readers::new(),
+        offset: None,
+        zone: None,
+        policy: None,
+    }
+}
+
+/// Parses the options from the word at an index on, and returns them with the index of the word
+/// after them.
+pub fn options_of<'a>(
+    words: Option<&[u8]>,
+    at: usize,
+    files: &ZoneFiles<'a>,
+) -> Result<(Options<'a>, usize), UsageError>
+    requires { at + length (words_left words) ≤ 2 ^ 63 }
+    ensures options { (meanings : Meanings) → AreMeanings meanings (words_left words.entry)
+        → AreZones files.now meanings → result ≡ options_from meanings None no_options at (words_left words.entry) }
+    ensures within { IfOk result (λ front. front.1 ≤ 2 ^ 63) }
+{
+    options_from(None, no_options(), at, words, files)
+}
+
+/// Parses the options at the front of the words, whose first has index `at`. If `expected` is given,
+/// it is the value of the option before it.
+fn options_from<'a>(
+    expected: Option<Expected>,
+    options: Options<'a>,
+    at: usize,
+    words: Option<&[u8]>,
+    files: &ZoneFiles<'a>,
+) -> Result<(Options<'a>, usize), UsageError>
+    requires { at + length (words_left words) ≤ 2 ^ 63 }
+    ensures options { (meanings : Meanings) → AreMeanings meanings (words_left words.entry)
+        → AreZones files.now meanings → result ≡ options_from meanings expected options.entry at (words_left words.entry) }
+    ensures within { IfOk result (λ front. front.1 ≤ 2 ^ 63) }
+{
+    let Some(words) = words else {
+        return match expected {
+            Some(expected) => Err(usage_error_at(at, expected)),
+            None => Ok((options, at)),
+        };
+    };
+    let (word, rest) = cut(words);
+    if let Some(expected) = expected {
+        let more = with_value(options, word, expected, files).ok_or(usage_error_at(at, expected))?;
+        return options_from(None, more, at + 1, rest, files);
+    }
+    if is_flag(&options, word) {
+        return options_from(None, with_flag(options, word), at + 1, rest, files);
+    }
+    if let Some(expected) = value_of(&options, word) {
+        return options_from(Some(expected), options, at + 1, rest, files);
+    }
+    let (name, value) = cut_value(word);
+    match value_of(&options, name) {
+        Some(expected) => {
+            let more = with_value(options, value, expected, files).ok_or(usage_error_at(
+                at, expected,
+            ))?;
+            options_from(None, more, at + 1, rest, files)
+        }
+        None => Ok((options, at)),
+    }
+}
+
+/// Splits `NAME=VALUE` into the name of an option and its value, which is empty without a `=`.
+#[tactic(auto, using(std::proofs::lemmas::List::take_rest))]
+pub fn cut_value(word: &[u8]) -> (&[u8], &[u8])
+    ensures name { result.0.now ≡ name_of word.now }
+    ensures value { result.1.now ≡ value_in word.now }
+{
+    match index_of(b'=', word) {
+        Some(at) => (&word[..at], &word[at + 1..]),
+        None => (word, b""),
+    }
+}
+
+/// Returns the value that an option needs, or `None` for any other word and a repeated option.
+fn value_of(options: &Options<'_>, word: &[u8]) -> Option<Expected>
+    ensures { result ≡ value_of options.now word.now }
+{
+    if word == b"--invalid".as_slice() && options.on_invalid.is_none() {
+        Some(Expected::Invalid)
+    } else if word == b"--field".as_slice() && options.fields.is_none() {
+        Some(Expected::FieldNumber)
+    } else if word == b"--separator".as_slice() && options.separator.is_none() {
+        Some(Expected::Separator)
+    } else if word == b"--skip".as_slice() && options.skip.is_none() {
+        Some(Expected::Skip)
+    } else if word == b"--read".as_slice() && options.readers.as_slice().len() < 4 {
+        Some(Expected::Reading)
+    } else if word == b"--assume".as_slice() && options.offset.is_none() {
+        Some(Expected::Offset)
+    } else if word == b"--zone".as_slice() && options.zone.is_none() {
+        Some(Expected::Zone)
+    } else if word == b"--ambiguous".as_slice() && options.policy.is_none() {
+        Some(Expected::Policy)
+    } else {
+        None
+    }
+}
+
+/// Returns whether the word is `--csv` or `--header`, and not given yet.
+fn is_flag(options: &Options<'_>, word: &[u8]) -> bool
+    ensures { result ≡ is_flag options.now word.now }
+{
+    if word == b"--csv".as_slice() {
+        !options.csv
+    } else {
+        word == b"--header".as_slice() && !options.header
+    }
+}
+
+/// Sets `--csv` or `--header`.
+fn with_flag<'a>(options: Options<'a>, word: &[u8]) -> Options<'a>
+    ensures { result ≡ with_flag options.entry word.now }
+{
+    let mut more = options;
+    if word == b"--csv".as_slice() {
+        more.csv = true;
+    } else {
+        more.header = true;
+    }
+    more
+}
+
+/// Returns whether the word is an option that other options may precede, such as `--field`, and
+/// not `--help`.
+pub fn is_option(word: &[u8]) -> bool
+    ensures { result ≡ is_option word.now }
+{
+    is_flag(&no_options(), word) || value_of(&no_options(), cut_value(word).0).is_some()
+}
+
+/// Sets the option that needs `expected`, or returns `None` if the value is invalid.
+fn with_value<'a>(
+    options: Options<'a>,
+    value: &[u8],
+    expected: Expected,
+    files: &ZoneFiles<'a>,
+) -> Option<Options<'a>>
+    ensures { (meanings : Meanings) → IsMeaning meanings value.now
+        → AreZones files.now meanings → result ≡ with_value meanings options.entry value.now expected }
+{
+    let mut more = options;
+    match expected {
+        Expected::Invalid => more.on_invalid = Some(invalid_of(value)?),
+        Expected::FieldNumber => more.fields = Some(field_numbers_of(value)?),
+        Expected::Separator => more.separator = Some(byte_of(value)?),
+        Expected::Skip => more.skip = Some(skip_of(value)?),
+        Expected::Reading => return with_reader(more, reader_of(value)?),
+        Expected::Offset => more.offset = Some(offset_of(value)?),
+        Expected::Zone => more.zone = Some(zone_of(files, value)?),
+        Expected::Policy => more.policy = Some(policy_of(value)?),
+        _ => return None,
+    }
+    Some(more)
+}
+
+/// Parses a mode: `keep`, `answer`, `drop` or `stop`.
+fn invalid_of(word: &[u8]) -> Option<OnInvalid>
+    ensures { result ≡ invalid_of word.now }
+{
+    if word == b"keep".as_slice() {
+        Some(OnInvalid::Keep)
+    } else if word == b"answer".as_slice() {
+        Some(OnInvalid::Answer)
+    } else if word == b"drop".as_slice() {
+        Some(OnInvalid::Drop)
+    } else if word == b"stop".as_slice() {
+        Some(OnInvalid::Stop)
+    } else {
+        None
+    }
+}
+
+/// Parses a policy: `compatible`, `earlier`, `later` or `reject`.
+fn policy_of(word: &[u8]) -> Option<Policy>
+    ensures { result ≡ policy_of word.now }
+{
+    if word == b"compatible".as_slice() {
+        Some(Policy::Compatible)
+    } else if word == b"earlier".as_slice() {
+        Some(Policy::Earlier)
+    } else if word == b"later".as_slice() {
+        Some(Policy::Later)
+    } else if word == b"reject".as_slice() {
+        Some(Policy::Reject)
+    } else {
+        None
+    }
+}
+
+/// Parses `N` or `N-M`, of which M is not less than N.
+fn field_numbers_of(word: &[u8]) -> Option<FieldNumbers>
+    ensures { result ≡ field_numbers_of word.now }
+{
+    match index_of(b'-', word) {
+        Some(at) => {
+            let first = field_number_of(&word[..at])?;
+            fields_from(first, field_number_of(&word[at + 1..])?)
+        }
+        None => Some(FieldNumbers {
+            first: field_number_of(word)?,
+            joined: 0,
+        }),
+    }
+}
+
+/// Returns the numbers from one to the other, if there are any.
+fn fields_from(first: u16, last: u16) -> Option<FieldNumbers>
+    ensures { result ≡ fields_from first last }
+{
+    if last < first {
+        return None;
+    }
+    Some(FieldNumbers {
+        first,
+        joined: last - first,
+    })
+}
+
+/// Parses a number from 1 to 65535.
+fn field_number_of(word: &[u8]) -> Option<u16>
+    ensures { result ≡ field_number_of word.now }
+{
+    let number = parse_i64(word)?;
+    if number < 1 || number > 65_535 {
+        return None;
+    }
+    Some(number as u16)
+}
+
+fn byte_of(word: &[u8]) -> Option<u8>
+    ensures { result ≡ byte_of word.now }
+{
+    match word {
+        [byte] => Some(*byte),
+        _ => None,
+    }
+}
+
+/// Parses a number from 0 to 9223372036854775807.
+fn skip_of(word: &[u8]) -> Option<u64>
+    ensures { result ≡ skip_of word.now }
+{
+    let number = parse_i64(word)?;
+    if number < 0 {
+        return None;
+    }
+    Some(number as u64)
+}
+
+/// Returns the fields that the options select. The default separator is a tab, or a comma in CSV.
+pub fn field_of(options: &Options<'_>) -> Option<Field>
+    ensures { result ≡ field_of options.now }
+{
+    let numbers = options.fields?;
+    Some(Field {
+        first: numbers.first,
+        joined: numbers.joined,
+        separator: match options.separator {
+            Some(separator) => separator,
+            None if options.csv => b',',
+            None => b'\t',
+        },
+        csv: options.csv,
+    })
+}
+
+/// Adds a form of `--read`, or returns `None` if four are given.
+fn with_reader(options: Options<'_>, reader: Reader) -> Option<Options<'_>>
+    ensures { result ≡ with_reader options.entry reader }
+{
+    let mut more = options;
+    if more.readers.try_push(reader) {
+        Some(more)
+    } else {
+        None
+    }
+}
+
+/// Returns the forms that lines are read in. The default is the six forms, and then ISO 8601.
+pub fn readers_in(readers: Readers) -> Readers
+    ensures { result ≡ readers_in readers }
+{
+    if readers.as_slice().len() > 0 {
+        return readers;
+    }
+    let mut default = Readers::new();
+    default.try_push(Reader::Named(Reading::Any));
+    default.try_push(Reader::Spelled(Spelling::Iso));
+    default
+}
+
+/// Returns whether a form has no offset.
+fn any_local(readers: &[Reader]) -> bool
+    ensures { result ≡ any_local readers.now }
+{
+    match readers {
+        [] => false,
+        [first, others @ ..] => is_local(first) || any_local(others),
+    }
+}
+
+fn is_local(reader: &Reader) -> bool
+    ensures { result ≡ is_local reader.now }
+{
+    match reader {
+        Reader::Local | Reader::DateTimes(_) => true,
+        _ => false,
+    }
+}
+
+/// Returns whether a form has an offset of its own.
+fn any_own(readers: &[Reader]) -> bool
+    ensures { result ≡ any_own readers.now }
+{
+    match readers {
+        [] => false,
+        [first, others @ ..] => has_own(first) || any_own(others),
+    }
+}
+
+fn has_own(reader: &Reader) -> bool
+    ensures { result ≡ has_own reader.now }
+{
+    match reader {
+        Reader::Named(Reading::Any | Reading::Unix(_)) => true,
+        Reader::Spelled(_) | Reader::Moments(_) => true,
+        _ => false,
+    }
+}
+
+/// Returns the option that is missing, if the others need it.
+pub fn conflict_in(options: &Options<'_>) -> Option<Expected>
+    ensures { result ≡ conflict_in options.now }
+{
+    if options.separator.is_some() && options.fields.is_none() {
+        Some(Expected::Field)
+    } else if options.csv && options.fields.is_none() {
+        Some(Expected::CsvField)
+    } else if options.csv && options.separator == Some(b'"') {
+        Some(Expected::CsvSeparator)
+    } else if options.policy.is_some() && options.zone.is_none() {
+        Some(Expected::ZoneOption)
+    } else if options.zone.is_some() {
+        conflict_with_zone(options)
+    } else if any_local(options.readers.as_slice()) && options.offset.is_none() {
+        Some(Expected::Assume)
+    } else if options.offset.is_some() && !any_local(options.readers.as_slice()) {
+        Some(Expected::Local)
+    } else {
+        None
+    }
+}
+
+/// Returns what `--zone` lacks: forms without an offset only, and no offset.
+fn conflict_with_zone(options: &Options<'_>) -> Option<Expected>
+    ensures { result ≡ conflict_with_zone options.now }
+{
+    if options.offset.is_some() {
+        Some(Expected::OffsetOrZone)
+    } else if !any_local(options.readers.as_slice()) || any_own(options.readers.as_slice()) {
+        Some(Expected::LocalOnly)
+    } else {
+        None
+    }
+}

@@ -1,0 +1,104 @@
+//! Invalid arguments.
+ghost use Rattle.std.specs.Prelude.{◌≡◌};
+ghost use Rattle.caldate_run.specs.Requests.{usage_error_at};
+
+/// An argument that is expected at an index.
+#[derive(Clone, Copy, Debug, PartialEq, Eq)]
+pub enum Expected {
+    /// Any command, because nothing is given.
+    Something,
+    /// A verb or an option, such as `--field`.
+    Start,
+    /// A verb, or an option that is not given yet and needs a verb.
+    Verb,
+    /// `--field`, which `--separator` requires.
+    Field,
+    /// `--field`, which `--csv` requires.
+    CsvField,
+    /// A separator other than a quote, which `--csv` requires.
+    CsvSeparator,
+    /// A mode of `--invalid`, such as `keep`.
+    Invalid,
+    /// A number from 1 to 65535, or two such numbers.
+    FieldNumber,
+    /// One byte.
+    Separator,
+    /// A number of lines from 0 to 9223372036854775807.
+    Skip,
+    /// A value of `--read`, such as `dmy`.
+    Reading,
+    /// `--assume`, which `--read local` requires.
+    Assume,
+    /// `--read local`, which `--assume` requires.
+    Local,
+    /// `--zone`, which `--ambiguous` requires.
+    ZoneOption,
+    /// Only one of `--assume` and `--zone`.
+    OffsetOrZone,
+    /// Only forms without an offset, which `--zone` requires.
+    LocalOnly,
+    /// A policy of `--ambiguous`, such as `earlier`.
+    Policy,
+    /// A form, such as `week`.
+    Form,
+    /// A number.
+    Number,
+    /// A number of units that fits in a duration.
+    Amount,
+    /// A unit of time, such as `hours`.
+    UnitOfTime,
+    /// A weekday, such as `Friday`.
+    Weekday,
+    /// A number from 1 to 255.
+    Count,
+    /// A date or a moment.
+    Target,
+    /// A period, such as `month`.
+    Period,
+    /// A period, `day`, `hour`, `minute`, or a number of minutes.
+    StartPeriod,
+    /// `minutes`.
+    Minutes,
+    /// An offset from UTC, such as `+01:00`.
+    Offset,
+    /// An offset from UTC or a zone. The word is not the name of a zone.
+    Place,
+    /// The name of a zone that can be read, such as `Europe/Berlin`.
+    Zone,
+    /// `from`, `after` or `before`.
+    Bounds,
+    /// `in`, or no word.
+    In,
+    /// `from`.
+    From,
+    /// A date.
+    Date,
+    /// `to`.
+    UpTo,
+    /// `by`.
+    By,
+    /// A number from 1 to 4294967295, or a recurrence. The word has no `=`.
+    Many,
+    /// A recurrence. The word has a `=`.
+    Rule,
+    /// A unit of dates, such as `months`.
+    UnitOfDays,
+    /// No word.
+    End,
+}
+
+/// An error in the arguments: the first invalid or missing word.
+#[derive(Clone, Copy, Debug, PartialEq, Eq)]
+pub struct UsageError {
+    /// The index of the word, counted from 0. A missing word has the index that it would have.
+    pub index: usize,
+    /// The argument that is expected there.
+    pub expected: Expected,
+}
+
+/// Creates the error for a word at the index that is not the expected one.
+pub fn usage_error_at(index: usize, expected: Expected) -> UsageError
+    ensures { result ≡ usage_error_at index expected }
+{
+    UsageError { index, expected }
+}

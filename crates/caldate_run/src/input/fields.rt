@@ -1,0 +1,125 @@
+//! The fields of a line.
+ghost use Rattle.std.specs.Prelude.{◌≡◌, ◌+◌, ◌<◌, ◌≤◌, ◌++◌, ◌∷◌, [], ℕ, List, Some, None, IfSome, IsTrue, MatchOption, drop, false, length, take};
+ghost use Rattle.caldate_run.specs.Fields.{HasFirst, IsAfter, selected_text, fields_of, is_quoted, split_record, text_with};
+
+use crate::request::Field;
+use crate::run::lines::index_of;
+
+/// Returns the fields of the text, if the text has them. Without fields, returns the whole text.
+pub fn selected_text(field: Option<Field>, text: &[u8]) -> Option<&[u8]>
+    ensures asked { MatchOption result (selected_text field text.now ≡ None)
+        (λ asked. selected_text field text.now ≡ Some asked.now) }
+    ensures fits { IfSome result (λ asked. length asked.now ≤ length text.now) }
+{
+    match field {
+        Some(field) => Some(cut_field(field, text)?.1),
+        None => Some(text),
+    }
+}
+
+/// Returns the bytes before the fields, the fields and the bytes after them, if the text has them.
+/// Field 2 of `a,2024-02-29,c`, split at commas, has `a,` before it and `,c` after it. The quotes
+/// of a field of a CSV record are outside of it.
+pub fn cut_field(field: Field, text: &[u8]) -> Option<(&[u8], &[u8], &[u8])>
+    ensures asked { MatchOption result (selected_text (Some field) text.now ≡ None)
+        (λ parts. selected_text (Some field) text.now ≡ Some parts.1.now) }
+    ensures around { MatchOption result (length text.now ≡ length text.now)
+        (λ parts. (words : List ℕ) → text_with (Some field) text.now words
+        ≡ parts.0.now ++ words ++ parts.2.now) }
+    ensures whole { MatchOption result (length text.now ≡ length text.now)
+        (λ parts. text.now ≡ parts.0.now ++ parts.1.now ++ parts.2.now) }
+    ensures short { MatchOption result (length text.now ≡ length text.now)
+        (λ parts. length parts.0.now + length parts.1.now + length parts.2.now
+        ≤ length text.now) }
+{
+    let rest = after_fields(field, field.first.saturating_sub(1), text)?;
+    let last = after_fields(field, field.joined, rest)?;
+    let start = text.len() - rest.len();
+    let end = text.len() - last.len() + first_length(field, last);
+    if is_quoted(field, &text[start..end]) {
+        Some((
+            &text[..start + 1],
+            &text[start + 1..end - 1],
+            &text[end - 1..],
+        ))
+    } else {
+        Some((&text[..start], &text[start..end], &text[end..]))
+    }
+}
+
+/// Returns whether the field of a CSV record is in quotes.
+fn is_quoted(field: Field, part: &[u8]) -> bool
+    ensures value { result ≡ is_quoted field part.now }
+    ensures long { IsTrue result → 2 ≤ length part.now }
+{
+    field.csv && part.len() >= 2 && part[0] == b'"' && part[part.len() - 1] == b'"'
+}
+
+/// Returns the bytes after this many fields and their separators, if more fields come.
+fn after_fields(field: Field, count: u16, text: &[u8]) -> Option<&[u8]>
+    ensures after { MatchOption result (length (fields_of field text.now) ≤ count)
+        (λ rest. IsAfter field count text.now rest.now) }
+    ensures short { IfSome result (λ rest. length rest.now ≤ length text.now) }
+{
+    let mut rest = text;
+    for _ in 0..count {
+        let (_, after) = first_field(field, rest)?;
+        rest = after;
+    }
+    Some(rest)
+}
+
+/// Splits off the first field and its separator, or returns `None` without a separator.
+fn first_field(field: Field, bytes: &[u8]) -> Option<(&[u8], &[u8])>
+    ensures fields { MatchOption result (fields_of field bytes.now ≡ bytes.now ∷ [])
+        (λ parts. fields_of field bytes.now ≡ parts.0.now ∷ fields_of field parts.1.now) }
+    ensures whole { MatchOption result (length bytes.now ≡ length bytes.now)
+        (λ parts. bytes.now ≡ parts.0.now ++ field.separator ∷ parts.1.now) }
+{
+    let at = separator_index(field, bytes)?;
+    Some((&bytes[..at], &bytes[at + 1..]))
+}
+
+/// Returns the length of the first field.
+fn first_length(field: Field, bytes: &[u8]) -> usize
+    ensures first { HasFirst field bytes.now result }
+    ensures short { result ≤ length bytes.now }
+{
+    match separator_index(field, bytes) {
+        Some(at) => at,
+        None => bytes.len(),
+    }
+}
+
+/// Returns the index of the separator after the first field.
+fn separator_index(field: Field, bytes: &[u8]) -> Option<usize>
+    ensures { MatchOption result (fields_of field bytes.now ≡ bytes.now ∷ [])
+        (λ at. (at < length bytes.now) × (fields_of field bytes.now
+        ≡ take at bytes.now ∷ fields_of field (drop (at + 1) bytes.now))
+        × (bytes.now ≡ take at bytes.now ++ field.separator ∷ drop (at + 1) bytes.now)) }
+{
+    if field.csv {
+        index_outside_quotes(field.separator, bytes)
+    } else {
+        index_of(field.separator, bytes)
+    }
+}
+
+/// Returns the index of the first separator outside of quotes.
+fn index_outside_quotes(separator: u8, bytes: &[u8]) -> Option<usize>
+    ensures { MatchOption result (split_record separator false bytes.now ≡ bytes.now ∷ [])
+        (λ at. (at < length bytes.now) × (split_record separator false bytes.now
+        ≡ take at bytes.now ∷ split_record separator false (drop (at + 1) bytes.now))
+        × (bytes.now ≡ take at bytes.now ++ separator ∷ drop (at + 1) bytes.now)) }
+{
+    let mut quoted = false;
+    for (i, byte) in bytes.iter().enumerate() {
+        if *byte == separator && !quoted {
+            return Some(i);
+        }
+        if *byte == b'"' {
+            quoted = !quoted;
+        }
+    }
+    None
+}

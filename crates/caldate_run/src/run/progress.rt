@@ -1,0 +1,31 @@
+//! The progress of a run.
+ghost use Rattle.std.specs.Prelude.{◌≡◌, false, true};
+ghost use Rattle.caldate_run.specs.Excerpts.{excerpt_of, excerpt_bytes};
+
+use crate::run::excerpt::Excerpt;
+use crate::run::tally::Tally;
+
+/// A record of how far a run is.
+#[derive(Clone, Copy)]
+pub struct Progress {
+    /// The lines so far.
+    pub tally: Tally,
+    /// Whether the next line is too long, so that its front was dropped.
+    pub is_long: bool,
+    /// The front of that line to show, if it is long.
+    pub front: Excerpt,
+}
+
+impl Progress {
+    /// Returns the text to show of a line. `text` lacks the front if that was dropped.
+    pub fn excerpt_of(&self, text: &[u8]) -> Excerpt
+        ensures whole { self.now.is_long ≡ false → excerpt_bytes result ≡ excerpt_of text.now }
+        ensures long { self.now.is_long ≡ true → result ≡ self.now.front }
+    {
+        if self.is_long {
+            self.front
+        } else {
+            Excerpt::new(text)
+        }
+    }
+}

@@ -1,0 +1,256 @@
+//! The reply to a line.
+ghost use Rattle.std.specs.Prelude.{◌≡◌, ◌⊎◌, ◌+◌, ◌<◌, ◌≤◌, ◌++◌, ◌∷◌, [], ℕ, List, Some, Err, false, true, is_some, length, max, unwrap_or, IfErr, OnErr, OnOk, if◌then◌else◌};
+ghost use Rattle.caldate_run.specs.Fields.{text_with};
+ghost use Rattle.caldate_run.specs.Lines.{has_return, text_of};
+ghost use Rattle.caldate_run.specs.Replies.{Describes, EndsAt, IsAnswerOf, IsAnswerToText, IsReplyTo, in_place, more, reason, stops, with_reason};
+ghost use Rattle.caldate_run.specs.Room.{HasRoom, longest_answer, longest_reply, longest_text};
+ghost use Rattle.caldate_run.specs.Runs.{AppendsSome, AppendsAnswer, AppendsReply};
+ghost use Rattle.caldate_run.specs.RunStates.{AtLine, counted};
+
+use crate::answer::{LONGEST_TEXT, push_answer, push_reason};
+use crate::input::fields::cut_field;
+use crate::on_invalid::OnInvalid;
+use crate::output::buffer::Buffer;
+use crate::request::{Field, Filter};
+use crate::run::lines::cut_return;
+use crate::run::no_answer::NoAnswer;
+use crate::run::progress::Progress;
+use crate::run::unanswered::UnansweredLine;
+
+/// Appends the reply to a line, whose front may have been dropped because it is too long, and counts
+/// the line. Fails, and appends nothing, if the run ends at the line.
+pub fn push_reply(
+    buffer: &mut Buffer,
+    filter: &Filter<'_>,
+    progress: &mut Progress,
+    line: &[u8],
+) -> Result<(), UnansweredLine>
+    requires room { HasRoom longest_reply buffer.old }
+    requires line { HasRoom (length line.now + 1) buffer.old }
+    ensures replied { OnOk result (AppendsReply (IsReplyTo filter.now) filter.now.on_invalid progress.old
+        progress.new.tally line.now buffer.old buffer.new) }
+    ensures counted { OnOk result (progress.new.tally.lines ≡ more progress.old.tally.lines) }
+    ensures short { OnOk result (progress.new.is_long ≡ false) }
+    ensures ends { IfErr result (λ reported. AtLine progress.old line.now
+        (λ before whole. EndsAt filter.now before whole reported)) }
+    ensures same { OnErr result (buffer.new ≡ buffer.old) }
+{
+    let (text, has_return) = cut_return(line);
+    match push_line(buffer, filter, progress, text) {
+        Ok(goes_out) => {
+            push_end(buffer, goes_out, has_return);
+            progress.tally.count();
+            progress.is_long = false;
+            Ok(())
+        }
+        Err(why) => push_unanswered(buffer, filter, progress, text, has_return, why),
+    }
+}
+
+/// Appends the answer to the text of a line, and returns whether the line goes out.
+fn push_line(
+    buffer: &mut Buffer,
+    filter: &Filter<'_>,
+    progress: &Progress,
+    text: &[u8],
+) -> Result<bool, NoAnswer>
+    requires { HasRoom longest_reply buffer.old }
+    ensures answered { (line : List ℕ) → text.now ≡ text_of line → AtLine progress.now line
+        (λ before whole. AppendsAnswer (IsAnswerOf filter.now before (text_of whole)) result buffer.old
+        buffer.new) }
+    ensures same { OnErr result (buffer.new ≡ buffer.old) }
+    ensures whole { OnOk result (progress.now.is_long ≡ false) }
+    ensures fits { IfErr result (λ why.
+        progress.now.is_long ≡ true ⊎ longest_text < length text.now → why ≡ NoAnswer.TooLong) }
+    ensures short { length buffer.new ≤ length buffer.old + longest_text + longest_answer }
+{
+    if progress.is_long || text.len() > LONGEST_TEXT {
+        return Err(NoAnswer::TooLong);
+    }
+    push_text(buffer, filter, progress.tally.lines, text)
+}
+
+/// Appends the reply to a line that has no answer, and counts the line. Fails, and appends nothing,
+/// if the run ends at the line. The line is given by its text and whether it has a carriage return.
+#[cold]
+fn push_unanswered(
+    buffer: &mut Buffer,
+    filter: &Filter<'_>,
+    progress: &mut Progress,
+    text: &[u8],
+    with_return: bool,
+    why: NoAnswer,
+) -> Result<(), UnansweredLine>
+    requires room { HasRoom longest_reply buffer.old }
+    requires line { HasRoom (length text.now + (if with_return then 2 else 1)) buffer.old }
+    requires fits { progress.old.is_long ≡ true ⊎ longest_text < length text.now
+        → why ≡ NoAnswer.TooLong }
+    ensures replied { OnOk result ((line : List ℕ) → text.now ≡ text_of line
+        → with_return ≡ has_return line
+        → AtLine progress.old line (λ before whole. IsAnswerOf filter.now before (text_of whole) (Err why))
+        → AppendsReply (IsReplyTo filter.now) filter.now.on_invalid progress.old progress.new.tally
+        line buffer.old buffer.new) }
+    ensures counted { OnOk result (progress.new.tally.lines ≡ more progress.old.tally.lines) }
+    ensures short { OnOk result (progress.new.is_long ≡ false) }
+    ensures ends { IfErr result (λ reported. (stops filter.now.on_invalid ≡ true)
+        × ((line : List ℕ) → text.now ≡ text_of line → AtLine progress.old line
+        (λ before whole. Describes before whole why reported))) }
+    ensures same { OnErr result (buffer.new ≡ buffer.old) }
+{
+    let reported = describe(progress, text, why);
+    if stops(filter.on_invalid) {
+        return Err(reported);
+    }
+    let goes_out = push_in_place(buffer, filter, text, why);
+    push_end(buffer, goes_out, with_return);
+    progress.tally.count_unanswered(reported);
+    progress.is_long = false;
+    Ok(())
+}
+
+/// Appends the end of a line that goes out.
+fn push_end(buffer: &mut Buffer, goes_out: bool, with_return: bool)
+    requires { HasRoom (if goes_out then (if with_return then 2 else 1) else 0) buffer.old }
+    ensures { buffer.new ≡ buffer.old ++ (if goes_out
+        then (if with_return then 13 ∷ 10 ∷ [] else 10 ∷ []) else []) }
+{
+    if goes_out {
+        buffer.push_end(with_return);
+    }
+}
+
+/// Describes a line without an answer.
+fn describe(progress: &Progress, text: &[u8], why: NoAnswer) -> UnansweredLine
+    ensures { (line : List ℕ) → text.now ≡ text_of line → AtLine progress.now line
+        (λ before whole. Describes before whole why result) }
+{
+    UnansweredLine {
+        number: progress.tally.lines.saturating_add(1),
+        why,
+        text: progress.excerpt_of(text),
+    }
+}
+
+/// Returns whether the run ends at a line without an answer.
+fn stops(on_invalid: OnInvalid) -> bool
+    ensures { result ≡ stops on_invalid }
+{
+    on_invalid == OnInvalid::Stop
+}
+
+/// Appends what goes out in place of an answer, and returns whether the line goes out.
+fn push_in_place(buffer: &mut Buffer, filter: &Filter<'_>, text: &[u8], why: NoAnswer) -> bool
+    requires room { HasRoom longest_reply buffer.old }
+    requires line { HasRoom (length text.now) buffer.old }
+    requires fits { longest_text < length text.now → why ≡ NoAnswer.TooLong }
+    ensures text { buffer.new ≡ buffer.old
+        ++ unwrap_or (in_place filter.now.on_invalid filter.now text.now why) [] }
+    ensures goes_out { result ≡ is_some (in_place filter.now.on_invalid filter.now text.now why) }
+    ensures short { length buffer.new
+        ≤ length buffer.old + max (length text.now) (longest_text + longest_answer) }
+{
+    match filter.on_invalid {
+        OnInvalid::Keep => {
+            buffer.push(text);
+            true
+        }
+        OnInvalid::Answer => {
+            push_with_reason(buffer, filter, text, why);
+            true
+        }
+        OnInvalid::Drop | OnInvalid::Stop => false,
+    }
+}
+
+/// Appends the text with the reason in place of the text to answer, or the reason alone if the line
+/// is too long.
+fn push_with_reason(buffer: &mut Buffer, filter: &Filter<'_>, text: &[u8], why: NoAnswer)
+    requires room { HasRoom longest_reply buffer.old }
+    requires fits { longest_text < length text.now → why ≡ NoAnswer.TooLong }
+    ensures text { buffer.new ≡ buffer.old ++ with_reason filter.now text.now why }
+    ensures short { length buffer.new ≤ length buffer.old + longest_text + longest_answer }
+{
+    match why {
+        NoAnswer::TooLong => push_reason(buffer, why),
+        _ => push_in_field(buffer, filter.field, text, why),
+    }
+}
+
+/// Appends the text with the reason in place of the field, or the text if it lacks the field.
+fn push_in_field(buffer: &mut Buffer, field: Option<Field>, text: &[u8], why: NoAnswer)
+    requires room { HasRoom longest_reply buffer.old }
+    requires fits { length text.now ≤ longest_text }
+    ensures text { buffer.new ≡ buffer.old ++ text_with field text.now (reason why) }
+    ensures short { length buffer.new ≤ length buffer.old + longest_text + longest_answer }
+{
+    match field {
+        Some(field) => match cut_field(field, text) {
+            Some((front, _asked, rest)) => {
+                buffer.push(front);
+                push_reason(buffer, why);
+                buffer.push(rest);
+            }
+            None => buffer.push(text),
+        },
+        None => push_reason(buffer, why),
+    }
+}
+
+/// Appends the text of a line after `number` other lines, with its answer, and returns whether the
+/// line goes out.
+fn push_text(
+    buffer: &mut Buffer,
+    filter: &Filter<'_>,
+    number: u64,
+    text: &[u8],
+) -> Result<bool, NoAnswer>
+    requires room { HasRoom longest_reply buffer.old }
+    requires fits { length text.now ≤ longest_text }
+    ensures answered { (before : ℕ) → number ≡ counted before
+        → AppendsAnswer (IsAnswerOf filter.now before text.now) result buffer.old buffer.new }
+    ensures same { OnErr result (buffer.new ≡ buffer.old) }
+    ensures short { length buffer.new ≤ length buffer.old + longest_text + longest_answer }
+{
+    if number < filter.skip {
+        buffer.push(text);
+        return Ok(true);
+    }
+    match filter.field {
+        Some(field) => push_field(buffer, filter, field, text),
+        None => push_answer(buffer, filter, text),
+    }
+}
+
+/// Appends the text with the answer in place of the field, and returns whether the line goes out.
+fn push_field(
+    buffer: &mut Buffer,
+    filter: &Filter<'_>,
+    field: Field,
+    text: &[u8],
+) -> Result<bool, NoAnswer>
+    requires room { HasRoom longest_reply buffer.old }
+    requires fits { length text.now ≤ longest_text }
+    requires field { filter.now.field ≡ Some field }
+    ensures answered { AppendsAnswer (IsAnswerToText filter.now text.now) result buffer.old buffer.new }
+    ensures short { length buffer.new ≤ length buffer.old + longest_text + longest_answer }
+{
+    let Some((front, asked, rest)) = cut_field(field, text) else {
+        return Err(NoAnswer::NoField);
+    };
+    let start = buffer.len();
+    buffer.push(front);
+    match push_answer(buffer, filter, asked) {
+        Ok(true) => {
+            buffer.push(rest);
+            Ok(true)
+        }
+        Ok(false) => {
+            buffer.truncate(start);
+            Ok(false)
+        }
+        Err(why) => {
+            buffer.truncate(start);
+            Err(why)
+        }
+    }
+}
