@@ -127,7 +127,7 @@ pub fn file_named<'a>(files: &ZoneFiles<'a>, name: &[u8]) -> Option<ZoneFile<'a>
     }
 }
 
-/// Returns the zone of a file, or why there is none.
+/// Returns the zone of a file, or the reason why the file is not a zone.
 pub fn zone_in<'a>(file: Option<ZoneFile<'a>>) -> Result<Zone<'a>, ReadZoneError>
     ensures { IsZoneOf file.entry result }
 {
@@ -143,7 +143,7 @@ pub fn zone_in<'a>(file: Option<ZoneFile<'a>>) -> Result<Zone<'a>, ReadZoneError
     }
 }
 
-/// Returns the zone with this name, or why there is none.
+/// Returns the zone with this name, or the reason why it has none.
 pub fn zone_named<'a>(files: &ZoneFiles<'a>, name: &[u8]) -> Result<Zone<'a>, ReadZoneError>
     ensures { (meanings : Meanings) → AreZones files.now meanings
         → result ≡ (meanings name.now).zone }

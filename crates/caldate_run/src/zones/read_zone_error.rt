@@ -9,7 +9,7 @@ use cal_zone::{ChangeError, TimelineError};
 /// A reason why a file has no contents.
 #[derive(Clone, Copy, Debug, PartialEq, Eq)]
 pub enum FileError {
-    /// There is no such file, or it wasn't read.
+    /// The file is missing, or it was not read.
     NotFound,
     /// The file may not be read.
     Denied,
