@@ -4,4 +4,4 @@ use Rattle.caldate_tests.proofs.tests.one_answer.asks.Goals as goal
 pub returns : goal.returns
 returns c =
     let h = c.have_zones.ensures in
-    c.parse_args.ensures.asked h.0 h.1.0 h.1.1 ∙ sym (c.parse_args-2.ensures.asked h.0 h.1.0 h.1.1)
+    c.parse_args.ensures.asked h.0 h.1 h.2 ∙ sym (c.parse_args-2.ensures.asked h.0 h.1 h.2)
