@@ -18,17 +18,26 @@ fn main(rt: HostRuntime) -> ExitCode {
         None => None,
     };
     let mut folder = [0u8; MOST_PATH_BYTES];
-    let mut bytes = [[0u8; MOST_FILE_BYTES]; 2];
-    let [first, second] = &mut bytes;
+    let mut first = [0u8; MOST_FILE_BYTES];
+    let mut second = [0u8; MOST_FILE_BYTES];
     let length = find_folder(&rt, &mut folder);
+    let folder = &folder[..length];
     let mut files = ZoneFiles {
-        folder: &folder[..length],
+        folder,
         first: None,
         second: None,
     };
     if let Some(arguments) = joined {
-        files.first = read_missing(&rt, arguments, &files, first);
-        files.second = read_missing(&rt, arguments, &files, second);
+        let one = ZoneFiles {
+            folder,
+            first: read_missing(&rt, arguments, &files, &mut first),
+            second: None,
+        };
+        files = ZoneFiles {
+            folder,
+            first: one.first,
+            second: read_missing(&rt, arguments, &one, &mut second),
+        };
     }
     let mut reader = rt.reader();
     let mut writer = io::writer(&rt);
