@@ -73,7 +73,7 @@ missing_noun what = codes "argument"
 
 -- the expected words, if the message needs them
 abbrev pub expected_phrase : Wanted → List ℕ
-expected_phrase wanted.Start = codes "; expected to, add, next, last, until, since, start, end, on-or-after, on-or-before, at, keep, list, --date, --invalid, --field, --csv, --separator, --skip, --read, --assume, --help or --version"
+expected_phrase wanted.Start = codes "; expected to, add, next, last, until, since, start, end, on-or-after, on-or-before, at, keep, list, --date, --invalid, --field, --csv, --header, --separator, --skip, --read, --assume, --help or --version"
 expected_phrase wanted.Verb = codes "; expected to, add, next, last, until, since, start, end, on-or-after, on-or-before, at, keep or another option"
 expected_phrase wanted.Invalid = codes "; expected keep, answer, drop or stop"
 expected_phrase wanted.FieldNumber = codes "; expected an integer from 1 to 65535, or two such as 1-2"

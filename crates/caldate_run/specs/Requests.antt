@@ -1,6 +1,6 @@
 -- The command that the arguments give, or the first invalid word and its expected kind.
 use denote.Ref.{Bor}
-use Rattle.std.specs.Prelude.{ℕ, ◌+◌, ◌-◌, nat_lt, not, ◌&&◌, ◌||◌, Bool, true, false, is_none, is_some, unwrap_or, ℤ, pos, neg_ℤ, ◌*ℤ◌, int_le, nat_abs, List, [], ◌∷◌, ◌++◌, ◌==◌, length, take, drop, Option, Some, None, MatchOption, option_map, option_and_then, ok_or, Result, Ok, Err, slice_get, position, bytes_eq, codes, if◌then◌else◌, ◌*◌}
+use Rattle.std.specs.Prelude.{ℕ, ◌+◌, ◌-◌, nat_lt, max, not, ◌&&◌, ◌||◌, Bool, true, false, is_none, is_some, unwrap_or, ℤ, pos, neg_ℤ, ◌*ℤ◌, int_le, nat_abs, List, [], ◌∷◌, ◌++◌, ◌==◌, length, take, drop, Option, Some, None, MatchOption, option_map, option_and_then, ok_or, Result, Ok, Err, slice_get, position, bytes_eq, codes, if◌then◌else◌, ◌*◌}
 use Rattle.std.specs.List.{All, slice_split}
 use Rattle.std.specs.Option.{option_map_or}
 use Rattle.std.specs.Result.{result_ok}
@@ -349,7 +349,7 @@ list_of meanings words =
 
 -- ---- the options before a request, in any order, each at most once
 abbrev pub no_options : Options
-no_options = record { on_invalid = None; fields = None; csv = false; separator = None; skip = None; readers = []; offset = None }
+no_options = record { on_invalid = None; fields = None; header = false; csv = false; separator = None; skip = None; readers = []; offset = None }
 
 -- `--invalid MODE`
 abbrev pub invalid_of : List ℕ → Option OnInvalid
@@ -413,9 +413,14 @@ has_room readers = nat_lt (length readers) 4
 abbrev pub with_reader : Options → Reader → Option Options
 with_reader options form = if has_room options.readers then Some (record options { readers = options.readers ++ form ∷ [] }) else None
 
--- `--csv`, if it is not given yet.
+-- `--csv` or `--header`, if it is not given yet.
 abbrev pub is_flag : Options → List ℕ → Bool
-is_flag options word = bytes_eq word (codes "--csv") && not options.csv
+is_flag options word =
+    if bytes_eq word (codes "--csv") then not options.csv else
+    bytes_eq word (codes "--header") && not options.header
+
+abbrev pub with_flag : Options → List ℕ → Options
+with_flag options word = if bytes_eq word (codes "--csv") then record options { csv = true } else record options { header = true }
 
 -- The value that comes after the word, if the word is an option that is not given yet.
 abbrev pub value_of : Options → List ℕ → Option Wanted
@@ -452,7 +457,7 @@ with_joined meanings options at word =
 abbrev pub options_from : Meanings → Option Wanted → Options → ℕ → List (List ℕ) → Result (Options × ℕ) Senseless
 options_from meanings None options at [] = Ok (options, at)
 options_from meanings None options at (word ∷ words) =
-    if is_flag options word then options_from meanings None (record options { csv = true }) (at + 1) words else
+    if is_flag options word then options_from meanings None (with_flag options word) (at + 1) words else
     if is_some (value_of options word) then options_from meanings (value_of options word) options (at + 1) words else
     if is_some (value_of options (name_of word)) then and_then (with_joined meanings options at word) (λ more. options_from meanings None more (at + 1) words) else
     Ok (options, at)
@@ -506,6 +511,10 @@ default_mode (Keep bounds) numbers = invalid.Drop
 default_mode other (Some numbers) = invalid.Keep
 default_mode other None = invalid.Answer
 
+-- A header is the first of the lines that are passed on.
+abbrev pub skip_in : Options → ℕ
+skip_in options = if options.header then max 1 (unwrap_or options.skip 0) else unwrap_or options.skip 0
+
 abbrev pub filter_of : Options → Request → Filter
 filter_of options request = record {
   request = request;
@@ -513,7 +522,7 @@ filter_of options request = record {
   offset = unwrap_or options.offset (pos 0);
   on_invalid = unwrap_or options.on_invalid (default_mode request options.fields);
   field = field_of options;
-  skip = unwrap_or options.skip 0;
+  skip = skip_in options;
 }
 
 -- The options and the request from an index on.

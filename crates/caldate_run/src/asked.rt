@@ -3,7 +3,7 @@ ghost use Rattle.std.specs.Prelude.{◌≡◌, ◌+◌, ◌<◌, ◌^◌, ◌≤
 ghost use Rattle.caldate_run.specs.Lists.{IsAsked};
 ghost use Rattle.caldate_run.specs.Offsets.{offset_of};
 ghost use Rattle.caldate_run.specs.Meanings.{AreMeanings, Meanings};
-ghost use Rattle.caldate_run.specs.Requests.{amount_at, amount_of, arguments_of, asked_of, count_at, default_mode, duration_of, filter_at, filter_of, floor_at, further_request_at, in_unit_at, occurrence_at, once_of, only_at, request_at, start_at, target_at, to_of, unit_at, verb_wanted, weekday_of, words_left};
+ghost use Rattle.caldate_run.specs.Requests.{amount_at, amount_of, arguments_of, asked_of, count_at, default_mode, duration_of, filter_at, filter_of, floor_at, further_request_at, in_unit_at, occurrence_at, once_of, only_at, request_at, skip_in, start_at, target_at, to_of, unit_at, verb_wanted, weekday_of, words_left};
 
 use crate::bounds::bounds_at;
 use crate::formats::to_of;
@@ -88,10 +88,18 @@ fn filter_of(options: Options, request: Request) -> Filter
         },
         request,
         field: field_of(&options),
-        skip: options.skip.unwrap_or(0),
+        skip: skip_in(&options),
         offset: options.offset.unwrap_or(UtcOffset::UTC),
         readers: readers_in(options.readers),
     }
+}
+
+/// Returns how many lines are passed on at the start. A header is the first of them.
+fn skip_in(options: &Options) -> u64
+    ensures { result ≡ skip_in options.now }
+{
+    let skip = options.skip.unwrap_or(0);
+    if options.header && skip == 0 { 1 } else { skip }
 }
 
 /// Returns what is written for a line without an answer if no option says it.

@@ -42,6 +42,7 @@ no answer, or 2 if the arguments are invalid, or the input or the output fails.
   caldate --field N-M ...         the same for the fields from N to M, as one text
   caldate --csv ...               with --field: reads records of RFC 4180, whose fields end at a
                                   comma
+  caldate --header ...            writes the first line unchanged, like --skip 1
   caldate --separator C ...       with --field: fields end at the byte C
   caldate --skip K ...            writes the first K lines unchanged
   caldate --read FORM ...         reads lines in this form: basic, dmy, mdy, unix, unix-ms, unix-us,

@@ -1,7 +1,7 @@
 //! The options before a request.
 ghost use Rattle.std.specs.Prelude.{◌≡◌, ◌+◌, ◌≤◌, ◌^◌, IfOk, None, length, true};
 ghost use Rattle.caldate_run.specs.Meanings.{AreMeanings, IsMeaning, Meanings, name_of, value_in};
-ghost use Rattle.caldate_run.specs.Requests.{any_local, byte_of, field_number_of, field_numbers_of, field_of, fields_from, has_room, invalid_of, is_flag, is_local, is_option, lacking, no_options, options_from, readers_in, skip_of, value_of, with_reader, with_value, words_left};
+ghost use Rattle.caldate_run.specs.Requests.{any_local, byte_of, field_number_of, field_numbers_of, field_of, fields_from, has_room, invalid_of, is_flag, is_local, is_option, lacking, no_options, options_from, readers_in, skip_of, value_of, with_flag, with_reader, with_value, words_left};
 
 use crate::formats::reader_of;
 use crate::lines::index_of;
@@ -23,6 +23,8 @@ pub struct Options {
     pub on_invalid: Option<OnInvalid>,
     /// The numbers of `--field N` or `--field N-M`.
     pub fields: Option<FieldNumbers>,
+    /// Whether `--header` is given.
+    pub header: bool,
     /// Whether `--csv` is given.
     pub csv: bool,
     /// The byte C of `--separator C`.
@@ -42,6 +44,7 @@ fn no_options() -> Options
     Options {
         on_invalid: None,
         fields: None,
+        header: false,
         csv: false,
         separator: None,
         skip: None,
@@ -86,7 +89,7 @@ fn options_from(
         return options_from(None, more, at + 1, rest);
     }
     if is_flag(&options, word) {
-        return options_from(None, with_csv(options), at + 1, rest);
+        return options_from(None, with_flag(options, word), at + 1, rest);
     }
     if let Some(wanted) = value_of(&options, word) {
         return options_from(Some(wanted), options, at + 1, rest);
@@ -134,18 +137,27 @@ fn value_of(options: &Options, word: &[u8]) -> Option<Wanted>
     }
 }
 
-/// Returns whether the word is `--csv`, and not given yet.
+/// Returns whether the word is `--csv` or `--header`, and not given yet.
 fn is_flag(options: &Options, word: &[u8]) -> bool
     ensures { result ≡ is_flag options.now word.now }
 {
-    word == b"--csv".as_slice() && !options.csv
+    if word == b"--csv".as_slice() {
+        !options.csv
+    } else {
+        word == b"--header".as_slice() && !options.header
+    }
 }
 
-fn with_csv(options: Options) -> Options
-    ensures { result ≡ record options { csv = true } }
+/// Sets `--csv` or `--header`.
+fn with_flag(options: Options, word: &[u8]) -> Options
+    ensures { result ≡ with_flag options word.now }
 {
     let mut more = options;
-    more.csv = true;
+    if word == b"--csv".as_slice() {
+        more.csv = true;
+    } else {
+        more.header = true;
+    }
     more
 }
 
