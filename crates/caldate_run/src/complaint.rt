@@ -300,7 +300,7 @@ fn missing_noun(wanted: Wanted) -> &'static [u8]
 /// Returns the expected words, or nothing if the message needs none.
 fn expected_phrase(wanted: Wanted) -> &'static [u8]
     ensures words { result.now ≡ expected_phrase wanted }
-    ensures short { length result.now ≤ 200 }
+    ensures short { length result.now ≤ 220 }
 {
     match wanted {
         Wanted::Start => COMMANDS,
