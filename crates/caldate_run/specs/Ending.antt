@@ -3,12 +3,15 @@ use Rattle.std.specs.Prelude.{◌≡◌, ◌==◌, ℕ, Bool, true, false, List,
 use Rattle.std.specs.Option.{option_map_or}
 use Rattle.std.specs.declared.io.ErrorKind.{ErrorKind}
 use Rattle.std.specs.declared.io.ErrorKind.TheVariants.{BrokenPipe}
+use Rattle.caldate_run.specs.Fields.{fields_of}
+use Rattle.caldate_run.specs.Header.{names_text, text_held}
 use Rattle.caldate_run.specs.Replies.{reason}
 use Rattle.caldate_run.specs.Runs.{Shown}
 use Rattle.caldate_run.specs.Shown.{words_shown}
 use Rattle.caldate_run.specs.declared.ending.Ending.{Ending}
 use Rattle.caldate_run.specs.declared.fault.Fault.{Fault}
-use Rattle.caldate_run.specs.declared.fault.Fault.TheVariants.{Read, Write, Stopped, Unanswered}
+use Rattle.caldate_run.specs.declared.fault.Fault.TheVariants.{Read, Write, Stopped, Unanswered, LongHeader, NoSuchName}
+use Rattle.caldate_run.specs.declared.header.MissingName.{MissingName}
 use Rattle.caldate_run.specs.declared.tally.Tally.{Tally}
 use Rattle.caldate_run.specs.declared.unanswered.UnansweredLine.{UnansweredLine}
 
@@ -27,11 +30,19 @@ summary tally =
     decimal tally.unanswered ++ codes " of " ++ decimal tally.lines ++ (if tally.unanswered == 1 then codes " lines has no answer" else codes " lines have no answer")
     ++ option_map_or (λ line. codes "; first: " ++ description line) tally.first []
 
+-- the name that the header lacks, and the names that it has
+abbrev pub name_error : MissingName → List ℕ
+name_error missing =
+    codes "caldate: unknown field name '" ++ words_shown missing.name ++ codes "'; expected one of "
+    ++ names_text (fields_of missing.field (text_held missing.header)) ++ 10 ∷ []
+
 -- nothing after a run that answered all of its input or whose output was closed, else why it failed, with a line feed
 abbrev pub words_of_end : Result Unit Fault → List ℕ
 words_of_end (Ok done) = []
 words_of_end (Err Read) = codes "caldate: cannot read standard input" ++ 10 ∷ []
 words_of_end (Err (Write kind)) = if is_closed kind then [] else codes "caldate: cannot write to standard output" ++ 10 ∷ []
+words_of_end (Err LongHeader) = codes "caldate: header too long; expected at most 4096 bytes" ++ 10 ∷ []
+words_of_end (Err (NoSuchName missing)) = name_error missing
 words_of_end (Err (Stopped line)) = codes "caldate: " ++ description line ++ 10 ∷ []
 words_of_end (Err (Unanswered tally)) = codes "caldate: " ++ summary tally ++ 10 ∷ []
 
@@ -41,6 +52,8 @@ status_of (Ok done) = 0
 status_of (Err (Stopped line)) = 1
 status_of (Err (Unanswered tally)) = 1
 status_of (Err Read) = 2
+status_of (Err LongHeader) = 2
+status_of (Err (NoSuchName missing)) = 2
 status_of (Err (Write kind)) = if is_closed kind then 0 else 2
 
 -- the status is that of the outcome, and standard error took just its words, or failed and took a beginning of them that is not all

@@ -1,6 +1,6 @@
 -- The command that the arguments give, or the first invalid word and its expected kind.
 use denote.Ref.{Bor}
-use Rattle.std.specs.Prelude.{ℕ, ◌+◌, ◌-◌, nat_lt, max, not, ◌&&◌, ◌||◌, Bool, true, false, is_none, is_some, unwrap_or, ℤ, pos, neg_ℤ, ◌*ℤ◌, int_le, nat_abs, List, [], ◌∷◌, ◌++◌, ◌==◌, length, take, drop, Option, Some, None, MatchOption, option_map, option_and_then, ok_or, Result, Ok, Err, slice_get, position, bytes_eq, codes, if◌then◌else◌, ◌*◌}
+use Rattle.std.specs.Prelude.{ℕ, ◌+◌, ◌-◌, nat_le, nat_lt, max, not, ◌&&◌, ◌||◌, Bool, true, false, is_none, is_some, unwrap_or, ℤ, pos, neg_ℤ, ◌*ℤ◌, int_le, nat_abs, List, [], ◌∷◌, ◌++◌, ◌==◌, length, take, drop, Option, Some, None, MatchOption, option_map, option_and_then, ok_or, Result, Ok, Err, slice_get, position, bytes_eq, codes, if◌then◌else◌, ◌*◌}
 use Rattle.std.specs.List.{All, slice_split}
 use Rattle.std.specs.Option.{option_map_or}
 use Rattle.std.specs.Result.{result_ok}
@@ -18,7 +18,8 @@ use Rattle.cal_text.specs.declared.any.MomentForm.TheVariants.{Rfc3339, Unix}
 use Rattle.cal_recurrence.specs.Text.{recurrence_of}
 use Rattle.cal_recurrence.specs.declared.recurrence.Recurrence.{Recurrence}
 use Rattle.caldate_run.specs.Meanings.{Meanings, found_in, is_format, name_of, value_in}
-use Rattle.caldate_run.specs.Offsets.{offset_of}
+use Rattle.caldate_run.specs.Offsets.{is_digit, offset_of}
+use Rattle.caldate_run.specs.Room.{longest_text}
 use Rattle.caldate_run.specs.declared.on_invalid.OnInvalid.{OnInvalid}
 use Rattle.caldate_run.specs.declared.on_invalid.OnInvalid.TheVariants as invalid
 use Rattle.caldate_run.specs.declared.options.Options.{Options}
@@ -349,7 +350,7 @@ list_of meanings words =
 
 -- ---- the options before a request, in any order, each at most once
 abbrev pub no_options : Options
-no_options = record { on_invalid = None; fields = None; header = false; csv = false; separator = None; skip = None; readers = []; offset = None }
+no_options = record { on_invalid = None; fields = None; name = None; header = false; csv = false; separator = None; skip = None; readers = []; offset = None }
 
 -- `--invalid MODE`
 abbrev pub invalid_of : List ℕ → Option OnInvalid
@@ -371,6 +372,17 @@ abbrev pub field_numbers_of : List ℕ → Option FieldNumbers
 field_numbers_of word =
     option_map_or (λ at. option_and_then (λ n. option_and_then (fields_from n) (field_number_of (drop (at + 1) word))) (field_number_of (take at word)))
     (position (λ b. b == 45) word) (option_map (λ n. record { first = n; joined = 0 }) (field_number_of word))
+
+-- `--field NAME`: a name doesn't begin with a digit, with `+` (43) or with `-` (45).
+abbrev pub is_name : List ℕ → Bool
+is_name [] = false
+is_name (byte ∷ bytes) = not (is_digit byte || (byte == 43 || byte == 45)) && nat_le (length (byte ∷ bytes)) longest_text
+
+-- The field of a name gets its number from the header.
+abbrev pub with_field : Options → List ℕ → Option Options
+with_field options value =
+    if is_name value then Some (record options { fields = Some (record { first = 1; joined = 0 }); name = Some value }) else
+    option_map (λ numbers. record options { fields = Some numbers }) (field_numbers_of value)
 
 -- `--separator C`: one byte
 abbrev pub byte_of : List ℕ → Option ℕ
@@ -440,7 +452,7 @@ is_option word = is_flag no_options word || is_some (value_of no_options (name_o
 -- The options, with this value for the option that needs it.
 abbrev pub with_value : Meanings → Options → List ℕ → Wanted → Option Options
 with_value meanings options value wanted.Invalid = option_map (λ mode. record options { on_invalid = Some mode }) (invalid_of value)
-with_value meanings options value wanted.FieldNumber = option_map (λ numbers. record options { fields = Some numbers }) (field_numbers_of value)
+with_value meanings options value wanted.FieldNumber = with_field options value
 with_value meanings options value wanted.Separator = option_map (λ c. record options { separator = Some c }) (byte_of value)
 with_value meanings options value wanted.Skip = option_map (λ k. record options { skip = Some k }) (skip_of value)
 with_value meanings options value wanted.Reading = option_and_then (with_reader options) (reader_of meanings value)
@@ -495,12 +507,14 @@ any_local [] = false
 any_local (form ∷ forms) = is_local form || any_local forms
 
 -- The option that is missing: `--separator` and `--csv` require `--field`, and a form without an
--- offset and `--assume` require each other. A quote separates no fields of a record.
+-- offset and `--assume` require each other, and a name requires `--header`. A quote separates no
+-- fields of a record.
 abbrev pub lacking : Options → Option Wanted
 lacking options =
     if is_some options.separator && is_none options.fields then Some wanted.Field else
     if options.csv && is_none options.fields then Some wanted.CsvField else
     if options.csv && option_map_or (λ c. c == 34) options.separator false then Some wanted.CsvSeparator else
+    if is_some options.name && not options.header then Some wanted.Header else
     if any_local options.readers && is_none options.offset then Some wanted.Assume else
     if is_some options.offset && not (any_local options.readers) then Some wanted.Local else
     None
@@ -522,6 +536,7 @@ filter_of options request = record {
   offset = unwrap_or options.offset (pos 0);
   on_invalid = unwrap_or options.on_invalid (default_mode request options.fields);
   field = field_of options;
+  name = options.name;
   skip = skip_in options;
 }
 

@@ -1,13 +1,14 @@
 -- The effect of a run on the bytes of its reader and its writer, if they are known.
-use Rattle.std.specs.Prelude.{◌≡◌, ◌⊎◌, ℕ, ⊤, ◌<◌, Bool, true, false, List, [], ◌∷◌, ◌++◌, length, is_some, Option, Some, None, Result, Ok, Err}
+use Rattle.std.specs.Prelude.{◌≡◌, ◌⊎◌, ℕ, ⊤, ◌+◌, ◌<◌, ◌≤◌, Bool, true, false, List, [], ◌∷◌, ◌++◌, length, is_some, Option, Some, None, Result, Ok, Err}
 use Rattle.std.specs.Io.KnownBytes.{Appends, Consumes, IsAtEnd}
 use Rattle.caldate_run.specs.Answers.{Answer}
+use Rattle.caldate_run.specs.Header.{IsMissing, header_of, numbered}
 use Rattle.caldate_run.specs.Lines.{ended_lines, lines_of, unended}
 use Rattle.caldate_run.specs.Replies.{EndsAt, IsReplyTo}
 use Rattle.caldate_run.specs.Room.{longest_text}
-use Rattle.caldate_run.specs.Standing.{AreReplies, IsHeld, IsShown, Replies, Stands, counted, no_lines, passed}
+use Rattle.caldate_run.specs.Standing.{AreReplies, IsHeld, NoEnd, IsShown, Replies, Stands, counted, no_lines, passed}
 use Rattle.caldate_run.specs.declared.fault.Fault.{Fault}
-use Rattle.caldate_run.specs.declared.fault.Fault.TheVariants.{Read, Write, Stopped, Unanswered}
+use Rattle.caldate_run.specs.declared.fault.Fault.TheVariants.{Read, Write, Stopped, Unanswered, LongHeader, NoSuchName}
 use Rattle.caldate_run.specs.declared.no_answer.NoAnswer.{NoAnswer}
 use Rattle.caldate_run.specs.declared.on_invalid.OnInvalid.{OnInvalid}
 use Rattle.caldate_run.specs.declared.on_invalid.OnInvalid.TheVariants as invalid
@@ -109,25 +110,34 @@ pub record StopsAt (filter : Filter) (told : UnansweredLine) (all : List (List �
 abbrev pub Gives : Option (List ℕ) → Option (List ℕ) → (List ℕ → Type 0) → Type 0
 Gives old new P = (input : List ℕ) × Consumes old new input × P input
 
--- The reader gave an input. Its lines with a line feed and the bytes after them have this property,
--- or all of its lines at the end of the input.
-pub record GivesLines (old new : Option (List ℕ)) (Holds : List (List ℕ) → List ℕ → Type 0) : Type 0 where
-  pub input : List ℕ
-  pub given : Consumes old new input
-  pub holds : Holds (ended_lines input) (unended input) ⊎ IsAtEnd new × Holds (lines_of input) []
+-- The property holds for the lines of the input with a line feed and the bytes after them, or at
+-- the end of the input for all of its lines.
+abbrev pub OnLines : Type 0 → List ℕ → (List (List ℕ) → List ℕ → Type 0) → Type 0
+OnLines AtEnd input Holds = Holds (ended_lines input) (unended input) ⊎ AtEnd × Holds (lines_of input) []
 
--- All lines of the input got their replies, and have such a tally.
-abbrev pub AnswersInput : Filter → (Tally → Type 0) → Option (List ℕ) → Option (List ℕ) → Option (List ℕ) → Option (List ℕ) → Type 0
-AnswersInput filter Has r0 r w0 w =
-    IsAtEnd r × Gives r0 r (λ input. (tally : Tally) × Has tally × AnswersAll filter (lines_of input) tally w0 w)
+-- A run with this outcome over this input, perhaps up to its end, wrote these bytes.
+abbrev pub EndedOn : Filter → Result Unit Fault → Type 0 → List ℕ → Option (List ℕ) → Option (List ℕ) → Type 0
+EndedOn filter (Ok done) AtEnd input w0 w = AtEnd × ((tally : Tally) × (tally.first ≡ None) × AnswersAll filter (lines_of input) tally w0 w)
+EndedOn filter (Err (Unanswered tally)) AtEnd input w0 w = AtEnd × (is_some tally.first ≡ true) × AnswersAll filter (lines_of input) tally w0 w
+EndedOn filter (Err (Write kind)) AtEnd input w0 w = OnLines AtEnd input (λ lines rest. AnswersFront filter lines rest w0 w)
+EndedOn filter (Err (Stopped told)) AtEnd input w0 w = OnLines AtEnd input (λ lines rest. StopsAt filter told lines w0 w)
+EndedOn filter (Err Read) AtEnd input w0 w = AnswersEnded filter input w0 w
+EndedOn filter (Err other) AtEnd input w0 w = ⊥
+
+-- A run whose field may have a name ends before any answer if the header lacks the name or is too
+-- long, or if a read fails before its end. Otherwise it has the number of the field.
+abbrev pub EndedNamed : Filter → Result Unit Fault → Type 0 → List ℕ → Option (List ℕ) → Option (List ℕ) → Type 0
+EndedNamed filter (Err (NoSuchName missing)) AtEnd input w0 w =
+    (w ≡ w0) × ((0 < length (ended_lines input)) ⊎ AtEnd) × IsMissing filter (header_of input) missing
+EndedNamed filter (Err LongHeader) AtEnd input w0 w = (w ≡ w0) × (longest_text < length (header_of input))
+EndedNamed filter (Err Read) AtEnd input w0 w =
+    ((w ≡ w0) × (ended_lines input ≡ [])) ⊎ ((own : Filter) × (numbered filter (header_of input) ≡ Some own) × EndedOn own (Err Read) AtEnd input w0 w)
+EndedNamed filter outcome AtEnd input w0 w =
+    (own : Filter) × (numbered filter (header_of input) ≡ Some own) × EndedOn own outcome AtEnd input w0 w
 
 -- A run with this outcome read and wrote these bytes.
 abbrev pub Ended : Filter → Result Unit Fault → Option (List ℕ) → Option (List ℕ) → Option (List ℕ) → Option (List ℕ) → Type 0
-Ended filter (Ok done) r0 r w0 w = AnswersInput filter (λ tally. tally.first ≡ None) r0 r w0 w
-Ended filter (Err (Unanswered told)) r0 r w0 w = AnswersInput filter (λ tally. (tally ≡ told) × (is_some tally.first ≡ true)) r0 r w0 w
-Ended filter (Err (Write kind)) r0 r w0 w = GivesLines r0 r (λ lines rest. AnswersFront filter lines rest w0 w)
-Ended filter (Err Read) r0 r w0 w = Gives r0 r (λ input. AnswersEnded filter input w0 w)
-Ended filter (Err (Stopped told)) r0 r w0 w = GivesLines r0 r (λ lines rest. StopsAt filter told lines w0 w)
+Ended filter outcome r0 r w0 w = Gives r0 r (λ input. EndedNamed filter outcome (IsAtEnd r) input w0 w)
 
 -- All lines of the input got their replies.
 abbrev pub IsComplete : Result Unit Fault → Type 0
@@ -139,6 +149,11 @@ IsComplete (Err other) = ⊥
 abbrev pub Shown : List ℕ → Result Unit Fault → Option (List ℕ) → Option (List ℕ) → Type 0
 Shown page (Ok done) old new = Appends old new page
 Shown page (Err fault) old new = IsOfWrite fault × AppendsFront old new page
+
+-- The first line is read up to its end, or to the end of the input, or is longer than a line may be.
+abbrev pub IsBegun : Bool → Option (List ℕ) → List ℕ → Type 0
+IsBegun true left input = IsAtEnd left × NoEnd input × (length input ≤ longest_text + 1)
+IsBegun false left input = (¬ NoEnd input) ⊎ (longest_text + 1 < length input)
 
 -- ---- from the state of a run, over these lines of its input, and the bytes after them
 -- The run ends as after a failed write.

@@ -89,12 +89,13 @@ fn filter_of(options: Options, request: Request) -> Filter
         request,
         field: field_of(&options),
         skip: skip_in(&options),
+        name: options.name,
         offset: options.offset.unwrap_or(UtcOffset::UTC),
         readers: readers_in(options.readers),
     }
 }
 
-/// Returns how many lines are passed on at the start. A header is the first of them.
+/// Returns how many lines to pass on at the start, of which a header is the first.
 fn skip_in(options: &Options) -> u64
     ensures { result ≡ skip_in options.now }
 {

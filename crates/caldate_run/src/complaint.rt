@@ -218,6 +218,7 @@ fn names_word(wanted: Wanted) -> bool
 {
     match wanted {
         Wanted::Something | Wanted::Field | Wanted::CsvField | Wanted::CsvSeparator => false,
+        Wanted::Header => false,
         Wanted::Assume | Wanted::Local => false,
         _ => true,
     }
@@ -241,6 +242,7 @@ fn error_phrase(wanted: Wanted) -> &'static [u8]
         Wanted::Field => b"--separator requires --field".as_slice(),
         Wanted::CsvField => b"--csv requires --field".as_slice(),
         Wanted::CsvSeparator => b"--csv can't use a quote as the separator".as_slice(),
+        Wanted::Header => b"a field name requires --header".as_slice(),
         Wanted::Invalid => b"unknown mode".as_slice(),
         Wanted::FieldNumber => b"invalid field number".as_slice(),
         Wanted::Separator => b"invalid separator".as_slice(),
@@ -307,7 +309,7 @@ fn expected_phrase(wanted: Wanted) -> &'static [u8]
         Wanted::Verb => LINE_COMMANDS,
         Wanted::Invalid => b"; expected keep, answer, drop or stop".as_slice(),
         Wanted::FieldNumber =>
-            b"; expected an integer from 1 to 65535, or two such as 1-2".as_slice(),
+            b"; expected an integer from 1 to 65535, two such as 1-2, or a name".as_slice(),
         Wanted::Separator => b"; expected one byte".as_slice(),
         Wanted::Skip => b"; expected an integer from 0 to 9223372036854775807".as_slice(),
         Wanted::Reading => READINGS,

@@ -1,13 +1,14 @@
 //! How the program ends: its status, and its words on standard error.
 ghost use Rattle.std.specs.Prelude.{◌≡◌, ◌+◌, ◌≤◌, ◌++◌, [], length};
 ghost use Rattle.caldate_run.specs.Calls.{Writes, write_failure};
-ghost use Rattle.caldate_run.specs.Ending.{Tells, description, status_of, summary, words_of_end};
+ghost use Rattle.caldate_run.specs.Ending.{Tells, description, name_error, status_of, summary, words_of_end};
 ghost use Rattle.caldate_run.specs.Room.{HasRoom};
 ghost use Rattle.caldate_run.specs.Runs.{Shown};
 
 use crate::answer::push_reason;
 use crate::buffer::Buffer;
 use crate::fault::{Fault, is_closed};
+use crate::header::MissingName;
 use crate::output::write_all;
 use crate::streams::Sink;
 use crate::tally::Tally;
@@ -69,6 +70,10 @@ fn push_words(words: &mut Buffer, outcome: &Result<(), Fault>)
         Err(Fault::Write(kind)) if is_closed(*kind) => {}
         Err(Fault::Read) => words.push(b"caldate: cannot read standard input\n"),
         Err(Fault::Write(_)) => words.push(b"caldate: cannot write to standard output\n"),
+        Err(Fault::LongHeader) => {
+            words.push(b"caldate: header too long; expected at most 4096 bytes\n")
+        }
+        Err(Fault::NoSuchName(missing)) => push_name_error(words, missing),
         Err(Fault::Stopped(line)) => {
             words.push(b"caldate: ");
             push_description(words, line);
@@ -80,6 +85,18 @@ fn push_words(words: &mut Buffer, outcome: &Result<(), Fault>)
             words.push(b"\n");
         }
     }
+}
+
+/// Appends an error such as `caldate: unknown field name 'due'; expected one of name, day`.
+fn push_name_error(words: &mut Buffer, missing: &MissingName)
+    requires { words.old ≡ [] }
+    ensures { words.new ≡ name_error missing.now }
+{
+    words.push(b"caldate: unknown field name '");
+    words.push(missing.name.as_bytes());
+    words.push(b"'; expected one of ");
+    missing.push_names(words);
+    words.push(b"\n");
 }
 
 /// Appends a description such as `line 2: unreadable at 0: x`.

@@ -2,6 +2,7 @@
 ghost use Rattle.std.specs.Prelude.{◌≡◌};
 ghost use Rattle.caldate_run.specs.Ending.{is_closed};
 
+use crate::header::MissingName;
 use crate::tally::Tally;
 use crate::unanswered::UnansweredLine;
 use std::io::ErrorKind;
@@ -17,6 +18,10 @@ pub enum Fault {
     Stopped(UnansweredLine),
     /// The run is complete, but some of its lines have no answer.
     Unanswered(Tally),
+    /// The header is longer than 4096 bytes, so that its names are unknown.
+    LongHeader,
+    /// The header has no field with the name.
+    NoSuchName(MissingName),
 }
 
 /// Returns whether the error says that nobody reads the output any more: a broken pipe.

@@ -42,7 +42,8 @@ no answer, or 2 if the arguments are invalid, or the input or the output fails.
   caldate --field N-M ...         the same for the fields from N to M, as one text
   caldate --csv ...               with --field: reads records of RFC 4180, whose fields end at a
                                   comma
-  caldate --header ...            writes the first line unchanged, like --skip 1
+  caldate --header ...            writes the first line unchanged; then --field NAME reads the field
+                                  that has this name there
   caldate --separator C ...       with --field: fields end at the byte C
   caldate --skip K ...            writes the first K lines unchanged
   caldate --read FORM ...         reads lines in this form: basic, dmy, mdy, unix, unix-ms, unix-us,
@@ -76,6 +77,7 @@ or a moment, such as 2024-02-29T23:59:59.25+01:00 or @1709164800.5.
   echo 1709164800500 | caldate --read unix-ms at Z         2024-02-29T00:00:00.5Z
   echo a,2024-02-29 | caldate --field 2 --separator , to week   a,2024-W09-4
   echo a,2024-02-29 | caldate --csv --field 2 to week      a,2024-W09-4
+  printf 'who,due\\nann,2024-02-29\\n' | caldate --csv --header --field due to week | tail -n 1   ann,2024-W09-4
   echo a,2024-02-29 | caldate --field 2 --separator , keep from 2024-02-01 to 2024-02-29   a,2024-02-29
   caldate list from 2024-01-31 to 2024-12-31 by 1 month | tail -n 1   2024-12-31
   caldate list from 2024-01-01 to 2024-03-31 by 'FREQ=MONTHLY;BYDAY=-1FR' | tail -n 1   2024-03-29

@@ -14,6 +14,7 @@ pub mod fault;
 mod fields;
 mod formats;
 mod forms;
+pub mod header;
 pub mod help;
 mod input;
 pub mod laws;

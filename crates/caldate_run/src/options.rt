@@ -1,9 +1,11 @@
 //! The options before a request.
 ghost use Rattle.std.specs.Prelude.{◌≡◌, ◌+◌, ◌≤◌, ◌^◌, IfOk, None, length, true};
 ghost use Rattle.caldate_run.specs.Meanings.{AreMeanings, IsMeaning, Meanings, name_of, value_in};
-ghost use Rattle.caldate_run.specs.Requests.{any_local, byte_of, field_number_of, field_numbers_of, field_of, fields_from, has_room, invalid_of, is_flag, is_local, is_option, lacking, no_options, options_from, readers_in, skip_of, value_of, with_flag, with_reader, with_value, words_left};
+ghost use Rattle.caldate_run.specs.Requests.{any_local, byte_of, field_number_of, field_numbers_of, field_of, fields_from, has_room, invalid_of, is_flag, is_local, is_name, is_option, lacking, no_options, options_from, readers_in, skip_of, value_of, with_field, with_flag, with_reader, with_value, words_left};
 
+use crate::answer::LONGEST_TEXT;
 use crate::formats::reader_of;
+use crate::header::FieldName;
 use crate::lines::index_of;
 use crate::offset::offset_of;
 use crate::on_invalid::OnInvalid;
@@ -23,6 +25,8 @@ pub struct Options {
     pub on_invalid: Option<OnInvalid>,
     /// The numbers of `--field N` or `--field N-M`.
     pub fields: Option<FieldNumbers>,
+    /// The name of `--field NAME`.
+    pub name: Option<FieldName>,
     /// Whether `--header` is given.
     pub header: bool,
     /// Whether `--csv` is given.
@@ -44,6 +48,7 @@ fn no_options() -> Options
     Options {
         on_invalid: None,
         fields: None,
+        name: None,
         header: false,
         csv: false,
         separator: None,
@@ -177,7 +182,7 @@ fn with_value(options: Options, value: &[u8], wanted: Wanted) -> Option<Options>
     let mut more = options;
     match wanted {
         Wanted::Invalid => more.on_invalid = Some(invalid_of(value)?),
-        Wanted::FieldNumber => more.fields = Some(field_numbers_of(value)?),
+        Wanted::FieldNumber => return with_field(more, value),
         Wanted::Separator => more.separator = Some(byte_of(value)?),
         Wanted::Skip => more.skip = Some(skip_of(value)?),
         Wanted::Reading => return with_reader(more, reader_of(value)?),
@@ -201,6 +206,33 @@ fn invalid_of(word: &[u8]) -> Option<OnInvalid>
         Some(OnInvalid::Stop)
     } else {
         None
+    }
+}
+
+/// Sets the fields of `--field`, or returns `None` if the value is invalid.
+fn with_field(options: Options, value: &[u8]) -> Option<Options>
+    ensures { result ≡ with_field options value.now }
+{
+    let mut more = options;
+    if is_name(value) {
+        more.fields = Some(FieldNumbers {
+            first: 1,
+            joined: 0,
+        });
+        more.name = Some(FieldName::new(value));
+    } else {
+        more.fields = Some(field_numbers_of(value)?);
+    }
+    Some(more)
+}
+
+/// Returns whether the word is a name, which doesn't begin like a number.
+fn is_name(word: &[u8]) -> bool
+    ensures { result ≡ is_name word.now }
+{
+    match word {
+        [b'0'..=b'9' | b'+' | b'-', ..] | [] => false,
+        _ => word.len() <= LONGEST_TEXT,
     }
 }
 
@@ -335,6 +367,8 @@ pub fn lacking(options: &Options) -> Option<Wanted>
         Some(Wanted::CsvField)
     } else if options.csv && options.separator == Some(b'"') {
         Some(Wanted::CsvSeparator)
+    } else if options.name.is_some() && !options.header {
+        Some(Wanted::Header)
     } else if any_local(options.readers.as_slice()) && options.offset.is_none() {
         Some(Wanted::Assume)
     } else if options.offset.is_some() && !any_local(options.readers.as_slice()) {

@@ -1,4 +1,5 @@
 //! Requests, and how they apply to the lines.
+use crate::header::FieldName;
 use crate::on_invalid::OnInvalid;
 use crate::reading::Readers;
 use cal_format::Format;
@@ -127,7 +128,7 @@ pub struct FieldNumbers {
 }
 
 /// One field of a line, or neighbouring fields.
-#[derive(Clone, Copy)]
+#[derive(Clone, Copy, Debug, PartialEq, Eq)]
 pub struct Field {
     /// The number of the first field, counted from 1.
     pub first: u16,
@@ -151,6 +152,8 @@ pub struct Filter {
     pub on_invalid: OnInvalid,
     /// The field to answer, or `None` for the whole line.
     pub field: Option<Field>,
+    /// The name of the field in the header, if the header gives its number.
+    pub name: Option<FieldName>,
     /// How many lines to pass on unchanged at the start.
     pub skip: u64,
 }

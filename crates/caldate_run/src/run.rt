@@ -1,24 +1,25 @@
 //! Runs: the answers to the lines of an input of any length.
-ghost use Rattle.std.specs.Prelude.{◌≡◌, ◌<◌, ◌≤◌, ◌+◌, ◌-◌, ◌++◌, ℕ, List, [], false, true, is_some, length, drop, None, Option, OnOk, OnErr, IfOk, IfErr, IsErrAnd, IsErrOf};
-ghost use Rattle.std.specs.Io.KnownBytes.{Appends};
+ghost use Rattle.std.specs.Prelude.{◌≡◌, ◌<◌, ◌≤◌, ◌+◌, ◌-◌, ◌++◌, ⊤, ℕ, Bool, List, [], false, true, is_some, length, drop, MatchResult, None, Option, OnOk, OnErr, IfOk, IfErr, IsErrAnd, IsErrOf};
+ghost use Rattle.std.specs.Io.KnownBytes.{Appends, Consumes, IsAtEnd};
 ghost use Rattle.caldate_run.specs.Calls.{Reads, Writes, has_read_failure, kind_of, most_reads, write_failure};
+ghost use Rattle.caldate_run.specs.Header.{header_of};
 ghost use Rattle.caldate_run.specs.Lines.{ended_lines, lines_of, unended};
 ghost use Rattle.caldate_run.specs.Replies.{IsReplyTo};
 ghost use Rattle.caldate_run.specs.Room.{HasRoom, capacity, longest_reply, longest_text};
-ghost use Rattle.caldate_run.specs.Runs.{AppendsFront, Ended, EndsFrom, FailsFrom, IsEarly, IsOfWrite, StopsFrom};
-ghost use Rattle.caldate_run.specs.Standing.{Advances, NoEnd, passed};
+ghost use Rattle.caldate_run.specs.Runs.{AppendsFront, Ended, EndedOn, EndsFrom, FailsFrom, Gives, IsBegun, IsEarly, IsOfWrite, StopsFrom};
+ghost use Rattle.caldate_run.specs.Standing.{Advances, NoEnd, Stands, passed};
 ghost use Rattle.caldate_run.specs.declared.unanswered.UnansweredLine.{UnansweredLine};
 
 use crate::buffer::Buffer;
 use crate::fault::Fault;
 use crate::input::Input;
-use crate::lines::first_line;
+use crate::header::number_field;
+use crate::lines::{cut_return, first_line, index_of};
 use crate::on_invalid::OnInvalid;
 use crate::output::write_all;
 use crate::progress::Progress;
 use crate::reply::push_reply;
 use crate::request::Filter;
-use crate::shown::ShownText;
 use crate::streams::{Sink, Source};
 use crate::tally::Tally;
 use crate::unanswered::UnansweredLine;
@@ -30,7 +31,9 @@ const MOST_KEPT: usize = 4097;
 ///
 /// Writes the answers to one read before the next read. Fails with `Fault::Read` or `Fault::Write`,
 /// with `Fault::Stopped` at a line that ends the run, and with `Fault::Unanswered` if the run is
-/// complete but some of its lines have no answer. 2^64 - 1 reads end like a failed read.
+/// complete but some of its lines have no answer. 2^64 - 1 reads end like a failed read. If the
+/// field has a name, the first line gives its number, or the run fails with `Fault::LongHeader` or
+/// `Fault::NoSuchName` before it writes.
 pub fn run<R: Source, W: Sink>(filter: Filter, reader: &mut R, writer: &mut W) -> Result<(), Fault>
     ensures ended { Ended filter result (R.remaining reader.old) (R.remaining reader.new)
         (W.contents writer.old) (W.contents writer.new) }
@@ -38,46 +41,178 @@ pub fn run<R: Source, W: Sink>(filter: Filter, reader: &mut R, writer: &mut W) -
     ensures writes { Writes W.write_gives writer.old (write_failure result) writer.new }
 {
     let mut input = Input::new();
-    let mut buffer = Buffer::new();
-    let mut progress = Progress {
-        tally: Tally {
-            lines: 0,
-            unanswered: 0,
-            first: None,
-        },
-        is_long: false,
-        front: ShownText::new(b""),
+    if filter.name.is_some() {
+        return run_named(filter, &mut input, reader, writer);
+    }
+    answer_input(&filter, &mut input, u64::MAX, reader, writer)
+}
+
+/// Answers the lines of an input whose first line gives the number of the field.
+fn run_named<R: Source, W: Sink>(
+    filter: Filter,
+    input: &mut Input,
+    reader: &mut R,
+    writer: &mut W,
+) -> Result<(), Fault>
+    requires { input.old ≡ [] }
+    ensures ended { Ended filter result (R.remaining reader.old) (R.remaining reader.new)
+        (W.contents writer.old) (W.contents writer.new) }
+    ensures reads { Reads R.read_gives most_reads reader.old (has_read_failure result) reader.new }
+    ensures writes { Writes W.write_gives writer.old (write_failure result) writer.new }
+{
+    let (at_end, reads) = match read_header(input, reader) {
+        Ok(read) => read,
+        Err(fault) => return Err(fault),
     };
+    let own = match number_field(filter, header_of(input.as_bytes())) {
+        Ok(own) => own,
+        Err(fault) => return Err(fault),
+    };
+    if at_end {
+        return answer_end(
+            &own,
+            &mut Progress::new(),
+            &mut Buffer::new(),
+            writer,
+            input.as_bytes(),
+        );
+    }
+    answer_input(&own, input, reads, reader, writer)
+}
+
+/// Reads up to the end of the first line, or more than a line may have. Returns whether the input
+/// ended, and the number of reads that are left.
+fn read_header<R: Source>(input: &mut Input, reader: &mut R) -> Result<(bool, u64), Fault>
+    requires { input.old ≡ [] }
+    ensures given { Consumes (R.remaining reader.old) (R.remaining reader.new) input.new }
+    ensures begun { IfOk result (λ read. IsBegun read.0 (R.remaining reader.new) input.new) }
+    ensures err { IfErr result (λ fault. (fault ≡ Fault.Read) × (NoEnd input.new)) }
+    ensures reads { (failed : Bool) (end : R) → MatchResult result
+        (λ read. Reads R.read_gives read.1 reader.new failed end) (λ fault. Reads R.read_gives 0 reader.new failed end)
+        → Reads R.read_gives most_reads reader.old failed end }
+{
     let mut reads = u64::MAX;
     while reads > 0 {
+        let count = match input.read_more(reader) {
+            Ok(count) => count,
+            Err(fault) => return Err(fault),
+        };
+        reads -= 1;
+        if count == 0 {
+            return Ok((true, reads));
+        }
+        if input.len() > MOST_KEPT || index_of(b'\n', input.as_bytes()).is_some() {
+            return Ok((false, reads));
+        }
+    }
+    Err(Fault::Read)
+}
+
+/// Returns the text of the first line.
+fn header_of(input: &[u8]) -> &[u8]
+    ensures { result.now ≡ header_of input.now }
+{
+    match first_line(input) {
+        Some((line, _)) => cut_return(line).0,
+        None => cut_return(input).0,
+    }
+}
+
+/// Answers the lines of an input of which some bytes are read, in at most `reads` more reads.
+fn answer_input<R: Source, W: Sink>(
+    filter: &Filter,
+    input: &mut Input,
+    reads: u64,
+    reader: &mut R,
+    writer: &mut W,
+) -> Result<(), Fault>
+    ensures ended { Gives (R.remaining reader.old) (R.remaining reader.new) (λ given.
+        EndedOn filter.now result (IsAtEnd (R.remaining reader.new)) (input.old ++ given)
+        (W.contents writer.old) (W.contents writer.new)) }
+    ensures reads { Reads R.read_gives reads reader.old (has_read_failure result) reader.new }
+    ensures writes { Writes W.write_gives writer.old (write_failure result) writer.new }
+{
+    let mut buffer = Buffer::new();
+    let mut progress = Progress::new();
+    let mut left = reads;
+    if let Err(fault) = answer_read(filter, &mut progress, &mut buffer, writer, input) {
+        return Err(fault);
+    }
+    while left > 0 {
         if input.read_more(reader)? == 0 {
-            match answer_last(
-                &filter,
+            return answer_end(
+                filter,
                 &mut progress,
                 &mut buffer,
                 writer,
                 input.as_bytes(),
-            ) {
-                Ok(()) => return outcome(&progress.tally),
-                Err(fault) => return Err(fault),
-            }
+            );
         }
-        let left = match answer_lines(
-            &filter,
-            &mut progress,
-            &mut buffer,
-            writer,
-            input.as_bytes(),
-        ) {
-            Ok(left) => left,
-            Err(fault) => return Err(fault),
-        };
-        input.keep_last(left);
-        flush(&mut buffer, writer)?;
-        let_go(&filter, &mut input, &mut progress, writer)?;
-        reads -= 1;
+        if let Err(fault) = answer_read(filter, &mut progress, &mut buffer, writer, input) {
+            return Err(fault);
+        }
+        left -= 1;
     }
     Err(Fault::Read)
+}
+
+/// Answers the lines that end within the input, and keeps the bytes after them.
+#[tactic(auto, using(crate::proofs::Calls::writes_then))]
+fn answer_read<W: Sink>(
+    filter: &Filter,
+    progress: &mut Progress,
+    buffer: &mut Buffer,
+    writer: &mut W,
+    input: &mut Input,
+) -> Result<(), Fault>
+    requires none { buffer.old ≡ [] }
+    ensures none { OnOk result (buffer.new ≡ []) }
+    ensures few { OnOk result (length input.new ≤ longest_text + 1) }
+    ensures no_end { OnOk result (NoEnd input.new) }
+    ensures ok { OnOk result (Advances (IsReplyTo filter.now) filter.now.on_invalid
+        (W.contents writer.old) (W.contents writer.new) [] [] input.old input.new progress.old
+        progress.new) }
+    ensures write { IsErrAnd result IsOfWrite
+        → FailsFrom filter.now ended_lines unended (W.contents writer.old)
+        (W.contents writer.new) [] input.old progress.old }
+    ensures stopped { (told : UnansweredLine) → IsErrOf result (Fault.Stopped told)
+        → StopsFrom filter.now told ended_lines (W.contents writer.old)
+        (W.contents writer.new) [] input.old progress.old }
+    ensures others { IfErr result IsEarly }
+    ensures writes { Writes W.write_gives writer.old (write_failure result) writer.new }
+{
+    let left = match answer_lines(filter, progress, buffer, writer, input.as_bytes()) {
+        Ok(left) => left,
+        Err(fault) => return Err(fault),
+    };
+    input.keep_last(left);
+    flush(buffer, writer)?;
+    let_go(filter, input, progress, writer)?;
+    Ok(())
+}
+
+/// Answers the last line if it has no line feed, and ends the run.
+fn answer_end<W: Sink>(
+    filter: &Filter,
+    progress: &mut Progress,
+    buffer: &mut Buffer,
+    writer: &mut W,
+    line: &[u8],
+) -> Result<(), Fault>
+    requires no_end { NoEnd line.now }
+    requires none { buffer.old ≡ [] }
+    requires few { length line.now ≤ longest_text + 1 }
+    ensures ended { (input : List ℕ) (start : Option (List ℕ))
+        → Stands (IsReplyTo filter.now) filter.now.on_invalid input start (W.contents writer.old) []
+        line.now progress.old
+        → EndedOn filter.now result ⊤ input start (W.contents writer.new) }
+    ensures reads { has_read_failure result ≡ false }
+    ensures writes { Writes W.write_gives writer.old (write_failure result) writer.new }
+{
+    match answer_last(filter, progress, buffer, writer, line) {
+        Ok(()) => outcome(&progress.tally),
+        Err(fault) => Err(fault),
+    }
 }
 
 /// Answers the lines that end within the bytes, and returns the number of bytes after them.

@@ -17,9 +17,11 @@ pub enum Wanted {
     CsvField,
     /// A separator other than a quote, which `--csv` requires.
     CsvSeparator,
+    /// `--header`, which a name after `--field` requires.
+    Header,
     /// A mode of `--invalid`, such as `keep`.
     Invalid,
-    /// A number from 1 to 65535, or two such numbers.
+    /// A number from 1 to 65535, two such numbers, or a name.
     FieldNumber,
     /// One byte.
     Separator,
