@@ -83,11 +83,17 @@ typedef struct fots_recurrence {
     fots_date until; /* the last day, or {FOTS_NO_VALUE} */
     uint32_t count; /* the number of times, or 0 */
     uint32_t months_length;
+    uint32_t weeks_length;
+    uint32_t year_days_length;
     uint32_t month_days_length;
     uint32_t weekdays_length;
+    uint32_t set_positions_length;
     uint8_t months[FOTS_MAX_VALUES];
+    int8_t weeks[FOTS_MAX_VALUES];
+    int16_t year_days[FOTS_MAX_VALUES];
     int8_t month_days[FOTS_MAX_VALUES];
     fots_rule_weekday weekdays[FOTS_MAX_VALUES];
+    int16_t set_positions[FOTS_MAX_VALUES];
 } fots_recurrence;
 
 /* The maximum number of holidays. */
@@ -668,8 +674,9 @@ size_t fots_workdays_between_dates(const fots_workdays *workdays, const int32_t 
 enum fots_frequency { FOTS_DAILY = 1, FOTS_WEEKLY = 2, FOTS_MONTHLY = 3, FOTS_YEARLY = 4 };
 
 /* A recurrence rule in a subset of RFC 5545. A day matches if it matches all parts; an empty list
- * excludes no day. A list has at most FOTS_MAX_VALUES values. A rule without days of the month and
- * weekdays takes the day of its start. */
+ * excludes no day. A list has at most FOTS_MAX_VALUES values. A rule without days of the year, days
+ * of the month and weekdays takes the day of its start. Weeks, days and positions count from 1, or
+ * from -1 at the end; 0 matches no day. */
 typedef struct fots_rule {
     fots_date start; /* the first possible day; it counts only if it matches */
     fots_date until; /* the last possible day; {FOTS_MAX_JULIAN_DAY} for no end */
@@ -678,16 +685,23 @@ typedef struct fots_rule {
     uint32_t week_start; /* the first weekday of a week */
     const uint8_t *months;
     size_t months_length;
-    const int8_t *month_days; /* from 1, or from -1 at the end of the month; 0 matches no day */
+    const int8_t *weeks; /* of the year; a week belongs to the year that has its fourth day */
+    size_t weeks_length;
+    const int16_t *year_days;
+    size_t year_days_length;
+    const int8_t *month_days;
     size_t month_days_length;
     const fots_rule_weekday *weekdays;
     size_t weekdays_length;
+    const int16_t *set_positions; /* among the days of a period that match the lists above */
+    size_t set_positions_length;
 } fots_rule;
 
 /* Returns the rule of every day, or the same day of every week (from Monday), month or year. */
 static inline fots_rule fots_rule_new(fots_date start, uint32_t frequency)
 {
     static const fots_rule_weekday none = {0, 0};
+    static const int16_t no_number = 0;
     fots_rule rule;
     rule.start = start;
     rule.until.julian_day = FOTS_MAX_JULIAN_DAY;
@@ -696,10 +710,16 @@ static inline fots_rule fots_rule_new(fots_date start, uint32_t frequency)
     rule.week_start = 1;
     rule.months = &none.weekday;
     rule.months_length = 0;
+    rule.weeks = &none.number;
+    rule.weeks_length = 0;
+    rule.year_days = &no_number;
+    rule.year_days_length = 0;
     rule.month_days = &none.number;
     rule.month_days_length = 0;
     rule.weekdays = &none;
     rule.weekdays_length = 0;
+    rule.set_positions = &no_number;
+    rule.set_positions_length = 0;
     return rule;
 }
 
@@ -757,17 +777,24 @@ static inline fots_rule fots_recurrence_rule(const fots_recurrence *recurrence, 
     rule.interval = recurrence->interval;
     rule.week_start = recurrence->week_start;
     rule.months = recurrence->months;
-    if (recurrence->months_length > FOTS_MAX_VALUES || recurrence->month_days_length > FOTS_MAX_VALUES
-        || recurrence->weekdays_length > FOTS_MAX_VALUES) {
+    if (recurrence->months_length > FOTS_MAX_VALUES || recurrence->weeks_length > FOTS_MAX_VALUES
+        || recurrence->year_days_length > FOTS_MAX_VALUES || recurrence->month_days_length > FOTS_MAX_VALUES
+        || recurrence->weekdays_length > FOTS_MAX_VALUES || recurrence->set_positions_length > FOTS_MAX_VALUES) {
         /* One month too many, and still inside the struct. */
         rule.months_length = FOTS_MAX_VALUES + 1;
         return rule;
     }
     rule.months_length = recurrence->months_length;
+    rule.weeks = recurrence->weeks;
+    rule.weeks_length = recurrence->weeks_length;
+    rule.year_days = recurrence->year_days;
+    rule.year_days_length = recurrence->year_days_length;
     rule.month_days = recurrence->month_days;
     rule.month_days_length = recurrence->month_days_length;
     rule.weekdays = recurrence->weekdays;
     rule.weekdays_length = recurrence->weekdays_length;
+    rule.set_positions = recurrence->set_positions;
+    rule.set_positions_length = recurrence->set_positions_length;
     return rule;
 }
 

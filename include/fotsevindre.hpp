@@ -597,8 +597,11 @@ public:
     std::uint32_t interval = 1;
     Weekday week_start = Weekday::Monday;
     std::vector<Month> months{};
+    std::vector<std::int8_t> weeks{};
+    std::vector<std::int16_t> year_days{};
     std::vector<std::int8_t> month_days{};
     std::vector<ByDay> weekdays{};
+    std::vector<std::int16_t> set_positions{};
     std::optional<Date> until{};
 
     std::optional<Date> first() const { return Date::if_any(with([](const fots_rule *rule) { return fots_rule_first(rule); })); }
@@ -647,20 +650,22 @@ private:
         for (const ByDay by : weekdays) {
             parts.push_back(fots_rule_weekday{by.number, static_cast<std::uint8_t>(by.weekday)});
         }
-        // An empty array stays as fots_rule_new set it.
-        if (!numbers.empty()) {
-            rule.months = numbers.data();
-            rule.months_length = numbers.size();
-        }
-        if (!month_days.empty()) {
-            rule.month_days = month_days.data();
-            rule.month_days_length = month_days.size();
-        }
-        if (!parts.empty()) {
-            rule.weekdays = parts.data();
-            rule.weekdays_length = parts.size();
-        }
+        set(numbers, rule.months, rule.months_length);
+        set(weeks, rule.weeks, rule.weeks_length);
+        set(year_days, rule.year_days, rule.year_days_length);
+        set(month_days, rule.month_days, rule.month_days_length);
+        set(parts, rule.weekdays, rule.weekdays_length);
+        set(set_positions, rule.set_positions, rule.set_positions_length);
         return call(&rule);
+    }
+
+    // Sets a list of a rule of C. An empty one stays as fots_rule_new set it.
+    template <class Value> static void set(const std::vector<Value> &values, const Value *&start, std::size_t &length)
+    {
+        if (!values.empty()) {
+            start = values.data();
+            length = values.size();
+        }
     }
 };
 
@@ -684,6 +689,8 @@ public:
         }
         return months;
     }
+    std::vector<std::int8_t> weeks() const { return {parts_.weeks, parts_.weeks + parts_.weeks_length}; }
+    std::vector<std::int16_t> year_days() const { return {parts_.year_days, parts_.year_days + parts_.year_days_length}; }
     std::vector<std::int8_t> month_days() const { return {parts_.month_days, parts_.month_days + parts_.month_days_length}; }
     std::vector<ByDay> weekdays() const
     {
@@ -694,6 +701,7 @@ public:
         }
         return weekdays;
     }
+    std::vector<std::int16_t> set_positions() const { return {parts_.set_positions, parts_.set_positions + parts_.set_positions_length}; }
     // Return the last day or the number of times, if given.
     std::optional<Date> until() const
     {
@@ -708,8 +716,11 @@ public:
         rule.interval = interval();
         rule.week_start = week_start();
         rule.months = months();
+        rule.weeks = weeks();
+        rule.year_days = year_days();
         rule.month_days = month_days();
         rule.weekdays = weekdays();
+        rule.set_positions = set_positions();
         rule.until = until();
         return rule;
     }

@@ -202,8 +202,11 @@ typedef struct {
     const char *text;
     uint32_t frequency, interval, week_start;
     uint8_t months[4];
+    int8_t weeks[4];
+    int16_t year_days[4];
     int8_t month_days[14];
     fots_rule_weekday weekdays[8];
+    int16_t set_positions[4];
     int32_t start, until; /* such as 19970902; 0 for no end */
     int32_t days[12]; /* the first ones, up to a 0 */
     int ends; /* whether these are all */
@@ -216,30 +219,45 @@ static fots_date of_number(int32_t number)
 
 /* The examples of RFC 5545 with their first days. */
 static const recurrence recurrences[] = {
-    {"FREQ=DAILY;INTERVAL=10;COUNT=5", FOTS_DAILY, 10, 1, {0}, {0}, {{0, 0}}, 19970902, 0, {19970902, 19970912, 19970922, 19971002, 19971012}, 0},
-    {"FREQ=DAILY;UNTIL=19970905", FOTS_DAILY, 1, 1, {0}, {0}, {{0, 0}}, 19970902, 19970905, {19970902, 19970903, 19970904, 19970905}, 1},
-    {"FREQ=WEEKLY;INTERVAL=2;WKST=SU", FOTS_WEEKLY, 2, 7, {0}, {0}, {{0, 0}}, 19970902, 0, {19970902, 19970916, 19970930, 19971014}, 0},
-    {"FREQ=WEEKLY;UNTIL=19971006;WKST=SU;BYDAY=TU,TH", FOTS_WEEKLY, 1, 7, {0}, {0}, {{0, 2}, {0, 4}}, 19970902, 19971006,
+    {"FREQ=DAILY;INTERVAL=10;COUNT=5", FOTS_DAILY, 10, 1, {0}, {0}, {0}, {0}, {{0, 0}}, {0}, 19970902, 0, {19970902, 19970912, 19970922, 19971002, 19971012}, 0},
+    {"FREQ=DAILY;UNTIL=19970905", FOTS_DAILY, 1, 1, {0}, {0}, {0}, {0}, {{0, 0}}, {0}, 19970902, 19970905, {19970902, 19970903, 19970904, 19970905}, 1},
+    {"FREQ=WEEKLY;INTERVAL=2;WKST=SU", FOTS_WEEKLY, 2, 7, {0}, {0}, {0}, {0}, {{0, 0}}, {0}, 19970902, 0, {19970902, 19970916, 19970930, 19971014}, 0},
+    {"FREQ=WEEKLY;UNTIL=19971006;WKST=SU;BYDAY=TU,TH", FOTS_WEEKLY, 1, 7, {0}, {0}, {0}, {0}, {{0, 2}, {0, 4}}, {0}, 19970902, 19971006,
         {19970902, 19970904, 19970909, 19970911, 19970916, 19970918, 19970923, 19970925, 19970930, 19971002}, 1},
-    {"FREQ=WEEKLY;INTERVAL=2;COUNT=4;BYDAY=TU,SU;WKST=MO", FOTS_WEEKLY, 2, 1, {0}, {0}, {{0, 2}, {0, 7}}, 19970805, 0,
+    {"FREQ=WEEKLY;INTERVAL=2;COUNT=4;BYDAY=TU,SU;WKST=MO", FOTS_WEEKLY, 2, 1, {0}, {0}, {0}, {0}, {{0, 2}, {0, 7}}, {0}, 19970805, 0,
         {19970805, 19970810, 19970819, 19970824}, 0},
-    {"FREQ=WEEKLY;INTERVAL=2;COUNT=4;BYDAY=TU,SU;WKST=SU", FOTS_WEEKLY, 2, 7, {0}, {0}, {{0, 2}, {0, 7}}, 19970805, 0,
+    {"FREQ=WEEKLY;INTERVAL=2;COUNT=4;BYDAY=TU,SU;WKST=SU", FOTS_WEEKLY, 2, 7, {0}, {0}, {0}, {0}, {{0, 2}, {0, 7}}, {0}, 19970805, 0,
         {19970805, 19970817, 19970819, 19970831}, 0},
-    {"FREQ=MONTHLY;COUNT=10;BYDAY=1FR", FOTS_MONTHLY, 1, 1, {0}, {0}, {{1, 5}}, 19970905, 0, {19970905, 19971003, 19971107, 19971205, 19980102}, 0},
-    {"FREQ=MONTHLY;INTERVAL=2;COUNT=10;BYDAY=1SU,-1SU", FOTS_MONTHLY, 2, 1, {0}, {0}, {{1, 7}, {-1, 7}}, 19970907, 0,
+    {"FREQ=MONTHLY;COUNT=10;BYDAY=1FR", FOTS_MONTHLY, 1, 1, {0}, {0}, {0}, {0}, {{1, 5}}, {0}, 19970905, 0, {19970905, 19971003, 19971107, 19971205, 19980102}, 0},
+    {"FREQ=MONTHLY;INTERVAL=2;COUNT=10;BYDAY=1SU,-1SU", FOTS_MONTHLY, 2, 1, {0}, {0}, {0}, {0}, {{1, 7}, {-1, 7}}, {0}, 19970907, 0,
         {19970907, 19970928, 19971102, 19971130, 19980104, 19980125, 19980301, 19980329, 19980503, 19980531}, 0},
-    {"FREQ=MONTHLY;COUNT=6;BYDAY=-2MO", FOTS_MONTHLY, 1, 1, {0}, {0}, {{-2, 1}}, 19970922, 0, {19970922, 19971020, 19971117, 19971222, 19980119, 19980216}, 0},
-    {"FREQ=MONTHLY;BYMONTHDAY=-3", FOTS_MONTHLY, 1, 1, {0}, {-3}, {{0, 0}}, 19970928, 0, {19970928, 19971029, 19971128, 19971229, 19980129, 19980226}, 0},
-    {"FREQ=MONTHLY;BYDAY=FR;BYMONTHDAY=13", FOTS_MONTHLY, 1, 1, {0}, {13}, {{0, 5}}, 19970902, 0, {19980213, 19980313, 19981113, 19990813, 20001013}, 0},
-    {"FREQ=MONTHLY;BYDAY=SA;BYMONTHDAY=7,8,9,10,11,12,13", FOTS_MONTHLY, 1, 1, {0}, {7, 8, 9, 10, 11, 12, 13}, {{0, 6}}, 19970913, 0,
+    {"FREQ=MONTHLY;COUNT=6;BYDAY=-2MO", FOTS_MONTHLY, 1, 1, {0}, {0}, {0}, {0}, {{-2, 1}}, {0}, 19970922, 0, {19970922, 19971020, 19971117, 19971222, 19980119, 19980216}, 0},
+    {"FREQ=MONTHLY;BYMONTHDAY=-3", FOTS_MONTHLY, 1, 1, {0}, {0}, {0}, {-3}, {{0, 0}}, {0}, 19970928, 0, {19970928, 19971029, 19971128, 19971229, 19980129, 19980226}, 0},
+    {"FREQ=MONTHLY;BYDAY=FR;BYMONTHDAY=13", FOTS_MONTHLY, 1, 1, {0}, {0}, {0}, {13}, {{0, 5}}, {0}, 19970902, 0, {19980213, 19980313, 19981113, 19990813, 20001013}, 0},
+    {"FREQ=MONTHLY;BYDAY=SA;BYMONTHDAY=7,8,9,10,11,12,13", FOTS_MONTHLY, 1, 1, {0}, {0}, {0}, {7, 8, 9, 10, 11, 12, 13}, {{0, 6}}, {0}, 19970913, 0,
         {19970913, 19971011, 19971108, 19971213, 19980110, 19980207, 19980307, 19980411, 19980509, 19980613}, 0},
-    {"FREQ=YEARLY;COUNT=10;BYMONTH=6,7", FOTS_YEARLY, 1, 1, {6, 7}, {0}, {{0, 0}}, 19970610, 0, {19970610, 19970710, 19980610, 19980710, 19990610}, 0},
-    {"FREQ=YEARLY;BYDAY=20MO", FOTS_YEARLY, 1, 1, {0}, {0}, {{20, 1}}, 19970519, 0, {19970519, 19980518, 19990517}, 0},
-    {"FREQ=YEARLY;BYMONTH=3;BYDAY=TH", FOTS_YEARLY, 1, 1, {3}, {0}, {{0, 4}}, 19970313, 0,
+    {"FREQ=YEARLY;COUNT=10;BYMONTH=6,7", FOTS_YEARLY, 1, 1, {6, 7}, {0}, {0}, {0}, {{0, 0}}, {0}, 19970610, 0, {19970610, 19970710, 19980610, 19980710, 19990610}, 0},
+    {"FREQ=YEARLY;BYDAY=20MO", FOTS_YEARLY, 1, 1, {0}, {0}, {0}, {0}, {{20, 1}}, {0}, 19970519, 0, {19970519, 19980518, 19990517}, 0},
+    {"FREQ=YEARLY;BYMONTH=3;BYDAY=TH", FOTS_YEARLY, 1, 1, {3}, {0}, {0}, {0}, {{0, 4}}, {0}, 19970313, 0,
         {19970313, 19970320, 19970327, 19980305, 19980312, 19980319, 19980326, 19990304, 19990311, 19990318, 19990325}, 0},
-    {"FREQ=YEARLY;INTERVAL=4;BYMONTH=11;BYDAY=TU;BYMONTHDAY=2,3,4,5,6,7,8", FOTS_YEARLY, 4, 1, {11}, {2, 3, 4, 5, 6, 7, 8}, {{0, 2}}, 19961105, 0,
+    {"FREQ=YEARLY;INTERVAL=4;BYMONTH=11;BYDAY=TU;BYMONTHDAY=2,3,4,5,6,7,8", FOTS_YEARLY, 4, 1, {11}, {0}, {0}, {2, 3, 4, 5, 6, 7, 8}, {{0, 2}}, {0}, 19961105, 0,
         {19961105, 20001107, 20041102}, 0},
+    {"FREQ=YEARLY;INTERVAL=3;COUNT=10;BYYEARDAY=1,100,200", FOTS_YEARLY, 3, 1, {0}, {0}, {1, 100, 200}, {0}, {{0, 0}}, {0}, 19970101, 0,
+        {19970101, 19970410, 19970719, 20000101, 20000409, 20000718, 20030101, 20030410, 20030719, 20060101}, 0},
+    {"FREQ=YEARLY;BYWEEKNO=20;BYDAY=MO", FOTS_YEARLY, 1, 1, {0}, {20}, {0}, {0}, {{0, 1}}, {0}, 19970512, 0, {19970512, 19980511, 19990517}, 0},
+    {"FREQ=MONTHLY;COUNT=3;BYDAY=TU,WE,TH;BYSETPOS=3", FOTS_MONTHLY, 1, 1, {0}, {0}, {0}, {0}, {{0, 2}, {0, 3}, {0, 4}}, {3}, 19970904, 0,
+        {19970904, 19971007, 19971106}, 0},
+    {"FREQ=MONTHLY;BYDAY=MO,TU,WE,TH,FR;BYSETPOS=-2", FOTS_MONTHLY, 1, 1, {0}, {0}, {0}, {0}, {{0, 1}, {0, 2}, {0, 3}, {0, 4}, {0, 5}}, {-2},
+        19970929, 0, {19970929, 19971030, 19971127, 19971230, 19980129, 19980226, 19980330}, 0},
 };
+
+/* Whether two lists are equal. */
+#define SAME(list) \
+    (said.list##_length == rule->list##_length && memcmp(said.list, rule->list, sizeof *rule->list * rule->list##_length) == 0)
+
+/* Sets a list of a rule to the values of a row up to a 0. */
+#define SET(list, value) \
+    for (rule.list = its->list; its->list[rule.list##_length] value != 0; rule.list##_length++) {}
 
 static fots_recurrence_result of_text(const char *text, fots_date start, fots_date from, fots_date *days, size_t length)
 {
@@ -284,9 +302,7 @@ static void by_its_parts(const recurrence *its, const fots_rule *rule)
     check((read.recurrence.until.julian_day == FOTS_NO_VALUE) == (its->until == 0), its->text, read.recurrence.until.julian_day, 0);
     check(said.start.julian_day == rule->start.julian_day && said.until.julian_day == rule->until.julian_day, its->text, said.until.julian_day, 0);
     check(said.frequency == rule->frequency && said.interval == rule->interval && said.week_start == rule->week_start, its->text, said.interval, 0);
-    check(said.months_length == rule->months_length && memcmp(said.months, rule->months, rule->months_length) == 0, its->text, 0, 0);
-    check(said.month_days_length == rule->month_days_length && memcmp(said.month_days, rule->month_days, rule->month_days_length) == 0, its->text, 0, 0);
-    check(said.weekdays_length == rule->weekdays_length && memcmp(said.weekdays, rule->weekdays, 2 * rule->weekdays_length) == 0, its->text, 0, 0);
+    check(SAME(months) && SAME(weeks) && SAME(year_days) && SAME(month_days) && SAME(weekdays) && SAME(set_positions), its->text, 0, 0);
     for (size_t index = said.weekdays_length; index < 62; index++) {
         check(said.weekdays[index].number == 0 && said.weekdays[index].weekday == 0, its->text, (long long)index, 0);
     }
@@ -304,18 +320,12 @@ static void recurrences_of_the_rfc(void)
         if (its->until != 0) {
             rule.until = of_number(its->until);
         }
-        rule.months = its->months;
-        while (its->months[rule.months_length] != 0) {
-            rule.months_length++;
-        }
-        rule.month_days = its->month_days;
-        while (its->month_days[rule.month_days_length] != 0) {
-            rule.month_days_length++;
-        }
-        rule.weekdays = its->weekdays;
-        while (its->weekdays[rule.weekdays_length].weekday != 0) {
-            rule.weekdays_length++;
-        }
+        SET(months, )
+        SET(weeks, )
+        SET(year_days, )
+        SET(month_days, )
+        SET(weekdays, .weekday)
+        SET(set_positions, )
         by_its_parts(its, &rule);
         fots_date found[COUNT(its->days)];
         const fots_days_result written = fots_rule_days_after(&rule, date_at(rule.start.julian_day - 1), found, COUNT(found));
@@ -362,18 +372,26 @@ static void rule_errors(void)
 
     static uint8_t months[FOTS_MAX_VALUES + 1];
     static int8_t month_days[FOTS_MAX_VALUES + 1];
+    static int16_t numbers[FOTS_MAX_VALUES + 1];
     static fots_rule_weekday weekdays[FOTS_MAX_VALUES + 1];
     for (int index = 0; index <= FOTS_MAX_VALUES; index++) {
         months[index] = (uint8_t)(index % 12 + 1);
         month_days[index] = (int8_t)(index - 31);
+        numbers[index] = (int16_t)(index - 31);
         weekdays[index].number = (int8_t)(index / 7 - 4);
         weekdays[index].weekday = (uint8_t)(index % 7 + 1);
     }
     fots_rule rule = daily;
     rule.months = months;
+    rule.weeks = month_days;
+    rule.year_days = numbers;
     rule.month_days = month_days;
     rule.weekdays = weekdays;
+    rule.set_positions = numbers;
     rule.months_length = 62;
+    rule.weeks_length = 62;
+    rule.year_days_length = 62;
+    rule.set_positions_length = 62;
     rule.month_days_length = 62;
     rule.weekdays_length = 62;
     is_day(fots_rule_first(&rule), day(2024, 1, 1), "as many parts as there can be");
@@ -389,6 +407,15 @@ static void rule_errors(void)
     rule.months_length = 63;
     is_error(fots_rule_first(&rule), FOTS_TOO_MANY_PARTS, "63 months");
     rule.months_length = 62;
+    rule.weeks_length = 63;
+    is_error(fots_rule_first(&rule), FOTS_TOO_MANY_PARTS, "63 weeks");
+    rule.weeks_length = 62;
+    rule.year_days_length = 63;
+    is_error(fots_rule_first(&rule), FOTS_TOO_MANY_PARTS, "63 days of the year");
+    rule.year_days_length = 62;
+    rule.set_positions_length = 63;
+    is_error(fots_rule_first(&rule), FOTS_TOO_MANY_PARTS, "63 positions");
+    rule.set_positions_length = 62;
     rule.month_days_length = 63;
     is_error(fots_rule_first(&rule), FOTS_TOO_MANY_PARTS, "63 days of the month");
     rule.month_days_length = 62;
@@ -426,27 +453,39 @@ static void accepts_up_to_62(const fots_rule *rule, const char *made, long long 
     check(written.status == status && (days[0].julian_day == 1) == (status != FOTS_OK) && days[1].julian_day == 2, made, length, lists);
 }
 
+/* Sets the lengths of the lists that the bits select to a length, and of the others to 0. */
+#define SET_LENGTHS(its) \
+    its.months_length = (lists & 1) == 0 ? 0 : lengths[row]; \
+    its.month_days_length = (lists & 2) == 0 ? 0 : lengths[row]; \
+    its.weekdays_length = (lists & 4) == 0 ? 0 : lengths[row]; \
+    its.weeks_length = (lists & 8) == 0 ? 0 : lengths[row]; \
+    its.year_days_length = (lists & 16) == 0 ? 0 : lengths[row]; \
+    its.set_positions_length = (lists & 32) == 0 ? 0 : lengths[row];
+
 /* Checks lengths of each list around the limit. */
 static void long_lists(void)
 {
     static const size_t lengths[] = {0, 1, 61, 62, 63, 64, 65, 100000};
     static uint8_t months[100000];
     static int8_t month_days[100000];
+    static int16_t year_days[100000];
     static fots_rule_weekday weekdays[100000];
     for (int index = 0; index < COUNT(months); index++) {
         months[index] = (uint8_t)(index % 12 + 1);
         month_days[index] = (int8_t)(index % 31 + 1);
+        year_days[index] = (int16_t)(index % 366 + 1);
         weekdays[index].weekday = (uint8_t)(index % 7 + 1);
     }
     for (int row = 0; row < COUNT(lengths); row++) {
-        for (int lists = 1; lists < 8; lists++) {
+        for (int lists = 1; lists < 64; lists++) {
             fots_rule rule = fots_rule_new(day(2024, 1, 1), FOTS_DAILY);
             rule.months = months;
+            rule.weeks = month_days;
+            rule.year_days = year_days;
             rule.month_days = month_days;
             rule.weekdays = weekdays;
-            rule.months_length = (lists & 1) == 0 ? 0 : lengths[row];
-            rule.month_days_length = (lists & 2) == 0 ? 0 : lengths[row];
-            rule.weekdays_length = (lists & 4) == 0 ? 0 : lengths[row];
+            rule.set_positions = year_days;
+            SET_LENGTHS(rule)
             accepts_up_to_62(&rule, "a list of a rule", (long long)lengths[row], lists);
         }
     }
@@ -464,16 +503,18 @@ static void filled_by_hand(void)
     *recurrence = fots_recurrence_parse("FREQ=DAILY", 10).recurrence;
     for (int index = 0; index < 62; index++) {
         recurrence->months[index] = (uint8_t)(index % 12 + 1);
+        recurrence->weeks[index] = (int8_t)(index + 1);
+        recurrence->year_days[index] = (int16_t)(index + 1);
         recurrence->month_days[index] = (int8_t)(index < 31 ? index + 1 : 30 - index);
         recurrence->weekdays[index].weekday = (uint8_t)(index % 7 + 1);
+        recurrence->set_positions[index] = (int16_t)(index + 1);
     }
     for (int row = 0; row < COUNT(lengths); row++) {
-        for (int lists = 1; lists < 8; lists++) {
-            recurrence->months_length = (lists & 1) == 0 ? 0 : lengths[row];
-            recurrence->month_days_length = (lists & 2) == 0 ? 0 : lengths[row];
-            recurrence->weekdays_length = (lists & 4) == 0 ? 0 : lengths[row];
+        for (int lists = 1; lists < 64; lists++) {
+            SET_LENGTHS((*recurrence))
             const fots_rule rule = fots_recurrence_rule(recurrence, day(2024, 1, 1));
             check(rule.months_length <= 63 && rule.month_days_length <= 62 && rule.weekdays_length <= 62, "inside the struct", lengths[row], lists);
+            check(rule.weeks_length <= 62 && rule.year_days_length <= 62 && rule.set_positions_length <= 62, "inside the struct", lengths[row], lists);
             accepts_up_to_62(&rule, "a recurrence filled by hand", lengths[row], lists);
         }
     }
@@ -483,7 +524,7 @@ static void filled_by_hand(void)
 /* Checks the written text, which parses as the same. The last one has full lists. */
 static void texts_in_one_order(void)
 {
-    static char words[1024] = "FREQ=MONTHLY;INTERVAL=4294967295;COUNT=4294967295", *at;
+    static char words[2048] = "FREQ=MONTHLY;INTERVAL=4294967295;COUNT=4294967295", *at;
     static const struct {
         const char *text, *written;
     } rows[] = {
@@ -493,10 +534,12 @@ static void texts_in_one_order(void)
         {"FREQ=MONTHLY;BYDAY=FR;BYMONTHDAY=13", "FREQ=MONTHLY;BYMONTHDAY=13;BYDAY=FR"},
         {"byday=tu,+02we,-1su;bymonthday=-31,+07;bymonth=06,12;until=19971231;wkst=su;interval=002;freq=yearly",
             "FREQ=YEARLY;INTERVAL=2;UNTIL=19971231;BYMONTH=6,12;BYMONTHDAY=-31,7;BYDAY=TU,2WE,-1SU;WKST=SU"},
+        {"freq=yearly;bysetpos=-366,+002;byday=mo;byyearday=-001,100;byweekno=53,-01",
+            "FREQ=YEARLY;BYWEEKNO=53,-1;BYYEARDAY=-1,100;BYDAY=MO;BYSETPOS=-366,2"},
         {words, words},
     };
-    for (int list = 0; list < 3; list++) {
-        static const char *const names[] = {";BYMONTH=", ";BYMONTHDAY=", ";BYDAY="}, *const values[] = {"12,", "-31,", "-53WE,"};
+    for (int list = 0; list < 4; list++) {
+        static const char *const names[] = {";BYMONTH=", ";BYMONTHDAY=", ";BYDAY=", ";BYSETPOS="}, *const values[] = {"12,", "-31,", "-53WE,", "-366,"};
         at = strcat(words, names[list]);
         for (int value = 0; value < 62; value++) {
             strcat(words, values[list]);
@@ -504,6 +547,7 @@ static void texts_in_one_order(void)
         at[strlen(at) - 1] = 0;
     }
     strcat(words, ";WKST=SU");
+    const size_t sizeof_fields = offsetof(fots_recurrence, set_positions) + FOTS_MAX_VALUES * sizeof(int16_t);
     for (int row = 0; row < COUNT(rows); row++) {
         const size_t length = strlen(rows[row].written);
         const fots_recurrence_text_result text = fots_recurrence_text(rows[row].text, strlen(rows[row].text));
@@ -514,11 +558,12 @@ static void texts_in_one_order(void)
         }
         const fots_parse_recurrence_result read = fots_recurrence_parse(rows[row].text, strlen(rows[row].text));
         const fots_parse_recurrence_result again = fots_recurrence_parse(text.bytes, text.length);
-        check(memcmp(&read, &again, sizeof read) == 0, "read again", row, 0);
+        check(again.status == FOTS_OK && memcmp(&read.recurrence, &again.recurrence, sizeof_fields) == 0, "read again", row, 0);
     }
     const fots_parse_recurrence_result longest = fots_recurrence_parse(words, strlen(words));
     const fots_rule rule = fots_recurrence_rule(&longest.recurrence, day(2024, 1, 1));
-    check(rule.months_length == 62 && rule.months[61] == 12 && rule.month_days[61] == -31 && rule.weekdays[61].number == -53, "full lists", 0, 0);
+    check(rule.months_length == 62 && rule.months[61] == 12 && rule.month_days[61] == -31 && rule.weekdays[61].number == -53
+        && rule.set_positions_length == 62 && rule.set_positions[61] == -366 && rule.weeks_length == 0 && rule.year_days_length == 0, "full lists", 0, 0);
     is_error(fots_rule_first(&rule), FOTS_RESULT_OUT_OF_RANGE, "no 53rd Wednesday of a month");
 }
 
@@ -544,6 +589,14 @@ static void text_errors(void)
         {"FREQ=DAILY;BYDAY=54MO", FOTS_INVALID_VALUE, FOTS_RULE_BYDAY, 11},
         {"FREQ=DAILY;UNTIL=20241231T240000Z", FOTS_INVALID_VALUE, FOTS_RULE_UNTIL, 11},
         {"FREQ=DAILY;COUNT=4294967296", FOTS_INVALID_VALUE, FOTS_RULE_COUNT, 11},
+        {"FREQ=YEARLY;BYWEEKNO=54", FOTS_INVALID_VALUE, FOTS_RULE_BYWEEKNO, 12},
+        {"FREQ=YEARLY;BYYEARDAY=0", FOTS_INVALID_VALUE, FOTS_RULE_BYYEARDAY, 12},
+        {"FREQ=YEARLY;BYDAY=MO;BYSETPOS=367", FOTS_INVALID_VALUE, FOTS_RULE_BYSETPOS, 21},
+        {"FREQ=YEARLY;BYSETPOS=1", FOTS_INVALID_VALUE, FOTS_RULE_BYSETPOS, 12},
+        {"BYWEEKNO=1;FREQ=MONTHLY", FOTS_INVALID_VALUE, FOTS_RULE_FREQ, 11},
+        {"FREQ=MONTHLY;BYYEARDAY=1", FOTS_INVALID_VALUE, FOTS_RULE_BYYEARDAY, 13},
+        {"FREQ=WEEKLY;BYMONTHDAY=1", FOTS_INVALID_VALUE, FOTS_RULE_BYMONTHDAY, 12},
+        {"FREQ=YEARLY;BYDAY=1MO;BYWEEKNO=20", FOTS_INVALID_VALUE, FOTS_RULE_BYWEEKNO, 22},
         {"BYDAY=MO", FOTS_MISSING_FREQUENCY, 0, 8},
     };
     fots_date days[2] = {{1}, {2}};

@@ -299,6 +299,15 @@ static void rules(int32_t julian_day, uint32_t number, int32_t count)
     rule.month_days_length = 0;
     rule.weekdays_length = FOTS_MAX_VALUES + 1;
     DATE(wrong, fots_rule_first(&rule));
+    rule.weekdays_length = 0;
+    rule.weeks_length = FOTS_MAX_VALUES + 1;
+    DATE(wrong, fots_rule_first(&rule));
+    rule.weeks_length = 0;
+    rule.year_days_length = FOTS_MAX_VALUES + 1;
+    DATE(wrong, fots_rule_first(&rule));
+    rule.year_days_length = 0;
+    rule.set_positions_length = FOTS_MAX_VALUES + 1;
+    DATE(wrong, fots_rule_first(&rule));
 }
 
 /* A daily rule has the date as its first day from there on, or the start if that is later. */
@@ -627,7 +636,9 @@ static void spelled(const char *bytes, size_t length, fots_recurrence_result fou
         return;
     }
     const fots_parse_recurrence_result again = fots_recurrence_parse(text.bytes, text.length);
-    check(text.length == strlen(text.bytes) && memcmp(&again, &read, sizeof read) == 0, "read again", text.length, (long long)length);
+    const size_t sizeof_fields = offsetof(fots_recurrence, set_positions) + FOTS_MAX_VALUES * sizeof(int16_t);
+    check(text.length == strlen(text.bytes) && again.status == FOTS_OK && memcmp(&again.recurrence, &read.recurrence, sizeof_fields) == 0,
+        "read again", text.length, (long long)length);
     if (found.length > 0) {
         check(fots_rule_first(&rule).date.julian_day == days[0].julian_day, "the first of its rule", days[0].julian_day, (long long)length);
     }

@@ -232,8 +232,29 @@ void recurrences()
         many.weekdays.assign(length, Weekday::Tuesday);
         throws([&] { many.next_after(many.start); }, FOTS_TOO_MANY_PARTS, "too many parts", "weekdays");
         many.weekdays.resize(FOTS_MAX_VALUES, Weekday::Tuesday);
+        many.weeks.assign(length, 32);
+        throws([&] { many.first(); }, FOTS_TOO_MANY_PARTS, "too many parts", "weeks");
+        many.weeks.resize(FOTS_MAX_VALUES);
+        many.year_days.assign(length, 217);
+        throws([&] { many.first(); }, FOTS_TOO_MANY_PARTS, "too many parts", "days of the year");
+        many.year_days.resize(FOTS_MAX_VALUES);
+        many.set_positions.assign(length, 1);
+        throws([&] { many.first(); }, FOTS_TOO_MANY_PARTS, "too many parts", "positions");
+        many.set_positions.resize(FOTS_MAX_VALUES);
         check(many.first() == many.start, "62 values");
     }
+    Rule third(Date::parse("1997-09-04"), Frequency::Monthly);
+    third.weekdays = {Weekday::Tuesday, Weekday::Wednesday, Weekday::Thursday};
+    third.set_positions = {3};
+    check(third.first_days(3) == dates({"1997-09-04", "1997-10-07", "1997-11-06"}), "BYSETPOS=3");
+    Rule week_20(Date::parse("1997-05-12"), Frequency::Yearly);
+    week_20.weeks = {20};
+    week_20.weekdays = {Weekday::Monday};
+    check(week_20.first_days(3) == dates({"1997-05-12", "1998-05-11", "1999-05-17"}), "BYWEEKNO=20");
+    Rule ordinals(Date::parse("1997-01-01"), Frequency::Yearly);
+    ordinals.interval = 3;
+    ordinals.year_days = {1, 100, 200};
+    check(ordinals.first_days(5) == dates({"1997-01-01", "1997-04-10", "1997-07-19", "2000-01-01", "2000-04-09"}), "BYYEARDAY=1,100,200");
 
     const Recurrence by_text = Recurrence::parse("FREQ=MONTHLY;COUNT=6;BYDAY=-2MO");
     const Date start = Date::parse("1997-09-22");
@@ -245,6 +266,11 @@ void recurrences()
     const Recurrence all_parts = Recurrence::parse("byday=tu,+02we,-1su;bymonthday=-31,+07;bymonth=06,12;until=19971231;wkst=su;interval=002;freq=yearly");
     check(all_parts.text() == "FREQ=YEARLY;INTERVAL=2;UNTIL=19971231;BYMONTH=6,12;BYMONTHDAY=-31,7;BYDAY=TU,2WE,-1SU;WKST=SU", "in one order");
     check(all_parts.months() == std::vector{Month::June, Month::December} && all_parts.month_days() == std::vector<std::int8_t>{-31, 7}, "lists");
+    const Recurrence numbered = Recurrence::parse("FREQ=YEARLY;BYWEEKNO=1,-1;BYYEARDAY=1,-366;BYDAY=MO;BYSETPOS=2,-366");
+    check(numbered.weeks() == std::vector<std::int8_t>{1, -1} && numbered.year_days() == std::vector<std::int16_t>{1, -366}
+        && numbered.set_positions() == std::vector<std::int16_t>{2, -366}, "weeks, days of the year and positions");
+    const Rule of_text = numbered.rule(start);
+    check(of_text.weeks == numbered.weeks() && of_text.year_days == numbered.year_days() && of_text.set_positions == numbered.set_positions(), "its rule's lists");
     const std::vector<ByDay> by = all_parts.weekdays();
     check(by.size() == 3 && by[0].number == 0 && by[1].number == 2 && by[2].number == -1 && by[2].weekday == Weekday::Sunday, "weekdays");
     check(all_parts.until() == Date::parse("1997-12-31") && all_parts.week_start() == Weekday::Sunday && !all_parts.count(), "the other parts");

@@ -301,11 +301,14 @@ static PyObject *parts_of_recurrence(const State *state, const fots_recurrence *
 {
     PyObject *until = found->until.julian_day == FOTS_NO_VALUE ? new_reference(Py_None) :
         new_date(state, found->until);
-    return Py_BuildValue("IIONINNN", (unsigned)found->frequency, (unsigned)found->interval,
+    return Py_BuildValue("IIONINNNNNN", (unsigned)found->frequency, (unsigned)found->interval,
         state->weekdays[found->week_start - 1], until, (unsigned)found->count,
         new_bytes(found->months, found->months_length),
+        new_bytes(found->weeks, found->weeks_length),
+        new_bytes(found->year_days, found->year_days_length * sizeof(int16_t)),
         new_bytes(found->month_days, found->month_days_length),
-        new_bytes(found->weekdays, found->weekdays_length * sizeof(fots_rule_weekday)));
+        new_bytes(found->weekdays, found->weekdays_length * sizeof(fots_rule_weekday)),
+        new_bytes(found->set_positions, found->set_positions_length * sizeof(int16_t)));
 }
 
 /* A function that makes a value of what was parsed, or raises its error. */

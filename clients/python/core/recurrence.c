@@ -3,26 +3,32 @@
 /* The days that a call returns at most: an iteration asks for as many at once. */
 #define DAYS_AT_ONCE 64
 
-/* Converts a tuple: start, until, frequency, interval, week_start, and for months, month_days and
- * weekdays bytes as C has them. */
+/* Sets a list of a rule, and its length, to the bytes of an object. */
+#define SET_LIST(list, bytes) \
+    (rule->list = (const void *)PyBytes_AsString(bytes), \
+        rule->list##_length = (size_t)PyBytes_Size(bytes) / sizeof *rule->list)
+
+/* Converts a tuple: start, until, frequency, interval, week_start, and for each list bytes as C has
+ * them. */
 static int to_rule(const State *state, PyObject *tuple, fots_rule *rule)
 {
-    PyObject *start, *until, *week_start, *months, *month_days, *weekdays;
+    PyObject *start, *until, *week_start;
+    PyObject *months, *weeks, *year_days, *month_days, *weekdays, *set_positions;
     unsigned frequency, interval;
-    if (!PyArg_ParseTuple(tuple, "OOIIOSSS", &start, &until, &frequency, &interval, &week_start,
-            &months, &month_days, &weekdays) ||
+    if (!PyArg_ParseTuple(tuple, "OOIIOSSSSSS", &start, &until, &frequency, &interval, &week_start,
+            &months, &weeks, &year_days, &month_days, &weekdays, &set_positions) ||
         !to_date(state, start, &rule->start) || !to_date(state, until, &rule->until) ||
         !to_weekday(state, week_start, &rule->week_start)) {
         return 0;
     }
     rule->frequency = frequency;
     rule->interval = interval;
-    rule->months = (const uint8_t *)PyBytes_AsString(months);
-    rule->months_length = (size_t)PyBytes_Size(months);
-    rule->month_days = (const int8_t *)PyBytes_AsString(month_days);
-    rule->month_days_length = (size_t)PyBytes_Size(month_days);
-    rule->weekdays = (const fots_rule_weekday *)PyBytes_AsString(weekdays);
-    rule->weekdays_length = (size_t)PyBytes_Size(weekdays) / sizeof(fots_rule_weekday);
+    SET_LIST(months, months);
+    SET_LIST(weeks, weeks);
+    SET_LIST(year_days, year_days);
+    SET_LIST(month_days, month_days);
+    SET_LIST(weekdays, weekdays);
+    SET_LIST(set_positions, set_positions);
     return 1;
 }
 

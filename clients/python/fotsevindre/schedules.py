@@ -120,6 +120,12 @@ def _fit(number: SupportsIndex, minimum: int, maximum: int) -> int:
     return number
 
 
+def _numbers(code: str, values: Iterable[SupportsIndex]) -> bytes:
+    """Returns numbers of 8 bits, `b`, or 16, `h`, as C has them."""
+    most = 127 if code == "b" else 32767
+    return array.array(code, [_fit(value, -most - 1, most) for value in values]).tobytes()
+
+
 def _listed(values: object) -> Iterable[Any]:
     """Returns the values, or the only one."""
     return values if isinstance(values, Iterable) else (values,)
@@ -142,9 +148,10 @@ class Rule:
     """A recurrence rule in a subset of RFC 5545. An iteration returns its days in order.
 
     A day is in every n-th day, week, month or year from the start, and in each list that isn't
-    empty: `months`, `month_days`, where -1 is the last day of the month, and `weekdays`. A
-    `Weekday` is every one, and `(-1, Weekday.Friday)` the last Friday of the month, or of the year
-    in a yearly rule without months. `ValueError` for more than 62 values in a list.
+    empty: `months`, `weeks` and `year_days` of the year, `month_days`, where -1 is the last day of
+    the month, and `weekdays`. A `Weekday` is every one, and `(-1, Weekday.Friday)` the last Friday
+    of the month, or of the year in a yearly rule without months. `set_positions` select from the
+    days of each period that are in these lists. `ValueError` for more than 62 values in a list.
 
     >>> last_fridays = Rule(Date(2024, 1, 1), Frequency.Monthly, weekdays=[(-1, Weekday.Friday)])
     >>> last_fridays.first_days(2), last_fridays.next_after(Date(2024, 8, 30))
@@ -161,17 +168,22 @@ class Rule:
     month_days: Sequence[int] = ()
     weekdays: Sequence[Weekday | tuple[int, Weekday]] = ()
     until: Date | None = None
+    weeks: Sequence[int] = ()
+    year_days: Sequence[int] = ()
+    set_positions: Sequence[int] = ()
 
     def __post_init__(self) -> None:
-        for name in ("months", "month_days", "weekdays"):
+        for name in (
+            "months", "weeks", "year_days", "month_days", "weekdays", "set_positions"):
             object.__setattr__(self, name, tuple(getattr(self, name)))
         parts = (
             check(self.start, Date), Date.MAX if self.until is None else check(self.until, Date),
             int(check(self.frequency, Frequency)), _fit(self.interval, 0, 2**32 - 1),
             check(self.week_start, Weekday),
             bytes(one if 0 <= one <= 255 else 255 for one in map(operator.index, self.months)),
-            bytes(_fit(day, -128, 127) % 256 for day in self.month_days),
-            b"".join(map(_rule_weekday, self.weekdays)))
+            _numbers("b", self.weeks), _numbers("h", self.year_days),
+            _numbers("b", self.month_days), b"".join(map(_rule_weekday, self.weekdays)),
+            _numbers("h", self.set_positions))
         object.__setattr__(self, "_parts", parts)
         _core.rule_contains(parts, self.start)
 
@@ -223,22 +235,26 @@ class Recurrence:
     interval: int = dataclasses.field(init=False, repr=False, compare=False)
     week_start: Weekday = dataclasses.field(init=False, repr=False, compare=False)
     months: tuple[Month, ...] = dataclasses.field(init=False, repr=False, compare=False)
+    weeks: tuple[int, ...] = dataclasses.field(init=False, repr=False, compare=False)
+    year_days: tuple[int, ...] = dataclasses.field(init=False, repr=False, compare=False)
     month_days: tuple[int, ...] = dataclasses.field(init=False, repr=False, compare=False)
     weekdays: tuple[Weekday | tuple[int, Weekday], ...] = dataclasses.field(
         init=False, repr=False, compare=False)
+    set_positions: tuple[int, ...] = dataclasses.field(init=False, repr=False, compare=False)
     until: Date | None = dataclasses.field(init=False, repr=False, compare=False)
     count: int | None = dataclasses.field(init=False, repr=False, compare=False)
 
     def __post_init__(self) -> None:
-        frequency, interval, week_start, until, count, months, month_days, weekdays = \
-            _core.recurrence_parse(self.text)
+        (frequency, interval, week_start, until, count, months, weeks, year_days, month_days,
+            weekdays, set_positions) = _core.recurrence_parse(self.text)
         numbers = array.array("b", weekdays[::2])
         pairs = zip(numbers, (Weekday(weekday - 1) for weekday in weekdays[1::2]))
         values = (
             _core.recurrence_text(self.text), Frequency(frequency), interval, week_start,
-            tuple(map(Month, months)), tuple(array.array("b", month_days)),
+            tuple(map(Month, months)), tuple(array.array("b", weeks)),
+            tuple(array.array("h", year_days)), tuple(array.array("b", month_days)),
             tuple((number, weekday) if number else weekday for number, weekday in pairs),
-            until, count or None)
+            tuple(array.array("h", set_positions)), until, count or None)
         for field, value in zip(dataclasses.fields(self), values):
             object.__setattr__(self, field.name, value)
 
@@ -257,32 +273,41 @@ class Recurrence:
     def from_parts(
         cls, frequency: Frequency, *, interval: int = 1, count: int | None = None,
         until: Date | None = None, bymonth: int | Iterable[int] = (),
+        byweekno: int | Iterable[int] = (), byyearday: int | Iterable[int] = (),
         bymonthday: int | Iterable[int] = (),
         byweekday: Weekday | Iterable[Weekday | tuple[int, Weekday]] = (),
-        wkst: Weekday = Weekday.Monday
+        bysetpos: int | Iterable[int] = (), wkst: Weekday = Weekday.Monday
     ) -> Recurrence:
         """Creates a recurrence from its parts, with the names of RFC 5545 and of `dateutil`. Raises
-        `ParseRuleError` for an invalid value.
+        `ParseRuleError` for an invalid value, and for parts that exclude each other.
 
         >>> print(Recurrence.from_parts(Frequency.Monthly, byweekday=[(-1, Weekday.Friday)]))
         FREQ=MONTHLY;BYDAY=-1FR
+        >>> workdays = tuple(Weekday)[:5]
+        >>> print(Recurrence.from_parts(Frequency.Monthly, byweekday=workdays, bysetpos=-1))
+        FREQ=MONTHLY;BYDAY=MO,TU,WE,TH,FR;BYSETPOS=-1
         """
+        def listed(values: int | Iterable[int]) -> str:
+            return ",".join(f"{operator.index(value)}" for value in _listed(values))
+
         weekdays = [one if isinstance(one, tuple) else ("", one) for one in _listed(byweekday)]
         parts = {
             "FREQ": check(frequency, Frequency).name.upper(), "INTERVAL": operator.index(interval),
             "COUNT": "" if count is None else operator.index(count),
             "UNTIL": "" if until is None else str(check(until, Date)).replace("-", ""),
-            "BYMONTH": ",".join(f"{operator.index(month)}" for month in _listed(bymonth)),
-            "BYMONTHDAY": ",".join(f"{operator.index(day)}" for day in _listed(bymonthday)),
+            "BYMONTH": listed(bymonth), "BYWEEKNO": listed(byweekno),
+            "BYYEARDAY": listed(byyearday), "BYMONTHDAY": listed(bymonthday),
             "BYDAY": ",".join(
                 f"{number}{check(day, Weekday).name[:2].upper()}" for number, day in weekdays),
+            "BYSETPOS": listed(bysetpos),
             "WKST": check(wkst, Weekday).name[:2].upper()}
         return cls(";".join(f"{name}={value}" for name, value in parts.items() if value != ""))
 
     def rule(self, start: Date) -> Rule:
         """Returns the rule from a start, without the number of times."""
         return Rule(start, self.frequency, self.interval, self.week_start, self.months,
-            self.month_days, self.weekdays, self.until)
+            self.month_days, self.weekdays, self.until, self.weeks, self.year_days,
+            self.set_positions)
 
     def days(self, start: Date) -> Iterator[Date]:
         """Iterates over the days from a start to the end."""

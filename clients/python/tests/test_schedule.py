@@ -134,6 +134,13 @@ class Recurrences(unittest.TestCase):
         ("FREQ=YEARLY;BYDAY=20MO", 19970519, Frequency.Yearly, {"weekdays": [(20, Weekday.Monday)]}, [19970519, 19980518, 19990517]),
         ("FREQ=YEARLY;INTERVAL=4;BYMONTH=11;BYDAY=TU;BYMONTHDAY=2,3,4,5,6,7,8", 19961105, Frequency.Yearly,
             {"interval": 4, "months": [Month.November], "weekdays": [TU], "month_days": range(2, 9)}, [19961105, 20001107, 20041102]),
+        ("FREQ=YEARLY;INTERVAL=3;COUNT=10;BYYEARDAY=1,100,200", 19970101, Frequency.Yearly, {"interval": 3, "year_days": [1, 100, 200]},
+            [19970101, 19970410, 19970719, 20000101, 20000409, 20000718, 20030101, 20030410, 20030719, 20060101]),
+        ("FREQ=YEARLY;BYWEEKNO=20;BYDAY=MO", 19970512, Frequency.Yearly, {"weeks": [20], "weekdays": [Weekday.Monday]}, [19970512, 19980511, 19990517]),
+        ("FREQ=MONTHLY;COUNT=3;BYDAY=TU,WE,TH;BYSETPOS=3", 19970904, Frequency.Monthly,
+            {"weekdays": [TU, Weekday.Wednesday, TH], "set_positions": [3]}, [19970904, 19971007, 19971106]),
+        ("FREQ=MONTHLY;BYDAY=MO,TU,WE,TH,FR;BYSETPOS=-2", 19970929, Frequency.Monthly, {"weekdays": tuple(Weekday)[:5], "set_positions": [-2]},
+            [19970929, 19971030, 19971127, 19971230, 19980129, 19980226, 19980330]),
     ]
 
     def test_examples_of_the_rfc(self):
@@ -172,6 +179,8 @@ class Recurrences(unittest.TestCase):
         counted, start = Recurrence.parse("FREQ=MONTHLY;COUNT=6;BYDAY=-2MO"), day(1997, 9, 22)
         *_, last = counted.days(start)
         self.assertEqual((last, counted.rule(start).next_after(last), last in counted.rule(start)), (day(1998, 2, 16), day(1998, 3, 23), True))
+        numbered_parts = Recurrence.parse("FREQ=YEARLY;BYWEEKNO=1,-53;BYYEARDAY=1,-366;BYDAY=MO;BYSETPOS=2,-366")
+        self.assertEqual((numbered_parts.weeks, numbered_parts.year_days, numbered_parts.set_positions), ((1, -53), (1, -366), (2, -366)))
         full = Recurrence.parse("FREQ=YEARLY;BYMONTH=1" + ",1" * 61)
         self.assertEqual((len(full.months), list(full.rule(Date.MAX))), (62, []))
 
@@ -214,12 +223,14 @@ class Recurrences(unittest.TestCase):
         self.assertEqual(refused.exception.name, "month")
         for parts in ({"months": [300]}, {"weekdays": [(0, FR)]}):
             self.assertRaises(ValueError, Rule, start, Frequency.Yearly, **parts)
-        for name, value in (("months", 1), ("month_days", 1), ("weekdays", FR)):
-            self.assertEqual(Rule(start, Frequency.Yearly, **{name: [value] * 62}).next_after(start).year, 2025 if name == "months" else 2024)
+        for name, value, year in (("months", 1, 2025), ("weeks", 2, 2024), ("year_days", 9, 2024), ("month_days", 1, 2024), ("weekdays", FR, 2024),
+                ("set_positions", 1, 2025)):
+            self.assertEqual(Rule(start, Frequency.Yearly, **{name: [value] * 62}).next_after(start).year, year)
             for length in (63, 64, 100_000):
                 with self.assertRaisesRegex(ValueError, "^too many values in a list of a rule; expected at most 62$"):
                     Rule(start, Frequency.Yearly, **{name: [value] * length})
-        for parts in ({"month_days": [128]}, {"weekdays": [(-129, FR)]}, {"interval": -1}, {"interval": 2**32}):
+        for parts in ({"month_days": [128]}, {"weeks": [-129]}, {"year_days": [2**15]}, {"set_positions": [-2**15 - 1]}, {"weekdays": [(-129, FR)]},
+                {"interval": -1}, {"interval": 2**32}):
             self.assertRaises(OverflowError, Rule, start, Frequency.Yearly, **parts)
         for arguments in ((start, 4), (datetime.date(2024, 1, 1), Frequency.Daily), (start, Frequency.Daily, 1.0)):
             self.assertRaises(TypeError, Rule, *arguments)
@@ -246,10 +257,13 @@ class Recurrences(unittest.TestCase):
             ({"interval": 2, "count": 4, "byweekday": (Weekday.Tuesday, (2, Weekday.Wednesday)), "wkst": Weekday.Sunday},
                 "FREQ=YEARLY;INTERVAL=2;COUNT=4;BYDAY=TU,2WE;WKST=SU"),
             ({"until": day(1997, 12, 31), "bymonthday": [1, -1], "bymonth": range(1, 3)}, "FREQ=YEARLY;UNTIL=19971231;BYMONTH=1,2;BYMONTHDAY=1,-1"),
+            ({"byweekno": [1, -1], "byyearday": range(365, 367), "byweekday": Weekday.Monday, "bysetpos": -1},
+                "FREQ=YEARLY;BYWEEKNO=1,-1;BYYEARDAY=365,366;BYDAY=MO;BYSETPOS=-1"),
         ):
             made = Recurrence.from_parts(Frequency.Yearly, **parts)
             self.assertEqual((made.text, made), (wanted, Recurrence.parse(wanted)))
-        for parts in ({"bymonth": 13}, {"count": 0}, {"count": 1, "until": start}, {"byweekday": [(0, Weekday.Monday)]}, {"bymonthday": 32}):
+        for parts in ({"bymonth": 13}, {"count": 0}, {"count": 1, "until": start}, {"byweekday": [(0, Weekday.Monday)]}, {"bymonthday": 32},
+                {"byweekno": 54}, {"byyearday": 367}, {"bysetpos": 1}, {"byweekno": 1, "byweekday": [(1, Weekday.Monday)]}):
             self.assertRaises(ParseRuleError, Recurrence.from_parts, Frequency.Yearly, **parts)
         for parts in ({"bymonth": "1"}, {"count": "1"}, {"until": 1}, {"wkst": 1}, {"byweekday": [5]}, {"byweekday": 5}):
             self.assertRaises(TypeError, Recurrence.from_parts, Frequency.Yearly, **parts)

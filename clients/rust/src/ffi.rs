@@ -205,9 +205,14 @@ impl FormatError {
 
 /// Calls with the parts of a rule, which live until the call returns. Panics with too many of them.
 pub(crate) fn with_parts<T>(rule: &Rule<'_>, call: impl FnOnce(CRulePointer) -> T) -> T {
-    for (length, name) in
-        [(rule.months.len(), "months"), (rule.month_days.len(), "days of the month"), (rule.weekdays.len(), "weekdays")]
-    {
+    for (length, name) in [
+        (rule.months.len(), "months"),
+        (rule.weeks.len(), "weeks"),
+        (rule.year_days.len(), "days of the year"),
+        (rule.month_days.len(), "days of the month"),
+        (rule.weekdays.len(), "weekdays"),
+        (rule.set_positions.len(), "positions"),
+    ] {
         assert!(length <= Rule::MAX_VALUES, "too many {name} in a rule: {length}; expected at most {}", Rule::MAX_VALUES);
     }
     let mut months = [0; Rule::MAX_VALUES];
@@ -231,10 +236,16 @@ pub(crate) fn with_parts<T>(rule: &Rule<'_>, call: impl FnOnce(CRulePointer) -> 
         week_start: rule.week_start.number(),
         months: months.as_ptr(),
         months_length: rule.months.len(),
+        weeks: rule.weeks.as_ptr(),
+        weeks_length: rule.weeks.len(),
+        year_days: rule.year_days.as_ptr(),
+        year_days_length: rule.year_days.len(),
         month_days: rule.month_days.as_ptr(),
         month_days_length: rule.month_days.len(),
         weekdays: weekdays.as_ptr(),
         weekdays_length: rule.weekdays.len(),
+        set_positions: rule.set_positions.as_ptr(),
+        set_positions_length: rule.set_positions.len(),
     })
 }
 

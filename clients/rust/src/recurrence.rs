@@ -200,8 +200,11 @@ impl<'a> Recurrence<'a> {
             interval: self.interval(),
             week_start: self.week_start(),
             months: self.months(),
+            weeks: self.weeks(),
+            year_days: self.year_days(),
             month_days: self.month_days(),
             weekdays: self.weekdays(),
+            set_positions: self.set_positions(),
             until: match self.end() {
                 RuleEnd::Until(day) => Some(day),
                 RuleEnd::Never | RuleEnd::Count(_) => None,
@@ -229,6 +232,16 @@ impl<'a> Recurrence<'a> {
         self.parts.months.as_slice()
     }
 
+    /// Returns the weeks of the year, from 1, or from -1 at the end of the year.
+    pub fn weeks(&self) -> &[i8] {
+        self.parts.weeks.as_slice()
+    }
+
+    /// Returns the days of the year, from 1, or from -1 at the end of the year.
+    pub fn year_days(&self) -> &[i16] {
+        self.parts.year_days.as_slice()
+    }
+
     /// Returns the days of the month, from 1, or from -1 at the end of the month.
     pub fn month_days(&self) -> &[i8] {
         self.parts.month_days.as_slice()
@@ -237,6 +250,12 @@ impl<'a> Recurrence<'a> {
     /// Returns the weekdays.
     pub fn weekdays(&self) -> &[ByDay] {
         self.parts.weekdays.as_slice()
+    }
+
+    /// Returns the positions among the days of a period that match the lists, from 1, or from -1 at
+    /// its end.
+    pub fn set_positions(&self) -> &[i16] {
+        self.parts.set_positions.as_slice()
     }
 
     /// Returns the end.

@@ -35,7 +35,8 @@ pub enum ByDay {
 }
 
 /// A recurrence rule in a subset of RFC 5545. A day matches if it matches all parts; an empty slice
-/// excludes no day. A rule without days of the month and weekdays takes the day of its start.
+/// excludes no day. A rule without days of the year, days of the month and weekdays takes the day of
+/// its start.
 ///
 /// Calls panic if a slice has more than [`Rule::MAX_VALUES`] values.
 ///
@@ -60,16 +61,24 @@ pub struct Rule<'a> {
     pub week_start: Weekday,
     /// The months.
     pub months: &'a [Month],
+    /// The weeks of the year, from 1, or from -1 at the end of the year. A week belongs to the year
+    /// that has its fourth day.
+    pub weeks: &'a [i8],
+    /// The days of the year, from 1, or from -1 at the end of the year. 0 matches no day.
+    pub year_days: &'a [i16],
     /// The days of the month, from 1, or from -1 at the end of the month. 0 matches no day.
     pub month_days: &'a [i8],
     /// The weekdays.
     pub weekdays: &'a [ByDay],
+    /// The positions among the days of a period that match the lists above, from 1, or from -1 at
+    /// its end.
+    pub set_positions: &'a [i16],
     /// The last possible day.
     pub until: Option<Date>,
 }
 
 impl<'a> Rule<'a> {
-    /// The maximum number of months, of days of the month, and of weekdays.
+    /// The maximum number of values of a list.
     pub const MAX_VALUES: usize = 62;
 
     /// Creates the rule of every day, or the same day of every week (from Monday), month or year.
@@ -80,8 +89,11 @@ impl<'a> Rule<'a> {
             interval: 1,
             week_start: Weekday::Monday,
             months: &[],
+            weeks: &[],
+            year_days: &[],
             month_days: &[],
             weekdays: &[],
+            set_positions: &[],
             until: None,
         }
     }

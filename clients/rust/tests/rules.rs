@@ -57,6 +57,8 @@ fn parts() {
     assert_eq!((all.months(), all.month_days()), (&[June, December][..], &[-31, 7][..]));
     assert_eq!(all.weekdays(), [Every(Tuesday), Nth(2, Wednesday), Nth(-1, Sunday)]);
     assert_eq!(all.end(), RuleEnd::Until(date(1997_12_31)));
+    let numbered = parse(b"FREQ=YEARLY;BYWEEKNO=1,-53;BYYEARDAY=1,-366;BYDAY=MO;BYSETPOS=2,-366").unwrap();
+    assert_eq!((numbered.weeks(), numbered.year_days(), numbered.set_positions()), (&[1, -53][..], &[1, -366][..], &[2, -366][..]));
     let counted = parse(b"FREQ=MONTHLY;COUNT=6;BYDAY=-2MO").unwrap();
     assert_eq!((counted.end(), counted.rule(Date::MIN).until), (RuleEnd::Count(6), None));
     let last = date(1998_02_16);
@@ -136,6 +138,24 @@ fn examples_of_the_rfc() {
         &[1996_11_05, 2000_11_07, 2004_11_02],
         false,
     );
+    begins(
+        "FREQ=YEARLY;INTERVAL=3;BYYEARDAY=1,100,200",
+        &Rule { interval: 3, year_days: &[1, 100, 200], ..rule(Yearly, 1997_01_01) },
+        &[1997_01_01, 1997_04_10, 1997_07_19, 2000_01_01, 2000_04_09, 2000_07_18, 2003_01_01],
+        false,
+    );
+    begins(
+        "FREQ=YEARLY;BYWEEKNO=20;BYDAY=MO",
+        &Rule { weeks: &[20], weekdays: &[Every(Monday)], ..rule(Yearly, 1997_05_12) },
+        &[1997_05_12, 1998_05_11, 1999_05_17],
+        false,
+    );
+    begins(
+        "FREQ=MONTHLY;BYDAY=TU,WE,TH;BYSETPOS=3",
+        &Rule { weekdays: &[Every(Tuesday), Every(Wednesday), Every(Thursday)], set_positions: &[3], ..rule(Monthly, 1997_09_04) },
+        &[1997_09_04, 1997_10_07, 1997_11_06],
+        false,
+    );
 }
 
 #[test]
@@ -178,6 +198,9 @@ fn texts_at_fault() {
         ("FREQ=DAILY;BYMONTH=13", 11, ParseRuleErrorKind::Value(RulePart::Months), "invalid value of BYMONTH at 11"),
         ("FREQ=DAILY;BYDAY=54MO", 11, ParseRuleErrorKind::Value(RulePart::Weekdays), "invalid value of BYDAY at 11"),
         ("FREQ=DAILY;UNTIL=20230229", 11, ParseRuleErrorKind::Value(RulePart::Until), "invalid value of UNTIL at 11"),
+        ("FREQ=YEARLY;BYSETPOS=1", 12, ParseRuleErrorKind::Value(RulePart::Positions), "invalid value of BYSETPOS at 12"),
+        ("FREQ=MONTHLY;BYWEEKNO=1", 13, ParseRuleErrorKind::Value(RulePart::Weeks), "invalid value of BYWEEKNO at 13"),
+        ("FREQ=WEEKLY;BYYEARDAY=1", 12, ParseRuleErrorKind::Value(RulePart::YearDays), "invalid value of BYYEARDAY at 12"),
         ("BYDAY=MO", 8, ParseRuleErrorKind::Missing, "missing FREQ at 8"),
     ] {
         let fault = parse(text.as_bytes()).unwrap_err();
@@ -189,8 +212,11 @@ fn texts_at_fault() {
 fn as_many_parts_as_there_can_be() {
     let rule = Rule {
         months: &[January; Rule::MAX_VALUES],
+        weeks: &[2; Rule::MAX_VALUES],
+        year_days: &[6; Rule::MAX_VALUES],
         month_days: &[6; Rule::MAX_VALUES],
         weekdays: &[Every(Monday); Rule::MAX_VALUES],
+        set_positions: &[-1; Rule::MAX_VALUES],
         ..rule(Yearly, 2024_01_01)
     };
     assert_eq!(rule.days().next(), Some(date(2025_01_06)));
@@ -208,6 +234,24 @@ fn months_past_them() {
 #[should_panic = "too many days of the month in a rule: 100000; expected at most 62"]
 fn month_days_past_them() {
     Rule { month_days: &[1; 100_000], ..rule(Daily, 2024_01_01) }.next_after(Date::MAX);
+}
+
+#[test]
+#[should_panic = "too many weeks in a rule: 63; expected at most 62"]
+fn weeks_past_them() {
+    Rule { weeks: &[1; 63], ..rule(Daily, 2024_01_01) }.days();
+}
+
+#[test]
+#[should_panic = "too many days of the year in a rule: 63; expected at most 62"]
+fn year_days_past_them() {
+    Rule { year_days: &[1; 63], ..rule(Daily, 2024_01_01) }.days();
+}
+
+#[test]
+#[should_panic = "too many positions in a rule: 63; expected at most 62"]
+fn set_positions_past_them() {
+    Rule { set_positions: &[1; 63], ..rule(Daily, 2024_01_01) }.days();
 }
 
 #[test]

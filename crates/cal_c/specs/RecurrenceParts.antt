@@ -1,5 +1,5 @@
 -- The parts of a recurrence as numbers.
-use Rattle.std.specs.Prelude.{ℕ, ◌+◌, ◌-◌, ◌==◌, ◌&&◌, ℤ, pos, List, ◌++◌, length, map, replicate, Result, Ok, Err, if◌then◌else◌}
+use Rattle.std.specs.Prelude.{ℕ, ◌+◌, ◌-◌, ℤ, pos, List, ◌++◌, length, map, replicate, Result, Ok, Err}
 use Rattle.cal_time.specs.Date.{julian_day_at}
 use Rattle.cal_time.specs.Month.{number}
 use Rattle.cal_time.specs.Weekday.{index}
@@ -12,7 +12,7 @@ use Rattle.cal_recurrence.specs.declared.recurrence.RuleEnd.TheVariants.{Never, 
 use Rattle.cal_c.specs.RecurrenceTexts.{error_part, reason_status}
 use Rattle.cal_c.specs.Recurrences.{frequency_number}
 use Rattle.cal_c.specs.Results.{no_value}
-use Rattle.cal_c.specs.Statuses.{ok_status, unknown_part}
+use Rattle.cal_c.specs.Statuses.{ok_status}
 use Rattle.cal_c.specs.Texts.{no_position}
 use Rattle.cal_c.specs.declared.schedule.recurrences.recurrence_parts.RecurrenceParts.{RecurrenceParts}
 use Rattle.cal_c.specs.declared.schedule.recurrences.parsing.ParseRecurrenceResult.{ParseRecurrenceResult}
@@ -51,11 +51,17 @@ parts_of r = record {
   until = until_in r.end;
   count = count_in r.end;
   months_length = length r.months;
+  weeks_length = length r.weeks;
+  year_days_length = length r.year_days;
   month_days_length = length r.month_days;
   weekdays_length = length r.weekdays;
+  set_positions_length = length r.set_positions;
   months = filled 0 (map number r.months);
+  weeks = filled (pos 0) r.weeks;
+  year_days = filled (pos 0) r.year_days;
   month_days = filled (pos 0) r.month_days;
   weekdays = filled no_weekday (map parts_of_weekday r.weekdays);
+  set_positions = filled (pos 0) r.set_positions;
 }
 
 -- The parts for an error.
@@ -67,17 +73,20 @@ no_parts = record {
   until = no_value;
   count = 0;
   months_length = 0;
+  weeks_length = 0;
+  year_days_length = 0;
   month_days_length = 0;
   weekdays_length = 0;
+  set_positions_length = 0;
   months = replicate 62 0;
+  weeks = replicate 62 (pos 0);
+  year_days = replicate 62 (pos 0);
   month_days = replicate 62 (pos 0);
   weekdays = replicate 62 no_weekday;
+  set_positions = replicate 62 (pos 0);
 }
 
--- The result of parsing: the parts of the recurrence, or the first wrong part of the text. The parts
--- have no weeks, days of the year and positions, so a recurrence with some has an unknown part.
+-- The result of parsing: the parts of the recurrence, or the first wrong part of the text.
 abbrev pub parse_recurrence_result : Result Recurrence ParseRuleError → ParseRecurrenceResult
-parse_recurrence_result (Ok its) =
-    if (length its.set_positions == 0) && ((length its.year_days == 0) && (length its.weeks == 0)) then record { status = ok_status; part = 0; position = no_position; recurrence = parts_of its }
-    else record { status = unknown_part; part = 0; position = 0; recurrence = no_parts }
+parse_recurrence_result (Ok its) = record { status = ok_status; part = 0; position = no_position; recurrence = parts_of its }
 parse_recurrence_result (Err fault) = record { status = reason_status fault.reason; part = error_part fault.reason; position = fault.position; recurrence = no_parts }

@@ -1,5 +1,5 @@
 -- Recurrence rules with the parts that C passes.
-use Rattle.std.specs.Prelude.{◌≡◌, ℕ, zero, ◌+◌, ◌-◌, ◌<◌, ◌≤◌, min, ℤ, pos, List, All, [], get_or, length, map, Some}
+use Rattle.std.specs.Prelude.{◌≡◌, ℕ, zero, ◌+◌, ◌-◌, ◌<◌, ◌≤◌, min, ℤ, pos, List, All, get_or, length, map, Some}
 use Rattle.cal_time.specs.Date.{julian_day_at}
 use Rattle.cal_schedule.specs.declared.rule.rule.ByDay.{ByDay}
 use Rattle.cal_schedule.specs.declared.rule.rule.ByDay.TheVariants.{Every, Nth}
@@ -49,7 +49,8 @@ AreDates p = IsJulianDay p.start × IsJulianDay p.until
 -- No list has more than 62 values, the limit of a recurrence in text.
 abbrev pub AreListsShort : RuleParts → Type 0
 AreListsShort p =
-    (length p.months.now ≤ most_values) × (length p.month_days.now ≤ most_values) × (length p.weekdays.now ≤ most_values)
+    (length p.months.now ≤ most_values) × (length p.weeks.now ≤ most_values) × (length p.year_days.now ≤ most_values)
+    × (length p.month_days.now ≤ most_values) × (length p.weekdays.now ≤ most_values) × (length p.set_positions.now ≤ most_values)
 
 -- Each number is the number of a month.
 abbrev pub AreMonths : List ℕ → Type 0
@@ -88,10 +89,10 @@ pub record IsPlainRuleFromParts (p : RuleParts) (rule : Rule) : Type 0 where
   pub frequency : frequency_number rule.frequency ≡ p.frequency
   pub interval : rule.interval ≡ p.interval
   pub week_start : index rule.week_start + 1 ≡ p.week_start
+  pub weeks : rule.weeks.now ≡ p.weeks.now
+  pub year_days : rule.year_days.now ≡ p.year_days.now
   pub month_days : rule.month_days.now ≡ p.month_days.now
-  pub weeks : rule.weeks.now ≡ []
-  pub year_days : rule.year_days.now ≡ []
-  pub set_positions : rule.set_positions.now ≡ []
+  pub set_positions : rule.set_positions.now ≡ p.set_positions.now
 
 -- The rule has the parts p.
 pub record IsRuleFromParts (p : RuleParts) (rule : Rule) : Type 0 where

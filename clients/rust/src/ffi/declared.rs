@@ -83,15 +83,18 @@ structs! {
     CMoment { date: i32, offset: i32, time: u64 };
     CRuleWeekday { number: i8, weekday: u8 };
     CRecurrence {
-        frequency: u32, interval: u32, week_start: u32, until: i32, count: u32, months_length: u32, month_days_length: u32,
-        weekdays_length: u32, months: [u8; 62], month_days: [i8; 62], weekdays: [CRuleWeekday; 62],
+        frequency: u32, interval: u32, week_start: u32, until: i32, count: u32, months_length: u32, weeks_length: u32,
+        year_days_length: u32, month_days_length: u32, weekdays_length: u32, set_positions_length: u32, months: [u8; 62],
+        weeks: [i8; 62], year_days: [i16; 62], month_days: [i8; 62], weekdays: [CRuleWeekday; 62], set_positions: [i16; 62],
     };
     CWorkdays { weekmask: u32, holidays_length: u32, holidays: [i32; 1024], marked_before: [u16; 1025] };
     CFormatItem { kind: u8, value: u8 };
     CFormat { length: u32, items: [CFormatItem; 64] };
     CRule {
         start: i32, until: i32, frequency: u32, interval: u32, week_start: u32, months: *const u8, months_length: usize,
-        month_days: *const i8, month_days_length: usize, weekdays: *const CRuleWeekday, weekdays_length: usize,
+        weeks: *const i8, weeks_length: usize, year_days: *const i16, year_days_length: usize, month_days: *const i8,
+        month_days_length: usize, weekdays: *const CRuleWeekday, weekdays_length: usize, set_positions: *const i16,
+        set_positions_length: usize,
     };
     CZone { bytes: *const u8, bytes_length: usize, form: u32 };
 }

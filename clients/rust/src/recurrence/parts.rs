@@ -12,8 +12,11 @@ pub(super) struct Parts {
     pub(super) interval: u32,
     pub(super) week_start: Weekday,
     pub(super) months: Values<Month>,
+    pub(super) weeks: Values<i8>,
+    pub(super) year_days: Values<i16>,
     pub(super) month_days: Values<i8>,
     pub(super) weekdays: Values<ByDay>,
+    pub(super) set_positions: Values<i16>,
     pub(super) end: RuleEnd,
 }
 
@@ -24,8 +27,11 @@ impl Parts {
             interval: parts.interval,
             week_start: Weekday::from_number(parts.week_start),
             months: Values::from_c(parts.months, parts.months_length, |month| Month::from_number(month.into()), Month::January),
+            weeks: Values::from_c(parts.weeks, parts.weeks_length, |week| week, 0),
+            year_days: Values::from_c(parts.year_days, parts.year_days_length, |day| day, 0),
             month_days: Values::from_c(parts.month_days, parts.month_days_length, |day| day, 0),
             weekdays: Values::from_c(parts.weekdays, parts.weekdays_length, by_day, ByDay::Every(Weekday::Monday)),
+            set_positions: Values::from_c(parts.set_positions, parts.set_positions_length, |position| position, 0),
             end: match parts.count {
                 0 if parts.until == i32::MIN => RuleEnd::Never,
                 0 => RuleEnd::Until(Date::from_c(parts.until)),

@@ -1,5 +1,5 @@
 //! The lists of a recurrence: the values, then zeros.
-ghost use Rattle.std.specs.Prelude.{◌≡◌, ◌≤◌, length, map, pos};
+ghost use Rattle.std.specs.Prelude.{◌≡◌, ◌≤◌, length, map};
 ghost use Rattle.cal_time.specs.Month.{number};
 ghost use Rattle.cal_recurrence.specs.Values.{most_values};
 ghost use Rattle.cal_c.specs.RecurrenceParts.{filled, no_weekday, parts_of_weekday};
@@ -28,13 +28,13 @@ pub(super) fn month_numbers(months: &[Month]) -> [u8; MAX]
     numbers
 }
 
-/// Returns the days of the month.
-pub(super) fn all_month_days(days: &[i8]) -> [i8; MAX]
-    requires { length days.now ≤ most_values }
-    ensures { result ≡ filled (pos 0) days.now }
+/// Returns the values, then fillers.
+pub(super) fn filled<T: Copy>(values: &[T], filler: T) -> [T; MAX]
+    requires { length values.now ≤ most_values }
+    ensures { result ≡ filled filler values.now }
 {
-    let mut all = [0; MAX];
-    all[..days.len()].copy_from_slice(days);
+    let mut all = [filler; MAX];
+    all[..values.len()].copy_from_slice(values);
     all
 }
 

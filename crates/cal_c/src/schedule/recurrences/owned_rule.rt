@@ -1,6 +1,6 @@
 //! The rule with the parts that C passes.
-ghost use Rattle.std.specs.Prelude.{◌≡◌, IfErr, IfOk, MatchOption};
-ghost use Rattle.cal_c.specs.Recurrences.{frequency_number, months_in, weekdays_in, ArePlain, IsFrequency, IsPlainRuleFromParts, IsRule, IsRuleFromParts, IsRuleStatus};
+ghost use Rattle.std.specs.Prelude.{◌≡◌, Decides, IfErr, IfOk, MatchOption};
+ghost use Rattle.cal_c.specs.Recurrences.{frequency_number, months_in, weekdays_in, AreListsShort, ArePlain, IsFrequency, IsPlainRuleFromParts, IsRule, IsRuleFromParts, IsRuleStatus};
 ghost use Rattle.cal_c.specs.declared.schedule.recurrences.rule_parts.RuleParts.{RuleParts};
 
 use super::lists::MAX;
@@ -51,13 +51,25 @@ fn plain_rule_from_parts<'a>(parts: &RuleParts<'a>) -> Result<Rule<'a>, i32>
         interval: parts.interval,
         week_start,
         months: &[],
-        weeks: &[],
-        year_days: &[],
+        weeks: parts.weeks,
+        year_days: parts.year_days,
         month_days: parts.month_days,
         weekdays: &[],
-        set_positions: &[],
+        set_positions: parts.set_positions,
         until: Some(until),
     })
+}
+
+/// Returns `true` if no list is too long.
+fn are_lists_short(parts: &RuleParts<'_>) -> bool
+    ensures { Decides result (AreListsShort parts.now) }
+{
+    parts.months.len() <= MAX
+        && parts.weeks.len() <= MAX
+        && parts.year_days.len() <= MAX
+        && parts.month_days.len() <= MAX
+        && parts.weekdays.len() <= MAX
+        && parts.set_positions.len() <= MAX
 }
 
 impl<'a> OwnedRule<'a> {
@@ -71,7 +83,7 @@ impl<'a> OwnedRule<'a> {
             × (found.weekdays ≡ weekdays_in parts.now.weekdays.now)) }
     {
         let plain = or_return!(plain_rule_from_parts(parts), status => Err(status));
-        if parts.months.len() > MAX || parts.month_days.len() > MAX || parts.weekdays.len() > MAX {
+        if !are_lists_short(parts) {
             return Err(TOO_MANY_PARTS);
         }
         let months = or_return!(Months::from_numbers(parts.months), Err(MONTH_OUT_OF_RANGE));

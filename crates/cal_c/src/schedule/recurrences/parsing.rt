@@ -5,7 +5,7 @@ ghost use Rattle.cal_c.specs.RecurrenceParts.{parse_recurrence_result};
 
 use super::recurrence_parts::RecurrenceParts;
 use super::results::{error_part, reason_status};
-use crate::status::{OK, UNKNOWN_PART};
+use crate::status::OK;
 use cal_recurrence::parse;
 
 /// A parsed recurrence, or the first wrong part of the text.
@@ -22,34 +22,17 @@ pub struct ParseRecurrenceResult {
 
 /// Parses a recurrence. `FREQ=MONTHLY;BYDAY=-1FR;COUNT=3` gives the frequency 3, the interval 1,
 /// weeks from 1, no last day, the count 3, and one weekday, -1 and 5.
-///
-/// The parts have no weeks, days of the year and positions, so a text with `BYWEEKNO`, `BYYEARDAY`
-/// or `BYSETPOS` has an unknown part at 0 here.
 #[unsafe(no_mangle)]
 pub extern "C" fn fots_recurrence_parse(text: &[u8]) -> ParseRecurrenceResult
     ensures { result ≡ parse_recurrence_result (recurrence_of text.now) }
 {
     match parse(text) {
-        Ok(recurrence) => {
-            if recurrence.set_positions.as_slice().is_empty()
-                && recurrence.year_days.as_slice().is_empty()
-                && recurrence.weeks.as_slice().is_empty()
-            {
-                ParseRecurrenceResult {
-                    status: OK,
-                    part: 0,
-                    position: usize::MAX,
-                    recurrence: RecurrenceParts::from_recurrence(&recurrence),
-                }
-            } else {
-                ParseRecurrenceResult {
-                    status: UNKNOWN_PART,
-                    part: 0,
-                    position: 0,
-                    recurrence: RecurrenceParts::empty(),
-                }
-            }
-        }
+        Ok(recurrence) => ParseRecurrenceResult {
+            status: OK,
+            part: 0,
+            position: usize::MAX,
+            recurrence: RecurrenceParts::from_recurrence(&recurrence),
+        },
         Err(fault) => ParseRecurrenceResult {
             status: reason_status(fault.reason),
             part: error_part(fault.reason),

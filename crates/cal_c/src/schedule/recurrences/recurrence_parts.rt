@@ -3,7 +3,7 @@ ghost use Rattle.std.specs.Prelude.{◌≡◌};
 ghost use Rattle.cal_c.specs.RecurrenceParts.{count_in, no_parts, parts_of, until_in};
 ghost use Rattle.cal_c.specs.Recurrences.{frequency_number};
 
-use super::lists::{MAX, NO_WEEKDAY, all_month_days, month_numbers, parts_of_weekdays};
+use super::lists::{MAX, NO_WEEKDAY, filled, month_numbers, parts_of_weekdays};
 use super::rule_parts::RuleWeekday;
 use cal_recurrence::{Recurrence, RuleEnd};
 use cal_schedule::Frequency;
@@ -21,11 +21,17 @@ pub struct RecurrenceParts {
     /// The number of days (`COUNT`), or 0.
     pub count: u32,
     pub months_length: u32,
+    pub weeks_length: u32,
+    pub year_days_length: u32,
     pub month_days_length: u32,
     pub weekdays_length: u32,
+    pub set_positions_length: u32,
     pub months: [u8; MAX],
+    pub weeks: [i8; MAX],
+    pub year_days: [i16; MAX],
     pub month_days: [i8; MAX],
     pub weekdays: [RuleWeekday; MAX],
+    pub set_positions: [i16; MAX],
 }
 
 fn frequency_number(frequency: Frequency) -> u32
@@ -62,8 +68,11 @@ impl RecurrenceParts {
         ensures { result ≡ parts_of recurrence.now }
     {
         let months = recurrence.months.as_slice();
+        let weeks = recurrence.weeks.as_slice();
+        let year_days = recurrence.year_days.as_slice();
         let month_days = recurrence.month_days.as_slice();
         let weekdays = recurrence.weekdays.as_slice();
+        let set_positions = recurrence.set_positions.as_slice();
         RecurrenceParts {
             frequency: frequency_number(recurrence.frequency),
             interval: recurrence.interval,
@@ -71,11 +80,17 @@ impl RecurrenceParts {
             until: until_in(recurrence.end),
             count: count_in(recurrence.end),
             months_length: months.len() as u32,
+            weeks_length: weeks.len() as u32,
+            year_days_length: year_days.len() as u32,
             month_days_length: month_days.len() as u32,
             weekdays_length: weekdays.len() as u32,
+            set_positions_length: set_positions.len() as u32,
             months: month_numbers(months),
-            month_days: all_month_days(month_days),
+            weeks: filled(weeks, 0),
+            year_days: filled(year_days, 0),
+            month_days: filled(month_days, 0),
             weekdays: parts_of_weekdays(weekdays),
+            set_positions: filled(set_positions, 0),
         }
     }
 
@@ -90,11 +105,17 @@ impl RecurrenceParts {
             until: i32::MIN,
             count: 0,
             months_length: 0,
+            weeks_length: 0,
+            year_days_length: 0,
             month_days_length: 0,
             weekdays_length: 0,
+            set_positions_length: 0,
             months: [0; MAX],
+            weeks: [0; MAX],
+            year_days: [0; MAX],
             month_days: [0; MAX],
             weekdays: [NO_WEEKDAY; MAX],
+            set_positions: [0; MAX],
         }
     }
 }

@@ -21,6 +21,9 @@ pub struct RuleParts<'a> {
     pub interval: u32,
     pub week_start: u32,
     pub months: &'a [u8],
+    pub weeks: &'a [i8],
+    pub year_days: &'a [i16],
     pub month_days: &'a [i8],
     pub weekdays: &'a [RuleWeekday],
+    pub set_positions: &'a [i16],
 }
