@@ -11,3 +11,4 @@ pub mod ReadWords
 pub mod ReadDates
 pub mod ReadParts
 pub mod GivenParts
+pub mod Sets

@@ -6,3 +6,4 @@ pub mod RecurrenceText
 pub mod Written
 pub mod Spelled
 pub mod FaultText
+pub mod Sets

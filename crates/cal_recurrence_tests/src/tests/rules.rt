@@ -2,7 +2,7 @@
 //!
 //! Times of day are not parsed. So an `UNTIL` with a time, such as `19971224T000000Z`, is a date
 //! here: that day, or the day before if the rule has that day at a later time.
-use cal_recurrence::{Recurrence, parse};
+use cal_recurrence::{Recurrence, RecurrenceSet, parse};
 use cal_time::{Date, Month};
 use std::process::Abort;
 
@@ -683,4 +683,30 @@ fn ends_of_the_range(rt: HostRuntime) {
         gives(rt, text, rule.next_after(date(rt, 999999_12_30)), last);
         gives(rt, text, rule.next_after(Date::MAX), None);
     }
+}
+
+/// Last Fridays, with other days, one of them twice, and without some.
+#[test]
+fn sets(rt: HostRuntime) {
+    let rt = &rt;
+    let text = "FREQ=MONTHLY;BYDAY=-1FR;UNTIL=20240601";
+    let recurrence = read(rt, text);
+    let dates = [2024_05_31, 2024_02_01, 2024_07_04, 2024_02_01, 2024_03_01]
+        .map(|number: i64| date(rt, number));
+    let exceptions = [2024_03_01, 2024_01_26, 2024_01_02].map(|number: i64| date(rt, number));
+    let set = RecurrenceSet {
+        rule: recurrence.rule(date(rt, 2024_01_01)),
+        dates: &dates,
+        exceptions: &exceptions,
+    };
+    let mut days = set.days();
+    for number in [2024_02_01, 2024_02_23, 2024_03_29, 2024_04_26, 2024_05_31, 2024_07_04] {
+        let day = date(rt, number);
+        gives(rt, text, days.next(), Some(day));
+        assert!(rt; set.contains(day), "{day:?} is missing");
+    }
+    gives(rt, text, days.next(), None);
+    gives(rt, text, set.next_after(dates[0]), Some(dates[2]));
+    gives(rt, text, set.next_after(Date::MAX), None);
+    assert!(rt; !set.contains(exceptions[0]), "a day that is left out");
 }
