@@ -97,7 +97,7 @@ class Date(_Value, _DateParts, _DateMembers, _Moved, _Formatted):
     def parse_julian_day(text: str) -> Date: "Parses a Julian day, such as J2460370."
     quarter: int = "The quarter of the year, from 1 to 4."
     def {isoformat,calendar_text}(self) -> str: "Returns the date, such as 2024-02-29, like str."
-    def {ordinal,week}_text(self) -> str: "Returns the {} date, such as 2024-{060,W09-4}."
+    def {ordinal,week}_text(self) -> str: "Returns the {} date, such as {2024-060,2024-W09-4}."
     def julian_text(self) -> str: "Returns the Julian day, such as J2460370."
     def {next,previous}_day(self) -> Date | None: "Returns the {} day, None {after MAX,before MIN}."
     def {next,prev}_occurrence(self, weekday: Weekday) -> Date:
