@@ -53,6 +53,7 @@ impl Rule<'_> {
     }
 
     /// Returns a later day, or `None`. No day between them passes the months, the weeks and the days.
+    #[inline(always)]
     pub(super) fn next_candidate(&self, day: Date) -> Option<Date>
         ensures { IsCandidate self.now day result }
     {

@@ -201,6 +201,7 @@ impl Rule<'_> {
 
     /// Returns `true` if the date passes the months, the weeks and the days.
     #[tactic(auto, unfolding(crate::specs::Rule::passes))]
+    #[inline(always)]
     pub(super) fn passes(&self, date: Date) -> bool
         ensures { result ≡ passes self.now date }
     {
