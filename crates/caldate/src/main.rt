@@ -1,25 +1,23 @@
 //! Answers each line of standard input, a date or a moment, with one line on standard output.
 #![tactic(auto)]
 
-use caldate_run::args::arguments::{MOST_BYTES, join};
+use caldate_run::args::arguments::{MAX_BYTES, join};
 use caldate_run::program::perform;
 use caldate_run::zones::ZoneFiles;
-use caldate_run::zones::zone_source::{
-    MOST_FILE_BYTES, MOST_PATH_BYTES, find_folder, read_missing,
-};
+use caldate_run::zones::zone_source::{MAX_FILE_BYTES, MAX_PATH_BYTES, find_folder, read_missing};
 use std::io;
 use std::process::ExitCode;
 
 /// Returns status 0, or another status after writing the reason to standard error.
 fn main(rt: HostRuntime) -> ExitCode {
-    let mut arguments = [0u8; MOST_BYTES];
+    let mut arguments = [0u8; MAX_BYTES];
     let joined = match join(&rt, &mut arguments) {
         Some(length) => Some(&arguments[..length]),
         None => None,
     };
-    let mut folder = [0u8; MOST_PATH_BYTES];
-    let mut first = [0u8; MOST_FILE_BYTES];
-    let mut second = [0u8; MOST_FILE_BYTES];
+    let mut folder = [0u8; MAX_PATH_BYTES];
+    let mut first = [0u8; MAX_FILE_BYTES];
+    let mut second = [0u8; MAX_FILE_BYTES];
     let length = find_folder(&rt, &mut folder);
     let folder = &folder[..length];
     let mut files = ZoneFiles {

@@ -14,9 +14,9 @@ use Rattle.caldate_run.specs.declared.zones.ZoneFiles.{ZoneFiles}
 -- The arguments give this command, with the zones of these files. They are None if they have too
 -- many bytes.
 abbrev pub GivesCommand : Option (Bor (List ℕ)) → ZoneFiles → Command → Type 0
-GivesCommand None files asked = ⊥
-GivesCommand (Some arguments) files asked = (meanings : Meanings) × AreMeanings meanings (arguments_of arguments.now) × AreZones files meanings
-    × (parse_args meanings (arguments_of arguments.now) ≡ Ok asked)
+GivesCommand None files command = ⊥
+GivesCommand (Some arguments) files command = (meanings : Meanings) × AreMeanings meanings (arguments_of arguments.now) × AreZones files meanings
+    × (parse_args meanings (arguments_of arguments.now) ≡ Ok command)
 
 -- The text after `--date`, or an empty one.
 abbrev pub given_text : List ℕ → List ℕ

@@ -24,6 +24,8 @@ use Rattle.caldate_run.specs.Zones.{is_zone_like, zone_of}
 use Rattle.caldate_run.specs.declared.on_invalid.OnInvalid.{OnInvalid}
 use Rattle.caldate_run.specs.declared.on_invalid.OnInvalid.TheVariants as invalid
 use Rattle.caldate_run.specs.declared.args.options.Options.{Options}
+use Rattle.caldate_run.specs.declared.args.options.OptionsAfter.{OptionsAfter}
+use Rattle.caldate_run.specs.declared.args.options.OptionsAfter.TheVariants.{Continued, Ended, Invalid}
 use Rattle.caldate_run.specs.declared.reading.Reading.TheVariants as read
 use Rattle.caldate_run.specs.declared.reading.reader.Reader.{Reader}
 use Rattle.caldate_run.specs.declared.reading.reader.Reader.TheVariants as reader
@@ -490,6 +492,12 @@ options_from meanings None options at (word ∷ words) =
 options_from meanings (Some what) options at [] = Err (usage_error_at at what)
 options_from meanings (Some what) options at (word ∷ words) =
     option_map_or (λ more. options_from meanings None more (at + 1) words) (with_value meanings options word what) (Err (usage_error_at at what))
+
+-- The options after a word at an index, and after the words that follow it.
+abbrev pub options_after : Meanings → OptionsAfter → ℕ → List (List ℕ) → Result (Options × ℕ) UsageError
+options_after meanings (Continued options what) at words = options_from meanings what options (at + 1) words
+options_after meanings (Ended options) at words = Ok (options, at)
+options_after meanings (Invalid what) at words = Err (usage_error_at at what)
 
 -- ---- the whole: `--help`, `--version`, a list, or a request, perhaps after options
 abbrev pub asks_for_help : List ℕ → Bool

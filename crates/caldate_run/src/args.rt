@@ -42,7 +42,7 @@ use cal_zone::Zone;
 /// `add 1 fortnight` the word at index 2 is not a unit.
 pub fn parse_args<'a>(words: &[u8], files: &ZoneFiles<'a>) -> Result<Command<'a>, UsageError>
     ensures steps { IfOk result HasValidStep }
-    ensures asked { (meanings : Meanings)
+    ensures value { (meanings : Meanings)
         → AreMeanings meanings (arguments_of words.now)
         → AreZones files.now meanings → result ≡ parse_args meanings (arguments_of words.now) }
 {
@@ -66,7 +66,7 @@ pub fn parse_args<'a>(words: &[u8], files: &ZoneFiles<'a>) -> Result<Command<'a>
 /// Parses the text after `--date`, options and a request.
 fn once_of<'a>(words: &[u8], files: &ZoneFiles<'a>) -> Result<Command<'a>, UsageError>
     ensures steps { IfOk result HasValidStep }
-    ensures asked { (meanings : Meanings)
+    ensures value { (meanings : Meanings)
         → AreMeanings meanings (arguments_of words.now)
         → AreZones files.now meanings → result ≡ once_of meanings (arguments_of words.now) }
 {

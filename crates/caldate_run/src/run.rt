@@ -34,7 +34,7 @@ use crate::run::unanswered::UnansweredLine;
 use crate::streams::{Sink, Source};
 
 /// The maximum length of an unfinished line: a text and a carriage return.
-const MOST_KEPT: usize = 4097;
+const MAX_KEPT: usize = 4097;
 
 /// Answers the lines of the input, in order, up to its end.
 ///
@@ -213,7 +213,7 @@ fn discard_long_line<W: Sink>(
     ensures err { IfErr result IsOfWrite }
     ensures writes { Writes W.write_gives writer.old (write_failure result) writer.new }
 {
-    if input.len() > MOST_KEPT {
+    if input.len() > MAX_KEPT {
         let bytes = input.as_bytes();
         pass_on(filter.on_invalid, &bytes[..bytes.len() - 1], writer)?;
         progress.front = progress.excerpt_of(input.as_bytes());

@@ -4,25 +4,21 @@ ghost use Rattle.std.specs.Prelude.{◌≤◌, IfSome};
 use std::env::{Env, FillError};
 
 /// The maximum length of all arguments together, in bytes.
-pub const MOST_BYTES: usize = 4096;
+pub const MAX_BYTES: usize = 4096;
 
 /// Writes the arguments to the front of the buffer, with zero bytes between them, and returns their
 /// length, or `None` if they don't fit.
-pub fn join<E: Env>(env: &E, buffer: &mut [u8; MOST_BYTES]) -> Option<usize>
+pub fn join<E: Env>(env: &E, buffer: &mut [u8; MAX_BYTES]) -> Option<usize>
     ensures { IfSome result (λ n. n ≤ 4096) }
 {
     let mut filled = 0;
     // Argument 0 is the name of the program.
-    for i in 1..=MOST_BYTES {
-        let start = if i == 1 {
-            0
-        } else {
-            MOST_BYTES.min(filled + 1)
-        };
+    for i in 1..=MAX_BYTES {
+        let start = if i == 1 { 0 } else { MAX_BYTES.min(filled + 1) };
         match env.arg(i, &mut buffer[start..]) {
             Ok(length) => {
                 if i > 1 {
-                    if filled == MOST_BYTES {
+                    if filled == MAX_BYTES {
                         return None;
                     }
                     buffer[filled] = 0;

@@ -1,7 +1,7 @@
 //! The options before a request.
-ghost use Rattle.std.specs.Prelude.{◌≡◌, ◌+◌, ◌≤◌, ◌^◌, IfOk, None, length, true};
-ghost use Rattle.caldate_run.specs.Meanings.{AreMeanings, IsMeaning, Meanings, name_of, value_in};
-ghost use Rattle.caldate_run.specs.Requests.{any_local, any_own, byte_of, field_number_of, field_numbers_of, field_of, fields_from, has_own, has_room, invalid_of, is_flag, is_local, is_option, conflict_in, conflict_with_zone, no_options, options_from, policy_of, readers_in, skip_of, value_of, with_flag, with_reader, with_value, words_left};
+ghost use Rattle.std.specs.Prelude.{◌≡◌, ℕ, ◌+◌, ◌≤◌, ◌^◌, ◌∷◌, List, IfOk, None, length, true};
+ghost use Rattle.caldate_run.specs.Meanings.{AreMeanings, AreMeant, IsMeaning, Meanings, name_of, value_in};
+ghost use Rattle.caldate_run.specs.Requests.{any_local, any_own, byte_of, field_number_of, field_numbers_of, field_of, fields_from, has_own, has_room, invalid_of, is_flag, is_local, is_option, conflict_in, conflict_with_zone, no_options, options_after, options_from, policy_of, readers_in, skip_of, value_of, with_flag, with_reader, with_value, words_left};
 ghost use Rattle.caldate_run.specs.Zones.{AreZones};
 
 use crate::args::formats::reader_of;
@@ -62,6 +62,17 @@ fn no_options() -> Options<'static>
     }
 }
 
+/// The options after one more word.
+#[derive(Drop)]
+pub enum OptionsAfter<'a> {
+    /// The word is part of the options. The next word has this value, if one is given.
+    Continued(Options<'a>, Option<Expected>),
+    /// The word is not an option.
+    Ended(Options<'a>),
+    /// The word is not a valid value.
+    Invalid(Expected),
+}
+
 /// Parses the options from the word at an index on, and returns them with the index of the word
 /// after them.
 pub fn options_of<'a>(
@@ -74,49 +85,59 @@ pub fn options_of<'a>(
         → AreZones files.now meanings → result ≡ options_from meanings None no_options at (words_left words.entry) }
     ensures within { IfOk result (λ front. front.1 ≤ 2 ^ 63) }
 {
-    options_from(None, no_options(), at, words, files)
+    let mut options = no_options();
+    let mut expected = None;
+    let mut index = at;
+    let mut left = words;
+    while let Some(some) = left {
+        let (word, rest) = cut(some);
+        match parse_word(options, expected, word, files) {
+            OptionsAfter::Continued(more, value) => {
+                options = more;
+                expected = value;
+            }
+            OptionsAfter::Ended(all) => return Ok((all, index)),
+            OptionsAfter::Invalid(value) => return Err(usage_error_at(index, value)),
+        }
+        left = rest;
+        index += 1;
+    }
+    match expected {
+        Some(value) => Err(usage_error_at(index, value)),
+        None => Ok((options, index)),
+    }
 }
 
-/// Parses the options at the front of the words, whose first has index `at`. If `expected` is given,
-/// it is the value of the option before it.
-fn options_from<'a>(
-    expected: Option<Expected>,
+/// Parses one more word: an option, or if `expected` is given, the value of the option before it.
+fn parse_word<'a>(
     options: Options<'a>,
-    at: usize,
-    words: Option<&[u8]>,
+    expected: Option<Expected>,
+    word: &[u8],
     files: &ZoneFiles<'a>,
-) -> Result<(Options<'a>, usize), UsageError>
-    requires { at + length (words_left words) ≤ 2 ^ 63 }
-    ensures options { (meanings : Meanings) → AreMeanings meanings (words_left words.entry)
-        → AreZones files.now meanings → result ≡ options_from meanings expected options.entry at (words_left words.entry) }
-    ensures within { IfOk result (λ front. front.1 ≤ 2 ^ 63) }
+) -> OptionsAfter<'a>
+    ensures { (meanings : Meanings) → AreMeant meanings word.now → AreZones files.now meanings
+        → (at : ℕ) (words : List (List ℕ)) → options_after meanings result at words
+        ≡ options_from meanings expected options.entry at (word.now ∷ words) }
 {
-    let Some(words) = words else {
-        return match expected {
-            Some(expected) => Err(usage_error_at(at, expected)),
-            None => Ok((options, at)),
-        };
-    };
-    let (word, rest) = cut(words);
     if let Some(expected) = expected {
-        let more = with_value(options, word, expected, files).ok_or(usage_error_at(at, expected))?;
-        return options_from(None, more, at + 1, rest, files);
+        return match with_value(options, word, expected, files) {
+            Some(more) => OptionsAfter::Continued(more, None),
+            None => OptionsAfter::Invalid(expected),
+        };
     }
     if is_flag(&options, word) {
-        return options_from(None, with_flag(options, word), at + 1, rest, files);
+        return OptionsAfter::Continued(with_flag(options, word), None);
     }
     if let Some(expected) = value_of(&options, word) {
-        return options_from(Some(expected), options, at + 1, rest, files);
+        return OptionsAfter::Continued(options, Some(expected));
     }
     let (name, value) = cut_value(word);
     match value_of(&options, name) {
-        Some(expected) => {
-            let more = with_value(options, value, expected, files).ok_or(usage_error_at(
-                at, expected,
-            ))?;
-            options_from(None, more, at + 1, rest, files)
-        }
-        None => Ok((options, at)),
+        Some(expected) => match with_value(options, value, expected, files) {
+            Some(more) => OptionsAfter::Continued(more, None),
+            None => OptionsAfter::Invalid(expected),
+        },
+        None => OptionsAfter::Ended(options),
     }
 }
 

@@ -14,12 +14,12 @@ use cal_time::UtcOffset;
 use std::marker::Model;
 
 /// The maximum number of forms.
-const MOST: usize = 4;
+const MAX_READERS: usize = 4;
 
 /// A list of up to four forms. A text is read in the first that it has.
 #[derive(Drop)]
 pub struct Readers {
-    items: [Reader; MOST],
+    items: [Reader; MAX_READERS],
     count: usize,
 }
 
@@ -51,7 +51,7 @@ impl Readers {
         ensures value { IsTrue result → self.new ≡ self.old ++ reader ∷ [] }
         ensures full { ¬ IsTrue result → self.new ≡ self.old }
     {
-        if self.as_slice().len() >= MOST {
+        if self.as_slice().len() >= MAX_READERS {
             return false;
         }
         self.items[self.count] = reader;

@@ -13,17 +13,17 @@ use std::io::{Error, ErrorKind, Read};
 use std::{fs, str};
 
 /// The maximum length of a path, in bytes.
-pub const MOST_PATH_BYTES: usize = 1024;
+pub const MAX_PATH_BYTES: usize = 1024;
 
 /// A file of a zone has fewer bytes.
-pub const MOST_FILE_BYTES: usize = 8192;
+pub const MAX_FILE_BYTES: usize = 8192;
 
 /// The folder, unless the variable `TZDIR` has another one.
 const FOLDER: &[u8] = b"/usr/share/zoneinfo";
 
 /// Writes the path of the folder of the zones to the front of the buffer, and returns its length.
 /// This is the variable `TZDIR`, if it has 1 to 1024 bytes, or else `/usr/share/zoneinfo`.
-pub fn find_folder<E: Env>(env: &E, buffer: &mut [u8; MOST_PATH_BYTES]) -> usize
+pub fn find_folder<E: Env>(env: &E, buffer: &mut [u8; MAX_PATH_BYTES]) -> usize
     ensures { result ≤ 1024 }
 {
     match env.var("TZDIR", buffer) {
@@ -40,7 +40,7 @@ pub fn read_missing<'a, F: Files>(
     system: &F,
     arguments: &'a [u8],
     files: &ZoneFiles<'_>,
-    buffer: &'a mut [u8; MOST_FILE_BYTES],
+    buffer: &'a mut [u8; MAX_FILE_BYTES],
 ) -> Option<ZoneFile<'a>> {
     let name = missing_name(arguments, files)?;
     match read_file(system, files.folder, name, buffer) {
@@ -79,12 +79,12 @@ fn read_file<F: Files>(
     system: &F,
     folder: &[u8],
     name: &[u8],
-    buffer: &mut [u8; MOST_FILE_BYTES],
+    buffer: &mut [u8; MAX_FILE_BYTES],
 ) -> Result<usize, FileError>
     requires { is_zone_name name.now ≡ true }
     ensures { IfOk result (λ length. length ≤ 8192) }
 {
-    let mut path = [0u8; MOST_PATH_BYTES];
+    let mut path = [0u8; MAX_PATH_BYTES];
     let Some(end) = join_path(folder, name, &mut path) else {
         return Err(FileError::TooLong);
     };
@@ -99,11 +99,11 @@ fn read_file<F: Files>(
 
 /// Writes the path of a file to the front of the buffer, and returns its length, or `None` if it
 /// doesn't fit.
-fn join_path(folder: &[u8], name: &[u8], path: &mut [u8; MOST_PATH_BYTES]) -> Option<usize>
+fn join_path(folder: &[u8], name: &[u8], path: &mut [u8; MAX_PATH_BYTES]) -> Option<usize>
     ensures { IfSome result (λ end. end ≤ 1024) }
 {
     let between = folder.len();
-    if between >= MOST_PATH_BYTES || name.len() >= MOST_PATH_BYTES - between {
+    if between >= MAX_PATH_BYTES || name.len() >= MAX_PATH_BYTES - between {
         return None;
     }
     let end = between + 1 + name.len();
@@ -114,12 +114,12 @@ fn join_path(folder: &[u8], name: &[u8], path: &mut [u8; MOST_PATH_BYTES]) -> Op
 }
 
 /// Reads to the end of a file, and returns its length.
-fn read_whole<R: Read>(file: &mut R, buffer: &mut [u8; MOST_FILE_BYTES]) -> Result<usize, FileError>
+fn read_whole<R: Read>(file: &mut R, buffer: &mut [u8; MAX_FILE_BYTES]) -> Result<usize, FileError>
     ensures { IfOk result (λ length. length ≤ 8192) }
 {
     let mut filled = 0;
-    for _ in 0..MOST_FILE_BYTES {
-        if filled == MOST_FILE_BYTES {
+    for _ in 0..MAX_FILE_BYTES {
+        if filled == MAX_FILE_BYTES {
             return Err(FileError::TooLong);
         }
         match file.read(&mut buffer[filled..]) {

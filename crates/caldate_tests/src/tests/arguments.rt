@@ -1,6 +1,6 @@
 //! Arguments that are joined, up to the size of the buffer.
 use crate::tests::repeated;
-use caldate_run::args::arguments::{MOST_BYTES, join};
+use caldate_run::args::arguments::{MAX_BYTES, join};
 use std::env::{Env, FillError};
 use std::process::Abort;
 use std::test::Fail;
@@ -34,8 +34,8 @@ impl Env for Words<'_> {
 
 /// Checks how these arguments are joined.
 fn check_joined(rt: &impl Abort, all: &[u8], joined: &[u8]) {
-    let mut buffer = [0u8; MOST_BYTES];
-    let length = join(&Words { all }, &mut buffer).unwrap_or(MOST_BYTES);
+    let mut buffer = [0u8; MAX_BYTES];
+    let length = join(&Words { all }, &mut buffer).unwrap_or(MAX_BYTES);
     assert!(rt; &buffer[..length] == joined);
 }
 
@@ -53,25 +53,25 @@ fn arguments_are_joined(rt: HostRuntime) {
 
 /// Checks the length of these arguments together, or that there is no room for them.
 fn check_length(rt: &impl Abort, all: &[u8], length: Option<usize>) {
-    let mut buffer = [0u8; MOST_BYTES];
+    let mut buffer = [0u8; MAX_BYTES];
     assert!(rt; join(&Words { all }, &mut buffer) == length);
 }
 
 // Arguments fit up to the size of the buffer, including the zero bytes between them.
 #[test]
 fn arguments_without_room(rt: HostRuntime) -> Result<(), Fail> {
-    let most = Some(MOST_BYTES);
-    let alone = repeated(rt.alloc(), b"caldate|", b'y', MOST_BYTES, b"")?;
+    let most = Some(MAX_BYTES);
+    let alone = repeated(rt.alloc(), b"caldate|", b'y', MAX_BYTES, b"")?;
     check_length(&rt, &alone, most);
-    let longer = repeated(rt.alloc(), b"caldate|", b'y', MOST_BYTES + 1, b"")?;
+    let longer = repeated(rt.alloc(), b"caldate|", b'y', MAX_BYTES + 1, b"")?;
     check_length(&rt, &longer, None);
-    let before = repeated(rt.alloc(), b"caldate|", b'y', MOST_BYTES, b"|")?;
+    let before = repeated(rt.alloc(), b"caldate|", b'y', MAX_BYTES, b"|")?;
     check_length(&rt, &before, None);
-    let before = repeated(rt.alloc(), b"caldate|", b'y', MOST_BYTES - 1, b"|")?;
+    let before = repeated(rt.alloc(), b"caldate|", b'y', MAX_BYTES - 1, b"|")?;
     check_length(&rt, &before, most);
-    let after = repeated(rt.alloc(), b"caldate|x|", b'y', MOST_BYTES - 2, b"")?;
+    let after = repeated(rt.alloc(), b"caldate|x|", b'y', MAX_BYTES - 2, b"")?;
     check_length(&rt, &after, most);
-    let after = repeated(rt.alloc(), b"caldate|x|", b'y', MOST_BYTES - 1, b"")?;
+    let after = repeated(rt.alloc(), b"caldate|x|", b'y', MAX_BYTES - 1, b"")?;
     check_length(&rt, &after, None);
     Ok(())
 }

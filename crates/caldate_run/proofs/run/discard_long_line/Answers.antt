@@ -19,7 +19,7 @@ pub returns-in_err-pass_on-clause-failed : goal.returns-in_err-pass_on-clause-fa
 returns-in_err-pass_on-clause-failed g c =
     on_err c.from_residual.result _ (λ input start s.
     let_go_failed c.args.filter.now input start _ _ c.args.input.now c.args.progress.now c.requires c.in_err-pass_on.ensures.mode
-    (omega (arith, c.if-len-gt-MOST_KEPT.true, c.len.ensures))
+    (omega (arith, c.if-len-gt-MAX_KEPT.true, c.len.ensures))
     (subst (λ (bytes : List ℕ). AppendsFront (g.W.Sink.contents c.args.writer.now) (g.W.Sink.contents c.pass_on.new.writer) (take (length bytes - 1) bytes))
     c.as_bytes-bytes.ensures.value c.in_err-pass_on.ensures.front) s)
 
@@ -33,5 +33,5 @@ returns-in_ok-pass_on-clause-advances g c = λ input start s.
     discard_long_line (IsReplyTo filter) filter.on_invalid input start _ _ c.args.input.now c.keep_last.new.self c.args.progress.now _ c.requires
     (subst (λ (bytes : List ℕ). Appends (g.W.Sink.contents c.args.writer.now) (g.W.Sink.contents c.pass_on.new.writer) (passed filter.on_invalid (take (length bytes - 1) bytes)))
     c.as_bytes-bytes.ensures.value c.in_ok-pass_on.ensures.ok)
-    (omega (arith, c.if-len-gt-MOST_KEPT.true, c.len.ensures)) c.keep_last.ensures (λ e. c.excerpt_of-progress.ensures.whole e ∙ ap excerpt_of c.as_bytes.ensures.value)
+    (omega (arith, c.if-len-gt-MAX_KEPT.true, c.len.ensures)) c.keep_last.ensures (λ e. c.excerpt_of-progress.ensures.whole e ∙ ap excerpt_of c.as_bytes.ensures.value)
     c.excerpt_of-progress.ensures.long refl refl s
