@@ -1,8 +1,8 @@
 -- A text has one answer.
-use Rattle.std.proofs.Common.{◌≡◌, ◌⊎◌, ℕ, suc, ◌+◌, true, false, List, [], ◌∷◌, ◌++◌, Option, Some, None, Result, Ok, Err, inl, inr, ap, refl, sym, subst, ◌∙◌, arith}
+use Rattle.std.proofs.Common.{◌≡◌, ◌⊎◌, ℕ, suc, ◌+◌, Bool, true, false, List, [], ◌∷◌, ◌++◌, Option, Some, None, Result, Ok, Err, inl, inr, ap, refl, sym, subst, ◌∙◌, arith}
 use Rattle.std.specs.List.{slice_split}
 use Rattle.std.specs.Option.{option_map_or}
-use Rattle.std.specs.Prelude.{⊤, All, not}
+use Rattle.std.specs.Prelude.{⊤, All, is_some, not}
 use Rattle.std.specs.Fmt.{signed_decimal}
 use Rattle.std.specs.Io.KnownBytes.{Appends, Consumes, IsAtEnd}
 use Rattle.std.proofs.lemmas.Bool.{false≢true}
@@ -11,7 +11,8 @@ use Rattle.std.proofs.lemmas.List.Elements.{All-cons, All-nil}
 use Rattle.cal_datetime.specs.OffsetDateTime.{LocalAndOffset}
 use Rattle.cal_text.specs.declared.any.DateOrMoment.{DateOrMoment}
 use Rattle.cal_text.specs.declared.any.MomentForm.TheVariants.{Rfc3339, Unix}
-use Rattle.caldate_run.specs.Answers.{Answer, HasNone, IsAnswer, IsAnswerTo, IsBetween, IsNotRead, IsReadAs, day_of, floored, form_read, leaves_out, moment_of, on_day}
+use Rattle.caldate_run.specs.Answers.{Answer, HasNone, IsAnswer, IsAnswerTo, IsBetween, IsNotRead, IsReadAs, compares, day_of, floored, form_read, leaves_out, moment_of, on_day}
+use Rattle.caldate_run.specs.Bounds.{lies_in}
 use Rattle.caldate_run.specs.Forms.{IsInForm}
 use Rattle.caldate_run.specs.Lines.{is_end, lines_of, without_empty_last}
 use Rattle.caldate_run.specs.Replies.{IsReplyTo}
@@ -75,6 +76,23 @@ stays (Floor n) text found words h out = false≢true out
 stays (Until target unit) text found words h out = false≢true out
 stays (Since target unit) text found words h out = false≢true out
 stays (At offset) text found words h out = false≢true out
+
+-- a line without an answer is left out if `keep` compares it
+by_bounds : (lies : Option Bool) → (lies ≡ Some true → ⊥) → option_map_or not lies false ≡ is_some lies
+by_bounds None lacks = refl
+by_bounds (Some true) lacks = absurd (lacks refl)
+by_bounds (Some false) lacks = refl
+
+pub left_out : (q : Request) (text : List ℕ) (found : DateOrMoment) → ((words : List ℕ) → ¬ IsAnswerTo q text found words) → leaves_out q found ≡ compares q found
+left_out (Keep bounds) text found lacks = by_bounds (lies_in bounds found) (λ lies. lacks text (lies, refl))
+left_out (To form) text found lacks = refl
+left_out (Print items) text found lacks = refl
+left_out (Add d) text found lacks = refl
+left_out (Move by) text found lacks = refl
+left_out (Floor n) text found lacks = refl
+left_out (Until target unit) text found lacks = refl
+left_out (Since target unit) text found lacks = refl
+left_out (At offset) text found lacks = refl
 
 -- ---- the answer for what a reader says of the text
 abbrev ToldOf : Filter → List ℕ → DateOrMoment → Answer → Type 0

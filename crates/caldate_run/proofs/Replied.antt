@@ -71,7 +71,7 @@ puts_other P Q (Ok false) old new f h = (h.0, f (Ok None) h.1)
 puts_other P Q (Err any) old new f h = (h.0, f (Err any) h.1)
 
 -- the line has no answer, and its reply is appended
-pub replied_without : (filter : Filter) (progress : Progress) (tally : Tally) (line text old mid new : List ℕ) (cut : Bool) (any : NoAnswer) (r : Result Unit UnansweredLine)
+pub replied_without : (filter : Filter) (progress : Progress) (tally : Tally) (line text old mid new : List ℕ) (cut : Bool) (any : NoAnswer) (r : Result Unit NoAnswer)
     → text ≡ text_of line → cut ≡ has_return line
     → AtLine progress line (λ before whole. (mid ≡ old) × IsAnswerOf filter before (text_of whole) (Err any))
     → OnOk r ((line : List ℕ) → text ≡ text_of line → cut ≡ has_return line → AtLine progress line (λ before whole. IsAnswerOf filter before (text_of whole) (Err any))
@@ -80,7 +80,7 @@ pub replied_without : (filter : Filter) (progress : Progress) (tally : Tally) (l
 replied_without filter progress tally line text old mid new cut any (Ok done) e f put h = λ kept before held front number.
     subst (λ l. AppendsSome (λ words. IsReplyTo filter before (kept ++ line) (passed filter.on_invalid kept ++ words) progress.tally tally) l new)
     ((put kept before held front number).0) (h line e f (λ kept before held front number. (put kept before held front number).1) kept before held front number)
-replied_without filter progress tally line text old mid new cut any (Err reported) e f put h = h
+replied_without filter progress tally line text old mid new cut any (Err other) e f put h = h
 
 pub taken_back : (old mid rest new : List ℕ) (before : ℕ) → before ≡ length old → mid ≡ old ++ rest → new ≡ take before mid → new ≡ old
 taken_back old mid rest new before at e f = f ∙ ap (λ k. take k mid) at ∙ ap (λ l. take (length old) l) e ∙ take-append_seam old rest

@@ -1,5 +1,5 @@
 -- How far a run is after each of its steps.
-use Rattle.std.proofs.Common.{◌≡◌, ℕ, inl, inr, ◌+◌, ◌-◌, ◌<◌, ◌≤◌, Bool, true, false, List, [], ◌∷◌, ◌++◌, length, take, drop, Option, refl, sym, ap, ◌∙◌, subst, arith, append_assoc, length-append, length-take, length-drop, take-append-drop}
+use Rattle.std.proofs.Common.{◌≡◌, ℕ, inl, inr, ◌+◌, ◌-◌, ◌<◌, ◌≤◌, Bool, true, false, List, [], ◌∷◌, ◌++◌, length, take, drop, Option, Err, refl, sym, ap, ◌∙◌, subst, arith, append_assoc, length-append, length-take, length-drop, take-append-drop}
 use Rattle.std.specs.List.{onto_first, slice_split}
 use Rattle.std.specs.Io.KnownBytes.{Appends}
 use Rattle.std.proofs.KnownBytes.{Appends-trans, Appends-nil}
@@ -9,11 +9,12 @@ use Rattle.std.proofs.lemmas.List.{append-nil, take-append-le}
 use Rattle.std.proofs.lemmas.List.Elements.{All-append, All-head, All-tail, All-take, All-drop}
 use Rattle.std.proofs.lemmas.List.Splits.{slice_split_at, slice_split_none, slice_split-cons_no, length-slice_split}
 use Rattle.std.proofs.lemmas.Bool.{false≢true}
-use Rattle.caldate_run.specs.Lines.{ended_lines, is_end, last_part, lines_of, unended, without_empty_last, without_last}
-use Rattle.caldate_run.specs.Replies.{EndsAt, IsReplyTo, stops}
+use Rattle.caldate_run.specs.Lines.{ended_lines, is_end, last_part, lines_of, text_of, unended, without_empty_last, without_last}
+use Rattle.caldate_run.specs.Replies.{Describes, EndsAt, IsAnswerOf, IsReplyTo, stops}
 use Rattle.caldate_run.specs.Runs.{AnswersAll, AnswersEnded, AnswersFront, AppendsFront, IsPassedOn, AppendsReply, StopsAt}
 use Rattle.caldate_run.specs.RunStates.{AreReplies, AtLine, IsDroppedFront, HasExcerpt, NoEnd, Replies, RunState, counted, no_lines, passed}
 use Rattle.caldate_run.specs.Excerpts.{printable, excerpt_of, excerpt_bytes}
+use Rattle.caldate_run.specs.declared.run.no_answer.NoAnswer.{NoAnswer}
 use Rattle.caldate_run.specs.declared.on_invalid.OnInvalid.{OnInvalid}
 use Rattle.caldate_run.specs.declared.on_invalid.OnInvalid.TheVariants as invalid
 use Rattle.caldate_run.specs.declared.run.progress.Progress.{Progress}
@@ -275,6 +276,19 @@ all_more start now new written buffered out e a f = subst (Appends start new) (s
 
 none_passed : (filter : Filter) (out kept all : List ℕ) → passed filter.on_invalid kept ≡ [] → out ++ passed filter.on_invalid kept ≡ all → out ≡ all
 none_passed filter out kept all none whole = sym (append-nil out) ∙ ap (λ p. out ++ p) (sym none) ∙ whole
+
+-- a line at which the run ends, and its description
+pub ends_at : (filter : Filter) (old now : Progress) (line : List ℕ) (any : NoAnswer) (reported : UnansweredLine) → now ≡ old
+    → AtLine old line (λ before whole. (stops filter.on_invalid ≡ true) × IsAnswerOf filter before (text_of whole) (Err any))
+    → AtLine now line (λ before whole. Describes before whole any reported) → Ends filter old line reported
+ends_at filter old now line any reported same ends described = λ kept before held front number.
+    let end = ends kept before held front number in
+    let told = subst (λ progress. AtLine progress line (λ before whole. Describes before whole any reported)) same described kept before held front number in
+    record {
+      is = subst (λ w. IsAnswerOf filter before (text_of (kept ++ line)) (Err w)) (sym told.why_is) end.1;
+      ends = end.0;
+      reported_is = record { number_is = told.number_is; why_is = refl; text_is = told.text_is };
+    }
 
 pub stopped : (filter : Filter) (input : List ℕ) (start now new : Option (List ℕ)) (buffered pending line after : List ℕ) (progress : Progress) (reported : UnansweredLine)
     → NoEnd line → pending ≡ line ++ 10 ∷ after → Ends filter progress line reported → Appends now new buffered

@@ -1,5 +1,5 @@
 -- The answer to the text of a line.
-use Rattle.std.specs.Prelude.{◌≡◌, ◌⊎◌, ℕ, ◌+◌, ◌-◌, ◌*◌, ◌%◌, max, ◌&&◌, Bool, true, false, not, ℤ, pos, ◌+ℤ◌, ◌-ℤ◌, List, Option, Some, None, Result, Ok, Err, if◌then◌else◌}
+use Rattle.std.specs.Prelude.{◌≡◌, ◌⊎◌, ℕ, ◌+◌, ◌-◌, ◌*◌, ◌%◌, max, ◌&&◌, Bool, true, false, not, ℤ, pos, ◌+ℤ◌, ◌-ℤ◌, List, Option, Some, None, is_some, Result, Ok, Err, if◌then◌else◌}
 use Rattle.std.specs.Fmt.{signed_decimal}
 use Rattle.std.specs.Option.{option_map_or}
 use Rattle.cal_time.specs.Date.{IsDate, julian_day_at}
@@ -100,6 +100,11 @@ IsAnswerTo (Keep bounds) text found words = (lies_in bounds found ≡ Some true)
 abbrev pub leaves_out : Request → DateOrMoment → Bool
 leaves_out (Keep bounds) found = option_map_or not (lies_in bounds found) false
 leaves_out other found = false
+
+-- `keep` compares a date or moment with its bounds, except a date with a moment.
+abbrev pub compares : Request → DateOrMoment → Bool
+compares (Keep bounds) found = is_some (lies_in bounds found)
+compares other found = false
 
 -- ---- the answer to a text
 -- The words that replace it, or None if its line is left out, or why it has no answer.

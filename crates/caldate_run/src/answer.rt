@@ -3,7 +3,7 @@ ghost use Rattle.std.specs.Prelude.{◌≡◌, ◌+◌, ◌≤◌, ◌++◌, ℕ
 ghost use Rattle.cal_datetime.specs.OffsetDateTime.{LocalAndOffset};
 ghost use Rattle.cal_text.specs.AnyForm.{date_text};
 ghost use Rattle.cal_text.specs.declared.any.DateOrMoment.{DateOrMoment};
-ghost use Rattle.caldate_run.specs.Answers.{IsAnswer, IsAnswerTo, IsAt, IsBetween, IsDayLater, IsLater, IsMomentLater, IsMoved, IsNotRead, IsReadAs, floored, form_read, is_date, leaves_out, moment_of, offset_in, on_day, until_text};
+ghost use Rattle.caldate_run.specs.Answers.{IsAnswer, IsAnswerTo, IsAt, IsBetween, IsDayLater, IsLater, IsMomentLater, IsMoved, IsNotRead, IsReadAs, compares, floored, form_read, is_date, moment_of, offset_in, on_day, until_text};
 ghost use Rattle.caldate_run.specs.Bounds.{lies_in};
 ghost use Rattle.caldate_run.specs.Forms.{IsInForm, format_text};
 ghost use Rattle.caldate_run.specs.Replies.{reason, refused_text};
@@ -22,7 +22,7 @@ use crate::answer::counts::count_between;
 use crate::answer::forms::{basic_text, month_text, quarter_text, unix_text};
 use crate::answer::moves::moved_day;
 use crate::answer::signed::signed_text;
-use crate::args::bounds::lies_in;
+use crate::args::bounds::{is_comparable, lies_in};
 use crate::output::buffer::Buffer;
 use crate::reading::read;
 use crate::request::{Bounds, DayMove, Filter, Form, Place, Request, TimeUnit};
@@ -42,6 +42,7 @@ pub const LONGEST_TEXT: usize = 4096;
 const LONGEST_PRINTED: usize = 960;
 
 /// Appends the answer to `text`, and returns whether its line goes out.
+#[inline(always)]
 pub fn push_answer(buffer: &mut Buffer, filter: &Filter<'_>, text: &[u8]) -> Result<bool, NoAnswer>
     requires { HasRoom (length text.now + longest_answer) buffer.old }
     ensures answered { AppendsAnswer (IsAnswer filter.now text.now) result buffer.old buffer.new }
@@ -53,7 +54,7 @@ pub fn push_answer(buffer: &mut Buffer, filter: &Filter<'_>, text: &[u8]) -> Res
     };
     if push_answer_to(buffer, &filter.request, text, &found) {
         Ok(true)
-    } else if leaves_out(&filter.request, &found) {
+    } else if compares(&filter.request, &found) {
         Ok(false)
     } else {
         Err(NoAnswer::None)
@@ -111,6 +112,7 @@ fn push_refusal(buffer: &mut Buffer, error: ComponentRange)
 }
 
 /// Appends the answer for the date or moment of `text`, or nothing. Returns whether it did.
+#[inline(always)]
 fn push_answer_to(
     buffer: &mut Buffer,
     request: &Request<'_>,
@@ -124,20 +126,21 @@ fn push_answer_to(
         × ((words : List ℕ) → ¬ IsAnswerTo request.now text.now found.now words) }
     ensures short { length buffer.new ≤ length buffer.old + length text.now + longest_answer }
 {
-    let moment = moment_of(found);
-    let form = form_read(found);
     match request {
-        Request::To(form) => push_in_form(buffer, *form, moment),
+        Request::To(form) => push_in_form(buffer, *form, moment_of(found)),
         Request::Print(format) => {
-            push_printed(buffer, format, moment);
+            push_printed(buffer, format, moment_of(found));
             true
         }
         Request::Add(duration) => match later(found, *duration) {
-            Some(later) => push_in_form(buffer, form, later),
+            Some(later) => push_in_form(buffer, form_read(found), later),
             None => false,
         },
         Request::Move(by) => push_moved(buffer, *by, found),
-        Request::Floor(minutes) => push_in_form(buffer, form, floored(*minutes, moment)),
+        Request::Floor(minutes) => {
+            let floor = floored(*minutes, moment_of(found));
+            push_in_form(buffer, form_read(found), floor)
+        }
         Request::Until(target, unit) => {
             push_between(buffer, *unit, found, target);
             true
@@ -146,12 +149,13 @@ fn push_answer_to(
             push_between(buffer, *unit, target, found);
             true
         }
-        Request::At(place) => push_at(buffer, place, moment),
+        Request::At(place) => push_at(buffer, place, moment_of(found)),
         Request::Keep(bounds) => push_kept(buffer, bounds, text, found),
     }
 }
 
 /// Appends the text if its date or moment lies within the bounds. Returns whether it does.
+#[inline(always)]
 fn push_kept(buffer: &mut Buffer, bounds: &Bounds, text: &[u8], found: &DateOrMoment) -> bool
     requires { HasRoom (length text.now + longest_answer) buffer.old }
     ensures has { result ≡ true → (lies_in bounds.now found.now ≡ Some true)
@@ -169,15 +173,12 @@ fn push_kept(buffer: &mut Buffer, bounds: &Bounds, text: &[u8], found: &DateOrMo
     }
 }
 
-/// Returns whether a `keep` request leaves out the line of this date or moment.
-fn leaves_out(request: &Request<'_>, found: &DateOrMoment) -> bool
-    ensures { result ≡ leaves_out request.now found.now }
+/// Returns whether a `keep` request compares the date or moment with its bounds.
+fn compares(request: &Request<'_>, found: &DateOrMoment) -> bool
+    ensures { result ≡ compares request.now found.now }
 {
     match request {
-        Request::Keep(bounds) => match lies_in(bounds, found) {
-            Some(lies) => !lies,
-            None => false,
-        },
+        Request::Keep(bounds) => is_comparable(bounds, found),
         _ => false,
     }
 }
@@ -253,6 +254,7 @@ fn push_in_form(buffer: &mut Buffer, form: Form, moment: OffsetDateTime) -> bool
 }
 
 /// Appends a moment in a format.
+#[inline(never)]
 #[tactic(auto, using(crate::proofs::Printed::printable))]
 fn push_printed(buffer: &mut Buffer, format: &Format, moment: OffsetDateTime)
     requires { HasRoom longest_answer buffer.old }

@@ -27,7 +27,7 @@ use crate::request::Filter;
 use crate::run::excerpt::Excerpt;
 use crate::run::lines::first_line;
 use crate::run::progress::Progress;
-use crate::run::reply::push_reply;
+use crate::run::reply::{describe_line, push_reply};
 use crate::run::run_error::RunError;
 use crate::run::tally::Tally;
 use crate::run::unanswered::UnansweredLine;
@@ -124,7 +124,10 @@ fn answer_lines<W: Sink>(
         make_room(buffer, line.len(), writer)?;
         match push_reply(buffer, filter, progress, line) {
             Ok(()) => {}
-            Err(reported) => return Err(stop(reported, buffer, writer)),
+            Err(why) => {
+                let reported = describe_line(progress, line, why);
+                return Err(stop(reported, buffer, writer));
+            }
         }
         rest = after;
     }
@@ -175,7 +178,7 @@ fn answer_last<W: Sink>(
     }
     match push_reply(buffer, filter, progress, line) {
         Ok(()) => write_all(writer, buffer.as_bytes()),
-        Err(reported) => Err(RunError::Stopped(reported)),
+        Err(why) => Err(RunError::Stopped(describe_line(progress, line, why))),
     }
 }
 

@@ -12,6 +12,7 @@ use cal_zone::Local;
 use cal_zone::laws::one_local;
 
 /// Replaces a moment by the one at which clocks show its local time, if there are clocks.
+#[inline(always)]
 pub fn placed(clock: &Option<Clock<'_>>, found: DateOrMoment) -> Result<DateOrMoment, NoAnswer>
     ensures value { IsPlaced clock.now found result }
     ensures one { (r : Result DateOrMoment NoAnswer) → IsPlaced clock.now found r → result ≡ r }
@@ -26,6 +27,7 @@ pub fn placed(clock: &Option<Clock<'_>>, found: DateOrMoment) -> Result<DateOrMo
 }
 
 /// Returns the moment at which the clocks show the local time.
+#[inline(never)]
 #[tactic(auto, using(crate::proofs::OneMoment::one_moment))]
 fn on_clock(
     clock: &Clock<'_>,

@@ -1,5 +1,5 @@
 //! The bounds of `keep`.
-ghost use Rattle.std.specs.Prelude.{◌≡◌, ◌+◌, ◌<◌, ◌^◌, ℕ, List, Option};
+ghost use Rattle.std.specs.Prelude.{◌≡◌, ◌+◌, ◌<◌, ◌^◌, ℕ, List, Option, is_some};
 ghost use Rattle.caldate_run.specs.Bounds.{are_dates, is_after, is_before, is_within, lies_in};
 ghost use Rattle.caldate_run.specs.Meanings.{AreMeanings, Meanings, found_in};
 ghost use Rattle.caldate_run.specs.Requests.{arguments_of, bounds_at, only_at, range_at};
@@ -51,6 +51,7 @@ fn range_at(words: &[u8], at: usize) -> Result<Bounds, UsageError>
 
 /// Returns whether it lies within the bounds, or `None` for a date if a bound is a moment. For
 /// example, `2024-02-29T23:30:00-05:00` is not after 2024-02-29, although at UTC it is 1 March.
+#[inline(always)]
 pub fn lies_in(bounds: &Bounds, found: &DateOrMoment) -> Option<bool>
     ensures { result ≡ lies_in bounds.now found.now }
 {
@@ -58,6 +59,13 @@ pub fn lies_in(bounds: &Bounds, found: &DateOrMoment) -> Option<bool>
         return None;
     }
     Some(is_within(bounds, found))
+}
+
+/// Returns whether it can be compared with the bounds. A date can't if a bound is a moment.
+pub fn is_comparable(bounds: &Bounds, found: &DateOrMoment) -> bool
+    ensures { result ≡ is_some (lies_in bounds.now found.now) }
+{
+    !is_date(found) || are_dates(bounds)
 }
 
 fn are_dates(bounds: &Bounds) -> bool
@@ -81,6 +89,7 @@ fn is_within(bounds: &Bounds, found: &DateOrMoment) -> bool
 }
 
 /// Returns whether its local date is before a date, or its instant before a moment.
+#[inline(always)]
 fn is_before(found: &DateOrMoment, bound: &DateOrMoment) -> bool
     ensures { result ≡ is_before found.now bound.now }
 {
@@ -91,6 +100,7 @@ fn is_before(found: &DateOrMoment, bound: &DateOrMoment) -> bool
 }
 
 /// Returns whether its local date is after a date, or its instant after a moment.
+#[inline(always)]
 fn is_after(found: &DateOrMoment, bound: &DateOrMoment) -> bool
     ensures { result ≡ is_after found.now bound.now }
 {

@@ -20,6 +20,7 @@ pub fn selected_text(field: Option<Field>, text: &[u8]) -> Option<&[u8]>
 /// Returns the bytes before the fields, the fields and the bytes after them, if the text has them.
 /// Field 2 of `a,2024-02-29,c`, split at commas, has `a,` before it and `,c` after it. The quotes
 /// of a field of a CSV record are outside of it.
+#[inline(always)]
 pub fn cut_field(field: Field, text: &[u8]) -> Option<(&[u8], &[u8], &[u8])>
     ensures asked { MatchOption result (selected_text (Some field) text.now ≡ None)
         (λ parts. selected_text (Some field) text.now ≡ Some parts.1.now) }
@@ -56,6 +57,7 @@ fn is_quoted(field: Field, part: &[u8]) -> bool
 }
 
 /// Returns the bytes after this many fields and their separators, if more fields come.
+#[inline(always)]
 fn after_fields(field: Field, count: u16, text: &[u8]) -> Option<&[u8]>
     ensures after { MatchOption result (length (fields_of field text.now) ≤ count)
         (λ rest. IsAfter field count text.now rest.now) }
@@ -92,6 +94,7 @@ fn first_length(field: Field, bytes: &[u8]) -> usize
 }
 
 /// Returns the index of the separator after the first field.
+#[inline(always)]
 fn separator_index(field: Field, bytes: &[u8]) -> Option<usize>
     ensures { MatchOption result (fields_of field bytes.now ≡ bytes.now ∷ [])
         (λ at. (at < length bytes.now) × (fields_of field bytes.now
@@ -106,6 +109,7 @@ fn separator_index(field: Field, bytes: &[u8]) -> Option<usize>
 }
 
 /// Returns the index of the first separator outside of quotes.
+#[inline(never)]
 fn index_outside_quotes(separator: u8, bytes: &[u8]) -> Option<usize>
     ensures { MatchOption result (split_record separator false bytes.now ≡ bytes.now ∷ [])
         (λ at. (at < length bytes.now) × (split_record separator false bytes.now

@@ -97,6 +97,7 @@ pub fn read(readers: &[Reader], offset: UtcOffset, text: &[u8]) -> Result<DateOr
 }
 
 /// Parses a text in the first form that it has.
+#[inline(never)]
 fn found_by(readers: &[Reader], offset: UtcOffset, text: &[u8]) -> Option<DateOrMoment>
     ensures every { (found : DateOrMoment) → IsFoundBy offset readers.now text.now found
         → result ≡ Some found }

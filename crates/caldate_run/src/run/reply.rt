@@ -2,7 +2,7 @@
 ghost use Rattle.std.specs.Prelude.{◌≡◌, ◌⊎◌, ◌+◌, ◌<◌, ◌≤◌, ◌++◌, ◌∷◌, [], ℕ, List, Some, Err, false, true, is_some, length, max, unwrap_or, IfErr, OnErr, OnOk, if◌then◌else◌};
 ghost use Rattle.caldate_run.specs.Fields.{text_with};
 ghost use Rattle.caldate_run.specs.Lines.{has_return, text_of};
-ghost use Rattle.caldate_run.specs.Replies.{Describes, EndsAt, IsAnswerOf, IsAnswerToText, IsReplyTo, in_place, more, reason, stops, with_reason};
+ghost use Rattle.caldate_run.specs.Replies.{Describes, IsAnswerOf, IsAnswerToText, IsReplyTo, in_place, more, reason, stops, with_reason};
 ghost use Rattle.caldate_run.specs.Room.{HasRoom, longest_answer, longest_reply, longest_text};
 ghost use Rattle.caldate_run.specs.Runs.{AppendsSome, AppendsAnswer, AppendsReply};
 ghost use Rattle.caldate_run.specs.RunStates.{AtLine, counted};
@@ -18,22 +18,25 @@ use crate::run::progress::Progress;
 use crate::run::unanswered::UnansweredLine;
 
 /// Appends the reply to a line, whose front may have been dropped because it is too long, and counts
-/// the line. Fails, and appends nothing, if the run ends at the line.
+/// the line. Fails with the reason, and changes nothing, if the run ends at the line.
+// What each line takes is inlined, because a call passes texts and results through memory.
+#[inline(always)]
 pub fn push_reply(
     buffer: &mut Buffer,
     filter: &Filter<'_>,
     progress: &mut Progress,
     line: &[u8],
-) -> Result<(), UnansweredLine>
+) -> Result<(), NoAnswer>
     requires room { HasRoom longest_reply buffer.old }
     requires line { HasRoom (length line.now + 1) buffer.old }
     ensures replied { OnOk result (AppendsReply (IsReplyTo filter.now) filter.now.on_invalid progress.old
         progress.new.tally line.now buffer.old buffer.new) }
     ensures counted { OnOk result (progress.new.tally.lines ≡ more progress.old.tally.lines) }
     ensures short { OnOk result (progress.new.is_long ≡ false) }
-    ensures ends { IfErr result (λ reported. AtLine progress.old line.now
-        (λ before whole. EndsAt filter.now before whole reported)) }
+    ensures ends { IfErr result (λ why. AtLine progress.old line.now (λ before whole.
+        (stops filter.now.on_invalid ≡ true) × IsAnswerOf filter.now before (text_of whole) (Err why))) }
     ensures same { OnErr result (buffer.new ≡ buffer.old) }
+    ensures still { OnErr result (progress.new ≡ progress.old) }
 {
     let (text, has_return) = cut_return(line);
     match push_line(buffer, filter, progress, text) {
@@ -48,6 +51,7 @@ pub fn push_reply(
 }
 
 /// Appends the answer to the text of a line, and returns whether the line goes out.
+#[inline(always)]
 fn push_line(
     buffer: &mut Buffer,
     filter: &Filter<'_>,
@@ -70,9 +74,11 @@ fn push_line(
     push_text(buffer, filter, progress.tally.lines, text)
 }
 
-/// Appends the reply to a line that has no answer, and counts the line. Fails, and appends nothing,
-/// if the run ends at the line. The line is given by its text and whether it has a carriage return.
+/// Appends the reply to a line that has no answer, and counts the line. Fails with the reason, and
+/// changes nothing, if the run ends at the line. The line is given by its text and whether it has a
+/// carriage return.
 #[cold]
+#[inline(never)]
 fn push_unanswered(
     buffer: &mut Buffer,
     filter: &Filter<'_>,
@@ -80,7 +86,7 @@ fn push_unanswered(
     text: &[u8],
     with_return: bool,
     why: NoAnswer,
-) -> Result<(), UnansweredLine>
+) -> Result<(), NoAnswer>
     requires room { HasRoom longest_reply buffer.old }
     requires line { HasRoom (length text.now + (if with_return then 2 else 1)) buffer.old }
     requires fits { progress.old.is_long ≡ true ⊎ longest_text < length text.now
@@ -92,15 +98,14 @@ fn push_unanswered(
         line buffer.old buffer.new) }
     ensures counted { OnOk result (progress.new.tally.lines ≡ more progress.old.tally.lines) }
     ensures short { OnOk result (progress.new.is_long ≡ false) }
-    ensures ends { IfErr result (λ reported. (stops filter.now.on_invalid ≡ true)
-        × ((line : List ℕ) → text.now ≡ text_of line → AtLine progress.old line
-        (λ before whole. Describes before whole why reported))) }
+    ensures ends { IfErr result (λ reason. (reason ≡ why) × (stops filter.now.on_invalid ≡ true)) }
     ensures same { OnErr result (buffer.new ≡ buffer.old) }
+    ensures still { OnErr result (progress.new ≡ progress.old) }
 {
-    let reported = describe(progress, text, why);
     if stops(filter.on_invalid) {
-        return Err(reported);
+        return Err(why);
     }
+    let reported = describe(progress, text, why);
     let goes_out = push_in_place(buffer, filter, text, why);
     push_end(buffer, goes_out, with_return);
     progress.tally.count_unanswered(reported);
@@ -119,7 +124,17 @@ fn push_end(buffer: &mut Buffer, goes_out: bool, with_return: bool)
     }
 }
 
-/// Describes a line without an answer.
+/// Describes a line without an answer at which the run ends.
+#[cold]
+#[inline(never)]
+pub fn describe_line(progress: &Progress, line: &[u8], why: NoAnswer) -> UnansweredLine
+    ensures { AtLine progress.now line.now (λ before whole. Describes before whole why result) }
+{
+    let (text, _has_return) = cut_return(line);
+    describe(progress, text, why)
+}
+
+/// Describes a line without an answer by its text.
 fn describe(progress: &Progress, text: &[u8], why: NoAnswer) -> UnansweredLine
     ensures { (line : List ℕ) → text.now ≡ text_of line → AtLine progress.now line
         (λ before whole. Describes before whole why result) }
@@ -198,6 +213,7 @@ fn push_in_field(buffer: &mut Buffer, field: Option<Field>, text: &[u8], why: No
 
 /// Appends the text of a line after `number` other lines, with its answer, and returns whether the
 /// line goes out.
+#[inline(always)]
 fn push_text(
     buffer: &mut Buffer,
     filter: &Filter<'_>,
@@ -222,6 +238,7 @@ fn push_text(
 }
 
 /// Appends the text with the answer in place of the field, and returns whether the line goes out.
+#[inline(always)]
 fn push_field(
     buffer: &mut Buffer,
     filter: &Filter<'_>,

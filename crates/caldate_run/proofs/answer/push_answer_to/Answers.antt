@@ -13,7 +13,7 @@ returns-in-Some-clause-none c = λ no.
       λ words h.
           let h = subst (λ q. IsAnswerTo q c.args.text.now found words) c.in-Add.is h in
           let same = one_later found c.in-Add.duration h.0 later h.1 c.in-Some.ensures in
-          none.1 words (subst (λ form. IsInForm form later words) (sym c.form_read-form.ensures) (subst (λ m. IsInForm (form_read found) m words) same h.2)),
+          none.1 words (subst (λ form. IsInForm form later words) (sym c.form_read.ensures) (subst (λ m. IsInForm (form_read found) m words) same h.2)),
     )
 
 pub returns-in-Move-clause-none : goal.returns-in-Move-clause-none
@@ -27,5 +27,5 @@ returns-in-At-clause-none c = λ no.
       none.0,
       λ words h.
           let h = subst (λ q. IsAnswerTo q c.args.text.now c.args.found.now words) c.in-At.is h in
-          none.1 words (subst (λ m. IsAt c.in-At.place m words) (sym c.moment_of-moment.ensures) h),
+          none.1 words (subst (λ m. IsAt c.in-At.place m words) (sym c.moment_of-in-At.ensures) h),
     )

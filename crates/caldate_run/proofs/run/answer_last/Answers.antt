@@ -5,7 +5,7 @@ use Rattle.caldate_run.specs.Replies.{IsReplyTo}
 use Rattle.caldate_run.specs.Runs.{AppendsFront, EndsFrom, AppendsReply}
 use Rattle.caldate_run.specs.RunStates.{RunState}
 use Rattle.caldate_run.proofs.Ends.{empty, same_line, write_failed}
-use Rattle.caldate_run.proofs.Steps.{Ends, all_answered, last_answered, last_failed, last_stopped}
+use Rattle.caldate_run.proofs.Steps.{Ends, all_answered, ends_at, last_answered, last_failed, last_stopped}
 use Rattle.caldate_run.proofs.run.answer_last.Goals as goal
 
 pub returns-then-is_empty-clause-ok : goal.returns-then-is_empty-clause-ok
@@ -17,8 +17,10 @@ returns-then-is_empty-clause-ok g c = λ input start s.
 pub returns-in-Err-clause-stopped : goal.returns-in-Err-clause-stopped
 returns-in-Err-clause-stopped g c = λ reported e input start s.
     let some : 0 < length c.args.line.now = search rules in
+    let ends = ends_at c.args.filter.now c.args.progress.now c.push_reply.new.progress c.args.line.now c.in-Err.why c.describe_line.result
+    c.in-Err.ensures.still c.in-Err.ensures.ends c.describe_line.ensures in
     last_stopped c.args.filter.now input start _ c.args.line.now c.args.progress.now reported c.requires.no_end some
-    (subst (Ends c.args.filter.now c.args.progress.now c.args.line.now) (same_line c.in-Err.reported reported e) c.in-Err.ensures.ends) s
+    (subst (Ends c.args.filter.now c.args.progress.now c.args.line.now) (same_line c.describe_line.result reported e) ends) s
 
 pub returns-in-Ok-clause-ok : goal.returns-in-Ok-clause-ok
 returns-in-Ok-clause-ok g c =

@@ -5,7 +5,7 @@ use Rattle.caldate_run.specs.Runs.{AppendsFront}
 use Rattle.caldate_run.specs.declared.run.run_error.RunError.TheVariants.{Stopped}
 use Rattle.caldate_run.proofs.Calls.{writes_then}
 use Rattle.caldate_run.proofs.Ends.{same_fault}
-use Rattle.caldate_run.proofs.Steps.{Ends, answered, gone, failed, stopped}
+use Rattle.caldate_run.proofs.Steps.{Ends, answered, ends_at, gone, failed, stopped}
 use Rattle.caldate_run.proofs.run.answer_lines.Goals as goal
 
 pub returns-in_err-make_room-clause-write : goal.returns-in_err-make_room-clause-write
@@ -23,10 +23,12 @@ pub returns-in-Err-clause-stopped : goal.returns-in-Err-clause-stopped
 returns-in-Err-clause-stopped g c = λ reported h input start s.
     let room = c.in_ok-make_room.ensures.ok in
     let went = c.stop.ensures.stopped reported (same_fault c.stop.result (Stopped reported) h) in
+    let ends = ends_at c.args.filter.now c.loop-line.progress c.push_reply.new.progress c.in-Some.line.now c.in-Err.why c.describe_line-reported.result
+    c.in-Err.ensures.still c.in-Err.ensures.ends c.describe_line-reported.ensures in
     let s = gone (IsReplyTo c.args.filter.now) c.args.filter.now.on_invalid input start _ _ c.loop-line.buffer c.make_room.new.buffer room.0 c.loop-line.rest.now c.loop-line.progress room.1 room.2 (c.loop-line.invariant.1 input start s) in
     stopped c.args.filter.now input start _ _ c.make_room.new.buffer c.loop-line.rest.now c.in-Some.line.now c.in-Some.after.now c.loop-line.progress reported
     c.in-Some.ensures.parts.0 c.in-Some.ensures.parts.1
-    (subst (Ends c.args.filter.now c.loop-line.progress c.in-Some.line.now) (sym went.0) c.in-Err.ensures.ends)
+    (subst (Ends c.args.filter.now c.loop-line.progress c.in-Some.line.now) (sym went.0) ends)
     (subst (Appends (g.W.Sink.contents c.make_room.new.writer) (g.W.Sink.contents c.stop.new.writer)) c.in-Err.ensures.same went.1) s
 
 pub loop-line-preserved : goal.loop-line-preserved

@@ -1,4 +1,4 @@
-use Rattle.std.proofs.Common.{◌≡◌, ◌++◌, [], ℕ, Bool, List, Err, false, refl, subst, sym}
+use Rattle.std.proofs.Common.{◌≡◌, ◌++◌, [], ℕ, Bool, List, Err, false, subst, sym}
 use Rattle.std.proofs.lemmas.Result.{IfErr-weaker}
 use Rattle.caldate_run.specs.Lines.{text_of}
 use Rattle.caldate_run.specs.Replies.{IsAnswerOf}
@@ -24,14 +24,7 @@ returns-in-Err-clause-replied c =
 
 pub returns-in-Err-clause-ends : goal.returns-in-Err-clause-ends
 returns-in-Err-clause-ends c =
-    IfErr-weaker c.push_unanswered.result _ _ (λ reported is kept before held front number.
+    IfErr-weaker c.push_unanswered.result _ _ (λ why is kept before held front number.
     let line = c.args.line.now in
-    let filter = c.args.filter.now in
-    let cut = c.cut_return-has_return.ensures in
-    let put = c.in-Err.ensures.answered line cut.text kept before held front number in
-    let described = is.1 line cut.text kept before held front number in
-    record {
-      is = subst (λ w. IsAnswerOf filter before (text_of (kept ++ line)) (Err w)) (sym described.why_is) put.1;
-      ends = is.0;
-      reported_is = record { number_is = described.number_is; why_is = refl; text_is = described.text_is };
-    }) c.push_unanswered.ensures.ends
+    let put = c.in-Err.ensures.answered line c.cut_return-has_return.ensures.text kept before held front number in
+    (is.1, subst (λ w. IsAnswerOf c.args.filter.now before (text_of (kept ++ line)) (Err w)) (sym is.0) put.1)) c.push_unanswered.ensures.ends
