@@ -3,11 +3,11 @@ use Rattle.std.specs.Prelude.{◌≡◌, ℕ, ◌*◌, ℤ, pos, List, [], min, 
 use Rattle.cal_time.specs.Date.{julian_day_at}
 use Rattle.cal_format.specs.declared.item.Item.{Item}
 use Rattle.cal_format.specs.Moment.{moment_of_date}
-use Rattle.cal_format.specs.Reading.{are_date_items}
+use Rattle.cal_format.specs.Reading.{are_date_items, DeterminesDate}
 use Rattle.cal_format.specs.Rejection.{IsRejection}
 use Rattle.cal_format.specs.Text.{text_of}
 use Rattle.cal_c.specs.Formats.{HasItems, IsFormat}
-use Rattle.cal_c.specs.FormatParsing.{DeterminesDate, IsParsed, IsTextOfDate}
+use Rattle.cal_c.specs.FormatParsing.{IsParsed, IsTextOfDate}
 use Rattle.cal_c.specs.Results.{date_ok, date_error}
 use Rattle.cal_c.specs.Statuses.{ok_status, invalid_date, invalid_format, unsupported_item, insufficient_format, bounds_status}
 use Rattle.cal_c.specs.TextColumns.{AreBoundsWithin, bytes_between}

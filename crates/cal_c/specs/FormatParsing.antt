@@ -9,7 +9,7 @@ use Rattle.cal_format.specs.declared.error.ParseError.{ParseError}
 use Rattle.cal_format.specs.declared.error.ParseError.TheVariants.{UnexpectedByte, UnexpectedEnd, OutOfRange, Contradiction}
 use Rattle.cal_format.specs.declared.item.Item.{Item}
 use Rattle.cal_format.specs.Moment.{moment_of_date, moment_of_time, moment_of_offset, moment_of_date_time, moment_of_offset_date_time}
-use Rattle.cal_format.specs.Reading.{are_apart, are_date_items, are_time_items, are_offset_items, are_date_time_items, shows_date, shows_time, shows_offset, shows_moment, holds_time, holds_offset}
+use Rattle.cal_format.specs.Reading.{holds_time, holds_offset}
 use Rattle.cal_format.specs.Scanning.{AreHeld}
 use Rattle.cal_format.specs.Text.{text_of}
 use Rattle.cal_c.specs.Results.{no_value}
@@ -18,22 +18,6 @@ use Rattle.cal_c.specs.Texts.{no_position, parsed_moment_ok}
 use Rattle.cal_c.specs.declared.formats.parse_results.ParseTimeResult.{ParseTimeResult}
 use Rattle.cal_c.specs.declared.formats.parse_results.ParseOffsetResult.{ParseOffsetResult}
 use Rattle.cal_c.specs.declared.texts.ParseMomentResult.{ParseMomentResult}
-
--- ---- formats whose texts determine a value
-abbrev pub DeterminesDate : List Item → Type 0
-DeterminesDate items = IsTrue (are_apart items) × IsTrue (are_date_items items) × IsTrue (shows_date items)
-
-abbrev pub DeterminesTime : List Item → Type 0
-DeterminesTime items = IsTrue (are_apart items) × IsTrue (are_time_items items) × IsTrue (shows_time items)
-
-abbrev pub DeterminesOffset : List Item → Type 0
-DeterminesOffset items = IsTrue (are_apart items) × IsTrue (are_offset_items items) × IsTrue (shows_offset items)
-
-abbrev pub DeterminesPair : List Item → Type 0
-DeterminesPair items = IsTrue (are_apart items) × IsTrue (are_date_time_items items) × IsTrue (shows_date items) × IsTrue (shows_time items)
-
-abbrev pub DeterminesMoment : List Item → Type 0
-DeterminesMoment items = IsTrue (are_apart items) × IsTrue (shows_moment items)
 
 -- ---- texts of values that the items hold
 abbrev pub IsTextOfDate : List Item → List ℕ → ℕ → Type 0

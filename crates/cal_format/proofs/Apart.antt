@@ -1,17 +1,20 @@
 -- What follows an item, and what an item shows.
-use Rattle.std.proofs.Common.{◌≡◌, ◌≢◌, ◌⊎◌, ℕ, ◌-◌, ◌<◌, ◌^◌, List, [], ◌∷◌, ◌++◌, length, take, drop, get_or, refl, sym, ap, ◌∙◌, arith, inl, inr, lit<}
+use Rattle.std.proofs.Common.{◌≡◌, ◌≢◌, ◌⊎◌, ℕ, ◌-◌, ◌<◌, ◌^◌, List, [], ◌∷◌, ◌++◌, length, take, drop, get_or, refl, sym, ◌∙◌, arith, rules, inl, inr, lit<}
 use Rattle.std.specs.Prelude.{Bool, true, false, ◌||◌, ◌&&◌, not, nat_lt, IsTrue, ◌==◌, if◌then◌else◌, codes, decimal}
 use Rattle.std.proofs.lemmas.Fmt.{decimal_nonempty}
 use borrow.Author.Tests.{ltb-true, eqb-true, eq-eqb}
+use denote.Enum.Bare.{tag_one}
+use denote.Enum.Declared.{tag_of}
+use Rattle.cal_format.specs.contracts.item.Component.{the_type}
 use Rattle.cal_format.specs.declared.item.Item.{Item}
 use Rattle.cal_format.specs.declared.item.Item.TheVariants as item
 use Rattle.cal_format.specs.declared.item.Padding.TheVariants as padding
 use Rattle.cal_format.specs.declared.item.Component.{Component}
-use Rattle.cal_format.specs.declared.item.Component.TheVariants.{Year, Century, YearOfCentury, IsoYear, Month, Day, Ordinal, IsoWeek, Weekday, DaysFromSunday, SundayWeekday, SundayWeek, MondayWeek, Hour, Hour12, Minute, Second, Period, Millisecond, Microsecond, Nanosecond, OffsetHour, OffsetMinute, OffsetSecond, OffsetSign, Timestamp, TimestampSign}
+use Rattle.cal_format.specs.declared.item.Component.TheVariants.{Year}
 use Rattle.cal_format.specs.Form.{numbered_item, numbered_text, AreNumbers}
 use Rattle.cal_format.specs.Reading.{index, is_apart, begins_apart, is_past_point, begins_past_point, begins_with_decimal, ends_before}
-use Rattle.cal_format.specs.Scanning.{AreDigits, BeginsApart, BeginsPastPoint, BeginsPastMinus, IsEnded}
 use Rattle.cal_format.proofs.Digits.{AreDigits-decimal, small-digits}
+use Rattle.cal_format.proofs.Ends.{AreDigits, BeginsApart, BeginsPastPoint, BeginsPastMinus, IsEnded}
 use Rattle.cal_format.proofs.EnglishNames.{name-apart, name-past}
 
 -- ---- tests
@@ -50,21 +53,15 @@ sign-past false rest = λ e. absurd (omega arith)
 
 item-apart : (i : Item) (n : ℕ) (rest : List ℕ) → IsTrue (is_apart i) → BeginsApart (numbered_item i n ++ rest)
 item-apart (item.Literal b) n rest h = byte-apart b rest h
-item-apart (item.Number c p) n rest h = cc
 item-apart (item.Name k) n rest h = name-apart k n rest
-item-apart item.Fraction n rest h = cc
-item-apart item.Decimals n rest h = cc
 item-apart item.OffsetSign n rest h = sign-apart (n == 1) rest
-item-apart item.TimestampSign n rest h = cc
+item-apart _ n rest h = cc
 
 item-past : (i : Item) (n : ℕ) (rest : List ℕ) → IsTrue (is_apart i) → IsTrue (is_past_point i) → BeginsPastPoint (numbered_item i n ++ rest)
 item-past (item.Literal b) n rest h p = other_test b 46 p
-item-past (item.Number c p) n rest h q = cc
 item-past (item.Name k) n rest h p = name-past k n rest
-item-past item.Fraction n rest h p = cc
-item-past item.Decimals n rest h p = cc
 item-past item.OffsetSign n rest h p = sign-past (n == 1) rest
-item-past item.TimestampSign n rest h p = cc
+item-past _ n rest h p = cc
 
 text-apart : (items : List Item) (numbers : List ℕ) → IsTrue (begins_apart items) → AreNumbers items numbers → BeginsApart (numbered_text items numbers)
 text-apart [] numbers h fit = tt
@@ -86,27 +83,16 @@ text-decimal (i ∷ items) [] h fit = absurd fit
 text-decimal (item.Number c padding.None ∷ items) (n ∷ numbers) h fit =
     let small : n < 2 ^ 64 = omega (arith, fit.0, small-digits c) in
     decimal-past (decimal n) (numbered_text items numbers) (decimal_nonempty n small) (AreDigits-decimal n small)
-text-decimal (item.Number c padding.Zero ∷ items) (n ∷ numbers) h fit = cc
-text-decimal (item.Number c padding.Space ∷ items) (n ∷ numbers) h fit = cc
-text-decimal (item.Literal b ∷ items) (n ∷ numbers) h fit = cc
-text-decimal (item.Name k ∷ items) (n ∷ numbers) h fit = cc
-text-decimal (item.Fraction ∷ items) (n ∷ numbers) h fit = cc
-text-decimal (item.Decimals ∷ items) (n ∷ numbers) h fit = cc
-text-decimal (item.OffsetSign ∷ items) (n ∷ numbers) h fit = cc
-text-decimal (item.TimestampSign ∷ items) (n ∷ numbers) h fit = cc
+text-decimal (_ ∷ items) (n ∷ numbers) h fit = cc
 
 pub numbers-ended : (i : Item) (items : List Item) (numbers : List ℕ) → IsTrue (ends_before i items) → AreNumbers items numbers → IsEnded i (numbered_text items numbers)
 numbers-ended (item.Number c padding.None) items numbers h fit = text-apart items numbers h fit
-numbers-ended (item.Number c padding.Zero) items numbers h fit = tt
-numbers-ended (item.Number c padding.Space) items numbers h fit = tt
 numbers-ended item.Fraction items numbers h fit =
     let both = both_tests (begins_apart items) (begins_past_point items) h in
     (text-apart items numbers both.0 fit, text-past items numbers both.0 both.1 fit)
-numbers-ended (item.Literal b) items numbers h fit = tt
-numbers-ended (item.Name k) items numbers h fit = tt
 numbers-ended item.Decimals items numbers h fit = text-apart items numbers h fit
-numbers-ended item.OffsetSign items numbers h fit = tt
 numbers-ended item.TimestampSign items numbers h fit = text-decimal items numbers h fit
+numbers-ended _ items numbers h fit = tt
 
 -- ---- the first item of some, and the others
 abbrev pub first_of : List Item → Item
@@ -116,43 +102,12 @@ abbrev pub others_of : List Item → List Item
 others_of items = take (length items - 1) (drop 1 items)
 
 -- ---- components
-component_at : ℕ → Component
-component_at i =
-    if i == 0 then Year
-    else (if i == 1 then Century
-    else (if i == 2 then YearOfCentury
-    else (if i == 3 then IsoYear
-    else (if i == 4 then Month
-    else (if i == 5 then Day
-    else (if i == 6 then Ordinal
-    else (if i == 7 then IsoWeek
-    else (if i == 8 then Weekday
-    else (if i == 9 then DaysFromSunday
-    else (if i == 10 then SundayWeekday
-    else (if i == 11 then SundayWeek
-    else (if i == 12 then MondayWeek
-    else (if i == 13 then Hour
-    else (if i == 14 then Hour12
-    else (if i == 15 then Minute
-    else (if i == 16 then Second
-    else (if i == 17 then Period
-    else (if i == 18 then Millisecond
-    else (if i == 19 then Microsecond
-    else (if i == 20 then Nanosecond
-    else (if i == 21 then OffsetHour
-    else (if i == 22 then OffsetMinute
-    else (if i == 23 then OffsetSecond
-    else (if i == 24 then OffsetSign
-    else (if i == 25 then Timestamp
-    else TimestampSign)))))))))))))))))))))))))
-
-component_at-index : (c : Component) → component_at (index c) ≡ c
-unfolding component_at
-component_at-index Year = refl
-component_at-index _ = refl
+tag-index : (c : Component) → tag_of the_type c ≡ index c
+tag-index Year = refl
+tag-index _ = refl
 
 pub index-one : (c d : Component) → index c ≡ index d → c ≡ d
-index-one c d e = sym (component_at-index c) ∙ ap component_at e ∙ component_at-index d
+index-one c d e = tag_one the_type (search rules) c d (tag-index c ∙ e ∙ sym (tag-index d))
 
 -- A component that is shown.
 pub agrees-shown : (b : Bool) (x n : ℕ) → IsTrue b → x ≡ (if b then n else 0) → x ≡ n

@@ -1,6 +1,6 @@
 -- Numbers that no item contradicts are the numbers of a moment whose text they print.
 use Rattle.std.proofs.Common.{◌≡◌, ℕ, zero, suc, ◌+◌, ◌-◌, ◌*◌, ◌/◌, ◌%◌, ◌≤◌, List, [], ◌∷◌, ◌++◌, refl, sym, ap, subst, ◌∙◌, arith, inl, inr}
-use Rattle.std.specs.Prelude.{Bool, true, false, IsTrue, None, ◌==◌, ◌&&◌, ◌||◌, not, nat_lt, if◌then◌else◌, ℤ, pos, negsuc, neg_ℤ, int_lt, unsigned_abs, codes}
+use Rattle.std.specs.Prelude.{Bool, true, false, IsTrue, None, Some, ◌==◌, ◌&&◌, ◌||◌, not, nat_lt, if◌then◌else◌, ℤ, pos, negsuc, neg_ℤ, int_lt, unsigned_abs, codes}
 use Rattle.std.proofs.lemmas.Bool.{cases_lt}
 use Rattle.std.proofs.lemmas.Bool.Decides.{nat_tests}
 use borrow.Author.Tests.{eq-eqb, le-ltb}
@@ -26,7 +26,7 @@ use Rattle.cal_format.specs.Ranges.{maximum}
 use Rattle.cal_format.specs.Reading.{shows, name_component, any_shows, shows_time, shows_offset, shows_timestamp, holds_parts, holds_time, holds_offset}
 use Rattle.cal_format.specs.Scanning.{IsHeld, AreHeld}
 use Rattle.cal_format.specs.Text.{sign, padded, fraction_text, item_text, text_of}
-use Rattle.cal_format.specs.Values.{number_in, hour_in, nanosecond_in, time_in, offset_in, IsMomentOf, is_empty, differing, item_contradiction, first_contradiction}
+use Rattle.cal_format.specs.Values.{number_in, hour_in, nanosecond_in, time_in, offset_in, IsMomentOf, is_empty, differing, contradiction, item_contradiction, first_contradiction}
 use Rattle.cal_format.proofs.Apart.{both_tests, same_test}
 use Rattle.cal_format.proofs.Rejections.{none-first}
 
@@ -59,25 +59,28 @@ sign-same (pos k) n e =
     ap (λ j. if j == 1 then codes "-" else codes "+") none
 sign-same (negsuc k) n e = ap (λ j. if j == 1 then codes "-" else codes "+") (sym e)
 
-minus-same : (t : ℤ) (n : ℕ) → (if int_lt t (pos 0) then 1 else 0) ≡ n → (if n == 1 then codes "-" else []) ≡ (if int_lt t (pos 0) then codes "-" else [])
+pub minus-same : (t : ℤ) (n : ℕ) → (if int_lt t (pos 0) then 1 else 0) ≡ n → (if n == 1 then codes "-" else []) ≡ (if int_lt t (pos 0) then codes "-" else [])
 minus-same t n e = ap (λ k. if k == 1 then codes "-" else []) (sym e) ∙ again (int_lt t (pos 0))
   where
     again : (b : Bool) → (if (if b then 1 else 0) == 1 then codes "-" else []) ≡ (if b then codes "-" else [])
     again true = refl
     again false = refl
 
+same-number : (c : Component) (n : ℕ) (v : Moment) → contradiction (Some c) n v ≡ None → (number c v ≡ n) × (sign c v ≡ [])
+same-number c n v e =
+    let both = both_tests (number c v == n) (is_empty (sign c v)) (same c ((number c v == n) && is_empty (sign c v)) e) in
+    (same_test (number c v) n both.0, empty (sign c v) both.1)
+
 item-same : (i : Item) (n : ℕ) (v : Moment) → IsNumber i n → item_contradiction i n v ≡ None → (numbered_item i n ≡ item_text v i) × IsHeld v i
 item-same (item.Literal b) n v fit e = (refl, tt)
 item-same (item.Number c p) n v fit e =
-    let both = both_tests (number c v == n) (is_empty (sign c v)) (same c ((number c v == n) && is_empty (sign c v)) e) in
-    let equal : number c v ≡ n = same_test (number c v) n both.0 in
-    let plain = empty (sign c v) both.1 in
-    (ap (padded p (width c)) (sym equal) ∙ ap (λ l. l ++ padded p (width c) (number c v)) (sym plain), (omega (arith, fit, equal), plain))
-item-same (item.Name k) n v fit e = (name-same k n v (same_test (number (name_component k) v) n (same (name_component k) _ e)), tt)
-item-same item.Fraction n v fit e = (ap fraction_text (sym (same_test (number Nanosecond v) n (same Nanosecond _ e))), tt)
-item-same item.Decimals n v fit e = (ap decimals (sym (same_test (number Nanosecond v) n (same Nanosecond _ e))), tt)
-item-same item.TimestampSign n v fit e = (minus-same (timestamp_of v) n (same_test (number TimestampSign v) n (same TimestampSign _ e)), tt)
-item-same item.OffsetSign n v fit e = (sign-same v.offset n (same_test (number OffsetSign v) n (same OffsetSign _ e)), tt)
+    let is = same-number c n v e in
+    (ap (padded p (width c)) (sym is.0) ∙ ap (λ l. l ++ padded p (width c) (number c v)) (sym is.1), (omega (arith, fit, is.0), is.1))
+item-same (item.Name k) n v fit e = (name-same k n v (same-number (name_component k) n v e).0, tt)
+item-same item.Fraction n v fit e = (ap fraction_text (sym (same-number Nanosecond n v e).0), tt)
+item-same item.Decimals n v fit e = (ap decimals (sym (same-number Nanosecond n v e).0), tt)
+item-same item.TimestampSign n v fit e = (minus-same (timestamp_of v) n (same-number TimestampSign n v e).0, tt)
+item-same item.OffsetSign n v fit e = (sign-same v.offset n (same-number OffsetSign n v e).0, tt)
 
 pub same-text : (items : List Item) (numbers : List ℕ) (v : Moment) → AreNumbers items numbers → first_contradiction items numbers v ≡ None
     → (numbered_text items numbers ≡ text_of items v) × AreHeld v items

@@ -11,7 +11,7 @@ use Rattle.cal_format.specs.declared.item.Component.{Component}
 use Rattle.cal_format.specs.declared.item.Component.TheVariants.{Year}
 use Rattle.cal_format.specs.Moment.{width, most_digits, width_of}
 use Rattle.cal_format.specs.Text.{padded}
-use Rattle.cal_format.specs.Scanning.{AreDigits}
+use Rattle.cal_format.proofs.Ends.{AreDigits}
 
 pub ruleset digits = (digits_at_least-two, digits_at_least-four)
 
@@ -91,9 +91,6 @@ length-zeros w n some low small = length-filled 48 w n some low small
 
 pub length-spaces : (w n : ℕ) → 1 ≤ w → n < 10 ^ w → n < 2 ^ 64 → length (padded padding.Space w n) ≡ w
 length-spaces w n some low small = length-filled 32 w n some low small
-
-pub length-decimal : (w n : ℕ) → 1 ≤ w → n < 10 ^ w → n < 2 ^ 64 → length (decimal n) ≤ w
-length-decimal w n some low small = length-decimal-le w n some low small
 
 AreDigits-more : (ds : List ℕ) (d : ℕ) → AreDigits ds → 48 ≤ d → d ≤ 57 → AreDigits (ds ++ d ∷ [])
 AreDigits-more [] d h low high = (low, high, tt)

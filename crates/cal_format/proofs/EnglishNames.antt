@@ -14,7 +14,7 @@ use Rattle.cal_format.specs.declared.item.Name.TheVariants as name
 use Rattle.cal_format.specs.declared.moment.Moment.{Moment}
 use Rattle.cal_format.specs.Form.{numbered_name}
 use Rattle.cal_format.specs.Names.{short_month, short_weekday, month_of, weekday_of, name_text}
-use Rattle.cal_format.specs.Scanning.{BeginsApart, BeginsPastPoint}
+use Rattle.cal_format.proofs.Ends.{BeginsApart, BeginsPastPoint}
 
 -- ---- the month of a day
 pub same-month : (m : Month) (k : ℕ) → month.number m ≡ k → month.month_of_index (k - 1) ≡ m
@@ -28,6 +28,16 @@ length-short_month _ = refl
 pub length-short_weekday : (w : Weekday) → length (short_weekday w) ≡ 3
 length-short_weekday Monday = refl
 length-short_weekday _ = refl
+
+pub month-long : (m : Month) → 3 ≤ length (month.name m)
+month-long January = lit≤ tt
+month-long _ = lit≤ tt
+
+pub weekday-long : (w : Weekday) → 3 ≤ length (weekday.name w)
+weekday-long Monday = lit≤ tt
+weekday-long _ = lit≤ tt
+
+pub ruleset long_names = (month-long, weekday-long)
 
 month-short : (m : Month) → length (month.name m) ≤ 9
 month-short January = lit≤ tt

@@ -7,8 +7,8 @@ use Rattle.std.proofs.lemmas.List.Sums.{fold-append}
 use Rattle.cal_time.specs.Digits.{digit, nine_digits, prepend_digit, without_trailing_zeros, decimals}
 use Rattle.cal_time.specs.Laws.{length-decimals, prepend_digit-other, prepend_digit-zero}
 use Rattle.cal_format.specs.Text.{fraction_text}
-use Rattle.cal_format.specs.Scanning.{AreDigits}
 use Rattle.cal_format.proofs.Digits.{step, step-digit, step-one}
+use Rattle.cal_format.proofs.Ends.{AreDigits}
 use Rattle.cal_units.proofs.Decimals.{decimals-some}
 
 -- ---- trailing zeros

@@ -16,7 +16,7 @@ use Rattle.cal_time.specs.UtcOffset.{sign as offset_sign}
 use Rattle.cal_time.proofs.IsoWeeks.{week_of_thursday, IsYear-iso_year_at}
 use Rattle.cal_time.proofs.Dates.{ordinal-most}
 use Rattle.cal_format.specs.declared.item.Component.{Component}
-use Rattle.cal_format.specs.declared.item.Component.TheVariants.{Year, Century, YearOfCentury, IsoYear, Month, Day, Ordinal, IsoWeek, Weekday, DaysFromSunday, SundayWeekday, SundayWeek, MondayWeek, Hour, Hour12, Minute, Second, Period, Millisecond, Microsecond, Nanosecond, OffsetHour, OffsetMinute, OffsetSecond, OffsetSign, Timestamp, TimestampSign}
+use Rattle.cal_format.specs.declared.item.Component.TheVariants.{Year, Century, IsoYear, Month, Day, Ordinal, IsoWeek, Weekday, SundayWeek, MondayWeek, Hour, Period, OffsetHour, OffsetSign, Timestamp, TimestampSign}
 use Rattle.cal_format.specs.declared.item.Item.{Item}
 use Rattle.cal_format.specs.declared.item.Item.TheVariants as item
 use Rattle.cal_format.specs.declared.item.Padding.{Padding}
@@ -59,31 +59,21 @@ timestamp-most v h =
 number-most : (c : Component) (v : Moment) → IsMoment v → number c v < 100_000_000_000_000
 number-most Year v h = omega (arith, year-most (year_at v.date) (year_at-range v.date h.date))
 number-most Century v h = omega (arith, year-most (year_at v.date) (year_at-range v.date h.date))
-number-most YearOfCentury v h = omega arith
 number-most IsoYear v h = omega (arith, year-most (iso_year_at v.date) (IsYear-iso_year_at v.date h.date))
 number-most Month v h = omega (arith, (month_at-range v.date).1)
 number-most Day v h = omega (arith, (day_of_month_at-range v.date).1, days_in_month-most (year_at v.date) (month_at v.date))
 number-most Ordinal v h = omega (arith, ordinal-most v.date)
 number-most IsoWeek v h = omega (arith, iso_week_at-most v.date)
 number-most Weekday v h = omega (arith, weekday_at-is v.date)
-number-most DaysFromSunday v h = omega arith
-number-most SundayWeekday v h = omega arith
 number-most SundayWeek v h = omega (arith, h.date, count-most (is_weekday_of_year 6 (year_at v.date)) (v.date + 1))
 number-most MondayWeek v h = omega (arith, h.date, count-most (is_weekday_of_year 0 (year_at v.date)) (v.date + 1))
 number-most Hour v h = omega (arith, h.time)
-number-most Hour12 v h = omega arith
-number-most Minute v h = omega arith
-number-most Second v h = omega arith
 number-most Period v h = omega (arith, h.time)
-number-most Millisecond v h = omega arith
-number-most Microsecond v h = omega arith
-number-most Nanosecond v h = omega arith
 number-most OffsetHour v h = omega (arith, h.offset.magnitude)
-number-most OffsetMinute v h = omega arith
-number-most OffsetSecond v h = omega arith
 number-most OffsetSign v h = grind (arith, nat_tests)
 number-most Timestamp v h = timestamp-most v h
 number-most TimestampSign v h = grind (arith, nat_tests)
+number-most _ v h = omega arith
 
 year-sign-short : (y : ℤ) → length (sign_text y) ≤ 1
 year-sign-short y = grind (arith, nat_tests)

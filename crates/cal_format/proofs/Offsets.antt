@@ -1,19 +1,17 @@
 -- The offset that the numbers of a text have.
-use Rattle.std.proofs.Common.{◌≡◌, ℕ, ◌+◌, ◌*◌, ◌/◌, ◌%◌, ◌<◌, ◌≤◌, ◌^◌, List, [], ◌∷◌, refl, ap, ◌∙◌, arith}
+use Rattle.std.proofs.Common.{◌≡◌, ℕ, ◌+◌, ◌*◌, ◌/◌, ◌%◌, ◌<◌, ◌≤◌, List, refl, ap, ◌∙◌, arith}
 use Rattle.std.specs.Prelude.{Bool, true, false, ◌==◌, ◌||◌, ◌&&◌, not, IsTrue, if◌then◌else◌, ℤ, pos, negsuc, int_lt, unsigned_abs}
 use borrow.Author.Tests.{le-ltb}
 use Rattle.cal_time.specs.UtcOffset.{IsOffset}
 use Rattle.cal_format.specs.declared.item.Item.{Item}
-use Rattle.cal_format.specs.declared.item.Item.TheVariants as item
 use Rattle.cal_format.specs.declared.item.Component.{Component}
 use Rattle.cal_format.specs.declared.item.Component.TheVariants.{OffsetHour, OffsetMinute, OffsetSecond, OffsetSign}
-use Rattle.cal_format.specs.Moment.{number, width, moment_of_offset}
-use Rattle.cal_format.specs.Text.{sign}
-use Rattle.cal_format.specs.Reading.{is_offset, any_shows, is_offset_item, are_offset_items, shows_offset, holds_offset}
-use Rattle.cal_format.specs.Scanning.{IsHeld, AreHeld, signed_seconds}
+use Rattle.cal_format.specs.Moment.{number, moment_of_offset}
+use Rattle.cal_format.specs.Reading.{any_shows, is_within, are_offset_items, shows_offset, holds_offset}
+use Rattle.cal_format.specs.Scanning.{AreHeld, signed_seconds}
 use Rattle.cal_format.proofs.Apart.{both_tests, same_test}
 use Rattle.cal_format.proofs.Contradictions.{then-holds}
-use Rattle.cal_format.proofs.Digits.{fits-width}
+use Rattle.cal_format.proofs.Holding.{IsNarrow, all-held}
 
 pub record OffsetParts (o : ℤ) (h m s : ℕ) : Type 0 where
   pub hour : h ≤ 25
@@ -52,27 +50,15 @@ sign-low : (b : Bool) (x : ℕ) → x ≡ (if b then 1 else 0) → x < 10
 sign-low true x e = omega arith
 sign-low false x e = omega arith
 
-offset-number : (c : Component) (o : ℤ) → IsOffset o → IsTrue (is_offset c) → (number c (moment_of_offset o) < 10 ^ width c) × (sign c (moment_of_offset o) ≡ [])
+offset-number : (c : Component) (o : ℤ) → IsOffset o → IsTrue (is_within 21 25 c) → IsNarrow c (moment_of_offset o)
 offset-number OffsetHour o h u = let most = h.magnitude in (omega arith, refl)
 offset-number OffsetMinute o h u = (omega arith, refl)
 offset-number OffsetSecond o h u = (omega arith, refl)
 offset-number OffsetSign o h u = (sign-low (int_lt o (pos 0)) (number OffsetSign (moment_of_offset o)) refl, refl)
 offset-number _ o h u = cc
 
-offset-item : (i : Item) (o : ℤ) → IsOffset o → IsTrue (is_offset_item i) → IsHeld (moment_of_offset o) i
-offset-item (item.Literal b) o h u = tt
-offset-item (item.Number c p) o h u = let is = offset-number c o h u in (fits-width p c (number c (moment_of_offset o)) is.0, is.1)
-offset-item (item.Name k) o h u = tt
-offset-item item.Fraction o h u = tt
-offset-item item.Decimals o h u = tt
-offset-item item.TimestampSign o h u = tt
-offset-item item.OffsetSign o h u = tt
-
 pub offset-held : (items : List Item) (o : ℤ) → IsOffset o → IsTrue (are_offset_items items) → AreHeld (moment_of_offset o) items
-offset-held [] o h u = tt
-offset-held (i ∷ items) o h u =
-    let both = both_tests (is_offset_item i) (are_offset_items items) u in
-    (offset-item i o h both.0, offset-held items o h both.1)
+offset-held items o h u = all-held 21 25 items (moment_of_offset o) (λ c w. offset-number c o h w) u
 
 pub no-offset : (o : ℤ) → IsTrue (unsigned_abs o == 0) → o ≡ pos 0
 no-offset (pos n) h = ap (λ k. pos k) (same_test n 0 h)

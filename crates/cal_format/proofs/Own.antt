@@ -1,6 +1,6 @@
 -- The numbers that items have of a moment that they hold.
 use Rattle.std.proofs.Common.{◌≡◌, ℕ, ◌+◌, ◌-◌, ◌%◌, ◌<◌, ◌≤◌, ◌^◌, List, [], ◌∷◌, ◌++◌, refl, sym, ap, ◌∙◌, arith}
-use Rattle.std.specs.Prelude.{Bool, true, false, IsTrue, None, Some, ◌==◌, ◌||◌, ◌&&◌, nat_le, if◌then◌else◌, pos, int_lt, codes}
+use Rattle.std.specs.Prelude.{Bool, true, false, IsTrue, Option, None, Some, ◌==◌, ◌||◌, ◌&&◌, nat_le, if◌then◌else◌, pos, int_lt, codes}
 use Rattle.std.proofs.lemmas.Bool.Decides.{nat_tests}
 use borrow.Author.Tests.{eq-eqb}
 use Rattle.cal_time.proofs.Weekdays.{weekday_count-ordinal}
@@ -17,18 +17,20 @@ use Rattle.cal_format.specs.declared.item.Item.TheVariants as item
 use Rattle.cal_format.specs.declared.item.Name.{Name}
 use Rattle.cal_format.specs.declared.item.Name.TheVariants as name
 use Rattle.cal_format.specs.declared.item.Component.{Component}
-use Rattle.cal_format.specs.declared.item.Component.TheVariants.{Year, Century, YearOfCentury, IsoYear, Month, Day, Ordinal, IsoWeek, Weekday, DaysFromSunday, SundayWeekday, SundayWeek, MondayWeek, Hour, Hour12, Minute, Second, Period, Millisecond, Microsecond, Nanosecond, OffsetHour, OffsetMinute, OffsetSecond, OffsetSign, Timestamp, TimestampSign}
+use Rattle.cal_format.specs.declared.item.Component.TheVariants.{Month, Day, Ordinal, IsoWeek, Weekday, SundayWeek, MondayWeek, Hour, Period, Nanosecond, OffsetHour, OffsetSign, TimestampSign}
 use Rattle.cal_format.specs.declared.moment.Moment.{Moment}
-use Rattle.cal_format.specs.Form.{item_number, numbers_of, numbered_item, numbered_text, IsNameNumber, IsNumber, AreNumbers, HasNumbers}
+use Rattle.cal_format.specs.Form.{component_number, item_number, numbers_of, numbered_item, numbered_text, IsNameNumber, IsNumber, AreNumbers, HasNumbers}
 use Rattle.cal_format.specs.Moment.{IsMoment, timestamp_of, number, width, most_digits}
 use Rattle.cal_format.specs.Ranges.{minimum, maximum, range_error, either, item_error, first_range_error}
-use Rattle.cal_format.specs.Reading.{index, name_component, shows, any_shows}
-use Rattle.cal_format.specs.Scanning.{IsHeld, AreHeld, number_at, Agrees}
+use Rattle.cal_format.specs.Reading.{index, name_component, item_component, is_component, shows, any_shows}
+use Rattle.cal_format.specs.Scanning.{IsHeld, AreHeld, number_at}
 use Rattle.cal_format.specs.Text.{sign, padded, item_text, text_of}
-use Rattle.cal_format.specs.Values.{number_in, differing, is_empty, item_contradiction, first_contradiction}
+use Rattle.cal_format.specs.Values.{Holds, IsMomentOf, number_in, differing, is_empty, contradiction, item_contradiction, first_contradiction}
 use Rattle.cal_format.proofs.Apart.{same_test, index-one}
 use Rattle.cal_format.proofs.Contradictions.{name-same, sign-same}
+use Rattle.cal_format.proofs.Determined.{own-moment}
 use Rattle.cal_format.proofs.Digits.{fits-most}
+use Rattle.cal_format.proofs.Holding.{name-plain}
 use Rattle.cal_format.proofs.Lengths.{days_in_month-most}
 
 -- ---- they are the numbers of its text
@@ -67,14 +69,9 @@ pub has-own : (items : List Item) (v : Moment) (text : List ℕ) → IsMoment v 
 has-own items v text h held e = let own = items-own items v h held in record { fit = own.0; text_is = e ∙ own.1 }
 
 -- ---- they agree with the moment
-own-shown : (i : Item) (c : Component) (v : Moment) → IsTrue (shows c i) → item_number v i ≡ number c v
-own-shown (item.Literal b) c v h = cc
-own-shown (item.Number d p) c v h = ap (λ k. number k v) (index-one d c (same_test (index d) (index c) h))
-own-shown (item.Name k) c v h = ap (λ d. number d v) (index-one (name_component k) c (same_test (index (name_component k)) (index c) h))
-own-shown item.Fraction c v h = ap (λ d. number d v) (index-one Nanosecond c (same_test (index Nanosecond) (index c) h))
-own-shown item.Decimals c v h = ap (λ d. number d v) (index-one Nanosecond c (same_test (index Nanosecond) (index c) h))
-own-shown item.TimestampSign c v h = ap (λ d. number d v) (index-one TimestampSign c (same_test (index TimestampSign) (index c) h))
-own-shown item.OffsetSign c v h = ap (λ d. number d v) (index-one OffsetSign c (same_test (index OffsetSign) (index c) h))
+own-shown : (o : Option Component) (c : Component) (v : Moment) → IsTrue (is_component c o) → component_number v o ≡ number c v
+own-shown None c v h = cc
+own-shown (Some d) c v h = ap (λ k. number k v) (index-one d c (same_test (index d) (index c) h))
 
 first-shown : (a b : Bool) (x m n : ℕ) → (IsTrue a → x ≡ n) → m ≡ (if b then n else 0) → (if a then x else m) ≡ (if a || b then n else 0)
 first-shown true b x m n f e = f refl
@@ -82,10 +79,12 @@ first-shown false b x m n f e = e
 
 own-in : (items : List Item) (c : Component) (v : Moment) → number_in items (numbers_of items v) c ≡ (if any_shows c items then number c v else 0)
 own-in [] c v = refl
-own-in (i ∷ items) c v = first-shown (shows c i) (any_shows c items) (item_number v i) (number_in items (numbers_of items v) c) (number c v) (own-shown i c v) (own-in items c v)
+own-in (i ∷ items) c v = first-shown (shows c i) (any_shows c items) (item_number v i) (number_in items (numbers_of items v) c) (number c v) (own-shown (item_component i) c v) (own-in items c v)
 
-pub own-agrees : (items : List Item) (numbers : List ℕ) (f : Fields) (v : Moment) → numbers ≡ numbers_of items v → ((c : Component) → number_at c f ≡ number_in items numbers c) → Agrees items f v
-own-agrees items numbers f v e filled c = filled c ∙ ap (λ l. number_in items l c) e ∙ own-in items c v
+-- A moment that the items hold is the moment of its numbers.
+pub held-moment : (items : List Item) (numbers : List ℕ) (f : Fields) (v : Moment) → Holds items v → numbers ≡ numbers_of items v → ((c : Component) → number_at c f ≡ number_in items numbers c)
+    → IsMomentOf items (λ c. number_at c f) v
+held-moment items numbers f v holds e filled = own-moment items v (λ c. number_at c f) holds (λ c. filled c ∙ ap (λ l. number_in items l c) e ∙ own-in items c v)
 
 -- ---- they are in range
 ordinal-least : (n : ℕ) → 1 ≤ ordinal_at n
@@ -106,45 +105,26 @@ abbrev IsIn : Component → Moment → Type 0
 IsIn c v = (minimum c ≤ number c v) × (number c v ≤ maximum c)
 
 number-in : (c : Component) (v : Moment) → IsMoment v → number c v < 10 ^ most_digits c → IsIn c v
-number-in Year v h low = (omega arith, omega (arith, low))
-number-in Century v h low = (omega arith, omega (arith, low))
-number-in YearOfCentury v h low = (omega arith, omega arith)
-number-in IsoYear v h low = (omega arith, omega (arith, low))
 number-in Month v h low = let range = month_at-range v.date in (range.0, range.1)
 number-in Day v h low = (omega (arith, (day_of_month_at-range v.date).0), omega (arith, (day_of_month_at-range v.date).1, days_in_month-most (year_at v.date) (month_at v.date)))
 number-in Ordinal v h low = (ordinal-least v.date, ordinal-most v.date)
 number-in IsoWeek v h low = week-range v.date
 number-in Weekday v h low = let is = weekday_at-is v.date in (omega arith, omega arith)
-number-in DaysFromSunday v h low = (omega arith, omega arith)
-number-in SundayWeekday v h low = (omega arith, omega arith)
 number-in SundayWeek v h low = (omega arith, count-most 6 v.date (omega arith))
 number-in MondayWeek v h low = (omega arith, count-most 0 v.date (omega arith))
 number-in Hour v h low = let below = h.time.below_day in (omega arith, omega arith)
-number-in Hour12 v h low = (omega arith, omega arith)
-number-in Minute v h low = (omega arith, omega arith)
-number-in Second v h low = (omega arith, omega arith)
 number-in Period v h low = let below = h.time.below_day in (omega arith, omega arith)
-number-in Millisecond v h low = (omega arith, omega arith)
-number-in Microsecond v h low = (omega arith, omega arith)
-number-in Nanosecond v h low = (omega arith, omega arith)
 number-in OffsetHour v h low = let most = h.offset.magnitude in (omega arith, omega arith)
-number-in OffsetMinute v h low = (omega arith, omega arith)
-number-in OffsetSecond v h low = (omega arith, omega arith)
 number-in OffsetSign v h low = (omega arith, omega (arith, bit-low (int_lt v.offset (pos 0))))
-number-in Timestamp v h low = (omega arith, omega (arith, low))
 number-in TimestampSign v h low = (omega arith, omega (arith, bit-low (int_lt (timestamp_of v) (pos 0))))
+number-in _ v h low = (omega arith, omega (arith, low))
 
 no-error : (least most n : ℕ) (e : ComponentRange) → least ≤ n → n ≤ most → (if nat_le least n && nat_le n most then None else Some e) ≡ None
 no-error least most n e low high = grind (arith, nat_tests)
 
 item-in : (i : Item) (v : Moment) → IsMoment v → IsHeld v i → item_error i (item_number v i) ≡ None
-item-in (item.Literal b) v h held = refl
 item-in (item.Number c p) v h held = let is = number-in c v h (fits-most p c (number c v) held.0) in no-error (minimum c) (maximum c) (number c v) (range_error c) is.0 is.1
-item-in (item.Name k) v h held = refl
-item-in item.Fraction v h held = refl
-item-in item.Decimals v h held = refl
-item-in item.OffsetSign v h held = refl
-item-in item.TimestampSign v h held = refl
+item-in _ v h held = refl
 
 pub own-range : (items : List Item) (v : Moment) → IsMoment v → AreHeld v items → first_range_error items (numbers_of items v) ≡ None
 own-range [] v h held = refl
@@ -155,17 +135,17 @@ no-difference : (c : Component) (a b : Bool) → IsTrue a → IsTrue b → diffe
 no-difference c true b h k = ap (λ x. differing c x) k
 no-difference c false b h k = cc
 
-same-number : (n : ℕ) → IsTrue (n == n)
-same-number n = eq-eqb n n refl
+agrees : (c : Component) (v : Moment) → sign c v ≡ [] → contradiction (Some c) (number c v) v ≡ None
+agrees c v plain = no-difference c (number c v == number c v) (is_empty (sign c v)) (eq-eqb (number c v) (number c v) refl) (ap is_empty plain)
 
 item-agrees : (i : Item) (v : Moment) → IsHeld v i → item_contradiction i (item_number v i) v ≡ None
 item-agrees (item.Literal b) v held = refl
-item-agrees (item.Number c p) v held = no-difference c (number c v == number c v) (is_empty (sign c v)) (same-number (number c v)) (ap is_empty held.1)
-item-agrees (item.Name k) v held = ap (differing (name_component k)) (same-number (number (name_component k) v))
-item-agrees item.Fraction v held = ap (differing Nanosecond) (same-number (number Nanosecond v))
-item-agrees item.Decimals v held = ap (differing Nanosecond) (same-number (number Nanosecond v))
-item-agrees item.TimestampSign v held = ap (differing TimestampSign) (same-number (number TimestampSign v))
-item-agrees item.OffsetSign v held = ap (differing OffsetSign) (same-number (number OffsetSign v))
+item-agrees (item.Number c p) v held = agrees c v held.1
+item-agrees (item.Name k) v held = agrees (name_component k) v (name-plain k v)
+item-agrees item.Fraction v held = agrees Nanosecond v refl
+item-agrees item.Decimals v held = agrees Nanosecond v refl
+item-agrees item.OffsetSign v held = agrees OffsetSign v refl
+item-agrees item.TimestampSign v held = agrees TimestampSign v refl
 
 pub own-contradiction : (items : List Item) (v : Moment) → AreHeld v items → first_contradiction items (numbers_of items v) v ≡ None
 own-contradiction [] v held = refl

@@ -2,7 +2,7 @@
 use Rattle.std.proofs.Common.{◌≡◌, ◌≢◌, ℕ, zero, suc, ◌+◌, ◌-◌, ◌<◌, ◌≤◌, ◌^◌, List, [], ◌∷◌, ◌++◌, length, get_or, replicate, refl, ap, ◌∙◌, arith, inl, inr, lit≤}
 use Rattle.std.specs.Prelude.{Bool, true, false, IsTrue, decimal, codes, ◌==◌, if◌then◌else◌}
 use Rattle.std.proofs.lemmas.Bool.{cases_eq, cases_lt}
-use Rattle.std.proofs.lemmas.Fmt.{decimal_digit, first_decimal, decimal_nonempty}
+use Rattle.std.proofs.lemmas.Fmt.{decimal_digit, first_decimal, decimal_nonempty, length-decimal-le}
 use Rattle.cal_text.specs.Shape.{Shape, ByteRange, Branch, Digits, UpTo, Number, Sign, unmatched_bytes}
 use Rattle.cal_text.proofs.Stops.{unmatched_bytes-in, unmatched_bytes-branch_in, unmatched_bytes-branch_out, unmatched_bytes-branch_end, unmatched_bytes-done}
 use Rattle.cal_time.specs.declared.Month.{Month}
@@ -20,14 +20,14 @@ use Rattle.cal_format.specs.declared.item.Name.{Name}
 use Rattle.cal_format.specs.declared.item.Name.TheVariants as name
 use Rattle.cal_format.specs.declared.item.Padding.{Padding}
 use Rattle.cal_format.specs.declared.item.Padding.TheVariants as padding
-use Rattle.cal_format.specs.Form.{AfterSpaces, Decimal, Padded, Decimals, MonthOfJ, MonthOfM, MonthOfA, OtherMonth, MonthName, WeekdayOfT, WeekdayOfS, WeekdayName, PeriodName, NameShape, ItemShape, shape_of, numbered_name, numbered_item, numbered_text, IsNumber, AreNumbers, HasNumbers}
+use Rattle.cal_format.specs.Form.{AfterSpaces, Decimal, Padded, Decimals, MonthName, WeekdayName, PeriodName, NameShape, ItemShape, shape_of, numbered_name, numbered_item, numbered_text, IsNumber, AreNumbers, HasNumbers}
 use Rattle.cal_format.specs.Moment.{width, most_digits}
 use Rattle.cal_format.specs.Names.{short_month, short_weekday}
 use Rattle.cal_format.specs.Reading.{ends_before, are_apart}
-use Rattle.cal_format.specs.Scanning.{AreDigits, BeginsApart, BeginsPastPoint, BeginsPastMinus, IsEnded}
 use Rattle.cal_format.specs.Text.{padded, fraction_text}
 use Rattle.cal_format.proofs.Apart.{both_tests, numbers-ended}
-use Rattle.cal_format.proofs.Digits.{AreDigits-decimal, AreDigits-zeros, length-zeros, length-decimal, small-width, width-some, small-digits, digits-some}
+use Rattle.cal_format.proofs.Digits.{AreDigits-decimal, AreDigits-zeros, length-zeros, small-width, width-some, small-digits, digits-some}
+use Rattle.cal_format.proofs.Ends.{AreDigits, BeginsApart, BeginsPastPoint, BeginsPastMinus, IsEnded}
 use Rattle.cal_format.proofs.FormDecimals.{tail-last, one-high, more-after, none-last}
 use Rattle.cal_format.proofs.Fractions.{AreDigits-decimals, decimals-present, decimals-last, decimals-many, fraction-none, fraction-some}
 use Rattle.cal_time.specs.Laws.{length-decimals}
@@ -64,7 +64,7 @@ decimal-each : (w n : ℕ) (f : Shape) (rest : List ℕ) → 1 ≤ w → n < 10 
 decimal-each w zero f rest some low small out =
     ap (λ ds. unmatched_bytes (Decimal (w - 1) f) (ds ++ rest)) (decimal_digit 0 (omega arith)) ∙ unmatched_bytes-branch_in 48 0 f (Number (w - 1) f) 48 rest (lit≤ tt, lit≤ tt)
 decimal-each w (suc k) f rest some low small out =
-    positive-each (w - 1) f (decimal (suc k)) rest (AreDigits-decimal (suc k) small) (first_decimal (suc k) (omega arith) small) (omega (arith, length-decimal w (suc k) some low small, some)) out
+    positive-each (w - 1) f (decimal (suc k)) rest (AreDigits-decimal (suc k) small) (first_decimal (suc k) (omega arith) small) (omega (arith, length-decimal-le w (suc k) some low small, some)) out
 
 -- ---- spaces and a number
 spaces-each : (k j : ℕ) (f : Shape) (ds rest : List ℕ) → AreDigits ds → j + length ds ≡ k + 1 → 1 ≤ length ds → (2 ≤ length ds → 48 < get_or ds 0 0)
@@ -88,7 +88,7 @@ padded-each : (p : Padding) (w n : ℕ) (f : Shape) (rest : List ℕ) → 1 ≤ 
     → unmatched_bytes (Padded p w f) (padded p w n ++ rest) ≡ unmatched_bytes f rest
 padded-each padding.Zero w n f rest some low small out = digits-each w f (padded padding.Zero w n) rest (AreDigits-zeros w n small) (length-zeros w n some low small)
 padded-each padding.Space w n f rest some low small out =
-    spaces-each (w - 1) (w - length (decimal n)) f (decimal n) rest (AreDigits-decimal n small) (omega (arith, some, length-decimal w n some low small)) (decimal_nonempty n small) (first-high n small)
+    spaces-each (w - 1) (w - length (decimal n)) f (decimal n) rest (AreDigits-decimal n small) (omega (arith, some, length-decimal-le w n some low small)) (decimal_nonempty n small) (first-high n small)
 padded-each padding.None w n f rest some low small out = decimal-each w n f rest some low small (out refl)
 
 -- ---- a fraction
@@ -154,22 +154,22 @@ some_decimals-each n f rest low out = first-each f (decimals n) rest (AreDigits-
 
 -- ---- names
 month-each : (m : Month) (f : Shape) (rest : List ℕ) → unmatched_bytes (MonthName true f) (month.name m ++ rest) ≡ unmatched_bytes f rest
-unfolding unmatched_bytes MonthName MonthOfJ MonthOfM MonthOfA OtherMonth
+unfolding unmatched_bytes MonthName
 month-each January f rest = refl
 month-each _ f rest = refl
 
 short_month-each : (m : Month) (f : Shape) (rest : List ℕ) → unmatched_bytes (MonthName false f) (short_month m ++ rest) ≡ unmatched_bytes f rest
-unfolding unmatched_bytes MonthName MonthOfJ MonthOfM MonthOfA OtherMonth
+unfolding unmatched_bytes MonthName
 short_month-each January f rest = refl
 short_month-each _ f rest = refl
 
 weekday-each : (w : Weekday) (f : Shape) (rest : List ℕ) → unmatched_bytes (WeekdayName true f) (weekday.name w ++ rest) ≡ unmatched_bytes f rest
-unfolding unmatched_bytes WeekdayName WeekdayOfT WeekdayOfS
+unfolding unmatched_bytes WeekdayName
 weekday-each Monday f rest = refl
 weekday-each _ f rest = refl
 
 short_weekday-each : (w : Weekday) (f : Shape) (rest : List ℕ) → unmatched_bytes (WeekdayName false f) (short_weekday w ++ rest) ≡ unmatched_bytes f rest
-unfolding unmatched_bytes WeekdayName WeekdayOfT WeekdayOfS
+unfolding unmatched_bytes WeekdayName
 short_weekday-each Monday f rest = refl
 short_weekday-each _ f rest = refl
 

@@ -25,10 +25,10 @@ use Rattle.cal_format.specs.Form.{numbered_name, numbered_item, numbered_text, I
 use Rattle.cal_format.specs.Moment.{width, most_digits}
 use Rattle.cal_format.specs.Names.{short_month, short_weekday}
 use Rattle.cal_format.specs.Reading.{ends_before, are_apart}
-use Rattle.cal_format.specs.Scanning.{AreDigits, BeginsApart, BeginsPastPoint, BeginsPastMinus, IsEnded}
 use Rattle.cal_format.specs.Text.{padded, fraction_text}
 use Rattle.cal_format.proofs.Apart.{both_tests, numbers-ended}
 use Rattle.cal_format.proofs.Digits.{step, value-padded, AreDigits-decimal, length-zeros, length-spaces, small-width, width-some, small-digits, digits-some}
+use Rattle.cal_format.proofs.Ends.{AreDigits, BeginsApart, BeginsPastPoint, BeginsPastMinus, IsEnded}
 use Rattle.cal_format.proofs.Fractions.{fraction_number, value-some, AreDigits-decimals, fraction-none, fraction-some}
 
 -- ---- two texts with the same front

@@ -1,6 +1,6 @@
 -- The form of the texts of a format: its literals, and digits and names for its components, whatever
 -- their numbers are.
-use Rattle.std.specs.Prelude.{◌≡◌, ℕ, zero, suc, ◌+◌, ◌-◌, ◌<◌, ◌≤◌, ◌^◌, ◌==◌, ◌++◌, Bool, true, false, List, [], ◌∷◌, length, codes, if◌then◌else◌}
+use Rattle.std.specs.Prelude.{◌≡◌, ℕ, zero, suc, ◌+◌, ◌-◌, ◌<◌, ◌≤◌, ◌^◌, ◌==◌, ◌++◌, Bool, true, false, List, [], ◌∷◌, length, codes, Option, None, Some, if◌then◌else◌}
 use Rattle.std.specs.Str.Parse.{AllDigits}
 use Rattle.cal_text.specs.Shape.{Shape, End, ByteRange, Branch, Byte, Digits, Sign, Number, unmatched_bytes, decimals_value}
 use Rattle.cal_time.specs.Digits.{without_trailing_zeros, decimals}
@@ -14,11 +14,11 @@ use Rattle.cal_format.specs.declared.item.Name.{Name}
 use Rattle.cal_format.specs.declared.item.Name.TheVariants as name
 use Rattle.cal_format.specs.declared.item.Padding.{Padding}
 use Rattle.cal_format.specs.declared.item.Padding.TheVariants as padding
-use Rattle.cal_format.specs.declared.item.Component.TheVariants.{Nanosecond, OffsetSign, TimestampSign}
+use Rattle.cal_format.specs.declared.item.Component.{Component}
 use Rattle.cal_format.specs.declared.moment.Moment.{Moment}
 use Rattle.cal_format.specs.Moment.{number, width, width_of}
 use Rattle.cal_format.specs.Names.{short_month, short_weekday}
-use Rattle.cal_format.specs.Reading.{name_component}
+use Rattle.cal_format.specs.Reading.{item_component}
 use Rattle.cal_format.specs.Text.{padded, fraction_text}
 
 -- ---- numbers
@@ -64,39 +64,23 @@ Word (b ∷ bytes) f = Byte b (Word bytes f)
 abbrev pub Letters : List ℕ → List ℕ → Bool → Shape → Shape
 Letters letters others long f = Word letters (if long then Word others f else f)
 
-unfoldable pub MonthOfJ : Bool → Shape → Shape
-MonthOfJ long f =
-    Branch 97 0 (Letters (codes "n") (codes "uary") long f) (Byte 117 (Branch 110 0 (Letters [] (codes "e") long f) (Byte 108 (Letters [] (codes "y") long f))))
-
-unfoldable pub MonthOfM : Bool → Shape → Shape
-MonthOfM long f = Byte 97 (Branch 114 0 (Letters [] (codes "ch") long f) (Letters (codes "y") [] long f))
-
-unfoldable pub MonthOfA : Bool → Shape → Shape
-MonthOfA long f = Branch 112 0 (Letters (codes "r") (codes "il") long f) (Letters (codes "ug") (codes "ust") long f)
-
--- Months that begin with F, S, O, N or D.
-unfoldable pub OtherMonth : Bool → Shape → Shape
-OtherMonth long f =
-    Branch 70 0 (Letters (codes "eb") (codes "ruary") long f)
+unfoldable pub MonthName : Bool → Shape → Shape
+MonthName long f =
+    Branch 74 0 (Branch 97 0 (Letters (codes "n") (codes "uary") long f) (Byte 117 (Branch 110 0 (Letters [] (codes "e") long f) (Byte 108 (Letters [] (codes "y") long f)))))
+    (Branch 77 0 (Byte 97 (Branch 114 0 (Letters [] (codes "ch") long f) (Letters (codes "y") [] long f)))
+    (Branch 65 0 (Branch 112 0 (Letters (codes "r") (codes "il") long f) (Letters (codes "ug") (codes "ust") long f))
+    (Branch 70 0 (Letters (codes "eb") (codes "ruary") long f)
     (Branch 83 0 (Letters (codes "ep") (codes "tember") long f)
     (Branch 79 0 (Letters (codes "ct") (codes "ober") long f)
-    (Branch 78 0 (Letters (codes "ov") (codes "ember") long f) (Byte 68 (Letters (codes "ec") (codes "ember") long f)))))
-
-unfoldable pub MonthName : Bool → Shape → Shape
-MonthName long f = Branch 74 0 (MonthOfJ long f) (Branch 77 0 (MonthOfM long f) (Branch 65 0 (MonthOfA long f) (OtherMonth long f)))
-
--- Weekdays that begin with T or S.
-unfoldable pub WeekdayOfT : Bool → Shape → Shape
-WeekdayOfT long f = Branch 117 0 (Letters (codes "e") (codes "sday") long f) (Letters (codes "hu") (codes "rsday") long f)
-
-unfoldable pub WeekdayOfS : Bool → Shape → Shape
-WeekdayOfS long f = Branch 97 0 (Letters (codes "t") (codes "urday") long f) (Letters (codes "un") (codes "day") long f)
+    (Branch 78 0 (Letters (codes "ov") (codes "ember") long f) (Byte 68 (Letters (codes "ec") (codes "ember") long f))))))))
 
 unfoldable pub WeekdayName : Bool → Shape → Shape
 WeekdayName long f =
     Branch 77 0 (Letters (codes "on") (codes "day") long f)
-    (Branch 84 0 (WeekdayOfT long f)
-    (Branch 87 0 (Letters (codes "ed") (codes "nesday") long f) (Branch 70 0 (Letters (codes "ri") (codes "day") long f) (Byte 83 (WeekdayOfS long f)))))
+    (Branch 84 0 (Branch 117 0 (Letters (codes "e") (codes "sday") long f) (Letters (codes "hu") (codes "rsday") long f))
+    (Branch 87 0 (Letters (codes "ed") (codes "nesday") long f)
+    (Branch 70 0 (Letters (codes "ri") (codes "day") long f)
+    (Byte 83 (Branch 97 0 (Letters (codes "t") (codes "urday") long f) (Letters (codes "un") (codes "day") long f))))))
 
 unfoldable pub PeriodName : Shape → Shape
 PeriodName f = Branch 65 0 (Byte 77 f) (Byte 80 (Byte 77 f))
@@ -189,14 +173,12 @@ pub record HasNumbers (items : List Item) (numbers text : List ℕ) : Type 0 whe
   pub text_is : text ≡ numbered_text items numbers
 
 -- The numbers of the items of a moment.
+abbrev pub component_number : Moment → Option Component → ℕ
+component_number v None = 0
+component_number v (Some c) = number c v
+
 abbrev pub item_number : Moment → Item → ℕ
-item_number v (item.Literal b) = 0
-item_number v (item.Number c p) = number c v
-item_number v (item.Name k) = number (name_component k) v
-item_number v item.Fraction = number Nanosecond v
-item_number v item.Decimals = number Nanosecond v
-item_number v item.OffsetSign = number OffsetSign v
-item_number v item.TimestampSign = number TimestampSign v
+item_number v i = component_number v (item_component i)
 
 abbrev pub numbers_of : List Item → Moment → List ℕ
 numbers_of [] v = []

@@ -1,5 +1,5 @@
 -- Why a text is rejected.
-use Rattle.std.specs.Prelude.{◌≡◌, ◌⊎◌, ℕ, ◌<◌, List, length, Some, None}
+use Rattle.std.specs.Prelude.{◌≡◌, ◌⊎◌, ℕ, ◌<◌, List, length, Some, None, Result, Ok, IfOk, IfErr}
 use Rattle.cal_units.specs.declared.error.Component.{Component as Named}
 use Rattle.cal_units.specs.declared.error.ComponentRange.{ComponentRange}
 use Rattle.cal_text.specs.Position.{IsPosition}
@@ -9,7 +9,8 @@ use Rattle.cal_format.specs.declared.item.Item.{Item}
 use Rattle.cal_format.specs.declared.moment.Moment.{Moment}
 use Rattle.cal_format.specs.Form.{HasForm, HasNumbers}
 use Rattle.cal_format.specs.Ranges.{first_range_error}
-use Rattle.cal_format.specs.Values.{number_in, value_error, IsMomentOf, first_contradiction}
+use Rattle.cal_format.specs.Text.{text_of}
+use Rattle.cal_format.specs.Values.{Holds, IsPrinted, number_in, value_error, IsMomentOf, first_contradiction}
 
 -- A number is out of range, or the numbers are in range but no moment has them.
 abbrev pub IsRangeError : List Item → List ℕ → ComponentRange → Type 0
@@ -34,3 +35,9 @@ abbrev pub IsRejection : List Item → List ℕ → ParseError → Type 0
 IsRejection items text (UnexpectedByte p) = IsPosition (HasForm items) text p × (p < length text)
 IsRejection items text (UnexpectedEnd p) = IsPosition (HasForm items) text p × (p ≡ length text) × ¬ HasForm items text
 IsRejection items text e = (numbers : List ℕ) × HasNumbers items numbers text × IsNumberRejection items numbers e
+
+-- The result is the moment that the items hold and print as the text, or says why there is none.
+pub record IsParsed (items : List Item) (text : List ℕ) (r : Result Moment ParseError) : Type 0 where
+  pub every : (v : Moment) → Holds items v → text ≡ text_of items v → r ≡ Ok v
+  pub value : IfOk r (λ v. IsPrinted items v text)
+  pub error : IfErr r (IsRejection items text)

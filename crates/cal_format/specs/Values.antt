@@ -8,13 +8,12 @@ use Rattle.cal_time.specs.Date.{HasCalendarDate, HasOrdinalDate}
 use Rattle.cal_time.specs.IsoWeekDate.{HasIsoWeekDate}
 use Rattle.cal_time.specs.Time.{nanosecond_of, time_of}
 use Rattle.cal_format.specs.declared.item.Item.{Item}
-use Rattle.cal_format.specs.declared.item.Item.TheVariants as item
 use Rattle.cal_format.specs.declared.item.Component.{Component}
 use Rattle.cal_format.specs.declared.item.Component.TheVariants.{Year, Century, YearOfCentury, IsoYear, Month, Day, Ordinal, IsoWeek, Weekday, DaysFromSunday, SundayWeekday, Hour, Hour12, Minute, Second, Period, Millisecond, Microsecond, Nanosecond, OffsetHour, OffsetMinute, OffsetSecond, OffsetSign, Timestamp, TimestampSign}
 use Rattle.cal_format.specs.declared.moment.Moment.{Moment}
 use Rattle.cal_format.specs.Moment.{IsMoment, timestamp_of, number}
 use Rattle.cal_format.specs.Ranges.{named, either}
-use Rattle.cal_format.specs.Reading.{shows, any_shows, name_component, shows_calendar_date, shows_ordinal_date, shows_iso_week_date, shows_date, shows_time, shows_offset, shows_timestamp, holds_time, holds_offset}
+use Rattle.cal_format.specs.Reading.{shows, any_shows, item_component, shows_calendar_date, shows_ordinal_date, shows_iso_week_date, shows_date, shows_time, shows_offset, shows_timestamp, holds_time, holds_offset}
 use Rattle.cal_format.specs.Scanning.{AreHeld, signed_seconds}
 use Rattle.cal_format.specs.Text.{sign, text_of}
 
@@ -86,14 +85,12 @@ is_empty (x ∷ xs) = false
 abbrev pub differing : Component → Bool → Option Named
 differing c same = if same then None else Some (named c)
 
+abbrev pub contradiction : Option Component → ℕ → Moment → Option Named
+contradiction None n v = None
+contradiction (Some c) n v = differing c ((number c v == n) && is_empty (sign c v))
+
 abbrev pub item_contradiction : Item → ℕ → Moment → Option Named
-item_contradiction (item.Literal b) n v = None
-item_contradiction (item.Number c p) n v = differing c ((number c v == n) && is_empty (sign c v))
-item_contradiction (item.Name k) n v = differing (name_component k) (number (name_component k) v == n)
-item_contradiction item.Fraction n v = differing Nanosecond (number Nanosecond v == n)
-item_contradiction item.Decimals n v = differing Nanosecond (number Nanosecond v == n)
-item_contradiction item.OffsetSign n v = differing OffsetSign (number OffsetSign v == n)
-item_contradiction item.TimestampSign n v = differing TimestampSign (number TimestampSign v == n)
+item_contradiction i n v = contradiction (item_component i) n v
 
 abbrev pub first_contradiction : List Item → List ℕ → Moment → Option Named
 first_contradiction [] numbers v = None

@@ -1,12 +1,11 @@
 //! Dates from the numbers of a text.
 ghost use Rattle.std.specs.Prelude.{◌≡◌, ℕ, ◌+◌, ◌*◌, ◌<◌, ◌≤◌, Some, IsTrue, IfSome, pos};
-ghost use Rattle.cal_time.specs.Date.{IsDate, HasCalendarDate, HasOrdinalDate, year_at, weekday_at};
+ghost use Rattle.cal_time.specs.Date.{IsDate, HasCalendarDate, HasOrdinalDate};
 ghost use Rattle.cal_time.specs.IsoWeekDate.{HasIsoWeekDate};
 ghost use Rattle.cal_format.specs.declared.item.Component.{Component};
-ghost use Rattle.cal_format.specs.declared.moment.Moment.{Moment};
-ghost use Rattle.cal_format.specs.Reading.{shows_year, shows_weekday, shows_date};
+ghost use Rattle.cal_format.specs.Reading.{shows_date};
 ghost use Rattle.cal_format.specs.Ranges.{maximum};
-ghost use Rattle.cal_format.specs.Scanning.{number_at, AreHeld, Agrees};
+ghost use Rattle.cal_format.specs.Scanning.{number_at};
 ghost use Rattle.cal_format.specs.Values.{year_in, weekday_in, IsDateOf, value_error};
 
 use crate::determines::{
@@ -19,16 +18,12 @@ use cal_time::{Date, Month, Weekday};
 
 /// Returns the date with the numbers of the fields.
 pub(crate) fn date_of(items: &Shown, fields: &Fields) -> Option<Date>
-    ensures every { (v : Moment) → IsDate v.date → AreHeld v items.now → Agrees items.now fields.now v
-        → IsTrue (shows_date items.now)
-        → result ≡ Some v.date }
-    ensures in_range { IfSome result IsDate }
-    ensures value { ((c : Component) → number_at c fields.now ≤ maximum c)
-        → IsTrue (shows_date items.now)
-        → IfSome result (IsDateOf items.now (λ c. number_at c fields.now)) }
-    ensures none { ((c : Component) → number_at c fields.now ≤ maximum c)
-        → IsTrue (shows_date items.now) → (n : ℕ) → IsDate n
+    requires { (c : Component) → number_at c fields.now ≤ maximum c }
+    ensures every { IsTrue (shows_date items.now) → (n : ℕ) → IsDate n
         → IsDateOf items.now (λ c. number_at c fields.now) n → result ≡ Some n }
+    ensures in_range { IfSome result IsDate }
+    ensures value { IsTrue (shows_date items.now)
+        → IfSome result (IsDateOf items.now (λ c. number_at c fields.now)) }
 {
     if shows_calendar_date(items) {
         let month = fields.get(Component::Month);
@@ -63,34 +58,23 @@ pub(crate) fn value_error(items: &Shown) -> ComponentRange
 
 /// Returns the year.
 fn year_of(items: &Shown, fields: &Fields) -> u64
-    ensures every { (v : Moment) → AreHeld v items.now → Agrees items.now fields.now v
-        → IsTrue (shows_year items.now)
-        → (pos result ≡ year_at v.date) × (result < 10000) }
-    ensures value { ((c : Component) → number_at c fields.now ≤ maximum c)
-        → (result ≡ year_in items.now (λ c. number_at c fields.now)) × (result < 10000) }
+    requires { (c : Component) → number_at c fields.now ≤ maximum c }
+    ensures value { result ≡ year_in items.now (λ c. number_at c fields.now) }
+    ensures range { result < 10000 }
 {
     if any_shows(items, Component::Year) {
         return fields.get(Component::Year);
     }
     let century = fields.get(Component::Century);
     let year = fields.get(Component::YearOfCentury);
-    year_of_century(century, year)
-}
-
-fn year_of_century(century: u64, year: u64) -> u64
-    ensures { century < 100 → year < 100 → result ≡ century * 100 + year }
-{
-    century.wrapping_mul(100).wrapping_add(year)
+    century * 100 + year
 }
 
 /// Returns the number of days since Monday.
 fn weekday_of(items: &Shown, fields: &Fields) -> u8
-    ensures value { (v : Moment) → IsDate v.date → Agrees items.now fields.now v
-        → IsTrue (shows_weekday items.now)
-        → result ≡ weekday_at v.date }
+    requires { (c : Component) → number_at c fields.now ≤ maximum c }
+    ensures value { result ≡ weekday_in items.now (λ c. number_at c fields.now) }
     ensures range { result < 7 }
-    ensures exact { ((c : Component) → number_at c fields.now ≤ maximum c)
-        → result ≡ weekday_in items.now (λ c. number_at c fields.now) }
 {
     if any_shows(items, Component::Weekday) {
         let number = fields.get(Component::Weekday);
@@ -105,26 +89,13 @@ fn weekday_of(items: &Shown, fields: &Fields) -> u8
 }
 
 fn calendar_date(year: u64, month: u64, day: u64) -> Option<Date>
-    ensures every { (n : ℕ) → IsDate n → year < 10000 → month < 100 → day < 100
-        → HasCalendarDate (pos year) month day n
-        → result ≡ Some n }
+    requires { (year < 10000) × (month < 100) × (day < 100) }
+    ensures every { (n : ℕ) → IsDate n → HasCalendarDate (pos year) month day n → result ≡ Some n }
     ensures in_range { IfSome result IsDate }
     ensures value { IfSome result (HasCalendarDate (pos year) month day) }
 {
-    if year > 9999 || month > 99 || day > 99 {
-        return None;
-    }
-    month_date(year as i32, month as u8, day as u8)
-}
-
-/// Returns the date of a year, a number of a month and a day of the month.
-fn month_date(year: i32, month: u8, day: u8) -> Option<Date>
-    ensures every { (n : ℕ) → IsDate n → HasCalendarDate year month day n → result ≡ Some n }
-    ensures in_range { IfSome result IsDate }
-    ensures value { IfSome result (HasCalendarDate year month day) }
-{
-    match Month::try_from(month) {
-        Ok(month) => match Date::from_calendar_date(year, month, day) {
+    match Month::try_from(month as u8) {
+        Ok(month) => match Date::from_calendar_date(year as i32, month, day as u8) {
             Ok(date) => Some(date),
             Err(_) => None,
         },
@@ -133,15 +104,11 @@ fn month_date(year: i32, month: u8, day: u8) -> Option<Date>
 }
 
 fn ordinal_date(year: u64, ordinal: u64) -> Option<Date>
-    ensures every { (n : ℕ) → IsDate n → year < 10000 → ordinal < 1000
-        → HasOrdinalDate (pos year) ordinal n
-        → result ≡ Some n }
+    requires { (year < 10000) × (ordinal < 1000) }
+    ensures every { (n : ℕ) → IsDate n → HasOrdinalDate (pos year) ordinal n → result ≡ Some n }
     ensures in_range { IfSome result IsDate }
     ensures value { IfSome result (HasOrdinalDate (pos year) ordinal) }
 {
-    if year > 9999 || ordinal > 999 {
-        return None;
-    }
     match Date::from_ordinal_date(year as i32, ordinal as u16) {
         Ok(date) => Some(date),
         Err(_) => None,
@@ -149,16 +116,12 @@ fn ordinal_date(year: u64, ordinal: u64) -> Option<Date>
 }
 
 fn iso_week_date(year: u64, week: u64, weekday: u8) -> Option<Date>
-    requires { weekday < 7 }
-    ensures every { (n : ℕ) → IsDate n → year < 10000 → week < 100
-        → HasIsoWeekDate (pos year) week weekday n
+    requires { (year < 10000) × (week < 100) × (weekday < 7) }
+    ensures every { (n : ℕ) → IsDate n → HasIsoWeekDate (pos year) week weekday n
         → result ≡ Some n }
     ensures in_range { IfSome result IsDate }
     ensures value { IfSome result (HasIsoWeekDate (pos year) week weekday) }
 {
-    if year > 9999 || week > 99 {
-        return None;
-    }
     match Date::from_iso_week_date(year as i32, week as u8, Weekday::Monday.nth_next(weekday)) {
         Ok(date) => Some(date),
         Err(_) => None,

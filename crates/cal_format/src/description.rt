@@ -15,175 +15,60 @@ use crate::item::Padding::{self, Space, Zero};
 /// A name, modifiers, and the items that they spell.
 type Row = (&'static str, &'static [&'static str], &'static [Item]);
 
+/// Writes rows of a name, its modifiers and the items that they spell.
+macro_rules! components {
+    ($($name:literal $($word:literal)+ => $($item:expr),+;)+) => {
+        [$(($name, &[$($word),+], &[$($item),+])),+]
+    };
+}
+
 /// The components. The first row that has all modifiers of a component decides.
-pub(crate) const COMPONENTS: [Row; 42] = [
-    (
-        "year",
-        &[
-            "padding:zero",
-            "repr:full",
-            "base:calendar",
-            "sign:automatic",
-        ],
-        &[Number(Year, Zero)],
-    ),
-    (
-        "year",
-        &[
-            "padding:zero",
-            "repr:full",
-            "base:iso_week",
-            "sign:automatic",
-        ],
-        &[Number(IsoYear, Zero)],
-    ),
-    (
-        "year",
-        &[
-            "padding:zero",
-            "repr:century",
-            "base:calendar",
-            "sign:automatic",
-        ],
-        &[Number(Century, Zero)],
-    ),
-    (
-        "year",
-        &[
-            "padding:zero",
-            "repr:last_two",
-            "base:calendar",
-            "sign:automatic",
-        ],
-        &[Number(YearOfCentury, Zero)],
-    ),
-    (
-        "month",
-        &["padding:zero", "repr:numerical"],
-        &[Number(Month, Zero)],
-    ),
-    (
-        "month",
-        &["padding:none", "repr:numerical"],
-        &[Number(Month, Padding::None)],
-    ),
-    (
-        "month",
-        &["padding:space", "repr:numerical"],
-        &[Number(Month, Space)],
-    ),
-    ("month", &["repr:long"], &[Item::Name(Name::Month)]),
-    ("month", &["repr:short"], &[Item::Name(ShortMonth)]),
-    ("day", &["padding:zero"], &[Number(Day, Zero)]),
-    ("day", &["padding:none"], &[Number(Day, Padding::None)]),
-    ("day", &["padding:space"], &[Number(Day, Space)]),
-    ("ordinal", &["padding:zero"], &[Number(Ordinal, Zero)]),
-    (
-        "week_number",
-        &["padding:zero", "repr:iso"],
-        &[Number(IsoWeek, Zero)],
-    ),
-    (
-        "week_number",
-        &["padding:zero", "repr:sunday"],
-        &[Number(SundayWeek, Zero)],
-    ),
-    (
-        "week_number",
-        &["padding:zero", "repr:monday"],
-        &[Number(MondayWeek, Zero)],
-    ),
-    (
-        "weekday",
-        &["repr:long", "one_indexed:true", "one_indexed:false"],
-        &[Item::Name(Name::Weekday)],
-    ),
-    (
-        "weekday",
-        &["repr:short", "one_indexed:true", "one_indexed:false"],
-        &[Item::Name(ShortWeekday)],
-    ),
-    (
-        "weekday",
-        &["repr:monday", "one_indexed:true"],
-        &[Number(Weekday, Zero)],
-    ),
-    (
-        "weekday",
-        &["repr:sunday", "one_indexed:true"],
-        &[Number(SundayWeekday, Zero)],
-    ),
-    (
-        "weekday",
-        &["repr:sunday", "one_indexed:false"],
-        &[Number(DaysFromSunday, Zero)],
-    ),
-    ("hour", &["padding:zero", "repr:24"], &[Number(Hour, Zero)]),
-    (
-        "hour",
-        &["padding:none", "repr:24"],
-        &[Number(Hour, Padding::None)],
-    ),
-    (
-        "hour",
-        &["padding:space", "repr:24"],
-        &[Number(Hour, Space)],
-    ),
-    (
-        "hour",
-        &["padding:zero", "repr:12"],
-        &[Number(Hour12, Zero)],
-    ),
-    (
-        "hour",
-        &["padding:none", "repr:12"],
-        &[Number(Hour12, Padding::None)],
-    ),
-    (
-        "hour",
-        &["padding:space", "repr:12"],
-        &[Number(Hour12, Space)],
-    ),
-    ("period", &["case:upper"], &[Item::Name(Name::Period)]),
-    ("minute", &["padding:zero"], &[Number(Minute, Zero)]),
-    (
-        "minute",
-        &["padding:none"],
-        &[Number(Minute, Padding::None)],
-    ),
-    ("minute", &["padding:space"], &[Number(Minute, Space)]),
-    ("second", &["padding:zero"], &[Number(Second, Zero)]),
-    (
-        "second",
-        &["padding:none"],
-        &[Number(Second, Padding::None)],
-    ),
-    ("second", &["padding:space"], &[Number(Second, Space)]),
-    ("subsecond", &["digits:1+"], &[Decimals]),
-    ("subsecond", &["digits:3"], &[Number(Millisecond, Zero)]),
-    ("subsecond", &["digits:6"], &[Number(Microsecond, Zero)]),
-    ("subsecond", &["digits:9"], &[Number(Nanosecond, Zero)]),
-    (
-        "offset_hour",
-        &["sign:mandatory", "padding:zero"],
-        &[OffsetSign, Number(OffsetHour, Zero)],
-    ),
-    (
-        "offset_minute",
-        &["padding:zero"],
-        &[Number(OffsetMinute, Zero)],
-    ),
-    (
-        "offset_second",
-        &["padding:zero"],
-        &[Number(OffsetSecond, Zero)],
-    ),
-    (
-        "unix_timestamp",
-        &["precision:second", "sign:automatic"],
-        &[TimestampSign, Number(Timestamp, Padding::None)],
-    ),
-];
+pub(crate) const COMPONENTS: [Row; 42] = components! {
+    "year" "padding:zero" "repr:full" "base:calendar" "sign:automatic" => Number(Year, Zero);
+    "year" "padding:zero" "repr:full" "base:iso_week" "sign:automatic" => Number(IsoYear, Zero);
+    "year" "padding:zero" "repr:century" "base:calendar" "sign:automatic" => Number(Century, Zero);
+    "year" "padding:zero" "repr:last_two" "base:calendar" "sign:automatic"
+        => Number(YearOfCentury, Zero);
+    "month" "padding:zero" "repr:numerical" => Number(Month, Zero);
+    "month" "padding:none" "repr:numerical" => Number(Month, Padding::None);
+    "month" "padding:space" "repr:numerical" => Number(Month, Space);
+    "month" "repr:long" => Item::Name(Name::Month);
+    "month" "repr:short" => Item::Name(ShortMonth);
+    "day" "padding:zero" => Number(Day, Zero);
+    "day" "padding:none" => Number(Day, Padding::None);
+    "day" "padding:space" => Number(Day, Space);
+    "ordinal" "padding:zero" => Number(Ordinal, Zero);
+    "week_number" "padding:zero" "repr:iso" => Number(IsoWeek, Zero);
+    "week_number" "padding:zero" "repr:sunday" => Number(SundayWeek, Zero);
+    "week_number" "padding:zero" "repr:monday" => Number(MondayWeek, Zero);
+    "weekday" "repr:long" "one_indexed:true" "one_indexed:false" => Item::Name(Name::Weekday);
+    "weekday" "repr:short" "one_indexed:true" "one_indexed:false" => Item::Name(ShortWeekday);
+    "weekday" "repr:monday" "one_indexed:true" => Number(Weekday, Zero);
+    "weekday" "repr:sunday" "one_indexed:true" => Number(SundayWeekday, Zero);
+    "weekday" "repr:sunday" "one_indexed:false" => Number(DaysFromSunday, Zero);
+    "hour" "padding:zero" "repr:24" => Number(Hour, Zero);
+    "hour" "padding:none" "repr:24" => Number(Hour, Padding::None);
+    "hour" "padding:space" "repr:24" => Number(Hour, Space);
+    "hour" "padding:zero" "repr:12" => Number(Hour12, Zero);
+    "hour" "padding:none" "repr:12" => Number(Hour12, Padding::None);
+    "hour" "padding:space" "repr:12" => Number(Hour12, Space);
+    "period" "case:upper" => Item::Name(Name::Period);
+    "minute" "padding:zero" => Number(Minute, Zero);
+    "minute" "padding:none" => Number(Minute, Padding::None);
+    "minute" "padding:space" => Number(Minute, Space);
+    "second" "padding:zero" => Number(Second, Zero);
+    "second" "padding:none" => Number(Second, Padding::None);
+    "second" "padding:space" => Number(Second, Space);
+    "subsecond" "digits:1+" => Decimals;
+    "subsecond" "digits:3" => Number(Millisecond, Zero);
+    "subsecond" "digits:6" => Number(Microsecond, Zero);
+    "subsecond" "digits:9" => Number(Nanosecond, Zero);
+    "offset_hour" "sign:mandatory" "padding:zero" => OffsetSign, Number(OffsetHour, Zero);
+    "offset_minute" "padding:zero" => Number(OffsetMinute, Zero);
+    "offset_second" "padding:zero" => Number(OffsetSecond, Zero);
+    "unix_timestamp" "precision:second" "sign:automatic"
+        => TimestampSign, Number(Timestamp, Padding::None);
+};
 
 /// Returns the items at the front of a text, after an opening bracket.
 pub(crate) fn description_front(text: &[u8]) -> Directive

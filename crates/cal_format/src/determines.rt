@@ -1,8 +1,7 @@
 //! The values that a format determines.
 ghost use Rattle.std.specs.Prelude.{◌≡◌, ◌==◌, if◌then◌else◌, true};
 ghost use Rattle.cal_format.specs.declared.item.Component.{Component};
-ghost use Rattle.cal_format.specs.Marks.{mark_of};
-ghost use Rattle.cal_format.specs.Reading.{index, shows, any_shows, is_apart, begins_apart, is_past_point, begins_past_point, is_decimal, begins_with_decimal, ends_before, are_apart, shows_year, shows_weekday, shows_calendar_date, shows_ordinal_date, shows_iso_week_date, shows_date, shows_hour, shows_subsecond, shows_time, shows_offset, shows_timestamp, shows_moment};
+ghost use Rattle.cal_format.specs.Reading.{index, mark_of, shows, any_shows, begins_apart, begins_past_point, begins_with_decimal, ends_before, are_apart, shows_year, shows_weekday, shows_calendar_date, shows_ordinal_date, shows_iso_week_date, shows_date, shows_hour, shows_subsecond, shows_time, shows_offset, shows_timestamp, shows_moment};
 
 use crate::item::{Component, Item, Padding};
 use std::marker::Model;
@@ -18,8 +17,7 @@ impl<'a> Model for Shown<'a> {
     ghost use Rattle.std.specs.Prelude.{◌≡◌, List};
     ghost use Rattle.cal_format.specs.declared.item.Component.{Component};
     ghost use Rattle.cal_format.specs.declared.item.Item.{Item};
-    ghost use Rattle.cal_format.specs.Marks.{mark_of};
-    ghost use Rattle.cal_format.specs.Reading.{any_shows};
+    ghost use Rattle.cal_format.specs.Reading.{any_shows, mark_of};
 
     ghost Value = { List Item };
 
@@ -83,7 +81,12 @@ fn begins_apart(items: &[Item]) -> bool
 {
     match items {
         [] => true,
-        [item, ..] => item.is_apart(),
+        [item, ..] => match *item {
+            Item::Literal(byte) => byte < 48 || byte > 57,
+            Item::Name(_) => true,
+            Item::OffsetSign => true,
+            _ => false,
+        },
     }
 }
 
@@ -93,7 +96,10 @@ fn begins_with_decimal(items: &[Item]) -> bool
 {
     match items {
         [] => false,
-        [item, ..] => item.is_decimal(),
+        [item, ..] => match *item {
+            Item::Number(_, Padding::None) => true,
+            _ => false,
+        },
     }
 }
 
@@ -103,7 +109,10 @@ fn begins_past_point(items: &[Item]) -> bool
 {
     match items {
         [] => true,
-        [item, ..] => item.is_past_point(),
+        [item, ..] => match *item {
+            Item::Literal(byte) => byte != 46,
+            _ => true,
+        },
     }
 }
 
@@ -131,35 +140,6 @@ impl Item {
             Item::Fraction => begins_apart(others) && begins_past_point(others),
             Item::Decimals => begins_apart(others),
             Item::TimestampSign => begins_with_decimal(others),
-            _ => true,
-        }
-    }
-
-    fn is_apart(self) -> bool
-        ensures { result ≡ is_apart self }
-    {
-        match self {
-            Item::Literal(byte) => byte < 48 || byte > 57,
-            Item::Name(_) => true,
-            Item::OffsetSign => true,
-            _ => false,
-        }
-    }
-
-    fn is_decimal(self) -> bool
-        ensures { result ≡ is_decimal self }
-    {
-        match self {
-            Item::Number(_, Padding::None) => true,
-            _ => false,
-        }
-    }
-
-    fn is_past_point(self) -> bool
-        ensures { result ≡ is_past_point self }
-    {
-        match self {
-            Item::Literal(byte) => byte != 46,
             _ => true,
         }
     }

@@ -18,108 +18,61 @@ pub(crate) struct Directive {
     pub(crate) used: usize,
 }
 
+/// Writes rows of a spelling and the items that it spells.
+macro_rules! spellings {
+    ($($text:literal => $($item:expr),+;)+) => { [$(($text, &[$($item),+])),+] };
+}
+
 /// The directives of `strftime`, after the percent sign.
-pub(crate) const DIRECTIVES: [(&str, &[Item]); 44] = [
-    ("-m", &[Number(Month, Padding::None)]),
-    ("-d", &[Number(Day, Padding::None)]),
-    ("-H", &[Number(Hour, Padding::None)]),
-    ("-I", &[Number(Hour12, Padding::None)]),
-    (".f", &[Fraction]),
-    ("3N", &[Number(Millisecond, Zero)]),
-    ("6N", &[Number(Microsecond, Zero)]),
-    ("9N", &[Number(Nanosecond, Zero)]),
-    ("Y", &[Number(Year, Zero)]),
-    ("m", &[Number(Month, Zero)]),
-    ("d", &[Number(Day, Zero)]),
-    ("j", &[Number(Ordinal, Zero)]),
-    ("e", &[Number(Day, Space)]),
-    ("y", &[Number(YearOfCentury, Zero)]),
-    ("C", &[Number(Century, Zero)]),
-    ("H", &[Number(Hour, Zero)]),
-    ("M", &[Number(Minute, Zero)]),
-    ("S", &[Number(Second, Zero)]),
-    ("I", &[Number(Hour12, Zero)]),
-    ("f", &[Number(Microsecond, Zero)]),
-    ("N", &[Number(Nanosecond, Zero)]),
-    ("B", &[Item::Name(Name::Month)]),
-    ("b", &[Item::Name(ShortMonth)]),
-    ("h", &[Item::Name(ShortMonth)]),
-    ("A", &[Item::Name(Name::Weekday)]),
-    ("a", &[Item::Name(ShortWeekday)]),
-    ("p", &[Item::Name(Name::Period)]),
-    ("G", &[Number(IsoYear, Zero)]),
-    ("V", &[Number(IsoWeek, Zero)]),
-    ("u", &[Number(Weekday, Zero)]),
-    ("w", &[Number(DaysFromSunday, Zero)]),
-    ("U", &[Number(SundayWeek, Zero)]),
-    ("W", &[Number(MondayWeek, Zero)]),
-    (
-        "F",
-        &[
-            Number(Year, Zero),
-            Literal(b'-'),
-            Number(Month, Zero),
-            Literal(b'-'),
-            Number(Day, Zero),
-        ],
-    ),
-    (
-        "T",
-        &[
-            Number(Hour, Zero),
-            Literal(b':'),
-            Number(Minute, Zero),
-            Literal(b':'),
-            Number(Second, Zero),
-        ],
-    ),
-    (
-        "R",
-        &[Number(Hour, Zero), Literal(b':'), Number(Minute, Zero)],
-    ),
-    (
-        "D",
-        &[
-            Number(Month, Zero),
-            Literal(b'/'),
-            Number(Day, Zero),
-            Literal(b'/'),
-            Number(YearOfCentury, Zero),
-        ],
-    ),
-    (
-        "z",
-        &[
-            OffsetSign,
-            Number(OffsetHour, Zero),
-            Number(OffsetMinute, Zero),
-        ],
-    ),
-    (
-        ":z",
-        &[
-            OffsetSign,
-            Number(OffsetHour, Zero),
-            Literal(b':'),
-            Number(OffsetMinute, Zero),
-        ],
-    ),
-    (
-        "::z",
-        &[
-            OffsetSign,
-            Number(OffsetHour, Zero),
-            Literal(b':'),
-            Number(OffsetMinute, Zero),
-            Literal(b':'),
-            Number(OffsetSecond, Zero),
-        ],
-    ),
-    ("s", &[TimestampSign, Number(Timestamp, Padding::None)]),
-    ("n", &[Literal(b'\n')]),
-    ("t", &[Literal(b'\t')]),
-    ("%", &[Literal(b'%')]),
-];
+pub(crate) const DIRECTIVES: [(&str, &[Item]); 44] = spellings! {
+    "-m" => Number(Month, Padding::None);
+    "-d" => Number(Day, Padding::None);
+    "-H" => Number(Hour, Padding::None);
+    "-I" => Number(Hour12, Padding::None);
+    ".f" => Fraction;
+    "3N" => Number(Millisecond, Zero);
+    "6N" => Number(Microsecond, Zero);
+    "9N" => Number(Nanosecond, Zero);
+    "Y" => Number(Year, Zero);
+    "m" => Number(Month, Zero);
+    "d" => Number(Day, Zero);
+    "j" => Number(Ordinal, Zero);
+    "e" => Number(Day, Space);
+    "y" => Number(YearOfCentury, Zero);
+    "C" => Number(Century, Zero);
+    "H" => Number(Hour, Zero);
+    "M" => Number(Minute, Zero);
+    "S" => Number(Second, Zero);
+    "I" => Number(Hour12, Zero);
+    "f" => Number(Microsecond, Zero);
+    "N" => Number(Nanosecond, Zero);
+    "B" => Item::Name(Name::Month);
+    "b" => Item::Name(ShortMonth);
+    "h" => Item::Name(ShortMonth);
+    "A" => Item::Name(Name::Weekday);
+    "a" => Item::Name(ShortWeekday);
+    "p" => Item::Name(Name::Period);
+    "G" => Number(IsoYear, Zero);
+    "V" => Number(IsoWeek, Zero);
+    "u" => Number(Weekday, Zero);
+    "w" => Number(DaysFromSunday, Zero);
+    "U" => Number(SundayWeek, Zero);
+    "W" => Number(MondayWeek, Zero);
+    "F" => Number(Year, Zero), Literal(b'-'), Number(Month, Zero), Literal(b'-'), Number(Day, Zero);
+    "T" => Number(Hour, Zero), Literal(b':'), Number(Minute, Zero), Literal(b':'),
+        Number(Second, Zero);
+    "R" => Number(Hour, Zero), Literal(b':'), Number(Minute, Zero);
+    "D" => Number(Month, Zero), Literal(b'/'), Number(Day, Zero), Literal(b'/'),
+        Number(YearOfCentury, Zero);
+    "z" => OffsetSign, Number(OffsetHour, Zero), Number(OffsetMinute, Zero);
+    ":z" => OffsetSign, Number(OffsetHour, Zero), Literal(b':'), Number(OffsetMinute, Zero);
+    "::z" => OffsetSign, Number(OffsetHour, Zero), Literal(b':'), Number(OffsetMinute, Zero),
+        Literal(b':'), Number(OffsetSecond, Zero);
+    "s" => TimestampSign, Number(Timestamp, Padding::None);
+    "n" => Literal(b'\n');
+    "t" => Literal(b'\t');
+    "%" => Literal(b'%');
+};
 
 /// Returns the items of the first row whose spelling begins the text.
 pub(crate) fn front_in(table: &'static [(&'static str, &'static [Item])], text: &[u8]) -> Directive

@@ -1,10 +1,19 @@
 //! The form of names.
 ghost use Rattle.std.specs.Prelude.{◌≡◌, ◌<◌, ◌≤◌, ◌∷◌, ◌++◌, IfSome, if◌then◌else◌};
 ghost use Rattle.cal_text.specs.Shape.{Scans};
-ghost use Rattle.cal_format.specs.Form.{Word, Letters, MonthOfJ, MonthOfM, MonthOfA, OtherMonth, MonthName, WeekdayOfT, WeekdayOfS, WeekdayName, PeriodName, NameShape, month_text, weekday_text, period_text, numbered_name, IsNameNumber};
+ghost use Rattle.cal_format.specs.Form.{Word, Letters, MonthName, WeekdayName, PeriodName, NameShape, month_text, weekday_text, period_text, numbered_name, IsNameNumber};
 
 use crate::item::Name;
 use cal_text::Scanner;
+
+/// Makes the function return this result if the byte comes next.
+macro_rules! after_byte {
+    ($scanner:ident, $byte:literal => $result:expr) => {
+        if let Some(()) = $scanner.byte($byte) {
+            return $result;
+        }
+    };
+}
 
 /// Parses a name. Returns the number of its month or weekday, from 1, or 0 for `AM` and 1 for `PM`.
 pub(crate) fn scan_name(scanner: &mut Scanner, name: Name) -> Option<u64>
@@ -29,81 +38,25 @@ fn scan_month(scanner: &mut Scanner, is_long: bool) -> Option<u64>
     ensures range { IfSome result (λ n. (1 ≤ n) × (n ≤ 12)) }
 {
     if let Some(()) = scanner.byte(b'J') {
-        return scan_month_of_j(scanner, is_long);
+        after_byte!(scanner, b'a' => scan_letters(scanner, b"n", b"uary", is_long, 1));
+        scanner.byte(b'u')?;
+        after_byte!(scanner, b'n' => scan_letters(scanner, b"", b"e", is_long, 6));
+        scanner.byte(b'l')?;
+        return scan_letters(scanner, b"", b"y", is_long, 7);
     }
     if let Some(()) = scanner.byte(b'M') {
-        return scan_month_of_m(scanner, is_long);
+        scanner.byte(b'a')?;
+        after_byte!(scanner, b'r' => scan_letters(scanner, b"", b"ch", is_long, 3));
+        return scan_letters(scanner, b"y", b"", is_long, 5);
     }
     if let Some(()) = scanner.byte(b'A') {
-        return scan_month_of_a(scanner, is_long);
+        after_byte!(scanner, b'p' => scan_letters(scanner, b"r", b"il", is_long, 4));
+        return scan_letters(scanner, b"ug", b"ust", is_long, 8);
     }
-    scan_other_month(scanner, is_long)
-}
-
-/// Parses January, June or July after its first letter.
-#[tactic(auto, unfolding(crate::specs::Form::MonthOfJ))]
-fn scan_month_of_j(scanner: &mut Scanner, is_long: bool) -> Option<u64>
-    ensures scans { Scans (MonthOfJ is_long) scanner.old.rest.now scanner.new.rest.now result }
-    ensures value { IfSome result (λ n. 74 ∷ scanner.old.rest.now ≡ month_text is_long n ++ scanner.new.rest.now) }
-    ensures range { IfSome result (λ n. (1 ≤ n) × (n ≤ 12)) }
-{
-    if let Some(()) = scanner.byte(b'a') {
-        return scan_letters(scanner, b"n", b"uary", is_long, 1);
-    }
-    scanner.byte(b'u')?;
-    if let Some(()) = scanner.byte(b'n') {
-        return scan_letters(scanner, b"", b"e", is_long, 6);
-    }
-    scanner.byte(b'l')?;
-    scan_letters(scanner, b"", b"y", is_long, 7)
-}
-
-/// Parses March or May after its first letter.
-#[tactic(auto, unfolding(crate::specs::Form::MonthOfM))]
-fn scan_month_of_m(scanner: &mut Scanner, is_long: bool) -> Option<u64>
-    ensures scans { Scans (MonthOfM is_long) scanner.old.rest.now scanner.new.rest.now result }
-    ensures value { IfSome result (λ n. 77 ∷ scanner.old.rest.now ≡ month_text is_long n ++ scanner.new.rest.now) }
-    ensures range { IfSome result (λ n. (1 ≤ n) × (n ≤ 12)) }
-{
-    scanner.byte(b'a')?;
-    if let Some(()) = scanner.byte(b'r') {
-        return scan_letters(scanner, b"", b"ch", is_long, 3);
-    }
-    scan_letters(scanner, b"y", b"", is_long, 5)
-}
-
-/// Parses April or August after its first letter.
-#[tactic(auto, unfolding(crate::specs::Form::MonthOfA))]
-fn scan_month_of_a(scanner: &mut Scanner, is_long: bool) -> Option<u64>
-    ensures scans { Scans (MonthOfA is_long) scanner.old.rest.now scanner.new.rest.now result }
-    ensures value { IfSome result (λ n. 65 ∷ scanner.old.rest.now ≡ month_text is_long n ++ scanner.new.rest.now) }
-    ensures range { IfSome result (λ n. (1 ≤ n) × (n ≤ 12)) }
-{
-    if let Some(()) = scanner.byte(b'p') {
-        return scan_letters(scanner, b"r", b"il", is_long, 4);
-    }
-    scan_letters(scanner, b"ug", b"ust", is_long, 8)
-}
-
-/// Parses a month that begins with another letter.
-#[tactic(auto, unfolding(crate::specs::Form::OtherMonth))]
-fn scan_other_month(scanner: &mut Scanner, is_long: bool) -> Option<u64>
-    ensures scans { Scans (OtherMonth is_long) scanner.old.rest.now scanner.new.rest.now result }
-    ensures value { IfSome result (λ n. scanner.old.rest.now ≡ month_text is_long n ++ scanner.new.rest.now) }
-    ensures range { IfSome result (λ n. (1 ≤ n) × (n ≤ 12)) }
-{
-    if let Some(()) = scanner.byte(b'F') {
-        return scan_letters(scanner, b"eb", b"ruary", is_long, 2);
-    }
-    if let Some(()) = scanner.byte(b'S') {
-        return scan_letters(scanner, b"ep", b"tember", is_long, 9);
-    }
-    if let Some(()) = scanner.byte(b'O') {
-        return scan_letters(scanner, b"ct", b"ober", is_long, 10);
-    }
-    if let Some(()) = scanner.byte(b'N') {
-        return scan_letters(scanner, b"ov", b"ember", is_long, 11);
-    }
+    after_byte!(scanner, b'F' => scan_letters(scanner, b"eb", b"ruary", is_long, 2));
+    after_byte!(scanner, b'S' => scan_letters(scanner, b"ep", b"tember", is_long, 9));
+    after_byte!(scanner, b'O' => scan_letters(scanner, b"ct", b"ober", is_long, 10));
+    after_byte!(scanner, b'N' => scan_letters(scanner, b"ov", b"ember", is_long, 11));
     scanner.byte(b'D')?;
     scan_letters(scanner, b"ec", b"ember", is_long, 12)
 }
@@ -114,45 +67,15 @@ fn scan_weekday(scanner: &mut Scanner, is_long: bool) -> Option<u64>
     ensures value { IfSome result (λ n. scanner.old.rest.now ≡ weekday_text is_long n ++ scanner.new.rest.now) }
     ensures range { IfSome result (λ n. (1 ≤ n) × (n ≤ 7)) }
 {
-    if let Some(()) = scanner.byte(b'M') {
-        return scan_letters(scanner, b"on", b"day", is_long, 1);
-    }
+    after_byte!(scanner, b'M' => scan_letters(scanner, b"on", b"day", is_long, 1));
     if let Some(()) = scanner.byte(b'T') {
-        return scan_weekday_of_t(scanner, is_long);
+        after_byte!(scanner, b'u' => scan_letters(scanner, b"e", b"sday", is_long, 2));
+        return scan_letters(scanner, b"hu", b"rsday", is_long, 4);
     }
-    if let Some(()) = scanner.byte(b'W') {
-        return scan_letters(scanner, b"ed", b"nesday", is_long, 3);
-    }
-    if let Some(()) = scanner.byte(b'F') {
-        return scan_letters(scanner, b"ri", b"day", is_long, 5);
-    }
+    after_byte!(scanner, b'W' => scan_letters(scanner, b"ed", b"nesday", is_long, 3));
+    after_byte!(scanner, b'F' => scan_letters(scanner, b"ri", b"day", is_long, 5));
     scanner.byte(b'S')?;
-    scan_weekday_of_s(scanner, is_long)
-}
-
-/// Parses Tuesday or Thursday after its first letter.
-#[tactic(auto, unfolding(crate::specs::Form::WeekdayOfT))]
-fn scan_weekday_of_t(scanner: &mut Scanner, is_long: bool) -> Option<u64>
-    ensures scans { Scans (WeekdayOfT is_long) scanner.old.rest.now scanner.new.rest.now result }
-    ensures value { IfSome result (λ n. 84 ∷ scanner.old.rest.now ≡ weekday_text is_long n ++ scanner.new.rest.now) }
-    ensures range { IfSome result (λ n. (1 ≤ n) × (n ≤ 7)) }
-{
-    if let Some(()) = scanner.byte(b'u') {
-        return scan_letters(scanner, b"e", b"sday", is_long, 2);
-    }
-    scan_letters(scanner, b"hu", b"rsday", is_long, 4)
-}
-
-/// Parses Saturday or Sunday after its first letter.
-#[tactic(auto, unfolding(crate::specs::Form::WeekdayOfS))]
-fn scan_weekday_of_s(scanner: &mut Scanner, is_long: bool) -> Option<u64>
-    ensures scans { Scans (WeekdayOfS is_long) scanner.old.rest.now scanner.new.rest.now result }
-    ensures value { IfSome result (λ n. 83 ∷ scanner.old.rest.now ≡ weekday_text is_long n ++ scanner.new.rest.now) }
-    ensures range { IfSome result (λ n. (1 ≤ n) × (n ≤ 7)) }
-{
-    if let Some(()) = scanner.byte(b'a') {
-        return scan_letters(scanner, b"t", b"urday", is_long, 6);
-    }
+    after_byte!(scanner, b'a' => scan_letters(scanner, b"t", b"urday", is_long, 6));
     scan_letters(scanner, b"un", b"day", is_long, 7)
 }
 

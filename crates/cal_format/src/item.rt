@@ -167,35 +167,7 @@ impl Component {
         ensures value { result ≡ index self }
         ensures range { result < 27 }
     {
-        match self {
-            Component::Year => 0,
-            Component::Century => 1,
-            Component::YearOfCentury => 2,
-            Component::IsoYear => 3,
-            Component::Month => 4,
-            Component::Day => 5,
-            Component::Ordinal => 6,
-            Component::IsoWeek => 7,
-            Component::Weekday => 8,
-            Component::DaysFromSunday => 9,
-            Component::SundayWeekday => 10,
-            Component::SundayWeek => 11,
-            Component::MondayWeek => 12,
-            Component::Hour => 13,
-            Component::Hour12 => 14,
-            Component::Minute => 15,
-            Component::Second => 16,
-            Component::Period => 17,
-            Component::Millisecond => 18,
-            Component::Microsecond => 19,
-            Component::Nanosecond => 20,
-            Component::OffsetHour => 21,
-            Component::OffsetMinute => 22,
-            Component::OffsetSecond => 23,
-            Component::OffsetSign => 24,
-            Component::Timestamp => 25,
-            Component::TimestampSign => 26,
-        }
+        self as usize
     }
 }
 

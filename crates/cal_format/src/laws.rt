@@ -8,10 +8,8 @@ ghost use Rattle.cal_format.specs.Text.{text_of};
 ghost use Rattle.cal_format.specs.Reading.{holds_time};
 ghost use Rattle.cal_format.specs.Scanning.{AreHeld};
 
-use crate::date_format::DateFormat;
-use crate::date_time_format::DateTimeFormat;
 use crate::error::ParseError;
-use crate::time_format::TimeFormat;
+use crate::value_formats::{DateFormat, DateTimeFormat, TimeFormat};
 use cal_datetime::PlainDateTime;
 use cal_time::{Date, Time};
 

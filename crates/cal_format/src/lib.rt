@@ -8,9 +8,7 @@
 //! [`ParseError`] says why.
 #![tactic(auto)]
 
-mod date_format;
 mod date_parts;
-mod date_time_format;
 mod description;
 mod determines;
 mod directive;
@@ -22,24 +20,18 @@ mod format;
 mod item;
 mod laws;
 mod moment;
-mod names;
-mod offset_date_time_format;
-mod offset_format;
 mod offset_parts;
 mod parsing;
 mod print;
 mod ranges;
-mod text_length;
-mod time_format;
 mod time_parts;
 mod timestamp;
 mod value;
+mod value_formats;
 
-pub use date_format::DateFormat;
-pub use date_time_format::DateTimeFormat;
 pub use error::ParseError;
 pub use format::{Format, FormatError};
 pub use item::{Component, Item, Name, Padding, Syntax};
-pub use offset_date_time_format::OffsetDateTimeFormat;
-pub use offset_format::OffsetFormat;
-pub use time_format::TimeFormat;
+pub use value_formats::{
+    DateFormat, DateTimeFormat, OffsetDateTimeFormat, OffsetFormat, TimeFormat,
+};

@@ -1,27 +1,21 @@
 //! Offsets from the numbers of a text.
-ghost use Rattle.std.specs.Prelude.{◌≡◌, ◌+◌, ◌*◌, ◌<◌, ◌≤◌, Some, IsTrue, IfSome, unsigned_abs};
+ghost use Rattle.std.specs.Prelude.{◌≡◌, ◌+◌, ◌*◌, ◌≤◌, Some, IfSome};
 ghost use Rattle.cal_time.specs.UtcOffset.{IsOffset};
 ghost use Rattle.cal_format.specs.declared.item.Component.{Component};
-ghost use Rattle.cal_format.specs.declared.moment.Moment.{Moment};
-ghost use Rattle.cal_format.specs.Reading.{shows_offset, holds_offset};
 ghost use Rattle.cal_format.specs.Ranges.{maximum};
-ghost use Rattle.cal_format.specs.Scanning.{number_at, Agrees, signed_seconds};
+ghost use Rattle.cal_format.specs.Scanning.{number_at, signed_seconds};
 ghost use Rattle.cal_format.specs.Values.{offset_in};
 
-use crate::determines::Shown;
 use crate::fields::Fields;
 use crate::item::Component;
 use crate::timestamp::signed;
 use cal_time::UtcOffset;
 
 /// Returns the offset with the numbers of the fields.
-pub(crate) fn offset_of(items: &Shown, fields: &Fields) -> Option<UtcOffset>
-    ensures every { (v : Moment) → IsOffset v.offset → Agrees items.now fields.now v
-        → IsTrue (shows_offset items.now) → IsTrue (holds_offset items.now v.offset)
-        → result ≡ Some v.offset }
+pub(crate) fn offset_of(fields: &Fields) -> Option<UtcOffset>
+    requires { (c : Component) → number_at c fields.now ≤ maximum c }
+    ensures value { result ≡ Some (offset_in (λ c. number_at c fields.now)) }
     ensures in_range { IfSome result IsOffset }
-    ensures value { ((c : Component) → number_at c fields.now ≤ maximum c)
-        → result ≡ Some (offset_in (λ c. number_at c fields.now)) }
 {
     let sign = fields.get(Component::OffsetSign);
     let hour = fields.get(Component::OffsetHour);

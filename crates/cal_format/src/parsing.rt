@@ -1,5 +1,5 @@
 //! Parsing: the numbers of a text, and the moment that they determine.
-ghost use Rattle.std.specs.Prelude.{◌≡◌, ℕ, ◌<◌, ◌≤◌, length, Ok, Some, IsTrue, IfOk, IfErr, IfSome, IfNone, not, pos, if◌then◌else◌};
+ghost use Rattle.std.specs.Prelude.{◌≡◌, ℕ, ◌<◌, ◌≤◌, length, Ok, Some, IsTrue, IfOk, IfErr, IfSome, not, pos, if◌then◌else◌};
 ghost use Rattle.cal_time.specs.Date.{IsDate};
 ghost use Rattle.cal_time.specs.Time.{IsTime};
 ghost use Rattle.cal_time.specs.UtcOffset.{IsOffset};
@@ -7,13 +7,12 @@ ghost use Rattle.cal_format.specs.declared.error.ParseError.TheVariants.{Unexpec
 ghost use Rattle.cal_format.specs.declared.item.Component.{Component};
 ghost use Rattle.cal_format.specs.declared.moment.Moment.{Moment};
 ghost use Rattle.cal_format.specs.Form.{AreNumbers, numbered_text, numbers_of};
-ghost use Rattle.cal_format.specs.Moment.{IsMoment};
 ghost use Rattle.cal_format.specs.Ranges.{maximum};
 ghost use Rattle.cal_format.specs.Reading.{are_apart, shows_time, shows_offset, shows_timestamp};
 ghost use Rattle.cal_format.specs.Rejection.{IsRejection, IsNumberRejection};
-ghost use Rattle.cal_format.specs.Scanning.{number_at, Agrees};
+ghost use Rattle.cal_format.specs.Scanning.{number_at};
 ghost use Rattle.cal_format.specs.Text.{text_of};
-ghost use Rattle.cal_format.specs.Values.{Holds, IsPrinted, time_in, offset_in, IsDateOf, value_error, IsMomentOf, differing, item_contradiction, first_contradiction};
+ghost use Rattle.cal_format.specs.Values.{Holds, IsPrinted, time_in, offset_in, IsDateOf, value_error, IsMomentOf, contradiction, item_contradiction, first_contradiction};
 
 use crate::date_parts::{date_of, value_error};
 use crate::determines::{Shown, shows_date, shows_offset, shows_time, shows_timestamp};
@@ -109,43 +108,32 @@ impl Item {
     {
         match self {
             Item::Literal(_) => None,
-            Item::Number(component, _) => differing(
-                component,
-                moment.number(component) == number && sign_of(component, moment).is_empty(),
-            ),
-            Item::Name(name) => {
-                differing(name.component(), moment.number(name.component()) == number)
-            }
-            Item::Fraction | Item::Decimals => differing(
-                Component::Nanosecond,
-                moment.number(Component::Nanosecond) == number,
-            ),
-            Item::OffsetSign => differing(
-                Component::OffsetSign,
-                moment.number(Component::OffsetSign) == number,
-            ),
-            Item::TimestampSign => differing(
-                Component::TimestampSign,
-                moment.number(Component::TimestampSign) == number,
-            ),
+            Item::Number(component, _) => component.contradiction(number, moment),
+            Item::Name(name) => name.component().contradiction(number, moment),
+            Item::Fraction | Item::Decimals => Component::Nanosecond.contradiction(number, moment),
+            Item::OffsetSign => Component::OffsetSign.contradiction(number, moment),
+            Item::TimestampSign => Component::TimestampSign.contradiction(number, moment),
         }
     }
 }
 
-fn differing(component: Component, is_same: bool) -> Option<Named>
-    ensures { result ≡ differing component is_same }
-{
-    if is_same {
-        None
-    } else {
-        Some(component.named())
+impl Component {
+    /// Returns its name in an error if this number isn't its number of the moment.
+    fn contradiction(self, number: u64, moment: &Moment) -> Option<Named>
+        ensures { result ≡ contradiction (Some self) number moment.now }
+    {
+        if moment.number(self) == number && sign_of(self, moment).is_empty() {
+            None
+        } else {
+            Some(self.named())
+        }
     }
 }
 
 /// Returns the moment with the numbers of the fields, or the error of numbers that no moment has.
 fn moment_of(items: &[Item], fields: &Fields) -> Result<Moment, ComponentRange>
     requires { (c : Component) → number_at c fields.now ≤ maximum c }
-    ensures every { (v : Moment) → Holds items.now v → Agrees items.now fields.now v
+    ensures every { (v : Moment) → IsMomentOf items.now (λ c. number_at c fields.now) v
         → result ≡ Ok v }
     ensures value { IfOk result (IsMomentOf items.now (λ c. number_at c fields.now)) }
     ensures error { IfErr result (λ why. (why ≡ value_error items.now) × ((v : Moment)
@@ -160,11 +148,9 @@ fn moment_of(items: &[Item], fields: &Fields) -> Result<Moment, ComponentRange>
 
 fn find_moment(items: &Shown, fields: &Fields) -> Option<Moment>
     requires { (c : Component) → number_at c fields.now ≤ maximum c }
-    ensures every { (v : Moment) → Holds items.now v → Agrees items.now fields.now v
+    ensures every { (v : Moment) → IsMomentOf items.now (λ c. number_at c fields.now) v
         → result ≡ Some v }
     ensures value { IfSome result (IsMomentOf items.now (λ c. number_at c fields.now)) }
-    ensures none { IfNone result ((v : Moment)
-        → ¬ IsMomentOf items.now (λ c. number_at c fields.now) v) }
 {
     let offset = offset_of_numbers(items, fields)?;
     if shows_timestamp(items) {
@@ -181,12 +167,9 @@ fn moment_at_date(items: &Shown, fields: &Fields, offset: UtcOffset) -> Option<M
     requires offset { offset ≡ (if shows_offset items.now
         then offset_in (λ c. number_at c fields.now)
         else pos 0) }
-    ensures every { (v : Moment) → Holds items.now v → Agrees items.now fields.now v
-        → v.offset ≡ offset
+    ensures every { (v : Moment) → IsMomentOf items.now (λ c. number_at c fields.now) v
         → result ≡ Some v }
     ensures value { IfSome result (IsMomentOf items.now (λ c. number_at c fields.now)) }
-    ensures none { IfNone result ((v : Moment)
-        → ¬ IsMomentOf items.now (λ c. number_at c fields.now) v) }
 {
     let date = date_of_numbers(items, fields)?;
     let time = time_of_numbers(items, fields);
@@ -201,12 +184,9 @@ fn moment_at_timestamp(items: &Shown, fields: &Fields, offset: UtcOffset) -> Opt
     requires offset { offset ≡ (if shows_offset items.now
         then offset_in (λ c. number_at c fields.now)
         else pos 0) }
-    ensures every { (v : Moment) → Holds items.now v → Agrees items.now fields.now v
-        → v.offset ≡ offset
+    ensures every { (v : Moment) → IsMomentOf items.now (λ c. number_at c fields.now) v
         → result ≡ Some v }
     ensures value { IfSome result (IsMomentOf items.now (λ c. number_at c fields.now)) }
-    ensures none { IfNone result ((v : Moment)
-        → ¬ IsMomentOf items.now (λ c. number_at c fields.now) v) }
 {
     let sign = fields.get(Component::TimestampSign);
     let seconds = fields.get(Component::Timestamp);
@@ -215,14 +195,11 @@ fn moment_at_timestamp(items: &Shown, fields: &Fields, offset: UtcOffset) -> Opt
 
 /// Returns the date of the numbers, or the first date of the range if the items determine none.
 fn date_of_numbers(items: &Shown, fields: &Fields) -> Option<Date>
-    requires most { (c : Component) → number_at c fields.now ≤ maximum c }
-    requires date { IsTrue (not (shows_timestamp items.now)) }
-    ensures every { (v : Moment) → Holds items.now v → Agrees items.now fields.now v
-        → result ≡ Some v.date }
+    requires { (c : Component) → number_at c fields.now ≤ maximum c }
+    ensures every { (n : ℕ) → IsDate n → IsDateOf items.now (λ c. number_at c fields.now) n
+        → result ≡ Some n }
     ensures range { IfSome result IsDate }
     ensures value { IfSome result (IsDateOf items.now (λ c. number_at c fields.now)) }
-    ensures none { IfNone result ((n : ℕ) → IsDate n
-        → ¬ IsDateOf items.now (λ c. number_at c fields.now) n) }
 {
     if !shows_date(items) {
         return Some(first_date());
@@ -232,10 +209,7 @@ fn date_of_numbers(items: &Shown, fields: &Fields) -> Option<Date>
 
 /// Returns the time of day of the numbers, or midnight if the items determine none.
 fn time_of_numbers(items: &Shown, fields: &Fields) -> Time
-    requires most { (c : Component) → number_at c fields.now ≤ maximum c }
-    requires date { IsTrue (not (shows_timestamp items.now)) }
-    ensures every { (v : Moment) → Holds items.now v → Agrees items.now fields.now v
-        → result ≡ v.time }
+    requires { (c : Component) → number_at c fields.now ≤ maximum c }
     ensures value { result ≡ (if shows_time items.now
         then time_in items.now (λ c. number_at c fields.now)
         else 0) }
@@ -250,8 +224,6 @@ fn time_of_numbers(items: &Shown, fields: &Fields) -> Time
 /// Returns the offset of the numbers, or UTC if the items determine none.
 fn offset_of_numbers(items: &Shown, fields: &Fields) -> Option<UtcOffset>
     requires { (c : Component) → number_at c fields.now ≤ maximum c }
-    ensures every { (v : Moment) → Holds items.now v → Agrees items.now fields.now v
-        → result ≡ Some v.offset }
     ensures value { result ≡ Some (if shows_offset items.now
         then offset_in (λ c. number_at c fields.now)
         else pos 0) }
@@ -260,5 +232,5 @@ fn offset_of_numbers(items: &Shown, fields: &Fields) -> Option<UtcOffset>
     if !shows_offset(items) {
         return Some(UtcOffset::UTC);
     }
-    offset_of(items, fields)
+    offset_of(fields)
 }

@@ -11,7 +11,6 @@ ghost use Rattle.cal_format.specs.Text.{sign, padded, fraction_text, item_text, 
 
 use crate::item::{Component, Item, Name, Padding};
 use crate::moment::{Moment, iso_year};
-use crate::names::{short_month, short_weekday};
 use cal_time::ShortText;
 
 /// Writes what the items print of a moment to the buffer, from this position on. Returns the end,
@@ -52,7 +51,7 @@ fn print_item(item: Item, moment: &Moment, buffer: &mut [u8], at: usize) -> Opti
         Item::Name(name) => print_name(name, moment, buffer, at),
         Item::Fraction => print_fraction(moment.time.nanosecond(), buffer, at),
         Item::Decimals => print_decimals(moment.time.nanosecond(), buffer, at),
-        Item::OffsetSign => print_sign(moment, buffer, at),
+        Item::OffsetSign => put(buffer, at, offset_sign(moment)),
         Item::TimestampSign => put(buffer, at, timestamp_sign(moment)),
     }
 }
@@ -119,28 +118,14 @@ fn put_padded(number: u64, width: u8, pad: Padding, buffer: &mut [u8], at: usize
     ensures end { IfSome result (λ end. end ≡ at + length (padded pad width number)) }
 {
     match pad {
-        Padding::Zero => put_with_zeros(number, width, buffer, at),
+        Padding::Zero if width == 2 && number < 100 => put(buffer, at, &two_digits(number as u8)),
+        Padding::Zero if width == 4 && number < 10_000 => {
+            put(buffer, at, &four_digits(number as u16))
+        }
+        Padding::Zero => put_filled(b'0', number, width, buffer, at),
         Padding::Space => put_filled(b' ', number, width, buffer, at),
         Padding::None => put_decimal(number, buffer, at),
     }
-}
-
-#[inline(always)]
-fn put_with_zeros(number: u64, width: u8, buffer: &mut [u8], at: usize) -> Option<usize>
-    requires at { at ≤ length buffer.old }
-    requires width { width ≤ 9 }
-    ensures room { IsSome result ↔ (at + length (digits_at_least width number) ≤ length buffer.old) }
-    ensures text { IfSome result (λ end.
-        take end buffer.new ≡ take at buffer.old ++ digits_at_least width number) }
-    ensures end { IfSome result (λ end. end ≡ at + length (digits_at_least width number)) }
-{
-    if width == 2 && number < 100 {
-        return put(buffer, at, &two_digits(number as u8));
-    }
-    if width == 4 && number < 10_000 {
-        return put(buffer, at, &four_digits(number as u16));
-    }
-    put_filled(b'0', number, width, buffer, at)
 }
 
 /// Writes the digits of a number, with this byte before them up to the width.
@@ -189,6 +174,7 @@ fn put_decimal(number: u64, buffer: &mut [u8], at: usize) -> Option<usize>
     put(buffer, at, digits.as_bytes())
 }
 
+#[tactic(auto, using(crate::proofs::EnglishNames::long_names))]
 fn print_name(name: Name, moment: &Moment, buffer: &mut [u8], at: usize) -> Option<usize>
     requires { at ≤ length buffer.old }
     ensures room { IsSome result ↔ (at + length (name_text name moment.now) ≤ length buffer.old) }
@@ -198,9 +184,9 @@ fn print_name(name: Name, moment: &Moment, buffer: &mut [u8], at: usize) -> Opti
 {
     match name {
         Name::Month => put(buffer, at, moment.month().name().as_bytes()),
-        Name::ShortMonth => put(buffer, at, short_month(moment.month())),
+        Name::ShortMonth => put(buffer, at, &moment.month().name().as_bytes()[..3]),
         Name::Weekday => put(buffer, at, moment.weekday().name().as_bytes()),
-        Name::ShortWeekday => put(buffer, at, short_weekday(moment.weekday())),
+        Name::ShortWeekday => put(buffer, at, &moment.weekday().name().as_bytes()[..3]),
         Name::Period => {
             if moment.time.hour() < 12 {
                 put(buffer, at, b"AM")
@@ -241,23 +227,20 @@ fn print_decimals(nanosecond: u32, buffer: &mut [u8], at: usize) -> Option<usize
 }
 
 /// Returns the sign of a negative Unix time.
-pub(crate) fn timestamp_sign(moment: &Moment) -> &'static [u8]
+fn timestamp_sign(moment: &Moment) -> &'static [u8]
     ensures { result.now ≡ item_text moment.now items.TimestampSign }
 {
     if moment.timestamp() < 0 { b"-" } else { b"" }
 }
 
-fn print_sign(moment: &Moment, buffer: &mut [u8], at: usize) -> Option<usize>
-    requires { at ≤ length buffer.old }
-    ensures room { IsSome result ↔ (at + length (offset_sign moment.now.offset) ≤ length buffer.old) }
-    ensures text { IfSome result (λ end.
-        take end buffer.new ≡ take at buffer.old ++ offset_sign moment.now.offset) }
-    ensures end { IfSome result (λ end. end ≡ at + length (offset_sign moment.now.offset)) }
+/// Returns the sign of the offset.
+fn offset_sign(moment: &Moment) -> &'static [u8]
+    ensures { result.now ≡ offset_sign moment.now.offset }
 {
     if moment.offset.whole_seconds() < 0 {
-        put(buffer, at, b"-")
+        b"-"
     } else {
-        put(buffer, at, b"+")
+        b"+"
     }
 }
 

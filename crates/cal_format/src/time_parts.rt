@@ -1,11 +1,9 @@
 //! Times of day from the numbers of a text.
-ghost use Rattle.std.specs.Prelude.{◌≡◌, ◌≤◌, IsTrue};
-ghost use Rattle.cal_time.specs.Time.{IsTime, hour_of as hour_at, nanosecond_of as nanosecond_at, time_of as time_with};
+ghost use Rattle.std.specs.Prelude.{◌≡◌, ◌≤◌};
+ghost use Rattle.cal_time.specs.Time.{IsTime, time_of as time_with};
 ghost use Rattle.cal_format.specs.declared.item.Component.{Component};
-ghost use Rattle.cal_format.specs.declared.moment.Moment.{Moment};
-ghost use Rattle.cal_format.specs.Reading.{shows_hour, shows_time, holds_subsecond, holds_parts};
 ghost use Rattle.cal_format.specs.Ranges.{maximum};
-ghost use Rattle.cal_format.specs.Scanning.{number_at, Agrees};
+ghost use Rattle.cal_format.specs.Scanning.{number_at};
 ghost use Rattle.cal_format.specs.Values.{hour_in, nanosecond_in, time_in};
 
 use crate::determines::{Shown, any_shows};
@@ -16,9 +14,6 @@ use cal_time::Time;
 /// Returns the time of day with the numbers of the fields.
 pub(crate) fn time_of(items: &Shown, fields: &Fields) -> Time
     requires { (c : Component) → number_at c fields.now ≤ maximum c }
-    ensures every { (v : Moment) → IsTime v.time → Agrees items.now fields.now v
-        → IsTrue (shows_time items.now) → IsTrue (holds_parts items.now v.time)
-        → result ≡ v.time }
     ensures in_range { IsTime result }
     ensures value { result ≡ time_in items.now (λ c. number_at c fields.now) }
 {
@@ -46,9 +41,6 @@ fn time_with(hour: u8, minute: u8, second: u8, nanosecond: u32) -> Time
 
 fn hour_of(items: &Shown, fields: &Fields) -> u8
     requires { (c : Component) → number_at c fields.now ≤ maximum c }
-    ensures every { (v : Moment) → IsTime v.time → Agrees items.now fields.now v
-        → IsTrue (shows_hour items.now)
-        → result ≡ hour_at v.time }
     ensures value { result ≡ hour_in items.now (λ c. number_at c fields.now) }
     ensures range { result ≤ 23 }
 {
@@ -63,9 +55,6 @@ fn hour_of(items: &Shown, fields: &Fields) -> u8
 /// Returns the nanoseconds of the second.
 pub(crate) fn nanosecond_of(items: &Shown, fields: &Fields) -> u32
     requires { (c : Component) → number_at c fields.now ≤ maximum c }
-    ensures every { (v : Moment) → Agrees items.now fields.now v
-        → IsTrue (holds_subsecond items.now (nanosecond_at v.time))
-        → result ≡ nanosecond_at v.time }
     ensures value { result ≡ nanosecond_in items.now (λ c. number_at c fields.now) }
     ensures range { result ≤ 999_999_999 }
 {

@@ -2,16 +2,27 @@
 ghost use Rattle.std.specs.Prelude.{◌≡◌, ◌≤◌, ◌↔◌, IsTrue, IsSome, IfSome, IfNone, length, take};
 ghost use Rattle.cal_time.specs.Date.{IsDate};
 ghost use Rattle.cal_format.specs.Moment.{moment_of_date, moment_of_time, moment_of_date_time, moment_of_offset, moment_of_offset_date_time};
-ghost use Rattle.cal_format.specs.Reading.{is_date, is_time, is_offset, is_date_item, is_time_item, are_date_items, are_time_items, are_date_time_items, is_offset_item, are_offset_items};
+ghost use Rattle.cal_format.specs.Reading.{item_component, is_within, lies_within, show_within, are_date_items, are_time_items, are_date_time_items, are_offset_items};
 ghost use Rattle.cal_format.specs.Text.{text_of};
 
 use crate::format::Format;
 use crate::item::{Component, Item};
 use crate::moment::Moment;
 use crate::print::{print_items, put};
-use crate::text_length::text_length;
 use cal_datetime::{OffsetDateTime, PlainDateTime};
 use cal_time::{Date, Time, UtcOffset};
+
+/// The index at which the components of a date end.
+pub(crate) const DATE_END: usize = 13;
+
+/// The index at which the components of a time of day end, which come next.
+pub(crate) const TIME_END: usize = 21;
+
+/// The index at which the components of an offset end, which come next.
+pub(crate) const OFFSET_END: usize = 25;
+
+/// The maximum length of a text: 64 items of 15 bytes.
+const MAX_LENGTH: usize = 960;
 
 impl Format {
     /// Writes a date to the front of the buffer, and returns the number of bytes. Returns `None` if
@@ -24,7 +35,7 @@ impl Format {
         ensures end { IfSome result (λ end. end ≡ length (text_of self.now (moment_of_date date))) }
         ensures unchanged { IfNone result (buffer.new ≡ buffer.old) }
     {
-        if !are_date_items(self.items()) {
+        if !show_within(self.items(), 0, DATE_END) {
             return None;
         }
         self.print(&moment_of_date(date), buffer)
@@ -40,7 +51,7 @@ impl Format {
         ensures end { IfSome result (λ end. end ≡ length (text_of self.now (moment_of_time time))) }
         ensures unchanged { IfNone result (buffer.new ≡ buffer.old) }
     {
-        if !are_time_items(self.items()) {
+        if !show_within(self.items(), DATE_END, TIME_END) {
             return None;
         }
         self.print(&moment_of_time(time), buffer)
@@ -57,7 +68,7 @@ impl Format {
             end ≡ length (text_of self.now (moment_of_date_time date_time))) }
         ensures unchanged { IfNone result (buffer.new ≡ buffer.old) }
     {
-        if !are_date_time_items(self.items()) {
+        if !show_within(self.items(), 0, TIME_END) {
             return None;
         }
         self.print(&moment_of_date_time(date_time), buffer)
@@ -74,7 +85,7 @@ impl Format {
             end ≡ length (text_of self.now (moment_of_offset offset))) }
         ensures unchanged { IfNone result (buffer.new ≡ buffer.old) }
     {
-        if !are_offset_items(self.items()) {
+        if !show_within(self.items(), TIME_END, OFFSET_END) {
             return None;
         }
         self.print(&moment_of_offset(offset), buffer)
@@ -113,7 +124,7 @@ impl Format {
     }
 }
 
-/// Writes what the items print of a moment, if the buffer is long enough.
+/// Writes what the items print of a moment, by way of a buffer for the longest text.
 #[cold]
 fn print_long(items: &[Item], moment: &Moment, buffer: &mut [u8]) -> Option<usize>
     requires { length items.now ≤ 64 }
@@ -122,65 +133,59 @@ fn print_long(items: &[Item], moment: &Moment, buffer: &mut [u8]) -> Option<usiz
     ensures end { IfSome result (λ end. end ≡ length (text_of items.now moment.now)) }
     ensures unchanged { IfNone result (buffer.new ≡ buffer.old) }
 {
-    if text_length(items, moment) > buffer.len() {
-        return None;
-    }
-    print_items(items, moment, buffer, 0)
+    // These calls state that the moment is in its range. They cost nothing.
+    let _ = moment.date.to_julian_day();
+    let _ = moment.time.hour();
+    let _ = moment.offset.whole_seconds();
+    let mut text = [0u8; MAX_LENGTH];
+    let end = print_items(items, moment, &mut text, 0)?;
+    put(buffer, 0, &text[..end])
+}
+
+/// Returns the moment of a date, a time of day and an offset.
+macro_rules! moment {
+    ($date:expr, $time:expr, $offset:expr) => {
+        Moment {
+            date: $date,
+            time: $time,
+            offset: $offset,
+        }
+    };
 }
 
 /// Returns a date as a moment.
 pub(crate) fn moment_of_date(date: Date) -> Moment
     ensures { result ≡ moment_of_date date }
 {
-    Moment {
-        date,
-        time: Time::MIDNIGHT,
-        offset: UtcOffset::UTC,
-    }
+    moment!(date, Time::MIDNIGHT, UtcOffset::UTC)
 }
 
 /// Returns a time of day as a moment.
 pub(crate) fn moment_of_time(time: Time) -> Moment
     ensures { result ≡ moment_of_time time }
 {
-    Moment {
-        date: first_date(),
-        time,
-        offset: UtcOffset::UTC,
-    }
+    moment!(first_date(), time, UtcOffset::UTC)
 }
 
 /// Returns a date-time as a moment.
 pub(crate) fn moment_of_date_time(date_time: PlainDateTime) -> Moment
     ensures { result ≡ moment_of_date_time date_time }
 {
-    Moment {
-        date: date_time.date(),
-        time: date_time.time(),
-        offset: UtcOffset::UTC,
-    }
+    moment!(date_time.date(), date_time.time(), UtcOffset::UTC)
 }
 
 /// Returns an offset as a moment.
 pub(crate) fn moment_of_offset(offset: UtcOffset) -> Moment
     ensures { result ≡ moment_of_offset offset }
 {
-    Moment {
-        date: first_date(),
-        time: Time::MIDNIGHT,
-        offset,
-    }
+    moment!(first_date(), Time::MIDNIGHT, offset)
 }
 
 /// Returns a date-time at an offset as a moment.
 pub(crate) fn moment_of_offset_date_time(date_time: OffsetDateTime) -> Moment
     ensures { result ≡ moment_of_offset_date_time date_time }
 {
-    Moment {
-        date: date_time.date(),
-        time: date_time.time(),
-        offset: date_time.offset(),
-    }
+    moment!(date_time.date(), date_time.time(), date_time.offset())
 }
 
 /// Returns the first date of the range.
@@ -191,99 +196,35 @@ pub(crate) fn first_date() -> Date
     Date::MIN
 }
 
-/// Returns `true` if the items show dates only.
-pub(crate) fn are_date_items(items: &[Item]) -> bool
-    ensures { result ≡ are_date_items items.now }
+/// Returns `true` if the items show only components with an index from `low` to below `high`.
+pub(crate) fn show_within(items: &[Item], low: usize, high: usize) -> bool
+    ensures { result ≡ show_within low high items.now }
 {
     match items {
         [] => true,
-        [item, others @ ..] => item.is_date() && are_date_items(others),
-    }
-}
-
-/// Returns `true` if the items show times of day only.
-pub(crate) fn are_time_items(items: &[Item]) -> bool
-    ensures { result ≡ are_time_items items.now }
-{
-    match items {
-        [] => true,
-        [item, others @ ..] => item.is_time() && are_time_items(others),
-    }
-}
-
-/// Returns `true` if the items show no offset.
-pub(crate) fn are_date_time_items(items: &[Item]) -> bool
-    ensures { result ≡ are_date_time_items items.now }
-{
-    match items {
-        [] => true,
-        [item, others @ ..] => (item.is_date() || item.is_time()) && are_date_time_items(others),
-    }
-}
-
-/// Returns `true` if the items show offsets only.
-pub(crate) fn are_offset_items(items: &[Item]) -> bool
-    ensures { result ≡ are_offset_items items.now }
-{
-    match items {
-        [] => true,
-        [item, others @ ..] => item.is_offset() && are_offset_items(others),
+        [item, others @ ..] => item.is_within(low, high) && show_within(others, low, high),
     }
 }
 
 impl Component {
-    fn is_date(self) -> bool
-        ensures { result ≡ is_date self }
+    fn is_within(self, low: usize, high: usize) -> bool
+        ensures { result ≡ is_within low high self }
     {
-        self.index() < 13
-    }
-
-    fn is_time(self) -> bool
-        ensures { result ≡ is_time self }
-    {
-        13 <= self.index() && self.index() < 21
-    }
-
-    fn is_offset(self) -> bool
-        ensures { result ≡ is_offset self }
-    {
-        21 <= self.index() && self.index() < 25
+        low <= self.index() && self.index() < high
     }
 }
 
 impl Item {
-    fn is_date(self) -> bool
-        ensures { result ≡ is_date_item self }
+    fn is_within(self, low: usize, high: usize) -> bool
+        ensures { result ≡ lies_within low high (item_component self) }
     {
         match self {
             Item::Literal(_) => true,
-            Item::Number(component, _) => component.is_date(),
-            Item::Name(name) => name.component().is_date(),
-            Item::Fraction | Item::Decimals => false,
-            Item::OffsetSign | Item::TimestampSign => false,
-        }
-    }
-
-    fn is_time(self) -> bool
-        ensures { result ≡ is_time_item self }
-    {
-        match self {
-            Item::Literal(_) => true,
-            Item::Number(component, _) => component.is_time(),
-            Item::Name(name) => name.component().is_time(),
-            Item::Fraction | Item::Decimals => true,
-            Item::OffsetSign | Item::TimestampSign => false,
-        }
-    }
-
-    fn is_offset(self) -> bool
-        ensures { result ≡ is_offset_item self }
-    {
-        match self {
-            Item::Literal(_) => true,
-            Item::Number(component, _) => component.is_offset(),
-            Item::OffsetSign => true,
-            Item::Name(_) | Item::Fraction | Item::Decimals | Item::TimestampSign => false,
+            Item::Number(component, _) => component.is_within(low, high),
+            Item::Name(name) => name.component().is_within(low, high),
+            Item::Fraction | Item::Decimals => Component::Nanosecond.is_within(low, high),
+            Item::OffsetSign => Component::OffsetSign.is_within(low, high),
+            Item::TimestampSign => Component::TimestampSign.is_within(low, high),
         }
     }
 }

@@ -1,9 +1,10 @@
 //! Values from texts of a format.
 ghost use Rattle.std.specs.Prelude.{◌≡◌, List};
 ghost use Rattle.cal_format.specs.declared.item.Item.{Item};
+ghost use Rattle.cal_format.specs.Reading.{DeterminesDate, DeterminesTime, DeterminesOffset, DeterminesDateTime, DeterminesOffsetDateTime};
 ghost use Rattle.cal_format.specs.Rejection.{IsRejection};
 ghost use Rattle.cal_c.specs.Formats.{HasItems, IsFormat};
-ghost use Rattle.cal_c.specs.FormatParsing.{IsParsed, DeterminesDate, DeterminesTime, DeterminesOffset, DeterminesPair, DeterminesMoment, IsTextOfDate, IsTextOfTime, IsTextOfOffset, IsTextOfPair, IsTextOfMoment, parsed_time_ok, parsed_time_error_at, parsed_offset_ok, parsed_offset_error_at, parsed_pair_ok};
+ghost use Rattle.cal_c.specs.FormatParsing.{IsParsed, IsTextOfDate, IsTextOfTime, IsTextOfOffset, IsTextOfPair, IsTextOfMoment, parsed_time_ok, parsed_time_error_at, parsed_offset_ok, parsed_offset_error_at, parsed_pair_ok};
 ghost use Rattle.cal_c.specs.Statuses.{invalid_format, insufficient_format};
 ghost use Rattle.cal_c.specs.Texts.{no_position, parsed_date_ok, parsed_date_error_at, parsed_moment_ok, parsed_moment_error_at};
 
@@ -16,6 +17,35 @@ use cal_format::{DateFormat, DateTimeFormat, OffsetDateTimeFormat, OffsetFormat,
 /// The position of an error that has none.
 const NO_POSITION: usize = usize::MAX;
 
+/// Parses a value of one type, or returns the error of numbers that are not a format or of a format
+/// that doesn't determine such a value.
+macro_rules! parse_by_format {
+    ($text:ident, $format:ident, $for_values:ident, $parse:ident, $result:ident) => {{
+        let format = or_return!(
+            $format.to_format(),
+            $result::error_at(INVALID_FORMAT, NO_POSITION)
+        );
+        let format = or_return!(
+            format.$for_values(),
+            $result::error_at(INSUFFICIENT_FORMAT, NO_POSITION)
+        );
+        $parse($text, &format)
+    }};
+}
+
+/// Returns the result of a parsed value, or of an error.
+macro_rules! result_of {
+    ($parsed:expr, $value:ident => $ok:expr, $result:ident) => {
+        match $parsed {
+            Ok($value) => $ok,
+            Err(error) => {
+                let (status, position) = status_and_position(error);
+                $result::error_at(status, position)
+            }
+        }
+    };
+}
+
 /// Parses a date in the text of a format, such as `29/02/2024` by `%d/%m/%Y`.
 #[unsafe(no_mangle)]
 pub extern "C" fn fots_date_parse_format(text: &[u8], format: &FormatParts) -> ParseDateResult
@@ -26,27 +56,13 @@ pub extern "C" fn fots_date_parse_format(text: &[u8], format: &FormatParts) -> P
     ensures value { (items : List Item) → HasItems format.now items → DeterminesDate items
         → IsParsed (IsTextOfDate items text.now) (IsRejection items text.now) parsed_date_ok parsed_date_error_at result }
 {
-    let format = or_return!(
-        format.to_format(),
-        ParseDateResult::error_at(INVALID_FORMAT, NO_POSITION)
-    );
-    let format = or_return!(
-        format.for_dates(),
-        ParseDateResult::error_at(INSUFFICIENT_FORMAT, NO_POSITION)
-    );
-    parse_date(text, &format)
+    parse_by_format!(text, format, for_dates, parse_date, ParseDateResult)
 }
 
 fn parse_date(text: &[u8], format: &DateFormat) -> ParseDateResult
     ensures { IsParsed (IsTextOfDate format.now text.now) (IsRejection format.now text.now) parsed_date_ok parsed_date_error_at result }
 {
-    match format.parse(text) {
-        Ok(date) => ParseDateResult::ok(date),
-        Err(error) => {
-            let (status, position) = status_and_position(error);
-            ParseDateResult::error_at(status, position)
-        }
-    }
+    result_of!(format.parse(text), date => ParseDateResult::ok(date), ParseDateResult)
 }
 
 /// Parses a time of day in the text of a format, such as `23:59` by `%H:%M`.
@@ -59,27 +75,13 @@ pub extern "C" fn fots_time_parse_format(text: &[u8], format: &FormatParts) -> P
     ensures value { (items : List Item) → HasItems format.now items → DeterminesTime items
         → IsParsed (IsTextOfTime items text.now) (IsRejection items text.now) parsed_time_ok parsed_time_error_at result }
 {
-    let format = or_return!(
-        format.to_format(),
-        ParseTimeResult::error_at(INVALID_FORMAT, NO_POSITION)
-    );
-    let format = or_return!(
-        format.for_times(),
-        ParseTimeResult::error_at(INSUFFICIENT_FORMAT, NO_POSITION)
-    );
-    parse_time(text, &format)
+    parse_by_format!(text, format, for_times, parse_time, ParseTimeResult)
 }
 
 fn parse_time(text: &[u8], format: &TimeFormat) -> ParseTimeResult
     ensures { IsParsed (IsTextOfTime format.now text.now) (IsRejection format.now text.now) parsed_time_ok parsed_time_error_at result }
 {
-    match format.parse(text) {
-        Ok(time) => ParseTimeResult::ok(time),
-        Err(error) => {
-            let (status, position) = status_and_position(error);
-            ParseTimeResult::error_at(status, position)
-        }
-    }
+    result_of!(format.parse(text), time => ParseTimeResult::ok(time), ParseTimeResult)
 }
 
 /// Parses an offset in the text of a format, such as `+05:30` by `%:z`.
@@ -92,27 +94,13 @@ pub extern "C" fn fots_offset_parse_format(text: &[u8], format: &FormatParts) ->
     ensures value { (items : List Item) → HasItems format.now items → DeterminesOffset items
         → IsParsed (IsTextOfOffset items text.now) (IsRejection items text.now) parsed_offset_ok parsed_offset_error_at result }
 {
-    let format = or_return!(
-        format.to_format(),
-        ParseOffsetResult::error_at(INVALID_FORMAT, NO_POSITION)
-    );
-    let format = or_return!(
-        format.for_offsets(),
-        ParseOffsetResult::error_at(INSUFFICIENT_FORMAT, NO_POSITION)
-    );
-    parse_offset(text, &format)
+    parse_by_format!(text, format, for_offsets, parse_offset, ParseOffsetResult)
 }
 
 fn parse_offset(text: &[u8], format: &OffsetFormat) -> ParseOffsetResult
     ensures { IsParsed (IsTextOfOffset format.now text.now) (IsRejection format.now text.now) parsed_offset_ok parsed_offset_error_at result }
 {
-    match format.parse(text) {
-        Ok(offset) => ParseOffsetResult::ok(offset),
-        Err(error) => {
-            let (status, position) = status_and_position(error);
-            ParseOffsetResult::error_at(status, position)
-        }
-    }
+    result_of!(format.parse(text), offset => ParseOffsetResult::ok(offset), ParseOffsetResult)
 }
 
 /// Parses a date and a time of day in the text of a format. The offset is 0.
@@ -121,31 +109,21 @@ pub extern "C" fn fots_pair_parse_format(text: &[u8], format: &FormatParts) -> P
     ensures invalid_format { ¬ IsFormat format.now
         → result ≡ parsed_moment_error_at invalid_format no_position }
     ensures insufficient_format { (items : List Item) → HasItems format.now items
-        → ¬ DeterminesPair items → result ≡ parsed_moment_error_at insufficient_format no_position }
-    ensures value { (items : List Item) → HasItems format.now items → DeterminesPair items
+        → ¬ DeterminesDateTime items → result ≡ parsed_moment_error_at insufficient_format no_position }
+    ensures value { (items : List Item) → HasItems format.now items → DeterminesDateTime items
         → IsParsed (IsTextOfPair items text.now) (IsRejection items text.now) parsed_pair_ok parsed_moment_error_at result }
 {
-    let format = or_return!(
-        format.to_format(),
-        ParseMomentResult::error_at(INVALID_FORMAT, NO_POSITION)
-    );
-    let format = or_return!(
-        format.for_date_times(),
-        ParseMomentResult::error_at(INSUFFICIENT_FORMAT, NO_POSITION)
-    );
-    parse_pair(text, &format)
+    parse_by_format!(text, format, for_date_times, parse_pair, ParseMomentResult)
 }
 
 fn parse_pair(text: &[u8], format: &DateTimeFormat) -> ParseMomentResult
     ensures { IsParsed (IsTextOfPair format.now text.now) (IsRejection format.now text.now) parsed_pair_ok parsed_moment_error_at result }
 {
-    match format.parse(text) {
-        Ok(date_time) => ParseMomentResult::ok(date_time.assume_utc()),
-        Err(error) => {
-            let (status, position) = status_and_position(error);
-            ParseMomentResult::error_at(status, position)
-        }
-    }
+    result_of!(
+        format.parse(text),
+        date_time => ParseMomentResult::ok(date_time.assume_utc()),
+        ParseMomentResult
+    )
 }
 
 /// Parses a date, a time of day and an offset in the text of a format.
@@ -154,29 +132,21 @@ pub extern "C" fn fots_moment_parse_format(text: &[u8], format: &FormatParts) ->
     ensures invalid_format { ¬ IsFormat format.now
         → result ≡ parsed_moment_error_at invalid_format no_position }
     ensures insufficient_format { (items : List Item) → HasItems format.now items
-        → ¬ DeterminesMoment items → result ≡ parsed_moment_error_at insufficient_format no_position }
-    ensures value { (items : List Item) → HasItems format.now items → DeterminesMoment items
+        → ¬ DeterminesOffsetDateTime items → result ≡ parsed_moment_error_at insufficient_format no_position }
+    ensures value { (items : List Item) → HasItems format.now items → DeterminesOffsetDateTime items
         → IsParsed (IsTextOfMoment items text.now) (IsRejection items text.now) parsed_moment_ok parsed_moment_error_at result }
 {
-    let format = or_return!(
-        format.to_format(),
-        ParseMomentResult::error_at(INVALID_FORMAT, NO_POSITION)
-    );
-    let format = or_return!(
-        format.for_offset_date_times(),
-        ParseMomentResult::error_at(INSUFFICIENT_FORMAT, NO_POSITION)
-    );
-    parse_moment(text, &format)
+    parse_by_format!(
+        text,
+        format,
+        for_offset_date_times,
+        parse_moment,
+        ParseMomentResult
+    )
 }
 
 fn parse_moment(text: &[u8], format: &OffsetDateTimeFormat) -> ParseMomentResult
     ensures { IsParsed (IsTextOfMoment format.now text.now) (IsRejection format.now text.now) parsed_moment_ok parsed_moment_error_at result }
 {
-    match format.parse(text) {
-        Ok(moment) => ParseMomentResult::ok(moment),
-        Err(error) => {
-            let (status, position) = status_and_position(error);
-            ParseMomentResult::error_at(status, position)
-        }
-    }
+    result_of!(format.parse(text), moment => ParseMomentResult::ok(moment), ParseMomentResult)
 }

@@ -21,9 +21,7 @@ use crate::status::{
     INVALID_DATE, INVALID_FORMAT, INVALID_MOMENT, INVALID_OFFSET, INVALID_TIME, UNSUPPORTED_ITEM,
 };
 use crate::values::{valid_date, valid_offset, valid_time};
-use cal_datetime::{OffsetDateTime, PlainDateTime};
-use cal_format::Format;
-use cal_time::{Date, Time, UtcOffset};
+use cal_datetime::PlainDateTime;
 
 /// The maximum length of a text: 64 items of 15 bytes.
 pub const MAX_LENGTH: usize = 960;
@@ -43,6 +41,15 @@ fn write(text: &[u8], end: Option<usize>, bytes: &mut [u8]) -> LengthResult
     LengthResult::ok(length)
 }
 
+/// Prints a value to a buffer of its own, and writes the text.
+macro_rules! print_to {
+    ($bytes:ident, $format:ident.$print:ident($value:expr)) => {{
+        let mut text = [0; MAX_LENGTH];
+        let end = $format.$print($value, &mut text);
+        write(&text, end, $bytes)
+    }};
+}
+
 /// Prints a date, such as `29/02/2024` by `%d/%m/%Y`.
 #[unsafe(no_mangle)]
 pub extern "C" fn fots_date_format(
@@ -59,18 +66,9 @@ pub extern "C" fn fots_date_format(
 {
     let date = or_error!(LengthResult, valid_date(date), INVALID_DATE);
     let format = or_error!(LengthResult, format.to_format(), INVALID_FORMAT);
-    write_date(date, &format, bytes)
-}
-
-fn write_date(date: Date, format: &Format, bytes: &mut [u8]) -> LengthResult
-    requires { length format.now ≤ 64 }
-    ensures { IsPrinted (are_date_items format.now) (text_of format.now (moment_of_date date)) bytes.old bytes.new result }
-{
     // This call states that the date is in its range. It costs nothing.
     let _ = date.to_julian_day();
-    let mut text = [0; MAX_LENGTH];
-    let end = format.print_date(date, &mut text);
-    write(&text, end, bytes)
+    print_to!(bytes, format.print_date(date))
 }
 
 /// Prints a time of day, such as `23:59` by `%H:%M`.
@@ -89,16 +87,7 @@ pub extern "C" fn fots_time_format(
 {
     let time = or_error!(LengthResult, valid_time(time), INVALID_TIME);
     let format = or_error!(LengthResult, format.to_format(), INVALID_FORMAT);
-    write_time(time, &format, bytes)
-}
-
-fn write_time(time: Time, format: &Format, bytes: &mut [u8]) -> LengthResult
-    requires { length format.now ≤ 64 }
-    ensures { IsPrinted (are_time_items format.now) (text_of format.now (moment_of_time time)) bytes.old bytes.new result }
-{
-    let mut text = [0; MAX_LENGTH];
-    let end = format.print_time(time, &mut text);
-    write(&text, end, bytes)
+    print_to!(bytes, format.print_time(time))
 }
 
 /// Prints an offset, such as `+05:30` by `%:z`.
@@ -117,16 +106,7 @@ pub extern "C" fn fots_offset_format(
 {
     let offset = or_error!(LengthResult, valid_offset(offset), INVALID_OFFSET);
     let format = or_error!(LengthResult, format.to_format(), INVALID_FORMAT);
-    write_offset(offset, &format, bytes)
-}
-
-fn write_offset(offset: UtcOffset, format: &Format, bytes: &mut [u8]) -> LengthResult
-    requires { length format.now ≤ 64 }
-    ensures { IsPrinted (are_offset_items format.now) (text_of format.now (moment_of_offset offset)) bytes.old bytes.new result }
-{
-    let mut text = [0; MAX_LENGTH];
-    let end = format.print_offset(offset, &mut text);
-    write(&text, end, bytes)
+    print_to!(bytes, format.print_offset(offset))
 }
 
 /// Prints a date, a time of day and an offset.
@@ -145,16 +125,7 @@ pub extern "C" fn fots_moment_format(
 {
     let moment = or_error!(LengthResult, valid_moment(moment), INVALID_MOMENT);
     let format = or_error!(LengthResult, format.to_format(), INVALID_FORMAT);
-    write_offset_date_time(moment, &format, bytes)
-}
-
-fn write_offset_date_time(moment: OffsetDateTime, format: &Format, bytes: &mut [u8]) -> LengthResult
-    requires { length format.now ≤ 64 }
-    ensures { IsPrinted true (text_of format.now (moment_of_offset_date_time moment)) bytes.old bytes.new result }
-{
-    let mut text = [0; MAX_LENGTH];
-    let end = format.print_offset_date_time(moment, &mut text);
-    write(&text, end, bytes)
+    print_to!(bytes, format.print_offset_date_time(moment))
 }
 
 /// Prints a date and a time of day.
@@ -178,14 +149,8 @@ pub extern "C" fn fots_pair_format(
     let date = or_error!(LengthResult, valid_date(date), INVALID_DATE);
     let time = or_error!(LengthResult, valid_time(time), INVALID_TIME);
     let format = or_error!(LengthResult, format.to_format(), INVALID_FORMAT);
-    write_date_time(PlainDateTime::new(date, time), &format, bytes)
-}
-
-fn write_date_time(date_time: PlainDateTime, format: &Format, bytes: &mut [u8]) -> LengthResult
-    requires { length format.now ≤ 64 }
-    ensures { IsPrinted (are_date_time_items format.now) (text_of format.now (moment_of_date_time date_time)) bytes.old bytes.new result }
-{
-    let mut text = [0; MAX_LENGTH];
-    let end = format.print_date_time(date_time, &mut text);
-    write(&text, end, bytes)
+    print_to!(
+        bytes,
+        format.print_date_time(PlainDateTime::new(date, time))
+    )
 }

@@ -12,14 +12,8 @@ moment_at_timestamp-requires-clause-timestamp c = sym c.shows_timestamp.ensures 
 pub moment_at_timestamp-requires-clause-offset : goal.moment_at_timestamp-requires-clause-offset
 moment_at_timestamp-requires-clause-offset c = same-value _ _ c.in_ok-offset.ensures.value
 
-pub returns-then-shows_timestamp-clause-every : goal.returns-then-shows_timestamp-clause-every
-returns-then-shows_timestamp-clause-every c v holds agrees = c.moment_at_timestamp.ensures.every v holds agrees (sym (same-value _ _ (c.in_ok-offset.ensures.every v holds agrees)))
-
 pub moment_at_date-requires-clause-date : goal.moment_at_date-requires-clause-date
 moment_at_date-requires-clause-date c = is-not _ (sym c.shows_timestamp.ensures ∙ c.if-shows_timestamp.false)
 
 pub moment_at_date-requires-clause-offset : goal.moment_at_date-requires-clause-offset
 moment_at_date-requires-clause-offset c = same-value _ _ c.in_ok-offset.ensures.value
-
-pub returns-clause-every : goal.returns-clause-every
-returns-clause-every c v holds agrees = c.moment_at_date.ensures.every v holds agrees (sym (same-value _ _ (c.in_ok-offset.ensures.every v holds agrees)))

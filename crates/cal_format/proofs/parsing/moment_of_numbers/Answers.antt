@@ -5,7 +5,7 @@ use Rattle.cal_format.specs.Ranges.{first_range_error}
 use Rattle.cal_format.specs.Values.{number_in, IsMomentOf, first_contradiction}
 use Rattle.cal_format.proofs.Contradictions.{same-text, time-holds, offset-holds}
 use Rattle.cal_format.proofs.Outcomes.{no-value, no-result, result-or}
-use Rattle.cal_format.proofs.Own.{own-range, own-agrees, own-contradiction}
+use Rattle.cal_format.proofs.Own.{held-moment, own-range, own-contradiction}
 use Rattle.cal_format.proofs.Rejections.{all-most}
 use Rattle.cal_format.proofs.parsing.moment_of_numbers.Goals as goal
 
@@ -20,12 +20,12 @@ moment_of-requires c = λ k. omega (arith, c.fill.ensures k, all-most c.args.ite
 pub returns-in-Some-first_contradiction-clause-every : goal.returns-in-Some-first_contradiction-clause-every
 returns-in-Some-first_contradiction-clause-every c v holds e =
     let items = c.args.items.now in
-    let m = ap (result-or c.in-Ok.moment) (c.in-Ok.ensures.every v holds (own-agrees items c.args.numbers.now c.fill.new.self v e c.fill.ensures)) in
+    let m = ap (result-or c.in-Ok.moment) (c.in-Ok.ensures.every v (held-moment items c.args.numbers.now c.fill.new.self v holds e c.fill.ensures)) in
     absurd (no-value _ (sym ((λ i. first_contradiction items (e i) (m i)) ∙ own-contradiction items v holds.numbers) ∙ sym c.in-Some-first_contradiction.ensures))
 
 pub returns-in-None-clause-every : goal.returns-in-None-clause-every
 returns-in-None-clause-every c v holds e =
-    ap (λ m. Ok m) (ap (result-or c.in-Ok.moment) (c.in-Ok.ensures.every v holds (own-agrees c.args.items.now c.args.numbers.now c.fill.new.self v e c.fill.ensures)))
+    ap (λ m. Ok m) (ap (result-or c.in-Ok.moment) (c.in-Ok.ensures.every v (held-moment c.args.items.now c.args.numbers.now c.fill.new.self v holds e c.fill.ensures)))
 
 pub returns-in-None-clause-value : goal.returns-in-None-clause-value
 returns-in-None-clause-value c =
@@ -45,7 +45,7 @@ returns-in-None-clause-value c =
 
 pub returns-in-Err-clause-every : goal.returns-in-Err-clause-every
 returns-in-Err-clause-every c v holds e =
-    absurd (no-result _ v (c.in-Err.ensures.every v holds (own-agrees c.args.items.now c.args.numbers.now c.fill.new.self v e c.fill.ensures)))
+    absurd (no-result _ v (c.in-Err.ensures.every v (held-moment c.args.items.now c.args.numbers.now c.fill.new.self v holds e c.fill.ensures)))
 
 pub returns-in-Err-clause-error : goal.returns-in-Err-clause-error
 returns-in-Err-clause-error c =

@@ -1,18 +1,9 @@
 use Rattle.std.proofs.Common.{sym, ◌∙◌}
 use Rattle.cal_format.proofs.Choices.{first-choice, other-choice}
-use Rattle.cal_format.proofs.Contradictions.{else-holds}
-use Rattle.cal_format.proofs.Moments.{not-shown}
 use Rattle.cal_format.proofs.parsing.time_of_numbers.Goals as goal
-
-pub returns-then-not-shows_time-clause-every : goal.returns-then-not-shows_time-clause-every
-returns-then-not-shows_time-clause-every c v holds agrees = sym (not-shown _ _ (holds.time c.requires.date) (sym c.shows_time.ensures ∙ c.if-not-shows_time.true))
 
 pub returns-then-not-shows_time-clause-value : goal.returns-then-not-shows_time-clause-value
 returns-then-not-shows_time-clause-value c = other-choice _ _ _ (sym c.shows_time.ensures ∙ c.if-not-shows_time.true)
-
-pub returns-clause-every : goal.returns-clause-every
-returns-clause-every c v holds agrees =
-    c.time_of.ensures.every v holds.in_range.time agrees (sym c.shows_time.ensures ∙ c.if-not-shows_time.false) (else-holds _ _ _ c.requires.date holds.parts)
 
 pub returns-clause-value : goal.returns-clause-value
 returns-clause-value c = c.time_of.ensures.value ∙ first-choice _ _ _ (sym c.shows_time.ensures ∙ c.if-not-shows_time.false)
