@@ -47,44 +47,60 @@ static size_t size_of(char letter)
  * date, and its days without a date are the minimum. */
 #define UNIX_EPOCH 2440588
 
-static void read_days(int32_t *dates, const char *bytes, size_t rows)
+static void read_days(int32_t *dates, const uint8_t *bytes, size_t rows)
 {
-    /* A date plus 2^31 has 32 bits. */
-    const uint64_t half = UINT64_C(1) << 31;
-    uint64_t day;
     for (size_t row = 0; row < rows; row++) {
+        uint64_t day;
         memcpy(&day, bytes + row * sizeof day, sizeof day);
-        day += UNIX_EPOCH + half;
-        dates[row] = day >> 32 ? FOTS_NO_VALUE : (int32_t)((int64_t)day - (int64_t)half);
+        int64_t julian_day = (int64_t)(day + UNIX_EPOCH);
+        dates[row] = julian_day == (int32_t)julian_day ? (int32_t)julian_day : FOTS_NO_VALUE;
     }
 }
 
 /* The dates lie at the start of the bytes. From the last row on, each becomes 64 bits. */
-static void write_days(char *bytes, size_t rows)
+static void write_days(uint8_t *bytes, size_t rows)
 {
-    int32_t date;
-    int64_t day;
     while (rows--) {
+        int32_t date;
         memcpy(&date, bytes + rows * sizeof date, sizeof date);
-        day = date == FOTS_NO_VALUE ? INT64_MIN : (int64_t)date - UNIX_EPOCH;
+        int64_t day = date == FOTS_NO_VALUE ? INT64_MIN : (int64_t)date - UNIX_EPOCH;
         memcpy(bytes + rows * sizeof day, &day, sizeof day);
     }
 }
 
+/* Copies a column, with the numbers of C. */
+static void *copy_of(const Py_buffer *view, char letter, size_t rows)
+{
+    size_t size = size_of(letter);
+    uint8_t *copy = PyMem_Malloc(rows * size);
+    if (!copy) {
+        return PyErr_NoMemory();
+    }
+    if ((size_t)view->itemsize == size) {
+        memcpy(copy, view->buf, rows * size);
+    } else {
+        read_days((int32_t *)(void *)copy, view->buf, rows);
+    }
+    for (size_t row = 0; letter == 'W' && row < rows; row++) {
+        copy[row]++;
+    }
+    return copy;
+}
+
 /* Gets the buffer of the next column, with the numbers of a letter, or days in 64 bits. */
-static int get_column(Columns *columns, PyObject *column, char letter, int is_read)
+static int get_column(Columns *columns, PyObject *tuple, char letter, int is_read)
 {
     int index = columns->count;
+    PyObject *column = PyTuple_GetItem(tuple, index);
     Py_buffer *view = &columns->views[index];
-    size_t size = size_of(letter), rows, row;
+    size_t size = size_of(letter);
     int flags = PyBUF_C_CONTIGUOUS | PyBUF_FORMAT | (is_read ? 0 : PyBUF_WRITABLE);
     if (!column || PyObject_GetBuffer(column, view, flags)) {
         return 0;
     }
     columns->count++;
-    columns->copies[index] = NULL;
     columns->data[index] = view->buf;
-    columns->lengths[index] = rows = (size_t)view->len / (size_t)view->itemsize;
+    size_t rows = columns->lengths[index] = (size_t)view->len / (size_t)view->itemsize;
     int is_days = letter == 'i' && view->itemsize == 8;
     if (view->ndim != 1 || !(is_days || (size_t)view->itemsize == size)) {
         PyErr_SetString(PyExc_TypeError, "a column has other numbers than the call takes");
@@ -92,32 +108,17 @@ static int get_column(Columns *columns, PyObject *column, char letter, int is_re
     }
     /* An empty buffer can lie anywhere, and one of another library on odd bytes. */
     if (!rows || (uintptr_t)view->buf % size || (is_read && (is_days || letter == 'W'))) {
-        uint8_t *copy = columns->copies[index] = columns->data[index] = PyMem_Malloc(rows * size);
-        if (!copy) {
-            PyErr_NoMemory();
-            return 0;
-        }
-        if (is_days) {
-            read_days(columns->data[index], view->buf, rows);
-        } else {
-            memcpy(copy, view->buf, rows * size);
-        }
-        for (row = 0; letter == 'W' && row < rows; row++) {
-            copy[row]++;
-        }
+        columns->data[index] = columns->copies[index] = copy_of(view, letter, rows);
     }
-    return 1;
+    return columns->data[index] != NULL;
 }
 
 static int get_columns(Columns *columns, PyObject *tuple, const char *letters, int is_read)
 {
-    for (; *letters; letters++) {
-        PyObject *column = PyTuple_GetItem(tuple, columns->count);
-        if (!get_column(columns, column, *letters, is_read)) {
-            return 0;
-        }
+    while (*letters && get_column(columns, tuple, *letters, is_read)) {
+        letters++;
     }
-    return 1;
+    return !*letters;
 }
 
 /* Converts the columns that a call wrote to the numbers of Python. A row without a weekday gets
@@ -127,11 +128,11 @@ static void put_columns(const Columns *columns, const ColumnCall *call)
     int index = (int)strlen(call->reads);
     for (const char *letter = call->writes; *letter; letter++, index++) {
         uint8_t *bytes = columns->data[index];
-        size_t rows = columns->lengths[index], row;
+        size_t rows = columns->lengths[index];
         if (*letter == 'i' && columns->views[index].itemsize == 8) {
-            write_days(columns->data[index], rows);
+            write_days(bytes, rows);
         }
-        for (row = 0; *letter == 'W' && row < rows; row++) {
+        for (size_t row = 0; *letter == 'W' && row < rows; row++) {
             bytes[row]--;
         }
     }
@@ -140,18 +141,11 @@ static void put_columns(const Columns *columns, const ColumnCall *call)
 /* Converts the other argument of a call. */
 static int get_extra(Columns *columns, char extra, const State *state, PyObject *object)
 {
-    switch (extra) {
-    case 'w':
-        columns->workdays = WORKDAYS(object);
-        return PyObject_TypeCheck(object, state->workdays) ||
-            wrong_kind(object, (PyObject *)state->workdays);
-    case 'f':
-        return to_format(state, object, &columns->format);
-    case 'z':
-        return to_zone_and_policy(object, &columns->zone, &columns->policy);
-    default:
-        return 1;
-    }
+    columns->workdays = WORKDAYS(object);
+    return extra == 'f' ? to_format(state, object, &columns->format) :
+        extra == 'z' ? to_zone_and_policy(object, &columns->zone, &columns->policy) :
+        extra != 'w' || PyObject_TypeCheck(object, state->workdays) ||
+            is_kind(object, state->workdays);
 }
 
 /* Takes the name of a call, a tuple of columns, and working days, a format, a zone or None. Returns
@@ -161,7 +155,7 @@ static PyObject *core_over_columns(PyObject *self, PyObject *const *given, Py_ss
     const State *state = state_of_module(self);
     const ColumnCall *call = column_calls;
     size_t error_count = FOTS_LENGTH_MISMATCH;
-    Columns columns;
+    Columns columns = {.count = 0};
     if (!is_count("over_columns", count, 3)) {
         return NULL;
     }
@@ -172,7 +166,6 @@ static PyObject *core_over_columns(PyObject *self, PyObject *const *given, Py_ss
         PyErr_Format(PyExc_TypeError, "no call '%S'", given[0]);
         return NULL;
     }
-    columns.count = 0;
     if (get_extra(&columns, call->extra, state, given[2]) &&
         get_columns(&columns, given[1], call->reads, 1) &&
         get_columns(&columns, given[1], call->writes, 0)) {

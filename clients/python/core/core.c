@@ -7,6 +7,7 @@
 #ifndef Py_LIMITED_API
 #define Py_LIMITED_API 0x030A0000
 #endif
+#define PY_SSIZE_T_CLEAN
 #include <Python.h>
 
 #include "fotsevindre.h"
@@ -59,13 +60,16 @@ static inline const State *state_of(PyObject *self) { return state_of_type(Py_TY
 static inline const State *state_of_module(PyObject *module) { return PyModule_GetState(module); }
 
 #define new_reference(object) Py_NewRef(object)
-#define UNUSED(name) PyObject *Py_UNUSED(name)
 
 /* ---- arguments: each function converts one, or returns 0 after it has raised an error */
 
-static int wrong_kind(PyObject *object, PyObject *type)
+/* Checks that an object has exactly this type. */
+static int is_kind(PyObject *object, const void *type)
 {
-    PyObject *expected = PyObject_GetAttrString(type, "__name__");
+    if (Py_TYPE(object) == type) {
+        return 1;
+    }
+    PyObject *expected = PyObject_GetAttrString((PyObject *)type, "__name__");
     PyObject *found = PyObject_GetAttrString((PyObject *)Py_TYPE(object), "__name__");
     if (expected && found) {
         PyErr_Format(PyExc_TypeError, "expected %U, not %U", expected, found);
@@ -73,11 +77,6 @@ static int wrong_kind(PyObject *object, PyObject *type)
     Py_XDECREF(expected);
     Py_XDECREF(found);
     return 0;
-}
-
-static int is_kind(PyObject *object, const void *type)
-{
-    return Py_TYPE(object) == type || wrong_kind(object, (PyObject *)type);
 }
 
 static int is_count(const char *name, Py_ssize_t count, Py_ssize_t expected)
@@ -131,25 +130,21 @@ static int to_number(PyObject *object, int must_fit, int64_t minimum, int64_t ma
     if (*number == -1 && !overflow && PyErr_Occurred()) {
         return 0;
     }
-    if (must_fit && (overflow || *number < minimum || *number > maximum)) {
+    overflow = overflow ? overflow : (*number > maximum) - (*number < minimum);
+    if (overflow && must_fit) {
         PyErr_Format(PyExc_OverflowError, "%S is out of range; expected %lld to %lld", object,
             (long long)minimum, (long long)maximum);
         return 0;
     }
-    if (overflow < 0 || (!overflow && *number < minimum)) {
-        *number = minimum;
-    } else if (overflow || *number > maximum) {
-        *number = maximum;
-    }
+    *number = overflow < 0 ? minimum : overflow > 0 ? maximum : *number;
     return 1;
 }
 
 /* A negative int becomes the maximum of uint32_t, which no call takes. */
 #define TO_INT(name, type, must_fit, minimum, maximum) \
-    static int name(const State *state, PyObject *object, type *number) \
+    static int name(const State *Py_UNUSED(state), PyObject *object, type *number) \
     { \
         int64_t wide; \
-        (void)state; \
         if (!to_number(object, must_fit, minimum, maximum, &wide)) { \
             return 0; \
         } \
@@ -172,10 +167,9 @@ typedef struct Text {
 } Text;
 
 /* Converts a str. The caller releases `bytes`, if there are any. */
-static int to_text(const State *state, PyObject *object, Text *text)
+static int to_text(const State *Py_UNUSED(state), PyObject *object, Text *text)
 {
     Py_ssize_t size = 0;
-    (void)state;
     if (!PyUnicode_Check(object)) {
         return is_kind(object, &PyUnicode_Type);
     }
@@ -192,8 +186,10 @@ static int to_text(const State *state, PyObject *object, Text *text)
 
 /* ---- results */
 
-static PyObject *raised(PyObject *error)
+static PyObject *raise_position(const State *state, int32_t status, size_t position, uint32_t part)
 {
+    PyObject *error = PyObject_CallFunction(state->status_error, "inI", (int)status,
+        (Py_ssize_t)position, (unsigned)part);
     if (error) {
         PyErr_SetObject((PyObject *)Py_TYPE(error), error);
         Py_DECREF(error);
@@ -201,15 +197,10 @@ static PyObject *raised(PyObject *error)
     return NULL;
 }
 
+/* Raises the error of a status that has no position. */
 static PyObject *raise_status(const State *state, int32_t status)
 {
-    return raised(PyObject_CallFunction(state->status_error, "i", (int)status));
-}
-
-static PyObject *raise_position(const State *state, int32_t status, size_t position, uint32_t part)
-{
-    return raised(PyObject_CallFunction(state->status_error, "inI", (int)status,
-        (Py_ssize_t)position, (unsigned)part));
+    return raise_position(state, status, 0, 0);
 }
 
 #define NEW(field, parameter, type) \
@@ -249,12 +240,10 @@ OF(time, time, new_time(state, result.time))
 OF(adjusted_time, adjusted_time,
     Py_BuildValue("iN", (int)result.carry, new_time(state, result.time)))
 OF(hms, hms_nano, Py_BuildValue("III", result.hour, result.minute, result.second))
-OF(hms_milli, hms_nano, Py_BuildValue("IIII", result.hour, result.minute, result.second,
-    result.nanosecond / 1000000))
-OF(hms_micro, hms_nano, Py_BuildValue("IIII", result.hour, result.minute, result.second,
-    result.nanosecond / 1000))
-OF(hms_nano, hms_nano, Py_BuildValue("IIII", result.hour, result.minute, result.second,
-    result.nanosecond))
+#define HMS_AND(below) Py_BuildValue("IIII", result.hour, result.minute, result.second, below)
+OF(hms_milli, hms_nano, HMS_AND(result.nanosecond / 1000000))
+OF(hms_micro, hms_nano, HMS_AND(result.nanosecond / 1000))
+OF(hms_nano, hms_nano, HMS_AND(result.nanosecond))
 OF(offset, offset, new_offset(state, result.offset))
 OF(offset_hms, offset_hms,
     Py_BuildValue("iii", (int)result.hours, (int)result.minutes, (int)result.seconds))
@@ -281,10 +270,8 @@ static PyObject *of_moment(const State *state, PyTypeObject *type, fots_moment_r
     return result.status ? raise_status(state, result.status) : new_moment(type, result.moment);
 }
 
-static PyObject *new_bytes(const void *start, size_t size)
-{
-    return PyBytes_FromStringAndSize(start, (Py_ssize_t)size);
-}
+/* A list, and its length in bytes. */
+#define LIST(list) found->list, (Py_ssize_t)(found->list##_length * sizeof found->list[0])
 
 /* Returns the numbers of a recurrence: frequency, interval, week_start, until, count, and bytes
  * for its lists. */
@@ -292,14 +279,10 @@ static PyObject *parts_of_recurrence(const State *state, const fots_recurrence *
 {
     PyObject *until = found->until.julian_day == FOTS_NO_VALUE ? new_reference(Py_None) :
         new_date(state, found->until);
-    return Py_BuildValue("IIONINNNNNN", (unsigned)found->frequency, (unsigned)found->interval,
-        state->weekdays[found->week_start - 1], until, (unsigned)found->count,
-        new_bytes(found->months, found->months_length),
-        new_bytes(found->weeks, found->weeks_length),
-        new_bytes(found->year_days, found->year_days_length * sizeof(int16_t)),
-        new_bytes(found->month_days, found->month_days_length),
-        new_bytes(found->weekdays, found->weekdays_length * sizeof(fots_rule_weekday)),
-        new_bytes(found->set_positions, found->set_positions_length * sizeof(int16_t)));
+    return Py_BuildValue("IIONIy#y#y#y#y#y#", (unsigned)found->frequency,
+        (unsigned)found->interval, state->weekdays[found->week_start - 1], until,
+        (unsigned)found->count, LIST(months), LIST(weeks), LIST(year_days), LIST(month_days),
+        LIST(weekdays), LIST(set_positions));
 }
 
 /* A function that makes a value of what was parsed, or raises its error. */
@@ -321,10 +304,9 @@ OF_PARSED(recurrence_text, recurrence_text, result.part,
 
 static PyObject *list_of(const State *state, const fots_date *days, size_t length)
 {
-    PyObject *list = PyList_New((Py_ssize_t)length), *date;
-    size_t index;
-    for (index = 0; list && index < length; index++) {
-        date = new_date(state, days[index]);
+    PyObject *list = PyList_New((Py_ssize_t)length);
+    for (size_t index = 0; list && index < length; index++) {
+        PyObject *date = new_date(state, days[index]);
         if (!date || PyList_SetItem(list, (Py_ssize_t)index, date)) {
             Py_CLEAR(list);
         }

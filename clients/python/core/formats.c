@@ -1,62 +1,59 @@
 /* Formats, for the file formats.py. A format is the bytes of its struct. The library checks each of
  * its numbers. */
 
-/* Raises the error of a text, and releases that. The position of a byte becomes that of its
- * character. For FOTS_CONTRADICTION there is a status in its place. */
-static PyObject *raise_text_error(const State *state, int32_t status, size_t position, Text *text)
+/* Releases a text that was parsed. Returns 0 after it has raised an error, if there is one. The
+ * position of a byte becomes that of its character. For FOTS_CONTRADICTION there is a status in its
+ * place. */
+static int is_parsed(const State *state, int32_t status, size_t position, Text *text)
 {
-    if (status != FOTS_CONTRADICTION && position <= text->length) {
+    if (status && status != FOTS_CONTRADICTION && position <= text->length) {
         PyObject *front = PyUnicode_DecodeUTF8(text->start, (Py_ssize_t)position, "ignore");
         position = front ? (size_t)PyUnicode_GetLength(front) : position;
         Py_XDECREF(front);
     }
     Py_XDECREF(text->bytes);
-    return raise_position(state, status, position, 0);
+    if (status) {
+        raise_position(state, status, position, 0);
+    }
+    return !status;
+}
+
+/* Parses a format in the syntax of strftime, or in that of the Rust crate time. */
+static int parse_format(const State *state, PyObject *object, int is_description,
+    fots_format *format)
+{
+    Text text = {NULL, NULL, 0};
+    if (!to_text(state, object, &text)) {
+        return 0;
+    }
+    fots_format_result result = is_description ?
+        fots_format_from_description(text.start, text.length) :
+        fots_format_new(text.start, text.length);
+    *format = result.format;
+    return is_parsed(state, result.status, result.position, &text);
 }
 
 /* Converts a Format, the bytes of one, or a text in the syntax of strftime. */
 static int to_format(const State *state, PyObject *object, fots_format *format)
 {
-    PyObject *bytes = PyBytes_Check(object) ? new_reference(object) : PyUnicode_Check(object) ?
+    PyObject *items = PyBytes_Check(object) ? new_reference(object) : PyUnicode_Check(object) ?
         NULL : PyObject_GetAttrString(object, "_items");
-    Text text = {NULL, NULL, 0};
-    fots_format_result result;
-    if (bytes && PyBytes_Check(bytes) && (size_t)PyBytes_Size(bytes) == sizeof *format) {
-        memcpy(format, PyBytes_AsString(bytes), sizeof *format);
-        Py_DECREF(bytes);
-        return 1;
+    int is_format = items && PyBytes_Check(items) && (size_t)PyBytes_Size(items) == sizeof *format;
+    if (is_format) {
+        memcpy(format, PyBytes_AsString(items), sizeof *format);
     }
-    Py_XDECREF(bytes);
+    Py_XDECREF(items);
     PyErr_Clear();
-    if (!to_text(state, object, &text)) {
-        return 0;
-    }
-    result = fots_format_new(text.start, text.length);
-    if (result.status) {
-        raise_text_error(state, result.status, result.position, &text);
-        return 0;
-    }
-    Py_XDECREF(text.bytes);
-    *format = result.format;
-    return 1;
+    return is_format || parse_format(state, object, 0, format);
 }
 
 /* Takes a text, and whether it is in the syntax of the Rust crate time. Returns bytes. */
 static PyObject *core_format_new(PyObject *self, PyObject *const *given, Py_ssize_t count)
 {
-    const State *state = state_of_module(self);
-    Text text = {NULL, NULL, 0};
-    fots_format_result result;
-    if (!is_count("format_new", count, 2) || !to_text(state, given[0], &text)) {
-        return NULL;
-    }
-    result = given[1] == Py_True ? fots_format_from_description(text.start, text.length) :
-        fots_format_new(text.start, text.length);
-    if (result.status) {
-        return raise_text_error(state, result.status, result.position, &text);
-    }
-    Py_XDECREF(text.bytes);
-    return new_bytes(&result.format, sizeof result.format);
+    fots_format format;
+    int is_made = is_count("format_new", count, 2) &&
+        parse_format(state_of_module(self), given[0], given[1] == Py_True, &format);
+    return is_made ? Py_BuildValue("y#", &format, (Py_ssize_t)sizeof format) : NULL;
 }
 
 /* ---- the methods strftime and strptime, by the name of the value in C */
@@ -66,11 +63,11 @@ static PyObject *core_format_new(PyObject *self, PyObject *const *given, Py_ssiz
     { \
         char bytes[FOTS_MAX_ITEMS * FOTS_MAX_ITEM_LENGTH]; \
         fots_format format; \
-        fots_length_result result; \
         if (!to_format(state_of(self), object, &format)) { \
             return NULL; \
         } \
-        result = fots_##part##_format(__VA_ARGS__, &format, bytes, sizeof bytes); \
+        fots_length_result result = \
+            fots_##part##_format(__VA_ARGS__, &format, bytes, sizeof bytes); \
         return result.status ? raise_status(state_of(self), result.status) : \
             PyUnicode_FromStringAndSize(bytes, (Py_ssize_t)result.length); \
     }
@@ -86,17 +83,13 @@ STRFTIME(moment_strftime, moment, MOMENT(self))
         const State *state = state_of_type((PyTypeObject *)self); \
         Text text = {NULL, NULL, 0}; \
         fots_format format; \
-        fots_parse_##kind##_result result; \
         if (!is_count("strptime", count, 2) || !to_format(state, given[1], &format) || \
             !to_text(state, given[0], &text)) { \
             return NULL; \
         } \
-        result = fots_##part##_parse_format(text.start, text.length, &format); \
-        if (result.status) { \
-            return raise_text_error(state, result.status, result.position, &text); \
-        } \
-        Py_XDECREF(text.bytes); \
-        return value; \
+        fots_parse_##kind##_result result = \
+            fots_##part##_parse_format(text.start, text.length, &format); \
+        return is_parsed(state, result.status, result.position, &text) ? value : NULL; \
     }
 STRPTIME(date_strptime, date, date, new_date(state, result.date))
 STRPTIME(time_strptime, time, time, new_time(state, result.time))

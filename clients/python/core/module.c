@@ -9,17 +9,15 @@
 #include "zones.c"
 #include "columns.c"
 
-#define POINTERS (sizeof(State) / sizeof(PyObject *))
-
 /* Returns whether a timedelta of -1 days, 2 seconds and 3 microseconds is a Delta. */
-static PyObject *core_is_delta(UNUSED(self), PyObject *object)
+static PyObject *core_is_delta(PyObject *Py_UNUSED(self), PyObject *object)
 {
     const Delta *delta = (const Delta *)object;
     PyObject *size = PyObject_GetAttrString((PyObject *)Py_TYPE(object), "__basicsize__");
-    int is_large = size && PyLong_AsLong(size) == sizeof(Delta);
+    int is_delta = size && PyLong_AsLong(size) == sizeof(Delta) && delta->days == -1 &&
+        delta->seconds == 2 && delta->microseconds == 3;
     Py_XDECREF(size);
-    return !size ? NULL : PyBool_FromLong(is_large && delta->days == -1 && delta->seconds == 2 &&
-        delta->microseconds == 3);
+    return size ? PyBool_FromLong(is_delta) : NULL;
 }
 
 /* Takes what is in Python, in the order of State. */
@@ -27,11 +25,10 @@ static PyObject *core_setup(PyObject *self, PyObject *given)
 {
     State *state = PyModule_GetState(self);
     PyObject **fields = (PyObject **)&state->timedelta, **end = (PyObject **)(state + 1);
-    Py_ssize_t index;
     if (!is_count("setup", PyTuple_Size(given), end - fields)) {
         return NULL;
     }
-    for (index = 0; index < end - fields; index++) {
+    for (Py_ssize_t index = 0; index < end - fields; index++) {
         Py_XDECREF(fields[index]);
         fields[index] = new_reference(PyTuple_GetItem(given, index));
     }
@@ -52,11 +49,10 @@ typedef struct Type {
 /* Adds a type to the module, with its static functions, which have the type as `self`. */
 static PyTypeObject *add_type(PyObject *module, const Type *type)
 {
-    PyObject *made = PyType_FromModuleAndSpec(module, type->spec, NULL), *function;
-    PyMethodDef *method;
+    PyObject *made = PyType_FromModuleAndSpec(module, type->spec, NULL);
     int failed = !made || PyModule_AddObjectRef(module, type->name, made);
-    for (method = type->statics; !failed && method->ml_name; method++) {
-        function = PyCFunction_NewEx(method, made, NULL);
+    for (PyMethodDef *method = type->statics; !failed && method->ml_name; method++) {
+        PyObject *function = PyCFunction_NewEx(method, made, NULL);
         failed = !function || PyObject_SetAttrString(made, method->ml_name, function);
         Py_XDECREF(function);
     }
@@ -72,13 +68,12 @@ static int execute(PyObject *module)
 {
     State *state = PyModule_GetState(module);
     PyTypeObject **made = &state->date;
-    size_t index;
     if (fots_version() !=
         1000000 * FOTS_VERSION_MAJOR + 1000 * FOTS_VERSION_MINOR + FOTS_VERSION_PATCH) {
         PyErr_SetString(PyExc_ImportError, "the header and the library have different versions");
         return -1;
     }
-    for (index = 0; index < sizeof types / sizeof types[0]; index++) {
+    for (size_t index = 0; index < sizeof types / sizeof types[0]; index++) {
         made[index] = add_type(module, &types[index]);
         if (!made[index]) {
             return -1;
@@ -87,25 +82,16 @@ static int execute(PyObject *module)
     return 0;
 }
 
-static int traverse(PyObject *module, visitproc visit, void *arg)
-{
-    PyObject **fields = PyModule_GetState(module);
-    size_t index;
-    for (index = 0; index < POINTERS; index++) {
-        Py_VISIT(fields[index]);
-    }
-    return 0;
-}
+/* Does something with each field of the state of a module. */
+#define EACH_FIELD(action) \
+    PyObject **fields = PyModule_GetState(module); \
+    for (size_t index = 0; index < sizeof(State) / sizeof *fields; index++) { \
+        action(fields[index]); \
+    } \
+    return 0
 
-static int clear(PyObject *module)
-{
-    PyObject **fields = PyModule_GetState(module);
-    size_t index;
-    for (index = 0; index < POINTERS; index++) {
-        Py_CLEAR(fields[index]);
-    }
-    return 0;
-}
+static int traverse(PyObject *module, visitproc visit, void *arg) { EACH_FIELD(Py_VISIT); }
+static int clear(PyObject *module) { EACH_FIELD(Py_CLEAR); }
 
 static PyModuleDef_Slot slots[] = {{Py_mod_exec, (void *)execute}, {0, NULL}, {0, NULL}};
 static struct PyModuleDef definition = {PyModuleDef_HEAD_INIT, "fotsevindre._core", NULL,

@@ -2,22 +2,16 @@
 
 /* ---- order and hashes */
 
-static PyObject *compared(int64_t one, int64_t other, int operation)
-{
-    int is_true = operation == Py_LT ? one < other : operation == Py_LE ? one <= other :
-        operation == Py_EQ ? one == other : operation == Py_NE ? one != other :
-        operation == Py_GT ? one > other : one >= other;
-    return PyBool_FromLong(is_true);
-}
-
 #define COMPARE(name, value, other_value) \
     static PyObject *name(PyObject *self, PyObject *other, int operation) \
     { \
-        return Py_TYPE(other) != Py_TYPE(self) ? new_reference(Py_NotImplemented) : \
-            compared(value, other_value, operation); \
+        if (Py_TYPE(other) != Py_TYPE(self)) { \
+            return new_reference(Py_NotImplemented); \
+        } \
+        Py_RETURN_RICHCOMPARE(value, other_value, operation); \
     }
 COMPARE(date_compare, DATE(self).julian_day, DATE(other).julian_day)
-COMPARE(time_compare, (int64_t)TIME(self), (int64_t)TIME(other))
+COMPARE(time_compare, TIME(self), TIME(other))
 COMPARE(offset_compare, OFFSET(self).seconds, OFFSET(other).seconds)
 COMPARE(duration_compare, fots_duration_compare(DURATION(self), DURATION(other)).number, 0)
 COMPARE(moment_compare, fots_moment_compare(MOMENT(self), MOMENT(other)).number, 0)
@@ -48,26 +42,22 @@ HASH(moment_hash, number_of(fots_moment_unix_time(MOMENT(self)).duration), 5)
 
 /* ---- addition and subtraction */
 
-/* Returns whether the first operand is a value. Python also calls an operator of the second. */
-static int is_value(PyObject *object)
+/* Returns the state if the object is a value, else NULL: Python also calls an operator of the
+ * second operand. */
+static const State *state_of_value(PyObject *object)
 {
-    return PyType_GetSlot(Py_TYPE(object), Py_tp_dealloc) == (void *)value_free;
+    PyTypeObject *type = Py_TYPE(object);
+    return PyType_GetSlot(type, Py_tp_dealloc) == (void *)value_free ? state_of_type(type) : NULL;
 }
 
-/* Converts a SignedDuration or, if `is_delta`, a timedelta. Returns 1, 0 for another object, or -1
- * after an error. Other types than the usual timedelta, such as that of pandas, convert it in
- * Python. */
-static int to_move(const State *state, PyObject *object, int *is_delta, fots_duration *by)
+/* Converts a SignedDuration or a timedelta. Returns 0 for another object, and after an error. Other
+ * types than the usual timedelta, such as that of pandas, convert it in Python. */
+static int to_move(const State *state, PyObject *object, fots_duration *by)
 {
     const Delta *delta = (const Delta *)object;
-    PyObject *value = NULL;
     if (Py_TYPE(object) == state->duration) {
         *by = DURATION(object);
-        *is_delta = 0;
         return 1;
-    }
-    if (!*is_delta || !PyObject_TypeCheck(object, state->timedelta)) {
-        return 0;
     }
     if (Py_TYPE(object) == state->timedelta && state->has_delta == Py_True) {
         int is_negative = delta->days < 0 && delta->microseconds;
@@ -75,85 +65,74 @@ static int to_move(const State *state, PyObject *object, int *is_delta, fots_dur
         by->nanoseconds = 1000 * (delta->microseconds - 1000000 * is_negative);
         return 1;
     }
-    value = PyObject_CallMethod((PyObject *)state->duration, "from_timedelta", "O", object);
+    if (!PyObject_TypeCheck(object, state->timedelta)) {
+        return 0;
+    }
+    PyObject *type = (PyObject *)state->duration;
+    PyObject *value = PyObject_CallMethod(type, "from_timedelta", "O", object);
     *by = value ? DURATION(value) : *by;
     Py_XDECREF(value);
-    return value ? 1 : -1;
+    return value != NULL;
 }
 
+/* The sum or the difference of a value and a duration, by the start of the names of the calls. */
+#define MOVED(call, value) (back ? fots_##call##_sub(value, by) : fots_##call##_add(value, by))
+
 /* Moves a value by a duration, or a date or date-time by a timedelta. */
-static PyObject *moved(PyObject *self, PyObject *other, int back)
+static PyObject *moved(const State *state, PyObject *self, PyObject *other, int back)
 {
     PyTypeObject *type = Py_TYPE(self);
-    const State *state = is_value(self) ? state_of(self) : NULL;
+    int is_date_time = type == state->plain || type == state->moment;
+    int is_delta = Py_TYPE(other) != state->duration;
     fots_duration by = {0, 0};
-    int is_delta = state && type != state->time && type != state->duration, found;
-    found = state && type != state->offset ? to_move(state, other, &is_delta, &by) : 0;
-    if (found <= 0) {
-        return found ? NULL : new_reference(Py_NotImplemented);
+    if ((is_delta && !is_date_time && type != state->date) || !to_move(state, other, &by)) {
+        return PyErr_Occurred() ? NULL : new_reference(Py_NotImplemented);
     }
-    if (type == state->date) {
-        if (is_delta && (by.seconds % 86400 || by.nanoseconds)) {
-            PyErr_SetString(PyExc_ValueError, "expected a timedelta of whole days; convert others "
-                "with SignedDuration.from_timedelta");
-            return NULL;
-        }
-        return of_date(state, back ? fots_date_checked_sub(DATE(self), by) :
-            fots_date_checked_add(DATE(self), by));
+    if (is_date_time) {
+        return of_moment(state, type, MOVED(moment_checked, MOMENT(self)));
     }
-    if (type == state->time) {
-        return of_time(state, back ? fots_time_sub(TIME(self), by) : fots_time_add(TIME(self), by));
+    if (is_delta && (by.seconds % 86400 || by.nanoseconds)) {
+        PyErr_SetString(PyExc_ValueError, "expected a timedelta of whole days; convert others with "
+            "SignedDuration.from_timedelta");
+        return NULL;
     }
-    if (type == state->duration) {
-        return of_duration(state, back ? fots_duration_checked_sub(DURATION(self), by) :
-            fots_duration_checked_add(DURATION(self), by));
-    }
-    return of_moment(state, type, back ? fots_moment_checked_sub(MOMENT(self), by) :
-        fots_moment_checked_add(MOMENT(self), by));
+    return type == state->date ? of_date(state, MOVED(date_checked, DATE(self))) :
+        type == state->time ? of_time(state, MOVED(time, TIME(self))) :
+        type == state->duration ? of_duration(state, MOVED(duration_checked, DURATION(self))) :
+        new_reference(Py_NotImplemented);
 }
 
 /* A timedelta can also come first. */
 static PyObject *value_add(PyObject *self, PyObject *other)
 {
-    return is_value(self) ? moved(self, other, 0) : moved(other, self, 0);
+    const State *state = state_of_value(self);
+    return state ? moved(state, self, other, 0) : moved(state_of(other), other, self, 0);
 }
 
 static PyObject *value_subtract(PyObject *self, PyObject *other)
 {
+    const State *state = state_of_value(self);
     PyTypeObject *type = Py_TYPE(self);
-    const State *state;
-    if (type != Py_TYPE(other) || type == state_of(self)->duration) {
-        return moved(self, other, 1);
+    if (!state) {
+        return new_reference(Py_NotImplemented);
     }
-    state = state_of(self);
-    if (type == state->date) {
-        return of_duration(state, fots_date_duration_since(DATE(self), DATE(other)));
+    if (type != Py_TYPE(other) || type == state->duration) {
+        return moved(state, self, other, 1);
     }
-    if (type == state->time) {
-        return of_duration(state, fots_time_difference(TIME(self), TIME(other)));
-    }
-    return of_duration(state, fots_moment_duration_since(MOMENT(self), MOMENT(other)));
+    return of_duration(state,
+        type == state->date ? fots_date_duration_since(DATE(self), DATE(other)) :
+        type == state->time ? fots_time_difference(TIME(self), TIME(other)) :
+        fots_moment_duration_since(MOMENT(self), MOMENT(other)));
 }
 
 /* ---- operators of durations */
 
 static int duration_bool(PyObject *self) { return sign_of(DURATION(self)) != 0; }
 
-static PyObject *duration_multiply(PyObject *self, PyObject *other)
+/* Returns the product or the quotient of a duration and an int. */
+static PyObject *scaled(PyObject *self, PyObject *other, int is_quotient)
 {
-    PyObject *duration = is_value(self) ? self : other, *factor = duration == self ? other : self;
-    const State *state = state_of(duration);
-    int32_t number;
-    if (Py_TYPE(duration) != state->duration || !PyIndex_Check(factor)) {
-        return new_reference(Py_NotImplemented);
-    }
-    return fit_int32(state, factor, &number) ?
-        of_duration(state, fots_duration_checked_mul(DURATION(duration), number)) : NULL;
-}
-
-static PyObject *duration_divide(PyObject *self, PyObject *other)
-{
-    const State *state = is_value(self) ? state_of(self) : NULL;
+    const State *state = state_of_value(self);
     int32_t number;
     if (!state || Py_TYPE(self) != state->duration || !PyIndex_Check(other)) {
         return new_reference(Py_NotImplemented);
@@ -161,9 +140,18 @@ static PyObject *duration_divide(PyObject *self, PyObject *other)
     if (!fit_int32(state, other, &number)) {
         return NULL;
     }
-    if (!number) {
+    if (is_quotient && !number) {
         PyErr_SetString(PyExc_ZeroDivisionError, "division of a duration by zero");
         return NULL;
     }
-    return of_duration(state, fots_duration_checked_div(DURATION(self), number));
+    return of_duration(state, is_quotient ? fots_duration_checked_div(DURATION(self), number) :
+        fots_duration_checked_mul(DURATION(self), number));
 }
+
+/* An int can also come first. */
+static PyObject *duration_multiply(PyObject *self, PyObject *other)
+{
+    return state_of_value(self) ? scaled(self, other, 0) : scaled(other, self, 0);
+}
+
+static PyObject *duration_divide(PyObject *self, PyObject *other) { return scaled(self, other, 1); }

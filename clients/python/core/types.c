@@ -36,8 +36,7 @@ static fots_duration_result duration_create(int64_t weeks, int64_t days, int64_t
 
 static int sign_of(fots_duration duration)
 {
-    return duration.seconds ? (duration.seconds > 0) - (duration.seconds < 0) :
-        (duration.nanoseconds > 0) - (duration.nanoseconds < 0);
+    return fots_duration_compare(duration, (fots_duration){0, 0}).number;
 }
 
 static uint32_t duration_is_zero(fots_duration duration) { return sign_of(duration) == 0; }
@@ -45,22 +44,19 @@ static uint32_t duration_is_negative(fots_duration duration) { return sign_of(du
 static uint32_t duration_is_positive(fots_duration duration) { return sign_of(duration) > 0; }
 static int32_t duration_subsec_nanoseconds(fots_duration duration) { return duration.nanoseconds; }
 
-static unsigned long long magnitude(int64_t number)
-{
-    return number < 0 ? -(unsigned long long)number : (unsigned long long)number;
-}
-
 /* Returns the text, such as -1d2h3m4s5ms. */
 static PyObject *duration_string(PyObject *self)
 {
     static const char *const names[] = {"d", "h", "m", "s", "ms", "\xc2\xb5s", "ns"};
-    unsigned long long seconds = magnitude(DURATION(self).seconds);
-    unsigned long long below = magnitude(DURATION(self).nanoseconds);
+    int is_negative = sign_of(DURATION(self)) < 0;
+    unsigned long long seconds = (unsigned long long)DURATION(self).seconds;
+    unsigned long long below = (unsigned long long)abs(DURATION(self).nanoseconds);
+    seconds = is_negative ? -seconds : seconds;
     unsigned long long numbers[] = {seconds / 86400, seconds / 3600 % 24, seconds / 60 % 60,
         seconds % 60, below / 1000000, below / 1000 % 1000, below % 1000};
     char bytes[80] = "-";
-    int length = sign_of(DURATION(self)) < 0, unit;
-    for (unit = 0; unit < 7; unit++) {
+    int length = is_negative;
+    for (int unit = 0; unit < 7; unit++) {
         if (numbers[unit]) {
             length += snprintf(bytes + length, sizeof bytes - (size_t)length, "%llu%s",
                 numbers[unit], names[unit]);
@@ -77,57 +73,42 @@ static fots_date moment_date(fots_moment moment) { return moment.date; }
 static fots_time moment_time(fots_moment moment) { return moment.time; }
 static fots_offset moment_offset(fots_moment moment) { return moment.offset; }
 static fots_moment plain_assume_utc(fots_moment moment) { return moment; }
+static fots_moment moment_local(fots_moment own) { return (fots_moment){own.date, utc, own.time}; }
+static fots_moment_result moment_to_utc(fots_moment own) { return fots_moment_to_offset(own, utc); }
 
 static fots_moment moment_replace_date(fots_moment moment, fots_date date)
 {
-    moment.date = date;
-    return moment;
+    return (fots_moment){date, moment.offset, moment.time};
 }
 
 static fots_moment moment_replace_time(fots_moment moment, fots_time time)
 {
-    moment.time = time;
-    return moment;
+    return (fots_moment){moment.date, moment.offset, time};
 }
 
 static fots_moment moment_replace_date_time(fots_moment moment, fots_moment date_time)
 {
-    date_time.offset = moment.offset;
-    return date_time;
-}
-
-static fots_moment moment_local(fots_moment moment)
-{
-    moment.offset = utc;
-    return moment;
-}
-
-static fots_moment_result moment_to_utc(fots_moment moment)
-{
-    return fots_moment_to_offset(moment, utc);
+    return (fots_moment){date_time.date, moment.offset, date_time.time};
 }
 
 /* ---- texts of ISO 8601 */
 
-/* Parses a text between two others by RFC 3339. Returns 0 after it has raised an error. */
-static int parse_between(const State *state, const char *before, PyObject *object,
-    const char *after, fots_parse_moment_result *result)
+/* Parses a text between two others by RFC 3339. It raises an error for another object. */
+static fots_parse_moment_result parse_between(const State *state, const char *before,
+    PyObject *object, const char *after)
 {
+    fots_parse_moment_result result = {.status = FOTS_UNEXPECTED_BYTE};
     char bytes[64];
     size_t start = strlen(before), added = strlen(after);
     Text text = {NULL, NULL, 0};
-    if (!to_text(state, object, &text)) {
-        return 0;
-    }
-    result->status = FOTS_UNEXPECTED_BYTE;
-    if (start + text.length + added <= sizeof bytes) {
+    if (to_text(state, object, &text) && start + text.length + added <= sizeof bytes) {
         memcpy(bytes, before, start);
         memcpy(bytes + start, text.start, text.length);
         memcpy(bytes + start + text.length, after, added);
-        *result = fots_moment_parse(bytes, start + text.length + added);
+        result = fots_moment_parse(bytes, start + text.length + added);
     }
     Py_XDECREF(text.bytes);
-    return 1;
+    return result;
 }
 
 /* A function that parses the usual form, and leaves other ones and errors to Python. */
@@ -135,11 +116,9 @@ static int parse_between(const State *state, const char *before, PyObject *objec
     static PyObject *name(PyObject *self, PyObject *object) \
     { \
         const State *state = state_of_type((PyTypeObject *)self); \
-        fots_parse_moment_result result; \
-        if (!parse_between(state, before, object, after, &result)) { \
-            return NULL; \
-        } \
-        return result.status ? PyObject_CallMethod(self, "_parse", "O", object) : value; \
+        fots_parse_moment_result result = parse_between(state, before, object, after); \
+        return !result.status ? value : PyErr_Occurred() ? NULL : \
+            PyObject_CallMethod(self, "_parse", "O", object); \
     }
 PARSE(time_parse, "1970-01-01T", "Z", new_time(state, result.time))
 PARSE(plain_parse, "", "Z",

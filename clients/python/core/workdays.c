@@ -19,20 +19,21 @@ static const State *workdays_state_of_type(PyTypeObject *type)
 static const State *workdays_state(PyObject *self) { return workdays_state_of_type(Py_TYPE(self)); }
 
 /* Takes a weekmask and the bytes of holidays. Workdays in schedules.py sorts them. */
-static PyObject *workdays_create(PyTypeObject *type, PyObject *arguments, UNUSED(named))
+static PyObject *workdays_create(PyTypeObject *type, PyObject *arguments,
+    PyObject *Py_UNUSED(named))
 {
-    PyObject *bytes, *self;
     uint32_t weekmask;
-    fots_workdays_result made;
-    if (!PyArg_ParseTuple(arguments, "IS", &weekmask, &bytes)) {
+    const fots_date *holidays;
+    Py_ssize_t size;
+    if (!PyArg_ParseTuple(arguments, "Iy#", &weekmask, &holidays, &size)) {
         return NULL;
     }
-    made = fots_workdays_new(weekmask, (const fots_date *)PyBytes_AsString(bytes),
-        (size_t)PyBytes_Size(bytes) / sizeof(fots_date));
+    fots_workdays_result made =
+        fots_workdays_new(weekmask, holidays, (size_t)size / sizeof *holidays);
     if (made.status) {
         return raise_status(workdays_state_of_type(type), made.status);
     }
-    self = ((allocfunc)PyType_GetSlot(type, Py_tp_alloc))(type, 0);
+    PyObject *self = ((allocfunc)PyType_GetSlot(type, Py_tp_alloc))(type, 0);
     if (self) {
         *WORKDAYS(self) = made.workdays;
     }
@@ -51,9 +52,8 @@ static fots_date_result workdays_previous_workday(const fots_workdays *workdays,
 
 static uint32_t workdays__weekmask(const fots_workdays *workdays) { return workdays->weekmask; }
 
-static PyObject *workdays__holidays(PyObject *self, void *none)
+static PyObject *workdays__holidays(PyObject *self, void *Py_UNUSED(none))
 {
     const fots_workdays *workdays = WORKDAYS(self);
-    (void)none;
     return list_of(workdays_state(self), workdays->holidays, workdays->holidays_length);
 }

@@ -3,41 +3,38 @@
 /* Takes the bytes of a zone, and whether they are a POSIX text. Returns the bytes of its parts. */
 static PyObject *core_zone_parts(PyObject *self, PyObject *const *given, Py_ssize_t count)
 {
-    fots_zone_parts_result result;
     char *bytes;
     Py_ssize_t length;
     if (!is_count("zone_parts", count, 2) || PyBytes_AsStringAndSize(given[0], &bytes, &length)) {
         return NULL;
     }
-    result = given[1] == Py_True ? fots_zone_posix_parts(bytes, (size_t)length) :
+    fots_zone_parts_result result = given[1] == Py_True ?
+        fots_zone_posix_parts(bytes, (size_t)length) :
         fots_zone_file_parts((const uint8_t *)bytes, (size_t)length);
-    return !result.status ? new_bytes(&result.parts, sizeof result.parts) :
+    return !result.status ? Py_BuildValue("y#", &result.parts, (Py_ssize_t)sizeof result.parts) :
         raise_position(state_of_module(self), result.status, result.position, 0);
 }
 
 /* Converts a tuple: the bytes of a zone, those of its parts, and for readings a policy. */
 static int to_zone_and_policy(PyObject *tuple, fots_zone *zone, uint32_t *policy)
 {
-    PyObject *bytes, *parts;
-    unsigned number = 0;
-    if (!PyArg_ParseTuple(tuple, "SS|I", &bytes, &parts, &number)) {
+    const char *parts;
+    Py_ssize_t size;
+    if (!PyArg_ParseTuple(tuple, "y#y#|I", &zone->bytes, &zone->bytes_length, &parts, &size,
+            policy)) {
         return 0;
     }
-    if ((size_t)PyBytes_Size(parts) != sizeof zone->parts) {
+    if ((size_t)size != sizeof zone->parts) {
         PyErr_SetString(PyExc_TypeError, "expected the parts of a zone");
         return 0;
     }
-    zone->bytes = (const uint8_t *)PyBytes_AsString(bytes);
-    zone->bytes_length = (size_t)PyBytes_Size(bytes);
-    memcpy(&zone->parts, PyBytes_AsString(parts), sizeof zone->parts);
-    *policy = number;
+    memcpy(&zone->parts, parts, sizeof zone->parts);
     return 1;
 }
 
-static int to_zone(const State *state, PyObject *tuple, fots_zone *zone)
+static int to_zone(const State *Py_UNUSED(state), PyObject *tuple, fots_zone *zone)
 {
     uint32_t policy;
-    (void)state;
     return to_zone_and_policy(tuple, zone, &policy);
 }
 

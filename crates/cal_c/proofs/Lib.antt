@@ -21,3 +21,4 @@ pub mod FormatItems
 pub mod FormatPrinting
 pub mod FormatParsing
 pub mod FormatRows
+pub mod LaterMoments

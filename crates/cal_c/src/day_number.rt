@@ -38,6 +38,18 @@ pub fn day_number(julian_day: i32) -> Option<u32>
     Some((i64::from(julian_day) - FIRST_JULIAN_DAY) as u32)
 }
 
+/// Returns the Julian day some days later, or `None` if it is out of range.
+pub fn later_day(julian_day: i32, days: i64) -> Option<i32>
+    ensures { SomeIff result (IsJulianDay (julian_day +ℤ days)) (julian_day +ℤ days) }
+{
+    // A sum that overflows 64 bits wraps to another number out of range.
+    let later = i64::from(julian_day).wrapping_add(days);
+    if later < FIRST_JULIAN_DAY || later > LAST_JULIAN_DAY {
+        return None;
+    }
+    Some(later as i32)
+}
+
 /// Returns the date with a Julian day, or fails if it is out of range.
 pub fn checked_date(julian_day: i64) -> DateResult
     ensures { IsDateOrOutOfRange julian_day result }

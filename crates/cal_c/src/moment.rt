@@ -2,9 +2,11 @@
 ghost use Rattle.std.specs.Prelude.{SomeIff};
 ghost use Rattle.cal_c.specs.Moments.{IsMoment, local_and_offset_in};
 
+use crate::day_number::is_julian_day;
 use crate::results::Moment;
 use crate::values::{valid_date, valid_offset, valid_time};
 use cal_datetime::OffsetDateTime;
+use cal_time::Time;
 
 mod arithmetic;
 mod constructors;
@@ -18,4 +20,16 @@ pub fn valid_moment(moment: Moment) -> Option<OffsetDateTime>
     let time = valid_time(moment.time)?;
     let offset = valid_offset(moment.offset)?;
     Some(OffsetDateTime::new_in_offset(date, time, offset))
+}
+
+/// Returns the time of day of a moment, or `None` if one of its three numbers is invalid.
+fn valid_time_of(moment: Moment) -> Option<Time>
+    ensures { SomeIff result (IsMoment moment) moment.time }
+{
+    if !is_julian_day(moment.date) {
+        return None;
+    }
+    let time = valid_time(moment.time)?;
+    let _ = valid_offset(moment.offset)?;
+    Some(time)
 }

@@ -6,7 +6,7 @@ ghost use Rattle.cal_c.specs.Moments.{moment_ok, moment_error};
 ghost use Rattle.cal_time.specs.Time.{carry};
 
 use crate::status::{OK, RESULT_OUT_OF_RANGE};
-use crate::values::nanoseconds_since_midnight;
+use crate::values::{days_of, nanoseconds_since_midnight};
 use cal_datetime::OffsetDateTime;
 use cal_time::util::DateAdjustment;
 use cal_time::{Date, SignedDuration, Time, UtcOffset};
@@ -288,14 +288,9 @@ impl AdjustedTimeResult {
     pub fn ok(adjustment: DateAdjustment, time: Time) -> Self
         ensures { result ≡ adjusted_time_ok (carry adjustment) time }
     {
-        let carry = match adjustment {
-            DateAdjustment::Previous => -1,
-            DateAdjustment::None => 0,
-            DateAdjustment::Next => 1,
-        };
         AdjustedTimeResult {
             status: OK,
-            carry,
+            carry: days_of(adjustment),
             time: nanoseconds_since_midnight(time),
         }
     }

@@ -3,20 +3,16 @@ ghost use Rattle.std.specs.Prelude.{◌≡◌, ℕ, ℤ, ◌+◌, ◌<◌, ◌�
 ghost use Rattle.cal_time.specs.Date.{IsDayOfMonth, IsOrdinal};
 ghost use Rattle.cal_time.specs.IsoWeekDate.{IsWeek};
 ghost use Rattle.cal_time.specs.Month.{number};
-ghost use Rattle.cal_time.specs.Time.{IsTime};
+ghost use Rattle.cal_time.specs.Time.{IsTime, carry};
 ghost use Rattle.cal_time.specs.UtcOffset.{IsOffset};
 ghost use Rattle.cal_time.specs.Weekday.{index};
 ghost use Rattle.cal_c.specs.Values.{IsJulianDay, IsMonth, IsWeekday, IsDurationPair, day_of, nanoseconds_in};
 
 use crate::results::Duration;
-use cal_time::util::weeks_in_year;
+use cal_time::util::{DateAdjustment, weeks_in_year};
 use cal_time::{Date, Month, SignedDuration, Time, UtcOffset, Weekday};
 
 const NANOSECONDS_PER_SECOND: u32 = 1_000_000_000;
-
-const NANOSECONDS_PER_MINUTE: u64 = 60_000_000_000;
-
-const NANOSECONDS_PER_HOUR: u64 = 3_600_000_000_000;
 
 const NANOSECONDS_PER_DAY: u64 = 86_400_000_000_000;
 
@@ -141,10 +137,19 @@ pub fn valid_time(nanoseconds: u64) -> Option<Time>
 pub fn nanoseconds_since_midnight(time: Time) -> u64
     ensures { result ≡ time }
 {
-    u64::from(time.hour()) * NANOSECONDS_PER_HOUR
-        + u64::from(time.minute()) * NANOSECONDS_PER_MINUTE
-        + u64::from(time.second()) * u64::from(NANOSECONDS_PER_SECOND)
-        + u64::from(time.nanosecond())
+    (time - Time::MIDNIGHT).whole_nanoseconds() as u64
+}
+
+/// Returns the days of an adjustment: -1, 0 or 1.
+pub fn days_of(adjustment: DateAdjustment) -> i32
+    ensures value { result ≡ carry adjustment }
+    ensures range { unsigned_abs result ≤ 1 }
+{
+    match adjustment {
+        DateAdjustment::Previous => -1,
+        DateAdjustment::None => 0,
+        DateAdjustment::Next => 1,
+    }
 }
 
 /// Returns the offset of seconds, or `None` if it is out of range.

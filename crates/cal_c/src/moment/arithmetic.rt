@@ -1,18 +1,20 @@
 //! Moments plus and minus durations, comparison, and the durations between moments.
-ghost use Rattle.std.specs.Prelude.{◌≡◌, pos, neg_ℤ, ◌+ℤ◌, ◌-ℤ◌, ◌<ℤ◌};
+ghost use Rattle.std.specs.Prelude.{◌≡◌, pos, neg_ℤ, ◌+ℤ◌, ◌-ℤ◌, ◌*ℤ◌, ◌<ℤ◌};
+ghost use Rattle.cal_time.specs.SignedDuration.{day};
+ghost use Rattle.cal_time.specs.Time.{IsTime};
 ghost use Rattle.cal_datetime.specs.DateTime.{clamped_date_time};
 ghost use Rattle.cal_datetime.specs.OffsetDateTime.{instant};
 ghost use Rattle.cal_c.specs.Moments.{IsMoment, IsMomentOrError, local_in, moment_ok, moment_error, local_and_offset_in};
 ghost use Rattle.cal_c.specs.Results.{duration_ok, duration_error, number_ok, number_error};
 ghost use Rattle.cal_c.specs.Statuses.{invalid_duration, invalid_moment, result_out_of_range};
-ghost use Rattle.cal_c.specs.Values.{need◌else◌then◌, IsDurationPair, nanoseconds_in};
+ghost use Rattle.cal_c.specs.Values.{need◌else◌then◌, IsDurationPair, day_of, nanoseconds_in};
 
-use crate::moment::valid_moment;
+use crate::day_number::later_day;
+use crate::moment::{valid_moment, valid_time_of};
 use crate::results::{Duration, DurationResult, Moment, MomentResult, NumberResult};
-use crate::status::{INVALID_DURATION, INVALID_MOMENT, RESULT_OUT_OF_RANGE};
-use crate::values::valid_duration;
-use cal_datetime::OffsetDateTime;
-use cal_time::SignedDuration;
+use crate::status::{INVALID_DURATION, INVALID_MOMENT, OK, RESULT_OUT_OF_RANGE};
+use crate::values::{days_of, nanoseconds_since_midnight, valid_duration};
+use cal_time::Time;
 
 /// Adds a duration and keeps the offset. Fails if the local result is out of range.
 #[unsafe(no_mangle)]
@@ -21,20 +23,11 @@ pub extern "C" fn fots_moment_checked_add(moment: Moment, duration: Duration) ->
         need IsDurationPair duration else result ≡ moment_error invalid_duration then
         IsMomentOrError result_out_of_range (local_in moment +ℤ nanoseconds_in duration) moment.offset result }
 {
-    let moment = or_error!(MomentResult, valid_moment(moment), INVALID_MOMENT);
+    let time = or_error!(MomentResult, valid_time_of(moment), INVALID_MOMENT);
     let duration = or_error!(MomentResult, valid_duration(duration), INVALID_DURATION);
-    add_duration(moment, duration)
-}
-
-/// Adds a duration.
-fn add_duration(moment: OffsetDateTime, duration: SignedDuration) -> MomentResult
-    ensures { IsMomentOrError result_out_of_range (moment.local +ℤ duration) moment.offset result }
-{
-    let moved = or_return!(
-        moment.checked_add(duration),
-        MomentResult::error(RESULT_OUT_OF_RANGE)
-    );
-    MomentResult::ok(moved)
+    let (adjustment, time) = time.adjusting_add(duration);
+    let days = duration.whole_days() + i64::from(days_of(adjustment));
+    at_later_day(moment, days, time)
 }
 
 /// Subtracts a duration and keeps the offset. Fails if the local result is out of range.
@@ -44,20 +37,31 @@ pub extern "C" fn fots_moment_checked_sub(moment: Moment, duration: Duration) ->
         need IsDurationPair duration else result ≡ moment_error invalid_duration then
         IsMomentOrError result_out_of_range (local_in moment -ℤ nanoseconds_in duration) moment.offset result }
 {
-    let moment = or_error!(MomentResult, valid_moment(moment), INVALID_MOMENT);
+    let time = or_error!(MomentResult, valid_time_of(moment), INVALID_MOMENT);
     let duration = or_error!(MomentResult, valid_duration(duration), INVALID_DURATION);
-    sub_duration(moment, duration)
+    let (adjustment, time) = time.adjusting_sub(duration);
+    let days = i64::from(days_of(adjustment)) - duration.whole_days();
+    at_later_day(moment, days, time)
 }
 
-/// Subtracts a duration.
-fn sub_duration(moment: OffsetDateTime, duration: SignedDuration) -> MomentResult
-    ensures { IsMomentOrError result_out_of_range (moment.local -ℤ duration) moment.offset result }
+/// Returns the moment some days later at a time of day, and fails if the day is out of range.
+fn at_later_day(moment: Moment, days: i64, time: Time) -> MomentResult
+    requires moment { IsMoment moment }
+    requires time { IsTime time }
+    ensures { IsMomentOrError result_out_of_range ((pos (day_of moment.date) +ℤ days) *ℤ pos day +ℤ pos time) moment.offset result }
 {
-    let moved = or_return!(
-        moment.checked_sub(duration),
+    let date = or_return!(
+        later_day(moment.date, days),
         MomentResult::error(RESULT_OUT_OF_RANGE)
     );
-    MomentResult::ok(moved)
+    MomentResult {
+        status: OK,
+        moment: Moment {
+            date,
+            offset: moment.offset,
+            time: nanoseconds_since_midnight(time),
+        },
+    }
 }
 
 /// Adds a duration and keeps the offset. A local result out of range is clamped.

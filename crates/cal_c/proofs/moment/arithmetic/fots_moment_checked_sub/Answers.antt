@@ -1,7 +1,38 @@
+use Rattle.std.proofs.Common.{w32, w64, FitsSigned, rules, ◌≤◌, unsigned_abs, ◌-ℤ◌, ap, ◌∙◌, sym, subst}
+use Rattle.std.proofs.lemmas.Int.{to_z-of_z}
+use Rattle.cal_time.specs.SignedDuration.{whole_days}
+use Rattle.cal_c.specs.Moments.{IsMomentOrError}
+use Rattle.cal_c.specs.Statuses.{result_out_of_range}
+use Rattle.cal_c.specs.Values.{day_of}
 use Rattle.cal_c.proofs.Needs.{met}
+use Rattle.cal_c.proofs.LaterMoments.{later-sub, days-fit}
 use Rattle.cal_c.proofs.moment.arithmetic.fots_moment_checked_sub.Goals as goal
+
+pub overflow_sub-days : goal.overflow_sub-days
+overflow_sub-days c =
+    let d = c.args.duration in
+    let v = c.in-Some-valid_duration.ensures in
+    let f : FitsSigned w32 c.days_of.result = search rules in
+    let small = subst (λ z. unsigned_abs z ≤ 1) (sym (simp to_z-of_z at c.from.ensures)) c.days_of.ensures.range in
+    let g : FitsSigned w64 c.whole_days.result = search rules in
+    let h : FitsSigned w64 c.from.result = search rules in
+    let i : FitsSigned w64 d.seconds = search rules in
+    simp to_z-of_z ((days-fit d c.whole_days.result c.from.result v.0 i (c.whole_days.ensures ∙ ap whole_days v.1) small).1)
 
 pub returns : goal.returns
 returns c =
-    let moved = rw (c.in-Some.ensures.1, c.in-Some-valid_duration.ensures.1) at c.sub_duration.ensures in
-    met c.in-Some.ensures.0 (met c.in-Some-valid_duration.ensures.0 moved)
+    let m = c.args.moment in
+    let d = c.args.duration in
+    let a = c.adjusting_sub-adjustment in
+    let v = c.in-Some-valid_duration.ensures in
+    let f : FitsSigned w32 c.days_of.result = search rules in
+    let carried = simp to_z-of_z at c.from.ensures ∙ c.days_of.ensures.value in
+    let moved = rw (sym c.whole_days.ensures, sym carried, c.in-Some.ensures.1, v.1) at a.ensures.value in
+    let is = later-sub (day_of m.date) m.time a.result.1 _ (c.from.result -ℤ c.whole_days.result) moved in
+    let small = subst (λ z. unsigned_abs z ≤ 1) (sym (simp to_z-of_z at c.from.ensures)) c.days_of.ensures.range in
+    let g : FitsSigned w64 c.whole_days.result = search rules in
+    let h : FitsSigned w64 c.from.result = search rules in
+    let i : FitsSigned w64 d.seconds = search rules in
+    let k = (days-fit d c.whole_days.result c.from.result v.0 i (c.whole_days.ensures ∙ ap whole_days v.1) small).1 in
+    let there = simp to_z-of_z at c.at_later_day.ensures in
+    met c.in-Some.ensures.0 (met v.0 (subst (λ z. IsMomentOrError result_out_of_range z m.offset c.at_later_day.result) (sym is) there))
