@@ -1,18 +1,23 @@
 # The types of the module `_core`. From this file tools/python_members writes their code in C, doc
-# strings and type hints. A row with lists in braces is one for each place of the lists, and empty
-# braces are the first list. A function without `self` is static, and a name with a doc string is a
-# property. The order of the types is that of `State` in core.c. The imported classes have the
-# members in Python.
+# strings, type hints, and the members in Python, which have code below their doc string. A row with
+# lists in braces is one for each place of the lists, and empty braces are the first list. A
+# function without `self` is static, a name with a doc string is a property, and one with another
+# value a constant. A parameter without a type has that of its name, such as Weekday, else Int. The
+# order of the types is that of `State` in core.c.
+import datetime
+import operator
 from datetime import timedelta
-from typing import Any, Callable, ClassVar, SupportsIndex, overload
+from typing import Any, Callable, ClassVar, Iterable, SupportsIndex, overload
 
 from typing_extensions import Self
 
-from .conversions import _ClockMembers, _DateMembers, _DateTimeMembers, _DurationMembers
-from .conversions import _MomentMembers, _OffsetMembers, _PlainMembers, _TimeMembers, _ValueMembers
-from .enums import Convention, DayCount, Month, Period, Weekday, YearFraction
+from .choices import Convention, DayCount
+from .conversions import CLOCKS, OFFSET, PARTS_OF_TEXT, numbers_of, whole_microseconds, within
+from .enums import Month, Period, Weekday, YearFraction
+from .errors import ParseError, check
 from .formats import Format
-from .zones import _ZoneMembers
+from .schedules import Days
+from .zones import Zone
 
 # An int. One that doesn't fit the parameter in C becomes the nearest number, or one that the call
 # rejects by its name. One that must fit raises OverflowError.
@@ -20,26 +25,39 @@ from .zones import _ZoneMembers
 # The tuples that to_rule and to_zone in C take.
 {_Rule,_Zone} = tuple[Any, ...]
 
-class _Value(_ValueMembers):
+class _Value:
     def __{lt,le,gt,ge}__(self, other: Self) -> bool: ...
     def __hash__(self) -> int: ...
     def __str__(self) -> str: ...
 
+    def __format__(self, specification: str) -> str:
+        "Formats by a format, which has a percent sign, or else the text of the value."
+        if "%" in specification and not isinstance(self, SignedDuration):
+            return self.strftime(specification)
+        return format(str(self), specification)
+
+    def __reduce__(self) -> tuple[Any, ...]:
+        return type(self).parse, (self.isoformat(),)
+
 class _Moved:
-    def checked_{add,sub}(self, duration: SignedDuration) -> Self | None:
+    def checked_{add,sub}(self, duration) -> Self | None:
         "Returns the value {plus,minus} a duration, or None out of range."
-    def saturating_{add,sub}(self, duration: SignedDuration) -> Self:
+    def saturating_{add,sub}(self, duration) -> Self:
         "Returns the value {plus,minus} a duration, or the nearest end of the range."
 
 class _Formatted:
     def strftime(self, format: str | Format) -> str:
         "Returns the text by a format, or raises ValueError if that shows more than the value has."
-    def strptime(text: str, format: str | Format) -> Self:
+    def strptime(text, format: str | Format) -> Self:
         """Parses the text of a value by a format, and no other text, or raises ParseError,
         ComponentRange or ContradictionError; ValueError if the texts of the format don't determine
         such a value."""
 
 class _DateParts:
+    def __add__(self, other: SignedDuration | timedelta) -> Self: ...
+    def __radd__(self, other: timedelta) -> Self: ...
+    @overload
+    def __sub__(self, other: {Self,SignedDuration | timedelta}) -> {SignedDuration,Self}: ...
     year: int = "The year, from -999999 to 999999."
     month: Month = "The Month."
     day: int = "The day of the month, from 1 to 31."
@@ -52,7 +70,7 @@ class _DateParts:
     def to_ordinal_date(self) -> tuple[int, int]: "Returns the year and the ordinal."
     def to_iso_week_date(self) -> tuple[int, int, Weekday]: "Returns ISO year, week and Weekday."
     def to_julian_day(self) -> int: "Returns the Julian day."
-    def replace_{year,month,day,ordinal}(self, number: Int) -> Self: "Replaces the {}."
+    def replace_{year,month,day,ordinal}(self, number) -> Self: "Replaces the {}."
 
 class _TimeParts:
     hour: int = "The hour, from 0 to 23."
@@ -62,63 +80,67 @@ class _TimeParts:
     def as_hms(self) -> tuple[int, int, int]: "Returns the hour, minute and second."
     def as_hms_{milli,micro,nano}(self) -> tuple[int, int, int, int]:
         "Returns the hour, minute, second and {}second."
-    def replace_{hour,minute,second}(self, number: Int) -> Self: "Replaces the {}."
-    def replace_{millisecond,microsecond,nanosecond}(self, number: Int) -> Self:
+    def replace_{hour,minute,second}(self, number) -> Self: "Replaces the {}."
+    def replace_{millisecond,microsecond,nanosecond}(self, number) -> Self:
         "Replaces all below the second by {milliseconds,microseconds,nanoseconds}."
     def truncate_to_{hour,minute,second,millisecond,microsecond}(self) -> Self:
         "Sets all below the {} to zero."
+    def {__str__,__repr__}(self) -> str:
+        return self.strftime(CLOCKS[type(self)][self.nanosecond > 0])
 
-class Date(_Value, _DateParts, _DateMembers, _Moved, _Formatted):
+    def isoformat(self) -> str:
+        "Returns the text that `datetime` has, with nine digits if there are nanoseconds."
+        below = self.nanosecond
+        clock = "%T" if not below else "%T.%N" if below % 1000 else "%T.%f"
+        if isinstance(self, OffsetDateTime):
+            clock += "%::z" if self.offset.seconds_past_minute() else "%:z"
+        return self.strftime(clock if isinstance(self, Time) else f"%FT{clock}")
+
+class Date(_Value, _DateParts, _Moved, _Formatted):
     """Date(year, month, day): a day of the proleptic Gregorian calendar, from MIN, -999999-01-01,
     to MAX, 999999-12-31.
 
     + and - with a SignedDuration, and calls that add one, move by its whole days; with a timedelta
     they take only whole days. Dates have a SignedDuration between them.
     """
-    {MIN,MAX}: ClassVar[Date]
-    def __new__(cls, year: Int, month: Int, day: Int) -> Date: ...
-    def __add__(self, other: SignedDuration | timedelta) -> Date: ...
-    def __radd__(self, other: timedelta) -> Date: ...
-    @overload
-    def __sub__(self, other: {Date,SignedDuration | timedelta}) -> {SignedDuration,Date}: ...
-    def from_calendar_date(year: Int, month: Int, day: Int) -> Date:
+    {MIN,MAX}: ClassVar[Date] = Date({-999999,999999}, {1,12}, {1,31})
+    def __new__(cls, year, month, day) -> Date: ...
+    def from_calendar_date(year, month, day) -> Date:
         "Creates the date of a year, a Month or its number, and a day of the month."
-    def from_ordinal_date(year: Int, ordinal: Int) -> Date: "Creates a date of a year and ordinal."
-    def from_iso_week_date(year: Int, week: Int, weekday: Weekday) -> Date:
+    def from_ordinal_date(year, ordinal) -> Date: "Creates a date of a year and ordinal."
+    def from_iso_week_date(year, week, weekday) -> Date:
         "Creates the date of an ISO year, a week and a Weekday."
-    def from_julian_day(julian_day: Int) -> Date:
+    def from_julian_day(julian_day) -> Date:
         "Creates the date with a Julian day: 2451545 is 2000-01-01."
-    def nth_weekday_of_month(year: Int, month: Int, weekday: Weekday, n: Int) -> Date:
+    def nth_weekday_of_month(year, month, weekday, n) -> Date:
         "Returns the n-th day, from 1, with a Weekday in a year and month."
-    def last_weekday_of_month(year: Int, month: Int, weekday: Weekday) -> Date:
+    def last_weekday_of_month(year, month, weekday) -> Date:
         "Returns the last day with a Weekday in a year and month."
-    def {parse,fromisoformat}(text: str) -> Date:
+    def {parse,fromisoformat}(text) -> Date:
         "Parses 2024-02-29, 2024-060 or 2024-W09-4, or raises ParseError or ComponentRange."
-    def parse_julian_day(text: str) -> Date: "Parses a Julian day, such as J2460370."
+    def parse_julian_day(text) -> Date: "Parses a Julian day, such as J2460370."
     quarter: int = "The quarter of the year, from 1 to 4."
     def {isoformat,calendar_text}(self) -> str: "Returns the date, such as 2024-02-29, like str."
     def {ordinal,week}_text(self) -> str: "Returns the {} date, such as {2024-060,2024-W09-4}."
     def julian_text(self) -> str: "Returns the Julian day, such as J2460370."
     def {next,previous}_day(self) -> Date | None: "Returns the {} day, None {after MAX,before MIN}."
-    def {next,prev}_occurrence(self, weekday: Weekday) -> Date:
+    def {next,prev}_occurrence(self, weekday) -> Date:
         "Returns the {first,last} day {after,before} this one with a Weekday, else OverflowError."
-    def checked_{next,prev}_occurrence(self, weekday: Weekday) -> Date | None:
+    def checked_{next,prev}_occurrence(self, weekday) -> Date | None:
         "Returns the {first,last} day {after,before} this one with a Weekday, or None."
-    def nth_{next,prev}_occurrence(self, weekday: Weekday, n: Int) -> Date:
+    def nth_{next,prev}_occurrence(self, weekday, n) -> Date:
         "Returns the n-th day {after,before} this one with a Weekday, n from 1 to 255."
-    def checked_nth_{next,prev}_occurrence(self, weekday: Weekday, n: Int) -> Date | None:
+    def checked_nth_{next,prev}_occurrence(self, weekday, n) -> Date | None:
         "Returns the same, or None out of range and for 0."
-    def replace(
-        self, *, year: Int | None = None, month: Int | None = None, day: Int | None = None
-    ) -> Date:
+    def replace(self, *, year=None, month=None, day=None) -> Date:
         "Replaces the components that are given by name: year, month, day."
-    def checked_add_{months,years}(self, number: Int) -> Date | None:
+    def checked_add_{months,years}(self, number) -> Date | None:
         "Returns the day some {} later, or None out of range."
-    def add_months(self, number: Int) -> Date:
+    def add_months(self, number) -> Date:
         "Returns the day some months later, the last one in a shorter month, else OverflowError."
-    def saturating_add_months(self, number: Int) -> Date:
+    def saturating_add_months(self, number) -> Date:
         "Returns the day some months later, or the nearest end of the range."
-    def add_years(self, number: Int) -> Date:
+    def add_years(self, number) -> Date:
         "Returns the day some years later, for 29 February the 28th if need be, else OverflowError."
     def {months,years}_until(self, other: Date) -> int:
         "Returns the whole {} to the other day, such as an age; negative if that is earlier."
@@ -129,58 +151,114 @@ class Date(_Value, _DateParts, _DateMembers, _Moved, _Formatted):
     def last_of_{month,quarter,year}(self) -> Date: "Returns the last day of the {}."
     def first_of_iso_week(self) -> Date: "Returns the Monday of the ISO week."
     def last_of_iso_week(self) -> Date | None: "Returns the Sunday of the ISO week, None past MAX."
-    def on_or_{after,before}(self, weekday: Weekday) -> Date | None:
+    def on_or_{after,before}(self, weekday) -> Date | None:
         "Returns the {first day from this one on,last day up to this one} with a Weekday, or None."
+    def today() -> Date:
+        "Returns the date of the system's local clock."
+        return Date.from_date(datetime.date.today())
+    def iter_to(self, end: Date) -> Days:
+        """Returns the days from this one to `end`, both included, as a sequence; none if this one
+        is later."""
+        return Days(range(self.to_julian_day(), check(end, Date).to_julian_day() + 1))
 
-class Time(_Value, _TimeParts, _TimeMembers, _ClockMembers, _Formatted):
+    def from_date(date: datetime.date) -> Date:
+        "Converts a `datetime.date`. Of a `datetime.datetime`, take its `date()`."
+        if isinstance(check(date, datetime.date), datetime.datetime):
+            raise TypeError("expected datetime.date, not datetime; use its date()")
+        return Date.from_calendar_date(date.year, date.month, date.day)
+
+    def to_date(self) -> datetime.date:
+        "Converts to a `datetime.date`, which has the years 1 to 9999, or raises `OverflowError`."
+        year, month, day = self.to_calendar_date()
+        if not 1 <= year <= 9999:
+            raise OverflowError(f"year {year} is out of range of datetime.date; expected 1 to 9999")
+        return datetime.date(year, month, day)
+
+class Time(_Value, _TimeParts, _Formatted):
     """Time(hour=0, minute=0, second=0, nanosecond=0): a time of day, from MIDNIGHT to MAX,
     23:59:59.999999999.
 
     + and - with a SignedDuration wrap around midnight; times have a SignedDuration between them.
     """
-    {MIDNIGHT,MAX}: ClassVar[Time]
-    def __new__(
-        cls, hour: Int = 0, minute: Int = 0, second: Int = 0, nanosecond: Int = 0
-    ) -> Time: ...
+    {MIDNIGHT,MAX}: ClassVar[Time] = Time({0,23}, {0,59}, {0,59}, {0,999999999})
+    def __new__(cls, hour=0, minute=0, second=0, nanosecond=0) -> Time: ...
     def __add__(self, other: SignedDuration) -> Time: ...
     @overload
     def __sub__(self, other: {Time,SignedDuration}) -> {SignedDuration,Time}: ...
-    def from_hms(hour: Int, minute: Int, second: Int) -> Time:
+    def from_hms(hour, minute, second) -> Time:
         "Creates the time of an hour, a minute and a second."
-    def from_hms_{milli,micro,nano}(
-        hour: Int, minute: Int, second: Int, {milli,micro,nano}second: Int
-    ) -> Time:
+    def from_hms_{milli,micro,nano}(hour, minute, second, {milli,micro,nano}second) -> Time:
         "Creates the time of an hour, a minute, a second and {milli,micro,nano}seconds."
-    def {parse,fromisoformat}(text: str) -> Time:
+    def {parse,fromisoformat}(text) -> Time:
         """Parses a time, such as 9:05, 09:05:00 or 9:05:00.25, or raises ParseError or
         ComponentRange."""
-    def replace(
-        self, *, hour: Int | None = None, minute: Int | None = None, second: Int | None = None,
-        nanosecond: Int | None = None
-    ) -> Time:
+    def replace(self, *, hour=None, minute=None, second=None, nanosecond=None) -> Time:
         "Replaces the components that are given by name: hour, minute, second, nanosecond."
     def duration_{until,since}(self, other: Time) -> SignedDuration:
         "Returns the duration forward {to,from} the other time, below 24 hours."
-    def adjusting_{add,sub}(self, duration: SignedDuration) -> tuple[int, Time]:
+    def adjusting_{add,sub}(self, duration) -> tuple[int, Time]:
         """Returns a carry of -1, 0 or 1 days beyond whole days, and the time a duration
         {later,earlier}."""
+    def __reduce__(self) -> tuple[Any, ...]:
+        return Time.from_hms_nano, self.as_hms_nano()
 
-class UtcOffset(_Value, _OffsetMembers, _Formatted):
+    def from_time(time: datetime.time) -> Time:
+        "Converts a `datetime.time` without a time zone, or raises `ValueError`."
+        if check(time, datetime.time).tzinfo is not None:
+            raise ValueError("expected a datetime.time without tzinfo")
+        return Time.from_hms_micro(time.hour, time.minute, time.second, time.microsecond)
+
+    def to_time(self) -> datetime.time:
+        "Converts to a `datetime.time`, or raises `ValueError` for nanoseconds."
+        microsecond = whole_microseconds(self.nanosecond, "datetime.time")
+        return datetime.time(self.hour, self.minute, self.second, microsecond)
+
+    def _parse(text) -> Time:
+        hours = 1 if text[1:2] == ":" else 2
+        lengths = [hours + 3, hours + 6, *range(hours + 8, len(text) + 1)]
+        numbers = numbers_of(text, "0" * hours + ":00:00." + "0" * len(text), lengths)
+        # Digits after the ninth are ignored.
+        hour, minute, second, fraction, *_ = *numbers, "0", "0"
+        return Time(int(hour), int(minute), int(second), int(fraction[:9].ljust(9, "0")))
+
+class UtcOffset(_Value, _Formatted):
     """UtcOffset(hours=0, minutes=0, seconds=0): an offset from UTC, from -25:59:59 to +25:59:59,
     positive to the east."""
-    UTC: ClassVar[UtcOffset]
-    def __new__(cls, hours: Int = 0, minutes: Int = 0, seconds: Int = 0) -> UtcOffset: ...
+    UTC: ClassVar[UtcOffset] = UtcOffset()
+    def __new__(cls, hours=0, minutes=0, seconds=0) -> UtcOffset: ...
     def __neg__(self) -> UtcOffset: ...
-    def from_hms(hours: Int, minutes: Int, seconds: Int) -> UtcOffset:
+    def from_hms(hours, minutes, seconds) -> UtcOffset:
         """Creates the offset of hours, minutes and seconds. The first one that isn't zero gives
         the sign of all."""
-    def from_whole_seconds(seconds: Int) -> UtcOffset:
+    def from_whole_seconds(seconds) -> UtcOffset:
         "Creates the offset of seconds, from -93599 to 93599."
     def as_hms(self) -> tuple[int, int, int]: "Returns hours, minutes and seconds, with one sign."
     def whole_{hours,minutes,seconds}(self) -> int: "Returns the whole {}, truncated toward zero."
     def {minutes_past_hour,seconds_past_minute}(self) -> int:
         "Returns the {minutes,seconds} past the whole {hours,minutes}, from -59 to 59."
     def is_{utc,positive,negative}(self) -> bool: "Returns whether it is {0,positive,negative}."
+    def to_timezone(self) -> datetime.timezone:
+        "Converts to a `datetime.timezone`, or raises `ValueError` from 24 hours on."
+        return datetime.timezone(timedelta(seconds=self.whole_seconds()))
+    def {__str__,__repr__}(self) -> str:
+        return self.strftime(OFFSET)
+    def __reduce__(self) -> tuple[Any, ...]:
+        return UtcOffset.from_whole_seconds, (self.whole_seconds(),)
+
+    def from_timezone(timezone: datetime.timezone) -> UtcOffset:
+        "Converts a `datetime.timezone`, or raises `ValueError` for parts of a second."
+        delta = check(timezone, datetime.timezone).utcoffset(None)
+        if delta.microseconds:
+            raise ValueError(f"expected an offset of whole seconds, not {delta}")
+        return UtcOffset.from_whole_seconds(delta // timedelta(seconds=1))
+
+    def {parse,fromisoformat}(text) -> UtcOffset:
+        "Parses an offset, such as Z, +01:00 or -05:30:00, or raises ParseError or ComponentRange."
+        if check(text, str) in ("Z", "z"):
+            return UtcOffset.UTC
+        sign = "-" if text[:1] == "-" else "+"
+        numbers = numbers_of(text, sign + "00:00:00", (6, 9))
+        return UtcOffset(*(int(sign + number) for number in numbers))
 
 class _Unit:
     def __get__(self, instance: None, owner: Any) -> Callable[[SupportsIndex], SignedDuration]: ...
@@ -191,7 +269,7 @@ class _Part:
     @overload
     def __get__(self, instance: SignedDuration, owner: Any) -> int: ...
 
-class SignedDuration(_Value, _DurationMembers, _Moved):
+class SignedDuration(_Value, _Moved):
     """SignedDuration(*, weeks, days, hours, minutes, seconds, milliseconds, microseconds,
     nanoseconds): a signed length of time.
 
@@ -199,12 +277,16 @@ class SignedDuration(_Value, _DurationMembers, _Moved):
     """
     {weeks,hours,minutes,milliseconds}: ClassVar[_Unit]
     {days,seconds,microseconds,nanoseconds}: ClassVar[_Part]
-    {ZERO,MIN,MAX,NANOSECOND,MICROSECOND,MILLISECOND}: ClassVar[SignedDuration]
-    {SECOND,MINUTE,HOUR,DAY,WEEK}: ClassVar[SignedDuration]
-    def __new__(
-        cls, *, weeks: Fits = 0, days: Fits = 0, hours: Fits = 0, minutes: Fits = 0,
-        seconds: Fits = 0, milliseconds: Fits = 0, microseconds: Fits = 0, nanoseconds: Fits = 0
-    ) -> SignedDuration: ...
+    {ZERO,NANOSECOND}: ClassVar[SignedDuration] = SignedDuration(nanoseconds={0,1})
+    {MICROSECOND,MILLISECOND}: ClassVar[SignedDuration] = SignedDuration({micro,milli}seconds=1)
+    {SECOND,MINUTE}: ClassVar[SignedDuration] = SignedDuration({seconds,minutes}=1)
+    {HOUR,DAY,WEEK}: ClassVar[SignedDuration] = SignedDuration({hours,days,weeks}=1)
+    {MIN,MAX}: ClassVar[SignedDuration] = SignedDuration.new({-2**63,2**63 - 1}, {-,}999999999)
+
+    def __new__(cls, *, weeks: Fits = 0, days: Fits = 0, hours: Fits = 0, minutes: Fits = 0,
+                seconds: Fits = 0, milliseconds: Fits = 0, microseconds: Fits = 0,
+                nanoseconds: Fits = 0) -> SignedDuration: ...
+
     def __{add,sub}__(self, other: SignedDuration) -> SignedDuration: ...
     def __{mul,rmul,truediv}__(self, other: SupportsIndex) -> SignedDuration: ...
     def __{neg,abs}__(self) -> SignedDuration: ...
@@ -226,80 +308,159 @@ class SignedDuration(_Value, _DurationMembers, _Moved):
         "Returns the quotient truncated toward zero, or None for 0 and out of range."
     def saturating_mul(self, number: Fits) -> SignedDuration:
         "Returns the product with an int of 32 bits, or the nearest limit."
+    def __reduce__(self) -> tuple[Any, ...]:
+        return SignedDuration.new, (self.whole_seconds(), self.subsec_nanoseconds())
+    def whole_{nanoseconds,microseconds,milliseconds}(self) -> int:
+        "Returns the whole {}, truncated toward zero, as an int of any size."
+        return self.whole_seconds() * {10**9,10**6,10**3} + self.subsec_{}()
+    def unsigned_abs(self) -> tuple[int, int]:
+        "Returns the seconds and nanoseconds of the absolute value, as ints of any size."
+        return abs(self.whole_seconds()), abs(self.subsec_nanoseconds())
 
-class _DateTime(
-    _Value, _DateParts, _TimeParts, _DateTimeMembers, _ClockMembers, _Moved, _Formatted
-):
-    def __add__(self, other: SignedDuration | timedelta) -> Self: ...
-    def __radd__(self, other: timedelta) -> Self: ...
-    @overload
-    def __sub__(self, other: {Self,SignedDuration | timedelta}) -> {SignedDuration,Self}: ...
+    def nanoseconds_i128(nanoseconds) -> SignedDuration:
+        "Creates a duration of nanoseconds, from `MIN` to `MAX`."
+        sign = -1 if operator.index(nanoseconds) < 0 else 1
+        seconds, rest = divmod(abs(operator.index(nanoseconds)), 10**9)
+        return SignedDuration.new(sign * seconds, sign * rest)
+
+    def try_sum(durations: Iterable[SignedDuration]) -> SignedDuration | None:
+        "Returns the sum, `ZERO` of none, or `None` if a sum of the first ones is out of range."
+        total = SignedDuration.ZERO
+        for duration in durations:
+            found = total.checked_add(duration)
+            if found is None:
+                return None
+            total = found
+        return total
+
+    def from_timedelta(delta: datetime.timedelta) -> SignedDuration:
+        "Converts a `datetime.timedelta`, exactly."
+        seconds, rest = divmod(check(delta, timedelta) // timedelta(microseconds=1), 10**6)
+        return SignedDuration.new(seconds, rest * 1000 + getattr(delta, "nanoseconds", 0))
+
+    def to_timedelta(self) -> datetime.timedelta:
+        """Converts to a `datetime.timedelta`. Raises `OverflowError` out of its range, and
+        `ValueError` for nanoseconds."""
+        microseconds = whole_microseconds(self.subsec_nanoseconds(), "datetime.timedelta")
+        return timedelta(seconds=self.whole_seconds(), microseconds=microseconds)
+
+class _DateTime(_Value, _DateParts, _TimeParts, _Moved, _Formatted):
     def date(self) -> Date: "Returns the date."
     def time(self) -> Time: "Returns the time of day."
-    def replace_date(self, date: Date) -> Self: "Replaces the date."
-    def replace_time(self, time: Time) -> Self: "Replaces the time of day."
+    def replace_date(self, date) -> Self: "Replaces the date."
+    def replace_time(self, time) -> Self: "Replaces the time of day."
 
-class PlainDateTime(_DateTime, _PlainMembers):
+    def replace(self, *, year=None, month=None, day=None, hour=None, minute=None, second=None,
+                nanosecond=None) -> Any:
+        "Replaces the components that are given by name."
+        date = self.date().replace(year=year, month=month, day=day)
+        time = self.time().replace(hour=hour, minute=minute, second=second, nanosecond=nanosecond)
+        return self.replace_date(date).replace_time(time)
+
+    def to_datetime(self) -> datetime.datetime:
+        """Converts to a `datetime.datetime`, with the `datetime.timezone` of the offset if there is
+        one; errors like `Date.to_date`, `Time.to_time` and `UtcOffset.to_timezone`."""
+        zone = self.offset.to_timezone() if isinstance(self, OffsetDateTime) else None
+        return datetime.datetime.combine(self.date().to_date(), self.time().to_time(), zone)
+
+class PlainDateTime(_DateTime):
     """PlainDateTime(date, time): a date and a time of day, from MIN to MAX.
 
     + and - with a SignedDuration or a timedelta are exact; date-times have a SignedDuration between
     them.
     """
-    {MIN,MAX}: ClassVar[PlainDateTime]
-    def __new__(cls, date: Date, time: Time) -> PlainDateTime: ...
-    def new(date: Date, time: Time) -> PlainDateTime: "Creates the date-time of a date and a time."
-    def {parse,fromisoformat}(text: str) -> PlainDateTime:
+    {MIN,MAX}: ClassVar[PlainDateTime] = PlainDateTime(Date.{}, Time.{MIDNIGHT,MAX})
+    def __new__(cls, date, time) -> PlainDateTime: ...
+    def new(date, time) -> PlainDateTime: "Creates the date-time of a date and a time."
+    def {parse,fromisoformat}(text) -> PlainDateTime:
         """Parses a date, T or a space, and a time, such as 2024-02-29T23:59:59.25; errors like
         Date.parse and Time.parse."""
     def assume_utc(self) -> OffsetDateTime: "Returns the same date and time at UTC."
-    def assume_offset(self, offset: UtcOffset) -> OffsetDateTime:
+    def assume_offset(self, offset) -> OffsetDateTime:
         "Returns the same date and time at an offset."
 
-class OffsetDateTime(_DateTime, _MomentMembers, _ZoneMembers):
+    def from_datetime(value: datetime.datetime) -> PlainDateTime:
+        "Converts a `datetime.datetime` without a time zone, or raises `ValueError`."
+        if check(value, datetime.datetime).tzinfo is not None:
+            raise ValueError("expected a datetime.datetime without tzinfo")
+        # The text of a time of pandas has nanoseconds, too.
+        return PlainDateTime.parse(value.isoformat())
+
+    def _parse(text) -> PlainDateTime:
+        parts: Any = PARTS_OF_TEXT.search(text)
+        date = within(Date.parse, text, 0, parts.end("date"))
+        if not parts["separator"]:
+            raise ParseError(len(text), True)
+        return PlainDateTime(date, within(Time.parse, text, parts.start("time")))
+
+class OffsetDateTime(_DateTime):
     """OffsetDateTime(date, time, offset): a date and a time of day at an offset from UTC.
 
     Values compare and hash by instant, regardless of offset. + and - with a SignedDuration or a
     timedelta keep the offset.
     """
-    UNIX_EPOCH: ClassVar[OffsetDateTime]
-    def __new__(cls, date: Date, time: Time, offset: UtcOffset) -> OffsetDateTime: ...
+    UNIX_EPOCH: ClassVar[OffsetDateTime] = OffsetDateTime(Date(1970, 1, 1), Time(), UtcOffset())
+    def __new__(cls, date, time, offset) -> OffsetDateTime: ...
     offset: UtcOffset = "The offset from UTC."
-    def new_in_offset(date: Date, time: Time, offset: UtcOffset) -> OffsetDateTime:
+    def new_in_offset(date, time, offset) -> OffsetDateTime:
         "Creates the date-time of a date, a time of day and an offset."
-    def new_utc(date: Date, time: Time) -> OffsetDateTime:
+    def new_utc(date, time) -> OffsetDateTime:
         "Creates the date-time of a date and a time of day at UTC."
-    def {parse,fromisoformat}(text: str) -> OffsetDateTime:
+    def {parse,fromisoformat}(text) -> OffsetDateTime:
         """Parses a date-time and an offset, such as 2024-02-29T23:59:59.25+01:00; a space may come
         before the offset."""
-    def from_unix_{timestamp,duration}({seconds: Int,duration: SignedDuration}) -> OffsetDateTime:
+    def from_unix_{timestamp,duration}({seconds,duration}) -> OffsetDateTime:
         "Creates the date-time at UTC of a Unix time{ in seconds,}."
-    def {to,checked_to}_offset(self, offset: UtcOffset) -> OffsetDateTime{, | None}:
+    def {to,checked_to}_offset(self, offset) -> OffsetDateTime{, | None}:
         "Returns the same instant at another offset, or {raises OverflowError,None out of range}."
     def {to,checked_to}_utc(self) -> OffsetDateTime{, | None}:
         "Returns the same instant at UTC, or {raises OverflowError,None out of range}."
-    def replace_offset(self, offset: UtcOffset) -> OffsetDateTime:
+    def replace_offset(self, offset) -> OffsetDateTime:
         "Returns the same date and time at another offset, which is another instant."
     def replace_date_time(self, date_time: PlainDateTime) -> OffsetDateTime:
         "Returns another date and time at the same offset."
     def local(self) -> PlainDateTime: "Returns the date and time without the offset."
     def unix_timestamp(self) -> int: "Returns the Unix time in whole seconds, rounded down."
     def unix_duration(self) -> SignedDuration: "Returns the Unix time as a duration."
+    def unix_timestamp_nanos(self) -> int:
+        "Returns the Unix time in nanoseconds, as an int of any size."
+        return self.unix_duration().whole_nanoseconds()
+    def in_zone(self, zone: Zone) -> OffsetDateTime:
+        "Returns the same instant in a time zone, or raises `OverflowError`."
+        return check(zone, Zone).in_zone(self)
+
+    def from_datetime(value: datetime.datetime) -> OffsetDateTime:
+        "Converts a `datetime.datetime` with an offset of whole seconds, or raises `ValueError`."
+        delta = check(value, datetime.datetime).utcoffset()
+        if delta is None:
+            raise ValueError("expected a datetime.datetime with a UTC offset")
+        offset = UtcOffset.from_timezone(datetime.timezone(delta))
+        return PlainDateTime.from_datetime(value.replace(tzinfo=None)).assume_offset(offset)
+
+    def from_unix_timestamp_nanos(timestamp) -> OffsetDateTime:
+        "Creates the date-time at UTC of Unix nanoseconds, or raises ComponentRange as timestamp."
+        seconds, rest = divmod(operator.index(timestamp), 10**9)
+        seconds = max(-2**62, min(seconds, 2**62))
+        return OffsetDateTime.from_unix_duration(SignedDuration.new(seconds, rest))
+
+    def _parse(text) -> OffsetDateTime:
+        parts: Any = PARTS_OF_TEXT.search(text)
+        local = within(PlainDateTime.parse, text, 0, parts.end("time"))
+        return local.assume_offset(within(UtcOffset.parse, text, parts.start("offset")))
 
 class Workdays:
     def __new__(cls, weekmask: int, holidays: bytes) -> Self: ...
-    @property
-    def _weekmask(self) -> int: ...
-    @property
-    def _holidays(self) -> list[Date]: ...
-    def is_workday(self, date: Date) -> bool: "Returns whether the day is a working day."
-    def {next,previous}_workday(self, date: Date) -> Date | None:
+    _weekmask: int = "A bit for each working weekday, from Monday."
+    _holidays: list[Date] = "The holidays, in order."
+    def is_workday(self, date) -> bool: "Returns whether the day is a working day."
+    def {next,previous}_workday(self, date) -> Date | None:
         "Returns the {first,last} working day {after,before} the day, or None out of range."
-    def add_workdays(self, date: Date, days: Int) -> Date:
+    def add_workdays(self, date, days) -> Date:
         "Returns the n-th working day after the day, or before it; for 0 the first from the day on."
-    def checked_add_workdays(self, date: Date, days: Int) -> Date | None:
+    def checked_add_workdays(self, date, days) -> Date | None:
         "Returns the same, or None out of range."
     def workdays_between(self, start: Date, end: Date) -> int:
         """Returns the number of working days from the earlier day on, without the later; negative
         if the other day is earlier."""
-    def adjust(self, date: Date, convention: Convention) -> Date | None:
+    def adjust(self, date, convention: Convention) -> Date | None:
         "Returns the working day that the day moves to by a Convention, or None out of range."

@@ -22,35 +22,26 @@ Values are immutable. They compare and hash by their number, date-times at an of
 
 from datetime import timedelta
 
-from . import _core
-from ._core import Date, OffsetDateTime, PlainDateTime, SignedDuration, Time, UtcOffset, add_to_pair
-from ._core import days_in_month, days_in_year, days_in_year_month, is_leap_year, parse_rfc3339
-from ._core import parse_unix, rfc3339_text, sub_from_pair, unix_duration, unix_pair, unix_text
-from ._core import weeks_in_year
-from .enums import Convention, DayCount, Frequency, Month, Period, Weekday, YearFraction
+from . import _core, choices as _choices
+from .enums import Month, Period, Weekday, YearFraction
 from .errors import ComponentRange, ContradictionError, FormatError, ParseError, ParseRuleError
 from .errors import ParseRuleErrorKind, ZoneError, status_error
 
-_core.setup(timedelta, _core.is_delta(timedelta(-1, 2, 3)), Weekday, Convention, DayCount, Period,
-    YearFraction, status_error, *Month, *Weekday)
+_core.setup(timedelta, _core.is_delta(timedelta(-1, 2, 3)), Weekday, _choices.Convention,
+    _choices.DayCount, Period, YearFraction, status_error, *Month, *Weekday)
 
-from . import conversions as _conversions
-from . import calls as _calls
+from . import calls as _calls, members as _members
 from .calls import *
 from .formats import Format
 from .schedules import Days, Recurrence, Rule, Workdays
-from .zones import Local, LocalKind, Policy, Zone
+from .zones import Local, Zone
 
 __version__ = "0.1.0"
 
 __all__ = [
-    "ComponentRange", "ContradictionError", "Convention", "Date", "DayCount", "Days", "Format",
-    "FormatError", "Frequency", "Local", "LocalKind", "Month", "OffsetDateTime", "ParseError",
-    "ParseRuleError", "ParseRuleErrorKind", "Period", "PlainDateTime", "Policy", "Recurrence",
-    "Rule", "SignedDuration", "Time", "UtcOffset", "Weekday", "Workdays", "YearFraction", "Zone",
-    "ZoneError", "add_to_pair", "days_in_month", "days_in_year", "days_in_year_month",
-    "is_leap_year", "parse_rfc3339", "parse_unix", "rfc3339_text", "status_error", "sub_from_pair",
-    "unix_duration", "unix_pair", "unix_text", "weeks_in_year",
+    "ComponentRange", "ContradictionError", "Days", "Format", "FormatError", "Local", "Month",
+    "ParseError", "ParseRuleError", "ParseRuleErrorKind", "Period", "Recurrence", "Rule", "Weekday",
+    "Workdays", "YearFraction", "Zone", "ZoneError", "status_error",
 ]
 __all__ += _calls.__all__
 

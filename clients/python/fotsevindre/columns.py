@@ -1,23 +1,17 @@
 """Calls over whole columns: buffers of integers, arrays of numpy, series of pandas, and lists."""
 
-from __future__ import annotations
-
 import array
 import sys
 from typing import Any, Callable, TypeVar
 
 from . import _core
 from ._core import Date
-from .schedules import Workdays
+from .schedules import Workdays, range_of
 
+_R = TypeVar("_R")
 _WORDS = {"D": "days", "s": "seconds"}
 # The units of datetime64 in columns with these names.
 _UNITS = {"dates": "D", "others": "D", "seconds": "s", "readings": "s"}
-_LIMITS = {"B": (0, 2**8 - 1), "H": (0, 2**16 - 1), "i": (-2**31, 2**31 - 1),
-    "q": (-2**63, 2**63 - 1), "Q": (0, 2**64 - 1)}
-
-
-# ---- columns in
 
 
 def _whole(values: Any, unit: str) -> Any:
@@ -40,7 +34,7 @@ def _of_array(values: Any, code: str, unit: str) -> Any:
         values = _whole(values, "D")
     elif letter not in "iu":
         raise TypeError(f"expected a column of integers, not {values.dtype}")
-    low, high = _LIMITS[code]
+    low, high = range_of(code)[0], range_of(code)[-1]
     if values.dtype != code and ((values < low) | (values > high)).any():
         raise OverflowError(f"a number in a column is out of range; expected {low} to {high}")
     return values.astype(code, order="C", copy=False)
@@ -80,9 +74,6 @@ def _is_scalar(values: Any) -> bool:
     return is_number or isinstance(values, Date)
 
 
-# ---- columns out
-
-
 class _Like:
     """What the columns of a result are like: those that were given."""
 
@@ -113,11 +104,6 @@ class _Like:
         if self.masks:
             found = self.numpy.ma.MaskedArray(found, self.numpy.logical_or.reduce(self.masks))
         return found if self.series is None else type(self.series)(found, index=self.series.index)
-
-
-# ---- calls
-
-_R = TypeVar("_R")
 
 
 def call(kind: Callable[..., _R], name: str, reads: str, writes: str,

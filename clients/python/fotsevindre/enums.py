@@ -1,6 +1,4 @@
-"""Months, weekdays, and what schedules are counted by."""
-
-from __future__ import annotations
+"""Months, weekdays, and what other enums and results are made of."""
 
 import enum
 from typing import NamedTuple, SupportsIndex, TypeVar
@@ -111,21 +109,3 @@ class Choice(enum.IntEnum):
 
     def __format__(self, specification: str) -> str:
         return format(str(self), specification)
-
-
-class DayCount(Choice):
-    """How the days of interest are counted, by the names of the 2006 ISDA Definitions."""
-
-    Actual360, Actual365Fixed, Thirty360, ThirtyE360, ActualActual = range(1, 6)
-
-
-class Convention(Choice):
-    """How a day moves to a working day, with the names of the ISDA Definitions."""
-
-    Unadjusted, Following, ModifiedFollowing, Preceding, ModifiedPreceding = range(5)
-
-
-class Frequency(Choice):
-    """The unit of the interval of a rule."""
-
-    Daily, Weekly, Monthly, Yearly = range(1, 5)

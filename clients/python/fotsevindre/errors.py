@@ -1,11 +1,11 @@
 """The exceptions, and which status of a call raises which."""
 
-from __future__ import annotations
-
 import dataclasses
+import datetime
 import enum
 from typing import Any
 
+from ._core import Date, OffsetDateTime, PlainDateTime
 from .messages import MESSAGES, NAMES, PARTS
 
 # C counts weekdays from 1.
@@ -108,8 +108,16 @@ class ZoneError(ValueError):
 def check(value: Any, kind: type) -> Any:
     """Returns the value, or raises `TypeError` if it has another type."""
     if not isinstance(value, kind):
-        raise TypeError(f"expected {kind.__name__}, not {type(value).__name__}")
+        way = "use its date()" if hasattr(value, "date") else "convert it with Date.from_date"
+        hint = f"; {way}" if kind is Date and is_like_date(value) else ""
+        raise TypeError(f"expected {kind.__name__}, not {type(value).__name__}{hint}")
     return value
+
+
+def is_like_date(value: object) -> bool:
+    """Returns whether a value is a date of another library or a date-time."""
+    dates = (datetime.date, PlainDateTime, OffsetDateTime)
+    return isinstance(value, dates) or hasattr(value, "dtype")
 
 
 def status_error(status: int, position: int | None = None, part: int = 0) -> Exception | None:

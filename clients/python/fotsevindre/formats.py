@@ -2,14 +2,13 @@
 
 from __future__ import annotations
 
-from typing import TYPE_CHECKING, Any
+import dataclasses
+from typing import Any
 
 from . import _core
 
-if TYPE_CHECKING:
-    from typing_extensions import Self
 
-
+@dataclasses.dataclass(frozen=True, init=False, repr=False)
 class Format:
     """Format(text): a format in the syntax of `strftime`, such as "%d/%m/%Y".
 
@@ -17,31 +16,23 @@ class Format:
     isn't a format raises `FormatError`.
     """
 
-    __slots__ = ("_items", "_is_description", "_text")
+    _items: bytes
+    _text: str = dataclasses.field(compare=False)
+    _is_description: bool = dataclasses.field(compare=False)
 
     def __init__(self, text: str) -> None:
         self._set(text, False)
 
-    def _set(self, text: str, is_description: bool) -> None:
-        self._items = _core.format_new(text, is_description)
-        self._text = text
-        self._is_description = is_description
+    def _set(self, text: str, is_description: bool) -> Format:
+        items = _core.format_new(text, is_description)
+        vars(self).update(_items=items, _text=text, _is_description=is_description)
+        return self
 
     @classmethod
-    def from_description(cls, text: str) -> Self:
+    def from_description(cls, text: str) -> Format:
         """Creates a format in the syntax of the Rust crate `time`, such as
         "[day]/[month]/[year]"."""
-        format = cls.__new__(cls)
-        format._set(text, True)
-        return format
-
-    def __eq__(self, other: object) -> bool:
-        if not isinstance(other, Format):
-            return NotImplemented
-        return self._items == other._items
-
-    def __hash__(self) -> int:
-        return hash(self._items)
+        return cls.__new__(cls)._set(text, True)
 
     def __repr__(self) -> str:
         return f"Format{'.from_description' * self._is_description}({self._text!r})"

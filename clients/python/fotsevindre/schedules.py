@@ -4,24 +4,27 @@ from __future__ import annotations
 
 import array
 import dataclasses
-import datetime
+import functools
 import itertools
 import operator
-from typing import Any, Iterable, Iterator, Sequence, SupportsIndex, overload
+from collections.abc import Callable, Iterable, Iterator, Sequence
+from typing import Any, SupportsIndex, TypeGuard, overload
 
 from . import _core
-from ._core import Date, OffsetDateTime, PlainDateTime
-from .enums import Frequency, Month, Weekday
-from .errors import check
+from ._core import Date
+from .choices import Frequency
+from .enums import Month, Weekday
+from .errors import check, is_like_date
+
+# The lists of a rule, and their numbers in C as the module array has them.
+_LISTS = {"months": "B", "weeks": "b", "year_days": "h", "month_days": "b", "weekdays": "b",
+    "set_positions": "h"}
 
 
-def _refuse_datetime(value: object) -> None:
-    """Raises `TypeError` for a date of another library and a date-time, of which `in` would be
-    false without a word."""
-    dates = (datetime.date, PlainDateTime, OffsetDateTime)
-    if isinstance(value, dates) or hasattr(value, "dtype"):
-        way = "use its date()" if hasattr(value, "date") else "convert it with Date.from_date"
-        raise TypeError(f"expected Date, not {type(value).__name__}; {way}")
+def _is_date(value: object) -> TypeGuard[Date]:
+    """Returns whether a value is a `Date`, or raises `TypeError` for a date of another library or a
+    date-time, of which `in` would be false without a word."""
+    return isinstance(check(value, Date) if is_like_date(value) else value, Date)
 
 
 @dataclasses.dataclass(frozen=True, repr=False, slots=True)
@@ -54,8 +57,7 @@ class Days(Sequence[Date]):
         return map(Date.from_julian_day, self._julian_days)
 
     def __contains__(self, date: object) -> bool:
-        _refuse_datetime(date)
-        return isinstance(date, Date) and date.to_julian_day() in self._julian_days
+        return _is_date(date) and date.to_julian_day() in self._julian_days
 
     def __repr__(self) -> str:
         return f"{self[0]} to {self[-1]}" if len(self) else "no days"
@@ -105,34 +107,28 @@ class Workdays(_core.Workdays):
         return Workdays, (self.weekdays, self.holidays)
 
 
-def _fit(number: SupportsIndex, minimum: int, maximum: int) -> int:
-    number = operator.index(number)
-    if not minimum <= number <= maximum:
-        raise OverflowError(f"{number} is out of range; expected {minimum} to {maximum}")
+@functools.cache
+def range_of(code: str) -> range:
+    """Returns the numbers that the module array has room for by a code."""
+    count = 256**array.array(code).itemsize
+    return range(-count // 2, count // 2) if code.islower() else range(count)
+
+
+def _fit(number: SupportsIndex, code: str) -> int:
+    number, allowed = operator.index(number), range_of(code)
+    if number not in allowed:
+        raise OverflowError(f"{number} is out of range; expected {allowed[0]} to {allowed[-1]}")
     return number
 
 
-def _numbers(code: str, values: Iterable[SupportsIndex]) -> bytes:
-    """Returns numbers of 8 bits, `b`, or 16, `h`, as C has them."""
-    most = 127 if code == "b" else 32767
-    return array.array(code, [_fit(value, -most - 1, most) for value in values]).tobytes()
-
-
-def _listed(values: object) -> Iterable[Any]:
-    """Returns the values, or the only one."""
-    return values if isinstance(values, Iterable) else (values,)
-
-
-def _rule_weekday(weekday: Weekday | tuple[int, Weekday]) -> bytes:
+def _numbers_of(weekday: Any) -> tuple[int, int]:
     """Returns a weekday of a rule, as C has it: its number, 0 for every one, and the number of the
     weekday from 1."""
-    number = 0
-    if not isinstance(weekday, Weekday):
-        number, weekday = weekday
-        if operator.index(number) == 0:
-            raise ValueError("invalid number 0 of a weekday; "
-                "use the Weekday without a number for every one")
-    return bytes((_fit(number, -128, 127) % 256, check(weekday, Weekday) + 1))
+    number, day = (None, weekday) if isinstance(weekday, int) else weekday
+    if number is not None and operator.index(number) == 0:
+        raise ValueError("invalid number 0 of a weekday; "
+            "use the Weekday without a number for every one")
+    return number or 0, check(day, Weekday) + 1
 
 
 @dataclasses.dataclass(frozen=True)
@@ -165,23 +161,29 @@ class Rule:
     set_positions: Sequence[int] = ()
 
     def __post_init__(self) -> None:
-        for name in (
-            "months", "weeks", "year_days", "month_days", "weekdays", "set_positions"):
-            object.__setattr__(self, name, tuple(getattr(self, name)))
-        parts = (
+        for name in _LISTS:
+            values = getattr(self, name)
+            if not hasattr(values, "__iter__"):
+                raise TypeError(f"expected a list, such as {name}=[{values!r}], not {values!r}")
+            vars(self)[name] = tuple(values)
+        _core.rule_contains(self._parts, self.start)
+
+    @functools.cached_property
+    def _parts(self) -> tuple[Any, ...]:
+        """The tuple that to_rule in C takes."""
+        lists = {
+            **vars(self), "months": [min(max(0, operator.index(one)), 255) for one in self.months],
+            "weekdays": [one for weekday in self.weekdays for one in _numbers_of(weekday)]}
+        return (
             check(self.start, Date), Date.MAX if self.until is None else check(self.until, Date),
-            int(check(self.frequency, Frequency)), _fit(self.interval, 0, 2**32 - 1),
+            int(check(self.frequency, Frequency)), _fit(self.interval, "I"),
             check(self.week_start, Weekday),
-            bytes(one if 0 <= one <= 255 else 255 for one in map(operator.index, self.months)),
-            _numbers("b", self.weeks), _numbers("h", self.year_days),
-            _numbers("b", self.month_days), b"".join(map(_rule_weekday, self.weekdays)),
-            _numbers("h", self.set_positions))
-        object.__setattr__(self, "_parts", parts)
-        _core.rule_contains(parts, self.start)
+            *(array.array(code, [_fit(one, code) for one in lists[name]]).tobytes()
+                if lists[name] else b"" for name, code in _LISTS.items()))
 
     def next_after(self, date: Date) -> Date | None:
         """Returns the first day of the rule after the day, or `None` if no more follow."""
-        return _core.rule_next_after(getattr(self, "_parts"), date)
+        return _core.rule_next_after(self._parts, date)
 
     def days_after(self, date: Date) -> Iterator[Date]:
         """Iterates over the days of the rule after the day, in order."""
@@ -192,17 +194,16 @@ class Rule:
         return list(itertools.islice(self, operator.index(count)))
 
     def __iter__(self) -> Iterator[Date]:
-        first = _core.rule_first(getattr(self, "_parts"))
-        return iter(()) if first is None else itertools.chain((first,), self._walk(first))
+        first = (self.start,) if self.start in self else ()
+        return itertools.chain(first, self._walk(self.start))
 
     def __contains__(self, date: object) -> bool:
-        _refuse_datetime(date)
-        return isinstance(date, Date) and _core.rule_contains(getattr(self, "_parts"), date)
+        return _is_date(date) and _core.rule_contains(self._parts, date)
 
     def _walk(self, date: Date) -> Iterator[Date]:
         days = [date] * 64
         while len(days) == 64:
-            days = _core.rule_days_after(getattr(self, "_parts"), days[-1])
+            days = _core.rule_days_after(self._parts, days[-1])
             yield from days
 
 
@@ -226,6 +227,8 @@ class Recurrence:
     frequency: Frequency = dataclasses.field(init=False, repr=False, compare=False)
     interval: int = dataclasses.field(init=False, repr=False, compare=False)
     week_start: Weekday = dataclasses.field(init=False, repr=False, compare=False)
+    until: Date | None = dataclasses.field(init=False, repr=False, compare=False)
+    count: int | None = dataclasses.field(init=False, repr=False, compare=False)
     months: tuple[Month, ...] = dataclasses.field(init=False, repr=False, compare=False)
     weeks: tuple[int, ...] = dataclasses.field(init=False, repr=False, compare=False)
     year_days: tuple[int, ...] = dataclasses.field(init=False, repr=False, compare=False)
@@ -233,22 +236,18 @@ class Recurrence:
     weekdays: tuple[Weekday | tuple[int, Weekday], ...] = dataclasses.field(
         init=False, repr=False, compare=False)
     set_positions: tuple[int, ...] = dataclasses.field(init=False, repr=False, compare=False)
-    until: Date | None = dataclasses.field(init=False, repr=False, compare=False)
-    count: int | None = dataclasses.field(init=False, repr=False, compare=False)
 
     def __post_init__(self) -> None:
-        (frequency, interval, week_start, until, count, months, weeks, year_days, month_days,
-            weekdays, set_positions) = _core.recurrence_parse(self.text)
-        numbers = array.array("b", weekdays[::2])
-        pairs = zip(numbers, (Weekday(weekday - 1) for weekday in weekdays[1::2]))
-        values = (
-            _core.recurrence_text(self.text), Frequency(frequency), interval, week_start,
-            tuple(map(Month, months)), tuple(array.array("b", weeks)),
-            tuple(array.array("h", year_days)), tuple(array.array("b", month_days)),
-            tuple((number, weekday) if number else weekday for number, weekday in pairs),
-            tuple(array.array("h", set_positions)), until, count or None)
-        for field, value in zip(dataclasses.fields(self), values):
-            object.__setattr__(self, field.name, value)
+        _, *names = self.__dataclass_fields__
+        parts = dict(zip(names, _core.recurrence_parse(self.text)))
+        lists = {name: array.array(code, parts[name]) for name, code in _LISTS.items()}
+        numbers = iter(lists["weekdays"])
+        vars(self).update(parts, **{name: tuple(values) for name, values in lists.items()})
+        vars(self).update(
+            text=_core.recurrence_text(self.text), frequency=Frequency(self.frequency),
+            count=self.count or None, months=tuple(map(Month, self.months)),
+            weekdays=tuple((number, Weekday(day - 1)) if number else Weekday(day - 1)
+                for number, day in zip(numbers, numbers)))
 
     def __str__(self) -> str:
         return self.text
@@ -279,27 +278,28 @@ class Recurrence:
         >>> print(Recurrence.from_parts(Frequency.Monthly, byweekday=workdays, bysetpos=-1))
         FREQ=MONTHLY;BYDAY=MO,TU,WE,TH,FR;BYSETPOS=-1
         """
-        def listed(values: int | Iterable[int]) -> str:
-            return ",".join(f"{operator.index(value)}" for value in _listed(values))
+        def listed(values: Any, text_of: Callable[[Any], object] = operator.index) -> str:
+            values = values if isinstance(values, Iterable) else (values,)
+            return ",".join(f"{text_of(value)}" for value in values)
 
-        weekdays = [one if isinstance(one, tuple) else ("", one) for one in _listed(byweekday)]
+        def weekday_text(weekday: Any) -> str:
+            number, day = weekday if isinstance(weekday, tuple) else ("", weekday)
+            return f"{number}{check(day, Weekday).name[:2].upper()}"
+
         parts = {
             "FREQ": check(frequency, Frequency).name.upper(), "INTERVAL": operator.index(interval),
             "COUNT": "" if count is None else operator.index(count),
             "UNTIL": "" if until is None else str(check(until, Date)).replace("-", ""),
             "BYMONTH": listed(bymonth), "BYWEEKNO": listed(byweekno),
             "BYYEARDAY": listed(byyearday), "BYMONTHDAY": listed(bymonthday),
-            "BYDAY": ",".join(
-                f"{number}{check(day, Weekday).name[:2].upper()}" for number, day in weekdays),
-            "BYSETPOS": listed(bysetpos),
-            "WKST": check(wkst, Weekday).name[:2].upper()}
+            "BYDAY": listed(byweekday, weekday_text), "BYSETPOS": listed(bysetpos),
+            "WKST": weekday_text(check(wkst, Weekday))}
         return cls(";".join(f"{name}={value}" for name, value in parts.items() if value != ""))
 
     def rule(self, start: Date) -> Rule:
         """Returns the rule from a start, without the number of times."""
-        return Rule(start, self.frequency, self.interval, self.week_start, self.months,
-            self.month_days, self.weekdays, self.until, self.weeks, self.year_days,
-            self.set_positions)
+        parts = {name: part for name, part in vars(self).items() if name not in ("text", "count")}
+        return Rule(start, **parts)
 
     def days(self, start: Date) -> Iterator[Date]:
         """Iterates over the days from a start to the end."""

@@ -2,6 +2,7 @@
 
 from __future__ import annotations
 
+import contextlib
 import dataclasses
 import importlib.resources
 import operator
@@ -12,31 +13,8 @@ from typing import Any, SupportsIndex
 from . import _core
 from ._core import OffsetDateTime, PlainDateTime, UtcOffset
 from .calls import InstantColumns, OffsetColumns, _zone_instants, _zone_offsets
-from .conversions import _adds_to
-from .enums import Choice
+from .choices import LocalKind, Policy
 from .errors import ParseError, ZoneError, check
-
-# The folder of the system's zones, if TZDIR names no other.
-_SYSTEM = "/usr/share/zoneinfo"
-
-
-class LocalKind(Choice):
-    """How often the clocks of a zone show a reading: once, never or twice."""
-
-    Single = 1
-    Gap = 2
-    Fold = 3
-
-
-class Policy(Choice):
-    """What a reading in a gap or a fold means. In a gap, `Compatible` and `Later` move it forward
-    by the length of the gap, and `Earlier` back. In a fold, `Compatible` and `Earlier` mean the
-    first. `Reject` means neither."""
-
-    Compatible = 0
-    Earlier = 1
-    Later = 2
-    Reject = 3
 
 
 @dataclasses.dataclass(frozen=True)
@@ -60,15 +38,16 @@ class Local:
 
     def earlier(self) -> OffsetDateTime:
         """Returns the first date-time, in a gap the reading moved back by its length."""
-        if self.kind is LocalKind.Gap:
-            return self.reading.assume_offset(self.offset_after).to_offset(self.offset_before)
-        return self.reading.assume_offset(self.offset_before)
+        return self._moved(self.offset_before, self.offset_after)
 
     def later(self) -> OffsetDateTime:
         """Returns the second date-time, in a gap the reading moved forward by its length."""
-        if self.kind is LocalKind.Gap:
-            return self.reading.assume_offset(self.offset_before).to_offset(self.offset_after)
-        return self.reading.assume_offset(self.offset_after)
+        return self._moved(self.offset_after, self.offset_before)
+
+    def _moved(self, offset: UtcOffset, other: UtcOffset) -> OffsetDateTime:
+        """Returns the reading at an offset, in a gap the same instant as at the other offset."""
+        is_gap = self.kind is LocalKind.Gap
+        return self.reading.assume_offset(other if is_gap else offset).to_offset(offset)
 
     def reject(self) -> OffsetDateTime | None:
         """Returns the date-time if clocks show the reading once, else `None`."""
@@ -87,23 +66,22 @@ def _file_of(key: str) -> bytes:
     parts = pathlib.PurePosixPath(key).parts
     if not key or any(part in ("..", "/") for part in parts):
         raise LookupError(f"invalid name of a time zone: {key!r}")
+    with contextlib.suppress(ImportError, OSError):
+        return importlib.resources.files("tzdata.zoneinfo").joinpath(*parts).read_bytes()
     try:
-        found = importlib.resources.files("tzdata.zoneinfo").joinpath(*parts)
-        return found.read_bytes()
-    except (ImportError, OSError):
-        pass
-    try:
-        return pathlib.Path(os.environ.get("TZDIR", _SYSTEM), *parts).read_bytes()
+        return pathlib.Path(os.environ.get("TZDIR", "/usr/share/zoneinfo"), *parts).read_bytes()
     except OSError:
         raise LookupError(f"no time zone {key!r}") from None
 
 
+@dataclasses.dataclass(frozen=True, init=False, repr=False)
 class Zone:
     """Zone(key): a time zone of the IANA database, such as `Europe/Berlin`.
 
     Its file is that of the package `tzdata`, if it is installed, else that of the folder in the
     environment variable TZDIR or of /usr/share/zoneinfo. `LookupError` if there is none, and
-    `ZoneError` if it isn't a valid one. An instant is an `OffsetDateTime` or Unix seconds.
+    `ZoneError` if it isn't a valid one. An instant is an `OffsetDateTime` or Unix seconds. `key` is
+    the name of the zone, or its POSIX text.
 
     >>> berlin = Zone.from_posix("CET-1CEST,M3.5.0,M10.5.0/3")
     >>> OffsetDateTime.from_unix_timestamp(1711846800).in_zone(berlin)
@@ -112,38 +90,31 @@ class Zone:
     2024-03-31 3:30:00.0 +02:00:00
     """
 
-    __slots__ = ("_key", "_is_posix", "_zone")
+    key: str
+    _zone: tuple[bytes, bytes]
+    _is_posix: bool
 
     def __init__(self, key: str) -> None:
         self._set(check(key, str), _file_of(key), False)
 
-    def _set(self, key: str, data: bytes, is_posix: bool) -> None:
-        self._key = key
-        self._is_posix = is_posix
+    def _set(self, key: str, data: bytes, is_posix: bool) -> Zone:
         try:
             # The bytes, and what the library found in them.
-            self._zone = (data, _core.zone_parts(data, is_posix))
+            zone = (data, _core.zone_parts(data, is_posix))
         except ParseError as error:
             raise ZoneError(error.position, "unexpected end") from None
+        vars(self).update(key=key, _zone=zone, _is_posix=is_posix)
+        return self
 
     @classmethod
     def from_file(cls, data: bytes, key: str = "") -> Zone:
         """Creates the zone of the bytes of a TZif file, or raises `ZoneError`."""
-        zone = cls.__new__(cls)
-        zone._set(key, bytes(data), False)
-        return zone
+        return cls.__new__(cls)._set(key, bytes(data), False)
 
     @classmethod
     def from_posix(cls, text: str) -> Zone:
         """Creates the zone of a POSIX text, such as CET-1CEST,M3.5.0,M10.5.0/3."""
-        zone = cls.__new__(cls)
-        zone._set(text, text.encode("utf-8", "surrogatepass"), True)
-        return zone
-
-    @property
-    def key(self) -> str:
-        """The name of the zone, or its POSIX text."""
-        return self._key
+        return cls.__new__(cls)._set(text, text.encode("utf-8", "surrogatepass"), True)
 
     def offset_at(self, moment: OffsetDateTime | SupportsIndex) -> UtcOffset:
         """Returns the offset at an instant."""
@@ -188,33 +159,13 @@ class Zone:
         1970-01-01 0:00, or `datetime64`, by a policy."""
         return _zone_instants(readings, (*self._zone, int(check(policy, Policy))))
 
-    def __eq__(self, other: object) -> bool:
-        if not isinstance(other, Zone):
-            return NotImplemented
-        return (self._key, self._zone[0]) == (other._key, other._zone[0])
-
-    def __hash__(self) -> int:
-        return hash((self._key, self._zone[0]))
-
     def __str__(self) -> str:
-        return self._key
+        return self.key
 
     def __repr__(self) -> str:
-        return f"Zone({self._key!r})"
+        return f"Zone({self.key!r})"
 
     def __reduce__(self) -> tuple[Any, ...]:
-        return _zone, (type(self), self._key, self._zone[0], self._is_posix)
-
-
-def _zone(kind: type[Zone], key: str, data: bytes, is_posix: bool) -> Zone:
-    """Returns a pickled zone."""
-    zone = kind.__new__(kind)
-    zone._set(key, data, is_posix)
-    return zone
-
-
-@_adds_to(OffsetDateTime)
-class _ZoneMembers:
-    def in_zone(self: Any, zone: Zone) -> OffsetDateTime:
-        """Returns the same instant in a time zone, or raises `OverflowError`."""
-        return Zone.in_zone(check(zone, Zone), self)
+        if self._is_posix:
+            return type(self).from_posix, (self.key,)
+        return type(self).from_file, (self._zone[0], self.key)
