@@ -69,7 +69,7 @@ join_record c quoted (x ∷ xs) =
     ∙ ap (λ b. b ∷ xs) (sym (eqb-true x c (both_true (eqb x c) (not quoted) e))))
     (join_onto c x (split_record c after xs) (record_some c after xs) ∙ ap (λ l. x ∷ l) (join_record c after xs))
 
-some_fields : (field : Field) (text : List ℕ) → 0 < length (fields_of field text)
+pub some_fields : (field : Field) (text : List ℕ) → 0 < length (fields_of field text)
 some_fields field text =
     some_either field.csv (split_record field.separator false text) (slice_split (λ b. eqb b field.separator) text)
     (record_some field.separator false text) (omega (arith, length-slice_split (λ b. eqb b field.separator) text))

@@ -34,3 +34,6 @@ mod ZoneResults
 mod SomeZones
 mod OneMoment
 mod ReadWith
+pub mod Rounds
+pub mod HeaderNames
+pub mod Named

@@ -8,6 +8,7 @@ pub mod Ending
 pub mod Fields
 pub mod Forms
 pub mod Found
+pub mod Header
 pub mod Lines
 pub mod Lists
 pub mod Meanings

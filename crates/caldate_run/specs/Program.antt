@@ -6,7 +6,8 @@ use Rattle.caldate_run.specs.Meanings.{AreMeanings, Meanings}
 use Rattle.caldate_run.specs.Requests.{arguments_of, parse_args}
 use Rattle.caldate_run.specs.Zones.{AreZones}
 use Rattle.caldate_run.specs.declared.request.Command.{Command}
-use Rattle.caldate_run.specs.declared.request.Command.TheVariants.{Once}
+use Rattle.caldate_run.specs.declared.request.Command.TheVariants.{NamedOnce, Once}
+use Rattle.caldate_run.specs.declared.request.Field.{Field}
 use Rattle.caldate_run.specs.declared.request.Filter.{Filter}
 use Rattle.caldate_run.specs.declared.args.usage_error.UsageError.{UsageError}
 use Rattle.caldate_run.specs.declared.zones.ZoneFiles.{ZoneFiles}
@@ -26,6 +27,10 @@ given_text arguments = unwrap_or (slice_get (arguments_of arguments) 1) []
 abbrev pub GivesCommandOnce : Option (Bor (List ℕ)) → ZoneFiles → Filter → List ℕ → Type 0
 GivesCommandOnce None files filter text = ⊥
 GivesCommandOnce (Some arguments) files filter text = GivesCommand (Some arguments) files (Once filter) × (text ≡ given_text arguments.now)
+
+abbrev pub GivesNamedOnce : Option (Bor (List ℕ)) → ZoneFiles → Filter → Field → List ℕ → Type 0
+GivesNamedOnce None files filter field text = ⊥
+GivesNamedOnce (Some arguments) files filter field text = GivesCommand (Some arguments) files (NamedOnce filter field) × (text ≡ given_text arguments.now)
 
 -- The arguments are invalid, and these words say why.
 abbrev pub HasUsageMessage : Option (Bor (List ℕ)) → ZoneFiles → List ℕ → Type 0

@@ -19,7 +19,7 @@ use Rattle.cal_recurrence.specs.Text.{recurrence_of}
 use Rattle.cal_recurrence.specs.declared.recurrence.Recurrence.{Recurrence}
 use Rattle.cal_zone.specs.Timeline.{Timeline}
 use Rattle.caldate_run.specs.Meanings.{Meanings, found_in, is_format, name_of, value_in}
-use Rattle.caldate_run.specs.Offsets.{offset_of}
+use Rattle.caldate_run.specs.Offsets.{is_digit, offset_of}
 use Rattle.caldate_run.specs.Zones.{is_zone_like, zone_of}
 use Rattle.caldate_run.specs.declared.on_invalid.OnInvalid.{OnInvalid}
 use Rattle.caldate_run.specs.declared.on_invalid.OnInvalid.TheVariants as invalid
@@ -55,7 +55,7 @@ use Rattle.caldate_run.specs.declared.request.Request.TheVariants.{To, Print, Ad
 use Rattle.caldate_run.specs.declared.request.Bounds.{Bounds}
 use Rattle.caldate_run.specs.declared.request.Bounds.TheVariants.{FromTo, After, Before}
 use Rattle.caldate_run.specs.declared.request.Command.{Command}
-use Rattle.caldate_run.specs.declared.request.Command.TheVariants.{Help, Version, Lines, Once, Dates, Recurring}
+use Rattle.caldate_run.specs.declared.request.Command.TheVariants.{Help, Version, Lines, Named, Once, NamedOnce, Dates, Recurring}
 use Rattle.caldate_run.specs.declared.args.usage_error.UsageError.{UsageError}
 use Rattle.caldate_run.specs.declared.args.usage_error.Expected.{Expected}
 use Rattle.caldate_run.specs.declared.args.usage_error.Expected.TheVariants as expected
@@ -364,7 +364,7 @@ list_of meanings words =
 
 -- ---- the options before a request, in any order, each at most once
 abbrev pub no_options : Options
-no_options = record { on_invalid = None; fields = None; header = false; csv = false; separator = None; skip = None; readers = []; offset = None; zone = None; policy = None }
+no_options = record { on_invalid = None; fields = None; name = None; header = false; csv = false; separator = None; skip = None; readers = []; offset = None; zone = None; policy = None }
 
 -- `--invalid MODE`
 abbrev pub invalid_of : List ℕ → Option OnInvalid
@@ -395,6 +395,17 @@ abbrev pub field_numbers_of : List ℕ → Option FieldNumbers
 field_numbers_of word =
     option_map_or (λ at. option_and_then (λ n. option_and_then (fields_from n) (field_number_of (drop (at + 1) word))) (field_number_of (take at word)))
     (position (λ b. b == 45) word) (option_map (λ n. record { first = n; joined = 0 }) (field_number_of word))
+
+-- `--field NAME`: a name doesn't begin with a digit, `+` (43) or `-` (45).
+abbrev pub is_name : List ℕ → Bool
+is_name [] = false
+is_name (byte ∷ bytes) = not (is_digit byte) && (not (byte == 43) && not (byte == 45))
+
+-- The field of a name has the number 1 until the header gives it its own.
+abbrev pub with_field : Options → List ℕ → Option Options
+with_field options value =
+    if is_name value then Some (record options { fields = Some (record { first = 1; joined = 0 }); name = Some value }) else
+    option_map (λ numbers. record options { fields = Some numbers }) (field_numbers_of value)
 
 -- `--separator C`: one byte
 abbrev pub byte_of : List ℕ → Option ℕ
@@ -466,7 +477,7 @@ is_option word = is_flag no_options word || is_some (value_of no_options (name_o
 -- The options, with this value for the option that needs it.
 abbrev pub with_value : Meanings → Options → List ℕ → Expected → Option Options
 with_value meanings options value expected.Invalid = option_map (λ mode. record options { on_invalid = Some mode }) (invalid_of value)
-with_value meanings options value expected.FieldNumber = option_map (λ numbers. record options { fields = Some numbers }) (field_numbers_of value)
+with_value meanings options value expected.FieldNumber = with_field options value
 with_value meanings options value expected.Separator = option_map (λ c. record options { separator = Some c }) (byte_of value)
 with_value meanings options value expected.Skip = option_map (λ k. record options { skip = Some k }) (skip_of value)
 with_value meanings options value expected.Reading = option_and_then (with_reader options) (reader_of meanings value)
@@ -548,12 +559,14 @@ conflict_with_zone options =
     None
 
 -- The option that is missing: `--separator` and `--csv` require `--field`, and a form without an
--- offset and `--assume` require each other. A quote separates no fields of a record.
+-- offset and `--assume` require each other. A quote separates no fields of a record. A name of a
+-- field requires `--header`.
 abbrev pub conflict_in : Options → Option Expected
 conflict_in options =
     if is_some options.separator && is_none options.fields then Some expected.Field else
     if options.csv && is_none options.fields then Some expected.CsvField else
     if options.csv && option_map_or (λ c. c == 34) options.separator false then Some expected.CsvSeparator else
+    if is_some options.name && not options.header then Some expected.Header else
     if is_some options.policy && is_none options.zone then Some expected.ZoneOption else
     if is_some options.zone then conflict_with_zone options else
     if any_local options.readers && is_none options.offset then Some expected.Assume else
@@ -582,6 +595,7 @@ filter_of options request = record {
   clock = clock_of options.zone options.policy;
   on_invalid = unwrap_or options.on_invalid (default_mode request options.fields);
   field = field_of options;
+  name = options.name;
   skip = skip_in options;
 }
 
@@ -592,6 +606,16 @@ filter_at meanings words at =
     option_map_or (λ what. Err (usage_error_at front.1 what)) (conflict_in front.0)
     (and_then (request_at meanings words front.1) (λ request. Ok (filter_of front.0 request))))
 
+-- The field that has a name.
+abbrev pub named_field : Filter → Option Field
+named_field filter = if is_some filter.name then filter.field else None
+
+abbrev pub lines_command : Filter → Command
+lines_command filter = option_map_or (λ field. Named filter field) (named_field filter) (Lines filter)
+
+abbrev pub once_command : Filter → Command
+once_command filter = option_map_or (λ field. NamedOnce filter field) (named_field filter) (Once filter)
+
 -- `--date TEXT`, and the options and the request
 abbrev pub some_text : List ℕ → Option (List ℕ)
 some_text word = if bytes_eq word [] then None else Some word
@@ -599,7 +623,7 @@ some_text word = if bytes_eq word [] then None else Some word
 abbrev pub once_of : Meanings → List (List ℕ) → Result Command UsageError
 once_of meanings words =
     and_then (word_as words 1 some_text expected.Target) (λ text.
-    and_then (filter_at meanings words 2) (λ filter. Ok (Once filter)))
+    and_then (filter_at meanings words 2) (λ filter. Ok (once_command filter)))
 
 -- A single empty argument counts as no arguments.
 abbrev pub parse_args : Meanings → List (List ℕ) → Result Command UsageError
@@ -610,4 +634,4 @@ parse_args meanings words =
     if bytes_eq first (codes "--version") then ended words 1 Version else
     if bytes_eq first (codes "list") then list_of meanings words else
     if bytes_eq first (codes "--date") then once_of meanings words else
-    and_then (filter_at meanings words 0) (λ filter. Ok (Lines filter)))
+    and_then (filter_at meanings words 0) (λ filter. Ok (lines_command filter)))

@@ -5,7 +5,7 @@ ghost use Rattle.caldate_run.specs.Offsets.{offset_of};
 ghost use Rattle.caldate_run.specs.Meanings.{AreMeanings, Meanings};
 ghost use Rattle.caldate_run.specs.Zones.{AreZones, is_zone_like, zone_of};
 ghost use Rattle.std.specs.Option.{option_map_or};
-ghost use Rattle.caldate_run.specs.Requests.{amount_at, amount_of, arguments_of, parse_args, clock_of, count_at, default_mode, duration_of, filter_at, filter_of, floor_at, further_request_at, in_unit_at, occurrence_at, once_of, only_at, place_at, request_at, skip_in, start_at, target_at, to_of, unit_at, expected_verb, weekday_of, words_left};
+ghost use Rattle.caldate_run.specs.Requests.{amount_at, amount_of, arguments_of, parse_args, clock_of, count_at, default_mode, duration_of, filter_at, filter_of, floor_at, further_request_at, in_unit_at, occurrence_at, lines_command, named_field, once_command, once_of, only_at, place_at, request_at, skip_in, start_at, target_at, to_of, unit_at, expected_verb, weekday_of, words_left};
 
 pub mod arguments;
 pub(crate) mod bounds;
@@ -31,7 +31,7 @@ use crate::args::usage_error::{Expected, UsageError, usage_error_at};
 use crate::args::words::{cut, ended, ends_at, found_at, keyword_at, only_at, word_as, word_at};
 use crate::on_invalid::OnInvalid;
 use crate::request::{
-    Clock, Command, DayMove, FieldNumbers, Filter, Place, Policy, Request, TimeUnit,
+    Clock, Command, DayMove, Field, FieldNumbers, Filter, Place, Policy, Request, TimeUnit,
 };
 use crate::zones::{ZoneFiles, is_zone_like, zone_of};
 use cal_text::DateOrMoment;
@@ -40,7 +40,7 @@ use cal_zone::Zone;
 
 /// Parses arguments with zero bytes between them, or returns the first invalid or missing word. In
 /// `add 1 fortnight` the word at index 2 is not a unit.
-pub fn parse_args<'a>(words: &[u8], files: &ZoneFiles<'a>) -> Result<Command<'a>, UsageError>
+pub fn parse_args<'a>(words: &'a [u8], files: &ZoneFiles<'a>) -> Result<Command<'a>, UsageError>
     ensures steps { IfOk result HasValidStep }
     ensures value { (meanings : Meanings)
         → AreMeanings meanings (arguments_of words.now)
@@ -59,12 +59,12 @@ pub fn parse_args<'a>(words: &[u8], files: &ZoneFiles<'a>) -> Result<Command<'a>
     } else if first == b"--date".as_slice() {
         once_of(words, files)
     } else {
-        Ok(Command::Lines(filter_at(words, Some(words), 0, files)?))
+        Ok(lines_command(filter_at(words, Some(words), 0, files)?))
     }
 }
 
 /// Parses the text after `--date`, options and a request.
-fn once_of<'a>(words: &[u8], files: &ZoneFiles<'a>) -> Result<Command<'a>, UsageError>
+fn once_of<'a>(words: &'a [u8], files: &ZoneFiles<'a>) -> Result<Command<'a>, UsageError>
     ensures steps { IfOk result HasValidStep }
     ensures value { (meanings : Meanings)
         → AreMeanings meanings (arguments_of words.now)
@@ -77,13 +77,46 @@ fn once_of<'a>(words: &[u8], files: &ZoneFiles<'a>) -> Result<Command<'a>, Usage
     if text == b"".as_slice() {
         return Err(usage_error_at(1, Expected::Target));
     }
-    Ok(Command::Once(filter_at(words, rest, 2, files)?))
+    Ok(once_command(filter_at(words, rest, 2, files)?))
+}
+
+/// Returns the command for the lines of the input.
+fn lines_command<'a>(filter: Filter<'a>) -> Command<'a>
+    ensures steps { HasValidStep result }
+    ensures command { result ≡ lines_command filter.entry }
+{
+    match named_field(&filter) {
+        Some(field) => Command::Named(filter, field),
+        None => Command::Lines(filter),
+    }
+}
+
+/// Returns the command for the text after `--date`.
+fn once_command<'a>(filter: Filter<'a>) -> Command<'a>
+    ensures steps { HasValidStep result }
+    ensures command { result ≡ once_command filter.entry }
+{
+    match named_field(&filter) {
+        Some(field) => Command::NamedOnce(filter, field),
+        None => Command::Once(filter),
+    }
+}
+
+/// Returns the field that has a name.
+fn named_field(filter: &Filter<'_>) -> Option<Field>
+    ensures { result ≡ named_field filter.now }
+{
+    if filter.name.is_some() {
+        filter.field
+    } else {
+        None
+    }
 }
 
 /// Parses options and a request from the word at an index on, where `rest` is.
 fn filter_at<'a>(
     words: &[u8],
-    rest: Option<&[u8]>,
+    rest: Option<&'a [u8]>,
     at: usize,
     files: &ZoneFiles<'a>,
 ) -> Result<Filter<'a>, UsageError>
@@ -111,6 +144,7 @@ fn filter_of<'a>(options: Options<'a>, request: Request<'a>) -> Filter<'a>
         request,
         field: field_of(&options),
         skip: skip_in(&options),
+        name: options.name,
         offset: options.offset.unwrap_or(UtcOffset::UTC),
         readers: readers_in(options.readers),
         clock: clock_of(options.zone, options.policy),

@@ -41,6 +41,7 @@ no answer, or 2 if the arguments are invalid, or the input or the output fails.
   caldate --field N ...           reads the N-th field of each line and replaces it by its
                                   answer; fields end at a tab; --field=N is the same
   caldate --field N-M ...         the same for the fields from N to M, as one text
+  caldate --field NAME ...        with --header: the same for the field that has this name there
   caldate --csv ...               with --field: reads records of RFC 4180, whose fields end at a
                                   comma
   caldate --header ...            writes the first line unchanged, like --skip 1

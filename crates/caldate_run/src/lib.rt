@@ -4,6 +4,8 @@
 
 mod answer;
 pub mod args;
+pub mod field_name;
+mod header;
 pub mod help;
 mod input;
 pub mod laws;

@@ -2,11 +2,13 @@
 ghost use Rattle.std.specs.Prelude.{◌≡◌, ℕ, List, Option, Some, None, Result, Ok, Err};
 ghost use Rattle.caldate_run.specs.Calls.{Reads, Writes, has_read_failure, most_reads, write_failure};
 ghost use Rattle.caldate_run.specs.Ending.{ReportsOutcome};
+ghost use Rattle.caldate_run.specs.Header.{EndsNamed};
 ghost use Rattle.caldate_run.specs.Lists.{Lists};
-ghost use Rattle.caldate_run.specs.Program.{GivesCommand, GivesCommandOnce, HasUsageMessage, given_text};
+ghost use Rattle.caldate_run.specs.Program.{GivesCommand, GivesCommandOnce, GivesNamedOnce, HasUsageMessage, given_text};
 ghost use Rattle.caldate_run.specs.Recurring.{ListsOccurrences};
 ghost use Rattle.caldate_run.specs.Runs.{IsRunResult, WritesPage};
 ghost use Rattle.caldate_run.specs.declared.run.run_error.RunError.{RunError};
+ghost use Rattle.caldate_run.specs.declared.request.Field.{Field};
 ghost use Rattle.caldate_run.specs.declared.request.Filter.{Filter};
 ghost use Rattle.caldate_run.specs.declared.request.Listing.{Listing};
 ghost use Rattle.caldate_run.specs.declared.request.Occurrences.{Occurrences};
@@ -21,6 +23,7 @@ use crate::list::recurring::list_occurrences;
 use crate::output::write_all;
 use crate::request::Command;
 use crate::run::ending::{Ending, end};
+use crate::run::named::run_named;
 use crate::run::run;
 use crate::streams::{Sink, Source};
 use crate::zones::ZoneFiles;
@@ -52,6 +55,27 @@ pub fn perform<R: Source, W: Sink, E: Sink>(
         × IsRunResult filter outcome (Some text) rest (W.contents writer.old) (W.contents writer.new)
         × Writes W.write_gives writer.old (write_failure outcome) writer.new
         × ReportsOutcome outcome result (E.contents errors.old) (E.contents errors.new)) }
+    ensures named { (filter : Filter) (field : Field)
+        → GivesCommand arguments.entry files.now (Command.Named filter field)
+        → EndsNamed filter field (R.remaining reader.old)
+        (λ own outcome. IsRunResult own outcome (R.remaining reader.old) (R.remaining reader.new)
+        (W.contents writer.old) (W.contents writer.new)
+        × Reads R.read_gives most_reads reader.old (has_read_failure outcome) reader.new
+        × Writes W.write_gives writer.old (write_failure outcome) writer.new
+        × ReportsOutcome outcome result (E.contents errors.old) (E.contents errors.new))
+        (λ failed words. Reads R.read_gives most_reads reader.old failed reader.new
+        × (writer.new ≡ writer.old) × (result.status ≡ 2)
+        × WritesPage words result.reported (E.contents errors.old) (E.contents errors.new)) }
+    ensures named_once { (filter : Filter) (field : Field) (text : List ℕ)
+        → GivesNamedOnce arguments.entry files.now filter field text
+        → (reader.new ≡ reader.old) × ((rest : Option (List ℕ))
+        × EndsNamed filter field (Some text)
+        (λ own outcome. IsRunResult own outcome (Some text) rest
+        (W.contents writer.old) (W.contents writer.new)
+        × Writes W.write_gives writer.old (write_failure outcome) writer.new
+        × ReportsOutcome outcome result (E.contents errors.old) (E.contents errors.new))
+        (λ failed words. (writer.new ≡ writer.old) × (result.status ≡ 2)
+        × WritesPage words result.reported (E.contents errors.old) (E.contents errors.new))) }
     ensures list { (listing : Listing) → GivesCommand arguments.entry files.now (Command.Dates listing)
         → (reader.new ≡ reader.old) × ((outcome : Result Unit RunError)
         × Lists listing outcome (W.contents writer.old) (W.contents writer.new)
@@ -88,10 +112,15 @@ pub fn perform<R: Source, W: Sink, E: Sink>(
             let outcome = run(filter, reader, writer);
             end(outcome, errors)
         }
+        Ok(Command::Named(filter, field)) => run_named(filter, field, reader, writer, errors),
         Ok(Command::Once(filter)) => {
             let mut text = given_text(arguments);
             let outcome = run(filter, &mut text, writer);
             end(outcome, errors)
+        }
+        Ok(Command::NamedOnce(filter, field)) => {
+            let mut text = given_text(arguments);
+            run_named(filter, field, &mut text, writer, errors)
         }
         Ok(Command::Dates(listing)) => {
             let outcome = list(&listing, writer);
@@ -101,14 +130,8 @@ pub fn perform<R: Source, W: Sink, E: Sink>(
             let outcome = list_occurrences(&dates, writer);
             end(outcome, errors)
         }
-        Ok(Command::Help) => {
-            let outcome = write_all(writer, HELP);
-            end(outcome, errors)
-        }
-        Ok(Command::Version) => {
-            let outcome = write_all(writer, VERSION);
-            end(outcome, errors)
-        }
+        Ok(Command::Help) => end(write_all(writer, HELP), errors),
+        Ok(Command::Version) => end(write_all(writer, VERSION), errors),
         Err(usage_error) => Ending {
             status: INVALID_ARGUMENTS,
             reported: report_usage_error(arguments, files, usage_error, errors),

@@ -1,4 +1,5 @@
 //! Requests, and how they apply to the lines.
+use crate::field_name::FieldName;
 use crate::on_invalid::OnInvalid;
 use crate::reading::Readers;
 use cal_format::Format;
@@ -184,6 +185,8 @@ pub struct Filter<'a> {
     pub on_invalid: OnInvalid,
     /// The field to answer, or `None` for the whole line.
     pub field: Option<Field>,
+    /// The name of the field, whose number isn't known yet.
+    pub name: Option<FieldName<'a>>,
     /// How many lines to pass on unchanged at the start.
     pub skip: u64,
 }
@@ -237,8 +240,12 @@ pub enum Command<'a> {
     Version,
     /// A request for the lines of the input.
     Lines(Filter<'a>),
+    /// A request for the lines of the input, whose header gives this field its number.
+    Named(Filter<'a>, Field),
     /// `--date TEXT` and a request: for the second argument instead of an input.
     Once(Filter<'a>),
+    /// The same, for a field with a name: the text is the header.
+    NamedOnce(Filter<'a>, Field),
     /// `list from A to B [by N UNIT]`: the dates from A to B.
     Dates(Listing),
     /// `list from A to B by RULE`: the dates of the recurrence.

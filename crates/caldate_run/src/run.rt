@@ -1,6 +1,6 @@
 //! Runs: the answers to the lines of an input of any length.
 ghost use Rattle.std.specs.Prelude.{◌≡◌, ◌<◌, ◌≤◌, ◌+◌, ◌-◌, ◌++◌, ℕ, List, [], false, true, is_some, length, drop, None, Option, OnOk, OnErr, IfOk, IfErr, IsErrAnd, IsErrOf};
-ghost use Rattle.std.specs.Io.KnownBytes.{Appends};
+ghost use Rattle.std.specs.Io.KnownBytes.{Appends, Consumes};
 ghost use Rattle.caldate_run.specs.Calls.{Reads, Writes, has_read_failure, kind_of, most_reads, write_failure};
 ghost use Rattle.caldate_run.specs.Lines.{ended_lines, lines_of, unended};
 ghost use Rattle.caldate_run.specs.Replies.{IsReplyTo};
@@ -12,6 +12,7 @@ ghost use Rattle.caldate_run.specs.declared.run.unanswered.UnansweredLine.{Unans
 pub mod ending;
 pub mod excerpt;
 pub mod lines;
+pub(crate) mod named;
 pub mod no_answer;
 pub(crate) mod progress;
 pub(crate) mod reply;
@@ -52,6 +53,24 @@ pub fn run<R: Source, W: Sink>(
     ensures writes { Writes W.write_gives writer.old (write_failure result) writer.new }
 {
     let mut input = Input::new();
+    answer_input(&filter, &mut input, u64::MAX, reader, writer)
+}
+
+/// Answers the lines of an input of which some bytes were read, up to its end, in at most `most` more
+/// reads.
+pub(crate) fn answer_input<R: Source, W: Sink>(
+    filter: &Filter<'_>,
+    input: &mut Input,
+    most: u64,
+    reader: &mut R,
+    writer: &mut W,
+) -> Result<(), RunError>
+    ensures ended { (before : Option (List ℕ)) → Consumes before (R.remaining reader.old) input.old
+        → IsRunResult filter.now result before (R.remaining reader.new) (W.contents writer.old)
+        (W.contents writer.new) }
+    ensures reads { Reads R.read_gives most reader.old (has_read_failure result) reader.new }
+    ensures writes { Writes W.write_gives writer.old (write_failure result) writer.new }
+{
     let mut buffer = Buffer::new();
     let mut progress = Progress {
         tally: Tally {
@@ -62,36 +81,58 @@ pub fn run<R: Source, W: Sink>(
         is_long: false,
         front: Excerpt::new(b""),
     };
-    let mut reads = u64::MAX;
-    while reads > 0 {
+    let mut reads = most;
+    loop {
+        match answer_read(filter, &mut progress, &mut buffer, writer, input) {
+            Ok(()) => {}
+            Err(error) => return Err(error),
+        }
+        if reads == 0 {
+            return Err(RunError::Read);
+        }
+        reads -= 1;
         if input.read_more(reader)? == 0 {
-            match answer_last(
-                &filter,
-                &mut progress,
-                &mut buffer,
-                writer,
-                input.as_bytes(),
-            ) {
+            match answer_last(filter, &mut progress, &mut buffer, writer, input.as_bytes()) {
                 Ok(()) => return outcome(&progress.tally),
                 Err(error) => return Err(error),
             }
         }
-        let left = match answer_lines(
-            &filter,
-            &mut progress,
-            &mut buffer,
-            writer,
-            input.as_bytes(),
-        ) {
-            Ok(left) => left,
-            Err(error) => return Err(error),
-        };
-        input.keep_last(left);
-        flush(&mut buffer, writer)?;
-        discard_long_line(&filter, &mut input, &mut progress, writer)?;
-        reads -= 1;
     }
-    Err(RunError::Read)
+}
+
+/// Answers the lines that end within the input, writes the answers, and keeps the bytes after them.
+#[tactic(auto, using(crate::proofs::Calls::writes_then))]
+fn answer_read<W: Sink>(
+    filter: &Filter<'_>,
+    progress: &mut Progress,
+    buffer: &mut Buffer,
+    writer: &mut W,
+    input: &mut Input,
+) -> Result<(), RunError>
+    requires { buffer.old ≡ [] }
+    ensures none { OnOk result (buffer.new ≡ []) }
+    ensures few { OnOk result (length input.new ≤ longest_text + 1) }
+    ensures no_end { OnOk result (NoEnd input.new) }
+    ensures ok { OnOk result (Advances (IsReplyTo filter.now) filter.now.on_invalid
+        (W.contents writer.old) (W.contents writer.new) [] [] input.old input.new progress.old
+        progress.new) }
+    ensures write { IsErrAnd result IsOfWrite
+        → FailsFrom filter.now ended_lines unended (W.contents writer.old)
+        (W.contents writer.new) [] input.old progress.old }
+    ensures stopped { (reported : UnansweredLine) → IsErrOf result (RunError.Stopped reported)
+        → StopsFrom filter.now reported ended_lines (W.contents writer.old)
+        (W.contents writer.new) [] input.old progress.old }
+    ensures others { IfErr result IsEarly }
+    ensures writes { Writes W.write_gives writer.old (write_failure result) writer.new }
+{
+    let left = match answer_lines(filter, progress, buffer, writer, input.as_bytes()) {
+        Ok(left) => left,
+        Err(error) => return Err(error),
+    };
+    input.keep_last(left);
+    flush(buffer, writer)?;
+    discard_long_line(filter, input, progress, writer)?;
+    Ok(())
 }
 
 /// Answers the lines that end within the bytes, and returns the number of bytes after them.

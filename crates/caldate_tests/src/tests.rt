@@ -14,6 +14,7 @@ use std::process::Abort;
 
 mod arguments;
 mod long;
+mod named;
 mod one_answer;
 mod readings;
 mod reads;

@@ -1,7 +1,7 @@
 //! The options before a request.
 ghost use Rattle.std.specs.Prelude.{◌≡◌, ℕ, ◌+◌, ◌≤◌, ◌^◌, ◌∷◌, List, IfOk, None, length, true};
 ghost use Rattle.caldate_run.specs.Meanings.{AreMeanings, AreMeant, IsMeaning, Meanings, name_of, value_in};
-ghost use Rattle.caldate_run.specs.Requests.{any_local, any_own, byte_of, field_number_of, field_numbers_of, field_of, fields_from, has_own, has_room, invalid_of, is_flag, is_local, is_option, conflict_in, conflict_with_zone, no_options, options_after, options_from, policy_of, readers_in, skip_of, value_of, with_flag, with_reader, with_value, words_left};
+ghost use Rattle.caldate_run.specs.Requests.{any_local, any_own, byte_of, field_number_of, field_numbers_of, field_of, fields_from, has_own, has_room, invalid_of, is_flag, is_local, is_name, is_option, conflict_in, conflict_with_zone, no_options, options_after, options_from, policy_of, readers_in, skip_of, value_of, with_field, with_flag, with_reader, with_value, words_left};
 ghost use Rattle.caldate_run.specs.Zones.{AreZones};
 
 use crate::args::formats::reader_of;
@@ -9,6 +9,7 @@ use crate::args::offset::offset_of;
 use crate::args::spelling::parse_i64;
 use crate::args::usage_error::{Expected, UsageError, usage_error_at};
 use crate::args::words::cut;
+use crate::field_name::FieldName;
 use crate::on_invalid::OnInvalid;
 use crate::reading::reader::Reader;
 use crate::reading::spelling::Spelling;
@@ -26,6 +27,8 @@ pub struct Options<'a> {
     pub on_invalid: Option<OnInvalid>,
     /// The numbers of `--field N` or `--field N-M`.
     pub fields: Option<FieldNumbers>,
+    /// The name of `--field NAME`, for which `fields` has the number 1.
+    pub name: Option<FieldName<'a>>,
     /// Whether `--header` is given.
     pub header: bool,
     /// Whether `--csv` is given.
@@ -51,6 +54,7 @@ fn no_options() -> Options<'static>
     Options {
         on_invalid: None,
         fields: None,
+        name: None,
         header: false,
         csv: false,
         separator: None,
@@ -76,7 +80,7 @@ pub enum OptionsAfter<'a> {
 /// Parses the options from the word at an index on, and returns them with the index of the word
 /// after them.
 pub fn options_of<'a>(
-    words: Option<&[u8]>,
+    words: Option<&'a [u8]>,
     at: usize,
     files: &ZoneFiles<'a>,
 ) -> Result<(Options<'a>, usize), UsageError>
@@ -112,7 +116,7 @@ pub fn options_of<'a>(
 fn parse_word<'a>(
     options: Options<'a>,
     expected: Option<Expected>,
-    word: &[u8],
+    word: &'a [u8],
     files: &ZoneFiles<'a>,
 ) -> OptionsAfter<'a>
     ensures { (meanings : Meanings) → AreMeant meanings word.now → AreZones files.now meanings
@@ -213,7 +217,7 @@ pub fn is_option(word: &[u8]) -> bool
 /// Sets the option that needs `expected`, or returns `None` if the value is invalid.
 fn with_value<'a>(
     options: Options<'a>,
-    value: &[u8],
+    value: &'a [u8],
     expected: Expected,
     files: &ZoneFiles<'a>,
 ) -> Option<Options<'a>>
@@ -223,7 +227,7 @@ fn with_value<'a>(
     let mut more = options;
     match expected {
         Expected::Invalid => more.on_invalid = Some(invalid_of(value)?),
-        Expected::FieldNumber => more.fields = Some(field_numbers_of(value)?),
+        Expected::FieldNumber => return with_field(more, value),
         Expected::Separator => more.separator = Some(byte_of(value)?),
         Expected::Skip => more.skip = Some(skip_of(value)?),
         Expected::Reading => return with_reader(more, reader_of(value)?),
@@ -233,6 +237,33 @@ fn with_value<'a>(
         _ => return None,
     }
     Some(more)
+}
+
+/// Sets the numbers of the fields, or the name of one, or returns `None` if the value is neither.
+fn with_field<'a>(options: Options<'a>, value: &'a [u8]) -> Option<Options<'a>>
+    ensures { result ≡ with_field options.entry value.now }
+{
+    let mut more = options;
+    if is_name(value) {
+        more.fields = Some(FieldNumbers {
+            first: 1,
+            joined: 0,
+        });
+        more.name = Some(FieldName::new(value));
+        return Some(more);
+    }
+    more.fields = Some(field_numbers_of(value)?);
+    Some(more)
+}
+
+/// Returns whether the word is read as a name of a field, and not as numbers.
+fn is_name(word: &[u8]) -> bool
+    ensures { result ≡ is_name word.now }
+{
+    match word {
+        [first, ..] => !first.is_ascii_digit() && *first != b'+' && *first != b'-',
+        [] => false,
+    }
 }
 
 /// Parses a mode: `keep`, `answer`, `drop` or `stop`.
@@ -420,6 +451,8 @@ pub fn conflict_in(options: &Options<'_>) -> Option<Expected>
         Some(Expected::CsvField)
     } else if options.csv && options.separator == Some(b'"') {
         Some(Expected::CsvSeparator)
+    } else if options.name.is_some() && !options.header {
+        Some(Expected::Header)
     } else if options.policy.is_some() && options.zone.is_none() {
         Some(Expected::ZoneOption)
     } else if options.zone.is_some() {

@@ -17,9 +17,11 @@ pub enum Expected {
     CsvField,
     /// A separator other than a quote, which `--csv` requires.
     CsvSeparator,
+    /// `--header`, which `--field NAME` requires.
+    Header,
     /// A mode of `--invalid`, such as `keep`.
     Invalid,
-    /// A number from 1 to 65535, or two such numbers.
+    /// A number from 1 to 65535, two such numbers, or a name.
     FieldNumber,
     /// One byte.
     Separator,

@@ -168,7 +168,7 @@ fn push_after_word(line: &mut Buffer, arguments: &[u8], index: usize)
 }
 
 /// Appends the word in quotes: its first 80 bytes, with `?` for each that doesn't print.
-fn push_quoted(line: &mut Buffer, word: &[u8])
+pub(crate) fn push_quoted(line: &mut Buffer, word: &[u8])
     requires { length line.old ≤ 200 }
     ensures text { line.new ≡ line.old ++ quoted word.now }
     ensures short { length line.new ≤ length line.old + 82 }
@@ -276,7 +276,7 @@ fn names_word(expected: Expected) -> bool
     match expected {
         Expected::Something | Expected::Field | Expected::CsvField | Expected::CsvSeparator =>
             false,
-        Expected::Assume | Expected::Local | Expected::ZoneOption => false,
+        Expected::Header | Expected::Assume | Expected::Local | Expected::ZoneOption => false,
         Expected::OffsetOrZone | Expected::LocalOnly => false,
         _ => true,
     }
@@ -300,6 +300,7 @@ fn error_phrase(expected: Expected) -> &'static [u8]
         Expected::Field => b"--separator requires --field".as_slice(),
         Expected::CsvField => b"--csv requires --field".as_slice(),
         Expected::CsvSeparator => b"--csv can't use a quote as the separator".as_slice(),
+        Expected::Header => b"a field name requires --header".as_slice(),
         Expected::Invalid => b"unknown mode".as_slice(),
         Expected::FieldNumber => b"invalid field number".as_slice(),
         Expected::Separator => b"invalid separator".as_slice(),
@@ -375,7 +376,7 @@ fn expected_phrase(expected: Expected) -> &'static [u8]
         Expected::Verb => LINE_COMMANDS,
         Expected::Invalid => b"; expected keep, answer, drop or stop".as_slice(),
         Expected::FieldNumber =>
-            b"; expected an integer from 1 to 65535, or two such as 1-2".as_slice(),
+            b"; expected an integer from 1 to 65535, two such as 1-2, or a name".as_slice(),
         Expected::Separator => b"; expected one byte".as_slice(),
         Expected::Skip => b"; expected an integer from 0 to 9223372036854775807".as_slice(),
         Expected::Reading => READINGS,

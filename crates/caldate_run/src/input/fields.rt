@@ -49,7 +49,7 @@ pub fn cut_field(field: Field, text: &[u8]) -> Option<(&[u8], &[u8], &[u8])>
 }
 
 /// Returns whether the field of a CSV record is in quotes.
-fn is_quoted(field: Field, part: &[u8]) -> bool
+pub fn is_quoted(field: Field, part: &[u8]) -> bool
     ensures value { result ≡ is_quoted field part.now }
     ensures long { IsTrue result → 2 ≤ length part.now }
 {
@@ -72,7 +72,7 @@ fn after_fields(field: Field, count: u16, text: &[u8]) -> Option<&[u8]>
 }
 
 /// Splits off the first field and its separator, or returns `None` without a separator.
-fn first_field(field: Field, bytes: &[u8]) -> Option<(&[u8], &[u8])>
+pub fn first_field(field: Field, bytes: &[u8]) -> Option<(&[u8], &[u8])>
     ensures fields { MatchOption result (fields_of field bytes.now ≡ bytes.now ∷ [])
         (λ parts. fields_of field bytes.now ≡ parts.0.now ∷ fields_of field parts.1.now) }
     ensures whole { MatchOption result (length bytes.now ≡ length bytes.now)

@@ -84,7 +84,7 @@ fn occurrences<W: Sink>(
 }
 
 fn asks<'a>(
-    arguments: &[u8],
+    arguments: &'a [u8],
     files: &ZoneFiles<'a>,
 ) -> (
     Result<Command<'a>, UsageError>,

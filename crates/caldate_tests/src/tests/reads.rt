@@ -131,7 +131,7 @@ fn check_ends<H: Abort + AllocGlobal>(
 }
 
 /// Returns the first `count` lines.
-fn first_lines(bytes: &[u8], count: usize) -> &[u8] {
+pub fn first_lines(bytes: &[u8], count: usize) -> &[u8] {
     let mut left = count;
     for (i, byte) in bytes.iter().enumerate() {
         if left == 0 {

@@ -1,0 +1,96 @@
+-- The header, and the names of its fields.
+use Rattle.std.proofs.Common.{◌≡◌, ◌++◌, ◌∷◌, ◌∙◌, ◌+◌, ◌<◌, ◌≤◌, ℕ, Bool, List, [], Option, Some, ap, append_assoc, arith, cond, drop, false, get_or, length, length-append, length-take, refl, sym, take, true}
+use Rattle.std.specs.Prelude.{◌&&◌, codes, nat_le}
+use Rattle.std.specs.List.{slice_split}
+use Rattle.std.proofs.lemmas.Bool.{false≢true}
+use Rattle.std.proofs.lemmas.Bool.Decides.{nat_tests}
+use Rattle.std.proofs.lemmas.List.{append-nil, length-map}
+use Rattle.std.proofs.lemmas.List.Splits.{slice_split_at, slice_split_none}
+use Rattle.caldate_run.specs.Excerpts.{excerpt_of, printable}
+use Rattle.caldate_run.specs.Fields.{fields_of, is_quote}
+use Rattle.caldate_run.specs.Header.{field_name, first_part, has_name, header_of, is_pair, name_number, names_text, unescaped}
+use Rattle.caldate_run.specs.Lines.{is_end, text_of}
+use Rattle.caldate_run.specs.RunStates.{NoEnd}
+use Rattle.caldate_run.specs.UsageMessages.{quoted}
+use Rattle.caldate_run.specs.declared.request.Field.{Field}
+use Rattle.caldate_run.proofs.Cuts.{some_fields}
+use Rattle.caldate_run.proofs.Ends.{empty}
+
+-- ---- the text of the first line
+pub ended_header : (bytes line after : List ℕ) → NoEnd line → bytes ≡ line ++ 10 ∷ after → header_of bytes ≡ text_of line
+ended_header bytes line after none e =
+    ap (λ parts. text_of (first_part parts)) (ap (slice_split is_end) e ∙ slice_split_at is_end line 10 after none refl)
+
+pub unended_header : (bytes : List ℕ) → NoEnd bytes → header_of bytes ≡ text_of bytes
+unended_header bytes none = ap (λ parts. text_of (first_part parts)) (slice_split_none is_end bytes none)
+
+-- ---- the fields one after the other
+pub longer : (bytes part others : List ℕ) (c : ℕ) → bytes ≡ part ++ c ∷ others → length bytes ≡ length part + length others + 1
+longer bytes part others c e = omega (arith, ap length e, length-append part (c ∷ others))
+
+pub name_found : (field : Field) (name part : List ℕ) (parts others : List (List ℕ)) (n : ℕ) (all : Option ℕ) → parts ≡ part ∷ others → has_name field name part ≡ true
+    → name_number n field name parts ≡ all → Some n ≡ all
+name_found field name part parts others n all cut test inv =
+    sym (ap (name_number n field name) cut ∙ ap (λ b. cond b (Some n) (name_number (n + 1) field name others)) test) ∙ inv
+
+pub name_passed : (field : Field) (name part : List ℕ) (parts others : List (List ℕ)) (n : ℕ) (all : Option ℕ) → parts ≡ part ∷ others → has_name field name part ≡ false
+    → name_number n field name parts ≡ all → name_number (n + 1) field name others ≡ all
+name_passed field name part parts others n all cut test inv =
+    sym (ap (name_number n field name) cut ∙ ap (λ b. cond b (Some n) (name_number (n + 1) field name others)) test) ∙ inv
+
+names_more : (field : Field) (part : List ℕ) (parts : List (List ℕ)) → 0 < length parts
+    → names_text field (part ∷ parts) ≡ (quoted (field_name field part) ++ codes ", ") ++ names_text field parts
+names_more field part [] h = absurd (omega (arith, h))
+names_more field part (next ∷ parts) h = refl
+
+pub name_pushed : (field : Field) (words words_now rest part others all : List ℕ) → fields_of field rest ≡ part ∷ fields_of field others
+    → words_now ≡ (words ++ quoted (field_name field part)) ++ codes ", " → words ++ names_text field (fields_of field rest) ≡ all
+    → words_now ++ names_text field (fields_of field others) ≡ all
+name_pushed field words words_now rest part others all cut e inv =
+    let name = quoted (field_name field part) in
+    let more = names_text field (fields_of field others) in
+    ap (λ w. w ++ more) e ∙ append_assoc (words ++ name) (codes ", ") more ∙ append_assoc words name (codes ", " ++ more)
+    ∙ ap (λ l. words ++ l) (sym (append_assoc name (codes ", ") more) ∙ sym (names_more field part (fields_of field others) (some_fields field others)) ∙ ap (names_text field) (sym cut))
+    ∙ inv
+
+pub last_name_pushed : (field : Field) (words words_now rest all : List ℕ) → fields_of field rest ≡ rest ∷ []
+    → words_now ≡ words ++ quoted (field_name field rest) → words ++ names_text field (fields_of field rest) ≡ all → words_now ≡ all
+last_name_pushed field words words_now rest all cut e inv = e ∙ ap (λ l. words ++ l) (sym (ap (names_text field) cut)) ∙ inv
+
+-- ---- doubled quotes
+second : (b c : Bool) → (b && c) ≡ true → c ≡ true
+second true c e = e
+second false c e = absurd (false≢true e)
+
+not_second : (b c : Bool) → b ≡ true → (b && c) ≡ false → c ≡ false
+not_second true c t e = e
+not_second false c t e = absurd (false≢true t)
+
+at_least : (n m : ℕ) → n ≤ m → nat_le n m ≡ true
+at_least n m h = grind (arith, nat_tests)
+
+pub pair_first : (text : List ℕ) → 2 ≤ length text → is_pair text ≡ true → unescaped text ≡ 34 ∷ unescaped (drop 2 text)
+pair_first [] h e = absurd (omega arith)
+pair_first (x ∷ []) h e = absurd (omega arith)
+pair_first (x ∷ y ∷ xs) h e =
+    ap (λ b. cond b (34 ∷ unescaped xs) (x ∷ unescaped (y ∷ xs))) (second (nat_le 2 (length (x ∷ y ∷ xs))) (is_quote x && is_quote y) e)
+
+pub byte_first : (text : List ℕ) → 0 < length text → is_pair text ≡ false → unescaped text ≡ get_or text 0 0 ∷ unescaped (drop 1 text)
+byte_first [] h e = absurd (omega arith)
+byte_first (x ∷ []) h e = refl
+byte_first (x ∷ y ∷ xs) h e =
+    ap (λ b. cond b (34 ∷ unescaped xs) (x ∷ unescaped (y ∷ xs)))
+    (not_second (nat_le 2 (length (x ∷ y ∷ xs))) (is_quote x && is_quote y) (at_least 2 (length (x ∷ y ∷ xs)) (omega arith)) e)
+
+pub byte_pushed : (own own_now rest others all : List ℕ) (byte : ℕ) → unescaped rest ≡ byte ∷ unescaped others → own_now ≡ own ++ byte ∷ []
+    → own ++ unescaped rest ≡ all → own_now ++ unescaped others ≡ all
+byte_pushed own own_now rest others all byte cut e inv =
+    ap (λ o. o ++ unescaped others) e ∙ append_assoc own (byte ∷ []) (unescaped others) ∙ ap (λ l. own ++ l) (sym cut) ∙ inv
+
+pub all_pushed : (own rest all : List ℕ) → length rest ≡ 0 → own ++ unescaped rest ≡ all → own ≡ all
+all_pushed own rest all none inv = sym (append-nil own) ∙ ap (λ r. own ++ unescaped r) (sym (empty rest none)) ∙ inv
+
+-- ---- excerpts
+pub excerpt_short : (text : List ℕ) → length (excerpt_of text) ≤ length text
+unfolding excerpt_of
+excerpt_short text = omega (arith, length-map (take 80 text) printable, length-take 80 text)

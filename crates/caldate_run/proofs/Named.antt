@@ -1,0 +1,81 @@
+-- Runs whose field has a name.
+use denote.Ref.{Bor}
+use Rattle.std.proofs.Common.{◌≡◌, ◌⊎◌, ◌<◌, ◌∙◌, ℕ, List, Bool, false, Option, Some, None, Result, Ok, inl, inr, length, subst, sym}
+use Rattle.std.specs.Prelude.{MatchOption}
+use Rattle.caldate_run.specs.Header.{EndsNamed, HasHeader, HasLine, header_error, header_of, name_of_field, number_of, numbered}
+use Rattle.caldate_run.specs.Meanings.{AreMeanings, Meanings}
+use Rattle.caldate_run.specs.Program.{GivesCommand, GivesNamedOnce, given_text}
+use Rattle.caldate_run.specs.Requests.{arguments_of, parse_args}
+use Rattle.caldate_run.specs.RunStates.{NoEnd}
+use Rattle.caldate_run.specs.Zones.{AreZones}
+use Rattle.caldate_run.specs.declared.args.usage_error.UsageError.{UsageError}
+use Rattle.caldate_run.specs.declared.request.Command.{Command}
+use Rattle.caldate_run.specs.declared.request.Command.TheVariants.{Named, NamedOnce}
+use Rattle.caldate_run.specs.declared.request.Field.{Field}
+use Rattle.caldate_run.specs.declared.request.Filter.{Filter}
+use Rattle.caldate_run.specs.declared.run.run_error.RunError.{RunError}
+use Rattle.caldate_run.specs.declared.zones.ZoneFiles.{ZoneFiles}
+
+pub has_header : (left : Option (List ℕ)) (bytes input : List ℕ) → bytes ≡ input → HasLine bytes ⊎ (4097 < length bytes) → HasHeader left input
+has_header left bytes input e (inl line) = subst (HasHeader left) e (inl line)
+has_header left bytes input e (inr long) = subst (HasHeader left) e (inr (inr long))
+
+-- what the header says
+pub says_none : (o : Option ℕ) (P : Type 0) (Q : ℕ → Type 0) → o ≡ None → P → MatchOption o P Q
+says_none o P Q e p = subst (λ (o : Option ℕ). MatchOption o P Q) (sym e) p
+
+pub says_some : (o : Option ℕ) (P : Type 0) (Q : ℕ → Type 0) (n : ℕ) → o ≡ Some n → Q n → MatchOption o P Q
+says_some o P Q n e q = subst (λ (o : Option ℕ). MatchOption o P Q) (sym e) q
+
+-- ---- the same end, of which less is said
+match_weaker : (o : Option ℕ) (P P' : Type 0) (Q Q' : ℕ → Type 0) → (P → P') → ((n : ℕ) → Q n → Q' n) → MatchOption o P Q → MatchOption o P' Q'
+match_weaker None P P' Q Q' f g h = f h
+match_weaker (Some n) P P' Q Q' f g h = g n h
+
+ends_weaker : (filter : Filter) (field : Field) (left : Option (List ℕ)) (front words : List ℕ) (Runs Runs' : Filter → Result Unit RunError → Type 0) (Stops Stops' : Bool → List ℕ → Type 0)
+    → ((own : Filter) (outcome : Result Unit RunError) → Runs own outcome → Runs' own outcome) → ((failed : Bool) (words : List ℕ) → Stops failed words → Stops' failed words)
+    → (failed : Bool)
+    → (NoEnd front × Stops failed words)
+    ⊎ (HasHeader left front × MatchOption (number_of field (name_of_field filter) (header_of front)) (Stops false (header_error field (name_of_field filter) (header_of front)))
+    (λ n. (outcome : Result Unit RunError) × Runs (numbered filter field n) outcome))
+    → (NoEnd front × Stops' failed words)
+    ⊎ (HasHeader left front × MatchOption (number_of field (name_of_field filter) (header_of front)) (Stops' false (header_error field (name_of_field filter) (header_of front)))
+    (λ n. (outcome : Result Unit RunError) × Runs' (numbered filter field n) outcome))
+ends_weaker filter field left front words Runs Runs' Stops Stops' runs stops failed (inl h) = inl (h.0, stops failed words h.1)
+ends_weaker filter field left front words Runs Runs' Stops Stops' runs stops failed (inr h) =
+    inr (h.0, match_weaker (number_of field (name_of_field filter) (header_of front)) _ _ _ _ (stops false _) (λ n r. (r.0, runs (numbered filter field n) r.0 r.1)) h.1)
+
+pub named_weaker : (filter : Filter) (field : Field) (old : Option (List ℕ)) (Runs Runs' : Filter → Result Unit RunError → Type 0) (Stops Stops' : Bool → List ℕ → Type 0)
+    → ((own : Filter) (outcome : Result Unit RunError) → Runs own outcome → Runs' own outcome) → ((failed : Bool) (words : List ℕ) → Stops failed words → Stops' failed words)
+    → EndsNamed filter field old Runs Stops → EndsNamed filter field old Runs' Stops'
+named_weaker filter field old Runs Runs' Stops Stops' runs stops h = record {
+  front = h.front;
+  left = h.left;
+  given = h.given;
+  ends = ends_weaker filter field h.left h.front _ Runs Runs' Stops Stops' runs stops _ h.ends;
+}
+
+-- ---- the command of the arguments
+pub same_named : (arguments : Option (Bor (List ℕ))) (bytes : Bor (List ℕ)) (files : ZoneFiles) (r : Result Command UsageError) (f filter : Filter) (k field : Field)
+    → arguments ≡ Some bytes
+    → ((meanings : Meanings) → AreMeanings meanings (arguments_of bytes.now) → AreZones files meanings → r ≡ parse_args meanings (arguments_of bytes.now))
+    → r ≡ Ok (Named f k) → GivesCommand arguments files (Named filter field) → (f ≡ filter) × (k ≡ field)
+same_named arguments bytes files r f filter k field e asked is given =
+    let given = subst (λ (a : Option (Bor (List ℕ))). GivesCommand a files (Named filter field)) e given in
+    let same : ◌≡◌ {A = Result Command UsageError} (Ok (Named f k)) (Ok (Named filter field)) = sym is ∙ asked given.0 given.1 given.2 ∙ given.3 in
+    ((cc), (cc))
+
+pub same_named_once : (arguments : Option (Bor (List ℕ))) (bytes : Bor (List ℕ)) (files : ZoneFiles) (r : Result Command UsageError) (f filter : Filter) (k field : Field) (text : List ℕ)
+    → arguments ≡ Some bytes
+    → ((meanings : Meanings) → AreMeanings meanings (arguments_of bytes.now) → AreZones files meanings → r ≡ parse_args meanings (arguments_of bytes.now))
+    → r ≡ Ok (NamedOnce f k) → GivesNamedOnce arguments files filter field text → (f ≡ filter) × (k ≡ field) × (text ≡ given_text bytes.now)
+same_named_once arguments bytes files r f filter k field text e asked is given =
+    let given = subst (λ (a : Option (Bor (List ℕ))). GivesNamedOnce a files filter field text) e given in
+    let command = given.0 in
+    let same : ◌≡◌ {A = Result Command UsageError} (Ok (NamedOnce f k)) (Ok (NamedOnce filter field)) = sym is ∙ asked command.0 command.1 command.2 ∙ command.3 in
+    ((cc), (cc), given.1)
+
+pub named_for : (f filter : Filter) (k field : Field) (old : Option (List ℕ)) (Runs : Filter → Result Unit RunError → Type 0) (Stops : Bool → List ℕ → Type 0) → f ≡ filter → k ≡ field
+    → EndsNamed f k old Runs Stops → EndsNamed filter field old Runs Stops
+named_for f filter k field old Runs Stops same_filter same_field h =
+    subst (λ (f : Filter). EndsNamed f field old Runs Stops) same_filter (subst (λ (k : Field). EndsNamed f k old Runs Stops) same_field h)

@@ -1,0 +1,100 @@
+-- The header, the first line of an input, and fields by their names in it.
+use Rattle.std.specs.Prelude.{◌≡◌, ◌⊎◌, ℕ, ◌+◌, ◌<◌, ◌&&◌, nat_le, nat_lt, Bool, true, false, unwrap_or, List, [], ◌∷◌, ◌++◌, bytes_eq, codes, length, MatchOption, Option, Some, None, Result, Err, slice_index, if◌then◌else◌}
+use Rattle.std.specs.List.{slice_split}
+use Rattle.std.specs.Io.KnownBytes.{Consumes, IsAtEnd}
+use Rattle.caldate_run.specs.Ending.{end_message}
+use Rattle.caldate_run.specs.Fields.{fields_of, is_quote, is_quoted, within_quotes}
+use Rattle.caldate_run.specs.Lines.{is_end, text_of}
+use Rattle.caldate_run.specs.Room.{longest_text}
+use Rattle.caldate_run.specs.RunStates.{NoEnd}
+use Rattle.caldate_run.specs.UsageMessages.{quoted}
+use Rattle.caldate_run.specs.declared.request.Field.{Field}
+use Rattle.caldate_run.specs.declared.request.Filter.{Filter}
+use Rattle.caldate_run.specs.declared.run.run_error.RunError.{RunError}
+use Rattle.caldate_run.specs.declared.run.run_error.RunError.TheVariants.{Read}
+
+-- ---- the header
+-- The text of the first line, which may not have its line feed.
+abbrev pub first_part : List (List ℕ) → List ℕ
+first_part [] = []
+first_part (part ∷ parts) = part
+
+abbrev pub header_of : List ℕ → List ℕ
+header_of input = text_of (first_part (slice_split is_end input))
+
+-- A line ends within the bytes.
+abbrev pub HasLine : List ℕ → Type 0
+HasLine bytes = (line after : List ℕ) × NoEnd line × (bytes ≡ line ++ 10 ∷ after)
+
+-- The bytes have the whole header, or more bytes than a line may have.
+abbrev pub HasHeader : Option (List ℕ) → List ℕ → Type 0
+HasHeader left bytes = HasLine bytes ⊎ (IsAtEnd left ⊎ (longest_text + 1 < length bytes))
+
+-- ---- names
+-- The text begins with a doubled quote.
+abbrev pub is_pair : List ℕ → Bool
+is_pair text = nat_le 2 (length text) && (is_quote (slice_index text 0) && is_quote (slice_index text 1))
+
+-- The text between the quotes of a field: each doubled quote is one (RFC 4180).
+abbrev pub unescaped : List ℕ → List ℕ
+unescaped [] = []
+unescaped (byte ∷ []) = byte ∷ []
+unescaped (byte ∷ next ∷ bytes) = if is_quote byte && is_quote next then 34 ∷ unescaped bytes else byte ∷ unescaped (next ∷ bytes)
+
+-- The name of a field is its text, or in a CSV record what its quotes enclose.
+abbrev pub field_name : Field → List ℕ → List ℕ
+field_name field part = if is_quoted field part then unescaped (within_quotes field part) else part
+
+abbrev pub has_name : Field → List ℕ → List ℕ → Bool
+has_name field name part = bytes_eq (field_name field part) name
+
+-- The number of the first of these fields that has the name, counted from n.
+abbrev pub name_number : ℕ → Field → List ℕ → List (List ℕ) → Option ℕ
+name_number n field name [] = None
+name_number n field name (part ∷ parts) = if has_name field name part then Some n else name_number (n + 1) field name parts
+
+-- The number that the header gives the name. A header that is too long gives none.
+abbrev pub number_of : Field → List ℕ → List ℕ → Option ℕ
+number_of field name header = if nat_lt longest_text (length header) then None else name_number 1 field name (fields_of field header)
+
+-- ---- the error
+-- The names of the fields, each in quotes, with commas between them.
+abbrev pub names_text : Field → List (List ℕ) → List ℕ
+names_text field [] = []
+names_text field (part ∷ []) = quoted (field_name field part)
+names_text field (part ∷ parts) = quoted (field_name field part) ++ codes ", " ++ names_text field parts
+
+abbrev pub expected_names : Field → List ℕ → List ℕ
+expected_names field header =
+    if bytes_eq header [] then codes "; the header is empty" else codes "; expected " ++ names_text field (fields_of field header)
+
+-- A header that is too long has no names.
+abbrev pub header_problem : Field → List ℕ → List ℕ → List ℕ
+header_problem field name header =
+    if nat_lt longest_text (length header) then codes "header too long; expected at most 4096 bytes" else
+    codes "unknown field name " ++ quoted name ++ expected_names field header
+
+-- The line on standard error.
+abbrev pub header_error : Field → List ℕ → List ℕ → List ℕ
+header_error field name header = codes "caldate: " ++ header_problem field name header ++ 10 ∷ []
+
+-- ---- a run whose field has a name
+-- The name of the field, or nothing if it has none.
+abbrev pub name_of_field : Filter → List ℕ
+name_of_field filter = unwrap_or filter.name []
+
+-- The same filter with a number in place of the name.
+abbrev pub numbered : Filter → Field → ℕ → Filter
+numbered filter field n = record filter { field = Some (record field { first = n }); name = None }
+
+-- The reader gave `front` first. If a read failed before the header ended, the run stops. Otherwise
+-- the filter runs over the whole input with the number that the header gives the name. If it gives
+-- none, the run stops with the error of the header.
+pub record EndsNamed (filter : Filter) (field : Field) (old : Option (List ℕ)) (Runs : Filter → Result Unit RunError → Type 0) (Stops : Bool → List ℕ → Type 0) : Type 0 where
+  pub front : List ℕ
+  pub left : Option (List ℕ)
+  pub given : Consumes old left front
+  pub ends : (NoEnd front × Stops true (end_message (Err Read)))
+      ⊎ (HasHeader left front × MatchOption (number_of field (name_of_field filter) (header_of front))
+      (Stops false (header_error field (name_of_field filter) (header_of front)))
+      (λ n. (outcome : Result Unit RunError) × Runs (numbered filter field n) outcome))
