@@ -1,11 +1,11 @@
 -- Cutting bytes at the first position of a byte.
-use Rattle.std.proofs.Common.{◌≡◌, ℕ, ◌+◌, ◌<◌, ◌≤◌, Bool, false, eqb, get_or, List, [], ◌∷◌, ◌++◌, length, take, drop, Some, None, ap, ◌∙◌, arith, subst}
+use Rattle.std.proofs.Common.{◌≡◌, ℕ, ◌+◌, ◌<◌, ◌≤◌, Bool, false, eqb, get_or, List, [], ◌∷◌, ◌++◌, length, take, drop, Some, None, inl, inr, ap, ◌∙◌, arith, subst}
 use Rattle.std.specs.List.{slice_split, position, position_or_len}
 use Rattle.std.specs.Prelude.{All}
 use Rattle.std.proofs.lemmas.List.Splits.{slice_split_first, slice_split_none}
-use Rattle.std.proofs.lemmas.List.Sums.{fails_before_first, passes_at_first, split_at_first}
+use Rattle.std.proofs.lemmas.List.Sums.{fails_before_first, passes_at_first, position_or_len_is, split_at_first}
 use Rattle.std.proofs.lemmas.Grind.{common_steps}
-use Rattle.std.proofs.lemmas.Bool.{eqb-true}
+use Rattle.std.proofs.lemmas.Bool.{cases_lt, eq-eqb, eqb-true, ne_eqb}
 use Rattle.std.proofs.lemmas.Option.{cond_some}
 use Rattle.std.proofs.lemmas.Bool.Decides.{nat_tests}
 use Rattle.caldate_run.specs.Lines.{is_end}
@@ -28,6 +28,24 @@ all_fail : (p : ℕ → Bool) (xs : List ℕ) → position p xs ≡ None → All
 all_fail p xs e =
     let all = none_passes p xs e in
     λ k d h. fails_before_first p xs k d (omega arith)
+
+-- the first such byte, or none
+pub found_at : (c : ℕ) (xs : List ℕ) (i : ℕ) → i < length xs → ((k : ℕ) → k < i → get_or xs k 0 ≡ c → ⊥) → get_or xs i 0 ≡ c → Some i ≡ position (λ b. eqb b c) xs
+found_at c xs i within before at =
+    let first = position_or_len_is (λ b. eqb b c) xs i 0 (omega (arith, within)) (λ k h. ne_eqb (get_or xs k 0) c (before k h)) (λ _. eq-eqb (get_or xs i 0) c at) in
+    grind (arith, nat_tests)
+
+pub none_at : (c : ℕ) (xs : List ℕ) (i : ℕ) → length xs ≤ i → ((k : ℕ) → k < i → get_or xs k 0 ≡ c → ⊥) → None ≡ position (λ b. eqb b c) xs
+none_at c xs i past before =
+    let last = position_or_len_is (λ b. eqb b c) xs (length xs) 0 (omega arith) (λ k h. ne_eqb (get_or xs k 0) c (before k (omega (arith, h, past)))) (λ h. absurd (omega (arith, h))) in
+    grind (arith, nat_tests)
+
+pub one_more : (c : ℕ) (xs : List ℕ) (i : ℕ) → ((k : ℕ) → k < i → get_or xs k 0 ≡ c → ⊥) → (get_or xs i 0 ≡ c → ⊥) → (k : ℕ) → k < i + 1 → get_or xs k 0 ≡ c → ⊥
+one_more c xs i before at k h e =
+    elim (cases_lt k i) as (λ _. ⊥) [
+      | inl less ↦ before k less e
+      | inr past ↦ at (subst (λ n. get_or xs n 0 ≡ c) (omega (arith, h, past)) e)
+    ]
 
 pub arguments_of_some : (xs : List ℕ) (k : ℕ) → position (λ b. eqb b 0) xs ≡ Some k
     → (k < length xs) × (arguments_of xs ≡ take k xs ∷ arguments_of (drop (k + 1) xs))
