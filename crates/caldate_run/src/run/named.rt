@@ -14,7 +14,7 @@ use crate::request::{Field, Filter};
 use crate::run::ending::{Ending, end};
 use crate::run::lines::first_line;
 use crate::run::run_error::RunError;
-use crate::run::{MOST_KEPT, answer_input};
+use crate::run::{MAX_KEPT, answer_input};
 use crate::streams::{Sink, Source};
 
 /// The status after a header that gives the field no number.
@@ -98,7 +98,7 @@ fn has_header(bytes: &[u8]) -> bool
     ensures no_end { result ≡ false → NoEnd bytes.now }
     ensures few { result ≡ false → length bytes.now ≤ longest_text + 1 }
 {
-    if bytes.len() > MOST_KEPT {
+    if bytes.len() > MAX_KEPT {
         return true;
     }
     match first_line(bytes) {
