@@ -1,9 +1,5 @@
 -- Cutting bytes at the first position of a byte.
-<<<<<<< HEAD
-use Rattle.std.proofs.Common.{◌≡◌, ℕ, ◌+◌, ◌<◌, ◌≤◌, Bool, true, false, eqb, get_or, List, [], ◌∷◌, ◌++◌, length, take, drop, Some, None, inl, inr, ap, ◌∙◌, arith, subst}
-=======
 use Rattle.std.proofs.Common.{◌≡◌, ℕ, ◌+◌, ◌<◌, ◌≤◌, Bool, false, eqb, get_or, List, [], ◌∷◌, ◌++◌, length, take, drop, Some, None, inl, inr, ap, ◌∙◌, arith, subst}
->>>>>>> filter_speed
 use Rattle.std.specs.List.{slice_split, position, position_or_len}
 use Rattle.std.specs.Prelude.{All}
 use Rattle.std.proofs.lemmas.List.Splits.{slice_split_first, slice_split_none}
