@@ -5,7 +5,7 @@ use Rattle.cal_time.specs.Date.{year_at, month_at, day_of_month_at, weekday_at, 
 use Rattle.cal_time.specs.DateText.{sign_text}
 use Rattle.cal_time.specs.IsoWeekDate.{iso_year_at}
 use Rattle.cal_time.specs.Laws.{weekday_at-is}
-use Rattle.cal_time.specs.Time.{IsTime, hour_of, minute_of, second_of, nanosecond_of}
+use Rattle.cal_time.specs.Time.{IsTime, hour_of, minute_of, second_of, nanosecond_of, time_of}
 use Rattle.cal_format.specs.declared.item.Item.{Item}
 use Rattle.cal_format.specs.declared.item.Component.{Component}
 use Rattle.cal_format.specs.declared.item.Component.TheVariants.{Year, Century, YearOfCentury, IsoYear, Month, Day, Ordinal, IsoWeek, Weekday, DaysFromSunday, SundayWeekday, Hour, Hour12, Minute, Second, Period, Millisecond, Microsecond, Nanosecond, OffsetHour, OffsetMinute, OffsetSecond, OffsetSign, Timestamp, TimestampSign}
@@ -18,8 +18,8 @@ use Rattle.cal_format.proofs.Apart.{either_test, both_tests, not_test, same_test
 use Rattle.cal_format.proofs.Choices.{is-not}
 use Rattle.cal_format.proofs.Contradictions.{then-holds, else-holds}
 use Rattle.cal_format.proofs.Holding.{plain-shown, plain-year}
-use Rattle.cal_format.proofs.Offsets.{offset-parts, signed-is, offset-shown, no-offset}
-use Rattle.cal_format.proofs.Times.{parts-of, time-shown}
+use Rattle.cal_format.proofs.Offsets.{offset-size, signed-is, offset-shown, no-offset}
+use Rattle.cal_format.proofs.Times.{time-parts, time-shown}
 
 -- The numbers `at` are the numbers of the moment, for each component that the items show. The others
 -- are 0.
@@ -120,7 +120,9 @@ time-is items v at range are h holds =
     let shown = time-shown items v.time h holds in
     let minute = agrees-whole (any_shows Minute items) (at Minute) (minute_of v.time) shown.minute (are Minute) in
     let second = agrees-whole (any_shows Second items) (at Second) (second_of v.time) shown.second (are Second) in
-    (parts-of v.time (hour_in items at) (at Minute) (at Second) (nanosecond_in items at) range (hour-is items v at are shown.hour) minute second (nanosecond-is items v at are shown.subsecond)).time
+    let hour = hour-is items v at are shown.hour in
+    let nanosecond = nanosecond-is items v at are shown.subsecond in
+    (λ i. time_of (hour i) (minute i) (second i) (nanosecond i)) ∙ time-parts v.time range
 
 -- ---- the offset
 offset-is : (items : List Item) (v : Moment) (at : Component → ℕ) → Holds items v → AreOf items v at → IsTrue (shows_offset items) → offset_in at ≡ v.offset
@@ -128,8 +130,8 @@ offset-is items v at holds are h =
     let shown = offset-shown items v.offset h holds.offset_parts in
     let minute = agrees-whole (any_shows OffsetMinute items) (at OffsetMinute) (unsigned_abs v.offset / 60 % 60) shown.minute (are OffsetMinute) in
     let second = agrees-whole (any_shows OffsetSecond items) (at OffsetSecond) (unsigned_abs v.offset % 60) shown.second (are OffsetSecond) in
-    let parts = offset-parts v.offset (at OffsetHour) (at OffsetMinute) (at OffsetSecond) holds.in_range.offset (own items v at OffsetHour are shown.hour) minute second in
-    signed-is v.offset (at OffsetSign) (at OffsetHour * 3_600 + at OffsetMinute * 60 + at OffsetSecond) (own items v at OffsetSign are shown.sign) parts.magnitude
+    let size = offset-size v.offset (at OffsetHour) (at OffsetMinute) (at OffsetSecond) (own items v at OffsetHour are shown.hour) minute second in
+    signed-is v.offset (at OffsetSign) (at OffsetHour * 3_600 + at OffsetMinute * 60 + at OffsetSecond) (own items v at OffsetSign are shown.sign) size
 
 pub own-moment : (items : List Item) (v : Moment) (at : Component → ℕ) → Holds items v → AreOf items v at → IsMomentOf items at v
 own-moment items v at holds are = record {

@@ -1,5 +1,5 @@
 -- How long the texts of formats are: each item prints at most 15 bytes.
-use Rattle.std.proofs.Common.{ℕ, zero, suc, ◌+◌, ◌*◌, ◌-◌, ◌%◌, ◌<◌, ◌≤◌, List, [], ◌∷◌, length, replicate, refl, arith, lit≤, length-append}
+use Rattle.std.proofs.Common.{ℕ, ◌+◌, ◌*◌, ◌-◌, ◌%◌, ◌<◌, ◌≤◌, List, [], ◌∷◌, length, replicate, refl, arith, lit≤, length-append}
 use Rattle.std.specs.Prelude.{Bool, true, false, if◌then◌else◌, decimal, ℤ, pos, negsuc, unsigned_abs, int_lt, codes}
 use Rattle.std.proofs.lemmas.Bool.Decides.{nat_tests}
 use Rattle.std.proofs.lemmas.Fmt.{length-decimal-le}
@@ -11,10 +11,11 @@ use Rattle.cal_time.specs.Time.{nanosecond_of}
 use Rattle.cal_time.specs.Lengths.{days_in_month}
 use Rattle.cal_time.specs.DateText.{sign_text}
 use Rattle.cal_time.specs.Days.{month_at-range, day_of_month_at-range, year_at-range}
-use Rattle.cal_time.specs.IsoWeekDate.{count_before, iso_week_at, iso_year_at, is_weekday_of_year}
+use Rattle.cal_time.specs.IsoWeekDate.{iso_week_at, iso_year_at, weekday_count}
 use Rattle.cal_time.specs.UtcOffset.{sign as offset_sign}
 use Rattle.cal_time.proofs.IsoWeeks.{week_of_thursday, IsYear-iso_year_at}
-use Rattle.cal_time.proofs.Dates.{ordinal-most}
+use Rattle.cal_time.proofs.Dates.{ordinal-most, stands}
+use Rattle.cal_time.proofs.Weekdays.{weekday_count-ordinal}
 use Rattle.cal_format.specs.declared.item.Component.{Component}
 use Rattle.cal_format.specs.declared.item.Component.TheVariants.{Year, Century, IsoYear, Month, Day, Ordinal, IsoWeek, Weekday, SundayWeek, MondayWeek, Hour, Period, OffsetHour, OffsetSign, Timestamp, TimestampSign}
 use Rattle.cal_format.specs.declared.item.Item.{Item}
@@ -28,23 +29,23 @@ use Rattle.cal_format.proofs.Digits.{width-most}
 use Rattle.cal_format.proofs.EnglishNames.{name-short}
 use Rattle.cal_format.proofs.Fractions.{length-fraction}
 
-count-bit : (b : Bool) → (if b then 1 else 0) ≤ 1
-count-bit true = lit≤ tt
-count-bit false = lit≤ tt
-
-count-most : (test : ℕ → Bool) (n : ℕ) → count_before test n ≤ n
-unfolding count_before
-count-most test zero = lit≤ tt
-count-most test (suc n) = omega (arith, count-bit (test n), count-most test n)
-
 pub days_in_month-most : (y : ℤ) (m : ℕ) → days_in_month y m ≤ 31
 unfolding days_in_month
 days_in_month-most y m = grind (arith, nat_tests)
 
-iso_week_at-most : (n : ℕ) → iso_week_at n < 100
-iso_week_at-most n =
+pub ordinal-least : (n : ℕ) → 1 ≤ ordinal_at n
+ordinal-least n = (stands n).ordinal.0
+
+pub week-range : (n : ℕ) → (1 ≤ iso_week_at n) × (iso_week_at n ≤ 53)
+week-range n =
     let t = n - n % 7 + 3 in
-    omega (arith, (week_of_thursday n (year_at t) (ordinal_at t) (refl, refl)).1, ordinal-most t)
+    let week = (week_of_thursday n (year_at t) (ordinal_at t) (refl, refl)).1 in
+    (omega (arith, week, ordinal-least t), omega (arith, week, ordinal-most t))
+
+pub count-most : (w n : ℕ) → w < 7 → weekday_count w n ≤ 53
+count-most w n low =
+    let count = weekday_count-ordinal w ((n + 7 - w) % 7) n low (omega arith) (omega arith) in
+    omega (arith, count, ordinal-most n)
 
 year-most : (y : ℤ) → IsYear y → unsigned_abs y < 1_000_000
 year-most y h = omega (arith, ints, h.0, h.1)
@@ -63,10 +64,10 @@ number-most IsoYear v h = omega (arith, year-most (iso_year_at v.date) (IsYear-i
 number-most Month v h = omega (arith, (month_at-range v.date).1)
 number-most Day v h = omega (arith, (day_of_month_at-range v.date).1, days_in_month-most (year_at v.date) (month_at v.date))
 number-most Ordinal v h = omega (arith, ordinal-most v.date)
-number-most IsoWeek v h = omega (arith, iso_week_at-most v.date)
+number-most IsoWeek v h = omega (arith, (week-range v.date).1)
 number-most Weekday v h = omega (arith, weekday_at-is v.date)
-number-most SundayWeek v h = omega (arith, h.date, count-most (is_weekday_of_year 6 (year_at v.date)) (v.date + 1))
-number-most MondayWeek v h = omega (arith, h.date, count-most (is_weekday_of_year 0 (year_at v.date)) (v.date + 1))
+number-most SundayWeek v h = omega (arith, count-most 6 v.date (omega arith))
+number-most MondayWeek v h = omega (arith, count-most 0 v.date (omega arith))
 number-most Hour v h = omega (arith, h.time)
 number-most Period v h = omega (arith, h.time)
 number-most OffsetHour v h = omega (arith, h.offset.magnitude)

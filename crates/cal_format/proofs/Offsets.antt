@@ -1,5 +1,5 @@
 -- The offset that the numbers of a text have.
-use Rattle.std.proofs.Common.{◌≡◌, ℕ, ◌+◌, ◌*◌, ◌/◌, ◌%◌, ◌<◌, ◌≤◌, List, refl, ap, ◌∙◌, arith}
+use Rattle.std.proofs.Common.{◌≡◌, ℕ, ◌+◌, ◌*◌, ◌/◌, ◌%◌, ◌<◌, List, refl, ap, ◌∙◌, arith}
 use Rattle.std.specs.Prelude.{Bool, true, false, ◌==◌, ◌||◌, ◌&&◌, not, IsTrue, if◌then◌else◌, ℤ, pos, negsuc, int_lt, unsigned_abs}
 use borrow.Author.Tests.{le-ltb}
 use Rattle.cal_time.specs.UtcOffset.{IsOffset}
@@ -13,16 +13,8 @@ use Rattle.cal_format.proofs.Apart.{both_tests, same_test}
 use Rattle.cal_format.proofs.Contradictions.{then-holds}
 use Rattle.cal_format.proofs.Holding.{IsNarrow, all-held}
 
-pub record OffsetParts (o : ℤ) (h m s : ℕ) : Type 0 where
-  pub hour : h ≤ 25
-  pub minute : m ≤ 59
-  pub second : s ≤ 59
-  pub magnitude : h * 3_600 + m * 60 + s ≡ unsigned_abs o
-
-pub offset-parts : (o : ℤ) (h m s : ℕ) → IsOffset o → h ≡ unsigned_abs o / 3_600 → m ≡ unsigned_abs o / 60 % 60 → s ≡ unsigned_abs o % 60 → OffsetParts o h m s
-offset-parts o h m s range e f g =
-    let most = range.magnitude in
-    record { hour = omega arith; minute = omega arith; second = omega arith; magnitude = omega arith }
+pub offset-size : (o : ℤ) (h m s : ℕ) → h ≡ unsigned_abs o / 3_600 → m ≡ unsigned_abs o / 60 % 60 → s ≡ unsigned_abs o % 60 → h * 3_600 + m * 60 + s ≡ unsigned_abs o
+offset-size o h m s e f g = omega arith
 
 -- The sign and the magnitude are the offset.
 pub signed-is : (o : ℤ) (s m : ℕ) → s ≡ (if int_lt o (pos 0) then 1 else 0) → m ≡ unsigned_abs o → signed_seconds s m ≡ o

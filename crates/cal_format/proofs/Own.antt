@@ -1,14 +1,11 @@
 -- The numbers that items have of a moment that they hold.
-use Rattle.std.proofs.Common.{◌≡◌, ℕ, ◌+◌, ◌-◌, ◌%◌, ◌<◌, ◌≤◌, ◌^◌, List, [], ◌∷◌, ◌++◌, refl, sym, ap, ◌∙◌, arith}
+use Rattle.std.proofs.Common.{◌≡◌, ℕ, ◌<◌, ◌≤◌, ◌^◌, List, [], ◌∷◌, ◌++◌, refl, sym, ap, ◌∙◌, arith}
 use Rattle.std.specs.Prelude.{Bool, true, false, IsTrue, Option, None, Some, ◌==◌, ◌||◌, ◌&&◌, nat_le, if◌then◌else◌, pos, int_lt, codes}
 use Rattle.std.proofs.lemmas.Bool.Decides.{nat_tests}
 use borrow.Author.Tests.{eq-eqb}
-use Rattle.cal_time.proofs.Weekdays.{weekday_count-ordinal}
-use Rattle.cal_time.proofs.Dates.{ordinal-most, stands}
-use Rattle.cal_time.proofs.IsoWeeks.{week_of_thursday}
-use Rattle.cal_time.specs.Date.{year_at, month_at, ordinal_at}
+use Rattle.cal_time.proofs.Dates.{ordinal-most}
+use Rattle.cal_time.specs.Date.{year_at, month_at}
 use Rattle.cal_time.specs.Days.{month_at-range, day_of_month_at-range}
-use Rattle.cal_time.specs.IsoWeekDate.{iso_week_at, weekday_count}
 use Rattle.cal_time.specs.Laws.{weekday_at-is}
 use Rattle.cal_units.specs.declared.error.ComponentRange.{ComponentRange}
 use Rattle.cal_format.specs.declared.fields.Fields.{Fields}
@@ -31,7 +28,7 @@ use Rattle.cal_format.proofs.Contradictions.{name-same, sign-same}
 use Rattle.cal_format.proofs.Determined.{own-moment}
 use Rattle.cal_format.proofs.Digits.{fits-most}
 use Rattle.cal_format.proofs.Holding.{name-plain}
-use Rattle.cal_format.proofs.Lengths.{days_in_month-most}
+use Rattle.cal_format.proofs.Lengths.{days_in_month-most, ordinal-least, week-range, count-most}
 
 -- ---- they are the numbers of its text
 bit-low : (b : Bool) → (if b then 1 else 0) < 2
@@ -87,20 +84,6 @@ pub held-moment : (items : List Item) (numbers : List ℕ) (f : Fields) (v : Mom
 held-moment items numbers f v holds e filled = own-moment items v (λ c. number_at c f) holds (λ c. filled c ∙ ap (λ l. number_in items l c) e ∙ own-in items c v)
 
 -- ---- they are in range
-ordinal-least : (n : ℕ) → 1 ≤ ordinal_at n
-ordinal-least n = (stands n).ordinal.0
-
-week-range : (n : ℕ) → (1 ≤ iso_week_at n) × (iso_week_at n ≤ 53)
-week-range n =
-    let t = n - n % 7 + 3 in
-    let week = (week_of_thursday n (year_at t) (ordinal_at t) (refl, refl)).1 in
-    (omega (arith, week, ordinal-least t), omega (arith, week, ordinal-most t))
-
-count-most : (w n : ℕ) → w < 7 → weekday_count w n ≤ 53
-count-most w n low =
-    let count = weekday_count-ordinal w ((n + 7 - w) % 7) n low (omega arith) (omega arith) in
-    omega (arith, count, ordinal-most n)
-
 abbrev IsIn : Component → Moment → Type 0
 IsIn c v = (minimum c ≤ number c v) × (number c v ≤ maximum c)
 

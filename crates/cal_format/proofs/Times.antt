@@ -1,5 +1,5 @@
 -- The time of day that the numbers of a text have.
-use Rattle.std.proofs.Common.{◌≡◌, ℕ, ◌≤◌, List, arith}
+use Rattle.std.proofs.Common.{◌≡◌, ℕ, List, arith}
 use Rattle.std.specs.Prelude.{◌==◌, ◌||◌, ◌&&◌, not, IsTrue}
 use Rattle.cal_time.specs.Time.{IsTime, hour_of, minute_of, second_of, nanosecond_of, time_of}
 use Rattle.cal_format.specs.declared.item.Item.{Item}
@@ -7,18 +7,8 @@ use Rattle.cal_format.specs.declared.item.Component.TheVariants.{Minute, Second}
 use Rattle.cal_format.specs.Reading.{any_shows, shows_hour, shows_subsecond, shows_time, holds_subsecond, holds_parts}
 use Rattle.cal_format.proofs.Apart.{both_tests}
 
--- ---- all parts
-pub record Parts (t h m s n : ℕ) : Type 0 where
-  pub hour : h ≤ 23
-  pub minute : m ≤ 59
-  pub second : s ≤ 59
-  pub nanosecond : n ≤ 999_999_999
-  pub time : time_of h m s n ≡ t
-
-pub parts-of : (t h m s n : ℕ) → IsTime t → h ≡ hour_of t → m ≡ minute_of t → s ≡ second_of t → n ≡ nanosecond_of t → Parts t h m s n
-parts-of t h m s n time a b c d =
-    let below = time.below_day in
-    record { hour = omega arith; minute = omega arith; second = omega arith; nanosecond = omega arith; time = omega arith }
+pub time-parts : (t : ℕ) → IsTime t → time_of (hour_of t) (minute_of t) (second_of t) (nanosecond_of t) ≡ t
+time-parts t time = let below = time.below_day in omega arith
 
 pub record TimeShown (items : List Item) (t : ℕ) : Type 0 where
   pub hour : IsTrue (shows_hour items)

@@ -1,5 +1,7 @@
 -- The numbers that items show of a value. A value is a moment: a day, a time of day and an offset.
 use Rattle.std.specs.Prelude.{ℕ, ◌+◌, ◌/◌, ◌%◌, ℤ, pos, ◌+ℤ◌, ◌-ℤ◌, ◌*ℤ◌, unsigned_abs, int_lt, if◌then◌else◌}
+use Rattle.cal_units.specs.declared.error.Component.{Component as Named}
+use Rattle.cal_units.specs.declared.error.Component.TheVariants as error
 use Rattle.cal_time.specs.Date.{IsDate, year_at, month_at, day_of_month_at, ordinal_at, weekday_at}
 use Rattle.cal_time.specs.IsoWeekDate.{iso_year_at, iso_week_at, weekday_count}
 use Rattle.cal_time.specs.Time.{IsTime, hour_of, minute_of, second_of, nanosecond_of}
@@ -71,22 +73,47 @@ number OffsetSign v = if int_lt v.offset (pos 0) then 1 else 0
 number Timestamp v = unsigned_abs (timestamp_of v)
 number TimestampSign v = if int_lt (timestamp_of v) (pos 0) then 1 else 0
 
--- The width of a component in digits.
+-- The width of a component in digits, its range, and its name in an error.
+pub record Facts : Type 0 where
+  pub width : ℕ
+  pub minimum : ℕ
+  pub maximum : ℕ
+  pub named : Named
+
+abbrev pub facts : ℕ → ℕ → ℕ → Named → Facts
+facts w least most name = record { width = w; minimum = least; maximum = most; named = name }
+
+abbrev pub facts_of : Component → Facts
+facts_of Year = facts 4 0 9_999 error.Year
+facts_of Century = facts 2 0 99 error.Year
+facts_of YearOfCentury = facts 2 0 99 error.Year
+facts_of IsoYear = facts 4 0 9_999 error.Year
+facts_of Month = facts 2 1 12 error.Month
+facts_of Day = facts 2 1 31 error.Day
+facts_of Ordinal = facts 3 1 366 error.Ordinal
+facts_of IsoWeek = facts 2 1 53 error.Week
+facts_of Weekday = facts 1 1 7 error.Weekday
+facts_of DaysFromSunday = facts 1 0 6 error.Weekday
+facts_of SundayWeekday = facts 1 1 7 error.Weekday
+facts_of SundayWeek = facts 2 0 53 error.Week
+facts_of MondayWeek = facts 2 0 53 error.Week
+facts_of Hour = facts 2 0 23 error.Hour
+facts_of Hour12 = facts 2 1 12 error.Hour
+facts_of Minute = facts 2 0 59 error.Minute
+facts_of Second = facts 2 0 59 error.Second
+facts_of Period = facts 1 0 1 error.Hour
+facts_of Millisecond = facts 3 0 999 error.Millisecond
+facts_of Microsecond = facts 6 0 999_999 error.Microsecond
+facts_of Nanosecond = facts 9 0 999_999_999 error.Nanosecond
+facts_of OffsetHour = facts 2 0 25 error.OffsetHour
+facts_of OffsetMinute = facts 2 0 59 error.OffsetMinute
+facts_of OffsetSecond = facts 2 0 59 error.OffsetSecond
+facts_of OffsetSign = facts 1 0 1 error.OffsetHour
+facts_of Timestamp = facts 9 0 99_999_999_999_999 error.Timestamp
+facts_of TimestampSign = facts 1 0 1 error.Timestamp
+
 abbrev pub width : Component → ℕ
-width Year = 4
-width IsoYear = 4
-width Ordinal = 3
-width Weekday = 1
-width DaysFromSunday = 1
-width SundayWeekday = 1
-width Period = 1
-width OffsetSign = 1
-width TimestampSign = 1
-width Timestamp = 9
-width Millisecond = 3
-width Microsecond = 6
-width Nanosecond = 9
-width _ = 2
+width c = (facts_of c).width
 
 -- A Unix time without padding may have more digits.
 abbrev pub most_digits : Component → ℕ

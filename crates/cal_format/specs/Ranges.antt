@@ -7,77 +7,18 @@ use Rattle.cal_units.specs.declared.error.ComponentRange.{ComponentRange}
 use Rattle.cal_format.specs.declared.item.Item.{Item}
 use Rattle.cal_format.specs.declared.item.Item.TheVariants as item
 use Rattle.cal_format.specs.declared.item.Component.{Component}
-use Rattle.cal_format.specs.declared.item.Component.TheVariants.{Year, Century, YearOfCentury, IsoYear, Month, Day, Ordinal, IsoWeek, Weekday, DaysFromSunday, SundayWeekday, SundayWeek, MondayWeek, Hour, Hour12, Minute, Second, Period, Millisecond, Microsecond, Nanosecond, OffsetHour, OffsetMinute, OffsetSecond, OffsetSign, Timestamp, TimestampSign}
+use Rattle.cal_format.specs.declared.item.Component.TheVariants.{Day, Ordinal, IsoWeek, SundayWeek, MondayWeek}
+use Rattle.cal_format.specs.Moment.{facts_of}
 
--- The name of a component in an error.
+-- The name of a component in an error, its minimum and its maximum.
 abbrev pub named : Component → Named
-named Year = error.Year
-named Century = error.Year
-named YearOfCentury = error.Year
-named IsoYear = error.Year
-named Month = error.Month
-named Day = error.Day
-named Ordinal = error.Ordinal
-named IsoWeek = error.Week
-named Weekday = error.Weekday
-named DaysFromSunday = error.Weekday
-named SundayWeekday = error.Weekday
-named SundayWeek = error.Week
-named MondayWeek = error.Week
-named Hour = error.Hour
-named Hour12 = error.Hour
-named Minute = error.Minute
-named Second = error.Second
-named Period = error.Hour
-named Millisecond = error.Millisecond
-named Microsecond = error.Microsecond
-named Nanosecond = error.Nanosecond
-named OffsetHour = error.OffsetHour
-named OffsetMinute = error.OffsetMinute
-named OffsetSecond = error.OffsetSecond
-named OffsetSign = error.OffsetHour
-named Timestamp = error.Timestamp
-named TimestampSign = error.Timestamp
+named c = (facts_of c).named
 
--- The minimum and the maximum of a component.
 abbrev pub minimum : Component → ℕ
-minimum Month = 1
-minimum Day = 1
-minimum Ordinal = 1
-minimum IsoWeek = 1
-minimum Weekday = 1
-minimum SundayWeekday = 1
-minimum Hour12 = 1
-minimum _ = 0
+minimum c = (facts_of c).minimum
 
 abbrev pub maximum : Component → ℕ
-maximum Year = 9_999
-maximum Century = 99
-maximum YearOfCentury = 99
-maximum IsoYear = 9_999
-maximum Month = 12
-maximum Day = 31
-maximum Ordinal = 366
-maximum IsoWeek = 53
-maximum Weekday = 7
-maximum DaysFromSunday = 6
-maximum SundayWeekday = 7
-maximum SundayWeek = 53
-maximum MondayWeek = 53
-maximum Hour = 23
-maximum Hour12 = 12
-maximum Minute = 59
-maximum Second = 59
-maximum Period = 1
-maximum Millisecond = 999
-maximum Microsecond = 999_999
-maximum Nanosecond = 999_999_999
-maximum OffsetHour = 25
-maximum OffsetMinute = 59
-maximum OffsetSecond = 59
-maximum OffsetSign = 1
-maximum Timestamp = 99_999_999_999_999
-maximum TimestampSign = 1
+maximum c = (facts_of c).maximum
 
 -- The range of a day and of a week depends on the year.
 abbrev pub range_error : Component → ComponentRange

@@ -152,7 +152,7 @@ fn find_moment(items: &Shown, fields: &Fields) -> Option<Moment>
         → result ≡ Some v }
     ensures value { IfSome result (IsMomentOf items.now (λ c. number_at c fields.now)) }
 {
-    let offset = offset_of_numbers(items, fields)?;
+    let offset = offset_of_numbers(items, fields);
     if shows_timestamp(items) {
         return moment_at_timestamp(items, fields, offset);
     }
@@ -222,15 +222,15 @@ fn time_of_numbers(items: &Shown, fields: &Fields) -> Time
 }
 
 /// Returns the offset of the numbers, or UTC if the items determine none.
-fn offset_of_numbers(items: &Shown, fields: &Fields) -> Option<UtcOffset>
+fn offset_of_numbers(items: &Shown, fields: &Fields) -> UtcOffset
     requires { (c : Component) → number_at c fields.now ≤ maximum c }
-    ensures value { result ≡ Some (if shows_offset items.now
+    ensures value { result ≡ (if shows_offset items.now
         then offset_in (λ c. number_at c fields.now)
         else pos 0) }
-    ensures range { IfSome result IsOffset }
+    ensures range { IsOffset result }
 {
     if !shows_offset(items) {
-        return Some(UtcOffset::UTC);
+        return UtcOffset::UTC;
     }
     offset_of(fields)
 }
