@@ -163,8 +163,7 @@ static PyObject *core_over_columns(PyObject *self, PyObject *const *given, Py_ss
         call++;
     }
     if (!call->name) {
-        PyErr_Format(PyExc_TypeError, "no call '%S'", given[0]);
-        return NULL;
+        return PyErr_Format(PyExc_TypeError, "no call '%S'", given[0]);
     }
     if (get_extra(&columns, call->extra, state, given[2]) &&
         get_columns(&columns, given[1], call->reads, 1) &&

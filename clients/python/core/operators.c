@@ -91,10 +91,13 @@ static PyObject *moved(const State *state, PyObject *self, PyObject *other, int 
     if (is_date_time) {
         return of_moment(state, type, MOVED(moment_checked, MOMENT(self)));
     }
-    if (is_delta && (by.seconds % 86400 || by.nanoseconds)) {
-        PyErr_SetString(PyExc_ValueError, "expected a timedelta of whole days; convert others with "
-            "SignedDuration.from_timedelta");
-        return NULL;
+    if (is_delta) {
+        int64_t days = by.seconds / 86400;
+        if (by.seconds % 86400 || by.nanoseconds) {
+            return PyErr_Format(PyExc_ValueError, "expected a timedelta of whole days; convert "
+                "others with SignedDuration.from_timedelta");
+        }
+        return of_date(state, fots_date_add_days(DATE(self), back ? -days : days));
     }
     return type == state->date ? of_date(state, MOVED(date_checked, DATE(self))) :
         type == state->time ? of_time(state, MOVED(time, TIME(self))) :
@@ -141,8 +144,7 @@ static PyObject *scaled(PyObject *self, PyObject *other, int is_quotient)
         return NULL;
     }
     if (is_quotient && !number) {
-        PyErr_SetString(PyExc_ZeroDivisionError, "division of a duration by zero");
-        return NULL;
+        return PyErr_Format(PyExc_ZeroDivisionError, "division of a duration by zero");
     }
     return of_duration(state, is_quotient ? fots_duration_checked_div(DURATION(self), number) :
         fots_duration_checked_mul(DURATION(self), number));
