@@ -4,6 +4,7 @@
 
 mod answer;
 pub mod args;
+pub mod clock;
 pub mod help;
 mod input;
 pub mod laws;
