@@ -2,6 +2,7 @@
 #![tactic(auto)]
 
 use caldate_run::args::arguments::{MAX_BYTES, join};
+use caldate_run::clock::read_clock;
 use caldate_run::program::perform;
 use caldate_run::zones::ZoneFiles;
 use caldate_run::zones::zone_source::{MAX_FILE_BYTES, MAX_PATH_BYTES, find_folder, read_missing};
@@ -10,6 +11,7 @@ use std::process::ExitCode;
 
 /// Returns status 0, or another status after writing the reason to standard error.
 fn main(rt: HostRuntime) -> ExitCode {
+    let now = read_clock(&rt);
     let mut arguments = [0u8; MAX_BYTES];
     let joined = match join(&rt, &mut arguments) {
         Some(length) => Some(&arguments[..length]),
@@ -39,6 +41,13 @@ fn main(rt: HostRuntime) -> ExitCode {
     }
     let mut reader = rt.reader();
     let mut writer = io::writer(&rt);
-    let ending = perform(joined, &files, &mut reader, &mut writer, &mut rt.stderr());
+    let ending = perform(
+        joined,
+        &now,
+        &files,
+        &mut reader,
+        &mut writer,
+        &mut rt.stderr(),
+    );
     ExitCode::from(ending.status)
 }

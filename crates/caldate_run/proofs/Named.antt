@@ -1,6 +1,6 @@
 -- Runs whose field has a name.
 use denote.Ref.{Bor}
-use Rattle.std.proofs.Common.{◌≡◌, ◌⊎◌, ◌<◌, ◌∙◌, ℕ, List, Bool, false, Option, Some, None, Result, Ok, inl, inr, length, subst, sym}
+use Rattle.std.proofs.Common.{◌≡◌, ◌⊎◌, ◌<◌, ◌∙◌, ℕ, ℤ, List, Bool, false, Option, Some, None, Result, Ok, inl, inr, length, subst, sym}
 use Rattle.std.specs.Prelude.{MatchOption}
 use Rattle.caldate_run.specs.Header.{EndsNamed, HasHeader, HasLine, header_error, header_of, name_of_field, number_of, numbered}
 use Rattle.caldate_run.specs.Meanings.{AreMeanings, Meanings}
@@ -56,21 +56,21 @@ named_weaker filter field old Runs Runs' Stops Stops' runs stops h = record {
 }
 
 -- ---- the command of the arguments
-pub same_named : (arguments : Option (Bor (List ℕ))) (bytes : Bor (List ℕ)) (files : ZoneFiles) (r : Result Command UsageError) (f filter : Filter) (k field : Field)
+pub same_named : (arguments : Option (Bor (List ℕ))) (bytes : Bor (List ℕ)) (now : Option ℤ) (files : ZoneFiles) (r : Result Command UsageError) (f filter : Filter) (k field : Field)
     → arguments ≡ Some bytes
-    → ((meanings : Meanings) → AreMeanings meanings (arguments_of bytes.now) → AreZones files meanings → r ≡ parse_args meanings (arguments_of bytes.now))
-    → r ≡ Ok (Named f k) → GivesCommand arguments files (Named filter field) → (f ≡ filter) × (k ≡ field)
-same_named arguments bytes files r f filter k field e asked is given =
-    let given = subst (λ (a : Option (Bor (List ℕ))). GivesCommand a files (Named filter field)) e given in
+    → ((meanings : Meanings) → AreMeanings meanings (arguments_of bytes.now) → AreZones files meanings → r ≡ parse_args now meanings (arguments_of bytes.now))
+    → r ≡ Ok (Named f k) → GivesCommand arguments now files (Named filter field) → (f ≡ filter) × (k ≡ field)
+same_named arguments bytes now files r f filter k field e asked is given =
+    let given = subst (λ (a : Option (Bor (List ℕ))). GivesCommand a now files (Named filter field)) e given in
     let same : ◌≡◌ {A = Result Command UsageError} (Ok (Named f k)) (Ok (Named filter field)) = sym is ∙ asked given.0 given.1 given.2 ∙ given.3 in
     ((cc), (cc))
 
-pub same_named_once : (arguments : Option (Bor (List ℕ))) (bytes : Bor (List ℕ)) (files : ZoneFiles) (r : Result Command UsageError) (f filter : Filter) (k field : Field) (text : List ℕ)
+pub same_named_once : (arguments : Option (Bor (List ℕ))) (bytes : Bor (List ℕ)) (now : Option ℤ) (files : ZoneFiles) (r : Result Command UsageError) (f filter : Filter) (k field : Field) (text : List ℕ)
     → arguments ≡ Some bytes
-    → ((meanings : Meanings) → AreMeanings meanings (arguments_of bytes.now) → AreZones files meanings → r ≡ parse_args meanings (arguments_of bytes.now))
-    → r ≡ Ok (NamedOnce f k) → GivesNamedOnce arguments files filter field text → (f ≡ filter) × (k ≡ field) × (text ≡ given_text bytes.now)
-same_named_once arguments bytes files r f filter k field text e asked is given =
-    let given = subst (λ (a : Option (Bor (List ℕ))). GivesNamedOnce a files filter field text) e given in
+    → ((meanings : Meanings) → AreMeanings meanings (arguments_of bytes.now) → AreZones files meanings → r ≡ parse_args now meanings (arguments_of bytes.now))
+    → r ≡ Ok (NamedOnce f k) → GivesNamedOnce arguments now files filter field text → (f ≡ filter) × (k ≡ field) × (text ≡ given_text now filter bytes.now)
+same_named_once arguments bytes now files r f filter k field text e asked is given =
+    let given = subst (λ (a : Option (Bor (List ℕ))). GivesNamedOnce a now files filter field text) e given in
     let command = given.0 in
     let same : ◌≡◌ {A = Result Command UsageError} (Ok (NamedOnce f k)) (Ok (NamedOnce filter field)) = sym is ∙ asked command.0 command.1 command.2 ∙ command.3 in
     ((cc), (cc), given.1)

@@ -1,6 +1,7 @@
 pub mod Answers
 pub mod Bounds
 pub mod Calls
+pub mod ClockWords
 pub mod Clocks
 pub mod UsageMessages
 pub mod Counts

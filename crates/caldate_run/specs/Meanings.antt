@@ -1,14 +1,16 @@
 -- The meanings of words: the date or moment that a word is a text of, the items of the format that
 -- it spells, and the zone that it names, or why it names none.
-use Rattle.std.specs.Prelude.{◌≡◌, ℕ, ◌+◌, ◌≤◌, ◌==◌, Bool, IsUtf8, is_some, List, [], length, take, drop, position, bytes_eq, codes, Option, MatchOption, Result, if◌then◌else◌}
+use Rattle.std.specs.Prelude.{ℕ, ◌+◌, ◌≤◌, ◌==◌, Bool, IsUtf8, is_some, List, [], length, take, drop, position, bytes_eq, codes, Option, Some, MatchOption, option_and_then, Result, if◌then◌else◌}
 use Rattle.std.specs.List.{All}
 use Rattle.std.specs.Option.{option_map_or}
+use Rattle.cal_datetime.specs.OffsetDateTime.{LocalAndOffset}
 use Rattle.cal_format.specs.Format.{Spells}
 use Rattle.cal_format.specs.declared.item.Item.{Item}
 use Rattle.cal_format.specs.declared.item.Syntax.TheVariants.{Percent}
 use Rattle.cal_text.specs.AnyForm.{IsTextOf}
 use Rattle.cal_text.specs.declared.any.DateOrMoment.{DateOrMoment}
 use Rattle.cal_zone.specs.Timeline.{Timeline}
+use Rattle.caldate_run.specs.ClockWords.{clock_word}
 use Rattle.caldate_run.specs.declared.zones.read_zone_error.ReadZoneError.{ReadZoneError}
 
 pub record Meaning : Type 0 where
@@ -19,8 +21,9 @@ pub record Meaning : Type 0 where
 abbrev pub Meanings : Type 0
 Meanings = List ℕ → Meaning
 
-abbrev pub found_in : Meanings → List ℕ → Option DateOrMoment
-found_in meanings word = (meanings word).found
+-- If the program knows when it started, `today` and `now` have a meaning too.
+abbrev pub found_in : Option LocalAndOffset → Meanings → List ℕ → Option DateOrMoment
+found_in now meanings word = option_map_or Some (option_and_then (λ m. clock_word m word) now) (meanings word).found
 
 -- `NAME=VALUE`: an option and its value in one word. A `=` is byte 61.
 abbrev pub name_of : List ℕ → List ℕ

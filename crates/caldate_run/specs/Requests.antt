@@ -1,7 +1,7 @@
 -- The command that the arguments give, or the first invalid word and its expected kind.
 use denote.Ref.{Bor}
-use Rattle.std.specs.Prelude.{ℕ, ◌+◌, ◌-◌, nat_lt, max, not, ◌&&◌, ◌||◌, Bool, true, false, is_none, is_some, unwrap_or, ℤ, pos, neg_ℤ, ◌*ℤ◌, int_le, nat_abs, List, [], ◌∷◌, ◌++◌, ◌==◌, length, take, drop, Option, Some, None, MatchOption, option_map, option_and_then, ok_or, Result, Ok, Err, slice_get, position, bytes_eq, codes, if◌then◌else◌, ◌*◌}
-use Rattle.std.specs.List.{All, slice_split}
+use Rattle.std.specs.Prelude.{ℕ, ◌+◌, ◌-◌, nat_lt, max, not, ◌&&◌, ◌||◌, Bool, true, false, is_none, is_some, unwrap_or, ℤ, pos, neg_ℤ, ◌*ℤ◌, int_le, nat_abs, List, [], ◌∷◌, ◌++◌, ◌==◌, length, take, drop, Option, Some, None, option_map, option_and_then, ok_or, Result, Ok, Err, slice_get, position, bytes_eq, codes, if◌then◌else◌, ◌*◌}
+use Rattle.std.specs.List.{slice_split}
 use Rattle.std.specs.Option.{option_map_or}
 use Rattle.std.specs.Result.{result_ok}
 use Rattle.std.specs.Str.{all_ascii_digits, str_eq_ignore_ascii_case}
@@ -15,9 +15,11 @@ use Rattle.cal_text.specs.declared.any.DateForm.TheVariants.{Calendar, Ordinal, 
 use Rattle.cal_text.specs.declared.any.DateOrMoment.{DateOrMoment}
 use Rattle.cal_text.specs.declared.any.DateOrMoment.TheVariants as dated
 use Rattle.cal_text.specs.declared.any.MomentForm.TheVariants.{Rfc3339, Unix}
+use Rattle.cal_datetime.specs.OffsetDateTime.{LocalAndOffset}
 use Rattle.cal_recurrence.specs.Text.{recurrence_of}
 use Rattle.cal_recurrence.specs.declared.recurrence.Recurrence.{Recurrence}
 use Rattle.cal_zone.specs.Timeline.{Timeline}
+use Rattle.caldate_run.specs.ClockWords.{now_in}
 use Rattle.caldate_run.specs.Meanings.{Meanings, found_in, is_format, name_of, value_in}
 use Rattle.caldate_run.specs.Offsets.{is_digit, offset_of}
 use Rattle.caldate_run.specs.Zones.{is_zone_like, zone_of}
@@ -235,24 +237,24 @@ in_unit_at words at =
     and_then (only_at words (at + 1) unit_of expected.UnitOfTime) (λ unit. Ok (Some unit)))
 
 -- `TEXT`, `TEXT in UNIT`
-abbrev pub target_at : Meanings → List (List ℕ) → ℕ → Result (DateOrMoment × Option TimeUnit) UsageError
-target_at meanings words at =
-    and_then (word_as words at (found_in meanings) expected.Target) (λ found.
+abbrev pub target_at : Option LocalAndOffset → Meanings → List (List ℕ) → ℕ → Result (DateOrMoment × Option TimeUnit) UsageError
+target_at now meanings words at =
+    and_then (word_as words at (found_in now meanings) expected.Target) (λ found.
     and_then (in_unit_at words (at + 1)) (λ unit. Ok (found, unit)))
 
 -- `from A to B`, `after A`, `before B`
-abbrev pub range_at : Meanings → List (List ℕ) → ℕ → Result Bounds UsageError
-range_at meanings words at =
-    and_then (word_as words at (found_in meanings) expected.Target) (λ first.
+abbrev pub range_at : Option LocalAndOffset → Meanings → List (List ℕ) → ℕ → Result Bounds UsageError
+range_at now meanings words at =
+    and_then (word_as words at (found_in now meanings) expected.Target) (λ first.
     and_then (word_as words (at + 1) (keyword (codes "to")) expected.UpTo) (λ to_word.
-    and_then (only_at words (at + 2) (found_in meanings) expected.Target) (λ last. Ok (FromTo first last))))
+    and_then (only_at words (at + 2) (found_in now meanings) expected.Target) (λ last. Ok (FromTo first last))))
 
-abbrev pub bounds_at : Meanings → List (List ℕ) → ℕ → Result Bounds UsageError
-bounds_at meanings words at =
+abbrev pub bounds_at : Option LocalAndOffset → Meanings → List (List ℕ) → ℕ → Result Bounds UsageError
+bounds_at now meanings words at =
     and_then (word_as words at Some expected.Bounds) (λ word.
-    if bytes_eq word (codes "from") then range_at meanings words (at + 1) else
-    if bytes_eq word (codes "after") then and_then (only_at words (at + 1) (found_in meanings) expected.Target) (λ bound. Ok (After bound)) else
-    if bytes_eq word (codes "before") then and_then (only_at words (at + 1) (found_in meanings) expected.Target) (λ bound. Ok (Before bound)) else
+    if bytes_eq word (codes "from") then range_at now meanings words (at + 1) else
+    if bytes_eq word (codes "after") then and_then (only_at words (at + 1) (found_in now meanings) expected.Target) (λ bound. Ok (After bound)) else
+    if bytes_eq word (codes "before") then and_then (only_at words (at + 1) (found_in now meanings) expected.Target) (λ bound. Ok (Before bound)) else
     Err (usage_error_at at expected.Bounds))
 
 -- `start PERIOD`, `start day`, `start hour`, `start minute`
@@ -291,26 +293,26 @@ abbrev pub expected_verb : ℕ → Expected
 expected_verb at = if at == 0 then expected.Start else expected.Verb
 
 -- The other verbs have these requests.
-abbrev pub further_request_at : Meanings → List (List ℕ) → ℕ → List ℕ → Result Request UsageError
-further_request_at meanings words at word =
+abbrev pub further_request_at : Option LocalAndOffset → Meanings → List (List ℕ) → ℕ → List ℕ → Result Request UsageError
+further_request_at now meanings words at word =
     if bytes_eq word (codes "start") then start_at words (at + 1) else
     if bytes_eq word (codes "end") then and_then (only_at words (at + 1) period_of expected.Period) (λ p. Ok (Move (move.End p))) else
     if bytes_eq word (codes "on-or-after") then and_then (only_at words (at + 1) weekday_of expected.Weekday) (λ w. Ok (Move (move.OnOrAfter w))) else
     if bytes_eq word (codes "on-or-before") then and_then (only_at words (at + 1) weekday_of expected.Weekday) (λ w. Ok (Move (move.OnOrBefore w))) else
     if bytes_eq word (codes "at") then and_then (place_at meanings words (at + 1)) (λ place. Ok (At place)) else
-    if bytes_eq word (codes "keep") then and_then (bounds_at meanings words (at + 1)) (λ bounds. Ok (Keep bounds)) else
+    if bytes_eq word (codes "keep") then and_then (bounds_at now meanings words (at + 1)) (λ bounds. Ok (Keep bounds)) else
     Err (usage_error_at at (expected_verb at))
 
-abbrev pub request_at : Meanings → List (List ℕ) → ℕ → Result Request UsageError
-request_at meanings words at =
+abbrev pub request_at : Option LocalAndOffset → Meanings → List (List ℕ) → ℕ → Result Request UsageError
+request_at now meanings words at =
     and_then (word_as words at Some (expected_verb at)) (λ word.
     if bytes_eq word (codes "to") then only_at words (at + 1) (to_of meanings) expected.Form else
     if bytes_eq word (codes "add") then amount_at words (at + 1) else
     if bytes_eq word (codes "next") then and_then (occurrence_at words (at + 1)) (λ o. Ok (Move (move.Next o.0 o.1))) else
     if bytes_eq word (codes "last") then and_then (occurrence_at words (at + 1)) (λ o. Ok (Move (move.Last o.0 o.1))) else
-    if bytes_eq word (codes "until") then and_then (target_at meanings words (at + 1)) (λ t. Ok (Until t.0 t.1)) else
-    if bytes_eq word (codes "since") then and_then (target_at meanings words (at + 1)) (λ t. Ok (Since t.0 t.1)) else
-    further_request_at meanings words at word)
+    if bytes_eq word (codes "until") then and_then (target_at now meanings words (at + 1)) (λ t. Ok (Until t.0 t.1)) else
+    if bytes_eq word (codes "since") then and_then (target_at now meanings words (at + 1)) (λ t. Ok (Since t.0 t.1)) else
+    further_request_at now meanings words at word)
 
 -- ---- lists: `from A to B`, and a pace
 -- The day of a date. A moment has none.
@@ -318,8 +320,8 @@ abbrev pub date_in : DateOrMoment → Option ℕ
 date_in (dated.Date form n) = Some n
 date_in (dated.Moment form m) = None
 
-abbrev pub date_at : Meanings → List (List ℕ) → ℕ → Result ℕ UsageError
-date_at meanings words at = and_then (word_as words at (found_in meanings) expected.Date) (λ found. ok_or (date_in found) (usage_error_at at expected.Date))
+abbrev pub date_at : Option LocalAndOffset → Meanings → List (List ℕ) → ℕ → Result ℕ UsageError
+date_at now meanings words at = and_then (word_as words at (found_in now meanings) expected.Date) (λ found. ok_or (date_in found) (usage_error_at at expected.Date))
 
 -- A step of n days, weeks, months or years.
 abbrev pub step_in : ℕ → TimeUnit → Option Step
@@ -354,12 +356,12 @@ abbrev pub paced : ℕ → ℕ → Pace → Command
 paced a b (Steps step) = Dates (record { first = a; last = b; step = step })
 paced a b (Rule recurrence) = Recurring (record { first = a; last = b; recurrence = recurrence })
 
-abbrev pub list_of : Meanings → List (List ℕ) → Result Command UsageError
-list_of meanings words =
+abbrev pub list_of : Option LocalAndOffset → Meanings → List (List ℕ) → Result Command UsageError
+list_of now meanings words =
     and_then (word_as words 1 (keyword (codes "from")) expected.From) (λ from_word.
-    and_then (date_at meanings words 2) (λ first.
+    and_then (date_at now meanings words 2) (λ first.
     and_then (word_as words 3 (keyword (codes "to")) expected.UpTo) (λ to_word.
-    and_then (date_at meanings words 4) (λ last.
+    and_then (date_at now meanings words 4) (λ last.
     and_then (pace_of words) (λ pace. Ok (paced first last pace))))))
 
 -- ---- the options before a request, in any order, each at most once
@@ -599,12 +601,13 @@ filter_of options request = record {
   skip = skip_in options;
 }
 
--- The options and the request from an index on.
-abbrev pub filter_at : Meanings → List (List ℕ) → ℕ → Result Filter UsageError
-filter_at meanings words at =
+-- The options and the request from an index on. `today` and `now` are shown at the offset of the
+-- zone.
+abbrev pub filter_at : Option ℤ → Meanings → List (List ℕ) → ℕ → Result Filter UsageError
+filter_at now meanings words at =
     and_then (options_from meanings None no_options at (drop at words)) (λ front.
     option_map_or (λ what. Err (usage_error_at front.1 what)) (conflict_in front.0)
-    (and_then (request_at meanings words front.1) (λ request. Ok (filter_of front.0 request))))
+    (and_then (request_at (now_in front.0.zone now) meanings words front.1) (λ request. Ok (filter_of front.0 request))))
 
 -- The field that has a name.
 abbrev pub named_field : Filter → Option Field
@@ -620,18 +623,19 @@ once_command filter = option_map_or (λ field. NamedOnce filter field) (named_fi
 abbrev pub some_text : List ℕ → Option (List ℕ)
 some_text word = if bytes_eq word [] then None else Some word
 
-abbrev pub once_of : Meanings → List (List ℕ) → Result Command UsageError
-once_of meanings words =
+abbrev pub once_of : Option ℤ → Meanings → List (List ℕ) → Result Command UsageError
+once_of now meanings words =
     and_then (word_as words 1 some_text expected.Target) (λ text.
-    and_then (filter_at meanings words 2) (λ filter. Ok (once_command filter)))
+    and_then (filter_at now meanings words 2) (λ filter. Ok (once_command filter)))
 
--- A single empty argument counts as no arguments.
-abbrev pub parse_args : Meanings → List (List ℕ) → Result Command UsageError
-parse_args meanings words =
+-- A single empty argument counts as no arguments. `now` is when the program started, at UTC, if the
+-- clock was read.
+abbrev pub parse_args : Option ℤ → Meanings → List (List ℕ) → Result Command UsageError
+parse_args now meanings words =
     and_then (word_as words 0 Some expected.Something) (λ first.
     if bytes_eq first [] && ends_at words 1 then Err (usage_error_at 0 expected.Something) else
     if asks_for_help first then ended words 1 Help else
     if bytes_eq first (codes "--version") then ended words 1 Version else
-    if bytes_eq first (codes "list") then list_of meanings words else
-    if bytes_eq first (codes "--date") then once_of meanings words else
-    and_then (filter_at meanings words 0) (λ filter. Ok (lines_command filter)))
+    if bytes_eq first (codes "list") then list_of (now_in None now) meanings words else
+    if bytes_eq first (codes "--date") then once_of now meanings words else
+    and_then (filter_at now meanings words 0) (λ filter. Ok (lines_command filter)))

@@ -9,6 +9,7 @@ ghost use Rattle.caldate_run.specs.Requests.{amount_at, amount_of, arguments_of,
 
 pub mod arguments;
 pub(crate) mod bounds;
+pub(crate) mod clock_words;
 pub(crate) mod formats;
 pub(crate) mod listing;
 pub(crate) mod offset;
@@ -19,6 +20,7 @@ pub(crate) mod usage_message;
 pub(crate) mod words;
 
 use crate::args::bounds::bounds_at;
+use crate::args::clock_words::now_in;
 use crate::args::formats::to_of;
 use crate::args::listing::list_of;
 use crate::args::offset::offset_of;
@@ -34,17 +36,23 @@ use crate::request::{
     Clock, Command, DayMove, Field, FieldNumbers, Filter, Place, Policy, Request, TimeUnit,
 };
 use crate::zones::{ZoneFiles, is_zone_like, zone_of};
+use cal_datetime::{OffsetDateTime, PlainDateTime};
 use cal_text::DateOrMoment;
 use cal_time::{SignedDuration, UtcOffset, Weekday};
 use cal_zone::Zone;
 
 /// Parses arguments with zero bytes between them, or returns the first invalid or missing word. In
-/// `add 1 fortnight` the word at index 2 is not a unit.
-pub fn parse_args<'a>(words: &'a [u8], files: &ZoneFiles<'a>) -> Result<Command<'a>, UsageError>
+/// `add 1 fortnight` the word at index 2 is not a unit. The words `today` and `now` mean the
+/// date-time `now`, which is at UTC.
+pub fn parse_args<'a>(
+    words: &'a [u8],
+    now: Option<PlainDateTime>,
+    files: &ZoneFiles<'a>,
+) -> Result<Command<'a>, UsageError>
     ensures steps { IfOk result HasValidStep }
     ensures value { (meanings : Meanings)
         → AreMeanings meanings (arguments_of words.now)
-        → AreZones files.now meanings → result ≡ parse_args meanings (arguments_of words.now) }
+        → AreZones files.now meanings → result ≡ parse_args now meanings (arguments_of words.now) }
 {
     let nothing = usage_error_at(0, Expected::Something);
     let first = word_at(words, 0).ok_or(nothing)?;
@@ -55,20 +63,24 @@ pub fn parse_args<'a>(words: &'a [u8], files: &ZoneFiles<'a>) -> Result<Command<
     } else if first == b"--version".as_slice() {
         ended(words, 1, Command::Version)
     } else if first == b"list".as_slice() {
-        list_of(words)
+        list_of(words, &now_in(&None, now))
     } else if first == b"--date".as_slice() {
-        once_of(words, files)
+        once_of(words, now, files)
     } else {
-        Ok(lines_command(filter_at(words, Some(words), 0, files)?))
+        Ok(lines_command(filter_at(words, Some(words), 0, now, files)?))
     }
 }
 
 /// Parses the text after `--date`, options and a request.
-fn once_of<'a>(words: &'a [u8], files: &ZoneFiles<'a>) -> Result<Command<'a>, UsageError>
+fn once_of<'a>(
+    words: &'a [u8],
+    now: Option<PlainDateTime>,
+    files: &ZoneFiles<'a>,
+) -> Result<Command<'a>, UsageError>
     ensures steps { IfOk result HasValidStep }
     ensures value { (meanings : Meanings)
         → AreMeanings meanings (arguments_of words.now)
-        → AreZones files.now meanings → result ≡ once_of meanings (arguments_of words.now) }
+        → AreZones files.now meanings → result ≡ once_of now meanings (arguments_of words.now) }
 {
     let Some(rest) = cut(words).1 else {
         return Err(usage_error_at(1, Expected::Target));
@@ -77,7 +89,7 @@ fn once_of<'a>(words: &'a [u8], files: &ZoneFiles<'a>) -> Result<Command<'a>, Us
     if text == b"".as_slice() {
         return Err(usage_error_at(1, Expected::Target));
     }
-    Ok(once_command(filter_at(words, rest, 2, files)?))
+    Ok(once_command(filter_at(words, rest, 2, now, files)?))
 }
 
 /// Returns the command for the lines of the input.
@@ -118,18 +130,19 @@ fn filter_at<'a>(
     words: &[u8],
     rest: Option<&'a [u8]>,
     at: usize,
+    now: Option<PlainDateTime>,
     files: &ZoneFiles<'a>,
 ) -> Result<Filter<'a>, UsageError>
     requires few { at ≤ 2 }
     requires rest { words_left rest ≡ drop at (arguments_of words.now) }
     ensures { (meanings : Meanings) → AreMeanings meanings (arguments_of words.now)
-        → AreZones files.now meanings → result ≡ filter_at meanings (arguments_of words.now) at }
+        → AreZones files.now meanings → result ≡ filter_at now meanings (arguments_of words.now) at }
 {
     let (options, at) = options_of(rest, at, files)?;
     if let Some(expected) = conflict_in(&options) {
         return Err(usage_error_at(at, expected));
     }
-    let request = request_at(words, at, files)?;
+    let request = request_at(words, at, now_in(&options.zone, now), files)?;
     Ok(filter_of(options, request))
 }
 
@@ -184,10 +197,15 @@ fn default_mode(request: &Request<'_>, fields: Option<FieldNumbers>) -> OnInvali
 }
 
 /// Parses the request whose verb has this index.
-fn request_at<'a>(words: &[u8], at: usize, files: &ZoneFiles<'a>) -> Result<Request<'a>, UsageError>
+fn request_at<'a>(
+    words: &[u8],
+    at: usize,
+    now: Option<OffsetDateTime>,
+    files: &ZoneFiles<'a>,
+) -> Result<Request<'a>, UsageError>
     requires { at + 5 < 2 ^ 64 }
     ensures { (meanings : Meanings) → AreMeanings meanings (arguments_of words.now)
-        → AreZones files.now meanings → result ≡ request_at meanings (arguments_of words.now) at }
+        → AreZones files.now meanings → result ≡ request_at now meanings (arguments_of words.now) at }
 {
     let usage_error = usage_error_at(at, expected_verb(at));
     let verb = word_at(words, at).ok_or(usage_error)?;
@@ -202,13 +220,13 @@ fn request_at<'a>(words: &[u8], at: usize, files: &ZoneFiles<'a>) -> Result<Requ
         let (weekday, count) = occurrence_at(words, at + 1)?;
         Ok(Request::Move(DayMove::Last(weekday, count)))
     } else if verb == b"until".as_slice() {
-        let (target, unit) = target_at(words, at + 1)?;
+        let (target, unit) = target_at(words, at + 1, now)?;
         Ok(Request::Until(target, unit))
     } else if verb == b"since".as_slice() {
-        let (target, unit) = target_at(words, at + 1)?;
+        let (target, unit) = target_at(words, at + 1, now)?;
         Ok(Request::Since(target, unit))
     } else {
-        further_request_at(words, at, verb, files)
+        further_request_at(words, at, verb, now, files)
     }
 }
 
@@ -217,11 +235,12 @@ fn further_request_at<'a>(
     words: &[u8],
     at: usize,
     verb: &[u8],
+    now: Option<OffsetDateTime>,
     files: &ZoneFiles<'a>,
 ) -> Result<Request<'a>, UsageError>
     requires { at + 5 < 2 ^ 64 }
     ensures { (meanings : Meanings) → AreMeanings meanings (arguments_of words.now)
-        → AreZones files.now meanings → result ≡ further_request_at meanings (arguments_of words.now) at verb.now }
+        → AreZones files.now meanings → result ≡ further_request_at now meanings (arguments_of words.now) at verb.now }
 {
     if verb == b"start".as_slice() {
         start_at(words, at + 1)
@@ -234,7 +253,7 @@ fn further_request_at<'a>(
     } else if verb == b"at".as_slice() {
         Ok(Request::At(place_at(words, at + 1, files)?))
     } else if verb == b"keep".as_slice() {
-        Ok(Request::Keep(bounds_at(words, at + 1)?))
+        Ok(Request::Keep(bounds_at(words, at + 1, now)?))
     } else {
         Err(usage_error_at(at, expected_verb(at)))
     }
@@ -402,12 +421,16 @@ fn count_at(words: &[u8], at: usize) -> Result<u8, UsageError>
 }
 
 /// Parses `TEXT` or `TEXT in UNIT`.
-fn target_at(words: &[u8], at: usize) -> Result<(DateOrMoment, Option<TimeUnit>), UsageError>
+fn target_at(
+    words: &[u8],
+    at: usize,
+    now: Option<OffsetDateTime>,
+) -> Result<(DateOrMoment, Option<TimeUnit>), UsageError>
     requires { at + 3 < 2 ^ 64 }
     ensures { (meanings : Meanings) → AreMeanings meanings (arguments_of words.now)
-        → result ≡ target_at meanings (arguments_of words.now) at }
+        → result ≡ target_at now meanings (arguments_of words.now) at }
 {
-    let target = found_at(words, at, Expected::Target)?;
+    let target = found_at(words, at, Expected::Target, now)?;
     Ok((target, in_unit_at(words, at + 1)?))
 }
 

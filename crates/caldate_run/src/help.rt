@@ -60,7 +60,8 @@ no answer, or 2 if the arguments are invalid, or the input or the output fails.
 Names of weekdays, units and periods may have any case, or only their first three letters: fri, min.
 A unit may be singular: day. A line is a date, such as 2024-02-29, 2024-060, 2024-W09-4 or J2460370,
 or a moment, such as 2024-02-29T23:59:59.25+01:00 or @1709164800.5. Zones are the files of the
-folder in the variable TZDIR, or of /usr/share/zoneinfo.
+folder in the variable TZDIR, or of /usr/share/zoneinfo. DATE, A and B may also be today or now: the
+moment of the start, and its date at UTC or in the zone of --zone.
 
   echo 2024-02-29 | caldate to week                        2024-W09-4
   echo 2024-W09-4 | caldate to weekday                     Thursday

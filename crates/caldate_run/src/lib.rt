@@ -4,6 +4,7 @@
 
 mod answer;
 pub mod args;
+pub mod clock;
 pub mod field_name;
 mod header;
 pub mod help;

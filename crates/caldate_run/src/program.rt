@@ -1,10 +1,10 @@
 //! The program, from its arguments to its status.
-ghost use Rattle.std.specs.Prelude.{◌≡◌, ℕ, List, Option, Some, None, Result, Ok, Err};
+ghost use Rattle.std.specs.Prelude.{◌≡◌, ℕ, List, Option, Some, None, Result, Ok, Err, unwrap_or};
 ghost use Rattle.caldate_run.specs.Calls.{Reads, Writes, has_read_failure, most_reads, write_failure};
 ghost use Rattle.caldate_run.specs.Ending.{ReportsOutcome};
 ghost use Rattle.caldate_run.specs.Header.{EndsNamed};
 ghost use Rattle.caldate_run.specs.Lists.{Lists};
-ghost use Rattle.caldate_run.specs.Program.{GivesCommand, GivesCommandOnce, GivesNamedOnce, HasUsageMessage, given_text};
+ghost use Rattle.caldate_run.specs.Program.{GivesCommand, GivesCommandOnce, GivesNamedOnce, HasUsageMessage, given_text, given_word};
 ghost use Rattle.caldate_run.specs.Recurring.{ListsOccurrences};
 ghost use Rattle.caldate_run.specs.Runs.{IsRunResult, WritesPage};
 ghost use Rattle.caldate_run.specs.declared.run.run_error.RunError.{RunError};
@@ -14,6 +14,7 @@ ghost use Rattle.caldate_run.specs.declared.request.Listing.{Listing};
 ghost use Rattle.caldate_run.specs.declared.request.Occurrences.{Occurrences};
 ghost use Rattle.caldate_run.specs.declared.args.usage_error.UsageError.{UsageError};
 
+use crate::args::clock_words::clock_text;
 use crate::args::parse_args;
 use crate::args::usage_message::{TOO_LONG, report_usage_error};
 use crate::args::words::word_at;
@@ -21,42 +22,47 @@ use crate::help::{HELP, VERSION};
 use crate::list::list;
 use crate::list::recurring::list_occurrences;
 use crate::output::write_all;
-use crate::request::Command;
+use crate::request::{Command, Field, Filter};
 use crate::run::ending::{Ending, end};
 use crate::run::named::run_named;
 use crate::run::run;
+use crate::run::run_error::RunError;
 use crate::streams::{Sink, Source};
 use crate::zones::ZoneFiles;
+use cal_datetime::PlainDateTime;
+use cal_time::ShortText;
 
 /// The status for invalid arguments.
 const INVALID_ARGUMENTS: u8 = 2;
 
-/// Runs the command of the arguments, which have zero bytes between them, with the files of the zones
-/// that they name. Returns the status and
-/// the result of writing to standard error. If the arguments are invalid, or `None` because they
-/// are too long, this only writes one line to standard error, and the status is 2.
+/// Runs the command of the arguments, which have zero bytes between them, with the files of the
+/// zones that they name. The words `today` and `now` mean the date-time `now`, which is at UTC.
+/// Returns the status and the result of writing to standard error. If the arguments are invalid, or
+/// `None` because they are too long, this only writes one line to standard error, and the status is
+/// 2.
 #[tactic(auto, using(crate::proofs::Calls::sent_all))]
 pub fn perform<R: Source, W: Sink, E: Sink>(
     arguments: Option<&[u8]>,
+    now: &Option<PlainDateTime>,
     files: &ZoneFiles<'_>,
     reader: &mut R,
     writer: &mut W,
     errors: &mut E,
 ) -> Ending
-    ensures lines { (filter : Filter) → GivesCommand arguments.entry files.now (Command.Lines filter)
+    ensures lines { (filter : Filter) → GivesCommand arguments.entry now.now files.now (Command.Lines filter)
         → (outcome : Result Unit RunError)
         × IsRunResult filter outcome (R.remaining reader.old) (R.remaining reader.new)
         (W.contents writer.old) (W.contents writer.new)
         × Reads R.read_gives most_reads reader.old (has_read_failure outcome) reader.new
         × Writes W.write_gives writer.old (write_failure outcome) writer.new
         × ReportsOutcome outcome result (E.contents errors.old) (E.contents errors.new) }
-    ensures once { (filter : Filter) (text : List ℕ) → GivesCommandOnce arguments.entry files.now filter text
+    ensures once { (filter : Filter) (text : List ℕ) → GivesCommandOnce arguments.entry now.now files.now filter text
         → (reader.new ≡ reader.old) × ((outcome : Result Unit RunError) × (rest : Option (List ℕ))
         × IsRunResult filter outcome (Some text) rest (W.contents writer.old) (W.contents writer.new)
         × Writes W.write_gives writer.old (write_failure outcome) writer.new
         × ReportsOutcome outcome result (E.contents errors.old) (E.contents errors.new)) }
     ensures named { (filter : Filter) (field : Field)
-        → GivesCommand arguments.entry files.now (Command.Named filter field)
+        → GivesCommand arguments.entry now.now files.now (Command.Named filter field)
         → EndsNamed filter field (R.remaining reader.old)
         (λ own outcome. IsRunResult own outcome (R.remaining reader.old) (R.remaining reader.new)
         (W.contents writer.old) (W.contents writer.new)
@@ -67,7 +73,7 @@ pub fn perform<R: Source, W: Sink, E: Sink>(
         × (writer.new ≡ writer.old) × (result.status ≡ 2)
         × WritesPage words result.reported (E.contents errors.old) (E.contents errors.new)) }
     ensures named_once { (filter : Filter) (field : Field) (text : List ℕ)
-        → GivesNamedOnce arguments.entry files.now filter field text
+        → GivesNamedOnce arguments.entry now.now files.now filter field text
         → (reader.new ≡ reader.old) × ((rest : Option (List ℕ))
         × EndsNamed filter field (Some text)
         (λ own outcome. IsRunResult own outcome (Some text) rest
@@ -76,27 +82,27 @@ pub fn perform<R: Source, W: Sink, E: Sink>(
         × ReportsOutcome outcome result (E.contents errors.old) (E.contents errors.new))
         (λ failed words. (writer.new ≡ writer.old) × (result.status ≡ 2)
         × WritesPage words result.reported (E.contents errors.old) (E.contents errors.new))) }
-    ensures list { (listing : Listing) → GivesCommand arguments.entry files.now (Command.Dates listing)
+    ensures list { (listing : Listing) → GivesCommand arguments.entry now.now files.now (Command.Dates listing)
         → (reader.new ≡ reader.old) × ((outcome : Result Unit RunError)
         × Lists listing outcome (W.contents writer.old) (W.contents writer.new)
         × Writes W.write_gives writer.old (write_failure outcome) writer.new
         × ReportsOutcome outcome result (E.contents errors.old) (E.contents errors.new)) }
-    ensures recurring { (dates : Occurrences) → GivesCommand arguments.entry files.now (Command.Recurring dates)
+    ensures recurring { (dates : Occurrences) → GivesCommand arguments.entry now.now files.now (Command.Recurring dates)
         → (reader.new ≡ reader.old) × ((outcome : Result Unit RunError)
         × ListsOccurrences dates outcome (W.contents writer.old) (W.contents writer.new)
         × Writes W.write_gives writer.old (write_failure outcome) writer.new
         × ReportsOutcome outcome result (E.contents errors.old) (E.contents errors.new)) }
-    ensures help { GivesCommand arguments.entry files.now Command.Help
+    ensures help { GivesCommand arguments.entry now.now files.now Command.Help
         → (reader.new ≡ reader.old) × ((outcome : Result Unit RunError)
         × WritesPage HELP.now outcome (W.contents writer.old) (W.contents writer.new)
         × Writes W.write_gives writer.old (write_failure outcome) writer.new
         × ReportsOutcome outcome result (E.contents errors.old) (E.contents errors.new)) }
-    ensures version { GivesCommand arguments.entry files.now Command.Version
+    ensures version { GivesCommand arguments.entry now.now files.now Command.Version
         → (reader.new ≡ reader.old) × ((outcome : Result Unit RunError)
         × WritesPage VERSION.now outcome (W.contents writer.old) (W.contents writer.new)
         × Writes W.write_gives writer.old (write_failure outcome) writer.new
         × ReportsOutcome outcome result (E.contents errors.old) (E.contents errors.new)) }
-    ensures usage_error { (words : List ℕ) → HasUsageMessage arguments.entry files.now words
+    ensures usage_error { (words : List ℕ) → HasUsageMessage arguments.entry now.now files.now words
         → (reader.new ≡ reader.old) × (writer.new ≡ writer.old) × (result.status ≡ 2)
         × WritesPage words result.reported (E.contents errors.old) (E.contents errors.new) }
     ensures reported { Writes E.write_gives errors.old (write_failure result.reported) errors.new }
@@ -107,20 +113,18 @@ pub fn perform<R: Source, W: Sink, E: Sink>(
             reported: write_all(errors, TOO_LONG),
         };
     };
-    match parse_args(arguments, files) {
+    match parse_args(arguments, *now, files) {
         Ok(Command::Lines(filter)) => {
             let outcome = run(filter, reader, writer);
             end(outcome, errors)
         }
         Ok(Command::Named(filter, field)) => run_named(filter, field, reader, writer, errors),
         Ok(Command::Once(filter)) => {
-            let mut text = given_text(arguments);
-            let outcome = run(filter, &mut text, writer);
+            let outcome = run_once(filter, arguments, *now, writer);
             end(outcome, errors)
         }
         Ok(Command::NamedOnce(filter, field)) => {
-            let mut text = given_text(arguments);
-            run_named(filter, field, &mut text, writer, errors)
+            run_named_once(filter, field, arguments, *now, writer, errors)
         }
         Ok(Command::Dates(listing)) => {
             let outcome = list(&listing, writer);
@@ -139,9 +143,61 @@ pub fn perform<R: Source, W: Sink, E: Sink>(
     }
 }
 
-/// Returns the text after `--date`, or an empty one.
-fn given_text(arguments: &[u8]) -> &[u8]
-    ensures { result.now ≡ given_text arguments.now }
+/// Answers the text after `--date`.
+fn run_once<W: Sink>(
+    filter: Filter<'_>,
+    arguments: &[u8],
+    now: Option<PlainDateTime>,
+    writer: &mut W,
+) -> Result<(), RunError>
+    ensures ended { (rest : Option (List ℕ)) × IsRunResult filter.entry result
+        (Some (given_text now filter.entry arguments.now)) rest (W.contents writer.old) (W.contents writer.new) }
+    ensures writes { Writes W.write_gives writer.old (write_failure result) writer.new }
+{
+    let word = given_word(arguments);
+    let written = clock_text(word, &filter.clock, now);
+    let mut text = text_or(&written, word);
+    run(filter, &mut text, writer)
+}
+
+/// Answers the text after `--date`, whose field has a name.
+fn run_named_once<W: Sink, E: Sink>(
+    filter: Filter<'_>,
+    field: Field,
+    arguments: &[u8],
+    now: Option<PlainDateTime>,
+    writer: &mut W,
+    errors: &mut E,
+) -> Ending
+    ensures ended { (rest : Option (List ℕ))
+        × EndsNamed filter.entry field (Some (given_text now filter.entry arguments.now))
+        (λ own outcome. IsRunResult own outcome (Some (given_text now filter.entry arguments.now)) rest
+        (W.contents writer.old) (W.contents writer.new)
+        × Writes W.write_gives writer.old (write_failure outcome) writer.new
+        × ReportsOutcome outcome result (E.contents errors.old) (E.contents errors.new))
+        (λ failed words. (writer.new ≡ writer.old) × (result.status ≡ 2)
+        × WritesPage words result.reported (E.contents errors.old) (E.contents errors.new)) }
+    ensures reported { Writes E.write_gives errors.old (write_failure result.reported) errors.new }
+{
+    let word = given_word(arguments);
+    let written = clock_text(word, &filter.clock, now);
+    let mut text = text_or(&written, word);
+    run_named(filter, field, &mut text, writer, errors)
+}
+
+/// Returns the text, or the word if there is none.
+fn text_or<'a>(text: &'a Option<ShortText>, word: &'a [u8]) -> &'a [u8]
+    ensures { result.now ≡ unwrap_or text.now word.now }
+{
+    match text {
+        Some(text) => text.as_bytes(),
+        None => word,
+    }
+}
+
+/// Returns the word after `--date`, or an empty one.
+fn given_word(arguments: &[u8]) -> &[u8]
+    ensures { result.now ≡ given_word arguments.now }
 {
     match word_at(arguments, 1) {
         Some(text) => text,

@@ -13,6 +13,7 @@ use std::io::{ErrorKind, Read, Write};
 use std::process::Abort;
 
 mod arguments;
+mod clock;
 mod long;
 mod named;
 mod one_answer;
@@ -27,7 +28,7 @@ fn run_by<R: Read, W: Write>(
     reader: &mut R,
     writer: &mut W,
 ) -> Result<(), RunError> {
-    match parse_args(arguments, &ZoneFiles::none()) {
+    match parse_args(arguments, None, &ZoneFiles::none()) {
         Ok(Command::Lines(filter)) => run(filter, reader, writer),
         Ok(Command::Dates(listing)) => list(&listing, writer),
         _ => Err(RunError::Write(ErrorKind::InvalidInput)),

@@ -8,45 +8,50 @@ use crate::answer::{is_date, moment_of};
 use crate::args::usage_error::{Expected, UsageError, usage_error_at};
 use crate::args::words::{ended, found_at, keyword_at, word_at};
 use crate::request::Bounds;
+use cal_datetime::OffsetDateTime;
 use cal_text::DateOrMoment;
 
 /// Parses `from A to B`, `after A` or `before B`.
-pub fn bounds_at(words: &[u8], at: usize) -> Result<Bounds, UsageError>
+pub fn bounds_at(words: &[u8], at: usize, now: Option<OffsetDateTime>) -> Result<Bounds, UsageError>
     requires { at + 4 < 2 ^ 64 }
     ensures { (meanings : Meanings) → AreMeanings meanings (arguments_of words.now)
-        → result ≡ bounds_at meanings (arguments_of words.now) at }
+        → result ≡ bounds_at now meanings (arguments_of words.now) at }
 {
     let unbound = usage_error_at(at, Expected::Bounds);
     let word = word_at(words, at).ok_or(unbound)?;
     if word == b"from".as_slice() {
-        range_at(words, at + 1)
+        range_at(words, at + 1, now)
     } else if word == b"after".as_slice() {
-        Ok(Bounds::After(bound_at(words, at + 1)?))
+        Ok(Bounds::After(bound_at(words, at + 1, now)?))
     } else if word == b"before".as_slice() {
-        Ok(Bounds::Before(bound_at(words, at + 1)?))
+        Ok(Bounds::Before(bound_at(words, at + 1, now)?))
     } else {
         Err(unbound)
     }
 }
 
-fn bound_at(words: &[u8], at: usize) -> Result<DateOrMoment, UsageError>
+fn bound_at(
+    words: &[u8],
+    at: usize,
+    now: Option<OffsetDateTime>,
+) -> Result<DateOrMoment, UsageError>
     requires { at + 1 < 2 ^ 64 }
     ensures { (meanings : Meanings) → AreMeanings meanings (arguments_of words.now)
-        → result ≡ only_at (arguments_of words.now) at (found_in meanings) Expected.Target }
+        → result ≡ only_at (arguments_of words.now) at (found_in now meanings) Expected.Target }
 {
-    let bound = found_at(words, at, Expected::Target)?;
+    let bound = found_at(words, at, Expected::Target, now)?;
     ended(words, at + 1, bound)
 }
 
 /// Parses `A to B`.
-fn range_at(words: &[u8], at: usize) -> Result<Bounds, UsageError>
+fn range_at(words: &[u8], at: usize, now: Option<OffsetDateTime>) -> Result<Bounds, UsageError>
     requires { at + 3 < 2 ^ 64 }
     ensures { (meanings : Meanings) → AreMeanings meanings (arguments_of words.now)
-        → result ≡ range_at meanings (arguments_of words.now) at }
+        → result ≡ range_at now meanings (arguments_of words.now) at }
 {
-    let first = found_at(words, at, Expected::Target)?;
+    let first = found_at(words, at, Expected::Target, now)?;
     keyword_at(words, at + 1, b"to", Expected::UpTo)?;
-    Ok(Bounds::FromTo(first, bound_at(words, at + 2)?))
+    Ok(Bounds::FromTo(first, bound_at(words, at + 2, now)?))
 }
 
 /// Returns whether it lies within the bounds, or `None` for a date if a bound is a moment. For

@@ -10,31 +10,32 @@ use crate::args::usage_error::{Expected, UsageError, usage_error_at};
 use crate::args::words::{ended, ends_at, found_at, keyword_at, only_at, word_as, word_at};
 use crate::request::{Command, Listing, Occurrences, Pace, Step, StepUnit, TimeUnit};
 use crate::run::lines::index_of;
+use cal_datetime::OffsetDateTime;
 use cal_recurrence::{Recurrence, parse};
 use cal_text::DateOrMoment;
 use cal_time::Date;
 
 /// Parses `list from A to B`, `list from A to B by N UNIT` or `list from A to B by RULE`.
-pub fn list_of(words: &[u8]) -> Result<Command<'static>, UsageError>
+pub fn list_of(words: &[u8], now: &Option<OffsetDateTime>) -> Result<Command<'static>, UsageError>
     ensures steps { IfOk result HasValidStep }
     ensures list { (meanings : Meanings)
         → AreMeanings meanings (arguments_of words.now)
-        → result ≡ list_of meanings (arguments_of words.now) }
+        → result ≡ list_of now.now meanings (arguments_of words.now) }
 {
     keyword_at(words, 1, b"from", Expected::From)?;
-    let first = date_at(words, 2)?;
+    let first = date_at(words, 2, now)?;
     keyword_at(words, 3, b"to", Expected::UpTo)?;
-    let last = date_at(words, 4)?;
+    let last = date_at(words, 4, now)?;
     let pace = pace_of(words)?;
     Ok(paced(first, last, pace))
 }
 
 /// Parses the word at an index as a date.
-fn date_at(words: &[u8], at: usize) -> Result<Date, UsageError>
+fn date_at(words: &[u8], at: usize, now: &Option<OffsetDateTime>) -> Result<Date, UsageError>
     ensures { (meanings : Meanings) → AreMeanings meanings (arguments_of words.now)
-        → result ≡ date_at meanings (arguments_of words.now) at }
+        → result ≡ date_at now.now meanings (arguments_of words.now) at }
 {
-    let found = found_at(words, at, Expected::Date)?;
+    let found = found_at(words, at, Expected::Date, *now)?;
     date_in(&found).ok_or(usage_error_at(at, Expected::Date))
 }
 

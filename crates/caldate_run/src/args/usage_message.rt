@@ -54,10 +54,10 @@ const WEEKDAYS: &[u8] =
 const NUMBERS: &[u8] = b"; expected an integer from -9223372036854775808 to 9223372036854775807";
 
 /// Examples of a date, or of a moment.
-const MOMENTS: &[u8] = b"; expected one such as 2024-02-29 or 2024-02-29T23:59:59Z";
+const MOMENTS: &[u8] = b"; expected one such as 2024-02-29, 2024-02-29T23:59:59Z, today or now";
 
 /// Examples of a date.
-const DATES: &[u8] = b"; expected one such as 2024-02-29, 2024-060, 2024-W09-4 or J2460370";
+const DATES: &[u8] = b"; expected one such as 2024-02-29, 2024-060, 2024-W09-4, J2460370 or today";
 
 /// The argument of `by`.
 const NUMBERS_AND_RULES: &[u8] =

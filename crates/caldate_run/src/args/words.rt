@@ -4,8 +4,10 @@ ghost use Rattle.std.specs.Prelude.{◌≡◌, ◌∷◌, ◌+◌, ◌<◌, ◌^
 ghost use Rattle.caldate_run.specs.Meanings.{AreMeanings, IsMeaning, Meanings, found_in};
 ghost use Rattle.caldate_run.specs.Requests.{and_then, arguments_of, ended, ends_at, keyword, usage_error_at, word_as, words_left};
 
+use crate::args::clock_words::clock_word;
 use crate::args::usage_error::{Expected, UsageError, usage_error_at};
 use crate::run::lines::index_of;
+use cal_datetime::OffsetDateTime;
 use cal_text::{DateOrMoment, parse_any};
 
 /// Splits off the first word, and returns the words after its zero byte, if it has one.
@@ -64,21 +66,29 @@ pub fn keyword_at(
     }
 }
 
-/// Parses the word at an index as a date or a moment.
-pub fn found_at(words: &[u8], at: usize, expected: Expected) -> Result<DateOrMoment, UsageError>
+/// Parses the word at an index as a date or a moment, which may be `today` or `now`.
+pub fn found_at(
+    words: &[u8],
+    at: usize,
+    expected: Expected,
+    now: Option<OffsetDateTime>,
+) -> Result<DateOrMoment, UsageError>
     ensures { (meanings : Meanings) → AreMeanings meanings (arguments_of words.now)
-        → result ≡ word_as (arguments_of words.now) at (found_in meanings) expected }
+        → result ≡ word_as (arguments_of words.now) at (found_in now meanings) expected }
 {
     match word_at(words, at) {
-        Some(word) => found_in(word).ok_or(usage_error_at(at, expected)),
+        Some(word) => found_in(word, now).ok_or(usage_error_at(at, expected)),
         None => Err(usage_error_at(at, expected)),
     }
 }
 
-fn found_in(text: &[u8]) -> Option<DateOrMoment>
+fn found_in(text: &[u8], now: Option<OffsetDateTime>) -> Option<DateOrMoment>
     ensures { (meanings : Meanings) → IsMeaning meanings text.now
-        → result ≡ found_in meanings text.now }
+        → result ≡ found_in now meanings text.now }
 {
+    if let Some(found) = clock_word(text, now) {
+        return Some(found);
+    }
     match parse_any(text) {
         Ok(found) => Some(found),
         Err(_) => None,

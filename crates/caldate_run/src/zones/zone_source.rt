@@ -60,7 +60,7 @@ pub fn missing_name<'a>(arguments: &'a [u8], files: &ZoneFiles<'_>) -> Option<&'
     ensures name { IfSome result (λ name. is_zone_name name.now ≡ true) }
     ensures missing { IfSome result (λ name. file_named files.now name.now ≡ None) }
 {
-    let Err(usage_error) = parse_args(arguments, files) else {
+    let Err(usage_error) = parse_args(arguments, None, files) else {
         return None;
     };
     if usage_error.expected != Expected::Zone {

@@ -9,6 +9,7 @@ ghost use Rattle.caldate_run.specs.Replies.{IsReplyTo};
 ghost use Rattle.caldate_run.specs.Runs.{IsComplete};
 ghost use Rattle.caldate_run.specs.declared.run.tally.Tally.{Tally};
 
+use cal_datetime::PlainDateTime;
 use caldate_run::args::parse_args;
 use caldate_run::args::usage_error::UsageError;
 use caldate_run::laws::{have_zones, one_reply};
@@ -85,6 +86,7 @@ fn occurrences<W: Sink>(
 
 fn asks<'a>(
     arguments: &'a [u8],
+    now: &Option<PlainDateTime>,
     files: &ZoneFiles<'a>,
 ) -> (
     Result<Command<'a>, UsageError>,
@@ -93,5 +95,8 @@ fn asks<'a>(
     ensures { result.0 ≡ result.1 }
 {
     have_zones(arguments, files);
-    (parse_args(arguments, files), parse_args(arguments, files))
+    (
+        parse_args(arguments, *now, files),
+        parse_args(arguments, *now, files),
+    )
 }

@@ -175,6 +175,7 @@ fn check_kind<H: Abort + AllocGlobal>(rt: &H, arguments: &[u8], kind: ErrorKind)
     let mut reported = Vec::new(rt.alloc());
     let ending = perform(
         Some(arguments),
+        &None,
         &ZoneFiles::none(),
         &mut INPUT,
         &mut writer,

@@ -23,11 +23,11 @@ returns-in-Some c = λ meanings h zones.
 pub returns-in_err-request : goal.returns-in_err-request
 returns-in_err-request c = λ meanings h zones.
     let front = c.options_of.ensures.options meanings (subst (AreMeanings meanings) (sym c.requires.rest) (All-drop (AreMeant meanings) c.args.at (arguments_of c.args.words.now) h)) zones in
-    let request = c.request_at.ensures meanings h zones in
+    let request = rw c.now_in.ensures at (c.request_at.ensures meanings h zones) in
     search rules
 
 pub returns : goal.returns
 returns c = λ meanings h zones.
     let front = c.options_of.ensures.options meanings (subst (AreMeanings meanings) (sym c.requires.rest) (All-drop (AreMeant meanings) c.args.at (arguments_of c.args.words.now) h)) zones in
-    let request = c.request_at.ensures meanings h zones in
+    let request = rw c.now_in.ensures at (c.request_at.ensures meanings h zones) in
     search rules

@@ -1,0 +1,8 @@
+use Rattle.caldate_run.proofs.Named.{named_weaker}
+use Rattle.caldate_run.proofs.program.run_named_once.Goals as goal
+
+pub returns-clause-ended : goal.returns-clause-ended
+returns-clause-ended g c =
+    let text = rw (c.clock_text-written.ensures, c.given_word-word.ensures) at c.text_or-text.ensures in
+    let run = named_weaker _ _ _ _ _ _ _ (λ own outcome h. (h.0, h.2, h.3)) (λ failed words h. (h.1, h.2, h.3)) c.run_named.ensures.ended in
+    (_, rw text at run)

@@ -1,0 +1,94 @@
+//! The words `today` and `now`, and the moment that they mean.
+ghost use Rattle.std.specs.Prelude.{◌≡◌, Some, option_and_then};
+ghost use Rattle.cal_datetime.specs.DateTime.{date_at};
+ghost use Rattle.caldate_run.specs.ClockWords.{clock_text, clock_word, has_rfc3339_year, moment_in, now_in, utc_text, zone_of_clock};
+
+use crate::request::Clock;
+use cal_datetime::{OffsetDateTime, PlainDateTime};
+use cal_text::date::CalendarText;
+use cal_text::{DateForm, DateOrMoment, MomentForm, rfc3339, unix};
+use cal_time::{Date, ShortText, SignedDuration};
+use cal_zone::Zone;
+
+/// Returns the moment at which the program started, at the offset of the zone, or at UTC.
+pub fn now_in(zone: &Option<Zone<'_>>, now: Option<PlainDateTime>) -> Option<OffsetDateTime>
+    ensures { result ≡ now_in zone.now now }
+{
+    let utc = now?;
+    match zone {
+        Some(zone) => Some(moment_in(zone, utc)),
+        None => Some(utc.assume_utc()),
+    }
+}
+
+/// Returns the moment at a date-time of UTC, at the offset that the zone has then.
+fn moment_in(zone: &Zone<'_>, utc: PlainDateTime) -> OffsetDateTime
+    ensures { result ≡ moment_in (Some zone.now) utc }
+{
+    let offset = zone.utc_offset_at(utc.assume_utc().unix_timestamp());
+    let seconds = SignedDuration::seconds(i64::from(offset.whole_seconds()));
+    utc.saturating_add(seconds).assume_offset(offset)
+}
+
+/// Returns the moment for `now`, its date for `today`, and `None` for any other word.
+pub fn clock_word(word: &[u8], now: Option<OffsetDateTime>) -> Option<DateOrMoment>
+    ensures { result ≡ option_and_then (λ m. clock_word m word.now) now }
+{
+    let now = now?;
+    if word == b"today".as_slice() {
+        Some(DateOrMoment::Date(DateForm::Calendar, now.date()))
+    } else if word == b"now".as_slice() {
+        Some(DateOrMoment::Moment(MomentForm::Rfc3339, now))
+    } else {
+        None
+    }
+}
+
+/// Returns the text that `today` or `now` means after `--date`, and `None` for any other word.
+pub fn clock_text(
+    word: &[u8],
+    clock: &Option<Clock<'_>>,
+    now: Option<PlainDateTime>,
+) -> Option<ShortText>
+    ensures { result ≡ option_and_then (λ z. clock_text clock.now z word.now) now }
+{
+    let utc = now?;
+    if word == b"today".as_slice() {
+        Some(CalendarText(date_on(clock, utc)).text())
+    } else if word == b"now".as_slice() {
+        Some(utc_text(utc))
+    } else {
+        None
+    }
+}
+
+/// Returns the date that the clocks show at a date-time of UTC.
+fn date_on(clock: &Option<Clock<'_>>, utc: PlainDateTime) -> Date
+    ensures { result ≡ date_at (moment_in (zone_of_clock clock.now) utc).local }
+{
+    match clock {
+        Some(clock) => moment_in(&clock.zone, utc).date(),
+        None => utc.date(),
+    }
+}
+
+/// Formats a date-time of UTC in RFC 3339, or as a Unix time if its year isn't from 0 to 9999.
+fn utc_text(utc: PlainDateTime) -> ShortText
+    ensures { result ≡ utc_text utc }
+{
+    if !has_rfc3339_year(utc) {
+        return unix::Text::new(utc.assume_utc()).text();
+    }
+    match rfc3339::Text::new(utc.assume_utc()) {
+        Some(text) => text.text(),
+        None => unreachable!(),
+    }
+}
+
+/// Returns whether RFC 3339 has the year, which is from 0 to 9999.
+fn has_rfc3339_year(utc: PlainDateTime) -> bool
+    ensures { result ≡ has_rfc3339_year utc }
+{
+    let year = utc.year();
+    0 <= year && year <= 9_999
+}

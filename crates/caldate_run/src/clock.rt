@@ -1,0 +1,21 @@
+//! The clock of the system.
+use cal_datetime::{OffsetDateTime, PlainDateTime};
+use std::time::{Clock, SystemTime, UNIX_EPOCH};
+
+/// Reads the clock and returns its date-time at UTC, or `None` if it can't be read or is out of
+/// range.
+pub fn read_clock<C: Clock>(clock: &C) -> Option<PlainDateTime> {
+    let Ok(now) = SystemTime::now(clock) else {
+        return None;
+    };
+    let Ok(since_epoch) = now.duration_since(UNIX_EPOCH) else {
+        return None;
+    };
+    let Ok(nanoseconds) = i128::try_from(since_epoch.as_nanos()) else {
+        return None;
+    };
+    match OffsetDateTime::from_unix_timestamp_nanos(nanoseconds) {
+        Ok(moment) => Some(moment.local()),
+        Err(_) => None,
+    }
+}
