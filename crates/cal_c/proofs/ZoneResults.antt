@@ -1,18 +1,32 @@
 -- What a call makes of a zone.
-use Rattle.std.specs.Prelude.{⊤, ◌≡◌, ℕ, ℤ, pos, neg_ℤ, int_lt, false, List, IfOk, IfErr, MatchOption, Option, Some, None, Result, Ok, Err}
-use Rattle.std.proofs.Common.{subst, arith}
+use Rattle.std.specs.Prelude.{⊤, ◌≡◌, ◌↔◌, ◌==◌, ◌++◌, ◌/◌, ℕ, ℤ, pos, neg_ℤ, ◌+ℤ◌, ◌-ℤ◌, ◌*ℤ◌, int_lt, false, true, List, IfOk, IfErr, MatchOption, Option, Some, None, Result, Ok, Err}
+use Rattle.std.proofs.Common.{refl, sym, subst, arith}
+use Rattle.std.proofs.lemmas.Bool.Decides.{nat_tests}
 use Rattle.std.proofs.lemmas.Int.{ints}
+use Rattle.cal_time.specs.Date.{IsDate}
+use Rattle.cal_time.specs.Time.{IsTime}
+use Rattle.cal_datetime.specs.DateTime.{date_time}
+use Rattle.cal_datetime.specs.OffsetDateTime.{unix_epoch, unix_seconds}
+use Rattle.cal_datetime.specs.UnixTimeLaws.{div_euclid-one}
+use Rattle.cal_zone.specs.declared.instants.Instants.{Instants}
 use Rattle.cal_zone.specs.declared.span.Span.{Span}
+use Rattle.cal_zone.specs.declared.yearly.Yearly.{Yearly}
+use Rattle.cal_zone.specs.Instants.{Names, IsExplained}
+use Rattle.cal_zone.specs.Rule.{changes_from}
 use Rattle.cal_zone.specs.Span.{IsSpan}
-use Rattle.cal_zone.specs.Timeline.{Timeline, InOrder, IsMoment}
+use Rattle.cal_zone.specs.Table.{changes_in}
+use Rattle.cal_zone.specs.Timeline.{Timeline, local_at, InOrder, IsMoment, IsOffset}
 use Rattle.cal_zone.specs.Zone.{made_of}
 use Rattle.cal_zone.specs.declared.zone_parts.ZoneParts.{ZoneParts}
+use Rattle.cal_zone.proofs.Moments.{in_range}
 use Rattle.cal_tzif.specs.declared.zone_error.ZoneError.{ZoneError}
 use Rattle.cal_c.proofs.Needs.{met}
 use Rattle.cal_c.specs.Values.{need◌else◌then◌}
-use Rattle.cal_c.specs.Zones.{policy_number, zone_in, HasZone, IsForZone, IsMade, IsPartsError, IsPartsOf, IsPolicy}
+use Rattle.cal_c.specs.Zones.{local_ok, policy_number, yearly_in, zone_in, zone_of_parts, AreInstantsOf, HasZone, IsForZone, IsMade, IsPartsError, IsPartsOf, IsPolicy, IsResolved}
+use Rattle.cal_c.specs.declared.zones.checked_zone.CheckedParts.{CheckedParts}
 use Rattle.cal_c.specs.declared.zones.checked_zone.CheckedZone.{CheckedZone}
 use Rattle.cal_c.specs.declared.zones.policy.Policy.{Policy}
+use Rattle.cal_c.specs.declared.zones.results.LocalResult.{LocalResult}
 use Rattle.cal_c.specs.declared.zones.results.PartsResult.{PartsResult}
 
 -- The result for a struct that has this zone, and for one that has none.
@@ -38,6 +52,12 @@ pub for_policy : (k : ℕ) (o : Option Policy) (Bad : Type 0) (Then : Policy →
     → need IsPolicy k else Bad then ((q : Policy) × (policy_number q ≡ k) × Then q)
 for_policy k None Bad Then never bad = record { error = λ out. bad; value = λ is. absurd (never is) }
 for_policy k (Some q) Bad Then is found = met is.0 (q, is.1, found)
+
+-- The changes of parts with a rule.
+pub with_rule : (p : CheckedParts) (bytes : List ℕ) (one other : Yearly) → p.rule ≡ 2 → one ≡ yearly_in p.one → other ≡ yearly_in p.other
+    → (zone_of_parts bytes p).changes ≡ changes_in bytes p.layout ++ changes_from one other p.skip
+with_rule p bytes one other two first second =
+    let yes : (p.rule == 2) ≡ true = grind (arith, nat_tests) in rw (yes, first, second) refl
 
 -- A row of a column gives the next one a span of its zone, if there is one.
 abbrev pub HasSpan : Option Timeline → Span → Type 0
@@ -70,3 +90,15 @@ made bytes Says Fails Parts (Err e) out by says parts fails is error = IsMade.er
 -- A reading that passed both tests of the code.
 pub in_moments : (x y : ℤ) → y ≡ x → int_lt y (neg_ℤ (pos 1_152_921_504_606_846_976)) ≡ false → int_lt (pos 1_152_921_504_606_846_976) y ≡ false → IsMoment x
 in_moments x y e low high = (grind (arith, ints), grind (arith, ints))
+
+-- A day and a time of day in seconds since 1970-01-01 0:00, and the result of their instants.
+pub reading_is : (n t : ℕ) (s : ℤ) → IsDate n → IsTime t → s ≡ (pos n -ℤ pos 365_961_662) *ℤ pos 86_400 +ℤ pos (t / 1_000_000_000) → s ≡ unix_seconds (date_time n t)
+reading_is n t s date time is =
+    let within = time.below_day in
+    sym (div_euclid-one (date_time n t -ℤ unix_epoch) s (omega (arith, ints, is)) (omega (arith, ints, is)))
+
+pub resolved : (z : Timeline) → InOrder z → (l s : ℤ) (its : Instants) (r : LocalResult) → s ≡ l
+    → ((i : ℤ) → Names its i ↔ (local_at z i ≡ s)) → IsExplained z s its → (((i : ℤ) → Names its i → IsOffset (s -ℤ i)) → r ≡ local_ok s its) → IsResolved z l r
+resolved z order l s its r same set explained is =
+    subst (λ (x : ℤ). (these : Instants) × AreInstantsOf z x these × (r ≡ local_ok x these)) same
+    (its, record { set = set; explained = explained }, is (λ i named. in_range z order s i i ((set i).0 named) refl))

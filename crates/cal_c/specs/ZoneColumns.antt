@@ -1,13 +1,12 @@
 -- Columns of Unix times and of readings in one zone.
-use Rattle.std.specs.Prelude.{◌≡◌, ◌↔◌, ℕ, ℤ, pos, ◌-ℤ◌}
+use Rattle.std.specs.Prelude.{◌≡◌, ℕ, ℤ, pos, ◌-ℤ◌}
 use Rattle.cal_zone.specs.declared.instants.Instants.{Instants}
 use Rattle.cal_zone.specs.declared.instants.Instants.TheVariants.{Single, Gap, Fold}
-use Rattle.cal_zone.specs.Instants.{Names, IsExplained}
-use Rattle.cal_zone.specs.Timeline.{Timeline, offset_at, local_at, IsMoment}
+use Rattle.cal_zone.specs.Timeline.{Timeline, offset_at, IsMoment}
 use Rattle.cal_c.specs.Results.{int64_ok, int64_error, offset_ok, offset_error}
 use Rattle.cal_c.specs.Statuses.{invalid_policy, invalid_zone, repeated_time, result_out_of_range, skipped_time}
 use Rattle.cal_c.specs.Values.{need◌else◌then◌}
-use Rattle.cal_c.specs.Zones.{policy_number, IsForZone, IsPolicy}
+use Rattle.cal_c.specs.Zones.{policy_number, AreInstantsOf, IsForZone, IsPolicy}
 use Rattle.cal_c.specs.declared.results.Int64Result.{Int64Result}
 use Rattle.cal_c.specs.declared.results.OffsetResult.{OffsetResult}
 use Rattle.cal_c.specs.declared.zones.policy.Policy.{Policy}
@@ -42,11 +41,6 @@ abbrev pub instant_by : Policy → ℤ → Instants → Int64Result
 instant_by policy reading (Single instant) = int64_ok instant
 instant_by policy reading (Gap at before after) = gap_instant policy reading before after
 instant_by policy reading (Fold earlier later) = fold_instant policy earlier later
-
--- The instants are exactly those at which clocks show the reading.
-pub record AreInstantsOf (z : Timeline) (reading : ℤ) (instants : Instants) : Type 0 where
-  pub set : (i : ℤ) → Names instants i ↔ (local_at z i ≡ reading)
-  pub explained : IsExplained z reading instants
 
 -- The result is the instant of a reading by a policy, or out of range for a reading outside -2^60
 -- to 2^60.

@@ -1,5 +1,5 @@
 -- Time zones for C: bytes and what a call found in them, and the results of the calls for them.
-use Rattle.std.specs.Prelude.{◌≡◌, ◌⊎◌, ◌==◌, ◌++◌, ℕ, ◌<◌, ◌≤◌, nat_lt, Bool, if◌then◌else◌, List, [], length, ℤ, pos, neg_ℤ, ◌-ℤ◌, Option, Some, None}
+use Rattle.std.specs.Prelude.{◌≡◌, ◌⊎◌, ◌↔◌, ◌==◌, ◌++◌, ℕ, ◌<◌, ◌≤◌, nat_lt, Bool, if◌then◌else◌, List, [], length, ℤ, pos, neg_ℤ, ◌-ℤ◌, Option, Some, None}
 use Rattle.cal_time.specs.Month.{month_of_index}
 use Rattle.cal_time.specs.Weekday.{weekday_of_index}
 use Rattle.cal_datetime.specs.OffsetDateTime.{LocalAndOffset, instant, local_at, unix_seconds}
@@ -7,13 +7,15 @@ use Rattle.cal_zone.specs.Abbreviation.{abbreviation}
 use Rattle.cal_zone.specs.Changes.{IsNextChange, NoNextChange, IsPreviousChange, NoPreviousChange}
 use Rattle.cal_zone.specs.declared.change.Change.{Change}
 use Rattle.cal_zone.specs.declared.change_error.ChangeError.TheVariants.{FirstOffset, Offset, Instant, NotRising, Overlap}
-use Rattle.cal_zone.specs.declared.gap.Gap as gaps
+use Rattle.cal_zone.specs.declared.instants.Instants.{Instants}
+use Rattle.cal_zone.specs.declared.instants.Instants.TheVariants as instants
 use Rattle.cal_zone.specs.declared.local.Local.{Local}
 use Rattle.cal_zone.specs.declared.local.Local.TheVariants.{Single, Gap, Fold}
 use Rattle.cal_zone.specs.declared.local_type.LocalType.{LocalType}
 use Rattle.cal_zone.specs.declared.yearly.Yearly.{Yearly}
 use Rattle.cal_zone.specs.declared.timeline_error.TimelineError.{TimelineError}
 use Rattle.cal_zone.specs.declared.timeline_error.TimelineError.TheVariants as timeline
+use Rattle.cal_zone.specs.Instants.{Names, IsExplained}
 use Rattle.cal_zone.specs.Local.{IsLocalOf, IsCompatible, IsEarlier, IsLater, reject}
 use Rattle.cal_zone.specs.Rule.{changes_from, IsCalm}
 use Rattle.cal_zone.specs.Table.{changes_in, IsReadable}
@@ -171,32 +173,25 @@ IsMomentInZone z m r =
     let offset = zones.offset_at z (unix_seconds (instant m)) in IsMomentOrError result_out_of_range (local_at (instant m) offset) offset r
 
 -- ---- readings
-abbrev pub moments_ok : ℕ → LocalAndOffset → LocalAndOffset → LocalResult
-moments_ok kind earlier later = record {
-  status = ok_status;
-  kind = kind;
-  earlier = unix_seconds (instant earlier);
-  later = unix_seconds (instant later);
-  earlier_offset = earlier.offset;
-  later_offset = later.offset;
-}
+-- The instants are exactly those at which clocks show the reading, in seconds.
+pub record AreInstantsOf (z : Timeline) (reading : ℤ) (its : Instants) : Type 0 where
+  pub set : (i : ℤ) → Names its i ↔ (zones.local_at z i ≡ reading)
+  pub explained : IsExplained z reading its
 
--- In a gap the reading, in seconds, is moved back by the offset after it, and forward by the offset
--- before it.
-abbrev pub gap_ok : ℤ → gaps.Gap → LocalResult
-gap_ok seconds gap = record {
-  status = ok_status;
-  kind = 2;
-  earlier = seconds -ℤ gap.after;
-  later = seconds -ℤ gap.before;
-  earlier_offset = gap.before;
-  later_offset = gap.after;
-}
+-- The offset at an instant that shows a reading is the reading less the instant.
+abbrev pub instants_ok : ℕ → ℤ → ℤ → ℤ → LocalResult
+instants_ok kind reading earlier later =
+    record { status = ok_status; kind = kind; earlier = earlier; later = later; earlier_offset = reading -ℤ earlier; later_offset = reading -ℤ later }
 
-abbrev pub local_ok : ℤ → Local → LocalResult
-local_ok seconds (Single m) = moments_ok 1 m m
-local_ok seconds (Gap gap) = gap_ok seconds gap
-local_ok seconds (Fold earlier later) = moments_ok 3 earlier later
+-- In a gap the reading is moved back by the offset after it, and forward by the offset before it.
+abbrev pub gap_ok : ℤ → ℤ → ℤ → LocalResult
+gap_ok reading before after =
+    record { status = ok_status; kind = 2; earlier = reading -ℤ after; later = reading -ℤ before; earlier_offset = before; later_offset = after }
+
+abbrev pub local_ok : ℤ → Instants → LocalResult
+local_ok reading (instants.Single i) = instants_ok 1 reading i i
+local_ok reading (instants.Gap at before after) = gap_ok reading before after
+local_ok reading (instants.Fold earlier later) = instants_ok 3 reading earlier later
 
 abbrev pub local_error : ℤ → LocalResult
 local_error s = record {
@@ -209,7 +204,7 @@ local_error s = record {
 }
 
 abbrev pub IsResolved : Timeline → ℤ → LocalResult → Type 0
-IsResolved z reading r = (local : Local) × IsLocalOf z reading local × (r ≡ local_ok (unix_seconds reading) local)
+IsResolved z reading r = (its : Instants) × AreInstantsOf z reading its × (r ≡ local_ok reading its)
 
 -- ---- policies, which are numbered from 0, `Compatible`
 abbrev pub policy_number : Policy → ℕ

@@ -133,6 +133,17 @@ pub fn valid_time(nanoseconds: u64) -> Option<Time>
     Some(time)
 }
 
+/// Returns the nanoseconds since midnight, or `None` if they are a day or more.
+pub fn time_number(nanoseconds: u64) -> Option<u64>
+    ensures { SomeIff result (IsTime nanoseconds) nanoseconds }
+{
+    if nanoseconds < NANOSECONDS_PER_DAY {
+        Some(nanoseconds)
+    } else {
+        None
+    }
+}
+
 /// Returns the nanoseconds since midnight of a time.
 pub fn nanoseconds_since_midnight(time: Time) -> u64
     ensures { result ≡ time }

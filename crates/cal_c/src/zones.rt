@@ -5,6 +5,7 @@
 
 pub mod changes;
 pub mod checked_zone;
+pub mod laws;
 mod offsets;
 pub mod parsing;
 pub mod policy;

@@ -2,15 +2,17 @@
 use Rattle.std.proofs.Common.{◌≡◌, ◌∙◌, ℕ, zero, suc, ◌<◌, ◌≤◌, ◌⊎◌, length, refl, sym, ap, arith, inl, inr, subst}
 use Rattle.std.proofs.lemmas.Int.{ints, clamps, by_lt_z}
 use Rattle.std.proofs.lemmas.Bool.{cases_lt}
-use Rattle.std.specs.Prelude.{ℤ, pos, ◌<ℤ◌, ◌≤ℤ◌, ◌+ℤ◌, ◌-ℤ◌}
+use Rattle.std.specs.Prelude.{ℤ, pos, ◌↔◌, ◌<ℤ◌, ◌≤ℤ◌, ◌+ℤ◌, ◌-ℤ◌}
 use Rattle.std.specs.Int.{int_min, int_max}
 use Rattle.cal_datetime.specs.OffsetDateTime.{LocalAndOffset, instant, unix_seconds}
 use Rattle.cal_zone.specs.declared.gap.Gap as gaps
 use Rattle.cal_zone.specs.declared.local.Local.{Local}
 use Rattle.cal_zone.specs.declared.local.Local.TheVariants.{Single, Gap, Fold}
-use Rattle.cal_zone.specs.Instants.{IsGap}
+use Rattle.cal_zone.specs.declared.instants.Instants.{Instants}
+use Rattle.cal_zone.specs.declared.instants.Instants.TheVariants as its
+use Rattle.cal_zone.specs.Instants.{IsExplained, IsGap, Names}
 use Rattle.cal_zone.specs.Local.{IsLocalOf}
-use Rattle.cal_zone.specs.Timeline.{Timeline, InOrder, IsOrdered, at, begins, ends, offset_at}
+use Rattle.cal_zone.specs.Timeline.{Timeline, InOrder, IsOrdered, at, begins, ends, local_at, offset_at}
 use Rattle.cal_zone.proofs.Offsets.{offset_from-count}
 use Rattle.cal_zone.proofs.Orders.{at_rises, ends_rise}
 use Rattle.cal_zone.proofs.Readings.{after, just_before, some_count}
@@ -166,3 +168,35 @@ local-one zone order reading (Fold e l) (Fold e' l') a b =
     let p = same.0 in
     let q = same.1 in
     cc
+
+-- ---- the same of instants
+no_fold_of : (z : Timeline) (l i j k : ℤ) → ((x : ℤ) → (x ≡ i) ↔ (local_at z x ≡ l)) → ((x : ℤ) → ((x ≡ j) ⊎ (x ≡ k)) ↔ (local_at z x ≡ l)) → j <ℤ k → ⊥
+no_fold_of z l i j k p q less =
+    let first : j ≡ i = (p j).1 ((q j).0 (inl refl)) in
+    let second : k ≡ i = (p k).1 ((q k).0 (inr refl)) in
+    omega (arith, ints)
+
+folds_of : (i j k l : ℤ) → i <ℤ j → k <ℤ l → (i ≡ k) ⊎ (i ≡ l) → (j ≡ k) ⊎ (j ≡ l) → (i ≡ k) × (j ≡ l)
+folds_of i j k l p q (inl e) (inl f) = absurd (omega (arith, ints))
+folds_of i j k l p q (inl e) (inr f) = (e, f)
+folds_of i j k l p q (inr e) (inl f) = absurd (omega (arith, ints))
+folds_of i j k l p q (inr e) (inr f) = absurd (omega (arith, ints))
+
+pub instants-one : (z : Timeline) → InOrder z → (l : ℤ) (a b : Instants) → ((i : ℤ) → Names a i ↔ (local_at z i ≡ l)) → ((i : ℤ) → Names b i ↔ (local_at z i ≡ l))
+    → IsExplained z l a → IsExplained z l b → a ≡ b
+instants-one z order l (its.Single i) (its.Single j) p q e f = ap (λ (x : ℤ). its.Single x) ((q i).1 ((p i).0 refl))
+instants-one z order l (its.Single i) (its.Gap a b c) p q e f = absurd ((q i).1 ((p i).0 refl))
+instants-one z order l (its.Single i) (its.Fold j k) p q e f = absurd (no_fold_of z l i j k p q f)
+instants-one z order l (its.Gap a b c) (its.Single i) p q e f = absurd ((p i).1 ((q i).0 refl))
+instants-one z order l (its.Gap a b c) (its.Gap d g h) p q e f =
+    let same = gap-one z order l a b c d g h e f in
+    let at = same.at_is in
+    let before = same.before_is in
+    let after = same.after_is in cc
+instants-one z order l (its.Gap a b c) (its.Fold j k) p q e f = absurd ((p j).1 ((q j).0 (inl refl)))
+instants-one z order l (its.Fold j k) (its.Single i) p q e f = absurd (no_fold_of z l i j k q p e)
+instants-one z order l (its.Fold j k) (its.Gap a b c) p q e f = absurd ((q j).1 ((p j).0 (inl refl)))
+instants-one z order l (its.Fold i j) (its.Fold g h) p q e f =
+    let same = folds_of i j g h e f ((q i).1 ((p i).0 (inl refl))) ((q j).1 ((p j).0 (inr refl))) in
+    let first = same.0 in
+    let second = same.1 in cc

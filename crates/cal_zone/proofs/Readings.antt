@@ -2,7 +2,7 @@
 use Rattle.std.proofs.Common.{◌≡◌, ◌≢◌, add-one, ℕ, zero, suc, ◌+◌, ◌-◌, ◌<◌, ◌≤◌, ◌⊎◌, ◌↔◌, length, sym, ap, ◌∙◌, arith, inl, inr, subst}
 use Rattle.std.proofs.lemmas.Int.{ints, clamps, by_lt_z}
 use Rattle.std.proofs.lemmas.Bool.{cases_lt, cases_eq}
-use Rattle.std.specs.Prelude.{ℤ, Option, Some, None, SomeIff, IfNone, int_le, true, pos, ◌<ℤ◌, ◌≤ℤ◌, ◌+ℤ◌, ◌-ℤ◌}
+use Rattle.std.specs.Prelude.{ℤ, Option, Some, None, SomeIff, IfNone, IfSome, int_le, true, pos, ◌<ℤ◌, ◌≤ℤ◌, ◌+ℤ◌, ◌-ℤ◌}
 use Rattle.std.specs.Int.{int_min, int_max}
 use Rattle.cal_zone.specs.Timeline.{Timeline, IsOrdered, at, ends, after_changes, offset_at, local_at, IsMoment, IsOffset}
 use Rattle.cal_zone.specs.Instants.{IsGap}
@@ -306,3 +306,7 @@ offset_in zone order i =
 pub none_in : (r : Option ℤ) (P Q : Type 0) (x : ℤ) → SomeIff r P x → (Q → P) → IfNone r (¬ Q)
 none_in None P Q x out h = λ q. out (h q)
 none_in (Some y) P Q x given h = tt
+
+pub some_in : (r : Option ℤ) (P : Type 0) (x y : ℤ) → x ≡ y → SomeIff r P x → IfSome r (λ (z : ℤ). z ≡ y)
+some_in None P x y e out = tt
+some_in (Some z) P x y e given = given.1 ∙ e

@@ -8,6 +8,7 @@ use Rattle.cal_time.specs.Date.{last_day, year_at, month_at, weekday_at, IsDate,
 use Rattle.cal_time.specs.Components.{months-rise}
 use Rattle.cal_time.specs.Days.{IsMonth, day_with, days-follow}
 use Rattle.cal_time.specs.IsoWeekDate.{count_before}
+use Rattle.cal_time.specs.Laws.{weekday_at-is}
 use Rattle.cal_time.specs.Lengths.{days_in_month}
 use Rattle.cal_time.specs.Month.{number}
 use Rattle.cal_time.specs.Weekday.{index}
@@ -72,7 +73,7 @@ found-last w y m n size below is =
     (omega (arith, count-yes test n on, still, ap (count_before test) sums))
 
 -- ---- each year has it
-days_in_month-least : (y : ℤ) (m : ℕ) → 28 ≤ days_in_month y m
+pub days_in_month-least : (y : ℤ) (m : ℕ) → 28 ≤ days_in_month y m
 unfolding days_in_month
 days_in_month-least y m = grind (arith, nat_tests)
 
@@ -114,6 +115,22 @@ day_of-last r y n date five is =
     let same : (r.week == 5) ≡ true = grind (arith, nat_tests) in
     let find = found-last (index r.weekday) y (number r.month) n (last_day + 1) (omega arith) is in
     rw (same, find) refl
+
+-- as the code counts it, from the last or the first day of the month
+pub last_is : (r : Yearly) (y : ℤ) (l t s p d n : ℕ) → l ≡ days_in_month y (number r.month) → s ≡ weekday_at t → p ≡ index r.weekday → d ≡ l - (s + 7 - p) % 7
+    → r.week ≡ 5 → IsDate t → IsDate n → HasCalendarDate y (number r.month) l t → HasCalendarDate y (number r.month) d n → n ≡ day_of r y
+last_is r y l t s p d n length weekday place day five dates date end at =
+    let m = number r.month in
+    let is : d ≡ days_in_month y m - (weekday_at t + 7 - index r.weekday) % 7 = omega (arith, length, weekday, place, day) in
+    sym (day_of-last r y n date five
+    (last-index y m t (index r.weekday) n dates date (weekdays.index-below r.weekday)
+    (subst (λ (k : ℕ). HasCalendarDate y m k t) length end) (subst (λ (k : ℕ). HasCalendarDate y m k n) is at)))
+
+pub nth_is : (r : Yearly) (y : ℤ) (f s p d n : ℕ) → s ≡ weekday_at f → p ≡ index r.weekday → d ≡ 7 * r.week - 6 + (p + 7 - s) % 7
+    → 1 ≤ r.week → r.week ≤ 4 → IsDate n → HasCalendarDate y (number r.month) 1 f → HasCalendarDate y (number r.month) d n → n ≡ day_of r y
+nth_is r y f s p d n weekday place day low high date first at =
+    sym (day_of-nth r y n date low high
+    (index-nth y (number r.month) f (index r.weekday) r.week d n first at (weekdays.index-below r.weekday) (omega (arith, weekday_at-is f, weekday, place, day, low))))
 
 -- it is a day of the range in that year and month
 pub record IsRuleDay (r : Yearly) (y : ℤ) : Type 0 where

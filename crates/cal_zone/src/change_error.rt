@@ -20,6 +20,7 @@ pub enum ChangeError {
 }
 
 /// Checks that an offset is from -25:59:59 to 25:59:59.
+#[inline(always)]
 pub(crate) fn is_offset(offset: i32) -> bool
     ensures { IsTrue result ↔ IsOffset offset }
 {

@@ -23,6 +23,7 @@ pub fn in_zone(moment: OffsetDateTime, zone: &Zone<'_>) -> Option<OffsetDateTime
 }
 
 /// Returns an offset, or `None` if it is out of range.
+#[inline(always)]
 fn utc_offset(seconds: i32) -> Option<UtcOffset>
     ensures { SomeIff result (IsOffset seconds) seconds }
 {
@@ -60,11 +61,24 @@ fn shown_at(local: PlainDateTime, seconds: i64, instant: i64) -> Option<OffsetDa
 
 impl<'a> UncheckedZone<'a> {
     /// Returns the offset at a Unix time. `None` says that the changes are not in order.
+    #[inline(always)]
     pub fn utc_offset_at(&self, instant: i64) -> Option<UtcOffset>
         ensures none { IfNone result (¬ InOrder self.now) }
         ensures some { IfSome result (λ offset. InOrder self.now → offset ≡ offset_at self.now instant) }
     {
         utc_offset(self.kind_at(instant).offset)
+    }
+
+    /// Returns the offset at a Unix time if the rule doesn't decide it: a change of the table comes
+    /// after it, or there is no rule. `None` may also say that the changes are not in order.
+    #[inline(always)]
+    pub fn utc_offset_in_table(&self, instant: i64) -> Option<UtcOffset>
+        ensures { InOrder self.now → IfSome result (λ offset. offset ≡ offset_at self.now instant) }
+    {
+        match self.count_in_table(instant) {
+            Some(count) => utc_offset(self.after(count)),
+            None => None,
+        }
     }
 
     /// Returns the date-times at which clocks show a reading. `None` says that the changes are not

@@ -1,10 +1,11 @@
 //! The rule of a zone after its last change.
-ghost use Rattle.std.specs.Prelude.{◌≡◌, ℕ, suc, ◌+◌, ◌<◌, ◌≤◌, ℤ, pos, ◌+ℤ◌, ◌↔◌, IsTrue, IfSome, IfNone, filter, length};
+ghost use Rattle.std.specs.Prelude.{◌≡◌, ℕ, suc, List, ◌++◌, ◌+◌, ◌-◌, ◌<◌, ◌≤◌, ℤ, pos, ◌+ℤ◌, ◌<ℤ◌, ◌↔◌, IsTrue, IfSome, IfNone, filter, length};
 ghost use Rattle.cal_zone.specs.Rule.{IsCalm};
-ghost use Rattle.cal_zone.specs.Timeline.{IsMoment, IsNext, IsOffset};
+ghost use Rattle.cal_zone.specs.Timeline.{Timeline, local_at, offset_at, InOrder, IsMoment, IsNext, IsOffset};
+ghost use Rattle.cal_zone.specs.declared.change.Change.{Change};
 
 use crate::change_error::after;
-use crate::{LocalType, Table, Yearly};
+use crate::{LocalType, Span, Table, Yearly};
 
 /// Checks that the gap or fold of a change at one instant ends before the gap or fold of the next
 /// change begins. The offsets are those before, between and after the changes.
@@ -52,6 +53,7 @@ impl Rule {
 
     /// Creates the rule of two changes. Returns `None` if a field is out of range, if the months
     /// are neighbours, also over the new year, or if the first month is not the earlier one.
+    #[inline(always)]
     pub fn new(one: Yearly, other: Yearly) -> Option<Self>
         ensures value { IfSome result (λ rule. (rule.one ≡ one) × (rule.other ≡ other)) }
         ensures some { IfSome result (λ rule. IsCalm one other) }
@@ -174,6 +176,52 @@ impl Rule {
             }
         }
         low
+    }
+
+    /// Returns the offset at an instant if a change from the index `skip` on is not after it.
+    pub fn offset_after(&self, skip: u32, instant: i64) -> Option<i32>
+        ensures { (zone : Timeline) (xs : List Change) → InOrder zone
+            → zone.changes ≡ xs ++ changes_from self.now.one self.now.other skip
+            → IfSome result (λ offset. offset ≡ offset_at zone instant) }
+    {
+        let count = self.count(instant);
+        if skip < count {
+            Some(self.kind(count - 1).offset)
+        } else {
+            None
+        }
+    }
+
+    /// Returns the offset after the first `count` changes, and the instants until the next one.
+    #[inline(always)]
+    fn span_before(&self, count: u32) -> Span
+        requires min { 1 ≤ count }
+        requires max { count < 3_999_998 }
+        ensures first { result.first ≡ instant_at self.now.one self.now.other (count - 1) }
+        ensures last { result.last <ℤ instant_at self.now.one self.now.other count }
+        ensures offset { result.offset
+            ≡ (change_of self.now.one self.now.other (count - 1)).kind.offset }
+    {
+        Span {
+            first: self.time(count - 1),
+            last: self.time(count) - 1,
+            offset: self.kind(count - 1).offset,
+        }
+    }
+
+    /// Returns the one instant at which clocks show a reading if it is between two changes from the
+    /// index `skip` on. `None` may also say that there is another one.
+    pub fn single_after(&self, skip: u32, reading: i64) -> Option<i64>
+        requires { IsMoment reading }
+        ensures { (zone : Timeline) (xs : List Change) → InOrder zone
+            → zone.changes ≡ xs ++ changes_from self.now.one self.now.other skip
+            → IfSome result (λ instant. (i : ℤ) → (i ≡ instant) ↔ (local_at zone i ≡ reading)) }
+    {
+        let count = self.count(reading);
+        if count <= skip || count == self.len() {
+            return None;
+        }
+        self.span_before(count).single(reading)
     }
 
     /// Returns the number of changes that are not after the last change of a table.

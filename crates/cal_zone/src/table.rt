@@ -15,13 +15,21 @@ fn byte(bytes: &[u8], at: usize) -> u8
     if at < bytes.len() { bytes[at] } else { 0 }
 }
 
+/// Returns the number of four bytes, the highest first.
+#[inline(always)]
+fn number_of(a: u8, b: u8, c: u8, d: u8) -> u32
+    ensures { result ≡ ((a * 256 + b) * 256 + c) * 256 + d }
+{
+    let high = u32::from(a) * 256 + u32::from(b);
+    (high * 256 + u32::from(c)) * 256 + u32::from(d)
+}
+
 /// Returns the signed number of four bytes, the highest first.
 #[inline(always)]
 fn signed_of(a: u8, b: u8, c: u8, d: u8) -> i32
     ensures { result ≡ two_complement 31 (((a * 256 + b) * 256 + c) * 256 + d) }
 {
-    let high = u32::from(a) * 256 + u32::from(b);
-    let n = (high * 256 + u32::from(c)) * 256 + u32::from(d);
+    let n = number_of(a, b, c, d);
     if n < 0x8000_0000 {
         n as i32
     } else {
@@ -47,14 +55,14 @@ fn signed(bytes: &[u8], at: usize) -> i32
 }
 
 /// Returns the signed number of the eight bytes at a position.
+#[inline(always)]
 fn signed_long(bytes: &[u8], at: usize) -> i64
     requires { at + 8 ≤ length bytes.now }
     ensures { result ≡ two_complement 63 (big_endian bytes.now at 8) }
 {
-    let a = u64::from(bytes[at]) * 256 + u64::from(bytes[at + 1]);
-    let b = (a * 256 + u64::from(bytes[at + 2])) * 256 + u64::from(bytes[at + 3]);
-    let c = (b * 256 + u64::from(bytes[at + 4])) * 256 + u64::from(bytes[at + 5]);
-    let n = (c * 256 + u64::from(bytes[at + 6])) * 256 + u64::from(bytes[at + 7]);
+    let high = number_of(bytes[at], bytes[at + 1], bytes[at + 2], bytes[at + 3]);
+    let low = number_of(bytes[at + 4], bytes[at + 5], bytes[at + 6], bytes[at + 7]);
+    let n = u64::from(high) * 0x1_0000_0000 + u64::from(low);
     if n < 0x8000_0000_0000_0000 {
         n as i64
     } else {
@@ -147,6 +155,7 @@ impl<'a> Table<'a> {
 
     /// Creates a table without a look at its changes. Returns `None` if the bytes don't have all
     /// parts.
+    #[inline(always)]
     pub(crate) fn from_parts(bytes: &'a [u8], layout: Layout) -> Option<Self>
         ensures some { IfSome result (λ table. table ≡ changes_in bytes.now layout) }
         ensures readable { IfSome result (λ table. IsReadable bytes.now layout) }
@@ -231,6 +240,7 @@ impl<'a> Table<'a> {
 
     /// Returns two indexes between which the search for an instant ends: the same ones, if there
     /// are about two changes a year.
+    #[inline(always)]
     fn indexes_near(&self, instant: i64) -> (usize, usize)
         ensures { IsBracket (at self.now) (length self.now) instant result.0 result.1 }
     {
@@ -256,6 +266,7 @@ impl<'a> Table<'a> {
     }
 
     /// Returns the number of changes that are not after an instant, if they rise.
+    #[inline(always)]
     pub(crate) fn count(&self, instant: i64) -> usize
         ensures { IsBracket (at self.now) (length self.now) instant result result }
     {

@@ -68,6 +68,7 @@ impl<'a> UncheckedZone<'a> {
     ghost use Rattle.cal_zone.specs.Changes.{IsNextChange, NoNextChange, IsPreviousChange, NoPreviousChange};
 
     /// Creates a zone from its parts. Returns `None` if the bytes don't have all changes.
+    #[inline(always)]
     pub fn new(parts: ZoneParts<'a>) -> Option<Self>
         ensures some { IfSome result (λ zone. zone ≡ made_of parts.entry) }
         ensures parts { IfSome result (λ zone. AreParts parts.entry) }
@@ -130,7 +131,7 @@ impl<'a> UncheckedZone<'a> {
 
     /// Returns the offset after the first `count` changes.
     #[inline(always)]
-    fn after(&self, count: usize) -> i32
+    pub(crate) fn after(&self, count: usize) -> i32
         requires { count ≤ length self.now.changes }
         ensures { result ≡ after_changes self.now.first.offset self.now.changes count }
     {
@@ -155,7 +156,24 @@ impl<'a> UncheckedZone<'a> {
         }
     }
 
+    /// Returns the number of changes that are not after an instant, or `None` if the rule decides it.
+    #[inline(always)]
+    pub(crate) fn count_in_table(&self, instant: i64) -> Option<usize>
+        ensures { IfSome result (λ count.
+            IsBracket (at self.now.changes) (length self.now.changes) instant count count) }
+    {
+        let count = self.table.count(instant);
+        if count < self.table.len() {
+            return Some(count);
+        }
+        match &self.rule {
+            Some(_) => None,
+            None => Some(count),
+        }
+    }
+
     /// Returns how the clocks are set at a Unix time.
+    #[inline(always)]
     pub fn kind_at(&self, instant: i64) -> LocalType
         ensures { InOrder self.now → result ≡ kind_at self.now instant }
     {
@@ -193,16 +211,44 @@ impl<'a> UncheckedZone<'a> {
         }
     }
 
+    /// Returns the offset after the first `count` changes, and the instants until the next one.
+    #[inline(always)]
+    fn span_of(&self, count: usize) -> Span
+        requires { count ≤ length self.now.changes }
+        ensures span { InOrder self.now → IsSpan self.now result }
+        ensures offset { result.offset
+            ≡ after_changes self.now.first.offset self.now.changes count }
+    {
+        Span {
+            first: self.start_of(count),
+            last: self.end_of(count),
+            offset: self.after(count),
+        }
+    }
+
     /// Returns the offset at a Unix time, and instants around it that have the same.
     pub fn span_at(&self, instant: i64) -> Span
         ensures span { InOrder self.now → IsSpan self.now result }
         ensures offset { InOrder self.now → result.offset ≡ offset_at self.now instant }
     {
-        let count = self.count(instant);
-        Span {
-            first: self.start_of(count),
-            last: self.end_of(count),
-            offset: self.after(count),
+        self.span_of(self.count(instant))
+    }
+
+    /// Returns the one instant at which clocks show a reading, if the rule doesn't decide it. `None`
+    /// may also say that there is another one.
+    #[inline(always)]
+    pub fn single_in_table(&self, reading: i64) -> Option<i64>
+        requires { IsMoment reading }
+        ensures { InOrder self.now → IfSome result
+            (λ instant. (i : ℤ) → (i ≡ instant) ↔ (local_at self.now i ≡ reading)) }
+    {
+        let count = self.table.count(reading);
+        if count < self.table.len() {
+            return self.span_of(count).single(reading);
+        }
+        match &self.rule {
+            Some(_) => None,
+            None => self.span_of(count).single(reading),
         }
     }
 

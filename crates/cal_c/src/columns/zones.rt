@@ -1,12 +1,13 @@
 //! Columns of Unix times and of readings in one zone.
-ghost use Rattle.std.specs.Prelude.{◌≡◌, ◌-ℤ◌, MatchOption, length, ◌∷◌, []};
+ghost use Rattle.std.specs.Prelude.{◌≡◌, MatchOption, length, ◌∷◌, []};
 ghost use Rattle.cal_zone.specs.Span.{IsSpan};
 ghost use Rattle.cal_zone.specs.Timeline.{offset_at, InOrder, IsMoment};
 ghost use Rattle.cal_c.specs.Columns.{int_at, nat_at, SameLength, AreRows};
 ghost use Rattle.cal_c.specs.Results.{int64_error, offset_error, offset_ok};
 ghost use Rattle.cal_c.specs.Statuses.{invalid_policy, invalid_zone};
 ghost use Rattle.cal_c.specs.Values.{need◌else◌then◌};
-ghost use Rattle.cal_c.specs.ZoneColumns.{instant_by, int64_row, offset_row, AreInstantsOf, IsInstantByPolicy, IsInstantOfReading, IsOffsetAt};
+ghost use Rattle.cal_c.specs.ZoneColumns.{instant_by, int64_row, offset_row, IsInstantByPolicy, IsInstantOfReading, IsOffsetAt};
+ghost use Rattle.cal_c.specs.Zones.{AreInstantsOf};
 
 use super::statuses::{
     INVALID_POLICY, INVALID_ZONE, OK, REPEATED_TIME, RESULT_OUT_OF_RANGE, SKIPPED_TIME,
@@ -14,6 +15,7 @@ use super::statuses::{
 use super::{LENGTH_MISMATCH, NO_VALUE, count_errors};
 use crate::zones::checked_zone::CheckedZone;
 use crate::zones::policy::Policy;
+use crate::zones::results::at_offset;
 use cal_zone::{Instants, Span, UncheckedZone};
 
 /// Writes the offsets at Unix times, like `fots_zone_offset`.
@@ -134,14 +136,6 @@ fn instants_in(reading: i64, zone: &UncheckedZone<'_>, span: &mut Span) -> Insta
         Some(instant) => Instants::Single(instant),
         None => zone.instants_near_change(reading),
     }
-}
-
-/// Returns the Unix time of a reading at an offset.
-fn at_offset(reading: i64, offset: i32) -> i64
-    requires { IsMoment reading }
-    ensures { result ≡ reading -ℤ offset }
-{
-    reading - i64::from(offset)
 }
 
 /// Returns the row of a reading whose instants are known.

@@ -1,5 +1,6 @@
 //! Zones whose bytes are checked once, for C.
-ghost use Rattle.std.specs.Prelude.{◌≡◌, IfNone, IfSome, MatchOption};
+ghost use Rattle.std.specs.Prelude.{◌≡◌, ◌↔◌, ℕ, ℤ, List, IfNone, IfSome, MatchOption};
+ghost use Rattle.cal_zone.specs.Timeline.{local_at, offset_at, InOrder, IsMoment};
 ghost use Rattle.cal_zone.specs.Zone.{later, made_of, AreParts};
 ghost use Rattle.cal_c.specs.Zones.{changes_by_rule, local_type_in, yearly_in, zone_in, zone_of_parts, HasParts, HasPlaces, HasRule, HasRuleOrNone, HasZone};
 
@@ -14,7 +15,7 @@ const RULE: u32 = 2;
 
 /// How clocks are set.
 #[repr(C)]
-#[derive(Clone, Copy)]
+#[derive(Clone, Copy, Default)]
 pub struct ZoneClock {
     pub offset: i32,
     /// 1 for daylight saving time, else 0.
@@ -25,7 +26,7 @@ pub struct ZoneClock {
 
 /// A change that comes each year.
 #[repr(C)]
-#[derive(Clone, Copy)]
+#[derive(Clone, Copy, Default)]
 pub struct ZoneYearly {
     /// The index of the month, from 0.
     pub month: u8,
@@ -58,16 +59,6 @@ pub struct CheckedZone<'a> {
 }
 
 impl ZoneClock {
-    /// Creates the clock that no zone has.
-    fn unset() -> Self {
-        ZoneClock {
-            offset: 0,
-            is_daylight: 0,
-            name_start: 0,
-            name_end: 0,
-        }
-    }
-
     /// Returns the numbers of a local time type.
     fn new(kind: LocalType) -> Self
         ensures { local_type_in result ≡ kind }
@@ -81,6 +72,7 @@ impl ZoneClock {
     }
 
     /// Returns the local time type of the numbers.
+    #[inline(always)]
     fn kind(self) -> LocalType
         ensures { result ≡ local_type_in self }
     {
@@ -94,17 +86,6 @@ impl ZoneClock {
 }
 
 impl ZoneYearly {
-    /// Creates the change that no rule has.
-    fn unset() -> Self {
-        ZoneYearly {
-            month: 0,
-            week: 0,
-            weekday: 0,
-            time: 0,
-            clock: ZoneClock::unset(),
-        }
-    }
-
     /// Returns the numbers of a change.
     fn new(yearly: Yearly) -> Self
         ensures value { yearly_in result ≡ yearly }
@@ -120,6 +101,7 @@ impl ZoneYearly {
     }
 
     /// Returns the change of the numbers, or `None` if there is no such month or weekday.
+    #[inline(always)]
     fn yearly(self) -> Option<Yearly>
         ensures some { IfSome result (λ yearly. (yearly ≡ yearly_in self) × HasPlaces self) }
         ensures none { IfNone result (¬ HasPlaces self) }
@@ -149,9 +131,9 @@ impl CheckedParts {
             rule: 0,
             skip: 0,
             layout: Layout::empty(),
-            first: ZoneClock::unset(),
-            one: ZoneYearly::unset(),
-            other: ZoneYearly::unset(),
+            first: ZoneClock::default(),
+            one: ZoneYearly::default(),
+            other: ZoneYearly::default(),
         }
     }
 
@@ -180,13 +162,14 @@ impl CheckedParts {
                 skip,
                 layout,
                 first,
-                one: ZoneYearly::unset(),
-                other: ZoneYearly::unset(),
+                one: ZoneYearly::default(),
+                other: ZoneYearly::default(),
             },
         }
     }
 
     /// Returns the rule of the two changes, or `None` if they are not a rule.
+    #[inline(always)]
     fn two_changes(&self) -> Option<Rule>
         ensures some { IfSome result (λ rule. (rule.one ≡ yearly_in self.now.one)
             × (rule.other ≡ yearly_in self.now.other) × HasRule self.now) }
@@ -195,8 +178,41 @@ impl CheckedParts {
         Rule::new(self.one.yearly()?, self.other.yearly()?)
     }
 
+    /// Returns the offset at a Unix time if the rule decides it.
+    pub(super) fn offset_by_rule(&self, seconds: i64) -> Option<i32>
+        ensures { (bytes : List ℕ) → InOrder (zone_of_parts bytes self.now)
+            → IfSome result (λ offset. offset ≡ offset_at (zone_of_parts bytes self.now) seconds) }
+    {
+        if self.rule == RULE {
+            match self.two_changes() {
+                Some(rule) => rule.offset_after(self.skip, seconds),
+                None => None,
+            }
+        } else {
+            None
+        }
+    }
+
+    /// Returns the one instant at which clocks show a reading if the rule decides it. `None` may also
+    /// say that there is another one.
+    pub(super) fn single_by_rule(&self, reading: i64) -> Option<i64>
+        requires { IsMoment reading }
+        ensures { (bytes : List ℕ) → InOrder (zone_of_parts bytes self.now) → IfSome result
+            (λ instant. (i : ℤ) → (i ≡ instant) ↔ (local_at (zone_of_parts bytes self.now) i ≡ reading)) }
+    {
+        if self.rule == RULE {
+            match self.two_changes() {
+                Some(rule) => rule.single_after(self.skip, reading),
+                None => None,
+            }
+        } else {
+            None
+        }
+    }
+
     /// Returns the rule, if there is one, or `None` if the mark of the rule or its changes are
     /// invalid.
+    #[inline(always)]
     fn held_rule(&self) -> Option<Option<Rule>>
         ensures some { IfSome result (λ rule. later rule self.now.skip ≡ changes_by_rule self.now) }
         ensures marked { IfSome result (λ rule. HasRuleOrNone self.now) }
@@ -217,7 +233,9 @@ impl CheckedParts {
 
 impl<'a> CheckedZone<'a> {
     /// Returns the zone, or `None` if the struct has none. If the struct or the bytes were changed
-    /// after the call that filled it, the zone can be any.
+    /// after the call that filled it, the zone can be any. It is inlined, since a copy of a zone
+    /// takes as long as a search.
+    #[inline(always)]
     pub(crate) fn unchecked(&self) -> Option<UncheckedZone<'a>>
         ensures { MatchOption result (¬ HasZone self.now)
             (λ zone. (zone ≡ zone_in self.now) × HasZone self.now) }

@@ -3,13 +3,13 @@ ghost use Rattle.std.specs.Prelude.{◌≡◌};
 ghost use Rattle.cal_c.specs.Moments.{IsMoment, moment_error, local_and_offset_in};
 ghost use Rattle.cal_c.specs.Statuses.{invalid_moment, invalid_zone};
 ghost use Rattle.cal_c.specs.Values.{need◌else◌then◌};
-ghost use Rattle.cal_c.specs.Zones.{local_type_error, local_type_ok, IsForZone, IsMomentInZone};
+ghost use Rattle.cal_c.specs.Zones.{local_type_error, local_type_ok, zone_in, HasZone, IsForZone, IsMomentInZone};
 ghost use Rattle.cal_zone.specs.Timeline.{kind_at, offset_at, InOrder};
 ghost use Rattle.cal_c.specs.Results.{offset_error, offset_ok};
 
 use crate::moment::valid_moment;
 use crate::results::{Moment, MomentResult, OffsetResult};
-use crate::status::{INVALID_MOMENT, INVALID_ZONE, RESULT_OUT_OF_RANGE};
+use crate::status::{INVALID_MOMENT, INVALID_ZONE, OK, RESULT_OUT_OF_RANGE};
 use crate::zones::checked_zone::CheckedZone;
 use crate::zones::results::LocalTypeResult;
 use cal_datetime::OffsetDateTime;
@@ -18,6 +18,33 @@ use cal_zone::UncheckedZone;
 /// Returns the offset at a Unix time.
 #[unsafe(no_mangle)]
 pub extern "C" fn fots_zone_offset(zone: &CheckedZone<'_>, seconds: i64) -> OffsetResult
+    ensures { IsForZone zone.now (λ z. result ≡ offset_ok (offset_at z seconds))
+        (result ≡ offset_error invalid_zone) }
+{
+    let unchecked = or_error!(OffsetResult, zone.unchecked(), INVALID_ZONE);
+    match unchecked.utc_offset_in_table(seconds) {
+        Some(offset) => OffsetResult::ok(offset),
+        None => offset_by_rule(zone, seconds),
+    }
+}
+
+/// Returns the offset at a Unix time, which the rule may decide. It isn't inlined, so that a search
+/// in the table copies no rule.
+#[inline(never)]
+fn offset_by_rule(zone: &CheckedZone<'_>, seconds: i64) -> OffsetResult
+    requires { HasZone zone.now }
+    ensures { InOrder (zone_in zone.now)
+        → result ≡ offset_ok (offset_at (zone_in zone.now) seconds) }
+{
+    match zone.parts.offset_by_rule(seconds) {
+        Some(offset) => OffsetResult { status: OK, offset },
+        None => offset_in_zone(zone, seconds),
+    }
+}
+
+/// Returns the offset at a Unix time. It isn't inlined, since it copies all parts.
+#[inline(never)]
+fn offset_in_zone(zone: &CheckedZone<'_>, seconds: i64) -> OffsetResult
     ensures { IsForZone zone.now (λ z. result ≡ offset_ok (offset_at z seconds))
         (result ≡ offset_error invalid_zone) }
 {

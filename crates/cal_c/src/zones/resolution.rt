@@ -1,5 +1,6 @@
 //! The instants at which the clocks of a zone show a reading.
 ghost use Rattle.std.specs.Prelude.{◌≡◌};
+ghost use Rattle.cal_time.specs.Date.{IsDate};
 ghost use Rattle.cal_time.specs.Time.{IsTime};
 ghost use Rattle.cal_datetime.specs.DateTime.{date_time};
 ghost use Rattle.cal_datetime.specs.OffsetDateTime.{unix_seconds};
@@ -8,17 +9,21 @@ ghost use Rattle.cal_zone.specs.Timeline.{InOrder};
 ghost use Rattle.cal_c.specs.Moments.{moment_error};
 ghost use Rattle.cal_c.specs.Statuses.{invalid_date, invalid_policy, invalid_time, invalid_zone};
 ghost use Rattle.cal_c.specs.Values.{need◌else◌then◌, IsJulianDay, day_of};
-ghost use Rattle.cal_c.specs.Zones.{local_error, policy_number, IsForZone, IsMomentByPolicy, IsPolicy, IsResolved};
+ghost use Rattle.cal_c.specs.Zones.{local_error, policy_number, zone_in, HasZone, IsForZone, IsMomentByPolicy, IsPolicy, IsResolved};
 ghost use Rattle.cal_c.specs.declared.zones.policy.Policy.{Policy};
 
+use crate::day_number::day_number;
 use crate::results::MomentResult;
 use crate::status::{INVALID_DATE, INVALID_POLICY, INVALID_TIME, INVALID_ZONE};
-use crate::values::{valid_date, valid_time};
+use crate::values::{time_number, valid_date, valid_time};
 use crate::zones::checked_zone::CheckedZone;
 use crate::zones::policy::Policy;
 use crate::zones::results::LocalResult;
 use cal_datetime::PlainDateTime;
 use cal_zone::UncheckedZone;
+
+/// The number of the day 1970-01-01.
+const EPOCH_DAY: i64 = 365_961_662;
 
 /// Returns the instants at which clocks show a date and a time of day: one, two in a fold, or those
 /// of the policies `earlier` and `later` in a gap.
@@ -26,38 +31,52 @@ use cal_zone::UncheckedZone;
 pub extern "C" fn fots_zone_resolve(zone: &CheckedZone<'_>, date: i32, time: u64) -> LocalResult
     ensures { IsForZone zone.now (λ z. need IsJulianDay date else result ≡ local_error invalid_date then
         need IsTime time else result ≡ local_error invalid_time then
-        IsResolved z (date_time (day_of date) time) result)
+        IsResolved z (unix_seconds (date_time (day_of date) time)) result)
+        (result ≡ local_error invalid_zone) }
+{
+    let unchecked = or_error!(LocalResult, zone.unchecked(), INVALID_ZONE);
+    let day = or_error!(LocalResult, day_number(date), INVALID_DATE);
+    let time = or_error!(LocalResult, time_number(time), INVALID_TIME);
+    let reading = reading_seconds(day, time);
+    match unchecked.single_in_table(reading) {
+        Some(instant) => LocalResult::moments(1, reading, instant, instant),
+        None => resolve_by_rule(zone, reading),
+    }
+}
+
+/// Returns the instants at which clocks show a reading, in seconds, which the rule may decide. It
+/// isn't inlined, so that a search in the table copies no rule.
+#[inline(never)]
+fn resolve_by_rule(zone: &CheckedZone<'_>, reading: i64) -> LocalResult
+    requires moment { zones.IsMoment reading }
+    requires zone { HasZone zone.now }
+    ensures { InOrder (zone_in zone.now) → IsResolved (zone_in zone.now) reading result }
+{
+    match zone.parts.single_by_rule(reading) {
+        Some(instant) => LocalResult::moments(1, reading, instant, instant),
+        None => resolve_reading(zone, reading),
+    }
+}
+
+/// Returns the instants at which clocks show a reading. It isn't inlined, since it copies all parts.
+#[inline(never)]
+fn resolve_reading(zone: &CheckedZone<'_>, reading: i64) -> LocalResult
+    requires { zones.IsMoment reading }
+    ensures { IsForZone zone.now (λ z. IsResolved z reading result)
         (result ≡ local_error invalid_zone) }
 {
     let zone = or_error!(LocalResult, zone.unchecked(), INVALID_ZONE);
-    resolve(&zone, date, time)
+    LocalResult::ok(reading, zone.instants_of(reading))
 }
 
-/// Returns the instants at which clocks show a date and a time of day.
-fn resolve(zone: &UncheckedZone<'_>, date: i32, time: u64) -> LocalResult
-    ensures { InOrder zone.now → need IsJulianDay date else result ≡ local_error invalid_date then
-        need IsTime time else result ≡ local_error invalid_time then
-        IsResolved zone.now (date_time (day_of date) time) result }
-{
-    let date = or_error!(LocalResult, valid_date(date), INVALID_DATE);
-    let time = or_error!(LocalResult, valid_time(time), INVALID_TIME);
-    resolve_reading(zone, PlainDateTime::new(date, time))
-}
-
-/// Returns the instants at which clocks show a reading.
-fn resolve_reading(zone: &UncheckedZone<'_>, reading: PlainDateTime) -> LocalResult
-    ensures { InOrder zone.now → IsResolved zone.now reading result }
-{
-    let local = or_error!(LocalResult, zone.resolve(reading), INVALID_ZONE);
-    LocalResult::ok(reading_seconds(&reading), local)
-}
-
-/// Returns the whole seconds from 1970-01-01 0:00 to a reading.
-fn reading_seconds(reading: &PlainDateTime) -> i64
-    ensures value { result ≡ unix_seconds reading.now }
+/// Returns the whole seconds from 1970-01-01 0:00 to a day and a time of day.
+fn reading_seconds(day: u32, time: u64) -> i64
+    requires day { IsDate day }
+    requires time { IsTime time }
+    ensures value { result ≡ unix_seconds (date_time day time) }
     ensures range { zones.IsMoment result }
 {
-    reading.assume_utc().unix_timestamp()
+    (i64::from(day) - EPOCH_DAY) * 86_400 + (time / 1_000_000_000) as i64
 }
 
 /// Returns the moment that a date and a time of day mean by a policy: 0 for compatible, 1 for

@@ -1,13 +1,12 @@
 //! Results of the calls for zones.
-ghost use Rattle.std.specs.Prelude.{◌≡◌, ◌-ℤ◌};
-ghost use Rattle.cal_zone.specs.Timeline.{IsMoment};
-ghost use Rattle.cal_c.specs.Zones.{gap_ok, local_error, local_ok, local_type_error, local_type_ok, moments_ok};
+ghost use Rattle.std.specs.Prelude.{◌≡◌, ℤ, ◌-ℤ◌};
+ghost use Rattle.cal_zone.specs.Instants.{Names};
+ghost use Rattle.cal_zone.specs.Timeline.{IsMoment, IsOffset};
+ghost use Rattle.cal_c.specs.Zones.{gap_ok, instants_ok, local_error, local_ok, local_type_error, local_type_ok};
 
 use crate::status::OK;
 use crate::zones::checked_zone::CheckedParts;
-use cal_datetime::OffsetDateTime;
-use cal_time::UtcOffset;
-use cal_zone::{Gap, Local, LocalType};
+use cal_zone::{Instants, LocalType};
 
 /// What a call found in the bytes of a zone, or their first error.
 #[repr(C)]
@@ -72,54 +71,63 @@ impl LocalTypeResult {
     }
 }
 
-/// Returns the Unix time at which clocks at an offset show a reading.
-fn unix_time(seconds: i64, offset: UtcOffset) -> i64
-    requires { IsMoment seconds }
-    ensures { result ≡ seconds -ℤ offset }
+/// Returns the Unix time at which clocks at an offset show a reading, in seconds.
+pub fn at_offset(reading: i64, offset: i32) -> i64
+    requires { IsMoment reading }
+    ensures { result ≡ reading -ℤ offset }
 {
-    seconds - i64::from(offset.whole_seconds())
+    reading - i64::from(offset)
+}
+
+/// Returns the offset with which clocks show a reading at an instant, or 0 if it is out of range.
+fn offset_between(reading: i64, instant: i64) -> i32
+    ensures { IsOffset (reading -ℤ instant) → result ≡ reading -ℤ instant }
+{
+    let difference = or_return!(reading.checked_sub(instant), 0);
+    or_return!(i32::try_from(difference), _ => 0)
 }
 
 impl LocalResult {
-    /// Returns the result of a reading in a gap, by the seconds to the reading since 1970-01-01 0:00
-    /// by the clock.
-    fn gap(seconds: i64, gap: &Gap) -> Self
-        requires { IsMoment seconds }
-        ensures { result ≡ gap_ok seconds gap.now }
+    /// Returns the result of a reading in a gap.
+    fn gap(reading: i64, before: i32, after: i32) -> Self
+        requires { IsMoment reading }
+        ensures { result ≡ gap_ok reading before after }
     {
         LocalResult {
             status: OK,
             kind: 2,
-            earlier: unix_time(seconds, gap.offset_after()),
-            later: unix_time(seconds, gap.offset_before()),
-            earlier_offset: gap.offset_before().whole_seconds(),
-            later_offset: gap.offset_after().whole_seconds(),
+            earlier: at_offset(reading, after),
+            later: at_offset(reading, before),
+            earlier_offset: before,
+            later_offset: after,
         }
     }
 
-    /// Returns the result of two date-times, or of one twice.
-    fn moments(kind: u32, earlier: OffsetDateTime, later: OffsetDateTime) -> Self
-        ensures { result ≡ moments_ok kind earlier later }
+    /// Returns the result of two instants, or of one twice.
+    pub(super) fn moments(kind: u32, reading: i64, earlier: i64, later: i64) -> Self
+        ensures { IsOffset (reading -ℤ earlier) → IsOffset (reading -ℤ later)
+            → result ≡ instants_ok kind reading earlier later }
     {
         LocalResult {
             status: OK,
             kind,
-            earlier: earlier.unix_timestamp(),
-            later: later.unix_timestamp(),
-            earlier_offset: earlier.offset().whole_seconds(),
-            later_offset: later.offset().whole_seconds(),
+            earlier,
+            later,
+            earlier_offset: offset_between(reading, earlier),
+            later_offset: offset_between(reading, later),
         }
     }
 
-    /// Returns the result of a reading.
-    pub(super) fn ok(seconds: i64, local: Local) -> Self
-        requires { IsMoment seconds }
-        ensures { result ≡ local_ok seconds local }
+    /// Returns the result of a reading, in seconds, by its instants.
+    pub(super) fn ok(reading: i64, instants: Instants) -> Self
+        requires { IsMoment reading }
+        ensures { ((i : ℤ) → Names instants i → IsOffset (reading -ℤ i))
+            → result ≡ local_ok reading instants }
     {
-        match local {
-            Local::Single(moment) => LocalResult::moments(1, moment, moment),
-            Local::Gap(gap) => LocalResult::gap(seconds, &gap),
-            Local::Fold { earlier, later } => LocalResult::moments(3, earlier, later),
+        match instants {
+            Instants::Single(instant) => LocalResult::moments(1, reading, instant, instant),
+            Instants::Gap { before, after, .. } => LocalResult::gap(reading, before, after),
+            Instants::Fold { earlier, later } => LocalResult::moments(3, reading, earlier, later),
         }
     }
 

@@ -5,7 +5,8 @@ use Rattle.cal_zone.proofs.yearly.Yearly.moment.Goals as goal
 
 pub returns : goal.returns
 returns c =
-    let day : c.day_in.result ≡ day_of c.args.self c.args.year = c.day_in.ensures.day ∙ ap (day_of c.args.self) (to_z-of_z w32 c.args.year c.ranges.year) in
+    let r = c.args.self.now in
+    let day : c.day_in.result ≡ day_of r c.args.year = c.day_in.ensures.day ∙ ap (day_of r) (to_z-of_z w32 c.args.year c.ranges.year) in
     record {
-      value = omega (arith, ints, day, c.midnight.ensures.value, c.midnight.ensures.range, c.requires.yearly.time.0, c.requires.yearly.time.1, c.requires.before.0, c.requires.before.1, c.from.ensures, c.from-2.ensures);
+      value = omega (arith, ints, day, c.midnight.ensures.value, c.day_in.ensures.range, c.requires.yearly.time.0, c.requires.yearly.time.1, c.requires.before.0, c.requires.before.1, c.from.ensures, c.from-2.ensures);
     }

@@ -1,25 +1,24 @@
-use Rattle.std.proofs.Common.{sym, refl, subst, arith, ℤ, w32}
+use Rattle.std.proofs.Common.{refl, arith, to_z, of_z, w32}
 use Rattle.std.proofs.lemmas.Int.{to_z-of_z}
-use Rattle.cal_time.specs.WeekdayCycle as weekdays
+use Rattle.cal_time.specs.Laws.{weekday_at-is}
 use Rattle.cal_time.specs.Month.{number}
-use Rattle.cal_time.specs.Weekday.{index}
-use Rattle.cal_schedule.specs.Weekdays.{IsNthWeekday}
-use Rattle.cal_zone.proofs.RuleDays.{day_of-nth, some-nth, is_month}
+use Rattle.cal_zone.proofs.RuleDays.{days_in_month-least, nth_is}
 use Rattle.cal_zone.proofs.yearly.Yearly.nth_in.Goals as goal
 
-pub unreachable-requires : goal.unreachable-requires
-unreachable-requires c =
-    let r = c.args.self in
-    let most = c.requires.yearly.week.1 in
-    let other = c.requires.nth in
-    let f = some-nth c.args.year (number r.month) (index r.weekday) r.week c.requires.year (is_month r) (weekdays.index-below r.weekday) c.requires.yearly.week.0 (omega arith) in
-    c.in-Err.ensures.error.0 refl f.day f.date
-    (subst (λ (z : ℤ). IsNthWeekday z (number r.month) (index r.weekday) r.week f.day) (sym (to_z-of_z w32 c.args.year c.ranges.year)) f.is)
+pub overflow_sub-ahead : goal.overflow_sub-ahead
+overflow_sub-ahead c = omega (arith, c.days_since_monday.ensures, weekday_at-is c.day_of_month-first.result)
+
+pub day_of_month-first-requires-clause-day : goal.day_of_month-first-requires-clause-day
+day_of_month-first-requires-clause-day c = (omega arith, omega (arith, days_in_month-least (to_z w32 (of_z w32 c.args.year)) (number c.args.self.now.month)))
+
+pub day_of_month-requires-clause-day : goal.day_of_month-requires-clause-day
+day_of_month-requires-clause-day c =
+    (omega (arith, c.requires.min), omega (arith, c.requires.max, days_in_month-least (to_z w32 (of_z w32 c.args.year)) (number c.args.self.now.month)))
 
 pub returns-clause-day : goal.returns-clause-day
 returns-clause-day c =
-    let has = c.in-Ok.ensures.value in
-    let most = c.requires.yearly.week.1 in
-    let other = c.requires.nth in
-    sym (day_of-nth c.args.self c.args.year c.in-Ok.date has.0 c.requires.yearly.week.0 (omega arith)
-    (subst (λ (z : ℤ). IsNthWeekday z (number c.args.self.month) (index c.args.self.weekday) c.args.self.week c.in-Ok.date) (to_z-of_z w32 c.args.year c.ranges.year) has.1))
+    let g = c.ranges.year in
+    let first = simp to_z-of_z at c.day_of_month-first.ensures.value in
+    let day = simp to_z-of_z at c.day_of_month.ensures.value in
+    nth_is c.args.self.now c.args.year _ _ _ _ _ c.days_since_monday.ensures c.place.ensures refl
+    c.requires.min c.requires.max c.day_of_month.ensures.range first day
