@@ -102,7 +102,7 @@ pub fn clamped_date(julian_day: i64) -> DateResult
     }
 }
 
-/// Returns the date with a number, or fails if there is none.
+/// Returns the date with a number, or fails if no date has it.
 pub fn date_result(number: Option<u32>) -> DateResult
     requires { IfSome number IsDate }
     ensures { result ≡ date_or_out_of_range number }

@@ -185,7 +185,7 @@ fn run_named_once<W: Sink, E: Sink>(
     run_named(filter, field, &mut text, writer, errors)
 }
 
-/// Returns the text, or the word if there is none.
+/// Returns the text, or the word if it is missing.
 fn text_or<'a>(text: &'a Option<ShortText>, word: &'a [u8]) -> &'a [u8]
     ensures { result.now ≡ unwrap_or text.now word.now }
 {

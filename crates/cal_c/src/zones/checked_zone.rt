@@ -100,7 +100,7 @@ impl ZoneYearly {
         }
     }
 
-    /// Returns the change of the numbers, or `None` if there is no such month or weekday.
+    /// Returns the change of the numbers, or `None` for an invalid month or weekday.
     #[inline(always)]
     fn yearly(self) -> Option<Yearly>
         ensures some { IfSome result (λ yearly. (yearly ≡ yearly_in self) × HasPlaces self) }

@@ -51,7 +51,7 @@ fn arguments_are_joined(rt: HostRuntime) {
     );
 }
 
-/// Checks the length of these arguments together, or that there is no room for them.
+/// Checks the length of these arguments together, or that they don't fit.
 fn check_length(rt: &impl Abort, all: &[u8], length: Option<usize>) {
     let mut buffer = [0u8; MAX_BYTES];
     assert!(rt; join(&Words { all }, &mut buffer) == length);
