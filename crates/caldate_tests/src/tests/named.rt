@@ -27,6 +27,7 @@ fn check_named<H: Abort + AllocGlobal>(
     let mut words = Vec::new(rt.alloc());
     let ending = perform(
         Some(arguments),
+        &None,
         &ZoneFiles::none(),
         &mut reader,
         &mut output,
