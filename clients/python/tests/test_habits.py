@@ -319,7 +319,8 @@ class WorkingDays(unittest.TestCase):
         self.assertTrue(work != Workdays() and work != Workdays(tuple(Weekday), self.HOLIDAYS) and work != 1)
         self.assertEqual(repr(Workdays([Weekday.Friday], [LEAP_DAY])), "Workdays(weekdays=[Friday], holidays=[2024-02-29])")
         self.assertRaises(AttributeError, setattr, work, "other", 1)
-        self.assertRaises(TypeError, Workdays, holidays=[datetime.date(2024, 1, 1)])
+        with self.assertRaisesRegex(TypeError, r"^expected Date, not date; convert it with Date\.from_date$"):
+            Workdays(holidays=[datetime.date(2024, 1, 1)])
         self.assertRaises(OverflowError, work.add_workdays, Date.MAX, 1)
 
     def test_many_holidays_change_nothing_far_away(self):

@@ -234,6 +234,8 @@ class Recurrences(unittest.TestCase):
             self.assertRaises(OverflowError, Rule, start, Frequency.Yearly, **parts)
         for arguments in ((start, 4), (datetime.date(2024, 1, 1), Frequency.Daily), (start, Frequency.Daily, 1.0)):
             self.assertRaises(TypeError, Rule, *arguments)
+        with self.assertRaisesRegex(TypeError, r"^expected a list, such as set_positions=\[-1\], not -1$"):
+            Rule(start, Frequency.Yearly, set_positions=-1)
         for parts in ({"weekdays": [5]}, {"months": ["1"]}, {"until": 1}, {"week_start": 1}, {"weekdays": [(1, 5)]}):
             self.assertRaises(TypeError, Rule, start, Frequency.Yearly, **parts)
         for text, wanted in {
