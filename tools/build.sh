@@ -9,6 +9,13 @@ is_proved_by_ci() (
     [ ! -e "$top/crates/$1/out/rlib/stamp" ] && is_built
 )
 
+# Prints how many jobs a proof gets, by the processors and the memory, at 2 GB for each job.
+# Four jobs take hardly more processor time than one, and half the time.
+jobs_that_fit() {
+    memory=$(awk '/^MemAvailable:/ { print int($2 / 2000000) + 1 }' /proc/meminfo 2>/dev/null)
+    printf '%s\n' 4 "$(nproc 2>/dev/null || echo 1)" "$memory" | sort -n | grep -m 1 .
+}
+
 # Builds over the libraries that `rt ci` proved. They hold statements and no proofs, so the other commands of rt would prove them again: this
 # calls rattle, with the words that rt has for it. Returns 0 if that built it, 1 if the crate is not proved or has an error, and else another
 # status: then rt is to build it.
@@ -27,8 +34,7 @@ build_over_ci() (
     for one in $(uses_of "$name"); do
         set -- "$@" --extern "$one=$folder/$one/out/rlib/$one.rlib"
     done
-    # Two jobs take a fifth more processor time.
-    set -- --crate-name "$name" --extern "std=$kit/rlibs/std.rlib" -L "dependency=$kit/rlibs" "$@" --links "$name=" --jobs 1 \
+    set -- --crate-name "$name" --extern "std=$kit/rlibs/std.rlib" -L "dependency=$kit/rlibs" "$@" --links "$name=" --jobs "$(jobs_that_fit)" \
         --antt-project "$kit/rattle/logic/antt-project.json" --logic-built "$kit/logic_built" --incremental out/incremental_ci \
         --toolchain "$kit/toolchain" --backend llvm
     # A build by rt locks the folder, too.
