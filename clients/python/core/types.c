@@ -75,21 +75,8 @@ static fots_offset moment_offset(fots_moment moment) { return moment.offset; }
 static fots_moment plain_assume_utc(fots_moment moment) { return moment; }
 static fots_moment moment_local(fots_moment own) { return (fots_moment){own.date, utc, own.time}; }
 static fots_moment_result moment_to_utc(fots_moment own) { return fots_moment_to_offset(own, utc); }
-
-static fots_moment moment_replace_date(fots_moment moment, fots_date date)
-{
-    return (fots_moment){date, moment.offset, moment.time};
-}
-
-static fots_moment moment_replace_time(fots_moment moment, fots_time time)
-{
-    return (fots_moment){moment.date, moment.offset, time};
-}
-
-static fots_moment moment_replace_date_time(fots_moment moment, fots_moment date_time)
-{
-    return (fots_moment){date_time.date, moment.offset, date_time.time};
-}
+static fots_moment moment_replace_date(fots_moment m, fots_date date) { m.date = date; return m; }
+static fots_moment moment_replace_time(fots_moment m, fots_time time) { m.time = time; return m; }
 
 /* ---- texts of ISO 8601 */
 

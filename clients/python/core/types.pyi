@@ -419,6 +419,7 @@ class OffsetDateTime(_DateTime):
         "Returns the same date and time at another offset, which is another instant."
     def replace_date_time(self, date_time: PlainDateTime) -> OffsetDateTime:
         "Returns another date and time at the same offset."
+        return check(date_time, PlainDateTime).assume_offset(self.offset)
     def local(self) -> PlainDateTime: "Returns the date and time without the offset."
     def unix_timestamp(self) -> int: "Returns the Unix time in whole seconds, rounded down."
     def unix_duration(self) -> SignedDuration: "Returns the Unix time as a duration."

@@ -7,9 +7,6 @@ of the compiled module `_core`.
     >>> from fotsevindre import Date, SignedDuration
     >>> Date(2024, 2, 29) + SignedDuration(days=366)
     2025-03-01
-    >>> Date(2023, 2, 29)
-    Traceback (most recent call last):
-    fotsevindre.ComponentRange: day was not in range
 
 A component out of range raises `ComponentRange`, an invalid text `ParseError` or `ParseRuleError`.
 If a result is out of range, calls named `checked_*`, and others that say so, return `None`, and

@@ -7,18 +7,21 @@ import dataclasses
 import functools
 import itertools
 import operator
+import re
 from collections.abc import Callable, Iterable, Iterator, Sequence
 from typing import Any, SupportsIndex, TypeGuard, overload
 
 from . import _core
-from ._core import Date
+from ._core import Date, OffsetDateTime, PlainDateTime, SignedDuration
 from .choices import Frequency
 from .enums import Month, Weekday
 from .errors import check, is_like_date
+from .zones import Zone
 
 # The lists of a rule, and their numbers in C as the module array has them.
 _LISTS = {"months": "B", "weeks": "b", "year_days": "h", "month_days": "b", "weekdays": "b",
     "set_positions": "h"}
+_UNTIL = "%Y%m%dT%H%M%SZ"
 
 
 def _is_date(value: object) -> TypeGuard[Date]:
@@ -212,15 +215,14 @@ class Recurrence:
     """A recurrence in the text of RFC 5545 after `RRULE:`, and its parts.
 
     `text` has the parts in one order. Recurrences with the same parts are equal. An empty list
-    excludes no day. `until` is the last day and `count` the number of times, if given.
+    excludes no day. `until` is the last day, `until_moment` the instant of an `UNTIL` that has one,
+    such as 19971224T000000Z, and `count` the number of times, if given.
 
     >>> last_fridays = Recurrence.parse("byday=-1fr;count=3;freq=monthly")
     >>> list(last_fridays.days(Date(2024, 1, 1)))
     [2024-01-26, 2024-02-23, 2024-03-29]
-    >>> print(last_fridays)
-    FREQ=MONTHLY;COUNT=3;BYDAY=-1FR
-    >>> last_fridays.count, last_fridays.weekdays
-    (3, ((-1, Friday),))
+    >>> last_fridays, last_fridays.count, last_fridays.weekdays
+    (Recurrence(text='FREQ=MONTHLY;COUNT=3;BYDAY=-1FR'), 3, ((-1, Friday),))
     """
 
     text: str
@@ -236,16 +238,20 @@ class Recurrence:
     weekdays: tuple[Weekday | tuple[int, Weekday], ...] = dataclasses.field(
         init=False, repr=False, compare=False)
     set_positions: tuple[int, ...] = dataclasses.field(init=False, repr=False, compare=False)
+    until_moment: OffsetDateTime | None = dataclasses.field(init=False, repr=False, compare=False)
 
     def __post_init__(self) -> None:
         _, *names = self.__dataclass_fields__
         parts = dict(zip(names, _core.recurrence_parse(self.text)))
-        lists = {name: array.array(code, parts[name]) for name, code in _LISTS.items()}
-        numbers = iter(lists["weekdays"])
-        vars(self).update(parts, **{name: tuple(values) for name, values in lists.items()})
+        lists = {name: tuple(array.array(code, parts[name])) for name, code in _LISTS.items()}
+        numbers, text = iter(lists["weekdays"]), _core.recurrence_text(self.text)
+        # C reads only the day of such an UNTIL.
+        last = re.search("UNTIL=([0-9]{8}T[0-9]{6}Z)", self.text.upper().replace("60Z", "59Z"))
         vars(self).update(
-            text=_core.recurrence_text(self.text), frequency=Frequency(self.frequency),
-            count=self.count or None, months=tuple(map(Month, self.months)),
+            {**parts, **lists}, text=re.sub("UNTIL=[0-9]+", last[0], text) if last else text,
+            until_moment=last and PlainDateTime.strptime(last[1], _UNTIL).assume_utc(),
+            frequency=Frequency(parts["frequency"]), count=parts["count"] or None,
+            months=tuple(map(Month, lists["months"])),
             weekdays=tuple((number, Weekday(day - 1)) if number else Weekday(day - 1)
                 for number, day in zip(numbers, numbers)))
 
@@ -263,7 +269,7 @@ class Recurrence:
     @classmethod
     def from_parts(
         cls, frequency: Frequency, *, interval: int = 1, count: int | None = None,
-        until: Date | None = None, bymonth: int | Iterable[int] = (),
+        until: Date | OffsetDateTime | None = None, bymonth: int | Iterable[int] = (),
         byweekno: int | Iterable[int] = (), byyearday: int | Iterable[int] = (),
         bymonthday: int | Iterable[int] = (),
         byweekday: Weekday | Iterable[Weekday | tuple[int, Weekday]] = (),
@@ -289,7 +295,8 @@ class Recurrence:
         parts = {
             "FREQ": check(frequency, Frequency).name.upper(), "INTERVAL": operator.index(interval),
             "COUNT": "" if count is None else operator.index(count),
-            "UNTIL": "" if until is None else str(check(until, Date)).replace("-", ""),
+            "UNTIL": until.to_utc().strftime(_UNTIL) if isinstance(until, OffsetDateTime) else
+                "" if until is None else str(check(until, Date)).replace("-", ""),
             "BYMONTH": listed(bymonth), "BYWEEKNO": listed(byweekno),
             "BYYEARDAY": listed(byyearday), "BYMONTHDAY": listed(bymonthday),
             "BYDAY": listed(byweekday, weekday_text), "BYSETPOS": listed(bysetpos),
@@ -298,8 +305,8 @@ class Recurrence:
 
     def rule(self, start: Date) -> Rule:
         """Returns the rule from a start, without the number of times."""
-        parts = {name: part for name, part in vars(self).items() if name not in ("text", "count")}
-        return Rule(start, **parts)
+        _, *names = Rule.__dataclass_fields__
+        return Rule(start, **{name: vars(self)[name] for name in names})
 
     def days(self, start: Date) -> Iterator[Date]:
         """Iterates over the days from a start to the end."""
@@ -308,6 +315,21 @@ class Recurrence:
     def days_from(self, start: Date, date: Date) -> Iterator[Date]:
         """Iterates over the days from a start, without the days before the date."""
         return self._walk(check(start, Date), check(date, Date))
+
+    def moments(self, start: PlainDateTime, zone: Zone,
+                since: OffsetDateTime | None = None) -> Iterator[OffsetDateTime]:
+        """Iterates over the moments at which the clocks of a zone show the days from a start to the
+        end, at its time of day, in order, each once, and without those before `since`. A time that
+        the clocks skip or show twice means `Local.compatible`."""
+        date, until = check(start, PlainDateTime).date(), self.until_moment
+        # The dates of a moment differ by at most 3 days, as offsets are below 26 hours.
+        first = date if since is None else \
+            check(since, OffsetDateTime).date().saturating_sub(SignedDuration.days(3))
+        recurrence = Recurrence(re.sub(";UNTIL=[^;]*", "", self.text)) if until else self
+        readings = (PlainDateTime(day, start.time()) for day in recurrence.days_from(date, first))
+        moments: Iterator[OffsetDateTime] = check(zone, Zone)._moments(readings)
+        moments = itertools.dropwhile(since.__gt__, moments) if since else moments
+        return itertools.takewhile(until.__ge__, moments) if until else moments
 
     def _walk(self, start: Date, date: Date | None) -> Iterator[Date]:
         days = [start] * 64

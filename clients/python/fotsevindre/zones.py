@@ -8,11 +8,12 @@ import importlib.resources
 import operator
 import os
 import pathlib
+from collections.abc import Iterable, Iterator
 from typing import Any, SupportsIndex
 
-from . import _core
+# The file calls.py imports this one, so only calls use its names.
+from . import _core, calls
 from ._core import OffsetDateTime, PlainDateTime, UtcOffset
-from .calls import InstantColumns, OffsetColumns, _zone_instants, _zone_offsets
 from .choices import LocalKind, Policy
 from .errors import ParseError, ZoneError, check
 
@@ -144,20 +145,31 @@ class Zone:
         instants = ((earlier,), (), (earlier, later))[kind - 1]
         return Local(reading, LocalKind(kind), instants, before, after)
 
+    def _moments(self, readings: Iterable[PlainDateTime]) -> Iterator[OffsetDateTime]:
+        """Yields the moments of readings at least a day apart, in order, each once. Two offsets
+        differ by less than 52 hours, so it suffices to wait for two more readings."""
+        waiting: list[OffsetDateTime] = []
+        for reading in readings:
+            with contextlib.suppress(OverflowError):
+                waiting = sorted({*waiting, self.resolve(reading).compatible()})
+            if len(waiting) > 2:
+                yield waiting.pop(0)
+        yield from waiting
+
     def in_zone(self, moment: OffsetDateTime) -> OffsetDateTime:
         """Returns the same instant in this zone, like `OffsetDateTime.in_zone`."""
         return _core.moment_in_zone(moment, self._zone)
 
-    def offsets(self, seconds: Any) -> OffsetColumns:
+    def offsets(self, seconds: Any) -> calls.OffsetColumns:
         """Returns the offsets at a column of Unix times, in seconds or `datetime64`."""
         if hasattr(seconds, "dtype") and (seconds != seconds).any():
             raise ValueError("expected a time in each row, not NaT; drop or mask these rows")
-        return _zone_offsets(seconds, self._zone)
+        return calls._zone_offsets(seconds, self._zone)
 
-    def instants(self, readings: Any, policy: Policy = Policy.Compatible) -> InstantColumns:
+    def instants(self, readings: Any, policy: Policy = Policy.Compatible) -> calls.InstantColumns:
         """Returns the Unix times of a column of readings, which are the seconds by the clock since
         1970-01-01 0:00, or `datetime64`, by a policy."""
-        return _zone_instants(readings, (*self._zone, int(check(policy, Policy))))
+        return calls._zone_instants(readings, (*self._zone, int(check(policy, Policy))))
 
     def __str__(self) -> str:
         return self.key

@@ -45,6 +45,9 @@ lists: Tuple[Tuple[Month, ...], Tuple[int, ...]] = (recurrence.months, recurrenc
 printed: Tuple[str, Date, Time] = (day.strftime(Format("%d")), Date.strptime("2024-02-29", "%F"), Time.strptime("9:05", "%-H:%M"))
 zone: Zone = Zone.from_posix("CET-1CEST,M3.5.0,M10.5.0/3")
 zoned: Tuple[OffsetDateTime, Local, int] = (moment.in_zone(zone), zone.resolve(local), zone.instants([0], Policy.Reject).error_count)
+of_zone: List[OffsetDateTime] = list(recurrence.moments(local, zone)) + list(recurrence.moments(local, zone=zone, since=moment))
+weekly: Recurrence = Recurrence.from_parts(Frequency.Weekly, bymonth=Month.June, byweekday=[Weekday.Monday], wkst=Weekday.Sunday, until=moment)
+last_of_zone: Optional[OffsetDateTime] = weekly.until_moment
 fault: Tuple[int, Optional[str]] = (ParseRuleError(1, ParseRuleErrorKind.Missing).position, ParseRuleError(1, ParseRuleErrorKind.Missing).part)
 
 Date.from_calendar_date("2024", 2, 29)  # refused
@@ -75,6 +78,10 @@ rule.next_after(day).year  # refused
 Recurrence.parse(b"FREQ=DAILY")  # refused
 recurrence.rule(1)  # refused
 recurrence.count + 1  # refused
+recurrence.moments(day, zone)  # refused
+recurrence.moments(local, "Europe/Berlin")  # refused
+recurrence.moments(local)  # refused
+weekly.until_moment.local()  # refused
 shown.unix_timestamp()  # refused
 day.add_months(number=1)  # refused
 day.strftime(29)  # refused

@@ -1,4 +1,5 @@
-"""Tests of time zones. Expected values are from GNU date and from the module zoneinfo, for all files of the system."""
+"""Tests of time zones. Expected values are from GNU date, from the examples of RFC 5545, and from the modules zoneinfo, for all files of the
+system, and dateutil, if it is installed."""
 
 import copy
 import datetime
@@ -12,7 +13,12 @@ import struct
 import unittest
 import zoneinfo
 
-from fotsevindre import LocalKind, OffsetDateTime, PlainDateTime, Policy, Zone, ZoneError
+try:
+    from dateutil import rrule
+except ImportError:
+    rrule = None
+
+from fotsevindre import Date, Frequency, LocalKind, OffsetDateTime, PlainDateTime, Policy, Recurrence, Time, Weekday, Zone, ZoneError
 
 FOLDER = pathlib.Path(os.environ.get("TZDIR", "/usr/share/zoneinfo"))
 EPOCH = datetime.datetime(1970, 1, 1)
@@ -112,6 +118,162 @@ class WorkedRows(unittest.TestCase):
         ):
             found = berlin.instants(readings, policy)
             self.assertEqual((list(found.seconds), list(found.statuses), found.error_count), (seconds, statuses, sum(map(bool, statuses))), policy)
+
+
+def moments(text, start, key, **more):
+    """Returns the texts of the moments of a recurrence."""
+    return list(map(str, Recurrence.parse(text).moments(at(start), zone=Zone(key), **more)))
+
+
+def days_of(rows):
+    """Yields the texts of moments at 9:00 in New York, by the year and EDT or EST before months and days such as 9.2-30, 10.1,3."""
+    for row in rows.split("; "):
+        year, name, days = row.split(" ", 2)
+        for part in days.split(" "):
+            month, _, numbers = part.partition(".")
+            for one in numbers.split(","):
+                first, _, last = one.partition("-")
+                for day in range(int(first), int(last or first) + 1):
+                    yield f"{year}-{int(month):02}-{day:02} 9:00:00.0 -0{'EDT EST'.index(name) // 4 + 4}:00:00"
+
+
+class RecurrencesInZones(unittest.TestCase):
+    # Examples of RFC 5545, 3.8.5.3, with DTSTART;TZID=America/New_York at 9:00 and all of their printed days.
+    EXAMPLES = [
+        ("FREQ=DAILY;COUNT=10", "1997-09-02", "1997 EDT 9.2-11"),
+        ("FREQ=DAILY;UNTIL=19971224T000000Z", "1997-09-02", "1997 EDT 9.2-30 10.1-25; 1997 EST 10.26-31 11.1-30 12.1-23"),
+        ("FREQ=DAILY;INTERVAL=10;COUNT=5", "1997-09-02", "1997 EDT 9.2,12,22 10.2,12"),
+        ("FREQ=YEARLY;UNTIL=20000131T140000Z;BYMONTH=1;BYDAY=SU,MO,TU,WE,TH,FR,SA", "1998-01-01", "1998 EST 1.1-31; 1999 EST 1.1-31; 2000 EST 1.1-31"),
+        ("FREQ=DAILY;UNTIL=20000131T140000Z;BYMONTH=1", "1998-01-01", "1998 EST 1.1-31; 1999 EST 1.1-31; 2000 EST 1.1-31"),
+        ("FREQ=WEEKLY;COUNT=10", "1997-09-02", "1997 EDT 9.2,9,16,23,30 10.7,14,21; 1997 EST 10.28 11.4"),
+        ("FREQ=WEEKLY;UNTIL=19971224T000000Z", "1997-09-02", "1997 EDT 9.2,9,16,23,30 10.7,14,21; 1997 EST 10.28 11.4,11,18,25 12.2,9,16,23"),
+        ("FREQ=WEEKLY;UNTIL=19971007T000000Z;WKST=SU;BYDAY=TU,TH", "1997-09-02", "1997 EDT 9.2,4,9,11,16,18,23,25,30 10.2"),
+        ("FREQ=WEEKLY;INTERVAL=2;UNTIL=19971224T000000Z;WKST=SU;BYDAY=MO,WE,FR", "1997-09-01",
+            "1997 EDT 9.1,3,5,15,17,19,29 10.1,3,13,15,17; 1997 EST 10.27,29,31 11.10,12,14,24,26,28 12.8,10,12,22"),
+        ("FREQ=MONTHLY;COUNT=10;BYDAY=1FR", "1997-09-05", "1997 EDT 9.5 10.3; 1997 EST 11.7 12.5; 1998 EST 1.2 2.6 3.6 4.3; 1998 EDT 5.1 6.5"),
+        ("FREQ=MONTHLY;UNTIL=19971224T000000Z;BYDAY=1FR", "1997-09-05", "1997 EDT 9.5 10.3; 1997 EST 11.7 12.5"),
+        ("FREQ=MONTHLY;INTERVAL=2;COUNT=10;BYDAY=1SU,-1SU", "1997-09-07", "1997 EDT 9.7,28; 1997 EST 11.2,30; 1998 EST 1.4,25 3.1,29; 1998 EDT 5.3,31"),
+        ("FREQ=MONTHLY;COUNT=6;BYDAY=-2MO", "1997-09-22", "1997 EDT 9.22 10.20; 1997 EST 11.17 12.22; 1998 EST 1.19 2.16"),
+        ("FREQ=YEARLY;COUNT=10;BYMONTH=6,7", "1997-06-10",
+            "1997 EDT 6.10 7.10; 1998 EDT 6.10 7.10; 1999 EDT 6.10 7.10; 2000 EDT 6.10 7.10; 2001 EDT 6.10 7.10"),
+        ("FREQ=MONTHLY;COUNT=3;BYDAY=TU,WE,TH;BYSETPOS=3", "1997-09-04", "1997 EDT 9.4 10.7; 1997 EST 11.6"),
+    ]
+
+    def test_examples_of_the_rfc(self):
+        for text, start, rows in self.EXAMPLES:
+            self.assertEqual(moments(text, f"{start}T09:00:00", "America/New_York"), [*days_of(rows)], text)
+
+    def test_gaps_and_folds(self):
+        for text, start, key, wanted in (
+            ("FREQ=DAILY;COUNT=3", "2024-03-30T02:30", "Europe/Berlin", "03-30 2:30:00.0 +01:00, 03-31 3:30:00.0 +02:00, 04-01 2:30:00.0 +02:00"),
+            ("FREQ=DAILY;COUNT=3", "2024-03-31T02:30", "Europe/Berlin", "03-31 3:30:00.0 +02:00, 04-01 2:30:00.0 +02:00, 04-02 2:30:00.0 +02:00"),
+            ("FREQ=DAILY;COUNT=3", "2024-10-26T02:30", "Europe/Berlin", "10-26 2:30:00.0 +02:00, 10-27 2:30:00.0 +02:00, 10-28 2:30:00.0 +01:00"),
+            ("FREQ=DAILY;COUNT=3", "2024-04-06T01:45:00.5", "Australia/Lord_Howe",
+                "04-06 1:45:00.5 +11:00, 04-07 1:45:00.5 +11:00, 04-08 1:45:00.5 +10:30"),
+            ("FREQ=DAILY;COUNT=3", "2024-10-05T02:15", "Australia/Lord_Howe", "10-05 2:15:00.0 +10:30, 10-06 2:45:00.0 +11:00, 10-07 2:15:00.0 +11:00"),
+            ("FREQ=WEEKLY;BYDAY=SU;COUNT=2", "2024-03-27T02:30", "Etc/UTC", "03-31 2:30:00.0 +00:00, 04-07 2:30:00.0 +00:00"),
+        ):
+            self.assertEqual(moments(text, start, key), [f"2024-{one}:00" for one in wanted.split(", ")], (text, start, key))
+
+    def test_left_out_day(self):
+        # Apia has no 30 December 2011: its noon and the noon of the 31st are one instant. COUNT and a day of UNTIL go by the clocks.
+        days = ["2011-12-28 12:00:00.0 -10:00:00", "2011-12-29 12:00:00.0 -10:00:00", "2011-12-31 12:00:00.0 +14:00:00", "2012-01-01 12:00:00.0 +14:00:00"]
+        for end, wanted in (("COUNT=3", days[:3]), ("COUNT=4", days[:3]), ("COUNT=5", days), ("UNTIL=20111230", days[:3]), ("UNTIL=20120101", days)):
+            self.assertEqual(moments(f"FREQ=DAILY;{end}", "2011-12-28T12:00", "Pacific/Apia"), wanted, end)
+        for since, wanted in ((0, days), (1325325600, days[3:]), (1325282400, days[2:]), (1325282401, days[3:]), (2**31, [])):
+            since = OffsetDateTime.from_unix_timestamp(since).in_zone(Zone("Pacific/Niue"))
+            self.assertEqual(moments("FREQ=DAILY;COUNT=5", "2011-12-28T12:00", "Pacific/Apia", since=since), wanted, since)
+        self.assertEqual(moments("FREQ=YEARLY;COUNT=1", "2011-12-30T12:00", "Pacific/Apia"), days[2:3])
+
+    def test_order(self):
+        # The clocks go forward by 44 hours on 31 March 2024, so that two readings there come after later ones.
+        zone = Zone.from_posix("AAA24BBB-20,M3.5.0/0,M10.5.0/0")
+        found = list(Recurrence.parse("FREQ=DAILY;COUNT=6").moments(at("2024-03-30T12:00"), zone))
+        self.assertEqual([str(one.local()) for one in found], ["2024-03-30 12:00:00.0"] + [
+            f"2024-04-{day} {hour}:00:00.0" for day, hour in (("02", 8), ("02", 12), ("03", 8), ("03", 12), ("04", 12))])
+        self.assertEqual(found, sorted(found))
+        # In the last days of the range, 48 hours are left out.
+        zone = Zone.from_posix("AAA24BBB-24,M12.5.0/130,M6.1.0")
+        last = [str(one.date()) for one in Recurrence.parse("FREQ=DAILY").moments(PlainDateTime(Date(999999, 12, 29), Time(12)), zone)]
+        self.assertEqual(last, ["+999999-12-29", "+999999-12-30"])
+        first = Recurrence.parse("FREQ=DAILY").moments(PlainDateTime.MIN, Zone.from_posix("<+03>-3"), OffsetDateTime.UNIX_EPOCH)
+        self.assertEqual(str(next(first)), "1970-01-02 0:00:00.0 +03:00:00")
+
+    def test_instants_of_until(self):
+        # Ends of a calendar are instants. Their days can be others in the zone.
+        for until, key, start, wanted in (
+            ("20250101T045959Z", "America/New_York", "2024-12-30T09:00", ["2024-12-30", "2024-12-31"]),
+            ("20241230T230000Z", "Asia/Tokyo", "2024-12-30T08:00", ["2024-12-30", "2024-12-31"]),
+            ("20241230T225959Z", "Asia/Tokyo", "2024-12-30T08:00", ["2024-12-30"]), ("20241229T225959Z", "Asia/Tokyo", "2024-12-30T08:00", []),
+            ("20161231T235960Z", "Etc/UTC", "2016-12-31T23:59:59", ["2016-12-31"]),
+        ):
+            recurrence = Recurrence.parse(f"rrule:freq=daily;until={until.lower()}" if until == "20241230T230000Z" else f"FREQ=DAILY;UNTIL={until}")
+            self.assertEqual([str(one.date()) for one in recurrence.moments(at(start), Zone(key))], wanted, until)
+            written = until.replace("60Z", "59Z")
+            self.assertEqual((recurrence.text, str(recurrence.until).replace("-", "")), (f"FREQ=DAILY;UNTIL={written}", until[:8]))
+            instant = OffsetDateTime.from_datetime(datetime.datetime.strptime(written + "+0000", "%Y%m%dT%H%M%SZ%z"))
+            made = Recurrence.from_parts(Frequency.Daily, until=instant.in_zone(Zone(key)))
+            for same in (Recurrence.parse(recurrence.text), copy.copy(recurrence), pickle.loads(pickle.dumps(recurrence)), made):
+                self.assertEqual((same, hash(same), vars(same), same.until_moment), (recurrence, hash(recurrence), vars(recurrence), instant))
+            self.assertEqual(recurrence.rule(Date(2016, 12, 31)).until, recurrence.until)
+            self.assertNotEqual(recurrence, Recurrence.parse(f"FREQ=DAILY;UNTIL={until[:8]}"))
+        for text in ("FREQ=DAILY;UNTIL=20241231", "FREQ=DAILY;UNTIL=20241231T080000", "FREQ=DAILY;COUNT=1"):
+            self.assertIsNone(Recurrence.parse(text).until_moment)
+        self.assertEqual(Recurrence.parse("FREQ=DAILY;UNTIL=00000101T000000Z").until_moment.date(), Date(0, 1, 1))
+        self.assertRaises(ValueError, Recurrence.from_parts, Frequency.Daily, until=PlainDateTime.MAX.assume_utc())
+
+    def test_errors(self):
+        daily, start, berlin = Recurrence.parse("FREQ=DAILY"), at("2024-03-31T02:30"), Zone("Europe/Berlin")
+        for arguments, expected in (
+            ((start.date(), berlin), "PlainDateTime, not Date"), ((datetime.datetime(2024, 3, 31), berlin), "PlainDateTime, not datetime"),
+            ((start.assume_utc(), berlin), "PlainDateTime, not OffsetDateTime"), ((start, "Europe/Berlin"), "Zone, not str"),
+            ((start, zoneinfo.ZoneInfo("Europe/Berlin")), "Zone, not ZoneInfo"), ((start, berlin, start), "OffsetDateTime, not PlainDateTime"),
+            ((start, berlin, 0), "OffsetDateTime, not int"),
+        ):
+            with self.assertRaisesRegex(TypeError, f"^expected {expected}$"):
+                daily.moments(*arguments)
+        self.assertRaises(TypeError, daily.moments, start)
+
+    @unittest.skipUnless(rrule, "dateutil is not installed")
+    def test_against_dateutil(self):
+        """Rules that start at a change of a zone, by the readings of dateutil and the instants of zoneinfo."""
+        draw, merged = random.Random(71), 0
+        keys = ["America/New_York", "Europe/Berlin", "Australia/Lord_Howe", "Pacific/Apia", "Africa/Casablanca", "Antarctica/Troll", "Asia/Kathmandu"]
+        for _ in range(400):
+            key = draw.choice(keys)
+            info, zone = zoneinfo.ZoneInfo(key), Zone(key)
+            change = zone.next_change(draw.randrange(1200000000, 1700000000)) or 1300000000
+            near = OffsetDateTime.from_unix_timestamp(change + draw.randrange(-7200, 93600, 900)).to_offset(zone.offset_at(change - 1)).local()
+            start = near.to_datetime() - datetime.timedelta(days=draw.choice((0, 0, 1, 2, 7, 30)))
+            frequency, interval, week_start = draw.choice(list(Frequency)), draw.choice((1, 1, 1, 2, 3)), draw.choice(list(Weekday))
+            parts = {"bymonth": draw.sample(range(1, 13), 9)} if draw.random() < 0.3 else {}
+            if frequency != Frequency.Weekly and draw.random() < 0.3:
+                parts["bymonthday"] = draw.sample([*range(1, 32), -1, -2], 12)
+            weekdays = draw.sample(list(Weekday), draw.randint(1, 4)) if draw.random() < 0.5 else []
+            numbers = [draw.choice((1, 2, -1)) if frequency == Frequency.Monthly and "bymonthday" not in parts else 0] * len(weekdays)
+            if draw.random() < 0.5:
+                parts["count"] = draw.randint(1, 40)
+            ours = Recurrence.from_parts(
+                frequency, interval=interval, wkst=week_start, **parts,
+                byweekday=[(number, one) if number else one for number, one in zip(numbers, weekdays)])
+            days = [rrule.weekdays[one](number) if number else rrule.weekdays[one] for number, one in zip(numbers, weekdays)]
+            theirs = rrule.rrule(
+                {Frequency.Daily: rrule.DAILY, Frequency.Weekly: rrule.WEEKLY, Frequency.Monthly: rrule.MONTHLY, Frequency.Yearly: rrule.YEARLY}[frequency],
+                start, interval, int(week_start), byweekday=days or None, **parts)
+            end = start + datetime.timedelta(days=draw.randrange(1, 800))
+            readings = list(itertools.takewhile(lambda one: one < end, theirs))
+            wanted = sorted({(reading.replace(tzinfo=info) - datetime.datetime(1970, 1, 1, tzinfo=datetime.timezone.utc)) // SECOND for reading in readings})
+            merged += len(wanted) < len(readings)
+            found = ours.moments(PlainDateTime.from_datetime(start), zone)
+            found = [one for one in itertools.islice(found, len(wanted))]
+            self.assertEqual([one.unix_timestamp() for one in found], wanted, (key, str(start), str(ours)))
+            for one in found:
+                self.assertEqual(one.offset, zone.offset_at(one), (key, one))
+            half = found[len(found) // 2:]
+            if half:
+                since = ours.moments(PlainDateTime.from_datetime(start), zone, half[0])
+                self.assertEqual(list(itertools.islice(since, len(half))), half, (key, str(start), str(ours)))
+        self.assertGreater(merged, 0)
 
 
 class HostileBytes(unittest.TestCase):
