@@ -21,7 +21,7 @@ from .zones import Zone
 # The lists of a rule, and their numbers in C as the module array has them.
 _LISTS = {"months": "B", "weeks": "b", "year_days": "h", "month_days": "b", "weekdays": "b",
     "set_positions": "h"}
-_UNTIL = "%Y%m%dT%H%M%SZ"
+_UNTIL = "%Y%m%dT%H%M%S%.fZ"
 
 
 def _is_date(value: object) -> TypeGuard[Date]:

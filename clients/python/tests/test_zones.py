@@ -18,7 +18,7 @@ try:
 except ImportError:
     rrule = None
 
-from fotsevindre import Date, Frequency, LocalKind, OffsetDateTime, PlainDateTime, Policy, Recurrence, Time, Weekday, Zone, ZoneError
+from fotsevindre import Date, Frequency, LocalKind, OffsetDateTime, ParseRuleError, PlainDateTime, Policy, Recurrence, Time, Weekday, Zone, ZoneError
 
 FOLDER = pathlib.Path(os.environ.get("TZDIR", "/usr/share/zoneinfo"))
 EPOCH = datetime.datetime(1970, 1, 1)
@@ -220,7 +220,10 @@ class RecurrencesInZones(unittest.TestCase):
         for text in ("FREQ=DAILY;UNTIL=20241231", "FREQ=DAILY;UNTIL=20241231T080000", "FREQ=DAILY;COUNT=1"):
             self.assertIsNone(Recurrence.parse(text).until_moment)
         self.assertEqual(Recurrence.parse("FREQ=DAILY;UNTIL=00000101T000000Z").until_moment.date(), Date(0, 1, 1))
-        self.assertRaises(ValueError, Recurrence.from_parts, Frequency.Daily, until=PlainDateTime.MAX.assume_utc())
+        # The text has no nanoseconds, and no years of more digits.
+        for instant in (at("2024-12-31T23:59:59.5").assume_utc(), PlainDateTime(Date.MAX, Time()).assume_utc()):
+            with self.assertRaisesRegex(ParseRuleError, "^invalid value of UNTIL at 22$"):
+                Recurrence.from_parts(Frequency.Daily, until=instant)
 
     def test_errors(self):
         daily, start, berlin = Recurrence.parse("FREQ=DAILY"), at("2024-03-31T02:30"), Zone("Europe/Berlin")
