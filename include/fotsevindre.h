@@ -1113,7 +1113,7 @@ fots_format_result fots_format_new(const char *text, size_t text_length);
 fots_format_result fots_format_from_description(const char *text, size_t text_length);
 
 /* Write the text of a value to the front of the bytes, without a zero byte, and return its length.
- * Errors: FOTS_INVALID_FORMAT; FOTS_UNSUPPORTED_ITEM, as for the hour of a date;
+ * Errors: FOTS_INVALID_FORMAT; FOTS_UNSUPPORTED_ITEM, as for the hour of a date, and for "%Z";
  * FOTS_BUFFER_TOO_SHORT with the length. After an error the bytes are as before. No text is longer
  * than FOTS_MAX_ITEMS * FOTS_MAX_ITEM_LENGTH. */
 fots_length_result fots_date_format(fots_date date, const fots_format *format, char *bytes, size_t bytes_length);
@@ -1342,6 +1342,12 @@ fots_int64_result fots_zone_previous_change(const fots_zone *zone, int64_t secon
 /* Returns the same instant in a zone; FOTS_RESULT_OUT_OF_RANGE. 2024-03-31 1:00 UTC is 3:00
  * +02:00. */
 fots_moment_result fots_moment_in_zone(fots_moment moment, const fots_zone *zone);
+
+/* Writes the text of the same instant in a zone, as fots_moment_format does, with the abbreviation
+ * as "%Z"; FOTS_RESULT_OUT_OF_RANGE, and FOTS_UNSUPPORTED_ITEM for an abbreviation of more than 15
+ * bytes. 2024-03-31 1:00 UTC is "03:00 CEST" by "%H:%M %Z". */
+fots_length_result fots_moment_format_in_zone(fots_moment moment, const fots_zone *zone, const fots_format *format, char *bytes,
+    size_t bytes_length);
 
 /* Returns exactly the instants at which the clocks of a zone show a date and a time of day.
  * 2024-10-27 2:30 is a fold, of 1729989000 at +02:00 and 1729992600 at +01:00; 2024-03-31 2:30 is a

@@ -903,6 +903,8 @@ public:
     OffsetDateTime to_utc() const { return to_offset(UtcOffset::utc()); }
     // Returns the same instant in a time zone.
     OffsetDateTime in_zone(const Zone &zone) const;
+    // Returns the text of the same instant in a time zone, such as "03:00 CEST" by "%H:%M %Z".
+    std::string format(const Format &format, const Zone &zone) const;
     // Returns the same date and time at another offset, which is another instant.
     OffsetDateTime replace_offset(UtcOffset offset) const { return from(fots_moment_replace_offset(value_, offset.c())); }
 
@@ -1082,6 +1084,13 @@ inline OffsetDateTime OffsetDateTime::in_zone(const Zone &zone) const
 {
     const fots_zone held = zone.c();
     return from(fots_moment_in_zone(value_, &held));
+}
+
+inline std::string OffsetDateTime::format(const Format &format, const Zone &zone) const
+{
+    const fots_zone held = zone.c();
+    return detail::written(
+        [&](char *bytes, std::size_t length) { return fots_moment_format_in_zone(value_, &held, format.c(), bytes, length); });
 }
 
 } // namespace fotsevindre

@@ -81,7 +81,7 @@ static void rows(void)
 
 static void each_type(void)
 {
-    fots_format date = format_of("%d/%m/%Y"), time = format_of("%H:%M"), offset = format_of("%:z"), pair = format_of("%F %R");
+    fots_format date = format_of("%d/%m/%Y"), time = format_of("%H:%M"), offset = format_of("%:z"), pair = format_of("%F %R"), zone = format_of("%Z");
     fots_moment at = a_moment();
     check(is_text(fots_date_format(at.date, &date, buffer, ROOM), "29/02/2024"), "a date", 0, 0);
     check(is_text(fots_time_format(at.time, &time, buffer, ROOM), "09:05"), "a time", 0, 0);
@@ -91,6 +91,7 @@ static void each_type(void)
     check(fots_time_format(at.time, &pair, buffer, ROOM).status == FOTS_UNSUPPORTED_ITEM, "the date of a time", 0, 0);
     check(fots_offset_format(at.offset, &date, buffer, ROOM).status == FOTS_UNSUPPORTED_ITEM, "the date of an offset", 0, 0);
     check(fots_pair_format(at.date, at.time, &offset, buffer, ROOM).status == FOTS_UNSUPPORTED_ITEM, "the offset of a pair", 0, 0);
+    check(fots_moment_format(at, &zone, buffer, ROOM).status == FOTS_UNSUPPORTED_ITEM, "a zone without one", 0, 0);
     /* The years -44 and 12024, as fots_date_calendar_text has them. */
     check(is_text(fots_date_format(fots_date_from_calendar_date(-44, 3, 15).date, &date, buffer, ROOM), "15/03/-0044"), "-44", 0, 0);
     check(is_text(fots_date_format(fots_date_from_calendar_date(12024, 1, 1).date, &date, buffer, ROOM), "01/01/+12024"), "12024", 0, 0);
@@ -139,7 +140,7 @@ static uint32_t drawn(void)
 /* Each kind with each number, and numbers that are drawn: a call takes them, or rejects them all. */
 static void filled_by_hand(void)
 {
-    static const int values[] = {256, 27, 27, 27, 5, 1, 1, 1, 1};
+    static const int values[] = {256, 27, 27, 27, 5, 1, 1, 1, 1, 1};
     fots_format format;
     for (int kind = 0; kind < 256; kind++) {
         for (int value = 0; value < 256; value++) {
@@ -149,7 +150,7 @@ static void filled_by_hand(void)
             format.items[0].value = (uint8_t)value;
             int is_item = kind < COUNT(values) && value < values[kind];
             fots_length_result result = fots_moment_format(a_moment(), &format, buffer, ROOM);
-            check(result.status == (is_item ? FOTS_OK : FOTS_INVALID_FORMAT), "an item by hand", kind, value);
+            check(result.status == (!is_item ? FOTS_INVALID_FORMAT : kind < 9 ? FOTS_OK : FOTS_UNSUPPORTED_ITEM), "an item by hand", kind, value);
         }
     }
     memset(&format, 0, sizeof format);

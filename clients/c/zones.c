@@ -67,8 +67,49 @@ static void readings(void)
     check(fots_zone_moment(&berlin, day(2024, 10, 27), half_past(2), FOTS_REJECT).status == FOTS_REPEATED_TIME, "repeated", 0, 0);
 }
 
+/* A zone, a Unix time, a format, and the text of GNU date. */
+typedef struct Row {
+    const char *zone;
+    int64_t seconds;
+    const char *format, *text;
+} Row;
+
+static const Row ROWS[] = {
+    {CET, 1711846799, "%a, %d %b %Y %T %Z %z", "Sun, 31 Mar 2024 01:59:59 CET +0100"}, {CET, 1711846800, "%H:%M %Z", "03:00 CEST"},
+    {"<-03>3", 1711846800, "%H:%M%Z", "22:00-03"}, {"<+0545>-5:45", 1711846800, "%F %R%Z|%Z", "2024-03-31 06:45+0545|+0545"},
+};
+
+static fots_length_result print(const fots_zone *zone, int64_t seconds, const char *format, char *text, size_t length)
+{
+    const fots_format made = fots_format_new(format, strlen(format)).format;
+    memset(text, '~', length);
+    return fots_moment_format_in_zone(fots_moment_from_unix_timestamp(seconds).moment, zone, &made, text, length);
+}
+
+static void texts(void)
+{
+    const fots_zone berlin = posix(CET), east = posix("<+0545>-5:45");
+    const fots_zone most = posix("<ABCDEFGHIJKLMNO>0"), more = posix("<ABCDEFGHIJKLMNOP>0");
+    const fots_format hour = fots_format_new("%H", 2).format;
+    const fots_moment last = fots_moment_new(day(999999, 12, 31), FOTS_MAX_TIME, (fots_offset){0}).moment, no_moment = {{FOTS_NO_VALUE}, {0}, 0};
+    char text[40];
+    for (size_t k = 0; k < sizeof ROWS / sizeof *ROWS; k++) {
+        const fots_zone zone = posix(ROWS[k].zone);
+        const fots_length_result result = print(&zone, ROWS[k].seconds, ROWS[k].format, text, sizeof text);
+        const size_t length = strlen(ROWS[k].text);
+        check(result.status == FOTS_OK && result.length == length && !memcmp(text, ROWS[k].text, length), ROWS[k].text, result.status, 0);
+    }
+    check(print(&berlin, 0, "%Z", text, 2).status == FOTS_BUFFER_TOO_SHORT && text[0] == '~' && text[1] == '~', "no room", 0, 0);
+    check(print(&most, 0, "%Z", text, 15).status == FOTS_OK, "15 bytes", 0, 0);
+    check(print(&more, 0, "%Z", text, 16).status == FOTS_UNSUPPORTED_ITEM && text[0] == '~', "16 bytes", 0, 0);
+    check(print(&berlin, 0, "%", text, 16).status == FOTS_INVALID_FORMAT && text[0] == '~', "no format", 0, 0);
+    check(fots_moment_format_in_zone(last, &east, &hour, text, 16).status == FOTS_RESULT_OUT_OF_RANGE, "after the last day", 0, 0);
+    check(fots_moment_format_in_zone(no_moment, &east, &hour, text, 16).status == FOTS_INVALID_MOMENT, "no moment", 0, 0);
+}
+
 static void is_rejected(const fots_zone *zone, long long which)
 {
+    char text[16];
     const fots_date no_day = {FOTS_NO_VALUE};
     const fots_moment no_moment = {{FOTS_NO_VALUE}, {0}, 0};
     int64_t second = 0;
@@ -82,6 +123,7 @@ static void is_rejected(const fots_zone *zone, long long which)
     check(fots_zone_moment(zone, no_day, 0, 4).status == FOTS_INVALID_ZONE, "moment", which, 0);
     check(fots_moment_in_zone(no_moment, zone).status == FOTS_INVALID_MOMENT, "no moment", which, 0);
     check(fots_moment_in_zone(fots_moment_from_unix_timestamp(0).moment, zone).status == FOTS_INVALID_ZONE, "in zone", which, 0);
+    check(print(zone, 0, "%Z", text, sizeof text).status == FOTS_INVALID_ZONE && text[0] == '~', "a text", which, 0);
     check(fots_zone_offsets(zone, &second, 1, &offset, 1, &status, 1) == 1 && status == FOTS_INVALID_ZONE, "offsets", which, offset);
     check(fots_zone_instants(zone, &second, 1, 4, &second, 1, &status, 1) == 1 && status == FOTS_INVALID_ZONE, "instants", which, second);
 }
@@ -163,6 +205,7 @@ static void is_safe(const fots_zone *zone)
     int64_t seconds[] = {INT64_MIN, -1, 1711846800, INT64_MAX}, found[4];
     int32_t offsets[4];
     uint8_t statuses[4];
+    char text[16];
     int row;
     for (row = 0; row < 4; row++) {
         const fots_local_type_result type = fots_zone_local_type(zone, seconds[row]);
@@ -174,6 +217,7 @@ static void is_safe(const fots_zone *zone)
     fots_zone_resolve(zone, day(2024, 10, 27), half_past(2));
     fots_zone_moment(zone, day(2024, 3, 31), half_past(2), FOTS_EARLIER);
     fots_moment_in_zone(fots_moment_from_unix_timestamp(1711846800).moment, zone);
+    print(zone, 1711846800, "%T %Z", text, sizeof text);
     fots_zone_offsets(zone, seconds, 4, offsets, 4, statuses, 4);
     fots_zone_instants(zone, seconds, 4, FOTS_LATER, found, 4, statuses, 4);
 }
@@ -224,9 +268,11 @@ static void hostile(size_t length)
     }
 }
 
-/* Compares instants of the years 1834 to 2310 with the C library. */
+/* Compares instants of the years 1834 to 2310, and their texts, with the C library. */
 static void against_localtime(const char *name, size_t length)
 {
+    const char *items = "%a %F %T %z %Z";
+    const fots_format format = fots_format_new(items, strlen(items)).format;
     const fots_zone zone = fots_zone_from_file(bytes, length).zone;
     uint64_t state = 88172645463325252ULL;
     int drawn;
@@ -244,6 +290,10 @@ static void against_localtime(const char *name, size_t length)
             check(found.offset.seconds == shown.tm_gmtoff && (int)found.is_daylight == shown.tm_isdst, "an offset", seconds, shown.tm_gmtoff);
             check(strlen(shown.tm_zone) == found.abbreviation_length && !memcmp(shown.tm_zone, bytes + found.abbreviation, found.abbreviation_length),
                 "an abbreviation", seconds, 0);
+            char ours[64], theirs[64];
+            const fots_length_result text = fots_moment_format_in_zone(fots_moment_from_unix_timestamp(seconds).moment, &zone, &format, ours, 64);
+            const size_t their_length = strftime(theirs, 64, items, &shown);
+            check(text.status == FOTS_OK && text.length == their_length && !memcmp(ours, theirs, their_length), "a text", seconds, text.status);
         }
     }
 }
@@ -252,6 +302,7 @@ int main(int count, char **arguments)
 {
     instants();
     readings();
+    texts();
     errors();
     const fots_zone berlin = posix(CET);
     hostile_struct(&berlin);

@@ -321,6 +321,8 @@ void zones()
     check(berlin.date_time(in_gap).local() == PlainDateTime(Date::parse("2024-03-31"), Time::from_hms(3, 30, 0)), "after the gap");
     check(berlin.date_time(in_fold, Policy::Later) == OffsetDateTime::from_unix_timestamp(1729992600), "the second");
     check(OffsetDateTime::from_unix_timestamp(1729989000).in_zone(berlin).local() == in_fold, "in a zone");
+    check(OffsetDateTime::from_unix_timestamp(1711846800).format(Format("%H:%M %Z"), berlin) == "03:00 CEST", "an abbreviation");
+    throws([&] { OffsetDateTime::from_unix_timestamp(0).format(Format("%Z")); }, FOTS_UNSUPPORTED_ITEM, "unsupported item", "no zone");
     throws([&] { berlin.date_time(in_gap, Policy::Reject); }, FOTS_SKIPPED_TIME, "skipped time", "in a gap");
     throws([&] { berlin.date_time(in_fold, Policy::Reject); }, FOTS_REPEATED_TIME, "repeated time", "in a fold");
     check(berlin.offsets({1711846799, 1711846800}) == std::vector<std::int32_t>{3600, 7200} && berlin.offsets({}).empty(), "a column of offsets");

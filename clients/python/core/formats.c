@@ -58,24 +58,11 @@ static PyObject *core_format_new(PyObject *self, PyObject *const *given, Py_ssiz
 
 /* ---- the methods strftime and strptime, by the name of the value in C */
 
-#define STRFTIME(name, part, ...) \
-    static PyObject *name(PyObject *self, PyObject *object) \
-    { \
-        char bytes[FOTS_MAX_ITEMS * FOTS_MAX_ITEM_LENGTH]; \
-        fots_format format; \
-        if (!to_format(state_of(self), object, &format)) { \
-            return NULL; \
-        } \
-        fots_length_result result = \
-            fots_##part##_format(__VA_ARGS__, &format, bytes, sizeof bytes); \
-        return result.status ? raise_status(state_of(self), result.status) : \
-            PyUnicode_FromStringAndSize(bytes, (Py_ssize_t)result.length); \
-    }
-STRFTIME(date_strftime, date, DATE(self))
-STRFTIME(time_strftime, time, TIME(self))
-STRFTIME(offset_strftime, offset, OFFSET(self))
-STRFTIME(plain_strftime, pair, MOMENT(self).date, MOMENT(self).time)
-STRFTIME(moment_strftime, moment, MOMENT(self))
+static fots_length_result plain_strftime(
+    fots_moment moment, const fots_format *format, char *bytes, size_t bytes_length)
+{
+    return fots_pair_format(moment.date, moment.time, format, bytes, bytes_length);
+}
 
 #define STRPTIME(name, part, kind, value) \
     static PyObject *name(PyObject *self, PyObject *const *given, Py_ssize_t count) \

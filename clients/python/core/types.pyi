@@ -47,7 +47,8 @@ class _Moved:
 
 class _Formatted:
     def strftime(self, format: str | Format) -> str:
-        "Returns the text by a format, or raises ValueError if that shows more than the value has."
+        """Returns the text by a format, or raises ValueError if that shows more than the value has,
+        such as `%Z`, which `Zone.strftime` prints."""
     def strptime(text, format: str | Format) -> Self:
         """Parses the text of a value by a format, and no other text, or raises ParseError,
         ComponentRange or ContradictionError; ValueError if the texts of the format don't determine

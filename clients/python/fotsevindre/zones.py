@@ -16,6 +16,7 @@ from . import _core, calls
 from ._core import OffsetDateTime, PlainDateTime, UtcOffset
 from .choices import LocalKind, Policy
 from .errors import ParseError, ZoneError, check
+from .formats import Format
 
 
 @dataclasses.dataclass(frozen=True)
@@ -159,6 +160,11 @@ class Zone:
     def in_zone(self, moment: OffsetDateTime) -> OffsetDateTime:
         """Returns the same instant in this zone, like `OffsetDateTime.in_zone`."""
         return _core.moment_in_zone(moment, self._zone)
+
+    def strftime(self, moment: OffsetDateTime, format: str | Format) -> str:
+        """Returns the text of the same instant in this zone by a format, where `%Z` is the
+        abbreviation, with the errors of `in_zone` and of `OffsetDateTime.strftime`."""
+        return _core.moment_format_in_zone(moment, self._zone, format)
 
     def offsets(self, seconds: Any) -> calls.OffsetColumns:
         """Returns the offsets at a column of Unix times, in seconds or `datetime64`."""

@@ -202,7 +202,7 @@ class Construction(unittest.TestCase):
             lambda: Workdays(holidays=[LEAP_DAY]).holidays, lambda: SignedDuration(days=1, hours=2), lambda: OffsetDateTime.UNIX_EPOCH.isoformat(),
             lambda: LEAP_DAY + datetime.timedelta(1), lambda: Rule(LEAP_DAY, Frequency.Daily).first_days(70), lambda: fotsevindre.dates_weekdays([LEAP_DAY]),
             lambda: Date.parse("2024-02-29"), lambda: Date.strptime(LEAP_DAY.strftime("%d %B %Y"), "%d %B %Y"), lambda: zone.offsets([0, 1]),
-            lambda: OffsetDateTime.UNIX_EPOCH.in_zone(zone), lambda: zone.abbreviation_at(0), lambda: zone.resolve(PlainDateTime.MIN),
+            lambda: OffsetDateTime.UNIX_EPOCH.in_zone(zone), lambda: zone.strftime(OffsetDateTime.UNIX_EPOCH, "%Z"), lambda: zone.resolve(PlainDateTime.MIN),
         ]
         singles = [Date, Time, UtcOffset, SignedDuration, PlainDateTime, OffsetDateTime, Workdays, *Month, *Weekday, LEAP_DAY]
         # From 3.12 on these are immortal: their counts mean nothing.

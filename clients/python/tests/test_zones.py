@@ -71,6 +71,9 @@ class WorkedRows(unittest.TestCase):
             zone = Zone(key)
             found = zone.offset_at(instant).whole_seconds(), zone.is_daylight_at(instant), zone.abbreviation_at(OffsetDateTime.from_unix_timestamp(instant))
             self.assertEqual(found, (offset, is_daylight, abbreviation), key)
+            other = datetime.datetime.fromtimestamp(instant, zoneinfo.ZoneInfo(key))
+            text = "%a, %d %b %Y %H:%M:%S %Z %z"
+            self.assertEqual(zone.strftime(OffsetDateTime.from_unix_timestamp(instant), text), other.strftime(text), key)
 
     def test_changes(self):
         berlin, utc = Zone("Europe/Berlin"), Zone("Etc/UTC")
@@ -81,6 +84,7 @@ class WorkedRows(unittest.TestCase):
         berlin = Zone.from_posix("CET-1CEST,M3.5.0,M10.5.0/3")
         self.assertEqual([berlin.offset_at(instant).whole_seconds() for instant in (1711846799, 1711846800, 4102444800)], [3600, 7200, 3600])
         self.assertEqual(Zone.from_posix("<-03>3").abbreviation_at(0), "-03")
+        self.assertEqual(berlin.strftime(OffsetDateTime.from_unix_timestamp(1711846800), "%H:%M %Z"), "03:00 CEST")
         for text, position, reason in (
             ("", 0, "invalid abbreviation"), ("CE1", 0, "invalid abbreviation"), ("CET", 3, "invalid POSIX offset"), ("CET25", 3, "invalid POSIX offset"),
             ("CET-1CEST", 9, "invalid POSIX offset"), ("CET-1CEST,J60,J300", 10, "invalid day of a rule"),
@@ -100,9 +104,10 @@ class WorkedRows(unittest.TestCase):
             self.assertRaises(LookupError, Zone, key)
         for call in (
             lambda: Zone(1), lambda: berlin.offset_at(1.0), lambda: berlin.resolve(0), lambda: OffsetDateTime.UNIX_EPOCH.in_zone("Europe/Berlin"),
-            lambda: Zone.from_posix(b"CET-1"),
+            lambda: Zone.from_posix(b"CET-1"), lambda: berlin.strftime(0, "%Z"),
         ):
             self.assertRaises((TypeError, AttributeError), call)
+        self.assertRaises(ValueError, lambda: OffsetDateTime.UNIX_EPOCH.strftime("%Z"))
         self.assertRaises(OverflowError, lambda: OffsetDateTime(PlainDateTime.MAX.date(), PlainDateTime.MAX.time(), OffsetDateTime.UNIX_EPOCH.offset).in_zone(berlin))
         # The rule goes on to the ends of 64 bits.
         self.assertEqual([berlin.offset_at(instant).whole_seconds() for instant in (-10**30, 10**30)], [3208, 3600])

@@ -1,8 +1,8 @@
 //! Formats of texts.
 
 use crate::error::{FormatError, ParseError, UnsupportedItem};
-use crate::ffi::{self, Answer, CFormat, CFormatPointer, UNSUPPORTED_ITEM};
-use crate::{Date, OffsetDateTime, PlainDateTime, Time, UtcOffset};
+use crate::ffi::{self, or_none, Answer, CFormat, CFormatPointer, UNSUPPORTED_ITEM};
+use crate::{Date, OffsetDateTime, PlainDateTime, Time, UtcOffset, Zone};
 use core::{fmt, str};
 
 /// The maximum bytes of a text: 64 items of 15 bytes.
@@ -108,6 +108,31 @@ macro_rules! values {
             }
         )*
     };
+}
+
+impl OffsetDateTime {
+    /// Returns the text of the same instant in a time zone by a format, with the abbreviation of the
+    /// zone as `%Z`. `None` if the local date-time is out of range, or if the abbreviation has more
+    /// than 15 bytes.
+    ///
+    /// ```
+    /// use fotsevindre::{Format, OffsetDateTime, Zone};
+    ///
+    /// let berlin = Zone::parse_posix("CET-1CEST,M3.5.0,M10.5.0/3")?;
+    /// let moment = OffsetDateTime::from_unix_timestamp(1711846800)?;
+    /// let format = Format::new("%H:%M %Z")?;
+    /// assert_eq!(moment.format_in_zone(&format, &berlin).unwrap().as_str(), "03:00 CEST");
+    /// assert!(moment.format(&format).is_err());
+    /// # Ok::<(), Box<dyn std::error::Error>>(())
+    /// ```
+    pub fn format_in_zone(self, format: &Format, zone: &Zone<'_>) -> Option<FormatText> {
+        let print = |bytes: &mut [u8]| zone.with(|zone| ffi::fots_moment_format_in_zone(self.to_c(), zone, format.c(), bytes));
+        let mut bytes = [0; CAPACITY];
+        match print(&mut bytes) {
+            Err(UNSUPPORTED_ITEM) => None,
+            answer => or_none(answer).map(|length| FormatText { length, bytes }),
+        }
+    }
 }
 
 values! {

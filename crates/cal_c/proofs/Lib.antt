@@ -17,6 +17,7 @@ pub mod Recurring
 pub mod Walks
 pub mod OneAnswer
 pub mod ZoneResults
+pub mod ZoneTexts
 pub mod OneZone
 pub mod FormatItems
 pub mod FormatPrinting

@@ -44,6 +44,7 @@ item_parts item.Fraction = parts 5 0
 item_parts item.OffsetSign = parts 6 0
 item_parts item.TimestampSign = parts 7 0
 item_parts item.Decimals = parts 8 0
+item_parts item.Abbreviation = parts 9 0
 
 -- The format has these items. The numbers after its length don't matter.
 pub record HasItems (f : FormatParts) (items : List Item) : Type 0 where

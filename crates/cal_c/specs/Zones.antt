@@ -2,7 +2,11 @@
 use Rattle.std.specs.Prelude.{◌≡◌, ◌⊎◌, ◌↔◌, ◌==◌, ◌++◌, ℕ, ◌<◌, ◌≤◌, nat_lt, Bool, if◌then◌else◌, List, [], length, ℤ, pos, neg_ℤ, ◌-ℤ◌, Option, Some, None}
 use Rattle.cal_time.specs.Month.{month_of_index}
 use Rattle.cal_time.specs.Weekday.{weekday_of_index}
+use Rattle.cal_datetime.specs.DateTime.{IsDateTime}
 use Rattle.cal_datetime.specs.OffsetDateTime.{LocalAndOffset, instant, local_at, unix_seconds}
+use Rattle.cal_format.specs.declared.item.Item.{Item}
+use Rattle.cal_format.specs.Moment.{moment_of_offset_date_time}
+use Rattle.cal_format.specs.Text.{text_in_zone}
 use Rattle.cal_zone.specs.Abbreviation.{abbreviation}
 use Rattle.cal_zone.specs.Changes.{IsNextChange, NoNextChange, IsPreviousChange, NoPreviousChange}
 use Rattle.cal_zone.specs.declared.change.Change.{Change}
@@ -24,10 +28,12 @@ use Rattle.cal_zone.specs.Timeline.{Timeline, InOrder}
 use Rattle.cal_tzif.specs.declared.zone_error.ZoneError.{ZoneError}
 use Rattle.cal_tzif.specs.declared.zone_error.ZoneErrorKind.{ZoneErrorKind}
 use Rattle.cal_tzif.specs.declared.zone_error.ZoneErrorKind.TheVariants as kinds
+use Rattle.cal_c.specs.FormatTexts.{IsUnprinted, IsWritten, length_error}
 use Rattle.cal_c.specs.Moments.{moment_ok, moment_error, IsMomentOrError}
 use Rattle.cal_c.specs.Results.{no_value, int64_ok, int64_error}
-use Rattle.cal_c.specs.Statuses.{ok_status, result_out_of_range, unexpected_end, skipped_time, repeated_time, not_a_zone_file, unsupported_version, leap_seconds, missing_local_type, invalid_type_index, invalid_local_type, invalid_abbreviation, changes_out_of_order, overlapping_changes, missing_newline, invalid_posix_offset, invalid_rule_day, invalid_rule_time, months_too_close, trailing_bytes}
+use Rattle.cal_c.specs.Statuses.{ok_status, result_out_of_range, unexpected_end, unsupported_item, skipped_time, repeated_time, not_a_zone_file, unsupported_version, leap_seconds, missing_local_type, invalid_type_index, invalid_local_type, invalid_abbreviation, changes_out_of_order, overlapping_changes, missing_newline, invalid_posix_offset, invalid_rule_day, invalid_rule_time, months_too_close, trailing_bytes}
 use Rattle.cal_c.specs.Texts.{no_position}
+use Rattle.cal_c.specs.declared.formats.results.LengthResult.{LengthResult}
 use Rattle.cal_c.specs.declared.results.Int64Result.{Int64Result}
 use Rattle.cal_c.specs.declared.results.MomentResult.{MomentResult}
 use Rattle.cal_c.specs.declared.zones.policy.Policy.{Policy}
@@ -171,6 +177,19 @@ pub data IsPreviousResult (z : Timeline) (seconds : ℤ) (r : Int64Result) : Typ
 abbrev pub IsMomentInZone : Timeline → LocalAndOffset → MomentResult → Type 0
 IsMomentInZone z m r =
     let offset = zones.offset_at z (unix_seconds (instant m)) in IsMomentOrError result_out_of_range (local_at (instant m) offset) offset r
+
+-- ---- texts
+-- The text of a local date-time at an offset, with an abbreviation of at most 15 bytes.
+pub record IsPrintedAt (a : List ℕ) (local offset : ℤ) (items : List Item) (old new : List ℕ) (r : LengthResult) : Type 0 where
+  pub out_of_range : (IsDateTime local → ⊥) → IsUnprinted old new r (length_error result_out_of_range)
+  pub unsupported_item : IsDateTime local → 15 < length a → IsUnprinted old new r (length_error unsupported_item)
+  pub text : IsDateTime local → length a ≤ 15 → IsWritten (text_in_zone a items (moment_of_offset_date_time (record { local = local; offset = offset }))) old new r
+
+-- The text of the same instant by the clocks of the zone.
+abbrev pub IsPrintedInZone : List ℕ → Timeline → LocalAndOffset → List Item → List ℕ → List ℕ → LengthResult → Type 0
+IsPrintedInZone bytes z m items old new r =
+    let kind = zones.kind_at z (unix_seconds (instant m)) in
+    IsPrintedAt (abbreviation bytes kind.name_start kind.name_end) (local_at (instant m) kind.offset) kind.offset items old new r
 
 -- ---- readings
 -- The instants are exactly those at which clocks show the reading, in seconds.

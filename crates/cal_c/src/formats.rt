@@ -7,4 +7,4 @@ mod names;
 mod parse_results;
 pub mod parsing;
 pub mod printing;
-mod results;
+pub mod results;

@@ -9,5 +9,6 @@ pub mod laws;
 mod offsets;
 pub mod parsing;
 pub mod policy;
+mod printing;
 mod resolution;
 pub mod results;

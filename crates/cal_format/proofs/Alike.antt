@@ -9,7 +9,7 @@ use Rattle.cal_format.specs.declared.moment.Moment.{Moment}
 use Rattle.cal_format.specs.Form.{numbered_name}
 use Rattle.cal_format.specs.Moment.{number, timestamp_of, width, moment_of_date, moment_of_time, moment_of_offset}
 use Rattle.cal_time.specs.Digits.{decimals}
-use Rattle.cal_format.specs.Reading.{name_component, item_component, is_within, lies_within, show_within, are_date_items, are_time_items, are_date_time_items, are_offset_items}
+use Rattle.cal_format.specs.Reading.{name_component, item_component, is_within, lies_within, shows_within, show_within, are_date_items, are_time_items, are_date_time_items, are_offset_items}
 use Rattle.cal_format.specs.Scanning.{IsHeld, AreHeld}
 use Rattle.cal_format.specs.Text.{sign, padded, fraction_text, item_text, text_of}
 use Rattle.cal_format.proofs.Apart.{both_tests}
@@ -47,10 +47,11 @@ abbrev AlikeAt : Option Component → Moment → Moment → Type 0
 AlikeAt None v m = Unit {0}
 AlikeAt (Some c) v m = Alike c v m
 
-text-alike : (i : Item) (v m : Moment) → AlikeAt (item_component i) v m → (item_text v i ≡ item_text m i) × (IsHeld v i → IsHeld m i)
+text-alike : (i : Item) (v m : Moment) → AlikeAt (item_component i) v m → (item_text [] v i ≡ item_text [] m i) × (IsHeld v i → IsHeld m i)
 text-alike (item.Literal b) v m a = (refl, λ h. h)
 text-alike (item.Number c p) v m a = (λ i. a.sign_is i ++ padded p (width c) (a.number_is i), λ h. (omega (arith, a.number_is, h.0), sym a.sign_is ∙ h.1))
 text-alike (item.Name k) v m a = (sym (name-same k (number (name_component k) v) v refl) ∙ ap (numbered_name k) a.number_is ∙ name-same k (number (name_component k) m) m refl, λ h. h)
+text-alike item.Abbreviation v m a = (refl, λ h. h)
 text-alike item.Fraction v m a = (ap fraction_text a.number_is, λ h. h)
 text-alike item.Decimals v m a = (ap decimals a.number_is, λ h. h)
 text-alike item.OffsetSign v m a =
@@ -62,6 +63,10 @@ part-alike : (low high : ℕ) (o : Option Component) (v m : Moment) → ((c : Co
 part-alike low high None v m each h = tt
 part-alike low high (Some c) v m each h = each c h
 
+within : (low high : ℕ) (i : Item) → IsTrue (shows_within low high i) → IsTrue (lies_within low high (item_component i))
+within low high item.Abbreviation h = refl
+within low high _ h = h
+
 -- ---- all items
 abbrev pub AreAlike : List Item → Moment → Moment → Type 0
 AreAlike items v m = (text_of items v ≡ text_of items m) × (AreHeld v items → AreHeld m items)
@@ -69,8 +74,8 @@ AreAlike items v m = (text_of items v ≡ text_of items m) × (AreHeld v items �
 all-alike : (low high : ℕ) (items : List Item) (v m : Moment) → ((c : Component) → IsTrue (is_within low high c) → Alike c v m) → IsTrue (show_within low high items) → AreAlike items v m
 all-alike low high [] v m each h = (refl, λ k. k)
 all-alike low high (i ∷ items) v m each h =
-    let both = both_tests (lies_within low high (item_component i)) (show_within low high items) h in
-    let first = text-alike i v m (part-alike low high (item_component i) v m each both.0) in
+    let both = both_tests (shows_within low high i) (show_within low high items) h in
+    let first = text-alike i v m (part-alike low high (item_component i) v m each (within low high i both.0)) in
     let rest = all-alike low high items v m each both.1 in
     ((λ j. first.0 j ++ rest.0 j), λ k. (first.1 k.0, rest.1 k.1))
 

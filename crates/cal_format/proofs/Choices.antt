@@ -13,3 +13,7 @@ other-choice false x y e = refl
 pub is-not : (b : Bool) → b ≡ false → IsTrue (not b)
 is-not true e = cc
 is-not false e = refl
+
+pub not-false : (b : Bool) → not b ≡ false → IsTrue b
+not-false true e = refl
+not-false false e = cc

@@ -71,12 +71,13 @@ same-number c n v e =
     let both = both_tests (number c v == n) (is_empty (sign c v)) (same c ((number c v == n) && is_empty (sign c v)) e) in
     (same_test (number c v) n both.0, empty (sign c v) both.1)
 
-item-same : (i : Item) (n : ℕ) (v : Moment) → IsNumber i n → item_contradiction i n v ≡ None → (numbered_item i n ≡ item_text v i) × IsHeld v i
+item-same : (i : Item) (n : ℕ) (v : Moment) → IsNumber i n → item_contradiction i n v ≡ None → (numbered_item i n ≡ item_text [] v i) × IsHeld v i
 item-same (item.Literal b) n v fit e = (refl, tt)
 item-same (item.Number c p) n v fit e =
     let is = same-number c n v e in
     (ap (padded p (width c)) (sym is.0) ∙ ap (λ l. l ++ padded p (width c) (number c v)) (sym is.1), (omega (arith, fit, is.0), is.1))
 item-same (item.Name k) n v fit e = (name-same k n v (same-number (name_component k) n v e).0, tt)
+item-same item.Abbreviation n v fit e = (refl, tt)
 item-same item.Fraction n v fit e = (ap fraction_text (sym (same-number Nanosecond n v e).0), tt)
 item-same item.Decimals n v fit e = (ap decimals (sym (same-number Nanosecond n v e).0), tt)
 item-same item.TimestampSign n v fit e = (minus-same (timestamp_of v) n (same-number TimestampSign n v e).0, tt)

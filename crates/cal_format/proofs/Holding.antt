@@ -12,7 +12,7 @@ use Rattle.cal_format.specs.declared.item.Name.TheVariants as name
 use Rattle.cal_format.specs.declared.moment.Moment.{Moment}
 use Rattle.cal_format.specs.Moment.{number, width, moment_of_time}
 use Rattle.cal_format.specs.Text.{sign}
-use Rattle.cal_format.specs.Reading.{index, name_component, item_component, shows, any_shows, is_within, lies_within, show_within, are_time_items}
+use Rattle.cal_format.specs.Reading.{index, name_component, shows, any_shows, is_within, shows_within, show_within, are_time_items}
 use Rattle.cal_format.specs.Scanning.{IsHeld, AreHeld}
 use Rattle.cal_format.proofs.Apart.{either_test, both_tests, same_test, index-one}
 use Rattle.cal_format.proofs.Digits.{fits-width}
@@ -29,6 +29,7 @@ item-plain : (c : Component) (v : Moment) (i : Item) → IsTrue (shows c i) → 
 item-plain c v (item.Literal b) h held = cc
 item-plain c v (item.Number d p) h held = same-plain d c v h held.1
 item-plain c v (item.Name k) h held = same-plain (name_component k) c v h (name-plain k v)
+item-plain c v item.Abbreviation h held = cc
 item-plain c v item.Fraction h held = same-plain Nanosecond c v h refl
 item-plain c v item.Decimals h held = same-plain Nanosecond c v h refl
 item-plain c v item.OffsetSign h held = same-plain OffsetSign c v h refl
@@ -51,14 +52,14 @@ plain-year (negsuc n) e = absurd (omega (arith, ap length e))
 abbrev pub IsNarrow : Component → Moment → Type 0
 IsNarrow c v = (number c v < 10 ^ width c) × (sign c v ≡ [])
 
-item-held : (low high : ℕ) (i : Item) (v : Moment) → ((c : Component) → IsTrue (is_within low high c) → IsNarrow c v) → IsTrue (lies_within low high (item_component i)) → IsHeld v i
+item-held : (low high : ℕ) (i : Item) (v : Moment) → ((c : Component) → IsTrue (is_within low high c) → IsNarrow c v) → IsTrue (shows_within low high i) → IsHeld v i
 item-held low high (item.Number c p) v each u = let is = each c u in (fits-width p c (number c v) is.0, is.1)
 item-held low high _ v each u = tt
 
 pub all-held : (low high : ℕ) (items : List Item) (v : Moment) → ((c : Component) → IsTrue (is_within low high c) → IsNarrow c v) → IsTrue (show_within low high items) → AreHeld v items
 all-held low high [] v each u = tt
 all-held low high (i ∷ items) v each u =
-    let both = both_tests (lies_within low high (item_component i)) (show_within low high items) u in
+    let both = both_tests (shows_within low high i) (show_within low high items) u in
     (item-held low high i v each both.0, all-held low high items v each both.1)
 
 time-number : (c : Component) (t : ℕ) → IsTime t → IsTrue (is_within 13 21 c) → IsNarrow c (moment_of_time t)

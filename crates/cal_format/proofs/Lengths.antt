@@ -24,7 +24,7 @@ use Rattle.cal_format.specs.declared.item.Padding.{Padding}
 use Rattle.cal_format.specs.declared.item.Padding.TheVariants as padding
 use Rattle.cal_format.specs.declared.moment.Moment.{Moment}
 use Rattle.cal_format.specs.Moment.{IsMoment, timestamp_of, number, width}
-use Rattle.cal_format.specs.Text.{sign, padded, item_text, text_of}
+use Rattle.cal_format.specs.Text.{sign, padded, item_text, text_in_zone, text_of}
 use Rattle.cal_format.proofs.Digits.{width-most}
 use Rattle.cal_format.proofs.EnglishNames.{name-short}
 use Rattle.cal_format.proofs.Fractions.{length-fraction}
@@ -98,16 +98,20 @@ minus-short : (b : Bool) → length (if b then codes "-" else []) ≤ 15
 minus-short true = lit≤ tt
 minus-short false = lit≤ tt
 
-item-short : (i : Item) (v : Moment) → IsMoment v → length (item_text v i) ≤ 15
-item-short (item.Literal b) v h = lit≤ tt
-item-short (item.Number c p) v h =
+item-short : (a : List ℕ) (i : Item) (v : Moment) → length a ≤ 15 → IsMoment v → length (item_text a v i) ≤ 15
+item-short a (item.Literal b) v short h = lit≤ tt
+item-short a (item.Number c p) v short h =
     omega (arith, length-append (sign c v) (padded p (width c) (number c v)), sign-short c v, padded-short p (width c) (number c v) (width-most c) (number-most c v h))
-item-short (item.Name k) v h = omega (arith, name-short k v)
-item-short item.Fraction v h = omega (arith, length-fraction (nanosecond_of v.time))
-item-short item.Decimals v h = omega (arith, length-decimals (nanosecond_of v.time))
-item-short item.TimestampSign v h = minus-short (int_lt (timestamp_of v) (pos 0))
-item-short item.OffsetSign v h = offset-sign-short v.offset
+item-short a (item.Name k) v short h = omega (arith, name-short k v)
+item-short a item.Fraction v short h = omega (arith, length-fraction (nanosecond_of v.time))
+item-short a item.Decimals v short h = omega (arith, length-decimals (nanosecond_of v.time))
+item-short a item.TimestampSign v short h = minus-short (int_lt (timestamp_of v) (pos 0))
+item-short a item.OffsetSign v short h = offset-sign-short v.offset
+item-short a item.Abbreviation v short h = short
+
+pub zone_text-short : (a : List ℕ) (items : List Item) (v : Moment) → length a ≤ 15 → IsMoment v → length (text_in_zone a items v) ≤ 15 * length items
+zone_text-short a [] v short h = lit≤ tt
+zone_text-short a (i ∷ items) v short h = omega (arith, length-append (item_text a v i) (text_in_zone a items v), item-short a i v short h, zone_text-short a items v short h)
 
 pub text-short : (items : List Item) (v : Moment) → IsMoment v → length (text_of items v) ≤ 15 * length items
-text-short [] v h = lit≤ tt
-text-short (i ∷ items) v h = omega (arith, length-append (item_text v i) (text_of items v), item-short i v h, text-short items v h)
+text-short items v h = zone_text-short [] items v (lit≤ tt) h

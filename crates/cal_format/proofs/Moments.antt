@@ -65,7 +65,7 @@ other-shown false a b c h n = let first = both_tests a (b && c) h in (first.0, (
 pub moment-holds : (items : List Item) (m : LocalAndOffset) → DeterminesOffsetDateTime items → IsDateTime m.local → IsOffset m.offset → AreHeld (moment_of_offset_date_time m) items
     → IsTrue (holds_time items (time_at m.local)) → IsTrue (holds_offset items m.offset) → Holds items (moment_of_offset_date_time m)
 moment-holds items m determines h range held holds offset =
-    let other = other-shown (shows_timestamp items) (shows_date items) (shows_time items) (shows_offset items) determines.1 in
+    let other = other-shown (shows_timestamp items) (shows_date items) (shows_time items) (shows_offset items) determines.2 in
     record {
       in_range = record { date = IsDate-date_at m.local h; time = IsTime-time_at m.local; offset = range };
       numbers = held;

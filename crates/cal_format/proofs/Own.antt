@@ -46,13 +46,14 @@ minus-own : (b : Bool) → (if b then codes "-" else []) ≡ (if (if b then 1 el
 minus-own true = refl
 minus-own false = refl
 
-item-own : (i : Item) (v : Moment) → IsMoment v → IsHeld v i → IsNumber i (item_number v i) × (item_text v i ≡ numbered_item i (item_number v i))
+item-own : (i : Item) (v : Moment) → IsMoment v → IsHeld v i → IsNumber i (item_number v i) × (item_text [] v i ≡ numbered_item i (item_number v i))
 item-own (item.Literal b) v h held = (refl, refl)
 item-own (item.Number c p) v h held = (held.0, ap (λ l. l ++ padded p (width c) (number c v)) held.1)
 item-own (item.Name k) v h held = (name-fits k v h, sym (name-same k (number (name_component k) v) v refl))
 item-own item.Fraction v h held = (omega arith, refl)
 item-own item.Decimals v h held = (omega arith, refl)
 item-own item.TimestampSign v h held = (bit-low (int_lt (timestamp_of v) (pos 0)), minus-own (int_lt (timestamp_of v) (pos 0)))
+item-own item.Abbreviation v h held = (refl, refl)
 item-own item.OffsetSign v h held = (bit-low (int_lt v.offset (pos 0)), sym (sign-same v.offset (number OffsetSign v) refl))
 
 items-own : (items : List Item) (v : Moment) → IsMoment v → AreHeld v items → AreNumbers items (numbers_of items v) × (text_of items v ≡ numbered_text items (numbers_of items v))
@@ -125,6 +126,7 @@ item-agrees : (i : Item) (v : Moment) → IsHeld v i → item_contradiction i (i
 item-agrees (item.Literal b) v held = refl
 item-agrees (item.Number c p) v held = agrees c v held.1
 item-agrees (item.Name k) v held = agrees (name_component k) v (name-plain k v)
+item-agrees item.Abbreviation v held = refl
 item-agrees item.Fraction v held = agrees Nanosecond v refl
 item-agrees item.Decimals v held = agrees Nanosecond v refl
 item-agrees item.OffsetSign v held = agrees OffsetSign v refl

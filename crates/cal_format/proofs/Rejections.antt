@@ -78,6 +78,7 @@ item-most (item.Number d p) n c fit e h =
     let both = both_tests (nat_le (minimum d) n) (nat_le n (maximum d)) (tested _ _ e) in
     most-of d c n (leb-true n (maximum d) both.1) h
 item-most (item.Name k) n c fit e h = most-of (name_component k) c n (named-most k n fit) h
+item-most item.Abbreviation n c fit e h = cc
 item-most item.Fraction n c fit e h = most-of Nanosecond c n (omega (arith, fit)) h
 item-most item.Decimals n c fit e h = most-of Nanosecond c n (omega (arith, fit)) h
 item-most item.TimestampSign n c fit e h = most-of TimestampSign c n (omega (arith, fit)) h

@@ -204,6 +204,7 @@ item-each (item.Number c padding.None) n f rest h ended = padded-each padding.No
 item-each (item.Name k) n f rest h ended = name-each k n f rest
 item-each item.Fraction n f rest h ended = fraction-each n f rest h ended.0 ended.1
 item-each item.Decimals n f rest h ended = some_decimals-each n f rest h ended
+item-each item.Abbreviation n f rest h ended = refl
 item-each item.OffsetSign n f rest h ended = sign-each (n == 1) f rest
 item-each item.TimestampSign n f rest h ended = minus-each (n == 1) f rest ended
 

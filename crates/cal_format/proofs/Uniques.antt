@@ -197,6 +197,7 @@ item-one (item.Number c padding.Space) n m r s h k p q e =
 item-one (item.Number c padding.None) n m r s h k p q e =
     padded-one padding.None (most_digits c) n m r s (digits-some c) h k (omega (arith, h, small-digits c)) (omega (arith, k, small-digits c)) (λ f. p) (λ f. q) e
 item-one (item.Name t) n m r s h k p q e = tail-same (numbered_name t) n m r s (name-number t n m r s h k e) e
+item-one item.Abbreviation n m r s h k p q e = (h ∙ sym k, e)
 item-one item.Fraction n m r s h k p q e = fraction-one n m r s h k p.0 q.0 p.1 q.1 e
 item-one item.Decimals n m r s h k p q e =
     let found = digits-split (decimals n) (decimals m) r s (AreDigits-decimals n h) (AreDigits-decimals m k) p q e in

@@ -101,6 +101,7 @@ ItemShape item.Fraction f = Branch 46 0 (Decimals false 8 f) f
 ItemShape item.Decimals f = ByteRange 48 9 (Decimals true 7 f)
 ItemShape item.OffsetSign f = Sign f
 ItemShape item.TimestampSign f = Branch 45 0 f f
+ItemShape item.Abbreviation f = f
 
 -- A text has the form of the items if it has this shape.
 abbrev pub shape_of : List Item → Shape
@@ -137,6 +138,7 @@ numbered_item item.Fraction n = fraction_text n
 numbered_item item.Decimals n = decimals n
 numbered_item item.OffsetSign n = if n == 1 then codes "-" else codes "+"
 numbered_item item.TimestampSign n = if n == 1 then codes "-" else []
+numbered_item item.Abbreviation n = []
 
 -- The text of items with these numbers, one for each item.
 abbrev pub numbered_text : List Item → List ℕ → List ℕ
@@ -160,6 +162,7 @@ IsNumber item.Fraction n = n < 1_000_000_000
 IsNumber item.Decimals n = n < 1_000_000_000
 IsNumber item.OffsetSign n = n < 2
 IsNumber item.TimestampSign n = n < 2
+IsNumber item.Abbreviation n = n ≡ 0
 
 abbrev pub AreNumbers : List Item → List ℕ → Type 0
 AreNumbers [] [] = Unit {0}

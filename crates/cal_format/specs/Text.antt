@@ -35,15 +35,20 @@ padded padding.None w n = decimal n
 abbrev pub fraction_text : ℕ → List ℕ
 fraction_text n = if n == 0 then [] else 46 ∷ decimals n
 
-abbrev pub item_text : Moment → Item → List ℕ
-item_text v (item.Literal b) = b ∷ []
-item_text v (item.Number c p) = sign c v ++ padded p (width c) (number c v)
-item_text v (item.Name k) = name_text k v
-item_text v item.Fraction = fraction_text (nanosecond_of v.time)
-item_text v item.Decimals = decimals (nanosecond_of v.time)
-item_text v item.OffsetSign = offset.sign v.offset
-item_text v item.TimestampSign = if int_lt (timestamp_of v) (pos 0) then codes "-" else []
+-- An item prints the abbreviation of a zone, or what it shows of a moment.
+abbrev pub item_text : List ℕ → Moment → Item → List ℕ
+item_text a v (item.Literal b) = b ∷ []
+item_text a v (item.Number c p) = sign c v ++ padded p (width c) (number c v)
+item_text a v (item.Name k) = name_text k v
+item_text a v item.Fraction = fraction_text (nanosecond_of v.time)
+item_text a v item.Decimals = decimals (nanosecond_of v.time)
+item_text a v item.OffsetSign = offset.sign v.offset
+item_text a v item.TimestampSign = if int_lt (timestamp_of v) (pos 0) then codes "-" else []
+item_text a v item.Abbreviation = a
 
--- Items print one after the other.
+-- Items print one after the other, with this abbreviation or without one.
+abbrev pub text_in_zone : List ℕ → List Item → Moment → List ℕ
+text_in_zone a items v = flat_map (item_text a v) items
+
 abbrev pub text_of : List Item → Moment → List ℕ
-text_of items v = flat_map (item_text v) items
+text_of items v = text_in_zone [] items v

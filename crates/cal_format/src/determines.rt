@@ -123,7 +123,7 @@ impl Item {
             ≡ (if shows c self then true else mark_of c marks.old) }
     {
         match self {
-            Item::Literal(_) => {}
+            Item::Literal(_) | Item::Abbreviation => {}
             Item::Number(component, _) => set(component, marks),
             Item::Name(name) => set(name.component(), marks),
             Item::Fraction | Item::Decimals => set(Component::Nanosecond, marks),

@@ -7,7 +7,7 @@ use crate::item::Component::{
     MondayWeek, Month, Nanosecond, OffsetHour, OffsetMinute, OffsetSecond, Ordinal, Second,
     SundayWeek, Timestamp, Weekday, Year, YearOfCentury,
 };
-use crate::item::Item::{self, Fraction, Literal, Number, OffsetSign, TimestampSign};
+use crate::item::Item::{self, Abbreviation, Fraction, Literal, Number, OffsetSign, TimestampSign};
 use crate::item::Name::{self, ShortMonth, ShortWeekday};
 use crate::item::Padding::{self, Space, Zero};
 
@@ -24,7 +24,7 @@ macro_rules! spellings {
 }
 
 /// The directives of `strftime`, after the percent sign.
-pub(crate) const DIRECTIVES: [(&str, &[Item]); 44] = spellings! {
+pub(crate) const DIRECTIVES: [(&str, &[Item]); 45] = spellings! {
     "-m" => Number(Month, Padding::None);
     "-d" => Number(Day, Padding::None);
     "-H" => Number(Hour, Padding::None);
@@ -69,6 +69,7 @@ pub(crate) const DIRECTIVES: [(&str, &[Item]); 44] = spellings! {
     "::z" => OffsetSign, Number(OffsetHour, Zero), Literal(b':'), Number(OffsetMinute, Zero),
         Literal(b':'), Number(OffsetSecond, Zero);
     "s" => TimestampSign, Number(Timestamp, Padding::None);
+    "Z" => Abbreviation;
     "n" => Literal(b'\n');
     "t" => Literal(b'\t');
     "%" => Literal(b'%');

@@ -56,7 +56,7 @@ impl Fields {
             ≡ (if shows c item then number else number_at c self.old) }
     {
         match item {
-            Item::Literal(_) => {}
+            Item::Literal(_) | Item::Abbreviation => {}
             Item::Number(component, _) => self.set(component, number),
             Item::Name(name) => self.set(name.component(), number),
             Item::Fraction | Item::Decimals => self.set(Component::Nanosecond, number),

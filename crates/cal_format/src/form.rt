@@ -60,6 +60,7 @@ fn scan_item(scanner: &mut Scanner, item: Item) -> Option<u64>
             Some(()) => Some(1),
             None => Some(0),
         },
+        Item::Abbreviation => Some(0),
     }
 }
 

@@ -106,6 +106,8 @@ pub enum Item {
     OffsetSign,
     /// The minus sign of a negative Unix time, or nothing.
     TimestampSign,
+    /// The abbreviation of the zone.
+    Abbreviation,
 }
 
 /// The syntax of a format.

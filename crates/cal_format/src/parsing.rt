@@ -107,7 +107,7 @@ impl Item {
         ensures { result ≡ item_contradiction self number moment.now }
     {
         match self {
-            Item::Literal(_) => None,
+            Item::Literal(_) | Item::Abbreviation => None,
             Item::Number(component, _) => component.contradiction(number, moment),
             Item::Name(name) => name.component().contradiction(number, moment),
             Item::Fraction | Item::Decimals => Component::Nanosecond.contradiction(number, moment),

@@ -7,7 +7,7 @@ ghost use Rattle.cal_time.specs.DateText.{digits_at_least, sign_text};
 ghost use Rattle.cal_format.specs.declared.item.Item.TheVariants as items;
 ghost use Rattle.cal_format.specs.Names.{name_text};
 ghost use Rattle.cal_format.specs.Moment.{number, width};
-ghost use Rattle.cal_format.specs.Text.{sign, padded, fraction_text, item_text, text_of};
+ghost use Rattle.cal_format.specs.Text.{sign, padded, fraction_text, item_text, text_in_zone};
 
 use crate::item::{Component, Item, Name, Padding};
 use crate::moment::{Moment, iso_year};
@@ -18,32 +18,43 @@ use cal_time::ShortText;
 pub(crate) fn print_items(
     items: &[Item],
     moment: &Moment,
+    abbreviation: &[u8],
     buffer: &mut [u8],
     at: usize,
 ) -> Option<usize>
     requires { at ≤ length buffer.old }
     ensures room { IsSome result
-        ↔ (at + length (text_of items.now moment.now) ≤ length buffer.old) }
+        ↔ (at + length (text_in_zone abbreviation.now items.now moment.now) ≤ length buffer.old) }
     ensures text { IfSome result (λ end.
-        take end buffer.new ≡ take at buffer.old ++ text_of items.now moment.now) }
-    ensures end { IfSome result (λ end. end ≡ at + length (text_of items.now moment.now)) }
+        take end buffer.new
+        ≡ take at buffer.old ++ text_in_zone abbreviation.now items.now moment.now) }
+    ensures end { IfSome result (λ end.
+        end ≡ at + length (text_in_zone abbreviation.now items.now moment.now)) }
 {
     match items {
         [] => Some(at),
         [item, others @ ..] => {
-            let next = print_item(*item, moment, buffer, at)?;
-            print_items(others, moment, buffer, next)
+            let next = print_item(*item, moment, abbreviation, buffer, at)?;
+            print_items(others, moment, abbreviation, buffer, next)
         }
     }
 }
 
 #[inline(always)]
-fn print_item(item: Item, moment: &Moment, buffer: &mut [u8], at: usize) -> Option<usize>
+fn print_item(
+    item: Item,
+    moment: &Moment,
+    abbreviation: &[u8],
+    buffer: &mut [u8],
+    at: usize,
+) -> Option<usize>
     requires { at ≤ length buffer.old }
-    ensures room { IsSome result ↔ (at + length (item_text moment.now item) ≤ length buffer.old) }
+    ensures room { IsSome result
+        ↔ (at + length (item_text abbreviation.now moment.now item) ≤ length buffer.old) }
     ensures text { IfSome result (λ end.
-        take end buffer.new ≡ take at buffer.old ++ item_text moment.now item) }
-    ensures end { IfSome result (λ end. end ≡ at + length (item_text moment.now item)) }
+        take end buffer.new ≡ take at buffer.old ++ item_text abbreviation.now moment.now item) }
+    ensures end { IfSome result (λ end.
+        end ≡ at + length (item_text abbreviation.now moment.now item)) }
 {
     match item {
         Item::Literal(byte) => put(buffer, at, &[byte]),
@@ -53,6 +64,7 @@ fn print_item(item: Item, moment: &Moment, buffer: &mut [u8], at: usize) -> Opti
         Item::Decimals => print_decimals(moment.time.nanosecond(), buffer, at),
         Item::OffsetSign => put(buffer, at, offset_sign(moment)),
         Item::TimestampSign => put(buffer, at, timestamp_sign(moment)),
+        Item::Abbreviation => put(buffer, at, abbreviation),
     }
 }
 
@@ -233,7 +245,7 @@ fn print_decimals(nanosecond: u32, buffer: &mut [u8], at: usize) -> Option<usize
 
 /// Returns the sign of a negative Unix time.
 fn timestamp_sign(moment: &Moment) -> &'static [u8]
-    ensures { result.now ≡ item_text moment.now items.TimestampSign }
+    ensures { result.now ≡ item_text [] moment.now items.TimestampSign }
 {
     if moment.timestamp() < 0 { b"-" } else { b"" }
 }

@@ -1,9 +1,9 @@
 //! The values that a format prints.
-ghost use Rattle.std.specs.Prelude.{◌≡◌, ◌≤◌, ◌↔◌, IsTrue, IsSome, IfSome, IfNone, length, take, drop};
+ghost use Rattle.std.specs.Prelude.{◌≡◌, ◌≤◌, ◌↔◌, not, IsTrue, IsSome, IfSome, IfNone, length, take, drop};
 ghost use Rattle.cal_time.specs.Date.{IsDate};
 ghost use Rattle.cal_format.specs.Moment.{moment_of_date, moment_of_time, moment_of_date_time, moment_of_offset, moment_of_offset_date_time};
-ghost use Rattle.cal_format.specs.Reading.{item_component, is_within, lies_within, show_within, are_date_items, are_time_items, are_date_time_items, are_offset_items};
-ghost use Rattle.cal_format.specs.Text.{text_of};
+ghost use Rattle.cal_format.specs.Reading.{is_within, shows_within, show_within, are_date_items, are_time_items, are_date_time_items, are_offset_items, are_moment_items};
+ghost use Rattle.cal_format.specs.Text.{text_in_zone, text_of};
 
 use crate::format::Format;
 use crate::item::{Component, Item};
@@ -20,6 +20,12 @@ pub(crate) const TIME_END: usize = 21;
 
 /// The index at which the components of an offset end, which come next.
 pub(crate) const OFFSET_END: usize = 25;
+
+/// The index at which all components end.
+pub(crate) const MOMENT_END: usize = 27;
+
+/// The maximum length of an abbreviation.
+const MAX_ABBREVIATION: usize = 15;
 
 /// The maximum length of a text: 64 items of 15 bytes.
 const MAX_LENGTH: usize = 960;
@@ -39,7 +45,7 @@ impl Format {
         if !show_within(self.items(), 0, DATE_END) {
             return None;
         }
-        self.print(&moment_of_date(date), buffer)
+        self.print(&moment_of_date(date), b"", buffer)
     }
 
     /// Writes a time of day to the front of the buffer, and returns the number of bytes. Returns
@@ -56,7 +62,7 @@ impl Format {
         if !show_within(self.items(), DATE_END, TIME_END) {
             return None;
         }
-        self.print(&moment_of_time(time), buffer)
+        self.print(&moment_of_time(time), b"", buffer)
     }
 
     /// Writes a date-time to the front of the buffer, and returns the number of bytes. Returns
@@ -74,7 +80,7 @@ impl Format {
         if !show_within(self.items(), 0, TIME_END) {
             return None;
         }
-        self.print(&moment_of_date_time(date_time), buffer)
+        self.print(&moment_of_date_time(date_time), b"", buffer)
     }
 
     /// Writes an offset to the front of the buffer, and returns the number of bytes. Returns `None`
@@ -92,18 +98,18 @@ impl Format {
         if !show_within(self.items(), TIME_END, OFFSET_END) {
             return None;
         }
-        self.print(&moment_of_offset(offset), buffer)
+        self.print(&moment_of_offset(offset), b"", buffer)
     }
 
     /// Writes a date-time at an offset to the front of the buffer, and returns the number of bytes.
-    /// Returns `None` if the buffer is too short.
+    /// Returns `None` if the format shows the abbreviation of a zone, or if the buffer is too short.
     pub fn print_offset_date_time(
         &self,
         date_time: OffsetDateTime,
         buffer: &mut [u8],
     ) -> Option<usize>
-        ensures room { IsSome result
-            ↔ (length (text_of self.now (moment_of_offset_date_time date_time)) ≤ length buffer.old) }
+        ensures room { IsSome result ↔ IsTrue (are_moment_items self.now)
+            × (length (text_of self.now (moment_of_offset_date_time date_time)) ≤ length buffer.old) }
         ensures text { IfSome result (λ end.
             take end buffer.new ≡ text_of self.now (moment_of_offset_date_time date_time)) }
         ensures end { IfSome result (λ end.
@@ -111,32 +117,78 @@ impl Format {
         ensures after { IfSome result (λ end. drop end buffer.new ≡ drop end buffer.old) }
         ensures unchanged { IfNone result (buffer.new ≡ buffer.old) }
     {
-        self.print(&moment_of_offset_date_time(date_time), buffer)
+        if self.shows_abbreviation() {
+            return None;
+        }
+        self.print(&moment_of_offset_date_time(date_time), b"", buffer)
     }
 
-    fn print(&self, moment: &Moment, buffer: &mut [u8]) -> Option<usize>
-        ensures room { IsSome result
-            ↔ (length (text_of self.now moment.now) ≤ length buffer.old) }
-        ensures text { IfSome result (λ end. take end buffer.new ≡ text_of self.now moment.now) }
-        ensures end { IfSome result (λ end. end ≡ length (text_of self.now moment.now)) }
+    /// Writes a date-time at the offset of a zone to the front of the buffer, and returns the number
+    /// of bytes. `%Z` shows the abbreviation. Returns `None` if the abbreviation has more than 15
+    /// bytes, or if the buffer is too short.
+    pub fn print_in_zone(
+        &self,
+        date_time: OffsetDateTime,
+        abbreviation: &[u8],
+        buffer: &mut [u8],
+    ) -> Option<usize>
+        ensures room { IsSome result ↔ (length abbreviation.now ≤ 15)
+            × (length (text_in_zone abbreviation.now self.now (moment_of_offset_date_time date_time)) ≤ length buffer.old) }
+        ensures text { IfSome result (λ end. take end buffer.new
+            ≡ text_in_zone abbreviation.now self.now (moment_of_offset_date_time date_time)) }
+        ensures end { IfSome result (λ end. end ≡ length
+            (text_in_zone abbreviation.now self.now (moment_of_offset_date_time date_time))) }
+        ensures after { IfSome result (λ end. drop end buffer.new ≡ drop end buffer.old) }
+        ensures unchanged { IfNone result (buffer.new ≡ buffer.old) }
+    {
+        if abbreviation.len() > MAX_ABBREVIATION {
+            return None;
+        }
+        self.print(&moment_of_offset_date_time(date_time), abbreviation, buffer)
+    }
+
+    /// Returns `true` if the format shows the abbreviation of a zone, which only `print_in_zone` has.
+    pub fn shows_abbreviation(&self) -> bool
+        ensures { result ≡ not (are_moment_items self.now) }
+    {
+        !show_within(self.items(), 0, MOMENT_END)
+    }
+
+    fn print(&self, moment: &Moment, abbreviation: &[u8], buffer: &mut [u8]) -> Option<usize>
+        requires { length abbreviation.now ≤ 15 }
+        ensures room { IsSome result ↔
+            (length (text_in_zone abbreviation.now self.now moment.now) ≤ length buffer.old) }
+        ensures text { IfSome result (λ end.
+            take end buffer.new ≡ text_in_zone abbreviation.now self.now moment.now) }
+        ensures end { IfSome result (λ end.
+            end ≡ length (text_in_zone abbreviation.now self.now moment.now)) }
         ensures after { IfSome result (λ end. drop end buffer.new ≡ drop end buffer.old) }
         ensures unchanged { IfNone result (buffer.new ≡ buffer.old) }
     {
         let mut text = [0u8; 64];
-        match print_items(self.items(), moment, &mut text, 0) {
+        match print_items(self.items(), moment, abbreviation, &mut text, 0) {
             Some(end) => put(buffer, 0, &text[..end]),
-            None => print_long(self.items(), moment, buffer),
+            None => print_long(self.items(), moment, abbreviation, buffer),
         }
     }
 }
 
 /// Writes what the items print of a moment, by way of a buffer for the longest text.
 #[cold]
-fn print_long(items: &[Item], moment: &Moment, buffer: &mut [u8]) -> Option<usize>
-    requires { length items.now ≤ 64 }
-    ensures room { IsSome result ↔ (length (text_of items.now moment.now) ≤ length buffer.old) }
-    ensures text { IfSome result (λ end. take end buffer.new ≡ text_of items.now moment.now) }
-    ensures end { IfSome result (λ end. end ≡ length (text_of items.now moment.now)) }
+fn print_long(
+    items: &[Item],
+    moment: &Moment,
+    abbreviation: &[u8],
+    buffer: &mut [u8],
+) -> Option<usize>
+    requires few { length items.now ≤ 64 }
+    requires short { length abbreviation.now ≤ 15 }
+    ensures room { IsSome result ↔
+        (length (text_in_zone abbreviation.now items.now moment.now) ≤ length buffer.old) }
+    ensures text { IfSome result (λ end.
+        take end buffer.new ≡ text_in_zone abbreviation.now items.now moment.now) }
+    ensures end { IfSome result (λ end.
+        end ≡ length (text_in_zone abbreviation.now items.now moment.now)) }
     ensures after { IfSome result (λ end. drop end buffer.new ≡ drop end buffer.old) }
     ensures unchanged { IfNone result (buffer.new ≡ buffer.old) }
 {
@@ -145,7 +197,7 @@ fn print_long(items: &[Item], moment: &Moment, buffer: &mut [u8]) -> Option<usiz
     let _ = moment.time.hour();
     let _ = moment.offset.whole_seconds();
     let mut text = [0u8; MAX_LENGTH];
-    let end = print_items(items, moment, &mut text, 0)?;
+    let end = print_items(items, moment, abbreviation, &mut text, 0)?;
     put(buffer, 0, &text[..end])
 }
 
@@ -223,7 +275,7 @@ impl Component {
 
 impl Item {
     fn is_within(self, low: usize, high: usize) -> bool
-        ensures { result ≡ lies_within low high (item_component self) }
+        ensures { result ≡ shows_within low high self }
     {
         match self {
             Item::Literal(_) => true,
@@ -232,6 +284,7 @@ impl Item {
             Item::Fraction | Item::Decimals => Component::Nanosecond.is_within(low, high),
             Item::OffsetSign => Component::OffsetSign.is_within(low, high),
             Item::TimestampSign => Component::TimestampSign.is_within(low, high),
+            Item::Abbreviation => false,
         }
     }
 }

@@ -16,7 +16,7 @@ use crate::error::ParseError;
 use crate::format::Format;
 use crate::moment::Moment;
 use crate::parsing::parse_moment;
-use crate::value::{DATE_END, OFFSET_END, TIME_END, show_within};
+use crate::value::{DATE_END, MOMENT_END, OFFSET_END, TIME_END, show_within};
 use cal_datetime::{OffsetDateTime, PlainDateTime};
 use cal_time::{Date, Time, UtcOffset};
 use std::marker::Model;
@@ -115,10 +115,10 @@ impl Model for OffsetDateTimeFormat {
 /// Returns the format for values of one type if its items show components within a range and pass
 /// these tests, or `None`.
 macro_rules! determining {
-    ($self:ident, $format:ident, $([$low:tt..$high:ident])? $($shows:ident),+) => {{
+    ($self:ident, $format:ident, [$low:tt..$high:ident] $($shows:ident),+) => {{
         let shown = Shown::new($self.items());
         if are_apart($self.items())
-            $(&& show_within($self.items(), $low, $high))?
+            && show_within($self.items(), $low, $high)
             $(&& $shows(&shown))+
         {
             Some($format { format: $self })
@@ -168,7 +168,7 @@ impl Format {
         ensures determines { IsSome result ↔ DeterminesOffsetDateTime self }
         ensures same { IfSome result (λ format. format ≡ self) }
     {
-        determining!(self, OffsetDateTimeFormat, shows_moment)
+        determining!(self, OffsetDateTimeFormat, [0..MOMENT_END] shows_moment)
     }
 
     fn parse(&self, text: &[u8]) -> Result<Moment, ParseError>

@@ -4,6 +4,7 @@ use cal_format::{DateFormat, DateTimeFormat, Format, TimeFormat};
 use cal_time::{Date, Time};
 use std::process::Abort;
 
+mod abbreviations;
 mod errors;
 mod formats;
 mod items;

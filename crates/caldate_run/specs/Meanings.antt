@@ -1,10 +1,11 @@
 -- The meanings of words: the date or moment that a word is a text of, the items of the format that
 -- it spells, and the zone that it names, or why it names none.
-use Rattle.std.specs.Prelude.{ℕ, ◌+◌, ◌≤◌, ◌==◌, Bool, IsUtf8, is_some, List, [], length, take, drop, position, bytes_eq, codes, Option, Some, MatchOption, option_and_then, Result, if◌then◌else◌}
+use Rattle.std.specs.Prelude.{ℕ, ◌+◌, ◌≤◌, ◌==◌, Bool, IsTrue, IsUtf8, is_some, List, [], length, take, drop, position, bytes_eq, codes, Option, Some, MatchOption, option_and_then, Result, if◌then◌else◌}
 use Rattle.std.specs.List.{All}
 use Rattle.std.specs.Option.{option_map_or}
 use Rattle.cal_datetime.specs.OffsetDateTime.{LocalAndOffset}
 use Rattle.cal_format.specs.Format.{Spells}
+use Rattle.cal_format.specs.Reading.{are_moment_items}
 use Rattle.cal_format.specs.declared.item.Item.{Item}
 use Rattle.cal_format.specs.declared.item.Syntax.TheVariants.{Percent}
 use Rattle.cal_text.specs.AnyForm.{IsTextOf}
@@ -44,11 +45,13 @@ format_named word =
 abbrev pub is_format : List ℕ → Bool
 is_format word = is_some (position (λ b. b == 37) (format_named word))
 
--- The text spells these items in the syntax of `strftime`. A format has at most 64.
+-- The text spells these items in the syntax of `strftime`. A format has at most 64, and shows no
+-- abbreviation of a zone.
 pub record IsItems (text : List ℕ) (items : List Item) : Type 0 where
   pub utf8 : IsUtf8 text
   pub spelled : Spells Percent text items []
   pub few : length items ≤ 64
+  pub printed : IsTrue (are_moment_items items)
 
 -- ---- the meanings are correct
 pub record IsMeaningOf (word : List ℕ) (meaning : Meaning) : Type 0 where

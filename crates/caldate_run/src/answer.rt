@@ -264,7 +264,8 @@ fn push_printed(buffer: &mut Buffer, format: &Format, moment: OffsetDateTime)
     let _items = format.items();
     let _parts = (moment.date(), moment.time(), moment.offset());
     let mut text = [0u8; LONGEST_PRINTED];
-    match format.print_offset_date_time(moment, &mut text) {
+    // The arguments have no format with `%Z`, which would print nothing here.
+    match format.print_in_zone(moment, b"", &mut text) {
         Some(end) => buffer.push(&text[..end]),
         None => unreachable!(),
     }

@@ -349,6 +349,7 @@ calls! {
     fots_zone_next_change(zone: CZonePointer, seconds: i64) -> Int64Result;
     fots_zone_previous_change(zone: CZonePointer, seconds: i64) -> Int64Result;
     fots_moment_in_zone(moment: CMoment, zone: CZonePointer) -> MomentResult;
+    fots_moment_format_in_zone(moment: CMoment, zone: CZonePointer, format: CFormatPointer, bytes: &mut [u8]) -> LengthResult;
     fots_zone_resolve(zone: CZonePointer, date: i32, time: u64) -> LocalResult;
     fots_zone_offsets(zone: CZonePointer, seconds: &[i64], offsets: &mut [i32], statuses: &mut [u8]) -> usize;
     fots_zone_instants(zone: CZonePointer, readings: &[i64], policy: u32, seconds: &mut [i64], statuses: &mut [u8]) -> usize;

@@ -31,6 +31,7 @@ pub(super) fn item_parts(item: Item) -> FormatItem
         Item::OffsetSign => (6, 0),
         Item::TimestampSign => (7, 0),
         Item::Decimals => (8, 0),
+        Item::Abbreviation => (9, 0),
     };
     FormatItem { kind, value }
 }
@@ -50,6 +51,7 @@ pub(super) fn item_with(part: FormatItem) -> Option<Item>
         6 => single_item(part.value, Item::OffsetSign),
         7 => single_item(part.value, Item::TimestampSign),
         8 => single_item(part.value, Item::Decimals),
+        9 => single_item(part.value, Item::Abbreviation),
         _ => None,
     }
 }

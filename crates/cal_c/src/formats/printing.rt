@@ -1,11 +1,11 @@
 //! Values in the text of a format.
-ghost use Rattle.std.specs.Prelude.{◌≡◌, ◌≤◌, List, None, IfSome, length, take, true};
+ghost use Rattle.std.specs.Prelude.{◌≡◌, ◌≤◌, List, None, IfSome, length, take};
 ghost use Rattle.cal_time.specs.Time.{IsTime};
 ghost use Rattle.cal_time.specs.UtcOffset.{IsOffset};
 ghost use Rattle.cal_datetime.specs.DateTime.{date_time};
 ghost use Rattle.cal_format.specs.declared.item.Item.{Item};
 ghost use Rattle.cal_format.specs.Moment.{moment_of_date, moment_of_time, moment_of_offset, moment_of_date_time, moment_of_offset_date_time};
-ghost use Rattle.cal_format.specs.Reading.{are_date_items, are_time_items, are_offset_items, are_date_time_items};
+ghost use Rattle.cal_format.specs.Reading.{are_date_items, are_time_items, are_offset_items, are_date_time_items, are_moment_items};
 ghost use Rattle.cal_format.specs.Text.{text_of};
 ghost use Rattle.cal_c.specs.Formats.{HasItems, IsFormat};
 ghost use Rattle.cal_c.specs.FormatTexts.{IsPrinted, IsUnprinted, IsWritten, length_error};
@@ -28,7 +28,7 @@ pub const MAX_LENGTH: usize = 960;
 
 /// Writes the bytes of a text to the front of a buffer. A text of `None` is one that the format
 /// doesn't have.
-fn write(text: &[u8], end: Option<usize>, bytes: &mut [u8]) -> LengthResult
+pub(crate) fn write(text: &[u8], end: Option<usize>, bytes: &mut [u8]) -> LengthResult
     requires { IfSome end (λ n. n ≤ length text.now) }
     ensures none { end ≡ None → IsUnprinted bytes.old bytes.new result (length_error unsupported_item) }
     ensures some { IfSome end (λ n. IsWritten (take n text.now) bytes.old bytes.new result) }
@@ -121,7 +121,8 @@ pub extern "C" fn fots_moment_format(
     ensures invalid_format { IsMoment moment → ¬ IsFormat format.now
         → IsUnprinted bytes.old bytes.new result (length_error invalid_format) }
     ensures value { IsMoment moment → (items : List Item) → HasItems format.now items
-        → IsPrinted true (text_of items (moment_of_offset_date_time (local_and_offset_in moment))) bytes.old bytes.new result }
+        → IsPrinted (are_moment_items items)
+        (text_of items (moment_of_offset_date_time (local_and_offset_in moment))) bytes.old bytes.new result }
 {
     let moment = or_error!(LengthResult, valid_moment(moment), INVALID_MOMENT);
     let format = or_error!(LengthResult, format.to_format(), INVALID_FORMAT);

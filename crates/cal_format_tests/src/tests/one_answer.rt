@@ -72,6 +72,22 @@ fn print_offset_date_time(
     )
 }
 
+fn print_in_zone(
+    format: &Format,
+    date_time: OffsetDateTime,
+    abbreviation: &[u8],
+    a: &mut [u8],
+    b: &mut [u8],
+) -> Twice<Option<usize>>
+    requires { length a.old ≡ length b.old }
+    ensures { result.0 ≡ result.1 }
+{
+    (
+        format.print_in_zone(date_time, abbreviation, a),
+        format.print_in_zone(date_time, abbreviation, b),
+    )
+}
+
 fn for_dates(a: Format, b: Format) -> Twice<Option<DateFormat>>
     requires { a ≡ b }
     ensures { result.0 ≡ result.1 }

@@ -33,7 +33,7 @@ fn is_format(word: &[u8]) -> bool
     index_of(b'%', format_named(word)).is_some()
 }
 
-/// Parses a format, or the name of one.
+/// Parses a format, or the name of one. A line has no zone, so a format with `%Z` isn't one here.
 pub fn format_of(word: &[u8]) -> Option<Format>
     ensures every { (items : List Item) → IsItems (format_named word.now) items
         → result ≡ Some items }
@@ -41,7 +41,13 @@ pub fn format_of(word: &[u8]) -> Option<Format>
 {
     match str::from_utf8(format_named(word)) {
         Ok(text) => match Format::new(text) {
-            Ok(format) => Some(format),
+            Ok(format) => {
+                if format.shows_abbreviation() {
+                    None
+                } else {
+                    Some(format)
+                }
+            }
             Err(_) => None,
         },
         Err(_) => None,

@@ -18,4 +18,4 @@ unreachable-requires c =
     let short = text-short c.args.format.now v is in
     let few = c.items-items.ensures.few in
     let same = ap length c.items-items.ensures.items in
-    false≢true (c.in-None.ensures.room.1 (omega (arith, short, few, same)))
+    false≢true (c.in-None.ensures.room.1 (omega arith, omega (arith, short, few, same)))
