@@ -8,7 +8,7 @@ use Rattle.std.proofs.lemmas.Bool.Decides.{nat_tests}
 use Rattle.std.proofs.lemmas.List.{append-nil, take_more, take_rest}
 use Rattle.std.proofs.lemmas.Option.{none-some}
 use Rattle.std.proofs.lemmas.List.Splits.{join_with_byte-slice_split, length-slice_split}
-use Rattle.caldate_run.specs.Fields.{HasFirst, IsAfter, selected_text, each_ended, fields_of, in_quotes, is_quote, is_quoted, joined_fields, has_too_few, split_record, text_with, within_quotes}
+use Rattle.caldate_run.specs.Fields.{HasFirst, IsAfter, each_ended, fields_of, has_too_few, in_place_of, is_quote, joined_fields, part_of, split_record, with_part}
 use Rattle.caldate_run.specs.declared.request.Field.{Field}
 use Rattle.caldate_run.proofs.Parts.{no_fields}
 use Rattle.caldate_run.proofs.Parts.{some_fields as one_field}
@@ -207,106 +207,35 @@ places field text rest last n start end a b within e f =
       omega (arith, f, within, ap length a.whole, length-append front rest, ap length b.whole, length-append middle last, length-append middle (take n last), length-take n last),
     )
 
--- ---- the text to answer, and the words that replace it
+-- ---- the fields that are asked for, and the words that replace them
 pub record IsCut (field : Field) (text before part after : List ℕ) : Type 0 where
-  pub asked : selected_text (Some field) text ≡ Some part
-  pub around : (words : List ℕ) → text_with (Some field) text words ≡ before ++ words ++ after
+  pub part_is : part_of field text ≡ Some part
+  pub around : (words : List ℕ) → with_part field text words ≡ before ++ in_place_of field part words ++ after
   pub whole : text ≡ before ++ part ++ after
 
-pub plain : (field : Field) (text before part after : List ℕ) → Found field text before part after → is_quoted field part ≡ false → IsCut field text before part after
-plain field text before part after h none = record {
-  asked = ap (λ b. cond b None (Some (within_quotes field (joined_fields field text)))) h.has ∙ ap (λ p. Some (within_quotes field p)) h.asked
-      ∙ ap (λ b. Some (cond b (take (length part - 2) (drop 1 part)) part)) none;
-  around = λ words. ap (λ b. cond b text (join_with_byte field.separator (take (field.first - 1) (fields_of field text) ++ in_quotes field (joined_fields field text) words ∷ drop (field.first - 1 + field.joined + 1) (fields_of field text)))) h.has
-      ∙ ap (λ w. join_with_byte field.separator (take (field.first - 1) (fields_of field text) ++ w ∷ drop (field.first - 1 + field.joined + 1) (fields_of field text)))
-      (ap (λ p. in_quotes field p words) h.asked ∙ ap (λ b. cond b (34 ∷ (words ++ 34 ∷ [])) words) none)
-      ∙ h.around words;
+cut : (field : Field) (text before part after : List ℕ) → Found field text before part after → IsCut field text before part after
+cut field text before part after h = record {
+  part_is = ap (λ b. cond b None (Some (joined_fields field text))) h.has ∙ ap Some h.asked;
+  around = λ words. ap (λ b. cond b text (join_with_byte field.separator (take (field.first - 1) (fields_of field text) ++ in_place_of field (joined_fields field text) words ∷ drop (field.first - 1 + field.joined + 1) (fields_of field text)))) h.has
+      ∙ ap (λ p. join_with_byte field.separator (take (field.first - 1) (fields_of field text) ++ in_place_of field p words ∷ drop (field.first - 1 + field.joined + 1) (fields_of field text))) h.asked
+      ∙ h.around (in_place_of field part words);
   whole = h.whole;
 }
-
--- a field in quotes
-quotes_of : (a b c d : Bool) → (a && (b && (c && d))) ≡ true → (b ≡ true) × (c ≡ true) × (d ≡ true)
-quotes_of true true true d e = (refl, refl, e)
-quotes_of true true false d e = absurd (false≢true e)
-quotes_of true false c d e = absurd (false≢true e)
-quotes_of false b c d e = absurd (false≢true e)
-
-long_part : (n : ℕ) → nat_le 2 n ≡ true → 2 ≤ n
-long_part n e = grind (arith, nat_tests)
-
-last_of : (xs : List ℕ) → 0 < length xs → take (length xs - 1) xs ++ get_or xs (length xs - 1) 0 ∷ [] ≡ xs
-last_of xs h =
-    sym (take_more xs (length xs - 1) 0 (omega (arith, h))) ∙ ap (λ k. take k xs) (omega (arith, h))
-    ∙ ap (take (length xs)) (sym (append-nil xs)) ∙ take-append_seam xs []
-
-around_part : (part : List ℕ) → 2 ≤ length part → get_or part 0 0 ≡ 34 → get_or part (length part - 1) 0 ≡ 34
-    → part ≡ 34 ∷ (take (length part - 2) (drop 1 part) ++ 34 ∷ [])
-around_part [] h first last = absurd (omega (arith, h))
-around_part (x ∷ []) h first last = absurd (omega (arith, h))
-around_part (x ∷ y ∷ xs) h first last =
-    let tail : List ℕ = y ∷ xs in
-    let same : get_or tail (length tail - 1) 0 ≡ 34 = ap (λ k. get_or (x ∷ tail) k 0) (sym (add-one (length tail - 1)) ∙ omega arith) ∙ last in
-    ap (λ b. b ∷ tail) first
-    ∙ ap (λ l. 34 ∷ l) (sym (last_of tail (omega arith)) ∙ ap (λ b. take (length tail - 1) tail ++ b ∷ []) same
-    ∙ ap (λ k. take k tail ++ 34 ∷ []) (omega arith))
-
-pub quoted : (field : Field) (text before part after : List ℕ) → Found field text before part after → is_quoted field part ≡ true
-    → IsCut field text (before ++ 34 ∷ []) (take (length part - 2) (drop 1 part)) (34 ∷ after) × (2 ≤ length part) × (part ≡ 34 ∷ (take (length part - 2) (drop 1 part) ++ 34 ∷ []))
-quoted field text before part after h some =
-    let tests = quotes_of field.csv (nat_le 2 (length part)) (is_quote (get_or part 0 0)) (is_quote (get_or part (length part - 1) 0)) some in
-    let long = long_part (length part) tests.0 in
-    let inner = take (length part - 2) (drop 1 part) in
-    let parts = around_part part long (eqb-true (get_or part 0 0) 34 tests.1) (eqb-true (get_or part (length part - 1) 0) 34 tests.2) in
-    let shifted : (words : List ℕ) → before ++ (34 ∷ (words ++ 34 ∷ [])) ++ after ≡ (before ++ 34 ∷ []) ++ words ++ (34 ∷ after) = λ words.
-    append_assoc before (34 ∷ (words ++ 34 ∷ [])) after ∙ ap (λ l. before ++ 34 ∷ l) (append_assoc words (34 ∷ []) after)
-    ∙ sym (append_assoc before (34 ∷ []) (words ++ 34 ∷ after)) ∙ sym (append_assoc (before ++ 34 ∷ []) words (34 ∷ after)) in (
-      record {
-        asked = ap (λ b. cond b None (Some (within_quotes field (joined_fields field text)))) h.has ∙ ap (λ p. Some (within_quotes field p)) h.asked
-            ∙ ap (λ b. Some (cond b inner part)) some;
-        around = λ words. ap (λ b. cond b text (join_with_byte field.separator (take (field.first - 1) (fields_of field text) ++ in_quotes field (joined_fields field text) words ∷ drop (field.first - 1 + field.joined + 1) (fields_of field text)))) h.has
-            ∙ ap (λ w. join_with_byte field.separator (take (field.first - 1) (fields_of field text) ++ w ∷ drop (field.first - 1 + field.joined + 1) (fields_of field text)))
-            (ap (λ p. in_quotes field p words) h.asked ∙ ap (λ b. cond b (34 ∷ (words ++ 34 ∷ [])) words) some)
-            ∙ h.around (34 ∷ (words ++ 34 ∷ [])) ∙ shifted words;
-        whole = h.whole ∙ ap (λ p. before ++ p ++ after) parts ∙ shifted inner;
-      },
-      long,
-      parts,
-    )
 
 same_cut : (field : Field) (text b p a before part after : List ℕ) → b ≡ before → p ≡ part → a ≡ after → IsCut field text before part after → IsCut field text b p a
 same_cut field text b p a before part after e f g h =
     subst (λ x. IsCut field text x p a) (sym e) (subst (λ y. IsCut field text before y a) (sym f) (subst (λ z. IsCut field text before part z) (sym g) h))
 
-pub plain_cut : (field : Field) (text rest last : List ℕ) (n start end : ℕ) → IsAfter field (field.first - 1) text rest → IsAfter field field.joined rest last
+pub cut_at : (field : Field) (text rest last : List ℕ) (n start end : ℕ) → IsAfter field (field.first - 1) text rest → IsAfter field field.joined rest last
     → HasFirst field last n → n ≤ length last → start ≡ length text - length rest → end ≡ length text - length last + n
-    → is_quoted field (take (end - start) (drop start text)) ≡ false
     → IsCut field text (take start text) (take (end - start) (drop start text)) (take (length text - end) (drop end text))
-plain_cut field text rest last n start end a b first within e f none =
+cut_at field text rest last n start end a b first within e f =
     let h = found field text rest last n a b first in
     let at = places field text rest last n start end a b within e f in
     let before = each_ended field.separator a.passed in
     let part = each_ended field.separator b.passed ++ take n last in
     let s = slices text before part (drop n last) start end h.whole at.0 at.1 in
-    same_cut field text _ _ _ before part (drop n last) s.front s.middle (take_rest text end ∙ s.back)
-    (plain field text before part (drop n last) h (ap (is_quoted field) (sym s.middle) ∙ none))
-
-pub quoted_cut : (field : Field) (text rest last : List ℕ) (n start end : ℕ) → IsAfter field (field.first - 1) text rest → IsAfter field field.joined rest last
-    → HasFirst field last n → n ≤ length last → start ≡ length text - length rest → end ≡ length text - length last + n
-    → is_quoted field (take (end - start) (drop start text)) ≡ true
-    → IsCut field text (take (start + 1) text) (take (end - 1 - (start + 1)) (drop (start + 1) text)) (take (length text - (end - 1)) (drop (end - 1) text))
-quoted_cut field text rest last n start end a b first within e f some =
-    let h = found field text rest last n a b first in
-    let at = places field text rest last n start end a b within e f in
-    let before = each_ended field.separator a.passed in
-    let part = each_ended field.separator b.passed ++ take n last in
-    let after = drop n last in
-    let s = slices text before part after start end h.whole at.0 at.1 in
-    let q = quoted field text before part after h (ap (is_quoted field) (sym s.middle) ∙ some) in
-    let inner = take (length part - 2) (drop 1 part) in
-    let within = slices text (before ++ 34 ∷ []) inner (34 ∷ after) (start + 1) (end - 1) q.0.whole
-    (omega (arith, at.0, length-append before (34 ∷ [])))
-    (omega (arith, at.0, at.1, q.1, length-append before (34 ∷ []), length-take (length part - 2) (drop 1 part), length-drop 1 part)) in
-    same_cut field text _ _ _ (before ++ 34 ∷ []) inner (34 ∷ after) within.front within.middle (take_rest text (end - 1) ∙ within.back) q.0
+    same_cut field text _ _ _ before part (drop n last) s.front s.middle (take_rest text end ∙ s.back) (cut field text before part (drop n last) h)
 
 -- ---- a separator that is not in quotes
 plain_fields : (field : Field) (text : List ℕ) → field.csv ≡ false → fields_of field text ≡ slice_split (λ b. eqb b field.separator) text
@@ -325,5 +254,5 @@ unchanged : (b : Bool) (text part all : List ℕ) → cond b None (Some part) �
 unchanged true text part all e = refl
 unchanged false text part all e = absurd (none-some part (sym e))
 
-pub no_field : (field : Field) (text words : List ℕ) → selected_text (Some field) text ≡ None → text_with (Some field) text words ≡ text
-no_field field text words none = unchanged (has_too_few field text) text (within_quotes field (joined_fields field text)) _ none
+pub no_field : (field : Field) (text words : List ℕ) → part_of field text ≡ None → with_part field text words ≡ text
+no_field field text words none = unchanged (has_too_few field text) text (joined_fields field text) _ none

@@ -10,6 +10,7 @@ pub mod Laters
 pub mod Texts
 pub mod Numbers
 pub mod RecordFields
+pub mod NewFields
 pub mod Replied
 pub mod Steps
 pub mod OneCount

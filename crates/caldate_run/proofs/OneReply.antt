@@ -4,7 +4,7 @@ use Rattle.std.specs.Prelude.{length, MatchBool, MatchOption, nat_lt}
 use Rattle.caldate_run.specs.Answers.{Answer, IsAnswer}
 use Rattle.caldate_run.specs.Fields.{selected_text}
 use Rattle.caldate_run.specs.Lines.{text_of}
-use Rattle.caldate_run.specs.Replies.{RepliesWith, IsAnswerIn, IsAnswerOf, IsAnswerToText, IsReplyTo, in_text}
+use Rattle.caldate_run.specs.Replies.{RepliesWith, IsAnswerIn, IsAnswerOf, IsAnswerToText, IsReplyTo, in_text, skipped}
 use Rattle.caldate_run.specs.Room.{longest_text}
 use Rattle.caldate_run.specs.declared.run.no_answer.NoAnswer.TheVariants as why
 use Rattle.caldate_run.specs.declared.request.Filter.{Filter}
@@ -25,8 +25,8 @@ one_of_two false P Q a b p q h k = q h k
 
 one_of_text : (filter : Filter) (before : ℕ) (text : List ℕ) (a b : Answer) → IsOneText filter text → IsAnswerOf filter before text a → IsAnswerOf filter before text b → a ≡ b
 one_of_text filter before text a b one h k =
-    one_of_two (nat_lt longest_text (length text)) (λ a. a ≡ Err why.TooLong) (λ a. MatchBool (nat_lt before filter.skip) (a ≡ Ok (Some text)) (IsAnswerToText filter text a)) a b (λ h k. h ∙ sym k)
-    (λ h k. one_of_two (nat_lt before filter.skip) (λ a. a ≡ Ok (Some text)) (IsAnswerToText filter text) a b (λ h k. h ∙ sym k)
+    one_of_two (nat_lt longest_text (length text)) (λ a. a ≡ Err why.TooLong) (λ a. MatchBool (nat_lt before filter.skip) (a ≡ skipped filter before text) (IsAnswerToText filter text a)) a b (λ h k. h ∙ sym k)
+    (λ h k. one_of_two (nat_lt before filter.skip) (λ a. a ≡ skipped filter before text) (IsAnswerToText filter text) a b (λ h k. h ∙ sym k)
     (λ h k. one_in_text (λ a. a ≡ Err why.NoField) (λ a asked. IsAnswerIn filter text a asked) (selected_text filter.field text) a b (λ h k. h ∙ sym k)
     (λ asked is h k. h.2 ∙ ap (in_text filter text) (one asked is h.0 k.0 h.1 k.1) ∙ sym k.2) h k) h k) h k
 

@@ -1,13 +1,16 @@
 -- A record is split into its fields.
-use Rattle.std.proofs.Common.{◌≡◌, ℕ, ◌<◌, Bool, true, false, cond, eqb, eq-eqb, List, [], ◌∷◌, ◌++◌, length, refl, sym, ap, ◌∙◌, arith, append_assoc}
+use Rattle.std.proofs.Common.{◌≡◌, ℕ, ◌<◌, Bool, true, false, cond, eqb, eq-eqb, List, [], ◌∷◌, ◌++◌, length, refl, sym, ap, ◌∙◌, subst, arith, append_assoc}
 use Rattle.std.specs.Prelude.{not, ◌&&◌, All}
 use Rattle.std.specs.List.{join_with_byte, onto_first}
 use Rattle.std.proofs.lemmas.List.{append-nil}
-use Rattle.std.proofs.lemmas.List.Elements.{All-head, All-tail}
-use Rattle.caldate_run.specs.Fields.{is_quote, split_record}
+use Rattle.std.proofs.lemmas.List.Elements.{All-cons, All-head, All-nil, All-tail}
+use Rattle.caldate_run.specs.Fields.{as_field, in_place_of, in_quotes, is_quote, is_quoted, is_special, needs_quotes, split_record}
+use Rattle.caldate_run.specs.Fields.{doubled as doubled_quotes}
+use Rattle.caldate_run.specs.declared.request.Field.{Field}
 use Rattle.caldate_run.specs.Records.{IsEscaped, IsField}
 use Rattle.caldate_run.specs.Records.IsEscaped.{none, byte, doubled}
 use Rattle.caldate_run.specs.Records.IsField.{bare, escaped}
+use Rattle.caldate_run.proofs.NewFields.{not_special, or_false}
 use Rattle.caldate_run.proofs.Quotes.{onto, onto_more, onto_one}
 
 abbrev Splits : ℕ → Bool → ℕ → List ℕ → Bool → Bool → List (List ℕ)
@@ -62,3 +65,39 @@ fields_are c (field ∷ next ∷ fields) d some all =
     ∙ ap (onto field) (at_separator c more) ∙ onto_one field [] (split_record c false more)
     ∙ ap (λ f. f ∷ split_record c false more) (append-nil field)
     ∙ ap (λ fs. field ∷ fs) (fields_are c (next ∷ fields) d (omega arith) (All-tail (IsField c) field (next ∷ fields) all))
+
+-- ---- words that become a field
+escaped_one : (b : Bool) (x : ℕ) (xs : List ℕ) → is_quote x ≡ b → IsEscaped xs → IsEscaped (cond b (34 ∷ 34 ∷ xs) (x ∷ xs))
+escaped_one true x xs e h = doubled xs h
+escaped_one false x xs e h = byte x xs e h
+
+doubled_is : (words : List ℕ) → IsEscaped (doubled_quotes words)
+doubled_is [] = none
+doubled_is (x ∷ xs) = escaped_one (is_quote x) x (doubled_quotes xs) refl (doubled_is xs)
+
+bare_is : (c : ℕ) (words : List ℕ) → needs_quotes c words ≡ false → All (λ x. is_quote x ≡ false) words × All (λ x. eqb x c ≡ false) words
+bare_is c [] e = (All-nil _, All-nil _)
+bare_is c (x ∷ xs) e =
+    let h = or_false (is_special c x) (needs_quotes c xs) e in
+    let one = not_special c x h.0 in
+    let more = bare_is c xs h.1 in
+    (All-cons (λ x. is_quote x ≡ false) x xs one.1 more.0, All-cons (λ x. eqb x c ≡ false) x xs one.0 more.1)
+
+in_quotes_is : (c : ℕ) (words : List ℕ) → IsField c (in_quotes words)
+in_quotes_is c words = escaped (doubled_quotes words) (doubled_is words)
+
+chosen_is : (c : ℕ) (b : Bool) (words : List ℕ) → needs_quotes c words ≡ b → IsField c (cond b (in_quotes words) words)
+chosen_is c true words e = in_quotes_is c words
+chosen_is c false words e =
+    let h = bare_is c words e in
+    bare words h.0 h.1
+
+either_is : (c : ℕ) (b : Bool) (quoted other : List ℕ) → IsField c quoted → IsField c other → IsField c (cond b quoted other)
+either_is c true quoted other h k = h
+either_is c false quoted other h k = k
+
+pub words_are : (field : Field) (part words : List ℕ) → field.csv ≡ true → IsField field.separator (in_place_of field part words)
+words_are field part words csv =
+    let c = field.separator in
+    either_is c (is_quoted field part) (in_quotes words) (as_field field words) (in_quotes_is c words)
+    (subst (λ b. IsField c (cond (b && needs_quotes c words) (in_quotes words) words)) (sym csv) (chosen_is c (needs_quotes c words) words refl))

@@ -2,13 +2,14 @@
 use Rattle.std.proofs.Common.{◌≡◌, ℕ, ◌+◌, ◌-◌, ◌<◌, ◌≤◌, Bool, true, false, cond, eqb, List, [], ◌∷◌, ◌++◌, length, take, get_or, Option, Some, None, Result, Ok, Err, refl, sym, ap, ◌∙◌, subst, arith, length-append, length-take, append_assoc}
 use Rattle.std.specs.Prelude.{IsSomeAnd, OnOk, MatchBool, MatchOption, is_some, nat_lt, unwrap_or}
 use Rattle.std.proofs.Math.Seq.{take-append-add, take-append_seam}
-use Rattle.std.proofs.lemmas.Bool.{le-ltb}
+use Rattle.std.proofs.lemmas.Bool.{false≢true, le-ltb, lt-ltb}
 use Rattle.std.proofs.lemmas.List.{append-nil, get_or-append-add}
-use Rattle.caldate_run.specs.Answers.{Answer, IsAnswer}
+use Rattle.cal_text.specs.declared.any.DateOrMoment.{DateOrMoment}
+use Rattle.caldate_run.specs.Answers.{Answer, IsAnswer, IsAnswerTo, keeps}
 use Rattle.caldate_run.proofs.Steps.{passed_none, shown_front}
-use Rattle.caldate_run.specs.Fields.{selected_text, text_with}
+use Rattle.caldate_run.specs.Fields.{selected_text, text_with, text_without}
 use Rattle.caldate_run.specs.Lines.{has_return, text_of}
-use Rattle.caldate_run.specs.Replies.{IsCounted, Describes, RepliesWith, IsAnswerIn, IsAnswerOf, IsAnswerToText, IsReplyTo, in_place, in_text, more, stops, with_end, with_reason}
+use Rattle.caldate_run.specs.Replies.{IsCounted, Describes, RepliesWith, IsAnswerIn, IsAnswerOf, IsAnswerToText, IsReplyTo, in_place, in_text, more, skipped, stops, with_end, with_reason}
 use Rattle.caldate_run.specs.Runs.{AppendsSome, AppendsAnswer, AppendsReply}
 use Rattle.caldate_run.specs.RunStates.{AtLine, IsDroppedFront, HasExcerpt, passed}
 use Rattle.caldate_run.specs.Excerpts.{excerpt_of, excerpt_bytes}
@@ -19,6 +20,8 @@ use Rattle.caldate_run.specs.declared.on_invalid.OnInvalid.TheVariants as invali
 use Rattle.caldate_run.specs.declared.run.progress.Progress.{Progress}
 use Rattle.caldate_run.specs.declared.request.Field.{Field}
 use Rattle.caldate_run.specs.declared.request.Filter.{Filter}
+use Rattle.caldate_run.specs.declared.request.Request.{Request}
+use Rattle.caldate_run.specs.declared.request.Request.TheVariants.{To, Print, Add, Move, Floor, Until, Since, At, Keep}
 use Rattle.caldate_run.specs.declared.run.excerpt.Excerpt.{Excerpt}
 use Rattle.caldate_run.specs.declared.run.tally.Tally.{Tally}
 use Rattle.caldate_run.specs.declared.run.unanswered.UnansweredLine.{UnansweredLine}
@@ -44,12 +47,23 @@ pub is_too_long : (kept line : List ℕ) → IsDroppedFront true kept line → 4
 is_too_long kept line h = text_long (has_return (kept ++ line)) (kept ++ line) 4096 (omega (arith, h.0, length-append kept line, ap length h.2.2))
 
 -- ---- the answer to the text of a line
+of_short : (filter : Filter) (before : ℕ) (text : List ℕ) (answer : Answer) → length text ≤ 4096
+    → MatchBool (nat_lt before filter.skip) (answer ≡ skipped filter before text) (IsAnswerToText filter text answer) → IsAnswerOf filter before text answer
+of_short filter before text answer fits h =
+    subst (λ b. MatchBool b (answer ≡ Err why.TooLong) (MatchBool (nat_lt before filter.skip) (answer ≡ skipped filter before text) (IsAnswerToText filter text answer)))
+    (sym (le-ltb 4096 (length text) fits)) h
+
 pub of_text : (filter : Filter) (before : ℕ) (text : List ℕ) (answer : Answer) → length text ≤ 4096 → filter.skip ≤ before
     → IsAnswerToText filter text answer → IsAnswerOf filter before text answer
 of_text filter before text answer fits skip h =
-    let skipped = subst (λ b. MatchBool b (answer ≡ Ok (Some text)) (IsAnswerToText filter text answer)) (sym (le-ltb before filter.skip skip)) h in
-    subst (λ b. MatchBool b (answer ≡ Err why.TooLong) (MatchBool (nat_lt before filter.skip) (answer ≡ Ok (Some text)) (IsAnswerToText filter text answer)))
-    (sym (le-ltb 4096 (length text) fits)) skipped
+    let whole = subst (λ b. MatchBool b (answer ≡ skipped filter before text) (IsAnswerToText filter text answer)) (sym (le-ltb before filter.skip skip)) h in
+    of_short filter before text answer fits whole
+
+pub of_skipped : (filter : Filter) (before : ℕ) (text : List ℕ) (answer : Answer) → length text ≤ 4096 → before < filter.skip
+    → answer ≡ skipped filter before text → IsAnswerOf filter before text answer
+of_skipped filter before text answer fits skip h =
+    let whole = subst (λ b. MatchBool b (answer ≡ skipped filter before text) (IsAnswerToText filter text answer)) (sym (lt-ltb before filter.skip skip)) h in
+    of_short filter before text answer fits whole
 
 pub in_field : (filter : Filter) (field : Option Field) (text asked : List ℕ) (own : Answer) → filter.field ≡ field → selected_text field text ≡ Some asked
     → IsAnswer filter asked own → IsAnswerToText filter text (in_text filter text own)
@@ -57,13 +71,41 @@ in_field filter field text asked own is e h =
     subst (λ o. MatchOption o (in_text filter text own ≡ Err why.NoField) (IsAnswerIn filter text (in_text filter text own)))
     (sym (ap (λ f. selected_text f text) is ∙ e)) (own, h, refl)
 
-same_text : (filter : Filter) (text : List ℕ) (answer : Answer) → filter.field ≡ None → in_text filter text answer ≡ answer
-same_text filter text (Ok (Some words)) e = ap (λ f. Ok (Some (text_with f text words))) e
-same_text filter text (Ok None) e = refl
-same_text filter text (Err any) e = refl
+-- `keep` answers with the text itself
+kept_words : (q : Request) (text : List ℕ) (found : DateOrMoment) (words : List ℕ) → IsAnswerTo q text found words → keeps q ≡ true → words ≡ text
+kept_words (Keep bounds) text found words h e = h.1
+kept_words (To form) text found words h e = absurd (false≢true e)
+kept_words (Print items) text found words h e = absurd (false≢true e)
+kept_words (Add d) text found words h e = absurd (false≢true e)
+kept_words (Move by) text found words h e = absurd (false≢true e)
+kept_words (Floor n) text found words h e = absurd (false≢true e)
+kept_words (Until target unit) text found words h e = absurd (false≢true e)
+kept_words (Since target unit) text found words h e = absurd (false≢true e)
+kept_words (At place) text found words h e = absurd (false≢true e)
+
+one_of : (b : Bool) (kept text all : List ℕ) → (b ≡ true → kept ≡ all) → text ≡ all → cond b kept text ≡ all
+one_of true kept text all h e = h refl
+one_of false kept text all h e = e
+
+-- the text as it is for `keep`, or with the words
+pub kept_or : (filter : Filter) (asked words text other all : List ℕ) → IsAnswer filter asked (Ok (Some words)) → (words ≡ asked → text ≡ all) → other ≡ all
+    → cond (keeps filter.request) text other ≡ all
+kept_or filter asked words text other all h kept e = one_of (keeps filter.request) text other all (λ e. kept (kept_words filter.request asked h.0 words h.2 e)) e
+
+pub in_part : (filter : Filter) (field : Field) (text asked words all : List ℕ) → filter.field ≡ Some field → selected_text (Some field) text ≡ Some asked
+    → IsAnswer filter asked (Ok (Some words)) → cond (keeps filter.request) text (text_with (Some field) text words) ≡ all → IsAnswerToText filter text (Ok (Some all))
+in_part filter field text asked words all is e h out =
+    subst (IsAnswerToText filter text) (ap (λ t. Ok (Some t)) (ap (λ f. cond (keeps filter.request) text (text_with f text words)) is ∙ out))
+    (in_field filter (Some field) text asked (Ok (Some words)) is e h)
+
+same_text : (filter : Filter) (text : List ℕ) (answer : Answer) → filter.field ≡ None → IsAnswer filter text answer → in_text filter text answer ≡ answer
+same_text filter text (Ok (Some words)) e h =
+    ap (λ t. Ok (Some t)) (kept_or filter text words text (text_with filter.field text words) words h sym (ap (λ f. text_with f text words) e))
+same_text filter text (Ok None) e h = refl
+same_text filter text (Err any) e h = refl
 
 pub in_whole : (filter : Filter) (text : List ℕ) (answer : Answer) → filter.field ≡ None → IsAnswer filter text answer → IsAnswerToText filter text answer
-in_whole filter text answer none h = subst (IsAnswerToText filter text) (same_text filter text answer none) (in_field filter None text text answer none refl h)
+in_whole filter text answer none h = subst (IsAnswerToText filter text) (same_text filter text answer none h) (in_field filter None text text answer none refl h)
 
 pub puts_other : (P Q : Answer → Type 0) (r : Result Bool NoAnswer) (old new : List ℕ) → ((answer : Answer) → P answer → Q answer) → AppendsAnswer P r old new → AppendsAnswer Q r old new
 puts_other P Q (Ok true) old new f h = (h.0, h.1, f (Ok (Some h.0)) h.2)
@@ -156,9 +198,18 @@ same_reason true filter kept line text any h e long =
     ap (with_reason filter text) (long refl) ∙ ap (with_reason filter (text_of (kept ++ line))) (sym (long refl))
 
 -- what goes out in place of an answer, after the front that was passed on
+without_after : (field : Option Field) (kept text : List ℕ) → text_without field (kept ++ text) ≡ kept ++ text_without field text
+without_after None kept text = refl
+without_after (Some field) kept text = without_end field.appends kept text (field.separator ∷ [])
+  where
+    without_end : (b : Bool) (kept text more : List ℕ) → cond b ((kept ++ text) ++ more) (kept ++ text) ≡ kept ++ cond b (text ++ more) text
+    without_end true kept text more = append_assoc kept text more
+    without_end false kept text more = refl
+
 same_place : (mode : OnInvalid) (b : Bool) (filter : Filter) (kept line text : List ℕ) (any : NoAnswer) → IsDroppedFront b kept line → text ≡ text_of line
     → (b ≡ true → any ≡ why.TooLong) → passed mode kept ++ unwrap_or (in_place mode filter text any) [] ≡ unwrap_or (in_place mode filter (text_of (kept ++ line)) any) []
-same_place invalid.Keep b filter kept line text any h e long = ap (λ t. kept ++ t) e ∙ sym (text_after b kept line h)
+same_place invalid.Keep b filter kept line text any h e long =
+    sym (without_after filter.field kept text) ∙ ap (text_without filter.field) (ap (λ t. kept ++ t) e ∙ sym (text_after b kept line h))
 same_place invalid.Answer b filter kept line text any h e long = same_reason b filter kept line text any h e long
 same_place invalid.Drop b filter kept line text any h e long = refl
 same_place invalid.Stop b filter kept line text any h e long = refl

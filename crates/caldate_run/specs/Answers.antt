@@ -96,6 +96,11 @@ IsAnswerTo (Since target unit) text found words = IsBetween unit target found wo
 IsAnswerTo (At place) text found words = IsAt place (moment_of found) words
 IsAnswerTo (Keep bounds) text found words = (lies_in bounds found ≡ Some true) × (words ≡ text)
 
+-- `keep` answers with the text itself.
+abbrev pub keeps : Request → Bool
+keeps (Keep bounds) = true
+keeps other = false
+
 -- `keep` leaves out a line whose date or moment lies outside of its bounds.
 abbrev pub leaves_out : Request → DateOrMoment → Bool
 leaves_out (Keep bounds) found = option_map_or not (lies_in bounds found) false

@@ -1,5 +1,5 @@
 -- The part of a line to answer: all of its text, or some of its fields.
-use Rattle.std.specs.Prelude.{◌≡◌, ℕ, ◌+◌, ◌-◌, ◌==◌, ◌&&◌, not, nat_le, Bool, false, List, [], ◌∷◌, ◌++◌, length, take, drop, Option, Some, None, slice_index, if◌then◌else◌}
+use Rattle.std.specs.Prelude.{◌≡◌, ℕ, ◌+◌, ◌-◌, ◌==◌, ◌&&◌, ◌||◌, not, nat_le, Bool, false, List, [], ◌∷◌, ◌++◌, length, take, drop, Option, Some, None, option_map, slice_index, if◌then◌else◌}
 use Rattle.std.specs.List.{join_with_byte, onto_first, slice_split}
 use Rattle.caldate_run.specs.declared.request.Field.{Field}
 
@@ -33,22 +33,70 @@ is_quoted field part = field.csv && (nat_le 2 (length part) && (is_quote (slice_
 abbrev pub within_quotes : Field → List ℕ → List ℕ
 within_quotes field part = if is_quoted field part then take (length part - 2) (drop 1 part) else part
 
-abbrev pub in_quotes : Field → List ℕ → List ℕ → List ℕ
-in_quotes field part words = if is_quoted field part then 34 ∷ (words ++ 34 ∷ []) else words
+-- ---- words that become a field
+-- Between quotes, each quote is doubled.
+abbrev pub doubled : List ℕ → List ℕ
+doubled [] = []
+doubled (byte ∷ bytes) = if is_quote byte then 34 ∷ 34 ∷ doubled bytes else byte ∷ doubled bytes
+
+abbrev pub in_quotes : List ℕ → List ℕ
+in_quotes words = 34 ∷ (doubled words ++ 34 ∷ [])
+
+-- A separator, a quote, a line feed and a carriage return stand only in quotes.
+abbrev pub is_special : ℕ → ℕ → Bool
+is_special separator byte = byte == separator || (is_quote byte || (byte == 10 || byte == 13))
+
+abbrev pub needs_quotes : ℕ → List ℕ → Bool
+needs_quotes separator [] = false
+needs_quotes separator (byte ∷ bytes) = is_special separator byte || needs_quotes separator bytes
+
+-- The words as a field: of a record in quotes only if they must be.
+abbrev pub as_field : Field → List ℕ → List ℕ
+as_field field words = if field.csv && needs_quotes field.separator words then in_quotes words else words
+
+-- The words in place of a field, which keeps its quotes.
+abbrev pub in_place_of : Field → List ℕ → List ℕ → List ℕ
+in_place_of field part words = if is_quoted field part then in_quotes words else as_field field words
+
+-- The words are written after the opening quote, if there is one.
+abbrev pub escaped : Bool → List ℕ → List ℕ
+escaped quoted words = if quoted then doubled words else in_quotes words
+
+abbrev pub end_of_field : Field → Bool → List ℕ → List ℕ
+end_of_field field quoted words = if quoted then doubled words ++ 34 ∷ [] else as_field field words
+
+-- ---- the text to answer
+-- The part of a text that the fields are, if it has them.
+abbrev pub part_of : Field → List ℕ → Option (List ℕ)
+part_of field text = if has_too_few field text then None else Some (joined_fields field text)
 
 -- The text to answer is all of it, or the fields that are asked for, within their quotes, if the
 -- text has them.
 abbrev pub selected_text : Option Field → List ℕ → Option (List ℕ)
 selected_text None text = Some text
-selected_text (Some field) text = if has_too_few field text then None else Some (within_quotes field (joined_fields field text))
+selected_text (Some field) text = option_map (within_quotes field) (part_of field text)
 
--- The words replace the text to answer. The separators around it stay, and so do its quotes.
-abbrev pub text_with : Option Field → List ℕ → List ℕ → List ℕ
-text_with None text words = words
-text_with (Some field) text words =
+-- The words replace the fields that are asked for, if the text has them. The separators around them
+-- stay.
+abbrev pub with_part : Field → List ℕ → List ℕ → List ℕ
+with_part field text words =
     if has_too_few field text then text else
     join_with_byte field.separator (take (field.first - 1) (fields_of field text)
-    ++ in_quotes field (joined_fields field text) words ∷ drop (field.first - 1 + field.joined + 1) (fields_of field text))
+    ++ in_place_of field (joined_fields field text) words ∷ drop (field.first - 1 + field.joined + 1) (fields_of field text))
+
+-- The words are a new last field.
+abbrev pub with_last : Field → List ℕ → List ℕ → List ℕ
+with_last field text words = text ++ field.separator ∷ as_field field words
+
+-- The text with its answer, or with the words in place of one.
+abbrev pub text_with : Option Field → List ℕ → List ℕ → List ℕ
+text_with None text words = words
+text_with (Some field) text words = if field.appends then with_last field text words else with_part field text words
+
+-- The text without an answer. A field that would be new is empty.
+abbrev pub text_without : Option Field → List ℕ → List ℕ
+text_without None text = text
+text_without (Some field) text = if field.appends then text ++ field.separator ∷ [] else text
 
 -- Each of these fields, with a separator after it.
 abbrev pub each_ended : ℕ → List (List ℕ) → List ℕ

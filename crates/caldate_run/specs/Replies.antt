@@ -1,19 +1,20 @@
 -- The reply to a line, and the count of the lines without an answer.
-use Rattle.std.specs.Prelude.{◌≡◌, ℕ, ◌+◌, ◌-◌, ◌^◌, min, nat_lt, Bool, true, false, List, [], ◌++◌, codes, decimal, length, MatchBool, MatchOption, IsSomeAnd, Option, Some, None, Ok, Err, if◌then◌else◌}
+use Rattle.std.specs.Prelude.{◌≡◌, ℕ, ◌+◌, ◌-◌, ◌^◌, ◌==◌, min, nat_lt, Bool, true, false, List, [], ◌++◌, codes, decimal, length, MatchBool, MatchOption, IsSomeAnd, Option, Some, None, Ok, Err, if◌then◌else◌}
 use Rattle.cal_time.specs.ComponentError.{component_name}
 use Rattle.cal_time.specs.declared.error.ComponentRange.{ComponentRange}
 use Rattle.cal_text.specs.declared.error.ParseError.{ParseError}
 use Rattle.cal_text.specs.declared.error.ParseError.TheVariants.{UnexpectedByte, UnexpectedEnd, OutOfRange}
-use Rattle.caldate_run.specs.Answers.{Answer, IsAnswer}
-use Rattle.caldate_run.specs.Fields.{selected_text, text_with}
+use Rattle.caldate_run.specs.Answers.{Answer, IsAnswer, keeps}
+use Rattle.caldate_run.specs.Fields.{selected_text, text_with, text_without, with_last}
 use Rattle.caldate_run.specs.Lines.{end_of, text_of}
-use Rattle.caldate_run.specs.Room.{longest_text}
+use Rattle.caldate_run.specs.Room.{longest_answer, longest_text}
 use Rattle.caldate_run.specs.Excerpts.{excerpt_of, excerpt_bytes}
 use Rattle.caldate_run.specs.RunStates.{counted}
 use Rattle.caldate_run.specs.declared.run.no_answer.NoAnswer.{NoAnswer}
 use Rattle.caldate_run.specs.declared.run.no_answer.NoAnswer.TheVariants as why
 use Rattle.caldate_run.specs.declared.on_invalid.OnInvalid.{OnInvalid}
 use Rattle.caldate_run.specs.declared.on_invalid.OnInvalid.TheVariants as invalid
+use Rattle.caldate_run.specs.declared.request.Field.{Field}
 use Rattle.caldate_run.specs.declared.request.Filter.{Filter}
 use Rattle.caldate_run.specs.declared.run.tally.Tally.{Tally}
 use Rattle.caldate_run.specs.declared.run.unanswered.UnansweredLine.{UnansweredLine}
@@ -40,9 +41,9 @@ reason_of (UnexpectedEnd at) = why.Unreadable at
 reason_of (OutOfRange component) = why.Rejected component
 
 -- ---- the text of a line
--- An answer to the field replaces it in the text.
+-- An answer to the field replaces it in the text. `keep` leaves the text as it is.
 abbrev pub in_text : Filter → List ℕ → Answer → Answer
-in_text filter text (Ok (Some words)) = Ok (Some (text_with filter.field text words))
+in_text filter text (Ok (Some words)) = Ok (Some (if keeps filter.request then text else text_with filter.field text words))
 in_text filter text other = other
 
 abbrev pub IsAnswerIn : Filter → List ℕ → Answer → List ℕ → Type 0
@@ -51,11 +52,23 @@ IsAnswerIn filter text answer asked = (own : Answer) × IsAnswer filter asked ow
 abbrev pub IsAnswerToText : Filter → List ℕ → Answer → Type 0
 IsAnswerToText filter text answer = MatchOption (selected_text filter.field text) (answer ≡ Err why.NoField) (IsAnswerIn filter text answer)
 
--- The answer to the text of a line after `before` lines. A skipped text stays as it is.
+-- The header with the name of a new field. A name that is longer than an answer has no room.
+abbrev pub with_name : Field → List ℕ → List ℕ → Answer
+with_name field text name = if nat_lt longest_answer (length name) then Err why.TooLong else Ok (Some (with_last field text name))
+
+abbrev pub header_with : Option Field → Option (List ℕ) → List ℕ → Answer
+header_with (Some field) (Some name) text = with_name field text name
+header_with field name text = Ok (Some text)
+
+-- A skipped text stays as it is. The first one is the header if the new field has a name.
+abbrev pub skipped : Filter → ℕ → List ℕ → Answer
+skipped filter before text = if before == 0 then header_with filter.field filter.column text else Ok (Some text)
+
+-- The answer to the text of a line after `before` lines.
 abbrev pub IsAnswerOf : Filter → ℕ → List ℕ → Answer → Type 0
 IsAnswerOf filter before text answer =
     MatchBool (nat_lt longest_text (length text)) (answer ≡ Err why.TooLong)
-    (MatchBool (nat_lt before filter.skip) (answer ≡ Ok (Some text)) (IsAnswerToText filter text answer))
+    (MatchBool (nat_lt before filter.skip) (answer ≡ skipped filter before text) (IsAnswerToText filter text answer))
 
 -- ---- a line without an answer
 -- A run ends at the line.
@@ -63,15 +76,14 @@ abbrev pub stops : OnInvalid → Bool
 stops invalid.Stop = true
 stops mode = false
 
--- The reason replaces the text to answer, or the line if it is too long. A text that lacks the
--- field stays as it is.
+-- The reason is written as an answer, or in place of the line if it is too long.
 abbrev pub with_reason : Filter → List ℕ → NoAnswer → List ℕ
 with_reason filter text why.TooLong = reason why.TooLong
 with_reason filter text other = text_with filter.field text (reason other)
 
 -- The bytes that go out in its place, if any.
 abbrev pub in_place : OnInvalid → Filter → List ℕ → NoAnswer → Option (List ℕ)
-in_place invalid.Keep filter text any = Some text
+in_place invalid.Keep filter text any = Some (text_without filter.field text)
 in_place invalid.Answer filter text any = Some (with_reason filter text any)
 in_place mode filter text any = None
 

@@ -19,6 +19,7 @@ use Rattle.cal_datetime.specs.OffsetDateTime.{LocalAndOffset}
 use Rattle.cal_recurrence.specs.Text.{recurrence_of}
 use Rattle.cal_recurrence.specs.declared.recurrence.Recurrence.{Recurrence}
 use Rattle.cal_zone.specs.Timeline.{Timeline}
+use Rattle.caldate_run.specs.Answers.{keeps}
 use Rattle.caldate_run.specs.ClockWords.{now_in}
 use Rattle.caldate_run.specs.Meanings.{Meanings, found_in, is_format, name_of, value_in}
 use Rattle.caldate_run.specs.Offsets.{is_digit, offset_of}
@@ -366,7 +367,7 @@ list_of now meanings words =
 
 -- ---- the options before a request, in any order, each at most once
 abbrev pub no_options : Options
-no_options = record { on_invalid = None; fields = None; name = None; header = false; csv = false; separator = None; skip = None; readers = []; offset = None; zone = None; policy = None }
+no_options = record { on_invalid = None; fields = None; name = None; append = None; header = false; csv = false; separator = None; skip = None; readers = []; offset = None; zone = None; policy = None }
 
 -- `--invalid MODE`
 abbrev pub invalid_of : List ℕ → Option OnInvalid
@@ -464,6 +465,7 @@ abbrev pub value_of : Options → List ℕ → Option Expected
 value_of options word =
     if bytes_eq word (codes "--invalid") && is_none options.on_invalid then Some expected.Invalid else
     if bytes_eq word (codes "--field") && is_none options.fields then Some expected.FieldNumber else
+    if bytes_eq word (codes "--append") && is_none options.append then Some expected.Column else
     if bytes_eq word (codes "--separator") && is_none options.separator then Some expected.Separator else
     if bytes_eq word (codes "--skip") && is_none options.skip then Some expected.Skip else
     if bytes_eq word (codes "--read") && has_room options.readers then Some expected.Reading else
@@ -480,6 +482,7 @@ is_option word = is_flag no_options word || is_some (value_of no_options (name_o
 abbrev pub with_value : Meanings → Options → List ℕ → Expected → Option Options
 with_value meanings options value expected.Invalid = option_map (λ mode. record options { on_invalid = Some mode }) (invalid_of value)
 with_value meanings options value expected.FieldNumber = with_field options value
+with_value meanings options value expected.Column = Some (record options { append = Some value })
 with_value meanings options value expected.Separator = option_map (λ c. record options { separator = Some c }) (byte_of value)
 with_value meanings options value expected.Skip = option_map (λ k. record options { skip = Some k }) (skip_of value)
 with_value meanings options value expected.Reading = option_and_then (with_reader options) (reader_of meanings value)
@@ -524,6 +527,7 @@ field_of options =
       joined = numbers.joined;
       separator = unwrap_or options.separator (if options.csv then 44 else 9);
       csv = options.csv;
+      appends = is_some options.append;
     }) options.fields
 
 -- The forms that the options select. The default is the six forms, and then ISO 8601.
@@ -560,13 +564,14 @@ conflict_with_zone options =
     if not (any_local options.readers) || any_own options.readers then Some expected.LocalOnly else
     None
 
--- The option that is missing: `--separator` and `--csv` require `--field`, and a form without an
--- offset and `--assume` require each other. A quote separates no fields of a record. A name of a
+-- The option that is missing: `--separator`, `--csv` and `--append` require `--field`, and a form
+-- without an offset and `--assume` require each other. A quote separates no fields of a record. A name of a
 -- field requires `--header`.
 abbrev pub conflict_in : Options → Option Expected
 conflict_in options =
     if is_some options.separator && is_none options.fields then Some expected.Field else
     if options.csv && is_none options.fields then Some expected.CsvField else
+    if is_some options.append && is_none options.fields then Some expected.AppendField else
     if options.csv && option_map_or (λ c. c == 34) options.separator false then Some expected.CsvSeparator else
     if is_some options.name && not options.header then Some expected.Header else
     if is_some options.policy && is_none options.zone then Some expected.ZoneOption else
@@ -598,8 +603,15 @@ filter_of options request = record {
   on_invalid = unwrap_or options.on_invalid (default_mode request options.fields);
   field = field_of options;
   name = options.name;
+  column = if options.header then options.append else None;
   skip = skip_in options;
 }
+
+-- `keep` writes the line itself, so it appends nothing.
+abbrev pub appended_to : ℕ → Options → Request → Result Filter UsageError
+appended_to at options request =
+    if is_some options.append && keeps request then Err (usage_error_at at expected.AppendKeep) else
+    Ok (filter_of options request)
 
 -- The options and the request from an index on. `today` and `now` are shown at the offset of the
 -- zone.
@@ -607,7 +619,7 @@ abbrev pub filter_at : Option ℤ → Meanings → List (List ℕ) → ℕ → R
 filter_at now meanings words at =
     and_then (options_from meanings None no_options at (drop at words)) (λ front.
     option_map_or (λ what. Err (usage_error_at front.1 what)) (conflict_in front.0)
-    (and_then (request_at (now_in front.0.zone now) meanings words front.1) (λ request. Ok (filter_of front.0 request))))
+    (and_then (request_at (now_in front.0.zone now) meanings words front.1) (appended_to front.1 front.0)))
 
 -- The field that has a name.
 abbrev pub named_field : Filter → Option Field

@@ -23,6 +23,8 @@ error_phrase expected.Something = codes "missing command; try 'caldate --help'"
 error_phrase expected.Start = codes "unknown command"
 error_phrase expected.Field = codes "--separator requires --field"
 error_phrase expected.CsvField = codes "--csv requires --field"
+error_phrase expected.AppendField = codes "--append requires --field"
+error_phrase expected.AppendKeep = codes "--append can't be used with keep"
 error_phrase expected.CsvSeparator = codes "--csv can't use a quote as the separator"
 error_phrase expected.Header = codes "a field name requires --header"
 error_phrase expected.Invalid = codes "unknown mode"
@@ -62,6 +64,7 @@ missing_noun expected.Start = codes "command"
 missing_noun expected.Verb = codes "command"
 missing_noun expected.Invalid = codes "mode"
 missing_noun expected.FieldNumber = codes "field number"
+missing_noun expected.Column = codes "name"
 missing_noun expected.Separator = codes "separator"
 missing_noun expected.Skip = codes "number of lines"
 missing_noun expected.Reading = codes "input form"
@@ -88,7 +91,7 @@ missing_noun what = codes "argument"
 
 -- the expected words, if the message needs them
 abbrev pub expected_phrase : Expected → List ℕ
-expected_phrase expected.Start = codes "; expected to, add, next, last, until, since, start, end, on-or-after, on-or-before, at, keep, list, --date, --invalid, --field, --csv, --header, --separator, --skip, --read, --assume, --zone, --ambiguous, --help or --version"
+expected_phrase expected.Start = codes "; expected to, add, next, last, until, since, start, end, on-or-after, on-or-before, at, keep, list, --date, --invalid, --field, --append, --csv, --header, --separator, --skip, --read, --assume, --zone, --ambiguous, --help or --version"
 expected_phrase expected.Verb = codes "; expected to, add, next, last, until, since, start, end, on-or-after, on-or-before, at, keep or another option"
 expected_phrase expected.Invalid = codes "; expected keep, answer, drop or stop"
 expected_phrase expected.FieldNumber = codes "; expected an integer from 1 to 65535, two such as 1-2, or a name"
@@ -122,6 +125,8 @@ abbrev pub names_word : Expected → Bool
 names_word expected.Something = false
 names_word expected.Field = false
 names_word expected.CsvField = false
+names_word expected.AppendField = false
+names_word expected.AppendKeep = false
 names_word expected.CsvSeparator = false
 names_word expected.Header = false
 names_word expected.Assume = false

@@ -3,7 +3,7 @@ ghost use Rattle.std.specs.Prelude.{◌≡◌, ◌+◌, ◌≤◌, ◌++◌, ℕ
 ghost use Rattle.cal_datetime.specs.OffsetDateTime.{LocalAndOffset};
 ghost use Rattle.cal_text.specs.AnyForm.{date_text};
 ghost use Rattle.cal_text.specs.declared.any.DateOrMoment.{DateOrMoment};
-ghost use Rattle.caldate_run.specs.Answers.{IsAnswer, IsAnswerTo, IsAt, IsBetween, IsDayLater, IsLater, IsMomentLater, IsMoved, IsNotRead, IsReadAs, compares, floored, form_read, is_date, moment_of, offset_in, on_day, until_text};
+ghost use Rattle.caldate_run.specs.Answers.{IsAnswer, IsAnswerTo, IsAt, IsBetween, IsDayLater, IsLater, IsMomentLater, IsMoved, IsNotRead, IsReadAs, compares, floored, form_read, is_date, keeps, moment_of, offset_in, on_day, until_text};
 ghost use Rattle.caldate_run.specs.Bounds.{lies_in};
 ghost use Rattle.caldate_run.specs.Forms.{IsInForm, format_text};
 ghost use Rattle.caldate_run.specs.Replies.{reason, refused_text};
@@ -47,6 +47,8 @@ pub fn push_answer(buffer: &mut Buffer, filter: &Filter<'_>, text: &[u8]) -> Res
     requires { HasRoom (length text.now + longest_answer) buffer.old }
     ensures answered { AppendsAnswer (IsAnswer filter.now text.now) result buffer.old buffer.new }
     ensures short { length buffer.new ≤ length buffer.old + length text.now + longest_answer }
+    ensures few { keeps filter.now.request ≡ false
+        → length buffer.new ≤ length buffer.old + longest_answer }
 {
     let found = match read_with(filter, text) {
         Ok(found) => found,
@@ -125,6 +127,8 @@ fn push_answer_to(
     ensures none { result ≡ false → (buffer.new ≡ buffer.old)
         × ((words : List ℕ) → ¬ IsAnswerTo request.now text.now found.now words) }
     ensures short { length buffer.new ≤ length buffer.old + length text.now + longest_answer }
+    ensures few { keeps request.now ≡ false
+        → length buffer.new ≤ length buffer.old + longest_answer }
 {
     match request {
         Request::To(form) => push_in_form(buffer, *form, moment_of(found)),

@@ -1,11 +1,11 @@
 //! The command that the arguments give.
-ghost use Rattle.std.specs.Prelude.{◌≡◌, ◌+◌, ◌<◌, ◌^◌, ◌≤◌, ℕ, List, Option, IfOk, drop, false, slice_get};
+ghost use Rattle.std.specs.Prelude.{◌≡◌, ◌+◌, ◌<◌, ◌^◌, ◌≤◌, ℕ, List, Option, None, IfOk, drop, false, slice_get, if◌then◌else◌};
 ghost use Rattle.caldate_run.specs.Lists.{HasValidStep};
 ghost use Rattle.caldate_run.specs.Offsets.{offset_of};
 ghost use Rattle.caldate_run.specs.Meanings.{AreMeanings, Meanings};
 ghost use Rattle.caldate_run.specs.Zones.{AreZones, is_zone_like, zone_of};
 ghost use Rattle.std.specs.Option.{option_map_or};
-ghost use Rattle.caldate_run.specs.Requests.{amount_at, amount_of, arguments_of, parse_args, clock_of, count_at, default_mode, duration_of, filter_at, filter_of, floor_at, further_request_at, in_unit_at, occurrence_at, lines_command, named_field, once_command, once_of, only_at, place_at, request_at, skip_in, start_at, target_at, to_of, unit_at, expected_verb, weekday_of, words_left};
+ghost use Rattle.caldate_run.specs.Requests.{amount_at, amount_of, appended_to, arguments_of, parse_args, clock_of, count_at, default_mode, duration_of, filter_at, filter_of, floor_at, further_request_at, in_unit_at, occurrence_at, lines_command, named_field, once_command, once_of, only_at, place_at, request_at, skip_in, start_at, target_at, to_of, unit_at, expected_verb, weekday_of, words_left};
 
 pub mod arguments;
 pub(crate) mod bounds;
@@ -31,6 +31,7 @@ use crate::args::spelling::{
 };
 use crate::args::usage_error::{Expected, UsageError, usage_error_at};
 use crate::args::words::{cut, ended, ends_at, found_at, keyword_at, only_at, word_as, word_at};
+use crate::field_name::FieldName;
 use crate::on_invalid::OnInvalid;
 use crate::request::{
     Clock, Command, DayMove, Field, FieldNumbers, Filter, Place, Policy, Request, TimeUnit,
@@ -143,6 +144,20 @@ fn filter_at<'a>(
         return Err(usage_error_at(at, expected));
     }
     let request = request_at(words, at, now_in(&options.zone, now), files)?;
+    appended_to(at, options, request)
+}
+
+/// Returns the filter, unless `--append` is given with `keep`.
+fn appended_to<'a>(
+    at: usize,
+    options: Options<'a>,
+    request: Request<'a>,
+) -> Result<Filter<'a>, UsageError>
+    ensures { result ≡ appended_to at options.entry request.entry }
+{
+    if options.append.is_some() && request.keeps() {
+        return Err(usage_error_at(at, Expected::AppendKeep));
+    }
     Ok(filter_of(options, request))
 }
 
@@ -158,10 +173,21 @@ fn filter_of<'a>(options: Options<'a>, request: Request<'a>) -> Filter<'a>
         field: field_of(&options),
         skip: skip_in(&options),
         name: options.name,
+        column: column_of(options.header, options.append),
         offset: options.offset.unwrap_or(UtcOffset::UTC),
         readers: readers_in(options.readers),
         clock: clock_of(options.zone, options.policy),
     }
+}
+
+/// Returns the name of a new field in the header, if there is one.
+fn column_of<'a>(header: bool, name: Option<FieldName<'a>>) -> Option<FieldName<'a>>
+    ensures { result ≡ if header then name.entry else None }
+{
+    if !header {
+        return None;
+    }
+    name
 }
 
 /// Returns the clocks of the zone. The default policy is `compatible`.

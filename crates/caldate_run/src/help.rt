@@ -42,6 +42,8 @@ no answer, or 2 if the arguments are invalid, or the input or the output fails.
                                   answer; fields end at a tab; --field=N is the same
   caldate --field N-M ...         the same for the fields from N to M, as one text
   caldate --field NAME ...        with --header: the same for the field that has this name there
+  caldate --append NAME ...       with --field: writes the answer as a new last field, and with --header
+                                  its NAME
   caldate --csv ...               with --field: reads records of RFC 4180, whose fields end at a
                                   comma
   caldate --header ...            writes the first line unchanged, like --skip 1
@@ -85,6 +87,7 @@ moment of the start, and its date at UTC or in the zone of --zone.
   echo 1709164800500 | caldate --read unix-ms at Z         2024-02-29T00:00:00.5Z
   echo a,2024-02-29 | caldate --field 2 --separator , to week   a,2024-W09-4
   echo a,2024-02-29 | caldate --csv --field 2 to week      a,2024-W09-4
+  echo a,2024-02-29 | caldate --csv --field 2 --append week to week   a,2024-02-29,2024-W09-4
   echo a,2024-02-29 | caldate --field 2 --separator , keep from 2024-02-01 to 2024-02-29   a,2024-02-29
   caldate list from 2024-01-31 to 2024-12-31 by 1 month | tail -n 1   2024-12-31
   caldate list from 2024-01-01 to 2024-03-31 by 'FREQ=MONTHLY;BYDAY=-1FR' | tail -n 1   2024-03-29

@@ -1,9 +1,9 @@
-//! Laws: a text has one answer, a line has one reply, a record has its fields, and all arguments
-//! have meanings.
+//! Laws: a text has one answer, a line has one reply, a record has its fields, an answer becomes one
+//! field, and all arguments have meanings.
 ghost use Rattle.std.specs.List.{join_with_byte};
-ghost use Rattle.std.specs.Prelude.{◌≡◌, ◌==◌, ◌<◌, ℕ, List, All, Option, false, length};
+ghost use Rattle.std.specs.Prelude.{◌≡◌, ◌==◌, ◌<◌, ℕ, List, All, Option, false, length, true};
 ghost use Rattle.caldate_run.specs.Answers.{Answer, IsAnswer};
-ghost use Rattle.caldate_run.specs.Fields.{split_record};
+ghost use Rattle.caldate_run.specs.Fields.{in_place_of, split_record};
 ghost use Rattle.caldate_run.specs.Records.{IsField};
 ghost use Rattle.caldate_run.specs.Replies.{IsReplyTo};
 ghost use Rattle.caldate_run.specs.Meanings.{AreMeanings, Meanings};
@@ -16,7 +16,7 @@ use crate::args::formats::format_of;
 use crate::args::options::cut_value;
 use crate::args::words::cut;
 use crate::input::fields::selected_text;
-use crate::request::Filter;
+use crate::request::{Field, Filter};
 use crate::run::lines::cut_return;
 use crate::run::no_answer::NoAnswer;
 use crate::zones::{ZoneFiles, zone_in};
@@ -48,6 +48,13 @@ pub fn record_fields(separator: u8)
     ensures { (fields : List (List ℕ)) → (34 == separator) ≡ false → 0 < length fields
         → All (IsField separator) fields
         → split_record separator false (join_with_byte separator fields) ≡ fields }
+{}
+
+/// Proves that an answer becomes a field of a record of RFC 4180.
+#[tactic(auto, using(crate::proofs::RecordFields::words_are))]
+pub fn answer_field(field: Field)
+    ensures { (part words : List ℕ) → field.csv ≡ true
+        → IsField field.separator (in_place_of field part words) }
 {}
 
 /// Proves that the words of all arguments have meanings.

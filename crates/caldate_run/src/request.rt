@@ -1,4 +1,7 @@
 //! Requests, and how they apply to the lines.
+ghost use Rattle.std.specs.Prelude.{◌≡◌};
+ghost use Rattle.caldate_run.specs.Answers.{keeps};
+
 use crate::field_name::FieldName;
 use crate::on_invalid::OnInvalid;
 use crate::reading::Readers;
@@ -149,6 +152,18 @@ pub enum Request<'a> {
     Keep(Bounds),
 }
 
+impl<'a> Request<'a> {
+    /// Returns whether this is `keep`, which answers with the text itself.
+    pub fn keeps(&self) -> bool
+        ensures { result ≡ keeps self.now }
+    {
+        match self {
+            Request::Keep(_) => true,
+            _ => false,
+        }
+    }
+}
+
 /// The numbers of one field, or of neighbouring fields.
 #[derive(Clone, Copy)]
 pub struct FieldNumbers {
@@ -169,6 +184,8 @@ pub struct Field {
     pub separator: u8,
     /// Whether the line is a CSV record: a separator within quotes ends no field.
     pub csv: bool,
+    /// Whether the answer becomes a new last field, and this field stays.
+    pub appends: bool,
 }
 
 /// A request with its options.
@@ -187,6 +204,8 @@ pub struct Filter<'a> {
     pub field: Option<Field>,
     /// The name of the field, whose number isn't known yet.
     pub name: Option<FieldName<'a>>,
+    /// The name that the header, the first line, gets for a new last field.
+    pub column: Option<FieldName<'a>>,
     /// How many lines to pass on unchanged at the start.
     pub skip: u64,
 }

@@ -15,6 +15,7 @@ pub mod lines;
 pub(crate) mod named;
 pub mod no_answer;
 pub(crate) mod progress;
+pub(crate) mod record;
 pub(crate) mod reply;
 pub mod run_error;
 pub mod tally;
@@ -286,7 +287,8 @@ fn pass_on<W: Sink>(on_invalid: OnInvalid, bytes: &[u8], writer: &mut W) -> Resu
     }
 }
 
-/// Writes the buffer if it has no room for a reply, or for a line of this length with its end.
+/// Writes the buffer if it has no room for a reply, or for a line of this length with its end and
+/// one byte more.
 #[tactic(auto, using(crate::proofs::Calls::no_writes))]
 pub fn make_room<W: Sink>(
     buffer: &mut Buffer,
@@ -295,7 +297,7 @@ pub fn make_room<W: Sink>(
 ) -> Result<(), RunError>
     requires { length < capacity }
     ensures room { OnOk result (HasRoom longest_reply buffer.new) }
-    ensures line { OnOk result (HasRoom (length + 1) buffer.new) }
+    ensures line { OnOk result (HasRoom (length + 2) buffer.new) }
     ensures ok { OnOk result ((written : List ℕ) × (buffer.old ≡ written ++ buffer.new)
         × Appends (W.contents writer.old) (W.contents writer.new) written) }
     ensures front { OnErr result (AppendsFront (W.contents writer.old)

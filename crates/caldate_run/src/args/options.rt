@@ -29,6 +29,8 @@ pub struct Options<'a> {
     pub fields: Option<FieldNumbers>,
     /// The name of `--field NAME`, for which `fields` has the number 1.
     pub name: Option<FieldName<'a>>,
+    /// The name of `--append NAME`.
+    pub append: Option<FieldName<'a>>,
     /// Whether `--header` is given.
     pub header: bool,
     /// Whether `--csv` is given.
@@ -55,6 +57,7 @@ fn no_options() -> Options<'static>
         on_invalid: None,
         fields: None,
         name: None,
+        append: None,
         header: false,
         csv: false,
         separator: None,
@@ -165,6 +168,8 @@ fn value_of(options: &Options<'_>, word: &[u8]) -> Option<Expected>
         Some(Expected::Invalid)
     } else if word == b"--field".as_slice() && options.fields.is_none() {
         Some(Expected::FieldNumber)
+    } else if word == b"--append".as_slice() && options.append.is_none() {
+        Some(Expected::Column)
     } else if word == b"--separator".as_slice() && options.separator.is_none() {
         Some(Expected::Separator)
     } else if word == b"--skip".as_slice() && options.skip.is_none() {
@@ -228,6 +233,7 @@ fn with_value<'a>(
     match expected {
         Expected::Invalid => more.on_invalid = Some(invalid_of(value)?),
         Expected::FieldNumber => return with_field(more, value),
+        Expected::Column => more.append = Some(FieldName::new(value)),
         Expected::Separator => more.separator = Some(byte_of(value)?),
         Expected::Skip => more.skip = Some(skip_of(value)?),
         Expected::Reading => return with_reader(more, reader_of(value)?),
@@ -374,6 +380,7 @@ pub fn field_of(options: &Options<'_>) -> Option<Field>
             None => b'\t',
         },
         csv: options.csv,
+        appends: options.append.is_some(),
     })
 }
 
@@ -449,6 +456,8 @@ pub fn conflict_in(options: &Options<'_>) -> Option<Expected>
         Some(Expected::Field)
     } else if options.csv && options.fields.is_none() {
         Some(Expected::CsvField)
+    } else if options.append.is_some() && options.fields.is_none() {
+        Some(Expected::AppendField)
     } else if options.csv && options.separator == Some(b'"') {
         Some(Expected::CsvSeparator)
     } else if options.name.is_some() && !options.header {

@@ -15,6 +15,10 @@ pub enum Expected {
     Field,
     /// `--field`, which `--csv` requires.
     CsvField,
+    /// `--field`, which `--append` requires.
+    AppendField,
+    /// A request that isn't `keep`, which `--append` requires.
+    AppendKeep,
     /// A separator other than a quote, which `--csv` requires.
     CsvSeparator,
     /// `--header`, which `--field NAME` requires.
@@ -23,6 +27,8 @@ pub enum Expected {
     Invalid,
     /// A number from 1 to 65535, two such numbers, or a name.
     FieldNumber,
+    /// A name of a new last field.
+    Column,
     /// One byte.
     Separator,
     /// A number of lines from 0 to 9223372036854775807.

@@ -26,7 +26,7 @@ pub const TOO_LONG: &[u8] = b"caldate: arguments too long; expected at most 4096
 
 /// The commands and options for the first argument.
 const COMMANDS: &[u8] =
-    b"; expected to, add, next, last, until, since, start, end, on-or-after, on-or-before, at, keep, list, --date, --invalid, --field, --csv, --header, --separator, --skip, --read, --assume, --zone, --ambiguous, --help or --version";
+    b"; expected to, add, next, last, until, since, start, end, on-or-after, on-or-before, at, keep, list, --date, --invalid, --field, --append, --csv, --header, --separator, --skip, --read, --assume, --zone, --ambiguous, --help or --version";
 
 /// The commands after an option.
 const LINE_COMMANDS: &[u8] =
@@ -276,6 +276,7 @@ fn names_word(expected: Expected) -> bool
     match expected {
         Expected::Something | Expected::Field | Expected::CsvField | Expected::CsvSeparator =>
             false,
+        Expected::AppendField | Expected::AppendKeep => false,
         Expected::Header | Expected::Assume | Expected::Local | Expected::ZoneOption => false,
         Expected::OffsetOrZone | Expected::LocalOnly => false,
         _ => true,
@@ -299,6 +300,8 @@ fn error_phrase(expected: Expected) -> &'static [u8]
         Expected::Start => b"unknown command".as_slice(),
         Expected::Field => b"--separator requires --field".as_slice(),
         Expected::CsvField => b"--csv requires --field".as_slice(),
+        Expected::AppendField => b"--append requires --field".as_slice(),
+        Expected::AppendKeep => b"--append can't be used with keep".as_slice(),
         Expected::CsvSeparator => b"--csv can't use a quote as the separator".as_slice(),
         Expected::Header => b"a field name requires --header".as_slice(),
         Expected::Invalid => b"unknown mode".as_slice(),
@@ -344,6 +347,7 @@ fn missing_noun(expected: Expected) -> &'static [u8]
         Expected::Invalid => b"mode".as_slice(),
         Expected::FieldNumber => b"field number".as_slice(),
         Expected::Separator => b"separator".as_slice(),
+        Expected::Column => b"name".as_slice(),
         Expected::Skip => b"number of lines".as_slice(),
         Expected::Reading => b"input form".as_slice(),
         Expected::Form => b"form".as_slice(),

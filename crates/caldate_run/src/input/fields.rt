@@ -1,32 +1,32 @@
 //! The fields of a line.
 ghost use Rattle.std.specs.Prelude.{◌≡◌, ◌+◌, ◌<◌, ◌≤◌, ◌++◌, ◌∷◌, [], ℕ, List, Some, None, IfSome, IsTrue, MatchOption, drop, false, length, take};
-ghost use Rattle.caldate_run.specs.Fields.{HasFirst, IsAfter, selected_text, fields_of, is_quoted, split_record, text_with};
+ghost use Rattle.caldate_run.specs.Fields.{HasFirst, IsAfter, fields_of, in_place_of, is_quoted, part_of, selected_text, split_record, with_part, within_quotes};
 
 use crate::request::Field;
 use crate::run::lines::index_of;
 
-/// Returns the fields of the text, if the text has them. Without fields, returns the whole text.
+/// Returns the fields of the text within their quotes, if the text has them. Without fields, returns
+/// the whole text.
 pub fn selected_text(field: Option<Field>, text: &[u8]) -> Option<&[u8]>
     ensures asked { MatchOption result (selected_text field text.now ≡ None)
         (λ asked. selected_text field text.now ≡ Some asked.now) }
     ensures fits { IfSome result (λ asked. length asked.now ≤ length text.now) }
 {
     match field {
-        Some(field) => Some(cut_field(field, text)?.1),
+        Some(field) => Some(within_quotes(field, cut_field(field, text)?.1)),
         None => Some(text),
     }
 }
 
 /// Returns the bytes before the fields, the fields and the bytes after them, if the text has them.
-/// Field 2 of `a,2024-02-29,c`, split at commas, has `a,` before it and `,c` after it. The quotes
-/// of a field of a CSV record are outside of it.
+/// Field 2 of `a,2024-02-29,c`, split at commas, has `a,` before it and `,c` after it.
 #[inline(always)]
 pub fn cut_field(field: Field, text: &[u8]) -> Option<(&[u8], &[u8], &[u8])>
-    ensures asked { MatchOption result (selected_text (Some field) text.now ≡ None)
-        (λ parts. selected_text (Some field) text.now ≡ Some parts.1.now) }
+    ensures part { MatchOption result (part_of field text.now ≡ None)
+        (λ parts. part_of field text.now ≡ Some parts.1.now) }
     ensures around { MatchOption result (length text.now ≡ length text.now)
-        (λ parts. (words : List ℕ) → text_with (Some field) text.now words
-        ≡ parts.0.now ++ words ++ parts.2.now) }
+        (λ parts. (words : List ℕ) → with_part field text.now words
+        ≡ parts.0.now ++ in_place_of field parts.1.now words ++ parts.2.now) }
     ensures whole { MatchOption result (length text.now ≡ length text.now)
         (λ parts. text.now ≡ parts.0.now ++ parts.1.now ++ parts.2.now) }
     ensures short { MatchOption result (length text.now ≡ length text.now)
@@ -37,14 +37,18 @@ pub fn cut_field(field: Field, text: &[u8]) -> Option<(&[u8], &[u8], &[u8])>
     let last = after_fields(field, field.joined, rest)?;
     let start = text.len() - rest.len();
     let end = text.len() - last.len() + first_length(field, last);
-    if is_quoted(field, &text[start..end]) {
-        Some((
-            &text[..start + 1],
-            &text[start + 1..end - 1],
-            &text[end - 1..],
-        ))
+    Some((&text[..start], &text[start..end], &text[end..]))
+}
+
+/// Returns the text between the quotes of a field of a CSV record, or the field if it has none.
+pub fn within_quotes(field: Field, part: &[u8]) -> &[u8]
+    ensures text { result.now ≡ within_quotes field part.now }
+    ensures fits { length result.now ≤ length part.now }
+{
+    if is_quoted(field, part) {
+        &part[1..part.len() - 1]
     } else {
-        Some((&text[..start], &text[start..end], &text[end..]))
+        part
     }
 }
 

@@ -5,12 +5,12 @@ ghost use Rattle.caldate_run.specs.Room.{HasRoom, capacity, longest_reply};
 use cal_time::ShortText;
 use std::marker::Model;
 
-const CAPACITY: usize = 65_536;
+const CAPACITY: usize = 65_537;
 
-/// The room for one reply, in bytes. The longest reply is shorter.
-const LONGEST_REPLY: usize = 5100;
+/// The room for one reply, in bytes: while it is written, a line, its field and an answer.
+const LONGEST_REPLY: usize = 9200;
 
-/// A buffer of replies for one write, of at most 65536 bytes.
+/// A buffer of replies for one write, of at most 65537 bytes.
 #[derive(Drop)]
 pub struct Buffer {
     bytes: [u8; CAPACITY],
@@ -18,14 +18,14 @@ pub struct Buffer {
 }
 
 impl Model for Buffer {
-    ghost use Rattle.std.specs.Prelude.{ℕ, ◌≤◌, List, take};
+    ghost use Rattle.std.specs.Prelude.{ℕ, ◌+◌, ◌≤◌, List, take};
     ghost use Rattle.caldate_run.specs.Room.{capacity};
 
     ghost Value = { List ℕ };
 
     ghost view = { λ buffer. take buffer.filled buffer.bytes };
 
-    ghost invariant = { λ buffer. buffer.filled ≤ capacity };
+    ghost invariant = { λ buffer. buffer.filled ≤ capacity + 1 };
 }
 
 impl Buffer {
@@ -61,13 +61,14 @@ impl Buffer {
         &self.bytes[count..self.filled]
     }
 
-    /// Returns whether there is room for a reply, and for a line of this length with its end.
+    /// Returns whether there is room for a reply, and for a line of this length with its end and one
+    /// byte more.
     pub fn has_room_for(&self, length: usize) -> bool
         requires { length < capacity }
         ensures { IsTrue result
-            ↔ (HasRoom longest_reply self.now) × (HasRoom (length + 1) self.now) }
+            ↔ (HasRoom longest_reply self.now) × (HasRoom (length + 2) self.now) }
     {
-        self.filled <= CAPACITY - LONGEST_REPLY && self.filled + length < CAPACITY
+        self.filled <= CAPACITY - LONGEST_REPLY && self.filled + length + 1 < CAPACITY
     }
 
     /// Appends the bytes.

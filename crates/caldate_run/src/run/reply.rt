@@ -1,20 +1,22 @@
 //! The reply to a line.
 ghost use Rattle.std.specs.Prelude.{◌≡◌, ◌⊎◌, ◌+◌, ◌<◌, ◌≤◌, ◌++◌, ◌∷◌, [], ℕ, List, Some, Err, false, true, is_some, length, max, unwrap_or, IfErr, OnErr, OnOk, if◌then◌else◌};
-ghost use Rattle.caldate_run.specs.Fields.{text_with};
+ghost use Rattle.caldate_run.specs.Fields.{text_with, text_without};
 ghost use Rattle.caldate_run.specs.Lines.{has_return, text_of};
-ghost use Rattle.caldate_run.specs.Replies.{Describes, IsAnswerOf, IsAnswerToText, IsReplyTo, in_place, more, reason, stops, with_reason};
-ghost use Rattle.caldate_run.specs.Room.{HasRoom, longest_answer, longest_reply, longest_text};
+ghost use Rattle.caldate_run.specs.Replies.{Describes, IsAnswerOf, IsAnswerToText, IsReplyTo, header_with, in_place, more, reason, skipped, stops, with_name, with_reason};
+ghost use Rattle.caldate_run.specs.Room.{HasRoom, longest_field, longest_reply, longest_text};
 ghost use Rattle.caldate_run.specs.Runs.{AppendsSome, AppendsAnswer, AppendsReply};
 ghost use Rattle.caldate_run.specs.RunStates.{AtLine, counted};
 
 use crate::answer::{LONGEST_TEXT, push_answer, push_reason};
-use crate::input::fields::cut_field;
+use crate::field_name::FieldName;
+use crate::input::fields::{cut_field, is_quoted};
 use crate::on_invalid::OnInvalid;
 use crate::output::buffer::Buffer;
 use crate::request::{Field, Filter};
 use crate::run::lines::cut_return;
 use crate::run::no_answer::NoAnswer;
 use crate::run::progress::Progress;
+use crate::run::record::{LONGEST_ANSWER, end_field, push_in_record, push_quote, push_separated};
 use crate::run::unanswered::UnansweredLine;
 
 /// Appends the reply to a line, whose front may have been dropped because it is too long, and counts
@@ -28,7 +30,7 @@ pub fn push_reply(
     line: &[u8],
 ) -> Result<(), NoAnswer>
     requires room { HasRoom longest_reply buffer.old }
-    requires line { HasRoom (length line.now + 1) buffer.old }
+    requires line { HasRoom (length line.now + 2) buffer.old }
     ensures replied { OnOk result (AppendsReply (IsReplyTo filter.now) filter.now.on_invalid progress.old
         progress.new.tally line.now buffer.old buffer.new) }
     ensures counted { OnOk result (progress.new.tally.lines ≡ more progress.old.tally.lines) }
@@ -66,7 +68,7 @@ fn push_line(
     ensures whole { OnOk result (progress.now.is_long ≡ false) }
     ensures fits { IfErr result (λ why.
         progress.now.is_long ≡ true ⊎ longest_text < length text.now → why ≡ NoAnswer.TooLong) }
-    ensures short { length buffer.new ≤ length buffer.old + longest_text + longest_answer }
+    ensures short { length buffer.new ≤ length buffer.old + longest_text + longest_field }
 {
     if progress.is_long || text.len() > LONGEST_TEXT {
         return Err(NoAnswer::TooLong);
@@ -88,7 +90,7 @@ fn push_unanswered(
     why: NoAnswer,
 ) -> Result<(), NoAnswer>
     requires room { HasRoom longest_reply buffer.old }
-    requires line { HasRoom (length text.now + (if with_return then 2 else 1)) buffer.old }
+    requires line { HasRoom (length text.now + (if with_return then 3 else 2)) buffer.old }
     requires fits { progress.old.is_long ≡ true ⊎ longest_text < length text.now
         → why ≡ NoAnswer.TooLong }
     ensures replied { OnOk result ((line : List ℕ) → text.now ≡ text_of line
@@ -156,17 +158,17 @@ fn stops(on_invalid: OnInvalid) -> bool
 /// Appends what goes out in place of an answer, and returns whether the line goes out.
 fn push_in_place(buffer: &mut Buffer, filter: &Filter<'_>, text: &[u8], why: NoAnswer) -> bool
     requires room { HasRoom longest_reply buffer.old }
-    requires line { HasRoom (length text.now) buffer.old }
+    requires line { HasRoom (length text.now + 1) buffer.old }
     requires fits { longest_text < length text.now → why ≡ NoAnswer.TooLong }
     ensures text { buffer.new ≡ buffer.old
         ++ unwrap_or (in_place filter.now.on_invalid filter.now text.now why) [] }
     ensures goes_out { result ≡ is_some (in_place filter.now.on_invalid filter.now text.now why) }
     ensures short { length buffer.new
-        ≤ length buffer.old + max (length text.now) (longest_text + longest_answer) }
+        ≤ length buffer.old + max (length text.now + 1) (longest_text + longest_field) }
 {
     match filter.on_invalid {
         OnInvalid::Keep => {
-            buffer.push(text);
+            push_without(buffer, filter.field, text);
             true
         }
         OnInvalid::Answer => {
@@ -177,13 +179,25 @@ fn push_in_place(buffer: &mut Buffer, filter: &Filter<'_>, text: &[u8], why: NoA
     }
 }
 
-/// Appends the text with the reason in place of the text to answer, or the reason alone if the line
-/// is too long.
+/// Appends the text without an answer. A new last field is empty.
+fn push_without(buffer: &mut Buffer, field: Option<Field>, text: &[u8])
+    requires { HasRoom (length text.now + 1) buffer.old }
+    ensures text { buffer.new ≡ buffer.old ++ text_without field text.now }
+    ensures short { length buffer.new ≤ length buffer.old + length text.now + 1 }
+{
+    match field {
+        Some(field) if field.appends => push_separated(buffer, field, text),
+        _ => buffer.push(text),
+    }
+}
+
+/// Appends the text with the reason in place of the answer, or the reason alone if the line is too
+/// long.
 fn push_with_reason(buffer: &mut Buffer, filter: &Filter<'_>, text: &[u8], why: NoAnswer)
     requires room { HasRoom longest_reply buffer.old }
     requires fits { longest_text < length text.now → why ≡ NoAnswer.TooLong }
     ensures text { buffer.new ≡ buffer.old ++ with_reason filter.now text.now why }
-    ensures short { length buffer.new ≤ length buffer.old + longest_text + longest_answer }
+    ensures short { length buffer.new ≤ length buffer.old + longest_text + longest_field }
 {
     match why {
         NoAnswer::TooLong => push_reason(buffer, why),
@@ -191,18 +205,29 @@ fn push_with_reason(buffer: &mut Buffer, filter: &Filter<'_>, text: &[u8], why: 
     }
 }
 
-/// Appends the text with the reason in place of the field, or the text if it lacks the field.
+/// Appends the text with the reason as a new field or in place of the field. A text that lacks the
+/// field stays as it is.
 fn push_in_field(buffer: &mut Buffer, field: Option<Field>, text: &[u8], why: NoAnswer)
     requires room { HasRoom longest_reply buffer.old }
     requires fits { length text.now ≤ longest_text }
     ensures text { buffer.new ≡ buffer.old ++ text_with field text.now (reason why) }
-    ensures short { length buffer.new ≤ length buffer.old + longest_text + longest_answer }
+    ensures short { length buffer.new ≤ length buffer.old + longest_text + longest_field }
 {
     match field {
+        Some(field) if field.appends => {
+            push_separated(buffer, field, text);
+            let start = buffer.len();
+            push_reason(buffer, why);
+            end_field(buffer, start, field, false);
+        }
         Some(field) => match cut_field(field, text) {
-            Some((front, _asked, rest)) => {
+            Some((front, part, rest)) => {
+                let quoted = is_quoted(field, part);
                 buffer.push(front);
+                push_quote(buffer, quoted);
+                let start = buffer.len();
                 push_reason(buffer, why);
+                end_field(buffer, start, field, quoted);
                 buffer.push(rest);
             }
             None => buffer.push(text),
@@ -225,19 +250,83 @@ fn push_text(
     ensures answered { (before : ℕ) → number ≡ counted before
         → AppendsAnswer (IsAnswerOf filter.now before text.now) result buffer.old buffer.new }
     ensures same { OnErr result (buffer.new ≡ buffer.old) }
-    ensures short { length buffer.new ≤ length buffer.old + longest_text + longest_answer }
+    ensures short { length buffer.new ≤ length buffer.old + longest_text + longest_field }
 {
     if number < filter.skip {
-        buffer.push(text);
-        return Ok(true);
+        return push_skipped(buffer, filter, number, text);
     }
     match filter.field {
+        Some(field) if field.csv || field.appends => push_in_record(buffer, filter, field, text),
         Some(field) => push_field(buffer, filter, field, text),
         None => push_answer(buffer, filter, text),
     }
 }
 
-/// Appends the text with the answer in place of the field, and returns whether the line goes out.
+/// Appends the text of a skipped line after `number` other lines. The header gets the name of a new
+/// field.
+fn push_skipped(
+    buffer: &mut Buffer,
+    filter: &Filter<'_>,
+    number: u64,
+    text: &[u8],
+) -> Result<bool, NoAnswer>
+    requires room { HasRoom longest_reply buffer.old }
+    requires fits { length text.now ≤ longest_text }
+    ensures answered { (before : ℕ) → number ≡ counted before
+        → AppendsAnswer (λ answer. answer ≡ skipped filter.now before text.now) result buffer.old buffer.new }
+    ensures same { OnErr result (buffer.new ≡ buffer.old) }
+    ensures short { length buffer.new ≤ length buffer.old + longest_text + longest_field }
+{
+    if number == 0 {
+        push_header(buffer, filter.field, &filter.column, text)
+    } else {
+        buffer.push(text);
+        Ok(true)
+    }
+}
+
+/// Appends the text of the header, with the name of a new field if there is one.
+fn push_header(
+    buffer: &mut Buffer,
+    field: Option<Field>,
+    name: &Option<FieldName<'_>>,
+    text: &[u8],
+) -> Result<bool, NoAnswer>
+    requires room { HasRoom longest_reply buffer.old }
+    requires fits { length text.now ≤ longest_text }
+    ensures answered { AppendsAnswer (λ answer. answer ≡ header_with field name.now text.now) result buffer.old buffer.new }
+    ensures same { OnErr result (buffer.new ≡ buffer.old) }
+    ensures short { length buffer.new ≤ length buffer.old + longest_text + longest_field }
+{
+    match (field, name) {
+        (Some(field), Some(name)) => push_name(buffer, field, name.as_bytes(), text),
+        _ => {
+            buffer.push(text);
+            Ok(true)
+        }
+    }
+}
+
+/// Appends the text of the header with the name of a new field.
+fn push_name(buffer: &mut Buffer, field: Field, name: &[u8], text: &[u8]) -> Result<bool, NoAnswer>
+    requires room { HasRoom longest_reply buffer.old }
+    requires fits { length text.now ≤ longest_text }
+    ensures answered { AppendsAnswer (λ answer. answer ≡ with_name field text.now name.now) result buffer.old buffer.new }
+    ensures same { OnErr result (buffer.new ≡ buffer.old) }
+    ensures short { length buffer.new ≤ length buffer.old + longest_text + longest_field }
+{
+    if name.len() > LONGEST_ANSWER {
+        return Err(NoAnswer::TooLong);
+    }
+    push_separated(buffer, field, text);
+    let start = buffer.len();
+    buffer.push(name);
+    end_field(buffer, start, field, false);
+    Ok(true)
+}
+
+/// Appends the text, which isn't a CSV record, with the answer in place of the field, and returns
+/// whether the line goes out.
 #[inline(always)]
 fn push_field(
     buffer: &mut Buffer,
@@ -248,15 +337,17 @@ fn push_field(
     requires room { HasRoom longest_reply buffer.old }
     requires fits { length text.now ≤ longest_text }
     requires field { filter.now.field ≡ Some field }
+    requires plain { field.csv ≡ false }
+    requires in_place { field.appends ≡ false }
     ensures answered { AppendsAnswer (IsAnswerToText filter.now text.now) result buffer.old buffer.new }
-    ensures short { length buffer.new ≤ length buffer.old + longest_text + longest_answer }
+    ensures short { length buffer.new ≤ length buffer.old + longest_text + longest_field }
 {
-    let Some((front, asked, rest)) = cut_field(field, text) else {
+    let Some((front, part, rest)) = cut_field(field, text) else {
         return Err(NoAnswer::NoField);
     };
     let start = buffer.len();
     buffer.push(front);
-    match push_answer(buffer, filter, asked) {
+    match push_answer(buffer, filter, part) {
         Ok(true) => {
             buffer.push(rest);
             Ok(true)
