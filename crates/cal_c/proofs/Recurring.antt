@@ -1,7 +1,7 @@
 -- The parts of a rule, which are read one by one, and its days, which are written one by one.
 use Rattle.std.proofs.Common.{◌≡◌, ◌≢◌, refl, ℕ, ◌+◌, ◌-◌, ◌<◌, ◌≤◌, ap, sym, ◌∙◌, arith, below_more, add-one, List, [], ◌∷◌, ◌++◌, length, get_or, get_or-set_other, get_or-set_same, map, take, drop, drop-cons, length-drop, slice_get, ℤ, pos, Option, Some, None, MatchOption}
 use Rattle.std.proofs.Math.ListN.{set}
-use Rattle.std.proofs.lemmas.List.{map_more, take_more_set}
+use Rattle.std.proofs.lemmas.List.{map_more}
 use Rattle.cal_time.specs.Date.{last_day}
 use Rattle.cal_time.specs.Filters.{first_matching}
 use Rattle.cal_time.specs.Month.{index, month_of_index, number}
@@ -15,9 +15,9 @@ use Rattle.cal_c.specs.Statuses.{invalid_date, invalid_frequency, invalid_weekda
 use Rattle.cal_c.specs.Values.{IsWeekday}
 use Rattle.cal_c.specs.declared.schedule.recurrences.rule_parts.RuleParts.{RuleParts}
 
-pub mapped_more : {A B : Type 0} (f : A → B) (xs : List A) (ys : List B) (i : ℕ) (d : A) (y : B) → i < length xs → i < length ys
-    → take i ys ≡ map f (take i xs) → y ≡ f (get_or xs i d) → take (i + 1) (set ys i y) ≡ map f (take (i + 1) xs)
-mapped_more f xs ys i d y lt room e q = take_more_set ys i y room ∙ (λ k. e k ++ q k ∷ []) ∙ sym (map_more f xs i d lt)
+pub mapped_more : {A B : Type 0} (f : A → B) (xs : List A) (ys zs : List B) (i : ℕ) (d : A) (y : B) → i < length xs
+    → ys ≡ map f (take i xs) → y ≡ f (get_or xs i d) → zs ≡ ys ++ y ∷ [] → zs ≡ map f (take (i + 1) xs)
+mapped_more f xs ys zs i d y lt e q p = p ∙ (λ k. e k ++ q k ∷ []) ∙ sym (map_more f xs i d lt)
 
 pub month_numbered : (m : Month) (k : ℕ) → number m ≡ k → m ≡ month_of_index (k - 1)
 month_numbered m k e = let same : index m ≡ k - 1 = omega (arith, e) in sym (month_of_index-index m) ∙ ap month_of_index same

@@ -1,7 +1,7 @@
 use Rattle.std.proofs.Common.{rules, FitsSigned, w32}
 use Rattle.std.proofs.lemmas.Int.{to_z-of_z}
 use Rattle.cal_c.proofs.Recurring.{refused_dates, refused_frequency, refused_week_start}
-use Rattle.cal_c.proofs.schedule.recurrences.owned_rule.plain_rule_from_parts.Goals as goal
+use Rattle.cal_c.proofs.schedule.recurrences.rule_from_parts.plain_parts.Goals as goal
 
 pub returns-in-None-valid_date-clause-error : goal.returns-in-None-valid_date-clause-error
 returns-in-None-valid_date-clause-error c =
