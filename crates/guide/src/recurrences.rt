@@ -49,10 +49,8 @@ pub fn show(rt: &impl Print) -> io::Result<()> {
         return Ok(());
     };
     let mut last_fridays = Rule::new(start, Frequency::Monthly);
-    last_fridays
-        .pattern
-        .weekdays
-        .push(ByDay::Nth(-1, Weekday::Friday));
+    let last_friday = ByDay::Nth(-1, Weekday::Friday);
+    last_fridays.pattern.weekdays.push(last_friday);
     for day in last_fridays.days().take(12) {
         println!(rt; "{day}")?;
     }
