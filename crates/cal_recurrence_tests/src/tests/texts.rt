@@ -293,7 +293,10 @@ fn read(rt: &impl Abort, text: &str) {
                 "{text}"
             );
             assert!(rt; recurrence.pattern.interval == 2, "{text}");
-            assert!(rt; matches!(recurrence.pattern.week_start, Weekday::Sunday), "{text}");
+            assert!(rt;
+                matches!(recurrence.pattern.week_start, Weekday::Sunday),
+                "{text}"
+            );
             assert!(rt;
                 matches!(
                     recurrence.pattern.months.as_slice(),

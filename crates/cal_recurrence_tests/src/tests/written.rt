@@ -150,7 +150,10 @@ fn printed_and_compared(rt: HostRuntime) {
     let Ok(recurrence) = parse(b"FREQ=DAILY;BYMONTHDAY=1,-1") else {
         panic!(rt; "refused");
     };
-    let shown = format!(in rt.alloc(); "{recurrence:>28}|{recurrence}|{:?}", recurrence.pattern.month_days);
+    let shown = format!(in rt.alloc();
+        "{recurrence:>28}|{recurrence}|{:?}",
+        recurrence.pattern.month_days
+    );
     let Ok(shown) = shown else {
         panic!(rt; "no memory");
     };
