@@ -56,7 +56,7 @@ fn so_many_days(rt: HostRuntime) {
 #[test]
 fn times(rt: HostRuntime) {
     let rt = &rt;
-    let mut rule = rule(rt, Monthly, 2024_01_01);
+    let mut rule = Rule::new(date(rt, 2024_01_01), Monthly);
     rule.pattern.weekdays.push(Nth(-1, Friday));
     let mut last = None;
     let mut count = 0u32;
