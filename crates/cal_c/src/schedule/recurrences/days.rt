@@ -38,7 +38,7 @@ pub extern "C" fn fots_recurrence_days(
         → IsJulianDay start → IsJulianDay from
         → (result ≡ recurrence_ok result.length)
         × AreDatesWritten (filter (nat_le (day_of from)) (days_of its (day_of start)))
-            days.old days.new result.length }
+        days.old days.new result.length }
 {
     let recurrence = or_return!(parse(text), fault => RecurrenceResult::parse_error(fault));
     let (Some(start), Some(from)) = (valid_date(start), valid_date(from)) else {
@@ -70,7 +70,7 @@ fn write_days_from(recurrence: &Recurrence, start: Date, from: Date, days: &mut 
 
 /// Writes the days of an iterator from a date on, as many as fit, and returns their number.
 fn write_late(mut walk: RuleDays, from: Date, days: &mut [i32]) -> usize
-    ensures { AreDatesWritten (filter (nat_le from) walk.entry) days.old days.new result }
+    ensures { AreDatesWritten (filter (nat_le from) walk) days.old days.new result }
 {
     let mut index = 0;
     while index < days.len() {

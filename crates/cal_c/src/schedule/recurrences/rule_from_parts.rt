@@ -14,6 +14,7 @@ use cal_schedule::{Frequency, Pattern, Rule, Values};
 use cal_time::{Date, Weekday};
 
 /// The parts of a rule that are single numbers, except its interval.
+#[derive(Clone, Copy)]
 struct PlainParts {
     start: Date,
     until: Date,

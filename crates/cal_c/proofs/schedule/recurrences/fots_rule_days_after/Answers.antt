@@ -13,5 +13,5 @@ returns-clause-value c = λ h k.
     let new = c.write_days.new.days in (
       c.ok.ensures ∙ ap days_ok (sym count),
       subst (λ ns. AreDatesWritten ns old new c.ok.result.length) (λ i. occurrences_after (c.in-Ok.ensures.value.1 i) (at.1 i))
-          (subst (AreDatesWritten (occurrences_after c.in-Ok.rule c.in-Some.value) old new) (sym count) c.write_days.ensures),
+          (subst (AreDatesWritten (occurrences_after c.in-Ok.value c.in-Some.value) old new) (sym count) c.write_days.ensures),
     )
