@@ -2,8 +2,7 @@
 use Rattle.std.proofs.Common.{◌≡◌, ℕ, ap, ◌∙◌, sym, arith, subst, filter, nat_le, length, List, ℤ, pos, Option, Some, None, SomeIff, Result, Ok, Err, ◌⊎◌, inl, inr}
 use Rattle.std.proofs.lemmas.Bool.{cases_lt}
 use Rattle.std.proofs.lemmas.List.{ext_get_or}
-use Rattle.cal_recurrence.proofs.OneAnswer.{days-one}
-use Rattle.cal_recurrence.specs.Days.{AreDays}
+use Rattle.cal_recurrence.specs.Days.{days_of}
 use Rattle.cal_recurrence.specs.Text.{recurrence_of}
 use Rattle.cal_recurrence.specs.declared.fault.ParseRuleError.{ParseRuleError}
 use Rattle.cal_recurrence.specs.declared.recurrence.Recurrence.{Recurrence}
@@ -31,15 +30,12 @@ written-one ns old a b n m lengths p q =
 -- the last clause of a call, of a recurrence and two dates
 abbrev pub IsAnswer : Recurrence → ℤ → ℤ → List ℤ → List ℤ → RecurrenceResult → Type 0
 IsAnswer its start from old new r =
-    (all : List ℕ) × AreDays its (day_of start) all × (r ≡ recurrence_ok r.length)
-    × AreDatesWritten (filter (nat_le (day_of from)) all) old new r.length
+    (r ≡ recurrence_ok r.length) × AreDatesWritten (filter (nat_le (day_of from)) (days_of its (day_of start))) old new r.length
 
 answer-one : (its : Recurrence) (start from : ℤ) (old a b : List ℤ) (r s : RecurrenceResult) → length a ≡ length b
     → IsAnswer its start from old a r → IsAnswer its start from old b s → (r ≡ s) × (a ≡ b)
-answer-one its start from old a b r s lengths (xs, p, e, v) (ys, q, f, w) =
-    let same = days-one its (day_of start) ys xs q p in
-    let both = written-one (filter (nat_le (day_of from)) xs) old a b r.length s.length lengths v
-    (subst (λ days. AreDatesWritten (filter (nat_le (day_of from)) days) old b s.length) same w) in
+answer-one its start from old a b r s lengths (e, v) (f, w) =
+    let both = written-one _ old a b r.length s.length lengths v w in
     (e ∙ ap recurrence_ok both.0 ∙ sym f, both.1)
 
 -- all of them

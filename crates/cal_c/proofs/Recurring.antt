@@ -1,26 +1,32 @@
 -- The parts of a rule, which are read one by one, and its days, which are written one by one.
 use Rattle.std.proofs.Common.{◌≡◌, ◌≢◌, refl, ℕ, ◌+◌, ◌-◌, ◌<◌, ◌≤◌, ap, sym, ◌∙◌, arith, below_more, add-one, List, [], ◌∷◌, ◌++◌, length, get_or, get_or-set_other, get_or-set_same, map, take, drop, drop-cons, length-drop, slice_get, ℤ, pos, Option, Some, None, MatchOption}
 use Rattle.std.proofs.Math.ListN.{set}
-use Rattle.std.proofs.lemmas.List.{map_more, take_more_set}
+use Rattle.std.proofs.lemmas.List.{map_more}
 use Rattle.cal_time.specs.Date.{last_day}
 use Rattle.cal_time.specs.Filters.{first_matching}
 use Rattle.cal_time.specs.Month.{index, month_of_index, number}
 use Rattle.cal_time.specs.MonthCycle.{month_of_index-index}
+use Rattle.cal_time.specs.Weekday as weekdays
+use Rattle.cal_time.specs.WeekdayCycle.{weekday_of_index-index}
 use Rattle.cal_time.specs.declared.Month.{Month}
+use Rattle.cal_time.specs.declared.Weekday.{Weekday}
 use Rattle.cal_schedule.specs.declared.rule.rule.Rule.{Rule}
 use Rattle.cal_schedule.specs.Rule.{occurrences_after, is_occurrence}
 use Rattle.cal_schedule.proofs.Rules.{left_of}
-use Rattle.cal_c.specs.Recurrences.{AreDates, IsFrequency, IsRule, IsRuleStatus}
-use Rattle.cal_c.specs.Statuses.{invalid_date, invalid_frequency, invalid_weekday}
+use Rattle.cal_c.specs.Recurrences.{AreDates, AreListsShort, AreMonths, ArePlain, AreWeekdays, IsFrequency, IsRule, IsRuleStatus}
+use Rattle.cal_c.specs.Statuses.{invalid_date, invalid_frequency, invalid_weekday, month_status}
 use Rattle.cal_c.specs.Values.{IsWeekday}
 use Rattle.cal_c.specs.declared.schedule.recurrences.rule_parts.RuleParts.{RuleParts}
 
-pub mapped_more : {A B : Type 0} (f : A → B) (xs : List A) (ys : List B) (i : ℕ) (d : A) (y : B) → i < length xs → i < length ys
-    → take i ys ≡ map f (take i xs) → y ≡ f (get_or xs i d) → take (i + 1) (set ys i y) ≡ map f (take (i + 1) xs)
-mapped_more f xs ys i d y lt room e q = take_more_set ys i y room ∙ (λ k. e k ++ q k ∷ []) ∙ sym (map_more f xs i d lt)
+pub mapped_more : {A B : Type 0} (f : A → B) (xs : List A) (ys zs : List B) (i : ℕ) (d : A) (y : B) → i < length xs
+    → ys ≡ map f (take i xs) → y ≡ f (get_or xs i d) → zs ≡ ys ++ y ∷ [] → zs ≡ map f (take (i + 1) xs)
+mapped_more f xs ys zs i d y lt e q p = p ∙ (λ k. e k ++ q k ∷ []) ∙ sym (map_more f xs i d lt)
 
 pub month_numbered : (m : Month) (k : ℕ) → number m ≡ k → m ≡ month_of_index (k - 1)
 month_numbered m k e = let same : index m ≡ k - 1 = omega (arith, e) in sym (month_of_index-index m) ∙ ap month_of_index same
+
+pub weekday_numbered : (w : Weekday) (k : ℕ) → weekdays.index w + 1 ≡ k → w ≡ weekdays.weekday_of_index (k - 1)
+weekday_numbered w k e = let same : weekdays.index w ≡ k - 1 = omega (arith, e) in sym (weekday_of_index-index w) ∙ ap weekdays.weekday_of_index same
 
 -- The status of the first invalid part.
 pub refused_dates : (p : RuleParts) → ¬ AreDates p → (¬ IsRule p) × IsRuleStatus p invalid_date
@@ -59,6 +65,33 @@ refused_week_start p dates frequency out = (
     few = λ a n. absurd (out a.week_start);
     months = λ a l n. absurd (out a.week_start);
     weekdays = λ a l m n. absurd (out a.week_start);
+  },
+)
+
+pub refused_months : (p : RuleParts) → ArePlain p → AreListsShort p → ¬ AreMonths p.months.now → (¬ IsRule p) × IsRuleStatus p month_status
+refused_months p plain short out = (
+  λ is. out is.months,
+  record {
+    dates = λ n. absurd (n plain.dates);
+    frequency = λ d n. absurd (n plain.frequency);
+    week_start = λ d f n. absurd (n plain.week_start);
+    few = λ a n. absurd (n short);
+    months = λ a l n. refl;
+    weekdays = λ a l m n. absurd (out m);
+  },
+)
+
+pub refused_weekdays : (p : RuleParts) → ArePlain p → AreListsShort p → AreMonths p.months.now → ¬ AreWeekdays p.weekdays.now
+    → (¬ IsRule p) × IsRuleStatus p invalid_weekday
+refused_weekdays p plain short months out = (
+  λ is. out is.weekdays,
+  record {
+    dates = λ n. absurd (n plain.dates);
+    frequency = λ d n. absurd (n plain.frequency);
+    week_start = λ d f n. absurd (n plain.week_start);
+    few = λ a n. absurd (n short);
+    months = λ a l n. absurd (n months);
+    weekdays = λ a l m n. refl;
   },
 )
 

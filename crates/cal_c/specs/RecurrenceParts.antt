@@ -45,23 +45,23 @@ filled x xs = xs ++ replicate (62 - length xs) x
 -- The parts of a recurrence.
 abbrev pub parts_of : Recurrence → RecurrenceParts
 parts_of r = record {
-  frequency = frequency_number r.frequency;
-  interval = r.interval;
-  week_start = index r.week_start + 1;
+  frequency = frequency_number r.pattern.frequency;
+  interval = r.pattern.interval;
+  week_start = index r.pattern.week_start + 1;
   until = until_in r.end;
   count = count_in r.end;
-  months_length = length r.months;
-  weeks_length = length r.weeks;
-  year_days_length = length r.year_days;
-  month_days_length = length r.month_days;
-  weekdays_length = length r.weekdays;
-  set_positions_length = length r.set_positions;
-  months = filled 0 (map number r.months);
-  weeks = filled (pos 0) r.weeks;
-  year_days = filled (pos 0) r.year_days;
-  month_days = filled (pos 0) r.month_days;
-  weekdays = filled no_weekday (map parts_of_weekday r.weekdays);
-  set_positions = filled (pos 0) r.set_positions;
+  months_length = length r.pattern.months;
+  weeks_length = length r.pattern.weeks;
+  year_days_length = length r.pattern.year_days;
+  month_days_length = length r.pattern.month_days;
+  weekdays_length = length r.pattern.weekdays;
+  set_positions_length = length r.pattern.set_positions;
+  months = filled 0 (map number r.pattern.months);
+  weeks = filled (pos 0) r.pattern.weeks;
+  year_days = filled (pos 0) r.pattern.year_days;
+  month_days = filled (pos 0) r.pattern.month_days;
+  weekdays = filled no_weekday (map parts_of_weekday r.pattern.weekdays);
+  set_positions = filled (pos 0) r.pattern.set_positions;
 }
 
 -- The parts for an error.

@@ -1,18 +1,21 @@
 -- Recurrence rules with the parts that C passes.
-use Rattle.std.specs.Prelude.{◌≡◌, ℕ, zero, ◌+◌, ◌-◌, ◌<◌, ◌≤◌, min, ℤ, pos, List, All, get_or, length, map, Some}
+use Rattle.std.specs.Prelude.{◌≡◌, ℕ, zero, ◌+◌, ◌-◌, ◌<◌, ◌≤◌, min, ℤ, pos, List, [], ◌∷◌, All, get_or, length, map, slice_index_or, Some}
 use Rattle.cal_time.specs.Date.{julian_day_at}
+use Rattle.cal_schedule.specs.Pattern.{rule_of}
+use Rattle.cal_schedule.specs.Values.{most_values}
+use Rattle.cal_schedule.specs.declared.rule.pattern.Pattern.{Pattern}
 use Rattle.cal_schedule.specs.declared.rule.rule.ByDay.{ByDay}
 use Rattle.cal_schedule.specs.declared.rule.rule.ByDay.TheVariants.{Every, Nth}
 use Rattle.cal_schedule.specs.declared.rule.rule.Frequency.{Frequency}
 use Rattle.cal_schedule.specs.declared.rule.rule.Frequency.TheVariants.{Daily, Weekly, Monthly, Yearly}
 use Rattle.cal_schedule.specs.declared.rule.rule.Rule.{Rule}
-use Rattle.cal_recurrence.specs.Values.{most_values}
 use Rattle.cal_time.specs.Month.{month_of_index}
-use Rattle.cal_time.specs.Weekday.{index, weekday_of_index}
+use Rattle.cal_time.specs.Weekday.{weekday_of_index}
 use Rattle.cal_time.specs.declared.Month.{Month}
 use Rattle.cal_time.specs.declared.Weekday.{Weekday}
 use Rattle.cal_c.specs.Statuses.{invalid_date, invalid_frequency, invalid_weekday, ok_status, too_many_parts, month_status}
 use Rattle.cal_c.specs.Values.{IsJulianDay, IsMonth, IsWeekday, day_of}
+use Rattle.cal_c.specs.declared.schedule.recurrences.rule_from_parts.PlainParts.{PlainParts}
 use Rattle.cal_c.specs.declared.schedule.recurrences.rule_parts.RuleParts.{RuleParts}
 use Rattle.cal_c.specs.declared.schedule.recurrences.rule_parts.RuleWeekday.{RuleWeekday}
 use Rattle.cal_c.specs.declared.schedule.results.DaysResult.{DaysResult}
@@ -26,6 +29,10 @@ frequency_number Yearly = 4
 
 abbrev pub IsFrequency : ℕ → Type 0
 IsFrequency k = (1 ≤ k) × (k ≤ 4)
+
+-- The frequency with a number.
+abbrev pub frequency_in : ℕ → Frequency
+frequency_in k = slice_index_or (Daily ∷ Weekly ∷ Monthly ∷ Yearly ∷ []) (k - 1) Yearly
 
 -- The months with these numbers.
 abbrev pub months_in : List ℕ → List Month
@@ -82,23 +89,26 @@ pub record IsRuleStatus (p : RuleParts) (s : ℤ) : Type 0 where
   pub months : ArePlain p → AreListsShort p → ¬ AreMonths p.months.now → s ≡ month_status
   pub weekdays : ArePlain p → AreListsShort p → AreMonths p.months.now → ¬ AreWeekdays p.weekdays.now → s ≡ invalid_weekday
 
--- The rule has the parts p, except its months and weekdays.
-pub record IsPlainRuleFromParts (p : RuleParts) (rule : Rule) : Type 0 where
-  pub start : rule.start ≡ day_of p.start
-  pub until : rule.until ≡ Some (day_of p.until)
-  pub frequency : frequency_number rule.frequency ≡ p.frequency
-  pub interval : rule.interval ≡ p.interval
-  pub week_start : index rule.week_start + 1 ≡ p.week_start
-  pub weeks : rule.weeks.now ≡ p.weeks.now
-  pub year_days : rule.year_days.now ≡ p.year_days.now
-  pub month_days : rule.month_days.now ≡ p.month_days.now
-  pub set_positions : rule.set_positions.now ≡ p.set_positions.now
+-- The parts p that are single numbers, except the interval.
+abbrev pub plain_in : RuleParts → PlainParts
+plain_in p = record { start = day_of p.start; until = day_of p.until; frequency = frequency_in p.frequency; week_start = weekday_of_index (p.week_start - 1) }
 
--- The rule has the parts p.
-pub record IsRuleFromParts (p : RuleParts) (rule : Rule) : Type 0 where
-  pub plain : IsPlainRuleFromParts p rule
-  pub months : rule.months.now ≡ months_in p.months.now
-  pub weekdays : rule.weekdays.now ≡ weekdays_in p.weekdays.now
+-- The rule with the parts p.
+abbrev pub pattern_in : RuleParts → Pattern
+pattern_in p = record {
+  frequency = frequency_in p.frequency;
+  interval = p.interval;
+  week_start = weekday_of_index (p.week_start - 1);
+  months = months_in p.months.now;
+  weeks = p.weeks.now;
+  year_days = p.year_days.now;
+  month_days = p.month_days.now;
+  weekdays = weekdays_in p.weekdays.now;
+  set_positions = p.set_positions.now;
+}
+
+abbrev pub rule_in : RuleParts → Rule
+rule_in p = rule_of (pattern_in p) (day_of p.start) (Some (day_of p.until))
 
 -- The result with a number of days written.
 abbrev pub days_ok : ℕ → DaysResult

@@ -1,6 +1,6 @@
 -- A parsed recurrence is spelled: each value is a value of its part.
 use Rattle.std.proofs.Common.{◌≡◌, ℕ, zero, suc, ◌+◌, ◌-◌, ◌/◌, ◌%◌, ◌<◌, ◌≤◌, Bool, true, false, cond, eqb, List, [], ◌∷◌, length, take, drop, slice_index_or, Option, Some, None, Result, Ok, Err, ℤ, pos, refl, sym, ap, ◌∙◌, subst, arith}
-use Rattle.std.specs.Prelude.{⊤, nat_le, nat_lt, neg_ℤ, slice_index, option_map, option_and_then, is_some, unwrap_or, ◌&&◌, IfSome, IfOk, ◌≤ℤ◌}
+use Rattle.std.specs.Prelude.{⊤, nat_le, nat_lt, neg_ℤ, slice_index, option_map, option_and_then, not, ◌&&◌, IfSome, IfOk, ◌≤ℤ◌}
 use Rattle.std.specs.List.{All}
 use Rattle.std.specs.Option.{option_map_or, option_zip}
 use Rattle.std.specs.Str.Parse.{digits_value}
@@ -12,21 +12,19 @@ use Rattle.std.proofs.lemmas.Str.Parse.{digits_value_short}
 use Rattle.cal_time.specs.Date.{last_day, year_at}
 use Rattle.cal_time.specs.Filters.{IsFirstDay, first_matching}
 use Rattle.cal_time.specs.declared.Weekday.{Weekday}
-use Rattle.cal_schedule.specs.declared.rule.rule.Frequency.{Frequency}
 use Rattle.cal_schedule.specs.declared.rule.rule.ByDay.TheVariants.{Every, Nth}
 use Rattle.cal_recurrence.specs.Days.{excluded, ranks_alone}
 use Rattle.cal_recurrence.specs.Spelled.{IsCount, IsIndex, IsMonthDay, IsByDay, IsPosition, IsWeek, IsEnd, IsSpelled}
-use Rattle.cal_recurrence.specs.Text.{fault, each, list_of, has_few_words, fresh, changed, put, put_value, put_part, with_frequency, and_on, read_on, nothing}
-use Rattle.cal_recurrence.specs.Values.{most_values}
+use Rattle.cal_recurrence.specs.Text.{fault, each, list_of, has_few_words, is_given, put, put_value, put_part, and_on, read_on, nothing}
 use Rattle.cal_recurrence.specs.Words.{bytes_after, first_bytes, is_time, parts_at, front_at, rest_at, part_of, frequency_of, is_number, number_of, from_one_to, count_of, short_count_of, index_of, weekday_of, month_of, month_day_of, week_of, by_day_of, position_of, has_digits, day_with, date_of}
 use Rattle.cal_recurrence.specs.declared.draft.Draft.{Draft}
 use Rattle.cal_recurrence.specs.declared.fault.ParseRuleError.{ParseRuleError}
 use Rattle.cal_recurrence.specs.declared.fault.ParseRuleErrorKind.{ParseRuleErrorKind}
-use Rattle.cal_recurrence.specs.declared.fault.ParseRuleErrorKind.TheVariants.{Unknown, TooMany, Missing}
+use Rattle.cal_recurrence.specs.declared.fault.ParseRuleErrorKind.TheVariants.{Unknown, Twice, TooMany, Value, Missing}
 use Rattle.cal_recurrence.specs.declared.fault.RulePart.{RulePart}
 use Rattle.cal_recurrence.specs.declared.fault.RulePart.TheVariants as part
 use Rattle.cal_recurrence.specs.declared.recurrence.Recurrence.{Recurrence}
-use Rattle.cal_recurrence.specs.declared.recurrence.RuleEnd.TheVariants.{Never, Until, Count}
+use Rattle.cal_recurrence.specs.declared.recurrence.RuleEnd.TheVariants.{Until}
 use Rattle.cal_recurrence.proofs.Dates.{has_them}
 use Rattle.cal_recurrence.proofs.Numbers.{digits, is_numeral}
 
@@ -48,10 +46,6 @@ if_there : {X Y : Type 0} (P : X → Type 0) (Q : Y → Type 0) (f : X → Optio
     → IfSome o P → IfSome (option_and_then f o) Q
 if_there P Q f None h k = tt
 if_there P Q f (Some x) h k = h x k
-
-or_else : {X : Type 0} (P : X → Type 0) (o : Option X) (x : X) → IfSome o P → P x → P (unwrap_or o x)
-or_else P None x h k = k
-or_else P (Some y) x h k = h
 
 any : {X : Type 0} (o : Option X) → IfSome o (λ x. ⊤)
 any None = tt
@@ -140,106 +134,62 @@ dates word =
     (numbers (first_bytes 8 word) (omega (arith, length-first 8 word)))) tt)
 
 -- ---- lists
-abbrev AreValues : {X : Type 0} → (X → Type 0) → ℕ → List X → Type 0
-AreValues P count xs = (length xs ≡ count) × All P xs
+all-none : {X : Type 0} (P : X → Type 0) → All P []
+all-none P k d less = absurd (omega (arith, less))
 
 all-cons : {X : Type 0} (P : X → Type 0) (x : X) (xs : List X) → P x → All P xs → (k : ℕ) (d : X) → k < length (x ∷ xs)
     → P (slice_index_or (x ∷ xs) k d)
 all-cons P x xs p h zero d less = p
 all-cons P x xs p h (suc k) d less = h k d (omega (arith, less))
 
-one-more : {X : Type 0} (P : X → Type 0) (count : ℕ) (o : Option X) (p : Option (List X)) → IfSome o P → IfSome p (AreValues P count)
-    → IfSome (option_map (λ both. both.0 ∷ both.1) (option_zip o p)) (AreValues P (suc count))
-one-more P count None p h k = tt
-one-more P count (Some x) None h k = tt
-one-more P count (Some x) (Some xs) h k = (omega (arith, k.0), all-cons P x xs h k.1)
+one-more : {X : Type 0} (P : X → Type 0) (o : Option X) (p : Option (List X)) → IfSome o P → IfSome p (All P)
+    → IfSome (option_map (λ both. both.0 ∷ both.1) (option_zip o p)) (All P)
+one-more P None p h k = tt
+one-more P (Some x) None h k = tt
+one-more P (Some x) (Some xs) h k = all-cons P x xs h k
 
 each-is : {X : Type 0} (P : X → Type 0) (meaning : List ℕ → Option X) → ((word : List ℕ) → IfSome (meaning word) P)
-    → (words : List (List ℕ)) → IfSome (each meaning words) (AreValues P (length words))
-each-is P meaning h [] = (refl, λ k d less. absurd (omega (arith, less)))
-each-is P meaning h (word ∷ words) = one-more P (length words) (meaning word) (each meaning words) (h word) (each-is P meaning h words)
-
-abbrev AreFew : {X : Type 0} → (X → Type 0) → List X → Type 0
-AreFew P xs = (length xs ≤ most_values) × All P xs
+    → (words : List (List ℕ)) → IfSome (each meaning words) (All P)
+each-is P meaning h [] = all-none P
+each-is P meaning h (word ∷ words) = one-more P (meaning word) (each meaning words) (h word) (each-is P meaning h words)
 
 list-is : {X : Type 0} (P : X → Type 0) (meaning : List ℕ → Option X) → ((word : List ℕ) → IfSome (meaning word) P)
-    → (value : List ℕ) → has_few_words value ≡ true → IfSome (list_of meaning value) (AreFew P)
-list-is {X = X} P meaning h value few = fewer (list_of meaning value) (each-is P meaning h (parts_at 44 value))
-  where
-    least : length (parts_at 44 value) ≤ most_values
-    least = grind (arith, nat_tests, few)
-
-    fewer : (o : Option (List X)) → IfSome o (AreValues P (length (parts_at 44 value))) → IfSome o (AreFew P)
-    fewer None k = tt
-    fewer (Some xs) k = (omega (arith, k.0, least), k.1)
+    → (value : List ℕ) → IfSome (list_of meaning value) (All P)
+list-is P meaning h value = each-is P meaning h (parts_at 44 value)
 
 -- ---- parts
-record IsDraft (d : Draft) : Type 0 where
-  interval : IfSome d.interval IsCount
-  months : IfSome d.months (AreFew (λ month. ⊤))
-  weeks : IfSome d.weeks (AreFew IsWeek)
-  year_days : IfSome d.year_days (AreFew IsPosition)
-  month_days : IfSome d.month_days (AreFew IsMonthDay)
-  weekdays : IfSome d.weekdays (AreFew IsByDay)
-  set_positions : IfSome d.set_positions (AreFew IsPosition)
-  end : IfSome d.end IsEnd
+record IsRead (r : Recurrence) : Type 0 where
+  interval : IsCount r.pattern.interval
+  weeks : All IsWeek r.pattern.weeks
+  year_days : All IsPosition r.pattern.year_days
+  month_days : All IsMonthDay r.pattern.month_days
+  weekdays : All IsByDay r.pattern.weekdays
+  set_positions : All IsPosition r.pattern.set_positions
+  end : IsEnd r.end
 
-is-put : {X : Type 0} (P : X → Type 0) (at : RulePart) (there : Bool) (o : Option X) (to : X → Draft) → IfSome o P
-    → ((x : X) → P x → IsDraft (to x))
-    → IfOk (changed to (fresh at there o)) IsDraft
-is-put P at true o to h k = tt
-is-put P at false None to h k = tt
-is-put P at false (Some x) to h k = k x h
+abbrev IsDraft : Draft → Type 0
+IsDraft d = IsRead d.recurrence
 
-put-is : (d : Draft) (at : RulePart) (value : List ℕ) → IsDraft d → has_few_words value ≡ true → IfOk (put d at value) IsDraft
-put-is d part.Frequency value h few =
-    is-put (λ x. ⊤) part.Frequency (is_some d.frequency) (frequency_of value) (λ x. record d { frequency = Some x })
-    (any (frequency_of value))
-    (λ x p. record { interval = h.interval; months = h.months; weeks = h.weeks; year_days = h.year_days; month_days = h.month_days; weekdays = h.weekdays; set_positions = h.set_positions; end = h.end })
-put-is d part.Interval value h few =
-    is-put (IsCount) part.Interval (is_some d.interval) (count_of 4294967295 value) (λ x. record d { interval = Some x })
-    (counts value)
-    (λ x p. record { interval = p; months = h.months; weeks = h.weeks; year_days = h.year_days; month_days = h.month_days; weekdays = h.weekdays; set_positions = h.set_positions; end = h.end })
-put-is d part.WeekStart value h few =
-    is-put (λ x. ⊤) part.WeekStart (is_some d.week_start) (weekday_of value) (λ x. record d { week_start = Some x })
-    (any (weekday_of value))
-    (λ x p. record { interval = h.interval; months = h.months; weeks = h.weeks; year_days = h.year_days; month_days = h.month_days; weekdays = h.weekdays; set_positions = h.set_positions; end = h.end })
-put-is d part.Months value h few =
-    is-put (AreFew (λ month. ⊤)) part.Months (is_some d.months) (list_of month_of value) (λ x. record d { months = Some x })
-    (list-is (λ month. ⊤) month_of (λ word. any (month_of word)) value few)
-    (λ x p. record { interval = h.interval; months = p; weeks = h.weeks; year_days = h.year_days; month_days = h.month_days; weekdays = h.weekdays; set_positions = h.set_positions; end = h.end })
-put-is d part.Weeks value h few =
-    is-put (AreFew IsWeek) part.Weeks (is_some d.weeks) (list_of week_of value) (λ x. record d { weeks = Some x })
-    (list-is IsWeek week_of (indexed 2 53) value few)
-    (λ x p. record { interval = h.interval; months = h.months; weeks = p; year_days = h.year_days; month_days = h.month_days; weekdays = h.weekdays; set_positions = h.set_positions; end = h.end })
-put-is d part.YearDays value h few =
-    is-put (AreFew IsPosition) part.YearDays (is_some d.year_days) (list_of position_of value) (λ x. record d { year_days = Some x })
-    (list-is IsPosition position_of (indexed 3 366) value few)
-    (λ x p. record { interval = h.interval; months = h.months; weeks = h.weeks; year_days = p; month_days = h.month_days; weekdays = h.weekdays; set_positions = h.set_positions; end = h.end })
-put-is d part.MonthDays value h few =
-    is-put (AreFew IsMonthDay) part.MonthDays (is_some d.month_days) (list_of month_day_of value) (λ x. record d { month_days = Some x })
-    (list-is IsMonthDay month_day_of (indexed 2 31) value few)
-    (λ x p. record { interval = h.interval; months = h.months; weeks = h.weeks; year_days = h.year_days; month_days = p; weekdays = h.weekdays; set_positions = h.set_positions; end = h.end })
-put-is d part.Weekdays value h few =
-    is-put (AreFew IsByDay) part.Weekdays (is_some d.weekdays) (list_of by_day_of value) (λ x. record d { weekdays = Some x })
-    (list-is IsByDay by_day_of by_days value few)
-    (λ x p. record { interval = h.interval; months = h.months; weeks = h.weeks; year_days = h.year_days; month_days = h.month_days; weekdays = p; set_positions = h.set_positions; end = h.end })
-put-is d part.Positions value h few =
-    is-put (AreFew IsPosition) part.Positions (is_some d.set_positions) (list_of position_of value) (λ x. record d { set_positions = Some x })
-    (list-is IsPosition position_of (indexed 3 366) value few)
-    (λ x p. record { interval = h.interval; months = h.months; weeks = h.weeks; year_days = h.year_days; month_days = h.month_days; weekdays = h.weekdays; set_positions = p; end = h.end })
-put-is d part.Until value h few =
-    is-put (λ day. IsEnd (Until day)) part.Until (is_some d.end) (date_of value) (λ x. record d { end = Some (Until x) })
-    (dates value)
-    (λ x p. record { interval = h.interval; months = h.months; weeks = h.weeks; year_days = h.year_days; month_days = h.month_days; weekdays = h.weekdays; set_positions = h.set_positions; end = p })
-put-is d part.Count value h few =
-    is-put (IsCount) part.Count (is_some d.end) (count_of 4294967295 value) (λ x. record d { end = Some (Count x) })
-    (counts value)
-    (λ x p. record { interval = h.interval; months = h.months; weeks = h.weeks; year_days = h.year_days; month_days = h.month_days; weekdays = h.weekdays; set_positions = h.set_positions; end = p })
+put-is : (d : Draft) (at : RulePart) (value : List ℕ) → IsDraft d → IfSome (put d at value) IsDraft
+put-is d part.Frequency value h = mapped (λ x. ⊤) IsDraft _ (frequency_of value) (λ x p. record { interval = h.interval; weeks = h.weeks; year_days = h.year_days; month_days = h.month_days; weekdays = h.weekdays; set_positions = h.set_positions; end = h.end }) (any (frequency_of value))
+put-is d part.Interval value h = mapped IsCount IsDraft _ (count_of 4294967295 value) (λ x p. record { interval = p; weeks = h.weeks; year_days = h.year_days; month_days = h.month_days; weekdays = h.weekdays; set_positions = h.set_positions; end = h.end }) (counts value)
+put-is d part.WeekStart value h = mapped (λ x. ⊤) IsDraft _ (weekday_of value) (λ x p. record { interval = h.interval; weeks = h.weeks; year_days = h.year_days; month_days = h.month_days; weekdays = h.weekdays; set_positions = h.set_positions; end = h.end }) (any (weekday_of value))
+put-is d part.Months value h = mapped (λ x. ⊤) IsDraft _ (list_of month_of value) (λ x p. record { interval = h.interval; weeks = h.weeks; year_days = h.year_days; month_days = h.month_days; weekdays = h.weekdays; set_positions = h.set_positions; end = h.end }) (any (list_of month_of value))
+put-is d part.Weeks value h = mapped (All IsWeek) IsDraft _ (list_of week_of value) (λ x p. record { interval = h.interval; weeks = p; year_days = h.year_days; month_days = h.month_days; weekdays = h.weekdays; set_positions = h.set_positions; end = h.end }) (list-is IsWeek week_of (indexed 2 53) value)
+put-is d part.YearDays value h = mapped (All IsPosition) IsDraft _ (list_of position_of value) (λ x p. record { interval = h.interval; weeks = h.weeks; year_days = p; month_days = h.month_days; weekdays = h.weekdays; set_positions = h.set_positions; end = h.end }) (list-is IsPosition position_of (indexed 3 366) value)
+put-is d part.MonthDays value h = mapped (All IsMonthDay) IsDraft _ (list_of month_day_of value) (λ x p. record { interval = h.interval; weeks = h.weeks; year_days = h.year_days; month_days = p; weekdays = h.weekdays; set_positions = h.set_positions; end = h.end }) (list-is IsMonthDay month_day_of (indexed 2 31) value)
+put-is d part.Weekdays value h = mapped (All IsByDay) IsDraft _ (list_of by_day_of value) (λ x p. record { interval = h.interval; weeks = h.weeks; year_days = h.year_days; month_days = h.month_days; weekdays = p; set_positions = h.set_positions; end = h.end }) (list-is IsByDay by_day_of by_days value)
+put-is d part.Positions value h = mapped (All IsPosition) IsDraft _ (list_of position_of value) (λ x p. record { interval = h.interval; weeks = h.weeks; year_days = h.year_days; month_days = h.month_days; weekdays = h.weekdays; set_positions = p; end = h.end }) (list-is IsPosition position_of (indexed 3 366) value)
+put-is d part.Until value h = mapped (λ day. IsEnd (Until day)) IsDraft _ (date_of value) (λ x p. record { interval = h.interval; weeks = h.weeks; year_days = h.year_days; month_days = h.month_days; weekdays = h.weekdays; set_positions = h.set_positions; end = p }) (dates value)
+put-is d part.Count value h = mapped IsCount IsDraft _ (count_of 4294967295 value) (λ x p. record { interval = h.interval; weeks = h.weeks; year_days = h.year_days; month_days = h.month_days; weekdays = h.weekdays; set_positions = h.set_positions; end = p }) (counts value)
 
-ok-if : {E : Type 0} (b : Bool) (r : Result Draft E) (why : E) → (b ≡ true → IfOk r IsDraft) → IfOk (cond b r (Err why)) IsDraft
-ok-if true r why h = h refl
-ok-if false r why h = tt
+or-err : {E : Type 0} (o : Option Draft) (why : E) → IfSome o IsDraft → IfOk (option_map_or Ok o (Err why)) IsDraft
+or-err None why h = tt
+or-err (Some d) why h = h
+
+err-if : {E : Type 0} (b : Bool) (why : E) (r : Result Draft E) → IfOk r IsDraft → IfOk (cond b (Err why) r) IsDraft
+err-if true why r h = tt
+err-if false why r h = h
 
 known : {E : Type 0} (f : RulePart → Result Draft E) (at : Option RulePart) (why : E) → ((p : RulePart) → IfOk (f p) IsDraft)
     → IfOk (option_map_or f at (Err why)) IsDraft
@@ -250,45 +200,12 @@ part-is : (d : Draft) (text : List ℕ) → IsDraft d → IfOk (put_part d text)
 part-is d text h =
     let value = rest_at 61 text in
     known (put_value d value) (part_of (front_at 61 text)) Unknown
-    (λ at. ok-if (has_few_words value) (put d at value) (TooMany at) (put-is d at value h))
+    (λ at. err-if (not (has_few_words value)) (TooMany at) _ (err-if (is_given d at) (Twice at) _ (or-err (put d at value) (Value at) (put-is d at value h))))
 
 -- ---- the whole
--- A recurrence whose parts are spelled. `checked` adds that its positions rank something.
-record IsRead (r : Recurrence) : Type 0 where
-  spelled : excluded r ≡ None → ranks_alone r ≡ false → IsSpelled r
-
-spelled : (d : Draft) (f : Frequency) → IsDraft d → IsRead (with_frequency d f)
-spelled d f h =
-    let months = or_else (AreFew (λ month. ⊤)) d.months [] h.months (omega arith, λ k x less. absurd (omega (arith, less))) in
-    let weeks = or_else (AreFew IsWeek) d.weeks [] h.weeks (omega arith, λ k x less. absurd (omega (arith, less))) in
-    let year_days = or_else (AreFew IsPosition) d.year_days [] h.year_days (omega arith, λ k x less. absurd (omega (arith, less))) in
-    let month_days = or_else (AreFew IsMonthDay) d.month_days [] h.month_days (omega arith, λ k x less. absurd (omega (arith, less))) in
-    let weekdays = or_else (AreFew IsByDay) d.weekdays [] h.weekdays (omega arith, λ k x less. absurd (omega (arith, less))) in
-    let positions = or_else (AreFew IsPosition) d.set_positions [] h.set_positions (omega arith, λ k x less. absurd (omega (arith, less))) in
-    record {
-      spelled = λ allowed ranked. record {
-        interval = or_else IsCount d.interval 1 h.interval (omega arith, omega arith);
-        months = months.0;
-        weeks = weeks.0;
-        year_days = year_days.0;
-        month_days = month_days.0;
-        weekdays = weekdays.0;
-        set_positions = positions.0;
-        each_week = weeks.1;
-        each_year_day = year_days.1;
-        each_month_day = month_days.1;
-        each_weekday = weekdays.1;
-        each_position = positions.1;
-        allowed = allowed;
-        ranked = ranked;
-        end = or_else IsEnd d.end Never h.end tt;
-      };
-    }
-
-with-one : (d : Draft) (why : ParseRuleError) (f : Option Frequency) → IsDraft d
-    → IfOk (option_map_or (λ f. Ok (with_frequency d f)) f (Err why)) IsRead
-with-one d why None h = tt
-with-one d why (Some f) h = spelled d f h
+with-one : (d : Draft) (why : ParseRuleError) (b : Bool) → IsDraft d → IfOk (cond b (Ok d.recurrence) (Err why)) IsRead
+with-one d why true h = h
+with-one d why false h = tt
 
 next : (at : ℕ) (others : Draft → Result Recurrence ParseRuleError) (r : Result Draft ParseRuleErrorKind) → IfOk r IsDraft
     → ((d : Draft) → IsDraft d → IfOk (others d) IsRead)
@@ -297,7 +214,7 @@ next at others (Ok d) h k = k d h
 next at others (Err why) h k = tt
 
 read-on : (at : ℕ) (d : Draft) (texts : List (List ℕ)) → IsDraft d → IfOk (read_on at d texts) IsRead
-read-on at d [] h = with-one d (fault (at - 1) Missing) d.frequency h
+read-on at d [] h = with-one d (fault (at - 1) Missing) d.has_frequency h
 read-on at d (text ∷ texts) h =
     next at (λ more. read_on (at + length text + 1) more texts) (put_part d text) (part-is d text h) (λ e k. read-on (at + length text + 1) e texts k)
 
@@ -306,5 +223,5 @@ pub read_is_spelled : (at : ℕ) (draft : Draft) (texts : List (List ℕ)) (r : 
 read_is_spelled at draft texts r e f allowed ranked =
     let is : IfOk {E = ParseRuleError} (Ok r) IsRead =
     subst (λ s. IfOk s IsRead) (sym (f ∙ ap (λ d. read_on at d texts) e))
-    (read-on at nothing texts (record { interval = tt; months = tt; weeks = tt; year_days = tt; month_days = tt; weekdays = tt; set_positions = tt; end = tt })) in
-    is.spelled allowed ranked
+    (read-on at nothing texts (record { interval = (omega arith, omega arith); weeks = all-none IsWeek; year_days = all-none IsPosition; month_days = all-none IsMonthDay; weekdays = all-none IsByDay; set_positions = all-none IsPosition; end = tt })) in
+    record { interval = is.interval; each_week = is.weeks; each_year_day = is.year_days; each_month_day = is.month_days; each_weekday = is.weekdays; each_position = is.set_positions; allowed = allowed; ranked = ranked; end = is.end }

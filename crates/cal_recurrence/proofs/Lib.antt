@@ -4,7 +4,6 @@ pub mod Dates
 pub mod Digits
 pub mod Listed
 pub mod Marked
-pub mod OneAnswer
 pub mod Avoided
 pub mod ReadValues
 pub mod ReadWords

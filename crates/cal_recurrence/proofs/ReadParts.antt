@@ -1,6 +1,6 @@
 -- The parts of a text that was written, read back one after another.
-use Rattle.std.proofs.Common.{◌≡◌, ℕ, suc, ◌+◌, ◌≤◌, Bool, true, false, cond, eqb, List, [], ◌∷◌, ◌++◌, append-nil, append_assoc, length, Option, Some, None, Ok, Err, ℤ, refl, sym, ap, subst, ◌∙◌, arith, inl, inr}
-use Rattle.std.specs.Prelude.{codes, decimal, nat_le, unwrap_or, ◌&&◌}
+use Rattle.std.proofs.Common.{◌≡◌, ℕ, suc, ◌+◌, ◌≤◌, Bool, true, false, cond, eqb, List, [], ◌∷◌, ◌++◌, append-nil, append_assoc, length, Option, Ok, Err, ℤ, refl, sym, ap, subst, ◌∙◌, arith, inl, inr}
+use Rattle.std.specs.Prelude.{codes, decimal, nat_le, not, option_map, ◌&&◌}
 use Rattle.std.specs.List.{All}
 use Rattle.std.proofs.lemmas.Bool.{cases_Bool, eqb-true}
 use Rattle.cal_time.specs.declared.Month.{Month}
@@ -8,16 +8,18 @@ use Rattle.cal_time.specs.declared.Weekday.{Weekday}
 use Rattle.cal_time.specs.declared.Weekday.TheVariants as weekday
 use Rattle.cal_schedule.specs.declared.rule.rule.Frequency.{Frequency}
 use Rattle.cal_schedule.specs.declared.rule.rule.ByDay.{ByDay}
+use Rattle.cal_schedule.specs.Pattern.{every}
+use Rattle.cal_schedule.specs.declared.rule.pattern.Pattern.{Pattern}
 use Rattle.std.specs.Option.{option_map_or}
 use Rattle.cal_recurrence.specs.Days.{ranks_alone}
 use Rattle.cal_recurrence.specs.Spelled.{IsCount, IsMonthDay, IsByDay, IsPosition, IsWeek, IsEnd, IsSpelled}
-use Rattle.cal_recurrence.specs.Text.{checked, fault, later_of, list_of, fresh, parts_say, place_of, changed, put, put_value, put_part, and_on, read_on, nothing, recurrence_of}
+use Rattle.cal_recurrence.specs.Text.{checked, fault, later_of, list_of, is_given, parts_say, place_of, put, put_value, put_part, and_on, read_on, nothing, recurrence_of}
 use Rattle.cal_recurrence.specs.Words.{bytes_after, first_bytes, has_name, parts_at, frequency_of, weekday_of, count_of, month_of, month_day_of, week_of, by_day_of, position_of, date_of}
 use Rattle.cal_recurrence.specs.Written.{frequency_text, weekday_text, month_text, by_day_text, position_text, day_text, interval_text, end_text, list_text, week_start_text, text_of}
 use Rattle.cal_recurrence.specs.declared.draft.Draft.{Draft}
 use Rattle.cal_recurrence.specs.declared.fault.RulePart.{RulePart}
 use Rattle.cal_recurrence.specs.declared.fault.RulePart.TheVariants as part
-use Rattle.cal_recurrence.specs.declared.fault.ParseRuleErrorKind.TheVariants.{Alone, TooMany}
+use Rattle.cal_recurrence.specs.declared.fault.ParseRuleErrorKind.TheVariants.{Alone, TooMany, Twice, Value}
 use Rattle.cal_recurrence.specs.declared.recurrence.Recurrence.{Recurrence}
 use Rattle.cal_recurrence.specs.declared.recurrence.RuleEnd.{RuleEnd}
 use Rattle.cal_recurrence.specs.declared.recurrence.RuleEnd.TheVariants.{Never, Until, Count}
@@ -49,126 +51,104 @@ one-part draft more text rest r plain put h = record {
 
 -- a value of a part that was not given before
 given : {X : Type 0} (draft : Draft) (at : RulePart) (value : List ℕ) (meaning : List ℕ → Option X) (x : X) (to : X → Draft)
-    → IsValue meaning x value → put draft at value ≡ changed to (fresh at false (meaning value)) → put_value draft value at ≡ Ok (to x)
-given draft at value meaning x to h e =
-    ap (λ b. cond b (put draft at value) (Err (TooMany at))) h.few ∙ e ∙ ap (λ o. changed to (fresh at false o)) h.means
+    → IsValue meaning x value → is_given draft at ≡ false → put draft at value ≡ option_map to (meaning value) → put_value draft value at ≡ Ok (to x)
+given draft at value meaning x to h new e =
+    ap (λ b. cond (not b) (Err (TooMany at)) (cond (is_given draft at) (Err (Twice at)) (option_map_or Ok (put draft at value) (Err (Value at))))) h.few
+    ∙ ap (λ b. cond b (Err (Twice at)) (option_map_or Ok (put draft at value) (Err (Value at)))) new
+    ∙ ap (λ o. option_map_or Ok o (Err (Value at))) (e ∙ ap (option_map to) h.means)
 
 -- ---- the parts in their order, each of which may be left out, and the draft after each
-frequency-said : (f : Frequency) (rest : List ℕ) (r : Recurrence) → Says (record nothing { frequency = Some f }) rest r
+abbrev draft_of : Pattern → RuleEnd → Bool → Bool → Draft
+draft_of pattern end has_interval has_week_start = record {
+  recurrence = record { pattern = pattern; end = end };
+  has_frequency = true;
+  has_interval = has_interval;
+  has_week_start = has_week_start;
+}
+
+frequency-said : (f : Frequency) (rest : List ℕ) (r : Recurrence) → Says (draft_of (every f) Never false false) rest r
     → read_on 0 nothing (parts_at 59 ((codes "FREQ=" ++ frequency_text f) ++ rest)) ≡ Ok r
 frequency-said f rest r h =
     let value = one-word frequency_of f (frequency_text f) (frequency-word f) in
-    (one-part nothing (record nothing { frequency = Some f }) (codes "FREQ=" ++ frequency_text f) rest r
+    (one-part nothing (draft_of (every f) Never false false) (codes "FREQ=" ++ frequency_text f) rest r
     (avoids-append 59 (codes "FREQ=") (frequency_text f) refl value.semicolon)
-    (given nothing part.Frequency (frequency_text f) frequency_of f (λ x. record nothing { frequency = Some x }) value refl) h).reads 0
+    (given nothing part.Frequency (frequency_text f) frequency_of f (λ x. draft_of (every x) Never false false) value refl refl) h).reads 0
 
-interval-said : (d : Draft) (n : ℕ) (rest : List ℕ) (r : Recurrence) → IsCount n
-    → ((o : Option ℕ) → unwrap_or o 1 ≡ n → Says (record d { interval = o }) rest r)
-    → Says (record d { interval = None }) (interval_text n ++ rest) r
-interval-said d n rest r is h =
-    let none : Draft = record d { interval = None } in
+interval-said : (p : Pattern) (n : ℕ) (rest : List ℕ) (r : Recurrence) → IsCount n
+    → ((b : Bool) → Says (draft_of (record p { interval = n }) Never b false) rest r)
+    → Says (draft_of (record p { interval = 1 }) Never false false) (interval_text n ++ rest) r
+interval-said p n rest r is h =
+    let none = draft_of (record p { interval = 1 }) Never false false in
     let value = one-word (count_of 4294967295) n (decimal n) (count-word n is) in
     let text : Bool → List ℕ = λ b. cond b [] (codes ";INTERVAL=" ++ decimal n) in
     elim (cases_Bool (eqb n 1)) as (λ _. Says none (interval_text n ++ rest) r) [
-      | inl one ↦ subst (λ b. Says none (text b ++ rest) r) (sym one) (h None (sym (eqb-true n 1 one)))
+      | inl one ↦
+          subst (λ b. Says none (text b ++ rest) r) (sym one)
+          (subst (λ m. Says (draft_of (record p { interval = m }) Never false false) rest r) (eqb-true n 1 one) (h false))
       | inr more ↦
           subst (λ b. Says none (text b ++ rest) r) (sym more)
-          (one-part none (record d { interval = Some n }) (codes "INTERVAL=" ++ decimal n) rest r
+          (one-part none (draft_of (record p { interval = n }) Never true false) (codes "INTERVAL=" ++ decimal n) rest r
           (avoids-append 59 (codes "INTERVAL=") (decimal n) refl value.semicolon)
-          (given none part.Interval (decimal n) (count_of 4294967295) n (λ x. record d { interval = Some x }) value refl)
-          (h (Some n) refl))
+          (given none part.Interval (decimal n) (count_of 4294967295) n (λ x. draft_of (record p { interval = x }) Never true false) value refl refl) (h true))
     ]
 
-end-said : (d : Draft) (end : RuleEnd) (rest : List ℕ) (r : Recurrence) → IsEnd end
-    → ((o : Option RuleEnd) → unwrap_or o Never ≡ end → Says (record d { end = o }) rest r)
-    → Says (record d { end = None }) (end_text end ++ rest) r
-end-said d Never rest r is h = h None refl
-end-said d (Until day) rest r is h =
-    let none : Draft = record d { end = None } in
+end-said : (p : Pattern) (i : Bool) (end : RuleEnd) (rest : List ℕ) (r : Recurrence) → IsEnd end → Says (draft_of p end i false) rest r
+    → Says (draft_of p Never i false) (end_text end ++ rest) r
+end-said p i Never rest r is h = h
+end-said p i (Until day) rest r is h =
+    let none = draft_of p Never i false in
     let value = one-word date_of day (day_text day) (day-word day is.0 is.1 is.2) in
-    one-part none (record d { end = Some (Until day) }) (codes "UNTIL=" ++ day_text day) rest r
+    one-part none (draft_of p (Until day) i false) (codes "UNTIL=" ++ day_text day) rest r
     (avoids-append 59 (codes "UNTIL=") (day_text day) refl value.semicolon)
-    (given none part.Until (day_text day) date_of day (λ x. record d { end = Some (Until x) }) value refl)
-    (h (Some (Until day)) refl)
-end-said d (Count n) rest r is h =
-    let none : Draft = record d { end = None } in
+    (given none part.Until (day_text day) date_of day (λ x. draft_of p (Until x) i false) value refl refl) h
+end-said p i (Count n) rest r is h =
+    let none = draft_of p Never i false in
     let value = one-word (count_of 4294967295) n (decimal n) (count-word n is) in
-    one-part none (record d { end = Some (Count n) }) (codes "COUNT=" ++ decimal n) rest r
+    one-part none (draft_of p (Count n) i false) (codes "COUNT=" ++ decimal n) rest r
     (avoids-append 59 (codes "COUNT=") (decimal n) refl value.semicolon)
-    (given none part.Count (decimal n) (count_of 4294967295) n (λ x. record d { end = Some (Count x) }) value refl)
-    (h (Some (Count n)) refl)
+    (given none part.Count (decimal n) (count_of 4294967295) n (λ x. draft_of p (Count x) i false) value refl refl) h
 
 -- a list, with the draft for each value of its part
-list-said : {X : Type 0} (to : Option (List X) → Draft) (at : RulePart) (name : List ℕ) (meaning : List ℕ → Option X) (text : X → List ℕ)
-    → ((value : List ℕ) → put_part (to None) (name ++ value) ≡ put_value (to None) value at)
-    → ((value : List ℕ) → put (to None) at value ≡ changed (λ xs. to (Some xs)) (fresh at false (list_of meaning value)))
+list-said : {X : Type 0} (to : List X → Draft) (at : RulePart) (name : List ℕ) (meaning : List ℕ → Option X) (text : X → List ℕ)
+    → ((value : List ℕ) → put_part (to []) (name ++ value) ≡ put_value (to []) value at) → is_given (to []) at ≡ false
+    → ((value : List ℕ) → put (to []) at value ≡ option_map to (list_of meaning value))
     → avoids 59 name ≡ true → (xs : List X) (rest : List ℕ) (r : Recurrence) → AreWords meaning text xs → length xs ≤ 62
-    → ((o : Option (List X)) → unwrap_or o [] ≡ xs → Says (to o) rest r)
-    → Says (to None) (list_text (59 ∷ name) text xs ++ rest) r
-list-said to at name meaning text named putting plain [] rest r words few h = h None refl
-list-said to at name meaning text named putting plain (x ∷ xs) rest r words few h =
+    → Says (to xs) rest r
+    → Says (to []) (list_text (59 ∷ name) text xs ++ rest) r
+list-said to at name meaning text named new putting plain [] rest r words few h = h
+list-said to at name meaning text named new putting plain (x ∷ xs) rest r words few h =
     let value = text x ++ list_text (codes ",") text xs in
     let is = list-value meaning text x xs words few in
-    subst (λ words. Says (to None) (59 ∷ (words ++ rest)) r) (sym (append_assoc name (text x) (list_text (codes ",") text xs)))
-    (one-part (to None) (to (Some (x ∷ xs))) (name ++ value) rest r
+    subst (λ words. Says (to []) (59 ∷ (words ++ rest)) r) (sym (append_assoc name (text x) (list_text (codes ",") text xs)))
+    (one-part (to []) (to (x ∷ xs)) (name ++ value) rest r
     (avoids-append 59 name value plain is.semicolon)
-    (named value ∙ given (to None) at value (list_of meaning) (x ∷ xs) (λ o. to (Some o)) is (putting value))
-    (h (Some (x ∷ xs)) refl))
+    (named value ∙ given (to []) at value (list_of meaning) (x ∷ xs) to is new (putting value)) h)
 
-week_start-given : (d : Draft) (s : Weekday) (rest : List ℕ) (r : Recurrence) → Says (record d { week_start = Some s }) rest r
-    → Says (record d { week_start = None }) ((codes ";WKST=" ++ weekday_text s) ++ rest) r
-week_start-given d s rest r h =
-    let none : Draft = record d { week_start = None } in
+week_start-given : (p : Pattern) (end : RuleEnd) (i : Bool) (s : Weekday) (rest : List ℕ) (r : Recurrence)
+    → Says (draft_of (record p { week_start = s }) end i true) rest r
+    → Says (draft_of (record p { week_start = weekday.Monday }) end i false) ((codes ";WKST=" ++ weekday_text s) ++ rest) r
+week_start-given p end i s rest r h =
+    let none = draft_of (record p { week_start = weekday.Monday }) end i false in
     let value = one-word weekday_of s (weekday_text s) (weekday-word s) in
-    one-part none (record d { week_start = Some s }) (codes "WKST=" ++ weekday_text s) rest r
+    one-part none (draft_of (record p { week_start = s }) end i true) (codes "WKST=" ++ weekday_text s) rest r
     (avoids-append 59 (codes "WKST=") (weekday_text s) refl value.semicolon)
-    (given none part.WeekStart (weekday_text s) weekday_of s (λ x. record d { week_start = Some x }) value refl) h
+    (given none part.WeekStart (weekday_text s) weekday_of s (λ x. draft_of (record p { week_start = x }) end i true) value refl refl) h
 
-week_start-said : (d : Draft) (s : Weekday) (rest : List ℕ) (r : Recurrence)
-    → ((o : Option Weekday) → unwrap_or o weekday.Monday ≡ s → Says (record d { week_start = o }) rest r)
-    → Says (record d { week_start = None }) (week_start_text s ++ rest) r
-week_start-said d weekday.Monday rest r h = h None refl
-week_start-said d weekday.Tuesday rest r h = week_start-given d weekday.Tuesday rest r (h (Some weekday.Tuesday) refl)
-week_start-said d weekday.Wednesday rest r h = week_start-given d weekday.Wednesday rest r (h (Some weekday.Wednesday) refl)
-week_start-said d weekday.Thursday rest r h = week_start-given d weekday.Thursday rest r (h (Some weekday.Thursday) refl)
-week_start-said d weekday.Friday rest r h = week_start-given d weekday.Friday rest r (h (Some weekday.Friday) refl)
-week_start-said d weekday.Saturday rest r h = week_start-given d weekday.Saturday rest r (h (Some weekday.Saturday) refl)
-week_start-said d weekday.Sunday rest r h = week_start-given d weekday.Sunday rest r (h (Some weekday.Sunday) refl)
+week_start-said : (p : Pattern) (end : RuleEnd) (i : Bool) (s : Weekday) (rest : List ℕ) (r : Recurrence)
+    → ((b : Bool) → Says (draft_of (record p { week_start = s }) end i b) rest r)
+    → Says (draft_of (record p { week_start = weekday.Monday }) end i false) (week_start_text s ++ rest) r
+week_start-said p end i weekday.Monday rest r h = h false
+week_start-said p end i weekday.Tuesday rest r h = week_start-given p end i weekday.Tuesday rest r (h true)
+week_start-said p end i weekday.Wednesday rest r h = week_start-given p end i weekday.Wednesday rest r (h true)
+week_start-said p end i weekday.Thursday rest r h = week_start-given p end i weekday.Thursday rest r (h true)
+week_start-said p end i weekday.Friday rest r h = week_start-given p end i weekday.Friday rest r (h true)
+week_start-said p end i weekday.Saturday rest r h = week_start-given p end i weekday.Saturday rest r (h true)
+week_start-said p end i weekday.Sunday rest r h = week_start-given p end i weekday.Sunday rest r (h true)
 
-abbrev draft_of : Frequency → Option ℕ → Option RuleEnd → Option (List Month) → Option (List ℤ) → Option (List ℤ) → Option (List ℤ) → Option (List ByDay)
-    → Option (List ℤ) → Option Weekday → Draft
-draft_of f interval end months weeks year_days month_days weekdays set_positions week_start = record {
-  frequency = Some f;
-  interval = interval;
-  week_start = week_start;
-  months = months;
-  weeks = weeks;
-  year_days = year_days;
-  month_days = month_days;
-  weekdays = weekdays;
-  set_positions = set_positions;
-  end = end;
-}
-
-all-said : (r : Recurrence) (i : Option ℕ) (e : Option RuleEnd) (m : Option (List Month)) (n : Option (List ℤ)) (y : Option (List ℤ)) (d : Option (List ℤ))
-    (w : Option (List ByDay)) (p : Option (List ℤ)) (s : Option Weekday) → unwrap_or i 1 ≡ r.interval → unwrap_or e Never ≡ r.end
-    → unwrap_or m [] ≡ r.months → unwrap_or n [] ≡ r.weeks → unwrap_or y [] ≡ r.year_days → unwrap_or d [] ≡ r.month_days → unwrap_or w [] ≡ r.weekdays
-    → unwrap_or p [] ≡ r.set_positions → unwrap_or s weekday.Monday ≡ r.week_start
-    → Says (draft_of r.frequency i e m n y d w p s) [] r
-all-said r i e m n y d w p s is ends months weeks year_days month_days weekdays positions starts = record {
+all-said : (r : Recurrence) (i s : Bool) → Says (draft_of r.pattern r.end i s) [] r
+all-said r i s = record {
   cut = λ text clean. ap (parts_at 59) (append-nil text) ∙ cut-nowhere 59 text clean;
-  reads = λ at j. Ok (record {
-    frequency = r.frequency;
-    interval = is j;
-    week_start = starts j;
-    months = months j;
-    weeks = weeks j;
-    year_days = year_days j;
-    month_days = month_days j;
-    weekdays = weekdays j;
-    set_positions = positions j;
-    end = ends j;
-  });
+  reads = λ at. refl;
 }
 
 -- ---- lists
@@ -206,46 +186,56 @@ no-name r = and-false (nat_le 6 (length (text_of r)))
     and-false true = refl
     and-false false = refl
 
-said : (r : Recurrence) → IsSpelled r → read_on 0 nothing (parts_at 59 (text_of r)) ≡ Ok r
-said r h =
-    let from : Option ℕ → Option RuleEnd → Option (List Month) → Option (List ℤ) → Option (List ℤ) → Option (List ℤ) → Option (List ByDay) → Option (List ℤ) → Draft =
-    λ i e m n y d w p. draft_of r.frequency i e m n y d w p None in
-    let starts = week_start_text r.week_start ++ [] in
-    let positions = list_text (codes ";BYSETPOS=") position_text r.set_positions ++ starts in
-    let weekdays = list_text (codes ";BYDAY=") by_day_text r.weekdays ++ positions in
-    let month_days = list_text (codes ";BYMONTHDAY=") position_text r.month_days ++ weekdays in
-    let year_days = list_text (codes ";BYYEARDAY=") position_text r.year_days ++ month_days in
-    let weeks = list_text (codes ";BYWEEKNO=") position_text r.weeks ++ year_days in
-    let months = list_text (codes ";BYMONTH=") month_text r.months ++ weeks in
-    let end = end_text r.end ++ months in
-    let interval = interval_text r.interval ++ end in
-    let week_words = words IsWeek week_of position_text week-word r.weeks h.each_week in
-    let year_day_words = words IsPosition position_of position_text position-word r.year_days h.each_year_day in
-    let day_words = words IsMonthDay month_day_of position_text month_day-word r.month_days h.each_month_day in
-    let weekday_words = words IsByDay by_day_of by_day_text by_day-word r.weekdays h.each_weekday in
-    let position_words = words IsPosition position_of position_text position-word r.set_positions h.each_position in
-    ap (λ text. read_on 0 nothing (parts_at 59 text)) (grouped (codes "FREQ=" ++ frequency_text r.frequency) (interval_text r.interval) (end_text r.end)
-    (list_text (codes ";BYMONTH=") month_text r.months) (list_text (codes ";BYWEEKNO=") position_text r.weeks) (list_text (codes ";BYYEARDAY=") position_text r.year_days)
-    (list_text (codes ";BYMONTHDAY=") position_text r.month_days)
-    (list_text (codes ";BYDAY=") by_day_text r.weekdays) (list_text (codes ";BYSETPOS=") position_text r.set_positions) (week_start_text r.week_start))
-    ∙ frequency-said r.frequency interval r (interval-said (from None None None None None None None None) r.interval end r h.interval (λ i a.
-    end-said (from i None None None None None None None) r.end months r h.end (λ e b.
-    list-said (λ o. from i e o None None None None None) part.Months (codes "BYMONTH=") month_of month_text (λ v. refl) (λ v. refl) refl r.months weeks r (month-words r.months) h.months (λ m c.
-    list-said (λ o. from i e m o None None None None) part.Weeks (codes "BYWEEKNO=") week_of position_text (λ v. refl) (λ v. refl) refl r.weeks year_days r week_words h.weeks (λ n v.
-    list-said (λ o. from i e m n o None None None) part.YearDays (codes "BYYEARDAY=") position_of position_text (λ v. refl) (λ v. refl) refl r.year_days month_days r year_day_words h.year_days (λ y u.
-    list-said (λ o. from i e m n y o None None) part.MonthDays (codes "BYMONTHDAY=") month_day_of position_text (λ v. refl) (λ v. refl) refl r.month_days weekdays r day_words h.month_days (λ d p.
-    list-said (λ o. from i e m n y d o None) part.Weekdays (codes "BYDAY=") by_day_of by_day_text (λ v. refl) (λ v. refl) refl r.weekdays positions r weekday_words h.weekdays (λ w q.
-    list-said (λ o. from i e m n y d w o) part.Positions (codes "BYSETPOS=") position_of position_text (λ v. refl) (λ v. refl) refl r.set_positions starts r position_words h.set_positions (λ k t.
-    week_start-said (from i e m n y d w k) r.week_start [] r (λ s o.
-    all-said r i e m n y d w k s a b c v u p q t o))))))))))
+-- no list has more values than its part may have
+pub record AreFew (p : Pattern) : Type 0 where
+  pub months : length p.months ≤ 62
+  pub weeks : length p.weeks ≤ 62
+  pub year_days : length p.year_days ≤ 62
+  pub month_days : length p.month_days ≤ 62
+  pub weekdays : length p.weekdays ≤ 62
+  pub set_positions : length p.set_positions ≤ 62
 
-reads_back_of : (r : Recurrence) → IsSpelled r → recurrence_of (text_of r) ≡ Ok r
-reads_back_of r h =
+said : (r : Recurrence) → AreFew r.pattern → IsSpelled r → read_on 0 nothing (parts_at 59 (text_of r)) ≡ Ok r
+said r few h =
+    let p = r.pattern in
+    let to : List Month → List ℤ → List ℤ → List ℤ → List ByDay → List ℤ → Pattern =
+    λ m n y d w k. record { frequency = p.frequency; interval = p.interval; week_start = weekday.Monday; months = m; weeks = n; year_days = y; month_days = d; weekdays = w; set_positions = k } in
+    let starts = week_start_text p.week_start ++ [] in
+    let positions = list_text (codes ";BYSETPOS=") position_text p.set_positions ++ starts in
+    let weekdays = list_text (codes ";BYDAY=") by_day_text p.weekdays ++ positions in
+    let month_days = list_text (codes ";BYMONTHDAY=") position_text p.month_days ++ weekdays in
+    let year_days = list_text (codes ";BYYEARDAY=") position_text p.year_days ++ month_days in
+    let weeks = list_text (codes ";BYWEEKNO=") position_text p.weeks ++ year_days in
+    let months = list_text (codes ";BYMONTH=") month_text p.months ++ weeks in
+    let end = end_text r.end ++ months in
+    let interval = interval_text p.interval ++ end in
+    let week_words = words IsWeek week_of position_text week-word p.weeks h.each_week in
+    let year_day_words = words IsPosition position_of position_text position-word p.year_days h.each_year_day in
+    let day_words = words IsMonthDay month_day_of position_text month_day-word p.month_days h.each_month_day in
+    let weekday_words = words IsByDay by_day_of by_day_text by_day-word p.weekdays h.each_weekday in
+    let position_words = words IsPosition position_of position_text position-word p.set_positions h.each_position in
+    ap (λ text. read_on 0 nothing (parts_at 59 text)) (grouped (codes "FREQ=" ++ frequency_text p.frequency) (interval_text p.interval) (end_text r.end)
+    (list_text (codes ";BYMONTH=") month_text p.months) (list_text (codes ";BYWEEKNO=") position_text p.weeks) (list_text (codes ";BYYEARDAY=") position_text p.year_days)
+    (list_text (codes ";BYMONTHDAY=") position_text p.month_days)
+    (list_text (codes ";BYDAY=") by_day_text p.weekdays) (list_text (codes ";BYSETPOS=") position_text p.set_positions) (week_start_text p.week_start))
+    ∙ frequency-said p.frequency interval r (interval-said (to [] [] [] [] [] []) p.interval end r h.interval (λ i.
+    end-said (to [] [] [] [] [] []) i r.end months r h.end (
+    list-said (λ xs. draft_of (to xs [] [] [] [] []) r.end i false) part.Months (codes "BYMONTH=") month_of month_text (λ v. refl) refl (λ v. refl) refl p.months weeks r (month-words p.months) few.months (
+    list-said (λ xs. draft_of (to p.months xs [] [] [] []) r.end i false) part.Weeks (codes "BYWEEKNO=") week_of position_text (λ v. refl) refl (λ v. refl) refl p.weeks year_days r week_words few.weeks (
+    list-said (λ xs. draft_of (to p.months p.weeks xs [] [] []) r.end i false) part.YearDays (codes "BYYEARDAY=") position_of position_text (λ v. refl) refl (λ v. refl) refl p.year_days month_days r year_day_words few.year_days (
+    list-said (λ xs. draft_of (to p.months p.weeks p.year_days xs [] []) r.end i false) part.MonthDays (codes "BYMONTHDAY=") month_day_of position_text (λ v. refl) refl (λ v. refl) refl p.month_days weekdays r day_words few.month_days (
+    list-said (λ xs. draft_of (to p.months p.weeks p.year_days p.month_days xs []) r.end i false) part.Weekdays (codes "BYDAY=") by_day_of by_day_text (λ v. refl) refl (λ v. refl) refl p.weekdays positions r weekday_words few.weekdays (
+    list-said (λ xs. draft_of (to p.months p.weeks p.year_days p.month_days p.weekdays xs) r.end i false) part.Positions (codes "BYSETPOS=") position_of position_text (λ v. refl) refl (λ v. refl) refl p.set_positions starts r position_words few.set_positions (
+    week_start-said (to p.months p.weeks p.year_days p.month_days p.weekdays p.set_positions) r.end i p.week_start [] r (λ s.
+    all-said r i s))))))))))
+
+reads_back_of : (r : Recurrence) → AreFew r.pattern → IsSpelled r → recurrence_of (text_of r) ≡ Ok r
+reads_back_of r few h =
     ap (λ b. cond b (parts_say 6 (parts_at 59 (bytes_after 6 (text_of r)))) (parts_say 0 (parts_at 59 (text_of r)))) (no-name r)
-    ∙ ap (checked 0 (parts_at 59 (text_of r))) (said r h)
+    ∙ ap (checked 0 (parts_at 59 (text_of r))) (said r few h)
     ∙ ap (λ o. option_map_or (λ both. Err (later_of 0 (parts_at 59 (text_of r)) both)) o
     (cond (ranks_alone r) (Err (fault (place_of (codes "BYSETPOS") 0 (parts_at 59 (text_of r))) (Alone part.Positions))) (Ok r))) h.allowed
     ∙ ap (λ b. cond b (Err (fault (place_of (codes "BYSETPOS") 0 (parts_at 59 (text_of r))) (Alone part.Positions))) (Ok r)) h.ranked
 
-pub reads_back : (r : Recurrence) (text : List ℕ) → text ≡ text_of r → IsSpelled r → recurrence_of text ≡ Ok r
-reads_back r text e h = ap recurrence_of e ∙ reads_back_of r h
+pub reads_back : (r : Recurrence) (text : List ℕ) → text ≡ text_of r → AreFew r.pattern → IsSpelled r → recurrence_of text ≡ Ok r
+reads_back r text e few h = ap recurrence_of e ∙ reads_back_of r few h

@@ -4,7 +4,7 @@ use Rattle.std.specs.Prelude.{⊤, codes, nat_le, option_map}
 use Rattle.std.specs.Option.{option_zip}
 use Rattle.std.proofs.lemmas.Bool.Decides.{nat_tests}
 use Rattle.cal_recurrence.specs.Text.{each, list_of, has_few_words}
-use Rattle.cal_recurrence.specs.Values.{most_values}
+use Rattle.cal_schedule.specs.Values.{most_values}
 use Rattle.cal_recurrence.specs.Words.{parts_at}
 use Rattle.cal_recurrence.specs.Written.{list_text}
 use Rattle.cal_recurrence.proofs.Avoided.{avoids, avoids-append, cut-here, cut-nowhere}

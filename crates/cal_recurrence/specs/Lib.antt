@@ -1,4 +1,3 @@
-pub mod Values
 pub mod Words
 pub mod Text
 pub mod Days

@@ -1,11 +1,10 @@
 -- The recurrences that `parse` can return. Each is parsed again from its own text.
-use Rattle.std.specs.Prelude.{◌≡◌, ⊤, false, None, ℕ, ◌≤◌, ◌<◌, ◌^◌, ℤ, pos, ◌≤ℤ◌, unsigned_abs, length}
+use Rattle.std.specs.Prelude.{◌≡◌, ⊤, false, None, ℕ, ◌≤◌, ◌<◌, ◌^◌, ℤ, pos, ◌≤ℤ◌, unsigned_abs}
 use Rattle.std.specs.List.{All}
 use Rattle.cal_time.specs.Date.{year_at, IsDate}
 use Rattle.cal_schedule.specs.declared.rule.rule.ByDay.{ByDay}
 use Rattle.cal_schedule.specs.declared.rule.rule.ByDay.TheVariants.{Every, Nth}
 use Rattle.cal_recurrence.specs.Days.{excluded, ranks_alone}
-use Rattle.cal_recurrence.specs.Values.{most_values}
 use Rattle.cal_recurrence.specs.declared.recurrence.Recurrence.{Recurrence}
 use Rattle.cal_recurrence.specs.declared.recurrence.RuleEnd.{RuleEnd}
 use Rattle.cal_recurrence.specs.declared.recurrence.RuleEnd.TheVariants.{Never, Until, Count}
@@ -37,18 +36,12 @@ IsEnd (Until day) = IsDate day × (pos 0 ≤ℤ year_at day) × (year_at day ≤
 IsEnd (Count n) = IsCount n
 
 pub record IsSpelled (r : Recurrence) : Type 0 where
-  pub interval : IsCount r.interval
-  pub months : length r.months ≤ most_values
-  pub weeks : length r.weeks ≤ most_values
-  pub year_days : length r.year_days ≤ most_values
-  pub month_days : length r.month_days ≤ most_values
-  pub weekdays : length r.weekdays ≤ most_values
-  pub set_positions : length r.set_positions ≤ most_values
-  pub each_week : All IsWeek r.weeks
-  pub each_year_day : All IsPosition r.year_days
-  pub each_month_day : All IsMonthDay r.month_days
-  pub each_weekday : All IsByDay r.weekdays
-  pub each_position : All IsPosition r.set_positions
+  pub interval : IsCount r.pattern.interval
+  pub each_week : All IsWeek r.pattern.weeks
+  pub each_year_day : All IsPosition r.pattern.year_days
+  pub each_month_day : All IsMonthDay r.pattern.month_days
+  pub each_weekday : All IsByDay r.pattern.weekdays
+  pub each_position : All IsPosition r.pattern.set_positions
   pub allowed : excluded r ≡ None
   pub ranked : ranks_alone r ≡ false
   pub end : IsEnd r.end

@@ -1,13 +1,13 @@
 -- The text of a recurrence, after the grammar of `recur` in RFC 5545. Its parts are separated by
 -- `;` (59). Each has a name, `=` (61) and a value, or a list of values separated by `,` (44).
-use Rattle.std.specs.Prelude.{ℕ, ◌+◌, ◌-◌, nat_le, nat_lt, Bool, true, false, List, [], ◌∷◌, codes, length, Option, Some, None, is_some, unwrap_or, option_map, Result, Ok, Err, if◌then◌else◌}
+use Rattle.std.specs.Prelude.{ℕ, ◌+◌, ◌-◌, ◌==◌, nat_le, nat_lt, Bool, true, false, not, List, [], ◌∷◌, codes, length, Option, Some, option_map, Result, Ok, Err, if◌then◌else◌}
 use Rattle.std.specs.Option.{option_map_or, option_zip}
-use Rattle.std.specs.Result.{result_map_both}
-use Rattle.cal_time.specs.declared.Weekday.TheVariants.{Monday}
-use Rattle.cal_schedule.specs.declared.rule.rule.Frequency.{Frequency}
-use Rattle.cal_recurrence.specs.Days.{excluded, ranks_alone}
+use Rattle.cal_schedule.specs.Pattern.{every}
+use Rattle.cal_schedule.specs.Values.{most_values}
+use Rattle.cal_schedule.specs.declared.rule.pattern.Pattern.{Pattern}
+use Rattle.cal_schedule.specs.declared.rule.rule.Frequency.TheVariants.{Daily}
+use Rattle.cal_recurrence.specs.Days.{excluded, has_end, ranks_alone}
 use Rattle.cal_recurrence.specs.FaultText.{part_name}
-use Rattle.cal_recurrence.specs.Values.{most_values}
 use Rattle.cal_recurrence.specs.Words.{bytes_after, has_name, is_alike, parts_at, front_at, rest_at, part_of, frequency_of, weekday_of, count_of, month_of, month_day_of, week_of, by_day_of, position_of, date_of}
 use Rattle.cal_recurrence.specs.declared.draft.Draft.{Draft}
 use Rattle.cal_recurrence.specs.declared.fault.RulePart.{RulePart}
@@ -16,6 +16,7 @@ use Rattle.cal_recurrence.specs.declared.fault.ParseRuleErrorKind.{ParseRuleErro
 use Rattle.cal_recurrence.specs.declared.fault.ParseRuleErrorKind.TheVariants.{Unknown, Twice, TooMany, Value, Excluded, Alone, Missing}
 use Rattle.cal_recurrence.specs.declared.fault.ParseRuleError.{ParseRuleError}
 use Rattle.cal_recurrence.specs.declared.recurrence.Recurrence.{Recurrence}
+use Rattle.cal_recurrence.specs.declared.recurrence.RuleEnd.{RuleEnd}
 use Rattle.cal_recurrence.specs.declared.recurrence.RuleEnd.TheVariants.{Never, Until, Count}
 
 -- ---- lists
@@ -32,42 +33,49 @@ abbrev pub has_few_words : List ℕ → Bool
 has_few_words value = nat_le (length (parts_at 44 value)) most_values
 
 -- ---- parts
--- The value is valid, and the part was not given before.
-abbrev pub fresh : {X : Type 0} → RulePart → Bool → Option X → Result X ParseRuleErrorKind
-fresh at true value = Err (Twice at)
-fresh at false None = Err (Value at)
-fresh at false (Some x) = Ok x
+-- A part was given before. A list has values if its part was given. UNTIL and COUNT both set the
+-- end.
+abbrev pub is_given : Draft → RulePart → Bool
+is_given draft part.Frequency = draft.has_frequency
+is_given draft part.Interval = draft.has_interval
+is_given draft part.WeekStart = draft.has_week_start
+is_given draft part.Months = not (length draft.recurrence.pattern.months == 0)
+is_given draft part.Weeks = not (length draft.recurrence.pattern.weeks == 0)
+is_given draft part.YearDays = not (length draft.recurrence.pattern.year_days == 0)
+is_given draft part.MonthDays = not (length draft.recurrence.pattern.month_days == 0)
+is_given draft part.Weekdays = not (length draft.recurrence.pattern.weekdays == 0)
+is_given draft part.Positions = not (length draft.recurrence.pattern.set_positions == 0)
+is_given draft part.Until = has_end draft.recurrence.end
+is_given draft part.Count = has_end draft.recurrence.end
 
--- The draft gets one more part. UNTIL and COUNT both set the end.
-abbrev pub changed : {X : Type 0} → (X → Draft) → Result X ParseRuleErrorKind → Result Draft ParseRuleErrorKind
-changed to value = result_map_both to (λ reason. reason) value
+abbrev pub with_pattern : Draft → Pattern → Draft
+with_pattern draft pattern = record draft { recurrence = record draft.recurrence { pattern = pattern } }
 
-abbrev pub put : Draft → RulePart → List ℕ → Result Draft ParseRuleErrorKind
+abbrev pub with_end : Draft → RuleEnd → Draft
+with_end draft end = record draft { recurrence = record draft.recurrence { end = end } }
+
+-- The draft with one more part, if the value is valid.
+abbrev pub put : Draft → RulePart → List ℕ → Option Draft
 put draft part.Frequency value =
-    changed (λ x. record draft { frequency = Some x }) (fresh part.Frequency (is_some draft.frequency) (frequency_of value))
+    option_map (λ x. record (with_pattern draft (record draft.recurrence.pattern { frequency = x })) { has_frequency = true }) (frequency_of value)
 put draft part.Interval value =
-    changed (λ x. record draft { interval = Some x }) (fresh part.Interval (is_some draft.interval) (count_of 4294967295 value))
+    option_map (λ x. record (with_pattern draft (record draft.recurrence.pattern { interval = x })) { has_interval = true }) (count_of 4294967295 value)
 put draft part.WeekStart value =
-    changed (λ x. record draft { week_start = Some x }) (fresh part.WeekStart (is_some draft.week_start) (weekday_of value))
-put draft part.Months value =
-    changed (λ x. record draft { months = Some x }) (fresh part.Months (is_some draft.months) (list_of month_of value))
-put draft part.Weeks value =
-    changed (λ x. record draft { weeks = Some x }) (fresh part.Weeks (is_some draft.weeks) (list_of week_of value))
-put draft part.YearDays value =
-    changed (λ x. record draft { year_days = Some x }) (fresh part.YearDays (is_some draft.year_days) (list_of position_of value))
-put draft part.MonthDays value =
-    changed (λ x. record draft { month_days = Some x }) (fresh part.MonthDays (is_some draft.month_days) (list_of month_day_of value))
-put draft part.Weekdays value =
-    changed (λ x. record draft { weekdays = Some x }) (fresh part.Weekdays (is_some draft.weekdays) (list_of by_day_of value))
-put draft part.Positions value =
-    changed (λ x. record draft { set_positions = Some x }) (fresh part.Positions (is_some draft.set_positions) (list_of position_of value))
-put draft part.Until value =
-    changed (λ x. record draft { end = Some (Until x) }) (fresh part.Until (is_some draft.end) (date_of value))
-put draft part.Count value =
-    changed (λ x. record draft { end = Some (Count x) }) (fresh part.Count (is_some draft.end) (count_of 4294967295 value))
+    option_map (λ x. record (with_pattern draft (record draft.recurrence.pattern { week_start = x })) { has_week_start = true }) (weekday_of value)
+put draft part.Months value = option_map (λ x. with_pattern draft (record draft.recurrence.pattern { months = x })) (list_of month_of value)
+put draft part.Weeks value = option_map (λ x. with_pattern draft (record draft.recurrence.pattern { weeks = x })) (list_of week_of value)
+put draft part.YearDays value = option_map (λ x. with_pattern draft (record draft.recurrence.pattern { year_days = x })) (list_of position_of value)
+put draft part.MonthDays value = option_map (λ x. with_pattern draft (record draft.recurrence.pattern { month_days = x })) (list_of month_day_of value)
+put draft part.Weekdays value = option_map (λ x. with_pattern draft (record draft.recurrence.pattern { weekdays = x })) (list_of by_day_of value)
+put draft part.Positions value = option_map (λ x. with_pattern draft (record draft.recurrence.pattern { set_positions = x })) (list_of position_of value)
+put draft part.Until value = option_map (λ day. with_end draft (Until day)) (date_of value)
+put draft part.Count value = option_map (λ n. with_end draft (Count n)) (count_of 4294967295 value)
 
 abbrev pub put_value : Draft → List ℕ → RulePart → Result Draft ParseRuleErrorKind
-put_value draft value at = if has_few_words value then put draft at value else Err (TooMany at)
+put_value draft value at =
+    if not (has_few_words value) then Err (TooMany at) else
+    if is_given draft at then Err (Twice at) else
+    option_map_or Ok (put draft at value) (Err (Value at))
 
 abbrev pub put_part : Draft → List ℕ → Result Draft ParseRuleErrorKind
 put_part draft text = option_map_or (put_value draft (rest_at 61 text)) (part_of (front_at 61 text)) (Err Unknown)
@@ -76,24 +84,9 @@ put_part draft text = option_map_or (put_value draft (rest_at 61 text)) (part_of
 abbrev pub fault : ℕ → ParseRuleErrorKind → ParseRuleError
 fault at why = record { position = at; reason = why }
 
--- The defaults are an interval of 1, weeks from Monday, empty lists and no end. The frequency is
--- required.
-abbrev pub with_frequency : Draft → Frequency → Recurrence
-with_frequency draft f = record {
-  frequency = f;
-  interval = unwrap_or draft.interval 1;
-  week_start = unwrap_or draft.week_start Monday;
-  months = unwrap_or draft.months [];
-  weeks = unwrap_or draft.weeks [];
-  year_days = unwrap_or draft.year_days [];
-  month_days = unwrap_or draft.month_days [];
-  weekdays = unwrap_or draft.weekdays [];
-  set_positions = unwrap_or draft.set_positions [];
-  end = unwrap_or draft.end Never;
-}
-
+-- The frequency is required.
 abbrev pub finished : ℕ → Draft → Result Recurrence ParseRuleError
-finished at draft = option_map_or (λ f. Ok (with_frequency draft f)) draft.frequency (Err (fault at Missing))
+finished at draft = if draft.has_frequency then Ok draft.recurrence else Err (fault at Missing)
 
 -- The parts follow one another, and the first of them begins at byte `at`.
 abbrev pub and_on : ℕ → (Draft → Result Recurrence ParseRuleError) → Result Draft ParseRuleErrorKind → Result Recurrence ParseRuleError
@@ -104,8 +97,9 @@ abbrev pub read_on : ℕ → Draft → List (List ℕ) → Result Recurrence Par
 read_on at draft [] = finished (at - 1) draft
 read_on at draft (text ∷ texts) = and_on at (λ more. read_on (at + length text + 1) more texts) (put_part draft text)
 
+-- The defaults are an interval of 1, weeks from Monday, empty lists and no end.
 abbrev pub nothing : Draft
-nothing = record { frequency = None; interval = None; week_start = None; months = None; weeks = None; year_days = None; month_days = None; weekdays = None; set_positions = None; end = None }
+nothing = record { recurrence = record { pattern = every Daily; end = Never }; has_frequency = false; has_interval = false; has_week_start = false }
 
 -- The position of the first part with a name, or the end. The first of the parts begins at byte
 -- `at`.

@@ -67,8 +67,8 @@ week_start_text weekday = codes ";WKST=" ++ weekday_text weekday
 -- ---- the whole
 abbrev pub text_of : Recurrence → List ℕ
 text_of r =
-    codes "FREQ=" ++ frequency_text r.frequency ++ interval_text r.interval ++ end_text r.end
-    ++ list_text (codes ";BYMONTH=") month_text r.months ++ list_text (codes ";BYWEEKNO=") position_text r.weeks ++ list_text (codes ";BYYEARDAY=") position_text r.year_days
-    ++ list_text (codes ";BYMONTHDAY=") position_text r.month_days
-    ++ list_text (codes ";BYDAY=") by_day_text r.weekdays ++ list_text (codes ";BYSETPOS=") position_text r.set_positions
-    ++ week_start_text r.week_start
+    codes "FREQ=" ++ frequency_text r.pattern.frequency ++ interval_text r.pattern.interval ++ end_text r.end
+    ++ list_text (codes ";BYMONTH=") month_text r.pattern.months ++ list_text (codes ";BYWEEKNO=") position_text r.pattern.weeks ++ list_text (codes ";BYYEARDAY=") position_text r.pattern.year_days
+    ++ list_text (codes ";BYMONTHDAY=") position_text r.pattern.month_days
+    ++ list_text (codes ";BYDAY=") by_day_text r.pattern.weekdays ++ list_text (codes ";BYSETPOS=") position_text r.pattern.set_positions
+    ++ week_start_text r.pattern.week_start

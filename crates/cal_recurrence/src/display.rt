@@ -22,16 +22,24 @@ impl Recurrence {
     {
         let mut text = RecurrenceText::new();
         text.push("FREQ=");
-        text.push(frequency_text(self.frequency));
-        push_interval(&mut text, self.interval);
+        text.push(frequency_text(self.pattern.frequency));
+        push_interval(&mut text, self.pattern.interval);
         push_end(&mut text, self.end);
-        push_list(&mut text, ";BYMONTH=", self.months.as_slice());
-        push_list(&mut text, ";BYWEEKNO=", self.weeks.as_slice());
-        push_list(&mut text, ";BYYEARDAY=", self.year_days.as_slice());
-        push_list(&mut text, ";BYMONTHDAY=", self.month_days.as_slice());
-        push_list(&mut text, ";BYDAY=", self.weekdays.as_slice());
-        push_list(&mut text, ";BYSETPOS=", self.set_positions.as_slice());
-        push_week_start(&mut text, self.week_start);
+        push_list(&mut text, ";BYMONTH=", self.pattern.months.as_slice());
+        push_list(&mut text, ";BYWEEKNO=", self.pattern.weeks.as_slice());
+        push_list(&mut text, ";BYYEARDAY=", self.pattern.year_days.as_slice());
+        push_list(
+            &mut text,
+            ";BYMONTHDAY=",
+            self.pattern.month_days.as_slice(),
+        );
+        push_list(&mut text, ";BYDAY=", self.pattern.weekdays.as_slice());
+        push_list(
+            &mut text,
+            ";BYSETPOS=",
+            self.pattern.set_positions.as_slice(),
+        );
+        push_week_start(&mut text, self.pattern.week_start);
         text
     }
 }

@@ -1,43 +1,24 @@
-//! The parts of a recurrence while it is parsed.
+//! A recurrence while it is parsed.
 ghost use Rattle.std.specs.Prelude.{◌≡◌, ◌≤◌, length};
-ghost use Rattle.cal_recurrence.specs.Text.{finished, fresh, nothing, put, put_part, put_value};
-ghost use Rattle.cal_recurrence.specs.Values.{most_values};
+ghost use Rattle.cal_schedule.specs.Values.{most_values};
+ghost use Rattle.cal_recurrence.specs.Text.{finished, is_given, nothing, put, put_part, put_value};
 ghost use Rattle.cal_recurrence.specs.Words.{parts_at};
 
 use crate::fault::{ParseRuleError, ParseRuleErrorKind, RulePart};
 use crate::lists::{has_few_words, values_of};
 use crate::recurrence::{Recurrence, RuleEnd};
-use crate::values::Values;
 use crate::words::{count_of, cut, date_of, frequency_of, part_of, weekday_of};
-use cal_schedule::{ByDay, Frequency};
+use cal_schedule::{ByDay, Frequency, Pattern};
 use cal_time::{Month, Weekday};
 
-/// A draft of a recurrence, with the parts that were parsed so far.
+/// A recurrence with the parts that were parsed so far, and whether these were among them: their
+/// defaults can be given, too.
 #[derive(Drop)]
 pub struct Draft {
-    pub frequency: Option<Frequency>,
-    pub interval: Option<u32>,
-    pub week_start: Option<Weekday>,
-    pub months: Option<Values<Month>>,
-    pub weeks: Option<Values<i8>>,
-    pub year_days: Option<Values<i16>>,
-    pub month_days: Option<Values<i8>>,
-    pub weekdays: Option<Values<ByDay>>,
-    pub set_positions: Option<Values<i16>>,
-    pub end: Option<RuleEnd>,
-}
-
-/// Returns the value, or the error `Twice` or `Value`.
-fn fresh<T: Drop>(part: RulePart, is_given: bool, value: Option<T>) -> Result<T, ParseRuleErrorKind>
-    ensures { result ≡ fresh part is_given value }
-{
-    if is_given {
-        return Err(ParseRuleErrorKind::Twice(part));
-    }
-    match value {
-        Some(value) => Ok(value),
-        None => Err(ParseRuleErrorKind::Value(part)),
-    }
+    pub recurrence: Recurrence,
+    pub has_frequency: bool,
+    pub has_interval: bool,
+    pub has_week_start: bool,
 }
 
 impl Draft {
@@ -46,16 +27,13 @@ impl Draft {
         ensures { result ≡ nothing }
     {
         Draft {
-            frequency: None,
-            interval: None,
-            week_start: None,
-            months: None,
-            weeks: None,
-            year_days: None,
-            month_days: None,
-            weekdays: None,
-            set_positions: None,
-            end: None,
+            recurrence: Recurrence {
+                pattern: Pattern::new(Frequency::Daily),
+                end: RuleEnd::Never,
+            },
+            has_frequency: false,
+            has_interval: false,
+            has_week_start: false,
         }
     }
 
@@ -76,83 +54,87 @@ impl Draft {
         if !has_few_words(value) {
             return Err(ParseRuleErrorKind::TooMany(part));
         }
-        self.with(part, value)
+        if self.is_given(part) {
+            return Err(ParseRuleErrorKind::Twice(part));
+        }
+        match self.with(part, value) {
+            Some(draft) => Ok(draft),
+            None => Err(ParseRuleErrorKind::Value(part)),
+        }
     }
 
-    fn with(mut self, part: RulePart, value: &[u8]) -> Result<Self, ParseRuleErrorKind>
+    /// Returns `true` if the part was parsed before.
+    fn is_given(&self, part: RulePart) -> bool
+        ensures { result ≡ is_given self.now part }
+    {
+        let pattern = &self.recurrence.pattern;
+        match part {
+            RulePart::Frequency => self.has_frequency,
+            RulePart::Interval => self.has_interval,
+            RulePart::WeekStart => self.has_week_start,
+            RulePart::Months => !pattern.months.is_empty(),
+            RulePart::Weeks => !pattern.weeks.is_empty(),
+            RulePart::YearDays => !pattern.year_days.is_empty(),
+            RulePart::MonthDays => !pattern.month_days.is_empty(),
+            RulePart::Weekdays => !pattern.weekdays.is_empty(),
+            RulePart::Positions => !pattern.set_positions.is_empty(),
+            RulePart::Until | RulePart::Count => self.recurrence.end.is_given(),
+        }
+    }
+
+    /// Returns the draft with one more part, or `None` if the value is invalid.
+    fn with(mut self, part: RulePart, value: &[u8]) -> Option<Self>
         requires { length (parts_at 44 value.now) ≤ most_values }
         ensures { result ≡ put self part value.now }
     {
         match part {
             RulePart::Frequency => {
-                self.frequency = Some(fresh(part, self.frequency.is_some(), frequency_of(value))?);
-                Ok(self)
+                self.recurrence.pattern.frequency = frequency_of(value)?;
+                self.has_frequency = true;
+                Some(self)
             }
             RulePart::Interval => {
-                self.interval = Some(fresh(
-                    part,
-                    self.interval.is_some(),
-                    count_of(value, u32::MAX),
-                )?);
-                Ok(self)
+                self.recurrence.pattern.interval = count_of(value, u32::MAX)?;
+                self.has_interval = true;
+                Some(self)
             }
             RulePart::WeekStart => {
-                self.week_start = Some(fresh(part, self.week_start.is_some(), weekday_of(value))?);
-                Ok(self)
+                self.recurrence.pattern.week_start = weekday_of(value)?;
+                self.has_week_start = true;
+                Some(self)
             }
             RulePart::Months => {
-                self.months = Some(fresh(
-                    part,
-                    self.months.is_some(),
-                    values_of(value, Month::January, 12),
-                )?);
-                Ok(self)
+                self.recurrence.pattern.months = values_of(value, Month::January, 12)?;
+                Some(self)
             }
             RulePart::Weeks => {
-                self.weeks = Some(fresh(part, self.weeks.is_some(), values_of(value, 0i8, 53))?);
-                Ok(self)
+                self.recurrence.pattern.weeks = values_of(value, 0i8, 53)?;
+                Some(self)
             }
             RulePart::YearDays => {
-                self.year_days = Some(fresh(
-                    part,
-                    self.year_days.is_some(),
-                    values_of(value, 0i16, 366),
-                )?);
-                Ok(self)
+                self.recurrence.pattern.year_days = values_of(value, 0i16, 366)?;
+                Some(self)
             }
             RulePart::MonthDays => {
-                self.month_days = Some(fresh(
-                    part,
-                    self.month_days.is_some(),
-                    values_of(value, 0i8, 31),
-                )?);
-                Ok(self)
+                self.recurrence.pattern.month_days = values_of(value, 0i8, 31)?;
+                Some(self)
             }
             RulePart::Weekdays => {
-                self.weekdays = Some(fresh(
-                    part,
-                    self.weekdays.is_some(),
-                    values_of(value, ByDay::Every(Weekday::Monday), 53),
-                )?);
-                Ok(self)
+                let filler = ByDay::Every(Weekday::Monday);
+                self.recurrence.pattern.weekdays = values_of(value, filler, 53)?;
+                Some(self)
             }
             RulePart::Positions => {
-                self.set_positions = Some(fresh(
-                    part,
-                    self.set_positions.is_some(),
-                    values_of(value, 0i16, 366),
-                )?);
-                Ok(self)
+                self.recurrence.pattern.set_positions = values_of(value, 0i16, 366)?;
+                Some(self)
             }
             RulePart::Until => {
-                let day = fresh(part, self.end.is_some(), date_of(value))?;
-                self.end = Some(RuleEnd::Until(day));
-                Ok(self)
+                self.recurrence.end = RuleEnd::Until(date_of(value)?);
+                Some(self)
             }
             RulePart::Count => {
-                let count = fresh(part, self.end.is_some(), count_of(value, u32::MAX))?;
-                self.end = Some(RuleEnd::Count(count));
-                Ok(self)
+                self.recurrence.end = RuleEnd::Count(count_of(value, u32::MAX)?);
+                Some(self)
             }
         }
     }
@@ -161,25 +143,12 @@ impl Draft {
     pub fn finished(self, end: usize) -> Result<Recurrence, ParseRuleError>
         ensures { result ≡ finished end self }
     {
-        let Some(frequency) = self.frequency else {
+        if !self.has_frequency {
             return Err(ParseRuleError {
                 position: end,
                 reason: ParseRuleErrorKind::Missing,
             });
-        };
-        Ok(Recurrence {
-            frequency,
-            interval: self.interval.unwrap_or(1),
-            week_start: self.week_start.unwrap_or(Weekday::Monday),
-            months: self.months.unwrap_or(Values::none(Month::January)),
-            weeks: self.weeks.unwrap_or(Values::none(0)),
-            year_days: self.year_days.unwrap_or(Values::none(0)),
-            month_days: self.month_days.unwrap_or(Values::none(0)),
-            weekdays: self
-                .weekdays
-                .unwrap_or(Values::none(ByDay::Every(Weekday::Monday))),
-            set_positions: self.set_positions.unwrap_or(Values::none(0)),
-            end: self.end.unwrap_or(RuleEnd::Never),
-        })
+        }
+        Ok(self.recurrence)
     }
 }

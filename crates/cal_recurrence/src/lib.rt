@@ -10,12 +10,11 @@ mod lists;
 mod reading;
 mod recurrence;
 mod text;
-mod values;
 mod words;
 mod writing;
 
+pub use cal_schedule::{Pattern, Values};
 pub use fault::{ParseRuleError, ParseRuleErrorKind, RulePart};
 pub use reading::parse;
 pub use recurrence::{Recurrence, RuleEnd};
 pub use text::RecurrenceText;
-pub use values::Values;

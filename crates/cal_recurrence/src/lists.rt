@@ -1,12 +1,12 @@
 //! Lists of values.
 ghost use Rattle.std.specs.Prelude.{◌≡◌, ◌≤◌, ◌==◌, count_by, length};
+ghost use Rattle.cal_schedule.specs.Values.{most_values};
 ghost use Rattle.cal_recurrence.specs.Text.{has_few_words, list_of};
-ghost use Rattle.cal_recurrence.specs.Values.{most_values};
 ghost use Rattle.cal_recurrence.specs.Words.{parts_at};
 
-use crate::values::{MOST, Values};
 use crate::words::cut;
 use crate::writing::Word;
+use cal_schedule::Values;
 
 /// Counts the commas.
 fn commas(value: &[u8]) -> usize
@@ -25,7 +25,7 @@ fn commas(value: &[u8]) -> usize
 pub fn has_few_words(value: &[u8]) -> bool
     ensures { result ≡ has_few_words value.now }
 {
-    commas(value) < MOST
+    commas(value) < 62
 }
 
 /// Parses values up to `most` with commas between them. `filler` fills the unused places of the

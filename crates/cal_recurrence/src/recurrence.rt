@@ -1,12 +1,12 @@
 //! Recurrences and their days.
 ghost use Rattle.std.specs.Prelude.{◌≡◌};
 ghost use Rattle.std.specs.List.{list_any};
-ghost use Rattle.cal_recurrence.specs.Days.{excluded, is_numbered, last_of, ranks_alone, AreDays, IsRuleOf};
+ghost use Rattle.cal_schedule.specs.Pattern.{rule_of};
+ghost use Rattle.cal_recurrence.specs.Days.{days_of, excluded, has_end, is_numbered, last_of, ranks_alone};
 
 use crate::fault::RulePart;
-use crate::values::Values;
-use cal_schedule::{ByDay, Frequency, Rule, RuleDays};
-use cal_time::{Date, Month, Weekday};
+use cal_schedule::{ByDay, Frequency, Pattern, Rule, RuleDays};
+use cal_time::Date;
 
 /// An end of a recurrence.
 #[derive(Clone, Copy, Debug, PartialEq, Eq)]
@@ -19,32 +19,22 @@ pub enum RuleEnd {
     Count(u32),
 }
 
-/// A recurrence as in a `RRULE` of RFC 5545: a rule without its start, and its end.
-///
-/// An empty list excludes no day.
+/// A recurrence as in a `RRULE` of RFC 5545: a rule without its start.
 #[derive(Clone, Debug, PartialEq, Eq, Drop)]
 pub struct Recurrence {
-    /// The unit of the interval.
-    pub frequency: Frequency,
-    /// The interval: every n-th day, week, month or year, counted from the start.
-    pub interval: u32,
-    /// The first day of a week.
-    pub week_start: Weekday,
-    /// The months.
-    pub months: Values<Month>,
-    /// The weeks of the year, counted from 1, or from the end with -1 for the last one.
-    pub weeks: Values<i8>,
-    /// The days of the year, counted from 1, or from the end with -1 for the last one.
-    pub year_days: Values<i16>,
-    /// The days of the month, counted from 1, or from the end with -1 for the last one.
-    pub month_days: Values<i8>,
-    /// The weekdays.
-    pub weekdays: Values<ByDay>,
-    /// The positions among the days of a day, week, month or year that pass these lists, from 1 for
-    /// the first one and from -1 for the last one.
-    pub set_positions: Values<i16>,
+    /// The pattern of the days.
+    pub pattern: Pattern,
     /// The end.
     pub end: RuleEnd,
+}
+
+impl RuleEnd {
+    /// Returns `true` if there is an `UNTIL` or a `COUNT`.
+    pub(crate) fn is_given(self) -> bool
+        ensures { result ≡ has_end self }
+    {
+        !matches!(self, RuleEnd::Never)
+    }
 }
 
 fn is_numbered(by: ByDay) -> bool
@@ -66,43 +56,45 @@ impl Recurrence {
     pub(crate) fn ranks_alone(&self) -> bool
         ensures { result ≡ ranks_alone self.now }
     {
-        !self.set_positions.as_slice().is_empty()
-            && self.months.as_slice().is_empty()
-            && self.weeks.as_slice().is_empty()
-            && self.year_days.as_slice().is_empty()
-            && self.month_days.as_slice().is_empty()
-            && self.weekdays.as_slice().is_empty()
+        !self.pattern.set_positions.is_empty()
+            && self.pattern.months.is_empty()
+            && self.pattern.weeks.is_empty()
+            && self.pattern.year_days.is_empty()
+            && self.pattern.month_days.is_empty()
+            && self.pattern.weekdays.is_empty()
     }
 
     /// Returns two parts that exclude each other, if there are such.
     pub(crate) fn excluded(&self) -> Option<(RulePart, RulePart)>
         ensures { result ≡ excluded self.now }
     {
-        match self.frequency {
+        match self.pattern.frequency {
             Frequency::Daily => {
-                if any_numbered(self.weekdays.as_slice()) {
+                if any_numbered(self.pattern.weekdays.as_slice()) {
                     return Some((RulePart::Weekdays, RulePart::Frequency));
                 }
             }
             Frequency::Weekly => {
-                if any_numbered(self.weekdays.as_slice()) {
+                if any_numbered(self.pattern.weekdays.as_slice()) {
                     return Some((RulePart::Weekdays, RulePart::Frequency));
                 }
-                if !self.month_days.as_slice().is_empty() {
+                if !self.pattern.month_days.is_empty() {
                     return Some((RulePart::MonthDays, RulePart::Frequency));
                 }
             }
             Frequency::Monthly => {}
             Frequency::Yearly => {
-                if !self.weeks.as_slice().is_empty() && any_numbered(self.weekdays.as_slice()) {
+                if !self.pattern.weeks.is_empty()
+                    && any_numbered(self.pattern.weekdays.as_slice())
+                {
                     return Some((RulePart::Weekdays, RulePart::Weeks));
                 }
                 return None;
             }
         }
-        if !self.year_days.as_slice().is_empty() {
+        if !self.pattern.year_days.is_empty() {
             Some((RulePart::YearDays, RulePart::Frequency))
-        } else if !self.weeks.as_slice().is_empty() {
+        } else if !self.pattern.weeks.is_empty() {
             Some((RulePart::Weeks, RulePart::Frequency))
         } else {
             None
@@ -119,28 +111,16 @@ impl Recurrence {
     }
 
     /// Returns the rule from a start, without a `COUNT`, which a rule does not have.
-    pub fn rule(&self, start: Date) -> Rule<'_>
-        ensures { IsRuleOf self.now start result }
+    pub fn rule(&self, start: Date) -> Rule
+        ensures { result ≡ rule_of self.now.pattern start (last_of self.now.end) }
     {
-        Rule {
-            start,
-            frequency: self.frequency,
-            interval: self.interval,
-            week_start: self.week_start,
-            months: self.months.as_slice(),
-            weeks: self.weeks.as_slice(),
-            year_days: self.year_days.as_slice(),
-            month_days: self.month_days.as_slice(),
-            weekdays: self.weekdays.as_slice(),
-            set_positions: self.set_positions.as_slice(),
-            until: self.last(),
-        }
+        self.pattern.rule(start, self.last())
     }
 
     /// Returns an iterator over the days from a start. For example,
     /// `FREQ=MONTHLY;BYDAY=-1FR;COUNT=12` gives twelve last Fridays.
-    pub fn days(&self, start: Date) -> RuleDays<'_>
-        ensures { AreDays self.now start result }
+    pub fn days(&self, start: Date) -> RuleDays
+        ensures { result ≡ days_of self.now start }
     {
         let rule = self.rule(start);
         match self.end {

@@ -2,7 +2,7 @@
 ghost use Rattle.std.specs.Prelude.{◌≡◌, ◌+◌, ◌*◌, ◌≤◌, ◌++◌, List, ℕ, Option, length};
 ghost use Rattle.std.specs.Fmt.{signed_decimal};
 ghost use Rattle.cal_recurrence.specs.RecurrenceText.{HasRoom};
-ghost use Rattle.cal_recurrence.specs.Values.{most_values};
+ghost use Rattle.cal_schedule.specs.Values.{most_values};
 ghost use Rattle.cal_recurrence.specs.Words.{by_day_of, month_of, position_of, small_index_of};
 ghost use Rattle.cal_recurrence.specs.Written.{by_day_text, day_text, end_text, frequency_text, interval_text, list_text, month_text, position_text, week_start_text, weekday_text};
 

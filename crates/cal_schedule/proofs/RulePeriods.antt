@@ -177,8 +177,8 @@ is_week-places w m n k z e = ap (λ day. is_nth_weekday true day z) e ∙ is_nth
 matches_weeks-periods : (rule : Rule) (n j : ℕ) → matches_weeks rule (n + 146097 * j) ≡ matches_weeks rule n
 unfolding matches_weeks is_week
 matches_weeks-periods rule n j =
-    let w = rule.week_start in
-    allows-alike (is_week w (n + 146097 * j)) (is_week w n) rule.weeks.now
+    let w = rule.pattern.week_start in
+    allows-alike (is_week w (n + 146097 * j)) (is_week w n) rule.pattern.weeks
     (λ z. is_week-places w (n + 146097 * j) j (fourth_day w n) z (fourth-periods w n j))
 
 pub matches_months-alike : (rule : Rule) (m n : ℕ) → month_at m ≡ month_at n → matches_months rule m ≡ matches_months rule n
@@ -207,12 +207,12 @@ matches_start-alike Yearly start m n h = rw h.day refl
 matches_days-alike : (rule : Rule) (m n : ℕ) → IsAlike m n → matches_days rule m ≡ matches_days rule n
 unfolding matches_days
 matches_days-alike rule m n h =
-    let b = is_yearly rule.frequency && is_empty rule.months.now in
+    let b = is_yearly rule.pattern.frequency && is_empty rule.pattern.months in
     rw (
-      matches_start-alike (if is_empty rule.weeks.now then rule.frequency else Weekly) rule.start m n h,
-      allows-alike (is_year_day m) (is_year_day n) rule.year_days.now (is_year_day-alike m n h),
-      allows-alike (is_month_day m) (is_month_day n) rule.month_days.now (is_month_day-alike m n h),
-      allows-alike (matches_by_day b m) (matches_by_day b n) rule.weekdays.now (matches_by_day-alike b m n h),
+      matches_start-alike (if is_empty rule.pattern.weeks then rule.pattern.frequency else Weekly) rule.start m n h,
+      allows-alike (is_year_day m) (is_year_day n) rule.pattern.year_days (is_year_day-alike m n h),
+      allows-alike (is_month_day m) (is_month_day n) rule.pattern.month_days (is_month_day-alike m n h),
+      allows-alike (matches_by_day b m) (matches_by_day b n) rule.pattern.weekdays (matches_by_day-alike b m n h),
     ) refl
 
 pub passes-periods : (rule : Rule) (n j : ℕ) → passes rule (n + 146097 * j) ≡ passes rule n

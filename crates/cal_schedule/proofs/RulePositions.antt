@@ -88,19 +88,19 @@ back-is rule n e count h is =
 
 pub positions-are : (rule : Rule) (n s e ahead back : ℕ) → IsPeriodStart rule n s → IsPeriodEnd rule n e
     → ahead + count_before (passes rule) s ≡ count_before (passes rule) (n + 1) → back + count_before (passes rule) n ≡ count_before (passes rule) e
-    → allows (λ k. is_nth k ahead back) rule.set_positions.now ≡ matches_positions rule n
+    → allows (λ k. is_nth k ahead back) rule.pattern.set_positions ≡ matches_positions rule n
 unfolding matches_positions
 positions-are rule n s e ahead back start end a b =
-    ap (λ i. allows (λ k. is_nth k i back) rule.set_positions.now) (ahead-is rule n s ahead start a)
-    ∙ ap (λ i. allows (λ k. is_nth k (count_before (passes_with rule n) (n + 1)) i) rule.set_positions.now) (back-is rule n e back end b)
+    ap (λ i. allows (λ k. is_nth k i back) rule.pattern.set_positions) (ahead-is rule n s ahead start a)
+    ∙ ap (λ i. allows (λ k. is_nth k (count_before (passes_with rule n) (n + 1)) i) rule.pattern.set_positions) (back-is rule n e back end b)
 
 allows-none : {X : Type 0} (test : X → Bool) (xs : List X) → true ≡ (length xs == 0) → allows test xs ≡ true
 allows-none test [] e = refl
 allows-none test (x ∷ xs) e = absurd (omega (arith, eqb-true (length (x ∷ xs)) 0 (sym e)))
 
-pub no-positions : (rule : Rule) (n : ℕ) → true ≡ (length rule.set_positions.now == 0) → true ≡ matches_positions rule n
+pub no-positions : (rule : Rule) (n : ℕ) → true ≡ (length rule.pattern.set_positions == 0) → true ≡ matches_positions rule n
 unfolding matches_positions
-no-positions rule n h = sym (allows-none _ rule.set_positions.now h)
+no-positions rule n h = sym (allows-none _ rule.pattern.set_positions h)
 
 -- ---- the bounds of a period
 pub period_start : (rule : Rule) (n t x : ℕ) → t ≡ period_index (unit_of rule) n
@@ -230,8 +230,8 @@ positions-period : (rule : Rule) (n j : ℕ) → 372 ≤ n → n + 146097 * j + 
 unfolding matches_positions
 positions-period rule n j low high =
     let same = same-ranks rule n j low high in
-    ap (λ i. allows (λ k. is_nth k i (count_from (passes_with rule (n + 146097 * j)) (n + 146097 * j))) rule.set_positions.now) same.ahead
-    ∙ ap (λ i. allows (λ k. is_nth k (count_before (passes_with rule n) (n + 1)) i) rule.set_positions.now) same.back
+    ap (λ i. allows (λ k. is_nth k i (count_from (passes_with rule (n + 146097 * j)) (n + 146097 * j))) rule.pattern.set_positions) same.ahead
+    ∙ ap (λ i. allows (λ k. is_nth k (count_before (passes_with rule n) (n + 1)) i) rule.pattern.set_positions) same.back
 
 -- ---- what makes a day one of the rule's
 pub record IsOn (rule : Rule) (n : ℕ) : Type 0 where
@@ -315,7 +315,7 @@ pub record IsScanned (rule : Rule) (n e m ahead after : ℕ) : Type 0 where
   pub ahead_is : ahead + count_before (passes rule) start ≡ count_before (passes rule) (m + 1)
   pub after_is : after + count_before (passes rule) (m + 1) ≡ count_before (passes rule) e
 
-pub scanned-first : (rule : Rule) (n s e ahead back : ℕ) → allows (λ k. is_nth k ahead back) rule.set_positions.now ≡ false → passes rule n ≡ true → IsPeriodStart rule n s → IsPeriodEnd rule n e
+pub scanned-first : (rule : Rule) (n s e ahead back : ℕ) → allows (λ k. is_nth k ahead back) rule.pattern.set_positions ≡ false → passes rule n ≡ true → IsPeriodStart rule n s → IsPeriodEnd rule n e
     → ahead + count_before (passes rule) s ≡ count_before (passes rule) (n + 1) → back + count_before (passes rule) n ≡ count_before (passes rule) e
     → IsScanned rule n e n ahead (back - 1)
 scanned-first rule n s e ahead back off on first end a b =
@@ -352,7 +352,7 @@ scanned-fails rule n e m x ahead after h later within none off =
 pub record HasNumbers (rule : Rule) (m x ahead after : ℕ) : Type 0 where
   pub some : 1 ≤ after
   pub most : ahead ≤ m + 1
-  pub is : allows (λ k. is_nth k (ahead + 1) after) rule.set_positions.now ≡ matches_positions rule x
+  pub is : allows (λ k. is_nth k (ahead + 1) after) rule.pattern.set_positions ≡ matches_positions rule x
 
 pub scanned-numbers : (rule : Rule) (n e m x ahead after : ℕ) → IsScanned rule n e m ahead after → m < x → x < e → NonePass rule (m + 1) x → passes rule x ≡ true
     → HasNumbers rule m x ahead after

@@ -142,12 +142,12 @@ off_month rule n k off e =
     let same = same_month k n (omega (arith, ints, pos-months k, pos-months n)) in
     ap (λ b. b && (matches_weeks rule k && matches_days rule k)) (matches_months-alike rule k n same.month ∙ off)
 
-off_week : (rule : Rule) (n k : ℕ) → matches_weeks rule n ≡ false → period_index (unit.Week rule.week_start) k ≡ period_index (unit.Week rule.week_start) n → passes rule k ≡ false
+off_week : (rule : Rule) (n k : ℕ) → matches_weeks rule n ≡ false → period_index (unit.Week rule.pattern.week_start) k ≡ period_index (unit.Week rule.pattern.week_start) n → passes rule k ≡ false
 unfolding passes matches_weeks is_week
 off_week rule n k off e =
-    let w = rule.week_start in
+    let w = rule.pattern.week_start in
     let same : fourth_day w k ≡ fourth_day w n = omega (arith, fourth-is w k, fourth-is w n) in
-    false_from_ne_true _ (λ on. false≢true (sym off ∙ ap (λ m. allows (λ z. is_nth_weekday true m z) rule.weeks.now) (sym same) ∙ (and_parts _ _ (and_parts _ _ on).1).0))
+    false_from_ne_true _ (λ on. false≢true (sym off ∙ ap (λ m. allows (λ z. is_nth_weekday true m z) rule.pattern.weeks) (sym same) ∙ (and_parts _ _ (and_parts _ _ on).1).0))
 
 -- so the next candidate is the first day of the next month or week
 skip-period : (rule : Rule) (u : PeriodUnit) (n : ℕ) (r : Option ℕ) → ((k : ℕ) → period_index u k ≡ period_index u n → passes rule k ≡ false)
@@ -167,8 +167,8 @@ pub skip-month : (rule : Rule) (n : ℕ) (r : Option ℕ) → matches_months rul
 skip-month rule n r off = skip-period rule unit.Month n r (λ k e. off_month rule n k off e)
 
 pub skip-week : (rule : Rule) (n : ℕ) (r : Option ℕ) → matches_weeks rule n ≡ false
-    → IsFirstOfPeriod (unit.Week rule.week_start) (period_index (unit.Week rule.week_start) n + 1) r → IsCandidate rule n r
-skip-week rule n r off = skip-period rule (unit.Week rule.week_start) n r (λ k e. off_week rule n k off e)
+    → IsFirstOfPeriod (unit.Week rule.pattern.week_start) (period_index (unit.Week rule.pattern.week_start) n + 1) r → IsCandidate rule n r
+skip-week rule n r off = skip-period rule (unit.Week rule.pattern.week_start) n r (λ k e. off_week rule n k off e)
 
 -- nor on a day whose weekday it does not take
 any-more : {X : Type 0} (p q : X → Bool) → ((x : X) → p x ≡ true → q x ≡ true) → (xs : List X) → list_any p xs ≡ true → list_any q xs ≡ true
@@ -195,8 +195,8 @@ weekday_is b n (Nth k w) e = (and_parts _ _ e).0
 may_fall_on-days : (rule : Rule) (n : ℕ) → matches_days rule n ≡ true → may_fall_on rule (weekday_at n) ≡ true
 unfolding matches_days
 may_fall_on-days rule n e =
-    let b = is_yearly rule.frequency && is_empty rule.months.now in
-    then_allows _ (is_year_day n) (is_month_day n) (matches_by_day b n) _ rule.year_days.now rule.month_days.now rule.weekdays.now (weekday_is b n) e
+    let b = is_yearly rule.pattern.frequency && is_empty rule.pattern.months in
+    then_allows _ (is_year_day n) (is_month_day n) (matches_by_day b n) _ rule.pattern.year_days rule.pattern.month_days rule.pattern.weekdays (weekday_is b n) e
 
 off_weekday : (rule : Rule) (k : ℕ) → may_fall_on rule (weekday_at k) ≡ false → passes rule k ≡ false
 unfolding passes

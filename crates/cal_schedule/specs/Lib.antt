@@ -1,10 +1,12 @@
 pub mod Months
 pub mod MonthLaws
+pub mod Pattern
 pub mod Rule
 pub mod Ranks
 pub mod RuleLaws
 pub mod RuleSearch
 pub mod Until
+pub mod Values
 pub mod Weekdays
 pub mod YearFraction
 pub mod Workdays

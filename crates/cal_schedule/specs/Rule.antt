@@ -78,7 +78,7 @@ is_yearly f = false
 
 -- A rule names no day: it has no days of the year or of the month, and no weekdays.
 abbrev pub names_no_day : Rule → Bool
-names_no_day rule = is_empty rule.year_days.now && (is_empty rule.month_days.now && is_empty rule.weekdays.now)
+names_no_day rule = is_empty rule.pattern.year_days && (is_empty rule.pattern.month_days && is_empty rule.pattern.weekdays)
 
 -- The periods that a rule counts. A yearly rule with weeks has the years of its weeks.
 abbrev pub unit_by : Frequency → Weekday → Bool → PeriodUnit
@@ -89,18 +89,18 @@ unit_by Yearly first true = unit.Year
 unit_by Yearly first false = unit.WeekYear first
 
 unfoldable pub unit_of : Rule → PeriodUnit
-unit_of rule = unit_by rule.frequency rule.week_start (is_empty rule.weeks.now)
+unit_of rule = unit_by rule.pattern.frequency rule.pattern.week_start (is_empty rule.pattern.weeks)
 
 -- Day n is in a month of the rule. A yearly rule that names neither months nor weeks nor days has
 -- the month of its start.
 unfoldable pub matches_months : Rule → ℕ → Bool
 matches_months rule n =
-    allows (λ m. number m == month_at n) rule.months.now
-    && (not (is_yearly rule.frequency && is_empty rule.months.now && is_empty rule.weeks.now && names_no_day rule) || (month_at n == month_at rule.start))
+    allows (λ m. number m == month_at n) rule.pattern.months
+    && (not (is_yearly rule.pattern.frequency && is_empty rule.pattern.months && is_empty rule.pattern.weeks && names_no_day rule) || (month_at n == month_at rule.start))
 
 -- Day n is in a week of the rule.
 unfoldable pub matches_weeks : Rule → ℕ → Bool
-matches_weeks rule n = allows (is_week rule.week_start n) rule.weeks.now
+matches_weeks rule n = allows (is_week rule.pattern.week_start n) rule.pattern.weeks
 
 -- Day n has the day of the start: the weekday in a weekly rule, the day of the month in a monthly
 -- or yearly rule.
@@ -114,10 +114,10 @@ matches_start Yearly start n = day_of_month_at n == day_of_month_at start
 -- has the day of the start, by the weekday if there are weeks.
 unfoldable pub matches_days : Rule → ℕ → Bool
 matches_days rule n =
-    if names_no_day rule then matches_start (if is_empty rule.weeks.now then rule.frequency else Weekly) rule.start n
-    else allows (is_year_day n) rule.year_days.now
-    && (allows (is_month_day n) rule.month_days.now
-    && allows (matches_by_day (is_yearly rule.frequency && is_empty rule.months.now) n) rule.weekdays.now)
+    if names_no_day rule then matches_start (if is_empty rule.pattern.weeks then rule.pattern.frequency else Weekly) rule.start n
+    else allows (is_year_day n) rule.pattern.year_days
+    && (allows (is_month_day n) rule.pattern.month_days
+    && allows (matches_by_day (is_yearly rule.pattern.frequency && is_empty rule.pattern.months) n) rule.pattern.weekdays)
 
 -- Day n is not after the last day, if there is one.
 abbrev pub matches_until : Option ℕ → ℕ → Bool
@@ -126,7 +126,7 @@ matches_until (Some last) n = nat_le n last
 
 -- A rule selects every n-th period. An interval of 0 counts as 1.
 abbrev pub interval_or_1 : Rule → ℕ
-interval_or_1 rule = max rule.interval 1
+interval_or_1 rule = max rule.pattern.interval 1
 
 -- The number of periods from the last selected period to the period of day n. A period is selected
 -- if it comes a multiple of the step after the period of the start.
@@ -146,7 +146,7 @@ passes_with rule n k =
 -- counted from the first or from the last one.
 unfoldable pub matches_positions : Rule → ℕ → Bool
 matches_positions rule n =
-    allows (λ k. is_nth k (count_before (passes_with rule n) (n + 1)) (count_from (passes_with rule n) n)) rule.set_positions.now
+    allows (λ k. is_nth k (count_before (passes_with rule n) (n + 1)) (count_from (passes_with rule n) n)) rule.pattern.set_positions
 
 -- Day n is a day of the rule if it isn't before the start or after the last day, is in a selected
 -- period, passes the months, the weeks and the days, and has a position.

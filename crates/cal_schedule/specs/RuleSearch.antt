@@ -20,7 +20,7 @@ by_day_weekday (Nth k w) = w
 
 -- The rule allows days with the weekday at this index, with any number.
 abbrev pub may_fall_on : Rule → ℕ → Bool
-may_fall_on rule at = allows (λ by. at == index (by_day_weekday by)) rule.weekdays.now
+may_fall_on rule at = allows (λ by. at == index (by_day_weekday by)) rule.pattern.weekdays
 
 -- r is the first day of the range in period t or a later one.
 abbrev pub IsFirstOfPeriod : PeriodUnit → ℕ → Option ℕ → Type 0

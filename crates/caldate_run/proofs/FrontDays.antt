@@ -5,15 +5,15 @@ use Rattle.std.specs.List.{take_while}
 use Rattle.std.proofs.lemmas.Bool.{cases_Bool}
 use Rattle.std.proofs.lemmas.Bool.Decides.{nat_tests}
 use Rattle.std.proofs.lemmas.List.Sums.{take_while-cons}
-use Rattle.cal_recurrence.specs.Days.{up_to_end, AreDays}
+use Rattle.cal_recurrence.specs.Days.{days_of, last_of, up_to_end}
 use Rattle.cal_recurrence.specs.declared.recurrence.RuleEnd.{RuleEnd}
 use Rattle.cal_recurrence.specs.declared.recurrence.RuleEnd.TheVariants.{Never, Until, Count}
+use Rattle.cal_schedule.specs.Pattern.{rule_of}
 use Rattle.cal_schedule.specs.Rule.{occurrences, is_occurrence}
 use Rattle.cal_schedule.specs.declared.rule.rule.Rule.{Rule}
 use Rattle.cal_schedule.proofs.Rules.{all_of_them}
 use Rattle.cal_time.specs.Date.{last_day}
 use Rattle.cal_time.specs.Occurrences.{days_from}
-use Rattle.cal_recurrence.proofs.OneAnswer.{days-one}
 use Rattle.caldate_run.specs.Recurring.{up_to, AreOccurrences}
 use Rattle.caldate_run.specs.declared.request.Occurrences.{Occurrences}
 
@@ -91,14 +91,11 @@ front_of_rule last Never rule = subst (λ l. front_to last l ≡ up_to last l) (
 front_of_rule last (Until day) rule = subst (λ l. front_to last l ≡ up_to last l) (all_of_them rule) (front_days last (is_occurrence rule) (last_day + 1) 0 4294967295)
 front_of_rule last (Count count) rule = front_days last (is_occurrence rule) (last_day + 1) 0 count
 
-pub front_occurrences : (asked : Occurrences) (days : List ℕ) → AreDays asked.recurrence asked.first days → AreOccurrences asked (front_to asked.last days)
-front_occurrences asked days (rule, is, e) =
-    (days, (rule, is, e), subst (λ l. front_to asked.last l ≡ up_to asked.last l) (sym e) (front_of_rule asked.last asked.recurrence.end rule))
+pub front_occurrences : (asked : Occurrences) (days : List ℕ) → days ≡ days_of asked.recurrence asked.first → AreOccurrences asked (front_to asked.last days)
+front_occurrences asked days e =
+    let its = asked.recurrence in
+    ap (front_to asked.last) e ∙ front_of_rule asked.last its.end (rule_of its.pattern asked.first (last_of its.end))
 
 -- ---- one date more
 pub one_date_more : (dates : List ℕ) (day : ℕ) (all old new : List ℕ) → all ≡ dates ++ old → old ≡ day ∷ new → all ≡ (dates ++ day ∷ []) ++ new
 one_date_more dates day all old new e f = e ∙ ap (λ l. dates ++ l) f ∙ sym (append_assoc dates (day ∷ []) new)
-
--- ---- the dates have one answer
-pub one_dates : (asked : Occurrences) (dates others : List ℕ) → AreOccurrences asked dates → AreOccurrences asked others → dates ≡ others
-one_dates asked dates others (days, are, e) (more, alike, f) = e ∙ ap (up_to asked.last) (days-one asked.recurrence asked.first days more are alike) ∙ sym f

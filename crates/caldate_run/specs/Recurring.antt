@@ -1,6 +1,6 @@
 -- The dates of a recurrence up to a last one, and the bytes that the writer takes.
 use Rattle.std.specs.Prelude.{◌≡◌, ℕ, nat_le, List, ◌++◌, filter, Option, Result}
-use Rattle.cal_recurrence.specs.Days.{AreDays}
+use Rattle.cal_recurrence.specs.Days.{days_of}
 use Rattle.caldate_run.specs.Lists.{TakesLines}
 use Rattle.caldate_run.specs.declared.run.run_error.RunError.{RunError}
 use Rattle.caldate_run.specs.declared.request.Occurrences.{Occurrences}
@@ -11,7 +11,7 @@ up_to last days = filter (λ day. nat_le day last) days
 
 -- The dates are the days of the recurrence up to the last.
 abbrev pub AreOccurrences : Occurrences → List ℕ → Type 0
-AreOccurrences asked dates = (days : List ℕ) × AreDays asked.recurrence asked.first days × (dates ≡ up_to asked.last days)
+AreOccurrences asked dates = dates ≡ up_to asked.last (days_of asked.recurrence asked.first)
 
 -- The dates are the first of them, in order.
 abbrev pub AreFirstOccurrences : Occurrences → List ℕ → Type 0

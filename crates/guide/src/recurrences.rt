@@ -11,7 +11,7 @@ use cal_time::{Date, Month, Weekday};
 use std::io;
 
 /// Returns the next two days of a rule after a date.
-fn next_two(rule: &Rule<'_>, date: Date) -> Option<(Date, Date)>
+fn next_two(rule: &Rule, date: Date) -> Option<(Date, Date)>
     ensures order { IfSome result (λ days. (date < days.0) × (days.0 < days.1)) }
     ensures found { IfSome result (λ days.
         (is_occurrence rule.now days.0 ≡ true) × (is_occurrence rule.now days.1 ≡ true)) }
@@ -48,10 +48,9 @@ pub fn show(rt: &impl Print) -> io::Result<()> {
     let Ok(start) = Date::from_calendar_date(2024, Month::January, 1) else {
         return Ok(());
     };
-    let last_fridays = Rule {
-        weekdays: &[ByDay::Nth(-1, Weekday::Friday)],
-        ..Rule::new(start, Frequency::Monthly)
-    };
+    let mut last_fridays = Rule::new(start, Frequency::Monthly);
+    let last_friday = ByDay::Nth(-1, Weekday::Friday);
+    last_fridays.pattern.weekdays.push(last_friday);
     for day in last_fridays.days().take(12) {
         println!(rt; "{day}")?;
     }

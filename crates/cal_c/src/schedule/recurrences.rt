@@ -3,8 +3,7 @@
 //! A rule is a struct of its parts. Each of its lists has at most 62 values.
 ghost use Rattle.std.specs.Prelude.{◌≡◌, pos, slice_get, if◌then◌else◌};
 ghost use Rattle.cal_schedule.specs.Rule.{occurrences_after, occurrences, is_occurrence};
-ghost use Rattle.cal_schedule.specs.declared.rule.rule.Rule.{Rule};
-ghost use Rattle.cal_c.specs.Recurrences.{days_ok, days_error, AreDatesWritten, IsRule, IsRuleFromParts, IsRuleStatus};
+ghost use Rattle.cal_c.specs.Recurrences.{days_ok, days_error, AreDatesWritten, IsRule, IsRuleStatus, rule_in};
 ghost use Rattle.cal_c.specs.Results.{date_or_out_of_range, date_error, number_ok, number_error};
 ghost use Rattle.cal_c.specs.Statuses.{invalid_date};
 ghost use Rattle.cal_c.specs.Values.{IsJulianDay, day_of};
@@ -14,10 +13,10 @@ mod formatting;
 mod laws;
 mod lists;
 mod months;
-mod owned_rule;
 mod parsing;
 mod recurrence_parts;
 mod results;
+mod rule_from_parts;
 mod rule_parts;
 mod weekdays;
 
@@ -27,7 +26,7 @@ use crate::status::INVALID_DATE;
 use crate::values::valid_date;
 use cal_schedule::Rule;
 use cal_time::Date;
-use owned_rule::OwnedRule;
+use rule_from_parts::rule_from_parts;
 use rule_parts::RuleParts;
 
 /// Returns the first day of a rule. Fails if the range has none. For the last Friday of each month
@@ -36,11 +35,11 @@ use rule_parts::RuleParts;
 pub extern "C" fn fots_rule_first(rule: &RuleParts<'_>) -> DateResult
     ensures error { ¬ IsRule rule.now
         → IsRuleStatus rule.now result.status × (result ≡ date_error result.status) }
-    ensures value { IsRule rule.now → ((its : Rule) × IsRuleFromParts rule.now its
-        × (result ≡ date_or_out_of_range (slice_get (occurrences its) 0))) }
+    ensures value { IsRule rule.now
+        → result ≡ date_or_out_of_range (slice_get (occurrences (rule_in rule.now)) 0) }
 {
-    let found = or_return!(OwnedRule::from_parts(rule), status => DateResult::error(status));
-    DateResult::from_option(found.rule().days().next())
+    let rule = or_return!(rule_from_parts(rule), status => DateResult::error(status));
+    DateResult::from_option(rule.days().next())
 }
 
 /// Returns the first day of a rule after a date. Fails if the range has none. For the last Friday
@@ -51,12 +50,11 @@ pub extern "C" fn fots_rule_next_after(rule: &RuleParts<'_>, date: i32) -> DateR
         → IsRuleStatus rule.now result.status × (result ≡ date_error result.status) }
     ensures invalid_date { IsRule rule.now → ¬ IsJulianDay date → result ≡ date_error invalid_date }
     ensures value { IsRule rule.now → IsJulianDay date
-        → ((its : Rule) × IsRuleFromParts rule.now its
-        × (result ≡ date_or_out_of_range (slice_get (occurrences_after its (day_of date)) 0))) }
+        → result ≡ date_or_out_of_range (slice_get (occurrences_after (rule_in rule.now) (day_of date)) 0) }
 {
-    let found = or_return!(OwnedRule::from_parts(rule), status => DateResult::error(status));
+    let rule = or_return!(rule_from_parts(rule), status => DateResult::error(status));
     let date = or_error!(DateResult, valid_date(date), INVALID_DATE);
-    DateResult::from_option(found.rule().next_after(date))
+    DateResult::from_option(rule.next_after(date))
 }
 
 /// Returns 1 if a date is a day of the rule, else 0.
@@ -66,12 +64,11 @@ pub extern "C" fn fots_rule_contains(rule: &RuleParts<'_>, date: i32) -> NumberR
         → IsRuleStatus rule.now result.status × (result ≡ number_error result.status) }
     ensures invalid_date { IsRule rule.now → ¬ IsJulianDay date → result ≡ number_error invalid_date }
     ensures value { IsRule rule.now → IsJulianDay date
-        → ((its : Rule) × IsRuleFromParts rule.now its
-        × (result ≡ number_ok (if is_occurrence its (day_of date) then pos 1 else pos 0))) }
+        → result ≡ number_ok (if is_occurrence (rule_in rule.now) (day_of date) then pos 1 else pos 0) }
 {
-    let found = or_return!(OwnedRule::from_parts(rule), status => NumberResult::error(status));
+    let rule = or_return!(rule_from_parts(rule), status => NumberResult::error(status));
     let date = or_error!(NumberResult, valid_date(date), INVALID_DATE);
-    NumberResult::ok(i32::from(found.rule().contains(date)))
+    NumberResult::ok(i32::from(rule.contains(date)))
 }
 
 /// Writes the days of a rule after a date, in ascending order, as many as fit in the array, and
@@ -88,16 +85,16 @@ pub extern "C" fn fots_rule_days_after(
     ensures invalid_date { IsRule rule.now → ¬ IsJulianDay date
         → (result ≡ days_error invalid_date) × (days.new ≡ days.old) }
     ensures value { IsRule rule.now → IsJulianDay date
-        → ((its : Rule) × IsRuleFromParts rule.now its × (result ≡ days_ok result.length)
-        × AreDatesWritten (occurrences_after its (day_of date)) days.old days.new result.length) }
+        → (result ≡ days_ok result.length)
+        × AreDatesWritten (occurrences_after (rule_in rule.now) (day_of date)) days.old days.new result.length }
 {
-    let found = or_return!(OwnedRule::from_parts(rule), status => DaysResult::error(status));
+    let rule = or_return!(rule_from_parts(rule), status => DaysResult::error(status));
     let date = or_error!(DaysResult, valid_date(date), INVALID_DATE);
-    DaysResult::ok(write_days(&found.rule(), date, days))
+    DaysResult::ok(write_days(&rule, date, days))
 }
 
 /// Writes the days of a rule after a date, as many as fit in the array, and returns their number.
-fn write_days(rule: &Rule<'_>, date: Date, days: &mut [i32]) -> usize
+fn write_days(rule: &Rule, date: Date, days: &mut [i32]) -> usize
     ensures { AreDatesWritten (occurrences_after rule.now date) days.old days.new result }
 {
     let mut last = date;

@@ -1,6 +1,6 @@
 //! Texts with errors, texts in any case and order, and the fields of recurrences.
 use cal_recurrence::{
-    ParseRuleError, ParseRuleErrorKind, Recurrence, RuleEnd, RulePart, Values, parse,
+    ParseRuleError, ParseRuleErrorKind, Pattern, Recurrence, RuleEnd, RulePart, parse,
 };
 use cal_schedule::{ByDay, Frequency};
 use cal_time::{Date, Month, Weekday};
@@ -289,23 +289,26 @@ fn read(rt: &impl Abort, text: &str) {
     match parse(text.as_bytes()) {
         Ok(recurrence) => {
             assert!(rt;
-                matches!(recurrence.frequency, Frequency::Monthly),
+                matches!(recurrence.pattern.frequency, Frequency::Monthly),
                 "{text}"
             );
-            assert!(rt; recurrence.interval == 2, "{text}");
-            assert!(rt; matches!(recurrence.week_start, Weekday::Sunday), "{text}");
+            assert!(rt; recurrence.pattern.interval == 2, "{text}");
+            assert!(rt;
+                matches!(recurrence.pattern.week_start, Weekday::Sunday),
+                "{text}"
+            );
             assert!(rt;
                 matches!(
-                    recurrence.months.as_slice(),
+                    recurrence.pattern.months.as_slice(),
                     [Month::March, Month::December]
                 ),
                 "{text}"
             );
             assert!(rt;
-                matches!(recurrence.month_days.as_slice(), [31, -1]),
+                matches!(recurrence.pattern.month_days.as_slice(), [31, -1]),
                 "{text}"
             );
-            let weekdays = recurrence.weekdays.as_slice();
+            let weekdays = recurrence.pattern.weekdays.as_slice();
             assert!(rt;
                 matches!(
                     weekdays,
@@ -386,21 +389,12 @@ fn texts_of_calendars(rt: HostRuntime) {
 #[test]
 fn by_fields(rt: HostRuntime) {
     let rt = &rt;
-    let mut months = Values::none(Month::January);
-    months.push(Month::November);
-    let mut weekdays = Values::none(ByDay::Every(Weekday::Monday));
-    weekdays.push(ByDay::Nth(4, Weekday::Thursday));
-    assert!(rt; !weekdays.is_full());
+    let mut pattern = Pattern::new(Frequency::Yearly);
+    pattern.months.push(Month::November);
+    pattern.weekdays.push(ByDay::Nth(4, Weekday::Thursday));
+    assert!(rt; !pattern.weekdays.is_full());
     let recurrence = Recurrence {
-        frequency: Frequency::Yearly,
-        interval: 1,
-        week_start: Weekday::Monday,
-        months,
-        weeks: Values::none(0),
-        year_days: Values::none(0),
-        month_days: Values::none(0),
-        weekdays,
-        set_positions: Values::none(0),
+        pattern,
         end: RuleEnd::Count(1),
     };
     let (Ok(start), Ok(thanksgiving)) = (

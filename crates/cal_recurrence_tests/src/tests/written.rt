@@ -1,5 +1,5 @@
 //! Recurrences that are formatted and parsed again.
-use cal_recurrence::{Recurrence, RuleEnd, Values, parse};
+use cal_recurrence::{Pattern, Recurrence, RuleEnd, Values, parse};
 use cal_schedule::{ByDay, Frequency};
 use cal_time::{Date, Month, Weekday};
 use std::process::Abort;
@@ -120,7 +120,7 @@ fn full<T: Copy>(value: T) -> Values<T> {
 #[test]
 fn longest(rt: HostRuntime) {
     let rt = &rt;
-    let recurrence = Recurrence {
+    let pattern = Pattern {
         frequency: Frequency::Monthly,
         interval: u32::MAX,
         week_start: Weekday::Sunday,
@@ -130,6 +130,9 @@ fn longest(rt: HostRuntime) {
         month_days: full(-128),
         weekdays: full(ByDay::Nth(-128, Weekday::Friday)),
         set_positions: full(-32768),
+    };
+    let recurrence = Recurrence {
+        pattern,
         end: RuleEnd::Until(Date::MIN),
     };
     let text = recurrence.text();
@@ -147,7 +150,10 @@ fn printed_and_compared(rt: HostRuntime) {
     let Ok(recurrence) = parse(b"FREQ=DAILY;BYMONTHDAY=1,-1") else {
         panic!(rt; "refused");
     };
-    let shown = format!(in rt.alloc(); "{recurrence:>28}|{recurrence}|{:?}", recurrence.month_days);
+    let shown = format!(in rt.alloc();
+        "{recurrence:>28}|{recurrence}|{:?}",
+        recurrence.pattern.month_days
+    );
     let Ok(shown) = shown else {
         panic!(rt; "no memory");
     };
@@ -170,7 +176,7 @@ fn printed_and_compared(rt: HostRuntime) {
     // Unused places of a list are not compared.
     let mut days = Values::none(7);
     days.push(1);
-    assert!(rt; days != recurrence.month_days);
+    assert!(rt; days != recurrence.pattern.month_days);
     days.push(-1);
-    assert!(rt; days == recurrence.month_days);
+    assert!(rt; days == recurrence.pattern.month_days);
 }

@@ -27,12 +27,13 @@ fn any_at_weekday_index(weekdays: &[ByDay], at: u8) -> bool
     weekdays.iter().any(|by| at == by_day_weekday(*by).place())
 }
 
-impl Rule<'_> {
+impl Rule {
     /// Returns `true` if the rule can match a day with the weekday at this index.
     fn may_fall_on(&self, at: u8) -> bool
         ensures { result ≡ may_fall_on self.now at }
     {
-        self.weekdays.is_empty() || any_at_weekday_index(self.weekdays, at)
+        self.pattern.weekdays.is_empty()
+            || any_at_weekday_index(self.pattern.weekdays.as_slice(), at)
     }
 
     /// Returns the days to the next day with a weekday that the rule can match, at most 7.
@@ -61,7 +62,7 @@ impl Rule<'_> {
             return next_period(PeriodUnit::Month, day);
         }
         if !self.matches_weeks(day) {
-            return next_period(PeriodUnit::Week(self.week_start), day);
+            return next_period(PeriodUnit::Week(self.pattern.week_start), day);
         }
         date_from_number(u64::from(day_number(day)) + u64::from(self.days_to_skip(day)))
     }

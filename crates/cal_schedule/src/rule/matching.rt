@@ -114,19 +114,21 @@ fn any_weekday(weekdays: &[ByDay], of_year: bool, date: Date) -> bool
     weekdays.iter().any(|by| matches_by_day(of_year, date, *by))
 }
 
-impl Rule<'_> {
+impl Rule {
     /// Returns the interval, or 1 if it is 0.
     pub(super) fn interval_or_1(&self) -> u32
         ensures value { result ≡ interval_or_1 self.now }
         ensures min { 1 ≤ result }
     {
-        self.interval.max(1)
+        self.pattern.interval.max(1)
     }
 
     fn names_no_day(&self) -> bool
         ensures { result ≡ names_no_day self.now }
     {
-        self.year_days.is_empty() && self.month_days.is_empty() && self.weekdays.is_empty()
+        self.pattern.year_days.is_empty()
+            && self.pattern.month_days.is_empty()
+            && self.pattern.weekdays.is_empty()
     }
 
     /// Returns the periods that the rule counts.
@@ -134,24 +136,24 @@ impl Rule<'_> {
     pub(super) fn unit(&self) -> PeriodUnit
         ensures { result ≡ unit_of self.now }
     {
-        match self.frequency {
+        match self.pattern.frequency {
             Frequency::Daily => PeriodUnit::Day,
-            Frequency::Weekly => PeriodUnit::Week(self.week_start),
+            Frequency::Weekly => PeriodUnit::Week(self.pattern.week_start),
             Frequency::Monthly => PeriodUnit::Month,
             Frequency::Yearly => {
-                if self.weeks.is_empty() {
+                if self.pattern.weeks.is_empty() {
                     PeriodUnit::Year
                 } else {
-                    PeriodUnit::WeekYear(self.week_start)
+                    PeriodUnit::WeekYear(self.pattern.week_start)
                 }
             }
         }
     }
 
     fn is_yearly(&self) -> bool
-        ensures { result ≡ is_yearly self.now.frequency }
+        ensures { result ≡ is_yearly self.now.pattern.frequency }
     {
-        matches!(self.frequency, Frequency::Yearly)
+        matches!(self.pattern.frequency, Frequency::Yearly)
     }
 
     /// Returns `true` if the month of the date passes the rule.
@@ -160,11 +162,11 @@ impl Rule<'_> {
         ensures { result ≡ matches_months self.now date }
     {
         let month = month_number_of(date);
-        if self.months.is_empty() {
-            !(self.is_yearly() && self.weeks.is_empty() && self.names_no_day())
+        if self.pattern.months.is_empty() {
+            !(self.is_yearly() && self.pattern.weeks.is_empty() && self.names_no_day())
                 || month == month_number_of(self.start)
         } else {
-            any_month(self.months, month)
+            any_month(self.pattern.months.as_slice(), month)
         }
     }
 
@@ -172,12 +174,12 @@ impl Rule<'_> {
     /// with weeks, its day of the month in another monthly or yearly rule.
     fn matches_start(&self, date: Date) -> bool
         ensures { result ≡ matches_start
-            (if is_empty self.now.weeks.now then self.now.frequency else Weekly) self.now.start date }
+            (if is_empty self.now.pattern.weeks then self.now.pattern.frequency else Weekly) self.now.start date }
     {
-        if !self.weeks.is_empty() {
+        if !self.pattern.weeks.is_empty() {
             return date.weekday() == self.start.weekday();
         }
-        match self.frequency {
+        match self.pattern.frequency {
             Frequency::Daily => true,
             Frequency::Weekly => date.weekday() == self.start.weekday(),
             Frequency::Monthly | Frequency::Yearly => date.day() == self.start.day(),
@@ -193,10 +195,12 @@ impl Rule<'_> {
         if self.names_no_day() {
             return self.matches_start(date);
         }
-        let of_year = self.is_yearly() && self.months.is_empty();
-        (self.year_days.is_empty() || any_year_day(self.year_days, date))
-            && (self.month_days.is_empty() || any_month_day(self.month_days, date))
-            && (self.weekdays.is_empty() || any_weekday(self.weekdays, of_year, date))
+        let of_year = self.is_yearly() && self.pattern.months.is_empty();
+        (self.pattern.year_days.is_empty() || any_year_day(self.pattern.year_days.as_slice(), date))
+            && (self.pattern.month_days.is_empty()
+                || any_month_day(self.pattern.month_days.as_slice(), date))
+            && (self.pattern.weekdays.is_empty()
+                || any_weekday(self.pattern.weekdays.as_slice(), of_year, date))
     }
 
     /// Returns `true` if the date passes the months, the weeks and the days.

@@ -130,7 +130,7 @@ pub(super) fn next_period(unit: PeriodUnit, date: Date) -> Option<Date>
     first_of_period(unit, u64::from(period_of(unit, date)) + 1)
 }
 
-impl Rule<'_> {
+impl Rule {
     /// Returns the index of the period of a date.
     pub(super) fn period(&self, date: Date) -> u32
         ensures value { result ≡ period_index (unit_of self.now) date }

@@ -22,7 +22,7 @@ fn any_position(positions: &[i16], ahead: u32, back: u32) -> bool
     positions.iter().any(|k| is_nth(*k, ahead, back))
 }
 
-impl Rule<'_> {
+impl Rule {
     /// Returns the first day of the range in the period of a date.
     fn period_start(&self, date: Date) -> Date
         ensures { IsPeriodStart self.now date result }
@@ -67,16 +67,17 @@ impl Rule<'_> {
 
     /// Returns `true` if these numbers from the start and from the end have a position.
     fn is_position(&self, ahead: u32, back: u32) -> bool
-        ensures { result ≡ allows (λ k. is_nth k ahead back) self.now.set_positions.now }
+        ensures { result ≡ allows (λ k. is_nth k ahead back) self.now.pattern.set_positions }
     {
-        self.set_positions.is_empty() || any_position(self.set_positions, ahead, back)
+        self.pattern.set_positions.is_empty()
+            || any_position(self.pattern.set_positions.as_slice(), ahead, back)
     }
 
     /// Returns `true` if the date has a position among the days of its period that pass.
     pub(super) fn matches_positions(&self, date: Date) -> bool
         ensures { result ≡ matches_positions self.now date }
     {
-        if self.set_positions.is_empty() {
+        if self.pattern.set_positions.is_empty() {
             return true;
         }
         let ahead = self.count_passing(self.period_start(date), day_number(date) + 1);

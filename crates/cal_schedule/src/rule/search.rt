@@ -18,7 +18,7 @@ const PERIOD: u64 = 146_097;
 /// the range a period can be cut, and then the days do not repeat.
 const YEAR: u64 = 372;
 
-impl Rule<'_> {
+impl Rule {
     /// Returns `true` if the rule matches a date. A rule for the last Friday of each month matches
     /// 26 January 2024, and not 19 January.
     #[tactic(auto, unfolding(crate::specs::Rule::is_occurrence))]
@@ -52,7 +52,7 @@ impl Rule<'_> {
         if !self.passes(day) {
             return Err(self.next_candidate(day));
         }
-        if self.set_positions.is_empty() {
+        if self.pattern.set_positions.is_empty() {
             return Ok(day);
         }
         self.find_position(day)

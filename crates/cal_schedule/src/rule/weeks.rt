@@ -35,13 +35,14 @@ fn any_nth(weeks: &[i8], day: Date) -> bool
     weeks.iter().any(|week| is_nth_in_period(true, day, *week))
 }
 
-impl Rule<'_> {
+impl Rule {
     /// Returns `true` if the week of the date passes the rule.
     #[tactic(auto, unfolding(crate::specs::Rule::matches_weeks))]
     pub(super) fn matches_weeks(&self, date: Date) -> bool
         ensures { result ≡ matches_weeks self.now date }
     {
-        self.weeks.is_empty() || any_week(self.weeks, self.week_start, date)
+        self.pattern.weeks.is_empty()
+            || any_week(self.pattern.weeks.as_slice(), self.pattern.week_start, date)
     }
 }
 

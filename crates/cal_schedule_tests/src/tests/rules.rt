@@ -29,7 +29,7 @@ fn date(rt: &impl Abort, number: i64) -> Date {
 }
 
 /// The rule of each day, week, month or year from that day on.
-fn rule(rt: &impl Abort, frequency: Frequency, start: i64) -> Rule<'static> {
+fn rule(rt: &impl Abort, frequency: Frequency, start: i64) -> Rule {
     Rule::new(date(rt, start), frequency)
 }
 
@@ -42,10 +42,8 @@ fn gives(rt: &impl Abort, text: &str, found: Option<Date>, wanted: Option<Date>)
 fn so_many_days(rt: HostRuntime) {
     let rt = &rt;
     let text = "FREQ=DAILY;INTERVAL=10;COUNT=5";
-    let rule = Rule {
-        interval: 10,
-        ..rule(rt, Daily, 1997_09_02)
-    };
+    let mut rule = rule(rt, Daily, 1997_09_02);
+    rule.pattern.interval = 10;
     let mut walk = rule.first_days(5);
     for day in [1997_09_02, 1997_09_12, 1997_09_22, 1997_10_02, 1997_10_12] {
         gives(rt, text, walk.next(), Some(date(rt, day)));
@@ -58,10 +56,8 @@ fn so_many_days(rt: HostRuntime) {
 #[test]
 fn times(rt: HostRuntime) {
     let rt = &rt;
-    let rule = Rule {
-        weekdays: &[Nth(-1, Friday)],
-        ..rule(rt, Monthly, 2024_01_01)
-    };
+    let mut rule = Rule::new(date(rt, 2024_01_01), Monthly);
+    rule.pattern.weekdays.push(Nth(-1, Friday));
     let mut last = None;
     let mut count = 0u32;
     for day in rule.days().take(12) {
@@ -98,9 +94,9 @@ fn counts(rt: HostRuntime) {
 fn debug(rt: HostRuntime) -> Result<(), Fail> {
     let walk = rule(&rt, Daily, 2024_01_01).first_days(2);
     let text = format!(in rt.alloc(); "{walk:?}")?;
-    let rule = "Rule { start: 2024-01-01, frequency: Daily, interval: 1, week_start: Monday, \
-        months: [], weeks: [], year_days: [], month_days: [], weekdays: [], set_positions: [], \
-        until: None }";
+    let rule = "Rule { start: 2024-01-01, until: None, pattern: Pattern { frequency: Daily, \
+        interval: 1, week_start: Monday, months: [], weeks: [], year_days: [], month_days: [], \
+        weekdays: [], set_positions: [] } }";
     let wanted = format!(in rt.alloc();
         "RuleDays {{ rule: {rule}, front: Some(2024-01-01), left: 2 }}"
     )?;

@@ -5,14 +5,14 @@ use cal_schedule::Rule;
 use cal_time::Date;
 
 /// Two calls give one answer.
-fn next_after(rule: &Rule<'_>, date: Date) -> (Option<Date>, Option<Date>)
+fn next_after(rule: &Rule, date: Date) -> (Option<Date>, Option<Date>)
     ensures { result.0 ≡ result.1 }
 {
     (rule.next_after(date), rule.next_after(date))
 }
 
 /// Days of a rule come one after the other.
-fn next_two(rule: &Rule<'_>, date: Date) -> Option<(Date, Date)>
+fn next_two(rule: &Rule, date: Date) -> Option<(Date, Date)>
     ensures { IfSome result (λ pair. (date < pair.0) × (pair.0 < pair.1)) }
 {
     let first = rule.next_after(date)?;
@@ -21,7 +21,7 @@ fn next_two(rule: &Rule<'_>, date: Date) -> Option<(Date, Date)>
 }
 
 /// The next day is one of the rule's.
-fn next_is_on(rule: &Rule<'_>, date: Date) -> bool
+fn next_is_on(rule: &Rule, date: Date) -> bool
     ensures { result ≡ true }
 {
     match rule.next_after(date) {
@@ -31,7 +31,7 @@ fn next_is_on(rule: &Rule<'_>, date: Date) -> bool
 }
 
 /// A loop over the days of a rule ends.
-fn count_of_days(rule: &Rule<'_>) -> u32 {
+fn count_of_days(rule: &Rule) -> u32 {
     let mut count = 0u32;
     for _ in rule.days() {
         count = count.saturating_add(1);

@@ -31,7 +31,7 @@ pub fn list_occurrences<W: Sink>(asked: &Occurrences, writer: &mut W) -> Result<
 }
 
 /// Returns the next day of the iterator, or `None` at its end or past the last day.
-fn next_within(days: &mut RuleDays<'_>, last: Date) -> Option<Date>
+fn next_within(days: &mut RuleDays, last: Date) -> Option<Date>
     ensures { MatchOption result (take_while (λ day. nat_le day last) days.old ≡ [])
         (λ next. take_while (λ day. nat_le day last) days.old
         ≡ next ∷ take_while (λ day. nat_le day last) days.new) }

@@ -1,6 +1,6 @@
 //! The days of recurrences in text.
 ghost use Rattle.std.specs.Prelude.{◌≡◌, Err, List, Ok, false, filter, nat_le, ℕ};
-ghost use Rattle.cal_recurrence.specs.Days.{AreDays, up_to_end};
+ghost use Rattle.cal_recurrence.specs.Days.{days_of, up_to_end};
 ghost use Rattle.cal_recurrence.specs.Text.{recurrence_of};
 ghost use Rattle.cal_recurrence.specs.declared.fault.ParseRuleError.{ParseRuleError};
 ghost use Rattle.cal_recurrence.specs.declared.recurrence.Recurrence.{Recurrence};
@@ -36,9 +36,9 @@ pub extern "C" fn fots_recurrence_days(
         → (result ≡ recurrence_error invalid_date) × (days.new ≡ days.old) }
     ensures value { (its : Recurrence) → recurrence_of text.now ≡ Ok its
         → IsJulianDay start → IsJulianDay from
-        → ((all : List ℕ) × AreDays its (day_of start) all
-        × (result ≡ recurrence_ok result.length)
-        × AreDatesWritten (filter (nat_le (day_of from)) all) days.old days.new result.length) }
+        → (result ≡ recurrence_ok result.length)
+        × AreDatesWritten (filter (nat_le (day_of from)) (days_of its (day_of start)))
+        days.old days.new result.length }
 {
     let recurrence = or_return!(parse(text), fault => RecurrenceResult::parse_error(fault));
     let (Some(start), Some(from)) = (valid_date(start), valid_date(from)) else {
@@ -56,8 +56,8 @@ fn is_counted(recurrence: &Recurrence) -> bool
 
 /// Writes the days of a recurrence from a date on, as many as fit, and returns their number.
 fn write_days_from(recurrence: &Recurrence, start: Date, from: Date, days: &mut [i32]) -> usize
-    ensures { (all : List ℕ) × AreDays recurrence.now start all
-        × AreDatesWritten (filter (nat_le from) all) days.old days.new result }
+    ensures { AreDatesWritten (filter (nat_le from) (days_of recurrence.now start))
+        days.old days.new result }
 {
     if is_counted(recurrence) {
         return write_late(recurrence.days(start), from, days);
@@ -69,8 +69,8 @@ fn write_days_from(recurrence: &Recurrence, start: Date, from: Date, days: &mut 
 }
 
 /// Writes the days of an iterator from a date on, as many as fit, and returns their number.
-fn write_late(mut walk: RuleDays<'_>, from: Date, days: &mut [i32]) -> usize
-    ensures { AreDatesWritten (filter (nat_le from) walk.entry) days.old days.new result }
+fn write_late(mut walk: RuleDays, from: Date, days: &mut [i32]) -> usize
+    ensures { AreDatesWritten (filter (nat_le from) walk) days.old days.new result }
 {
     let mut index = 0;
     while index < days.len() {

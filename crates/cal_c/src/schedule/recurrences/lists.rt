@@ -1,7 +1,7 @@
 //! The lists of a recurrence: the values, then zeros.
 ghost use Rattle.std.specs.Prelude.{◌≡◌, ◌≤◌, length, map};
 ghost use Rattle.cal_time.specs.Month.{number};
-ghost use Rattle.cal_recurrence.specs.Values.{most_values};
+ghost use Rattle.cal_schedule.specs.Values.{most_values};
 ghost use Rattle.cal_c.specs.RecurrenceParts.{filled, no_weekday, parts_of_weekday};
 
 use super::rule_parts::RuleWeekday;

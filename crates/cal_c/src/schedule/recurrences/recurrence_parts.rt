@@ -67,16 +67,17 @@ impl RecurrenceParts {
     pub(super) fn from_recurrence(recurrence: &Recurrence) -> Self
         ensures { result ≡ parts_of recurrence.now }
     {
-        let months = recurrence.months.as_slice();
-        let weeks = recurrence.weeks.as_slice();
-        let year_days = recurrence.year_days.as_slice();
-        let month_days = recurrence.month_days.as_slice();
-        let weekdays = recurrence.weekdays.as_slice();
-        let set_positions = recurrence.set_positions.as_slice();
+        let pattern = &recurrence.pattern;
+        let months = pattern.months.as_slice();
+        let weeks = pattern.weeks.as_slice();
+        let year_days = pattern.year_days.as_slice();
+        let month_days = pattern.month_days.as_slice();
+        let weekdays = pattern.weekdays.as_slice();
+        let set_positions = pattern.set_positions.as_slice();
         RecurrenceParts {
-            frequency: frequency_number(recurrence.frequency),
-            interval: recurrence.interval,
-            week_start: u32::from(recurrence.week_start.number_from_monday()),
+            frequency: frequency_number(pattern.frequency),
+            interval: pattern.interval,
+            week_start: u32::from(pattern.week_start.number_from_monday()),
             until: until_in(recurrence.end),
             count: count_in(recurrence.end),
             months_length: months.len() as u32,

@@ -8,9 +8,5 @@ pub returns-clause-value : goal.returns-clause-value
 returns-clause-value c = λ h k.
     let f = c.ranges.date in
     let at = simp to_z-of_z at c.in-Some.ensures in
-    let read = c.in-Ok.ensures.value in
-    let number : c.ok.result ≡ number_ok (if c.contains.result then pos 1 else pos 0) = search rules in (
-      c.rule.result,
-      c.rule.ensures c.args.rule.now read.1 read.2 read.3,
-      number ∙ ap (λ on. number_ok (if on then pos 1 else pos 0)) (c.contains.ensures.value ∙ ap (is_occurrence c.rule.result) at.1),
-    )
+    let number : c.ok.result ≡ number_ok (if c.contains.result then pos 1 else pos 0) = search rules in
+    number ∙ ap (λ on. number_ok (if on then pos 1 else pos 0)) (c.contains.ensures.value ∙ (λ i. is_occurrence (c.in-Ok.ensures.value.1 i) (at.1 i)))

@@ -8,14 +8,10 @@ pub returns-clause-value : goal.returns-clause-value
 returns-clause-value c = λ h k.
     let f = c.ranges.date in
     let at = simp to_z-of_z at c.in-Some.ensures in
-    let read = c.in-Ok.ensures.value in
-    let its = c.rule.result in
     let count = ap (λ r. r.length) c.ok.ensures in
     let old = c.args.days.now in
     let new = c.write_days.new.days in (
-      its,
-      c.rule.ensures c.args.rule.now read.1 read.2 read.3,
       c.ok.ensures ∙ ap days_ok (sym count),
-      subst (λ n. AreDatesWritten (occurrences_after its n) old new c.ok.result.length) at.1
-          (subst (AreDatesWritten (occurrences_after its c.in-Some.value) old new) (sym count) c.write_days.ensures),
+      subst (λ ns. AreDatesWritten ns old new c.ok.result.length) (λ i. occurrences_after (c.in-Ok.ensures.value.1 i) (at.1 i))
+          (subst (AreDatesWritten (occurrences_after c.in-Ok.value c.in-Some.value) old new) (sym count) c.write_days.ensures),
     )

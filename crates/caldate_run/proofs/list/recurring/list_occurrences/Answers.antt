@@ -2,7 +2,7 @@ use Rattle.std.proofs.Common.{◌≡◌, ℕ, List, ◌++◌, ◌∷◌, ◌∙�
 use Rattle.std.specs.Prelude.{IsErrAnd}
 use Rattle.std.proofs.KnownBytes.{Appends-nil, Appends-trans}
 use Rattle.std.proofs.lemmas.List.{append-nil}
-use Rattle.cal_recurrence.specs.Days.{AreDays}
+use Rattle.cal_recurrence.specs.Days.{days_of}
 use Rattle.caldate_run.specs.Calls.Writes.{no_more}
 use Rattle.caldate_run.specs.Recurring.{AreFirstOccurrences, AreOccurrences}
 use Rattle.caldate_run.specs.Runs.{IsOfWrite}
@@ -17,7 +17,7 @@ pub loop-day-init : goal.loop-day-init
 loop-day-init g c = (([], [], refl, sym c.new-buffer.ensures, Appends-nil _), no_more _)
 
 -- all the dates, of which the first are these
-all_dates : (asked : Occurrences) (days dates more : List ℕ) → AreDays asked.recurrence asked.first days → front_to asked.last days ≡ dates ++ more
+all_dates : (asked : Occurrences) (days dates more : List ℕ) → days ≡ days_of asked.recurrence asked.first → front_to asked.last days ≡ dates ++ more
     → AreOccurrences asked (dates ++ more)
 all_dates asked days dates more are e = subst (AreOccurrences asked) e (front_occurrences asked days are)
 

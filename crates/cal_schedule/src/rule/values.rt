@@ -1,16 +1,16 @@
-//! Lists of the values of a part, without allocation.
-ghost use Rattle.std.specs.Prelude.{⊤, ◌≡◌, ◌<◌, ◌≤◌, ◌++◌, [], ◌∷◌, length, nat_le};
+//! Lists of the values of a pattern, without allocation.
+ghost use Rattle.std.specs.Prelude.{⊤, ◌≡◌, ◌<◌, ◌≤◌, ◌==◌, ◌++◌, [], ◌∷◌, length, nat_le};
 ghost use Rattle.std.specs.Cmp.Lexicographic.{pointwise, lists_equiv, lists_per};
-ghost use Rattle.cal_recurrence.specs.Values.{most_values};
+ghost use Rattle.cal_schedule.specs.Values.{most_values};
 
 use std::alloc::AllocError;
 use std::fmt;
 use std::marker::Model;
 
-/// The maximum number of values of a part. A month has at most 31 days, counted from either end.
-pub(crate) const MOST: usize = 62;
+/// The maximum number of values of a list. A month has at most 31 days, counted from either end.
+const MOST: usize = 62;
 
-/// A list of at most 62 values of a part, without allocation. Contracts see it as a list.
+/// A list of at most 62 values, without allocation. Contracts see it as a list.
 #[derive(Drop)]
 pub struct Values<T> {
     items: [T; MOST],
@@ -19,7 +19,7 @@ pub struct Values<T> {
 
 impl<T> Model for Values<T> {
     ghost use Rattle.std.specs.Prelude.{◌≤◌, List, take};
-    ghost use Rattle.cal_recurrence.specs.Values.{most_values};
+    ghost use Rattle.cal_schedule.specs.Values.{most_values};
 
     ghost Value = { List T };
 
@@ -36,6 +36,13 @@ impl<T> Values<T> {
     {
         &self.items[..self.filled]
     }
+
+    /// Returns `true` if there are no values.
+    pub fn is_empty(&self) -> bool
+        ensures { result ≡ (length self.now == 0) }
+    {
+        self.as_slice().is_empty()
+    }
 }
 
 impl<T: Copy> Values<T> {
@@ -49,7 +56,30 @@ impl<T: Copy> Values<T> {
         }
     }
 
-    /// Returns whether the list is full.
+    /// Creates a list of these values. `filler` fills the unused places, which no call sees.
+    pub fn from_slice(values: &[T], filler: T) -> Self
+        requires { length values.now ≤ most_values }
+        ensures { result ≡ values.now }
+    {
+        let mut items = [filler; MOST];
+        items[..values.len()].copy_from_slice(values);
+        Values {
+            items,
+            filled: values.len(),
+        }
+    }
+
+    /// Copies the list.
+    pub(super) fn copy(&self) -> Self
+        ensures { result ≡ self.now }
+    {
+        Values {
+            items: self.items,
+            filled: self.filled,
+        }
+    }
+
+    /// Returns `true` if the list is full.
     pub fn is_full(&self) -> bool
         ensures { result ≡ nat_le most_values (length self.now) }
     {
@@ -72,10 +102,7 @@ impl<T: Copy> Clone for Values<T> {
     ghost is_infallible = { λ _. ⊤ };
 
     fn clone(&self) -> Result<Self, AllocError> {
-        Ok(Values {
-            items: self.items,
-            filled: self.filled,
-        })
+        Ok(self.copy())
     }
 }
 

@@ -1,4 +1,4 @@
--- The maximum number of values of a part.
+-- The maximum number of values of a list of a pattern.
 use Rattle.std.specs.Prelude.{ℕ}
 
 abbrev pub most_values : ℕ
