@@ -101,7 +101,6 @@ TO_VALUE(date, date)
 TO_VALUE(time, time)
 TO_VALUE(offset, offset)
 TO_VALUE(duration, duration)
-TO_VALUE(plain, moment)
 TO_VALUE(moment, moment)
 
 /* Converts a member of an enum. */
