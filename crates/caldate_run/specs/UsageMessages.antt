@@ -165,7 +165,7 @@ is_file_like (byte ∷ bytes) =
     not (is_digit byte) && (is_some (position (λ b. b == 46) (byte ∷ bytes)) || is_some (position (λ b. b == 47) (byte ∷ bytes)))
 
 abbrev pub file_hint : Expected → List ℕ → List ℕ
-file_hint expected.End word = if is_file_like word then codes "; to read a file, write '<' before its name" else []
+file_hint expected.End word = if is_file_like word then codes "; to read a file, write '--' before its name" else []
 file_hint what word = []
 
 -- the message on a word: `unknown unit 'fortnights'; expected ..`, `duplicate --field`
