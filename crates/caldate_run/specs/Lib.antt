@@ -26,6 +26,7 @@ pub mod Requests
 pub mod Room
 pub mod Runs
 pub mod Excerpts
+pub mod Scans
 pub mod Spellings
 pub mod RunStates
 pub mod Templates
