@@ -79,7 +79,7 @@ impl Format {
         ensures { result ≡ [] }
     {
         Format {
-            items: [Item::OffsetSign; CAPACITY],
+            items: [Item::Literal(0); CAPACITY],
             count: 0,
         }
     }

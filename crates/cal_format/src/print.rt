@@ -1,5 +1,5 @@
 //! The texts that a format prints.
-ghost use Rattle.std.specs.Prelude.{◌≡◌, ℕ, ◌+◌, ◌-◌, ◌<◌, ◌≤◌, ◌/◌, ◌%◌, ◌^◌, ◌++◌, ◌∷◌, [], ◌↔◌, IsSome, IfSome, IfNone, length, take, decimal, replicate, unsigned_abs};
+ghost use Rattle.std.specs.Prelude.{◌≡◌, ℕ, ◌+◌, ◌-◌, ◌<◌, ◌≤◌, ◌/◌, ◌%◌, ◌^◌, ◌++◌, ◌∷◌, [], ◌↔◌, IsSome, IfSome, IfNone, length, take, drop, decimal, replicate, unsigned_abs};
 ghost use Rattle.cal_time.specs.Time.{nanosecond_of};
 ghost use Rattle.cal_time.specs.UtcOffset.{sign as offset_sign};
 ghost use Rattle.cal_time.specs.Digits.{decimals};
@@ -71,7 +71,12 @@ fn print_number(
     ensures end { IfSome result (λ end. end ≡ at + length (sign component moment.now
         ++ padded pad (width component) (number component moment.now))) }
 {
-    let next = put(buffer, at, sign_of(component, moment))?;
+    let sign = sign_of(component, moment);
+    let next = if sign.is_empty() {
+        at
+    } else {
+        put(buffer, at, sign)?
+    };
     put_padded(
         moment.number(component),
         component.width(),
@@ -278,6 +283,7 @@ pub(crate) fn put(buffer: &mut [u8], at: usize, bytes: &[u8]) -> Option<usize>
     ensures room { IsSome result ↔ (at + length bytes.now ≤ length buffer.old) }
     ensures text { IfSome result (λ end. take end buffer.new ≡ take at buffer.old ++ bytes.now) }
     ensures end { IfSome result (λ end. end ≡ at + length bytes.now) }
+    ensures after { IfSome result (λ end. drop end buffer.new ≡ drop end buffer.old) }
     ensures unchanged { IfNone result (buffer.new ≡ buffer.old) }
 {
     if bytes.len() > buffer.len() - at {

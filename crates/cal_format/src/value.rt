@@ -1,5 +1,5 @@
 //! The values that a format prints.
-ghost use Rattle.std.specs.Prelude.{◌≡◌, ◌≤◌, ◌↔◌, IsTrue, IsSome, IfSome, IfNone, length, take};
+ghost use Rattle.std.specs.Prelude.{◌≡◌, ◌≤◌, ◌↔◌, IsTrue, IsSome, IfSome, IfNone, length, take, drop};
 ghost use Rattle.cal_time.specs.Date.{IsDate};
 ghost use Rattle.cal_format.specs.Moment.{moment_of_date, moment_of_time, moment_of_date_time, moment_of_offset, moment_of_offset_date_time};
 ghost use Rattle.cal_format.specs.Reading.{item_component, is_within, lies_within, show_within, are_date_items, are_time_items, are_date_time_items, are_offset_items};
@@ -33,6 +33,7 @@ impl Format {
         ensures text { IfSome result (λ end.
             take end buffer.new ≡ text_of self.now (moment_of_date date)) }
         ensures end { IfSome result (λ end. end ≡ length (text_of self.now (moment_of_date date))) }
+        ensures after { IfSome result (λ end. drop end buffer.new ≡ drop end buffer.old) }
         ensures unchanged { IfNone result (buffer.new ≡ buffer.old) }
     {
         if !show_within(self.items(), 0, DATE_END) {
@@ -49,6 +50,7 @@ impl Format {
         ensures text { IfSome result (λ end.
             take end buffer.new ≡ text_of self.now (moment_of_time time)) }
         ensures end { IfSome result (λ end. end ≡ length (text_of self.now (moment_of_time time))) }
+        ensures after { IfSome result (λ end. drop end buffer.new ≡ drop end buffer.old) }
         ensures unchanged { IfNone result (buffer.new ≡ buffer.old) }
     {
         if !show_within(self.items(), DATE_END, TIME_END) {
@@ -66,6 +68,7 @@ impl Format {
             take end buffer.new ≡ text_of self.now (moment_of_date_time date_time)) }
         ensures end { IfSome result (λ end.
             end ≡ length (text_of self.now (moment_of_date_time date_time))) }
+        ensures after { IfSome result (λ end. drop end buffer.new ≡ drop end buffer.old) }
         ensures unchanged { IfNone result (buffer.new ≡ buffer.old) }
     {
         if !show_within(self.items(), 0, TIME_END) {
@@ -83,6 +86,7 @@ impl Format {
             take end buffer.new ≡ text_of self.now (moment_of_offset offset)) }
         ensures end { IfSome result (λ end.
             end ≡ length (text_of self.now (moment_of_offset offset))) }
+        ensures after { IfSome result (λ end. drop end buffer.new ≡ drop end buffer.old) }
         ensures unchanged { IfNone result (buffer.new ≡ buffer.old) }
     {
         if !show_within(self.items(), TIME_END, OFFSET_END) {
@@ -104,6 +108,7 @@ impl Format {
             take end buffer.new ≡ text_of self.now (moment_of_offset_date_time date_time)) }
         ensures end { IfSome result (λ end.
             end ≡ length (text_of self.now (moment_of_offset_date_time date_time))) }
+        ensures after { IfSome result (λ end. drop end buffer.new ≡ drop end buffer.old) }
         ensures unchanged { IfNone result (buffer.new ≡ buffer.old) }
     {
         self.print(&moment_of_offset_date_time(date_time), buffer)
@@ -114,6 +119,7 @@ impl Format {
             ↔ (length (text_of self.now moment.now) ≤ length buffer.old) }
         ensures text { IfSome result (λ end. take end buffer.new ≡ text_of self.now moment.now) }
         ensures end { IfSome result (λ end. end ≡ length (text_of self.now moment.now)) }
+        ensures after { IfSome result (λ end. drop end buffer.new ≡ drop end buffer.old) }
         ensures unchanged { IfNone result (buffer.new ≡ buffer.old) }
     {
         let mut text = [0u8; 64];
@@ -131,6 +137,7 @@ fn print_long(items: &[Item], moment: &Moment, buffer: &mut [u8]) -> Option<usiz
     ensures room { IsSome result ↔ (length (text_of items.now moment.now) ≤ length buffer.old) }
     ensures text { IfSome result (λ end. take end buffer.new ≡ text_of items.now moment.now) }
     ensures end { IfSome result (λ end. end ≡ length (text_of items.now moment.now)) }
+    ensures after { IfSome result (λ end. drop end buffer.new ≡ drop end buffer.old) }
     ensures unchanged { IfNone result (buffer.new ≡ buffer.old) }
 {
     // These calls state that the moment is in its range. They cost nothing.

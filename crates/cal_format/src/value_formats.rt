@@ -115,16 +115,17 @@ impl Model for OffsetDateTimeFormat {
 /// Returns the format for values of one type if its items show components within a range and pass
 /// these tests, or `None`.
 macro_rules! determining {
-    ($self:ident, $format:ident, $([$low:tt..$high:ident])? $($shows:ident),+) => {
+    ($self:ident, $format:ident, $([$low:tt..$high:ident])? $($shows:ident),+) => {{
+        let shown = Shown::new($self.items());
         if are_apart($self.items())
             $(&& show_within($self.items(), $low, $high))?
-            $(&& $shows(&Shown::new($self.items())))+
+            $(&& $shows(&shown))+
         {
             Some($format { format: $self })
         } else {
             None
         }
-    };
+    }};
 }
 
 impl Format {
