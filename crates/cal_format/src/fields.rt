@@ -42,11 +42,11 @@ impl Fields {
         requires { (c : Component) → number_at c self.old ≡ 0 }
         ensures { (c : Component) → number_at c self.new ≡ number_in items.now numbers.now c }
     {
-        if let [item, others @ ..] = items
-            && let [number, rest @ ..] = numbers
+        if let [others @ .., item] = items
+            && let [rest @ .., number] = numbers
         {
-            self.fill(others, rest);
             self.set_shown(*item, *number);
+            self.fill(others, rest);
         }
     }
 

@@ -71,7 +71,17 @@ fn scan_number(scanner: &mut Scanner, pad: Padding, component: Component) -> Opt
     ensures range { IfSome result (λ n. n < 10 ^ width_of pad component) }
 {
     match pad {
-        Padding::Zero => scan_digits(scanner, 0, component.width()),
+        Padding::Zero => match component.width() {
+            2 => {
+                let number = scanner.two_digits()?;
+                Some(u64::from(number))
+            }
+            4 => {
+                let number = scanner.four_digits()?;
+                Some(u64::from(number))
+            }
+            width => scan_digits(scanner, 0, width),
+        },
         Padding::Space => scan_after_spaces(scanner, component.width() - 1),
         Padding::None => scan_decimal(scanner, component.most_digits() - 1),
     }

@@ -1,5 +1,5 @@
 //! Values in the text of a format.
-ghost use Rattle.std.specs.Prelude.{◌≡◌, ◌≤◌, List, None, IfSome, length, take, true};
+ghost use Rattle.std.specs.Prelude.{◌≡◌, List, None, IfSome, true};
 ghost use Rattle.cal_time.specs.Time.{IsTime};
 ghost use Rattle.cal_time.specs.UtcOffset.{IsOffset};
 ghost use Rattle.cal_datetime.specs.DateTime.{date_time};
@@ -8,7 +8,7 @@ ghost use Rattle.cal_format.specs.Moment.{moment_of_date, moment_of_time, moment
 ghost use Rattle.cal_format.specs.Reading.{are_date_items, are_time_items, are_offset_items, are_date_time_items};
 ghost use Rattle.cal_format.specs.Text.{text_of};
 ghost use Rattle.cal_c.specs.Formats.{HasItems, IsFormat};
-ghost use Rattle.cal_c.specs.FormatTexts.{IsPrinted, IsUnprinted, IsWritten, length_error};
+ghost use Rattle.cal_c.specs.FormatTexts.{IsPrinted, IsUnprinted, length_error, too_short};
 ghost use Rattle.cal_c.specs.Moments.{IsMoment, local_and_offset_in};
 ghost use Rattle.cal_c.specs.Statuses.{invalid_date, invalid_time, invalid_offset, invalid_moment, invalid_format, unsupported_item};
 ghost use Rattle.cal_c.specs.Values.{IsJulianDay, day_of};
@@ -26,28 +26,30 @@ use cal_datetime::PlainDateTime;
 /// The maximum length of a text: 64 items of 15 bytes.
 pub const MAX_LENGTH: usize = 960;
 
-/// Writes the bytes of a text to the front of a buffer. A text of `None` is one that the format
-/// doesn't have.
-fn write(text: &[u8], end: Option<usize>, bytes: &mut [u8]) -> LengthResult
-    requires { IfSome end (λ n. n ≤ length text.now) }
-    ensures none { end ≡ None → IsUnprinted bytes.old bytes.new result (length_error unsupported_item) }
-    ensures some { IfSome end (λ n. IsWritten (take n text.now) bytes.old bytes.new result) }
+/// Returns the result of a text that isn't written, by its length, or by `None` if an item shows
+/// something that the value doesn't have.
+#[cold]
+fn unprinted(end: Option<usize>) -> LengthResult
+    ensures none { end ≡ None → result ≡ length_error unsupported_item }
+    ensures some { IfSome end (λ n. result ≡ too_short n) }
 {
-    let length = or_error!(LengthResult, end, UNSUPPORTED_ITEM);
-    if length > bytes.len() {
-        return LengthResult::too_short(length);
+    match end {
+        Some(length) => LengthResult::too_short(length),
+        None => LengthResult::error(UNSUPPORTED_ITEM),
     }
-    bytes[..length].copy_from_slice(&text[..length]);
-    LengthResult::ok(length)
 }
 
-/// Prints a value to a buffer of its own, and writes the text.
+/// Prints a value to the buffer. If that fails, a buffer that has room for each text tells why.
 macro_rules! print_to {
-    ($bytes:ident, $format:ident.$print:ident($value:expr)) => {{
-        let mut text = [0; MAX_LENGTH];
-        let end = $format.$print($value, &mut text);
-        write(&text, end, $bytes)
-    }};
+    ($bytes:ident, $format:ident.$print:ident($value:expr)) => {
+        match $format.$print($value, $bytes) {
+            Some(length) => LengthResult::ok(length),
+            None => {
+                let mut text = [0; MAX_LENGTH];
+                unprinted($format.$print($value, &mut text))
+            }
+        }
+    };
 }
 
 /// Prints a date, such as `29/02/2024` by `%d/%m/%Y`.
