@@ -1,5 +1,5 @@
 //! The changes of a TZif file, read from its bytes.
-ghost use Rattle.std.specs.Prelude.{◌≡◌, ◌≢◌, ℕ, ◌+◌, ◌*◌, ◌^◌, ◌<◌, ◌≤◌, length, slice_index, slice_index_or, List, ℤ, Some, None, IfSome, IfNone, FitsSigned};
+ghost use Rattle.std.specs.Prelude.{◌≡◌, ◌≢◌, ℕ, ◌+◌, ◌*◌, ◌^◌, ◌<◌, ◌≤◌, length, slice_index, slice_index_or, List, ℤ, Some, None, IfSome, IfNone, IsTrue, FitsSigned};
 ghost use Rattle.std.proofs.Common.{w32, w64};
 ghost use Rattle.cal_zone.specs.Bytes.{big_endian, two_complement};
 ghost use Rattle.cal_zone.specs.Table.{local_type};
@@ -108,13 +108,13 @@ pub struct Table<'a> {
     layout: Layout,
 }
 
-/// Returns about the index of the first change after an instant, at two changes a year before the
-/// last one. It makes a search short, and need not be right.
-fn index_near(last: i64, instant: i64, index: usize) -> usize
-    ensures { result ≤ index }
+/// Returns about the number of changes that are not after an instant, at two changes a year before
+/// the last one, from 0 to `most`. It makes a search short, and need not be right.
+fn count_near(last: i64, instant: i64, most: usize) -> usize
+    ensures { result ≤ most }
 {
     let changes = last.wrapping_sub(instant).cast_unsigned() / 15_778_476;
-    index.saturating_sub(changes as usize)
+    most.saturating_sub(changes as usize)
 }
 
 impl<'a> Model for Table<'a> {
@@ -238,41 +238,56 @@ impl<'a> Table<'a> {
         }
     }
 
-    /// Returns two indexes between which the search for an instant ends: the same ones, if there
-    /// are about two changes a year.
+    /// Returns 1 if the change at an index is not after an instant, else 0.
     #[inline(always)]
-    fn indexes_near(&self, instant: i64) -> (usize, usize)
-        ensures { IsBracket (at self.now) (length self.now) instant result.0 result.1 }
+    fn past(&self, index: usize, instant: i64) -> usize
+        requires { index < length self.now }
+        ensures { result ≤ 1 }
     {
-        let len = self.len();
-        if len == 0 {
-            return (0, 0);
+        usize::from(self.time(index) <= instant)
+    }
+
+    /// Returns the number of changes that are not after an instant, if they rise and it is from the
+    /// index `start` on, at most 31 more. It looks at ten changes without a branch.
+    #[inline(always)]
+    fn count_from(&self, start: usize, instant: i64) -> usize
+        requires { start + 31 < length self.now }
+        ensures { result ≤ start + 31 }
+    {
+        let _ = self.len();
+        let blocks = self.past(start + 7, instant)
+            + self.past(start + 15, instant)
+            + self.past(start + 23, instant);
+        let first = start + 8 * blocks;
+        let early = self.past(first, instant)
+            + self.past(first + 1, instant)
+            + self.past(first + 2, instant)
+            + self.past(first + 3, instant);
+        let late = self.past(first + 4, instant)
+            + self.past(first + 5, instant)
+            + self.past(first + 6, instant);
+        first + early + late
+    }
+
+    /// Checks that the change before an index is not after an instant, and the change at it is.
+    #[inline(always)]
+    fn is_count(&self, index: usize, instant: i64) -> bool
+        requires { index < length self.now }
+        ensures { IsTrue result → IsBracket (at self.now) (length self.now) instant index index }
+    {
+        if 0 < index && instant < self.time(index - 1) {
+            return false;
         }
-        let last = self.time(len - 1);
-        if last <= instant {
-            return (len, len);
-        }
-        let index = index_near(last, instant, len - 1);
-        if index < len - 1 && self.time(index) <= instant {
-            if instant < self.time(index + 1) {
-                return (index + 1, index + 1);
-            }
-            return (index + 1, len - 1);
-        }
-        if 0 < index && self.time(index - 1) <= instant {
-            return (index, index);
-        }
-        (0, index)
+        instant < self.time(index)
     }
 
     /// Returns the number of changes that are not after an instant, if they rise.
     #[inline(always)]
-    pub(crate) fn count(&self, instant: i64) -> usize
+    fn search(&self, instant: i64) -> usize
         ensures { IsBracket (at self.now) (length self.now) instant result result }
     {
-        let near = self.indexes_near(instant);
-        let mut low = near.0;
-        let mut high = near.1;
+        let mut low = 0;
+        let mut high = self.len();
         while low < high {
             let middle = low + (high - low) / 2;
             if self.time(middle) <= instant {
@@ -282,5 +297,33 @@ impl<'a> Table<'a> {
             }
         }
         low
+    }
+
+    /// Returns the number of changes that are not after an instant, if they rise. It tries two
+    /// numbers before a search: by two changes a year, and one that is up to 23 more or 8 less.
+    #[inline(always)]
+    pub(crate) fn count(&self, instant: i64) -> usize
+        ensures { IsBracket (at self.now) (length self.now) instant result result }
+    {
+        let len = self.len();
+        if len == 0 {
+            return 0;
+        }
+        let last = self.time(len - 1);
+        if last <= instant {
+            return len;
+        }
+        let near = count_near(last, instant, len - 1);
+        let count = (near + self.past(near, instant)).min(len - 1);
+        if self.is_count(count, instant) {
+            return count;
+        }
+        if 32 <= len {
+            let count = self.count_from(near.saturating_sub(8).min(len - 32), instant);
+            if self.is_count(count, instant) {
+                return count;
+            }
+        }
+        self.search(instant)
     }
 }

@@ -2,7 +2,7 @@ use Rattle.std.proofs.Common.{◌+◌, ◌≤ℤ◌, ◌<ℤ◌, length, arith, 
 use Rattle.std.proofs.lemmas.Int.{ints}
 use Rattle.cal_zone.specs.Timeline.{at}
 use Rattle.cal_zone.proofs.Splits.{upward, downward}
-use Rattle.cal_zone.proofs.table.Table.count.Goals as goal
+use Rattle.cal_zone.proofs.table.Table.search.Goals as goal
 
 pub loop-low-preserved-then-time-instant : goal.loop-low-preserved-then-time-instant
 loop-low-preserved-then-time-instant c =
