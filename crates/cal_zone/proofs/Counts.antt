@@ -5,14 +5,14 @@ use Rattle.std.proofs.lemmas.Int.{ints}
 use Rattle.std.specs.Prelude.{ℤ, ◌<ℤ◌, ◌≤ℤ◌}
 use Rattle.std.specs.List.{slice_index_or}
 use Rattle.cal_zone.specs.declared.change.Change.{Change}
+use Rattle.cal_zone.specs.declared.local_type.LocalType.{LocalType}
 use Rattle.cal_zone.specs.declared.yearly.Yearly.{Yearly}
 use Rattle.cal_zone.specs.Rule.{change_of, changes_from, instant_at, rule_count}
 use Rattle.cal_zone.specs.Split.{IsBracket, IsSplit}
-use Rattle.cal_zone.specs.Timeline.{Timeline, after_changes, at, no_change, offset_at, InOrder}
+use Rattle.cal_zone.specs.Timeline.{Timeline, at, kind_at, no_change, offset_at, InOrder}
 use Rattle.cal_zone.proofs.Joins.{item_left, item_right}
-use Rattle.cal_zone.proofs.Offsets.{after_changes-count}
 use Rattle.cal_zone.proofs.Rules.{item, size}
-use Rattle.cal_zone.proofs.Spans.{span_of}
+use Rattle.cal_zone.proofs.Spans.{kind_between}
 
 pub in_table : (xs ys : List Change) (x : ℤ) (n : ℕ) → IsBracket (at xs) (length xs) x n n → n < length xs → IsBracket (at (xs ++ ys)) (length (xs ++ ys)) x n n
 in_table xs ys x n b less =
@@ -72,33 +72,36 @@ in_rule one other xs s r x n b all split =
           (split.above (s + (r - s)) (omega arith) (omega arith));
     }
 
--- The instants from the rule's change before the index r to the one at it.
-pub rule_span : (zone : Timeline) (one other : Yearly) (xs : List Change) (s r : ℕ) (f l o : ℤ) → InOrder zone → zone.changes ≡ xs ++ changes_from one other s → s < r → r ≤ rule_count
-    → f ≡ instant_at one other (r - 1) → (r < rule_count → l <ℤ instant_at one other r) → o ≡ (change_of one other (r - 1)).kind.offset
-    → (i : ℤ) → f ≤ℤ i → i ≤ℤ l → offset_at zone i ≡ o
-rule_span zone one other xs s r f l o order is less most first last offset =
+-- The type from the rule's change before the index r to the one at it.
+pub rule_kind : (zone : Timeline) (one other : Yearly) (xs : List Change) (s r : ℕ) (i : ℤ) → InOrder zone → zone.changes ≡ xs ++ changes_from one other s → s < r → r ≤ rule_count
+    → instant_at one other (r - 1) ≤ℤ i → (r < rule_count → i <ℤ instant_at one other r) → kind_at zone i ≡ (change_of one other (r - 1)).kind
+rule_kind zone one other xs s r i order is less most low high =
     let n = length xs + (r - s) in
     let cs = xs ++ changes_from one other s in
     let sum = length-append xs (changes_from one other s) in
     let count = size one other s in
     let before : s + (r - s - 1) ≡ r - 1 = omega arith in
-    let at_end : s + (r - s) ≡ r = omega arith in
+    let after : s + (r - s) ≡ r = omega arith in
     let item : slice_index_or cs (n - 1) no_change ≡ change_of one other (r - 1) =
     rule_item one other xs s (n - 1) (r - s - 1) (omega arith) (omega arith) ∙ ap (change_of one other) before in
-    let within : n ≤ length cs = omega arith in
-    span_of zone order f l o n (subst (λ (ds : List Change). n ≤ length ds) (sym is) within)
-    (λ k g. let e : n - 1 ≡ k = omega arith in
-    first ∙ ap (λ (c : Change). c.at) (sym item) ∙ ap (at cs) e ∙ ap (λ (ds : List Change). at ds k) (sym is))
-    (λ h. let inside : n < length cs = subst (λ (ds : List Change). n < length ds) is h in
-    subst (λ (ds : List Change). l <ℤ at ds n) (sym is)
-    (subst (λ (c : Change). l <ℤ c.at) (sym (rule_item one other xs s n (r - s) (omega arith) (omega arith) ∙ ap (change_of one other) at_end)) (last (omega arith))))
-    (offset ∙ ap (λ (c : Change). c.kind.offset) (sym item) ∙ sym (after_changes-count zone.first.offset cs n (omega arith) within)
-    ∙ ap (λ (ds : List Change). after_changes zone.first.offset ds n) (sym is))
+    let bracket : IsBracket (at cs) (length cs) i n n = record {
+      ordered = omega arith;
+      inside = omega arith;
+      below = λ k e. let same : n - 1 ≡ k = omega arith in subst (λ (c : Change). c.at ≤ℤ i) (sym item ∙ ap (λ j. slice_index_or cs j no_change) same) low;
+      above = λ h.
+          subst (λ (c : Change). i <ℤ c.at) (sym (rule_item one other xs s n (r - s) (omega arith) (omega arith) ∙ ap (change_of one other) after)) (high (omega arith));
+    } in
+    kind_between zone order i n (subst (λ (ds : List Change). IsBracket (at ds) (length ds) i n n) (sym is) bracket) (omega arith)
+    ∙ ap (λ (ds : List Change). (slice_index_or ds (n - 1) no_change).kind) is
+    ∙ ap (λ (c : Change). c.kind) item
 
--- The offset after the last change of the rule that isn't after an instant.
-pub by_rule : (zone : Timeline) (one other : Yearly) (xs : List Change) (s r : ℕ) (i x o : ℤ) → InOrder zone → zone.changes ≡ xs ++ changes_from one other s → x ≡ i
-    → s < r → IsSplit (instant_at one other) rule_count x r r → o ≡ (change_of one other (r - 1)).kind.offset → offset_at zone i ≡ o
-by_rule zone one other xs s r i x o order is e less split offset =
-    subst (λ (j : ℤ). offset_at zone j ≡ o) e
-    (rule_span zone one other xs s r (instant_at one other (r - 1)) x o order is less split.inside refl (λ h. split.above r (omega arith) h) offset
-    x (split.below (r - 1) (omega arith)) (omega (arith, ints)))
+pub rule_span : (zone : Timeline) (one other : Yearly) (xs : List Change) (s r : ℕ) (f l o : ℤ) → InOrder zone → zone.changes ≡ xs ++ changes_from one other s → s < r → r ≤ rule_count
+    → f ≡ instant_at one other (r - 1) → (r < rule_count → l <ℤ instant_at one other r) → o ≡ (change_of one other (r - 1)).kind.offset
+    → (i : ℤ) → f ≤ℤ i → i ≤ℤ l → offset_at zone i ≡ o
+rule_span zone one other xs s r f l o order is less most first last offset i low high =
+    ap (λ (t : LocalType). t.offset)
+    (rule_kind zone one other xs s r i order is less most (subst (λ (x : ℤ). x ≤ℤ i) first low) (λ h. less_than i l (instant_at one other r) high (last h)))
+    ∙ sym offset
+  where
+    less_than : (a b c : ℤ) → a ≤ℤ b → b <ℤ c → a <ℤ c
+    less_than a b c p q = omega (arith, ints)

@@ -306,7 +306,3 @@ offset_in zone order i =
 pub none_in : (r : Option ℤ) (P Q : Type 0) (x : ℤ) → SomeIff r P x → (Q → P) → IfNone r (¬ Q)
 none_in None P Q x out h = λ q. out (h q)
 none_in (Some y) P Q x given h = tt
-
-pub some_in : (r : Option ℤ) (P : Type 0) (x y : ℤ) → x ≡ y → SomeIff r P x → IfSome r (λ (z : ℤ). z ≡ y)
-some_in None P x y e out = tt
-some_in (Some z) P x y e given = given.1 ∙ e

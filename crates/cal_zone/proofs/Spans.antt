@@ -1,15 +1,23 @@
 -- Instants with one offset, and the readings that clocks show only there.
-use Rattle.std.proofs.Common.{◌≡◌, ℕ, suc, ◌<◌, ◌≤◌, ◌↔◌, length, refl, sym, ap, ◌∙◌, arith, subst}
+use Rattle.std.proofs.Common.{◌≡◌, ℕ, suc, ◌-◌, ◌<◌, ◌≤◌, ◌↔◌, length, refl, sym, ap, ◌∙◌, arith, subst}
 use Rattle.std.proofs.lemmas.Int.{ints}
+use Rattle.std.specs.List.{slice_index_or}
 use Rattle.std.specs.Prelude.{ℤ, pos, ◌<ℤ◌, ◌≤ℤ◌, ◌+ℤ◌, ◌-ℤ◌}
 use Rattle.cal_zone.specs.declared.span.Span.{Span}
 use Rattle.cal_zone.specs.Span.{IsSpan}
 use Rattle.cal_zone.specs.Split.{IsBracket}
-use Rattle.cal_zone.specs.Timeline.{Timeline, InOrder, IsOffset, at, after_changes, offset_at, local_at}
-use Rattle.cal_zone.proofs.Offsets.{offset_at-count}
+use Rattle.cal_zone.specs.Timeline.{Timeline, InOrder, IsOffset, at, after_changes, kind_at, no_change, offset_at, local_at}
+use Rattle.cal_zone.proofs.Offsets.{kind_at-last, offset_at-count}
 use Rattle.cal_zone.proofs.Orders.{at_rises}
 use Rattle.cal_zone.proofs.Readings.{offset_in}
 use Rattle.cal_zone.proofs.Splits.{rising_split}
+
+-- The type of the last of n changes, at an instant between it and the next one.
+pub kind_between : (zone : Timeline) → InOrder zone → (i : ℤ) (n : ℕ) → IsBracket (at zone.changes) (length zone.changes) i n n → 0 < n
+    → kind_at zone i ≡ (slice_index_or zone.changes (n - 1) no_change).kind
+kind_between zone order i n b some =
+    let split = rising_split (at zone.changes) (length zone.changes) i n (at_rises zone order) b in
+    kind_at-last zone i i n refl some split.inside split.below split.above
 
 -- The offset after n changes, at an instant between the last of them and the next one.
 pub offset_between : (zone : Timeline) → InOrder zone → (i o : ℤ) (n : ℕ) → n ≤ length zone.changes

@@ -69,18 +69,6 @@ impl<'a> UncheckedZone<'a> {
         utc_offset(self.kind_at(instant).offset)
     }
 
-    /// Returns the offset at a Unix time if the rule doesn't decide it: a change of the table comes
-    /// after it, or there is no rule. `None` may also say that the changes are not in order.
-    #[inline(always)]
-    pub fn utc_offset_in_table(&self, instant: i64) -> Option<UtcOffset>
-        ensures { InOrder self.now → IfSome result (λ offset. offset ≡ offset_at self.now instant) }
-    {
-        match self.count_in_table(instant) {
-            Some(count) => utc_offset(self.after(count)),
-            None => None,
-        }
-    }
-
     /// Returns the date-times at which clocks show a reading. `None` says that the changes are not
     /// in order.
     pub fn resolve(&self, reading: PlainDateTime) -> Option<Local>

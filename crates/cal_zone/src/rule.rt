@@ -1,7 +1,7 @@
 //! The rule of a zone after its last change.
 ghost use Rattle.std.specs.Prelude.{◌≡◌, ℕ, suc, List, ◌++◌, ◌+◌, ◌-◌, ◌<◌, ◌≤◌, ℤ, pos, ◌+ℤ◌, ◌<ℤ◌, ◌↔◌, IsTrue, IfSome, IfNone, filter, length};
 ghost use Rattle.cal_zone.specs.Rule.{IsCalm};
-ghost use Rattle.cal_zone.specs.Timeline.{Timeline, local_at, offset_at, InOrder, IsMoment, IsNext, IsOffset};
+ghost use Rattle.cal_zone.specs.Timeline.{Timeline, kind_at, local_at, InOrder, IsMoment, IsNext, IsOffset};
 ghost use Rattle.cal_zone.specs.declared.change.Change.{Change};
 
 use crate::change_error::after;
@@ -178,15 +178,16 @@ impl Rule {
         low
     }
 
-    /// Returns the offset at an instant if a change from the index `skip` on is not after it.
-    pub fn offset_after(&self, skip: u32, instant: i64) -> Option<i32>
+    /// Returns how the clocks are set at an instant, or `None` if each change from the index `skip` on
+    /// is after it.
+    pub fn kind_after(&self, skip: u32, instant: i64) -> Option<LocalType>
         ensures { (zone : Timeline) (xs : List Change) → InOrder zone
             → zone.changes ≡ xs ++ changes_from self.now.one self.now.other skip
-            → IfSome result (λ offset. offset ≡ offset_at zone instant) }
+            → IfSome result (λ kind. kind ≡ kind_at zone instant) }
     {
         let count = self.count(instant);
         if skip < count {
-            Some(self.kind(count - 1).offset)
+            Some(self.kind(count - 1))
         } else {
             None
         }

@@ -129,17 +129,30 @@ impl<'a> UncheckedZone<'a> {
         change.0.kind(change.1)
     }
 
+    /// Returns how the clocks are set after the first `count` changes.
+    #[inline(always)]
+    fn kind_after(&self, count: usize) -> LocalType
+        requires { count ≤ length self.now.changes }
+        ensures offset { result.offset
+            ≡ after_changes self.now.first.offset self.now.changes count }
+        ensures kind { (i : ℤ) → InOrder self.now
+            → IsBracket (at self.now.changes) (length self.now.changes) i count count
+            → result ≡ kind_at self.now i }
+    {
+        if count == 0 {
+            self.first
+        } else {
+            self.kind(count - 1)
+        }
+    }
+
     /// Returns the offset after the first `count` changes.
     #[inline(always)]
-    pub(crate) fn after(&self, count: usize) -> i32
+    fn after(&self, count: usize) -> i32
         requires { count ≤ length self.now.changes }
         ensures { result ≡ after_changes self.now.first.offset self.now.changes count }
     {
-        if count == 0 {
-            self.first.offset
-        } else {
-            self.kind(count - 1).offset
-        }
+        self.kind_after(count).offset
     }
 
     /// Returns the number of changes that are not after an instant.
@@ -158,7 +171,7 @@ impl<'a> UncheckedZone<'a> {
 
     /// Returns the number of changes that are not after an instant, or `None` if the rule decides it.
     #[inline(always)]
-    pub(crate) fn count_in_table(&self, instant: i64) -> Option<usize>
+    fn count_in_table(&self, instant: i64) -> Option<usize>
         ensures { IfSome result (λ count.
             IsBracket (at self.now.changes) (length self.now.changes) instant count count) }
     {
@@ -177,12 +190,15 @@ impl<'a> UncheckedZone<'a> {
     pub fn kind_at(&self, instant: i64) -> LocalType
         ensures { InOrder self.now → result ≡ kind_at self.now instant }
     {
-        let count = self.count(instant);
-        if count == 0 {
-            self.first
-        } else {
-            self.kind(count - 1)
-        }
+        self.kind_after(self.count(instant))
+    }
+
+    /// Returns how the clocks are set at a Unix time, or `None` if the rule may decide it.
+    #[inline(always)]
+    pub fn kind_in_table(&self, instant: i64) -> Option<LocalType>
+        ensures { InOrder self.now → IfSome result (λ kind. kind ≡ kind_at self.now instant) }
+    {
+        Some(self.kind_after(self.count_in_table(instant)?))
     }
 
     /// Returns the instant of the last of the first `count` changes, or else the first instant.
