@@ -144,9 +144,3 @@ offset_is x y e h = to_z-of_z w32 x (omega (arith, ints, e, h.0, h.1)) ∙ e
 
 pub offset_shown : (x y : ℤ) → x ≡ y → IsOffset y → IsOffset (to_z w32 (of_z w32 x))
 offset_shown x y e h = subst IsOffset (sym (offset_is x y e h)) h
-
--- A change in order has an instant and an offset in range.
-pub change_in_order : (zone : Timeline) → IsOrdered zone.first.offset zone.changes → (k : ℕ) (c : Change) → k < length zone.changes → c ≡ slice_index_or zone.changes k no_change
-    → IsMoment c.at × IsOffset c.kind.offset
-change_in_order zone order k c inside e =
-    (subst (λ (x : Change). IsMoment x.at) (sym e) (order.moments k inside), subst (λ (x : Change). IsOffset x.kind.offset) (sym e) (order.offsets k inside))

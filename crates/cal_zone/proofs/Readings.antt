@@ -179,9 +179,6 @@ pub record IsNear (zone : Timeline) (L : ℤ) (n : ℕ) (a e l : ℤ) : Type 0 w
   pub earlier_is : e ≡ (L -ℤ after zone n)
   pub later_is : l ≡ (L -ℤ after zone (suc n))
 
-abbrev EarlierShows : Timeline → ℤ → ℤ → Type 0
-EarlierShows zone L e = (i : ℤ) → i ≡ e → local_at zone i ≡ L
-
 earlier_shows : (zone : Timeline) (L : ℤ) (n : ℕ) (a e l : ℤ) → IsNear zone L n a e l → e <ℤ a → (i : ℤ) → i ≡ e → local_at zone i ≡ L
 earlier_shows zone L n a e l near less i same =
     let h : (L -ℤ after zone n) <ℤ at zone.changes n = let P : ℤ → ℤ → Type 0 = λ x y. x <ℤ y in subst (λ (x : ℤ). x <ℤ at zone.changes n) near.earlier_is (subst (λ (y : ℤ). e <ℤ y) near.at_is less) in

@@ -7,11 +7,12 @@ use Rattle.std.proofs.lemmas.Int.{ints, clamps}
 use Rattle.std.proofs.lemmas.List.FromFn.{get_or-map-range_with_len, length-map-range_with_len}
 use Rattle.std.specs.List.{range_with_len, slice_index_or}
 use Rattle.cal_time.specs.Date.{first_year, IsYear}
+use Rattle.cal_datetime.specs.OffsetDateTime.{epoch_day}
 use Rattle.cal_time.specs.Month.{number}
 use Rattle.cal_zone.specs.declared.change.Change.{Change}
 use Rattle.cal_zone.specs.declared.local_type.LocalType.{LocalType}
 use Rattle.cal_zone.specs.declared.yearly.Yearly.{Yearly}
-use Rattle.cal_zone.specs.Rule.{moment, change_of, instant_at, day_of, rule_count, changes_from, epoch_day, IsYearly, IsCalm}
+use Rattle.cal_zone.specs.Rule.{moment, change_of, instant_at, day_of, rule_count, changes_from, IsYearly, IsCalm}
 use Rattle.cal_zone.specs.Timeline.{IsOrdered, at, after_changes, no_change, IsOffset, IsMoment, IsNext}
 use Rattle.cal_zone.specs.Split.{IsSplit}
 use Rattle.cal_zone.specs.Zone.{is_after, Joins}

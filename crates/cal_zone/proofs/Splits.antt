@@ -18,9 +18,6 @@ from_index f n x k low high e ordered inside here above = record {
   above = above;
 }
 
-pub from_zero : (f : ℕ → ℤ) (n : ℕ) (x : ℤ) (high : ℕ) → high ≤ n → (high < n → x <ℤ f high) → IsBracket f n x 0 high
-from_zero f n x high inside above = record { ordered = omega arith; inside = inside; below = λ j g. absurd (omega arith); above = above }
-
 pub upward : (f : ℕ → ℤ) (n : ℕ) (x : ℤ) (low high middle : ℕ) → IsBracket f n x low high → middle < high → f middle ≤ℤ x → IsBracket f n x (middle + 1) high
 upward f n x low high middle b less here = from_index f n x middle (middle + 1) high (omega arith) (omega arith) b.inside here b.above
 
@@ -42,9 +39,6 @@ ended f n x low high h b =
     let ordered = b.ordered in
     let e : high ≡ low = omega arith in
     subst (λ (m : ℕ). IsBracket f n x low m) e b
-
-pub same_bracket : (f : ℕ → ℤ) (n : ℕ) (x y : ℤ) (low high : ℕ) → y ≡ x → IsBracket f n y low high → IsBracket f n x low high
-same_bracket f n x y low high e b = subst (λ (z : ℤ). IsBracket f n z low high) e b
 
 -- what a test of the code says of the numbers that it stands for
 pub is_past : (p q a x : ℤ) → int_le p q ≡ true → p ≡ a → q ≡ x → a ≤ℤ x

@@ -5,6 +5,7 @@ use Rattle.cal_time.specs.Date.{first_year, last_day}
 use Rattle.cal_time.specs.Month.{number}
 use Rattle.cal_time.specs.Weekday.{index}
 use Rattle.cal_time.specs.Occurrences.{days_from, days_back_from}
+use Rattle.cal_datetime.specs.OffsetDateTime.{epoch_day}
 use Rattle.cal_schedule.specs.Weekdays.{is_weekday_in_month}
 use Rattle.cal_zone.specs.declared.change.Change.{Change}
 use Rattle.cal_zone.specs.declared.yearly.Yearly.{Yearly}
@@ -21,10 +22,6 @@ day_of r y =
     (if r.week == 5 then slice_get (filter (is_on r y) (days_back_from (last_day + 1))) 0
     else slice_get (filter (is_on r y) (days_from 0 (last_day + 1))) (r.week - 1))
     0
-
--- The number of the day 1970-01-01.
-abbrev pub epoch_day : ℤ
-epoch_day = pos 365_961_662
 
 -- The Unix time of the change, by clocks that are ahead of UTC by the offset before it.
 abbrev pub moment : Yearly → ℤ → ℤ → ℤ

@@ -35,6 +35,6 @@ pub use span::Span;
 pub use table::Table;
 pub use timeline_error::TimelineError;
 pub use unchecked_zone::UncheckedZone;
-pub use yearly::Yearly;
+pub use yearly::{EPOCH_DAY, Yearly};
 pub use zone::{Zone, join};
 pub use zone_parts::ZoneParts;

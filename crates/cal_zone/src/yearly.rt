@@ -1,6 +1,6 @@
 //! Changes that come each year.
 ghost use Rattle.std.specs.Prelude.{◌≡◌, ◌≤◌, pos, ◌-ℤ◌, ◌*ℤ◌, ◌↔◌, IsTrue};
-ghost use Rattle.cal_zone.specs.Rule.{epoch_day};
+ghost use Rattle.cal_datetime.specs.OffsetDateTime.{epoch_day};
 ghost use Rattle.cal_zone.specs.Timeline.{IsOffset};
 ghost use Rattle.cal_time.specs.Date.{HasCalendarDate, IsDate, IsDayOfMonth, IsYear};
 ghost use Rattle.cal_time.specs.Month.{number};
@@ -15,7 +15,7 @@ use cal_time::{Cycle, Month, Weekday};
 const LAST: u8 = 5;
 
 /// The number of the day 1970-01-01.
-const EPOCH_DAY: i64 = 365_961_662;
+pub const EPOCH_DAY: i64 = 365_961_662;
 
 /// A change of clocks that comes each year, on a weekday of a month. The text `M3.5.0/2` of POSIX
 /// is the last Sunday of March at 2:00.

@@ -1,6 +1,6 @@
 //! Zones whose bytes are checked once, for C.
 ghost use Rattle.std.specs.Prelude.{◌≡◌, ◌↔◌, ℕ, ℤ, List, IfNone, IfSome, MatchOption};
-ghost use Rattle.cal_zone.specs.Timeline.{local_at, offset_at, InOrder, IsMoment};
+ghost use Rattle.cal_zone.specs.Timeline.{kind_at, local_at, InOrder, IsMoment};
 ghost use Rattle.cal_zone.specs.Zone.{later, made_of, AreParts};
 ghost use Rattle.cal_c.specs.Zones.{changes_by_rule, local_type_in, yearly_in, zone_in, zone_of_parts, HasParts, HasPlaces, HasRule, HasRuleOrNone, HasZone};
 
@@ -178,16 +178,13 @@ impl CheckedParts {
         Rule::new(self.one.yearly()?, self.other.yearly()?)
     }
 
-    /// Returns the offset at a Unix time if the rule decides it.
-    pub(super) fn offset_by_rule(&self, seconds: i64) -> Option<i32>
+    /// Returns how the clocks are set at a Unix time if the rule decides it.
+    pub(super) fn kind_by_rule(&self, seconds: i64) -> Option<LocalType>
         ensures { (bytes : List ℕ) → InOrder (zone_of_parts bytes self.now)
-            → IfSome result (λ offset. offset ≡ offset_at (zone_of_parts bytes self.now) seconds) }
+            → IfSome result (λ kind. kind ≡ kind_at (zone_of_parts bytes self.now) seconds) }
     {
         if self.rule == RULE {
-            match self.two_changes() {
-                Some(rule) => rule.offset_after(self.skip, seconds),
-                None => None,
-            }
+            self.two_changes()?.kind_after(self.skip, seconds)
         } else {
             None
         }
@@ -201,10 +198,7 @@ impl CheckedParts {
             (λ instant. (i : ℤ) → (i ≡ instant) ↔ (local_at (zone_of_parts bytes self.now) i ≡ reading)) }
     {
         if self.rule == RULE {
-            match self.two_changes() {
-                Some(rule) => rule.single_after(self.skip, reading),
-                None => None,
-            }
+            self.two_changes()?.single_after(self.skip, reading)
         } else {
             None
         }

@@ -20,10 +20,7 @@ use crate::zones::checked_zone::CheckedZone;
 use crate::zones::policy::Policy;
 use crate::zones::results::LocalResult;
 use cal_datetime::PlainDateTime;
-use cal_zone::UncheckedZone;
-
-/// The number of the day 1970-01-01.
-const EPOCH_DAY: i64 = 365_961_662;
+use cal_zone::{EPOCH_DAY, UncheckedZone};
 
 /// Returns the instants at which clocks show a date and a time of day: one, two in a fold, or those
 /// of the policies `earlier` and `later` in a gap.

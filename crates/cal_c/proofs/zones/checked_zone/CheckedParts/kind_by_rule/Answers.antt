@@ -2,12 +2,12 @@ use Rattle.std.proofs.Math.Facts.{to_z-of_z}
 use Rattle.cal_zone.specs.Table.{changes_in}
 use Rattle.cal_c.specs.Zones.{zone_of_parts}
 use Rattle.cal_c.proofs.ZoneResults.{with_rule}
-use Rattle.cal_c.proofs.zones.checked_zone.CheckedParts.offset_by_rule.Goals as goal
+use Rattle.cal_c.proofs.zones.checked_zone.CheckedParts.kind_by_rule.Goals as goal
 
-pub returns-in-Some : goal.returns-in-Some
-returns-in-Some c = λ bytes order.
+pub returns-in_ok-two_changes : goal.returns-in_ok-two_changes
+returns-in_ok-two_changes c = λ bytes order.
     let g = c.ranges.seconds in
     let p = c.args.self.now in
-    let found = simp to_z-of_z at c.offset_after.ensures in
-    let rule = c.in-Some.ensures.some in
+    let found = simp to_z-of_z at c.kind_after.ensures in
+    let rule = c.in_ok-two_changes.ensures.some in
     found (zone_of_parts bytes p) (changes_in bytes p.layout) order (with_rule p bytes _ _ c.if-self-eq-RULE.true rule.0 rule.1)
