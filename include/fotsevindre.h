@@ -22,9 +22,10 @@
  * for a date, so that the next call rejects it. The manual lists the calls that accept every
  * number.
  *
- * No call allocates, keeps a pointer or has state, so any thread can make any call at any time.
- * Only calls with texts, holidays, working days, rules, zones or columns take pointers. None may be
- * null, even for a length of 0. The library runs on Linux, on processors with x86-64-v2. */
+ * No call allocates, keeps a pointer or has state, so any thread can make any call at any time,
+ * unless one call writes an array that another call uses. Only calls with texts, formats, holidays,
+ * working days, rules, zones or columns take pointers. None may be null, even for a length of 0.
+ * The library runs on Linux, on processors with x86-64-v2. */
 #ifndef FOTSEVINDRE_H
 #define FOTSEVINDRE_H
 
@@ -755,10 +756,11 @@ enum fots_rule_part {
     FOTS_RULE_BYWEEKNO = 11
 };
 
-/* Parses the text of a recurrence, as RFC 5545 has it after RRULE:. Calls with such a text return
- * its first wrong part as FOTS_UNKNOWN_PART, FOTS_TOO_MANY_VALUES, FOTS_DUPLICATE_PART,
- * FOTS_INVALID_VALUE or FOTS_MISSING_FREQUENCY. "FREQ=MONTHLY;BYDAY=-1FR;COUNT=3" has FOTS_MONTHLY,
- * the interval 1, the week start 1, the count 3 and the weekday {-1, 5}. */
+/* Parses the text of a recurrence, as RFC 5545 has it after RRULE:. It can also begin with RRULE:.
+ * Calls with such a text return its first wrong part as FOTS_UNKNOWN_PART, FOTS_TOO_MANY_VALUES,
+ * FOTS_DUPLICATE_PART, FOTS_INVALID_VALUE or FOTS_MISSING_FREQUENCY.
+ * "FREQ=MONTHLY;BYDAY=-1FR;COUNT=3" has FOTS_MONTHLY, the interval 1, the week start 1, the count 3
+ * and the weekday {-1, 5}. */
 fots_parse_recurrence_result fots_recurrence_parse(const char *text, size_t text_length);
 
 /* Returns the text of the same recurrence with its parts in one order.
@@ -1137,7 +1139,8 @@ fots_parse_moment_result fots_moment_parse_format(const char *text, size_t text_
  * A column is one array for each component of a value: Julian days and years as int32_t, ordinals
  * as uint16_t, months, days, weeks and weekdays as uint8_t. Each row has the result and the status
  * of the single call. After an error it has FOTS_NO_VALUE for a date, a year, an offset or a count,
- * FOTS_NO_TIME for a time, and 0 for a component with 8 or 16 bits, which the next call rejects.
+ * FOTS_NO_TIME for a time, and 0 for a component with 8 or 16 bits, which the next call rejects. A
+ * Unix time is INT64_MIN then, which fots_zone_offsets accepts, so check the status.
  *
  * A call returns the number of rows without a result. Each array is followed by its length. If the
  * lengths differ, it writes nothing and returns FOTS_LENGTH_MISMATCH. Written arrays overlap no
@@ -1314,7 +1317,8 @@ enum fots_policy { FOTS_COMPATIBLE = 0, FOTS_EARLIER = 1, FOTS_LATER = 2, FOTS_R
 fots_zone_parts_result fots_zone_file_parts(const uint8_t *bytes, size_t length);
 fots_zone_parts_result fots_zone_posix_parts(const char *text, size_t length);
 
-/* Return the zone of the bytes of a file, or of a POSIX text, or the first error. */
+/* Return the zone of the bytes of a file, or of a POSIX text, or the first error. Neither opens a
+ * file. */
 static inline fots_zone_result fots_zone_from_file(const uint8_t *bytes, size_t length)
 {
     const fots_zone_parts_result found = fots_zone_file_parts(bytes, length);
