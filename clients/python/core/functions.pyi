@@ -17,7 +17,7 @@ def {add_to,sub_from}_pair(date, time, duration) -> tuple[Date, Time] | None:
     "Returns the date and time a duration {later,earlier}, or None out of range."
 def rfc3339_text(date, time, offset) -> str | None:
     """Returns the text of RFC 3339 of a date, a time and an offset, or None for a year outside 0 to
-    9999 and an offset that RFC 3339 has not."""
+    9999, and for an offset with seconds or of 24 hours or more."""
 def unix_text(date, time, offset) -> str:
     "Returns the Unix time of a date, a time and an offset as a text, such as @1709164800.5."
 def unix_duration(date, time, offset) -> SignedDuration:

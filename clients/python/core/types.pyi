@@ -136,13 +136,13 @@ class Date(_Value, _DateParts, _Moved, _Formatted):
     def replace(self, *, year=None, month=None, day=None) -> Date:
         "Replaces the components that are given by name: year, month, day."
     def checked_add_{months,years}(self, number) -> Date | None:
-        "Returns the day some {} later, or None out of range."
+        "Adds {}, and takes the last day of a shorter month; returns None out of range."
     def add_months(self, number) -> Date:
-        "Returns the day some months later, the last one in a shorter month, else OverflowError."
+        "Adds months, and takes the last day of a shorter month; OverflowError out of range."
     def saturating_add_months(self, number) -> Date:
-        "Returns the day some months later, or the nearest end of the range."
+        "Adds months like add_months, or returns the nearest end of the range."
     def add_years(self, number) -> Date:
-        "Returns the day some years later, for 29 February the 28th if need be, else OverflowError."
+        "Adds years; 29 February becomes the 28th in a common year; OverflowError out of range."
     def {months,years}_until(self, other: Date) -> int:
         "Returns the whole {} to the other day, such as an age; negative if that is earlier."
     def period_until(self, other: Date) -> Period: "Returns years, months and days to another day."

@@ -309,7 +309,7 @@ class Recurrence:
         return Rule(start, **{name: vars(self)[name] for name in names})
 
     def days(self, start: Date) -> Iterator[Date]:
-        """Iterates over the days from a start to the end."""
+        """Iterates over the days from a start to `COUNT`, `UNTIL` or the end of the range."""
         return self.days_from(start, start)
 
     def days_from(self, start: Date, date: Date) -> Iterator[Date]:
