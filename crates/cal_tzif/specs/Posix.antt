@@ -44,7 +44,7 @@ time text at = ((hours text at).0 * 3600 + (minutes text at).0 * 60 + (seconds t
 unfoldable pub after_sign : List ℕ → ℕ → ℕ
 after_sign text at = if byte text at == 43 then at + 1 else (if byte text at == 45 then at + 1 else at)
 
--- The number n, negative if the byte before it is a minus sign.
+-- The number n, negative if the byte `sign` is a minus sign.
 abbrev pub signed : ℕ → ℕ → ℤ
 signed sign n = if sign == 45 then neg_ℤ (pos n) else pos n
 
