@@ -66,7 +66,7 @@ zone_of_parts bytes p = record { first = local_type_in p.first; changes = change
 abbrev pub zone_in : CheckedZone → Timeline
 zone_in c = zone_of_parts c.bytes.now c.parts
 
--- The indexes are those of a month and a weekday.
+-- There are a month and a weekday with these indexes.
 abbrev pub HasPlaces : ZoneYearly → Type 0
 HasPlaces r = (r.month < 12) × (r.weekday < 7)
 

@@ -144,7 +144,7 @@ week_date = Digits 2 (Byte 45 (ByteRange 49 6 End))
 abbrev pub month_or_ordinal : Shape
 month_or_ordinal = Digits 2 (Branch 45 0 (Digits 2 End) (Digits 1 End))
 
--- What follows a year: W and a week date, or a month and a day, or an ordinal.
+-- The bytes after a year: W, a week and a weekday, or a month and a day, or an ordinal.
 abbrev pub after_year : Shape
 after_year = Branch 87 0 week_date month_or_ordinal
 

@@ -82,7 +82,8 @@ pub record IsFile (bytes : List ℕ) (zone : Timeline) : Type 0 where
   pub ordered : IsOrdered zone.first.offset zone.changes
 
 -- The position of the part of a change that has an error, or of the types for the first offset. If
--- the rule's next change overlaps the last change, it is that of the footer, one byte after `end`.
+-- the rule's next change overlaps the last change, it is the position of the footer, one byte after
+-- `end`.
 abbrev pub timeline_position : Layout → ℕ → TimelineError → ℕ
 timeline_position p end (timeline.Change FirstOffset) = p.types
 timeline_position p end (timeline.Change (Offset k)) = p.indexes + k
@@ -103,7 +104,7 @@ pub data IsFileError (bytes : List ℕ) (e : ZoneError) : Type 0 where
       → IsTimelineError (first_type bytes (layout_of bytes) footer) (changes_in bytes (layout_of bytes)) (footer_rule footer) t
       → e ≡ error_at (kinds.Timeline t) (timeline_position (layout_of bytes) (second_header bytes).end t) → IsFileError bytes e
 
--- A text is the POSIX text of a zone that has no changes but those of its rule.
+-- A text is the POSIX text of a zone, which has only the changes of its rule.
 pub record IsPosix (text : List ℕ) (zone : Timeline) : Type 0 where
   pub footer : Footer
   pub spelled : Spells text 0 footer

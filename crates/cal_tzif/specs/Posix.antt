@@ -213,7 +213,7 @@ pub record HasRule (text : List ℕ) (at : ℕ) : Type 0 where
   pub whole : change_end text (end_at text at) ≡ length text
   pub apart : AreApart text at
 
--- A yearly change is the one at which daylight time begins or ends.
+-- The yearly change at which daylight time begins, or ends.
 abbrev pub IsBegin : List ℕ → ℕ → LocalType → Yearly → Type 0
 IsBegin text at before r = IsYearlyAt text (daylight_end text at) (daylight text at before.offset) r
 

@@ -1,4 +1,4 @@
--- The date-times that a reading names in a zone, and the one that a policy selects.
+-- The date-times that a reading names in a zone, and the date-time that a policy selects.
 use Rattle.std.specs.Prelude.{◌≡◌, ◌⊎◌, ◌↔◌, ℤ, pos, ◌<ℤ◌, ◌+ℤ◌, ◌-ℤ◌, ◌*ℤ◌, Option, Some, None, SomeIff}
 use Rattle.cal_time.specs.SignedDuration.{second}
 use Rattle.cal_datetime.specs.DateTime.{IsDateTime}

@@ -41,13 +41,13 @@ pub record IsReadable (bytes : List ℕ) (p : Layout) : Type 0 where
   pub inside : IsInside bytes p
   pub few : p.changes < 2 ^ 60
 
--- The bytes have all parts, and the index of each change's type is that of a type.
+-- The bytes have all parts, and each change has the index of a type that exists.
 pub record IsTable (bytes : List ℕ) (p : Layout) : Type 0 where
   pub readable : IsReadable bytes p
   pub typed : (k : ℕ) → k < p.changes → slice_index bytes (p.indexes + k) < p.kinds
 
--- The position is that of the index of a type that doesn't exist, and the types of the changes
--- before this one exist.
+-- At the position is the index of a type that doesn't exist, and the types of the changes before
+-- this one exist.
 pub record HasNoType (bytes : List ℕ) (p : Layout) (position : ℕ) : Type 0 where
   pub index : ℕ
   pub inside : index < p.changes

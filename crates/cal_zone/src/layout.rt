@@ -1,4 +1,4 @@
-//! Where the parts of a TZif file are.
+//! The positions of the parts of a TZif file.
 ghost use Rattle.std.specs.Prelude.{◌≡◌};
 
 /// A layout: the positions of the parts of a TZif file's data block (RFC 9636, 3.2).

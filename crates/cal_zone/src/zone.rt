@@ -34,7 +34,7 @@ impl<'a> Model for Zone<'a> {
 /// without a rule.
 ///
 /// Returns `Change` if the changes of the table are not in order. Otherwise returns `Junction` if
-/// the gap or fold of the last one overlaps that of the rule's next change.
+/// the gap or fold of the last one overlaps the gap or fold of the rule's next change.
 pub fn join(first: LocalType, table: &Table<'_>, rule: Option<Rule>) -> Result<u32, TimelineError>
     ensures value { IfOk result (λ skip. held first table.now rule skip ≡ zone_of first table.now rule) }
     ensures range { IfOk result (λ skip. skip ≤ 3_999_998) }

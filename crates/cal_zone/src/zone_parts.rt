@@ -1,4 +1,4 @@
-//! What zones are made of.
+//! Zones in parts.
 
 use crate::{Layout, LocalType, Rule};
 

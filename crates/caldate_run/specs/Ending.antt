@@ -1,4 +1,4 @@
--- What the program says on standard error after a run, each line after its name, and its status.
+-- The words of the program on standard error after a run, each line after its name, and its status.
 use Rattle.std.specs.Prelude.{◌≡◌, ◌==◌, ℕ, Bool, true, false, List, [], ◌∷◌, ◌++◌, codes, decimal, Option, Result, Ok, Err, if◌then◌else◌}
 use Rattle.std.specs.Option.{option_map_or}
 use Rattle.std.specs.declared.io.ErrorKind.{ErrorKind}
@@ -45,7 +45,7 @@ status_of (Err (Unanswered tally)) = 1
 status_of (Err Read) = 2
 status_of (Err (Write kind)) = if is_closed kind then 0 else 2
 
--- The status is that of the outcome. Standard error took exactly its words, or after a failed write
--- a beginning of them that is not all.
+-- The status is the status of the outcome. Standard error took exactly its words, or after a failed
+-- write a beginning of them that is not all.
 abbrev pub ReportsOutcome : Result Unit RunError → Ending → Option (List ℕ) → Option (List ℕ) → Type 0
 ReportsOutcome outcome ending old new = (ending.status ≡ status_of outcome) × WritesPage (end_message outcome) ending.reported old new

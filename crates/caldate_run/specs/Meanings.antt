@@ -56,7 +56,7 @@ pub record IsItems (text : List ℕ) (items : List Item) : Type 0 where
   pub printed : IsTrue (are_moment_items items)
 
 -- ---- the meanings are correct
--- The date or moment is that of the word, and the items are those of its format, or there are none.
+-- The meaning has the date or moment of the word and the items of its format, or `None`.
 pub record IsMeaningOf (word : List ℕ) (meaning : Meaning) : Type 0 where
   pub found : MatchOption meaning.found ((found : DateOrMoment) → ¬ IsTextOf word found) (IsTextOf word)
   pub items : MatchOption meaning.items ((items : List Item) → ¬ IsItems (format_named word) items) (IsItems (format_named word))

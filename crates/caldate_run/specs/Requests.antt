@@ -173,7 +173,7 @@ seconds_in unit amount =
 abbrev pub usage_error_at : ℕ → Expected → UsageError
 usage_error_at at what = record { index = at; expected = what }
 
--- If the first words are valid, the result is that of the others, or else the first error.
+-- If the first words are valid, this is the result of the others, or else the first error.
 abbrev pub and_then : {X Y : Type 0} → Result X UsageError → (X → Result Y UsageError) → Result Y UsageError
 and_then (Ok x) more = more x
 and_then (Err usage_error) more = Err usage_error
@@ -329,7 +329,7 @@ abbrev pub date_in : DateOrMoment → Option ℕ
 date_in (dated.Date form n) = Some n
 date_in (dated.Moment form m) = None
 
--- The word at the index, as a date.
+-- The date in the word at the index.
 abbrev pub date_at : Option LocalAndOffset → Meanings → List (List ℕ) → ℕ → Result ℕ UsageError
 date_at now meanings words at = and_then (word_as words at (found_in now meanings) expected.Date) (λ found. ok_or (date_in found) (usage_error_at at expected.Date))
 

@@ -1,4 +1,4 @@
-//! What is written for a line without an answer.
+//! The modes of `--invalid`.
 
 /// A mode of `--invalid`: what is written for a line without an answer.
 #[derive(Clone, Copy, Debug, PartialEq, Eq)]

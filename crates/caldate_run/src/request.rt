@@ -200,7 +200,7 @@ pub struct Filter<'a> {
     pub offset: UtcOffset,
     /// The clocks that a text without an offset is read on instead, if a zone is given.
     pub clock: Option<Clock<'a>>,
-    /// What is written for a line without an answer.
+    /// The mode for a line without an answer.
     pub on_invalid: OnInvalid,
     /// The field to answer, or `None` for the whole line.
     pub field: Option<Field>,

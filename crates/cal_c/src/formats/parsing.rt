@@ -1,7 +1,7 @@
 //! Values from texts of a format.
 //!
 //! A call fails for numbers that are not a format, and for a format that doesn't determine such a
-//! value. Otherwise the errors are those of `parse` of the format in `cal_format`.
+//! value. Otherwise it returns the errors of the parser in `cal_format`.
 ghost use Rattle.std.specs.Prelude.{◌≡◌, List};
 ghost use Rattle.cal_format.specs.declared.item.Item.{Item};
 ghost use Rattle.cal_format.specs.Reading.{DeterminesDate, DeterminesTime, DeterminesOffset, DeterminesDateTime, DeterminesOffsetDateTime};

@@ -1,4 +1,4 @@
-//! What a reading in a gap or a fold means.
+//! Policies for readings in a gap or a fold.
 ghost use Rattle.std.specs.Prelude.{◌≡◌, MatchOption, Option};
 ghost use Rattle.cal_datetime.specs.OffsetDateTime.{LocalAndOffset};
 ghost use Rattle.cal_c.specs.Zones.{missing_status, moment_or_error, policy_number, rejected_status, IsByPolicy, IsPolicy};

@@ -104,7 +104,7 @@ pub struct UsageError {
     pub expected: Expected,
 }
 
-/// Creates the error for the word at an index, where `expected` is expected.
+/// Creates the error for a word at an index that isn't `expected`.
 pub fn usage_error_at(index: usize, expected: Expected) -> UsageError
     ensures { result ≡ usage_error_at index expected }
 {

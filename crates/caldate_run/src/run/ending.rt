@@ -59,7 +59,7 @@ fn status_of(outcome: &Result<(), RunError>) -> u8
     }
 }
 
-/// Appends what is said of a run.
+/// Appends the words about a run.
 fn push_words(words: &mut Buffer, outcome: &Result<(), RunError>)
     requires { words.old ≡ [] }
     ensures { words.new ≡ end_message outcome.now }
