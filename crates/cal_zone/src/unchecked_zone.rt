@@ -11,8 +11,7 @@ ghost use Rattle.cal_zone.specs.Span.{IsSpan};
 use crate::{Change, Instants, LocalType, Rule, Span, Table, ZoneParts};
 use std::marker::Model;
 
-/// A zone whose changes need not be in order. If they are not, a call may return any value. In the
-/// examples the zone is Berlin.
+/// A zone whose changes need not be in order. If they are not, a call may return any value.
 ///
 /// Contracts see the same as of a [`Zone`](crate::Zone).
 #[derive(Drop)]
@@ -175,8 +174,8 @@ impl<'a> UncheckedZone<'a> {
         }
     }
 
-    /// Returns how the clocks are set at a Unix time in seconds: CEST at 1711846800, 2024-03-31
-    /// 1:00 UTC.
+    /// Returns how the clocks are set at a Unix time in seconds. In Berlin it is CEST at
+    /// 1711846800.
     #[inline(always)]
     pub fn kind_at(&self, instant: i64) -> LocalType
         ensures { InOrder self.now → result ≡ kind_at self.now instant }
@@ -233,7 +232,7 @@ impl<'a> UncheckedZone<'a> {
     }
 
     /// Returns the offset at a Unix time in seconds, and instants around it with the same offset.
-    /// At 1711846800 the offset is 7200.
+    /// In Berlin the offset is 7200 at 1711846800.
     pub fn span_at(&self, instant: i64) -> Span
         ensures span { InOrder self.now → IsSpan self.now result }
         ensures offset { InOrder self.now → result.offset ≡ offset_at self.now instant }
@@ -280,8 +279,8 @@ impl<'a> UncheckedZone<'a> {
         }
     }
 
-    /// Returns the first change after a Unix time in seconds, or `None` if there is none. After
-    /// 1709164800, 2024-02-29 0:00 UTC, it is at 1711846800.
+    /// Returns the first change after a Unix time in seconds, or `None` if there is none. In Berlin
+    /// it is at 1711846800 after 1709164800.
     pub fn next_change(&self, instant: i64) -> Option<Change>
         ensures some { InOrder self.now → IfSome result (IsNextChange self.now instant) }
         ensures none { InOrder self.now → IfNone result (NoNextChange self.now instant) }
@@ -298,7 +297,7 @@ impl<'a> UncheckedZone<'a> {
     }
 
     /// Returns the last change that is not after a Unix time in seconds, or `None` if there is
-    /// none. For 1711846800 it is at 1711846800.
+    /// none. In Berlin it is at 1711846800 for 1711846800.
     pub fn previous_change(&self, instant: i64) -> Option<Change>
         ensures some { InOrder self.now → IfSome result (IsPreviousChange self.now instant) }
         ensures none { InOrder self.now → IfNone result (NoPreviousChange self.now instant) }
@@ -346,8 +345,8 @@ impl<'a> UncheckedZone<'a> {
     }
 
     /// Returns the instants at which clocks show a reading. The reading is its seconds since
-    /// 1970-01-01 0:00 by the clock, from -2^60 to 2^60. 1729996200, 2024-10-27 2:30, is a fold at
-    /// 1729989000 and 1729992600.
+    /// 1970-01-01 0:00 by the clock, from -2^60 to 2^60. In Berlin 1729996200, 2024-10-27 2:30, is
+    /// a fold at 1729989000 and 1729992600.
     pub fn instants_of(&self, reading: i64) -> Instants
         requires { IsMoment reading }
         ensures set { InOrder self.now
