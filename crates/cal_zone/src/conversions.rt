@@ -72,9 +72,8 @@ impl<'a> UncheckedZone<'a> {
 
     /// Returns the offset at a Unix time in seconds by the changes of the table, without the rule.
     ///
-    /// `None` says nothing about the offset; then call `utc_offset_at`. No
-    /// clause says when `None` comes: it does, for example, from the last change on if the zone has
-    /// a rule.
+    /// `None` says nothing about the offset; then call `utc_offset_at`. No clause says when `None`
+    /// comes: it does, for example, from the last change on if the zone has a rule.
     #[inline(always)]
     pub fn utc_offset_in_table(&self, instant: i64) -> Option<UtcOffset>
         ensures { InOrder self.now → IfSome result (λ offset. offset ≡ offset_at self.now instant) }

@@ -244,8 +244,8 @@ impl<'a> UncheckedZone<'a> {
     /// the table, without the rule. The reading is its seconds since 1970-01-01 0:00 by the clock,
     /// from -2^60 to 2^60.
     ///
-    /// `None` says nothing about the reading; then call `instants_of`. No
-    /// clause says when `None` comes: it does, for example, near a change.
+    /// `None` says nothing about the reading; then call `instants_of`. No clause says when `None`
+    /// comes: it does, for example, near a change.
     #[inline(always)]
     pub fn single_in_table(&self, reading: i64) -> Option<i64>
         requires { IsMoment reading }
