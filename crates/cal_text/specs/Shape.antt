@@ -21,9 +21,9 @@ unmatched_bytes (Branch low above f g) [] = unmatched_bytes g []
 unmatched_bytes (Branch low above f g) (x ∷ xs) = if nat_le low x && nat_le x (low + above) then unmatched_bytes f xs else unmatched_bytes g (x ∷ xs)
 
 -- ---- parsers, which go from the old list to the new list, or stop at the new list
--- The parser goes past a part of a shape: whatever shape f comes after the part, the new list
--- matches f as far as the old list matches the whole. Without a result, the old list stops matching
--- at the new list.
+-- The parser goes past a part of a shape: whatever shape f comes after the part, the new list has
+-- as many bytes unmatched by f as the old list by the whole. Without a result, the old list stops
+-- matching at the new list.
 abbrev pub Scans : {V : Type 0} → (Shape → Shape) → List ℕ → List ℕ → Option V → Type 0
 Scans part old new r = MatchOption r ((f : Shape) → unmatched_bytes (part f) old ≡ suc (length new)) (λ _. (f : Shape) → unmatched_bytes (part f) old ≡ unmatched_bytes f new)
 

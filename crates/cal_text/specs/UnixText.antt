@@ -18,8 +18,8 @@ minus_text (negsuc _) = codes "-"
 abbrev pub unix_text : ℤ → List ℕ
 unix_text v = codes "@" ++ minus_text v ++ decimal (unsigned_abs v / second) ++ fraction_text (unsigned_abs v % second)
 
--- The bytes have the form of v nanoseconds: at most 18 digits of seconds, and nothing or a point
--- and at most nine digits.
+-- The bytes have the form of v nanoseconds: at most 18 digits of seconds, and a fraction that is
+-- empty or has at most nine digits.
 pub record HasUnixForm (bytes : List ℕ) (v : ℤ) : Type 0 where
   pub seconds : unsigned_abs v / second < 10 ^ 18
   pub fraction : List ℕ
