@@ -93,8 +93,8 @@ pub extern "C" fn fots_duration_checked_div(duration: Duration, divisor: i32) ->
     DurationResult::from_option(duration.checked_div(divisor))
 }
 
-/// Negates a duration. Fails for the minimum, whose negation is out of range. -1.5 seconds becomes
-/// 1.5 seconds.
+/// Negates a duration. Fails if the result is out of range, which it is if the seconds are
+/// `i64::MIN`. -1.5 seconds becomes 1.5 seconds.
 #[unsafe(no_mangle)]
 pub extern "C" fn fots_duration_checked_neg(duration: Duration) -> DurationResult
     ensures invalid_duration { ¬ IsDurationPair duration → result ≡ duration_error invalid_duration }
@@ -116,7 +116,8 @@ pub extern "C" fn fots_duration_saturating_mul(duration: Duration, factor: i32) 
     DurationResult::ok(duration.saturating_mul(factor))
 }
 
-/// Returns the magnitude. For -1.5 seconds it is 1.5 seconds, and for the minimum the maximum.
+/// Returns the magnitude, clamped to the maximum. For -1.5 seconds it is 1.5 seconds, and for the
+/// minimum the maximum.
 #[unsafe(no_mangle)]
 pub extern "C" fn fots_duration_abs(duration: Duration) -> DurationResult
     ensures invalid_duration { ¬ IsDurationPair duration → result ≡ duration_error invalid_duration }

@@ -103,7 +103,7 @@ pub extern "C" fn fots_moment_saturating_sub(moment: Moment, duration: Duration)
 }
 
 /// Returns the duration from the instant of `other` to the instant of `moment`, negative if `other`
-/// is later. From 2024-02-29 0:00 +01:00 to 0:00 at UTC it is 1 hour.
+/// is later. From 2024-02-29 0:00 +01:00 to 2024-02-29 0:00 at UTC it is 1 hour.
 #[unsafe(no_mangle)]
 pub extern "C" fn fots_moment_duration_since(moment: Moment, other: Moment) -> DurationResult
     ensures invalid_moment { ¬ (IsMoment moment × IsMoment other)

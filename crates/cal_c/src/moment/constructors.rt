@@ -57,7 +57,8 @@ fn at_offset(moment: OffsetDateTime, offset: UtcOffset) -> MomentResult
     MomentResult::ok(shown)
 }
 
-/// Replaces the offset and keeps the local date and time of day, so the instant is another one.
+/// Replaces the offset and keeps the local date and time of day. 2024-02-29 23:59 +01:00 at the
+/// offset 0 is 23:59 at UTC, an hour later.
 #[unsafe(no_mangle)]
 pub extern "C" fn fots_moment_replace_offset(moment: Moment, offset: i32) -> MomentResult
     ensures { need IsMoment moment else result ≡ moment_error invalid_moment then
