@@ -54,7 +54,7 @@ impl Rule {
 
     /// Creates the rule of two changes. Returns `None` if a week, a time or an offset is out of
     /// range, if the months are neighbours, also over the new year, or if the first month is not
-    /// the earlier one. March and October make a rule, and December and January don't.
+    /// the earlier one. March and October make a rule, and January and December don't.
     #[inline(always)]
     pub fn new(one: Yearly, other: Yearly) -> Option<Self>
         ensures value { IfSome result (λ rule. (rule.one ≡ one) × (rule.other ≡ other)) }
