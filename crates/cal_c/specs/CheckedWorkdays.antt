@@ -19,7 +19,7 @@ holidays_of c = take c.holidays_length c.holidays
 abbrev pub week_of : CheckedWorkdays → WorkWeek
 week_of c = work_week c.weekmask (holidays_of c)
 
--- The weekmask and the number of holidays are valid. Each call rejects a struct whose are not.
+-- The weekmask and the number of holidays are valid. Each call rejects a struct with invalid ones.
 pub record HasLimits (c : CheckedWorkdays) : Type 0 where
   pub weekmask : IsWeekmask c.weekmask
   pub length : c.holidays_length ≤ max_holidays

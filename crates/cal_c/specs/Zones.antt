@@ -252,7 +252,7 @@ IsByPolicy Earlier local r = IsEarlier local r
 IsByPolicy Later local r = IsLater local r
 IsByPolicy Reject local r = r ≡ reject local
 
--- The status of a reading without a date-time by the policy `Reject`, and by each policy.
+-- The status of a reading that has no date-time by the policy `Reject`, or by any policy.
 abbrev pub rejected_status : Local → ℤ
 rejected_status (Single m) = result_out_of_range
 rejected_status (Gap gap) = skipped_time

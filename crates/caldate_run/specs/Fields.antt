@@ -18,7 +18,7 @@ split_record separator quoted (byte ∷ bytes) =
 abbrev pub fields_of : Field → List ℕ → List (List ℕ)
 fields_of field text = if field.csv then split_record field.separator false text else slice_split (λ byte. byte == field.separator) text
 
--- The text has fewer fields than the last of the fields to answer.
+-- The text doesn't have the last of the fields to answer.
 abbrev pub has_too_few : Field → List ℕ → Bool
 has_too_few field text = nat_le (length (fields_of field text)) (field.first - 1 + field.joined)
 

@@ -21,7 +21,7 @@ abbrev pub form_read : DateOrMoment → Form
 form_read (read.Date form n) = Date form
 form_read (read.Moment form m) = Moment form
 
--- It is a date.
+-- A date, and not a moment.
 abbrev pub is_date : DateOrMoment → Bool
 is_date (read.Date form n) = true
 is_date (read.Moment form m) = false

@@ -25,7 +25,7 @@ abbrev pub IsPace : Pace → Type 0
 IsPace (Steps step) = IsStep step
 IsPace (Rule recurrence) = ⊤
 
--- If the command is a list in steps, its step has this length.
+-- If the command is a list in steps, its step has a length in this range.
 abbrev pub HasValidStep : Command → Type 0
 HasValidStep (Dates listing) = IsStep listing.step
 HasValidStep other = ⊤
