@@ -19,20 +19,20 @@ holidays_of c = take c.holidays_length c.holidays
 abbrev pub week_of : CheckedWorkdays → WorkWeek
 week_of c = work_week c.weekmask (holidays_of c)
 
--- The weekmask and the number of holidays are valid. Each call rejects any others.
+-- The weekmask and the number of holidays are valid. Each call rejects a struct with invalid ones.
 pub record HasLimits (c : CheckedWorkdays) : Type 0 where
   pub weekmask : IsWeekmask c.weekmask
   pub length : c.holidays_length ≤ max_holidays
 
--- The holidays are valid, and those with a marked weekday are counted before each index. So are
--- all structs that `fots_workdays_new` returns without an error. A call doesn't test this again.
+-- The holidays are valid, and those with a marked weekday are counted before each index. This holds
+-- for each struct that `fots_workdays_new` returns without an error, and no call tests it again.
 pub record IsChecked (c : CheckedWorkdays) : Type 0 where
   pub limits : HasLimits c
   pub holidays : AreHolidays (holidays_of c)
   pub counts : (i : ℕ) → i ≤ c.holidays_length → get_or c.marked_before i 0 ≡ marked_count (week_of c) i
 
--- The result is a date of the range, or out of range. So is each result of a struct that isn't
--- checked.
+-- The result is a date of the range, or out of range. This holds for each struct with these limits,
+-- also for one that isn't checked.
 abbrev pub IsSomeDate : DateResult → Type 0
 IsSomeDate r = (found : Option ℕ) × IfSome found IsDate × (r ≡ date_or_out_of_range found)
 

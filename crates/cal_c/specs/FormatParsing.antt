@@ -20,6 +20,7 @@ use Rattle.cal_c.specs.declared.formats.parse_results.ParseOffsetResult.{ParseOf
 use Rattle.cal_c.specs.declared.texts.ParseMomentResult.{ParseMomentResult}
 
 -- ---- texts of values that the items hold
+-- The items hold this date, time of day, offset, date-time or moment, and print it as the text.
 abbrev pub IsTextOfDate : List Item → List ℕ → ℕ → Type 0
 IsTextOfDate items text n = IsDate n × AreHeld (moment_of_date n) items × (text ≡ text_of items (moment_of_date n))
 
@@ -38,6 +39,7 @@ IsTextOfMoment items text m =
     × (text ≡ text_of items (moment_of_offset_date_time m))
 
 -- ---- results
+-- The result with a time of day or an offset, or with an error at a position.
 abbrev pub parsed_time_ok : ℕ → ParseTimeResult
 parsed_time_ok t = record { status = ok_status; time = t; position = no_position }
 

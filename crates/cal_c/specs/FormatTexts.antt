@@ -4,6 +4,7 @@ use Rattle.cal_c.specs.Statuses.{ok_status, buffer_too_short, unsupported_item}
 use Rattle.cal_c.specs.declared.formats.results.LengthResult.{LengthResult}
 
 -- ---- the length of a text
+-- The result with the length of a text, or with an error.
 abbrev pub length_ok : ℕ → LengthResult
 length_ok n = record { status = ok_status; length = n }
 

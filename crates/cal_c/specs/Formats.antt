@@ -19,12 +19,13 @@ use Rattle.cal_c.specs.declared.formats.format_parts.FormatItem.{FormatItem}
 use Rattle.cal_c.specs.declared.formats.format_parts.FormatParts.{FormatParts}
 use Rattle.cal_c.specs.declared.formats.results.FormatResult.{FormatResult}
 
--- Numbers are padded with zeros, with spaces or not at all.
+-- The kind of a number: 1 with zeros, 2 with spaces, 3 without padding.
 abbrev pub padding_kind : Padding → ℕ
 padding_kind padding.Zero = 1
 padding_kind padding.Space = 2
 padding_kind padding.None = 3
 
+-- Names are numbered from 0, the name of the month.
 abbrev pub name_number : Name → ℕ
 name_number name.Month = 0
 name_number name.ShortMonth = 1

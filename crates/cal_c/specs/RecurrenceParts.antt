@@ -18,7 +18,7 @@ use Rattle.cal_c.specs.declared.schedule.recurrences.recurrence_parts.Recurrence
 use Rattle.cal_c.specs.declared.schedule.recurrences.parsing.ParseRecurrenceResult.{ParseRecurrenceResult}
 use Rattle.cal_c.specs.declared.schedule.recurrences.rule_parts.RuleWeekday.{RuleWeekday}
 
--- The last day of a recurrence, or the number for none.
+-- The last day of a recurrence as a Julian day, or the number for no last day.
 abbrev pub until_in : RuleEnd → ℤ
 until_in Never = no_value
 until_in (Until day) = julian_day_at day
@@ -35,6 +35,7 @@ abbrev pub parts_of_weekday : ByDay → RuleWeekday
 parts_of_weekday (Every w) = record { number = pos 0; weekday = index w + 1 }
 parts_of_weekday (Nth k w) = record { number = k; weekday = index w + 1 }
 
+-- The numbers of no weekday.
 abbrev pub no_weekday : RuleWeekday
 no_weekday = record { number = pos 0; weekday = 0 }
 

@@ -20,7 +20,7 @@ use Rattle.cal_c.specs.declared.schedule.recurrences.rule_parts.RuleParts.{RuleP
 use Rattle.cal_c.specs.declared.schedule.recurrences.rule_parts.RuleWeekday.{RuleWeekday}
 use Rattle.cal_c.specs.declared.schedule.results.DaysResult.{DaysResult}
 
--- Frequencies are numbered from 1, daily.
+-- Frequencies are numbered from 1, daily, to 4, yearly.
 abbrev pub frequency_number : Frequency → ℕ
 frequency_number Daily = 1
 frequency_number Weekly = 2
@@ -93,7 +93,7 @@ pub record IsRuleStatus (p : RuleParts) (s : ℤ) : Type 0 where
 abbrev pub plain_in : RuleParts → PlainParts
 plain_in p = record { start = day_of p.start; until = day_of p.until; frequency = frequency_in p.frequency; week_start = weekday_of_index (p.week_start - 1) }
 
--- The rule with the parts p.
+-- The pattern of the parts p: all parts except the start and the last day.
 abbrev pub pattern_in : RuleParts → Pattern
 pattern_in p = record {
   frequency = frequency_in p.frequency;
@@ -107,6 +107,7 @@ pattern_in p = record {
   set_positions = p.set_positions.now;
 }
 
+-- The rule with the parts p (RFC 5545): their pattern from the start to the last day.
 abbrev pub rule_in : RuleParts → Rule
 rule_in p = rule_of (pattern_in p) (day_of p.start) (Some (day_of p.until))
 

@@ -157,7 +157,7 @@ buffer_too_short = pos 42
 abbrev pub contradiction : ℤ
 contradiction = pos 43
 
--- The form of a zone or a policy is invalid.
+-- A struct is not a zone, or a number is not the number of a policy.
 abbrev pub invalid_zone : ℤ
 invalid_zone = pos 45
 
@@ -171,7 +171,7 @@ skipped_time = pos 47
 abbrev pub repeated_time : ℤ
 repeated_time = pos 48
 
--- The bytes of a zone are wrong.
+-- The errors in the bytes of a zone.
 abbrev pub not_a_zone_file : ℤ
 not_a_zone_file = pos 49
 

@@ -24,7 +24,8 @@ int64_row number status = record { status = pos status; number = number }
 pub record IsOffsetAt (c : CheckedZone) (seconds : ℤ) (r : OffsetResult) : Type 0 where
   pub answer : IsForZone c (λ z. r ≡ offset_ok (offset_at z seconds)) (r ≡ offset_error invalid_zone)
 
--- The instant of a reading by a policy, if these instants show it.
+-- The instant of a reading by a policy: in a gap between two offsets, in a fold of two instants, or
+-- with any instants.
 abbrev pub gap_instant : Policy → ℤ → ℤ → ℤ → Int64Result
 gap_instant Compatible reading before after = int64_ok (reading -ℤ before)
 gap_instant Earlier reading before after = int64_ok (reading -ℤ after)
@@ -49,7 +50,8 @@ IsInstantByPolicy z reading policy r =
     need IsMoment reading else r ≡ int64_error result_out_of_range then
     ((instants : Instants) × AreInstantsOf z reading instants × (r ≡ instant_by policy reading instants))
 
--- The same for a number of a policy, and for a struct that may have no zone.
+-- The result is the instant of a reading by the policy with a number, or the error of the zone or
+-- of the policy.
 pub record IsInstantOfReading (c : CheckedZone) (reading : ℤ) (policy : ℕ) (r : Int64Result) : Type 0 where
   pub answer : IsForZone c
       (λ z. need IsPolicy policy else r ≡ int64_error invalid_policy then

@@ -47,18 +47,19 @@ use Rattle.cal_c.specs.declared.zones.checked_zone.ZoneYearly.{ZoneYearly}
 use Rattle.cal_c.specs.declared.zones.results.PartsResult.{PartsResult}
 
 -- ---- zones that are checked once
--- How clocks are set, and a change that comes each year, by their numbers.
+-- The local time type and the yearly change with these numbers.
 abbrev pub local_type_in : ZoneClock → LocalType
 local_type_in t = record { offset = t.offset; is_daylight = nat_lt 0 t.is_daylight; name_start = t.name_start; name_end = t.name_end }
 
 abbrev pub yearly_in : ZoneYearly → Yearly
 yearly_in r = record { month = month_of_index r.month; week = r.week; weekday = weekday_of_index r.weekday; time = r.time; kind = local_type_in r.clock }
 
--- The zone of these bytes and parts. Its changes are those of the file, and then the changes of the
--- rule, if the parts have one.
+-- The changes of the rule after the changes of the file, if the parts have a rule.
 abbrev pub changes_by_rule : CheckedParts → List Change
 changes_by_rule p = if p.rule == 2 then changes_from (yearly_in p.one) (yearly_in p.other) p.skip else []
 
+-- The zone of these bytes and parts. Its changes are those of the file, and then the changes of the
+-- rule, if the parts have one.
 abbrev pub zone_of_parts : List ℕ → CheckedParts → Timeline
 zone_of_parts bytes p = record { first = local_type_in p.first; changes = changes_in bytes p.layout ++ changes_by_rule p }
 
@@ -75,11 +76,13 @@ pub record HasRule (p : CheckedParts) : Type 0 where
   pub second : HasPlaces p.other
   pub calm : IsCalm (yearly_in p.one) (yearly_in p.other)
 
--- The parts say that they have no rule, or that they have one, and have it.
+-- The mark of the parts says that there is no rule, or that there is one, and then the two changes
+-- are a rule.
 abbrev pub HasRuleOrNone : CheckedParts → Type 0
 HasRuleOrNone p = (p.rule ≡ 1) ⊎ ((p.rule ≡ 2) × HasRule p)
 
--- The bytes have all changes of the parts, which have a rule or none. Each call rejects any others.
+-- The bytes have all changes of the parts, which have a rule or none. Each call rejects bytes and
+-- parts without this.
 pub record HasParts (bytes : List ℕ) (p : CheckedParts) : Type 0 where
   pub readable : IsReadable bytes p.layout
   pub skip : p.skip ≤ 3_999_998
@@ -88,8 +91,8 @@ pub record HasParts (bytes : List ℕ) (p : CheckedParts) : Type 0 where
 abbrev pub HasZone : CheckedZone → Type 0
 HasZone c = HasParts c.bytes.now c.parts
 
--- The changes are in order, too. So are those of all parts that are made without an error, over the
--- bytes that they are made from. A call doesn't test this again.
+-- The struct has a zone, and its changes are in order. This holds for all parts that a call makes
+-- without an error, with the bytes that it makes them from. No call tests it again.
 pub record IsChecked (c : CheckedZone) : Type 0 where
   pub parts : HasZone c
   pub order : InOrder (zone_in c)
@@ -130,28 +133,32 @@ zone_status kinds.Time = invalid_rule_time
 zone_status kinds.Months = months_too_close
 zone_status kinds.Trailing = trailing_bytes
 
--- The parts of this zone, and the parts of an error, which each call rejects.
+-- The result has the parts of this zone.
 pub record IsPartsOf (bytes : List ℕ) (z : Timeline) (r : PartsResult) : Type 0 where
   pub status : r.status ≡ ok_status
   pub position : r.position ≡ no_position
   pub parts : HasParts bytes r.parts
   pub zone : zone_of_parts bytes r.parts ≡ z
 
+-- The result has this error, and parts that each call rejects with any bytes.
 pub record IsPartsError (e : ZoneError) (r : PartsResult) : Type 0 where
   pub status : r.status ≡ zone_status e.kind
   pub position : r.position ≡ e.position
   pub rejected : (bytes : List ℕ) → HasParts bytes r.parts → ⊥
 
--- What bytes say, by a relation to their zone and one to their error: the parts of a zone whose
--- changes are in order, or an error.
+-- The result for bytes, by a relation to their zone and a relation to their error: the parts of a
+-- zone whose changes are in order, or an error.
 pub data IsMade (bytes : List ℕ) (Says : Timeline → Type 0) (Fails : ZoneError → Type 0) (r : PartsResult) : Type 0 where
   zone : (z : Timeline) → Says z → InOrder z → IsPartsOf bytes z r → IsMade bytes Says Fails r
   error : (e : ZoneError) → Fails e → IsPartsError e r → IsMade bytes Says Fails r
 
 -- ---- instants
+-- 1 for daylight saving time, else 0.
 abbrev pub daylight_number : Bool → ℕ
 daylight_number is_daylight = if is_daylight then 1 else 0
 
+-- The result with a local time type, whose abbreviation is in the bytes of the zone, or with an
+-- error.
 abbrev pub local_type_ok : List ℕ → LocalType → LocalTypeResult
 local_type_ok bytes t = record {
   status = ok_status;
@@ -207,6 +214,7 @@ abbrev pub gap_ok : ℤ → ℤ → ℤ → LocalResult
 gap_ok reading before after =
     record { status = ok_status; kind = 2; earlier = reading -ℤ after; later = reading -ℤ before; earlier_offset = before; later_offset = after }
 
+-- The result with the instants of a reading, or with an error.
 abbrev pub local_ok : ℤ → Instants → LocalResult
 local_ok reading (instants.Single i) = instants_ok 1 reading i i
 local_ok reading (instants.Gap at before after) = gap_ok reading before after
@@ -222,10 +230,12 @@ local_error s = record {
   later_offset = no_value;
 }
 
+-- The result has the instants at which clocks show the reading.
 abbrev pub IsResolved : Timeline → ℤ → LocalResult → Type 0
 IsResolved z reading r = (its : Instants) × AreInstantsOf z reading its × (r ≡ local_ok reading its)
 
 -- ---- policies, which are numbered from 0, `Compatible`
+-- Policies are numbered from 0, `Compatible`, to 3, `Reject`.
 abbrev pub policy_number : Policy → ℕ
 policy_number Compatible = 0
 policy_number Earlier = 1
@@ -235,13 +245,14 @@ policy_number Reject = 3
 abbrev pub IsPolicy : ℕ → Type 0
 IsPolicy k = k ≤ 3
 
+-- The date-time of a reading by a policy, or `None`.
 abbrev pub IsByPolicy : Policy → Local → Option LocalAndOffset → Type 0
 IsByPolicy Compatible local r = IsCompatible local r
 IsByPolicy Earlier local r = IsEarlier local r
 IsByPolicy Later local r = IsLater local r
 IsByPolicy Reject local r = r ≡ reject local
 
--- The status of a reading without a date-time.
+-- The status of a reading that has no date-time by the policy `Reject`, or by any policy.
 abbrev pub rejected_status : Local → ℤ
 rejected_status (Single m) = result_out_of_range
 rejected_status (Gap gap) = skipped_time
@@ -253,10 +264,12 @@ missing_status Earlier local = result_out_of_range
 missing_status Later local = result_out_of_range
 missing_status Reject local = rejected_status local
 
+-- The result with a moment, or with this status for `None`.
 abbrev pub moment_or_error : ℤ → Option LocalAndOffset → MomentResult
 moment_or_error s (Some m) = moment_ok m
 moment_or_error s None = moment_error s
 
+-- The result is the moment of a reading by a policy, or an error if it has none.
 abbrev pub IsMomentByPolicy : Timeline → ℤ → Policy → MomentResult → Type 0
 IsMomentByPolicy z reading policy r =
     (local : Local) × IsLocalOf z reading local × ((m : Option LocalAndOffset) × IsByPolicy policy local m × (r ≡ moment_or_error (missing_status policy local) m))

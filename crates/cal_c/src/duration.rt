@@ -22,7 +22,8 @@ pub extern "C" fn fots_duration_new(seconds: i64, nanoseconds: i32) -> DurationR
     DurationResult::from_option(SignedDuration::seconds(seconds).checked_add(past))
 }
 
-/// Creates a duration from weeks of 7 days. Fails if it is out of range.
+/// Creates a duration from weeks of 7 days. Fails if it is out of range. 2 weeks are 1209600
+/// seconds.
 #[unsafe(no_mangle)]
 pub extern "C" fn fots_duration_weeks(weeks: i64) -> DurationResult
     ensures { IsDurationOrOutOfRange (weeks *ℤ pos week) result }
@@ -34,7 +35,8 @@ pub extern "C" fn fots_duration_weeks(weeks: i64) -> DurationResult
     DurationResult::ok(SignedDuration::seconds(seconds))
 }
 
-/// Creates a duration from days of 24 hours. Fails if it is out of range.
+/// Creates a duration from days of 24 hours. Fails if it is out of range. -3 days are -259200
+/// seconds.
 #[unsafe(no_mangle)]
 pub extern "C" fn fots_duration_days(days: i64) -> DurationResult
     ensures { IsDurationOrOutOfRange (days *ℤ pos day) result }
@@ -43,7 +45,7 @@ pub extern "C" fn fots_duration_days(days: i64) -> DurationResult
     DurationResult::ok(SignedDuration::seconds(seconds))
 }
 
-/// Creates a duration from hours. Fails if it is out of range.
+/// Creates a duration from hours. Fails if it is out of range. 47 hours are 169200 seconds.
 #[unsafe(no_mangle)]
 pub extern "C" fn fots_duration_hours(hours: i64) -> DurationResult
     ensures { IsDurationOrOutOfRange (hours *ℤ pos hour) result }
@@ -52,7 +54,7 @@ pub extern "C" fn fots_duration_hours(hours: i64) -> DurationResult
     DurationResult::ok(SignedDuration::seconds(seconds))
 }
 
-/// Creates a duration from minutes. Fails if it is out of range.
+/// Creates a duration from minutes. Fails if it is out of range. 90 minutes are 5400 seconds.
 #[unsafe(no_mangle)]
 pub extern "C" fn fots_duration_minutes(minutes: i64) -> DurationResult
     ensures { IsDurationOrOutOfRange (minutes *ℤ pos minute) result }
@@ -69,7 +71,7 @@ pub extern "C" fn fots_duration_seconds(seconds: i64) -> DurationResult
     DurationResult::ok(SignedDuration::seconds(seconds))
 }
 
-/// Creates a duration from milliseconds.
+/// Creates a duration from milliseconds. -1500 give -1 second and -500000000 nanoseconds.
 #[unsafe(no_mangle)]
 pub extern "C" fn fots_duration_milliseconds(milliseconds: i64) -> DurationResult
     ensures { result ≡ duration_ok (milliseconds *ℤ pos millisecond) }
@@ -77,7 +79,7 @@ pub extern "C" fn fots_duration_milliseconds(milliseconds: i64) -> DurationResul
     DurationResult::ok(SignedDuration::milliseconds(milliseconds))
 }
 
-/// Creates a duration from microseconds.
+/// Creates a duration from microseconds. -1500000 give -1 second and -500000000 nanoseconds.
 #[unsafe(no_mangle)]
 pub extern "C" fn fots_duration_microseconds(microseconds: i64) -> DurationResult
     ensures { result ≡ duration_ok (microseconds *ℤ pos microsecond) }
@@ -85,7 +87,7 @@ pub extern "C" fn fots_duration_microseconds(microseconds: i64) -> DurationResul
     DurationResult::ok(SignedDuration::microseconds(microseconds))
 }
 
-/// Creates a duration from nanoseconds.
+/// Creates a duration from nanoseconds. -1500000000 give -1 second and -500000000 nanoseconds.
 #[unsafe(no_mangle)]
 pub extern "C" fn fots_duration_nanoseconds(nanoseconds: i64) -> DurationResult
     ensures { result ≡ duration_ok nanoseconds }
@@ -93,7 +95,7 @@ pub extern "C" fn fots_duration_nanoseconds(nanoseconds: i64) -> DurationResult
     DurationResult::ok(SignedDuration::nanoseconds(nanoseconds))
 }
 
-/// Returns the whole weeks, truncated toward zero.
+/// Returns the whole weeks, truncated toward zero. For 15 days it is 2.
 #[unsafe(no_mangle)]
 pub extern "C" fn fots_duration_whole_weeks(duration: Duration) -> Int64Result
     ensures invalid_duration { ¬ IsDurationPair duration → result ≡ int64_error invalid_duration }
@@ -104,7 +106,7 @@ pub extern "C" fn fots_duration_whole_weeks(duration: Duration) -> Int64Result
     Int64Result::ok(duration.whole_weeks())
 }
 
-/// Returns the whole days, truncated toward zero.
+/// Returns the whole days, truncated toward zero. For -47 hours it is -1.
 #[unsafe(no_mangle)]
 pub extern "C" fn fots_duration_whole_days(duration: Duration) -> Int64Result
     ensures invalid_duration { ¬ IsDurationPair duration → result ≡ int64_error invalid_duration }
@@ -115,7 +117,7 @@ pub extern "C" fn fots_duration_whole_days(duration: Duration) -> Int64Result
     Int64Result::ok(duration.whole_days())
 }
 
-/// Returns the whole hours, truncated toward zero.
+/// Returns the whole hours, truncated toward zero. For -47 hours it is -47.
 #[unsafe(no_mangle)]
 pub extern "C" fn fots_duration_whole_hours(duration: Duration) -> Int64Result
     ensures invalid_duration { ¬ IsDurationPair duration → result ≡ int64_error invalid_duration }
@@ -126,7 +128,7 @@ pub extern "C" fn fots_duration_whole_hours(duration: Duration) -> Int64Result
     Int64Result::ok(duration.whole_hours())
 }
 
-/// Returns the whole minutes, truncated toward zero.
+/// Returns the whole minutes, truncated toward zero. For -47 hours it is -2820.
 #[unsafe(no_mangle)]
 pub extern "C" fn fots_duration_whole_minutes(duration: Duration) -> Int64Result
     ensures invalid_duration { ¬ IsDurationPair duration → result ≡ int64_error invalid_duration }
@@ -137,7 +139,7 @@ pub extern "C" fn fots_duration_whole_minutes(duration: Duration) -> Int64Result
     Int64Result::ok(duration.whole_minutes())
 }
 
-/// Returns the whole seconds, truncated toward zero.
+/// Returns the whole seconds, truncated toward zero. For -1.5 seconds it is -1.
 #[unsafe(no_mangle)]
 pub extern "C" fn fots_duration_whole_seconds(duration: Duration) -> Int64Result
     ensures invalid_duration { ¬ IsDurationPair duration → result ≡ int64_error invalid_duration }
@@ -148,7 +150,8 @@ pub extern "C" fn fots_duration_whole_seconds(duration: Duration) -> Int64Result
     Int64Result::ok(duration.whole_seconds())
 }
 
-/// Returns the whole milliseconds, truncated toward zero. Fails if they don't fit in an `i64`.
+/// Returns the whole milliseconds, truncated toward zero. Fails if they don't fit in an `i64`. For
+/// -1.5 seconds it is -1500.
 #[unsafe(no_mangle)]
 pub extern "C" fn fots_duration_whole_milliseconds(duration: Duration) -> Int64Result
     ensures invalid_duration { ¬ IsDurationPair duration → result ≡ int64_error invalid_duration }
@@ -159,7 +162,8 @@ pub extern "C" fn fots_duration_whole_milliseconds(duration: Duration) -> Int64R
     Int64Result::from_i128(duration.whole_milliseconds())
 }
 
-/// Returns the whole microseconds, truncated toward zero. Fails if they don't fit in an `i64`.
+/// Returns the whole microseconds, truncated toward zero. Fails if they don't fit in an `i64`. For
+/// -1.5 seconds it is -1500000.
 #[unsafe(no_mangle)]
 pub extern "C" fn fots_duration_whole_microseconds(duration: Duration) -> Int64Result
     ensures invalid_duration { ¬ IsDurationPair duration → result ≡ int64_error invalid_duration }
@@ -170,7 +174,8 @@ pub extern "C" fn fots_duration_whole_microseconds(duration: Duration) -> Int64R
     Int64Result::from_i128(duration.whole_microseconds())
 }
 
-/// Returns the nanoseconds. Fails if they don't fit in an `i64`.
+/// Returns the nanoseconds. Fails if they don't fit in an `i64`. For -1.5 seconds it is
+/// -1500000000.
 #[unsafe(no_mangle)]
 pub extern "C" fn fots_duration_whole_nanoseconds(duration: Duration) -> Int64Result
     ensures invalid_duration { ¬ IsDurationPair duration → result ≡ int64_error invalid_duration }
@@ -180,7 +185,8 @@ pub extern "C" fn fots_duration_whole_nanoseconds(duration: Duration) -> Int64Re
     Int64Result::from_i128(duration.whole_nanoseconds())
 }
 
-/// Returns the milliseconds past the whole seconds, truncated toward zero.
+/// Returns the milliseconds past the whole seconds, truncated toward zero. For -1.5 seconds it is
+/// -500.
 #[unsafe(no_mangle)]
 pub extern "C" fn fots_duration_subsec_milliseconds(duration: Duration) -> NumberResult
     ensures invalid_duration { ¬ IsDurationPair duration → result ≡ number_error invalid_duration }
@@ -191,7 +197,8 @@ pub extern "C" fn fots_duration_subsec_milliseconds(duration: Duration) -> Numbe
     NumberResult::ok(i32::from(duration.subsec_milliseconds()))
 }
 
-/// Returns the microseconds past the whole seconds, truncated toward zero.
+/// Returns the microseconds past the whole seconds, truncated toward zero. For -1.5 seconds it is
+/// -500000.
 #[unsafe(no_mangle)]
 pub extern "C" fn fots_duration_subsec_microseconds(duration: Duration) -> NumberResult
     ensures invalid_duration { ¬ IsDurationPair duration → result ≡ number_error invalid_duration }

@@ -11,7 +11,8 @@ use crate::status::{INVALID_DATE, INVALID_DURATION, INVALID_TIME};
 use crate::values::{valid_date, valid_duration, valid_time};
 use cal_time::{add_to_pair, sub_from_pair};
 
-/// Adds a duration to a date and a time. Fails if the resulting date is out of range.
+/// Adds a duration to a date and a time. Fails if the resulting date is out of range. 2 hours after
+/// 2000-02-29 23:00 it is 2000-03-01 1:00.
 #[unsafe(no_mangle)]
 pub extern "C" fn fots_add_to_pair(date: i32, time: u64, duration: Duration) -> PairResult
     ensures { need IsJulianDay date else result ≡ pair_error invalid_date then
@@ -25,7 +26,8 @@ pub extern "C" fn fots_add_to_pair(date: i32, time: u64, duration: Duration) -> 
     PairResult::from_option(add_to_pair(date, time, duration))
 }
 
-/// Subtracts a duration from a date and a time. Fails if the resulting date is out of range.
+/// Subtracts a duration from a date and a time. Fails if the resulting date is out of range. 2
+/// hours before 2000-03-01 1:00 it is 2000-02-29 23:00.
 #[unsafe(no_mangle)]
 pub extern "C" fn fots_sub_from_pair(date: i32, time: u64, duration: Duration) -> PairResult
     ensures { need IsJulianDay date else result ≡ pair_error invalid_date then

@@ -19,7 +19,7 @@ pub struct Duration {
     pub nanoseconds: i32,
 }
 
-/// A date, as its Julian day.
+/// A result with a date, as its Julian day. After an error it is `i32::MIN`.
 #[repr(C)]
 #[derive(Clone, Copy)]
 pub struct DateResult {
@@ -27,7 +27,7 @@ pub struct DateResult {
     pub date: i32,
 }
 
-/// A component, or another number.
+/// A result with a component or another number. After an error it is `i32::MIN`.
 #[repr(C)]
 #[derive(Clone, Copy)]
 pub struct NumberResult {
@@ -35,7 +35,7 @@ pub struct NumberResult {
     pub number: i32,
 }
 
-/// A duration.
+/// A result with a duration. After an error its seconds are `i64::MIN`.
 #[repr(C)]
 #[derive(Clone, Copy)]
 pub struct DurationResult {
@@ -43,7 +43,7 @@ pub struct DurationResult {
     pub duration: Duration,
 }
 
-/// A time of day, in nanoseconds since midnight.
+/// A result with a time of day, in nanoseconds since midnight. After an error it is `u64::MAX`.
 #[repr(C)]
 #[derive(Clone, Copy)]
 pub struct TimeResult {
@@ -51,7 +51,7 @@ pub struct TimeResult {
     pub time: u64,
 }
 
-/// The components of a time of day.
+/// A result with the components of a time of day. After an error each of them is `u32::MAX`.
 #[repr(C)]
 #[derive(Clone, Copy)]
 pub struct HmsNanoResult {
@@ -62,7 +62,8 @@ pub struct HmsNanoResult {
     pub nanosecond: u32,
 }
 
-/// A time of day, and the days carried.
+/// A result with a time of day, in nanoseconds since midnight, and the days carried: -1, 0 or 1.
+/// After an error they are `u64::MAX` and `i32::MIN`.
 #[repr(C)]
 #[derive(Clone, Copy)]
 pub struct AdjustedTimeResult {
@@ -71,7 +72,7 @@ pub struct AdjustedTimeResult {
     pub time: u64,
 }
 
-/// An offset, in seconds.
+/// A result with an offset, in seconds. After an error it is `i32::MIN`.
 #[repr(C)]
 #[derive(Clone, Copy)]
 pub struct OffsetResult {
@@ -79,7 +80,8 @@ pub struct OffsetResult {
     pub offset: i32,
 }
 
-/// The components of an offset.
+/// A result with the components of an offset, all of one sign. After an error each of them is
+/// `i32::MIN`.
 #[repr(C)]
 #[derive(Clone, Copy)]
 pub struct OffsetHmsResult {
@@ -89,7 +91,7 @@ pub struct OffsetHmsResult {
     pub seconds: i32,
 }
 
-/// A number in 64 bits.
+/// A result with a number in 64 bits. After an error it is `i64::MIN`.
 #[repr(C)]
 #[derive(Clone, Copy)]
 pub struct Int64Result {
@@ -97,7 +99,8 @@ pub struct Int64Result {
     pub number: i64,
 }
 
-/// A date and a time of day.
+/// A result with a date, as its Julian day, and a time of day, in nanoseconds since midnight. After
+/// an error they are `i32::MIN` and `u64::MAX`.
 #[repr(C)]
 #[derive(Clone, Copy)]
 pub struct PairResult {
@@ -106,7 +109,7 @@ pub struct PairResult {
     pub time: u64,
 }
 
-/// A calendar date.
+/// A result with a calendar date. After an error its year is `i32::MIN`, and the others are 0.
 #[repr(C)]
 #[derive(Clone, Copy)]
 pub struct CalendarDateResult {
@@ -116,7 +119,7 @@ pub struct CalendarDateResult {
     pub day: u32,
 }
 
-/// An ordinal date.
+/// A result with an ordinal date. After an error its year is `i32::MIN`, and its ordinal is 0.
 #[repr(C)]
 #[derive(Clone, Copy)]
 pub struct OrdinalDateResult {
@@ -125,7 +128,7 @@ pub struct OrdinalDateResult {
     pub ordinal: u32,
 }
 
-/// An ISO week date.
+/// A result with an ISO week date. After an error its year is `i32::MIN`, and the others are 0.
 #[repr(C)]
 #[derive(Clone, Copy)]
 pub struct IsoWeekDateResult {
@@ -389,7 +392,8 @@ impl PairResult {
     }
 }
 
-/// A local date and time of day at an offset from UTC.
+/// A moment: a local date, as its Julian day, and time of day, in nanoseconds since midnight, at an
+/// offset from UTC, in seconds.
 #[repr(C)]
 #[derive(Clone, Copy)]
 pub struct Moment {
@@ -398,7 +402,8 @@ pub struct Moment {
     pub time: u64,
 }
 
-/// A moment.
+/// A result with a moment. After an error its date and its offset are `i32::MIN`, and its time is
+/// `u64::MAX`.
 #[repr(C)]
 #[derive(Clone, Copy)]
 pub struct MomentResult {

@@ -1,47 +1,57 @@
-//! The statuses. The header has them as an enum.
+//! The statuses. The header has them as an enum. The statuses from `YEAR_OUT_OF_RANGE` to
+//! `TIMESTAMP_OUT_OF_RANGE`, and from `DAY_OUT_OF_RANGE` on, name a component that is out of range.
 ghost use Rattle.std.specs.Prelude.{◌≡◌};
 ghost use Rattle.cal_c.specs.Statuses.{component_status};
 
 use cal_time::error::{Component, ComponentRange};
 
+/// The call returns a value.
 pub const OK: i32 = 0;
 
-/// The exact result is out of range.
+/// The exact result is out of range, or there is none.
 pub const RESULT_OUT_OF_RANGE: i32 = 1;
 
+/// The date is not a Julian day from -363521074 to 366963559.
 pub const INVALID_DATE: i32 = 2;
 
+/// The time of day is not from 0 to 86399999999999 nanoseconds since midnight.
 pub const INVALID_TIME: i32 = 3;
 
+/// The offset is not from -93599 to 93599 seconds.
 pub const INVALID_OFFSET: i32 = 4;
 
+/// The nanoseconds of the duration are not from -999999999 to 999999999, or their sign is not the
+/// sign of the seconds.
 pub const INVALID_DURATION: i32 = 5;
 
+/// The weekday is not from 1, Monday, to 7, Sunday.
 pub const INVALID_WEEKDAY: i32 = 6;
 
+/// The count is above 255.
 pub const INVALID_COUNT: i32 = 7;
 
-/// A byte of the text is wrong.
+/// A byte of the text is wrong: no text of the form has it there.
 pub const UNEXPECTED_BYTE: i32 = 8;
 
+/// The date, the time of day or the offset of the moment is invalid.
 pub const INVALID_MOMENT: i32 = 9;
 
-/// The number of the frequency is invalid.
+/// The frequency is not from 1, daily, to 4, yearly.
 pub const INVALID_FREQUENCY: i32 = 10;
 
 /// A list of the rule has more than 62 values.
 pub const TOO_MANY_PARTS: i32 = 11;
 
-/// The number of the day count or business day convention is invalid.
+/// The convention is not from 0 to 4, or for a day count from 1 to 5.
 pub const INVALID_CONVENTION: i32 = 12;
 
-/// The number has more marks than the seven of a week.
+/// The weekmask is above 127: it has more marks than the seven of a week.
 pub const INVALID_WEEKMASK: i32 = 13;
 
 /// The holidays are not in ascending order, or one is not a date.
 pub const INVALID_HOLIDAYS: i32 = 14;
 
-/// There are too many holidays.
+/// There are more than 1024 holidays.
 pub const TOO_MANY_HOLIDAYS: i32 = 15;
 
 pub const YEAR_OUT_OF_RANGE: i32 = 16;
@@ -84,7 +94,7 @@ pub const UNKNOWN_PART: i32 = 32;
 /// A part of the recurrence is a duplicate.
 pub const DUPLICATE_PART: i32 = 33;
 
-/// A part of the recurrence has too many values.
+/// A part of the recurrence has more than 62 values.
 pub const TOO_MANY_VALUES: i32 = 34;
 
 /// A part of the recurrence has an invalid value.
@@ -114,10 +124,10 @@ pub const BUFFER_TOO_SHORT: i32 = 42;
 /// A component of a text isn't the component of the value that the others determine.
 pub const CONTRADICTION: i32 = 43;
 
-/// The form of a zone is not a number of one.
+/// The struct is not a zone: it has other numbers than a call makes.
 pub const INVALID_ZONE: i32 = 45;
 
-/// The number of the policy is invalid.
+/// The policy is not from 0, `Compatible`, to 3, `Reject`.
 pub const INVALID_POLICY: i32 = 46;
 
 /// The clocks of the zone skip the reading.

@@ -22,7 +22,7 @@ word_length word text =
     let next = get_or text (length word) 0 in
     if begins_with word text && (is_space next || (next == 93)) then length word else 0
 
--- The same for the first of some words that is there.
+-- The same for the first word of a list that is there, or 0.
 unfoldable pub any_length : List (List ℕ) → List ℕ → ℕ
 any_length [] text = 0
 any_length (w ∷ words) text = (let n = word_length w text in if n == 0 then any_length words text else n)
@@ -55,9 +55,11 @@ unfoldable pub component_front : List Row → List ℕ → Front
 component_front [] text = front_with [] 1
 component_front (row ∷ rows) text = (let n = component_length row.0 row.1 text in if n == 0 then component_front rows text else front_with row.2 (n + 1))
 
+-- The components of format descriptions, as rows.
 abbrev pub components : List Row
 components = map (λ row. (row.0.now, map (λ word. word.now) row.1.now, row.2.now)) COMPONENTS
 
--- After an opening bracket comes a component, or another bracket.
+-- The items of a text after an opening bracket: another opening bracket, which is a literal, or a
+-- component.
 abbrev pub description_front : List ℕ → Front
 description_front text = if get_or text 0 0 == 91 then front_with (item.Literal 91 ∷ []) 2 else component_front components text

@@ -12,13 +12,14 @@ pub record Front : Type 0 where
 abbrev pub front_with : List Item → ℕ → Front
 front_with items used = record { items = items; used = used }
 
--- The text begins with this one.
+-- The second text begins with the first one.
 unfoldable pub begins_with : List ℕ → List ℕ → Bool
 begins_with [] text = true
 begins_with (p ∷ ps) [] = false
 begins_with (p ∷ ps) (x ∷ xs) = (x == p) && begins_with ps xs
 
--- The first row whose spelling begins the text. One byte comes before the spelling.
+-- The items of the first row whose spelling begins the text, if there is one. One byte comes before
+-- the spelling.
 abbrev pub front_of : Option (List ℕ × List Item) → Front
 front_of None = front_with [] 1
 front_of (Some row) = front_with row.1 (length row.0 + 1)

@@ -4,6 +4,7 @@ use Rattle.cal_time.specs.ComponentError.{component_name}
 use Rattle.cal_format.specs.declared.error.ParseError.{ParseError}
 use Rattle.cal_format.specs.declared.error.ParseError.TheVariants.{UnexpectedByte, UnexpectedEnd, OutOfRange, Contradiction}
 
+-- An error of the form prints its position, and the other errors print the component's name.
 abbrev pub error_text : ParseError → List ℕ
 error_text (UnexpectedByte position) = codes "unexpected byte at " ++ decimal position
 error_text (UnexpectedEnd position) = codes "unexpected end at " ++ decimal position

@@ -1,5 +1,5 @@
--- The form of the texts of a format: its literals, and digits and names for its components, whatever
--- their numbers are.
+-- The form of the texts of a format: its literals, and digits and names for its components,
+-- whatever their numbers are.
 use Rattle.std.specs.Prelude.{◌≡◌, ℕ, zero, suc, ◌+◌, ◌-◌, ◌<◌, ◌≤◌, ◌^◌, ◌==◌, ◌++◌, Bool, true, false, List, [], ◌∷◌, length, codes, Option, None, Some, if◌then◌else◌}
 use Rattle.std.specs.Str.Parse.{AllDigits}
 use Rattle.cal_text.specs.Shape.{Shape, End, ByteRange, Branch, Byte, Digits, Sign, Number, unmatched_bytes, decimals_value}
@@ -31,6 +31,7 @@ AfterSpaces (suc k) f = Branch 32 0 (AfterSpaces k f) (ByteRange 49 8 (Digits (s
 abbrev pub Decimal : ℕ → Shape → Shape
 Decimal more f = Branch 48 0 f (Number more f)
 
+-- A number of the width w: with zeros or spaces before it, or of at most w digits without padding.
 abbrev pub Padded : Padding → ℕ → Shape → Shape
 Padded padding.Zero w f = Digits w f
 Padded padding.Space w f = AfterSpaces (w - 1) f
@@ -56,14 +57,16 @@ pub record ParsesDecimals (old new : List ℕ) (may_end : Bool) (more unit n : �
   pub bytes_are : old ≡ digits ++ new
 
 -- ---- names
+-- The bytes of a word.
 abbrev pub Word : List ℕ → Shape → Shape
 Word [] f = f
 Word (b ∷ bytes) f = Byte b (Word bytes f)
 
--- Letters, and the other letters of the name if it is long.
+-- Letters of a name, and the other letters of the name if it is long.
 abbrev pub Letters : List ℕ → List ℕ → Bool → Shape → Shape
 Letters letters others long f = Word letters (if long then Word others f else f)
 
+-- The English name of a month, or its first three letters.
 unfoldable pub MonthName : Bool → Shape → Shape
 MonthName long f =
     Branch 74 0 (Branch 97 0 (Letters (codes "n") (codes "uary") long f) (Byte 117 (Branch 110 0 (Letters [] (codes "e") long f) (Byte 108 (Letters [] (codes "y") long f)))))
@@ -74,6 +77,7 @@ MonthName long f =
     (Branch 79 0 (Letters (codes "ct") (codes "ober") long f)
     (Branch 78 0 (Letters (codes "ov") (codes "ember") long f) (Byte 68 (Letters (codes "ec") (codes "ember") long f))))))))
 
+-- The English name of a weekday, or its first three letters.
 unfoldable pub WeekdayName : Bool → Shape → Shape
 WeekdayName long f =
     Branch 77 0 (Letters (codes "on") (codes "day") long f)
@@ -82,9 +86,11 @@ WeekdayName long f =
     (Branch 70 0 (Letters (codes "ri") (codes "day") long f)
     (Byte 83 (Branch 97 0 (Letters (codes "t") (codes "urday") long f) (Letters (codes "un") (codes "day") long f))))))
 
+-- AM or PM.
 unfoldable pub PeriodName : Shape → Shape
 PeriodName f = Branch 65 0 (Byte 77 f) (Byte 80 (Byte 77 f))
 
+-- A name of this kind.
 abbrev pub NameShape : Name → Shape → Shape
 NameShape name.Month f = MonthName true f
 NameShape name.ShortMonth f = MonthName false f
@@ -93,6 +99,7 @@ NameShape name.ShortWeekday f = WeekdayName false f
 NameShape name.Period f = PeriodName f
 
 -- ---- items
+-- The bytes that an item can print.
 abbrev pub ItemShape : Item → Shape → Shape
 ItemShape (item.Literal b) f = Byte b f
 ItemShape (item.Number c p) f = Padded p (width_of p c) f
@@ -103,7 +110,8 @@ ItemShape item.OffsetSign f = Sign f
 ItemShape item.TimestampSign f = Branch 45 0 f f
 ItemShape item.Abbreviation f = f
 
--- A text has the form of the items if it has this shape.
+-- The shape of the items, one after the other. A text has the form of the items if it has this
+-- shape.
 abbrev pub shape_of : List Item → Shape
 shape_of [] = End
 shape_of (i ∷ items) = ItemShape i (shape_of items)
@@ -112,7 +120,7 @@ abbrev pub HasForm : List Item → List ℕ → Type 0
 HasForm items text = unmatched_bytes (shape_of items) text ≡ 0
 
 -- ---- the numbers of a text
--- The name of a month or a weekday, numbered from 1.
+-- The name with a number. Months and weekdays are numbered from 1, AM is 0, and PM is 1.
 abbrev pub month_text : Bool → ℕ → List ℕ
 month_text long n = if long then month.name (month_of_index (n - 1)) else short_month (month_of_index (n - 1))
 
@@ -146,7 +154,7 @@ numbered_text [] numbers = []
 numbered_text (i ∷ items) [] = []
 numbered_text (i ∷ items) (n ∷ numbers) = numbered_item i n ++ numbered_text items numbers
 
--- The number has as many digits as the item, or is the number of a name.
+-- A number that a name can have.
 abbrev pub IsNameNumber : Name → ℕ → Type 0
 IsNameNumber name.Month n = (1 ≤ n) × (n ≤ 12)
 IsNameNumber name.ShortMonth n = (1 ≤ n) × (n ≤ 12)
@@ -154,6 +162,8 @@ IsNameNumber name.Weekday n = (1 ≤ n) × (n ≤ 7)
 IsNameNumber name.ShortWeekday n = (1 ≤ n) × (n ≤ 7)
 IsNameNumber name.Period n = n < 2
 
+-- A number that an item can have: of at most its digits, of a name, 0 or 1 for a sign, or 0 for an
+-- item that shows no component. In a list, each item has one number.
 abbrev pub IsNumber : Item → ℕ → Type 0
 IsNumber (item.Literal b) n = n ≡ 0
 IsNumber (item.Number c p) n = n < 10 ^ width_of p c
@@ -175,7 +185,7 @@ pub record HasNumbers (items : List Item) (numbers text : List ℕ) : Type 0 whe
   pub fit : AreNumbers items numbers
   pub text_is : text ≡ numbered_text items numbers
 
--- The numbers of the items of a moment.
+-- The numbers that the items show of a moment, and 0 for an item that shows no component.
 abbrev pub component_number : Moment → Option Component → ℕ
 component_number v None = 0
 component_number v (Some c) = number c v

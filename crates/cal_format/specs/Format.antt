@@ -20,7 +20,7 @@ abbrev pub spelled : Syntax → List ℕ → Front
 spelled Percent rest = front_in directives rest
 spelled Brackets rest = description_front rest
 
--- They must lie within the text.
+-- The spelling must lie within the text. Otherwise nothing is spelled.
 abbrev pub within : List ℕ → Front → Front
 within text f = if nat_lt (length text) f.used then front_with [] 1 else f
 
@@ -34,8 +34,8 @@ pub data Spells (s : Syntax) : List ℕ → List Item → List ℕ → Type 0 wh
   nothing : (text : List ℕ) → Spells s text [] text
   more : (text : List ℕ) (others : List Item) (rest : List ℕ) → (front s text).items ≢ [] → Spells s (drop (front s text).used text) others rest → Spells s text ((front s text).items ++ others) rest
 
--- Why a text spells no format. At this position, after some items, come bytes that spell no item;
--- or there are too many items.
+-- Why a text that begins at `at`, after `had` items, is not a format: after bytes that spell items,
+-- the bytes from a position on spell no item; or there are more than 64 items.
 abbrev pub IsFaultOf : Syntax → ℕ → ℕ → List ℕ → FormatError → Type 0
 IsFaultOf s at had text (UnknownItem p) =
     (items : List Item) × (rest : List ℕ) × Spells s text items rest × (rest ≢ []) × ((front s rest).items ≡ []) × (p + length rest ≡ at + length text)

@@ -16,9 +16,11 @@ use Rattle.cal_format.specs.Text.{text_of}
 abbrev pub iso_items : List Item
 iso_items = item.Number Year padding.Zero ∷ item.Literal 45 ∷ item.Number Month padding.Zero ∷ item.Literal 45 ∷ item.Number Day padding.Zero ∷ []
 
+-- `%F` spells these items.
 pub iso_items-spelled : Spells Percent (codes "%F") iso_items []
 unfolding front begins_with
 iso_items-spelled = more (codes "%F") [] [] (λ e. absurd (omega (arith, ap length e))) (nothing [])
 
+-- These items print a date as its text.
 pub iso_items-text : (n : ℕ) → text_of iso_items (moment_of_date n) ≡ date.text n
 iso_items-text n = simp (append_assoc, append-nil)

@@ -21,8 +21,8 @@ pub record IsMoment (v : Moment) : Type 0 where
   pub time : IsTime v.time
   pub offset : IsOffset v.offset
 
--- A day, a time of day, a date-time, an offset and a date-time at an offset as moments. What they
--- lack is 0.
+-- A day, a time of day, a date-time, an offset and a date-time at an offset as moments. The parts
+-- that they don't have are 0.
 abbrev pub moment_of_date : ℕ → Moment
 moment_of_date n = record { date = n; time = 0; offset = pos 0 }
 
@@ -38,8 +38,8 @@ moment_of_offset o = record { date = 0; time = 0; offset = o }
 abbrev pub moment_of_offset_date_time : LocalAndOffset → Moment
 moment_of_offset_date_time m = record { date = date_at m.local; time = time_at m.local; offset = m.offset }
 
--- The Unix time in seconds, rounded down: 86400 for each day since 1970-01-01, and the seconds of the
--- day at UTC (POSIX, seconds since the epoch).
+-- The Unix time in seconds, rounded down: 86400 for each day since 1970-01-01, and the seconds of
+-- the day at UTC (POSIX, seconds since the epoch).
 abbrev pub timestamp_of : Moment → ℤ
 timestamp_of v = (pos v.date -ℤ epoch_day) *ℤ pos 86_400 +ℤ pos (v.time / second) -ℤ v.offset
 

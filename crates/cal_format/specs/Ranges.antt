@@ -20,7 +20,8 @@ minimum c = (facts_of c).minimum
 abbrev pub maximum : Component → ℕ
 maximum c = (facts_of c).maximum
 
--- The range of a day and of a week depends on the year.
+-- The error of a component out of range. It is conditional for the day, the ordinal and the weeks,
+-- whose ranges depend on other components.
 abbrev pub range_error : Component → ComponentRange
 range_error Day = conditional error.Day
 range_error Ordinal = conditional error.Ordinal
@@ -29,6 +30,7 @@ range_error SundayWeek = conditional error.Week
 range_error MondayWeek = conditional error.Week
 range_error c = unconditional (named c)
 
+-- The first error if there is one, else the other.
 abbrev pub either : {A : Type 0} → Option A → Option A → Option A
 either (Some e) other = Some e
 either None other = other

@@ -18,12 +18,13 @@ IsRangeError items numbers why =
     (first_range_error items numbers ≡ Some why)
     ⊎ ((first_range_error items numbers ≡ None) × (why ≡ value_error items) × ((v : Moment) → ¬ IsMomentOf items (number_in items numbers) v))
 
--- Without a component out of range it is the first component that isn't the component of the value.
+-- The numbers are in range and determine a moment, and this is the component of the first item
+-- whose number isn't the number of that moment.
 abbrev pub IsContradiction : List Item → List ℕ → Named → Type 0
 IsContradiction items numbers c =
     (first_range_error items numbers ≡ None) × ((v : Moment) × IsMomentOf items (number_in items numbers) v × (first_contradiction items numbers v ≡ Some c))
 
--- Numbers that are not the numbers of a value.
+-- The error of numbers that are not the numbers of a moment that the items hold.
 abbrev pub IsNumberRejection : List Item → List ℕ → ParseError → Type 0
 IsNumberRejection items numbers (OutOfRange why) = IsRangeError items numbers why
 IsNumberRejection items numbers (Contradiction c) = IsContradiction items numbers c

@@ -9,7 +9,7 @@ use Rattle.cal_format.specs.Moment.{number, width_of}
 use Rattle.cal_format.specs.Text.{sign}
 use Rattle.cal_format.specs.Reading.{index}
 
--- The number of a component.
+-- The number of a component in the fields of a text.
 abbrev pub number_at : Component → Fields → ℕ
 number_at c f = get_or f.numbers (index c) 0
 

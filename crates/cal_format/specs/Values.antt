@@ -23,7 +23,8 @@ number_in [] numbers c = 0
 number_in (i ∷ items) [] c = 0
 number_in (i ∷ items) (n ∷ numbers) c = if shows c i then n else number_in items numbers c
 
--- The year, the weekday, the time of day and the offset of the numbers `at` of the components.
+-- The year, the weekday, the time of day, the offset and the Unix time of the numbers `at` of the
+-- components. Weekdays are counted from 0, Monday.
 abbrev pub year_in : List Item → (Component → ℕ) → ℕ
 year_in items at = if any_shows Year items then at Year else at Century * 100 + at YearOfCentury
 
@@ -52,8 +53,8 @@ offset_in at = signed_seconds (at OffsetSign) (at OffsetHour * 3_600 + at Offset
 abbrev pub timestamp_in : (Component → ℕ) → ℤ
 timestamp_in at = signed_seconds (at TimestampSign) (at Timestamp)
 
--- A day has the numbers of a calendar date, or else of an ordinal date, or else of an ISO week date.
--- Without a date it is day 0.
+-- A day has the numbers of a calendar date, or else of an ordinal date, or else of an ISO week
+-- date. Without a date it is day 0.
 pub record IsDateOf (items : List Item) (at : Component → ℕ) (n : ℕ) : Type 0 where
   pub calendar : IsTrue (shows_calendar_date items) → HasCalendarDate (pos (year_in items at)) (at Month) (at Day) n
   pub ordinal : IsTrue (not (shows_calendar_date items)) → IsTrue (shows_ordinal_date items) → HasOrdinalDate (pos (year_in items at)) (at Ordinal) n
@@ -77,14 +78,17 @@ pub record IsMomentOf (items : List Item) (at : Component → ℕ) (v : Moment) 
   pub time : IsTrue (not (shows_timestamp items)) → v.time ≡ (if shows_time items then time_in items at else 0)
   pub offset : v.offset ≡ (if shows_offset items then offset_in at else pos 0)
 
--- The component of the first item whose number isn't the number of the moment.
+-- The list has no elements.
 abbrev pub is_empty : List ℕ → Bool
 is_empty [] = true
 is_empty (x ∷ xs) = false
 
+-- The name of a component in an error, unless its numbers are the same.
 abbrev pub differing : Component → Bool → Option Named
 differing c same = if same then None else Some (named c)
 
+-- The name of a component, or of an item's component, if this isn't its number of the moment, or if
+-- the moment has a sign before it.
 abbrev pub contradiction : Option Component → ℕ → Moment → Option Named
 contradiction None n v = None
 contradiction (Some c) n v = differing c ((number c v == n) && is_empty (sign c v))
@@ -92,6 +96,7 @@ contradiction (Some c) n v = differing c ((number c v == n) && is_empty (sign c 
 abbrev pub item_contradiction : Item → ℕ → Moment → Option Named
 item_contradiction i n v = contradiction (item_component i) n v
 
+-- The component of the first item whose number isn't the number of the moment.
 abbrev pub first_contradiction : List Item → List ℕ → Moment → Option Named
 first_contradiction [] numbers v = None
 first_contradiction (i ∷ items) [] v = None
@@ -107,7 +112,8 @@ pub record Holds (items : List Item) (v : Moment) : Type 0 where
   pub parts : IsTrue (holds_time items v.time)
   pub offset_parts : IsTrue (holds_offset items v.offset)
 
--- The text is the text of a moment that the items hold.
+-- The items print the moment as the text, and each number has at most the digits of its item and no
+-- sign. The parts of the time of day and of the offset that the items don't determine are 0.
 pub record IsPrinted (items : List Item) (v : Moment) (text : List ℕ) : Type 0 where
   pub in_range : IsMoment v
   pub numbers : AreHeld v items

@@ -39,8 +39,8 @@ pub(crate) fn date_of(items: &Shown, fields: &Fields) -> Option<Date>
     iso_week_date(iso_year, week, weekday_of(items, fields))
 }
 
-/// Returns the error of numbers that no moment has: the Unix time, the day of the month, the day of the
-/// year or the ISO week.
+/// Returns the error of numbers that no moment has: the Unix time, the day of the month, the day of
+/// the year or the ISO week.
 pub(crate) fn value_error(items: &Shown) -> ComponentRange
     ensures { result ≡ value_error items.now }
 {

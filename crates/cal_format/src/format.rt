@@ -13,10 +13,10 @@ use std::marker::Model;
 /// The maximum number of items.
 const CAPACITY: usize = 64;
 
-/// The reason why a text isn't a format.
+/// An error: a text is not a format.
 #[derive(Clone, Copy, Debug, PartialEq, Eq)]
 pub enum FormatError {
-    /// No item begins at this position.
+    /// The bytes from this position on, counted from 0, spell no item.
     UnknownItem(usize),
     /// The format has more than 64 items.
     TooLong,
@@ -41,7 +41,11 @@ impl Model for Format {
 }
 
 impl Format {
-    /// Creates a format from a text in the syntax of `strftime`, such as `%Y-%m-%d`.
+    /// Creates a format from a text in the syntax of `strftime`, such as `%Y-%m-%d`. Any byte
+    /// outside a directive is a literal.
+    ///
+    /// Returns `UnknownItem` with the position of a percent sign that begins no directive, or
+    /// `TooLong` for more than 64 items. `%Y-%Q` is `UnknownItem(3)`.
     pub fn new(text: &str) -> Result<Format, FormatError>
         ensures every { (items : List Item) → Spells Percent text.now items [] → length items ≤ 64
             → result ≡ Ok items }
@@ -51,7 +55,11 @@ impl Format {
         Format::from_bytes(text.as_bytes(), Syntax::Percent)
     }
 
-    /// Creates a format from a text in the syntax of `time`, such as `[year]-[month]-[day]`.
+    /// Creates a format from a text in the syntax of the crate `time`, such as
+    /// `[year]-[month]-[day]`. Any byte outside a component is a literal.
+    ///
+    /// Returns `UnknownItem` with the position of an opening bracket that begins no component, or
+    /// `TooLong` for more than 64 items. `[year]-[mon]` is `UnknownItem(7)`.
     pub fn from_description(text: &str) -> Result<Format, FormatError>
         ensures every { (items : List Item) → Spells Brackets text.now items [] → length items ≤ 64
             → result ≡ Ok items }
@@ -74,7 +82,7 @@ impl Format {
         }
     }
 
-    /// Creates a format without items.
+    /// Creates a format without items, whose text is empty.
     pub fn empty() -> Format
         ensures { result ≡ [] }
     {
@@ -98,7 +106,7 @@ impl Format {
         true
     }
 
-    /// Returns the items.
+    /// Returns the items, at most 64. `%F` has five.
     pub fn items(&self) -> &[Item]
         ensures items { result.now ≡ self.now }
         ensures few { length result.now ≤ 64 }

@@ -4,88 +4,88 @@ ghost use Rattle.cal_format.specs.Format.{escape};
 ghost use Rattle.cal_format.specs.Moment.{width, most_digits};
 ghost use Rattle.cal_format.specs.Reading.{index, name_component};
 
-/// A number that a format shows of a value.
+/// A number that a format shows of a value. The ranges here are the ranges in a text that parses.
 #[derive(Clone, Copy, Debug, PartialEq, Eq)]
 pub enum Component {
-    /// The year.
+    /// The year, from 0 to 9999. Other years print with a sign: `-0044` or `+12024`.
     Year,
-    /// The year divided by 100.
+    /// The year divided by 100, from 0 to 99: 20 for 2024.
     Century,
-    /// The last two digits of the year.
+    /// The last two digits of the year, from 0 to 99: 24 for 2024.
     YearOfCentury,
-    /// The ISO year.
+    /// The ISO year, from 0 to 9999: 2025 for 2024-12-30.
     IsoYear,
-    /// The month, from 1.
+    /// The month, from 1 to 12.
     Month,
-    /// The day of the month.
+    /// The day of the month, from 1 to 31.
     Day,
-    /// The day of the year.
+    /// The day of the year, from 1 to 366.
     Ordinal,
-    /// The ISO week.
+    /// The ISO week, from 1 to 53.
     IsoWeek,
-    /// The weekday, from 1 for Monday.
+    /// The weekday, from 1, Monday, to 7, Sunday.
     Weekday,
-    /// The weekday, from 0 for Sunday.
+    /// The weekday, from 0, Sunday, to 6, Saturday.
     DaysFromSunday,
-    /// The weekday, from 1 for Sunday.
+    /// The weekday, from 1, Sunday, to 7, Saturday.
     SundayWeekday,
-    /// The number of Sundays of the year so far.
+    /// The number of Sundays of the year so far, from 0 to 53.
     SundayWeek,
-    /// The number of Mondays of the year so far.
+    /// The number of Mondays of the year so far, from 0 to 53.
     MondayWeek,
     /// The hour, from 0 to 23.
     Hour,
-    /// The hour, from 1 to 12.
+    /// The hour, from 1 to 12. Midnight and noon have 12.
     Hour12,
-    /// The minute.
+    /// The minute, from 0 to 59.
     Minute,
-    /// The second.
+    /// The second, from 0 to 59.
     Second,
-    /// The half of the day: 0 or 1.
+    /// The half of the day: 0 before noon, 1 from noon on.
     Period,
-    /// The milliseconds of the second.
+    /// The milliseconds of the second, from 0 to 999.
     Millisecond,
-    /// The microseconds of the second.
+    /// The microseconds of the second, from 0 to 999999.
     Microsecond,
-    /// The nanoseconds of the second.
+    /// The nanoseconds of the second, from 0 to 999999999.
     Nanosecond,
-    /// The hours of the offset.
+    /// The hours of the offset without its sign, from 0 to 25.
     OffsetHour,
-    /// The minutes of the offset.
+    /// The minutes of the offset past its hours, from 0 to 59.
     OffsetMinute,
-    /// The seconds of the offset.
+    /// The seconds of the offset past its minutes, from 0 to 59.
     OffsetSecond,
-    /// The sign of the offset: 1 for minus.
+    /// The sign of the offset: 1 for minus, else 0.
     OffsetSign,
-    /// The seconds since 1970-01-01 0:00 UTC, without their sign.
+    /// The whole seconds since 1970-01-01 0:00 UTC, rounded down, without their sign.
     Timestamp,
-    /// The sign of these seconds: 1 for minus.
+    /// The sign of these seconds: 1 for minus, else 0.
     TimestampSign,
 }
 
-/// The bytes before a number with fewer digits than its width.
+/// A padding: the bytes before a number with fewer digits than its width.
 #[derive(Clone, Copy, Debug, PartialEq, Eq)]
 pub enum Padding {
-    /// Zeros.
+    /// Zeros, such as `07` for the hour 7.
     Zero,
-    /// Spaces.
+    /// Spaces, such as ` 7` for the hour 7.
     Space,
-    /// No bytes.
+    /// No bytes, such as `7` for the hour 7.
     None,
 }
 
-/// A name.
+/// A name that a format shows of a value, in English.
 #[derive(Clone, Copy, Debug, PartialEq, Eq)]
 pub enum Name {
-    /// The English name of the month.
+    /// The name of the month, such as `February`.
     Month,
-    /// The first three letters of the name of the month.
+    /// The first three letters of the name of the month, such as `Feb`.
     ShortMonth,
-    /// The English name of the weekday.
+    /// The name of the weekday, such as `Thursday`.
     Weekday,
-    /// The first three letters of the name of the weekday.
+    /// The first three letters of the name of the weekday, such as `Thu`.
     ShortWeekday,
-    /// `AM` or `PM`.
+    /// `AM` before noon, `PM` from noon on.
     Period,
 }
 
@@ -94,33 +94,35 @@ pub enum Name {
 pub enum Item {
     /// This byte.
     Literal(u8),
-    /// The number of a component.
+    /// The number of a component, padded to its width.
     Number(Component, Padding),
     /// A name.
     Name(Name),
-    /// A point and the digits of the second without trailing zeros, or nothing.
+    /// A point and the digits of the second's fraction without trailing zeros, such as `.25`, or
+    /// nothing for 0.
     Fraction,
-    /// The digits of the second's fraction without trailing zeros, at least one.
+    /// The digits of the second's fraction without trailing zeros, at least one: `25`, or `0` for
+    /// 0.
     Decimals,
-    /// The sign of the offset.
+    /// The sign of the offset: `-` if it is negative, else `+`.
     OffsetSign,
     /// The minus sign of a negative Unix time, or nothing.
     TimestampSign,
-    /// The abbreviation of the zone.
+    /// The abbreviation of the zone, such as `CET`.
     Abbreviation,
 }
 
-/// The syntax of a format.
+/// A syntax of formats.
 #[derive(Clone, Copy)]
 pub enum Syntax {
-    /// Letters after percent signs.
+    /// Letters after percent signs, such as `%Y-%m-%d`, as in `strftime`.
     Percent,
-    /// Words in brackets.
+    /// Words in brackets, such as `[year]-[month]-[day]`, as in the crate `time`.
     Brackets,
 }
 
 impl Syntax {
-    /// Returns the byte before the spelling of items.
+    /// Returns the byte before the spelling of items: `%` or `[`.
     pub(crate) fn escape(self) -> u8
         ensures { result ≡ escape self }
     {
@@ -132,7 +134,7 @@ impl Syntax {
 }
 
 impl Component {
-    /// Returns the number of its digits with padding.
+    /// Returns the number of digits to which the component is padded.
     pub(crate) fn width(self) -> u8
         ensures value { result ≡ width self }
         ensures range { (1 ≤ result) × (result ≤ 9) }
@@ -152,7 +154,7 @@ impl Component {
         }
     }
 
-    /// Returns the maximum number of its digits without padding.
+    /// Returns the maximum number of digits of the component without padding.
     pub(crate) fn most_digits(self) -> u8
         ensures value { result ≡ most_digits self }
         ensures range { (1 ≤ result) × (result ≤ 14) }
@@ -163,7 +165,7 @@ impl Component {
         }
     }
 
-    /// Returns its place among the components.
+    /// Returns the index of the component, from 0 for `Year` to 26 for `TimestampSign`.
     #[inline(always)]
     pub fn index(self) -> usize
         ensures value { result ≡ index self }

@@ -13,7 +13,7 @@ use crate::value_formats::{DateFormat, DateTimeFormat, TimeFormat};
 use cal_datetime::PlainDateTime;
 use cal_time::{Date, Time};
 
-/// States that a text is the text of at most one date.
+/// States that a text is the text of at most one date that the format holds.
 pub(crate) fn one_date(format: &DateFormat, text: &[u8]) -> Result<Date, ParseError>
     ensures { (m n : ℕ) → IsDate m → IsDate n → AreHeld (moment_of_date m) format.now
         → AreHeld (moment_of_date n) format.now
@@ -24,7 +24,7 @@ pub(crate) fn one_date(format: &DateFormat, text: &[u8]) -> Result<Date, ParseEr
     format.parse(text)
 }
 
-/// States that a text is the text of at most one time of day.
+/// States that a text is the text of at most one time of day that the format holds.
 pub(crate) fn one_time(format: &TimeFormat, text: &[u8]) -> Result<Time, ParseError>
     ensures { (m n : ℕ) → IsTime m → IsTime n → IsTrue (holds_time format.now m)
         → IsTrue (holds_time format.now n)
@@ -35,7 +35,7 @@ pub(crate) fn one_time(format: &TimeFormat, text: &[u8]) -> Result<Time, ParseEr
     format.parse(text)
 }
 
-/// States that a text is the text of at most one date-time.
+/// States that a text is the text of at most one date-time that the format holds.
 pub(crate) fn one_date_time(
     format: &DateTimeFormat,
     text: &[u8],

@@ -31,8 +31,9 @@ const MAX_ABBREVIATION: usize = 15;
 const MAX_LENGTH: usize = 960;
 
 impl Format {
-    /// Writes a date to the front of the buffer, and returns the number of bytes. Returns `None` if
-    /// the format shows more than a date, or if the buffer is too short.
+    /// Writes a date to the front of the buffer, and returns the number of bytes. Returns `None`,
+    /// and leaves the buffer as it is, if the format shows more than a date, or if the buffer is
+    /// too short. `%d/%m/%Y` writes `29/02/2024`.
     pub fn print_date(&self, date: Date, buffer: &mut [u8]) -> Option<usize>
         ensures room { IsSome result ↔ IsTrue (are_date_items self.now)
             × (length (text_of self.now (moment_of_date date)) ≤ length buffer.old) }
@@ -49,7 +50,8 @@ impl Format {
     }
 
     /// Writes a time of day to the front of the buffer, and returns the number of bytes. Returns
-    /// `None` if the format shows more than a time of day, or if the buffer is too short.
+    /// `None`, and leaves the buffer as it is, if the format shows more than a time of day, or if
+    /// the buffer is too short. `%I:%M %p` writes `11:59 PM`.
     pub fn print_time(&self, time: Time, buffer: &mut [u8]) -> Option<usize>
         ensures room { IsSome result ↔ IsTrue (are_time_items self.now)
             × (length (text_of self.now (moment_of_time time)) ≤ length buffer.old) }
@@ -66,7 +68,8 @@ impl Format {
     }
 
     /// Writes a date-time to the front of the buffer, and returns the number of bytes. Returns
-    /// `None` if the format shows an offset, or if the buffer is too short.
+    /// `None`, and leaves the buffer as it is, if the format shows an offset, a Unix time or an
+    /// abbreviation, or if the buffer is too short. `%F %R` writes `2024-02-29 23:59`.
     pub fn print_date_time(&self, date_time: PlainDateTime, buffer: &mut [u8]) -> Option<usize>
         ensures room { IsSome result ↔ IsTrue (are_date_time_items self.now)
             × (length (text_of self.now (moment_of_date_time date_time)) ≤ length buffer.old) }
@@ -83,8 +86,9 @@ impl Format {
         self.print(&moment_of_date_time(date_time), b"", buffer)
     }
 
-    /// Writes an offset to the front of the buffer, and returns the number of bytes. Returns `None`
-    /// if the format shows more than an offset, or if the buffer is too short.
+    /// Writes an offset to the front of the buffer, and returns the number of bytes. Returns
+    /// `None`, and leaves the buffer as it is, if the format shows more than an offset, or if the
+    /// buffer is too short. `%:z` writes `+05:30`.
     pub fn print_offset(&self, offset: UtcOffset, buffer: &mut [u8]) -> Option<usize>
         ensures room { IsSome result ↔ IsTrue (are_offset_items self.now)
             × (length (text_of self.now (moment_of_offset offset)) ≤ length buffer.old) }
@@ -102,7 +106,8 @@ impl Format {
     }
 
     /// Writes a date-time at an offset to the front of the buffer, and returns the number of bytes.
-    /// Returns `None` if the format shows the abbreviation of a zone, or if the buffer is too short.
+    /// Returns `None`, and leaves the buffer as it is, if the format shows the abbreviation of a
+    /// zone, or if the buffer is too short. `%F %R %z` writes `2024-02-29 23:59 +0100`.
     pub fn print_offset_date_time(
         &self,
         date_time: OffsetDateTime,
@@ -123,9 +128,10 @@ impl Format {
         self.print(&moment_of_offset_date_time(date_time), b"", buffer)
     }
 
-    /// Writes a date-time at the offset of a zone to the front of the buffer, and returns the number
-    /// of bytes. `%Z` shows the abbreviation. Returns `None` if the abbreviation has more than 15
-    /// bytes, or if the buffer is too short.
+    /// Writes a date-time at the offset of a zone to the front of the buffer, and returns the
+    /// number of bytes. Returns `None`, and leaves the buffer as it is, if the abbreviation has
+    /// more than 15 bytes, or if the buffer is too short. `%R %Z` writes `23:59 CET` with the
+    /// abbreviation `CET`.
     pub fn print_in_zone(
         &self,
         date_time: OffsetDateTime,
@@ -147,7 +153,8 @@ impl Format {
         self.print(&moment_of_offset_date_time(date_time), abbreviation, buffer)
     }
 
-    /// Returns `true` if the format shows the abbreviation of a zone, which only `print_in_zone` has.
+    /// Returns `true` if the format shows the abbreviation of a zone, such as `%Z`. Only
+    /// `print_in_zone` prints such a format.
     pub fn shows_abbreviation(&self) -> bool
         ensures { result ≡ not (are_moment_items self.now) }
     {

@@ -129,7 +129,8 @@ macro_rules! determining {
 }
 
 impl Format {
-    /// Returns the format for dates, or `None` if its texts don't determine a date.
+    /// Returns the format for dates, or `None` if its texts don't determine a date, or show more
+    /// than a date. `%F` and `%G-W%V-%u` determine a date, and `%Y-%m` doesn't.
     pub fn for_dates(self) -> Option<DateFormat>
         ensures determines { IsSome result ↔ DeterminesDate self }
         ensures same { IfSome result (λ format. format ≡ self) }
@@ -137,7 +138,8 @@ impl Format {
         determining!(self, DateFormat, [0..DATE_END] shows_date)
     }
 
-    /// Returns the format for times of day, or `None` if its texts don't determine a time of day.
+    /// Returns the format for times of day, or `None` if its texts don't determine a time of day,
+    /// or show more than a time of day. `%R` and `%I %p` determine a time, and `%I:%M` doesn't.
     pub fn for_times(self) -> Option<TimeFormat>
         ensures determines { IsSome result ↔ DeterminesTime self }
         ensures same { IfSome result (λ format. format ≡ self) }
@@ -145,7 +147,8 @@ impl Format {
         determining!(self, TimeFormat, [DATE_END..TIME_END] shows_time)
     }
 
-    /// Returns the format for offsets, or `None` if its texts don't determine an offset.
+    /// Returns the format for offsets, or `None` if its texts don't determine an offset, or show
+    /// more than an offset. `%:z` determines an offset, and `[offset_minute]` doesn't.
     pub fn for_offsets(self) -> Option<OffsetFormat>
         ensures determines { IsSome result ↔ DeterminesOffset self }
         ensures same { IfSome result (λ format. format ≡ self) }
@@ -153,8 +156,8 @@ impl Format {
         determining!(self, OffsetFormat, [TIME_END..OFFSET_END] shows_offset)
     }
 
-    /// Returns the format for date-times, or `None` if its texts don't determine a date and a time of
-    /// day.
+    /// Returns the format for date-times, or `None` if its texts don't determine a date and a time
+    /// of day, or show more than these. `%F %R` determines a date-time, and `%F` doesn't.
     pub fn for_date_times(self) -> Option<DateTimeFormat>
         ensures determines { IsSome result ↔ DeterminesDateTime self }
         ensures same { IfSome result (λ format. format ≡ self) }
@@ -162,8 +165,9 @@ impl Format {
         determining!(self, DateTimeFormat, [0..TIME_END] shows_date, shows_time)
     }
 
-    /// Returns the format for date-times at an offset, or `None` if its texts don't determine a date,
-    /// a time of day and an offset.
+    /// Returns the format for date-times at an offset, or `None` if its texts don't determine a
+    /// date, a time of day and an offset, or show an abbreviation. `%F %T %z` and `%s` determine a
+    /// date-time at an offset, and `%F %T` doesn't.
     pub fn for_offset_date_times(self) -> Option<OffsetDateTimeFormat>
         ensures determines { IsSome result ↔ DeterminesOffsetDateTime self }
         ensures same { IfSome result (λ format. format ≡ self) }
@@ -185,8 +189,8 @@ impl DateFormat {
     ///
     /// Returns `UnexpectedByte` or `UnexpectedEnd` if the text doesn't have the form of the format,
     /// `OutOfRange` with the first component out of range, or `Contradiction` with the first
-    /// component that isn't the component of the value. For example, `%F`
-    /// rejects `2023-02-29` with `OutOfRange` of the day.
+    /// component that isn't the component of the value. For example, `%F` rejects `2023-02-29` with
+    /// `OutOfRange` of the day.
     pub fn parse(&self, text: &[u8]) -> Result<Date, ParseError>
         ensures every { (n : ℕ) → IsDate n → AreHeld (moment_of_date n) self.now
             → text.now ≡ text_of self.now (moment_of_date n)
@@ -203,13 +207,13 @@ impl DateFormat {
 }
 
 impl TimeFormat {
-    /// Parses a text. Returns the time of day that the format holds and prints as this text, if it is
-    /// the text of a time. The format holds a time if each part that it doesn't show is 0.
+    /// Parses a text. Returns the time of day that the format holds and prints as this text, if it
+    /// is the text of a time. The format holds a time if each part that it doesn't show is 0.
     ///
     /// Returns `UnexpectedByte` or `UnexpectedEnd` if the text doesn't have the form of the format,
     /// `OutOfRange` with the first component out of range, or `Contradiction` with the first
-    /// component that isn't the component of the value. For example, `%T`
-    /// rejects `24:00:00` with `OutOfRange` of the hour.
+    /// component that isn't the component of the value. For example, `%T` rejects `24:00:00` with
+    /// `OutOfRange` of the hour.
     pub fn parse(&self, text: &[u8]) -> Result<Time, ParseError>
         ensures every { (n : ℕ) → IsTime n → IsTrue (holds_time self.now n)
             → text.now ≡ text_of self.now (moment_of_time n)
@@ -226,13 +230,13 @@ impl TimeFormat {
 }
 
 impl OffsetFormat {
-    /// Parses a text. Returns the offset that the format holds and prints as this text, if it is the
-    /// text of an offset. The format holds an offset if each part that it doesn't show is 0.
+    /// Parses a text. Returns the offset that the format holds and prints as this text, if it is
+    /// the text of an offset. The format holds an offset if each part that it doesn't show is 0.
     ///
     /// Returns `UnexpectedByte` or `UnexpectedEnd` if the text doesn't have the form of the format,
     /// `OutOfRange` with the first component out of range, or `Contradiction` with the first
-    /// component that isn't the component of the value. For example, `%z`
-    /// rejects `+2600` with `OutOfRange` of the hours.
+    /// component that isn't the component of the value. For example, `%z` rejects `+2600` with
+    /// `OutOfRange` of the offset hour.
     pub fn parse(&self, text: &[u8]) -> Result<UtcOffset, ParseError>
         ensures every { (o : ℤ) → IsOffset o → IsTrue (holds_offset self.now o)
             → text.now ≡ text_of self.now (moment_of_offset o)
@@ -250,13 +254,13 @@ impl OffsetFormat {
 
 impl DateTimeFormat {
     /// Parses a text. Returns the date-time that the format holds and prints as this text, if it is
-    /// the text of a date-time. The format holds a date-time if each year that it shows is
-    /// from 0 to 9999, and each part of the time of day that it doesn't show is 0.
+    /// the text of a date-time. The format holds a date-time if each year that it shows is from 0
+    /// to 9999, and each part of the time of day that it doesn't show is 0.
     ///
     /// Returns `UnexpectedByte` or `UnexpectedEnd` if the text doesn't have the form of the format,
     /// `OutOfRange` with the first component out of range, or `Contradiction` with the first
-    /// component that isn't the component of the value. For example, `%F %R`
-    /// rejects `2024-02-29 24:00` with `OutOfRange` of the hour.
+    /// component that isn't the component of the value. For example, `%F %R` rejects
+    /// `2024-02-29 24:00` with `OutOfRange` of the hour.
     pub fn parse(&self, text: &[u8]) -> Result<PlainDateTime, ParseError>
         ensures every { (z : ℤ) → IsDateTime z → AreHeld (moment_of_date_time z) self.now
             → IsTrue (holds_time self.now (time_at z))
@@ -276,13 +280,14 @@ impl DateTimeFormat {
 
 impl OffsetDateTimeFormat {
     /// Parses a text. Returns the date-time that the format holds and prints as this text, if it is
-    /// the text of a date-time. The format holds a date-time if each year that it shows is
-    /// from 0 to 9999, and each part of the time of day and of the offset that it doesn't show is 0.
+    /// the text of a date-time. The format holds a date-time if each year that it shows is from 0
+    /// to 9999, and each part of the time of day and of the offset that it doesn't determine is 0.
+    /// A Unix time determines the date and the whole seconds.
     ///
     /// Returns `UnexpectedByte` or `UnexpectedEnd` if the text doesn't have the form of the format,
     /// `OutOfRange` with the first component out of range, or `Contradiction` with the first
-    /// component that isn't the component of the value. For example, `%F %R %z`
-    /// rejects `2024-02-30 12:00 +0000` with `OutOfRange` of the day.
+    /// component that isn't the component of the value. For example, `%F %R %z` rejects
+    /// `2024-02-30 12:00 +0000` with `OutOfRange` of the day.
     pub fn parse(&self, text: &[u8]) -> Result<OffsetDateTime, ParseError>
         ensures every { (m : LocalAndOffset) → IsDateTime m.local → IsOffset m.offset
             → AreHeld (moment_of_offset_date_time m) self.now

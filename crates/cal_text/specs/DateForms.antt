@@ -51,7 +51,7 @@ form_rest (Week y w d) = week_and_weekday_text w d
 abbrev pub form_text : DateNumbers → List ℕ
 form_text f = year_text (form_year f) ++ codes "-" ++ form_rest f
 
--- Each number has at most as many digits as the form, and the weekday is from 1 to 7.
+-- Each number has at most as many digits as the form has for it, and the weekday is from 1 to 7.
 abbrev pub DigitsFit : DateNumbers → Type 0
 DigitsFit (Calendar y m d) = IsPrintableYear y × (m < 100) × (d < 100)
 DigitsFit (Ordinal y o) = IsPrintableYear y × (o < 1000)

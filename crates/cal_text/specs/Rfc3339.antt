@@ -19,8 +19,8 @@ offset_text o =
     if unsigned_abs o == 0 then codes "Z"
     else sign o ++ digits_at_least 2 (unsigned_abs o / 3600) ++ codes ":" ++ digits_at_least 2 (unsigned_abs o / 60 % 60)
 
--- The text of day n at time of day t with offset o. Each part has two digits, except the year, the
--- fraction and the offset.
+-- The text of day n at time of day t with offset o. The month, the day, the hour, the minute and
+-- the second have two digits each.
 abbrev pub rfc3339_text : ℕ → ℕ → ℤ → List ℕ
 rfc3339_text n t o =
     year_text (year_at n) ++ codes "-" ++ digits_at_least 2 (month_at n) ++ codes "-" ++ digits_at_least 2 (day_of_month_at n)

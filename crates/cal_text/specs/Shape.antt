@@ -21,16 +21,20 @@ unmatched_bytes (Branch low above f g) [] = unmatched_bytes g []
 unmatched_bytes (Branch low above f g) (x ∷ xs) = if nat_le low x && nat_le x (low + above) then unmatched_bytes f xs else unmatched_bytes g (x ∷ xs)
 
 -- ---- parsers, which go from the old list to the new list, or stop at the new list
--- The parser goes past a part of a shape.
+-- The parser goes past a part of a shape: whatever shape f comes after the part, the new list has
+-- as many bytes unmatched by f as the old list by the whole. Without a result, the old list stops
+-- matching at the new list.
 abbrev pub Scans : {V : Type 0} → (Shape → Shape) → List ℕ → List ℕ → Option V → Type 0
 Scans part old new r = MatchOption r ((f : Shape) → unmatched_bytes (part f) old ≡ suc (length new)) (λ _. (f : Shape) → unmatched_bytes (part f) old ≡ unmatched_bytes f new)
 
--- The parser goes past a byte of a branch, or past nothing if the byte isn't there.
+-- The parser goes past the byte of a branch to the first shape. Without a result it goes past
+-- nothing, to the second shape.
 abbrev pub Branches : {V : Type 0} → ℕ → ℕ → List ℕ → List ℕ → Option V → Type 0
 Branches low above old new r =
     MatchOption r ((f g : Shape) → unmatched_bytes (Branch low above f g) old ≡ unmatched_bytes g new) (λ _. (f g : Shape) → unmatched_bytes (Branch low above f g) old ≡ unmatched_bytes f new)
 
--- The parser goes past a whole shape, up to the end.
+-- The parser goes past a whole shape, up to the end. Without a result, the old list stops matching
+-- at the new list.
 abbrev pub ScansWhole : {V : Type 0} → Shape → List ℕ → List ℕ → Option V → Type 0
 ScansWhole f old new r = MatchOption r (unmatched_bytes f old ≡ suc (length new)) (λ _. unmatched_bytes f old ≡ 0)
 
@@ -140,15 +144,19 @@ week_date = Digits 2 (Byte 45 (ByteRange 49 6 End))
 abbrev pub month_or_ordinal : Shape
 month_or_ordinal = Digits 2 (Branch 45 0 (Digits 2 End) (Digits 1 End))
 
+-- The bytes after a year: W, a week and a weekday, or a month and a day, or an ordinal.
 abbrev pub after_year : Shape
 after_year = Branch 87 0 week_date month_or_ordinal
 
+-- A calendar, ordinal or week date.
 abbrev pub date : Shape
 date = Year after_year
 
+-- Zero, or a number above 0 of at most nine digits without leading zeros.
 abbrev pub natural : Shape
 natural = Branch 48 0 End (Number 8 End)
 
+-- The letter J and a number of at most nine digits, with a minus sign if it is negative.
 abbrev pub julian_day : Shape
 julian_day = Byte 74 (Branch 45 0 (Number 8 End) natural)
 
@@ -164,10 +172,12 @@ seconds = Branch 48 0 (Fraction 8 End) from_one
 abbrev pub seconds_above_0 : Shape
 seconds_above_0 = Branch 48 0 (Byte 46 (SomeUpTo 8 End)) from_one
 
+-- An @, a minus sign if the time is negative, seconds and a fraction.
 abbrev pub unix_time : Shape
 unix_time = Byte 64 (Branch 45 0 seconds_above_0 seconds)
 
 -- ---- a moment
+-- T, t or a space.
 abbrev pub Separator : Shape → Shape
 Separator f = Branch 84 0 f (Branch 116 0 f (Byte 32 f))
 
@@ -175,15 +185,19 @@ Separator f = Branch 84 0 f (Branch 116 0 f (Byte 32 f))
 abbrev pub TwoNumbers : ℕ → Shape → Shape
 TwoNumbers b f = Byte b (Digits 2 (Byte b (Digits 2 f)))
 
+-- Two digits of the hours, a colon, and two digits of the minutes.
 abbrev pub offset_digits : Shape
 offset_digits = Digits 2 (Byte 58 (Digits 2 End))
 
+-- A sign, hours and minutes.
 abbrev pub signed_offset : Shape
 signed_offset = Sign offset_digits
 
+-- An offset: Z, z, or a sign, hours and minutes.
 abbrev pub time_offset : Shape
 time_offset = Branch 90 0 End (Branch 122 0 End signed_offset)
 
+-- A date, a separator, and a time of day to the second.
 abbrev pub ToSeconds : Shape → Shape
 ToSeconds f = Digits 4 (TwoNumbers 45 (Separator (Digits 2 (TwoNumbers 58 f))))
 
@@ -191,7 +205,7 @@ ToSeconds f = Digits 4 (TwoNumbers 45 (Separator (Digits 2 (TwoNumbers 58 f))))
 abbrev pub moment : ℕ → Shape
 moment more = ToSeconds (Fraction more time_offset)
 
--- The fraction may have any length, so the parser goes past each shape that is large enough for the
--- text.
+-- The fraction may have any length: the parser goes past the shape of each number that is at least
+-- the length of the text.
 abbrev pub ScansLarge : {V : Type 0} → (ℕ → Shape) → List ℕ → List ℕ → Option V → Type 0
 ScansLarge f old new r = (more : ℕ) → length old ≤ more → ScansWhole (f more) old new r

@@ -9,6 +9,7 @@ pub use Rattle.cal_datetime.specs.OffsetDateTime.{timestamp_out_of_range}
 use Rattle.cal_text.specs.Rfc3339.{fraction_text}
 use Rattle.cal_text.specs.Rfc3339Form.{IsFraction}
 
+-- A minus sign if the number is negative, else nothing.
 abbrev pub minus_text : ℤ → List ℕ
 minus_text (pos _) = []
 minus_text (negsuc _) = codes "-"
@@ -17,8 +18,8 @@ minus_text (negsuc _) = codes "-"
 abbrev pub unix_text : ℤ → List ℕ
 unix_text v = codes "@" ++ minus_text v ++ decimal (unsigned_abs v / second) ++ fraction_text (unsigned_abs v % second)
 
--- The bytes have the form of v nanoseconds: at most 18 digits of seconds and nine digits of a
--- fraction.
+-- The bytes have the form of v nanoseconds: at most 18 digits of seconds, and a fraction that is
+-- empty or has at most nine digits.
 pub record HasUnixForm (bytes : List ℕ) (v : ℤ) : Type 0 where
   pub seconds : unsigned_abs v / second < 10 ^ 18
   pub fraction : List ℕ

@@ -15,7 +15,7 @@ use cal_time::Date;
 
 mod dates;
 
-/// A form of a date in text.
+/// A form of a date in text. The first three are from ISO 8601.
 #[derive(Clone, Copy, Debug, PartialEq, Eq)]
 pub enum DateForm {
     /// A calendar date, such as `2024-02-29`.
@@ -37,7 +37,8 @@ pub enum MomentForm {
     Unix,
 }
 
-/// A date or a moment with the form of its text. Moments of one form are equal by instant.
+/// A date or a moment with the form of its text. Two moments of the same form are equal if their
+/// instants are.
 #[derive(Clone, Copy, Debug, PartialEq, Eq)]
 pub enum DateOrMoment {
     /// A date, in one of four forms.
@@ -46,10 +47,10 @@ pub enum DateOrMoment {
     Moment(MomentForm, OffsetDateTime),
 }
 
-/// Parses a text that [`date::read`](crate::date::read),
-/// [`julian_day::read`](crate::julian_day::read), [`rfc3339::read`](crate::rfc3339::read) or
-/// [`unix::read`](crate::unix::read) accepts. Returns the date or the moment with its form; no text
-/// has two forms. `2024-060` is an ordinal date.
+/// Parses a text that [`date::parse`](crate::date::parse),
+/// [`julian_day::parse`](crate::julian_day::parse), [`rfc3339::parse`](crate::rfc3339::parse) or
+/// [`unix::parse`](crate::unix::parse) accepts. Returns the date or the moment with its form; no
+/// text has two forms. `2024-060` is an ordinal date.
 ///
 /// Returns `UnexpectedByte` or `UnexpectedEnd` if the text has none of the forms. If it has a form,
 /// the errors are the errors of the parser of this form.

@@ -30,7 +30,9 @@ fn decimal_digit_value(byte: u8) -> Option<u32>
     Some(number)
 }
 
-/// Parses a number above 0 without leading zeros, of up to `more + 1` digits.
+/// Parses a number above 0 without leading zeros, of up to `more + 1` digits, and at most 18.
+/// Returns `None` if it doesn't begin with a digit from 1 to 9. If `more` is 2, it parses 202 at
+/// the front of `20245`.
 pub fn scan_positive_number(scanner: &mut Scanner, more: usize) -> Option<u64>
     requires { more ≤ 17 }
     ensures scans { Scans (Number more) scanner.old.rest.now scanner.new.rest.now result }

@@ -7,8 +7,8 @@ ghost use Rattle.cal_text.specs.declared.error.ParseError.TheVariants.{Unexpecte
 use cal_time::error::ComponentRange;
 use std::fmt;
 
-/// An error: a text has the wrong form, or a component is out of range. It prints
-/// `unexpected byte at 4`, `unexpected end at 9` or, for example, `day was not in range`.
+/// An error: a text has the wrong form, or a component is out of range. It prints, for example,
+/// `unexpected byte at 4`, `unexpected end at 9` or `day was not in range`.
 #[derive(Clone, Copy, Debug, PartialEq, Eq)]
 pub enum ParseError {
     /// The position, from 0, of the first byte that no text of the form has there.
@@ -21,7 +21,8 @@ pub enum ParseError {
 
 impl ParseError {
     /// Creates the error of a text of `len` bytes that stops matching a form at `position`, which
-    /// is `len` or less. `at(4, 4)` is `UnexpectedEnd(4)`, and `at(4, 5)` is `UnexpectedByte(4)`.
+    /// is `len` or less. `unexpected(4, 4)` is `UnexpectedEnd(4)`, and `unexpected(4, 5)` is
+    /// `UnexpectedByte(4)`.
     pub fn unexpected(position: usize, len: usize) -> Self
         requires { position ≤ len }
         ensures byte { position < len → result ≡ UnexpectedByte position }

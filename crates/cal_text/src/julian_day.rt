@@ -19,7 +19,7 @@ use std::fmt;
 pub struct JulianText(pub Date);
 
 impl JulianText {
-    /// Returns the text, at most 12 bytes.
+    /// Returns the text, at most 12 bytes. For 2024-02-29 it is `J2460370`.
     #[tactic(auto, using(cal_time::proofs::TextLengths::text_lengths))]
     pub fn text(self) -> ShortText
         ensures value { result ≡ julian_text self.0 }
@@ -42,12 +42,12 @@ impl fmt::Display for JulianText {
     }
 }
 
-/// Parses the letter J and a Julian day, such as `J2460370`, and returns its date. Accepts exactly
-/// the texts that dates print: a minus sign if the number is negative, no plus sign and no leading
-/// zeros.
+/// Parses the letter J and a Julian day, such as `J2460370`, and returns its date, here 2024-02-29.
+/// Accepts exactly the texts that dates print: a minus sign if the number is negative, no plus sign
+/// and no leading zeros.
 ///
-/// Returns `UnexpectedByte` or `UnexpectedEnd` for any other form, and the error `julian_day` if a
-/// number of at most nine digits is out of range.
+/// Returns `UnexpectedByte` or `UnexpectedEnd` for any other form, and `OutOfRange` with
+/// `julian_day` if a number of at most nine digits is outside -363521074 to 366963559.
 pub fn parse(text: &[u8]) -> Result<Date, ParseError>
     ensures every { (n : ℕ) → IsDate n → text.now ≡ julian_text n → result ≡ Ok n }
     ensures value { IfOk result (λ n. IsDate n × (text.now ≡ julian_text n)) }

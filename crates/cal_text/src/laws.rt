@@ -28,7 +28,7 @@ pub(crate) fn one_reading(text: &[u8]) -> Result<DateOrMoment, ParseError>
     parse_any(text)
 }
 
-/// Parses a moment. No two moments have the same text.
+/// Parses a moment of RFC 3339. A text is the text of at most one moment.
 pub(crate) fn one_moment(text: &[u8]) -> Result<OffsetDateTime, ParseError>
     ensures { (m n : LocalAndOffset) → IsMomentText text.now m → IsMomentText text.now n → m ≡ n }
 {

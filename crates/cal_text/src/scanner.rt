@@ -6,14 +6,17 @@ ghost use Rattle.cal_text.specs.Shape.{Scans, Branches, ScansWhole, ParsesDigits
 
 use crate::digits::two_digit_value;
 
-/// The rest of a text. A call that returns `None` leaves it at the wrong byte, or at the end.
+/// A text that is parsed from its front. A call that returns `None` leaves the rest at the wrong
+/// byte, or at the end.
 #[derive(Drop)]
 pub struct Scanner<'a> {
+    /// The bytes that are not parsed yet.
     pub rest: &'a [u8],
 }
 
 impl Scanner<'_> {
-    /// Parses a byte from `low` to `low + above`.
+    /// Parses a byte from `low` to `low + above`, and returns it. Returns `None`, and parses
+    /// nothing, if another byte or the end comes next. `byte_from(b'1', 6)` parses `1` to `7`.
     #[inline(always)]
     pub fn byte_from(&mut self, low: u8, above: u8) -> Option<u8>
         requires { low + above < 256 }
@@ -31,6 +34,7 @@ impl Scanner<'_> {
         Some(*first)
     }
 
+    /// Parses this byte. Returns `None`, and parses nothing, if another byte or the end comes next.
     #[inline(always)]
     pub fn byte(&mut self, byte: u8) -> Option<()>
         ensures scans { Scans (Byte byte) self.old.rest.now self.new.rest.now result }
@@ -42,7 +46,8 @@ impl Scanner<'_> {
         Some(())
     }
 
-    /// Parses a digit from 1 to 9.
+    /// Parses a digit from `1` to `9`, and returns its value. Returns `None`, and parses nothing,
+    /// if another byte or the end comes next.
     #[inline(always)]
     pub fn digit_from_1(&mut self) -> Option<u32>
         ensures scans { Scans (ByteRange 49 8) self.old.rest.now self.new.rest.now result }
@@ -55,6 +60,8 @@ impl Scanner<'_> {
         Some(u32::from(byte - b'0'))
     }
 
+    /// Parses a digit, and returns its value, from 0 to 9. Returns `None`, and parses nothing, if
+    /// another byte or the end comes next.
     #[inline(always)]
     pub fn digit(&mut self) -> Option<u32>
         ensures scans { Scans (Digits 1) self.old.rest.now self.new.rest.now result }
@@ -67,7 +74,8 @@ impl Scanner<'_> {
         Some(u32::from(byte - b'0'))
     }
 
-    /// Parses a sign, and returns `true` for minus. The choice between them needs no branch.
+    /// Parses `+` or `-`, and returns `true` for `-`. Returns `None` if another byte or the end
+    /// comes next. The choice between the signs needs no branch.
     #[inline(always)]
     pub fn sign(&mut self) -> Option<bool>
         ensures scans { Scans Sign self.old.rest.now self.new.rest.now result }
@@ -100,6 +108,7 @@ impl Scanner<'_> {
         Some(tens * 10 + ones)
     }
 
+    /// Parses three digits, and returns their number.
     #[inline(always)]
     pub(crate) fn three_digits(&mut self) -> Option<u32>
         ensures scans { Scans (Digits 3) self.old.rest.now self.new.rest.now result }
@@ -111,6 +120,7 @@ impl Scanner<'_> {
         Some(tens * 10 + ones)
     }
 
+    /// Parses four digits, and returns their number.
     #[inline(always)]
     pub(crate) fn four_digits(&mut self) -> Option<u32>
         ensures scans { Scans (Digits 4) self.old.rest.now self.new.rest.now result }
@@ -138,7 +148,7 @@ impl Scanner<'_> {
         Some((first as u8, second as u8))
     }
 
-    /// Returns `Some(())` at the end of the text.
+    /// Checks that the text is at its end. Returns `None` if a byte comes next.
     #[inline(always)]
     pub fn end(&mut self) -> Option<()>
         ensures scans { ScansWhole End self.old.rest.now self.new.rest.now result }

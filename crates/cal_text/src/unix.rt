@@ -22,8 +22,8 @@ pub use text::Text;
 /// After the `@` come at most 18 digits of whole seconds, with a minus sign for a time before 1970,
 /// and optionally a point and one to nine digits. A plus sign and leading zeros are not allowed.
 ///
-/// Returns `UnexpectedByte` or `UnexpectedEnd` for any other form, and the error `timestamp` if no
-/// moment at UTC has this time.
+/// Returns `UnexpectedByte` or `UnexpectedEnd` for any other form, and `OutOfRange` with
+/// `timestamp` if no moment at UTC has this time.
 pub fn parse(text: &[u8]) -> Result<OffsetDateTime, ParseError>
     ensures every { (m : LocalAndOffset) → IsUnixText text.now m → result ≡ Ok m }
     ensures value { IfOk result (IsUnixText text.now) }

@@ -10,7 +10,7 @@ byte bytes at = get_or bytes at 0
 unfoldable pub count_at : List ℕ → ℕ → ℕ
 count_at bytes at = big_endian bytes at 4
 
--- A header begins at a position.
+-- A header begins at a position: the bytes there are `TZif`.
 abbrev pub IsMagic : List ℕ → ℕ → Type 0
 IsMagic bytes at =
     (slice_index bytes at ≡ 84) × (slice_index bytes (at + 1) ≡ 90) × (slice_index bytes (at + 2) ≡ 105) × (slice_index bytes (at + 3) ≡ 102)

@@ -86,7 +86,7 @@ fn timeline_position(layout: Layout, end: usize, error: TimelineError) -> usize
     }
 }
 
-/// Parses a TZif file to the parts of its zone.
+/// Parses a TZif file (RFC 9636) to the parts of its zone. Returns the errors of `parse`.
 pub fn parse_parts(bytes: &[u8]) -> Result<ZoneParts<'_>, ZoneError>
     ensures value { IfOk result (λ parts. IsFile bytes.now (made_of parts)) }
     ensures parts { IfOk result (λ parts. AreParts parts × (parts.bytes.now ≡ bytes.now)) }
@@ -135,7 +135,8 @@ pub fn parse(bytes: &[u8]) -> Result<Zone<'_>, ZoneError>
     }
 }
 
-/// Parses a POSIX text to the parts of its zone.
+/// Parses a POSIX text, such as `CET-1CEST,M3.5.0,M10.5.0/3`, to the parts of its zone. Returns the
+/// errors of `parse_posix`.
 pub fn parse_posix_parts(text: &[u8]) -> Result<ZoneParts<'_>, ZoneError>
     ensures value { IfOk result (λ parts. IsPosix text.now (made_of parts)) }
     ensures parts { IfOk result (λ parts. AreParts parts × InOrder (made_of parts)

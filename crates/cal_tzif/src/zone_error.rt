@@ -3,7 +3,7 @@ ghost use Rattle.std.specs.Prelude.{◌≡◌};
 
 use cal_zone::TimelineError;
 
-/// What is wrong with the bytes of a time zone.
+/// A kind of error in the bytes of a time zone.
 #[derive(Clone, Copy, Debug, PartialEq, Eq)]
 pub enum ZoneErrorKind {
     /// The bytes end too early.
@@ -41,14 +41,16 @@ pub enum ZoneErrorKind {
     Time,
     /// The months of a POSIX text are the same or neighbours.
     Months,
-    /// There are bytes after the end.
+    /// A footer or a POSIX text has bytes after its end.
     Trailing,
 }
 
 /// An error in the bytes of a time zone, with the position of the first byte that is wrong.
 #[derive(Clone, Copy, Debug, PartialEq, Eq)]
 pub struct ZoneError {
+    /// The kind of the error.
     pub kind: ZoneErrorKind,
+    /// The position of the wrong byte, from 0, or the length of bytes that end too early.
     pub position: usize,
 }
 

@@ -6,6 +6,7 @@ abbrev pub big_endian : List ℕ → ℕ → ℕ → ℕ
 big_endian bytes at zero = 0
 big_endian bytes at (suc n) = big_endian bytes at n * 256 + slice_index bytes (at + n)
 
--- The number as a signed number. From half of the range on it is less by the range.
+-- The signed number of n in two's complement, with this number of bits after the sign: from
+-- 2^bits on it is n less 2^(bits + 1).
 abbrev pub two_complement : ℕ → ℕ → ℤ
 two_complement bits n = if nat_lt n (2 ^ bits) then pos n else (pos n -ℤ pos (2 ^ bits * 2))

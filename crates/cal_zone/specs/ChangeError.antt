@@ -6,24 +6,26 @@ use Rattle.cal_zone.specs.declared.change_error.ChangeError.{ChangeError}
 use Rattle.cal_zone.specs.declared.change_error.ChangeError.TheVariants.{FirstOffset, Offset, Instant, NotRising, Overlap}
 use Rattle.cal_zone.specs.Timeline.{IsOffset, IsMoment, no_change, at, begins, ends}
 
--- The change with an index has no error alone, and none together with the next one.
+-- The offset and the instant of the change with an index are in range.
 pub record IsSound (cs : List Change) (k : ℕ) : Type 0 where
   pub offset : IsOffset (slice_index_or cs k no_change).kind.offset
   pub moment : IsMoment (at cs k)
 
+-- The next change is later, and its gap or fold begins when the gap or fold of this one has ended.
 pub record Follows (first : ℤ) (cs : List Change) (k : ℕ) : Type 0 where
   pub rising : at cs k <ℤ at cs (suc k)
   pub apart : ends first cs k ≤ℤ begins first cs (suc k)
 
--- The first n changes have no error alone, or none together with the next one.
+-- The offsets and the instants of the first n changes are in range.
 abbrev pub AreSound : List Change → ℕ → Type 0
 AreSound cs n = (k : ℕ) → k < n → IsSound cs k
 
+-- Each of the first n changes has the next change after it, as in `Follows`.
 abbrev pub AllFollow : ℤ → List Change → ℕ → Type 0
 AllFollow first cs n = (k : ℕ) → k < n → Follows first cs k
 
--- The first error of the changes after the first offset: the errors of single changes come before
--- those of a change and the next one.
+-- The first error of the changes after the first offset. The errors of single changes come before
+-- the errors of a change and the next one.
 abbrev pub IsChangeError : ℤ → List Change → ChangeError → Type 0
 IsChangeError first cs FirstOffset = ¬ (IsOffset first)
 IsChangeError first cs (Offset k) = IsOffset first × (k < length cs) × AreSound cs k × ¬ (IsOffset (slice_index_or cs k no_change).kind.offset)

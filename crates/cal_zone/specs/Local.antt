@@ -1,4 +1,4 @@
--- The date-times that a reading names in a zone, and what the policies make of it.
+-- The date-times that a reading names in a zone, and the date-time that a policy selects.
 use Rattle.std.specs.Prelude.{◌≡◌, ◌⊎◌, ◌↔◌, ℤ, pos, ◌<ℤ◌, ◌+ℤ◌, ◌-ℤ◌, ◌*ℤ◌, Option, Some, None, SomeIff}
 use Rattle.cal_time.specs.SignedDuration.{second}
 use Rattle.cal_datetime.specs.DateTime.{IsDateTime}
@@ -38,10 +38,12 @@ moved_back gap = record { local = gap.reading -ℤ (gap.after -ℤ gap.before) *
 abbrev pub moved_forward : gaps.Gap → LocalAndOffset
 moved_forward gap = record { local = gap.reading +ℤ (gap.after -ℤ gap.before) *ℤ pos second; offset = gap.after }
 
--- The policies of Temporal.
+-- The result is this date-time, or `None` if its local date-time is out of range.
 abbrev pub IsInRange : LocalAndOffset → Option LocalAndOffset → Type 0
 IsInRange m r = SomeIff r (IsDateTime m.local) m
 
+-- The policies of Temporal, by the name of its option `disambiguation`. A reading that clocks show
+-- once is its date-time by each of them.
 abbrev pub IsCompatible : Local → Option LocalAndOffset → Type 0
 IsCompatible (Single moment) r = r ≡ Some moment
 IsCompatible (Gap gap) r = IsInRange (moved_forward gap) r

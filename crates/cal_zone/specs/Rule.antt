@@ -1,4 +1,5 @@
--- The changes that a rule makes each year: on a weekday of a month, by its place (POSIX, TZ: Mm.n.d).
+-- The changes that a rule makes each year: on a weekday of a month, by its place (POSIX, TZ:
+-- Mm.n.d).
 use Rattle.std.specs.Prelude.{ℕ, ◌+◌, ◌-◌, ◌/◌, ◌%◌, ◌≤◌, ◌==◌, Bool, List, filter, map, slice_get, unwrap_or, if◌then◌else◌, ℤ, pos, neg_ℤ, ◌+ℤ◌, ◌-ℤ◌, ◌*ℤ◌, ◌≤ℤ◌}
 use Rattle.std.specs.List.{range_with_len}
 use Rattle.cal_time.specs.Date.{first_year, last_day}
@@ -14,7 +15,8 @@ use Rattle.cal_zone.specs.Timeline.{IsOffset}
 abbrev pub is_on : Yearly → ℤ → ℕ → Bool
 is_on r y = is_weekday_in_month (index r.weekday) y (number r.month)
 
--- The day of the change is the first to the fourth of these days, or the last for week 5.
+-- The day of the change in a year: the n-th of these days for week n from 1 to 4, or the last one
+-- for week 5.
 unfoldable pub day_of : Yearly → ℤ → ℕ
 day_of r y =
     unwrap_or
@@ -26,7 +28,8 @@ day_of r y =
 abbrev pub epoch_day : ℤ
 epoch_day = pos 365_961_662
 
--- The Unix time of the change, by clocks that are ahead of UTC by the offset before it.
+-- The Unix time of the change in a year, if clocks are ahead of UTC by the offset `before` until
+-- then.
 abbrev pub moment : Yearly → ℤ → ℤ → ℤ
 moment r before y = ((pos (day_of r y) -ℤ epoch_day) *ℤ pos 86_400 +ℤ r.time) -ℤ before
 
@@ -39,8 +42,8 @@ change_of one other k =
 abbrev pub instant_at : Yearly → Yearly → ℕ → ℤ
 instant_at one other k = (change_of one other k).at
 
--- The years of the range have this number of changes. It is not an `abbrev`, so that no proof counts
--- them.
+-- The years of the range have this number of changes. It is not an `abbrev`, so that no proof
+-- counts them.
 unfoldable pub rule_count : ℕ
 rule_count = 3_999_998
 
@@ -54,7 +57,8 @@ pub record IsYearly (r : Yearly) : Type 0 where
   pub time : (neg_ℤ (pos 604_800) ≤ℤ r.time) × (r.time ≤ℤ pos 604_800)
   pub offset : IsOffset r.kind.offset
 
--- At least a whole month lies between the two changes, also over the new year.
+-- The two changes are in range, and at least a whole month lies between them, also over the new
+-- year.
 pub record IsCalm (one other : Yearly) : Type 0 where
   pub first : IsYearly one
   pub second : IsYearly other

@@ -36,17 +36,18 @@ pub record IsInside (bytes : List ℕ) (p : Layout) : Type 0 where
   pub types : p.types + 6 * p.kinds ≤ length bytes
   pub names : p.names ≤ length bytes
 
--- All parts are there, and an index has room.
+-- The bytes have all parts, and there are fewer than 2^60 changes.
 pub record IsReadable (bytes : List ℕ) (p : Layout) : Type 0 where
   pub inside : IsInside bytes p
   pub few : p.changes < 2 ^ 60
 
--- Each change has a type, too.
+-- The bytes have all parts, and each change has the index of a type that exists.
 pub record IsTable (bytes : List ℕ) (p : Layout) : Type 0 where
   pub readable : IsReadable bytes p
   pub typed : (k : ℕ) → k < p.changes → slice_index bytes (p.indexes + k) < p.kinds
 
--- At the position the first change has the index of a type that doesn't exist.
+-- At the position is the index of a type that doesn't exist, and the types of the changes before
+-- this one exist.
 pub record HasNoType (bytes : List ℕ) (p : Layout) (position : ℕ) : Type 0 where
   pub index : ℕ
   pub inside : index < p.changes

@@ -10,7 +10,8 @@ pub record Timeline : Type 0 where
   pub first : LocalType
   pub changes : List Change
 
--- The type at an instant: each change that isn't after the instant sets it, one after another.
+-- The type at an instant: the type of the last change in the list that isn't after the instant, or
+-- the first type if there is none.
 abbrev pub kind_from : LocalType → List Change → ℤ → LocalType
 kind_from kind [] instant = kind
 kind_from kind (c ∷ cs) instant = kind_from (if int_le c.at instant then c.kind else kind) cs instant
@@ -18,7 +19,8 @@ kind_from kind (c ∷ cs) instant = kind_from (if int_le c.at instant then c.kin
 abbrev pub kind_at : Timeline → ℤ → LocalType
 kind_at zone instant = kind_from zone.first zone.changes instant
 
--- The offset at an instant, and what the clocks of the zone show at an instant.
+-- The offset at an instant, and the reading of the clocks at an instant: its seconds since
+-- 1970-01-01 0:00 by the clock.
 abbrev pub offset_at : Timeline → ℤ → ℤ
 offset_at zone instant = (kind_at zone instant).offset
 
@@ -31,6 +33,7 @@ after_changes offset cs zero = offset
 after_changes offset [] (suc n) = offset
 after_changes offset (c ∷ cs) (suc n) = after_changes c.kind.offset cs n
 
+-- The type and the change after the end of a list.
 abbrev pub no_type : LocalType
 no_type = record { offset = pos 0; is_daylight = false; name_start = 0; name_end = 0 }
 
@@ -41,7 +44,7 @@ no_change = record { at = pos 0; kind = no_type }
 abbrev pub at : List Change → ℕ → ℤ
 at cs k = (slice_index_or cs k no_change).at
 
--- The readings of the gap or fold of a change begin and end here.
+-- The first reading of the gap or fold of a change, and the first reading after it.
 abbrev pub begins : ℤ → List Change → ℕ → ℤ
 begins first cs k = at cs k +ℤ int_min (after_changes first cs k) (after_changes first cs (suc k))
 
@@ -55,7 +58,8 @@ IsOffset offset = (neg_ℤ (pos 93_599) ≤ℤ offset) × (offset ≤ℤ pos 93_
 abbrev pub IsMoment : ℤ → Type 0
 IsMoment instant = (neg_ℤ (pos 1_152_921_504_606_846_976) ≤ℤ instant) × (instant ≤ℤ pos 1_152_921_504_606_846_976)
 
--- The changes rise, and the gap or fold of each lies before the gap or fold of the next.
+-- The offsets and the instants are in range, the changes rise, and the gap or fold of each change
+-- lies before the gap or fold of the next.
 pub record IsOrdered (first : ℤ) (changes : List Change) : Type 0 where
   pub offset : IsOffset first
   pub offsets : (k : ℕ) → k < length changes → IsOffset (slice_index_or changes k no_change).kind.offset
@@ -66,7 +70,8 @@ pub record IsOrdered (first : ℤ) (changes : List Change) : Type 0 where
 abbrev pub InOrder : Timeline → Type 0
 InOrder zone = IsOrdered zone.first.offset zone.changes
 
--- The same of a change at a and the next at b, with the offsets before, between and after them.
+-- A change at the instant b is after a change at a, and so is its gap or fold. The offsets are
+-- those before, between and after the two changes.
 pub record IsNext (a b before between after : ℤ) : Type 0 where
   pub rising : a <ℤ b
   pub apart : (a +ℤ int_max before between) ≤ℤ (b +ℤ int_min between after)

@@ -22,11 +22,12 @@ abbrev pub is_after : List Change → Change → Bool
 is_after [] c = true
 is_after (d ∷ ds) c = int_lt (at (d ∷ ds) (length (d ∷ ds) - 1)) c.at
 
--- The zone has the first type, the changes of the file, and the changes of the rule after them.
+-- The zone with the first type, the changes of the file, and the changes of the rule that are after
+-- the last of them.
 abbrev pub zone_of : LocalType → List Change → Option Rule → Timeline
 zone_of first table rule = record { first = first; changes = table ++ filter (is_after table) (rule_changes rule) }
 
--- The same, with the rule's changes from an index on.
+-- The changes of the rule from an index on, and the zone that has only these changes of the rule.
 abbrev pub later : Option Rule → ℕ → List Change
 later None skip = []
 later (Some rule) skip = changes_from rule.one rule.other skip
@@ -34,15 +35,18 @@ later (Some rule) skip = changes_from rule.one rule.other skip
 abbrev pub held : LocalType → List Change → Option Rule → ℕ → Timeline
 held first table rule skip = record { first = first; changes = table ++ later rule skip }
 
--- The zone that is made of these parts. They are readable without a look at each change.
+-- The zone that is made of these parts.
 abbrev pub made_of : ZoneParts → Timeline
 made_of p = held p.first (changes_in p.bytes.now p.layout) p.rule p.skip
 
+-- The bytes have all parts of the layout, and the rule's first change has an index up to the number
+-- of its changes.
 pub record AreParts (p : ZoneParts) : Type 0 where
   pub readable : IsReadable p.bytes.now p.layout
   pub skip : p.skip ≤ 3_999_998
 
--- The first of the changes ys is after the last of xs, and so is its gap or fold.
+-- The first of the changes ys is after the last of the changes xs, and so is its gap or fold, if
+-- both lists have changes.
 abbrev pub Joins : ℤ → List Change → List Change → Type 0
 Joins first xs ys = 0 < length xs → 0 < length ys → IsNext
     (at xs (length xs - 1)) (at ys 0)

@@ -2,7 +2,7 @@
 
 use crate::LocalType;
 
-/// A change of a zone's clocks. They have the type from the instant on, until the next change.
+/// A change of a zone's clocks. They have its type from its instant on, until the next change.
 #[derive(Clone, Copy, Debug, PartialEq, Eq)]
 pub struct Change {
     /// The Unix time of the change, in seconds.

@@ -4,7 +4,7 @@ ghost use Rattle.cal_zone.specs.Timeline.{after_changes, IsMoment, IsOffset};
 
 use crate::{LocalType, Table};
 
-/// Why changes are not in order, with the index of the change.
+/// An error: changes are not in order. It has the index of the change, from 0.
 #[derive(Clone, Copy, Debug, PartialEq, Eq)]
 pub enum ChangeError {
     /// The offset before the first change is outside -25:59:59 to 25:59:59.
@@ -13,7 +13,7 @@ pub enum ChangeError {
     Offset(usize),
     /// The Unix time of the change is outside -2^60 to 2^60.
     Instant(usize),
-    /// The next change is not later.
+    /// The next change is not later than the change.
     NotRising(usize),
     /// The gap or fold of the change overlaps the gap or fold of the next change.
     Overlap(usize),
@@ -50,7 +50,7 @@ impl ChangeError {
     ghost use Rattle.cal_zone.specs.ChangeError.{IsChangeError, IsSound, AreSound, Follows, AllFollow};
     ghost use Rattle.cal_zone.specs.Timeline.{IsOrdered, begins, ends};
 
-    /// Returns the error of the change alone, if it has one.
+    /// Returns the error of a single change, if it has one.
     fn of(table: &Table<'_>, index: usize, first: LocalType) -> Option<ChangeError>
         requires index { index < length table.now }
         requires first { IsOffset first.offset }
@@ -90,7 +90,7 @@ impl ChangeError {
         change.at + i64::from(after(first, table, index).max(change.kind.offset))
     }
 
-    /// Returns the error of the change and the next one together, if there is one.
+    /// Returns the error of the change and the next one, if they have one.
     fn between(table: &Table<'_>, index: usize, first: LocalType) -> Option<ChangeError>
         requires next { suc index < length table.now }
         requires first { IsOffset first.offset }

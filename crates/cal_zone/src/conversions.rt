@@ -12,7 +12,7 @@ use cal_datetime::{OffsetDateTime, PlainDateTime};
 use cal_time::UtcOffset;
 
 /// Converts to the time of a zone, at the same instant. Returns `None` if the local date-time is
-/// out of range there.
+/// out of range there. In Berlin 2024-03-31 1:00 +00:00:00 is 2024-03-31 3:00 +02:00:00.
 pub fn in_zone(moment: OffsetDateTime, zone: &Zone<'_>) -> Option<OffsetDateTime>
     ensures value { let offset = offset_at zone.now (unix_seconds (instant moment))
         in let local = local_at (instant moment) offset
@@ -41,8 +41,8 @@ fn reading_seconds(local: PlainDateTime) -> i64
     local.assume_utc().unix_timestamp()
 }
 
-/// Returns the date-time of a reading at the offset with which it is at an instant. Returns `None` if
-/// the offset is out of range.
+/// Returns the date-time of a reading at the offset with which it is at an instant. Returns `None`
+/// if the offset is out of range.
 fn shown_at(local: PlainDateTime, seconds: i64, instant: i64) -> Option<OffsetDateTime>
     ensures { SomeIff result (IsOffset (seconds -ℤ instant))
         (record { local = local; offset = seconds -ℤ instant }) }
@@ -60,7 +60,8 @@ fn shown_at(local: PlainDateTime, seconds: i64, instant: i64) -> Option<OffsetDa
 }
 
 impl<'a> UncheckedZone<'a> {
-    /// Returns the offset at a Unix time. `None` says that the changes are not in order.
+    /// Returns the offset at a Unix time in seconds. `None` means that the changes are not in
+    /// order.
     #[inline(always)]
     pub fn utc_offset_at(&self, instant: i64) -> Option<UtcOffset>
         ensures none { IfNone result (¬ InOrder self.now) }
@@ -69,8 +70,10 @@ impl<'a> UncheckedZone<'a> {
         utc_offset(self.kind_at(instant).offset)
     }
 
-    /// Returns the offset at a Unix time if the rule doesn't decide it: a change of the table comes
-    /// after it, or there is no rule. `None` may also say that the changes are not in order.
+    /// Returns the offset at a Unix time in seconds by the changes of the table, without the rule.
+    ///
+    /// `None` says nothing about the offset; then call `utc_offset_at`. No clause says when `None`
+    /// comes: it does, for example, from the last change on if the zone has a rule.
     #[inline(always)]
     pub fn utc_offset_in_table(&self, instant: i64) -> Option<UtcOffset>
         ensures { InOrder self.now → IfSome result (λ offset. offset ≡ offset_at self.now instant) }
@@ -81,8 +84,8 @@ impl<'a> UncheckedZone<'a> {
         }
     }
 
-    /// Returns the date-times at which clocks show a reading. `None` says that the changes are not
-    /// in order.
+    /// Returns the date-times at which clocks show a reading, a local date-time. `None` means that
+    /// the changes are not in order.
     pub fn resolve(&self, reading: PlainDateTime) -> Option<Local>
         ensures none { IfNone result (¬ InOrder self.now) }
         ensures some { IfSome result (λ local. InOrder self.now → IsLocalOf self.now reading local) }
@@ -105,7 +108,8 @@ impl<'a> UncheckedZone<'a> {
 }
 
 impl<'a> Zone<'a> {
-    /// Returns the offset at a Unix time.
+    /// Returns the offset at a Unix time in seconds. In Berlin it is +02:00:00 at 1711846800,
+    /// 2024-03-31 1:00 UTC.
     pub fn utc_offset_at(&self, instant: i64) -> UtcOffset
         ensures { result ≡ offset_at self.now instant }
     {
@@ -115,7 +119,8 @@ impl<'a> Zone<'a> {
         }
     }
 
-    /// Returns the date-time that clocks show at a Unix time, or `None` if it is out of range.
+    /// Returns the date-time that clocks show at a Unix time in seconds, or `None` if it is out of
+    /// range. In Berlin it is 2024-03-31 3:00 +02:00:00 at 1711846800.
     pub fn to_offset_date_time(&self, instant: i64) -> Option<OffsetDateTime>
         ensures { let offset = offset_at self.now instant
             in let local = unix_epoch +ℤ (instant +ℤ offset) *ℤ pos second
@@ -128,8 +133,9 @@ impl<'a> Zone<'a> {
         }
     }
 
-    /// Returns the date-times at which clocks show a reading: exactly those whose offset is the
-    /// zone's at their own instant.
+    /// Returns the date-times at which clocks show a reading, a local date-time: exactly those
+    /// whose offset is the zone's at their own instant. In Berlin 2024-03-31 2:30 is in a gap, and
+    /// 2024-10-27 2:30 is in a fold.
     pub fn resolve(&self, reading: PlainDateTime) -> Local
         ensures set { (m : LocalAndOffset) → NamesMoment result m ↔ Shows self.now reading m }
         ensures explained { IsLocal self.now reading result }

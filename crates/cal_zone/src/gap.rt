@@ -7,7 +7,8 @@ ghost use Rattle.cal_datetime.specs.OffsetDateTime.{unix_epoch};
 use cal_datetime::{OffsetDateTime, PlainDateTime};
 use cal_time::{SignedDuration, UtcOffset};
 
-/// A reading that the clocks of a zone skip: they go forward over it, from one offset to another.
+/// A reading that the clocks of a zone skip: they go forward over it, from one offset to another,
+/// such as 2024-03-31 2:30 in Berlin.
 #[derive(Clone, Copy)]
 pub struct Gap {
     pub(crate) reading: PlainDateTime,
@@ -30,28 +31,30 @@ pub(crate) fn local_date_time(at: i64, offset: UtcOffset) -> Option<PlainDateTim
 }
 
 impl Gap {
-    /// Returns the Unix time at which the clocks go forward.
+    /// Returns the Unix time at which the clocks go forward, in seconds. For 2024-03-31 2:30 in
+    /// Berlin it is 1711846800.
     pub fn at(self) -> i64
         ensures { result ≡ self.at }
     {
         self.at
     }
 
-    /// Returns the offset before the gap.
+    /// Returns the offset before the gap. For 2024-03-31 2:30 in Berlin it is +01:00:00.
     pub fn offset_before(self) -> UtcOffset
         ensures { result ≡ self.before }
     {
         self.before
     }
 
-    /// Returns the offset after the gap.
+    /// Returns the offset after the gap. For 2024-03-31 2:30 in Berlin it is +02:00:00.
     pub fn offset_after(self) -> UtcOffset
         ensures { result ≡ self.after }
     {
         self.after
     }
 
-    /// Returns the first reading that is skipped, or `None` if it is out of range.
+    /// Returns the first reading that is skipped, or `None` if it is out of range. For 2024-03-31
+    /// 2:30 in Berlin it is 2:00.
     pub fn start(self) -> Option<PlainDateTime>
         ensures { let local = unix_epoch +ℤ (self.at +ℤ self.before) *ℤ pos second
             in SomeIff result (IsDateTime local) local }
@@ -59,7 +62,8 @@ impl Gap {
         local_date_time(self.at, self.before)
     }
 
-    /// Returns the first reading after the gap, or `None` if it is out of range.
+    /// Returns the first reading after the gap, or `None` if it is out of range. For 2024-03-31
+    /// 2:30 in Berlin it is 3:00.
     pub fn end(self) -> Option<PlainDateTime>
         ensures { let local = unix_epoch +ℤ (self.at +ℤ self.after) *ℤ pos second
             in SomeIff result (IsDateTime local) local }
@@ -68,7 +72,7 @@ impl Gap {
     }
 
     /// Returns the reading moved back by the length of the gap, at the offset before it. Returns
-    /// `None` if the result is out of range.
+    /// `None` if the result is out of range. For 2024-03-31 2:30 in Berlin it is 1:30 +01:00:00.
     pub fn earlier(self) -> Option<OffsetDateTime>
         ensures { let local = self.reading -ℤ (self.after -ℤ self.before) *ℤ pos second
             in SomeIff result (IsDateTime local) (record { local = local; offset = self.before }) }
@@ -79,7 +83,7 @@ impl Gap {
     }
 
     /// Returns the reading moved forward by the length of the gap, at the offset after it. Returns
-    /// `None` if the result is out of range.
+    /// `None` if the result is out of range. For 2024-03-31 2:30 in Berlin it is 3:30 +02:00:00.
     pub fn later(self) -> Option<OffsetDateTime>
         ensures { let local = self.reading +ℤ (self.after -ℤ self.before) *ℤ pos second
             in SomeIff result (IsDateTime local) (record { local = local; offset = self.after }) }

@@ -1,7 +1,7 @@
-//! Where the parts of a TZif file are.
+//! The positions of the parts of a TZif file.
 ghost use Rattle.std.specs.Prelude.{◌≡◌};
 
-/// Where a TZif file has the parts of its data block (RFC 9636, 3.2).
+/// A layout: the positions of the parts of a TZif file's data block (RFC 9636, 3.2).
 #[repr(C)]
 #[derive(Clone, Copy)]
 pub struct Layout {
@@ -22,7 +22,7 @@ pub struct Layout {
 }
 
 impl Layout {
-    /// Creates the layout of no changes and no types.
+    /// Creates a layout without changes and without types.
     pub fn empty() -> Self
         ensures { result ≡ record { times = 0; indexes = 0; types = 0; names = 0; names_end = 0; changes = 0; kinds = 0 } }
     {

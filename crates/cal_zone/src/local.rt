@@ -21,8 +21,9 @@ pub enum Local {
 
 impl Local {
     /// Returns the date-time that RFC 5545 and most calendars mean. A reading in a gap moves
-    /// forward by the length of the gap, and in a fold the first date-time is meant. Returns `None`
-    /// if the result is out of range.
+    /// forward by the length of the gap, and in a fold the earlier date-time is meant. Returns
+    /// `None` if the result is out of range. In Berlin 2024-03-31 2:30 becomes 3:30 +02:00:00, and
+    /// 2024-10-27 2:30 becomes 2:30 +02:00:00.
     pub fn compatible(self) -> Option<OffsetDateTime>
         ensures { IsCompatible self result }
     {
@@ -34,7 +35,8 @@ impl Local {
     }
 
     /// Returns the earlier date-time. A reading in a gap moves back by the length of the gap.
-    /// Returns `None` if the result is out of range.
+    /// Returns `None` if the result is out of range. In Berlin 2024-03-31 2:30 becomes 1:30
+    /// +01:00:00.
     pub fn earlier(self) -> Option<OffsetDateTime>
         ensures { IsEarlier self result }
     {
@@ -46,7 +48,8 @@ impl Local {
     }
 
     /// Returns the later date-time. A reading in a gap moves forward by the length of the gap.
-    /// Returns `None` if the result is out of range.
+    /// Returns `None` if the result is out of range. In Berlin 2024-10-27 2:30 becomes 2:30
+    /// +01:00:00.
     pub fn later(self) -> Option<OffsetDateTime>
         ensures { IsLater self result }
     {

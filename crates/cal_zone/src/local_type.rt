@@ -2,16 +2,17 @@
 ghost use Rattle.std.specs.Prelude.{◌≡◌, take, drop};
 ghost use Rattle.cal_zone.specs.Abbreviation.{abbreviation, until_zero};
 
-/// A local time type: how clocks are set from one change of a zone to the next.
+/// A local time type: how clocks are set from one change of a zone to the next (RFC 9636, 3.2).
 #[derive(Clone, Copy, Debug, PartialEq, Eq)]
 pub struct LocalType {
-    /// The seconds by which clocks are ahead of UTC.
+    /// The seconds by which clocks are ahead of UTC, negative if they are behind: 3600 for CET.
     pub offset: i32,
-    /// Tells whether this is daylight saving time.
+    /// `true` for daylight saving time.
     pub is_daylight: bool,
-    /// Where the abbreviation begins in the zone's bytes.
+    /// The position of the abbreviation in the zone's bytes.
     pub name_start: usize,
-    /// Where the abbreviation ends in the zone's bytes, unless a zero byte comes before.
+    /// The position in the zone's bytes where the abbreviation ends, unless a zero byte ends it
+    /// before.
     pub name_end: usize,
 }
 

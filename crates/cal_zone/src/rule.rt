@@ -19,7 +19,8 @@ fn is_next(at: i64, next: i64, before: i32, between: i32, after: i32) -> bool
     at < next && end <= begin
 }
 
-/// A rule of two changes each year. The first comes earlier in the year.
+/// A rule of two changes each year, such as the rule of the POSIX text
+/// `CET-1CEST,M3.5.0,M10.5.0/3`. The first change comes earlier in the year.
 #[derive(Clone, Copy)]
 pub struct Rule {
     one: Yearly,
@@ -51,8 +52,9 @@ impl Rule {
     ghost use Rattle.cal_zone.specs.Split.{IsBracket, IsSplit};
     ghost use Rattle.cal_zone.specs.Timeline.{IsOrdered, at};
 
-    /// Creates the rule of two changes. Returns `None` if a field is out of range, if the months
-    /// are neighbours, also over the new year, or if the first month is not the earlier one.
+    /// Creates the rule of two changes. Returns `None` if a week, a time or an offset is out of
+    /// range, if the months are neighbours, also over the new year, or if the first month is not
+    /// the earlier one. March and October make a rule, and January and December don't.
     #[inline(always)]
     pub fn new(one: Yearly, other: Yearly) -> Option<Self>
         ensures value { IfSome result (λ rule. (rule.one ≡ one) × (rule.other ≡ other)) }
@@ -134,8 +136,8 @@ impl Rule {
         }
     }
 
-    /// Returns two indexes between which the search for an instant ends: the same ones, unless it is
-    /// near the turn of a year.
+    /// Returns two indexes between which the search for an instant ends: the same ones, unless it
+    /// is near the turn of a year.
     #[inline(always)]
     fn indexes_near(&self, instant: i64) -> (u32, u32)
         ensures { IsBracket (instant_at self.now.one self.now.other) rule_count
@@ -178,7 +180,11 @@ impl Rule {
         low
     }
 
-    /// Returns the offset at an instant if a change from the index `skip` on is not after it.
+    /// Returns the offset at a Unix time in seconds, in a zone whose last changes are the rule's
+    /// from the index `skip` on.
+    ///
+    /// `None` says nothing about the offset. No clause says when it comes: it does if all of these
+    /// changes are after the instant.
     pub fn offset_after(&self, skip: u32, instant: i64) -> Option<i32>
         ensures { (zone : Timeline) (xs : List Change) → InOrder zone
             → zone.changes ≡ xs ++ changes_from self.now.one self.now.other skip
@@ -209,8 +215,12 @@ impl Rule {
         }
     }
 
-    /// Returns the one instant at which clocks show a reading if it is between two changes from the
-    /// index `skip` on. `None` may also say that there is another one.
+    /// Returns the Unix time of the only instant at which clocks show a reading, in a zone whose
+    /// last changes are the rule's from the index `skip` on. The reading is its seconds since
+    /// 1970-01-01 0:00 by the clock, from -2^60 to 2^60.
+    ///
+    /// `None` says nothing about the reading. No clause says when it comes: it does, for example,
+    /// near a change, and before these changes.
     pub fn single_after(&self, skip: u32, reading: i64) -> Option<i64>
         requires { IsMoment reading }
         ensures { (zone : Timeline) (xs : List Change) → InOrder zone

@@ -3,26 +3,26 @@ ghost use Rattle.std.specs.Prelude.{◌≡◌, ◌↔◌, ℤ, ◌≤ℤ◌, IsT
 ghost use Rattle.cal_zone.specs.Span.{IsSpan};
 ghost use Rattle.cal_zone.specs.Timeline.{Timeline, local_at, InOrder, IsMoment};
 
-/// The maximum difference of two offsets.
+/// The maximum difference of two offsets, in seconds.
 const MAX_DIFFERENCE: i64 = 187_198;
 
-/// Seconds.
+/// Half a year, in seconds.
 const HALF_YEAR: u64 = 15_778_476;
 
-/// Instants at which clocks have one offset, from the first to the last. There are none if the last
-/// one is before the first.
+/// A span of instants at which clocks have the same offset, from the first to the last. It is empty
+/// if the last one is before the first.
 #[derive(Clone, Copy, Debug, PartialEq, Eq)]
 pub struct Span {
     /// The Unix time of the first instant, in seconds.
     pub first: i64,
-    /// The Unix time of the last instant.
+    /// The Unix time of the last instant, in seconds.
     pub last: i64,
     /// The seconds by which clocks are ahead of UTC.
     pub offset: i32,
 }
 
 impl Span {
-    /// Creates the span of no instants.
+    /// Creates an empty span.
     pub fn empty() -> Self
         ensures { (zone : Timeline) → IsSpan zone result }
     {
@@ -49,8 +49,9 @@ impl Span {
         after.min(before) < HALF_YEAR
     }
 
-    /// Returns the one instant at which clocks show a reading, in seconds since 1970-01-01 0:00 by
-    /// the clock. `None` says that the reading may be one of other instants, too.
+    /// Returns the Unix time of the only instant at which clocks show a reading. The reading is its
+    /// seconds since 1970-01-01 0:00 by the clock, from -2^60 to 2^60. `None` says nothing about
+    /// the reading: clocks may show it at other instants, too.
     #[inline(always)]
     pub fn single(self, reading: i64) -> Option<i64>
         requires { IsMoment reading }

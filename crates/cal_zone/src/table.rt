@@ -89,7 +89,7 @@ fn local_type(bytes: &[u8], at: usize, names: usize, names_end: usize) -> LocalT
 impl Layout {
     ghost use Rattle.cal_zone.specs.Table.{type_in, IsInside};
 
-    /// Returns the local time type at an index.
+    /// Returns the local time type at an index below `kinds`, from the bytes of the file.
     pub fn kind(self, bytes: &[u8], index: usize) -> LocalType
         requires inside { IsInside bytes.now self }
         requires index { index < self.kinds }
@@ -101,7 +101,8 @@ impl Layout {
     }
 }
 
-/// The changes of a TZif file, which are read from its bytes. Contracts see a list of changes.
+/// A table of the changes of a TZif file, which are read from its bytes (RFC 9636, 3.2). Contracts
+/// see a list of changes.
 #[derive(Drop)]
 pub struct Table<'a> {
     bytes: &'a [u8],
@@ -135,8 +136,8 @@ impl<'a> Table<'a> {
     ghost use Rattle.cal_zone.specs.Split.{IsBracket};
     ghost use Rattle.std.specs.Prelude.{IfOk, IfErr, OnOk, []};
 
-    /// Creates the table of the changes of a file. Returns the position of the first index of a
-    /// type that doesn't exist, if there is one.
+    /// Creates the table of the changes of a file. Returns an error with the position of the first
+    /// index of a type that doesn't exist, if there is one.
     pub fn new(bytes: &'a [u8], layout: Layout) -> Result<Self, usize>
         requires { IsInside bytes.now layout }
         ensures value { IfOk result (λ table. table ≡ changes_in bytes.now layout) }
@@ -153,8 +154,8 @@ impl<'a> Table<'a> {
         Ok(Table { bytes, layout })
     }
 
-    /// Creates a table without a look at its changes. Returns `None` if the bytes don't have all
-    /// parts.
+    /// Creates a table without a look at the changes. Returns `None` if the bytes don't have all
+    /// parts of the layout.
     #[inline(always)]
     pub(crate) fn from_parts(bytes: &'a [u8], layout: Layout) -> Option<Self>
         ensures some { IfSome result (λ table. table ≡ changes_in bytes.now layout) }
@@ -190,7 +191,7 @@ impl<'a> Table<'a> {
         self.layout.changes
     }
 
-    /// Returns the time of the change at an index.
+    /// Returns the Unix time of the change at an index, in seconds.
     #[inline(always)]
     pub fn time(&self, index: usize) -> i64
         requires { index < length self.now }

@@ -2,7 +2,7 @@
 
 use crate::ChangeError;
 
-/// Why changes and a rule are not a zone.
+/// An error: changes and a rule are not a zone.
 #[derive(Clone, Copy, Debug, PartialEq, Eq)]
 pub enum TimelineError {
     /// The changes are not in order.

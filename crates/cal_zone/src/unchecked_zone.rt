@@ -11,7 +11,7 @@ ghost use Rattle.cal_zone.specs.Span.{IsSpan};
 use crate::{Change, Instants, LocalType, Rule, Span, Table, ZoneParts};
 use std::marker::Model;
 
-/// A zone whose changes need not be in order. If they are not, each call returns any answer.
+/// A zone whose changes need not be in order. If they are not, a call may return any value.
 ///
 /// Contracts see the same as of a [`Zone`](crate::Zone).
 #[derive(Drop)]
@@ -67,7 +67,8 @@ fn later_change(rule: &Option<Rule>, skip: u32, index: usize) -> (Rule, u32)
 impl<'a> UncheckedZone<'a> {
     ghost use Rattle.cal_zone.specs.Changes.{IsNextChange, NoNextChange, IsPreviousChange, NoPreviousChange};
 
-    /// Creates a zone from its parts. Returns `None` if the bytes don't have all changes.
+    /// Creates a zone from its parts, without a look at the changes. Returns `None` if the bytes
+    /// don't have all changes, or if `skip` is above 3999998, the number of changes of a rule.
     #[inline(always)]
     pub fn new(parts: ZoneParts<'a>) -> Option<Self>
         ensures some { IfSome result (λ zone. zone ≡ made_of parts.entry) }
@@ -156,7 +157,8 @@ impl<'a> UncheckedZone<'a> {
         }
     }
 
-    /// Returns the number of changes that are not after an instant, or `None` if the rule decides it.
+    /// Returns the number of changes that are not after an instant, or `None` if that takes the
+    /// rule's changes.
     #[inline(always)]
     pub(crate) fn count_in_table(&self, instant: i64) -> Option<usize>
         ensures { IfSome result (λ count.
@@ -172,7 +174,8 @@ impl<'a> UncheckedZone<'a> {
         }
     }
 
-    /// Returns how the clocks are set at a Unix time.
+    /// Returns how the clocks are set at a Unix time in seconds. In Berlin it is CEST at
+    /// 1711846800.
     #[inline(always)]
     pub fn kind_at(&self, instant: i64) -> LocalType
         ensures { InOrder self.now → result ≡ kind_at self.now instant }
@@ -185,7 +188,8 @@ impl<'a> UncheckedZone<'a> {
         }
     }
 
-    /// Returns the instant of the last of the first `count` changes, or else the first instant.
+    /// Returns the instant of the last of the first `count` changes, or the minimum if `count` is
+    /// 0.
     #[inline(always)]
     fn start_of(&self, count: usize) -> i64
         requires { count ≤ length self.now.changes }
@@ -198,7 +202,8 @@ impl<'a> UncheckedZone<'a> {
         }
     }
 
-    /// Returns the last instant before the change at an index, or else the last one.
+    /// Returns the last instant before the change at an index, or the maximum if there is no such
+    /// change.
     #[inline(always)]
     fn end_of(&self, index: usize) -> i64
         ensures { InOrder self.now → index < length self.now.changes
@@ -226,7 +231,8 @@ impl<'a> UncheckedZone<'a> {
         }
     }
 
-    /// Returns the offset at a Unix time, and instants around it that have the same.
+    /// Returns the offset at a Unix time in seconds, and instants around it with the same offset.
+    /// In Berlin the offset is 7200 at 1711846800.
     pub fn span_at(&self, instant: i64) -> Span
         ensures span { InOrder self.now → IsSpan self.now result }
         ensures offset { InOrder self.now → result.offset ≡ offset_at self.now instant }
@@ -234,8 +240,12 @@ impl<'a> UncheckedZone<'a> {
         self.span_of(self.count(instant))
     }
 
-    /// Returns the one instant at which clocks show a reading, if the rule doesn't decide it. `None`
-    /// may also say that there is another one.
+    /// Returns the Unix time of the only instant at which clocks show a reading by the changes of
+    /// the table, without the rule. The reading is its seconds since 1970-01-01 0:00 by the clock,
+    /// from -2^60 to 2^60.
+    ///
+    /// `None` says nothing about the reading; then call `instants_of`. No clause says when `None`
+    /// comes: it does, for example, near a change.
     #[inline(always)]
     pub fn single_in_table(&self, reading: i64) -> Option<i64>
         requires { IsMoment reading }
@@ -252,8 +262,8 @@ impl<'a> UncheckedZone<'a> {
         }
     }
 
-    /// Returns the same as `span_at`, or for an instant far from another span only that instant. Then
-    /// it is faster, and a next instant is seldom in the same span.
+    /// Returns the same as `span_at`, or only the instant itself with its offset if it is far from
+    /// the span `other`. Then it is faster, and the next instant is seldom in the same span.
     pub fn span_after(&self, instant: i64, other: Span) -> Span
         ensures span { InOrder self.now → IsSpan self.now result }
         ensures offset { InOrder self.now → result.offset ≡ offset_at self.now instant }
@@ -269,7 +279,8 @@ impl<'a> UncheckedZone<'a> {
         }
     }
 
-    /// Returns the first change after a Unix time, or `None` if there is none.
+    /// Returns the first change after a Unix time in seconds, or `None` if there is none. In Berlin
+    /// it is at 1711846800 after 1709164800.
     pub fn next_change(&self, instant: i64) -> Option<Change>
         ensures some { InOrder self.now → IfSome result (IsNextChange self.now instant) }
         ensures none { InOrder self.now → IfNone result (NoNextChange self.now instant) }
@@ -285,7 +296,8 @@ impl<'a> UncheckedZone<'a> {
         }
     }
 
-    /// Returns the last change that is not after a Unix time, or `None` if there is none.
+    /// Returns the last change that is not after a Unix time in seconds, or `None` if there is
+    /// none. In Berlin it is at 1711846800 for 1711846800.
     pub fn previous_change(&self, instant: i64) -> Option<Change>
         ensures some { InOrder self.now → IfSome result (IsPreviousChange self.now instant) }
         ensures none { InOrder self.now → IfNone result (NoPreviousChange self.now instant) }
@@ -332,8 +344,9 @@ impl<'a> UncheckedZone<'a> {
         count
     }
 
-    /// Returns the instants at which clocks show a reading, in seconds since 1970-01-01 0:00 by
-    /// the clock.
+    /// Returns the instants at which clocks show a reading. The reading is its seconds since
+    /// 1970-01-01 0:00 by the clock, from -2^60 to 2^60. In Berlin 1729996200, 2024-10-27 2:30, is
+    /// a fold at 1729989000 and 1729992600.
     pub fn instants_of(&self, reading: i64) -> Instants
         requires { IsMoment reading }
         ensures set { InOrder self.now

@@ -21,9 +21,11 @@ const EPOCH_DAY: i64 = 365_961_662;
 /// is the last Sunday of March at 2:00.
 #[derive(Clone, Copy)]
 pub struct Yearly {
+    /// The month of the change.
     pub month: Month,
     /// 1 to 4 for the first to the fourth such weekday of the month, 5 for the last.
     pub week: u8,
+    /// The weekday of the change.
     pub weekday: Weekday,
     /// The seconds from midnight to the change, by the clocks before it, from -604800 to 604800.
     pub time: i32,

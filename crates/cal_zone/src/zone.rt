@@ -29,8 +29,12 @@ impl<'a> Model for Zone<'a> {
     ghost invariant = { λ z. InOrder z.unchecked };
 }
 
-/// Checks that changes and then the changes of a rule are in order. Returns the number of changes of
-/// the rule, from -999999 on, that are not after the last one of the table.
+/// Checks that changes and then the changes of a rule are in order. Returns the number of changes
+/// of the rule, from the year -999999 on, that are not after the last one of the table, or 0
+/// without a rule.
+///
+/// Returns `Change` if the changes of the table are not in order. Otherwise returns `Junction` if
+/// the gap or fold of the last one overlaps the gap or fold of the rule's next change.
 pub fn join(first: LocalType, table: &Table<'_>, rule: Option<Rule>) -> Result<u32, TimelineError>
     ensures value { IfOk result (λ skip. held first table.now rule skip ≡ zone_of first table.now rule) }
     ensures range { IfOk result (λ skip. skip ≤ 3_999_998) }
@@ -58,7 +62,8 @@ pub fn join(first: LocalType, table: &Table<'_>, rule: Option<Rule>) -> Result<u
 impl<'a> Zone<'a> {
     ghost use Rattle.cal_zone.specs.Changes.{IsNextChange, NoNextChange, IsPreviousChange, NoPreviousChange};
 
-    /// Creates a zone from its first type, its changes and the rule after the last of them.
+    /// Creates a zone from its first type, its changes and the rule after the last of them. Returns
+    /// the errors of `join`.
     pub fn new(
         first: LocalType,
         table: Table<'a>,
@@ -85,7 +90,7 @@ impl<'a> Zone<'a> {
         }
     }
 
-    /// Creates a zone from parts whose changes are in order.
+    /// Creates a zone from parts whose changes are in order, without a look at the changes.
     pub fn from_parts(parts: ZoneParts<'a>) -> Self
         requires parts { AreParts parts }
         requires order { InOrder (made_of parts) }
@@ -97,7 +102,8 @@ impl<'a> Zone<'a> {
         }
     }
 
-    /// Returns the seconds by which clocks are ahead of UTC at a Unix time.
+    /// Returns the seconds by which clocks are ahead of UTC at a Unix time in seconds. In Berlin it
+    /// is 7200 at 1711846800, 2024-03-31 1:00 UTC.
     pub fn offset_at(&self, instant: i64) -> i32
         ensures value { result ≡ offset_at self.now instant }
         ensures offset { IsOffset result }
@@ -106,7 +112,8 @@ impl<'a> Zone<'a> {
         self.kind_at(instant).offset
     }
 
-    /// Returns how the clocks are set at a Unix time.
+    /// Returns how the clocks are set at a Unix time in seconds. In Berlin it is CEST at
+    /// 1711846800.
     #[inline(always)]
     pub fn kind_at(&self, instant: i64) -> LocalType
         ensures { result ≡ kind_at self.now instant }
@@ -114,7 +121,8 @@ impl<'a> Zone<'a> {
         self.unchecked.kind_at(instant)
     }
 
-    /// Returns the first change after a Unix time, or `None` if there is none.
+    /// Returns the first change after a Unix time in seconds, or `None` if there is none. In Berlin
+    /// it is at 1711846800 after 1709164800.
     pub fn next_change(&self, instant: i64) -> Option<Change>
         ensures some { IfSome result (IsNextChange self.now instant) }
         ensures none { IfNone result (NoNextChange self.now instant) }
@@ -122,7 +130,8 @@ impl<'a> Zone<'a> {
         self.unchecked.next_change(instant)
     }
 
-    /// Returns the last change that is not after a Unix time, or `None` if there is none.
+    /// Returns the last change that is not after a Unix time in seconds, or `None` if there is
+    /// none. In Berlin it is at 1711846800 for 1711846800.
     pub fn previous_change(&self, instant: i64) -> Option<Change>
         ensures some { IfSome result (IsPreviousChange self.now instant) }
         ensures none { IfNone result (NoPreviousChange self.now instant) }
@@ -130,8 +139,9 @@ impl<'a> Zone<'a> {
         self.unchecked.previous_change(instant)
     }
 
-    /// Returns the instants at which clocks show a reading, in seconds since 1970-01-01 0:00 by
-    /// the clock.
+    /// Returns the instants at which clocks show a reading. The reading is its seconds since
+    /// 1970-01-01 0:00 by the clock, from -2^60 to 2^60. In Berlin 1729996200, 2024-10-27 2:30, is
+    /// a fold at 1729989000 and 1729992600.
     pub fn instants_of(&self, reading: i64) -> Instants
         requires { IsMoment reading }
         ensures set { (i : ℤ) → Names result i ↔ (local_at self.now i ≡ reading) }

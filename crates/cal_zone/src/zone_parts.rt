@@ -1,8 +1,8 @@
-//! What zones are made of.
+//! Zones in parts.
 
 use crate::{Layout, LocalType, Rule};
 
-/// What a zone is made of. [`UncheckedZone::new`](crate::UncheckedZone::new) makes it a zone again,
+/// A zone in parts. [`UncheckedZone::new`](crate::UncheckedZone::new) creates the zone from them,
 /// and looks at no change for that.
 #[derive(Clone, Copy)]
 pub struct ZoneParts<'a> {
@@ -10,11 +10,11 @@ pub struct ZoneParts<'a> {
     pub first: LocalType,
     /// The bytes of the changes.
     pub bytes: &'a [u8],
-    /// Where the bytes have the changes.
+    /// The positions of the changes in the bytes.
     pub layout: Layout,
     /// The rule after the last of these changes.
     pub rule: Option<Rule>,
-    /// The number of changes of the rule, from -999999 on, that are not after the last of these
-    /// changes.
+    /// The number of changes of the rule, from the year -999999 on, that are not after the last of
+    /// these changes.
     pub skip: u32,
 }

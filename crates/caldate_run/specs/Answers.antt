@@ -70,6 +70,7 @@ abbrev pub offset_in : Place → LocalAndOffset → ℤ
 offset_in (place.Offset offset) from = offset
 offset_in (place.Zone zone) from = offset_at zone (unix_seconds (instant from))
 
+-- The words are the moment in RFC 3339, at the offset of the place.
 abbrev pub IsAt : Place → LocalAndOffset → List ℕ → Type 0
 IsAt place from words = (m : LocalAndOffset) × IsShownAt (offset_in place from) from m × IsInForm (Moment Rfc3339) m words
 
@@ -77,8 +78,7 @@ IsAt place from words = (m : LocalAndOffset) × IsShownAt (offset_in place from)
 abbrev pub IsMoved : DayMove → DateOrMoment → List ℕ → Type 0
 IsMoved by found words = (n : ℕ) × MovesTo by (day_of found) n × IsInForm (form_read found) (on_day (moment_of found) n) words
 
--- The time of day is rounded down to a multiple of n minutes after midnight, or
--- of 1 minute for 0.
+-- The time of day is rounded down to a multiple of n minutes after midnight, or of 1 minute for 0.
 abbrev pub floored : ℕ → LocalAndOffset → LocalAndOffset
 floored n m =
     let minutes = hour_of (time_at m.local) * 60 + minute_of (time_at m.local) in
@@ -116,7 +116,7 @@ compares other found = false
 abbrev pub Answer : Type 0
 Answer = Result (Option (List ℕ)) NoAnswer
 
--- What was read has no answer.
+-- The date or moment that was read has no answer, and its line is not left out.
 abbrev pub HasNone : Request → List ℕ → DateOrMoment → Type 0
 HasNone request text found = (leaves_out request found ≡ false) × ((words : List ℕ) → ¬ IsAnswerTo request text found words)
 
@@ -130,6 +130,7 @@ abbrev pub IsNotRead : Filter → List ℕ → NoAnswer → Type 0
 IsNotRead filter text any = IsUnread filter.offset filter.readers text any
     ⊎ ((first : DateOrMoment) × IsFoundBy filter.offset filter.readers text first × IsPlaced filter.clock first (Err any))
 
+-- The answer to a text.
 abbrev pub IsAnswer : Filter → List ℕ → Answer → Type 0
 IsAnswer filter text (Ok (Some words)) = (found : DateOrMoment) × IsReadAs filter text found × IsAnswerTo filter.request text found words
 IsAnswer filter text (Ok None) = (found : DateOrMoment) × IsReadAs filter text found × (leaves_out filter.request found ≡ true)

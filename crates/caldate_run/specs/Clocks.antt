@@ -13,23 +13,25 @@ use Rattle.caldate_run.specs.declared.request.Clock.{Clock}
 use Rattle.caldate_run.specs.declared.request.Policy.{Policy}
 use Rattle.caldate_run.specs.declared.request.Policy.TheVariants as policy
 
--- The date-time that a policy takes, if it takes one.
+-- The date-time that a policy selects, if it selects one (Temporal).
 abbrev pub IsByPolicy : Policy → Local → Option LocalAndOffset → Type 0
 IsByPolicy policy.Compatible local r = IsCompatible local r
 IsByPolicy policy.Earlier local r = IsEarlier local r
 IsByPolicy policy.Later local r = IsLater local r
 IsByPolicy policy.Reject local r = r ≡ reject local
 
--- It takes none if clocks show the reading twice, or skip it.
+-- The reason why a policy selects none: clocks show the reading twice, or skip it.
 abbrev pub why_none : Local → NoAnswer
 why_none (Fold earlier later) = Repeated
 why_none other = Skipped
 
+-- The result with the moment that a policy selects, or with the reason why it selects none.
 abbrev pub placed_as : MomentForm → Local → Option LocalAndOffset → Result DateOrMoment NoAnswer
 placed_as form local (Some m) = Ok (Moment form m)
 placed_as form local None = Err (why_none local)
 
--- The clocks of the zone show the reading at this moment, by the policy, or at none.
+-- The result has the moment that the policy selects for the reading, by the clocks of the zone, or
+-- the reason why there is none.
 pub record IsOnClock (clock : Clock) (form : MomentForm) (reading : ℤ) (r : Result DateOrMoment NoAnswer) : Type 0 where
   pub local : Local
   pub is : IsLocalOf clock.zone reading local
@@ -37,7 +39,7 @@ pub record IsOnClock (clock : Clock) (form : MomentForm) (reading : ℤ) (r : Re
   pub by_policy : IsByPolicy clock.policy local taken
   pub placed : r ≡ placed_as form local taken
 
--- With a clock, the local time of a moment is a reading of it.
+-- With a clock, the local time of a moment is a reading of the clock. A date stays as it is.
 abbrev pub IsPlaced : Option Clock → DateOrMoment → Result DateOrMoment NoAnswer → Type 0
 IsPlaced None found r = r ≡ Ok found
 IsPlaced (Some clock) (Date form n) r = r ≡ Ok (Date form n)

@@ -14,12 +14,12 @@ use Rattle.caldate_run.specs.declared.request.TimeUnit.TheVariants as unit
 abbrev pub duration_between : LocalAndOffset → LocalAndOffset → ℤ
 duration_between from to = instant to -ℤ instant from
 
--- The day that is reached: the whole days of the duration after the local date of `from`. For a day
--- outside of the range, the nearest day of the range stands in.
+-- The day that is reached: the whole days of the duration after the local date of `from`. A day
+-- outside the range is clamped to the range.
 abbrev pub reached : LocalAndOffset → LocalAndOffset → ℕ
 reached from to = clamped_date (pos (date_at from.local) +ℤ whole_days (duration_between from to))
 
--- The number z is the maximum that does not pass day t, or backward the minimum.
+-- The number z is the maximum that doesn't pass day t, or backward the minimum.
 abbrev pub IsCut : ℕ → ℕ → (ℤ → Type 0) → (ℤ → Type 0) → ℤ → Type 0
 IsCut n t Up Back z = (n ≤ t → IsGreatest Up z) × (t < n → IsLeast Back z)
 

@@ -18,15 +18,15 @@ split_record separator quoted (byte ∷ bytes) =
 abbrev pub fields_of : Field → List ℕ → List (List ℕ)
 fields_of field text = if field.csv then split_record field.separator false text else slice_split (λ byte. byte == field.separator) text
 
--- The text has fewer fields than are asked for.
+-- The text doesn't have the last of the fields to answer.
 abbrev pub has_too_few : Field → List ℕ → Bool
 has_too_few field text = nat_le (length (fields_of field text)) (field.first - 1 + field.joined)
 
--- The fields that are asked for, with the separators between them.
+-- The fields to answer, with the separators between them.
 abbrev pub joined_fields : Field → List ℕ → List ℕ
 joined_fields field text = join_with_byte field.separator (take (field.joined + 1) (drop (field.first - 1) (fields_of field text)))
 
--- A field of a record may be in quotes.
+-- A field of a CSV record may be in quotes (RFC 4180). Its text is between them.
 abbrev pub is_quoted : Field → List ℕ → Bool
 is_quoted field part = field.csv && (nat_le 2 (length part) && (is_quote (slice_index part 0) && is_quote (slice_index part (length part - 1))))
 
@@ -42,7 +42,7 @@ doubled (byte ∷ bytes) = if is_quote byte then 34 ∷ 34 ∷ doubled bytes els
 abbrev pub in_quotes : List ℕ → List ℕ
 in_quotes words = 34 ∷ (doubled words ++ 34 ∷ [])
 
--- A separator, a quote, a line feed and a carriage return stand only in quotes.
+-- A separator, a quote, a line feed and a carriage return come only within quotes.
 abbrev pub is_special : ℕ → ℕ → Bool
 is_special separator byte = byte == separator || (is_quote byte || (byte == 10 || byte == 13))
 
@@ -70,14 +70,13 @@ end_of_field field quoted words = if quoted then doubled words ++ 34 ∷ [] else
 abbrev pub part_of : Field → List ℕ → Option (List ℕ)
 part_of field text = if has_too_few field text then None else Some (joined_fields field text)
 
--- The text to answer is all of it, or the fields that are asked for, within their quotes, if the
--- text has them.
+-- The text to answer is the whole text, or the fields to answer within their quotes, if the text
+-- has them.
 abbrev pub selected_text : Option Field → List ℕ → Option (List ℕ)
 selected_text None text = Some text
 selected_text (Some field) text = option_map (within_quotes field) (part_of field text)
 
--- The words replace the fields that are asked for, if the text has them. The separators around them
--- stay.
+-- The words replace the fields to answer, if the text has them. The separators around them stay.
 abbrev pub with_part : Field → List ℕ → List ℕ → List ℕ
 with_part field text words =
     if has_too_few field text then text else

@@ -34,11 +34,12 @@ month_text n = year_text (year_at n) ++ codes "-" ++ digits_at_least 2 (month_at
 abbrev pub quarter_text : ℕ → List ℕ
 quarter_text n = year_text (year_at n) ++ codes "-Q" ++ digit (quarter_at n) ∷ []
 
--- The date in the basic format of ISO 8601, such as 20240229. Only years from 0 to 9999 have one.
+-- A date has a text in the basic format of ISO 8601 if its year is from 0 to 9999.
 pub record HasBasicText (n : ℕ) : Type 0 where
   pub from_year_0 : pos 0 ≤ℤ year_at n
   pub to_year_9999 : year_at n ≤ℤ pos 9999
 
+-- The date in the basic format, such as 20240229.
 abbrev pub basic_text : ℕ → List ℕ
 basic_text n = year_text (year_at n) ++ digits_at_least 2 (month_at n) ++ digits_at_least 2 (day_of_month_at n)
 

@@ -64,6 +64,7 @@ names_text field [] = []
 names_text field (part ∷ []) = quoted (field_name field part)
 names_text field (part ∷ parts) = quoted (field_name field part) ++ codes ", " ++ names_text field parts
 
+-- The names that the header has, or that it is empty.
 abbrev pub expected_names : Field → List ℕ → List ℕ
 expected_names field header =
     if bytes_eq header [] then codes "; the header is empty" else codes "; expected " ++ names_text field (fields_of field header)

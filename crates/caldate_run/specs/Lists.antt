@@ -25,7 +25,7 @@ abbrev pub IsPace : Pace → Type 0
 IsPace (Steps step) = IsStep step
 IsPace (Rule recurrence) = ⊤
 
--- A list in steps has such a step.
+-- If the command is a list in steps, its step has a length in this range.
 abbrev pub HasValidStep : Command → Type 0
 HasValidStep (Dates listing) = IsStep listing.step
 HasValidStep other = ⊤
@@ -63,5 +63,6 @@ abbrev pub TakesLines : (List ℕ → Type 0) → (List ℕ → Type 0) → Resu
 TakesLines All First (Ok done) old new = (days : List ℕ) × All days × Appends old new (flat_map line_of days)
 TakesLines All First (Err error) old new = IsOfWrite error × ((days : List ℕ) × First days × AppendsFront old new (flat_map line_of days))
 
+-- The same for the days of a list.
 abbrev pub Lists : Listing → Result Unit RunError → Option (List ℕ) → Option (List ℕ) → Type 0
 Lists listing outcome old new = TakesLines (AreAll listing) (AreFirst listing) outcome old new

@@ -14,11 +14,13 @@ use Rattle.cal_zone.specs.Timeline.{Timeline}
 use Rattle.caldate_run.specs.ClockWords.{clock_word}
 use Rattle.caldate_run.specs.declared.zones.read_zone_error.ReadZoneError.{ReadZoneError}
 
+-- A meaning of a word.
 pub record Meaning : Type 0 where
   pub found : Option DateOrMoment
   pub items : Option (List Item)
   pub zone : Result Timeline ReadZoneError
 
+-- A meaning for each word.
 abbrev pub Meanings : Type 0
 Meanings = List ℕ → Meaning
 
@@ -34,7 +36,7 @@ abbrev pub value_in : List ℕ → List ℕ
 value_in word = option_map_or (λ at. drop (at + 1) word) (position (λ b. b == 61) word) []
 
 -- ---- formats
--- Some formats have a name.
+-- The format that has a name, or the word itself.
 abbrev pub format_named : List ℕ → List ℕ
 format_named word =
     if bytes_eq word (codes "clf") then codes "%d/%b/%Y:%T %z" else
@@ -54,6 +56,7 @@ pub record IsItems (text : List ℕ) (items : List Item) : Type 0 where
   pub printed : IsTrue (are_moment_items items)
 
 -- ---- the meanings are correct
+-- The meaning has the date or moment of the word and the items of its format, or `None`.
 pub record IsMeaningOf (word : List ℕ) (meaning : Meaning) : Type 0 where
   pub found : MatchOption meaning.found ((found : DateOrMoment) → ¬ IsTextOf word found) (IsTextOf word)
   pub items : MatchOption meaning.items ((items : List Item) → ¬ IsItems (format_named word) items) (IsItems (format_named word))
@@ -66,5 +69,6 @@ pub record AreMeant (meanings : Meanings) (word : List ℕ) : Type 0 where
   pub whole : IsMeaning meanings word
   pub value : IsMeaning meanings (value_in word)
 
+-- The same for all words.
 abbrev pub AreMeanings : Meanings → List (List ℕ) → Type 0
 AreMeanings meanings words = All (AreMeant meanings) words

@@ -2,10 +2,11 @@
 use Rattle.std.specs.Prelude.{ℕ, ◌+◌, ◌-◌, ◌*◌, ◌==◌, ◌&&◌, ◌||◌, nat_le, Bool, ℤ, pos, neg_ℤ, List, length, slice_index, Option, Some, None, option_and_then, bytes_eq, codes, if◌then◌else◌}
 use Rattle.std.specs.Option.{option_zip}
 
--- Two digits at position k are a number.
+-- A digit from 0 to 9.
 abbrev pub is_digit : ℕ → Bool
 is_digit byte = nat_le 48 byte && nat_le byte 57
 
+-- The number of the two digits at position k.
 abbrev pub number_at : List ℕ → ℕ → Option ℕ
 number_at word k =
     if is_digit (slice_index word k) && is_digit (slice_index word (k + 1))
@@ -20,8 +21,8 @@ seconds_after sign at =
     if sign == 45 then Some (neg_ℤ (pos seconds)) else None
     ) else None
 
--- An offset is Z, or a sign and two digits each of the hours and the minutes with a colon between
--- them.
+-- An offset is Z or z, or a sign and two digits each of the hours and the minutes with a colon
+-- between them.
 abbrev pub offset_of : List ℕ → Option ℤ
 offset_of word =
     if bytes_eq word (codes "Z") || bytes_eq word (codes "z") then Some (pos 0) else

@@ -13,8 +13,8 @@ use Rattle.caldate_run.specs.declared.request.Filter.{Filter}
 use Rattle.caldate_run.specs.declared.args.usage_error.UsageError.{UsageError}
 use Rattle.caldate_run.specs.declared.zones.ZoneFiles.{ZoneFiles}
 
--- The arguments give this command, with the zones of these files, if the program starts at `now` of
--- UTC. They are None if they have too many bytes.
+-- The arguments give this command, with the zones of these files, if the program starts at the
+-- date-time `now` at UTC. The arguments are `None` if they have too many bytes.
 abbrev pub GivesCommand : Option (Bor (List ℕ)) → Option ℤ → ZoneFiles → Command → Type 0
 GivesCommand None now files command = ⊥
 GivesCommand (Some arguments) now files command = (meanings : Meanings) × AreMeanings meanings (arguments_of arguments.now) × AreZones files meanings
@@ -24,7 +24,7 @@ GivesCommand (Some arguments) now files command = (meanings : Meanings) × AreMe
 abbrev pub given_word : List ℕ → List ℕ
 given_word arguments = unwrap_or (slice_get (arguments_of arguments) 1) []
 
--- The text that it means.
+-- The text that this word means.
 abbrev pub given_text : Option ℤ → Filter → List ℕ → List ℕ
 given_text now filter arguments = unwrap_or (option_and_then (λ z. clock_text filter.clock z (given_word arguments)) now) (given_word arguments)
 
@@ -33,6 +33,7 @@ abbrev pub GivesCommandOnce : Option (Bor (List ℕ)) → Option ℤ → ZoneFil
 GivesCommandOnce None now files filter text = ⊥
 GivesCommandOnce (Some arguments) now files filter text = GivesCommand (Some arguments) now files (Once filter) × (text ≡ given_text now filter arguments.now)
 
+-- The same, for a field with a name.
 abbrev pub GivesNamedOnce : Option (Bor (List ℕ)) → Option ℤ → ZoneFiles → Filter → Field → List ℕ → Type 0
 GivesNamedOnce None now files filter field text = ⊥
 GivesNamedOnce (Some arguments) now files filter field text = GivesCommand (Some arguments) now files (NamedOnce filter field) × (text ≡ given_text now filter arguments.now)

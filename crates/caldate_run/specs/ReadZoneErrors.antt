@@ -11,6 +11,7 @@ use Rattle.caldate_run.specs.declared.zones.read_zone_error.FileError.TheVariant
 use Rattle.caldate_run.specs.declared.zones.read_zone_error.ReadZoneError.{ReadZoneError}
 use Rattle.caldate_run.specs.declared.zones.read_zone_error.ReadZoneError.TheVariants.{File, Zone}
 
+-- The words for a file that can't be read.
 abbrev pub file_words : FileError → List ℕ
 file_words NotFound = codes "not found"
 file_words Denied = codes "permission denied"
@@ -18,6 +19,7 @@ file_words Folder = codes "is a folder"
 file_words TooLong = codes "too long"
 file_words Failed = codes "cannot be read"
 
+-- The words for changes that are not in order.
 abbrev pub change_words : ChangeError → List ℕ
 change_words change.FirstOffset = codes "invalid local time type"
 change_words (change.Offset k) = codes "invalid local time type"
@@ -25,10 +27,12 @@ change_words (change.Instant k) = codes "changes out of order"
 change_words (change.NotRising k) = codes "changes out of order"
 change_words (change.Overlap k) = codes "overlapping changes"
 
+-- The words for changes and a rule that are not a zone.
 abbrev pub timeline_words : TimelineError → List ℕ
 timeline_words (Change error) = change_words error
 timeline_words Junction = codes "overlapping changes"
 
+-- The words for a kind of error in the bytes of a zone.
 abbrev pub kind_words : ZoneErrorKind → List ℕ
 kind_words kinds.Truncated = codes "unexpected end"
 kind_words kinds.Magic = codes "not a zone file"

@@ -15,9 +15,11 @@ use Rattle.caldate_run.specs.declared.request.UnixUnit.{UnixUnit}
 use Rattle.caldate_run.specs.declared.request.UnixUnit.TheVariants.{Milliseconds, Microseconds, Nanoseconds}
 
 -- ---- dates and moments: each has an equivalent text in one of the forms
+-- The parts of a date in calendar order, with hyphens.
 abbrev pub calendar_text : List ℕ → List ℕ → List ℕ → List ℕ
 calendar_text year month day = year ++ codes "-" ++ month ++ codes "-" ++ day
 
+-- A point, a slash or a hyphen.
 abbrev pub is_separator : ℕ → Bool
 is_separator byte = byte == 46 || byte == 47 || byte == 45
 
@@ -44,23 +46,27 @@ assumed (reading.Local offset) (Moment form m) = Moment form (record { local = m
 assumed reading found = found
 
 -- ---- whole numbers, of at most 27 digits
+-- The nanoseconds of a unit.
 abbrev pub nanoseconds_in : UnixUnit → ℕ
 nanoseconds_in Milliseconds = millisecond
 nanoseconds_in Microseconds = microsecond
 nanoseconds_in Nanoseconds = 1
 
+-- The bytes are the number z, of at most 27 digits, with a minus sign if it is negative.
 pub record IsNumber (bytes : List ℕ) (z : ℤ) : Type 0 where
   pub few : unsigned_abs z < 10 ^ 27
   pub bytes_are : bytes ≡ signed_decimal z
 
--- The moment is z units after 1970-01-01 UTC, if that is in range.
+-- The date-time z units after 1970-01-01 at UTC.
 abbrev pub local_of : UnixUnit → ℤ → ℤ
 local_of unit z = unix_epoch +ℤ (z *ℤ pos (nanoseconds_in unit))
 
+-- The moment at UTC is z units after 1970-01-01, which is in range.
 pub record IsUnixMoment (unit : UnixUnit) (z : ℤ) (m : LocalAndOffset) : Type 0 where
   pub in_range : IsDateTime (local_of unit z)
   pub at_utc : m ≡ record { local = local_of unit z; offset = pos 0 }
 
+-- The bytes are the number of this moment.
 abbrev pub IsNumberOf : UnixUnit → List ℕ → DateOrMoment → Type 0
 IsNumberOf unit bytes found =
     (z : ℤ) × IsNumber bytes z × ((m : LocalAndOffset) × IsUnixMoment unit z m × (found ≡ Moment form.Unix m))

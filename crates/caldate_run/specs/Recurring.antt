@@ -13,9 +13,10 @@ up_to last days = filter (λ day. nat_le day last) days
 abbrev pub AreOccurrences : Occurrences → List ℕ → Type 0
 AreOccurrences asked dates = dates ≡ up_to asked.last (days_of asked.recurrence asked.first)
 
--- The dates are the first of them, in order.
+-- The dates are the first dates of the recurrence, in order.
 abbrev pub AreFirstOccurrences : Occurrences → List ℕ → Type 0
 AreFirstOccurrences asked dates = (more : List ℕ) × AreOccurrences asked (dates ++ more)
 
+-- The writer took the lines of the dates of the recurrence, as in `TakesLines`.
 abbrev pub ListsOccurrences : Occurrences → Result Unit RunError → Option (List ℕ) → Option (List ℕ) → Type 0
 ListsOccurrences asked outcome old new = TakesLines (AreOccurrences asked) (AreFirstOccurrences asked) outcome old new

@@ -20,10 +20,11 @@ use Rattle.caldate_run.specs.declared.run.tally.Tally.{Tally}
 use Rattle.caldate_run.specs.declared.run.unanswered.UnansweredLine.{UnansweredLine}
 
 -- ---- the reasons
--- The component that is out of range.
+-- The words for a component that is out of range.
 abbrev pub refused_text : ComponentRange → List ℕ
 refused_text error = codes "refused " ++ component_name error.component ++ (if error.is_conditional then codes " conditional" else [])
 
+-- The words for a reason.
 abbrev pub reason : NoAnswer → List ℕ
 reason why.TooLong = codes "line too long"
 reason why.NoField = codes "no such field"
@@ -46,6 +47,8 @@ abbrev pub in_text : Filter → List ℕ → Answer → Answer
 in_text filter text (Ok (Some words)) = Ok (Some (if keeps filter.request then text else text_with filter.field text words))
 in_text filter text other = other
 
+-- The answer to the text of a line, by the text of the fields to answer. If the text doesn't have
+-- them, that is the reason.
 abbrev pub IsAnswerIn : Filter → List ℕ → Answer → List ℕ → Type 0
 IsAnswerIn filter text answer asked = (own : Answer) × IsAnswer filter asked own × (answer ≡ in_text filter text own)
 
@@ -81,7 +84,7 @@ abbrev pub with_reason : Filter → List ℕ → NoAnswer → List ℕ
 with_reason filter text why.TooLong = reason why.TooLong
 with_reason filter text other = text_with filter.field text (reason other)
 
--- The bytes that go out in its place, if any.
+-- The bytes that go out in place of an answer, if any.
 abbrev pub in_place : OnInvalid → Filter → List ℕ → NoAnswer → Option (List ℕ)
 in_place invalid.Keep filter text any = Some (text_without filter.field text)
 in_place invalid.Answer filter text any = Some (with_reason filter text any)
@@ -95,6 +98,7 @@ pub record Describes (before : ℕ) (line : List ℕ) (any : NoAnswer) (reported
   pub text_is : excerpt_bytes reported.text ≡ excerpt_of (text_of line)
 
 -- ---- the reply
+-- A count and one more, at most 2^64 - 1.
 abbrev pub more : ℕ → ℕ
 more n = min (n + 1) (2 ^ 64 - 1)
 
@@ -110,6 +114,7 @@ abbrev pub with_end : List ℕ → Option (List ℕ) → List ℕ
 with_end line None = []
 with_end line (Some words) = words ++ end_of line
 
+-- The reply has the answer, or what goes out in its place if the run doesn't end at the line.
 abbrev pub RepliesWith : Filter → List ℕ → Answer → List ℕ → Type 0
 RepliesWith filter line (Ok out) reply = reply ≡ with_end line out
 RepliesWith filter line (Err any) reply =

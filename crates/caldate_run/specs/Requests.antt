@@ -80,6 +80,7 @@ is_number word =
     nat_lt 0 (length (without_leading_sign word)) && (all_ascii_digits (without_leading_sign word)
     && (int_le (neg_ℤ (pos 9223372036854775808)) (signed_digits_value 10 word) && int_le (signed_digits_value 10 word) (pos 9223372036854775807)))
 
+-- The number that a word spells.
 abbrev pub parse_i64 : List ℕ → Option ℤ
 parse_i64 word = if is_number word then Some (signed_digits_value 10 word) else None
 
@@ -88,12 +89,14 @@ abbrev pub number_between : ℕ → ℕ → List ℕ → Option ℕ
 number_between low high word =
     option_and_then (λ z. if int_le (pos low) z && int_le z (pos high) then Some (nat_abs z) else None) (parse_i64 word)
 
+-- A number from 1 to 255, or from 1 to 4294967295.
 abbrev pub parse_u8 : List ℕ → Option ℕ
 parse_u8 word = number_between 1 255 word
 
 abbrev pub parse_u32 : List ℕ → Option ℕ
 parse_u32 word = number_between 1 4294967295 word
 
+-- The form with one of the further names.
 unfoldable pub further_form_of : List ℕ → Option Form
 further_form_of word =
     if bytes_eq word (codes "short-weekday") then Some form.ShortWeekday else
@@ -105,6 +108,7 @@ further_form_of word =
     if bytes_eq word (codes "unix-ns") then Some (form.Unix Nanoseconds) else
     None
 
+-- The form with a name.
 unfoldable pub form_of : List ℕ → Option Form
 form_of word =
     if bytes_eq word (codes "calendar") then Some (form.Date Calendar) else
@@ -124,6 +128,7 @@ spells word name = str_eq_ignore_ascii_case word name || str_eq_ignore_ascii_cas
 unfoldable pub spells_unit : List ℕ → List ℕ → List ℕ → Bool
 spells_unit word one many = spells word one || str_eq_ignore_ascii_case word many
 
+-- The weekday that a word spells.
 unfoldable pub weekday_of : List ℕ → Option Weekday
 weekday_of word =
     if spells word (codes "Monday") then Some weekday.Monday else
@@ -135,6 +140,7 @@ weekday_of word =
     if spells word (codes "Sunday") then Some weekday.Sunday else
     None
 
+-- The period that a word spells.
 unfoldable pub period_of : List ℕ → Option Period
 period_of word =
     if spells_unit word (codes "week") (codes "weeks") then Some period.Week else
@@ -143,6 +149,7 @@ period_of word =
     if spells_unit word (codes "year") (codes "years") then Some period.Year else
     None
 
+-- The unit of time that a word spells.
 unfoldable pub unit_of : List ℕ → Option TimeUnit
 unit_of word =
     if spells_unit word (codes "day") (codes "days") then Some unit.Days else
@@ -155,7 +162,7 @@ unit_of word =
     if spells_unit word (codes "second") (codes "seconds") then Some unit.Seconds else
     None
 
--- A number of units, each of `unit` seconds, is a duration if it fits.
+-- The nanoseconds of a number of units, each of `unit` seconds, if the seconds fit in 64 bits.
 abbrev pub seconds_in : ℕ → ℤ → Option ℤ
 seconds_in unit amount =
     let seconds = amount *ℤ pos unit in
@@ -166,7 +173,7 @@ seconds_in unit amount =
 abbrev pub usage_error_at : ℕ → Expected → UsageError
 usage_error_at at what = record { index = at; expected = what }
 
--- If the first words are valid, the others follow; otherwise the first error remains.
+-- If the first words are valid, this is the result of the others, or else the first error.
 abbrev pub and_then : {X Y : Type 0} → Result X UsageError → (X → Result Y UsageError) → Result Y UsageError
 and_then (Ok x) more = more x
 and_then (Err usage_error) more = Err usage_error
@@ -293,7 +300,7 @@ place_at meanings words at =
 abbrev pub expected_verb : ℕ → Expected
 expected_verb at = if at == 0 then expected.Start else expected.Verb
 
--- The other verbs have these requests.
+-- The request of `start`, `end`, `on-or-after`, `on-or-before`, `at` or `keep`.
 abbrev pub further_request_at : Option LocalAndOffset → Meanings → List (List ℕ) → ℕ → List ℕ → Result Request UsageError
 further_request_at now meanings words at word =
     if bytes_eq word (codes "start") then start_at words (at + 1) else
@@ -304,6 +311,7 @@ further_request_at now meanings words at word =
     if bytes_eq word (codes "keep") then and_then (bounds_at now meanings words (at + 1)) (λ bounds. Ok (Keep bounds)) else
     Err (usage_error_at at (expected_verb at))
 
+-- The request whose verb is the word at the index.
 abbrev pub request_at : Option LocalAndOffset → Meanings → List (List ℕ) → ℕ → Result Request UsageError
 request_at now meanings words at =
     and_then (word_as words at Some (expected_verb at)) (λ word.
@@ -321,6 +329,7 @@ abbrev pub date_in : DateOrMoment → Option ℕ
 date_in (dated.Date form n) = Some n
 date_in (dated.Moment form m) = None
 
+-- The date in the word at the index.
 abbrev pub date_at : Option LocalAndOffset → Meanings → List (List ℕ) → ℕ → Result ℕ UsageError
 date_at now meanings words at = and_then (word_as words at (found_in now meanings) expected.Date) (λ found. ok_or (date_in found) (usage_error_at at expected.Date))
 
@@ -353,10 +362,12 @@ pace_of words =
     if option_map_or is_rule_like (slice_get words 6) false then and_then (only_at words 6 rule_of expected.Rule) (λ rule. Ok (Rule rule)) else
     steps_of words)
 
+-- The command for a list from one day to another with this pace.
 abbrev pub paced : ℕ → ℕ → Pace → Command
 paced a b (Steps step) = Dates (record { first = a; last = b; step = step })
 paced a b (Rule recurrence) = Recurring (record { first = a; last = b; recurrence = recurrence })
 
+-- `list from A to B`, with a pace or without one
 abbrev pub list_of : Option LocalAndOffset → Meanings → List (List ℕ) → Result Command UsageError
 list_of now meanings words =
     and_then (word_as words 1 (keyword (codes "from")) expected.From) (λ from_word.
@@ -366,6 +377,7 @@ list_of now meanings words =
     and_then (pace_of words) (λ pace. Ok (paced first last pace))))))
 
 -- ---- the options before a request, in any order, each at most once
+-- The options if the arguments have none.
 abbrev pub no_options : Options
 no_options = record { on_invalid = None; fields = None; name = None; append = None; header = false; csv = false; separator = None; skip = None; readers = []; offset = None; zone = None; policy = None }
 
@@ -404,7 +416,8 @@ abbrev pub is_name : List ℕ → Bool
 is_name [] = false
 is_name (byte ∷ bytes) = not (is_digit byte) && (not (byte == 43) && not (byte == 45))
 
--- The field of a name has the number 1 until the header gives it its own.
+-- The options with these fields, or with this name of a field. The name has the number 1 until the
+-- header gives it its own.
 abbrev pub with_field : Options → List ℕ → Option Options
 with_field options value =
     if is_name value then Some (record options { fields = Some (record { first = 1; joined = 0 }); name = Some value }) else
@@ -516,6 +529,7 @@ options_after meanings (Ended options) at words = Ok (options, at)
 options_after meanings (Invalid what) at words = Err (usage_error_at at what)
 
 -- ---- the whole: `--help`, `--version`, a list, or a request, perhaps after options
+-- The word asks for the help page.
 abbrev pub asks_for_help : List ℕ → Bool
 asks_for_help word = bytes_eq word (codes "--help") || bytes_eq word (codes "-h") || bytes_eq word (codes "help")
 
@@ -557,7 +571,8 @@ abbrev pub any_own : List Reader → Bool
 any_own [] = false
 any_own (form ∷ forms) = has_own form || any_own forms
 
--- A zone requires forms without an offset only, and no offset.
+-- The requirement of `--zone` that the options don't meet: no `--assume`, and only forms without an
+-- offset.
 abbrev pub conflict_with_zone : Options → Option Expected
 conflict_with_zone options =
     if is_some options.offset then Some expected.OffsetOrZone else
@@ -565,8 +580,8 @@ conflict_with_zone options =
     None
 
 -- The option that is missing: `--separator`, `--csv` and `--append` require `--field`, and a form
--- without an offset and `--assume` require each other. A quote separates no fields of a record. A name of a
--- field requires `--header`.
+-- without an offset and `--assume` require each other. A quote separates no fields of a record. A
+-- name of a field requires `--header`.
 abbrev pub conflict_in : Options → Option Expected
 conflict_in options =
     if is_some options.separator && is_none options.fields then Some expected.Field else
@@ -594,6 +609,7 @@ skip_in options = if options.header then max 1 (unwrap_or options.skip 0) else u
 abbrev pub clock_of : Option Timeline → Option Policy → Option Clock
 clock_of zone chosen = option_map (λ z. record { zone = z; policy = unwrap_or chosen policy.Compatible }) zone
 
+-- The filter of these options and this request.
 abbrev pub filter_of : Options → Request → Filter
 filter_of options request = record {
   request = request;
@@ -625,23 +641,25 @@ filter_at now meanings words at =
 abbrev pub named_field : Filter → Option Field
 named_field filter = if is_some filter.name then filter.field else None
 
+-- The command for the lines of the input, or for the text after `--date`.
 abbrev pub lines_command : Filter → Command
 lines_command filter = option_map_or (λ field. Named filter field) (named_field filter) (Lines filter)
 
 abbrev pub once_command : Filter → Command
 once_command filter = option_map_or (λ field. NamedOnce filter field) (named_field filter) (Once filter)
 
--- `--date TEXT`, and the options and the request
+-- The text after `--date`, which isn't empty.
 abbrev pub some_text : List ℕ → Option (List ℕ)
 some_text word = if bytes_eq word [] then None else Some word
 
+-- `--date TEXT`, and the options and the request
 abbrev pub once_of : Option ℤ → Meanings → List (List ℕ) → Result Command UsageError
 once_of now meanings words =
     and_then (word_as words 1 some_text expected.Target) (λ text.
     and_then (filter_at now meanings words 2) (λ filter. Ok (once_command filter)))
 
--- A single empty argument counts as no arguments. `now` is when the program started, at UTC, if the
--- clock was read.
+-- The command that the arguments give, or the first invalid word. A single empty argument counts as
+-- no arguments. `now` is the date-time at UTC at which the program started, if the clock was read.
 abbrev pub parse_args : Option ℤ → Meanings → List (List ℕ) → Result Command UsageError
 parse_args now meanings words =
     and_then (word_as words 0 Some expected.Something) (λ first.

@@ -10,8 +10,9 @@ capacity = 65536
 abbrev pub longest_text : ℕ
 longest_text = 4096
 
--- The maximum length of an answer, and of an answer as a new field: a separator, two quotes, and each
--- byte doubled. Before an answer is written after a line, there is room for both and for its text.
+-- The maximum length of an answer, and of an answer as a new field: a separator, two quotes, and
+-- each byte doubled. Before an answer is written after a line, there is room for both and for its
+-- text.
 abbrev pub longest_answer : ℕ
 longest_answer = 1000
 

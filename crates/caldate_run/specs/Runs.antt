@@ -16,7 +16,7 @@ use Rattle.caldate_run.specs.declared.request.Filter.{Filter}
 use Rattle.caldate_run.specs.declared.run.tally.Tally.{Tally}
 use Rattle.caldate_run.specs.declared.run.unanswered.UnansweredLine.{UnansweredLine}
 
--- The new bytes are the old ones and such words.
+-- The new bytes are the old ones, and then words with this property.
 abbrev pub AppendsSome : (List ℕ → Type 0) → List ℕ → List ℕ → Type 0
 AppendsSome IsOne old new = (words : List ℕ) × (new ≡ old ++ words) × IsOne words
 
@@ -116,7 +116,7 @@ pub record ReadsLines (old new : Option (List ℕ)) (Holds : List (List ℕ) →
   pub given : Consumes old new input
   pub holds : Holds (ended_lines input) (unended input) ⊎ IsAtEnd new × Holds (lines_of input) []
 
--- All lines of the input got their replies, and have such a tally.
+-- All lines of the input got their replies, and their tally has this property.
 abbrev pub AnswersInput : Filter → (Tally → Type 0) → Option (List ℕ) → Option (List ℕ) → Option (List ℕ) → Option (List ℕ) → Type 0
 AnswersInput filter Has r0 r w0 w =
     IsAtEnd r × Gives r0 r (λ input. (tally : Tally) × Has tally × AnswersAll filter (lines_of input) tally w0 w)
@@ -129,7 +129,7 @@ IsRunResult filter (Err (Write kind)) r0 r w0 w = ReadsLines r0 r (λ lines rest
 IsRunResult filter (Err Read) r0 r w0 w = Gives r0 r (λ input. AnswersEnded filter input w0 w)
 IsRunResult filter (Err (Stopped reported)) r0 r w0 w = ReadsLines r0 r (λ lines rest. StopsAt filter reported lines w0 w)
 
--- All lines of the input got their replies.
+-- With this outcome, all lines of the input got their replies.
 abbrev pub IsComplete : Result Unit RunError → Type 0
 IsComplete (Ok done) = ⊤
 IsComplete (Err (Unanswered reported)) = ⊤

@@ -7,24 +7,27 @@ use Rattle.caldate_run.specs.declared.reading.spelling.Spelling.TheVariants.{Iso
 abbrev pub with_point : List ℕ → List ℕ
 with_point text = take 19 text ++ (if slice_index text 19 == 44 then codes "." else take 1 (drop 19 text)) ++ drop 20 text
 
--- An offset such as +0100 gets its colon, and one such as +01 its minutes.
+-- A plus sign or a minus sign.
 abbrev pub is_sign : ℕ → Bool
 is_sign byte = byte == 43 || byte == 45
 
+-- An offset such as +0100 gets its colon, and an offset such as +01 its minutes.
 abbrev pub with_colon : List ℕ → List ℕ
 with_colon text =
     if is_sign (slice_index text (length text - 5)) then take (length text - 2) text ++ codes ":" ++ drop (length text - 2) text
     else text ++ (if is_sign (slice_index text (length text - 3)) then codes ":00" else [])
 
--- A moment has at least 20 bytes.
+-- The moment of ISO 8601 in RFC 3339. A text of fewer than 20 bytes is not a moment, and stays as
+-- it is.
 abbrev pub iso_text : List ℕ → List ℕ
 iso_text text = if nat_lt (length text) 20 then text else with_colon (with_point text)
 
--- Seconds since 1970 get an @ (64).
+-- The text begins with an @ (64).
 abbrev pub begins_with_at : List ℕ → Bool
 begins_with_at [] = false
 begins_with_at (byte ∷ bytes) = byte == 64
 
+-- Seconds since 1970 get an @, unless they have one.
 abbrev pub unix_text : List ℕ → List ℕ
 unix_text text = if begins_with_at text then text else codes "@" ++ text
 

@@ -2,8 +2,8 @@
 use Rattle.std.specs.Prelude.{◌≡◌, ◌↔◌, ◌==◌, ◌||◌, ℕ, ◌≤◌, nat_le, ◌&&◌, Bool, true, List, [], ◌∷◌, length, take, if◌then◌else◌}
 use Rattle.cal_text.specs.Position.{Begins}
 
--- `d` is a digit, `n` a digit except 0, `T` the mark between date and time, and any other byte
--- itself.
+-- The byte fits the place of a template: `d` is a digit, `n` a digit except 0, `T` the byte between
+-- date and time, and any other byte itself.
 abbrev pub stands_at : ℕ → ℕ → Bool
 stands_at place byte =
     if place == 100 then nat_le 48 byte && nat_le byte 57

@@ -1,4 +1,4 @@
--- The message for arguments that make no sense: the error and the expected words.
+-- The message for invalid arguments: the error and the expected words.
 use Rattle.std.specs.Prelude.{ℕ, ◌-◌, ◌==◌, ◌&&◌, ◌||◌, Bool, true, false, not, is_some, position, List, [], ◌∷◌, ◌++◌, Result, Ok, Err, codes, slice_get, if◌then◌else◌}
 use Rattle.std.specs.Option.{option_map_or}
 use Rattle.cal_recurrence.specs.FaultText.{fault_text}
@@ -17,7 +17,7 @@ use Rattle.caldate_run.specs.declared.args.usage_error.Expected.{Expected}
 use Rattle.caldate_run.specs.declared.args.usage_error.Expected.TheVariants as expected
 use Rattle.caldate_run.specs.declared.zones.read_zone_error.ReadZoneError.{ReadZoneError}
 
--- the error, without the word
+-- The error, without the word.
 abbrev pub error_phrase : Expected → List ℕ
 error_phrase expected.Something = codes "missing command; try 'caldate --help'"
 error_phrase expected.Start = codes "unknown command"
@@ -58,7 +58,7 @@ error_phrase expected.Rule = codes "invalid rule"
 error_phrase expected.UnitOfDays = codes "invalid unit"
 error_phrase what = codes "unexpected argument"
 
--- the name of a missing argument
+-- The name of a missing argument.
 abbrev pub missing_noun : Expected → List ℕ
 missing_noun expected.Start = codes "command"
 missing_noun expected.Verb = codes "command"
@@ -89,7 +89,7 @@ missing_noun expected.Rule = codes "rule"
 missing_noun expected.UnitOfDays = codes "unit"
 missing_noun what = codes "argument"
 
--- the expected words, if the message needs them
+-- The expected words, if the message needs them.
 abbrev pub expected_phrase : Expected → List ℕ
 expected_phrase expected.Start = codes "; expected to, add, next, last, until, since, start, end, on-or-after, on-or-before, at, keep, list, --date, --invalid, --field, --append, --csv, --header, --separator, --skip, --read, --assume, --zone, --ambiguous, --help or --version"
 expected_phrase expected.Verb = codes "; expected to, add, next, last, until, since, start, end, on-or-after, on-or-before, at, keep or another option"
@@ -120,7 +120,8 @@ expected_phrase expected.Many = codes "; expected an integer from 1 to 429496729
 expected_phrase expected.UnitOfDays = codes "; expected days, weeks, months or years"
 expected_phrase what = []
 
--- the message names the word, or says that it is missing, unless nothing is asked for or an option requires another one
+-- The message names the word, or says that it is missing, unless there are no arguments or an
+-- option requires another one.
 abbrev pub names_word : Expected → Bool
 names_word expected.Something = false
 names_word expected.Field = false
@@ -136,15 +137,16 @@ names_word expected.LocalOnly = false
 names_word expected.Local = false
 names_word what = true
 
--- after other options, an option is wrong only if it is a duplicate
+-- After other options, an option is wrong only if it is a duplicate.
 abbrev pub is_duplicate : Expected → List ℕ → Bool
 is_duplicate expected.Verb word = is_option word
 is_duplicate what word = false
 
+-- An excerpt of a word, in quotes.
 abbrev pub quoted : List ℕ → List ℕ
 quoted word = codes "'" ++ excerpt_of word ++ codes "'"
 
--- the error in the text of a rule
+-- The error in the text of a rule.
 abbrev pub rule_error : Result Recurrence ParseRuleError → List ℕ
 rule_error (Ok recurrence) = []
 rule_error (Err error) = codes ": " ++ fault_text error
@@ -153,7 +155,7 @@ abbrev pub rule_error_in : Expected → List ℕ → List ℕ
 rule_error_in expected.Rule word = rule_error (recurrence_of word)
 rule_error_in what word = []
 
--- the file of a zone, and why it can't be read or is not a zone
+-- The file of a zone, and the reason why it can't be read or is not a zone.
 abbrev pub zone_error : List ℕ → List ℕ → Result Timeline ReadZoneError → List ℕ
 zone_error folder name (Ok zone) = []
 zone_error folder name (Err error) = codes ": " ++ excerpt_of folder ++ codes "/" ++ excerpt_of name ++ codes ": " ++ fault_words error
@@ -163,37 +165,40 @@ zone_error_in meanings folder expected.Zone word =
     if is_zone_name (name_in word) then zone_error folder (name_in word) (meanings (name_in word)).zone else codes "; expected one such as Europe/Berlin"
 zone_error_in meanings folder what word = []
 
--- the word has a dot or a slash, and does not begin with a digit
+-- The word has a dot or a slash, and doesn't begin with a digit.
 abbrev pub is_file_like : List ℕ → Bool
 is_file_like [] = false
 is_file_like (byte ∷ bytes) =
     not (is_digit byte) && (is_some (position (λ b. b == 46) (byte ∷ bytes)) || is_some (position (λ b. b == 47) (byte ∷ bytes)))
 
+-- A hint if a word too many looks like a file.
 abbrev pub file_hint : Expected → List ℕ → List ℕ
 file_hint expected.End word = if is_file_like word then codes "; to read a file, write '<' before its name" else []
 file_hint what word = []
 
--- the message on a word: `unknown unit 'fortnights'; expected ..`, `duplicate --field`
+-- The message on a word: `unknown unit 'fortnights'; expected ..`, or `duplicate --field`.
 abbrev pub on_word : Meanings → List ℕ → Expected → List ℕ → List ℕ
 on_word meanings folder what word =
     if is_duplicate what word then codes "duplicate " ++ excerpt_of word else
     error_phrase what ++ codes " " ++ quoted word ++ expected_phrase what ++ rule_error_in what word ++ zone_error_in meanings folder what word
     ++ file_hint what word
 
--- the word before an index: the index 0 has none
+-- The word before an index, or nothing for the index 0.
 abbrev pub after_word : List (List ℕ) → ℕ → List ℕ
 after_word words at = if at == 0 then [] else option_map_or (λ word. codes " after " ++ quoted word) (slice_get words (at - 1)) []
 
--- the message on a missing word: `missing number after 'add'; expected ..`
+-- The message on a missing word: `missing number after 'add'; expected ..`.
 abbrev pub on_missing : List (List ℕ) → UsageError → List ℕ
 on_missing words usage_error =
     codes "missing " ++ missing_noun usage_error.expected ++ after_word words usage_error.index ++ expected_phrase usage_error.expected
 
+-- The message on the first invalid or missing word.
 abbrev pub problem : Meanings → List ℕ → List (List ℕ) → UsageError → List ℕ
 problem meanings folder words usage_error =
     if names_word usage_error.expected
     then option_map_or (on_word meanings folder usage_error.expected) (slice_get words usage_error.index) (on_missing words usage_error)
     else error_phrase usage_error.expected
 
+-- The line on standard error.
 abbrev pub usage_message : Meanings → List ℕ → List (List ℕ) → UsageError → List ℕ
 usage_message meanings folder words usage_error = codes "caldate: " ++ problem meanings folder words usage_error ++ 10 ∷ []

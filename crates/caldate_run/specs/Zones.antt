@@ -15,6 +15,7 @@ use Rattle.caldate_run.specs.declared.zones.ZoneFile.{ZoneFile}
 use Rattle.caldate_run.specs.declared.zones.ZoneFiles.{ZoneFiles}
 
 -- ---- names
+-- A letter of ASCII.
 abbrev pub is_letter : ℕ → Bool
 is_letter byte = (nat_le 65 byte && nat_le byte 90) || (nat_le 97 byte && nat_le byte 122)
 
@@ -27,7 +28,7 @@ abbrev pub is_zone_name : List ℕ → Bool
 is_zone_name [] = false
 is_zone_name (byte ∷ bytes) = is_letter byte && is_none (position (λ b. not (is_name_byte b)) (byte ∷ bytes))
 
--- A word is read as a name unless it is an offset, as `Z` is.
+-- A word is read as the name of a zone if it can be one and isn't an offset, such as `Z`.
 abbrev pub is_zone_like : List ℕ → Bool
 is_zone_like word = is_zone_name word && is_none (offset_of word)
 
@@ -36,10 +37,12 @@ abbrev pub name_in : List ℕ → List ℕ
 name_in word = option_map_or (λ at. drop (at + 1) word) (position (λ b. b == 61) word) word
 
 -- ---- files
+-- The file is there, and has this name.
 abbrev pub has_name : List ℕ → Option ZoneFile → Bool
 has_name name None = false
 has_name name (Some file) = bytes_eq file.name.now name
 
+-- The first of the files with this name.
 abbrev pub file_named : ZoneFiles → List ℕ → Option ZoneFile
 file_named files name =
     if has_name name files.first then files.first else
@@ -53,6 +56,7 @@ IsZoneIn (Ok bytes) (Ok zone) = IsFile bytes.now zone
 IsZoneIn (Ok bytes) (Err (Zone error)) = ((zone : Timeline) → ¬ IsFile bytes.now zone) × IsFileError bytes.now error
 IsZoneIn (Ok bytes) (Err other) = ⊥
 
+-- The same for a file that may be missing.
 abbrev pub IsZoneOf : Option ZoneFile → Result Timeline ReadZoneError → Type 0
 IsZoneOf None r = r ≡ Err (File NotFound)
 IsZoneOf (Some file) r = IsZoneIn file.contents r
@@ -61,5 +65,6 @@ IsZoneOf (Some file) r = IsZoneIn file.contents r
 abbrev pub AreZones : ZoneFiles → Meanings → Type 0
 AreZones files meanings = (name : List ℕ) → IsZoneOf (file_named files name) (meanings name).zone
 
+-- The zone of a word that is the name of one.
 abbrev pub zone_of : Meanings → List ℕ → Option Timeline
 zone_of meanings word = if is_zone_name word then result_ok (meanings word).zone else None

@@ -197,7 +197,7 @@ pub fn moment_of(found: &DateOrMoment) -> OffsetDateTime
     }
 }
 
-/// Returns the form in which it was read.
+/// Returns the form in which a date or moment was read.
 fn form_read(found: &DateOrMoment) -> Form
     ensures { result ≡ form_read found.now }
 {
@@ -389,7 +389,7 @@ fn push_until(buffer: &mut Buffer, from: &DateOrMoment, to: &DateOrMoment)
     }
 }
 
-/// Returns whether it is a date.
+/// Returns whether `found` is a date.
 pub fn is_date(found: &DateOrMoment) -> bool
     ensures { result ≡ is_date found.now }
 {

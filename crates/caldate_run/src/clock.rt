@@ -2,8 +2,10 @@
 use cal_datetime::{OffsetDateTime, PlainDateTime};
 use std::time::{Clock, SystemTime, UNIX_EPOCH};
 
-/// Reads the clock and returns its date-time at UTC, or `None` if it can't be read or is out of
-/// range.
+/// Reads the clock and returns its date-time at UTC.
+///
+/// Returns `None` if the clock can't be read, or if it shows a time before 1970 or out of range.
+/// The function has no clauses, so callers must accept any date-time and `None`.
 pub fn read_clock<C: Clock>(clock: &C) -> Option<PlainDateTime> {
     let Ok(now) = SystemTime::now(clock) else {
         return None;

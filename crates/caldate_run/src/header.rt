@@ -73,8 +73,8 @@ fn has_name(own: &mut Buffer, field: Field, name: &[u8], part: &[u8]) -> bool
     own.as_bytes() == name
 }
 
-/// Appends the name of a field of a header: its text, or in a CSV record the text between its quotes
-/// with one quote for each doubled one.
+/// Appends the name of a field of a header: its text, or in a CSV record the text between its
+/// quotes with one quote for each doubled one.
 fn push_field_name(own: &mut Buffer, field: Field, part: &[u8])
     requires { HasRoom (length part.now) own.old }
     ensures name { own.new ≡ own.old ++ field_name field part.now }

@@ -1,5 +1,5 @@
-//! Laws: a text has one answer, a line has one reply, a record has its fields, an answer becomes one
-//! field, and all arguments have meanings.
+//! Laws: a text has one answer, a line has one reply, a record has its fields, an answer becomes
+//! one field, and all arguments have meanings.
 ghost use Rattle.std.specs.List.{join_with_byte};
 ghost use Rattle.std.specs.Prelude.{◌≡◌, ◌==◌, ◌<◌, ℕ, List, All, Option, false, length, true};
 ghost use Rattle.caldate_run.specs.Answers.{Answer, IsAnswer};

@@ -1,6 +1,6 @@
-//! What is written for a line without an answer.
+//! The modes of `--invalid`.
 
-/// What is written for a line without an answer.
+/// A mode of `--invalid`: what is written for a line without an answer.
 #[derive(Clone, Copy, Debug, PartialEq, Eq)]
 pub enum OnInvalid {
     /// The line itself.

@@ -107,8 +107,7 @@ pub enum Place<'a> {
     Zone(Zone<'a>),
 }
 
-/// A way to choose one moment if clocks skip a local time or show it twice. The names are those of
-/// Temporal.
+/// A policy of Temporal: a way to choose one moment if clocks skip a local time or show it twice.
 #[derive(Clone, Copy)]
 pub enum Policy {
     /// The time moved forward by what the clocks skip, or the first of two.
@@ -124,7 +123,9 @@ pub enum Policy {
 /// The clocks of a zone, which give a local time its moment.
 #[derive(Drop)]
 pub struct Clock<'a> {
+    /// The zone of the clocks.
     pub zone: Zone<'a>,
+    /// The policy for a local time that the clocks skip or show twice.
     pub policy: Policy,
 }
 
@@ -139,8 +140,8 @@ pub enum Request<'a> {
     Add(SignedDuration),
     /// The moved day, at the same time of day.
     Move(DayMove),
-    /// `start day`, `start hour`, `start minute` or `start N minutes`: the time of day rounded down to
-    /// a multiple of a number of minutes, from 1 to 1440.
+    /// `start day`, `start hour`, `start minute` or `start N minutes`: the time of day rounded down
+    /// to a multiple of a number of minutes, from 1 to 1440.
     Floor(u16),
     /// `until TEXT [in UNIT]`: the days or the duration to TEXT, or the whole units.
     Until(DateOrMoment, Option<TimeUnit>),
@@ -182,15 +183,16 @@ pub struct Field {
     pub joined: u16,
     /// The byte between two fields.
     pub separator: u8,
-    /// Whether the line is a CSV record: a separator within quotes ends no field.
+    /// `true` if the line is a CSV record (RFC 4180): a separator within quotes ends no field.
     pub csv: bool,
-    /// Whether the answer becomes a new last field, and this field stays.
+    /// `true` if the answer becomes a new last field, and this field stays.
     pub appends: bool,
 }
 
 /// A request with its options.
 #[derive(Drop)]
 pub struct Filter<'a> {
+    /// The request for each line.
     pub request: Request<'a>,
     /// The forms that a line is read in.
     pub readers: Readers,
@@ -198,7 +200,7 @@ pub struct Filter<'a> {
     pub offset: UtcOffset,
     /// The clocks that a text without an offset is read on instead, if a zone is given.
     pub clock: Option<Clock<'a>>,
-    /// What is written for a line without an answer.
+    /// The mode for a line without an answer.
     pub on_invalid: OnInvalid,
     /// The field to answer, or `None` for the whole line.
     pub field: Option<Field>,
@@ -222,22 +224,29 @@ pub enum StepUnit {
 pub struct Step {
     /// The number of days or months.
     pub every: u64,
+    /// Days or months.
     pub unit: StepUnit,
 }
 
 /// A list of dates. Each is counted from the first.
 #[derive(Clone, Copy)]
 pub struct Listing {
+    /// The first date.
     pub first: Date,
+    /// The last date that the list may have.
     pub last: Date,
+    /// The step from one date to the next.
     pub step: Step,
 }
 
 /// A list of the dates of a recurrence that starts on the first date, up to the last.
 #[derive(Drop)]
 pub struct Occurrences {
+    /// The date on which the recurrence starts.
     pub first: Date,
+    /// The last date that the list may have.
     pub last: Date,
+    /// The recurrence of RFC 5545.
     pub recurrence: Recurrence,
 }
 

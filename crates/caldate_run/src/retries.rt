@@ -32,7 +32,7 @@ impl Retries {
         }
     }
 
-    /// Counts a retry and returns true if the call was interrupted and a retry is left.
+    /// Counts a retry and returns `true` if the call was interrupted and a retry is left.
     pub fn allows(&mut self, error: &io::Error) -> bool
         ensures allowed { IsTrue result
             ↔ (error_kind error.now ≡ ErrorKind.Interrupted) × (0 < self.old) }

@@ -40,9 +40,10 @@ const MAX_KEPT: usize = 4097;
 
 /// Answers the lines of the input, in order, up to its end.
 ///
-/// Writes the answers to one read before the next read. Fails with `RunError::Read` or `RunError::Write`,
-/// with `RunError::Stopped` at a line that ends the run, and with `RunError::Unanswered` if the run is
-/// complete but some of its lines have no answer. 2^64 - 1 reads end like a failed read.
+/// Writes the answers to one read before the next read. Fails with `RunError::Read` or
+/// `RunError::Write`, with `RunError::Stopped` at a line that ends the run, and with
+/// `RunError::Unanswered` if the run is complete but some of its lines have no answer. 2^64 - 1
+/// reads end like a failed read.
 pub fn run<R: Source, W: Sink>(
     filter: Filter<'_>,
     reader: &mut R,
@@ -57,8 +58,8 @@ pub fn run<R: Source, W: Sink>(
     answer_input(&filter, &mut input, u64::MAX, reader, writer)
 }
 
-/// Answers the lines of an input of which some bytes were read, up to its end, in at most `most` more
-/// reads.
+/// Answers the lines of an input of which some bytes were read, up to its end, in at most `most`
+/// more reads.
 pub(crate) fn answer_input<R: Source, W: Sink>(
     filter: &Filter<'_>,
     input: &mut Input,

@@ -21,7 +21,7 @@ pub struct ZoneFile<'a> {
     pub contents: Result<&'a [u8], FileError>,
 }
 
-/// Up to two files of zones in a folder.
+/// A folder, and up to two files of zones in it.
 #[derive(Clone, Copy)]
 pub struct ZoneFiles<'a> {
     /// The path of the folder, such as `/usr/share/zoneinfo`.
@@ -31,7 +31,7 @@ pub struct ZoneFiles<'a> {
 }
 
 impl ZoneFiles<'_> {
-    /// Returns no files.
+    /// Creates a value without files.
     pub fn none() -> ZoneFiles<'static> {
         ZoneFiles {
             folder: b"",

@@ -9,7 +9,8 @@ use crate::results::{Duration, DurationResult, NumberResult};
 use crate::status::INVALID_DURATION;
 use crate::values::valid_duration;
 
-/// Adds two durations. Fails if the sum is out of range.
+/// Adds two durations. Fails if the sum is out of range. 1 second plus -2.5 seconds is -1.5
+/// seconds.
 #[unsafe(no_mangle)]
 pub extern "C" fn fots_duration_checked_add(duration: Duration, other: Duration) -> DurationResult
     ensures invalid_duration { ¬ (IsDurationPair duration × IsDurationPair other)
@@ -22,7 +23,7 @@ pub extern "C" fn fots_duration_checked_add(duration: Duration, other: Duration)
     DurationResult::from_option(duration.checked_add(other))
 }
 
-/// Adds two durations. A sum out of range is clamped.
+/// Adds two durations. A sum out of range is clamped. The maximum plus 1 second is the maximum.
 #[unsafe(no_mangle)]
 pub extern "C" fn fots_duration_saturating_add(
     duration: Duration,
@@ -38,7 +39,8 @@ pub extern "C" fn fots_duration_saturating_add(
     DurationResult::ok(duration.saturating_add(other))
 }
 
-/// Subtracts two durations. Fails if the difference is out of range.
+/// Subtracts two durations. Fails if the difference is out of range. 1 second minus 2.5 seconds is
+/// -1.5 seconds.
 #[unsafe(no_mangle)]
 pub extern "C" fn fots_duration_checked_sub(duration: Duration, other: Duration) -> DurationResult
     ensures invalid_duration { ¬ (IsDurationPair duration × IsDurationPair other)
@@ -51,7 +53,8 @@ pub extern "C" fn fots_duration_checked_sub(duration: Duration, other: Duration)
     DurationResult::from_option(duration.checked_sub(other))
 }
 
-/// Subtracts two durations. A difference out of range is clamped.
+/// Subtracts two durations. A difference out of range is clamped. The minimum minus 1 second is the
+/// minimum.
 #[unsafe(no_mangle)]
 pub extern "C" fn fots_duration_saturating_sub(
     duration: Duration,
@@ -67,7 +70,7 @@ pub extern "C" fn fots_duration_saturating_sub(
     DurationResult::ok(duration.saturating_sub(other))
 }
 
-/// Multiplies a duration. Fails if the product is out of range.
+/// Multiplies a duration. Fails if the product is out of range. -1.5 seconds times 2 is -3 seconds.
 #[unsafe(no_mangle)]
 pub extern "C" fn fots_duration_checked_mul(duration: Duration, factor: i32) -> DurationResult
     ensures invalid_duration { ¬ IsDurationPair duration → result ≡ duration_error invalid_duration }
@@ -78,7 +81,8 @@ pub extern "C" fn fots_duration_checked_mul(duration: Duration, factor: i32) -> 
     DurationResult::from_option(duration.checked_mul(factor))
 }
 
-/// Divides a duration, truncating toward zero. Fails for 0, and if the result is out of range.
+/// Divides a duration, truncating toward zero. Fails for 0, and if the result is out of range. -3
+/// seconds divided by 2 is -1.5 seconds.
 #[unsafe(no_mangle)]
 pub extern "C" fn fots_duration_checked_div(duration: Duration, divisor: i32) -> DurationResult
     ensures { need IsDurationPair duration else result ≡ duration_error invalid_duration then
@@ -89,7 +93,8 @@ pub extern "C" fn fots_duration_checked_div(duration: Duration, divisor: i32) ->
     DurationResult::from_option(duration.checked_div(divisor))
 }
 
-/// Negates a duration. Fails for the minimum.
+/// Negates a duration. Fails if the result is out of range, which it is if the seconds are
+/// `i64::MIN`. -1.5 seconds becomes 1.5 seconds.
 #[unsafe(no_mangle)]
 pub extern "C" fn fots_duration_checked_neg(duration: Duration) -> DurationResult
     ensures invalid_duration { ¬ IsDurationPair duration → result ≡ duration_error invalid_duration }
@@ -100,7 +105,7 @@ pub extern "C" fn fots_duration_checked_neg(duration: Duration) -> DurationResul
     DurationResult::from_option(duration.checked_neg())
 }
 
-/// Multiplies a duration. A product out of range is clamped.
+/// Multiplies a duration. A product out of range is clamped. The maximum times -2 is the minimum.
 #[unsafe(no_mangle)]
 pub extern "C" fn fots_duration_saturating_mul(duration: Duration, factor: i32) -> DurationResult
     ensures invalid_duration { ¬ IsDurationPair duration → result ≡ duration_error invalid_duration }
@@ -111,7 +116,8 @@ pub extern "C" fn fots_duration_saturating_mul(duration: Duration, factor: i32) 
     DurationResult::ok(duration.saturating_mul(factor))
 }
 
-/// Returns the magnitude. For the minimum it is the maximum.
+/// Returns the magnitude, clamped to the maximum. For -1.5 seconds it is 1.5 seconds, and for the
+/// minimum the maximum.
 #[unsafe(no_mangle)]
 pub extern "C" fn fots_duration_abs(duration: Duration) -> DurationResult
     ensures invalid_duration { ¬ IsDurationPair duration → result ≡ duration_error invalid_duration }
@@ -122,7 +128,8 @@ pub extern "C" fn fots_duration_abs(duration: Duration) -> DurationResult
     DurationResult::ok(duration.abs())
 }
 
-/// Compares two durations: -1 for less, 0 for equal, 1 for greater.
+/// Compares two durations. Returns -1 for less, 0 for equal, 1 for greater. For -1.5 seconds and 1
+/// second it is -1.
 #[unsafe(no_mangle)]
 pub extern "C" fn fots_duration_compare(duration: Duration, other: Duration) -> NumberResult
     ensures invalid_duration { ¬ (IsDurationPair duration × IsDurationPair other)

@@ -16,9 +16,9 @@ const NO_ITEM: FormatItem = FormatItem { kind: 0, value: 0 };
 #[repr(C)]
 #[derive(Clone, Copy)]
 pub struct FormatItem {
-    /// 0 for a byte, 1 to 3 for a number with zeros, with spaces or without padding, 4 for a name, 5
-    /// for a fraction, 6 for the sign of the offset, 7 for the sign of the Unix time, 8 for the digits
-    /// of a fraction, 9 for the abbreviation of a zone.
+    /// 0 for a byte, 1 to 3 for a number with zeros, with spaces or without padding, 4 for a name,
+    /// 5 for a fraction, 6 for the sign of the offset, 7 for the sign of the Unix time, 8 for the
+    /// digits of a fraction, 9 for the abbreviation of a zone.
     pub kind: u8,
     /// The byte, the component or the name, or 0.
     pub value: u8,

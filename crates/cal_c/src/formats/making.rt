@@ -1,4 +1,7 @@
 //! Formats from texts.
+//!
+//! A call fails at the first byte that is not UTF-8, at a position where no item begins, or for
+//! more than 64 items.
 ghost use Rattle.cal_format.specs.declared.item.Syntax.TheVariants.{Percent, Brackets};
 ghost use Rattle.cal_c.specs.Formats.{IsFormatOf};
 

@@ -1,4 +1,7 @@
 //! Values from texts of a format.
+//!
+//! A call fails for numbers that are not a format, and for a format that doesn't determine such a
+//! value. Otherwise it returns the errors of the parser in `cal_format`.
 ghost use Rattle.std.specs.Prelude.{◌≡◌, List};
 ghost use Rattle.cal_format.specs.declared.item.Item.{Item};
 ghost use Rattle.cal_format.specs.Reading.{DeterminesDate, DeterminesTime, DeterminesOffset, DeterminesDateTime, DeterminesOffsetDateTime};
@@ -103,7 +106,8 @@ fn parse_offset(text: &[u8], format: &OffsetFormat) -> ParseOffsetResult
     result_of!(format.parse(text), offset => ParseOffsetResult::ok(offset), ParseOffsetResult)
 }
 
-/// Parses a date and a time of day in the text of a format. The offset is 0.
+/// Parses a date and a time of day in the text of a format, such as `2024-02-29 23:59` by `%F %R`.
+/// The offset is 0.
 #[unsafe(no_mangle)]
 pub extern "C" fn fots_pair_parse_format(text: &[u8], format: &FormatParts) -> ParseMomentResult
     ensures invalid_format { ¬ IsFormat format.now
@@ -126,7 +130,8 @@ fn parse_pair(text: &[u8], format: &DateTimeFormat) -> ParseMomentResult
     )
 }
 
-/// Parses a date, a time of day and an offset in the text of a format.
+/// Parses a date, a time of day and an offset in the text of a format, such as
+/// `2024-02-29 23:59 +0100` by `%F %R %z`.
 #[unsafe(no_mangle)]
 pub extern "C" fn fots_moment_parse_format(text: &[u8], format: &FormatParts) -> ParseMomentResult
     ensures invalid_format { ¬ IsFormat format.now

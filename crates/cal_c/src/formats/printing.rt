@@ -1,4 +1,8 @@
 //! Values in the text of a format.
+//!
+//! A call fails for an invalid value, for numbers that are not a format, and for a format that
+//! shows something that the value doesn't have. If the buffer is too short for the text, the call
+//! returns the length of the text. After an error the buffer is as before.
 ghost use Rattle.std.specs.Prelude.{◌≡◌, ◌≤◌, List, None, IfSome, length, take};
 ghost use Rattle.cal_time.specs.Time.{IsTime};
 ghost use Rattle.cal_time.specs.UtcOffset.{IsOffset};
@@ -109,7 +113,7 @@ pub extern "C" fn fots_offset_format(
     print_to!(bytes, format.print_offset(offset))
 }
 
-/// Prints a date, a time of day and an offset.
+/// Prints a date, a time of day and an offset, such as `2024-02-29 23:59 +0100` by `%F %R %z`.
 #[unsafe(no_mangle)]
 pub extern "C" fn fots_moment_format(
     moment: Moment,
@@ -129,7 +133,7 @@ pub extern "C" fn fots_moment_format(
     print_to!(bytes, format.print_offset_date_time(moment))
 }
 
-/// Prints a date and a time of day.
+/// Prints a date and a time of day, such as `2024-02-29 23:59` by `%F %R`.
 #[unsafe(no_mangle)]
 pub extern "C" fn fots_pair_format(
     date: i32,

@@ -16,7 +16,8 @@ use crate::status::{INVALID_DURATION, INVALID_MOMENT, OK, RESULT_OUT_OF_RANGE};
 use crate::values::{days_of, nanoseconds_since_midnight, valid_duration};
 use cal_time::Time;
 
-/// Adds a duration and keeps the offset. Fails if the local result is out of range.
+/// Adds a duration and keeps the offset. Fails if the local result is out of range. 2 hours after
+/// 2024-02-29 23:59 +01:00 it is 2024-03-01 1:59 +01:00.
 #[unsafe(no_mangle)]
 pub extern "C" fn fots_moment_checked_add(moment: Moment, duration: Duration) -> MomentResult
     ensures { need IsMoment moment else result ≡ moment_error invalid_moment then
@@ -30,7 +31,8 @@ pub extern "C" fn fots_moment_checked_add(moment: Moment, duration: Duration) ->
     at_later_day(moment, days, time)
 }
 
-/// Subtracts a duration and keeps the offset. Fails if the local result is out of range.
+/// Subtracts a duration and keeps the offset. Fails if the local result is out of range. 2 hours
+/// before 2024-03-01 1:59 +01:00 it is 2024-02-29 23:59 +01:00.
 #[unsafe(no_mangle)]
 pub extern "C" fn fots_moment_checked_sub(moment: Moment, duration: Duration) -> MomentResult
     ensures { need IsMoment moment else result ≡ moment_error invalid_moment then
@@ -64,7 +66,8 @@ fn at_later_day(moment: Moment, days: i64, time: Time) -> MomentResult
     }
 }
 
-/// Adds a duration and keeps the offset. A local result out of range is clamped.
+/// Adds a duration and keeps the offset. A local result out of range is clamped to the first or the
+/// last date and time at the offset.
 #[unsafe(no_mangle)]
 pub extern "C" fn fots_moment_saturating_add(moment: Moment, duration: Duration) -> MomentResult
     ensures invalid_moment { ¬ IsMoment moment → result ≡ moment_error invalid_moment }
@@ -81,7 +84,8 @@ pub extern "C" fn fots_moment_saturating_add(moment: Moment, duration: Duration)
     MomentResult::ok(moment.saturating_add(duration))
 }
 
-/// Subtracts a duration and keeps the offset. A local result out of range is clamped.
+/// Subtracts a duration and keeps the offset. A local result out of range is clamped to the first
+/// or the last date and time at the offset.
 #[unsafe(no_mangle)]
 pub extern "C" fn fots_moment_saturating_sub(moment: Moment, duration: Duration) -> MomentResult
     ensures invalid_moment { ¬ IsMoment moment → result ≡ moment_error invalid_moment }
@@ -98,7 +102,8 @@ pub extern "C" fn fots_moment_saturating_sub(moment: Moment, duration: Duration)
     MomentResult::ok(moment.saturating_sub(duration))
 }
 
-/// Returns the duration from the instant of `other` to this one, negative if `other` is later.
+/// Returns the duration from the instant of `other` to the instant of `moment`, negative if `other`
+/// is later. From 2024-02-29 0:00 +01:00 to 2024-02-29 0:00 at UTC it is 1 hour.
 #[unsafe(no_mangle)]
 pub extern "C" fn fots_moment_duration_since(moment: Moment, other: Moment) -> DurationResult
     ensures invalid_moment { ¬ (IsMoment moment × IsMoment other)
@@ -111,7 +116,8 @@ pub extern "C" fn fots_moment_duration_since(moment: Moment, other: Moment) -> D
     DurationResult::ok(moment - other)
 }
 
-/// Compares two moments by instant: -1 for earlier, 0 for equal, 1 for later.
+/// Compares two moments by instant. Returns -1 for earlier, 0 for equal, 1 for later. For 1:00
+/// +01:00 and 0:00 at UTC on the same date it is 0.
 #[unsafe(no_mangle)]
 pub extern "C" fn fots_moment_compare(moment: Moment, other: Moment) -> NumberResult
     ensures invalid_moment { ¬ (IsMoment moment × IsMoment other) → result ≡ number_error invalid_moment }

@@ -16,7 +16,8 @@ use crate::values::{valid_date, valid_offset, valid_time};
 use cal_datetime::OffsetDateTime;
 use cal_time::UtcOffset;
 
-/// Creates a moment from a local date, a local time of day and an offset.
+/// Creates a moment from a local date, a local time of day and an offset. 2460370, 86399250000000
+/// and 3600 give 2024-02-29 23:59:59.25 +01:00.
 #[unsafe(no_mangle)]
 pub extern "C" fn fots_moment_new(date: i32, time: u64, offset: i32) -> MomentResult
     ensures invalid_date { ¬ IsJulianDay date → result ≡ moment_error invalid_date }
@@ -32,7 +33,8 @@ pub extern "C" fn fots_moment_new(date: i32, time: u64, offset: i32) -> MomentRe
     MomentResult::ok(OffsetDateTime::new_in_offset(date, time, offset))
 }
 
-/// Converts to another offset, at the same instant. Fails if the local result is out of range.
+/// Converts to another offset, at the same instant. Fails if the local result is out of range. At
+/// UTC, 2024-02-29 23:59:59.25 +01:00 is 22:59:59.25.
 #[unsafe(no_mangle)]
 pub extern "C" fn fots_moment_to_offset(moment: Moment, offset: i32) -> MomentResult
     ensures { need IsMoment moment else result ≡ moment_error invalid_moment then
@@ -55,7 +57,8 @@ fn at_offset(moment: OffsetDateTime, offset: UtcOffset) -> MomentResult
     MomentResult::ok(shown)
 }
 
-/// Replaces the offset and keeps the local date and time of day.
+/// Replaces the offset and keeps the local date and time of day. 2024-02-29 23:59 +01:00 at the
+/// offset 0 is 23:59 at UTC, an hour later.
 #[unsafe(no_mangle)]
 pub extern "C" fn fots_moment_replace_offset(moment: Moment, offset: i32) -> MomentResult
     ensures { need IsMoment moment else result ≡ moment_error invalid_moment then

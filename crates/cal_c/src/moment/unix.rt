@@ -15,6 +15,7 @@ use cal_datetime::OffsetDateTime;
 use cal_time::SignedDuration;
 
 /// Creates a moment at UTC from Unix seconds. Returns the error `timestamp` out of range.
+/// 1709247599 is 2024-02-29 22:59:59.
 #[unsafe(no_mangle)]
 pub extern "C" fn fots_moment_from_unix_timestamp(seconds: i64) -> MomentResult
     ensures { IsMomentOrError timestamp_status (unix_epoch +ℤ seconds *ℤ pos second) (pos 0) result }
@@ -24,7 +25,8 @@ pub extern "C" fn fots_moment_from_unix_timestamp(seconds: i64) -> MomentResult
     MomentResult::ok(moment)
 }
 
-/// Creates a moment at UTC from a Unix time. Returns the error `timestamp` out of range.
+/// Creates a moment at UTC from a Unix time. Returns the error `timestamp` out of range. Half a
+/// second is 1970-01-01 0:00:00.5.
 #[unsafe(no_mangle)]
 pub extern "C" fn fots_moment_from_unix_time(duration: Duration) -> MomentResult
     ensures invalid_duration { ¬ IsDurationPair duration → result ≡ moment_error invalid_duration }
@@ -55,7 +57,8 @@ pub extern "C" fn fots_moment_unix_timestamp(moment: Moment) -> Int64Result
     Int64Result::ok(moment.unix_timestamp())
 }
 
-/// Returns the Unix time, exact to the nanosecond.
+/// Returns the Unix time, exact to the nanosecond. Half a second before 1970 it is 0 seconds and
+/// -500000000 nanoseconds.
 #[unsafe(no_mangle)]
 pub extern "C" fn fots_moment_unix_time(moment: Moment) -> DurationResult
     ensures invalid_moment { ¬ IsMoment moment → result ≡ duration_error invalid_moment }

@@ -57,7 +57,8 @@ pub extern "C" fn fots_rule_next_after(rule: &RuleParts<'_>, date: i32) -> DateR
     DateResult::from_option(rule.next_after(date))
 }
 
-/// Returns 1 if a date is a day of the rule, else 0.
+/// Returns 1 if a date is a day of the rule, else 0. For the last Friday of each month and 2460336,
+/// 2024-01-26, it is 1.
 #[unsafe(no_mangle)]
 pub extern "C" fn fots_rule_contains(rule: &RuleParts<'_>, date: i32) -> NumberResult
     ensures error { ¬ IsRule rule.now
@@ -72,7 +73,8 @@ pub extern "C" fn fots_rule_contains(rule: &RuleParts<'_>, date: i32) -> NumberR
 }
 
 /// Writes the days of a rule after a date, in ascending order, as many as fit in the array, and
-/// returns their number. The rest of the array stays as it is.
+/// returns their number. The rest of the array stays as it is. For the last Friday of each month
+/// after 2460336, 2024-01-26, the first two are 2460364 and 2460399.
 #[unsafe(no_mangle)]
 pub extern "C" fn fots_rule_days_after(
     rule: &RuleParts<'_>,

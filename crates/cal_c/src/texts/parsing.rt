@@ -1,4 +1,7 @@
 //! Parsing dates, moments and Unix times.
+//!
+//! A text in another form is an unexpected byte or end at a position. A text that has the form is
+//! the error of its first component out of range.
 ghost use Rattle.std.specs.Prelude.{◌≡◌, ◌+ℤ◌, ℕ};
 ghost use Rattle.cal_time.specs.Date.{IsDate};
 ghost use Rattle.cal_time.specs.Time.{IsTime};
@@ -39,7 +42,8 @@ pub extern "C" fn fots_date_parse(text: &[u8]) -> ParseDateResult
     ParseDateResult::ok(date)
 }
 
-/// Parses the letter J and a Julian day, such as `J2460370`.
+/// Parses the letter J and a Julian day, such as `J2460370`. Returns the error `julian_day` if it
+/// is out of range.
 #[unsafe(no_mangle)]
 pub extern "C" fn fots_julian_day_parse(text: &[u8]) -> ParseDateResult
     ensures value { (n : ℕ) → IsDate n → text.now ≡ julian_text n → result ≡ parsed_date_ok n }
@@ -64,7 +68,8 @@ pub extern "C" fn fots_moment_parse(text: &[u8]) -> ParseMomentResult
     ParseMomentResult::ok(moment)
 }
 
-/// Parses a Unix time, such as `@1709164800.5`, to a date and a time at UTC.
+/// Parses a Unix time, such as `@1709164800.5`, to a date and a time at UTC. Returns the error
+/// `timestamp` if no moment at UTC has this time.
 #[unsafe(no_mangle)]
 pub extern "C" fn fots_unix_parse(text: &[u8]) -> ParseMomentResult
     ensures value { (m : LocalAndOffset) → IsUnixText text.now m → result ≡ parsed_moment_ok m }
@@ -77,7 +82,8 @@ pub extern "C" fn fots_unix_parse(text: &[u8]) -> ParseMomentResult
     ParseMomentResult::ok(moment)
 }
 
-/// Returns the Unix time of a local date and time at an offset.
+/// Returns the Unix time of a local date and time at an offset. For 2024-02-29 0:00:00.5 at UTC it
+/// is 1709164800 seconds and 500000000 nanoseconds.
 #[unsafe(no_mangle)]
 pub extern "C" fn fots_unix_time(date: i32, time: u64, offset: i32) -> DurationResult
     ensures invalid_date { ¬ IsJulianDay date → result ≡ duration_error invalid_date }
@@ -95,6 +101,7 @@ pub extern "C" fn fots_unix_time(date: i32, time: u64, offset: i32) -> DurationR
 }
 
 /// Returns the local date and time of a Unix time at an offset. Fails if they are out of range.
+/// 1709164800 seconds at the offset 3600 are 2024-02-29 1:00.
 #[unsafe(no_mangle)]
 pub extern "C" fn fots_unix_pair(duration: Duration, offset: i32) -> PairResult
     ensures { let local = local_at unix_epoch offset +ℤ nanoseconds_in duration in

@@ -9,7 +9,7 @@ use crate::results::{AdjustedTimeResult, Duration, DurationResult, TimeResult};
 use crate::status::{INVALID_DURATION, INVALID_TIME};
 use crate::values::{valid_duration, valid_time};
 
-/// Adds a duration, modulo a day.
+/// Adds a duration, modulo a day. 23:00 plus 2 hours is 1:00.
 #[unsafe(no_mangle)]
 pub extern "C" fn fots_time_add(time: u64, duration: Duration) -> TimeResult
     ensures { need IsTime time else result ≡ time_error invalid_time then
@@ -21,7 +21,8 @@ pub extern "C" fn fots_time_add(time: u64, duration: Duration) -> TimeResult
     TimeResult::ok(time + duration)
 }
 
-/// Adds a duration. The carry is the days beyond the whole days of the duration.
+/// Adds a duration, modulo a day. The carry, -1, 0 or 1, is the days beyond the whole days of the
+/// duration. 23:00 plus 26 hours is 1:00 two days later, with the carry 1.
 #[unsafe(no_mangle)]
 pub extern "C" fn fots_time_adjusting_add(time: u64, duration: Duration) -> AdjustedTimeResult
     ensures { need IsTime time else result ≡ adjusted_time_error invalid_time then
@@ -37,7 +38,7 @@ pub extern "C" fn fots_time_adjusting_add(time: u64, duration: Duration) -> Adju
     AdjustedTimeResult::ok(adjustment, time)
 }
 
-/// Subtracts a duration, modulo a day.
+/// Subtracts a duration, modulo a day. 1:00 minus 2 hours is 23:00.
 #[unsafe(no_mangle)]
 pub extern "C" fn fots_time_sub(time: u64, duration: Duration) -> TimeResult
     ensures { need IsTime time else result ≡ time_error invalid_time then
@@ -49,7 +50,8 @@ pub extern "C" fn fots_time_sub(time: u64, duration: Duration) -> TimeResult
     TimeResult::ok(time - duration)
 }
 
-/// Subtracts a duration. The carry is the days beyond the whole days of the duration.
+/// Subtracts a duration, modulo a day. The carry, -1, 0 or 1, is the days beyond the whole days of
+/// the duration. 1:00 minus 26 hours is 23:00 two days earlier, with the carry -1.
 #[unsafe(no_mangle)]
 pub extern "C" fn fots_time_adjusting_sub(time: u64, duration: Duration) -> AdjustedTimeResult
     ensures { need IsTime time else result ≡ adjusted_time_error invalid_time then
@@ -65,7 +67,8 @@ pub extern "C" fn fots_time_adjusting_sub(time: u64, duration: Duration) -> Adju
     AdjustedTimeResult::ok(adjustment, time)
 }
 
-/// Returns the duration forward to the other time, from 0 to less than a day.
+/// Returns the duration forward to the other time, from 0 to less than a day. From 23:00 to 1:00 it
+/// is 2 hours.
 #[unsafe(no_mangle)]
 pub extern "C" fn fots_time_duration_until(time: u64, other: u64) -> DurationResult
     ensures invalid_time { ¬ (IsTime time × IsTime other) → result ≡ duration_error invalid_time }
@@ -77,7 +80,8 @@ pub extern "C" fn fots_time_duration_until(time: u64, other: u64) -> DurationRes
     DurationResult::ok(time.duration_until(other))
 }
 
-/// Returns the duration forward from the other time, from 0 to less than a day.
+/// Returns the duration forward from the other time, from 0 to less than a day. From 23:00 to 1:00
+/// it is 2 hours.
 #[unsafe(no_mangle)]
 pub extern "C" fn fots_time_duration_since(time: u64, other: u64) -> DurationResult
     ensures invalid_time { ¬ (IsTime time × IsTime other) → result ≡ duration_error invalid_time }
@@ -89,7 +93,8 @@ pub extern "C" fn fots_time_duration_since(time: u64, other: u64) -> DurationRes
     DurationResult::ok(time.duration_since(other))
 }
 
-/// Returns the duration from `other` to this time on the same day, negative if `other` is later.
+/// Returns the duration from `other` to `time` on the same day, negative if `other` is later. From
+/// 23:00 to 0:00 it is -23 hours.
 #[unsafe(no_mangle)]
 pub extern "C" fn fots_time_difference(time: u64, other: u64) -> DurationResult
     ensures invalid_time { ¬ (IsTime time × IsTime other) → result ≡ duration_error invalid_time }

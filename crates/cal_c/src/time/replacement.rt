@@ -9,7 +9,7 @@ use crate::results::TimeResult;
 use crate::status::INVALID_TIME;
 use crate::values::{saturating_u8, saturating_u16, valid_time};
 
-/// Replaces the hour. Returns the error `hour` above 23.
+/// Replaces the hour. Returns the error `hour` above 23. 3723004005006 with 0 is 123004005006.
 #[unsafe(no_mangle)]
 pub extern "C" fn fots_time_replace_hour(time: u64, hour: u32) -> TimeResult
     ensures { need IsTime time else result ≡ time_error invalid_time then
@@ -20,7 +20,7 @@ pub extern "C" fn fots_time_replace_hour(time: u64, hour: u32) -> TimeResult
     ok_or_error!(TimeResult, time.replace_hour(saturating_u8(hour)))
 }
 
-/// Replaces the minute. Returns the error `minute` above 59.
+/// Replaces the minute. Returns the error `minute` above 59. 3723004005006 with 0 is 3603004005006.
 #[unsafe(no_mangle)]
 pub extern "C" fn fots_time_replace_minute(time: u64, minute: u32) -> TimeResult
     ensures { need IsTime time else result ≡ time_error invalid_time then
@@ -31,7 +31,7 @@ pub extern "C" fn fots_time_replace_minute(time: u64, minute: u32) -> TimeResult
     ok_or_error!(TimeResult, time.replace_minute(saturating_u8(minute)))
 }
 
-/// Replaces the second. Returns the error `second` above 59.
+/// Replaces the second. Returns the error `second` above 59. 3723004005006 with 0 is 3720004005006.
 #[unsafe(no_mangle)]
 pub extern "C" fn fots_time_replace_second(time: u64, second: u32) -> TimeResult
     ensures { need IsTime time else result ≡ time_error invalid_time then
@@ -43,6 +43,7 @@ pub extern "C" fn fots_time_replace_second(time: u64, second: u32) -> TimeResult
 }
 
 /// Sets the fraction of the second in milliseconds. Returns the error `millisecond` above 999.
+/// 3723004005006 with 7 is 3723007000000.
 #[unsafe(no_mangle)]
 pub extern "C" fn fots_time_replace_millisecond(time: u64, millisecond: u32) -> TimeResult
     ensures { need IsTime time else result ≡ time_error invalid_time then
@@ -58,6 +59,7 @@ pub extern "C" fn fots_time_replace_millisecond(time: u64, millisecond: u32) -> 
 }
 
 /// Sets the fraction of the second in microseconds. Returns the error `microsecond` above 999999.
+/// 3723004005006 with 7 is 3723000007000.
 #[unsafe(no_mangle)]
 pub extern "C" fn fots_time_replace_microsecond(time: u64, microsecond: u32) -> TimeResult
     ensures { need IsTime time else result ≡ time_error invalid_time then
@@ -70,6 +72,7 @@ pub extern "C" fn fots_time_replace_microsecond(time: u64, microsecond: u32) -> 
 }
 
 /// Sets the fraction of the second in nanoseconds. Returns the error `nanosecond` above 999999999.
+/// 3723004005006 with 7 is 3723000000007.
 #[unsafe(no_mangle)]
 pub extern "C" fn fots_time_replace_nanosecond(time: u64, nanosecond: u32) -> TimeResult
     ensures { need IsTime time else result ≡ time_error invalid_time then

@@ -13,14 +13,17 @@ const NO_RULE: u32 = 1;
 /// The mark of a zone whose last changes are those of a rule.
 const RULE: u32 = 2;
 
-/// How clocks are set.
+/// A local time type: how clocks are set.
 #[repr(C)]
 #[derive(Clone, Copy, Default)]
 pub struct ZoneClock {
+    /// The seconds by which clocks are ahead of UTC.
     pub offset: i32,
     /// 1 for daylight saving time, else 0.
     pub is_daylight: u32,
+    /// The position of the abbreviation in the bytes of the zone.
     pub name_start: usize,
+    /// The position where the abbreviation ends, unless a zero byte ends it before.
     pub name_end: usize,
 }
 
@@ -30,14 +33,16 @@ pub struct ZoneClock {
 pub struct ZoneYearly {
     /// The index of the month, from 0.
     pub month: u8,
+    /// 1 to 4 for the first to the fourth such weekday of the month, 5 for the last.
     pub week: u8,
     /// The index of the weekday, from 0 for Monday.
     pub weekday: u8,
+    /// The seconds from midnight to the change, by the clocks before it, from -604800 to 604800.
     pub time: i32,
     pub clock: ZoneClock,
 }
 
-/// What a call found in the bytes of a zone.
+/// The parts of a zone that a call found in its bytes.
 #[repr(C)]
 #[derive(Clone, Copy)]
 pub struct CheckedParts {
@@ -50,7 +55,7 @@ pub struct CheckedParts {
     pub other: ZoneYearly,
 }
 
-/// A zone: its bytes, and what a call found in them.
+/// A zone: its bytes, and the parts that a call found in them.
 #[repr(C)]
 #[derive(Clone, Copy)]
 pub struct CheckedZone<'a> {
@@ -178,7 +183,7 @@ impl CheckedParts {
         Rule::new(self.one.yearly()?, self.other.yearly()?)
     }
 
-    /// Returns the offset at a Unix time if the rule decides it.
+    /// Returns the offset at a Unix time by the rule. `None` says nothing about the offset.
     pub(super) fn offset_by_rule(&self, seconds: i64) -> Option<i32>
         ensures { (bytes : List ℕ) → InOrder (zone_of_parts bytes self.now)
             → IfSome result (λ offset. offset ≡ offset_at (zone_of_parts bytes self.now) seconds) }
@@ -193,8 +198,8 @@ impl CheckedParts {
         }
     }
 
-    /// Returns the one instant at which clocks show a reading if the rule decides it. `None` may also
-    /// say that there is another one.
+    /// Returns the only instant at which clocks show a reading by the rule. `None` says nothing
+    /// about the reading.
     pub(super) fn single_by_rule(&self, reading: i64) -> Option<i64>
         requires { IsMoment reading }
         ensures { (bytes : List ℕ) → InOrder (zone_of_parts bytes self.now) → IfSome result

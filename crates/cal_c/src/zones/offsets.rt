@@ -15,7 +15,8 @@ use crate::zones::results::LocalTypeResult;
 use cal_datetime::OffsetDateTime;
 use cal_zone::UncheckedZone;
 
-/// Returns the offset at a Unix time.
+/// Returns the offset at a Unix time in seconds. In Berlin it is 7200 at 1711846800, 2024-03-31
+/// 1:00 UTC.
 #[unsafe(no_mangle)]
 pub extern "C" fn fots_zone_offset(zone: &CheckedZone<'_>, seconds: i64) -> OffsetResult
     ensures { IsForZone zone.now (λ z. result ≡ offset_ok (offset_at z seconds))
@@ -53,7 +54,8 @@ fn offset_in_zone(zone: &CheckedZone<'_>, seconds: i64) -> OffsetResult
     OffsetResult::ok(offset)
 }
 
-/// Returns how the clocks are set at a Unix time.
+/// Returns how the clocks are set at a Unix time in seconds: the offset, whether it is daylight
+/// saving time, and the abbreviation. In Berlin they are 7200, 1 and `CEST` at 1711846800.
 #[unsafe(no_mangle)]
 pub extern "C" fn fots_zone_local_type(zone: &CheckedZone<'_>, seconds: i64) -> LocalTypeResult
     ensures { IsForZone zone.now (λ z. result ≡ local_type_ok zone.now.bytes.now (kind_at z seconds))
@@ -65,7 +67,7 @@ pub extern "C" fn fots_zone_local_type(zone: &CheckedZone<'_>, seconds: i64) -> 
 }
 
 /// Converts a moment to the time of a zone, at the same instant. Fails if the local result is out
-/// of range.
+/// of range. In Berlin 2024-03-31 1:00 at UTC is 3:00 +02:00.
 #[unsafe(no_mangle)]
 pub extern "C" fn fots_moment_in_zone(moment: Moment, zone: &CheckedZone<'_>) -> MomentResult
     ensures { need IsMoment moment else result ≡ moment_error invalid_moment then

@@ -84,7 +84,8 @@ pub extern "C" fn fots_zone_file_parts(bytes: &[u8]) -> PartsResult
     parts_result(parse_parts(bytes))
 }
 
-/// Checks a POSIX text, like `fots_zone_file_parts`.
+/// Checks a POSIX text, such as `CET-1CEST,M3.5.0,M10.5.0/3`, like `fots_zone_file_parts`. `CET`
+/// has no offset at position 3.
 #[unsafe(no_mangle)]
 pub extern "C" fn fots_zone_posix_parts(text: &[u8]) -> PartsResult
     ensures { IsMade text.now (IsPosix text.now) (IsTextError text.now 0) result }

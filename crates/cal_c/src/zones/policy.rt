@@ -1,4 +1,4 @@
-//! What a reading in a gap or a fold means.
+//! Policies for readings in a gap or a fold.
 ghost use Rattle.std.specs.Prelude.{◌≡◌, MatchOption, Option};
 ghost use Rattle.cal_datetime.specs.OffsetDateTime.{LocalAndOffset};
 ghost use Rattle.cal_c.specs.Zones.{missing_status, moment_or_error, policy_number, rejected_status, IsByPolicy, IsPolicy};
@@ -8,12 +8,16 @@ use crate::status::{REPEATED_TIME, RESULT_OUT_OF_RANGE, SKIPPED_TIME};
 use cal_datetime::OffsetDateTime;
 use cal_zone::Local;
 
-/// A policy of Temporal.
+/// A policy of Temporal: what a reading in a gap or a fold means.
 #[derive(Clone, Copy)]
 pub enum Policy {
+    /// The reading moved forward by the length of the gap, or the earlier moment of a fold.
     Compatible,
+    /// The reading moved back by the length of the gap, or the earlier moment of a fold.
     Earlier,
+    /// The reading moved forward by the length of the gap, or the later moment of a fold.
     Later,
+    /// No moment.
     Reject,
 }
 

@@ -19,8 +19,8 @@ use cal_datetime::OffsetDateTime;
 use cal_format::Format;
 use cal_time::UtcOffset;
 
-/// Prints a moment as the clocks of a zone show it, such as `03:00 CEST` by `%H:%M %Z`. Fails if the
-/// local result is out of range.
+/// Prints a moment as the clocks of a zone show it, such as `03:00 CEST` by `%H:%M %Z`. Fails if
+/// the local result is out of range, or if the abbreviation has more than 15 bytes.
 #[unsafe(no_mangle)]
 pub extern "C" fn fots_moment_format_in_zone(
     moment: Moment,

@@ -26,7 +26,8 @@ use cal_zone::UncheckedZone;
 const EPOCH_DAY: i64 = 365_961_662;
 
 /// Returns the instants at which clocks show a date and a time of day: one, two in a fold, or those
-/// of the policies `earlier` and `later` in a gap.
+/// of the policies `earlier` and `later` in a gap. In Berlin 2024-10-27 2:30 is a fold at
+/// 1729989000 and 1729992600.
 #[unsafe(no_mangle)]
 pub extern "C" fn fots_zone_resolve(zone: &CheckedZone<'_>, date: i32, time: u64) -> LocalResult
     ensures { IsForZone zone.now (λ z. need IsJulianDay date else result ≡ local_error invalid_date then
@@ -58,7 +59,8 @@ fn resolve_by_rule(zone: &CheckedZone<'_>, reading: i64) -> LocalResult
     }
 }
 
-/// Returns the instants at which clocks show a reading. It isn't inlined, since it copies all parts.
+/// Returns the instants at which clocks show a reading. It isn't inlined, since it copies all
+/// parts.
 #[inline(never)]
 fn resolve_reading(zone: &CheckedZone<'_>, reading: i64) -> LocalResult
     requires { zones.IsMoment reading }
@@ -80,7 +82,8 @@ fn reading_seconds(day: u32, time: u64) -> i64
 }
 
 /// Returns the moment that a date and a time of day mean by a policy: 0 for compatible, 1 for
-/// earlier, 2 for later, 3 for reject.
+/// earlier, 2 for later, 3 for reject. Fails if the result is out of range, and by 3 if clocks skip
+/// the time or show it twice. In Berlin 2024-03-31 2:30 is 3:30 +02:00 by 0.
 #[unsafe(no_mangle)]
 pub extern "C" fn fots_zone_moment(
     zone: &CheckedZone<'_>,

@@ -8,12 +8,12 @@ use crate::status::OK;
 use crate::zones::checked_zone::CheckedParts;
 use cal_zone::{Instants, LocalType};
 
-/// What a call found in the bytes of a zone, or their first error.
+/// The parts that a call found in the bytes of a zone, or the first error of the bytes.
 #[repr(C)]
 #[derive(Clone, Copy)]
 pub struct PartsResult {
     pub status: i32,
-    /// The position of the first wrong byte.
+    /// The position of the first wrong byte, from 0, or the length of bytes that end too early.
     pub position: usize,
     pub parts: CheckedParts,
 }

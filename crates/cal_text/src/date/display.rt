@@ -7,20 +7,23 @@ ghost use Rattle.cal_text.specs.DateForms.{ordinal_text, week_text};
 use cal_time::{Date, ShortText};
 use std::fmt;
 
-/// A date that prints as a calendar date, such as `2024-02-29`. A width pads the whole text.
+/// A date that prints as a calendar date of ISO 8601, such as `2024-02-29`. A width pads the whole
+/// text.
 #[derive(Clone, Copy, Debug, PartialEq, Eq)]
 pub struct CalendarText(pub Date);
 
-/// A date that prints as an ordinal date, such as `2024-060`. A width pads the whole text.
+/// A date that prints as an ordinal date of ISO 8601, such as `2024-060`. A width pads the whole
+/// text.
 #[derive(Clone, Copy, Debug, PartialEq, Eq)]
 pub struct OrdinalText(pub Date);
 
-/// A date that prints as a week date, such as `2024-W09-4`. A width pads the whole text.
+/// A date that prints as a week date of ISO 8601, such as `2024-W09-4`. A width pads the whole
+/// text.
 #[derive(Clone, Copy, Debug, PartialEq, Eq)]
 pub struct WeekText(pub Date);
 
 impl CalendarText {
-    /// Returns the text, at most 13 bytes.
+    /// Returns the text, at most 13 bytes. For the last day it is `+999999-12-31`.
     pub fn text(self) -> ShortText
         ensures value { result ≡ text self.0 }
         ensures max_length { length result ≤ 13 }
@@ -30,7 +33,7 @@ impl CalendarText {
 }
 
 impl OrdinalText {
-    /// Returns the text, at most 11 bytes.
+    /// Returns the text, at most 11 bytes. For the last day it is `+999999-365`.
     #[tactic(auto, using(cal_time::proofs::TextLengths::text_lengths))]
     pub fn text(self) -> ShortText
         ensures value { result ≡ ordinal_text self.0 }
@@ -46,7 +49,7 @@ impl OrdinalText {
 }
 
 impl WeekText {
-    /// Returns the text, at most 13 bytes.
+    /// Returns the text, at most 13 bytes. For the last day it is `+999999-W52-5`.
     #[tactic(auto, using(crate::proofs::NumberTexts::week_digits, cal_time::proofs::TextLengths::text_lengths))]
     pub fn text(self) -> ShortText
         ensures value { result ≡ week_text self.0 }

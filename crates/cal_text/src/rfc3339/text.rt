@@ -25,7 +25,7 @@ pub struct Text {
 
 impl Text {
     /// Creates the text of a moment. Returns `None` if RFC 3339 has no text for it: for a year
-    /// outside 0 to 9999, or an offset of 24 hours or more or with seconds, such as `+05:30:15`.
+    /// outside 0 to 9999, or an offset of 24 hours or more or with seconds, such as +05:30:15.
     pub fn new(moment: OffsetDateTime) -> Option<Self>
         ensures value { SomeIff result (HasMomentText moment)
             (record {
@@ -49,7 +49,8 @@ impl Text {
         Some(Text { date, time, offset })
     }
 
-    /// Returns the text, at most 38 bytes.
+    /// Returns the text, at most 38 bytes. For 2024-02-29 8:00 +00:00:00 it is
+    /// `2024-02-29T08:00:00Z`.
     pub fn text(self) -> ShortText
         ensures value { result ≡ rfc3339_text self.date self.time self.offset }
         ensures max_length { length result ≤ 38 }

@@ -18,7 +18,8 @@ pub struct Text {
 }
 
 impl Text {
-    /// Creates the text of a moment.
+    /// Creates the text of a moment at any offset. 2024-02-29 1:00:00.5 +01:00:00 prints
+    /// `@1709164800.5`.
     pub fn new(moment: OffsetDateTime) -> Self
         ensures value { result.since_epoch ≡ unix_nanoseconds (instant moment) }
 
@@ -34,7 +35,7 @@ impl Text {
         }
     }
 
-    /// Returns the text, at most 32 bytes.
+    /// Returns the text, at most 32 bytes. Half a second before 1970 it is `@-0.5`.
     #[tactic(auto, using(crate::proofs::NumberTexts::few_digits))]
     pub fn text(self) -> ShortText
         ensures value { result ≡ unix_text self.since_epoch }

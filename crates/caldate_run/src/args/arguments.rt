@@ -7,7 +7,7 @@ use std::env::{Env, FillError};
 pub const MAX_BYTES: usize = 4096;
 
 /// Writes the arguments to the front of the buffer, with zero bytes between them, and returns their
-/// length, or `None` if they don't fit.
+/// length, or `None` if they don't fit. `add 1 day` takes nine bytes.
 pub fn join<E: Env>(env: &E, buffer: &mut [u8; MAX_BYTES]) -> Option<usize>
     ensures { IfSome result (λ n. n ≤ 4096) }
 {

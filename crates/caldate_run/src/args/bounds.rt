@@ -54,8 +54,9 @@ fn range_at(words: &[u8], at: usize, now: Option<OffsetDateTime>) -> Result<Boun
     Ok(Bounds::FromTo(first, bound_at(words, at + 2, now)?))
 }
 
-/// Returns whether it lies within the bounds, or `None` for a date if a bound is a moment. For
-/// example, `2024-02-29T23:30:00-05:00` is not after 2024-02-29, although at UTC it is 1 March.
+/// Returns whether a date or moment lies within the bounds, or `None` for a date if a bound is a
+/// moment. For example, `2024-02-29T23:30:00-05:00` is not after 2024-02-29, although at UTC it is
+/// 1 March.
 #[inline(always)]
 pub fn lies_in(bounds: &Bounds, found: &DateOrMoment) -> Option<bool>
     ensures { result ≡ lies_in bounds.now found.now }
@@ -66,7 +67,8 @@ pub fn lies_in(bounds: &Bounds, found: &DateOrMoment) -> Option<bool>
     Some(is_within(bounds, found))
 }
 
-/// Returns whether it can be compared with the bounds. A date can't if a bound is a moment.
+/// Returns whether a date or moment can be compared with the bounds. A date can't if a bound is a
+/// moment.
 pub fn is_comparable(bounds: &Bounds, found: &DateOrMoment) -> bool
     ensures { result ≡ is_some (lies_in bounds.now found.now) }
 {
@@ -93,7 +95,8 @@ fn is_within(bounds: &Bounds, found: &DateOrMoment) -> bool
     }
 }
 
-/// Returns whether its local date is before a date, or its instant before a moment.
+/// Returns whether the local date of `found` is before a date bound, or its instant before a moment
+/// bound.
 #[inline(always)]
 fn is_before(found: &DateOrMoment, bound: &DateOrMoment) -> bool
     ensures { result ≡ is_before found.now bound.now }
@@ -104,7 +107,8 @@ fn is_before(found: &DateOrMoment, bound: &DateOrMoment) -> bool
     }
 }
 
-/// Returns whether its local date is after a date, or its instant after a moment.
+/// Returns whether the local date of `found` is after a date bound, or its instant after a moment
+/// bound.
 #[inline(always)]
 fn is_after(found: &DateOrMoment, bound: &DateOrMoment) -> bool
     ensures { result ≡ is_after found.now bound.now }

@@ -26,14 +26,14 @@ fn format_named(word: &[u8]) -> &[u8]
     }
 }
 
-/// Returns whether the word is a format, or the name of one.
+/// Returns whether the word contains a `%`, or is the name of a format.
 fn is_format(word: &[u8]) -> bool
     ensures { result ≡ is_format word.now }
 {
     index_of(b'%', format_named(word)).is_some()
 }
 
-/// Parses a format, or the name of one. A line has no zone, so a format with `%Z` isn't one here.
+/// Parses a format, or the name of one. A line has no zone, so `%Z` is not allowed.
 pub fn format_of(word: &[u8]) -> Option<Format>
     ensures every { (items : List Item) → IsItems (format_named word.now) items
         → result ≡ Some items }
@@ -72,8 +72,8 @@ pub fn to_of(word: &[u8]) -> Option<Request<'static>>
     }
 }
 
-/// Parses the argument of `--read`: the name of a form, or a format that determines a date, a moment
-/// with its offset, or a moment without one.
+/// Parses the argument of `--read`: the name of a form, or a format that determines a date, a
+/// moment with its offset, or a moment without one.
 pub fn reader_of(word: &[u8]) -> Option<Reader>
     ensures { (meanings : Meanings) → IsMeaning meanings word.now
         → result ≡ reader_of meanings word.now }

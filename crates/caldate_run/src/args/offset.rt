@@ -4,7 +4,8 @@ ghost use Rattle.caldate_run.specs.Offsets.{number_at, offset_of, seconds_after}
 
 use cal_time::UtcOffset;
 
-/// Parses `Z`, or a sign and two digits each of the hours and the minutes, such as `-05:30`.
+/// Parses `Z` or `z`, or a sign and two digits each of the hours and the minutes, such as `-05:30`.
+/// The hours are at most 23, and the minutes at most 59.
 pub fn offset_of(word: &[u8]) -> Option<UtcOffset>
     ensures { result ≡ offset_of word.now }
 {

@@ -31,9 +31,9 @@ pub struct Options<'a> {
     pub name: Option<FieldName<'a>>,
     /// The name of `--append NAME`.
     pub append: Option<FieldName<'a>>,
-    /// Whether `--header` is given.
+    /// `true` if `--header` is given.
     pub header: bool,
-    /// Whether `--csv` is given.
+    /// `true` if `--csv` is given.
     pub csv: bool,
     /// The byte C of `--separator C`.
     pub separator: Option<u8>,
@@ -69,7 +69,7 @@ fn no_options() -> Options<'static>
     }
 }
 
-/// The options after one more word.
+/// A result of parsing one more word: the options so far.
 #[derive(Drop)]
 pub enum OptionsAfter<'a> {
     /// The word is part of the options. The next word has this value, if one is given.
@@ -475,7 +475,8 @@ pub fn conflict_in(options: &Options<'_>) -> Option<Expected>
     }
 }
 
-/// Returns what `--zone` lacks: forms without an offset only, and no offset.
+/// Returns the requirement of `--zone` that the options don't meet, if there is one: no `--assume`,
+/// and only forms without an offset.
 fn conflict_with_zone(options: &Options<'_>) -> Option<Expected>
     ensures { result ≡ conflict_with_zone options.now }
 {

@@ -177,7 +177,7 @@ pub fn minutes_of(word: &[u8]) -> Option<u16>
     Some(number as u16)
 }
 
-/// Checks that the word is `minutes`.
+/// Checks that the word is the unit `minutes`. `minute`, `Minutes` and `min` are the same.
 #[tactic(auto, unfolding(crate::specs::Requests::minutes_word))]
 pub fn minutes_word(word: &[u8]) -> Option<()>
     ensures { result ≡ minutes_word word.now }

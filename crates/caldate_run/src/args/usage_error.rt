@@ -104,7 +104,7 @@ pub struct UsageError {
     pub expected: Expected,
 }
 
-/// Creates the error for a word at the index that is not the expected one.
+/// Creates the error for a word at an index that isn't `expected`.
 pub fn usage_error_at(index: usize, expected: Expected) -> UsageError
     ensures { result ≡ usage_error_at index expected }
 {

@@ -1,4 +1,4 @@
-//! The message for arguments that make no sense.
+//! The message for invalid arguments.
 ghost use Rattle.std.specs.Prelude.{◌≡◌, ◌+◌, ◌≤◌, ◌++◌, [], Err, length};
 ghost use Rattle.caldate_run.specs.Calls.{Writes, write_failure};
 ghost use Rattle.caldate_run.specs.UsageMessages.{after_word, usage_message, error_phrase, expected_phrase, file_hint, is_duplicate, is_file_like, missing_noun, names_word, on_missing, on_word, problem, quoted, rule_error, rule_error_in, zone_error, zone_error_in};
@@ -63,8 +63,8 @@ const DATES: &[u8] = b"; expected one such as 2024-02-29, 2024-060, 2024-W09-4, 
 const NUMBERS_AND_RULES: &[u8] =
     b"; expected an integer from 1 to 4294967295 or a rule such as FREQ=MONTHLY;BYDAY=-1FR";
 
-/// Writes the message for arguments that make no sense, in one line, and returns whether the write
-/// failed.
+/// Writes the message for invalid arguments, in one line. Fails with `RunError::Write` if the write
+/// does.
 ///
 /// For example, `caldate: unknown unit 'fortnights'; expected days, weeks, months, years, workdays,
 /// hours, minutes or seconds`.

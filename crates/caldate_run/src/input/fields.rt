@@ -5,8 +5,8 @@ ghost use Rattle.caldate_run.specs.Fields.{HasFirst, IsAfter, fields_of, in_plac
 use crate::request::Field;
 use crate::run::lines::index_of;
 
-/// Returns the fields of the text within their quotes, if the text has them. Without fields, returns
-/// the whole text.
+/// Returns the fields of the text within their quotes, if the text has them. Without fields,
+/// returns the whole text.
 pub fn selected_text(field: Option<Field>, text: &[u8]) -> Option<&[u8]>
     ensures asked { MatchOption result (selected_text field text.now ≡ None)
         (λ asked. selected_text field text.now ≡ Some asked.now) }

@@ -61,8 +61,8 @@ impl Buffer {
         &self.bytes[count..self.filled]
     }
 
-    /// Returns whether there is room for a reply, and for a line of this length with its end and one
-    /// byte more.
+    /// Returns whether there is room for a reply, and for a line of this length with its end and
+    /// one byte more.
     pub fn has_room_for(&self, length: usize) -> bool
         requires { length < capacity }
         ensures { IsTrue result

@@ -48,7 +48,8 @@ pub fn month_first_parts(text: &[u8]) -> Option<[u8; 10]>
     ])
 }
 
-/// Returns whether it is two bytes, a separator, two bytes, the same separator and four bytes.
+/// Returns whether the text is two bytes, a separator, two bytes, the same separator and four
+/// bytes.
 fn is_parted(text: &[u8]) -> bool
     ensures { result ≡ is_parted text.now }
 {

@@ -10,7 +10,8 @@ use std::marker::Model;
 /// A spelling of moments.
 #[derive(Clone, Copy)]
 pub enum Spelling {
-    /// RFC 3339, also with a comma before the fraction, and with an offset such as `+0100` or `+01`.
+    /// RFC 3339, also with a comma before the fraction, and with an offset such as `+0100` or
+    /// `+01`.
     Iso,
     /// Seconds since 1970, also without the `@`.
     Seconds,

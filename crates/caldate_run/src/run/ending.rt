@@ -13,17 +13,17 @@ use crate::run::tally::Tally;
 use crate::run::unanswered::UnansweredLine;
 use crate::streams::Sink;
 
-/// How the program ends.
+/// An end of the program: its status, and the outcome of its words on standard error.
 #[derive(Clone, Copy, Debug, PartialEq, Eq)]
 pub struct Ending {
     /// The status.
     pub status: u8,
-    /// What came of the words on standard error.
+    /// The result of writing the words on standard error.
     pub reported: Result<(), RunError>,
 }
 
-/// Writes why the run failed, and returns the status: 0 if all lines were answered or the output was
-/// closed, 1 if a line has no answer, otherwise 2.
+/// Writes why the run failed, and returns the status: 0 if all lines were answered or the output
+/// was closed, 1 if a line has no answer, otherwise 2.
 pub fn end<W: Sink>(outcome: Result<(), RunError>, writer: &mut W) -> Ending
     ensures reports { ReportsOutcome outcome result (W.contents writer.old) (W.contents writer.new) }
     ensures writes { Writes W.write_gives writer.old (write_failure result.reported) writer.new }
@@ -59,7 +59,7 @@ fn status_of(outcome: &Result<(), RunError>) -> u8
     }
 }
 
-/// Appends what is said of a run.
+/// Appends the words about a run.
 fn push_words(words: &mut Buffer, outcome: &Result<(), RunError>)
     requires { words.old ≡ [] }
     ensures { words.new ≡ end_message outcome.now }

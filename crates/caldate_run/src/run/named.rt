@@ -62,8 +62,8 @@ pub fn run_named<R: Source, W: Sink, E: Sink>(
     }
 }
 
-/// Reads until the input has the end of its first line, has ended, or has more bytes than a line may
-/// have. Returns how many more reads a run may make.
+/// Reads until the input has the end of its first line, has ended, or has more bytes than a line
+/// may have. Returns how many more reads a run may make.
 fn read_header<R: Source>(input: &mut Input, reader: &mut R) -> Result<u64, RunError>
     requires { input.old ≡ [] }
     ensures given { OnOk result (Consumes (R.remaining reader.old) (R.remaining reader.new) input.new) }

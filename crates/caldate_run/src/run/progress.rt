@@ -10,7 +10,7 @@ use crate::run::tally::Tally;
 pub struct Progress {
     /// The lines so far.
     pub tally: Tally,
-    /// Whether the next line is too long, so that its front was dropped.
+    /// `true` if the next line is too long, so that its front was dropped.
     pub is_long: bool,
     /// The front of that line to show, if it is long.
     pub front: Excerpt,

@@ -106,7 +106,8 @@ pub fn push_quote(buffer: &mut Buffer, quoted: bool)
     }
 }
 
-/// Ends a field whose words begin at an index. A field that had no quotes gets both if it needs them.
+/// Ends a field whose words begin at an index. A field that had no quotes gets both if it needs
+/// them.
 pub fn end_field(buffer: &mut Buffer, start: usize, field: Field, quoted: bool)
     requires start { start ≤ length buffer.old }
     requires few { length buffer.old ≤ start + longest_answer }

@@ -19,8 +19,8 @@ use crate::run::progress::Progress;
 use crate::run::record::{LONGEST_ANSWER, end_field, push_in_record, push_quote, push_separated};
 use crate::run::unanswered::UnansweredLine;
 
-/// Appends the reply to a line, whose front may have been dropped because it is too long, and counts
-/// the line. Fails with the reason, and changes nothing, if the run ends at the line.
+/// Appends the reply to a line, whose front may have been dropped because it is too long, and
+/// counts the line. Fails with the reason, and changes nothing, if the run ends at the line.
 // What each line takes is inlined, because a call passes texts and results through memory.
 #[inline(always)]
 pub fn push_reply(

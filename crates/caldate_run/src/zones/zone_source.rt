@@ -15,7 +15,7 @@ use std::{fs, str};
 /// The maximum length of a path, in bytes.
 pub const MAX_PATH_BYTES: usize = 1024;
 
-/// A file of a zone has fewer bytes.
+/// The size of the buffer for the file of a zone, in bytes. The file must have fewer.
 pub const MAX_FILE_BYTES: usize = 8192;
 
 /// The folder, unless the variable `TZDIR` has another one.

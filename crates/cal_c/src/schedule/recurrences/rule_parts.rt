@@ -10,15 +10,17 @@ pub struct RuleWeekday {
     pub weekday: u8,
 }
 
-/// The parts of a rule, with dates as Julian days. An empty array allows every day.
+/// A rule of RFC 5545 in parts, with dates as Julian days. An empty array excludes no day.
 #[repr(C)]
 #[derive(Clone, Copy)]
 pub struct RuleParts<'a> {
     pub start: i32,
+    /// The last date on which the rule can have a day.
     pub until: i32,
     /// 1 for daily, 2 for weekly, 3 for monthly, 4 for yearly.
     pub frequency: u32,
     pub interval: u32,
+    /// The first weekday of a week, from 1 for Monday.
     pub week_start: u32,
     pub months: &'a [u8],
     pub weeks: &'a [i8],
