@@ -3,7 +3,8 @@ ghost use Rattle.std.specs.Prelude.{◌≡◌, IfSome, length};
 
 use cal_datetime::{OffsetDateTime, PlainDateTime};
 use cal_format::{
-    DateFormat, DateTimeFormat, Format, FormatError, OffsetDateTimeFormat, OffsetFormat, ParseError, TimeFormat,
+    DateFormat, DateTimeFormat, Format, FormatError, OffsetDateTimeFormat, OffsetFormat,
+    ParseError, TimeFormat,
 };
 use cal_time::{Date, Time, UtcOffset};
 
@@ -22,7 +23,10 @@ fn create(text: &str) -> Twice<Result<Format, FormatError>>
 fn create_from_description(text: &str) -> Twice<Result<Format, FormatError>>
     ensures { result.0 ≡ result.1 }
 {
-    (Format::from_description(text), Format::from_description(text))
+    (
+        Format::from_description(text),
+        Format::from_description(text),
+    )
 }
 
 fn print_date(format: &Format, date: Date, a: &mut [u8], b: &mut [u8]) -> Twice<Option<usize>>
