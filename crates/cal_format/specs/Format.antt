@@ -1,5 +1,5 @@
 -- How a text spells a format, in one of two syntaxes.
-use Rattle.std.specs.Prelude.{◌≡◌, ◌≢◌, ℕ, ◌+◌, ◌<◌, ◌==◌, List, [], ◌∷◌, ◌++◌, length, drop, nat_lt, if◌then◌else◌}
+use Rattle.std.specs.Prelude.{◌≡◌, ◌≢◌, ℕ, ◌+◌, ◌<◌, ◌≤◌, ◌==◌, List, [], ◌∷◌, ◌++◌, length, drop, nat_lt, if◌then◌else◌}
 use Rattle.cal_format.specs.declared.item.Item.{Item}
 use Rattle.cal_format.specs.declared.item.Item.TheVariants as item
 use Rattle.cal_format.specs.declared.item.Syntax.{Syntax}
@@ -35,8 +35,8 @@ pub data Spells (s : Syntax) : List ℕ → List Item → List ℕ → Type 0 wh
   more : (text : List ℕ) (others : List Item) (rest : List ℕ) → (front s text).items ≢ [] → Spells s (drop (front s text).used text) others rest → Spells s text ((front s text).items ++ others) rest
 
 -- Why a text that begins at `at`, after `had` items, is not a format: after bytes that spell items,
--- the bytes from a position on spell no item; or there are more than 64 items.
+-- at most 64 in all, the bytes from a position on spell no item; or there are more than 64 items.
 abbrev pub IsFaultOf : Syntax → ℕ → ℕ → List ℕ → FormatError → Type 0
 IsFaultOf s at had text (UnknownItem p) =
-    (items : List Item) × (rest : List ℕ) × Spells s text items rest × (rest ≢ []) × ((front s rest).items ≡ []) × (p + length rest ≡ at + length text)
+    (items : List Item) × (rest : List ℕ) × Spells s text items rest × (had + length items ≤ 64) × (rest ≢ []) × ((front s rest).items ≡ []) × (p + length rest ≡ at + length text)
 IsFaultOf s at had text TooLong = (items : List Item) × (rest : List ℕ) × Spells s text items rest × (64 < had + length items)

@@ -1,17 +1,30 @@
-//! Laws of parsing: two values that a format holds never have the same text.
+//! Laws of formats: a text has at most one error as a format, and two values that a format holds
+//! never have the same text.
 ghost use Rattle.std.specs.Prelude.{◌≡◌, ℕ, ℤ, IsTrue};
 ghost use Rattle.cal_time.specs.Date.{IsDate};
 ghost use Rattle.cal_time.specs.Time.{IsTime};
 ghost use Rattle.cal_datetime.specs.DateTime.{IsDateTime, time_at};
+ghost use Rattle.cal_format.specs.declared.item.Syntax.{Syntax};
+ghost use Rattle.cal_format.specs.declared.format.FormatError.{FormatError};
+ghost use Rattle.cal_format.specs.Format.{IsFaultOf};
 ghost use Rattle.cal_format.specs.Moment.{moment_of_date, moment_of_time, moment_of_date_time};
 ghost use Rattle.cal_format.specs.Text.{text_of};
 ghost use Rattle.cal_format.specs.Reading.{holds_time};
 ghost use Rattle.cal_format.specs.Scanning.{AreHeld};
 
 use crate::error::ParseError;
+use crate::format::{Format, FormatError};
 use crate::value_formats::{DateFormat, DateTimeFormat, TimeFormat};
 use cal_datetime::PlainDateTime;
 use cal_time::{Date, Time};
+
+/// States that a text has at most one error as a format, in either syntax.
+pub(crate) fn one_error(text: &str) -> Result<Format, FormatError>
+    ensures { (s : Syntax) (e f : FormatError) → IsFaultOf s 0 0 text.now e
+        → IsFaultOf s 0 0 text.now f → e ≡ f }
+{
+    Format::new(text)
+}
 
 /// States that a text is the text of at most one date that the format holds.
 pub(crate) fn one_date(format: &DateFormat, text: &[u8]) -> Result<Date, ParseError>

@@ -3,7 +3,8 @@ ghost use Rattle.std.specs.Prelude.{◌≡◌, IfSome, length};
 
 use cal_datetime::{OffsetDateTime, PlainDateTime};
 use cal_format::{
-    DateFormat, DateTimeFormat, Format, OffsetDateTimeFormat, OffsetFormat, ParseError, TimeFormat,
+    DateFormat, DateTimeFormat, Format, FormatError, OffsetDateTimeFormat, OffsetFormat,
+    ParseError, TimeFormat,
 };
 use cal_time::{Date, Time, UtcOffset};
 
@@ -12,6 +13,21 @@ type Twice<T> = (T, T);
 
 /// The results of two calls of `parse`, or `None` if the format doesn't determine a value.
 type ParsedTwice<T> = Option<Twice<Result<T, ParseError>>>;
+
+fn create(text: &str) -> Twice<Result<Format, FormatError>>
+    ensures { result.0 ≡ result.1 }
+{
+    (Format::new(text), Format::new(text))
+}
+
+fn create_from_description(text: &str) -> Twice<Result<Format, FormatError>>
+    ensures { result.0 ≡ result.1 }
+{
+    (
+        Format::from_description(text),
+        Format::from_description(text),
+    )
+}
 
 fn print_date(format: &Format, date: Date, a: &mut [u8], b: &mut [u8]) -> Twice<Option<usize>>
     requires { length a.old ≡ length b.old }
