@@ -171,7 +171,7 @@ local_type_ok bytes t = record {
 abbrev pub local_type_error : ℤ → LocalTypeResult
 local_type_error s = record { status = s; offset = no_value; is_daylight = 0; abbreviation = no_position; abbreviation_length = 0 }
 
--- The result is the Unix time of the next or the previous change, or out of range if there is none.
+-- The result is the Unix time of the next or the previous change, or out of range without one.
 pub data IsNextResult (z : Timeline) (seconds : ℤ) (r : Int64Result) : Type 0 where
   change : (c : Change) → IsNextChange z seconds c → r ≡ int64_ok c.at → IsNextResult z seconds r
   none : NoNextChange z seconds → r ≡ int64_error result_out_of_range → IsNextResult z seconds r
