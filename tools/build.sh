@@ -1,6 +1,7 @@
 # Proves and builds a program or the static library. Its caller sets top, the folder of the repository; name, the crate; crate, its folder;
 # program, the file to build, and marker, its marker; make, which is run for a program and lib for the library; look, how to try the program
 # without a proof; and the functions say and fail. The caller has read tools/marker.sh.
+. "$top/tools/jobs.sh"
 
 # Returns whether this library is as `rt ci` proved it, and no source of it has changed since. Other commands of rt leave a stamp beside theirs.
 is_proved_by_ci() (
@@ -8,13 +9,6 @@ is_proved_by_ci() (
     marker=$top/crates/$1/out/$1.built
     [ ! -e "$top/crates/$1/out/rlib/stamp" ] && is_built
 )
-
-# Prints how many jobs a proof gets, by the processors and the memory, at 2 GB for each job.
-# Four jobs take hardly more processor time than one, and half the time.
-jobs_that_fit() {
-    memory=$(awk '/^MemAvailable:/ { print int($2 / 2000000) + 1 }' /proc/meminfo 2>/dev/null)
-    printf '%s\n' 4 "$(nproc 2>/dev/null || echo 1)" "$memory" | sort -n | grep -m 1 .
-}
 
 # Builds over the libraries that `rt ci` proved. They hold statements and no proofs, so the other commands of rt would prove them again: this
 # calls rattle, with the words that rt has for it. Returns 0 if that built it, 1 if the crate is not proved or has an error, and else another
@@ -34,7 +28,7 @@ build_over_ci() (
     for one in $(uses_of "$name"); do
         set -- "$@" --extern "$one=$folder/$one/out/rlib/$one.rlib"
     done
-    set -- --crate-name "$name" --extern "std=$kit/rlibs/std.rlib" -L "dependency=$kit/rlibs" "$@" --links "$name=" --jobs "$(jobs_that_fit)" \
+    set -- --crate-name "$name" --extern "std=$kit/rlibs/std.rlib" -L "dependency=$kit/rlibs" "$@" --links "$name=" --jobs "$(jobs_that_fit 4 2)" \
         --antt-project "$kit/rattle/logic/antt-project.json" --logic-built "$kit/logic_built" --incremental out/incremental_ci \
         --toolchain "$kit/toolchain" --backend llvm
     # A build by rt locks the folder, too.
