@@ -4,8 +4,7 @@ use Rattle.std.specs.List.{list_any}
 use Rattle.cal_time.specs.Date.{last_day, weekday_at}
 use Rattle.cal_time.specs.Occurrences.{days_from, days_back_from}
 
--- A working week has a mark for each weekday, from Monday to Sunday, and the numbers of the
--- holidays.
+-- A working week: a mark for each weekday, from Monday to Sunday, and the numbers of the holidays.
 pub record WorkWeek : Type 0 where
   pub marks : List Bool
   pub holidays : List ℕ
@@ -18,7 +17,7 @@ is_marked w n = slice_index_or w.marks (weekday_at n) false
 unfoldable pub is_holiday : WorkWeek → ℕ → Bool
 is_holiday w n = list_any (λ h. h == n) w.holidays
 
--- Day n is a working day.
+-- Day n is a working day: its weekday is marked, and it is not a holiday.
 unfoldable pub is_workday : WorkWeek → ℕ → Bool
 is_workday w n = is_marked w n && not (is_holiday w n)
 

@@ -85,8 +85,8 @@ impl Rule {
         self.is_position(ahead, back)
     }
 
-    /// Returns the first day of the rule from this day on in its period. If there is none, returns a
-    /// later day to go on with, or `None`.
+    /// Returns the first day of the rule from this day on in its period. If there is none, returns
+    /// a later day to go on with, or `None` if the rule has no day from this day on.
     pub(super) fn find_position(&self, day: Date) -> Result<Date, Option<Date>>
         requires start { self.now.start ≤ day }
         requires until { matches_until self.now.until day ≡ true }
