@@ -6,7 +6,7 @@ use Rattle.cal_time.specs.Date.{last_day, year_at, month_at, weekday_at}
 use Rattle.cal_time.specs.IsoWeekDate.{count_before, is_weekday_of_year}
 use Rattle.cal_time.specs.Occurrences.{days_from, days_back_from, has_weekday}
 
--- Day n is in the month m of the year y and has the weekday w, as a test.
+-- The test for a day n in the month m of the year y that has the weekday w.
 abbrev pub is_weekday_in_month : ℕ → ℤ → ℕ → ℕ → Bool
 is_weekday_in_month w y m n = int_eq (year_at n) y && ((month_at n == m) && (weekday_at n == w))
 

@@ -37,7 +37,7 @@ impl<T> Values<T> {
         &self.items[..self.filled]
     }
 
-    /// Returns `true` if there are no values, as after [`Self::none`].
+    /// Returns `true` if there are no values. A list that [`Self::none`] creates is empty.
     pub fn is_empty(&self) -> bool
         ensures { result ≡ (length self.now == 0) }
     {
