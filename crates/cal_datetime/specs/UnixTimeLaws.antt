@@ -4,8 +4,8 @@ use Rattle.std.proofs.lemmas.Int.{ints}
 use Rattle.std.specs.Int.{int_div_euclid, int_rem_euclid}
 use Rattle.cal_time.specs.SignedDuration.{second}
 
--- If z nanoseconds are q whole seconds or more, but not q + 1, then z in whole seconds, rounded
--- down, is q.
+-- z nanoseconds are q whole seconds, rounded down, if they are q seconds or more and less than q +
+-- 1 seconds.
 pub div_euclid-one : (z q : ℤ) → (q *ℤ pos second) ≤ℤ z → z <ℤ (q *ℤ pos second +ℤ pos second) → int_div_euclid z (pos second) ≡ q
 div_euclid-one (pos a) (pos b) low high = omega (arith, ints)
 div_euclid-one (pos a) (negsuc b) low high = omega (arith, ints)

@@ -70,8 +70,8 @@ is_nth_weekday false n k = is_nth k ((day_of_month_at n + 6) / 7) ((days_in_mont
 unfoldable pub is_week : Weekday → ℕ → ℤ → Bool
 is_week first n k = is_nth_weekday true (fourth_day first n) k
 
--- Day n has the weekday of a part, and its number in the year (`true`) or the month (`false`) if
--- the part has one.
+-- Day n has the weekday of a value of `BYDAY`, and the value's number in the year (`true`) or the
+-- month (`false`) if it has one.
 unfoldable pub matches_by_day : Bool → ℕ → ByDay → Bool
 matches_by_day of_year n (Every w) = weekday_at n == index w
 matches_by_day of_year n (Nth k w) = (weekday_at n == index w) && is_nth_weekday of_year n k

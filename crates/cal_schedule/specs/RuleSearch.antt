@@ -13,7 +13,7 @@ use Rattle.cal_schedule.specs.Rule.{allows, is_occurrence, passes, period_index,
 abbrev pub NoDayBetween : Rule → ℕ → ℕ → Type 0
 NoDayBetween rule m n = (k : ℕ) → m ≤ k → k < n → is_occurrence rule k ≡ false
 
--- The weekday of a part of `BYDAY`, without its number.
+-- The weekday of a value of `BYDAY`, without its number.
 abbrev pub by_day_weekday : ByDay → Weekday
 by_day_weekday (Every w) = w
 by_day_weekday (Nth k w) = w

@@ -33,8 +33,8 @@ workdays_before w n = filter (is_workday w) (days_back_from n)
 abbrev pub workdays_within : WorkWeek → ℕ → ℕ → List ℕ
 workdays_within w m n = filter (is_workday w) (days_from m (n - m))
 
--- The n-th working day after day n, or before it if the number is negative. For 0 it is the first
--- working day from day n on.
+-- The k-th working day after day n, or for -k the k-th before it, if the range has it. For 0 it is
+-- the first working day from day n on.
 abbrev pub nth_workday : WorkWeek → ℤ → ℕ → Option ℕ
 nth_workday w (pos zero) n = slice_get (workdays_from w n) 0
 nth_workday w (pos (suc k)) n = slice_get (workdays_from w (n + 1)) k

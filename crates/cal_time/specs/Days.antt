@@ -1,5 +1,5 @@
--- Laws for callers: the days of the count as days of the calendar, how they follow one another, and
--- their period of 400 years.
+-- Laws for callers: numbered days as days of the calendar, how they follow one another, and their
+-- period of 400 years.
 use Rattle.std.proofs.Common.{◌≡◌, ℕ, zero, suc, ◌+◌, ◌-◌, ◌%◌, ◌<◌, ◌≤◌, ◌↔◌, refl, sym, ap, ◌∙◌, subst, arith, ℤ, pos, ◌+ℤ◌}
 use Rattle.std.proofs.lemmas.Bool.Decides.{nat_tests}
 use Rattle.std.proofs.lemmas.Int.{ints}

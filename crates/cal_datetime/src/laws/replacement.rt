@@ -43,7 +43,8 @@ pub fn own_time(plain: PlainDateTime, moment: OffsetDateTime) -> (PlainDateTime,
     )
 }
 
-/// Replaces the local date-time with the current one, and then the offset with the current one.
+/// Replaces the local date-time with the current one in the first result, and the offset with the
+/// current one in the second.
 pub fn own_clock(moment: OffsetDateTime) -> (OffsetDateTime, OffsetDateTime)
     ensures { result ≡ (moment, moment) }
 {
