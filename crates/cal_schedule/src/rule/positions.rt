@@ -65,7 +65,8 @@ impl Rule {
         count
     }
 
-    /// Returns `true` if these numbers from the start and from the end have a position.
+    /// Returns `true` if an item with these numbers from the start and from the end has a position
+    /// of the rule.
     fn is_position(&self, ahead: u32, back: u32) -> bool
         ensures { result ≡ allows (λ k. is_nth k ahead back) self.now.pattern.set_positions }
     {
