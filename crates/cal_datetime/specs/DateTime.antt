@@ -19,21 +19,23 @@ pub record IsDateTime (z : ℤ) : Type 0 where
 abbrev pub clamped_date_time : ℤ → ℤ
 clamped_date_time z = int_max (pos 0) (int_min z (pos last_date_time))
 
--- The date-time of day n at the time of day t.
+-- The date-time of day n at the time of day t, in nanoseconds since midnight.
 abbrev pub date_time : ℕ → ℕ → ℤ
 date_time n t = pos (n * day + t)
 
--- The day and the time of day of a date-time.
+-- The day of a date-time, counted from the first day of the range.
 unfoldable pub date_at : ℤ → ℕ
 date_at z = unsigned_abs z / day
 
+-- The time of day of a date-time, in nanoseconds since midnight.
 unfoldable pub time_at : ℤ → ℕ
 time_at z = unsigned_abs z % day
 
--- The date-time on another day, and at another time of day.
+-- The date-time on day n at the same time of day.
 abbrev pub with_date : ℤ → ℕ → ℤ
 with_date z n = date_time n (time_at z)
 
+-- The date-time on the same day at the time of day t.
 abbrev pub with_time : ℤ → ℕ → ℤ
 with_time z t = date_time (date_at z) t
 

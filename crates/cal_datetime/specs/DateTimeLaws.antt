@@ -41,7 +41,7 @@ IsDateTime-date_time n t h below = record { not_before = omega (arith, ints); no
 abbrev pub fields_of : ℤ → Inside
 fields_of z = record { date = date_at z; time = time_at z }
 
--- The date-time of two fields has these fields.
+-- The date-time that two fields give has these fields.
 pub fields_of-date_time : (m : Inside) → IsDate m.date × IsTime m.time → fields_of (date_time m.date m.time) ≡ m
 fields_of-date_time m h =
     let dates = date_at-date_time m.date m.time h.1.below_day in

@@ -15,18 +15,20 @@ use Rattle.cal_time.specs.DateText as date
 use Rattle.cal_time.specs.Time as clock
 use Rattle.cal_datetime.specs.DateTime.{last_date_time, date_at, time_at, with_date, with_time}
 
--- A date-time at an offset, with the offset in seconds.
+-- A date-time at an offset: the local date-time, and the offset in seconds ahead of UTC.
 pub record LocalAndOffset : Type 0 where
   pub local : ℤ
   pub offset : ℤ
 
--- The local day; the date-time on another local day, and at another local time of day.
+-- The local day of a date-time at an offset.
 abbrev pub local_date : LocalAndOffset → ℕ
 local_date m = date_at m.local
 
+-- The date-time on the local day n, at the same local time of day and the same offset.
 abbrev pub with_local_date : LocalAndOffset → ℕ → LocalAndOffset
 with_local_date m n = record { local = with_date m.local n; offset = m.offset }
 
+-- The date-time at the local time of day t, on the same local day and at the same offset.
 abbrev pub with_local_time : LocalAndOffset → ℕ → LocalAndOffset
 with_local_time m t = record { local = with_time m.local t; offset = m.offset }
 
@@ -44,7 +46,7 @@ pub record IsInstant (z : ℤ) : Type 0 where
 abbrev pub local_at : ℤ → ℤ → ℤ
 local_at z offset = z +ℤ offset *ℤ pos second
 
--- The number of the day 1970-01-01.
+-- The number of the day 1970-01-01, counted from the first day of the range.
 abbrev pub epoch_day : ℤ
 epoch_day = pos 365_961_662
 
@@ -56,7 +58,7 @@ unix_epoch = epoch_day *ℤ pos day
 abbrev pub unix_nanoseconds : ℤ → ℤ
 unix_nanoseconds z = z -ℤ unix_epoch
 
--- The Unix time in seconds is rounded down.
+-- The Unix time of an instant in seconds, rounded down.
 abbrev pub unix_seconds : ℤ → ℤ
 unix_seconds z = int_div_euclid (unix_nanoseconds z) (pos second)
 

@@ -16,7 +16,7 @@ local_and_offset_of m = record { local = date_time m.date m.time; offset = m.off
 abbrev pub fields_of : LocalAndOffset → Inside
 fields_of m = record { date = date_at m.local; offset = m.offset; time = time_at m.local }
 
--- The date-time of three fields has these fields.
+-- The date-time at an offset that three fields give has these fields.
 pub fields_of-local_and_offset_of : (m : Inside) → IsDate m.date × IsTime m.time × IsOffset m.offset → fields_of (local_and_offset_of m) ≡ m
 fields_of-local_and_offset_of m h =
     let dates = date_at-date_time m.date m.time h.1.below_day in

@@ -18,7 +18,8 @@ pub fn midnight(date: Date) -> PlainDateTime
     PlainDateTime::new(date, Time::MIDNIGHT)
 }
 
-/// Creates a date-time from a date and a time of day, like [`PlainDateTime::new`].
+/// Creates a date-time from a date and a time of day, like [`PlainDateTime::new`]. 2024-02-29 with
+/// 8:30 is 2024-02-29 8:30:00.0.
 pub fn with_time(date: Date, time: Time) -> PlainDateTime
     ensures value { result ≡ date_time date time }
     ensures date { date_at result ≡ date }
@@ -27,8 +28,10 @@ pub fn with_time(date: Date, time: Time) -> PlainDateTime
     PlainDateTime::new(date, time)
 }
 
-/// Creates a date-time from a date, an hour, a minute and a second. Returns the first error that
-/// applies: `hour` above 23, `minute` above 59 or `second` above 59.
+/// Creates a date-time from a date, an hour, a minute and a second. 2024-02-29 with 8, 30 and 15 is
+/// 2024-02-29 8:30:15.0.
+///
+/// Returns the first error that applies: `hour` above 23, `minute` above 59 or `second` above 59.
 pub fn with_hms(
     date: Date,
     hour: u8,
@@ -42,8 +45,10 @@ pub fn with_hms(
     Ok(PlainDateTime::new(date, Time::from_hms(hour, minute, second)?))
 }
 
-/// Creates a date-time from a date, an hour, a minute, a second and a millisecond. Returns the
-/// errors of [`with_hms`] first, then `millisecond` above 999.
+/// Creates a date-time from a date, an hour, a minute, a second and a millisecond. 2024-02-29 with
+/// 8, 30, 15 and 7 is 2024-02-29 8:30:15.007.
+///
+/// Returns the errors of [`with_hms`] first, then `millisecond` above 999.
 pub fn with_hms_milli(
     date: Date,
     hour: u8,
@@ -63,8 +68,10 @@ pub fn with_hms_milli(
     ))
 }
 
-/// Creates a date-time from a date, an hour, a minute, a second and a microsecond. Returns the
-/// errors of [`with_hms`] first, then `microsecond` above 999999.
+/// Creates a date-time from a date, an hour, a minute, a second and a microsecond. 2024-02-29 with
+/// 8, 30, 15 and 7 is 2024-02-29 8:30:15.000007.
+///
+/// Returns the errors of [`with_hms`] first, then `microsecond` above 999999.
 pub fn with_hms_micro(
     date: Date,
     hour: u8,
@@ -84,8 +91,10 @@ pub fn with_hms_micro(
     ))
 }
 
-/// Creates a date-time from a date, an hour, a minute, a second and a nanosecond. Returns the
-/// errors of [`with_hms`] first, then `nanosecond` above 999999999.
+/// Creates a date-time from a date, an hour, a minute, a second and a nanosecond. 2024-02-29 with
+/// 8, 30, 15 and 7 is 2024-02-29 8:30:15.000000007.
+///
+/// Returns the errors of [`with_hms`] first, then `nanosecond` above 999999999.
 pub fn with_hms_nano(
     date: Date,
     hour: u8,

@@ -16,14 +16,14 @@ use std::hash::{DefaultHasher, Hash, Hasher};
 
 pub mod replacement;
 
-/// Returns the first date-time.
+/// Returns the first date-time, -999999-01-01 0:00:00.0. Its number is 0.
 pub fn min_date_time() -> PlainDateTime
     ensures { result ≡ pos 0 }
 {
     PlainDateTime::MIN
 }
 
-/// Returns the last date-time.
+/// Returns the last date-time, 999999-12-31 23:59:59.999999999.
 pub fn max_date_time() -> PlainDateTime
     ensures { result ≡ pos last_date_time }
 {
@@ -54,14 +54,15 @@ pub fn is_before(a: PlainDateTime, b: PlainDateTime) -> bool
     a < b
 }
 
-/// Compares two date-times by their numbers.
+/// Compares two date-times by their numbers, the nanoseconds since the first date-time.
 pub fn order(a: PlainDateTime, b: PlainDateTime) -> Ordering
     ensures { result ≡ int_cmp a b }
 {
     a.cmp(&b)
 }
 
-/// Returns `true` if two date-times have the same instant.
+/// Returns `true` if two date-times have the same instant, such as 2024-02-29 8:00 +01:00:00 and
+/// 2024-02-29 9:00 +02:00:00.
 pub fn is_same_instant(a: OffsetDateTime, b: OffsetDateTime) -> bool
     ensures { IsTrue result ↔ (instant a ≡ instant b) }
 {
@@ -82,8 +83,8 @@ pub fn order_of_instants(a: OffsetDateTime, b: OffsetDateTime) -> Ordering
     a.cmp(&b)
 }
 
-/// Converts to `offset` and back, which gives `moment` again. Only the first conversion can return
-/// `None`.
+/// Converts to `offset` and back, which gives `moment` again. Returns `None` only if the local
+/// date-time at `offset` is out of range.
 pub fn round_trip(moment: OffsetDateTime, offset: UtcOffset) -> Option<OffsetDateTime>
     ensures some { IsSome result ↔ IsDateTime (local_at (instant moment) offset) }
     ensures value { IfSome result (λ back. back ≡ moment) }

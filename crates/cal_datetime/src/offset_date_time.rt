@@ -50,7 +50,8 @@ impl Model for OffsetDateTime {
 }
 
 impl PlainDateTime {
-    /// Creates the date-time at UTC with this date and time.
+    /// Creates the date-time at UTC with this date and time. 2024-02-29 8:00 becomes 2024-02-29
+    /// 8:00 +00:00:00.
     #[tactic(auto, unfolding(crate::specs::OffsetDateTime::instant))]
     pub fn assume_utc(self) -> OffsetDateTime
         ensures value { result ≡ record { local = self; offset = pos 0 } }
@@ -59,7 +60,8 @@ impl PlainDateTime {
         self.assume_offset(UtcOffset::UTC)
     }
 
-    /// Creates the date-time at `offset` with this local date and time.
+    /// Creates the date-time at `offset` with this local date and time. 2024-02-29 8:00 at the
+    /// offset +01:00:00 is the instant 7:00 UTC.
     #[tactic(auto, unfolding(crate::specs::OffsetDateTime::instant))]
     pub fn assume_offset(self, offset: UtcOffset) -> OffsetDateTime
         ensures value { result ≡ record { local = self; offset = offset } }
@@ -75,8 +77,8 @@ impl PlainDateTime {
 }
 
 impl OffsetDateTime {
-    /// Creates a date-time from a local date, a local time of day and an offset. 8:00 at the offset
-    /// +1:00 is the instant 7:00 UTC.
+    /// Creates a date-time from a local date, a local time of day and an offset. 2024-02-29 and
+    /// 8:00 at the offset +01:00:00 are the instant 7:00 UTC.
     #[tactic(auto, using(crate::proofs::DateTimes::parts), unfolding(crate::specs::OffsetDateTime::instant))]
     pub fn new_in_offset(date: Date, time: Time, offset: UtcOffset) -> Self
         ensures value { result ≡ record { local = date_time date time; offset = offset } }
@@ -91,7 +93,8 @@ impl OffsetDateTime {
         Self { date, offset, time }
     }
 
-    /// Creates a date-time from a date and a time of day at UTC.
+    /// Creates a date-time from a date and a time of day at UTC. 2024-02-29 and 8:00 give
+    /// 2024-02-29 8:00 +00:00:00.
     pub fn new_utc(date: Date, time: Time) -> Self
         ensures value { result ≡ record { local = date_time date time; offset = pos 0 } }
         ensures date { date_at result.local ≡ date }
@@ -132,7 +135,8 @@ impl OffsetDateTime {
         self.time
     }
 
-    /// Returns the offset from UTC, positive if the local clock is ahead of UTC.
+    /// Returns the offset from UTC, positive if the local clock is ahead of UTC. For 2024-02-29
+    /// 8:00 +01:00:00 it is +01:00:00.
     pub fn offset(self) -> UtcOffset
         ensures value { result ≡ self.offset }
         ensures range { IsOffset result }
@@ -162,7 +166,7 @@ impl OffsetDateTime {
     }
 
     /// Converts to UTC, at the same instant. Returns `None` if the date-time at UTC is out of
-    /// range.
+    /// range. 2024-02-29 8:00 +01:00:00 converts to 2024-02-29 7:00 +00:00:00.
     pub fn checked_to_utc(self) -> Option<Self>
         ensures value { SomeIff result (IsDateTime (instant self))
             (record { local = instant self; offset = pos 0 }) }
@@ -172,6 +176,7 @@ impl OffsetDateTime {
     }
 
     /// Converts to another offset, at the same instant. The local date-time there must be in range.
+    /// 2024-02-29 8:00 +01:00:00 converts to 2024-02-29 9:00 +02:00:00.
     #[tactic(auto, unfolding(crate::specs::OffsetDateTime::instant))]
     pub fn to_offset(self, offset: UtcOffset) -> Self
         requires { IsDateTime (local_at (instant self) offset) }
@@ -182,7 +187,8 @@ impl OffsetDateTime {
         self.checked_to_offset(offset).unwrap()
     }
 
-    /// Converts to UTC, at the same instant. The date-time at UTC must be in range.
+    /// Converts to UTC, at the same instant. The date-time at UTC must be in range. 2024-02-29 8:00
+    /// +01:00:00 converts to 2024-02-29 7:00 +00:00:00.
     pub fn to_utc(self) -> Self
         requires { IsDateTime (instant self) }
         ensures value { result ≡ record { local = instant self; offset = pos 0 } }

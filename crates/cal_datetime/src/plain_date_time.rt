@@ -15,6 +15,8 @@ mod replacement;
 
 /// A date and a time of day, in nanoseconds, from -999999-01-01 0:00:00.0 to 999999-12-31
 /// 23:59:59.999999999. ISO 8601 calls it a local date and time of day.
+///
+/// Contracts see the nanoseconds since the first date-time.
 #[derive(Clone, Copy)]
 pub struct PlainDateTime {
     date: Date,
@@ -53,7 +55,8 @@ impl PlainDateTime {
         time: Time::MAX,
     };
 
-    /// Creates a date-time from a date and a time of day.
+    /// Creates a date-time from a date and a time of day. 2024-02-29 and 8:30 give 2024-02-29
+    /// 8:30:00.0.
     #[tactic(auto, using(crate::proofs::DateTimes::parts))]
     pub fn new(date: Date, time: Time) -> Self
         ensures value { result ≡ date_time date time }

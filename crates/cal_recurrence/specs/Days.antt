@@ -13,13 +13,13 @@ use Rattle.cal_recurrence.specs.declared.recurrence.Recurrence.{Recurrence}
 use Rattle.cal_recurrence.specs.declared.recurrence.RuleEnd.{RuleEnd}
 use Rattle.cal_recurrence.specs.declared.recurrence.RuleEnd.TheVariants.{Never, Until, Count}
 
--- The last day of the rule, if it has an UNTIL.
+-- The last day that the rule can have: the day of an UNTIL, or `None` without one.
 abbrev pub last_of : RuleEnd → Option ℕ
 last_of Never = None
 last_of (Until day) = Some day
 last_of (Count count) = None
 
--- There is an UNTIL or a COUNT.
+-- The end is an UNTIL or a COUNT.
 abbrev pub has_end : RuleEnd → Bool
 has_end Never = false
 has_end (Until day) = true
@@ -34,13 +34,15 @@ abbrev pub is_numbered : ByDay → Bool
 is_numbered (Every w) = false
 is_numbered (Nth k w) = true
 
--- Two parts that exclude each other. A day or a week has no numbers of weekdays, nor a year of
--- numbered weeks; a week has no days of the month; and only a year has days and weeks by number.
+-- The days of the year or the weeks of a recurrence, and its frequency. Only a yearly recurrence
+-- can have days of the year or weeks.
 abbrev pub excluded_days : Recurrence → Option (RulePart × RulePart)
 excluded_days r =
     if not (length r.pattern.year_days == 0) then Some (part.YearDays, part.Frequency) else
     if not (length r.pattern.weeks == 0) then Some (part.Weeks, part.Frequency) else None
 
+-- Two parts that exclude each other by RFC 5545, or `None`. Weekdays have no numbers in a daily or
+-- weekly recurrence, or in a yearly one with weeks. A weekly recurrence has no days of the month.
 abbrev pub excluded_at : Frequency → Recurrence → Option (RulePart × RulePart)
 excluded_at Daily r = if list_any is_numbered r.pattern.weekdays then Some (part.Weekdays, part.Frequency) else excluded_days r
 excluded_at Weekly r =
@@ -49,10 +51,11 @@ excluded_at Weekly r =
 excluded_at Monthly r = excluded_days r
 excluded_at Yearly r = if not (length r.pattern.weeks == 0) && list_any is_numbered r.pattern.weekdays then Some (part.Weekdays, part.Weeks) else None
 
+-- Two parts of a recurrence that exclude each other, or `None`.
 abbrev pub excluded : Recurrence → Option (RulePart × RulePart)
 excluded r = excluded_at r.pattern.frequency r
 
--- The first `count` days, if the end is a COUNT.
+-- The days up to the end: the first `count` of them if the end is a COUNT. An UNTIL is in the rule.
 abbrev pub up_to_end : RuleEnd → List ℕ → List ℕ
 up_to_end Never days = days
 up_to_end (Until day) days = days

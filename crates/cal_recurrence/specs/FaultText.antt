@@ -6,6 +6,7 @@ use Rattle.cal_recurrence.specs.declared.fault.RulePart.TheVariants as part
 use Rattle.cal_recurrence.specs.declared.fault.ParseRuleErrorKind.{ParseRuleErrorKind}
 use Rattle.cal_recurrence.specs.declared.fault.ParseRuleErrorKind.TheVariants.{Unknown, Twice, TooMany, Value, Excluded, Alone, Missing}
 
+-- The name of a part in RFC 5545.
 abbrev pub part_name : RulePart → List ℕ
 part_name part.Frequency = codes "FREQ"
 part_name part.Interval = codes "INTERVAL"
@@ -19,7 +20,7 @@ part_name part.Positions = codes "BYSETPOS"
 part_name part.Until = codes "UNTIL"
 part_name part.Count = codes "COUNT"
 
--- a COUNT after an UNTIL is a duplicate too, and an UNTIL after a COUNT
+-- The text of a reason. A COUNT after an UNTIL is a duplicate too, and an UNTIL after a COUNT.
 abbrev pub reason_text : ParseRuleErrorKind → List ℕ
 reason_text Unknown = codes "unknown part"
 reason_text (Twice at) = codes "duplicate " ++ part_name at
@@ -29,5 +30,6 @@ reason_text (Excluded at) = codes "excluded " ++ part_name at
 reason_text (Alone at) = codes "no other part with " ++ part_name at
 reason_text Missing = codes "missing FREQ"
 
+-- The text of an error: its reason, and its position in decimal.
 abbrev pub fault_text : ParseRuleError → List ℕ
 fault_text fault = reason_text fault.reason ++ codes " at " ++ decimal fault.position

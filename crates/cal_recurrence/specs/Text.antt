@@ -20,15 +20,16 @@ use Rattle.cal_recurrence.specs.declared.recurrence.RuleEnd.{RuleEnd}
 use Rattle.cal_recurrence.specs.declared.recurrence.RuleEnd.TheVariants.{Never, Until, Count}
 
 -- ---- lists
--- The meanings of the words, if each word has one.
+-- The meanings of the words, in order, if each word has one.
 abbrev pub each : {X : Type 0} → (List ℕ → Option X) → List (List ℕ) → Option (List X)
 each meaning [] = Some []
 each meaning (word ∷ words) = option_map (λ both. both.0 ∷ both.1) (option_zip (meaning word) (each meaning words))
 
+-- The meanings of the words with commas between them, if each word has one.
 abbrev pub list_of : {X : Type 0} → (List ℕ → Option X) → List ℕ → Option (List X)
 list_of meaning value = each meaning (parts_at 44 value)
 
--- A list has room for the words.
+-- A list has room for the words with commas between them: there are at most 62.
 abbrev pub has_few_words : List ℕ → Bool
 has_few_words value = nat_le (length (parts_at 44 value)) most_values
 
@@ -48,9 +49,11 @@ is_given draft part.Positions = not (length draft.recurrence.pattern.set_positio
 is_given draft part.Until = has_end draft.recurrence.end
 is_given draft part.Count = has_end draft.recurrence.end
 
+-- The draft with another pattern.
 abbrev pub with_pattern : Draft → Pattern → Draft
 with_pattern draft pattern = record draft { recurrence = record draft.recurrence { pattern = pattern } }
 
+-- The draft with another end.
 abbrev pub with_end : Draft → RuleEnd → Draft
 with_end draft end = record draft { recurrence = record draft.recurrence { end = end } }
 
@@ -71,33 +74,41 @@ put draft part.Positions value = option_map (λ x. with_pattern draft (record dr
 put draft part.Until value = option_map (λ day. with_end draft (Until day)) (date_of value)
 put draft part.Count value = option_map (λ n. with_end draft (Count n)) (count_of 4294967295 value)
 
+-- The draft with the value of one more part. Its first error is that there are too many words, then
+-- that the part was given before, and then that the value is invalid.
 abbrev pub put_value : Draft → List ℕ → RulePart → Result Draft ParseRuleErrorKind
 put_value draft value at =
     if not (has_few_words value) then Err (TooMany at) else
     if is_given draft at then Err (Twice at) else
     option_map_or Ok (put draft at value) (Err (Value at))
 
+-- The draft with one more part: a name, and a value after `=`. An unknown name is an error.
 abbrev pub put_part : Draft → List ℕ → Result Draft ParseRuleErrorKind
 put_part draft text = option_map_or (put_value draft (rest_at 61 text)) (part_of (front_at 61 text)) (Err Unknown)
 
 -- ---- the whole
+-- The error with this reason at a position.
 abbrev pub fault : ℕ → ParseRuleErrorKind → ParseRuleError
 fault at why = record { position = at; reason = why }
 
--- The frequency is required.
+-- The recurrence of a draft, or the error `Missing` if the frequency wasn't given.
 abbrev pub finished : ℕ → Draft → Result Recurrence ParseRuleError
 finished at draft = if draft.has_frequency then Ok draft.recurrence else Err (fault at Missing)
 
--- The parts follow one another, and the first of them begins at byte `at`.
+-- The result for a part that begins at byte `at`, and the parts after it: the error of this part,
+-- or the result for the others.
 abbrev pub and_on : ℕ → (Draft → Result Recurrence ParseRuleError) → Result Draft ParseRuleErrorKind → Result Recurrence ParseRuleError
 and_on at others (Ok draft) = others draft
 and_on at others (Err why) = Err (fault at why)
 
+-- The recurrence of a draft with more parts, the first of which begins at byte `at`, or the first
+-- error.
 abbrev pub read_on : ℕ → Draft → List (List ℕ) → Result Recurrence ParseRuleError
 read_on at draft [] = finished (at - 1) draft
 read_on at draft (text ∷ texts) = and_on at (λ more. read_on (at + length text + 1) more texts) (put_part draft text)
 
--- The defaults are an interval of 1, weeks from Monday, empty lists and no end.
+-- The draft without parts. The defaults are an interval of 1, weeks from Monday, empty lists and no
+-- end.
 abbrev pub nothing : Draft
 nothing = record { recurrence = record { pattern = every Daily; end = Never }; has_frequency = false; has_interval = false; has_week_start = false }
 
@@ -111,15 +122,18 @@ place_of name at (text ∷ texts) = if is_alike (front_at 61 text) name then at 
 abbrev pub later : RulePart → ℕ → RulePart → ℕ → ParseRuleError
 later at place other other_place = if nat_lt place other_place then fault other_place (Excluded other) else fault place (Excluded at)
 
+-- The error of two parts that exclude each other. The first of all parts begins at byte `at`.
 abbrev pub later_of : ℕ → List (List ℕ) → RulePart × RulePart → ParseRuleError
 later_of at texts both = later both.0 (place_of (part_name both.0) at texts) both.1 (place_of (part_name both.1) at texts)
 
--- No parts exclude each other, and a BYSETPOS has days to rank.
+-- A recurrence, or an error if two of its parts exclude each other or a BYSETPOS has no days to
+-- rank. An earlier error stays.
 abbrev pub checked : ℕ → List (List ℕ) → Result Recurrence ParseRuleError → Result Recurrence ParseRuleError
 checked at texts (Ok r) = option_map_or (λ both. Err (later_of at texts both)) (excluded r)
     (if ranks_alone r then Err (fault (place_of (codes "BYSETPOS") at texts) (Alone part.Positions)) else Ok r)
 checked at texts (Err why) = Err why
 
+-- The recurrence of the parts, the first of which begins at byte `at`, or the first error.
 abbrev pub parts_say : ℕ → List (List ℕ) → Result Recurrence ParseRuleError
 parts_say at texts = checked at texts (read_on at nothing texts)
 

@@ -19,40 +19,47 @@ use Rattle.cal_schedule.specs.declared.rule.rule.ByDay.TheVariants.{Every, Nth}
 use Rattle.cal_recurrence.specs.declared.fault.RulePart.{RulePart}
 use Rattle.cal_recurrence.specs.declared.fault.RulePart.TheVariants as part
 
--- ---- splitting a text: at each such byte, and at the first one
+-- ---- splitting a text
+-- The parts of a text between the bytes `byte`. Without such a byte the text is one part.
 abbrev pub parts_at : ℕ → List ℕ → List (List ℕ)
 parts_at byte text = slice_split (λ b. b == byte) text
 
+-- The bytes of a text before the first `byte`, or the whole text without such a byte.
 abbrev pub front_at : ℕ → List ℕ → List ℕ
 front_at byte text = before_first (λ b. b == byte) text
 
+-- The bytes of a text after the first `byte`, or nothing without such a byte.
 abbrev pub rest_at : ℕ → List ℕ → List ℕ
 rest_at byte text = after_first (λ b. b == byte) text
 
--- The parts and the bytes after the first such byte, if there is one.
+-- The parts of the bytes that are left, if there are any.
 abbrev pub parts_left : ℕ → Option (Bor (List ℕ)) → List (List ℕ)
 parts_left byte None = []
 parts_left byte (Some rest) = parts_at byte rest.now
 
+-- The bytes that are left, if there are any.
 abbrev pub bytes_left : Option (Bor (List ℕ)) → List ℕ
 bytes_left None = []
 bytes_left (Some rest) = rest.now
 
--- The first bytes, and those after them.
+-- The first `size` bytes.
 unfoldable pub first_bytes : ℕ → List ℕ → List ℕ
 first_bytes size bytes = take size bytes
 
+-- The bytes after the first `size` ones.
 unfoldable pub bytes_after : ℕ → List ℕ → List ℕ
 bytes_after size bytes = drop size bytes
 
 -- ---- names
+-- A word is a name, in any case of its ASCII letters.
 abbrev pub is_alike : List ℕ → List ℕ → Bool
 is_alike word name = str_eq_ignore_ascii_case word name
 
--- A text may begin with the name of the property.
+-- A text begins with `RRULE:`, the name of the property.
 abbrev pub has_name : List ℕ → Bool
 has_name text = nat_le 6 (length text) && is_alike (first_bytes 6 text) (codes "RRULE:")
 
+-- The part with the name that a word is, if there is one.
 abbrev pub part_of : List ℕ → Option RulePart
 part_of word =
     if is_alike word (codes "FREQ") then Some part.Frequency else
@@ -68,6 +75,7 @@ part_of word =
     if is_alike word (codes "COUNT") then Some part.Count else
     None
 
+-- The frequency that a word spells: DAILY, WEEKLY, MONTHLY or YEARLY.
 abbrev pub frequency_of : List ℕ → Option Frequency
 frequency_of word =
     if is_alike word (codes "DAILY") then Some frequency.Daily else
@@ -76,6 +84,7 @@ frequency_of word =
     if is_alike word (codes "YEARLY") then Some frequency.Yearly else
     None
 
+-- The weekday that two letters spell: MO, TU, WE, TH, FR, SA or SU.
 abbrev pub weekday_of : List ℕ → Option Weekday
 weekday_of word =
     if is_alike word (codes "MO") then Some weekday.Monday else
@@ -87,25 +96,29 @@ weekday_of word =
     if is_alike word (codes "SU") then Some weekday.Sunday else
     None
 
--- ---- numbers: digits, of a number below 2^32
+-- ---- numbers
+-- A word is a number: one digit or more, with a value below 2^32.
 abbrev pub is_number : List ℕ → Bool
 is_number word = nat_lt 0 (length word) && (all_ascii_digits word && nat_lt (digits_value 10 word) 4294967296)
 
+-- The number that a word spells, below 2^32.
 abbrev pub number_of : List ℕ → Option ℕ
 number_of word = if is_number word then Some (digits_value 10 word) else None
 
--- A number from 1 to `most`.
+-- The number n, if it is from 1 to `most`.
 abbrev pub from_one_to : ℕ → ℕ → Option ℕ
 from_one_to most n = if nat_le 1 n && nat_le n most then Some n else None
 
+-- The number that a word spells, if it is from 1 to `most`.
 abbrev pub count_of : ℕ → List ℕ → Option ℕ
 count_of most word = option_and_then (from_one_to most) (number_of word)
 
--- A number from 1 to `most` has at most `size` digits.
+-- The number from 1 to `most` that a word of at most `size` digits spells.
 abbrev pub short_count_of : ℕ → ℕ → List ℕ → Option ℕ
 short_count_of size most word = if nat_le (length word) size then count_of most word else None
 
--- An index is such a number after an optional sign: 45 is the minus sign, 43 the plus sign.
+-- The index that a word spells: a number from 1 to `most` of at most `size` digits, after an
+-- optional sign. 45 is the minus sign, and 43 is the plus sign.
 abbrev pub index_of : ℕ → ℕ → List ℕ → Option ℤ
 index_of size most word =
     if slice_index word 0 == 45 then option_map (λ n. neg_ℤ (pos n)) (short_count_of size most (drop 1 word)) else
@@ -113,24 +126,28 @@ index_of size most word =
     option_map pos (short_count_of size most word)
 
 -- ---- values
+-- The month with a number from 1 to 12, of at most two digits.
 abbrev pub month_of : List ℕ → Option Month
 month_of word = option_map (λ n. month_with_index (n - 1)) (short_count_of 2 12 word)
 
--- A day of the month or a week. No week is past the 53rd.
+-- The index of a day of the month or of a week, up to `most` and up to 53, of at most two digits.
 abbrev pub small_index_of : ℕ → List ℕ → Option ℤ
 small_index_of most word = index_of 2 (min most 53) word
 
+-- A day of the month, from 1 to 31 or from -1 to -31.
 abbrev pub month_day_of : List ℕ → Option ℤ
 month_day_of word = small_index_of 31 word
 
+-- A week, from 1 to 53 or from -1 to -53.
 abbrev pub week_of : List ℕ → Option ℤ
 week_of word = small_index_of 53 word
 
--- A day of the year or a position.
+-- A day of the year or a position, from 1 to 366 or from -1 to -366, of at most three digits.
 abbrev pub position_of : List ℕ → Option ℤ
 position_of word = index_of 3 366 word
 
--- A weekday has two letters, after an optional index within the month or the year.
+-- A weekday of two letters, after an optional number within the month or the year. The number is
+-- from 1 to 53 or from -1 to -53.
 abbrev pub by_day_of : List ℕ → Option ByDay
 by_day_of word =
     let front = length word - 2 in
@@ -141,7 +158,8 @@ by_day_of word =
 abbrev pub has_digits : ℕ → ℕ → Bool
 has_digits n k = int_eq (year_at k) (pos (n / 10000)) && ((month_at k == n / 100 % 100) && (day_of_month_at k == n % 100))
 
--- The day of the range with these digits.
+-- The day of the range with the year, the month and the day of the month of these digits, if there
+-- is one.
 unfoldable pub day_with : ℕ → Option ℕ
 day_with n = slice_get (filter (has_digits n) (days_from 0 (last_day + 1))) 0
 
@@ -149,7 +167,7 @@ day_with n = slice_get (filter (has_digits n) (days_from 0 (last_day + 1))) 0
 abbrev pub is_clock : List ℕ → Bool
 is_clock word = option_map_or (λ n. nat_lt (n / 10000) 24 && (nat_lt (n / 100 % 100) 60 && nat_le (n % 100) 60)) (number_of word) false
 
--- `Z` marks a time in UTC.
+-- Nothing, or `Z`, which marks a time in UTC.
 abbrev pub is_zone : List ℕ → Bool
 is_zone word = (length word == 0) || is_alike word (codes "Z")
 
@@ -161,7 +179,7 @@ is_time word =
     is_alike (first_bytes 1 word) (codes "T")
     && (is_clock (first_bytes 6 (bytes_after 1 word)) && is_zone (bytes_after 6 (bytes_after 1 word)))
 
--- The date of a date, or of a date and time.
+-- The date of eight digits, which a time of day may follow.
 abbrev pub date_of : List ℕ → Option ℕ
 date_of word =
     if nat_lt (length word) 8 then None else

@@ -16,12 +16,14 @@ use Rattle.cal_recurrence.specs.declared.recurrence.RuleEnd.{RuleEnd}
 use Rattle.cal_recurrence.specs.declared.recurrence.RuleEnd.TheVariants.{Never, Until, Count}
 
 -- ---- words
+-- The word of a frequency, such as `MONTHLY`.
 abbrev pub frequency_text : Frequency → List ℕ
 frequency_text frequency.Daily = codes "DAILY"
 frequency_text frequency.Weekly = codes "WEEKLY"
 frequency_text frequency.Monthly = codes "MONTHLY"
 frequency_text frequency.Yearly = codes "YEARLY"
 
+-- The two letters of a weekday, such as `FR`.
 abbrev pub weekday_text : Weekday → List ℕ
 weekday_text weekday.Monday = codes "MO"
 weekday_text weekday.Tuesday = codes "TU"
@@ -31,40 +33,47 @@ weekday_text weekday.Friday = codes "FR"
 weekday_text weekday.Saturday = codes "SA"
 weekday_text weekday.Sunday = codes "SU"
 
+-- The number of a month in decimal, from 1 for January.
 abbrev pub month_text : Month → List ℕ
 month_text month = decimal (number month)
 
--- A day of the month or the year, a week or a position.
+-- A day of the month or the year, a week or a position in decimal, with a sign if it is negative.
 abbrev pub position_text : ℤ → List ℕ
 position_text position = signed_decimal position
 
+-- A weekday, after its number if it has one, such as `-1FR`.
 abbrev pub by_day_text : ByDay → List ℕ
 by_day_text (Every weekday) = weekday_text weekday
 by_day_text (Nth index weekday) = signed_decimal index ++ weekday_text weekday
 
--- A day in digits: the year, the month and the day of the month.
+-- A day in digits: the year, the month and the day of the month, such as `20241231`.
 abbrev pub day_text : ℕ → List ℕ
 day_text n = year_text (year_at n) ++ digits_at_least 2 (month_at n) ++ digits_at_least 2 (day_of_month_at n)
 
 -- ---- parts
+-- The part INTERVAL, or nothing for an interval of 1.
 abbrev pub interval_text : ℕ → List ℕ
 interval_text n = if n == 1 then [] else codes ";INTERVAL=" ++ decimal n
 
+-- The part UNTIL or COUNT, or nothing without an end.
 abbrev pub end_text : RuleEnd → List ℕ
 end_text Never = []
 end_text (Until day) = codes ";UNTIL=" ++ day_text day
 end_text (Count n) = codes ";COUNT=" ++ decimal n
 
--- Each word follows a mark. The first mark is the name of the part, and the others are commas.
+-- The values of a list, each after a mark. The first mark is the name of the part, and the others
+-- are commas. An empty list has no text.
 abbrev pub list_text : {X : Type 0} → List ℕ → (X → List ℕ) → List X → List ℕ
 list_text mark text [] = []
 list_text mark text (x ∷ xs) = mark ++ text x ++ list_text (codes ",") text xs
 
+-- The part WKST, or nothing for weeks from Monday.
 abbrev pub week_start_text : Weekday → List ℕ
 week_start_text weekday.Monday = []
 week_start_text weekday = codes ";WKST=" ++ weekday_text weekday
 
 -- ---- the whole
+-- The text of a recurrence: its frequency, interval and end, its lists, and the start of its weeks.
 abbrev pub text_of : Recurrence → List ℕ
 text_of r =
     codes "FREQ=" ++ frequency_text r.pattern.frequency ++ interval_text r.pattern.interval ++ end_text r.end

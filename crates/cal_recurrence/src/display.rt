@@ -15,7 +15,8 @@ impl Recurrence {
     ///
     /// The order is `FREQ`, `INTERVAL`, `UNTIL` or `COUNT`, `BYMONTH`, `BYWEEKNO`, `BYYEARDAY`,
     /// `BYMONTHDAY`, `BYDAY`, `BYSETPOS`, `WKST`. An interval of 1, weeks from Monday, empty lists
-    /// and a missing end are left out.
+    /// and a missing end are left out. For each recurrence that [`parse`](crate::parse) can return,
+    /// parsing its text gives the recurrence again.
     pub fn text(&self) -> RecurrenceText
         ensures text { result ≡ text_of self.now }
         ensures reads_back { IsSpelled self.now → recurrence_of result ≡ Ok self.now }

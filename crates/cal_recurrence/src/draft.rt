@@ -11,8 +11,8 @@ use crate::words::{count_of, cut, date_of, frequency_of, part_of, weekday_of};
 use cal_schedule::{ByDay, Frequency, Pattern};
 use cal_time::{Month, Weekday};
 
-/// A recurrence with the parts that were parsed so far, and whether these were among them: their
-/// defaults can be given, too.
+/// A recurrence with the parts that were parsed so far. It notes if the frequency, the interval and
+/// the start of weeks are among them, since these can be given with their defaults.
 #[derive(Drop)]
 pub struct Draft {
     pub recurrence: Recurrence,
@@ -22,7 +22,7 @@ pub struct Draft {
 }
 
 impl Draft {
-    /// Creates a draft without parts.
+    /// Creates a draft without parts, with the defaults.
     pub fn new() -> Self
         ensures { result ≡ nothing }
     {
@@ -37,7 +37,8 @@ impl Draft {
         }
     }
 
-    /// Parses one more part.
+    /// Parses one more part, such as `COUNT=12`. Returns `Unknown` for an unknown name, or else the
+    /// errors of `with_value`.
     pub fn with_part(self, text: &[u8]) -> Result<Self, ParseRuleErrorKind>
         ensures { result ≡ put_part self text.now }
     {
@@ -48,6 +49,8 @@ impl Draft {
         }
     }
 
+    /// Parses the value of one more part. Returns the first error that applies: `TooMany` for more
+    /// than 62 words, `Twice` if the part was parsed before, or `Value` for an invalid value.
     fn with_value(self, part: RulePart, value: &[u8]) -> Result<Self, ParseRuleErrorKind>
         ensures { result ≡ put_value self value.now part }
     {
@@ -82,7 +85,8 @@ impl Draft {
         }
     }
 
-    /// Returns the draft with one more part, or `None` if the value is invalid.
+    /// Returns the draft with one more part, or `None` if the value is invalid. There must be at
+    /// most 62 words with commas between them.
     fn with(mut self, part: RulePart, value: &[u8]) -> Option<Self>
         requires { length (parts_at 44 value.now) ≤ most_values }
         ensures { result ≡ put self part value.now }
@@ -139,7 +143,7 @@ impl Draft {
         }
     }
 
-    /// Returns the recurrence, or the error `Missing` at byte `end`.
+    /// Returns the recurrence, or the error `Missing` at byte `end` if the frequency wasn't given.
     pub fn finished(self, end: usize) -> Result<Recurrence, ParseRuleError>
         ensures { result ≡ finished end self }
     {

@@ -5,7 +5,7 @@ ghost use Rattle.cal_recurrence.specs.FaultText.{fault_text, part_name, reason_t
 use cal_time::ShortText;
 use std::fmt;
 
-/// A part of the text of a recurrence, of those that are read.
+/// A part of the text of a recurrence, by its name in RFC 5545.
 #[derive(Clone, Copy, Debug, PartialEq, Eq)]
 pub enum RulePart {
     /// `FREQ`
@@ -32,39 +32,45 @@ pub enum RulePart {
     Count,
 }
 
-/// What is at fault.
+/// A reason why a text is not a recurrence.
 #[derive(Clone, Copy, Debug, PartialEq, Eq)]
 pub enum ParseRuleErrorKind {
-    /// The part has no name of those that are read, as `BYHOUR=9`.
+    /// The part has an unknown name, such as `BYHOUR=9`.
     Unknown,
-    /// A part of this name comes before it. `UNTIL` and `COUNT` both say where the rule ends, and count as one.
+    /// An earlier part has the same name. `UNTIL` and `COUNT` both set the end, so a second one of
+    /// either is an error.
     Twice(RulePart),
     /// The value of the part has more than 62 words with commas between them.
     TooMany(RulePart),
-    /// The part has no value of those that are read, as `FREQ=HOURLY`.
+    /// The value of the part is invalid, such as `FREQ=HOURLY` or `BYMONTH=13`.
     Value(RulePart),
-    /// The part and an earlier one exclude each other, as `BYMONTHDAY=1` and `FREQ=WEEKLY`.
+    /// The part and an earlier one exclude each other, such as `BYMONTHDAY=1` after `FREQ=WEEKLY`.
+    ///
+    /// `BYYEARDAY` and `BYWEEKNO` require `FREQ=YEARLY`, and `BYMONTHDAY` excludes `FREQ=WEEKLY`. A
+    /// number in `BYDAY` requires `FREQ=MONTHLY` or `FREQ=YEARLY`, and excludes `BYWEEKNO`.
     Excluded(RulePart),
-    /// The part needs another one that selects days: `BYMONTH`, `BYWEEKNO`, `BYYEARDAY`,
-    /// `BYMONTHDAY` or `BYDAY`.
+    /// The part requires another one that selects days: `BYMONTH`, `BYWEEKNO`, `BYYEARDAY`,
+    /// `BYMONTHDAY` or `BYDAY`. Only `BYSETPOS` does.
     Alone(RulePart),
-    /// No part says the frequency.
+    /// The text has no `FREQ`.
     Missing,
 }
 
-/// The first wrong part of a text.
+/// The first error in a text.
 ///
 /// It prints its reason and its position: `invalid value of BYDAY at 13`.
 #[derive(Clone, Copy, Debug, PartialEq, Eq)]
 pub struct ParseRuleError {
-    /// The position of its first byte, counted from 0. A part that is missing has the position at the end of the text.
+    /// The position of the first byte of the invalid part, counted from 0. For a missing `FREQ` it
+    /// is the length of the text.
     pub position: usize,
-    /// What is at fault.
+    /// The reason why the text is not a recurrence.
     pub reason: ParseRuleErrorKind,
 }
 
 impl RulePart {
-    /// The name of the part: that of `RulePart::Weekdays` is `BYDAY`.
+    /// Returns the name of the part in RFC 5545, at most 10 bytes. For `RulePart::Weekdays` it is
+    /// `BYDAY`.
     pub fn name(self) -> &'static str
         ensures value { result.now ≡ part_name self }
         ensures short { length result.now ≤ 10 }

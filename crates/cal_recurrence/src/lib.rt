@@ -1,4 +1,4 @@
-//! Recurrence rules of RFC 5545: parses and formats the text of a `RRULE` and lists its days.
+//! Recurrence rules of RFC 5545: parses and formats the text of an `RRULE` and lists its days.
 //!
 //! `parse` returns the recurrence, or the position and the reason of the first error.
 #![tactic(auto)]

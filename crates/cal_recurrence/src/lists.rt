@@ -21,15 +21,15 @@ fn commas(value: &[u8]) -> usize
     commas
 }
 
-/// Returns whether the value has at most 62 words.
+/// Returns `true` if the value has at most 62 words with commas between them.
 pub fn has_few_words(value: &[u8]) -> bool
     ensures { result ≡ has_few_words value.now }
 {
     commas(value) < 62
 }
 
-/// Parses values up to `most` with commas between them. `filler` fills the unused places of the
-/// list.
+/// Parses values up to `most` with commas between them, or returns `None` if one is invalid. There
+/// must be at most 62 of them. `filler` fills the unused places of the list.
 pub fn values_of<T: Word>(value: &[u8], filler: T, most: u16) -> Option<Values<T>>
     requires { length (parts_at 44 value.now) ≤ most_values }
     ensures { result ≡ list_of (T.meaning_of most) value.now }

@@ -12,12 +12,20 @@ use crate::words::{cut, has_name, is_alike, split};
 /// Parses a recurrence of RFC 5545, such as `FREQ=MONTHLY;BYDAY=-1FR;COUNT=12`, with or without
 /// `RRULE:` in front.
 ///
-/// The parts are `FREQ`, `INTERVAL`, `WKST`, `BYMONTH`, `BYWEEKNO`, `BYYEARDAY`, `BYMONTHDAY`,
-/// `BYDAY`, `BYSETPOS`, and `UNTIL` or `COUNT`, in any order and any case. `UNTIL` has a date, or a date and
-/// time, and then its date counts. The first bad part gives the error: `Unknown` for any other
-/// name, `Twice` for a repeated part or a second end, `TooMany` for more than 62 words, `Value` for
-/// an invalid value, and `Missing` if there is no `FREQ`. Then `Excluded` means a part that an
-/// earlier one excludes, and `Alone` a `BYSETPOS` without another list.
+/// The parts come in any order and any case, with `;` between them. `FREQ` is `DAILY`, `WEEKLY`,
+/// `MONTHLY` or `YEARLY`, and is required. `INTERVAL` and `COUNT` are from 1 to 4294967295.
+/// `UNTIL`, in place of `COUNT`, is a date such as `20241231`, or a date and time such as
+/// `20241231T235959Z`, of which the date counts. `WKST` is a weekday such as `MO`.
+///
+/// Lists have at most 62 values with commas between them. `BYMONTH` has months from 1 to 12,
+/// `BYMONTHDAY` days from 1 to 31, `BYYEARDAY` and `BYSETPOS` days from 1 to 366, and `BYWEEKNO`
+/// weeks from 1 to 53. Except for months, negative values count from the end. `BYDAY` has weekdays
+/// such as `FR`, with or without a number from 1 to 53 or from -1 to -53, such as `-1FR`.
+///
+/// Returns the error of the first invalid part: `Unknown` for any other name, `TooMany` for more
+/// than 62 values, `Twice` for a repeated part or a second end, or `Value` for an invalid value.
+/// Otherwise returns `Missing` if there is no `FREQ`, then `Excluded` for a part that an earlier
+/// one excludes, and then `Alone` for a `BYSETPOS` without another list.
 pub fn parse(text: &[u8]) -> Result<Recurrence, ParseRuleError>
     ensures value { result ≡ recurrence_of text.now }
     ensures spelled { IfOk result IsSpelled }

@@ -8,23 +8,23 @@ use crate::fault::RulePart;
 use cal_schedule::{ByDay, Frequency, Pattern, Rule, RuleDays};
 use cal_time::Date;
 
-/// An end of a recurrence.
+/// The end of a recurrence.
 #[derive(Clone, Copy, Debug, PartialEq, Eq)]
 pub enum RuleEnd {
-    /// No end before the end of the range.
+    /// No end: the days go on to the end of the range.
     Never,
-    /// The last possible day, which counts if the rule has it.
+    /// The last possible day (`UNTIL`), which counts if the rule has it.
     Until(Date),
-    /// The number of days.
+    /// The number of days (`COUNT`).
     Count(u32),
 }
 
-/// A recurrence as in a `RRULE` of RFC 5545: a rule without its start.
+/// A recurrence as in an `RRULE` of RFC 5545: a rule without its start.
 #[derive(Clone, Debug, PartialEq, Eq, Drop)]
 pub struct Recurrence {
     /// The pattern of the days.
     pub pattern: Pattern,
-    /// The end.
+    /// The end of the days.
     pub end: RuleEnd,
 }
 
@@ -37,6 +37,7 @@ impl RuleEnd {
     }
 }
 
+/// Returns `true` if the weekday has a number.
 fn is_numbered(by: ByDay) -> bool
     ensures { result ≡ is_numbered by }
 {
@@ -64,7 +65,7 @@ impl Recurrence {
             && self.pattern.weekdays.is_empty()
     }
 
-    /// Returns two parts that exclude each other, if there are such.
+    /// Returns two parts that exclude each other, or `None` if no parts do.
     pub(crate) fn excluded(&self) -> Option<(RulePart, RulePart)>
         ensures { result ≡ excluded self.now }
     {
@@ -101,6 +102,7 @@ impl Recurrence {
         }
     }
 
+    /// Returns the day of an `UNTIL`, or `None` without one.
     fn last(&self) -> Option<Date>
         ensures { result ≡ last_of self.now.end }
     {
@@ -110,15 +112,17 @@ impl Recurrence {
         }
     }
 
-    /// Returns the rule from a start, without a `COUNT`, which a rule does not have.
+    /// Returns the rule from a start, without a `COUNT`, which a rule doesn't have. For
+    /// `FREQ=DAILY;COUNT=3` it is the rule of every day, without an end.
     pub fn rule(&self, start: Date) -> Rule
         ensures { result ≡ rule_of self.now.pattern start (last_of self.now.end) }
     {
         self.pattern.rule(start, self.last())
     }
 
-    /// Returns an iterator over the days from a start. For example,
-    /// `FREQ=MONTHLY;BYDAY=-1FR;COUNT=12` gives twelve last Fridays.
+    /// Returns an iterator over the days from a start, in ascending order. For
+    /// `FREQ=MONTHLY;BYDAY=-1FR;COUNT=12` and 2024-01-01 they are the last Fridays of the months of
+    /// 2024.
     pub fn days(&self, start: Date) -> RuleDays
         ensures { result ≡ days_of self.now start }
     {

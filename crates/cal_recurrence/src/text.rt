@@ -11,7 +11,8 @@ use std::str::from_utf8_unchecked;
 /// The capacity in bytes. A recurrence with 62 values in each of its lists needs fewer.
 const CAPACITY: usize = 2724;
 
-/// A text of a recurrence, of at most 2724 bytes, without allocation or a formatter.
+/// A text of a recurrence, of at most 2724 bytes, without allocation or a formatter. Contracts see
+/// its bytes.
 #[derive(Drop)]
 pub struct RecurrenceText {
     bytes: [u8; CAPACITY],
@@ -40,7 +41,7 @@ impl RecurrenceText {
         }
     }
 
-    /// Returns the text.
+    /// Returns the text, such as `FREQ=DAILY`.
     pub fn as_str(&self) -> &str
         ensures value { result.now ≡ self.now }
         ensures short { length result.now ≤ capacity }
@@ -49,7 +50,7 @@ impl RecurrenceText {
         unsafe { from_utf8_unchecked(&self.bytes[..self.filled]) }
     }
 
-    /// Returns the bytes of the text, which is UTF-8.
+    /// Returns the bytes of the text, which is UTF-8. They are at most 2724.
     pub fn as_bytes(&self) -> &[u8]
         ensures value { result.now ≡ self.now }
         ensures short { length result.now ≤ capacity }
@@ -57,7 +58,7 @@ impl RecurrenceText {
         &self.bytes[..self.filled]
     }
 
-    /// Returns the number of bytes, at most 2724.
+    /// Returns the number of bytes, at most 2724. For `FREQ=DAILY` it is 10.
     pub fn len(&self) -> usize
         ensures value { result ≡ length self.now }
         ensures max { result ≤ capacity }
@@ -65,7 +66,7 @@ impl RecurrenceText {
         self.filled
     }
 
-    /// Appends the text.
+    /// Appends the text. There must be room for it.
     pub(crate) fn push(&mut self, text: &str)
         requires { HasRoom (length text.now) self.old }
         ensures appended { self.new ≡ self.old ++ text.now }
@@ -76,7 +77,7 @@ impl RecurrenceText {
         self.filled = end;
     }
 
-    /// Appends a number in decimal.
+    /// Appends a number in decimal. There must be room for 10 bytes.
     #[tactic(auto, using(crate::proofs::Digits::few_digits))]
     pub(crate) fn push_number(&mut self, number: u32)
         requires { HasRoom 10 self.old }

@@ -7,14 +7,15 @@ use cal_schedule::{ByDay, Frequency};
 use cal_time::{Date, Month, Weekday};
 use std::str;
 
-/// Returns the index of the first such byte.
+/// Returns the index of the first such byte, or `None` without one.
 fn first_at(byte: u8, bytes: &[u8]) -> Option<usize>
     ensures { result ≡ position (λ b. b == byte) bytes.now }
 {
     bytes.iter().position(|b| *b == byte)
 }
 
-/// Splits at the first such byte. The second part is `None` without such a byte.
+/// Splits at the first such byte, which is in neither part. The second part is `None` without such
+/// a byte.
 #[tactic(auto, using(crate::proofs::Cuts::cut_some, crate::proofs::Cuts::cut_none, std::proofs::lemmas::List::take_rest))]
 pub fn cut(bytes: &[u8], byte: u8) -> (&[u8], Option<&[u8]>)
     ensures parts { parts_at byte bytes.now ≡ result.0.now ∷ parts_left byte result.1 }
@@ -29,7 +30,7 @@ pub fn cut(bytes: &[u8], byte: u8) -> (&[u8], Option<&[u8]>)
     }
 }
 
-/// Splits after the first `size` bytes.
+/// Splits after the first `size` bytes. There must be that many.
 #[tactic(auto, unfolding(crate::specs::Words::first_bytes, crate::specs::Words::bytes_after))]
 pub fn split(bytes: &[u8], size: usize) -> (&[u8], &[u8])
     requires { size ≤ length bytes.now }
@@ -40,14 +41,14 @@ pub fn split(bytes: &[u8], size: usize) -> (&[u8], &[u8])
     (&bytes[..size], &bytes[size..])
 }
 
-/// Returns `true` if the word is the name, in any case.
+/// Returns `true` if the word is the name, in any case of its ASCII letters.
 pub fn is_alike(word: &[u8], name: &[u8]) -> bool
     ensures { result ≡ is_alike word.now name.now }
 {
     word.eq_ignore_ascii_case(name)
 }
 
-/// Returns `true` if the text begins with `RRULE:`, as in a calendar.
+/// Returns `true` if the text begins with `RRULE:`, as in a calendar, in any case.
 pub fn has_name(text: &[u8]) -> bool
     ensures value { result ≡ has_name text.now }
     ensures long { result ≡ true → 6 ≤ length text.now }
@@ -55,7 +56,7 @@ pub fn has_name(text: &[u8]) -> bool
     text.len() >= 6 && is_alike(split(text, 6).0, b"RRULE:")
 }
 
-/// Parses the name of a part.
+/// Parses the name of a part, or returns `None` for an unknown name.
 pub fn part_of(name: &[u8]) -> Option<RulePart>
     ensures { result ≡ part_of name.now }
 {
@@ -86,7 +87,7 @@ pub fn part_of(name: &[u8]) -> Option<RulePart>
     }
 }
 
-/// Parses a frequency.
+/// Parses a frequency, or returns `None` if the word isn't one.
 pub fn frequency_of(word: &[u8]) -> Option<Frequency>
     ensures { result ≡ frequency_of word.now }
 {
@@ -103,7 +104,7 @@ pub fn frequency_of(word: &[u8]) -> Option<Frequency>
     }
 }
 
-/// Parses a weekday of two letters.
+/// Parses a weekday of two letters, such as `FR`, or returns `None` if the word isn't one.
 pub fn weekday_of(word: &[u8]) -> Option<Weekday>
     ensures { result ≡ weekday_of word.now }
 {
@@ -126,14 +127,14 @@ pub fn weekday_of(word: &[u8]) -> Option<Weekday>
     }
 }
 
-/// Returns whether the word begins with a plus sign, which std's `parse` accepts.
+/// Returns `true` if the word begins with a plus sign, which std's `parse` accepts.
 fn begins_with_plus(word: &[u8]) -> bool
     ensures { result ≡ (slice_index word.now 0 == 43) }
 {
     matches!(word, [b'+', ..])
 }
 
-/// Parses a number from 0 to 4294967295.
+/// Parses a number from 0 to 4294967295, or returns `None` if the word isn't one.
 fn number_of(word: &[u8]) -> Option<u32>
     ensures { result ≡ number_of word.now }
 {
@@ -146,7 +147,7 @@ fn number_of(word: &[u8]) -> Option<u32>
     text.parse().ok()
 }
 
-/// Parses a number from 1 to `most`.
+/// Parses a number from 1 to `most`, or returns `None` if the word isn't one.
 pub fn count_of(word: &[u8], most: u32) -> Option<u32>
     ensures value { result ≡ count_of most word.now }
     ensures least { IfSome result (λ n. 1 ≤ n) }
@@ -184,7 +185,7 @@ fn index_of(word: &[u8], size: usize, most: u16) -> Option<i16>
     }
 }
 
-/// Parses the number of a month.
+/// Parses the number of a month, from 1 to 12.
 pub fn month_of(word: &[u8]) -> Option<Month>
     ensures { result ≡ month_of word.now }
 {
@@ -192,7 +193,7 @@ pub fn month_of(word: &[u8]) -> Option<Month>
 }
 
 /// Parses a day of the month or a week, from 1 to `most`, or from -1 for the last one to `-most`.
-/// It is at most 53.
+/// It is never past 53.
 pub fn small_index_of(word: &[u8], most: u16) -> Option<i8>
     ensures { result ≡ small_index_of most word.now }
 {
@@ -206,7 +207,8 @@ pub fn position_of(word: &[u8]) -> Option<i16>
     index_of(word, 3, 366)
 }
 
-/// Parses a weekday, after an optional index within the month or the year.
+/// Parses a weekday, after an optional index within the month or the year, such as `FR` or `-1FR`.
+/// The index is from 1 to 53, or from -1 for the last one to -53.
 pub fn by_day_of(word: &[u8]) -> Option<ByDay>
     ensures { result ≡ by_day_of word.now }
 {
@@ -218,7 +220,7 @@ pub fn by_day_of(word: &[u8]) -> Option<ByDay>
     Some(ByDay::Nth(index as i8, weekday_of(&word[front..])?))
 }
 
-/// Returns the date whose eight digits these are.
+/// Returns the date whose eight digits these are, or `None` if it doesn't exist.
 fn day_with(number: u32) -> Option<Date>
     ensures { result ≡ day_with number }
 {
@@ -260,7 +262,8 @@ fn is_time(word: &[u8]) -> bool
     is_alike(mark, b"T") && is_clock(clock) && is_zone(zone)
 }
 
-/// Parses the date of a date such as `20241231` or of a date and time such as `20241231T235959Z`.
+/// Parses the date of a date such as `20241231`, or of a date and time such as `20241231T235959Z`.
+/// Returns `None` if the word is neither.
 pub fn date_of(word: &[u8]) -> Option<Date>
     ensures { result ≡ date_of word.now }
 {

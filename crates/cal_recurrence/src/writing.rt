@@ -12,7 +12,7 @@ use crate::words::{by_day_of, month_of, position_of, small_index_of};
 use cal_schedule::{ByDay, Frequency};
 use cal_time::{Cycle, Date, Month, ShortText, Weekday};
 
-/// A value of a list.
+/// A value of a list, and its text.
 pub trait Word: Copy {
     ghost text_of: { Self → List ℕ };
 
@@ -23,7 +23,8 @@ pub trait Word: Copy {
         ensures text { result ≡ text_of self }
         ensures short { length result ≤ 6 };
 
-    /// Parses a value. A day of the month or a week is at most `most`.
+    /// Parses a value, or returns `None` if it is invalid. A day of the month or a week is at most
+    /// `most`.
     fn read(word: &[u8], most: u16) -> Option<Self>
         ensures { result ≡ meaning_of most word.now };
 }
@@ -101,7 +102,7 @@ impl Word for ByDay {
     }
 }
 
-/// Formats the number in decimal.
+/// Formats a number in decimal.
 #[tactic(auto, using(crate::proofs::Digits::index_digits, cal_time::proofs::TextLengths::text_lengths))]
 fn index_text(index: i8) -> ShortText
     ensures text { result ≡ signed_decimal index }
@@ -112,7 +113,7 @@ fn index_text(index: i8) -> ShortText
     text
 }
 
-/// Returns the name of the frequency.
+/// Returns the word of the frequency, such as `MONTHLY`.
 pub fn frequency_text(frequency: Frequency) -> &'static str
     ensures text { result.now ≡ frequency_text frequency }
     ensures short { length result.now ≤ 7 }
@@ -125,7 +126,7 @@ pub fn frequency_text(frequency: Frequency) -> &'static str
     }
 }
 
-/// Returns the two letters of the weekday.
+/// Returns the two letters of the weekday, such as `FR`.
 fn weekday_text(weekday: Weekday) -> &'static str
     ensures text { result.now ≡ weekday_text weekday }
     ensures short { length result.now ≡ 2 }
@@ -155,7 +156,7 @@ fn day_text(date: Date) -> ShortText
     text
 }
 
-/// Appends the interval, unless it is 1.
+/// Appends the part `INTERVAL`, unless the interval is 1. There must be room for 20 bytes.
 pub fn push_interval(text: &mut RecurrenceText, interval: u32)
     requires { HasRoom 20 text.old }
     ensures appended { text.new ≡ text.old ++ interval_text interval }
@@ -168,7 +169,7 @@ pub fn push_interval(text: &mut RecurrenceText, interval: u32)
     text.push_number(interval);
 }
 
-/// Appends the end, if there is one.
+/// Appends the part `UNTIL` or `COUNT`, if there is an end. There must be room for 18 bytes.
 pub fn push_end(text: &mut RecurrenceText, end: RuleEnd)
     requires { HasRoom 18 text.old }
     ensures appended { text.new ≡ text.old ++ end_text end }
@@ -188,7 +189,7 @@ pub fn push_end(text: &mut RecurrenceText, end: RuleEnd)
 }
 
 /// Appends the name of the part and the values with commas between them, or nothing for an empty
-/// list.
+/// list. There must be at most 62 values, and room for the name and for 7 times 62 bytes.
 pub fn push_list<T: Word>(text: &mut RecurrenceText, name: &str, values: &[T])
     requires named { 1 ≤ length name.now }
     requires few { length values.now ≤ most_values }
@@ -204,7 +205,7 @@ pub fn push_list<T: Word>(text: &mut RecurrenceText, name: &str, values: &[T])
     }
 }
 
-/// Appends the first day of the week, unless it is Monday.
+/// Appends the part `WKST`, unless weeks begin on Monday. There must be room for 8 bytes.
 pub fn push_week_start(text: &mut RecurrenceText, weekday: Weekday)
     requires { HasRoom 8 text.old }
     ensures appended { text.new ≡ text.old ++ week_start_text weekday }

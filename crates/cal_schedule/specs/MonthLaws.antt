@@ -9,22 +9,23 @@ use Rattle.cal_time.specs.Days.{month_at-range, day_of_month_at-range, year_at-r
 use Rattle.cal_time.specs.Lengths.{days_in_month}
 use Rattle.cal_schedule.specs.Months.{month_number_at}
 
--- The numbers of months rise.
+-- The month of a later day doesn't have a smaller number.
 pub month_numbers-rise : (m n : ℕ) → m ≤ n → month_number_at m ≤ℤ month_number_at n
 month_numbers-rise m n h = omega (arith, ints, months-rise m n h)
 
--- Days with one number of the month have one year and one month.
+-- Days m and n are in the same month of the same year.
 pub record IsSameMonth (m n : ℕ) : Type 0 where
   pub year : year_at m ≡ year_at n
   pub month : month_at m ≡ month_at n
 
+-- Days whose months have the same number are in the same month of the same year.
 pub same_month : (m n : ℕ) → month_number_at m ≡ month_number_at n → IsSameMonth m n
 same_month m n e =
     let a = month_at-range m in
     let b = month_at-range n in
     record { year = omega (arith, ints, a.0, a.1, b.0, b.1, e); month = omega (arith, ints, a.0, a.1, b.0, b.1, e) }
 
--- No two days have one calendar date.
+-- Two days of the same month with the same day of the month are the same day.
 pub one_day : (m n : ℕ) → IsSameMonth m n → day_of_month_at m ≡ day_of_month_at n → m ≡ n
 one_day m n same e =
     elim (cases_lt m n) as (λ _. m ≡ n) [
@@ -35,7 +36,7 @@ one_day m n same e =
       ]
     ]
 
--- The first of a month comes before a day by the day of the month less 1.
+-- The first day f of the month of day n is before n by the day of the month of n, less 1.
 pub first_before : (f n : ℕ) → HasCalendarDate (year_at n) (month_at n) 1 f → f + day_of_month_at n ≡ n + 1
 first_before f n e =
     let d = day_of_month_at-range n in
@@ -45,7 +46,7 @@ first_before f n e =
     let one = one_day (f + (day_of_month_at n - 1)) n (record { year = ap (λ c. c.year) at; month = ap (λ c. c.month) at }) (ap (λ c. c.day) at) in
     omega (arith, d.0)
 
--- Two days of a month differ by the difference of their days of the month.
+-- The distance of two days of the range in one month is the difference of their days of the month.
 pub days_apart : (m n : ℕ) → IsDate m → month_number_at m ≡ month_number_at n → m + day_of_month_at n ≡ n + day_of_month_at m
 days_apart m n h e =
     let same = same_month m n e in
@@ -54,12 +55,11 @@ days_apart m n h e =
     first.has ∙ ap (λ y. calendar_day y (month_at m) 1) same.year ∙ ap (λ i. calendar_day (year_at n) i 1) same.month in
     omega (arith, first_before first.day m first.has, first_before first.day n other)
 
--- The number of the month of a calendar date.
+-- The month of a day with the year y and the month m has the number 12 times y, plus m, less 1.
 pub number_from : (n : ℕ) (y : ℤ) (m d : ℕ) → HasCalendarDate y m d n → month_number_at n ≡ y *ℤ pos 12 +ℤ pos m -ℤ pos 1
 number_from n y m d e = ap (λ day. day.year *ℤ pos 12 +ℤ pos day.month -ℤ pos 1) e
 
--- The first day of a month is not after any day of this month or a later one. Its last day is not
--- before any day of this month or an earlier one.
+-- The first day of a month is not after any day of this month or a later one.
 pub first-least : (r n : ℕ) (y : ℤ) (m : ℕ) → HasCalendarDate y m 1 r → (y *ℤ pos 12 +ℤ pos m -ℤ pos 1) ≤ℤ month_number_at n → r ≤ n
 first-least r n y m e h =
     let month = number_from r y m 1 e in
@@ -70,6 +70,7 @@ first-least r n y m e h =
       | inr most ↦ most
     ]
 
+-- The last day of a month is not before any day of this month or an earlier one.
 pub last-greatest : (r n : ℕ) (y : ℤ) (m : ℕ) → HasCalendarDate y m (days_in_month y m) r → month_number_at n ≤ℤ (y *ℤ pos 12 +ℤ pos m -ℤ pos 1) → n ≤ r
 last-greatest r n y m e h =
     let month = number_from r y m (days_in_month y m) e in

@@ -3,7 +3,7 @@ use Rattle.std.specs.Prelude.{◌≡◌, ℕ, ◌+◌, ◌/◌, min, ℤ, pos, �
 use Rattle.cal_time.specs.Date.{first_year, last_year, year_at, month_at, day_of_month_at}
 use Rattle.cal_time.specs.Lengths.{days_in_month}
 
--- The number of the month of day n is 12 times the year, plus the month, less 1.
+-- The number of the month of day n: 12 times the year, plus the month, less 1.
 abbrev pub month_number_at : ℕ → ℤ
 month_number_at n = year_at n *ℤ pos 12 +ℤ pos (month_at n) -ℤ pos 1
 

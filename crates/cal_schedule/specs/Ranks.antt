@@ -8,7 +8,7 @@ use Rattle.std.specs.Int.{from_bool}
 use Rattle.cal_time.specs.IsoWeekDate.{count_before}
 use Rattle.cal_time.specs.Occurrences.{days_from, days_back_from}
 
--- The count before day 0 is 0.
+-- The count of the days before day 0 is 0.
 pub count-none : (test : ℕ → Bool) → count_before test 0 ≡ 0
 unfolding count_before
 count-none test = refl
@@ -23,7 +23,7 @@ pub count-no : (test : ℕ → Bool) (n : ℕ) → test n ≡ false → count_be
 unfolding count_before
 count-no test n h = rw h (omega arith)
 
--- The count rises by the number of a `bool` that says if the day passes.
+-- The count rises by 1 or 0, the number of a `bool` that says if the day passes.
 pub count-next : (test : ℕ → Bool) (n : ℕ) (b : Bool) (k : ℕ) → b ≡ test n → k ≡ from_bool b → count_before test (n + 1) ≡ count_before test n + k
 count-next test n true k e f = let one : k ≡ 1 = f in omega (arith, ap (count_before test) (add-one n), count-yes test n (sym e))
 count-next test n false k e f = let none : k ≡ 0 = f in omega (arith, ap (count_before test) (add-one n), count-no test n (sym e))
@@ -33,6 +33,7 @@ pub bit-most : (b : Bool) (k : ℕ) → k ≡ from_bool b → k ≤ 1
 bit-most true k f = let one : k ≡ 1 = f in omega arith
 bit-most false k f = let none : k ≡ 0 = f in omega arith
 
+-- The count doesn't fall from one day to the next.
 count-grows : (test : ℕ → Bool) (n : ℕ) → count_before test n ≤ count_before test (suc n)
 count-grows test n =
     elim (cases_Bool (test n)) [
@@ -40,7 +41,7 @@ count-grows test n =
       | inr miss ↦ omega (arith, count-no test n miss)
     ]
 
--- The count never falls.
+-- The count before a later day is not smaller.
 pub count-rises : (test : ℕ → Bool) (m n : ℕ) → m ≤ n → count_before test m ≤ count_before test n
 count-rises test m zero h = let e : m ≡ 0 = omega arith in omega (arith, ap (count_before test) e)
 count-rises test m (suc n) h =
@@ -62,7 +63,7 @@ count-most test (suc n) =
       | inr miss ↦ omega (arith, count-no test n miss, count-most test n)
     ]
 
--- One week more, if the test repeats every 7 days.
+-- If the test repeats every 7 days, the count rises in 7 days by the count of the first 7 days.
 count-week : (test : ℕ → Bool) → ((n : ℕ) → test (n + 7) ≡ test n) → (n : ℕ) → count_before test (n + 7) ≡ count_before test n + count_before test 7
 count-week test same zero =
     let e : zero + 7 ≡ 7 = omega arith in
@@ -74,7 +75,8 @@ count-week test same (suc n) =
       | inr miss ↦ omega (arith, ap (count_before test) e, count-no test (n + 7) (same n ∙ miss), count-no test n miss, count-week test same n)
     ]
 
--- Each whole week has the same count, if the test repeats every 7 days.
+-- If the test repeats every 7 days, the count rises in q weeks by q times the count of the first 7
+-- days.
 pub count-weeks : (test : ℕ → Bool) → ((n : ℕ) → test (n + 7) ≡ test n) → (q n : ℕ) → count_before test (q * 7 + n) ≡ q * count_before test 7 + count_before test n
 count-weeks test same zero n =
     let e : zero * 7 + n ≡ n = omega arith in
@@ -83,33 +85,39 @@ count-weeks test same (suc q) n =
     let e : suc q * 7 + n ≡ (q * 7 + n) + 7 = omega arith in
     omega (arith, ap (count_before test) e, count-week test same (q * 7 + n), count-weeks test same q n, suc-mul q (count_before test 7))
 
--- One step of a list.
+-- If day n passes, the list from day n on is this day and then the list of the other days.
 from-yes : (test : ℕ → Bool) (n count : ℕ) → test n ≡ true → filter test (days_from n (suc count)) ≡ n ∷ filter test (days_from (n + 1) count)
 unfolding days_from
 from-yes test n count h = rw h refl
 
+-- If day n doesn't pass, the list from day n on is the list of the other days.
 from-no : (test : ℕ → Bool) (n count : ℕ) → test n ≡ false → filter test (days_from n (suc count)) ≡ filter test (days_from (n + 1) count)
 unfolding days_from
 from-no test n count h = rw h refl
 
+-- If day n passes, the list of the days back from day n is this day and then the list of the days
+-- before it.
 back-yes : (test : ℕ → Bool) (n : ℕ) → test n ≡ true → filter test (days_back_from (suc n)) ≡ n ∷ filter test (days_back_from n)
 unfolding days_back_from
 back-yes test n h = rw h refl
 
+-- If day n doesn't pass, the list of the days back from day n is the list of the days before it.
 back-no : (test : ℕ → Bool) (n : ℕ) → test n ≡ false → filter test (days_back_from (suc n)) ≡ filter test (days_back_from n)
 unfolding days_back_from
 back-no test n h = rw h refl
 
--- The lengths of the lists.
+-- Without days the list is empty.
 none-from : (test : ℕ → Bool) (n : ℕ) → length (filter test (days_from n 0)) ≡ 0
 unfolding days_from
 none-from test n = refl
 
+-- Before day 0 the list is empty.
 none-back : (test : ℕ → Bool) → length (filter test (days_back_from 0)) ≡ 0
 unfolding days_back_from
 none-back test = refl
 
--- The length of a list is the difference of two counts.
+-- The length of the list of `count` days from day n on is the count before day n + count, less the
+-- count before day n.
 pub length-from : (test : ℕ → Bool) (n count : ℕ) → length (filter test (days_from n count)) + count_before test n ≡ count_before test (n + count)
 length-from test n zero =
     let e : n + zero ≡ n = omega arith in
@@ -122,6 +130,7 @@ length-from test n (suc count) =
       | inr miss ↦ omega (arith, ap (count_before test) e, ap (count_before test) f, count-no test n miss, ap length (from-no test n count miss), length-from test (n + 1) count)
     ]
 
+-- The length of the list of the days before day n is the count before day n.
 length-back : (test : ℕ → Bool) (n : ℕ) → length (filter test (days_back_from n)) ≡ count_before test n
 length-back test zero = omega (arith, none-back test, count-none test)
 length-back test (suc n) =
@@ -134,11 +143,12 @@ length-back test (suc n) =
 apart : (test : ℕ → Bool) (m n : ℕ) → test m ≡ false → test n ≡ true → m ≡ n → ⊥
 apart test m n miss on e = false≢true (sym miss ∙ ap test e ∙ on)
 
--- So `≤` means `<` for two such days.
+-- A day that passes, and is not before a day that doesn't, is after it.
 after-no : (test : ℕ → Bool) (n x : ℕ) → test n ≡ false → test x ≡ true → n ≤ x → n < x
 after-no test n x miss on h =
     elim (cases_lt n x) as (λ _. n < x) [ inl less ↦ less | inr most ↦ absurd (apart test n x miss on (omega arith)) ]
 
+-- A day that passes, and is not after a day that doesn't, is before it.
 before-no : (test : ℕ → Bool) (n x : ℕ) → test n ≡ false → test x ≡ true → x ≤ n → x < n
 before-no test n x miss on h =
     elim (cases_lt x n) as (λ _. x < n) [ inl less ↦ less | inr most ↦ absurd (apart test n x miss on (omega arith)) ]
@@ -180,7 +190,7 @@ nth-from test n (suc count) (suc k) x low high on e =
           ∙ nth-from test (n + 1) count (suc k) x (omega arith) (omega arith) on (omega (arith, ap (count_before test) f, count-no test n miss))
     ]
 
--- A list has no day at index k if it has at most k days.
+-- A list from day n on has no day at index k if at most k of its days pass.
 pub none-nth_from : (test : ℕ → Bool) (n count k : ℕ) → count_before test (n + count) ≤ count_before test n + k → slice_get (filter test (days_from n count)) k ≡ None
 none-nth_from test n count k h = slice_get_past (filter test (days_from n count)) k (omega (arith, length-from test n count))
 
@@ -209,7 +219,7 @@ nth-back test (suc n) (suc k) x h on e =
           ∙ nth-back test n (suc k) x (before-no test n x miss on (omega arith)) on (omega (arith, count-no test n miss))
     ]
 
--- The days before day n have none at index k if at most k of them pass.
+-- The list of the days before day n has no day at index k if at most k of them pass.
 pub none-nth_back : (test : ℕ → Bool) (n k : ℕ) → count_before test n ≤ k → slice_get (filter test (days_back_from n)) k ≡ None
 none-nth_back test n k h = slice_get_past (filter test (days_back_from n)) k (omega (arith, length-back test n))
 

@@ -20,7 +20,8 @@ use Rattle.cal_schedule.specs.declared.rule.unit.PeriodUnit.{PeriodUnit}
 use Rattle.cal_schedule.specs.declared.rule.unit.PeriodUnit.TheVariants as unit
 
 -- The fourth day of the week of day n, 400 years later: the week can begin before the range, and
--- the calendar repeats. A week belongs to the year of this day, which has most of its days.
+-- the calendar repeats. A week belongs to the year of its fourth day, the year that has most of its
+-- days.
 unfoldable pub fourth_day : Weekday → ℕ → ℕ
 fourth_day first n = n + 146100 - (weekday_at n + 7 - index first) % 7
 
@@ -33,13 +34,14 @@ period_index unit.Month n = unsigned_abs (month_number_at n -ℤ first_year *ℤ
 period_index unit.Year n = unsigned_abs (year_at n -ℤ first_year)
 period_index (unit.WeekYear first) n = unsigned_abs (year_at (fourth_day first n) -ℤ (first_year +ℤ pos 399))
 
--- An item is the k-th if it is number k from the start, or number -k from the end if k is negative.
--- `ahead` and `back` are its numbers from the start and the end, both from 1.
+-- An item is the k-th if it has the number k from the start, or the number -k from the end if k is
+-- negative. `ahead` and `back` are its numbers from the start and the end, both from 1.
 abbrev pub is_nth : ℤ → ℕ → ℕ → Bool
 is_nth (pos k) ahead back = ahead == k
 is_nth (negsuc k) ahead back = back == suc k
 
--- An empty part allows everything.
+-- A part of a rule allows what passes the test with one of its values. An empty part allows
+-- everything.
 abbrev pub allows : {X : Type 0} → (X → Bool) → List X → Bool
 allows test [] = true
 allows test (x ∷ xs) = list_any test (x ∷ xs)
@@ -49,24 +51,27 @@ abbrev pub is_empty : {X : Type 0} → List X → Bool
 is_empty [] = true
 is_empty (x ∷ xs) = false
 
--- Day n is day k of its month.
+-- Day n is day k of its month, counted from the end if k is negative.
 unfoldable pub is_month_day : ℕ → ℤ → Bool
 is_month_day n k = is_nth k (day_of_month_at n) (days_in_month (year_at n) (month_at n) + 1 - day_of_month_at n)
 
--- Day n is day k of its year.
+-- Day n is day k of its year, counted from the end if k is negative.
 unfoldable pub is_year_day : ℕ → ℤ → Bool
 is_year_day n k = is_nth k (ordinal_at n) (days_in_year (year_at n) + 1 - ordinal_at n)
 
--- Day n is the k-th of its weekday in its year, or in its month. Every seven days have one.
+-- Day n is the k-th with its weekday in its year (`true`) or in its month (`false`). Every seven
+-- days have one day with it.
 unfoldable pub is_nth_weekday : Bool → ℕ → ℤ → Bool
 is_nth_weekday true n k = is_nth k ((ordinal_at n + 6) / 7) ((days_in_year (year_at n) - ordinal_at n) / 7 + 1)
 is_nth_weekday false n k = is_nth k ((day_of_month_at n + 6) / 7) ((days_in_month (year_at n) (month_at n) - day_of_month_at n) / 7 + 1)
 
--- The week of day n is the k-th of its year: its fourth day is the k-th with its weekday.
+-- The week of day n is the k-th of its year: its fourth day is the k-th with its weekday in that
+-- year.
 unfoldable pub is_week : Weekday → ℕ → ℤ → Bool
 is_week first n k = is_nth_weekday true (fourth_day first n) k
 
--- Day n has the weekday of a part, and its number if it has one.
+-- Day n has the weekday of a value of `BYDAY`, and the value's number in the year (`true`) or the
+-- month (`false`) if it has one.
 unfoldable pub matches_by_day : Bool → ℕ → ByDay → Bool
 matches_by_day of_year n (Every w) = weekday_at n == index w
 matches_by_day of_year n (Nth k w) = (weekday_at n == index w) && is_nth_weekday of_year n k
@@ -80,7 +85,8 @@ is_yearly f = false
 abbrev pub names_no_day : Rule → Bool
 names_no_day rule = is_empty rule.pattern.year_days && (is_empty rule.pattern.month_days && is_empty rule.pattern.weekdays)
 
--- The periods that a rule counts. A yearly rule with weeks has the years of its weeks.
+-- The periods that a rule counts, by its frequency, the weekday on which weeks begin, and whether
+-- it has no weeks. A yearly rule with weeks has the years of its weeks.
 abbrev pub unit_by : Frequency → Weekday → Bool → PeriodUnit
 unit_by Daily first no_weeks = unit.Day
 unit_by Weekly first no_weeks = unit.Week first
@@ -88,6 +94,7 @@ unit_by Monthly first no_weeks = unit.Month
 unit_by Yearly first true = unit.Year
 unit_by Yearly first false = unit.WeekYear first
 
+-- The periods that a rule counts: days, weeks, months, years, or years of weeks.
 unfoldable pub unit_of : Rule → PeriodUnit
 unit_of rule = unit_by rule.pattern.frequency rule.pattern.week_start (is_empty rule.pattern.weeks)
 
@@ -102,16 +109,17 @@ matches_months rule n =
 unfoldable pub matches_weeks : Rule → ℕ → Bool
 matches_weeks rule n = allows (is_week rule.pattern.week_start n) rule.pattern.weeks
 
--- Day n has the day of the start: the weekday in a weekly rule, the day of the month in a monthly
--- or yearly rule.
+-- Day n has the day of the start: any day in a daily rule, the weekday in a weekly rule, the day of
+-- the month in a monthly or yearly rule.
 abbrev pub matches_start : Frequency → ℕ → ℕ → Bool
 matches_start Daily start n = true
 matches_start Weekly start n = weekday_at n == weekday_at start
 matches_start Monthly start n = day_of_month_at n == day_of_month_at start
 matches_start Yearly start n = day_of_month_at n == day_of_month_at start
 
--- Day n passes the days of the year and of the month and the weekdays. If the rule names no day, it
--- has the day of the start, by the weekday if there are weeks.
+-- Day n passes the days of the year and of the month and the weekdays. The numbers of weekdays are
+-- those in the year if the rule is yearly and has no months, else in the month. If the rule names
+-- no day, day n has the day of the start, by the weekday if there are weeks.
 unfoldable pub matches_days : Rule → ℕ → Bool
 matches_days rule n =
     if names_no_day rule then matches_start (if is_empty rule.pattern.weeks then rule.pattern.frequency else Weekly) rule.start n
@@ -129,7 +137,7 @@ abbrev pub interval_or_1 : Rule → ℕ
 interval_or_1 rule = max rule.pattern.interval 1
 
 -- The number of periods from the last selected period to the period of day n. A period is selected
--- if it comes a multiple of the step after the period of the start.
+-- if it comes a multiple of the interval after the period of the start.
 unfoldable pub periods_past : Rule → ℕ → ℕ
 periods_past rule n = (period_index (unit_of rule) n - period_index (unit_of rule) rule.start) % interval_or_1 rule
 
@@ -143,7 +151,7 @@ passes_with rule n k =
     (period_index (unit_of rule) k == period_index (unit_of rule) n) && passes rule k
 
 -- Day n has a position of the rule: its rank among the days of the range that pass in its period,
--- counted from the first or from the last one.
+-- from 1 at the first day or from -1 at the last one.
 unfoldable pub matches_positions : Rule → ℕ → Bool
 matches_positions rule n =
     allows (λ k. is_nth k (count_before (passes_with rule n) (n + 1)) (count_from (passes_with rule n) n)) rule.pattern.set_positions
@@ -163,7 +171,7 @@ occurrences_after rule n = filter (is_occurrence rule) (days_from (n + 1) (last_
 abbrev pub occurrences : Rule → List ℕ
 occurrences rule = filter (is_occurrence rule) (days_from 0 (last_day + 1))
 
--- A day of the rule and the days after it, or no days.
+-- A day and the days of the rule after it, or no days.
 abbrev pub occurrences_left : Rule → Option ℕ → List ℕ
 occurrences_left rule None = []
 occurrences_left rule (Some n) = n ∷ occurrences_after rule n

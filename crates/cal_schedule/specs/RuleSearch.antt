@@ -13,7 +13,7 @@ use Rattle.cal_schedule.specs.Rule.{allows, is_occurrence, passes, period_index,
 abbrev pub NoDayBetween : Rule → ℕ → ℕ → Type 0
 NoDayBetween rule m n = (k : ℕ) → m ≤ k → k < n → is_occurrence rule k ≡ false
 
--- The weekday of a part, without its number.
+-- The weekday of a value of `BYDAY`, without its number.
 abbrev pub by_day_weekday : ByDay → Weekday
 by_day_weekday (Every w) = w
 by_day_weekday (Nth k w) = w
@@ -22,7 +22,8 @@ by_day_weekday (Nth k w) = w
 abbrev pub may_fall_on : Rule → ℕ → Bool
 may_fall_on rule at = allows (λ by. at == index (by_day_weekday by)) rule.pattern.weekdays
 
--- r is the first day of the range in period t or a later one.
+-- r is the first day of the range in period t or a later one. If r is `None`, all days of the range
+-- are in earlier periods.
 abbrev pub IsFirstOfPeriod : PeriodUnit → ℕ → Option ℕ → Type 0
 IsFirstOfPeriod u t r =
     MatchOption r ((k : ℕ) → IsDate k → period_index u k < t) (λ x. IsDate x × (t ≤ period_index u x) × ((k : ℕ) → k < x → period_index u k < t))
@@ -35,7 +36,7 @@ pub record IsPeriodStart (rule : Rule) (n s : ℕ) : Type 0 where
   pub from : (k : ℕ) → s ≤ k
       → period_index (unit_of rule) n ≤ period_index (unit_of rule) k
 
--- Day e comes after the last day of the range in the period of day n.
+-- Day e is the day after the last day of the range in the period of day n.
 pub record IsPeriodEnd (rule : Rule) (n e : ℕ) : Type 0 where
   pub last : n < e
   pub range : e ≤ last_day + 1
@@ -48,7 +49,8 @@ pub record IsPeriodEnd (rule : Rule) (n e : ℕ) : Type 0 where
 abbrev pub NonePass : Rule → ℕ → ℕ → Type 0
 NonePass rule m n = (k : ℕ) → m ≤ k → k < n → passes rule k ≡ false
 
--- r is a day after day n, and no day between them passes. If r is `None`, no later day passes.
+-- r is a day after day n, and no day between them passes. If r is `None`, no day after day n
+-- passes.
 abbrev pub IsCandidate : Rule → ℕ → Option ℕ → Type 0
 IsCandidate rule n r = MatchOption r (NonePass rule (n + 1) (last_day + 1)) (λ x. (n < x) × IsDate x × NonePass rule (n + 1) x)
 
@@ -57,7 +59,8 @@ IsCandidate rule n r = MatchOption r (NonePass rule (n + 1) (last_day + 1)) (λ 
 abbrev pub IsSkip : Rule → ℕ → Option ℕ → Type 0
 IsSkip rule n r = MatchOption r (NoDayBetween rule n (last_day + 1)) (λ x. (n < x) × IsDate x × NoDayBetween rule n x)
 
--- r is the first day of the rule from day n on, or a day to go on with.
+-- r is the first day of the rule from day n on, or a day to go on with, or `None` if the rule has
+-- no day from day n on.
 abbrev pub IsStep : Rule → ℕ → Result ℕ (Option ℕ) → Type 0
 IsStep rule n r = MatchResult r (λ x. (n ≤ x) × IsDate x × (is_occurrence rule x ≡ true) × NoDayBetween rule n x) (IsSkip rule n)
 
@@ -68,7 +71,7 @@ IsNextBefore rule n e r =
     MatchOption r ((k : ℕ) → n ≤ k → k < e → IsDate k → is_occurrence rule k ≡ false)
     (λ x. (n ≤ x) × IsDate x × (is_occurrence rule x ≡ true) × NoDayBetween rule n x)
 
--- r is the first day of the rule from day n on.
+-- r is the first day of the rule from day n on, or `None` if there is none.
 abbrev pub IsNextFrom : Rule → ℕ → Option ℕ → Type 0
 IsNextFrom rule n r =
     MatchOption r (NoDayBetween rule n (last_day + 1)) (λ x. (n ≤ x) × IsDate x × (is_occurrence rule x ≡ true) × NoDayBetween rule n x)

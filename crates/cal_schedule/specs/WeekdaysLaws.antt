@@ -14,13 +14,14 @@ use Rattle.cal_schedule.specs.MonthLaws.{month_numbers-rise, first_before, days_
 use Rattle.cal_schedule.specs.Months.{month_number_at}
 use Rattle.cal_schedule.specs.Weekdays.{is_weekday_in_month, IsNthWeekday, IsLastWeekday}
 
--- The days from the first of one month to the last of another, in the same year, are the days of
--- these months.
+-- Day k is in the year y, in one of its months from a to b.
 pub record IsInMonths (y : ℤ) (a b k : ℕ) : Type 0 where
   pub year : year_at k ≡ y
   pub least : a ≤ month_at k
   pub most : month_at k ≤ b
 
+-- A day from the first day f of the month a to the last day l of the month b of the year y is in
+-- these months.
 pub within_months : (y : ℤ) (a b f l k : ℕ) → HasCalendarDate y a 1 f → HasCalendarDate y b (days_in_month y b) l → f ≤ k → k ≤ l → IsInMonths y a b k
 within_months y a b f l k first last low high =
     let start = number_from f y a 1 first in
@@ -34,13 +35,16 @@ within_months y a b f l k first last low high =
     let b_is : month_at l ≡ b = ap (λ c. c.month) last in
     record { year = omega (arith, ints, month.0, month.1, from.0, to.1); least = omega (arith, ints, month.0, month.1, from.0, to.1); most = omega (arith, ints, month.0, month.1, from.0, to.1) }
 
+-- A day of these months is not before the first day f of the month a.
 pub after_first : (y : ℤ) (a b f k : ℕ) → HasCalendarDate y a 1 f → IsInMonths y a b k → f ≤ k
 after_first y a b f k first h = first-least f k y a first (omega (arith, ints, h.year, h.least))
 
+-- A day of these months is not after the last day l of the month b.
 pub before_last : (y : ℤ) (a b l k : ℕ) → HasCalendarDate y b (days_in_month y b) l → IsInMonths y a b k → k ≤ l
 before_last y a b l k last h = last-greatest l k y b last (omega (arith, ints, h.year, h.most))
 
--- So a test of these months and a weekday has that span.
+-- If a test holds for the days of these months with the weekday w, and for no other days, these are
+-- the days with this weekday from day f to day l.
 pub span_of : (test : ℕ → Bool) (w : ℕ) (y : ℤ) (a b f l : ℕ) → HasCalendarDate y a 1 f → HasCalendarDate y b (days_in_month y b) l
     → ((k : ℕ) → test k ≡ true → IsInMonths y a b k) → ((k : ℕ) → IsInMonths y a b k → test k ≡ (k % 7 == w)) → IsSpan test w f l
 span_of test w y a b f l first last out in_months = record {
@@ -49,22 +53,27 @@ span_of test w y a b f l first last out in_months = record {
   past = λ k h. false_from_ne_true (test k) (λ on. omega (arith, before_last y a b l k last (out k on)));
 }
 
+-- A day that is in the month m of the year y and has the weekday w is in the months from m to m.
 of_month : (w : ℕ) (y : ℤ) (m k : ℕ) → is_weekday_in_month w y m k ≡ true → IsInMonths y m m k
 of_month w y m k on =
     let year = and_parts _ _ on in
     let month : month_at k ≡ m = eqb-true _ _ (and_parts _ _ year.1).0 in
     record { year = (Decides-int_eq (year_at k) y).0 year.0; least = omega arith; most = omega arith }
 
+-- A day in the month m of the year y passes the test for the weekday w exactly if its remainder by
+-- 7 is w.
 in_month : (w : ℕ) (y : ℤ) (m k : ℕ) → IsInMonths y m m k → is_weekday_in_month w y m k ≡ (k % 7 == w)
 in_month w y m k h =
     let month : (month_at k == m) ≡ true = eq-eqb _ _ (omega (arith, h.least, h.most)) in
     rw ((Decides-int_eq (year_at k) y).1 h.year, month, weekday_at-is k) refl
 
+-- The days of a month with the weekday w are the days with this weekday from its first day f to its
+-- last day l.
 pub month_span : (w : ℕ) (y : ℤ) (m f l : ℕ) → HasCalendarDate y m 1 f → HasCalendarDate y m (days_in_month y m) l → IsSpan (is_weekday_in_month w y m) w f l
 month_span w y m f l first last = span_of (is_weekday_in_month w y m) w y m m f l first last (of_month w y m) (in_month w y m)
 
--- A day of a month and its first day: their distance, and the number of days with a weekday up to the
--- day.
+-- Day n, the day d of a month with the first day f, is d - 1 days after f. The days of the month
+-- with the weekday w up to day n are counted by whole weeks.
 pub counted : (y : ℤ) (m f w d n : ℕ) → HasCalendarDate y m 1 f → HasCalendarDate y m d n → w < 7
     → (f + d ≡ n + 1) × (count_before (is_weekday_in_month w y m) (n + 1) + (f + 6 - w) / 7 ≡ (n + 7 - w) / 7)
 counted y m f w d n e h below =
@@ -80,7 +89,8 @@ counted y m f w d n e h below =
     let numbers : f + d + 6 - w ≡ n + 7 - w = omega arith in
     (sums, ap (λ k. count_before (is_weekday_in_month w y m) k + (f + 6 - w) / 7) (sym sums) ∙ count ∙ ap (λ k. k / 7) numbers)
 
--- The k-th such weekday of a month, by its day of the month. The first day of the month is f.
+-- The k-th day of a month with the weekday w, by its day of the month d. The first day of the month
+-- is f.
 pub index-nth : (y : ℤ) (m f w k d n : ℕ) → HasCalendarDate y m 1 f → HasCalendarDate y m d n → w < 7 → d + 6 ≡ 7 * k + (w + 7 - f % 7) % 7 → IsNthWeekday y m w k n
 index-nth y m f w k d n e at below day =
     let count = counted y m f w d n e at below in
@@ -89,7 +99,8 @@ index-nth y m f w k d n e at below day =
       nth = omega (arith, count.0, count.1);
     }
 
--- The last such weekday of a month, by its day of the month. The last day of the month is t.
+-- The last day of a month with the weekday w, by its day of the month. The last day of the month is
+-- t.
 pub last-index : (y : ℤ) (m t w r : ℕ) → IsDate t → IsDate r → w < 7 → HasCalendarDate y m (days_in_month y m) t
     → HasCalendarDate y m (days_in_month y m - (weekday_at t + 7 - w) % 7) r → IsLastWeekday y m w r
 last-index y m t w r dates date below end at =

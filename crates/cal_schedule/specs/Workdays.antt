@@ -4,8 +4,7 @@ use Rattle.std.specs.List.{list_any}
 use Rattle.cal_time.specs.Date.{last_day, weekday_at}
 use Rattle.cal_time.specs.Occurrences.{days_from, days_back_from}
 
--- A working week has a mark for each weekday, from Monday to Sunday, and the numbers of the
--- holidays.
+-- A working week: a mark for each weekday, from Monday to Sunday, and the numbers of the holidays.
 pub record WorkWeek : Type 0 where
   pub marks : List Bool
   pub holidays : List ℕ
@@ -18,7 +17,7 @@ is_marked w n = slice_index_or w.marks (weekday_at n) false
 unfoldable pub is_holiday : WorkWeek → ℕ → Bool
 is_holiday w n = list_any (λ h. h == n) w.holidays
 
--- Day n is a working day.
+-- Day n is a working day: its weekday is marked, and it is not a holiday.
 unfoldable pub is_workday : WorkWeek → ℕ → Bool
 is_workday w n = is_marked w n && not (is_holiday w n)
 
@@ -34,8 +33,8 @@ workdays_before w n = filter (is_workday w) (days_back_from n)
 abbrev pub workdays_within : WorkWeek → ℕ → ℕ → List ℕ
 workdays_within w m n = filter (is_workday w) (days_from m (n - m))
 
--- The n-th working day after day n, or before it if the number is negative. For 0 it is the first
--- working day from day n on.
+-- The k-th working day after day n, or for -k the k-th before it, if the range has it. For 0 it is
+-- the first working day from day n on.
 abbrev pub nth_workday : WorkWeek → ℤ → ℕ → Option ℕ
 nth_workday w (pos zero) n = slice_get (workdays_from w n) 0
 nth_workday w (pos (suc k)) n = slice_get (workdays_from w (n + 1)) k

@@ -11,10 +11,11 @@ use Rattle.cal_schedule.specs.declared.workdays.convention.Convention.{Conventio
 use Rattle.cal_schedule.specs.declared.workdays.convention.Convention.TheVariants.{Unadjusted, Following, ModifiedFollowing, Preceding, ModifiedPreceding}
 use Rattle.cal_schedule.specs.Ranks.{count-yes, length-from, nth-from, nth-back}
 
--- A working day is the first from itself on, and the last up to itself.
+-- A working day of the range is the first one from itself on.
 from-here : (w : WorkWeek) (n : ℕ) → IsDate n → is_workday w n ≡ true → slice_get (workdays_from w n) 0 ≡ Some n
 from-here w n h on = nth-from (is_workday w) n (last_day + 1 - n) 0 n (omega arith) (omega arith) on (omega arith)
 
+-- A working day is the last one up to itself.
 back-here : (w : WorkWeek) (n : ℕ) → is_workday w n ≡ true → slice_get (workdays_before w (n + 1)) 0 ≡ Some n
 back-here w n on = nth-back (is_workday w) (n + 1) 0 n (omega arith) on (omega (arith, ap (count_before (is_workday w)) (add-one n), count-yes (is_workday w) n on))
 

@@ -28,11 +28,13 @@ count_between test n t = pos (count_before test t) -ℤ pos (count_before test n
 abbrev pub thirty_days : ℕ → ℕ → ℕ → ℕ → ℤ
 thirty_days n t d1 d2 = (year_at t -ℤ year_at n) *ℤ pos 360 +ℤ (pos (month_at t) -ℤ pos (month_at n)) *ℤ pos 30 +ℤ pos d2 -ℤ pos d1
 
--- In the bond basis the last day 31 counts as 30 if the first day is after the 29th.
+-- The day of the month of the last day in the bond basis: 30 in place of 31 if the day of the month
+-- of the first day is after the 29th.
 abbrev pub bond_end : ℕ → ℕ → ℕ
 bond_end d1 d2 = if (d2 == 31) && nat_lt 29 d1 then 30 else d2
 
--- The numerator is the number of days by the convention.
+-- The numerator is the number of days by the convention. For actual/actual it is the days in leap
+-- years times 365, plus the days in common years times 366.
 abbrev pub day_count_numerator : DayCount → ℕ → ℕ → ℤ
 day_count_numerator Actual360 n t = actual_days n t
 day_count_numerator Actual365Fixed n t = actual_days n t
@@ -40,7 +42,8 @@ day_count_numerator Thirty360 n t = thirty_days n t (min (day_of_month_at n) 30)
 day_count_numerator ThirtyE360 n t = thirty_days n t (min (day_of_month_at n) 30) (min (day_of_month_at t) 30)
 day_count_numerator ActualActual n t = count_between in_leap_year n t *ℤ pos 365 +ℤ count_between in_common_year n t *ℤ pos 366
 
--- The denominator is the days of a year by the convention. For actual/actual it is 366 times 365.
+-- The denominator is the number of days in a year by the convention. For actual/actual it is 366
+-- times 365.
 abbrev pub day_count_denominator : DayCount → ℕ
 day_count_denominator Actual360 = 360
 day_count_denominator Actual365Fixed = 365

@@ -11,7 +11,8 @@ use cal_time::limits::MIN_YEAR;
 use cal_time::util::is_leap_year;
 
 /// Returns the index of the month of a day of the range, from 0 for January of -999999, and the day
-/// of the month.
+/// of the month. The number of the day is from 0 to 730484633. For 365981444, 2024-02-29, it is
+/// (12024277, 29).
 #[inline(always)]
 pub fn month_number_and_day(number: u32) -> (u32, u8)
     requires { IsDate number }
@@ -25,7 +26,8 @@ pub fn month_number_and_day(number: u32) -> (u32, u8)
 }
 
 /// Returns the number of the day in a month, by its index, with this day of the month, or of the
-/// last day of the month if it is shorter. The index is below 23999988, and the day 1 or more.
+/// last day of the month if it is shorter. The index is below 23999988, and the day 1 or more. For
+/// the index 12024277, February 2024, and the day 31 it is 365981444, 2024-02-29.
 #[inline(always)]
 pub fn clamped_date_in_month(index: u32, day: u8) -> u32
     requires month { index < months_in_range }

@@ -16,14 +16,14 @@ pub fn no_months(date: Date) -> Option<Date>
     checked_add_months(date, 0)
 }
 
-/// Adds a month, which gives a date in the next month.
+/// Adds a month. A result is in the next month.
 pub fn next_month(date: Date) -> Option<Date>
     ensures { IfSome result (λ later. month_number_at later ≡ month_number_at date +ℤ pos 1) }
 {
     checked_add_months(date, 1)
 }
 
-/// Adds the same months to two dates, which keep their order.
+/// Adds the same months to two dates. If both results exist, they keep their order.
 pub fn in_order(one: Date, other: Date, months: i32) -> Option<(Date, Date)>
     requires { one ≤ other }
     ensures { IfSome result (λ later. later.0 ≤ later.1) }
@@ -41,7 +41,7 @@ pub fn not_past(from: Date, to: Date) -> Option<Date>
     checked_add_months(from, months_until(from, to))
 }
 
-/// Adds one month more than the months until a date, which gives a later date.
+/// Adds one month more than the months until a date. A result is later than this date.
 pub fn one_more(from: Date, to: Date) -> Option<Date>
     requires { from ≤ to }
     ensures { IfSome result (λ later. to < later) }
@@ -50,7 +50,8 @@ pub fn one_more(from: Date, to: Date) -> Option<Date>
     checked_add_months(from, months)
 }
 
-/// Adds months and subtracts them again, which gives the same date if its day is 28 or less.
+/// Adds months and subtracts them again. The day of the month must be 28 or less. A result is the
+/// same date.
 pub fn months_round_trip(date: Date, months: i32) -> Option<Date>
     requires { day_of_month_at date ≤ 28 }
     ensures { IfSome result (λ back. back ≡ date) }

@@ -44,7 +44,8 @@ pub fn checked_add_months(date: Date, months: i32) -> Option<Date>
 }
 
 /// Adds months like [`checked_add_months`], but returns the first or the last date of the range if
-/// the resulting month is out of range. A month after [`Date::MAX`] is `Date::MAX`.
+/// the resulting month is out of range. A month after [`Date::MAX`] is `Date::MAX`, and a month
+/// before [`Date::MIN`] is `Date::MIN`.
 pub fn saturating_add_months(date: Date, months: i32) -> Date
     ensures value { IsMonthNumber (month_number_at date +ℤ months)
         → IsMonthsLater date months result }

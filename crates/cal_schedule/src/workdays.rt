@@ -15,7 +15,9 @@ pub use calendar::Workdays;
 pub use convention::Convention;
 
 impl Workdays<'_> {
-    /// Returns `true` for a working day: its weekday is marked, and it is not a holiday.
+    /// Returns `true` for a working day: its weekday is marked, and it is not a holiday. For Monday
+    /// to Friday with the holiday 2024-12-25, it is `false` on 2024-12-25, a Wednesday, and `true`
+    /// on 2024-12-26.
     pub fn is_workday(&self, date: Date) -> bool
         ensures value { result ≡ is_workday self.now date }
         ensures in_range { IsDate date }

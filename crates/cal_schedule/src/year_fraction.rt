@@ -27,12 +27,15 @@ pub enum DayCount {
     ActualActual,
 }
 
-/// A fraction of a year.
+/// A fraction of a year, as [`day_count`] returns it: not reduced, and with a numerator that can be
+/// negative or 0.
 #[derive(Clone, Copy, Debug, PartialEq, Eq)]
 pub struct YearFraction {
-    /// The number of days, by the convention.
+    /// The number of days, by the convention. For actual/actual it is the days in leap years times
+    /// 365, plus the other days times 366.
     pub numerator: i64,
-    /// The number of days in a year, by the convention.
+    /// The number of days in a year, by the convention: 360 or 365. For actual/actual it is 133590,
+    /// 366 times 365.
     pub denominator: u32,
 }
 

@@ -21,14 +21,15 @@ use Rattle.cal_date.proofs.Rising.{Rises-calendar_date, Rises-ordinal_date}
 use Rattle.cal_date.proofs.Years.{days_before-next}
 use Rattle.cal_time.specs.Days.{month_at-range}
 
--- The number of a month determines the month, and the index of a weekday the weekday.
+-- Two months with the same number are the same.
 pub number-one : (m k : Month) → month.number m ≡ month.number k → m ≡ k
 number-one m k e = sym (month_of_index-index m) ∙ ap month.month_of_index (omega (arith, e)) ∙ month_of_index-index k
 
+-- Two weekdays with the same index are the same.
 pub index-one : (v w : Weekday) → weekday.index v ≡ weekday.index w → v ≡ w
 index-one v w e = sym (weekday_of_index-index v) ∙ ap weekday.weekday_of_index e ∙ weekday_of_index-index w
 
--- A day has one calendar date and one ISO week date.
+-- Two calendar dates of the same day are the same.
 pub calendar_date-same : (n : ℕ) (r s : ℤ × Month × ℕ) → HasCalendarDate r.0 (month.number r.1) r.2 n → HasCalendarDate s.0 (month.number s.1) s.2 n → r ≡ s
 calendar_date-same n r s e f =
     let years : r.0 ≡ s.0 = ap (λ d. d.year) (sym e ∙ f) in
@@ -36,6 +37,7 @@ calendar_date-same n r s e f =
     let days : r.2 ≡ s.2 = ap (λ d. d.day) (sym e ∙ f) in
     λ i. (years i, months i, days i)
 
+-- Two ISO week dates of the same day are the same.
 pub iso_week_date-same : (n : ℕ) (r s : ℤ × ℕ × Weekday) → HasIsoWeekDate r.0 r.1 (weekday.index r.2) n → HasIsoWeekDate s.0 s.1 (weekday.index s.2) n → r ≡ s
 iso_week_date-same n r s e f =
     let years : r.0 ≡ s.0 = sym e.0 ∙ f.0 in
@@ -43,12 +45,15 @@ iso_week_date-same n r s e f =
     let days : r.2 ≡ s.2 = index-one r.2 s.2 (sym e.2 ∙ f.2) in
     λ i. (years i, weeks i, days i)
 
--- The order of two components, and of three, by cases.
+-- The year z isn't before y. In the same year the month k isn't before m, and in the same month the
+-- day d is before e.
 record InOrder (y z : ℤ) (m k d e : ℕ) : Type 0 where
   years : y ≤ℤ z
   months : y ≡ z → m ≤ k
   days : y ≡ z → m ≡ k → d < e
 
+-- A year and an ordinal that are before another year and ordinal are in this order. The months are
+-- 0, as if each year had one month.
 two : (y z : ℤ) (o p : ℕ) → IsBefore (y ∷ pos o ∷ []) (z ∷ pos p ∷ []) → InOrder y z 0 0 o p
 two y z o p h =
     elim h as (λ _. InOrder y z 0 0 o p) [
@@ -59,6 +64,7 @@ two y z o p h =
       ]
     ]
 
+-- A year, a month and a day that are before another year, month and day are in this order.
 three : (y z : ℤ) (m k d e : ℕ) → IsBefore (y ∷ pos m ∷ pos d ∷ []) (z ∷ pos k ∷ pos e ∷ []) → InOrder y z m k d e
 three y z m k d e h =
     elim h as (λ _. InOrder y z m k d e) [
@@ -68,12 +74,15 @@ three y z m k d e h =
           record { years = omega (arith, ints, same.0); months = λ f. omega (arith, ints, after.years); days = λ f g. after.days (ap pos g) refl }
     ]
 
+-- The years and the ordinals of an earlier and a later day are in this order.
 by_ordinal : (m n : ℕ) → m < n → InOrder (year_at m) (year_at n) 0 0 (ordinal_at m) (ordinal_at n)
 by_ordinal m n h = two _ _ _ _ ((in_order ordinal_date_at Rises-ordinal_date m n).0 h)
 
+-- The years, the months and the days of the month of an earlier and a later day are in this order.
 by_calendar : (m n : ℕ) → m < n → InOrder (year_at m) (year_at n) (month_at m) (month_at n) (day_of_month_at m) (day_of_month_at n)
 by_calendar m n h = three _ _ _ _ _ _ ((in_order calendar_date_at Rises-calendar_date m n).0 h)
 
+-- The ISO years, the ISO weeks and the weekdays of an earlier and a later day are in this order.
 by_week : (m n : ℕ) → m < n → InOrder (iso_year_at m) (iso_year_at n) (iso_week_at m) (iso_week_at n) (weekday_at m) (weekday_at n)
 by_week m n h = three _ _ _ _ _ _ ((in_order iso_week_date_at iso_week_dates-rise m n).0 h)
 
@@ -85,10 +94,11 @@ year_at-rises m n h =
       | inr most ↦ let e : m ≡ n = omega arith in omega (arith, ints, ap year_at e)
     ]
 
--- In one year an earlier day has a smaller ordinal, and doesn't have a later month.
+-- In one year an earlier day has a smaller ordinal.
 pub ordinal_at-rises : (m n : ℕ) → m < n → year_at m ≡ year_at n → ordinal_at m < ordinal_at n
 ordinal_at-rises m n h e = (by_ordinal m n h).days e refl
 
+-- In one year an earlier day doesn't have a later month.
 pub month_at-rises : (m n : ℕ) → m ≤ n → year_at m ≡ year_at n → month_at m ≤ month_at n
 month_at-rises m n h e =
     elim (cases_lt m n) [
@@ -104,11 +114,12 @@ day_of_month_at-rises m n h e f = (by_calendar m n h).days e f
 later_by : (y z : ℤ) (p q : ℕ) → y ≤ℤ z → (y ≡ z → p ≤ q) → q < p → y <ℤ z
 later_by y z p q h rises less = grind (arith, ints)
 
--- The later day is in a later year if its month is earlier, or if the month is the same and its day
--- of the month is earlier.
+-- A later day is in a later year if its month has a smaller number.
 pub year_at-later : (m n : ℕ) → m ≤ n → month_at n < month_at m → year_at m <ℤ year_at n
 year_at-later m n h less = later_by (year_at m) (year_at n) (month_at m) (month_at n) (year_at-rises m n h) (month_at-rises m n h) less
 
+-- A later day is in a later year if its month has the same number, and its day of the month is
+-- smaller.
 pub year_at-later_in_month : (m n : ℕ) → m ≤ n → month_at n ≡ month_at m → day_of_month_at n < day_of_month_at m → year_at m <ℤ year_at n
 year_at-later_in_month m n h same less =
     elim (cases_lt m n) [
@@ -116,7 +127,7 @@ year_at-later_in_month m n h same less =
       | inr most ↦ let e : m ≡ n = omega arith in absurd (omega (arith, ap day_of_month_at e))
     ]
 
--- The same for ISO years, for the weeks of one ISO year, and for the weekdays of one week.
+-- An earlier day doesn't have a later ISO year.
 pub iso_year_at-rises : (m n : ℕ) → m ≤ n → iso_year_at m ≤ℤ iso_year_at n
 iso_year_at-rises m n h =
     elim (cases_lt m n) [
@@ -124,6 +135,7 @@ iso_year_at-rises m n h =
       | inr most ↦ let e : m ≡ n = omega arith in omega (arith, ints, ap iso_year_at e)
     ]
 
+-- In one ISO year an earlier day doesn't have a later ISO week.
 pub iso_week_at-rises : (m n : ℕ) → m ≤ n → iso_year_at m ≡ iso_year_at n → iso_week_at m ≤ iso_week_at n
 iso_week_at-rises m n h e =
     elim (cases_lt m n) [
@@ -131,18 +143,19 @@ iso_week_at-rises m n h e =
       | inr most ↦ let same : m ≡ n = omega arith in omega (arith, ap iso_week_at same)
     ]
 
+-- In one ISO week an earlier day has an earlier weekday, counted from Monday.
 pub weekday_at-rises : (m n : ℕ) → m < n → iso_year_at m ≡ iso_year_at n → iso_week_at m ≡ iso_week_at n → weekday_at m < weekday_at n
 weekday_at-rises m n h e f = (by_week m n h).days e f
 
--- The distance of two days of one year is the distance of their ordinals.
+-- The distance of two days of one year is the difference of their ordinals.
 pub ordinals-apart : (m n : ℕ) → year_at m ≡ year_at n → m + ordinal_at n ≡ n + ordinal_at m
 ordinals-apart m n e = same_year m n e
 
--- The same for a caller's `#[tactic(auto, using(..))]`, which takes no name with a dash.
+-- The law above for a caller's `#[tactic(auto, using(..))]`, which takes no name with a dash.
 pub ruleset days_apart = (ordinals-apart)
 
--- The distance of a day and a day of the next year is the distance of their ordinals, plus the
--- length of the first year.
+-- The distance of a day of the year y and a day of the next year is the difference of their
+-- ordinals, plus the number of days of the year y.
 pub ordinals-apart_a_year : (y : ℤ) (m n : ℕ) → year_at m ≡ y → year_at n ≡ y +ℤ pos 1 → m + days_in_year y + ordinal_at n ≡ n + ordinal_at m
 ordinals-apart_a_year y m n e f =
     let here = stands m in
@@ -150,10 +163,13 @@ ordinals-apart_a_year y m n e f =
     let late : first_year ≤ℤ y = omega (arith, ints, here.year) in
     omega (arith, here.number_is, there.number_is, ap days_before e, ap days_before f, days_before-next y late, here.ordinal.0, there.ordinal.0)
 
--- A later day doesn't have an earlier month, if months are counted on from year to year.
+-- If the year z isn't before y, and in the same year the month k isn't before m, then the month k
+-- of z isn't before the month m of y. Months are numbered as 12 times the year plus the month.
 months_in_order : (y z : ℤ) (m k : ℕ) → y ≤ℤ z → (y ≡ z → m ≤ k) → m ≤ 12 → 1 ≤ k → (pos 12 *ℤ y +ℤ pos m) ≤ℤ (pos 12 *ℤ z +ℤ pos k)
 months_in_order y z m k years months most least = grind (arith, ints)
 
+-- An earlier day doesn't have a later month. Months are numbered as 12 times the year plus the
+-- month.
 pub months-rise : (m n : ℕ) → m ≤ n → (pos 12 *ℤ year_at m +ℤ pos (month_at m)) ≤ℤ (pos 12 *ℤ year_at n +ℤ pos (month_at n))
 months-rise m n h =
     months_in_order (year_at m) (year_at n) (month_at m) (month_at n) (year_at-rises m n h) (month_at-rises m n h) (month_at-range m).1 (month_at-range n).0

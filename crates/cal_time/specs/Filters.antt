@@ -8,41 +8,44 @@ use Rattle.cal_date.specs.Occurrences.{days_from}
 abbrev pub NoDayMatches : (ℕ → Bool) → ℕ → ℕ → Type 0
 NoDayMatches test n count = (k : ℕ) → n ≤ k → k < n + count → test k ≡ false
 
--- x is the first of these days that passes.
+-- x is the first of the `count` days from day n on that passes the test.
 pub record IsFirstDay (test : ℕ → Bool) (n count x : ℕ) : Type 0 where
   pub not_before : n ≤ x
   pub within : x < n + count
   pub passes : test x ≡ true
   pub none_before : (k : ℕ) → n ≤ k → k < x → test k ≡ false
 
--- The days that pass, in order.
+-- The days that pass the test among `count` days from day n on, in order.
 abbrev matching_days : (ℕ → Bool) → ℕ → ℕ → List ℕ
 matching_days test n count = filter test (days_from n count)
 
--- One step of the list.
+-- Without days the list is empty.
 matching_days-none : (test : ℕ → Bool) (n : ℕ) → matching_days test n 0 ≡ []
 unfolding days_from
 matching_days-none test n = refl
 
+-- If the first day passes, the list is this day and then the list of the other days.
 matching_days-true : (test : ℕ → Bool) (n count : ℕ) → test n ≡ true → matching_days test n (suc count) ≡ n ∷ matching_days test (n + 1) count
 unfolding days_from
 matching_days-true test n count h = rw h refl
 
+-- If the first day doesn't pass, the list is the list of the other days.
 matching_days-false : (test : ℕ → Bool) (n count : ℕ) → test n ≡ false → matching_days test n (suc count) ≡ matching_days test (n + 1) count
 unfolding days_from
 matching_days-false test n count h = rw h refl
 
--- The list is empty, and no day passes, or it begins with the first day that passes.
+-- No day passes, and the list is empty.
 record BeginsEmpty (test : ℕ → Bool) (n count : ℕ) : Type 0 where
   none : NoDayMatches test n count
   days : matching_days test n count ≡ []
 
+-- The list is the first day that passes, and then the list of the days after it.
 record BeginsWithDay (test : ℕ → Bool) (n count : ℕ) : Type 0 where
   day : ℕ
   first : IsFirstDay test n count day
   days : matching_days test n count ≡ day ∷ matching_days test (day + 1) (n + count - (day + 1))
 
--- If the first day doesn't pass, the list begins like the list of the other days.
+-- If the first day doesn't pass, and no day after it does, then no day passes.
 none_after : (test : ℕ → Bool) (n count : ℕ) → test n ≡ false → NoDayMatches test (n + 1) count → NoDayMatches test n (suc count)
 none_after test n count off none k low high =
     elim (cases_lt n k) [
@@ -50,6 +53,7 @@ none_after test n count off none k low high =
       | inr same ↦ let e : n ≡ k = omega arith in ap test (sym e) ∙ off
     ]
 
+-- If the first day doesn't pass, the first day after it that passes is the first of all.
 first_after : (test : ℕ → Bool) (n count x : ℕ) → test n ≡ false → IsFirstDay test (n + 1) count x → IsFirstDay test n (suc count) x
 first_after test n count x off h = record {
   not_before = omega (arith, h.not_before);
@@ -61,6 +65,7 @@ first_after test n count x off h = record {
   ];
 }
 
+-- The list is empty, and no day passes, or it begins with the first day that passes.
 begins : (test : ℕ → Bool) (n count : ℕ) → BeginsEmpty test n count ⊎ BeginsWithDay test n count
 begins test n zero = inl (record { none = λ k low high. absurd (omega arith); days = matching_days-none test n })
 begins test n (suc count) =
@@ -84,6 +89,7 @@ begins test n (suc count) =
       ]
     ]
 
+-- Two days that are both the first day that passes are the same.
 one_first : (test : ℕ → Bool) (n count x y : ℕ) → IsFirstDay test n count x → IsFirstDay test n count y → x ≡ y
 one_first test n count x y h k =
     elim (cases_lt x y) [
@@ -94,7 +100,7 @@ one_first test n count x y h k =
       ]
     ]
 
--- The first item of the list is the first day that passes. Without a first item, no day passes.
+-- If the list has a first item, it is the first day that passes.
 pub first_matching : (test : ℕ → Bool) (n count : ℕ) (r : Option ℕ) → r ≡ slice_get (filter test (days_from n count)) 0 → IfSome r (IsFirstDay test n count)
 first_matching test n count r e =
     elim (begins test n count) [
@@ -102,6 +108,7 @@ first_matching test n count r e =
       | inr h ↦ rw (e, h.days) h.first
     ]
 
+-- If the list has no first item, no day passes.
 pub none_matching : (test : ℕ → Bool) (n count : ℕ) → slice_get (filter test (days_from n count)) 0 ≡ None → NoDayMatches test n count
 none_matching test n count e =
     elim (begins test n count) [
@@ -118,6 +125,7 @@ filter-first test n count x h =
       | inr k ↦ let e = one_first test n count k.day x k.first h in k.days ∙ ap (λ m. m ∷ matching_days test (m + 1) (n + count - (m + 1))) e
     ]
 
+-- If no day passes, the list is empty.
 pub filter-none : (test : ℕ → Bool) (n count : ℕ) → NoDayMatches test n count → filter test (days_from n count) ≡ []
 filter-none test n count h =
     elim (begins test n count) [

@@ -4,7 +4,8 @@ use Rattle.cal_clock.specs.Time.{IsTime}
 use Rattle.cal_date.specs.Date.{IsDate, julian_day_at}
 use Rattle.cal_span.specs.SignedDuration.{day}
 
--- The number of a pair is its Julian day times a day, plus its time, in nanoseconds.
+-- The number of a pair: its Julian day times the nanoseconds of a day, plus its time of day in
+-- nanoseconds.
 abbrev pub pair_number : ℕ → ℕ → ℤ
 pair_number n t = julian_day_at n *ℤ pos day +ℤ pos t
 
@@ -18,6 +19,6 @@ pub record HasPairNumber (z : ℤ) (n t : ℕ) : Type 0 where
 abbrev pub NoPair : ℤ → Type 0
 NoPair z = (n t : ℕ) → ¬ HasPairNumber z n t
 
--- r is the pair with the number z, or nothing if no pair has it.
+-- r is the pair of a day and a time of day with the number z, or `None` if no pair has it.
 abbrev pub IsPairWithNumber : ℤ → Option (ℕ × ℕ) → Type 0
 IsPairWithNumber z r = MatchOption r (NoPair z) (λ pair. HasPairNumber z pair.0 pair.1)

@@ -10,7 +10,7 @@ use Rattle.cal_date.specs.DateIter.{Walk, walk, walk_between, days_between, days
 use Rattle.cal_date.proofs.DateIters.{slice_get-days_of}
 use Rattle.cal_time.specs.Laws.{length-walk_between}
 
--- The day at the index k of the walk from a day to another.
+-- The day at the index k of the walk from day m to day n is the day m + k, unless that is after n.
 pub slice_get-walk_between : (m n k : ℕ) → slice_get (days_of (walk_between m n)) k ≡ (if nat_le (m + k) n then Some (m + k) else None)
 slice_get-walk_between m n k =
     elim (cases_lt n (m + k)) [
@@ -20,19 +20,20 @@ slice_get-walk_between m n k =
           ap (λ b. slice_get (days_between m (if b then Some n else None)) k) some ∙ slice_get-days_of (walk m (Some n)) n k refl within ∙ grind (arith, nat_tests)
     ]
 
--- The same, and the number of days, for a caller's `#[tactic(auto, using(..))]`, which takes no
--- name with a dash.
+-- The law above and the number of days of a walk, for a caller's `#[tactic(auto, using(..))]`,
+-- which takes no name with a dash.
 pub ruleset days_of_walks = (slice_get-walk_between, length-walk_between, nat_tests)
 
--- One call of `next`.
+-- One call of `next` returns and removes the first day of a walk, or returns `None` if it is empty.
 abbrev pub GivesDay : Walk → Option ℕ → Walk → Type 0
 GivesDay old day new = YieldsFirst days_of old day new × TakesFirst old day new
 
+-- The calls of `next` return the days of a walk, in order.
 pub yields-days : (w : Walk) → YieldsList GivesDay (λ n. n) w (days_of w)
 yields-days w = YieldsList-from_shown GivesDay (λ n. n) days_of (λ s t h. ap length h.0.0) (λ s x t h. h.0) w
 
--- In a loop over the walk from a day to another, the day of a turn is the first day plus the number
--- of turns before. At the end there was a turn for each day.
+-- In a loop over the walk from day m to day n, the day of a turn is m plus the number of turns
+-- before it, and at most n.
 pub turn-day : (m n : ℕ) (w t u : Walk) (before : List ℕ) (day : Option ℕ) (x : ℕ) → w ≡ walk_between m n → Yields GivesDay w before t → day ≡ Some x → GivesDay t day u
     → (x ≡ m + length before) × (x ≤ n)
 turn-day m n w t u before day x e run some gives =
@@ -42,6 +43,7 @@ turn-day m n w t u before day x e run some gives =
     let here = get_or_from_slice_get (days_of (walk_between m n)) (length before) (m + length before) x index in
     (turn.1 ∙ here, omega (arith, turn.0, turn.1 ∙ here))
 
+-- When a loop over the walk from day m to day n ends, there was a turn for each day from m to n.
 pub end-turns : (m n : ℕ) (w t u : Walk) (before : List ℕ) (day : Option ℕ) → w ≡ walk_between m n → Yields GivesDay w before t → day ≡ None → GivesDay t day u
     → length before ≡ n + 1 - m
 end-turns m n w t u before day e run none gives =

@@ -10,7 +10,8 @@ use cal_date::Date;
 use cal_span::SignedDuration;
 use cal_units::util::DateAdjustment;
 
-/// Adds a duration to a date and a time of day. Returns `None` if the date is out of range.
+/// Adds a duration to a date and a time of day. Returns `None` if the date of the result is out of
+/// range.
 ///
 /// The number of a pair is its Julian day times a day, plus its time, in nanoseconds. The result is
 /// the pair whose number is the old number plus the duration. 23:00 on 2020-12-31 plus two hours is
@@ -23,10 +24,12 @@ pub fn add_to_pair(date: Date, time: Time, duration: SignedDuration) -> Option<(
     Some((date, time))
 }
 
-/// Subtracts a duration from a date and a time of day. Returns `None` if the date is out of range.
+/// Subtracts a duration from a date and a time of day. Returns `None` if the date of the result is
+/// out of range.
 ///
-/// The result is the pair whose number is the old number minus the duration. 1:00 on 2021-01-01
-/// minus two hours is 23:00 on 2020-12-31. Midnight of [`Date::MIN`] minus 1 ns is `None`.
+/// The result is the pair whose number, as in [`add_to_pair`], is the old number minus the
+/// duration. 1:00 on 2021-01-01 minus two hours is 23:00 on 2020-12-31. Midnight of [`Date::MIN`]
+/// minus 1 ns is `None`.
 pub fn sub_from_pair(date: Date, time: Time, duration: SignedDuration) -> Option<(Date, Time)>
     ensures { IsPairWithNumber (pair_number date time -ℤ duration) result }
 {
@@ -35,7 +38,8 @@ pub fn sub_from_pair(date: Date, time: Time, duration: SignedDuration) -> Option
     Some((date, time))
 }
 
-/// Returns the date after the adjustment, or `None` if it is out of range.
+/// Moves a date to the previous or the next day, as the adjustment says. Returns `None` if that is
+/// out of range.
 fn adjust_date(date: Date, adjustment: DateAdjustment) -> Option<Date>
     requires { IsDate date }
     ensures { SomeIff result (IsDateNumber (pos date +ℤ carry adjustment))

@@ -1,4 +1,5 @@
-//! Replacing a component with its current value changes nothing.
+//! Replacing a component with its current value changes nothing. A fraction of a second replaced
+//! with its whole milliseconds or microseconds loses the rest.
 ghost use Rattle.std.specs.Prelude.{◌≡◌, ◌%◌, Ok};
 ghost use Rattle.cal_datetime.specs.DateTime.{time_at};
 
@@ -42,7 +43,8 @@ pub fn own_time(plain: PlainDateTime, moment: OffsetDateTime) -> (PlainDateTime,
     )
 }
 
-/// Replaces the local date-time and the offset with the current ones.
+/// Replaces the local date-time with the current one in the first result, and the offset with the
+/// current one in the second.
 pub fn own_clock(moment: OffsetDateTime) -> (OffsetDateTime, OffsetDateTime)
     ensures { result ≡ (moment, moment) }
 {
@@ -101,7 +103,8 @@ pub fn own_second(plain: PlainDateTime, moment: OffsetDateTime) -> Replaced
     replaced!(plain, moment, replace_second, second)
 }
 
-/// Replaces the milliseconds with the current ones. A time in whole milliseconds doesn't change.
+/// Replaces the fraction of the second with its whole milliseconds. A time in whole milliseconds
+/// doesn't change.
 pub fn own_millisecond(plain: PlainDateTime, moment: OffsetDateTime) -> Replaced
     ensures plain { time_at plain % 1_000_000 ≡ 0 → result.0 ≡ Ok plain }
     ensures moment { time_at moment.local % 1_000_000 ≡ 0 → result.1 ≡ Ok moment }
@@ -109,7 +112,8 @@ pub fn own_millisecond(plain: PlainDateTime, moment: OffsetDateTime) -> Replaced
     replaced!(plain, moment, replace_millisecond, millisecond)
 }
 
-/// Replaces the microseconds with the current ones. A time in whole microseconds doesn't change.
+/// Replaces the fraction of the second with its whole microseconds. A time in whole microseconds
+/// doesn't change.
 pub fn own_microsecond(plain: PlainDateTime, moment: OffsetDateTime) -> Replaced
     ensures plain { time_at plain % 1_000 ≡ 0 → result.0 ≡ Ok plain }
     ensures moment { time_at moment.local % 1_000 ≡ 0 → result.1 ≡ Ok moment }
@@ -117,7 +121,7 @@ pub fn own_microsecond(plain: PlainDateTime, moment: OffsetDateTime) -> Replaced
     replaced!(plain, moment, replace_microsecond, microsecond)
 }
 
-/// Replaces the nanoseconds with the current ones.
+/// Replaces the fraction of the second with its nanoseconds.
 pub fn own_nanosecond(plain: PlainDateTime, moment: OffsetDateTime) -> Replaced
     ensures { result ≡ (Ok plain, Ok moment) }
 {

@@ -11,6 +11,7 @@ use std::ops::{Add, AddAssign, Sub, SubAssign};
 
 impl OffsetDateTime {
     /// Adds a duration and keeps the offset. Returns `None` if the local result is out of range.
+    /// 2020-12-31 23:00 +01:00:00 plus two hours is 2021-01-01 1:00 +01:00:00.
     #[tactic(auto, unfolding(crate::specs::OffsetDateTime::instant))]
     pub fn checked_add(self, duration: SignedDuration) -> Option<Self>
         ensures value { let local = self.local +ℤ duration
@@ -27,7 +28,7 @@ impl OffsetDateTime {
     }
 
     /// Subtracts a duration and keeps the offset. Returns `None` if the local result is out of
-    /// range.
+    /// range. 2021-01-01 1:00 +01:00:00 minus two hours is 2020-12-31 23:00 +01:00:00.
     #[tactic(auto, unfolding(crate::specs::OffsetDateTime::instant))]
     pub fn checked_sub(self, duration: SignedDuration) -> Option<Self>
         ensures value { let local = self.local -ℤ duration
@@ -44,7 +45,8 @@ impl OffsetDateTime {
     }
 
     /// Adds a duration and keeps the offset. A local result out of range is clamped to the first or
-    /// the last date-time.
+    /// the last date-time. 999999-12-31 23:00 +01:00:00 plus two hours is 999999-12-31
+    /// 23:59:59.999999999 +01:00:00.
     pub fn saturating_add(self, duration: SignedDuration) -> Self
         ensures { result ≡ record {
           local = clamped_date_time (self.local +ℤ duration);
@@ -57,7 +59,8 @@ impl OffsetDateTime {
     }
 
     /// Subtracts a duration and keeps the offset. A local result out of range is clamped to the
-    /// first or the last date-time.
+    /// first or the last date-time. -999999-01-01 1:00 +01:00:00 minus two hours is -999999-01-01
+    /// 0:00 +01:00:00.
     pub fn saturating_sub(self, duration: SignedDuration) -> Self
         ensures { result ≡ record {
           local = clamped_date_time (self.local -ℤ duration);
@@ -131,6 +134,7 @@ impl Sub for OffsetDateTime {
         × IsDateTime b.local × IsDuration v };
 
     /// Returns the duration from the instant of `other` to this one, negative if `other` is later.
+    /// 2024-02-29 8:00 +01:00:00 minus 2024-02-29 8:00 +02:00:00 is one hour.
     #[tactic(auto, unfolding(crate::specs::OffsetDateTime::instant))]
     fn sub(self, other: Self) -> SignedDuration {
         self.local() - other.local() + offset_difference(other.offset(), self.offset())

@@ -180,7 +180,7 @@ impl OffsetDateTime {
         self.time().second()
     }
 
-    /// Returns the millisecond of the second, from 0 to 999. At 23:59:59.25 it is 250.
+    /// Returns the millisecond of the local second, from 0 to 999. At 23:59:59.25 it is 250.
     pub fn millisecond(self) -> u16
         ensures value { result ≡ millisecond_of (time_at self.local) }
         ensures max { result ≤ 999 }
@@ -188,7 +188,7 @@ impl OffsetDateTime {
         self.time().millisecond()
     }
 
-    /// Returns the microsecond of the second, from 0 to 999999. At 23:59:59.25 it is 250000.
+    /// Returns the microsecond of the local second, from 0 to 999999. At 23:59:59.25 it is 250000.
     pub fn microsecond(self) -> u32
         ensures value { result ≡ microsecond_of (time_at self.local) }
         ensures max { result ≤ 999_999 }
@@ -196,7 +196,8 @@ impl OffsetDateTime {
         self.time().microsecond()
     }
 
-    /// Returns the nanosecond of the second, from 0 to 999999999. At 23:59:59.25 it is 250000000.
+    /// Returns the nanosecond of the local second, from 0 to 999999999. At 23:59:59.25 it is
+    /// 250000000.
     pub fn nanosecond(self) -> u32
         ensures value { result ≡ nanosecond_of (time_at self.local) }
         ensures max { result ≤ 999_999_999 }

@@ -72,7 +72,8 @@ impl Counted for OffsetDateTime {
 
     ghost hash_by_number = { λ x y e. ap fed.i128 e };
 
-    /// Returns the nanoseconds from the first date-time of the range, at UTC, to the instant.
+    /// Returns the nanoseconds from the first date-time of the range, at UTC, to the instant. For
+    /// 1970-01-01 1:00 +01:00:00 it is 31619087596800000000000.
     fn number(self) -> i128 {
         self.instant()
     }

@@ -13,21 +13,24 @@ use cal_time::error::ComponentRange;
 use cal_time::{Date, Month, Time, UtcOffset};
 
 impl OffsetDateTime {
-    /// Replaces the local date and keeps the local time of day and the offset.
+    /// Replaces the local date and keeps the local time of day and the offset. 2024-02-29 8:30
+    /// +01:00:00 with the date 2023-01-31 is 2023-01-31 8:30 +01:00:00.
     pub fn replace_date(self, date: Date) -> Self
         ensures value { result ≡ with_local_date self date }
     {
         self.local().replace_date(date).assume_offset(self.offset())
     }
 
-    /// Replaces the local time of day and keeps the local date and the offset.
+    /// Replaces the local time of day and keeps the local date and the offset. 2024-02-29 8:30
+    /// +01:00:00 with the time 9:45 is 2024-02-29 9:45 +01:00:00.
     pub fn replace_time(self, time: Time) -> Self
         ensures value { result ≡ with_local_time self time }
     {
         self.local().replace_time(time).assume_offset(self.offset())
     }
 
-    /// Replaces the local date-time and keeps the offset.
+    /// Replaces the local date-time and keeps the offset. 2024-02-29 8:30 +01:00:00 with 2023-01-31
+    /// 9:45 is 2023-01-31 9:45 +01:00:00.
     pub fn replace_date_time(self, local: PlainDateTime) -> Self
         ensures value { result ≡ record { local = local; offset = self.offset } }
     {
@@ -35,15 +38,19 @@ impl OffsetDateTime {
     }
 
     /// Replaces the offset and keeps the local date-time, so the instant changes with the offset.
-    /// [`Self::to_offset`] keeps the instant.
+    /// [`Self::to_offset`] keeps the instant. 2024-02-29 8:30 +01:00:00 with the offset +02:00:00
+    /// is 2024-02-29 8:30 +02:00:00.
     pub fn replace_offset(self, offset: UtcOffset) -> Self
         ensures value { result ≡ record { local = self.local; offset = offset } }
     {
         self.local().assume_offset(offset)
     }
 
-    /// Replaces the local year and keeps everything else. Returns the error `year` if it is out of
-    /// range, and the conditional error `day` for 29 February in a common year.
+    /// Replaces the local year and keeps everything else. 2024-02-29 8:30 +01:00:00 with the year
+    /// 2020 is 2020-02-29 8:30 +01:00:00.
+    ///
+    /// Returns the error `year` if it is not from -999999 to 999999, and the conditional error
+    /// `day` for 29 February in a common year.
     pub fn replace_year(self, year: i32) -> Result<Self, ComponentRange>
         ensures value { let n = local_date self in ReplacesDate local_date (with_local_date self)
             (HasCalendarDate year (month_at n) (day_of_month_at n)) result }
@@ -53,8 +60,11 @@ impl OffsetDateTime {
         Ok(self.replace_date_time(self.local().replace_year(year)?))
     }
 
-    /// Replaces the local month and keeps everything else. Returns the conditional error `day` if
-    /// the month has too few days.
+    /// Replaces the local month and keeps everything else. 2024-02-29 8:30 +01:00:00 with March is
+    /// 2024-03-29 8:30 +01:00:00.
+    ///
+    /// Returns the conditional error `day` if the month has too few days, such as 29 in February
+    /// 2023.
     pub fn replace_month(self, month: Month) -> Result<Self, ComponentRange>
         ensures value { let n = local_date self in ReplacesDate local_date (with_local_date self)
             (HasCalendarDate (year_at n) (number month) (day_of_month_at n)) result }
@@ -64,8 +74,11 @@ impl OffsetDateTime {
         Ok(self.replace_date_time(self.local().replace_month(month)?))
     }
 
-    /// Replaces the local day of the month and keeps everything else. Returns the conditional error
-    /// `day` if the month doesn't have this day.
+    /// Replaces the local day of the month and keeps everything else. 2024-02-29 8:30 +01:00:00
+    /// with the day 1 is 2024-02-01 8:30 +01:00:00.
+    ///
+    /// Returns the conditional error `day` if the month doesn't have this day, such as 0 or 30 in
+    /// February.
     pub fn replace_day(self, day: u8) -> Result<Self, ComponentRange>
         ensures value { let n = local_date self in ReplacesDate local_date (with_local_date self)
             (HasCalendarDate (year_at n) (month_at n) day) result }
@@ -74,8 +87,11 @@ impl OffsetDateTime {
         Ok(self.replace_date_time(self.local().replace_day(day)?))
     }
 
-    /// Replaces the local date with the day of the same year with this ordinal. Returns the
-    /// conditional error `ordinal` if the year doesn't have it.
+    /// Replaces the local date with the day of the same year with this ordinal. 2024-02-29 8:30
+    /// +01:00:00 with the ordinal 366 is 2024-12-31 8:30 +01:00:00.
+    ///
+    /// Returns the conditional error `ordinal` if the year doesn't have it, such as 0, or 366 in
+    /// 2023.
     pub fn replace_ordinal(self, ordinal: u16) -> Result<Self, ComponentRange>
         ensures value { let n = local_date self in ReplacesDate local_date (with_local_date self)
             (HasOrdinalDate (year_at n) ordinal) result }
@@ -84,7 +100,8 @@ impl OffsetDateTime {
         Ok(self.replace_date_time(self.local().replace_ordinal(ordinal)?))
     }
 
-    /// Replaces the local hour. Returns the error `hour` if it is above 23.
+    /// Replaces the local hour. 8:30:15.5 with the hour 7 is 7:30:15.5 on the same day. Returns the
+    /// error `hour` if it is above 23.
     pub fn replace_hour(self, hour: u8) -> Result<Self, ComponentRange>
         ensures { ReplacesComponent hour 23 hour_out_of_range
             (with_local_time self (with_hour (time_at self.local) hour)) result }
@@ -92,7 +109,8 @@ impl OffsetDateTime {
         Ok(self.replace_date_time(self.local().replace_hour(hour)?))
     }
 
-    /// Replaces the local minute. Returns the error `minute` if it is above 59.
+    /// Replaces the local minute. 8:30:15.5 with the minute 7 is 8:07:15.5 on the same day. Returns
+    /// the error `minute` if it is above 59.
     pub fn replace_minute(self, minute: u8) -> Result<Self, ComponentRange>
         ensures { ReplacesComponent minute 59 minute_out_of_range
             (with_local_time self (with_minute (time_at self.local) minute)) result }
@@ -100,7 +118,8 @@ impl OffsetDateTime {
         Ok(self.replace_date_time(self.local().replace_minute(minute)?))
     }
 
-    /// Replaces the local second. Returns the error `second` if it is above 59.
+    /// Replaces the local second. 8:30:15.5 with the second 7 is 8:30:07.5 on the same day. Returns
+    /// the error `second` if it is above 59.
     pub fn replace_second(self, second: u8) -> Result<Self, ComponentRange>
         ensures { ReplacesComponent second 59 second_out_of_range
             (with_local_time self (with_second (time_at self.local) second)) result }
@@ -108,7 +127,8 @@ impl OffsetDateTime {
         Ok(self.replace_date_time(self.local().replace_second(second)?))
     }
 
-    /// Sets the fraction of the second in milliseconds. Returns the error `millisecond` above 999.
+    /// Replaces the fraction of the local second by milliseconds. 8:30:15.5 with 7 milliseconds is
+    /// 8:30:15.007 on the same day. Returns the error `millisecond` if it is above 999.
     pub fn replace_millisecond(self, millisecond: u16) -> Result<Self, ComponentRange>
         ensures { ReplacesComponent millisecond 999 millisecond_out_of_range
             (with_local_time self (with_nanoseconds (time_at self.local) (millisecond * 1_000_000)))
@@ -117,8 +137,8 @@ impl OffsetDateTime {
         Ok(self.replace_date_time(self.local().replace_millisecond(millisecond)?))
     }
 
-    /// Sets the fraction of the second in microseconds. Returns the error `microsecond` above
-    /// 999999.
+    /// Replaces the fraction of the local second by microseconds. 8:30:15.5 with 7 microseconds is
+    /// 8:30:15.000007 on the same day. Returns the error `microsecond` if it is above 999999.
     pub fn replace_microsecond(self, microsecond: u32) -> Result<Self, ComponentRange>
         ensures { ReplacesComponent microsecond 999_999 microsecond_out_of_range
             (with_local_time self (with_nanoseconds (time_at self.local) (microsecond * 1_000)))
@@ -127,8 +147,8 @@ impl OffsetDateTime {
         Ok(self.replace_date_time(self.local().replace_microsecond(microsecond)?))
     }
 
-    /// Sets the fraction of the second in nanoseconds. Returns the error `nanosecond` above
-    /// 999999999.
+    /// Replaces the fraction of the local second by nanoseconds. 8:30:15.5 with 7 nanoseconds is
+    /// 8:30:15.000000007 on the same day. Returns the error `nanosecond` if it is above 999999999.
     pub fn replace_nanosecond(self, nanosecond: u32) -> Result<Self, ComponentRange>
         ensures { ReplacesComponent nanosecond 999_999_999 nanosecond_out_of_range
             (with_local_time self (with_nanoseconds (time_at self.local) nanosecond)) result }
@@ -162,7 +182,8 @@ impl OffsetDateTime {
             .assume_offset(self.offset())
     }
 
-    /// Truncates the local time to the millisecond. 0:00:00.123456789 becomes 0:00:00.123.
+    /// Truncates the local time to the millisecond. 0:00:00.123456789 becomes 0:00:00.123 on the
+    /// same day.
     pub fn truncate_to_millisecond(self) -> Self
         ensures { let t = time_at self.local in result ≡ with_local_time self
             (with_nanoseconds t (millisecond_of t * 1_000_000)) }
@@ -172,7 +193,8 @@ impl OffsetDateTime {
             .assume_offset(self.offset())
     }
 
-    /// Truncates the local time to the microsecond. 0:00:00.123456789 becomes 0:00:00.123456.
+    /// Truncates the local time to the microsecond. 0:00:00.123456789 becomes 0:00:00.123456 on the
+    /// same day.
     pub fn truncate_to_microsecond(self) -> Self
         ensures { let t = time_at self.local in result ≡ with_local_time self
             (with_nanoseconds t (microsecond_of t * 1_000)) }

@@ -45,7 +45,8 @@ impl OffsetDateTime {
     }
 
     /// Creates a date-time at UTC from a Unix timestamp in nanoseconds, negative before 1970.
-    /// Returns the error `timestamp` if the result is out of range.
+    /// Returns the error `timestamp` if the result is out of range. -1 is 1969-12-31
+    /// 23:59:59.999999999.
     pub fn from_unix_timestamp_nanos(timestamp: i128) -> Result<Self, ComponentRange>
         ensures value { let local = unix_epoch +ℤ timestamp
             in IsDateTime local → result ≡ Ok (record { local = local; offset = pos 0 }) }
@@ -72,7 +73,8 @@ impl OffsetDateTime {
         seconds - offset_seconds(self.offset())
     }
 
-    /// Returns the Unix timestamp in nanoseconds, negative before 1970.
+    /// Returns the Unix timestamp in nanoseconds, negative before 1970. For 1970-01-01 1:00
+    /// +00:00:00 it is 3600000000000.
     pub fn unix_timestamp_nanos(self) -> i128
         ensures { result ≡ unix_nanoseconds (instant self) }
     {

@@ -36,6 +36,7 @@ impl PlainDateTime {
     }
 
     /// Adds a duration. A result out of range is clamped to the first or the last date-time.
+    /// [`Self::MAX`] plus one nanosecond is [`Self::MAX`].
     pub fn saturating_add(self, duration: SignedDuration) -> Self
         ensures { result ≡ clamped_date_time (self +ℤ duration) }
     {
@@ -47,6 +48,7 @@ impl PlainDateTime {
     }
 
     /// Subtracts a duration. A result out of range is clamped to the first or the last date-time.
+    /// [`Self::MIN`] minus one nanosecond is [`Self::MIN`].
     pub fn saturating_sub(self, duration: SignedDuration) -> Self
         ensures { result ≡ clamped_date_time (self -ℤ duration) }
     {
@@ -110,6 +112,7 @@ impl Sub for PlainDateTime {
     ghost sub_gives = { λ a b v. (v ≡ a -ℤ b) × IsDateTime a × IsDateTime b × IsDuration v };
 
     /// Returns the duration from `other` to this date-time, negative if `other` is later.
+    /// 2021-01-01 1:00 minus 2020-12-31 23:00 is two hours.
     fn sub(self, other: Self) -> SignedDuration {
         (self.date - other.date) + (self.time - other.time)
     }

@@ -53,7 +53,8 @@ impl Rule {
         days
     }
 
-    /// Returns a later day, or `None`. No day between them passes the months, the weeks and the days.
+    /// Returns a later day. No day between them passes the months, the weeks and the days. Returns
+    /// `None` if no later day passes.
     #[inline(always)]
     pub(super) fn next_candidate(&self, day: Date) -> Option<Date>
         ensures { IsCandidate self.now day result }

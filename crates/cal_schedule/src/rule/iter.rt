@@ -26,7 +26,8 @@ impl Model for RuleDays {
 }
 
 impl Rule {
-    /// Returns an iterator over all days of the rule, in ascending order.
+    /// Returns an iterator over all days of the rule, in ascending order. For the monthly rule from
+    /// 31 January 2024 to 31 May 2024 they are 31 January, 31 March and 31 May.
     #[tactic(auto, using(crate::proofs::Rules::all_of_them))]
     pub fn days(&self) -> RuleDays
         ensures { result ≡ occurrences self.now }

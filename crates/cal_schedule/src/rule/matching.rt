@@ -65,12 +65,14 @@ fn is_year_day(date: Date, day: i16) -> bool
     )
 }
 
+/// Returns `true` if the date is one of these days of its year.
 fn any_year_day(days: &[i16], date: Date) -> bool
     ensures { result ≡ list_any (is_year_day date) days.now }
 {
     days.iter().any(|day| is_year_day(date, *day))
 }
 
+/// Returns `true` if the date is one of these days of its month.
 fn any_month_day(days: &[i8], date: Date) -> bool
     ensures { result ≡ list_any (is_month_day date) days.now }
 {
@@ -108,6 +110,7 @@ fn matches_by_day(of_year: bool, date: Date, by: ByDay) -> bool
     }
 }
 
+/// Returns `true` if the date has one of these weekdays, and its number if it has one.
 fn any_weekday(weekdays: &[ByDay], of_year: bool, date: Date) -> bool
     ensures { result ≡ list_any (matches_by_day of_year date) weekdays.now }
 {
@@ -123,6 +126,7 @@ impl Rule {
         self.pattern.interval.max(1)
     }
 
+    /// Returns `true` if the rule has no days of the year or of the month, and no weekdays.
     fn names_no_day(&self) -> bool
         ensures { result ≡ names_no_day self.now }
     {
@@ -150,6 +154,7 @@ impl Rule {
         }
     }
 
+    /// Returns `true` if the rule is yearly.
     fn is_yearly(&self) -> bool
         ensures { result ≡ is_yearly self.now.pattern.frequency }
     {
@@ -186,8 +191,8 @@ impl Rule {
         }
     }
 
-    /// Returns `true` if the date passes the days of the month and the weekdays, or has the day of
-    /// the start if the rule names no day.
+    /// Returns `true` if the date passes the days of the year and of the month and the weekdays, or
+    /// has the day of the start if the rule names no day.
     #[tactic(auto, unfolding(crate::specs::Rule::matches_days))]
     fn matches_days(&self, date: Date) -> bool
         ensures { result ≡ matches_days self.now date }
@@ -212,6 +217,7 @@ impl Rule {
         self.matches_months(date) && self.matches_weeks(date) && self.matches_days(date)
     }
 
+    /// Returns `true` if the date is not after the last day, if there is one.
     pub(super) fn matches_until(&self, date: Date) -> bool
         ensures { result ≡ matches_until self.now.until date }
     {

@@ -12,7 +12,8 @@ use cal_time::{Date, Month, Weekday};
 pub struct Pattern {
     /// The unit of the interval (`FREQ`).
     pub frequency: Frequency,
-    /// The interval: every n-th day, week, month or year, counted from the start. 0 counts as 1.
+    /// The interval (`INTERVAL`): every n-th day, week, month or year, counted from the start. 0
+    /// counts as 1.
     pub interval: u32,
     /// The weekday on which weeks begin (`WKST`).
     pub week_start: Weekday,
@@ -21,13 +22,13 @@ pub struct Pattern {
     /// The weeks of the year (`BYWEEKNO`), from 1 for its first week and from -1 for its last one.
     /// A week belongs to the year that has most of its days. No week is the 0th.
     pub weeks: Values<i8>,
-    /// The days of the year (`BYYEARDAY`), from 1 at its start and from -1 at its end. No day is the
-    /// 0th.
+    /// The days of the year (`BYYEARDAY`), from 1 at its start and from -1 at its end. No day is
+    /// the 0th.
     pub year_days: Values<i16>,
     /// The days of the month (`BYMONTHDAY`), from 1 at its start and from -1 at its end. No day is
     /// the 0th.
     pub month_days: Values<i8>,
-    /// The weekdays (`BYDAY`).
+    /// The weekdays (`BYDAY`), each with a number or without one.
     pub weekdays: Values<ByDay>,
     /// The positions (`BYSETPOS`) among the days of a day, week, month or year that pass the lists
     /// above, from 1 for the first one and from -1 for the last one. No day is the 0th.
@@ -35,8 +36,8 @@ pub struct Pattern {
 }
 
 impl Pattern {
-    /// Creates the pattern of every day, week, month or year. Weeks begin on Monday, and all lists
-    /// are empty.
+    /// Creates the pattern of every day, week, month or year. The interval is 1, weeks begin on
+    /// Monday, and all lists are empty.
     pub fn new(frequency: Frequency) -> Self
         ensures { result ≡ every frequency }
     {
@@ -53,7 +54,10 @@ impl Pattern {
         }
     }
 
-    /// Returns the rule with this pattern from a start to an end.
+    /// Returns the rule with this pattern from a start to an end, or without an end.
+    ///
+    /// The pattern of every month, from 31 January 2024 to 31 May 2024, gives the rule for 31
+    /// January, 31 March and 31 May.
     pub fn rule(&self, start: Date, until: Option<Date>) -> Rule
         ensures { result ≡ rule_of self.now start until }
     {

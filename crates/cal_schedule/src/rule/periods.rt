@@ -123,7 +123,7 @@ fn first_of_period(unit: PeriodUnit, index: u64) -> Option<Date>
     }
 }
 
-/// Returns the first day of the period after that of a date, or `None` if there is none.
+/// Returns the first day of the period after the period of a date, or `None` if the range has none.
 pub(super) fn next_period(unit: PeriodUnit, date: Date) -> Option<Date>
     ensures { IsFirstOfPeriod unit (period_index unit date + 1) result }
 {

@@ -65,7 +65,8 @@ impl Rule {
         count
     }
 
-    /// Returns `true` if these numbers from the start and from the end have a position.
+    /// Returns `true` if an item with these numbers from the start and from the end has a position
+    /// of the rule.
     fn is_position(&self, ahead: u32, back: u32) -> bool
         ensures { result ≡ allows (λ k. is_nth k ahead back) self.now.pattern.set_positions }
     {
@@ -85,8 +86,8 @@ impl Rule {
         self.is_position(ahead, back)
     }
 
-    /// Returns the first day of the rule from this day on in its period. If there is none, returns a
-    /// later day to go on with, or `None`.
+    /// Returns the first day of the rule from this day on in its period. If there is none, returns
+    /// a later day to go on with, or `None` if the rule has no day from this day on.
     pub(super) fn find_position(&self, day: Date) -> Result<Date, Option<Date>>
         requires start { self.now.start ≤ day }
         requires until { matches_until self.now.until day ≡ true }

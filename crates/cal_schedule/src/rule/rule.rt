@@ -8,9 +8,13 @@ use cal_time::{Date, Weekday};
 /// The unit of a rule's interval (`FREQ`). A rule that names no day takes the day from its start.
 #[derive(Clone, Copy, Debug, PartialEq, Eq)]
 pub enum Frequency {
+    /// Every n-th day.
     Daily,
+    /// Every n-th week.
     Weekly,
+    /// Every n-th month.
     Monthly,
+    /// Every n-th year.
     Yearly,
 }
 
@@ -38,6 +42,8 @@ pub struct Rule {
 impl Rule {
     /// Creates the rule for every day, or for the same day of every week, month or year. Its weeks
     /// begin on Monday. Set other parts by their fields.
+    ///
+    /// The monthly rule from 31 January 2024 has the 31st of each month that has one.
     pub fn new(start: Date, frequency: Frequency) -> Self
         ensures { result ≡ rule_of (every frequency) start None }
     {

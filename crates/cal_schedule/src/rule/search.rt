@@ -14,8 +14,8 @@ const LAST_DAY: u64 = limits::LAST_DAY as u64;
 /// The number of days in 400 years, after which the calendar and the weekdays repeat.
 const PERIOD: u64 = 146_097;
 
-/// The maximum number of days from one period to the next: 366, and 6 to whole weeks. At the ends of
-/// the range a period can be cut, and then the days do not repeat.
+/// The maximum number of days from one period to the next: 366, and 6 to whole weeks. At the ends
+/// of the range a period can be cut, and then the days do not repeat.
 const YEAR: u64 = 372;
 
 impl Rule {
@@ -33,8 +33,9 @@ impl Rule {
             && self.matches_positions(date)
     }
 
-    /// Returns a day of the rule if no day from `day` on and before it matches. Otherwise returns a
-    /// later day to go on with, or `None`, and no day from `day` on and before it matches.
+    /// Returns the first day of the rule from `day` on, or else a later day to go on with: no day
+    /// from `day` on and before it matches. The later day is `None` if no day from `day` on
+    /// matches.
     fn step(&self, day: Date) -> Result<Date, Option<Date>>
         requires start { self.now.start ≤ day }
         requires range { IsDate day }
@@ -58,8 +59,8 @@ impl Rule {
         self.find_position(day)
     }
 
-    /// Returns the first day of the rule from this one on. It can be `None` if no day of the rule is
-    /// before the day with the number `end`.
+    /// Returns the first day of the rule from this one on. It can be `None` if no day of the rule
+    /// is before the day with the number `end`.
     fn next_before(&self, first: Date, end: u64) -> Option<Date>
         requires { self.now.start ≤ first }
         ensures { IsNextBefore self.now first end result }
@@ -75,7 +76,7 @@ impl Rule {
         None
     }
 
-    /// Returns the first day of the rule from this one on.
+    /// Returns the first day of the rule from this one on, or `None` if there is none.
     pub(super) fn next_from(&self, first: Date) -> Option<Date>
         requires { self.now.start ≤ first }
         ensures { IsNextFrom self.now first result }

@@ -8,12 +8,12 @@ use std::fmt;
 use std::marker::Model;
 
 /// The maximum number of values of a list. A month has at most 31 days, counted from either end.
-const MOST: usize = 62;
+const MAX_VALUES: usize = 62;
 
 /// A list of at most 62 values, without allocation. Contracts see it as a list.
 #[derive(Drop)]
 pub struct Values<T> {
-    items: [T; MOST],
+    items: [T; MAX_VALUES],
     filled: usize,
 }
 
@@ -29,7 +29,7 @@ impl<T> Model for Values<T> {
 }
 
 impl<T> Values<T> {
-    /// Returns the values.
+    /// Returns the values, in order. For `Values::from_slice(&[1, 15], 0)` they are 1 and 15.
     pub fn as_slice(&self) -> &[T]
         ensures values { result.now ≡ self.now }
         ensures few { length result.now ≤ most_values }
@@ -37,7 +37,7 @@ impl<T> Values<T> {
         &self.items[..self.filled]
     }
 
-    /// Returns `true` if there are no values.
+    /// Returns `true` if there are no values. A list that [`Self::none`] creates is empty.
     pub fn is_empty(&self) -> bool
         ensures { result ≡ (length self.now == 0) }
     {
@@ -47,21 +47,24 @@ impl<T> Values<T> {
 
 impl<T: Copy> Values<T> {
     /// Creates an empty list. `filler` fills the unused places, which no call sees.
+    /// `Values::none(0)` is an empty list of numbers.
     pub fn none(filler: T) -> Self
         ensures { result ≡ [] }
     {
         Values {
-            items: [filler; MOST],
+            items: [filler; MAX_VALUES],
             filled: 0,
         }
     }
 
-    /// Creates a list of these values. `filler` fills the unused places, which no call sees.
+    /// Creates a list of these values, in order. There must be at most 62 of them. `filler` fills
+    /// the unused places, which no call sees. `Values::from_slice(&[1, 15], 0)` has the values 1
+    /// and 15.
     pub fn from_slice(values: &[T], filler: T) -> Self
         requires { length values.now ≤ most_values }
         ensures { result ≡ values.now }
     {
-        let mut items = [filler; MOST];
+        let mut items = [filler; MAX_VALUES];
         items[..values.len()].copy_from_slice(values);
         Values {
             items,
@@ -79,14 +82,15 @@ impl<T: Copy> Values<T> {
         }
     }
 
-    /// Returns `true` if the list is full.
+    /// Returns `true` if the list has 62 values, the maximum. Then no value can be pushed.
     pub fn is_full(&self) -> bool
         ensures { result ≡ nat_le most_values (length self.now) }
     {
-        self.as_slice().len() >= MOST
+        self.as_slice().len() >= MAX_VALUES
     }
 
-    /// Appends a value.
+    /// Appends a value. The list must have fewer than 62 values: [`Self::is_full`] returns `false`.
+    /// A list of 1 and 15 has 1, 15 and -1 after -1 is pushed.
     pub fn push(&mut self, value: T)
         requires { length self.old < most_values }
         ensures { self.new ≡ self.old ++ value ∷ [] }

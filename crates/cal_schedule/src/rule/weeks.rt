@@ -9,8 +9,8 @@ use crate::rule::rule::Rule;
 use cal_time::day_number::{date_from_number, day_number};
 use cal_time::{Cycle, Date, Weekday};
 
-/// Returns a day with the month, the ordinal and the weekday of the fourth day of the week of a
-/// date, and how many times 400 years it is earlier than that day 400 years later.
+/// Returns the fourth day of the week of a date, 400 years later, moved back by periods of 400
+/// years into the range, and the number of these periods, at most 2.
 #[tactic(auto, unfolding(crate::specs::Rule::fourth_day))]
 pub(super) fn fourth_day(first: Weekday, date: Date) -> (Date, u32)
     ensures place { result.0 + 146_097 * result.1 ≡ fourth_day first date }

@@ -31,6 +31,8 @@ impl<'a> Model for Workdays<'a> {
 
 impl<'a> Workdays<'a> {
     /// Creates a calendar from a mark for each weekday, from Monday to Sunday, and its holidays.
+    /// Marks of `true` five times and `false` twice make Monday to Friday working days.
+    ///
     /// Returns `None` if the holidays are not in strictly ascending order. A holiday on a weekday
     /// without a mark changes nothing.
     pub fn new(marks: [bool; 7], holidays: &'a [Date]) -> Option<Self>
