@@ -9,31 +9,31 @@ use Rattle.std.specs.Hash as fed
 use Rattle.std.specs.Hash.{HashWrites}
 
 -- ---- units in nanoseconds (SI prefixes; a day has 24 hours, and a week 7 days)
--- A microsecond has 1000 nanoseconds.
+-- The number of nanoseconds in a microsecond.
 abbrev pub microsecond : ℕ
 microsecond = 1_000
 
--- A millisecond has 1000 microseconds.
+-- The number of nanoseconds in a millisecond, 1000 microseconds.
 abbrev pub millisecond : ℕ
 millisecond = 1_000_000
 
--- A second has 1000 milliseconds.
+-- The number of nanoseconds in a second, 1000 milliseconds.
 abbrev pub second : ℕ
 second = 1_000_000_000
 
--- A minute has 60 seconds.
+-- The number of nanoseconds in a minute, 60 seconds.
 abbrev pub minute : ℕ
 minute = 60_000_000_000
 
--- An hour has 60 minutes.
+-- The number of nanoseconds in an hour, 60 minutes.
 abbrev pub hour : ℕ
 hour = 3_600_000_000_000
 
--- A day has 24 hours.
+-- The number of nanoseconds in a day of 24 hours.
 abbrev pub day : ℕ
 day = 86_400_000_000_000
 
--- A week has 7 days.
+-- The number of nanoseconds in a week of 7 days.
 abbrev pub week : ℕ
 week = 604_800_000_000_000
 
