@@ -7,7 +7,7 @@ use Rattle.cal_units.specs.declared.error.ComponentRange.{ComponentRange}
 use Rattle.cal_units.specs.ComponentError.{unconditional}
 use Rattle.cal_units.specs.Digits.{two_digits}
 
--- The maximum magnitude is 25 hours, 59 minutes and 59 seconds.
+-- The maximum magnitude of an offset: 25 hours, 59 minutes and 59 seconds.
 abbrev pub max_offset_seconds : ℕ
 max_offset_seconds = 93_599
 
@@ -16,15 +16,19 @@ pub record IsOffset (seconds : ℤ) : Type 0 where
   pub magnitude : unsigned_abs seconds ≤ max_offset_seconds
 
 -- ---- errors
+-- The error of hours outside -25 to 25.
 abbrev pub offset_hour_out_of_range : ComponentRange
 offset_hour_out_of_range = unconditional component.OffsetHour
 
+-- The error of minutes past the hours outside -59 to 59.
 abbrev pub offset_minute_out_of_range : ComponentRange
 offset_minute_out_of_range = unconditional component.OffsetMinute
 
+-- The error of seconds past the minutes outside -59 to 59.
 abbrev pub offset_second_out_of_range : ComponentRange
 offset_second_out_of_range = unconditional component.OffsetSecond
 
+-- The error of total seconds outside -93599 to 93599.
 abbrev pub seconds_out_of_range : ComponentRange
 seconds_out_of_range = unconditional component.Seconds
 
@@ -51,28 +55,32 @@ offset_of hours minutes seconds =
     (3_600 * unsigned_abs hours + 60 * unsigned_abs minutes + unsigned_abs seconds)
 
 -- ---- parts: quotients truncated toward zero, and remainders
+-- The whole hours of an offset, truncated toward zero.
 abbrev pub whole_hours : ℤ → ℤ
 whole_hours o = cut o (pos 3_600)
 
+-- The whole minutes of an offset, truncated toward zero.
 abbrev pub whole_minutes : ℤ → ℤ
 whole_minutes o = cut o (pos 60)
 
+-- The minutes past the whole hours, with the sign of the offset.
 abbrev pub minutes_past_hour : ℤ → ℤ
 minutes_past_hour o = whole_minutes o -ℤ whole_hours o *ℤ pos 60
 
+-- The seconds past the whole minutes, with the sign of the offset.
 abbrev pub seconds_past_minute : ℤ → ℤ
 seconds_past_minute o = o -ℤ whole_minutes o *ℤ pos 60
 
 -- ---- text
--- A negative offset has a minus sign, any other offset a plus sign.
+-- The sign of an offset: minus for a negative offset, plus for any other.
 abbrev pub sign : ℤ → List ℕ
 sign (pos _) = codes "+"
 sign (negsuc _) = codes "-"
 
--- A magnitude is written as `HH:MM:SS`.
+-- The text of a magnitude in seconds, as `HH:MM:SS`.
 abbrev pub magnitude_text : ℕ → List ℕ
 magnitude_text n = two_digits (n / 3_600) ++ codes ":" ++ two_digits (n / 60 % 60) ++ codes ":" ++ two_digits (n % 60)
 
--- The text of an offset is its sign and its magnitude.
+-- The text of an offset: its sign and its magnitude.
 abbrev pub text : ℤ → List ℕ
 text o = sign o ++ magnitude_text (unsigned_abs o)

@@ -36,12 +36,12 @@ impl Model for UtcOffset {
 }
 
 impl UtcOffset {
-    /// UTC, the zero offset.
+    /// UTC itself, the offset of 0 seconds.
     pub const UTC: Self = Self { seconds: 0 };
 
     /// Creates an offset from hours, minutes and seconds.
     ///
-    /// The first of them that isn't zero gives the sign; the signs of the others are ignored.
+    /// The first component that isn't zero gives the sign; the signs of the others are ignored.
     /// `from_hms(1, -2, -3)` is +01:02:03, and `from_hms(0, -30, 15)` is -00:30:15.
     ///
     /// Returns the unconditional error of the first component that is out of range: `offset hour`
@@ -69,7 +69,7 @@ impl UtcOffset {
         Ok(Self::from_components(hours, minutes, seconds))
     }
 
-    /// Creates an offset from components that are in range.
+    /// Creates an offset from components that are in range, like [`Self::from_hms`].
     fn from_components(hours: i8, minutes: i8, seconds: i8) -> Self
         requires hour { unsigned_abs hours ≤ 25 }
         requires minute { unsigned_abs minutes ≤ 59 }
@@ -89,8 +89,8 @@ impl UtcOffset {
         }
     }
 
-    /// Creates an offset from seconds. `from_whole_seconds(3723)` is +01:02:03. Returns the
-    /// unconditional error `seconds` if they are outside -93599 to 93599.
+    /// Creates an offset from its total seconds. `from_whole_seconds(3_723)` is +01:02:03. Returns
+    /// the unconditional error `seconds` if they are outside -93599 to 93599.
     pub fn from_whole_seconds(seconds: i32) -> Result<Self, ComponentRange>
         ensures error { FailsWith seconds_out_of_range result
             ↔ (max_offset_seconds < unsigned_abs seconds) }
@@ -131,14 +131,15 @@ impl UtcOffset {
         (self.seconds / SECONDS_PER_MINUTE as i32) as i16
     }
 
-    /// Returns the minutes past the whole hours, from -59 to 59. For -01:30:00 they are -30.
+    /// Returns the minutes past the whole hours, from -59 to 59, with the sign of the offset. For
+    /// -01:30:00 they are -30.
     pub fn minutes_past_hour(self) -> i8
         ensures { result ≡ minutes_past_hour self }
     {
         (self.seconds % SECONDS_PER_HOUR as i32 / SECONDS_PER_MINUTE as i32) as i8
     }
 
-    /// Returns the seconds, from -93599 to 93599. For -01:30:00 they are -5400.
+    /// Returns the total seconds, from -93599 to 93599. For -01:30:00 they are -5400.
     pub fn whole_seconds(self) -> i32
         ensures value { result ≡ self }
         ensures range { IsOffset self }
@@ -146,7 +147,8 @@ impl UtcOffset {
         self.seconds
     }
 
-    /// Returns the seconds past the whole minutes, from -59 to 59. For -01:02:03 they are -3.
+    /// Returns the seconds past the whole minutes, from -59 to 59, with the sign of the offset. For
+    /// -01:02:03 they are -3.
     pub fn seconds_past_minute(self) -> i8
         ensures { result ≡ seconds_past_minute self }
     {
@@ -232,7 +234,7 @@ impl Counted for UtcOffset {
 
     ghost hash_by_number = { λ x y e. ap fed.i32 e };
 
-    /// Returns the seconds. For -01:30:00 they are -5400.
+    /// Returns the total seconds, from -93599 to 93599. For -01:30:00 they are -5400.
     fn number(self) -> i128 {
         self.seconds as i128
     }

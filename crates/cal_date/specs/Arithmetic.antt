@@ -9,7 +9,7 @@ pub record IsDateNumber (z : ℤ) : Type 0 where
   pub not_before : pos 0 ≤ℤ z
   pub not_after : z ≤ℤ pos last_day
 
--- The day with the number z, clamped to the range.
+-- The number z clamped to the range: day 0 if it is negative, the last day if it is past that day.
 abbrev pub clamped_date : ℤ → ℕ
 clamped_date z = unsigned_abs (int_max (pos 0) (int_min z (pos last_day)))
 

@@ -7,32 +7,37 @@ use Rattle.cal_units.specs.Lengths.{days_in_year, days_in_month}
 use Rattle.cal_date.specs.CalendarDay.{calendar_day, day_after, is_first_of_january}
 use Rattle.cal_date.specs.Date.{first_year, day_at, year_at, ordinal_at, HasOrdinalDate}
 
--- One step of each count.
+-- Day n + 1 is the day after day n.
 pub day_at-suc : (n : ℕ) → day_at (suc n) ≡ day_after (day_at n)
 unfolding day_at
 day_at-suc n = refl
 
+-- The ordinal goes up by one to a day that isn't 1 January.
 ordinal_at-same_year : (n : ℕ) → is_first_of_january (day_at (suc n)) ≡ false → ordinal_at (suc n) ≡ ordinal_at n + 1
 unfolding ordinal_at
 ordinal_at-same_year n h = rw h refl
 
+-- The ordinal of a 1 January is 1.
 ordinal_at-new_year : (n : ℕ) → is_first_of_january (day_at (suc n)) ≡ true → ordinal_at (suc n) ≡ 1
 unfolding ordinal_at
 ordinal_at-new_year n h = rw h refl
 
--- The three cases of the day after a day.
+-- The day after a day that isn't the last of its month is the next day of the month.
 day_after-in_month : (y : ℤ) (m d : ℕ) → d < days_in_month y m → day_after (calendar_day y m d) ≡ calendar_day y m (d + 1)
 unfolding day_after
 day_after-in_month y m d h = grind (arith, nat_tests)
 
+-- The day after the last day of a month before December is the first day of the next month.
 day_after-next_month : (y : ℤ) (m : ℕ) → m < 12 → day_after (calendar_day y m (days_in_month y m)) ≡ calendar_day y (m + 1) 1
 unfolding day_after
 day_after-next_month y m h = grind (arith, nat_tests)
 
+-- The day after 31 December is 1 January of the next year.
 day_after-next_year : (y : ℤ) → day_after (calendar_day y 12 31) ≡ calendar_day (y +ℤ pos 1) 1 1
 unfolding day_after days_in_month
 day_after-next_year y = refl
 
+-- A month has 28 days or more.
 days_in_month-bound : (y : ℤ) (m : ℕ) → 0 < m → m ≤ 12 → 28 ≤ days_in_month y m
 unfolding days_in_month
 days_in_month-bound y m low high = grind (arith, nat_tests)
@@ -75,6 +80,7 @@ unfoldable pub days_of_months : ℤ → ℕ → ℕ
 days_of_months y zero = 0
 days_of_months y (suc k) = days_of_months y k + days_in_month y (suc k)
 
+-- The first day of each month of a year comes after the days of the months before it.
 month_start : (n : ℕ) (y : ℤ) (k : ℕ) → IsDayAt n y 1 1 1 → k < 12 → IsDayAt (n + days_of_months y k) y (k + 1) 1 (1 + days_of_months y k)
 unfolding days_of_months
 month_start n y zero e h = simp add-zero e
@@ -91,10 +97,12 @@ days_of_months-all : (y : ℤ) → days_of_months y 12 ≡ days_in_year y
 unfolding days_of_months days_in_month
 days_of_months-all y = grind (arith, nat_tests)
 
+-- The first 11 months and 31 days make up the year.
 days_of_months-december : (y : ℤ) → days_of_months y 11 + 31 ≡ days_in_year y
 unfolding days_of_months days_in_month
 days_of_months-december y = grind (arith, nat_tests)
 
+-- December has more than 30 days.
 days_in_month-december : (y : ℤ) → 30 < days_in_month y 12
 unfolding days_in_month
 days_in_month-december y = lit< tt
@@ -121,7 +129,7 @@ in_months n y i d e low h =
     let sums : n + days_of_months y i + d ≡ n + (days_of_months y i + d) = omega arith in
     rw (← sums) (record { day_is = here.day_is; ordinal_is = here.ordinal_is ∙ omega arith })
 
--- An index in a year is a number of months and days.
+-- The index j of a day in the year y, from 0 for 1 January, is a number of whole months and days.
 pub record IsInMonth (y : ℤ) (j : ℕ) : Type 0 where
   pub months : ℕ
   pub days : ℕ
@@ -129,6 +137,7 @@ pub record IsInMonth (y : ℤ) (j : ℕ) : Type 0 where
   pub days_below : days < days_in_month y (months + 1)
   pub index_is : j ≡ days_of_months y months + days
 
+-- Each index below the length of the year is a number of whole months and days.
 pub index_in_year : (y : ℤ) (j : ℕ) → j < days_in_year y → IsInMonth y j
 index_in_year y j h =
     let found = month_of y 12 j (rw (days_of_months-all y) h) in
@@ -165,23 +174,27 @@ unfoldable pub days_of_years : ℕ → ℕ
 days_of_years zero = 0
 days_of_years (suc k) = days_of_years k + days_in_year (first_year +ℤ pos k)
 
--- The leap years among the first k years of the range are every fourth year, except the centuries
--- that 400 doesn't divide.
+-- The year after the first k years of the range has 365 days, and one more if 4 divides k + 1,
+-- except if 100 does and 400 doesn't.
 pub leap_year-step : (k : ℕ) → days_in_year (first_year +ℤ pos k) + (k + 1) / 100 + k / 4 + k / 400 ≡ 365 + k / 100 + (k + 1) / 4 + (k + 1) / 400
 leap_year-step k = grind (arith, ints, nat_tests)
 
+-- One more year keeps the closed form of the days of the first k years.
 closed-step : (k d d' l : ℕ) → d' ≡ d + l → l + (k + 1) / 100 + k / 4 + k / 400 ≡ 365 + k / 100 + (k + 1) / 4 + (k + 1) / 400 → d + k / 100 ≡ 365 * k + k / 4 + k / 400
     → d' + suc k / 100 ≡ 365 * suc k + suc k / 4 + suc k / 400
 closed-step k d d' l e f g = let s : suc k ≡ k + 1 = omega arith in rw s (omega arith)
 
+-- One more year adds its days.
 pub days_of_years-suc : (k : ℕ) → days_of_years (suc k) ≡ days_of_years k + days_in_year (first_year +ℤ pos k)
 unfolding days_of_years
 days_of_years-suc k = refl
 
+-- The days of the first k years: 365 for each year, and one for each leap year.
 pub days_of_years-closed : (k : ℕ) → days_of_years k + k / 100 ≡ 365 * k + k / 4 + k / 400
 days_of_years-closed zero = unfold days_of_years in refl
 days_of_years-closed (suc k) = closed-step k (days_of_years k) (days_of_years (suc k)) (days_in_year (first_year +ℤ pos k)) (days_of_years-suc k) (leap_year-step k) (days_of_years-closed k)
 
+-- The year after the first k years of the range begins after their days.
 pub year_start : (k : ℕ) → IsYearStart (days_of_years k) (first_year +ℤ pos k)
 unfolding days_of_years
 year_start zero = record { day_is = unfold day_at in refl; ordinal_is = unfold ordinal_at in refl }
@@ -190,13 +203,15 @@ year_start (suc k) =
     let same : (first_year +ℤ pos k) +ℤ pos 1 ≡ first_year +ℤ pos (suc k) = omega (arith, ints) in
     rw same at next
 
--- The number of years of the range before a year, and the number of their days.
+-- The number of years of the range before a year.
 abbrev pub years_before : ℤ → ℕ
 years_before y = unsigned_abs (y -ℤ first_year)
 
+-- The number of days of the range before a year.
 abbrev pub days_before : ℤ → ℕ
 days_before y = days_of_years (years_before y)
 
+-- A year from the first year on begins after the days of the years before it.
 pub year_start-days_before : (y : ℤ) → first_year ≤ℤ y → IsYearStart (days_before y) y
 year_start-days_before y h =
     let k = unsigned_abs (y -ℤ first_year) in

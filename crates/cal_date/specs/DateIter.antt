@@ -1,14 +1,16 @@
--- A walk, the value of an iterator over days, has a front day, and a back day or none. Its days are
--- the days from the front day to the back day. Without a back day it is empty.
+-- Walks: the values of iterators over days.
 use Rattle.std.specs.Prelude.{◌≡◌, ℕ, ◌+◌, ◌-◌, ◌≤◌, Bool, ◌&&◌, ◌==◌, List, [], length, reverse, slice_get, nat_lt, nat_le, Option, Some, None, IfSome, option_map, if◌then◌else◌}
 use Rattle.std.specs.Option.{option_eq}
 use Rattle.cal_date.specs.Date.{year_at, IsDate}
 use Rattle.cal_date.specs.Occurrences.{days_from}
 
+-- A walk: a front day, and a back day or none. Its days are the days from the front day to the back
+-- day, both included. Without a back day it is empty.
 pub record Walk : Type 0 where
   pub front : ℕ
   pub back : Option ℕ
 
+-- The walk with this front day, and this back day or none.
 abbrev pub walk : ℕ → Option ℕ → Walk
 walk front back = record { front = front; back = back }
 

@@ -1,4 +1,4 @@
--- What calls return that create a date from components, or replace a component.
+-- The results of calls that create a date from components, or replace a component.
 use Rattle.std.specs.Prelude.{◌≡◌, ℕ, ◌↔◌, ◌⊎◌, ℤ, Result, Ok, IfOk, IfErr, IsErr}
 use Rattle.cal_units.specs.declared.error.ComponentRange.{ComponentRange}
 use Rattle.cal_units.specs.ComponentError.{FailsWith}

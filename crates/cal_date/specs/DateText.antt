@@ -5,10 +5,10 @@ use Rattle.cal_date.specs.Date.{year_at, month_at, day_of_month_at}
 pub use Rattle.cal_units.specs.Digits.{digits_at_least}
 pub use Rattle.cal_units.specs.YearText.{sign_text, year_text}
 
--- The year has four or more digits, and the month and the day have two each.
+-- The digits of a date: four or more for the year, and two each for the month and the day.
 abbrev pub date_digits : ℕ → ℕ → ℕ → List ℕ
 date_digits y m d = digits_at_least 4 y ++ codes "-" ++ digits_at_least 2 m ++ codes "-" ++ digits_at_least 2 d
 
--- The text of day n is the sign of its year and its digits.
+-- The text of day n: the sign of its year, and its digits.
 abbrev pub text : ℕ → List ℕ
 text n = sign_text (year_at n) ++ date_digits (unsigned_abs (year_at n)) (month_at n) (day_of_month_at n)

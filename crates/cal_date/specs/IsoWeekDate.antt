@@ -19,19 +19,20 @@ is_weekday_of_year w y n = int_eq (year_at n) y && (weekday_at n == w)
 abbrev pub weekday_count : ℕ → ℕ → ℕ
 weekday_count w n = count_before (is_weekday_of_year w (year_at n)) (n + 1)
 
--- The Thursday of the week of day n is three days after the Monday of this week.
+-- The Thursday of the week of day n: three days after the Monday of this week.
 abbrev pub thursday_of : ℕ → ℕ
 thursday_of n = n - weekday_at n + 3
 
--- The ISO year of a day is the year of this Thursday. The ISO week is the number of Thursdays of
--- that year up to this one.
+-- The ISO year of day n: the year of the Thursday of its week.
 unfoldable pub iso_year_at : ℕ → ℤ
 iso_year_at n = year_at (thursday_of n)
 
+-- The ISO week of day n: the number of Thursdays of its ISO year up to and including the Thursday
+-- of its week.
 unfoldable pub iso_week_at : ℕ → ℕ
 iso_week_at n = weekday_count 3 (thursday_of n)
 
--- The year y has the week w.
+-- The ISO year y has the week w.
 abbrev pub IsWeek : ℤ → ℕ → Type 0
 IsWeek y w = (1 ≤ w) × (w ≤ weeks_in_year y)
 

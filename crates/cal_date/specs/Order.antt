@@ -9,13 +9,14 @@ IsBefore [] ys = ⊥
 IsBefore (x ∷ xs) [] = ⊥
 IsBefore (x ∷ xs) (y ∷ ys) = (x <ℤ y) ⊎ ((x ≡ y) × IsBefore xs ys)
 
--- The components of day n, from the left.
+-- The year and the ordinal of day n.
 abbrev pub ordinal_date_at : ℕ → List ℤ
 ordinal_date_at n = year_at n ∷ pos (ordinal_at n) ∷ []
 
+-- The year, the month and the day of the month of day n.
 abbrev pub calendar_date_at : ℕ → List ℤ
 calendar_date_at n = year_at n ∷ pos (month_at n) ∷ pos (day_of_month_at n) ∷ []
 
--- The last component is the index of the weekday from Monday.
+-- The ISO year, the ISO week and the weekday of day n, from 0 for Monday to 6 for Sunday.
 abbrev pub iso_week_date_at : ℕ → List ℤ
 iso_week_date_at n = iso_year_at n ∷ pos (iso_week_at n) ∷ pos (weekday_at n) ∷ []

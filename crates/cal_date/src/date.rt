@@ -68,8 +68,11 @@ fn is_last_of_leap_year(year: i32, ordinal: u16) -> bool
 /// A date of the proleptic Gregorian calendar, from -999999-01-01 to 999999-12-31.
 ///
 /// Years are numbered as in ISO 8601: the year 0 comes before the year 1, and the year -1 before
-/// that. In contracts a date is its number in the count of days, from 0 for -999999-01-01 to
-/// 730484633 for 999999-12-31.
+/// that. Dates are ordered from earlier to later. A date prints its calendar date, such as
+/// `2024-02-29`. A width pads the whole text. `Debug` prints the same.
+///
+/// In contracts a date is its number in the count of days, from 0 for -999999-01-01 to 730484633
+/// for 999999-12-31.
 #[derive(Clone, Copy)]
 pub struct Date {
     /// The year times 1024, plus [`LEAP_MARK`] in a leap year, plus the ordinal. A right shift by
@@ -295,8 +298,8 @@ impl Date {
         Date::pack(year, is_leap_year(year), ordinal)
     }
 
-    /// Creates a date from a year of the range, whether it is a leap year, and an ordinal of this
-    /// year.
+    /// Creates a date from a year of the range and an ordinal of this year. `leap` is `true` if it
+    /// is a leap year.
     pub(crate) fn pack(year: i32, leap: bool, ordinal: u16) -> Self
         requires year { IsYear year }
         requires leap { leap ≡ is_leap_year year }
@@ -310,7 +313,8 @@ impl Date {
         }
     }
 
-    /// Creates a date from a year of the range, and the leap mark and an ordinal of this year.
+    /// Creates a date from a year of the range, and the sum of the leap mark and an ordinal of this
+    /// year.
     fn pack_low_bits(year: i32, low: u32) -> Self
         requires year { IsYear year }
         requires low { IsOrdinal year (low - leap_mark year) }
@@ -322,7 +326,8 @@ impl Date {
         }
     }
 
-    /// Returns the leap mark and the ordinal: from 1 to 365, or from 513 to 878 in a leap year.
+    /// Returns the sum of the leap mark and the ordinal: from 1 to 365, or from 513 to 878 in a
+    /// leap year.
     fn low_bits(self) -> u32
         ensures value { result ≡ leap_mark (year_at self) + ordinal_at self }
         ensures in_range { IsDate self }

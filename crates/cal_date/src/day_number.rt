@@ -1,8 +1,9 @@
-//! Conversions and moves of days by their numbers, without tables or branches, so that a loop takes
-//! several days at a time. For invalid components the result is some number, to be ignored.
+//! Conversions and moves of days by their numbers, without tables or branches, so that a loop can
+//! process several days at a time. For invalid components the result is some number, to be ignored.
 //!
-//! Day 0 is -999999-01-01, a Monday, and the last day has the number 730484633. Years begin on 1
-//! March here, so a leap day is the last day of its year. The first year begins in -1000000.
+//! Day 0 is -999999-01-01, a Monday, and the last day of the range has the number 730484633. The
+//! code counts years from 1 March, so a leap day is the last day of its year. The first of these
+//! years begins in -1000000.
 ghost use Rattle.std.specs.Prelude.{◌≡◌, ◌+◌, ◌-◌, ◌*◌, ◌%◌, ◌^◌, ◌<◌, ◌≤◌, ℤ, ◌↔◌, IfSome, IsTrue, SomeIff};
 ghost use Rattle.cal_units.specs.Lengths.{is_leap_year, days_in_month};
 ghost use Rattle.cal_date.specs.ClosedForms.{days_before_month_in_part};
@@ -17,16 +18,18 @@ use crate::date::iso_week::{SEVENTH, div_7};
 use crate::limits::{LAST_DAY, MIN_YEAR, YEARS};
 use cal_units::util::is_leap_year;
 
-/// The number of years that begin on 1 March and have a day of the range, less 1.
+/// The index of the last year that begins on 1 March and has a day of the range. The year that
+/// begins in -1000000 has the index 0.
 const LAST_MARCH_YEAR: u32 = YEARS;
 
 /// The days from 1 March to 1 January.
 const MARCH_TO_JANUARY: u32 = 306;
 
-/// Whole weeks, in days, that reach past the last day.
+/// The number of days of the whole weeks that begin on day 0 and reach past the last day.
 const PAST_LAST_DAY: u32 = 7 * (LAST_DAY as u32 / 7 + 1);
 
-/// Returns the number of a date.
+/// Returns the number of a date, from 0 for -999999-01-01 to 730484633 for 999999-12-31. For
+/// 2024-02-29 it is 365981444.
 pub fn day_number(date: Date) -> u32
     ensures value { result ≡ date }
     ensures in_range { IsDate date }
@@ -34,7 +37,7 @@ pub fn day_number(date: Date) -> u32
     date.day_number()
 }
 
-/// Returns the date of a day of the range.
+/// Returns the date with a number, which must be at most 730484633. For 365981444 it is 2024-02-29.
 #[inline(always)]
 pub fn to_date(number: u32) -> Date
     requires { IsDate number }
@@ -43,14 +46,16 @@ pub fn to_date(number: u32) -> Date
     Date::from_number(number)
 }
 
-/// Returns the date with a number, or `None` past the last day.
+/// Returns the date with a number, or `None` if the number is above 730484633. For 365981444 it is
+/// 2024-02-29.
 pub fn date_from_number(number: u64) -> Option<Date>
     ensures { SomeIff result (IsDate number) number }
 {
     Date::checked_from_number(number)
 }
 
-/// Returns the year, the month from 1 and the day of the month of a day of the range.
+/// Returns the year, the month from 1 to 12 and the day of the month of the day with a number,
+/// which must be at most 730484633. For 365981444 they are 2024, 2 and 29.
 #[inline(always)]
 pub fn to_calendar_date(number: u32) -> (i32, u32, u32)
     requires { IsDate number }
@@ -76,7 +81,11 @@ pub fn to_calendar_date(number: u32) -> (i32, u32, u32)
     )
 }
 
-/// Returns the number of the day with a year, a month from 1 and a day of the month.
+/// Returns the number of the day with a year, a month from 1 to 12 and a day of the month. For
+/// 2024, 2 and 29 it is 365981444.
+///
+/// If the year isn't from -999999 to 999999, or the month doesn't have the day, the result is some
+/// number, to be ignored. [`is_day_of_month`] tests the day.
 #[inline(always)]
 pub fn from_calendar_date(year: i32, month: u8, day: u8) -> u32
     ensures value { IsYear year → (1 ≤ month) × (month ≤ 12) → IsDayOfMonth year month day
@@ -92,8 +101,9 @@ pub fn from_calendar_date(year: i32, month: u8, day: u8) -> u32
     (days_of_years(years) + past).wrapping_sub(MARCH_TO_JANUARY + 1)
 }
 
-/// Returns the ISO year, the week and the weekday, from 1 for Monday, of a day of the range. A week
-/// is in the year of its Thursday.
+/// Returns the ISO year, the week and the weekday, from 1 for Monday to 7 for Sunday, of the day
+/// with a number, which must be at most 730484633. A week is in the year of its Thursday, as in
+/// ISO 8601. For 365981444 they are 2024, 9 and 4.
 #[inline(always)]
 pub fn to_iso_week_date(number: u32) -> (i32, u8, u8)
     requires { IsDate number }
@@ -107,7 +117,8 @@ pub fn to_iso_week_date(number: u32) -> (i32, u8, u8)
     (year, div_7(ordinal + 6), weekday as u8 + 1)
 }
 
-/// Returns the days from Monday to a day of the range, from 0 to 6.
+/// Returns the days since Monday, from 0 to 6, of the day with a number, which must be at most
+/// 730484633. For 365981444, 2024-02-29, they are 3: it is a Thursday.
 #[tactic(auto, using(crate::proofs::Weekdays::remainders))]
 pub fn days_since_monday(number: u32) -> u8
     requires { IsDate number }
@@ -116,7 +127,7 @@ pub fn days_since_monday(number: u32) -> u8
     rem_7(number)
 }
 
-/// Returns the days past the whole weeks of a number of days.
+/// Returns the days past the whole weeks of a number of days, from 0 to 6.
 #[tactic(auto, using(crate::proofs::Weekdays::remainders))]
 fn rem_7(days: u32) -> u8
     requires { days < 2 ^ 30 }
@@ -128,8 +139,12 @@ fn rem_7(days: u32) -> u8
     ((part - part / 8) >> 29) as u8
 }
 
-/// Returns the `n`-th day after a day of the range with a weekday, from 0 for Monday, or `None` if
-/// it is past the last day or `n` is 0.
+/// Returns the number of the `n`-th day after the day `number` that has the weekday, from 0 for
+/// Monday to 6 for Sunday. Returns `None` if it is past the last day or `n` is 0.
+///
+/// The number must be at most 730484633, and the weekday at most 6.
+/// `nth_next_occurrence(365_981_195, 0, 5)` is 365981224: the fifth Monday after 2023-06-25 is
+/// 2023-07-24.
 pub fn nth_next_occurrence(number: u32, weekday: u32, n: u8) -> Option<u32>
     requires in_range { IsDate number }
     requires weekday { weekday < 7 }
@@ -150,8 +165,12 @@ pub fn nth_next_occurrence(number: u32, weekday: u32, n: u8) -> Option<u32>
     }
 }
 
-/// Returns the `n`-th day before a day of the range with a weekday, from 0 for Monday, or `None` if
-/// it is before day 0 or `n` is 0.
+/// Returns the number of the `n`-th day before the day `number` that has the weekday, from 0 for
+/// Monday to 6 for Sunday. Returns `None` if it is before day 0 or `n` is 0.
+///
+/// The number must be at most 730484633, and the weekday at most 6.
+/// `nth_prev_occurrence(365_981_197, 0, 3)` is 365981182: the third Monday before 2023-06-27 is
+/// 2023-06-12.
 #[tactic(auto, using(crate::proofs::Occurrences::days_before))]
 pub fn nth_prev_occurrence(number: u32, weekday: u32, n: u8) -> Option<u32>
     requires in_range { IsDate number }
@@ -173,7 +192,8 @@ pub fn nth_prev_occurrence(number: u32, weekday: u32, n: u8) -> Option<u32>
     }
 }
 
-/// Returns `true` if the month of the year has the day. Months are numbered from 1.
+/// Returns `true` if the month of the year, from 1 to 12, has the day.
+/// `is_day_of_month(1900, 2, 29)` is `false`. For any other month the result is to be ignored.
 #[inline(always)]
 pub fn is_day_of_month(year: i32, month: u8, day: u8) -> bool
     ensures { (1 ≤ month) × (month ≤ 12) → IsTrue result ↔ IsDayOfMonth year month day }
@@ -182,7 +202,9 @@ pub fn is_day_of_month(year: i32, month: u8, day: u8) -> bool
     u32::from(day).wrapping_sub(1) < u32::from(month_length(month, is_leap_year(year)))
 }
 
-/// Returns the number of days of a month, numbered from 1, in a leap year or a common year.
+/// Returns the number of days of a month, from 1 to 12, in a leap year or a common year.
+/// `month_length(2, true)` is 29. For any other month the result is some number from 28 to 31, to
+/// be ignored.
 #[inline(always)]
 pub fn month_length(month: u8, leap: bool) -> u8
     ensures value { (year : ℤ) → (1 ≤ month) × (month ≤ 12) → leap ≡ is_leap_year year
@@ -199,8 +221,9 @@ pub fn month_length(month: u8, leap: bool) -> u8
 }
 
 /// Returns the number of days of a part of the year before one of its months, counted from 1.
-/// January and February are one part of the year, the months from March on are the other. Counted
-/// from March, the form also holds for January and February, as months 11 and 12.
+///
+/// January and February are one part of the year, and the months from March on are the other part.
+/// Counted from March, the form also holds for the next January and February, as months 11 and 12.
 pub(crate) fn days_before_month_in_part(month: u32) -> u32
     requires min { 1 ≤ month }
     requires max { month ≤ 2 ^ 10 }
@@ -209,7 +232,7 @@ pub(crate) fn days_before_month_in_part(month: u32) -> u32
     (month * 3917 - 3866) >> 7
 }
 
-/// Returns the number of days of the first years of the range.
+/// Returns the number of days of the first `years` years of the range. For 1 it is 365.
 #[tactic(auto, using(crate::proofs::JulianDays::days_of_years_closed))]
 pub(crate) fn days_of_years(years: u32) -> u32
     requires { years ≤ years_in_range }

@@ -23,9 +23,10 @@ const YEAR_SHIFT: i32 = 2_379_600;
 /// The number of the day whose Julian day is 0.
 const DAY_ZERO: u32 = -MIN_JULIAN_DAY as u32;
 
-/// The first day of the range and its last year, both counted from 1 January -2379600.
+/// The first day of the range, counted from 1 January -2379600.
 const FIRST_DAY: u32 = (MIN_JULIAN_DAY + DAY_SHIFT) as u32;
 
+/// The last year of the range, counted from -2379600.
 const LAST_YEAR: u32 = (MAX_YEAR + YEAR_SHIFT) as u32;
 
 /// 2^49 / 146097, rounded down. 400 years have 146097 days, so a day times this is its centuries,
@@ -48,13 +49,13 @@ const LOW_HALF: u64 = 0xffff_ffff;
 /// the day, the century is one too low; the date is right all the same.
 #[derive(Clone, Copy, PartialEq, Eq, Debug)]
 pub struct JulianKernel {
-    /// The centuries before the day.
+    /// The number of centuries before the day.
     pub century: u32,
     /// The fraction of the century that has passed, times 2^32.
     pub century_part: u32,
     /// The day in the Julian count, in which every fourth year is a leap year.
     pub julian: u32,
-    /// The years before the day.
+    /// The number of years before the day.
     pub years: u32,
     /// The fraction of the year that has passed, times 2^32.
     pub year_part: u32,
@@ -106,7 +107,7 @@ pub fn date_of_kernel(kernel: JulianKernel) -> Date
     Date::pack(kernel.year(), kernel.is_leap_year(), kernel.ordinal())
 }
 
-/// Returns the day of a Julian day, counted from 1 January -2379600.
+/// Returns the day with a Julian day, counted from 1 January -2379600.
 fn shifted_day(julian_day: i32) -> u32
     requires { IsDateNumber (julian_day -ℤ first_julian_day) }
     ensures { result ≡ shifted_day julian_day }

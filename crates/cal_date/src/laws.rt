@@ -1,5 +1,5 @@
 //! Properties of constants and derived traits, which have no clauses: functions return their
-//! values. And two counts of weeks that agree.
+//! values. The last function states that two counts of weeks agree.
 ghost use Rattle.std.specs.Prelude.{◌≡◌, ◌+◌, ◌↔◌, Ok, IsTrue};
 ghost use Rattle.cal_date.specs.CalendarDay.{calendar_day};
 ghost use Rattle.cal_date.specs.Date.{first_year, last_year, last_day, day_at, IsYear};

@@ -3,18 +3,19 @@ use Rattle.std.specs.Prelude.{ℤ, pos, neg_ℤ, ◌+ℤ◌, ◌-ℤ◌, ◌*ℤ
 use Rattle.cal_span.specs.SignedDuration.{second}
 use Rattle.cal_span.specs.declared.signed_duration.SignedDuration.TheInside.{Inside}
 
--- The number of nanoseconds of the fields.
+-- The duration of the fields, in nanoseconds.
 abbrev pub nanoseconds_of_fields : Inside → ℤ
 nanoseconds_of_fields fields = fields.seconds *ℤ pos second +ℤ fields.nanoseconds
 
--- The nanoseconds are less than a second, and the fields don't have opposite signs.
+-- Fields are normal if the nanoseconds are less than a second, and the fields don't have opposite
+-- signs.
 pub record IsNormal (fields : Inside) : Type 0 where
   pub above : neg_ℤ (pos second) <ℤ fields.nanoseconds
   pub below : fields.nanoseconds <ℤ pos second
   pub positive : pos 0 <ℤ fields.seconds → pos 0 ≤ℤ fields.nanoseconds
   pub negative : fields.seconds <ℤ pos 0 → fields.nanoseconds ≤ℤ pos 0
 
--- The fields of a number of nanoseconds.
+-- The fields of a duration in nanoseconds: its whole seconds, and the nanoseconds past them.
 abbrev pub fields_of : ℤ → Inside
 fields_of v = record { seconds = int_div v (pos second); nanoseconds = int_rem v (pos second) }
 

@@ -20,7 +20,7 @@ IsNormal-fields_of v =
     let sign = rem-sign v in
     record { above = omega (arith, ints); below = omega (arith, ints); positive = λ h. omega (arith, ints); negative = λ h. omega (arith, ints) }
 
--- The positive part and the negative part of a number of seconds in nanoseconds.
+-- If seconds become nanoseconds, the positive part and the negative part are multiplied alike.
 pub times-second : (s : ℤ) → (up (s *ℤ pos second) ≡ second * up s) × (down (s *ℤ pos second) ≡ second * down s)
 times-second (pos n) = (omega (arith, ints), omega (arith, ints))
 times-second (negsuc n) = (omega (arith, ints), omega (arith, ints))

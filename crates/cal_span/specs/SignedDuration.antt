@@ -9,24 +9,31 @@ use Rattle.std.specs.Hash as fed
 use Rattle.std.specs.Hash.{HashWrites}
 
 -- ---- units in nanoseconds (SI prefixes; a day has 24 hours, and a week 7 days)
+-- The number of nanoseconds in a microsecond.
 abbrev pub microsecond : ℕ
 microsecond = 1_000
 
+-- The number of nanoseconds in a millisecond, 1000 microseconds.
 abbrev pub millisecond : ℕ
 millisecond = 1_000_000
 
+-- The number of nanoseconds in a second, 1000 milliseconds.
 abbrev pub second : ℕ
 second = 1_000_000_000
 
+-- The number of nanoseconds in a minute, 60 seconds.
 abbrev pub minute : ℕ
 minute = 60_000_000_000
 
+-- The number of nanoseconds in an hour, 60 minutes.
 abbrev pub hour : ℕ
 hour = 3_600_000_000_000
 
+-- The number of nanoseconds in a day of 24 hours.
 abbrev pub day : ℕ
 day = 86_400_000_000_000
 
+-- The number of nanoseconds in a week of 7 days.
 abbrev pub week : ℕ
 week = 604_800_000_000_000
 
@@ -44,7 +51,8 @@ pub record IsDuration (v : ℤ) : Type 0 where
   pub at_least : min_duration ≤ℤ v
   pub at_most : v ≤ℤ max_duration
 
--- A number is clamped to the range, as by `saturating_add`.
+-- A number of nanoseconds clamped to the range: the minimum if it is less, the maximum if it is
+-- more.
 abbrev pub clamp : ℤ → ℤ
 clamp v = int_max min_duration (int_min v max_duration)
 
@@ -53,12 +61,12 @@ abbrev pub IsMagnitudeWithin : ℕ → ℤ → Type 0
 IsMagnitudeWithin bound n = (neg_ℤ (pos bound) ≤ℤ n) × (n ≤ℤ pos bound)
 
 -- ---- parts
--- A magnitude is negated if the sign is negative.
+-- The number with the magnitude n: -n if it is negative, else n.
 abbrev pub with_sign : Bool → ℕ → ℤ
 with_sign true n = neg_ℤ (pos n)
 with_sign false n = pos n
 
--- The quotient of a and b is truncated toward zero, like Rust's `/`.
+-- The quotient of a and b, truncated toward zero, like Rust's `/`.
 abbrev pub cut : ℤ → ℤ → ℤ
 cut a b = int_div a b
 
@@ -66,7 +74,7 @@ cut a b = int_div a b
 abbrev pub whole_days : ℤ → ℤ
 whole_days v = cut v (pos day)
 
--- The nanoseconds of a duration past its whole seconds.
+-- The nanoseconds of a duration past its whole seconds, with the sign of the duration.
 abbrev pub subsec_nanoseconds : ℤ → ℤ
 subsec_nanoseconds v = v -ℤ cut v (pos second) *ℤ pos second
 
@@ -75,11 +83,12 @@ abbrev pub hash_input_of : ℤ → HashWrites
 hash_input_of v = fed.i64 (cut v (pos second)) ++ fed.i32 (subsec_nanoseconds v)
 
 -- ---- text: the output of `Display`
--- A part is a number and its unit, or nothing if the number is 0.
+-- The text of a part: a number and its unit, or nothing if the number is 0.
 abbrev pub part_text : ℕ → List ℕ → List ℕ
 part_text n unit = if n == 0 then [] else decimal n ++ unit
 
--- The parts of a magnitude in nanoseconds, from days to nanoseconds.
+-- The texts of the parts of a magnitude in nanoseconds, from days to nanoseconds. The bytes 0xc2
+-- and 0xb5 are the `µ` of `µs` in UTF-8.
 abbrev pub parts_text : ℕ → List ℕ
 parts_text n =
     part_text (n / day) (codes "d")
@@ -90,7 +99,7 @@ parts_text n =
     ++ part_text (n / microsecond % 1_000) (0xc2 ∷ 0xb5 ∷ codes "s")
     ++ part_text (n % 1_000) (codes "ns")
 
--- The text of a duration is its sign and its parts. Zero is `0s`.
+-- The text of a duration: a minus sign if it is negative, and its parts. Zero is `0s`.
 abbrev pub text : ℤ → List ℕ
 text (pos zero) = codes "0s"
 text (pos (suc n)) = parts_text (suc n)
@@ -102,10 +111,11 @@ pub record HasQuotient (v k : ℤ) : Type 0 where
   pub divisor : k ≢ pos 0
   pub quotient : IsDuration (cut v k)
 
--- The sum of a list of numbers.
+-- The sum of a list of numbers. The sum of no numbers is 0.
 abbrev pub sum_of : List ℤ → ℤ
 sum_of numbers = fold ◌+ℤ◌ (pos 0) numbers
 
--- A list has a sum if the sum of its first n items is a duration, for each n.
+-- A list of durations has a sum if each partial sum is a duration: the sum of its first n items,
+-- for each n.
 abbrev pub HasSum : List ℤ → Type 0
 HasSum numbers = (n : ℕ) → IsDuration (sum_of (take n numbers))

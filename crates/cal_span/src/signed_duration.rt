@@ -32,12 +32,13 @@ const SECONDS_PER_WEEK: i64 = 604_800;
 ///
 /// It is a whole number of nanoseconds from [`Self::MIN`] to [`Self::MAX`], and each number between
 /// them is a duration. Durations compare and hash by this number. A day has 24 hours, and a week 7
-/// days. The fields are whole seconds and the nanoseconds past them, which never have opposite
-/// signs.
+/// days. A duration prints its parts with units, such as `-1d3h250ms`.
 ///
-/// The operators `+`, `-`, `*` and `/` return the exact result; `/` truncates toward zero. For
+/// The operators `+`, `-` and `*` return the exact result, and `/` truncates toward zero. For
 /// example, `SECOND * 200u8` is 200 s, and `nanoseconds(-7) / 2i8` is -3 ns. The result must be in
 /// the range, and the divisor must not be zero.
+///
+/// The fields are whole seconds and the nanoseconds past them, which never have opposite signs.
 #[derive(Clone, Copy, Debug)]
 pub struct SignedDuration {
     seconds: i64,
@@ -62,7 +63,7 @@ impl Model for SignedDuration {
 }
 
 impl SignedDuration {
-    /// Zero.
+    /// The zero duration.
     pub const ZERO: Self = Self {
         seconds: 0,
         nanoseconds: 0,
@@ -129,7 +130,7 @@ impl SignedDuration {
     };
 
     /// Creates a duration from seconds and nanoseconds, which may have opposite signs. The
-    /// nanoseconds may be more than a second.
+    /// nanoseconds may make up more than a second.
     ///
     /// `new(-1, 1)` is -999999999 ns, and `new(1, 2_000_000_000)` is 3 s. The sum of `seconds` and
     /// the whole seconds of `nanoseconds`, truncated toward zero, must fit in an `i64`.
@@ -219,7 +220,7 @@ impl SignedDuration {
         }
     }
 
-    /// Creates a duration from nanoseconds, which must be in the range from [`Self::MIN`] to
+    /// Creates a duration from nanoseconds in 128 bits. The duration must be from [`Self::MIN`] to
     /// [`Self::MAX`]. `nanoseconds_i128(1_000_000_001)` is 1 s and 1 ns.
     pub fn nanoseconds_i128(nanoseconds: i128) -> Self
         requires { IsDuration nanoseconds }
@@ -252,7 +253,8 @@ impl SignedDuration {
         self.seconds > 0 || self.nanoseconds > 0
     }
 
-    /// Returns the absolute value, clamped to [`Self::MAX`]. `MIN.abs()` is `MAX`.
+    /// Returns the absolute value, clamped to [`Self::MAX`]. For -5 s it is 5 s, and for
+    /// [`Self::MIN`] it is [`Self::MAX`].
     pub fn abs(self) -> Self
         ensures { result ≡ clamp (pos (unsigned_abs self)) }
     {
@@ -265,8 +267,9 @@ impl SignedDuration {
         }
     }
 
-    /// Returns the absolute value as whole seconds and the nanoseconds past them. For [`Self::MIN`]
-    /// they are 9223372036854775808 and 999999999.
+    /// Returns the absolute value as whole seconds and the nanoseconds past them, from 0 to
+    /// 999999999. For -1.5 s they are 1 and 500000000, and for [`Self::MIN`] they are
+    /// 9223372036854775808 and 999999999.
     pub fn unsigned_abs(self) -> (u64, u32)
         ensures seconds { result.0 ≡ unsigned_abs self / second }
         ensures nanoseconds { result.1 ≡ unsigned_abs self % second }
@@ -334,7 +337,7 @@ impl SignedDuration {
     }
 
     /// Returns the milliseconds past the whole seconds, truncated toward zero, from -999 to 999.
-    /// For -1.5 s they are -500.
+    /// They have the sign of the duration: for -1.5 s they are -500.
     pub fn subsec_milliseconds(self) -> i16
         ensures { result ≡ cut (subsec_nanoseconds self) (pos millisecond) }
     {
@@ -342,15 +345,15 @@ impl SignedDuration {
     }
 
     /// Returns the microseconds past the whole seconds, truncated toward zero, from -999999 to
-    /// 999999. For 1 s and 2500 ns they are 2.
+    /// 999999. They have the sign of the duration: for 1 s and 2500 ns they are 2.
     pub fn subsec_microseconds(self) -> i32
         ensures { result ≡ cut (subsec_nanoseconds self) (pos microsecond) }
     {
         self.nanoseconds / NANOSECONDS_PER_MICROSECOND
     }
 
-    /// Returns the nanoseconds past the whole seconds, from -999999999 to 999999999. For -1.5 s
-    /// they are -500000000.
+    /// Returns the nanoseconds past the whole seconds, from -999999999 to 999999999. They have the
+    /// sign of the duration: for -1.5 s they are -500000000.
     pub fn subsec_nanoseconds(self) -> i32
         ensures { result ≡ subsec_nanoseconds self }
     {
@@ -361,7 +364,7 @@ impl SignedDuration {
 impl Default for SignedDuration {
     ghost is_default = { λ duration. duration ≡ pos 0 };
 
-    /// Returns [`Self::ZERO`].
+    /// Returns [`Self::ZERO`], a duration of 0 ns.
     fn default() -> Self {
         Self::ZERO
     }

@@ -13,7 +13,8 @@ IsBehind cycle n x y = (cycle.index_of y + n) % cycle.LENGTH ≡ cycle.index_of 
 module _ {F C : Type 0} (cycle : Ghosts C) (calls : F → C → Bool → F → Type 0) (go : Bool) where
   -- The closure f is called for the value at index i and for each later value, as long as it
   -- returns `go`. The outcome is `go` if each call returns `go`, else `not go`. `calls f x b f'` is
-  -- a call of f for x that returns b and leaves f'.
+  -- a call of f for x that returns b and leaves f'. The three cases are: no value is left, the call
+  -- returns `not go`, and the call returns `go`.
   pub data ShortCircuits : ℕ → F → Bool → Type 0 where
     at_end : (f : F) → ShortCircuits cycle.LENGTH f go
     stops : (i : ℕ) (f f' : F) → i < cycle.LENGTH → calls f (cycle.value_at i) (not go) f' → ShortCircuits i f (not go)

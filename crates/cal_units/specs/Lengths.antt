@@ -10,8 +10,8 @@ is_leap_year y = (unsigned_abs y % 4 == 0) && (not (unsigned_abs y % 100 == 0) |
 abbrev pub days_in_year : ℤ → ℕ
 days_in_year y = if is_leap_year y then 366 else 365
 
--- April, June, September and November have 30 days. February has 28, or 29 in a leap year. The
--- other months have 31.
+-- The number of days of a month, numbered from 1 for January: 30 for April, June, September and
+-- November, 28 for February, or 29 in a leap year, and 31 for the other months.
 unfoldable pub days_in_month : ℤ → ℕ → ℕ
 days_in_month y m =
     if m == 2 then (if is_leap_year y then 29 else 28)

@@ -6,7 +6,7 @@ use Rattle.cal_units.specs.declared.month.Month.{Month}
 use Rattle.cal_units.specs.declared.month.Month.TheVariants.{January, February, March, April, May, June, July, August, September, October, November, December}
 use Rattle.cal_units.specs.ComponentError.{unconditional}
 
--- The index of a month on the cycle of months is counted from 0 at January.
+-- The index of a month, counted from 0 at January.
 abbrev pub index : Month → ℕ
 index January = 0
 index February = 1
@@ -21,15 +21,15 @@ index October = 9
 index November = 10
 index December = 11
 
--- The number of a month is counted from 1 at January.
+-- The number of a month, counted from 1 at January, as in ISO 8601.
 abbrev pub number : Month → ℕ
 number m = index m + 1
 
--- The month at index i is the month with this index, or December if i is 12 or more.
+-- The month with the index i, or December if i is 12 or more.
 abbrev pub month_of_index : ℕ → Month
 month_of_index i = slice_index_or (January ∷ February ∷ March ∷ April ∷ May ∷ June ∷ July ∷ August ∷ September ∷ October ∷ November ∷ December ∷ []) i December
 
--- The name of a month is its English name.
+-- The English name of a month, which it prints.
 abbrev pub name : Month → List ℕ
 name January = codes "January"
 name February = codes "February"

@@ -1,7 +1,7 @@
 -- The capacity of a short text in bytes.
 use Rattle.std.specs.Prelude.{ℕ, ◌+◌, ◌≤◌, List, length}
 
--- A short text has at most 42 bytes.
+-- The maximum length of a short text, 42 bytes.
 abbrev pub capacity : ℕ
 capacity = 42
 

@@ -3,7 +3,7 @@ use Rattle.std.specs.Prelude.{ℕ, List, [], ◌∷◌, codes, slice_index_or}
 use Rattle.cal_units.specs.declared.weekday.Weekday.{Weekday}
 use Rattle.cal_units.specs.declared.weekday.Weekday.TheVariants.{Monday, Tuesday, Wednesday, Thursday, Friday, Saturday, Sunday}
 
--- The index of a weekday is the number of days since Monday (ISO 8601: a week begins on Monday).
+-- The index of a weekday: the number of days since Monday (ISO 8601: a week begins on Monday).
 abbrev pub index : Weekday → ℕ
 index Monday = 0
 index Tuesday = 1
@@ -13,7 +13,7 @@ index Friday = 4
 index Saturday = 5
 index Sunday = 6
 
--- The number of days since Sunday.
+-- The number of days since Sunday, for weeks that begin on Sunday.
 abbrev pub days_from_sunday : Weekday → ℕ
 days_from_sunday Sunday = 0
 days_from_sunday Monday = 1
@@ -23,11 +23,11 @@ days_from_sunday Thursday = 4
 days_from_sunday Friday = 5
 days_from_sunday Saturday = 6
 
--- The weekday at index i is the weekday with this index, or Sunday if i is 7 or more.
+-- The weekday with the index i, or Sunday if i is 7 or more.
 abbrev pub weekday_of_index : ℕ → Weekday
 weekday_of_index i = slice_index_or (Monday ∷ Tuesday ∷ Wednesday ∷ Thursday ∷ Friday ∷ Saturday ∷ Sunday ∷ []) i Sunday
 
--- The name of a weekday is its English name.
+-- The English name of a weekday, which it prints.
 abbrev pub name : Weekday → List ℕ
 name Monday = codes "Monday"
 name Tuesday = codes "Tuesday"

@@ -4,10 +4,11 @@
 use Rattle.std.specs.Prelude.{ℕ, zero, suc, ◌+◌, ◌-◌, ◌%◌, ◌==◌, if◌then◌else◌, ℤ, pos, negsuc, ◌-ℤ◌}
 use Rattle.cal_units.specs.Lengths.{days_in_year}
 
--- The weekday some days after a weekday, and some days before it.
+-- The weekday some days after a weekday.
 abbrev pub weekday_after : ℕ → ℕ → ℕ
 weekday_after weekday days = (weekday + days) % 7
 
+-- The weekday some days before a weekday.
 abbrev pub weekday_before : ℕ → ℕ → ℕ
 weekday_before weekday days = (weekday + (7 - days % 7)) % 7
 
@@ -21,17 +22,19 @@ unfoldable pub first_weekday_before : ℕ → ℕ
 first_weekday_before zero = 0
 first_weekday_before (suc n) = weekday_before (first_weekday_before n) (days_in_year (pos 0 -ℤ pos n))
 
--- The weekday of 1 January of any year.
+-- The weekday of 1 January of any year. Year 0 is one year before year 1, and year -1 is two years
+-- before it.
 unfoldable pub first_weekday : ℤ → ℕ
 first_weekday (pos zero) = first_weekday_before 1
 first_weekday (pos (suc n)) = first_weekday_after n
 first_weekday (negsuc n) = first_weekday_before (n + 2)
 
--- The number of Thursdays among n days. `first` is the weekday of the first of them.
+-- The number of Thursdays, weekdays with the index 3, among n days. `first` is the weekday of the
+-- first day.
 unfoldable pub thursdays : ℕ → ℕ → ℕ
 thursdays first zero = 0
 thursdays first (suc n) = thursdays first n + (if weekday_after first n == 3 then 1 else 0)
 
--- A year has as many weeks as Thursdays.
+-- The number of weeks of a year is the number of its Thursdays.
 unfoldable pub weeks_in_year : ℤ → ℕ
 weeks_in_year y = thursdays (first_weekday y) (days_in_year y)

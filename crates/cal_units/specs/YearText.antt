@@ -2,10 +2,10 @@
 use Rattle.std.specs.Prelude.{ℤ, pos, ◌++◌, unsigned_abs, List, [], codes, ℕ, if◌then◌else◌, int_lt}
 use Rattle.cal_units.specs.Digits.{digits_at_least}
 
--- A negative year has a minus sign, and a year above 9999 has a plus sign.
+-- The sign of a year: minus for a negative year, plus for a year above 9999, else none.
 abbrev pub sign_text : ℤ → List ℕ
 sign_text y = if int_lt y (pos 0) then codes "-" else (if int_lt (pos 9999) y then codes "+" else [])
 
--- A year is written with its sign and four or more digits.
+-- The text of a year: its sign and four or more digits.
 abbrev pub year_text : ℤ → List ℕ
 year_text y = sign_text y ++ digits_at_least 4 (unsigned_abs y)

@@ -7,7 +7,7 @@ pub trait Cycle: Copy {
     /// The number of values: 12 for `Month`, 7 for `Weekday`.
     const LENGTH: u8;
 
-    // The number of values, for contracts.
+    // The number of values, as contracts name it.
     ghost LENGTH: { ℕ };
 
     // The index of a value.

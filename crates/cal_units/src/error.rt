@@ -7,7 +7,7 @@ use std::fmt;
 /// A component of a date, a time of day or an offset from UTC, as an error names it.
 #[derive(Clone, Copy, Debug, PartialEq, Eq, Hash)]
 pub enum Component {
-    /// The calendar year, or the year of an ISO week.
+    /// The calendar year, or the ISO year of a week date.
     Year,
     /// The number of the month.
     Month,
@@ -15,9 +15,9 @@ pub enum Component {
     Day,
     /// The day of the year.
     Ordinal,
-    /// The ISO week.
+    /// The ISO week of a week date.
     Week,
-    /// The weekday of an ISO week date.
+    /// The weekday of a week date.
     Weekday,
     /// The Julian day.
     JulianDay,
@@ -75,7 +75,7 @@ impl Component {
     }
 }
 
-/// An error: a component, such as a month or an hour, was out of range.
+/// An error: a component, such as a month or an hour, is out of range.
 ///
 /// The error is conditional if the range depends on other components. The range of a day depends on
 /// the month and the year; the range of an hour is always the same. It prints
@@ -144,8 +144,10 @@ impl fmt::Display for ComponentRange {
     }
 }
 
-/// An error: a value was out of range for the target type of a conversion. It prints
+/// An error: a value is out of range for the target type of a conversion. It prints
 /// `Source value is out of range for the target type`.
+///
+/// It is for conversions that callers write: no call of these crates returns it.
 #[derive(Clone, Copy, Debug, PartialEq, Eq)]
 pub struct ConversionRange;
 
@@ -157,7 +159,7 @@ impl fmt::Display for ConversionRange {
     }
 }
 
-/// An error: a text was not the exact English name of a month or a weekday. It prints
+/// An error: a text is not the exact English name of a month or a weekday. It prints
 /// `value was not a valid variant`.
 #[derive(Clone, Copy, Debug, PartialEq, Eq)]
 pub struct InvalidVariant;

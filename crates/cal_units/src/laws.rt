@@ -37,8 +37,8 @@ pub(crate) fn clones_of_errors(
     Ok((component.clone()?, conversion.clone()?, variant.clone()?))
 }
 
-/// States that a year and the year 400 years later begin on the same weekday, and have as many days
-/// and as many weeks.
+/// States that a year and the year 400 years later begin on the same weekday, and have the same
+/// numbers of days and of weeks.
 #[tactic(auto, using(crate::proofs::Weeks::periods))]
 pub(crate) fn years_repeat()
     ensures weekday { (y : ℤ) → first_weekday (y +ℤ pos 400) ≡ first_weekday y }

@@ -1,4 +1,4 @@
-//! The months.
+//! The months of the year.
 ghost use Rattle.std.specs.Prelude.{◌≡◌, ◌≤◌, length, ◌+◌, ◌%◌, ◌≤◌, ◌==◌, Some};
 ghost use Rattle.std.specs.Cmp.{partial_order_from_own_ties};
 ghost use Rattle.std.specs.Cmp.Rules.{comparing};
@@ -20,8 +20,10 @@ use std::cmp::Ordering;
 use std::fmt;
 use std::str::FromStr;
 
-/// A month of the year. `Month::May as u8` is its number, 5. Months are ordered by their numbers. A
-/// month prints its English name, such as `May`.
+/// A month of the year.
+///
+/// `Month::May as u8` is the number of May, 5. Months are ordered by their numbers. A month prints
+/// its English name, such as `May`. A width pads it.
 #[derive(Clone, Copy, Debug, Hash)]
 pub enum Month {
     January = 1,
@@ -78,15 +80,16 @@ impl Month {
         nth_back_in(self, n as usize)
     }
 
-    /// Creates an endless iterator over the months that starts at `start`. From November it returns
-    /// November, December, January and so on.
+    /// Creates an endless iterator over the months, which starts at `start`. From November it
+    /// returns November, December, January and so on.
     pub fn iter_from(start: Month) -> MonthIter
         ensures { result ≡ start }
     {
         MonthIter::new(start)
     }
 
-    /// Returns the English name, which the month prints: `May`. It is ASCII, with at most 9 bytes.
+    /// Returns the English name that the month prints, such as `May`. It is ASCII, with at most 9
+    /// bytes.
     pub fn name(self) -> &'static str
         ensures value { result.now ≡ name self }
         ensures max_length { length result.now ≤ 9 }

@@ -5,7 +5,7 @@ ghost use Rattle.cal_units.specs.CycleSteps.{ShortCircuits, IsAhead, IsBehind};
 use crate::cycle::Cycle;
 
 /// Returns the value `n` places after `start` on the cycle. `nth_in(Month::November, 3)` is
-/// February.
+/// February, and `nth_in(Weekday::Monday, 7)` is Monday.
 pub fn nth_in<C: Cycle>(start: C, n: usize) -> C
     ensures { IsAhead C.Cycle n start result }
 {
@@ -14,7 +14,7 @@ pub fn nth_in<C: Cycle>(start: C, n: usize) -> C
     C::at(place as u8)
 }
 
-/// Returns the value `n` places before `start` on the cycle.
+/// Returns the value `n` places before `start` on the cycle. 3 places before February is November.
 pub(crate) fn nth_back_in<C: Cycle>(start: C, n: usize) -> C
     ensures { IsBehind C.Cycle n start result }
 {

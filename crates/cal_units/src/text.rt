@@ -10,8 +10,8 @@ use std::fmt;
 use std::marker::Model;
 use std::str::from_utf8_unchecked;
 
-/// The maximum length of a text in bytes. The longest durations and the longest date-times with an
-/// offset have this length.
+/// The maximum length of a text in bytes. The texts of the longest durations and of the longest
+/// date-times with an offset have this length.
 const CAPACITY: usize = 42;
 
 /// The two ASCII digits of each number below 100, in ascending order.
@@ -19,10 +19,11 @@ const DIGIT_PAIRS: [u8; 200] =
     *b"0001020304050607080910111213141516171819202122232425262728293031323334353637383940414243444546474849\
     5051525354555657585960616263646566676869707172737475767778798081828384858687888990919293949596979899";
 
-/// A text of at most 42 bytes that needs no allocation and no formatter.
+/// A text of at most 42 bytes in UTF-8, which needs no allocation and no formatter.
 ///
-/// Each type that prints returns one from its method `text`: for 29 February 2024 it is
-/// `2024-02-29`. A text that is appended must fit.
+/// Dates, times of day, durations, offsets and date-times return one from their method `text`. For
+/// 29 February 2024 it is `2024-02-29`. Each call that appends requires room: the result must have
+/// at most 42 bytes.
 #[derive(Drop)]
 pub struct ShortText {
     bytes: [u8; CAPACITY],
@@ -41,7 +42,7 @@ impl Model for ShortText {
 }
 
 impl ShortText {
-    /// Creates an empty text.
+    /// Creates an empty text, with room for 42 bytes.
     pub fn new() -> Self
         ensures { result ≡ [] }
     {
@@ -76,7 +77,7 @@ impl ShortText {
         self.filled
     }
 
-    /// Appends a text, which must fit.
+    /// Appends `text`, which must fit. After `2024`, `push("-W09")` makes `2024-W09`.
     pub fn push(&mut self, text: &str)
         requires { HasRoom (length text.now) self.old }
         ensures appended { self.new ≡ self.old ++ text.now }
@@ -87,7 +88,7 @@ impl ShortText {
         self.filled = end;
     }
 
-    /// Appends bytes of ASCII.
+    /// Appends ASCII bytes, which must fit.
     fn push_ascii(&mut self, bytes: &[u8])
         requires room { HasRoom (length bytes.now) self.old }
         requires ascii { IsAscii bytes.now }
@@ -98,7 +99,7 @@ impl ShortText {
         self.push(unsafe { from_utf8_unchecked(bytes) });
     }
 
-    /// Appends the digit of a number below 10.
+    /// Appends the digit of a number, which must be below 10. For 7 it is `7`.
     pub fn push_digit(&mut self, number: u32)
         requires room { HasRoom 1 self.old }
         requires range { number < 10 }
@@ -108,7 +109,7 @@ impl ShortText {
         self.push_ascii(&[ascii_digit(number)]);
     }
 
-    /// Appends the two digits of a number below 100. For 7 they are `07`.
+    /// Appends the two digits of a number, which must be below 100. For 7 they are `07`.
     #[tactic(auto, using(crate::proofs::Digits::pairs))]
     pub fn push_two_digits(&mut self, number: u32)
         requires room { HasRoom 2 self.old }
@@ -120,7 +121,7 @@ impl ShortText {
         self.push_ascii(&ascii_two_digits(number));
     }
 
-    /// Appends the three digits of a number below 1000. For 60 they are `060`.
+    /// Appends the three digits of a number, which must be below 1000. For 60 they are `060`.
     #[tactic(auto, using(crate::proofs::Digits::threes))]
     pub fn push_three_digits(&mut self, number: u32)
         requires room { HasRoom 3 self.old }
@@ -132,7 +133,8 @@ impl ShortText {
         self.push_two_digits(number % 100);
     }
 
-    /// Appends a number in decimal, without leading zeros.
+    /// Appends a number in decimal, without leading zeros: up to 20 bytes. For 0 it is `0`, and for
+    /// 1440 it is `1440`.
     #[tactic(auto, using(crate::proofs::Digits::numbers))]
     pub fn push_number(&mut self, number: u64)
         requires { HasRoom (length (decimal number)) self.old }
@@ -149,7 +151,8 @@ impl ShortText {
         self.push_two_digits((number % 100) as u32);
     }
 
-    /// Appends a number in decimal, with a minus sign if it is negative, such as `-7`.
+    /// Appends a number in decimal, with a minus sign if it is negative: up to 11 bytes. For -7 it
+    /// is `-7`.
     #[tactic(auto, using(crate::proofs::Digits::short_numbers))]
     pub fn push_i32(&mut self, number: i32)
         requires { HasRoom (length (signed_decimal number)) self.old }
@@ -163,7 +166,8 @@ impl ShortText {
         self.push_number(u64::from(number.unsigned_abs()));
     }
 
-    /// Appends a 128-bit number in decimal, with a minus sign if it is negative.
+    /// Appends a 128-bit number in decimal, with a minus sign if it is negative: up to 40 bytes.
+    /// For -7 it is `-7`.
     #[tactic(auto, using(crate::proofs::Digits::wide_numbers))]
     pub fn push_i128(&mut self, number: i128)
         requires { HasRoom (length (signed_decimal number)) self.old }
@@ -192,8 +196,9 @@ impl ShortText {
         self.push_digit((number % 10) as u32);
     }
 
-    /// Appends a year from -999999 to 999999 with four or more digits, as in ISO 8601. A negative
-    /// year has a minus sign, and a year above 9999 a plus sign: `0033`, `-0044`, `+12024`.
+    /// Appends a year, which must be from -999999 to 999999, with four or more digits, as in
+    /// ISO 8601. A negative year has a minus sign, and a year above 9999 a plus sign: `0033`,
+    /// `-0044`, `+12024`. It has at most 7 bytes.
     #[tactic(auto, using(crate::proofs::YearTexts::year_lengths))]
     pub fn push_year(&mut self, year: i32)
         requires room { HasRoom (length (year_text year)) self.old }
@@ -210,7 +215,7 @@ impl ShortText {
         self.push_four_digits(year.unsigned_abs());
     }
 
-    /// Appends a number below 1000000 with four or more digits.
+    /// Appends a number below 1000000 with four or more digits. For 33 they are `0033`.
     #[tactic(auto, using(crate::proofs::YearTexts::years))]
     fn push_four_digits(&mut self, number: u32)
         requires room { HasRoom (length (digits_at_least 4 number)) self.old }
@@ -228,8 +233,9 @@ impl ShortText {
         self.push_two_digits(number % 100);
     }
 
-    /// Appends the decimals of a second, without trailing zeros. For half a second they are `5`,
-    /// and for no nanoseconds `0`. The nanoseconds must be below 1000000000.
+    /// Appends the decimals of a second, without trailing zeros: from 1 to 9 digits. For 500000000
+    /// nanoseconds they are `5`, and for 0 nanoseconds `0`. The nanoseconds must be below
+    /// 1000000000.
     pub fn push_decimals(&mut self, nanoseconds: u32)
         requires room { HasRoom (length (decimals nanoseconds)) self.old }
         requires range { nanoseconds < 1_000_000_000 }

@@ -54,7 +54,7 @@ pub fn weeks_in_year(year: i32) -> u8
     let begins_on = first_weekday(year);
     let next_begins_on = first_weekday(year + 1);
 
-    // A year has 53 Thursdays where it begins on one or ends on one. It ends on one if the next
+    // A year has 53 Thursdays if it begins or ends on a Thursday. It ends on a Thursday if the next
     // year begins on a Friday.
     if begins_on == THURSDAY || next_begins_on == FRIDAY {
         53
@@ -87,9 +87,10 @@ pub fn days_in_year_month(year: i32, month: Month) -> u8
     days_in_month(month, year)
 }
 
-// The index of the weekday of 1 January, from 0 for Monday to 6 for Sunday. Year 1 begins on a
-// Monday. Each year of 365 days moves the weekday by one, and each leap day by one more. The
-// quotients are rounded down, so the result is right before year 1 too.
+/// Returns the index of the weekday of 1 January, from 0 for Monday to 6 for Sunday.
+///
+/// Year 1 begins on a Monday. Each year of 365 days moves the weekday by one, and each leap day by
+/// one more. The quotients are rounded down, so the result is also right before year 1.
 fn first_weekday(year: i64) -> i64
     requires min { neg_ℤ (pos (2 ^ 32)) ≤ℤ year }
     requires max { year ≤ℤ pos (2 ^ 32) }

@@ -1,4 +1,4 @@
-//! The weekdays.
+//! The days of the week.
 ghost use Rattle.std.specs.Prelude.{◌≡◌, ◌≤◌, length, ◌+◌, ◌%◌, ◌==◌, Some};
 ghost use Rattle.std.specs.Cmp.Rules.{comparing};
 ghost use Rattle.std.specs.Fmt.{padded};
@@ -19,7 +19,8 @@ use std::str::FromStr;
 /// A day of the week.
 ///
 /// `Weekday::Friday as u8` is the number of days since Monday, 4. Weekdays have no order, because a
-/// week can begin on Monday or on Sunday. A weekday prints its English name, such as `Friday`.
+/// week can begin on Monday or on Sunday. A weekday prints its English name, such as `Friday`. A
+/// width pads it.
 #[derive(Clone, Copy, Debug, Hash)]
 pub enum Weekday {
     Monday,
@@ -92,7 +93,7 @@ impl Weekday {
         }
     }
 
-    /// Creates an endless iterator over the weekdays that starts at `start`. From Saturday it
+    /// Creates an endless iterator over the weekdays, which starts at `start`. From Saturday it
     /// returns Saturday, Sunday, Monday and so on.
     pub fn iter_from(start: Weekday) -> WeekdayIter
         ensures { result ≡ start }
@@ -100,8 +101,8 @@ impl Weekday {
         WeekdayIter::new(start)
     }
 
-    /// Returns the English name, which the weekday prints: `Friday`. It is ASCII, with at most 9
-    /// bytes.
+    /// Returns the English name that the weekday prints, such as `Friday`. It is ASCII, with at
+    /// most 9 bytes.
     pub fn name(self) -> &'static str
         ensures value { result.now ≡ name self }
         ensures max_length { length result.now ≤ 9 }

@@ -32,7 +32,8 @@ impl Time {
         other.duration_until(self)
     }
 
-    /// Adds the duration. Returns the adjustment past the duration's whole days and the time.
+    /// Adds the duration. Returns the change of day, without the duration's whole days, and the
+    /// time.
     ///
     /// 23:00 plus 26 hours is 1:00, two days later: one whole day in the duration, and the
     /// adjustment `Next`. The whole days are truncated toward zero. The adjustment is not
@@ -47,7 +48,8 @@ impl Time {
         adjusted_time(self.nanoseconds as i64 + subday_nanoseconds(duration))
     }
 
-    /// Subtracts the duration. Returns the adjustment past the duration's whole days and the time.
+    /// Subtracts the duration. Returns the change of day, without the duration's whole days, and
+    /// the time.
     ///
     /// 1:00 minus 26 hours is 23:00, two days earlier: one whole day in the duration, and the
     /// adjustment `Previous`. The whole days are truncated toward zero. The adjustment is not
@@ -63,7 +65,7 @@ impl Time {
     }
 }
 
-/// Returns the nanoseconds of the duration past its whole days, with its sign.
+/// Returns the nanoseconds of the duration past its whole days, with the sign of the duration.
 fn subday_nanoseconds(duration: SignedDuration) -> i64
     ensures { IsSubdayPart duration result }
 {
@@ -81,7 +83,7 @@ fn day_carry(nanoseconds: i64) -> i64
     i64::from(nanoseconds >= NANOSECONDS_PER_DAY as i64) - i64::from(nanoseconds < 0)
 }
 
-/// Returns the adjustment of -1, 0 or 1 days.
+/// Returns the adjustment that adds -1, 0 or 1 days.
 fn adjustment_from_days(days: i64) -> DateAdjustment
     requires min { negsuc 0 ≤ℤ days }
     requires max { days ≤ℤ pos 1 }

@@ -18,7 +18,8 @@ impl Counted for Time {
 
     ghost hash_by_number = { λ x y e. ap fed.u64 (same-pos x y e) };
 
-    /// Returns the nanoseconds since midnight. For 1:00 they are 3600000000000.
+    /// Returns the nanoseconds since midnight, from 0 to 86399999999999. For 1:00 they are
+    /// 3600000000000.
     fn number(self) -> i128 {
         i128::from(self.nanoseconds)
     }

@@ -9,7 +9,7 @@ use cal_span::SignedDuration;
 use std::ops::{Add, AddAssign, Sub, SubAssign};
 
 impl Date {
-    /// Adds the whole days of the duration, truncated toward zero. Returns `None` if the date is
+    /// Adds the whole days of the duration, truncated toward zero. Returns `None` if the result is
     /// out of range.
     ///
     /// 2020-12-31 plus 47 hours is 2021-01-01. [`Self::MIN`] plus -23 hours is [`Self::MIN`].
@@ -26,8 +26,8 @@ impl Date {
         self.checked_add_days(duration.whole_days())
     }
 
-    /// Subtracts the whole days of the duration, truncated toward zero. Returns `None` if the date
-    /// is out of range. 2020-12-31 minus 47 hours is 2020-12-30.
+    /// Subtracts the whole days of the duration, truncated toward zero. Returns `None` if the
+    /// result is out of range. 2020-12-31 minus 47 hours is 2020-12-30.
     pub fn checked_sub(self, duration: SignedDuration) -> Option<Self>
         ensures value { SomeIff result (IsDateNumber (pos self -ℤ whole_days duration))
             (clamped_date (pos self -ℤ whole_days duration)) }
@@ -43,7 +43,7 @@ impl Date {
         self.checked_add_days(days)
     }
 
-    /// Adds the whole days of the duration, truncated toward zero, and clamps the date to the
+    /// Adds the whole days of the duration, truncated toward zero, and clamps the result to the
     /// range. [`Self::MAX`] plus one day is [`Self::MAX`].
     pub fn saturating_add(self, duration: SignedDuration) -> Self
         ensures value { result ≡ clamped_date (pos self +ℤ whole_days duration) }
@@ -56,8 +56,8 @@ impl Date {
         }
     }
 
-    /// Subtracts the whole days of the duration, truncated toward zero, and clamps the date to the
-    /// range. [`Self::MIN`] minus one day is [`Self::MIN`].
+    /// Subtracts the whole days of the duration, truncated toward zero, and clamps the result to
+    /// the range. [`Self::MIN`] minus one day is [`Self::MIN`].
     pub fn saturating_sub(self, duration: SignedDuration) -> Self
         ensures value { result ≡ clamped_date (pos self -ℤ whole_days duration) }
         ensures in_range { IsDate self }
@@ -94,7 +94,8 @@ impl Add<SignedDuration> for Date {
 
     ghost add_gives = { λ n v moved. (pos moved ≡ pos n +ℤ whole_days v) × IsDate n };
 
-    /// Adds the whole days of the duration, truncated toward zero. The date must be in the range.
+    /// Adds the whole days of the duration, truncated toward zero. The result must be in the range.
+    /// 2020-12-31 plus 47 hours is 2021-01-01.
     fn add(self, duration: SignedDuration) -> Self {
         self.checked_add(duration).unwrap()
     }
@@ -117,8 +118,8 @@ impl Sub<SignedDuration> for Date {
 
     ghost sub_gives = { λ n v moved. (pos moved ≡ pos n -ℤ whole_days v) × IsDate n };
 
-    /// Subtracts the whole days of the duration, truncated toward zero. The date must be in the
-    /// range.
+    /// Subtracts the whole days of the duration, truncated toward zero. The result must be in the
+    /// range. 2020-12-31 minus 47 hours is 2020-12-30.
     fn sub(self, duration: SignedDuration) -> Self {
         self.checked_sub(duration).unwrap()
     }

@@ -84,8 +84,8 @@ impl Date {
 
     /// Creates a date from a year, a month index and a day, clamped to the last day of the month.
     ///
-    /// The year is from -999999 to 999999, the index from 0 at January to 11, and the day 1 or
-    /// more. 2023, 0 and 31 give 2023-01-31, and 2023, 1 and 31 give 2023-02-28.
+    /// The year must be from -999999 to 999999, the index from 0 for January to 11, and the day 1
+    /// or more. For 2023, 0 and 31 it is 2023-01-31, and for 2023, 1 and 31 it is 2023-02-28.
     pub fn from_month_index_clamped(year: i32, index: u8, day: u8) -> Self
         requires year { IsYear year }
         requires index { index < 12 }
@@ -101,7 +101,8 @@ impl Date {
 
     /// Creates a date from the number of a month and a day, clamped to the last day of the month.
     ///
-    /// Months are numbered from 0 for January of -999999 to 23999987, and the day is from 1 to 31.
+    /// The number must be from 0 for January of -999999 to 23999987 for December of 999999, and the
+    /// day from 1 to 31. For 12024265, February of 2023, and 31 it is 2023-02-28.
     /// [`Self::month_number_and_day`] returns such a number.
     pub fn from_month_number_clamped(number: u32, day: u32) -> Self
         requires number { number < months_in_range }
@@ -165,8 +166,9 @@ impl Date {
         (self.year(), month, day)
     }
 
-    /// Returns the month index, counted from 0, and the day of the month: (1, 29) for 2020-02-29.
-    /// [`Self::to_calendar_date`] returns a `Month`, which costs a jump. This call has no jump.
+    /// Returns the month index, from 0 for January to 11, and the day of the month: (1, 29) for
+    /// 2020-02-29. [`Self::to_calendar_date`] returns a `Month`, which costs a jump. This call has
+    /// no jump.
     pub fn month_index_and_day(self) -> (u8, u8)
         ensures month { result.0 + 1 ≡ month_at self }
         ensures day { result.1 ≡ day_of_month_at self }
@@ -179,7 +181,8 @@ impl Date {
         (index as u8, day as u8)
     }
 
-    /// Returns the number of the month, from 0 for January of -999999, and the day of the month.
+    /// Returns the number of the month, from 0 for January of -999999 to 23999987 for December of
+    /// 999999, and the day of the month. For 2023-02-28 it is (12024265, 28).
     pub fn month_number_and_day(self) -> (u32, u32)
         ensures month { pos result.0 ≡ year_at self *ℤ pos 12 +ℤ pos (month_at self) -ℤ pos 1
             -ℤ first_year *ℤ pos 12 }
@@ -193,7 +196,7 @@ impl Date {
         (12 * self.year_index() + index, day)
     }
 
-    /// Returns the month index and the day of the month.
+    /// Returns the month index, from 0 for January to 11, and the day of the month.
     fn index_and_day(self) -> (u32, u32)
         ensures month { result.0 + 1 ≡ month_at self }
         ensures day { result.1 ≡ day_of_month_at self }
@@ -210,8 +213,8 @@ impl Date {
         ((entry % 16) as u32, (low - start) as u32)
     }
 
-    /// Returns the month and the day of the month. It reads no table, so a loop takes several dates
-    /// at a time.
+    /// Returns the month and the day of the month. It reads no table, so a loop can process several
+    /// dates at a time.
     ///
     /// In each part of the year the months begin on the same days of the part every year. So a
     /// quotient by 8192 gives the month of the part, and a quotient by 128 the days of the part
@@ -230,7 +233,7 @@ impl Date {
     }
 
     /// Returns the day of the part of the year, and the number of months before the part. January
-    /// and February are one part, March to December are the other.
+    /// and February are one part, and March to December are the other part.
     #[tactic(auto, using(crate::proofs::Neighbours::parts_of_years))]
     fn index_in_part(self) -> (u32, u32)
         ensures days { result.0 ≡ days_in_part (is_leap_year (year_at self)) (ordinal_at self) }

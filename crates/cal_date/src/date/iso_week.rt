@@ -95,8 +95,9 @@ impl Date {
         (iso_year, week, weekday)
     }
 
-    /// Returns the number of Sundays of the year up to the date, from 0 to 53: its week if week 1
-    /// begins on the first Sunday. For 2019-01-01 it is 0, and for 2020-12-31 it is 52.
+    /// Returns the number of Sundays of the year up to and including the date, from 0 to 53: its
+    /// week if week 1 begins on the first Sunday. For 2019-01-01 it is 0, and for 2020-12-31 it is
+    /// 52.
     #[tactic(auto, using(crate::proofs::Weekdays::weeks_begun))]
     pub fn sunday_based_week(self) -> u8
         ensures value { result ≡ weekday_count 6 self }
@@ -106,8 +107,9 @@ impl Date {
         ((self.ordinal() + 6 - u16::from(self.weekday().number_days_from_sunday())) / 7) as u8
     }
 
-    /// Returns the number of Mondays of the year up to the date, from 0 to 53: its week if week 1
-    /// begins on the first Monday. For 2019-01-01 it is 0, and for 2020-12-31 it is 52.
+    /// Returns the number of Mondays of the year up to and including the date, from 0 to 53: its
+    /// week if week 1 begins on the first Monday. For 2019-01-01 it is 0, and for 2020-12-31 it is
+    /// 52.
     #[tactic(auto, using(crate::proofs::Weekdays::weeks_begun))]
     pub fn monday_based_week(self) -> u8
         ensures value { result ≡ weekday_count 0 self }

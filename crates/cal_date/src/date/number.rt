@@ -7,7 +7,7 @@ use crate::kernel::{date_of_kernel, julian_kernel};
 use crate::limits::{LAST_DAY, MIN_JULIAN_DAY};
 
 impl Date {
-    /// States that the date is in the range. It does nothing.
+    /// States that the date is in the range. It has no effect.
     pub(crate) fn is_in_range(self)
         ensures { IsDate self }
     {

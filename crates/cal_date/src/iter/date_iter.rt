@@ -111,7 +111,7 @@ impl DateIter {
         Some(item)
     }
 
-    /// Returns the number of days left, from 0 to 730484634.
+    /// Returns the number of days left, from 0 to 730484634. From 2019-12-30 to 2020-01-02 it is 4.
     #[tactic(auto, using(crate::proofs::DateIters::lengths))]
     pub fn len(&self) -> usize
         ensures value { result ≡ length (days_of self.now) }
@@ -172,7 +172,7 @@ impl DateIter {
     }
 
     /// Returns a separate iterator over the same days. After `next` on the clone of an iterator
-    /// over 4 days, the clone has 3 days left, and the original 4.
+    /// over 4 days, the clone has 3 days left, and the original still has 4.
     pub fn clone(&self) -> Self
         ensures { result ≡ self.now }
     {
@@ -236,7 +236,8 @@ impl Iterator for DateIter {
 
     ghost remaining = { item_count days_of };
 
-    /// Removes and returns the first day, or returns `None` if the iterator is empty.
+    /// Removes and returns the first day, or returns `None` if the iterator is empty. From
+    /// 2019-12-30 to 2020-01-02 it is 2019-12-30.
     fn next(&mut self) -> Option<Date> {
         let back = self.back?;
         let item = self.front;
@@ -244,7 +245,8 @@ impl Iterator for DateIter {
         Some(item)
     }
 
-    /// Returns the number of days left as both bounds.
+    /// Returns the number of days left as both bounds. From 2019-12-30 to 2020-01-02 it is
+    /// `(4, Some(4))`.
     fn size_hint(&self) -> (usize, Option<usize>)
         ensures lower { IsWithinCount result.0 (item_count days_of self.now) }
         ensures upper { IfSome result.1 (UpTo (item_count days_of self.now)) }
@@ -260,7 +262,8 @@ impl DoubleEndedIterator for DateIter {
     ghost next_back_gives = { λ old result new.
         YieldsLast days_of old result new × TakesLast old result new };
 
-    /// Removes and returns the last day, or returns `None` if the iterator is empty.
+    /// Removes and returns the last day, or returns `None` if the iterator is empty. From
+    /// 2019-12-30 to 2020-01-02 it is 2020-01-02.
     fn next_back(&mut self) -> Option<Date> {
         let item = self.back?;
         self.advance_back_past(item, item);

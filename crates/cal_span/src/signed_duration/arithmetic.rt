@@ -7,12 +7,12 @@ ghost use Rattle.cal_span.specs.Fields.{CanCarry, IsCarry};
 
 use crate::signed_duration::{NANOSECONDS_PER_SECOND, SignedDuration};
 
-/// The maximum magnitude of a factor or a divisor, `u32::MAX`.
-pub(super) const GREATEST_OPERAND: u64 = 4_294_967_295;
+/// The maximum magnitude of a factor or a divisor: `u32::MAX`.
+pub(super) const MAX_OPERAND: u64 = 4_294_967_295;
 
 impl SignedDuration {
-    /// Computes `self + rhs`. Returns `None` if the sum is out of range. `MAX.checked_add(MIN)` is
-    /// -1 s.
+    /// Computes `self + rhs`. Returns `None` if the sum is out of range. [`Self::MAX`] plus
+    /// [`Self::MIN`] is -1 s, and [`Self::MAX`] plus 1 ns is `None`.
     pub fn checked_add(self, rhs: Self) -> Option<Self>
         ensures { SomeIff result (IsDuration (self +ℤ rhs)) (self +ℤ rhs) }
     {
@@ -65,7 +65,7 @@ impl SignedDuration {
     /// Computes `self * factor`. Returns `None` if the product is out of range. The magnitude of
     /// the factor fits in a `u32`.
     pub(super) fn checked_product(self, factor: i64) -> Option<Self>
-        requires { IsMagnitudeWithin GREATEST_OPERAND factor }
+        requires { IsMagnitudeWithin MAX_OPERAND factor }
         ensures { SomeIff result (IsDuration (self *ℤ factor)) (self *ℤ factor) }
     {
         let past = self.subsec_nanoseconds_times(factor);
@@ -78,7 +78,7 @@ impl SignedDuration {
     /// Computes the nanoseconds past the whole seconds, times `factor`, whose magnitude fits in a
     /// `u32`.
     fn subsec_nanoseconds_times(self, factor: i64) -> Self
-        requires { IsMagnitudeWithin GREATEST_OPERAND factor }
+        requires { IsMagnitudeWithin MAX_OPERAND factor }
         ensures { result ≡ subsec_nanoseconds self *ℤ factor }
     {
         Self::nanoseconds(i64::from(self.subsec_nanoseconds()) * factor)
@@ -95,7 +95,7 @@ impl SignedDuration {
     /// Computes `self / divisor`, truncated toward zero. Returns `None` if `divisor` is zero or the
     /// quotient is out of range. The magnitude of the divisor fits in a `u32`.
     pub(super) fn checked_quotient(self, divisor: i64) -> Option<Self>
-        requires { IsMagnitudeWithin GREATEST_OPERAND divisor }
+        requires { IsMagnitudeWithin MAX_OPERAND divisor }
         ensures { SomeIff result (HasQuotient self divisor) (cut self divisor) }
     {
         if divisor == 0 {
@@ -217,7 +217,7 @@ fn checked_mul_add(seconds: i64, factor: i64, carry: i64) -> Option<i64>
     ensures { SomeIff result (FitsSigned w64 (seconds *ℤ factor +ℤ carry))
         (seconds *ℤ factor +ℤ carry) }
 {
-    if seconds.unsigned_abs() < GREATEST_OPERAND && factor.unsigned_abs() <= 1 << 31 {
+    if seconds.unsigned_abs() < MAX_OPERAND && factor.unsigned_abs() <= 1 << 31 {
         return Some(seconds * factor + carry);
     }
     seconds.checked_mul(factor)?.checked_add(carry)

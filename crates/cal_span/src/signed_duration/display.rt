@@ -15,9 +15,9 @@ impl SignedDuration {
     /// Returns the text that the duration prints, such as `-1d3h250ms`.
     ///
     /// It has a minus sign if the duration is negative, then days of 24 hours, hours, minutes,
-    /// seconds, milliseconds, microseconds and nanoseconds, each with its unit. Parts that are zero
-    /// are omitted; zero is `0s`. It has at most 42 bytes, all ASCII except the `µ` of
-    /// microseconds.
+    /// seconds, milliseconds, microseconds and nanoseconds, each with its unit: `d`, `h`, `m`, `s`,
+    /// `ms`, `µs` or `ns`. Parts that are zero are omitted; zero is `0s`. It has at most 42 bytes,
+    /// all ASCII except the two bytes of `µ`.
     pub fn text(self) -> ShortText
         ensures value { result ≡ text self }
         ensures max_length { length result ≤ 42 }
@@ -36,7 +36,8 @@ impl SignedDuration {
     }
 }
 
-/// Appends the parts of a magnitude, each with its unit. Parts that are zero are omitted.
+/// Appends the parts of a magnitude of whole seconds and nanoseconds, each with its unit. Parts
+/// that are zero are omitted.
 #[tactic(auto, using(crate::proofs::Text::short_parts))]
 fn push_parts(text: &mut ShortText, seconds: u64, nanoseconds: u32)
     requires room { HasRoom 41 text.old }

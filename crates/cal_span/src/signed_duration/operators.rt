@@ -4,13 +4,13 @@ ghost use Rattle.std.specs.Prelude.{◌≡◌, pos, neg_ℤ, ◌+ℤ◌, ◌-ℤ
 ghost use Rattle.cal_span.specs.SignedDuration.{IsDuration, IsMagnitudeWithin, HasQuotient, cut};
 
 use crate::SignedDuration;
-use crate::signed_duration::arithmetic::GREATEST_OPERAND;
+use crate::signed_duration::arithmetic::MAX_OPERAND;
 use std::ops::{Add, AddAssign, Div, DivAssign, Mul, MulAssign, Neg, Sub, SubAssign};
 
 impl SignedDuration {
     /// Computes `self * factor`. The magnitude of the factor fits in a `u32`.
     fn product(self, factor: i64) -> Self
-        requires small { IsMagnitudeWithin GREATEST_OPERAND factor }
+        requires small { IsMagnitudeWithin MAX_OPERAND factor }
         requires exact { IsDuration (self *ℤ factor) }
         ensures { result ≡ self *ℤ factor }
     {
@@ -20,7 +20,7 @@ impl SignedDuration {
     /// Computes `self / divisor`, truncated toward zero. The magnitude of the divisor fits in a
     /// `u32`.
     fn quotient(self, divisor: i64) -> Self
-        requires small { IsMagnitudeWithin GREATEST_OPERAND divisor }
+        requires small { IsMagnitudeWithin MAX_OPERAND divisor }
         requires exact { HasQuotient self divisor }
         ensures { result ≡ cut self divisor }
     {
@@ -35,6 +35,7 @@ impl Add for SignedDuration {
 
     ghost add_gives = { λ a b sum. sum ≡ a +ℤ b };
 
+    /// Returns the sum, which must be in the range. 1 s plus -1 ns is 999999999 ns.
     fn add(self, rhs: Self) -> Self {
         self.checked_add(rhs).unwrap()
     }
@@ -57,6 +58,7 @@ impl Sub for SignedDuration {
 
     ghost sub_gives = { λ a b difference. difference ≡ a -ℤ b };
 
+    /// Returns the difference, which must be in the range. 1 s minus 1 ns is 999999999 ns.
     fn sub(self, rhs: Self) -> Self {
         self.checked_sub(rhs).unwrap()
     }
@@ -79,6 +81,7 @@ impl Neg for SignedDuration {
 
     ghost neg_gives = { λ a opposite. opposite ≡ neg_ℤ a };
 
+    /// Returns the duration with the opposite sign, which must be in the range. For 1 s it is -1 s.
     fn neg(self) -> Self {
         self.checked_neg().unwrap()
     }
@@ -91,6 +94,7 @@ impl Mul<i8> for SignedDuration {
 
     ghost mul_gives = { λ a k product. product ≡ a *ℤ k };
 
+    /// Returns the product, which must be in the range. 2 s times -3 is -6 s.
     fn mul(self, rhs: i8) -> Self {
         self.product(i64::from(rhs))
     }
@@ -113,6 +117,8 @@ impl Div<i8> for SignedDuration {
 
     ghost div_gives = { λ a k quotient. quotient ≡ cut a k };
 
+    /// Returns the quotient, truncated toward zero, which must be in the range. `rhs` must not be
+    /// 0. For -7 ns and 2 it is -3 ns.
     fn div(self, rhs: i8) -> Self {
         self.quotient(i64::from(rhs))
     }
@@ -135,6 +141,7 @@ impl Mul<i16> for SignedDuration {
 
     ghost mul_gives = { λ a k product. product ≡ a *ℤ k };
 
+    /// Returns the product, which must be in the range. 2 s times -3 is -6 s.
     fn mul(self, rhs: i16) -> Self {
         self.product(i64::from(rhs))
     }
@@ -157,6 +164,8 @@ impl Div<i16> for SignedDuration {
 
     ghost div_gives = { λ a k quotient. quotient ≡ cut a k };
 
+    /// Returns the quotient, truncated toward zero, which must be in the range. `rhs` must not be
+    /// 0. For -7 ns and 2 it is -3 ns.
     fn div(self, rhs: i16) -> Self {
         self.quotient(i64::from(rhs))
     }
@@ -179,6 +188,7 @@ impl Mul<i32> for SignedDuration {
 
     ghost mul_gives = { λ a k product. product ≡ a *ℤ k };
 
+    /// Returns the product, which must be in the range. 2 s times -3 is -6 s.
     fn mul(self, rhs: i32) -> Self {
         self.product(i64::from(rhs))
     }
@@ -201,6 +211,8 @@ impl Div<i32> for SignedDuration {
 
     ghost div_gives = { λ a k quotient. quotient ≡ cut a k };
 
+    /// Returns the quotient, truncated toward zero, which must be in the range. `rhs` must not be
+    /// 0. For -7 ns and 2 it is -3 ns.
     fn div(self, rhs: i32) -> Self {
         self.quotient(i64::from(rhs))
     }
@@ -223,6 +235,7 @@ impl Mul<u8> for SignedDuration {
 
     ghost mul_gives = { λ a k product. product ≡ a *ℤ pos k };
 
+    /// Returns the product, which must be in the range. 2 s times 3 is 6 s.
     fn mul(self, rhs: u8) -> Self {
         self.product(i64::from(rhs))
     }
@@ -245,6 +258,8 @@ impl Div<u8> for SignedDuration {
 
     ghost div_gives = { λ a k quotient. quotient ≡ cut a (pos k) };
 
+    /// Returns the quotient, truncated toward zero. `rhs` must not be 0. For -7 ns and 2 it is -3
+    /// ns.
     fn div(self, rhs: u8) -> Self {
         self.quotient(i64::from(rhs))
     }
@@ -267,6 +282,7 @@ impl Mul<u16> for SignedDuration {
 
     ghost mul_gives = { λ a k product. product ≡ a *ℤ pos k };
 
+    /// Returns the product, which must be in the range. 2 s times 3 is 6 s.
     fn mul(self, rhs: u16) -> Self {
         self.product(i64::from(rhs))
     }
@@ -289,6 +305,8 @@ impl Div<u16> for SignedDuration {
 
     ghost div_gives = { λ a k quotient. quotient ≡ cut a (pos k) };
 
+    /// Returns the quotient, truncated toward zero. `rhs` must not be 0. For -7 ns and 2 it is -3
+    /// ns.
     fn div(self, rhs: u16) -> Self {
         self.quotient(i64::from(rhs))
     }
@@ -311,6 +329,7 @@ impl Mul<u32> for SignedDuration {
 
     ghost mul_gives = { λ a k product. product ≡ a *ℤ pos k };
 
+    /// Returns the product, which must be in the range. 2 s times 3 is 6 s.
     fn mul(self, rhs: u32) -> Self {
         self.product(i64::from(rhs))
     }
@@ -333,6 +352,8 @@ impl Div<u32> for SignedDuration {
 
     ghost div_gives = { λ a k quotient. quotient ≡ cut a (pos k) };
 
+    /// Returns the quotient, truncated toward zero. `rhs` must not be 0. For -7 ns and 2 it is -3
+    /// ns.
     fn div(self, rhs: u32) -> Self {
         self.quotient(i64::from(rhs))
     }
