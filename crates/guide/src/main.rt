@@ -2,6 +2,7 @@
 #![tactic(auto)]
 
 mod arithmetic;
+mod arrival;
 mod bills;
 mod callers;
 mod clauses;
@@ -38,5 +39,6 @@ fn main(rt: HostRuntime) -> io::Result<()> {
     texts::show(&rt)?;
     bills::show(&rt)?;
     recurrences::show(&rt)?;
-    zones::show(&rt)
+    zones::show(&rt)?;
+    arrival::main(rt)
 }
