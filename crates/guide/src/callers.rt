@@ -1,11 +1,12 @@
 //! Functions that are proved from the clauses of the calls only.
-ghost use Rattle.std.specs.Prelude.{◌≡◌, ℕ, ◌+◌, ◌-◌, ◌<◌, ◌≤◌, ◌-ℤ◌, ◌≤ℤ◌, ◌==◌, ◌⊎◌, pos, IfSome, IfNone, IsNone, IsSome, ◌↔◌};
+ghost use Rattle.std.specs.Prelude.{◌≡◌, ℕ, ◌+◌, ◌-◌, ◌<◌, ◌≤◌, ◌-ℤ◌, ◌≤ℤ◌, ◌==◌, ◌⊎◌, pos, IfSome, IfNone, IsNone, IsSome, ◌↔◌, Ok};
 ghost use Rattle.cal_time.specs.Date.{last_day, year_at, month_at, day_of_month_at, ordinal_at, weekday_at, HasCalendarDate, IsYear, NoDate};
 ghost use Rattle.cal_time.specs.IsoWeekDate.{HasIsoWeekDate};
 ghost use Rattle.cal_time.specs.Lengths.{days_in_year, days_in_month};
 ghost use Rattle.cal_time.specs.Month.{number};
 ghost use Rattle.cal_time.specs.Weekday.{index};
 
+use cal_time::error::ComponentRange;
 use cal_time::util::{days_in_month, days_in_year, weeks_in_year};
 use cal_time::{Date, Month, SignedDuration, Time, Weekday, add_to_pair};
 use std::io;
@@ -41,14 +42,11 @@ fn calendar_date_through(year: i32, month: Month, day: u8) -> Option<(i32, Month
 }
 
 /// Converts a date to its week date and back.
-fn through_iso_week_date(date: Date) -> Date
-    ensures { result ≡ date }
+fn through_iso_week_date(date: Date) -> Result<Date, ComponentRange>
+    ensures { result ≡ Ok date }
 {
     let (year, week, weekday) = date.to_iso_week_date();
-    match Date::from_iso_week_date(year, week, weekday) {
-        Ok(same) => same,
-        Err(_) => unreachable!(),
-    }
+    Date::from_iso_week_date(year, week, weekday)
 }
 
 /// Converts a week date to its date and back. Returns `None` if no date has it.
@@ -219,7 +217,7 @@ pub fn show(rt: &impl Print) -> io::Result<()> {
     if born <= day {
         println!(rt; "{}", age(born, day))?;
     }
-    let same = [through_iso_week_date(day), same_year(day)];
+    let same = (through_iso_week_date(day), same_year(day));
     println!(rt; "{same:?} {:?}", counted(day))?;
     let forms = (
         calendar_date_through(2000, Month::February, 29),
