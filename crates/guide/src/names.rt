@@ -148,7 +148,7 @@ fn seconds_of_sum(durations: &[SignedDuration]) -> Option<i64> {
     Some(SignedDuration::try_sum(durations)?.whole_seconds())
 }
 
-/// Returns the sign of a duration by three tests, and its absolute value as seconds and nanoseconds.
+/// Returns the sign of a duration by three tests, and its size as seconds and nanoseconds.
 fn sign_and_size(duration: SignedDuration) -> ([bool; 3], (u64, u32)) {
     let signs = [
         duration.is_zero(),
