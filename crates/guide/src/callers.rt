@@ -185,6 +185,29 @@ fn working_days(from: Date, to: Date) -> u32
     count
 }
 
+/// Returns the occurrences around a date, which must be in range.
+fn occurrences(date: Date) -> [Date; 4]
+    requires before { 14 ≤ date }
+    requires after { date + 14 ≤ last_day }
+{
+    [
+        date.next_occurrence(Weekday::Monday),
+        date.prev_occurrence(Weekday::Monday),
+        date.nth_next_occurrence(Weekday::Monday, 2),
+        date.nth_prev_occurrence(Weekday::Monday, 2),
+    ]
+}
+
+/// Prints the occurrences around a date, if they are in range.
+fn show_occurrences(rt: &impl Print, date: Date) -> io::Result<()> {
+    if date.checked_add(SignedDuration::days(14)).is_some()
+        && date.checked_sub(SignedDuration::days(14)).is_some()
+    {
+        println!(rt; "{:?}", occurrences(date))?;
+    }
+    Ok(())
+}
+
 /// Returns the days and weeks before a date and after it.
 fn counted(date: Date) -> ([u16; 2], [u8; 3]) {
     let days = [days_left(date), days_since_new_year(date)];
@@ -226,5 +249,6 @@ pub fn show(rt: &impl Print) -> io::Result<()> {
     println!(rt; "{forms:?}")?;
     let pair = (add_zero(day, Time::MAX), due_in_30_days(day));
     println!(rt; "{:?} {pair:?}", days_near(day))?;
+    show_occurrences(rt, day)?;
     println!(rt; "{} {}", is_last(day), working_days(born, day))
 }

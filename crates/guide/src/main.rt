@@ -12,7 +12,6 @@ mod datetimes;
 mod days;
 mod errors;
 mod generic;
-mod names;
 mod order;
 mod printing;
 mod recurrences;
@@ -35,7 +34,6 @@ fn main(rt: HostRuntime) -> io::Result<()> {
     clauses::show(&rt)?;
     callers::show(&rt)?;
     days::show(&rt)?;
-    names::show(&rt)?;
     texts::show(&rt)?;
     bills::show(&rt)?;
     recurrences::show(&rt)?;
