@@ -24,12 +24,14 @@ pub fn show(rt: &impl Print) -> io::Result<()> {
     let Ok(day) = Date::from_calendar_date(2023, Month::June, 26) else {
         return Ok(());
     };
-    println!(rt; "{}", in_100_days(day))?;
-    println!(rt; "{:?}", third_thursday(day))?;
-    println!(rt; "{:?}", in_march(day))?;
-    println!(rt; "{:?}", Date::MAX.checked_add(SignedDuration::DAY))?;
+    let moved = [
+        Some(in_100_days(day)),
+        third_thursday(day),
+        in_march(day),
+        Date::MAX.checked_add(SignedDuration::DAY),
+    ];
 
     // A time of day wraps around midnight, and the adjustment says to which day.
     let (_, time) = Time::MIDNIGHT.adjusting_sub(SignedDuration::MINUTE);
-    println!(rt; "{time}")
+    println!(rt; "{moved:?} {time}")
 }

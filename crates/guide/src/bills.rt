@@ -109,19 +109,15 @@ pub fn show(rt: &impl Print) -> io::Result<()> {
         return Ok(());
     }
     let workdays = office(&holidays);
-    println!(rt; "{:?}", due(&workdays, billed))?;
-    println!(rt;
-        "{:?} {}",
+    let days = [
+        due(&workdays, billed),
         workdays.checked_add_workdays(labor_day, 10),
-        workdays.workdays_between(billed, labor_day)
-    )?;
-    if born <= billed {
-        println!(rt; "{}", age(born, billed))?;
+    ];
+    let between = workdays.workdays_between(billed, labor_day);
+    println!(rt; "{days:?} {between} {:?}", thanksgiving(2024))?;
+    if born <= billed && billed.year() < 999_999 {
+        println!(rt; "{} {}", age(born, billed), year_after(billed))?;
     }
-    if billed.year() < 999_999 {
-        println!(rt; "{}", year_after(billed))?;
-    }
-    println!(rt; "{:?}", thanksgiving(2024))?;
     let interest = day_count(born, billed, DayCount::Thirty360);
     println!(rt; "{}/{}", interest.numerator, interest.denominator)
 }

@@ -1,11 +1,12 @@
 //! Functions that are proved from the clauses of the calls only.
-ghost use Rattle.std.specs.Prelude.{◌≡◌, ℕ, ◌+◌, ◌-◌, ◌<◌, ◌≤◌, ◌+ℤ◌, ◌-ℤ◌, ◌≤ℤ◌, ◌==◌, ◌⊎◌, pos, IfOk, IfSome, IfNone, IsNone, IsSome, ◌↔◌, Some, Ok};
-ghost use Rattle.cal_time.specs.Date.{last_day, year_at, month_at, day_of_month_at, ordinal_at, weekday_at, HasCalendarDate, HasJulianDay, HasOrdinalDate, IsYear, NoDate};
+ghost use Rattle.std.specs.Prelude.{◌≡◌, ℕ, ◌+◌, ◌-◌, ◌<◌, ◌≤◌, ◌-ℤ◌, ◌≤ℤ◌, ◌==◌, ◌⊎◌, pos, IfSome, IfNone, IsNone, IsSome, ◌↔◌, Ok};
+ghost use Rattle.cal_time.specs.Date.{last_day, year_at, month_at, day_of_month_at, ordinal_at, weekday_at, HasCalendarDate, IsYear, NoDate};
 ghost use Rattle.cal_time.specs.IsoWeekDate.{HasIsoWeekDate};
 ghost use Rattle.cal_time.specs.Lengths.{days_in_year, days_in_month};
 ghost use Rattle.cal_time.specs.Month.{number};
 ghost use Rattle.cal_time.specs.Weekday.{index};
 
+use cal_time::error::ComponentRange;
 use cal_time::util::{days_in_month, days_in_year, weeks_in_year};
 use cal_time::{Date, Month, SignedDuration, Time, Weekday, add_to_pair};
 use std::io;
@@ -29,60 +30,6 @@ fn age(born: Date, at: Date) -> i32
     }
 }
 
-/// Converts a date to its Julian day and back.
-fn through_julian_day(date: Date) -> Date
-    ensures { result ≡ date }
-{
-    match Date::from_julian_day(date.to_julian_day()) {
-        Ok(same) => same,
-        Err(_) => unreachable!(),
-    }
-}
-
-/// Converts a Julian day to its date and back. Returns `None` if it is out of range.
-fn julian_day_through(julian_day: i32) -> Option<i32>
-    ensures value { IfSome result (λ same. same ≡ julian_day) }
-    ensures none { IsNone result ↔ NoDate (HasJulianDay julian_day) }
-{
-    match Date::from_julian_day(julian_day) {
-        Ok(date) => Some(date.to_julian_day()),
-        Err(_) => None,
-    }
-}
-
-/// Converts a date to its ordinal date and back.
-fn through_ordinal_date(date: Date) -> Date
-    ensures { result ≡ date }
-{
-    let (year, ordinal) = date.to_ordinal_date();
-    match Date::from_ordinal_date(year, ordinal) {
-        Ok(same) => same,
-        Err(_) => unreachable!(),
-    }
-}
-
-/// Converts an ordinal date to its date and back. Returns `None` if no date has it.
-fn ordinal_date_through(year: i32, ordinal: u16) -> Option<(i32, u16)>
-    ensures value { IfSome result (λ same. same ≡ (year, ordinal)) }
-    ensures none { IsNone result ↔ NoDate (HasOrdinalDate year ordinal) }
-{
-    match Date::from_ordinal_date(year, ordinal) {
-        Ok(date) => Some(date.to_ordinal_date()),
-        Err(_) => None,
-    }
-}
-
-/// Converts a date to its calendar date and back.
-fn through_calendar_date(date: Date) -> Date
-    ensures { result ≡ date }
-{
-    let (year, month, day) = date.to_calendar_date();
-    match Date::from_calendar_date(year, month, day) {
-        Ok(same) => same,
-        Err(_) => unreachable!(),
-    }
-}
-
 /// Converts a calendar date to its date and back. Returns `None` if no date has it.
 fn calendar_date_through(year: i32, month: Month, day: u8) -> Option<(i32, Month, u8)>
     ensures value { IfSome result (λ same. same ≡ (year, month, day)) }
@@ -95,14 +42,11 @@ fn calendar_date_through(year: i32, month: Month, day: u8) -> Option<(i32, Month
 }
 
 /// Converts a date to its week date and back.
-fn through_iso_week_date(date: Date) -> Date
-    ensures { result ≡ date }
+fn through_iso_week_date(date: Date) -> Result<Date, ComponentRange>
+    ensures { result ≡ Ok date }
 {
     let (year, week, weekday) = date.to_iso_week_date();
-    match Date::from_iso_week_date(year, week, weekday) {
-        Ok(same) => same,
-        Err(_) => unreachable!(),
-    }
+    Date::from_iso_week_date(year, week, weekday)
 }
 
 /// Converts a week date to its date and back. Returns `None` if no date has it.
@@ -241,6 +185,51 @@ fn working_days(from: Date, to: Date) -> u32
     count
 }
 
+/// Returns the occurrences around a date, which must be in range.
+fn occurrences(date: Date) -> [Date; 4]
+    requires before { 14 ≤ date }
+    requires after { date + 14 ≤ last_day }
+{
+    [
+        date.next_occurrence(Weekday::Monday),
+        date.prev_occurrence(Weekday::Monday),
+        date.nth_next_occurrence(Weekday::Monday, 2),
+        date.nth_prev_occurrence(Weekday::Monday, 2),
+    ]
+}
+
+/// Prints the occurrences around a date, if they are in range.
+fn show_occurrences(rt: &impl Print, date: Date) -> io::Result<()> {
+    if date.checked_add(SignedDuration::days(14)).is_some()
+        && date.checked_sub(SignedDuration::days(14)).is_some()
+    {
+        println!(rt; "{:?}", occurrences(date))?;
+    }
+    Ok(())
+}
+
+/// Returns the days and weeks before a date and after it.
+fn counted(date: Date) -> ([u16; 2], [u8; 3]) {
+    let days = [days_left(date), days_since_new_year(date)];
+    let weeks = [
+        days_left_in_month(date),
+        extra_weeks(2020),
+        weeks_gone(date),
+    ];
+    (days, weeks)
+}
+
+/// Returns days near a date.
+fn days_near(date: Date) -> [Option<Date>; 5] {
+    [
+        last_friday(2024, Month::February),
+        round_trip_by(date, SignedDuration::DAY),
+        week_before(date),
+        next_thursday(date),
+        Some(not_before(date, 1)),
+    ]
+}
+
 pub fn show(rt: &impl Print) -> io::Result<()> {
     let Ok(born) = Date::from_calendar_date(1984, Month::February, 29) else {
         return Ok(());
@@ -251,28 +240,15 @@ pub fn show(rt: &impl Print) -> io::Result<()> {
     if born <= day {
         println!(rt; "{}", age(born, day))?;
     }
-    let round = [
-        through_julian_day(day),
-        through_ordinal_date(day),
-        through_calendar_date(day),
-        through_iso_week_date(day),
-        same_year(day),
-    ];
-    println!(rt; "{round:?}")?;
-    println!(rt;
-        "{:?} {:?}",
-        julian_day_through(0),
-        ordinal_date_through(2024, 366)
-    )?;
-    println!(rt; "{:?}", calendar_date_through(2000, Month::February, 29))?;
-    println!(rt; "{:?}", iso_week_date_through(2020, 53, Weekday::Friday))?;
-    println!(rt; "{} {}", days_left(day), days_left_in_month(day))?;
-    println!(rt; "{}", days_since_new_year(day))?;
-    println!(rt; "{} {}", extra_weeks(2020), weeks_gone(day))?;
-    println!(rt; "{:?}", last_friday(2024, Month::February))?;
-    println!(rt; "{:?}", round_trip_by(day, SignedDuration::DAY))?;
-    println!(rt; "{:?}", add_zero(day, Time::MAX))?;
-    println!(rt; "{:?} {:?}", week_before(day), due_in_30_days(day))?;
-    println!(rt; "{:?} {}", next_thursday(day), not_before(day, 1))?;
+    let same = (through_iso_week_date(day), same_year(day));
+    println!(rt; "{same:?} {:?}", counted(day))?;
+    let forms = (
+        calendar_date_through(2000, Month::February, 29),
+        iso_week_date_through(2020, 53, Weekday::Friday),
+    );
+    println!(rt; "{forms:?}")?;
+    let pair = (add_zero(day, Time::MAX), due_in_30_days(day));
+    println!(rt; "{:?} {pair:?}", days_near(day))?;
+    show_occurrences(rt, day)?;
     println!(rt; "{} {}", is_last(day), working_days(born, day))
 }

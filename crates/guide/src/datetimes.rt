@@ -1,11 +1,10 @@
 //! Date-times with and without an offset, and the properties that follow from their clauses.
-ghost use Rattle.std.specs.Prelude.{◌≡◌, ◌↔◌, ◌≤◌, pos, ◌+ℤ◌, ◌-ℤ◌, ◌*ℤ◌, ◌<ℤ◌, IfSome, IsSome, IsTrue, Some, Ok};
+ghost use Rattle.std.specs.Prelude.{◌≡◌, ◌↔◌, ◌≤◌, ◌+ℤ◌, ◌<ℤ◌, IfSome, IsSome, IsTrue, Some, Ok};
 ghost use Rattle.cal_time.specs.Date.{IsDate, IsYear};
-ghost use Rattle.cal_time.specs.SignedDuration.{second, IsDuration};
 ghost use Rattle.cal_time.specs.Time.{IsTime};
 ghost use Rattle.cal_time.specs.UtcOffset.{IsOffset};
 ghost use Rattle.cal_datetime.specs.DateTime.{IsDateTime};
-ghost use Rattle.cal_datetime.specs.OffsetDateTime.{instant, local_at, unix_epoch, unix_nanoseconds};
+ghost use Rattle.cal_datetime.specs.OffsetDateTime.{instant, local_at, unix_nanoseconds};
 
 use cal_datetime::{OffsetDateTime, PlainDateTime, with_hms, with_hms_nano};
 use cal_time::error::ComponentRange;
@@ -108,14 +107,6 @@ fn add_then_sub(plain: PlainDateTime, duration: SignedDuration) -> Option<PlainD
     plain.checked_add(duration)?.checked_sub(duration)
 }
 
-/// Returns the difference of two date-times, which is a duration.
-fn difference(a: PlainDateTime, b: PlainDateTime) -> SignedDuration
-    ensures value { result ≡ a -ℤ b }
-    ensures range { IsDuration result }
-{
-    a - b
-}
-
 /// Adds the difference of two date-times to the first, which gives the second.
 fn add_difference(from: PlainDateTime, to: PlainDateTime) -> Option<PlainDateTime>
     ensures { result ≡ Some to }
@@ -128,20 +119,6 @@ fn sub_difference(from: PlainDateTime, to: PlainDateTime) -> Option<PlainDateTim
     ensures { result ≡ Some from }
 {
     to.checked_sub(to - from)
-}
-
-/// Replaces the time of day with itself.
-fn own_time(plain: PlainDateTime) -> PlainDateTime
-    ensures { result ≡ plain }
-{
-    plain.replace_time(plain.time())
-}
-
-/// Replaces the date with itself.
-fn own_date(plain: PlainDateTime) -> PlainDateTime
-    ensures { result ≡ plain }
-{
-    plain.replace_date(plain.date())
 }
 
 /// Returns the parts that a date-time at an offset was made from.
@@ -160,39 +137,6 @@ fn is_same_elsewhere(moment: OffsetDateTime, offset: UtcOffset) -> Option<bool>
     Some(moment.checked_to_offset(offset)? == moment)
 }
 
-/// Converts a moment to another offset, if it is in range there.
-fn elsewhere(moment: OffsetDateTime, offset: UtcOffset) -> Option<OffsetDateTime>
-    ensures some { IsSome result ↔ IsDateTime (local_at (instant moment) offset) }
-    ensures same_instant { IfSome result (λ there. instant there ≡ instant moment) }
-    ensures offset { IfSome result (λ there. there.offset ≡ offset) }
-{
-    moment.checked_to_offset(offset)
-}
-
-/// Converts a moment to another offset and back, which gives the same value.
-fn round_trip(moment: OffsetDateTime, offset: UtcOffset) -> Option<OffsetDateTime>
-    ensures some { IsSome result ↔ IsDateTime (local_at (instant moment) offset) }
-    ensures value { IfSome result (λ same. same ≡ moment) }
-{
-    moment
-        .checked_to_offset(offset)?
-        .checked_to_offset(moment.offset())
-}
-
-/// Returns `true` if two moments are the same instant.
-fn is_same(a: OffsetDateTime, b: OffsetDateTime) -> bool
-    ensures { IsTrue result ↔ (instant a ≡ instant b) }
-{
-    a == b
-}
-
-/// Returns `true` if the first moment is earlier.
-fn is_earlier(a: OffsetDateTime, b: OffsetDateTime) -> bool
-    ensures { IsTrue result ↔ (instant a <ℤ instant b) }
-{
-    a < b
-}
-
 /// Returns the later of two moments, or the second if they are the same instant.
 fn later_moment(a: OffsetDateTime, b: OffsetDateTime) -> OffsetDateTime
     ensures tie { instant a ≡ instant b → result ≡ b }
@@ -200,22 +144,6 @@ fn later_moment(a: OffsetDateTime, b: OffsetDateTime) -> OffsetDateTime
     ensures from_b { ¬ (instant result <ℤ instant b) }
 {
     if b < a { a } else { b }
-}
-
-/// Adds a duration. The offset stays, and the instant changes.
-fn moved(moment: OffsetDateTime, duration: SignedDuration) -> Option<OffsetDateTime>
-    ensures instant { IfSome result (λ moved. instant moved ≡ instant moment +ℤ duration) }
-    ensures offset { IfSome result (λ moved. moved.offset ≡ moment.offset) }
-{
-    moment.checked_add(duration)
-}
-
-/// Returns the difference of two instants, which is a duration.
-fn duration_between(a: OffsetDateTime, b: OffsetDateTime) -> SignedDuration
-    ensures value { result ≡ instant a -ℤ instant b }
-    ensures range { IsDuration result }
-{
-    a - b
 }
 
 /// Adds the difference of two moments to the first, which gives the instant of the second.
@@ -265,15 +193,6 @@ fn moment_round_trip(moment: OffsetDateTime) -> Option<OffsetDateTime>
     // This call states that the local date-time is in range.
     let _ = moment.local();
     through_unix_time(moment)?.checked_to_offset(moment.offset())
-}
-
-/// Creates a moment from a Unix time in seconds.
-fn unix_instant(timestamp: i64) -> Option<OffsetDateTime>
-    ensures some { IsSome result ↔ IsDateTime (unix_epoch +ℤ timestamp *ℤ pos second) }
-    ensures instant { IfSome result (λ moment.
-        instant moment ≡ unix_epoch +ℤ timestamp *ℤ pos second) }
-{
-    OffsetDateTime::from_unix_timestamp(timestamp).ok()
 }
 
 /// Returns the Unix time of a moment at another offset, which is the same.

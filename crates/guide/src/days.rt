@@ -16,13 +16,6 @@ fn is_same(one: Date, other: Date) -> bool
     one == other
 }
 
-/// Returns `true`: replacing the year with the current year gives the same date.
-fn stays_in_year(date: Date) -> bool
-    ensures { IsTrue result }
-{
-    date.replace_year(date.year()) == Ok(date)
-}
-
 /// Returns the year some days later, or the last year of the range. It is not an earlier year.
 fn later_year(date: Date, days: u32) -> i32
     ensures { year_at date ≤ℤ result }
@@ -96,14 +89,12 @@ pub fn show(rt: &impl Print) -> io::Result<()> {
     let Ok(to) = Date::from_calendar_date(2024, Month::December, 31) else {
         return Ok(());
     };
-    println!(rt; "{} {}", is_same(from, to), stays_in_year(from))?;
-    println!(rt; "{} {}", later_year(from, 365), days_to_next_new_year(2024))?;
-    println!(rt; "{} {:?}", first_of_same_month(from), next_friday(from))?;
-    if from <= to {
-        println!(rt; "{:?}", first_of_walk(from, to))?;
-        if from.year() == to.year() {
-            println!(rt; "{}", days_between_in_year(from, to))?;
-        }
+    let counts = [later_year(from, 365), days_to_next_new_year(2024)];
+    let days = (first_of_same_month(from), next_friday(from));
+    println!(rt; "{} {counts:?} {days:?}", is_same(from, to))?;
+    if from <= to && from.year() == to.year() {
+        let walked = first_of_walk(from, to);
+        println!(rt; "{walked:?} {}", days_between_in_year(from, to))?;
     }
     Ok(())
 }

@@ -81,19 +81,34 @@ fn describe(rt: &impl Print, year: i32, month: Month, day: u8) -> io::Result<()>
     }
 }
 
+/// Returns a table booked in the evening, one on a day that doesn't exist, and one at 24:00.
+fn bookings() -> [Result<(Date, Time), NotBooked>; 3] {
+    [
+        booking(2024, Month::February, 29, 20),
+        booking(2024, Month::February, 30, 20),
+        booking(2024, Month::February, 29, 24),
+    ]
+}
+
+/// Returns days that exist and days that don't.
+fn days_found() -> [Option<Date>; 3] {
+    [
+        day_of_year(2020, 366),
+        day_of_year(2019, 366),
+        Some(day_or_last(i32::MAX)),
+    ]
+}
+
 pub fn show(rt: &impl Print) -> io::Result<()> {
-    describe(rt, 2020, Month::February, 29)?;
-    describe(rt, 2019, Month::February, 29)?;
-    describe(rt, 1_000_000, Month::February, 29)?;
-    println!(rt; "{:?}", first_of_month_and_weekday(2019, Month::February))?;
-    println!(rt; "{:?} {:?}", day_of_year(2020, 366), day_of_year(2019, 366))?;
+    for year in [2020, 2019, 1_000_000] {
+        describe(rt, year, Month::February, 29)?;
+    }
     println!(rt;
-        "{:?} {}",
+        "{:?} {:?} {:?}",
+        first_of_month_and_weekday(2019, Month::February),
         weekday_of_julian_day(2_451_545),
-        day_or_last(i32::MAX)
+        days_found()
     )?;
-    println!(rt; "{:?}", booking(2024, Month::February, 29, 20))?;
-    println!(rt; "{:?}", booking(2024, Month::February, 30, 20))?;
-    println!(rt; "{:?}", booking(2024, Month::February, 29, 24))?;
-    println!(rt; "{:?}", component_at_fault(2023, Month::February, 29))
+    let name = component_at_fault(2023, Month::February, 29);
+    println!(rt; "{:?} {name:?}", bookings())
 }

@@ -2,6 +2,7 @@
 #![tactic(auto)]
 
 mod arithmetic;
+mod arrival;
 mod bills;
 mod callers;
 mod clauses;
@@ -11,7 +12,6 @@ mod datetimes;
 mod days;
 mod errors;
 mod generic;
-mod names;
 mod order;
 mod printing;
 mod recurrences;
@@ -34,9 +34,9 @@ fn main(rt: HostRuntime) -> io::Result<()> {
     clauses::show(&rt)?;
     callers::show(&rt)?;
     days::show(&rt)?;
-    names::show(&rt)?;
     texts::show(&rt)?;
     bills::show(&rt)?;
     recurrences::show(&rt)?;
-    zones::show(&rt)
+    zones::show(&rt)?;
+    arrival::main(rt)
 }

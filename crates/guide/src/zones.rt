@@ -75,11 +75,12 @@ pub fn show(rt: &impl Print) -> io::Result<()> {
         let Ok(reading) = with_hms_nano(date, 2, 30, 0, 0) else {
             return Ok(());
         };
-        println!(rt; "{:?}", once(&berlin, reading))?;
         let is_skipped = gap_at(&berlin, reading).is_some();
-        println!(rt; "{is_skipped}")?;
-        let moment = reading.assume_utc();
-        println!(rt; "{:?}", there_and_back(moment, &berlin))?;
+        let moments = [
+            once(&berlin, reading),
+            there_and_back(reading.assume_utc(), &berlin),
+        ];
+        println!(rt; "{moments:?} {is_skipped}")?;
     }
     Ok(())
 }

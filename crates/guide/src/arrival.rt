@@ -12,7 +12,7 @@ fn arrival(day: u8) -> Option<(Date, Time)> {
     add_to_pair(date, time, flight)
 }
 
-fn main(rt: HostRuntime) -> io::Result<()> {
+pub fn main(rt: HostRuntime) -> io::Result<()> {
     for day in [31, 32] {
         match arrival(day) {
             Some((date, time)) => println!(rt; "{date} {time}")?,

@@ -1,6 +1,6 @@
 use Rattle.std.proofs.Common.{arith}
 use Rattle.cal_time.specs.Laws.{next_occurrence-some, prev_occurrence-some}
-use Rattle.guide.proofs.names.occurrences.Goals as goal
+use Rattle.guide.proofs.callers.occurrences.Goals as goal
 
 pub next_occurrence-requires : goal.next_occurrence-requires
 next_occurrence-requires c = next_occurrence-some 0 c.args.date 1 (omega arith) (omega arith) (omega arith)
