@@ -5,9 +5,11 @@ use cal_time::{Date, Month, UtcOffset};
 use std::fmt::Debug;
 use std::process::Abort;
 
+mod formats;
 mod moments;
 mod one_answer;
 mod plain;
+mod texts;
 
 /// The date-time of that calendar date, hour, minute, second and nanosecond.
 fn date_time(rt: &impl Abort, date: (i32, Month, u8), clock: (u8, u8, u8, u32)) -> PlainDateTime {

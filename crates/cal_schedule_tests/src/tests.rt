@@ -4,6 +4,7 @@
 mod iso_weeks;
 mod months;
 mod one_answer;
+mod recurrences;
 mod rules;
 mod rules_laws;
 mod workdays;

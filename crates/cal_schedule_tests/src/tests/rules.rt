@@ -1,4 +1,4 @@
-//! Rules by their fields. The crate of recurrences has the examples of RFC 5545.
+//! Rules by their fields. `recurrences` has the examples of RFC 5545.
 use cal_schedule::ByDay::Nth;
 use cal_schedule::Frequency::{Daily, Monthly};
 use cal_schedule::PeriodUnit::{Week, WeekYear};
