@@ -2,51 +2,20 @@
 //!
 //! Times of day are not parsed. So an `UNTIL` with a time, such as `19971224T000000Z`, is a date
 //! here: that day, or the day before if the rule has that day at a later time.
-use cal_recurrence::{Recurrence, parse};
-use cal_time::{Date, Month};
+use crate::tests::recurrences::{holds, read};
+use crate::tests::{day, same_day};
+use cal_time::Date;
 use std::process::Abort;
-
-/// Returns the date with these digits, such as `1997_09_02`.
-fn date(rt: &impl Abort, number: i64) -> Date {
-    let parts = (
-        i32::try_from(number / 10_000),
-        u8::try_from((number / 100 % 100).abs()),
-        u8::try_from((number % 100).abs()),
-    );
-    let (Ok(year), Ok(month), Ok(day)) = parts else {
-        panic!(rt; "{number} is no date");
-    };
-    let Ok(month) = Month::try_from(month) else {
-        panic!(rt; "{month} is no month");
-    };
-    let Ok(date) = Date::from_calendar_date(year, month, day) else {
-        panic!(rt; "{number} is refused");
-    };
-    date
-}
-
-/// Parses the text.
-fn read(rt: &impl Abort, text: &str) -> Recurrence {
-    match parse(text.as_bytes()) {
-        Ok(recurrence) => recurrence,
-        Err(fault) => panic!(rt; "{fault:?} in {text}"),
-    }
-}
-
-/// Fails unless the iterator returned `wanted`.
-fn gives(rt: &impl Abort, text: &str, found: Option<Date>, wanted: Option<Date>) {
-    assert!(rt; found == wanted, "{found:?} and not {wanted:?} in {text}");
-}
 
 /// Fails unless the recurrence begins with these days, and ends with them if `ends` is true.
 fn begins(rt: &impl Abort, text: &str, start: i64, days: &[i64], ends: bool) {
     let recurrence = read(rt, text);
-    let mut walk = recurrence.days(date(rt, start));
-    for day in days {
-        gives(rt, text, walk.next(), Some(date(rt, *day)));
+    let mut walk = recurrence.days(day(rt, start));
+    for digits in days {
+        same_day(rt, text, walk.next(), Some(day(rt, *digits)));
     }
     if ends {
-        gives(rt, text, walk.next(), None);
+        same_day(rt, text, walk.next(), None);
     }
 }
 
@@ -665,7 +634,7 @@ fn ends_of_the_range(rt: HostRuntime) {
         &[-999999_01_01, -999999_01_31, -999999_02_01, -999999_02_28],
         false,
     );
-    for (text, has_first, has_last, after_first) in [
+    for &(text, has_first, has_last, after_first) in &[
         ("FREQ=DAILY;INTERVAL=2", true, false, -999999_01_03),
         ("FREQ=WEEKLY", true, false, -999999_01_08),
         ("FREQ=WEEKLY;BYDAY=FR", false, true, -999999_01_05),
@@ -675,12 +644,12 @@ fn ends_of_the_range(rt: HostRuntime) {
     ] {
         let recurrence = read(rt, text);
         let rule = recurrence.rule(Date::MIN);
-        assert!(rt; rule.contains(Date::MIN) == has_first, "{text}");
-        assert!(rt; rule.contains(Date::MAX) == has_last, "{text}");
+        holds(rt, text, rule.contains(Date::MIN) == has_first);
+        holds(rt, text, rule.contains(Date::MAX) == has_last);
         let after = rule.next_after(Date::MIN);
-        gives(rt, text, after, Some(date(rt, after_first)));
+        same_day(rt, text, after, Some(day(rt, after_first)));
         let last = if has_last { Some(Date::MAX) } else { None };
-        gives(rt, text, rule.next_after(date(rt, 999999_12_30)), last);
-        gives(rt, text, rule.next_after(Date::MAX), None);
+        same_day(rt, text, rule.next_after(day(rt, 999999_12_30)), last);
+        same_day(rt, text, rule.next_after(Date::MAX), None);
     }
 }

@@ -1,9 +1,11 @@
 //! Texts with errors, texts in any case and order, and the fields of recurrences.
+use crate::tests::recurrences::{holds, read};
+use crate::tests::{date, same, same_at};
 use cal_recurrence::{
     ParseRuleError, ParseRuleErrorKind, Pattern, Recurrence, RuleEnd, RulePart, parse,
 };
 use cal_schedule::{ByDay, Frequency};
-use cal_time::{Date, Month, Weekday};
+use cal_time::{Month, Weekday};
 use std::alloc::Global;
 use std::process::Abort;
 use std::test::Fail;
@@ -15,13 +17,11 @@ const TOO_MANY: &str =
 
 /// Fails unless the text gives this error.
 fn refused(rt: &impl Abort, text: &str, position: usize, reason: ParseRuleErrorKind) {
-    match parse(text.as_bytes()) {
-        Ok(_) => panic!(rt; "{text} is read"),
-        Err(fault) => {
-            let wanted = ParseRuleError { position, reason };
-            assert!(rt; fault == wanted, "{fault:?} and not {wanted:?} in {text}");
-        }
-    }
+    let fault = match parse(text.as_bytes()) {
+        Ok(_) => None,
+        Err(fault) => Some(fault),
+    };
+    same_at(rt, text, fault, Some(ParseRuleError { position, reason }));
 }
 
 /// Fails unless each text gives an invalid value of the part after `FREQ=DAILY`.
@@ -118,9 +118,9 @@ fn refused_as(rt: &impl Abort, alloc: Global, text: &str, words: &str) -> Result
         return Err(Fail::from("a text that is read"));
     };
     let told = format!(in alloc; "{fault}")?;
-    assert!(rt; told.as_str() == words, "{told} and not {words}");
+    same(rt, told.as_str(), words);
     let reason = format!(in alloc; "{}", fault.reason)?;
-    assert!(rt; words.starts_with(reason.as_str()), "{reason}");
+    same_at(rt, words, words.starts_with(reason.as_str()), true);
     Ok(())
 }
 
@@ -285,58 +285,47 @@ fn wrong_values(rt: HostRuntime) {
 
 /// Fails unless the text means: every second month, in March and December, on the 31st and the last
 /// day if it is a Friday or the last Monday, twelve times, with weeks from Sunday.
-fn read(rt: &impl Abort, text: &str) {
-    match parse(text.as_bytes()) {
-        Ok(recurrence) => {
-            assert!(rt;
-                matches!(recurrence.pattern.frequency, Frequency::Monthly),
-                "{text}"
-            );
-            assert!(rt; recurrence.pattern.interval == 2, "{text}");
-            assert!(rt;
-                matches!(recurrence.pattern.week_start, Weekday::Sunday),
-                "{text}"
-            );
-            assert!(rt;
-                matches!(
-                    recurrence.pattern.months.as_slice(),
-                    [Month::March, Month::December]
-                ),
-                "{text}"
-            );
-            assert!(rt;
-                matches!(recurrence.pattern.month_days.as_slice(), [31, -1]),
-                "{text}"
-            );
-            let weekdays = recurrence.pattern.weekdays.as_slice();
-            assert!(rt;
-                matches!(
-                    weekdays,
-                    [
-                        ByDay::Every(Weekday::Friday),
-                        ByDay::Nth(-1, Weekday::Monday)
-                    ]
-                ),
-                "{text}"
-            );
-            assert!(rt; matches!(recurrence.end, RuleEnd::Count(12)), "{text}");
-        }
-        Err(fault) => panic!(rt; "{fault:?} in {text}"),
-    }
+fn check_parts(rt: &impl Abort, text: &str) {
+    let recurrence = read(rt, text);
+    let pattern = &recurrence.pattern;
+    let is_monthly = matches!(pattern.frequency, Frequency::Monthly);
+    holds(rt, text, is_monthly);
+    holds(rt, text, pattern.interval == 2);
+    let is_from_sunday = matches!(pattern.week_start, Weekday::Sunday);
+    holds(rt, text, is_from_sunday);
+    check_lists(rt, text, pattern);
+    let is_counted = matches!(recurrence.end, RuleEnd::Count(12));
+    holds(rt, text, is_counted);
+}
+
+/// Checks the lists of the same pattern.
+fn check_lists(rt: &impl Abort, text: &str, pattern: &Pattern) {
+    let months = pattern.months.as_slice();
+    holds(rt, text, matches!(months, [Month::March, Month::December]));
+    let month_days = pattern.month_days.as_slice();
+    holds(rt, text, matches!(month_days, [31, -1]));
+    let is_friday_and_last_monday = matches!(
+        pattern.weekdays.as_slice(),
+        [
+            ByDay::Every(Weekday::Friday),
+            ByDay::Nth(-1, Weekday::Monday)
+        ]
+    );
+    holds(rt, text, is_friday_and_last_monday);
 }
 
 #[test]
 fn orders_and_cases(rt: HostRuntime) {
     let rt = &rt;
-    read(
+    check_parts(
         rt,
         "FREQ=MONTHLY;INTERVAL=2;WKST=SU;BYMONTH=3,12;BYMONTHDAY=31,-1;BYDAY=FR,-1MO;COUNT=12",
     );
-    read(
+    check_parts(
         rt,
         "COUNT=0012;BYDAY=FR,-01MO;BYMONTHDAY=+31,-01;BYMONTH=03,12;WKST=SU;INTERVAL=2;FREQ=MONTHLY",
     );
-    read(
+    check_parts(
         rt,
         "freq=monthly;Interval=2;wkst=su;byMonth=3,12;bymonthday=31,-1;byday=fr,-1mo;count=12",
     );
@@ -368,13 +357,8 @@ fn excluded(rt: HostRuntime) {
 
 /// Fails unless the text is daily until 31 December 2024.
 fn until(rt: &impl Abort, text: &str) {
-    let Ok(last) = Date::from_calendar_date(2024, Month::December, 31) else {
-        panic!(rt; "no date");
-    };
-    match parse(text.as_bytes()) {
-        Ok(recurrence) => assert!(rt; recurrence.end == RuleEnd::Until(last), "{text}"),
-        Err(fault) => panic!(rt; "{fault:?} in {text}"),
-    }
+    let last = date(rt, (2024, 12, 31));
+    holds(rt, text, read(rt, text).end == RuleEnd::Until(last));
 }
 
 #[test]
@@ -392,19 +376,14 @@ fn by_fields(rt: HostRuntime) {
     let mut pattern = Pattern::new(Frequency::Yearly);
     pattern.months.push(Month::November);
     pattern.weekdays.push(ByDay::Nth(4, Weekday::Thursday));
-    assert!(rt; !pattern.weekdays.is_full());
+    same(rt, pattern.weekdays.is_full(), false);
     let recurrence = Recurrence {
         pattern,
         end: RuleEnd::Count(1),
     };
-    let (Ok(start), Ok(thanksgiving)) = (
-        Date::from_calendar_date(2024, Month::January, 1),
-        Date::from_calendar_date(2024, Month::November, 28),
-    ) else {
-        panic!(rt; "no date");
-    };
+    let (start, thanksgiving) = (date(rt, (2024, 1, 1)), date(rt, (2024, 11, 28)));
     let mut days = recurrence.days(start);
-    assert!(rt; days.next() == Some(thanksgiving));
-    assert!(rt; days.next().is_none());
-    assert!(rt; recurrence.rule(start).contains(thanksgiving));
+    same(rt, days.next(), Some(thanksgiving));
+    same(rt, days.next(), None);
+    same(rt, recurrence.rule(start).contains(thanksgiving), true);
 }

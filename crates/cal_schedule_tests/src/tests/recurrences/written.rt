@@ -1,4 +1,6 @@
 //! Recurrences that are formatted and parsed again.
+use crate::tests::recurrences::{holds, read};
+use crate::tests::same;
 use cal_recurrence::{Pattern, Recurrence, RuleEnd, Values, parse};
 use cal_schedule::{ByDay, Frequency};
 use cal_time::{Date, Month, Weekday};
@@ -7,17 +9,16 @@ use std::process::Abort;
 /// Fails unless the text gives a recurrence with the text `wanted`, which gives the same
 /// recurrence.
 fn written(rt: &impl Abort, text: &str, wanted: &str) {
-    let Ok(recurrence) = parse(text.as_bytes()) else {
-        panic!(rt; "{text} is refused");
-    };
+    let recurrence = read(rt, text);
     let found = recurrence.text();
-    assert!(rt; found.as_str() == wanted, "{recurrence} and not {wanted}");
-    assert!(rt; found.as_bytes() == wanted.as_bytes() && found.len() == wanted.len());
-    assert!(rt; parse(found.as_bytes()) == Ok(recurrence), "{wanted}");
+    same(rt, found.as_str(), wanted);
+    same(rt, found.as_bytes(), wanted.as_bytes());
+    same(rt, found.len(), wanted.len());
+    holds(rt, wanted, parse(found.as_bytes()) == Ok(recurrence));
 }
 
 /// Fails unless each text is its own formatted text.
-fn same(rt: &impl Abort, texts: &[&str]) {
+fn unchanged(rt: &impl Abort, texts: &[&str]) {
     for text in texts {
         written(rt, text, text);
     }
@@ -28,7 +29,7 @@ fn same(rt: &impl Abort, texts: &[&str]) {
 #[test]
 fn examples_of_the_rfc(rt: HostRuntime) {
     let rt = &rt;
-    same(
+    unchanged(
         rt,
         &[
             "FREQ=DAILY;COUNT=10",
@@ -136,47 +137,41 @@ fn longest(rt: HostRuntime) {
         end: RuleEnd::Until(Date::MIN),
     };
     let text = recurrence.text();
-    assert!(rt; text.len() == 2219);
+    same(rt, text.len(), 2219);
     let text = text.as_str();
-    assert!(rt;
-        text.starts_with("FREQ=MONTHLY;INTERVAL=4294967295;UNTIL=-9999990101;BYMONTH=12,12,")
-    );
-    assert!(rt; text.ends_with(",-32768,-32768;WKST=SU"));
+    let start = "FREQ=MONTHLY;INTERVAL=4294967295;UNTIL=-9999990101;BYMONTH=12,12,";
+    holds(rt, text, text.starts_with(start));
+    holds(rt, text, text.ends_with(",-32768,-32768;WKST=SU"));
+}
+
+/// Checks the text, padded and for debugging.
+fn check_printed<R: Abort + AllocGlobal>(rt: &R, recurrence: &Recurrence) {
+    let shown = format!(in rt.alloc(); "{recurrence:>28}|{recurrence}|");
+    let shown = shown.expect(rt, "no memory");
+    let wanted = "  FREQ=DAILY;BYMONTHDAY=1,-1|FREQ=DAILY;BYMONTHDAY=1,-1|";
+    same(rt, shown.as_str(), wanted);
+    let shown = format!(in rt.alloc(); "{:?}", recurrence.text());
+    let shown = shown.expect(rt, "no memory");
+    same(rt, shown.as_str(), "\"FREQ=DAILY;BYMONTHDAY=1,-1\"");
+}
+
+/// Checks the days of the month for debugging, and compared. Unused places are not compared.
+fn check_days<R: Abort + AllocGlobal>(rt: &R, month_days: &Values<i8>) {
+    let shown = format!(in rt.alloc(); "{month_days:?}");
+    same(rt, shown.expect(rt, "no memory").as_str(), "[1, -1]");
+    let mut days = Values::none(7);
+    days.push(1);
+    same(rt, days == *month_days, false);
+    days.push(-1);
+    same(rt, days == *month_days, true);
 }
 
 #[test]
 fn printed_and_compared(rt: HostRuntime) {
     let rt = &rt;
-    let Ok(recurrence) = parse(b"FREQ=DAILY;BYMONTHDAY=1,-1") else {
-        panic!(rt; "refused");
-    };
-    let shown = format!(in rt.alloc();
-        "{recurrence:>28}|{recurrence}|{:?}",
-        recurrence.pattern.month_days
-    );
-    let Ok(shown) = shown else {
-        panic!(rt; "no memory");
-    };
-    assert!(rt;
-        shown.as_str() == "  FREQ=DAILY;BYMONTHDAY=1,-1|FREQ=DAILY;BYMONTHDAY=1,-1|[1, -1]",
-        "{shown}"
-    );
-    let Ok(shown) = format!(in rt.alloc(); "{:?}", recurrence.text()) else {
-        panic!(rt; "no memory");
-    };
-    assert!(rt;
-        shown.as_str() == "\"FREQ=DAILY;BYMONTHDAY=1,-1\"",
-        "{shown}"
-    );
-    let Ok(clone) = recurrence.clone() else {
-        panic!(rt; "no clone");
-    };
-    assert!(rt; clone == recurrence);
-
-    // Unused places of a list are not compared.
-    let mut days = Values::none(7);
-    days.push(1);
-    assert!(rt; days != recurrence.pattern.month_days);
-    days.push(-1);
-    assert!(rt; days == recurrence.pattern.month_days);
+    let recurrence = read(rt, "FREQ=DAILY;BYMONTHDAY=1,-1");
+    check_printed(rt, &recurrence);
+    check_days(rt, &recurrence.pattern.month_days);
+    let clone = recurrence.clone().expect(rt, "no clone");
+    same(rt, clone == recurrence, true);
 }
