@@ -71,20 +71,43 @@ fn is_date_time_text(format: &Format, date_time: PlainDateTime, text: &str) -> b
     is_text(&buffer, end, text)
 }
 
+/// Checks a condition of a format or of a text.
+fn holds(rt: &impl Abort, text: &str, condition: bool) {
+    assert!(rt; condition, "{text}");
+}
+
 /// Checks that a format prints the date as this text, and parses the text.
 fn date_row(spelling: &str, date: Date, text: &str, rt: &impl Abort) {
     assert!(rt; is_date_text(&format(spelling, rt), date, text));
     assert!(rt; date_format(spelling, rt).parse(text.as_bytes()) == Ok(date));
 }
 
-/// Checks that a format prints the time of day as this text, and parses the text.
-fn time_row(spelling: &str, time: Time, text: &str, rt: &impl Abort) {
-    assert!(rt; is_time_text(&format(spelling, rt), time, text));
-    assert!(rt; time_format(spelling, rt).parse(text.as_bytes()) == Ok(time));
+/// Checks a date in the format and the text of each row.
+fn date_rows(date: Date, rows: &[(&str, &str)], rt: &impl Abort) {
+    for &(spelling, text) in rows {
+        date_row(spelling, date, text, rt);
+    }
 }
 
-/// Checks that a format prints the date-time as this text, and parses the text.
-fn date_time_row(spelling: &str, date_time: PlainDateTime, text: &str, rt: &impl Abort) {
-    assert!(rt; is_date_time_text(&format(spelling, rt), date_time, text));
-    assert!(rt; date_time_format(spelling, rt).parse(text.as_bytes()) == Ok(date_time));
+/// Checks that each format prints the time of day as the text beside it, and parses the text.
+fn time_rows(time: Time, rows: &[(&str, &str)], rt: &impl Abort) {
+    for &(spelling, text) in rows {
+        holds(
+            rt,
+            spelling,
+            is_time_text(&format(spelling, rt), time, text),
+        );
+        let parsed = time_format(spelling, rt).parse(text.as_bytes());
+        holds(rt, spelling, parsed == Ok(time));
+    }
+}
+
+/// Checks that each format prints the date-time as the text beside it, and parses the text.
+fn date_time_rows(date_time: PlainDateTime, rows: &[(&str, &str)], rt: &impl Abort) {
+    for &(spelling, text) in rows {
+        let printed = is_date_time_text(&format(spelling, rt), date_time, text);
+        holds(rt, spelling, printed);
+        let parsed = date_time_format(spelling, rt).parse(text.as_bytes());
+        holds(rt, spelling, parsed == Ok(date_time));
+    }
 }

@@ -1,5 +1,5 @@
 //! Texts and their dates, from outside.
-use crate::tests::same;
+use crate::tests::{same, same_at};
 use cal_datetime::OffsetDateTime;
 use cal_text::ParseError::{UnexpectedByte, UnexpectedEnd};
 use cal_text::date::{CalendarText, OrdinalText, WeekText, parse};
@@ -31,10 +31,7 @@ fn reads<T: Copy + Debug + PartialEq, R: Copy + Debug>(
     found: &Result<T, ParseError>,
     wanted: &Result<T, ParseError>,
 ) {
-    assert!(rt;
-        *found == *wanted,
-        "{found:?} and not {wanted:?} at {row:?}"
-    );
+    same_at(rt, row, *found, *wanted);
 }
 
 /// Stops the test unless the error is the component with this name and this mark.
@@ -45,15 +42,11 @@ fn out_of_range<T: Copy + Debug>(
     name: &str,
     is_conditional: bool,
 ) {
-    match found {
-        Err(ParseError::OutOfRange(error)) => {
-            assert!(rt;
-                error.name() == name && error.is_conditional() == is_conditional,
-                "{text}: {error:?} and not {name} {is_conditional}"
-            );
-        }
-        other => panic!(rt; "{text}: {other:?}"),
-    }
+    let error = match found {
+        Err(ParseError::OutOfRange(error)) => Some((error.name(), error.is_conditional())),
+        _ => None,
+    };
+    same_at(rt, text, error, Some((name, is_conditional)));
 }
 
 /// Stops the test unless the value prints this.

@@ -1,16 +1,24 @@
 //! Why texts are rejected.
-use crate::tests::formats::{date_format, date_time_format, time_format};
+use crate::tests::formats::{date_format, date_time_format, holds, time_format};
 use cal_format::ParseError;
 use cal_time::error::{Component, ComponentRange};
 use std::process::Abort;
 use std::test::Fail;
 
 fn date_error(spelling: &str, text: &str, error: ParseError, rt: &impl Abort) {
-    assert!(rt; date_format(spelling, rt).parse(text.as_bytes()) == Err(error));
+    holds(
+        rt,
+        text,
+        date_format(spelling, rt).parse(text.as_bytes()) == Err(error),
+    );
 }
 
 fn time_error(spelling: &str, text: &str, error: ParseError, rt: &impl Abort) {
-    assert!(rt; time_format(spelling, rt).parse(text.as_bytes()) == Err(error));
+    holds(
+        rt,
+        text,
+        time_format(spelling, rt).parse(text.as_bytes()) == Err(error),
+    );
 }
 
 /// The positions are counted by hand.
@@ -107,7 +115,7 @@ fn contradictions(rt: HostRuntime) -> Result<(), Fail> {
     match date_time_format("%F %T", rt).parse(b"2024-02-30 24:00:00") {
         Err(error) => {
             let hour = ParseError::OutOfRange(ComponentRange::unconditional(Component::Hour));
-            assert!(rt; error == hour);
+            holds(rt, "contradictions", error == hour);
         }
         Ok(_) => panic!(rt; "30 February"),
     }

@@ -1,5 +1,5 @@
 //! Offsets, and date-times at an offset, as Python's `strftime` and GNU `date` print them.
-use crate::tests::formats::{ROOM, format, is_text};
+use crate::tests::formats::{ROOM, format, holds, is_text};
 use cal_datetime::OffsetDateTime;
 use cal_format::{Format, OffsetDateTimeFormat, OffsetFormat};
 use cal_time::{Date, Month, Time, UtcOffset};
@@ -38,17 +38,29 @@ fn is_rejected(spelling: &str, text: &str, rt: &impl Abort) -> bool {
 
 /// Checks that a format prints the offset as this text, and parses the text.
 fn offset_row(spelling: &str, offset: UtcOffset, text: &str, rt: &impl Abort) {
-    assert!(rt; is_offset_text(&format(spelling, rt), offset, text));
-    assert!(rt; offset_format(spelling, rt).parse(text.as_bytes()) == Ok(offset));
+    holds(
+        rt,
+        text,
+        is_offset_text(&format(spelling, rt), offset, text),
+    );
+    holds(
+        rt,
+        text,
+        offset_format(spelling, rt).parse(text.as_bytes()) == Ok(offset),
+    );
 }
 
 /// Checks that a format prints the date-time as this text, and parses the text at this offset.
 fn offset_date_time_row(spelling: &str, date_time: OffsetDateTime, text: &str, rt: &impl Abort) {
-    assert!(rt; is_offset_date_time_text(&format(spelling, rt), date_time, text));
+    holds(
+        rt,
+        text,
+        is_offset_date_time_text(&format(spelling, rt), date_time, text),
+    );
     match offset_date_time_format(spelling, rt).parse(text.as_bytes()) {
         Ok(parsed) => {
-            assert!(rt; parsed == date_time);
-            assert!(rt; parsed.offset() == date_time.offset());
+            holds(rt, text, parsed == date_time);
+            holds(rt, text, parsed.offset() == date_time.offset());
         }
         Err(_) => panic!(rt; "rejected"),
     }
@@ -56,56 +68,70 @@ fn offset_date_time_row(spelling: &str, date_time: OffsetDateTime, text: &str, r
 
 #[test]
 fn offsets(rt: HostRuntime) -> Result<(), Fail> {
-    offset_row("%z", UtcOffset::from_hms(5, 30, 0)?, "+0530", &rt);
-    offset_row("%z", UtcOffset::from_hms(-3, -30, 0)?, "-0330", &rt);
-    offset_row("%z", UtcOffset::UTC, "+0000", &rt);
-    offset_row("%:z", UtcOffset::from_hms(0, -30, 0)?, "-00:30", &rt);
-    offset_row("%:z", UtcOffset::from_hms(12, 45, 0)?, "+12:45", &rt);
-    offset_row("%::z", UtcOffset::from_hms(5, 17, 32)?, "+05:17:32", &rt);
+    let rt = &rt;
+    offset_row("%z", UtcOffset::from_hms(5, 30, 0)?, "+0530", rt);
+    offset_row("%z", UtcOffset::from_hms(-3, -30, 0)?, "-0330", rt);
+    offset_row("%z", UtcOffset::UTC, "+0000", rt);
+    offset_row("%:z", UtcOffset::from_hms(0, -30, 0)?, "-00:30", rt);
+    offset_row("%:z", UtcOffset::from_hms(12, 45, 0)?, "+12:45", rt);
+    offset_row("%::z", UtcOffset::from_hms(5, 17, 32)?, "+05:17:32", rt);
     let seconds = UtcOffset::from_hms(5, 17, 32)?;
-    assert!(rt; is_offset_text(&format("%z", &rt), seconds, "+0517"));
-    assert!(rt; is_rejected("%z", "-0000", &rt));
-    assert!(rt; is_rejected("%z", "0530", &rt));
-    assert!(rt; is_rejected("%z", "+05:30", &rt));
-    assert!(rt; is_rejected("%z", "+2600", &rt));
-    assert!(rt; is_rejected("%z", "+0060", &rt));
-    assert!(rt; is_rejected("%:z", "Z", &rt));
-    assert!(rt; format("%z %H", &rt).for_offsets().is_none());
+    holds(
+        rt,
+        "%z",
+        is_offset_text(&format("%z", rt), seconds, "+0517"),
+    );
+    holds(rt, "%z", is_rejected("%z", "-0000", rt));
+    holds(rt, "%z", is_rejected("%z", "0530", rt));
+    holds(rt, "%z", is_rejected("%z", "+05:30", rt));
+    holds(rt, "%z", is_rejected("%z", "+2600", rt));
+    holds(rt, "%z", is_rejected("%z", "+0060", rt));
+    holds(rt, "%:z", is_rejected("%:z", "Z", rt));
+    holds(rt, "%z %H", format("%z %H", rt).for_offsets().is_none());
     Ok(())
 }
 
 #[test]
 fn date_times(rt: HostRuntime) -> Result<(), Fail> {
+    let rt = &rt;
     let date = Date::from_calendar_date(2024, Month::February, 29)?;
     let time = Time::from_hms(13, 5, 9)?;
     let india = OffsetDateTime::new_in_offset(date, time, UtcOffset::from_hms(5, 30, 0)?);
-    offset_date_time_row("%FT%T%z", india, "2024-02-29T13:05:09+0530", &rt);
+    offset_date_time_row("%FT%T%z", india, "2024-02-29T13:05:09+0530", rt);
     offset_date_time_row(
         "%a, %d %b %Y %T %z",
         india,
         "Thu, 29 Feb 2024 13:05:09 +0530",
-        &rt,
+        rt,
     );
-    offset_date_time_row("%d/%b/%Y:%T %z", india, "29/Feb/2024:13:05:09 +0530", &rt);
+    offset_date_time_row("%d/%b/%Y:%T %z", india, "29/Feb/2024:13:05:09 +0530", rt);
     let west = OffsetDateTime::new_in_offset(date, time, UtcOffset::from_hms(-3, -30, 0)?);
-    offset_date_time_row("%FT%T%:z", west, "2024-02-29T13:05:09-03:30", &rt);
+    offset_date_time_row("%FT%T%:z", west, "2024-02-29T13:05:09-03:30", rt);
     let half = Time::from_hms_milli(13, 5, 9, 500)?;
     let seconds = OffsetDateTime::new_in_offset(date, half, UtcOffset::from_hms(5, 17, 32)?);
     offset_date_time_row(
         "%F %T.%3N %::z",
         seconds,
         "2024-02-29 13:05:09.500 +05:17:32",
-        &rt,
+        rt,
     );
     offset_date_time_row(
         "%FT%T%.f%::z",
         seconds,
         "2024-02-29T13:05:09.5+05:17:32",
-        &rt,
+        rt,
     );
     let utc = OffsetDateTime::new_in_offset(date, time, UtcOffset::UTC);
-    offset_date_time_row("%FT%T%.f%:z", utc, "2024-02-29T13:05:09+00:00", &rt);
-    assert!(rt; format("%F %T", &rt).for_offset_date_times().is_none());
-    assert!(rt; format("%T %z", &rt).for_offset_date_times().is_none());
+    offset_date_time_row("%FT%T%.f%:z", utc, "2024-02-29T13:05:09+00:00", rt);
+    holds(
+        rt,
+        "%F %T",
+        format("%F %T", rt).for_offset_date_times().is_none(),
+    );
+    holds(
+        rt,
+        "%T %z",
+        format("%T %z", rt).for_offset_date_times().is_none(),
+    );
     Ok(())
 }

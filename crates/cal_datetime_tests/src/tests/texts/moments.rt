@@ -14,18 +14,10 @@ type Numbers = ((i32, u8, u8), (u8, u8, u8, u32), (i8, i8));
 
 fn moment(rt: &impl Abort, numbers: Numbers) -> (Date, Time, UtcOffset) {
     let ((year, month, day), (hour, minute, second, nanosecond), (hours, minutes)) = numbers;
-    let Ok(month) = Month::try_from(month) else {
-        panic!(rt; "{month} is no month");
-    };
-    let Ok(date) = Date::from_calendar_date(year, month, day) else {
-        panic!(rt; "{year} {month} {day} is refused");
-    };
-    let Ok(time) = Time::from_hms_nano(hour, minute, second, nanosecond) else {
-        panic!(rt; "{hour}:{minute}:{second}.{nanosecond} is refused");
-    };
-    let Ok(offset) = UtcOffset::from_hms(hours, minutes, 0) else {
-        panic!(rt; "{hours}:{minutes} is refused");
-    };
+    let month = Month::try_from(month).expect(rt, "no month");
+    let date = Date::from_calendar_date(year, month, day).expect(rt, "no date");
+    let time = Time::from_hms_nano(hour, minute, second, nanosecond).expect(rt, "no time");
+    let offset = UtcOffset::from_hms(hours, minutes, 0).expect(rt, "no offset");
     (date, time, offset)
 }
 
