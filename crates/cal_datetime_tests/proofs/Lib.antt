@@ -1,1 +1,3 @@
 mod OneAnswer
+mod OneFormatAnswer
+mod OneTextAnswer

@@ -1,4 +1,4 @@
-//! The tests of `cal_schedule`, which name its public items only.
+//! The tests of `cal_schedule` and `cal_recurrence`, by their public items only.
 #![tactic(auto)]
 
 #[cfg(test)]

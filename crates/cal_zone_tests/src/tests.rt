@@ -1,5 +1,7 @@
 //! Clocks of zones around their changes. The values are those of Python's `zoneinfo`.
 
+mod tzif;
+
 use cal_datetime::{OffsetDateTime, PlainDateTime, with_hms_nano};
 use cal_time::{Date, Month, Weekday};
 use cal_zone::{ChangeError, Layout, LocalType, Rule, Table, TimelineError, Yearly, Zone};

@@ -1,13 +1,13 @@
 //! Months and years, first and last days, weekdays of months, and day counts.
+use crate::tests::{date, same_at};
 use cal_schedule::{
     DayCount, Period, checked_add_months, checked_add_years, day_count, first_of_iso_week,
     first_of_month, first_of_quarter, first_of_year, last_of_iso_week, last_of_month,
     last_of_quarter, last_of_year, last_weekday_of_month, months_until, nth_weekday_of_month,
     on_or_after, on_or_before, period_until, quarter, saturating_add_months, years_until,
 };
+use cal_time::error::ComponentRange;
 use cal_time::{Date, Month, Weekday};
-use std::fmt::Debug;
-use std::process::Abort;
 
 /// A year, the number of a month, and a day of it.
 type Parts = (i32, u8, u8);
@@ -16,34 +16,10 @@ const MIN: Parts = (-999999, 1, 1);
 
 const MAX: Parts = (999999, 12, 31);
 
-/// The day with that calendar date.
-fn date(rt: &impl Abort, parts: Parts) -> Date {
-    let (year, month, day) = parts;
-    let Ok(month) = Month::try_from(month) else {
-        panic!(rt; "{month} is no month");
-    };
-    let Ok(date) = Date::from_calendar_date(year, month, day) else {
-        panic!(rt; "{year} {month} {day} is refused");
-    };
-    date
-}
-
-/// Stops the test unless the two are equal, with the index in a table.
-fn same<T: Copy + Debug + PartialEq, P: Copy + Debug>(
-    rt: &impl Abort,
-    index: P,
-    found: T,
-    wanted: T,
-) {
-    assert!(rt;
-        found == wanted,
-        "{found:?} and not {wanted:?} at {index:?}"
-    );
-}
-
 #[test]
 fn months_later(rt: HostRuntime) {
-    for (from, months, to) in [
+    let rt = &rt;
+    for &(from, months, to) in &[
         // `relativedelta` of Python's `dateutil`.
         ((2023, 1, 31), 1, (2023, 2, 28)),
         ((2024, 1, 31), 1, (2024, 2, 29)),
@@ -62,16 +38,17 @@ fn months_later(rt: HostRuntime) {
         (MIN, 0, MIN),
         (MAX, 0, MAX),
     ] {
-        let (from, to) = (date(&rt, from), date(&rt, to));
-        same(&rt, from, checked_add_months(from, months), Some(to));
-        same(&rt, from, saturating_add_months(from, months), to);
+        let (from, to) = (date(rt, from), date(rt, to));
+        same_at(rt, from, checked_add_months(from, months), Some(to));
+        same_at(rt, from, saturating_add_months(from, months), to);
     }
 }
 
 /// The range has 23,999,988 months: twelve in each of 1,999,999 years.
 #[test]
 fn months_past_an_end(rt: HostRuntime) {
-    for (from, months, end) in [
+    let rt = &rt;
+    for &(from, months, end) in &[
         (Date::MIN, -1, Date::MIN),
         (Date::MIN, i32::MIN, Date::MIN),
         (Date::MIN, i32::MAX, Date::MAX),
@@ -80,14 +57,15 @@ fn months_past_an_end(rt: HostRuntime) {
         (Date::MAX, i32::MAX, Date::MAX),
         (Date::MAX, i32::MIN, Date::MIN),
     ] {
-        same(&rt, months, checked_add_months(from, months), None);
-        same(&rt, months, saturating_add_months(from, months), end);
+        same_at(rt, months, checked_add_months(from, months), None);
+        same_at(rt, months, saturating_add_months(from, months), end);
     }
 }
 
 #[test]
 fn years_later(rt: HostRuntime) {
-    for (from, years, to) in [
+    let rt = &rt;
+    for &(from, years, to) in &[
         // The documentation of java.time.
         ((2008, 2, 29), 1, (2009, 2, 28)),
         // `relativedelta` of Python's `dateutil`.
@@ -97,22 +75,23 @@ fn years_later(rt: HostRuntime) {
         (MIN, 1_999_998, (999999, 1, 1)),
         (MAX, -1_999_998, (-999999, 12, 31)),
     ] {
-        let (from, to) = (date(&rt, from), date(&rt, to));
-        same(&rt, from, checked_add_years(from, years), Some(to));
+        let (from, to) = (date(rt, from), date(rt, to));
+        same_at(rt, from, checked_add_years(from, years), Some(to));
     }
-    for (from, years) in [
+    for &(from, years) in &[
         (Date::MIN, -1),
         (Date::MAX, 1),
         (Date::MIN, i32::MAX),
         (Date::MAX, i32::MIN),
     ] {
-        same(&rt, years, checked_add_years(from, years), None);
+        same_at(rt, years, checked_add_years(from, years), None);
     }
 }
 
 #[test]
 fn months_years_and_periods_until(rt: HostRuntime) {
-    for (from, to, months, (years, past_years, days)) in [
+    let rt = &rt;
+    for &(from, to, months, (years, past_years, days)) in &[
         // The documentation of java.time.
         ((2010, 1, 15), (2011, 3, 18), 14, (1, 2, 3)),
         // `relativedelta` of Python's `dateutil`: the day before a birthday, the birthday, and days
@@ -136,16 +115,17 @@ fn months_years_and_periods_until(rt: HostRuntime) {
             months: past_years,
             days,
         };
-        let (from, to) = (date(&rt, from), date(&rt, to));
-        same(&rt, to, months_until(from, to), months);
-        same(&rt, to, years_until(from, to), years);
-        same(&rt, to, period_until(from, to), period);
+        let (from, to) = (date(rt, from), date(rt, to));
+        same_at(rt, to, months_until(from, to), months);
+        same_at(rt, to, years_until(from, to), years);
+        same_at(rt, to, period_until(from, to), period);
     }
 }
 
 #[test]
 fn first_and_last_days(rt: HostRuntime) {
-    for (day, month, of_quarter, number) in [
+    let rt = &rt;
+    for &(day, month, of_quarter, number) in &[
         // `monthrange` of Python's `calendar`; a quarter has three months.
         ((2024, 2, 29), (1, 29), ((2024, 1, 1), (2024, 3, 31)), 1),
         ((2023, 4, 1), (1, 30), ((2023, 4, 1), (2023, 6, 30)), 2),
@@ -155,28 +135,28 @@ fn first_and_last_days(rt: HostRuntime) {
         (MAX, (1, 31), ((999999, 10, 1), MAX), 4),
     ] {
         let (year, number_of_month, _) = day;
-        let day = date(&rt, day);
+        let day = date(rt, day);
         let (first, last) = month;
-        let first = date(&rt, (year, number_of_month, first));
-        let last = date(&rt, (year, number_of_month, last));
-        same(
-            &rt,
+        let first = date(rt, (year, number_of_month, first));
+        let last = date(rt, (year, number_of_month, last));
+        same_at(
+            rt,
             day,
             (first_of_month(day), last_of_month(day)),
             (first, last),
         );
         let (first, last) = of_quarter;
-        let (first, last) = (date(&rt, first), date(&rt, last));
-        same(
-            &rt,
+        let (first, last) = (date(rt, first), date(rt, last));
+        same_at(
+            rt,
             day,
             (first_of_quarter(day), last_of_quarter(day)),
             (first, last),
         );
-        same(&rt, day, quarter(day), number);
-        let (first, last) = (date(&rt, (year, 1, 1)), date(&rt, (year, 12, 31)));
-        same(
-            &rt,
+        same_at(rt, day, quarter(day), number);
+        let (first, last) = (date(rt, (year, 1, 1)), date(rt, (year, 12, 31)));
+        same_at(
+            rt,
             day,
             (first_of_year(day), last_of_year(day)),
             (first, last),
@@ -186,7 +166,8 @@ fn first_and_last_days(rt: HostRuntime) {
 
 #[test]
 fn mondays_and_sundays(rt: HostRuntime) {
-    for (day, monday, sunday) in [
+    let rt = &rt;
+    for &(day, monday, sunday) in &[
         // The examples of ISO 8601 at a new year.
         ((2021, 1, 1), (2020, 12, 28), (2021, 1, 3)),
         ((2008, 12, 29), (2008, 12, 29), (2009, 1, 4)),
@@ -194,35 +175,31 @@ fn mondays_and_sundays(rt: HostRuntime) {
         // The range begins on a Monday, and ends on a Friday.
         (MIN, MIN, (-999999, 1, 7)),
     ] {
-        let day = date(&rt, day);
-        same(&rt, day, first_of_iso_week(day), date(&rt, monday));
-        same(&rt, day, last_of_iso_week(day), Some(date(&rt, sunday)));
+        let day = date(rt, day);
+        same_at(rt, day, first_of_iso_week(day), date(rt, monday));
+        same_at(rt, day, last_of_iso_week(day), Some(date(rt, sunday)));
     }
-    same(
-        &rt,
+    same_at(
+        rt,
         26,
-        last_of_iso_week(date(&rt, (999999, 12, 26))),
-        Some(date(&rt, (999999, 12, 26))),
+        last_of_iso_week(date(rt, (999999, 12, 26))),
+        Some(date(rt, (999999, 12, 26))),
     );
-    for day in [27, 31] {
-        same(
-            &rt,
-            day,
-            last_of_iso_week(date(&rt, (999999, 12, day))),
-            None,
-        );
+    for &day in &[27, 31] {
+        same_at(rt, day, last_of_iso_week(date(rt, (999999, 12, day))), None);
     }
-    same(
-        &rt,
+    same_at(
+        rt,
         31,
         first_of_iso_week(Date::MAX),
-        date(&rt, (999999, 12, 27)),
+        date(rt, (999999, 12, 27)),
     );
 }
 
 #[test]
 fn weekdays_of_months(rt: HostRuntime) {
-    for (month, weekday, n, day) in [
+    let rt = &rt;
+    for &(month, weekday, n, day) in &[
         // Thanksgiving: the fourth Thursday of November.
         ((2021, 11), Weekday::Thursday, 4, 25),
         ((2022, 11), Weekday::Thursday, 4, 24),
@@ -238,17 +215,24 @@ fn weekdays_of_months(rt: HostRuntime) {
         ((999999, 12), Weekday::Friday, 5, 31),
     ] {
         let (year, number) = month;
-        let wanted = date(&rt, (year, number, day));
-        let Ok(found) = nth_weekday_of_month(year, wanted.month(), weekday, n) else {
-            panic!(rt; "{year} {number} {weekday} {n} is refused");
-        };
-        same(&rt, wanted, found, wanted);
+        let wanted = date(rt, (year, number, day));
+        let found = nth_weekday_of_month(year, wanted.month(), weekday, n);
+        same_at(rt, wanted, found.expect(rt, "no day"), wanted);
+    }
+}
+
+/// Returns the name of an error, and whether it is conditional.
+fn error_of(answer: Result<Date, ComponentRange>) -> Option<(&'static str, bool)> {
+    match answer {
+        Ok(_) => None,
+        Err(error) => Some((error.name(), error.is_conditional())),
     }
 }
 
 #[test]
 fn weekdays_that_a_month_does_not_have(rt: HostRuntime) {
-    for (year, weekday, n, name) in [
+    let rt = &rt;
+    for &(year, weekday, n, name) in &[
         // Python's `calendar`: this February has five Thursdays, and four of each other weekday.
         (2024, Weekday::Friday, 5, "weekday"),
         (2024, Weekday::Thursday, 6, "weekday"),
@@ -258,24 +242,20 @@ fn weekdays_that_a_month_does_not_have(rt: HostRuntime) {
         (1000000, Weekday::Friday, 0, "year"),
         (i32::MIN, Weekday::Friday, 1, "year"),
     ] {
-        let Err(error) = nth_weekday_of_month(year, Month::February, weekday, n) else {
-            panic!(rt; "{year} {weekday} {n} is let through");
-        };
-        same(&rt, n, error.name(), name);
-        same(&rt, n, error.is_conditional(), name == "weekday");
+        let found = error_of(nth_weekday_of_month(year, Month::February, weekday, n));
+        same_at(rt, n, found, Some((name, name == "weekday")));
     }
-    for year in [-1000000, 1000000, i32::MAX] {
-        let Err(error) = last_weekday_of_month(year, Month::May, Weekday::Friday) else {
-            panic!(rt; "{year} is let through");
-        };
-        same(&rt, year, error.name(), "year");
+    for &year in &[-1000000, 1000000, i32::MAX] {
+        let found = error_of(last_weekday_of_month(year, Month::May, Weekday::Friday));
+        same_at(rt, year, found, Some(("year", false)));
     }
 }
 
 /// Python's `calendar`.
 #[test]
 fn last_fridays_of_2024(rt: HostRuntime) {
-    for (month, day) in [
+    let rt = &rt;
+    for &(month, day) in &[
         (1, 26),
         (2, 23),
         (3, 29),
@@ -289,35 +269,33 @@ fn last_fridays_of_2024(rt: HostRuntime) {
         (11, 29),
         (12, 27),
     ] {
-        let wanted = date(&rt, (2024, month, day));
-        let Ok(found) = last_weekday_of_month(2024, wanted.month(), Weekday::Friday) else {
-            panic!(rt; "month {month} is refused");
-        };
-        same(&rt, month, found, wanted);
+        let wanted = date(rt, (2024, month, day));
+        let found = last_weekday_of_month(2024, wanted.month(), Weekday::Friday);
+        same_at(rt, month, found.expect(rt, "no day"), wanted);
     }
 }
 
 /// The range begins on a Monday and ends on a Friday, from which these weekdays follow.
 #[test]
 fn last_weekdays_at_the_ends(rt: HostRuntime) {
-    for (month, weekday, day) in [
+    let rt = &rt;
+    for &(month, weekday, day) in &[
         ((-999999, 1), Weekday::Monday, 29),
         ((-999999, 1), Weekday::Wednesday, 31),
         ((999999, 12), Weekday::Friday, 31),
         ((999999, 12), Weekday::Saturday, 25),
     ] {
         let (year, number) = month;
-        let wanted = date(&rt, (year, number, day));
-        let Ok(found) = last_weekday_of_month(year, wanted.month(), weekday) else {
-            panic!(rt; "{year} {number} {weekday} is refused");
-        };
-        same(&rt, wanted, found, wanted);
+        let wanted = date(rt, (year, number, day));
+        let found = last_weekday_of_month(year, wanted.month(), weekday);
+        same_at(rt, wanted, found.expect(rt, "no day"), wanted);
     }
 }
 
 #[test]
 fn days_next_to_a_day(rt: HostRuntime) {
-    for (day, weekday, before, after) in [
+    let rt = &rt;
+    for &(day, weekday, before, after) in &[
         // Python's `calendar`.
         ((2024, 3, 1), Weekday::Friday, (2024, 3, 1), (2024, 3, 1)),
         ((2024, 3, 1), Weekday::Monday, (2024, 2, 26), (2024, 3, 4)),
@@ -345,23 +323,19 @@ fn days_next_to_a_day(rt: HostRuntime) {
         (MIN, Weekday::Monday, MIN, MIN),
         (MAX, Weekday::Friday, MAX, MAX),
     ] {
-        let day = date(&rt, day);
-        same(
-            &rt,
-            day,
-            on_or_before(day, weekday),
-            Some(date(&rt, before)),
-        );
-        same(&rt, day, on_or_after(day, weekday), Some(date(&rt, after)));
+        let day = date(rt, day);
+        same_at(rt, day, on_or_before(day, weekday), Some(date(rt, before)));
+        same_at(rt, day, on_or_after(day, weekday), Some(date(rt, after)));
     }
-    same(&rt, 0, on_or_before(Date::MIN, Weekday::Sunday), None);
-    same(&rt, 1, on_or_after(Date::MAX, Weekday::Saturday), None);
+    same_at(rt, 0, on_or_before(Date::MIN, Weekday::Sunday), None);
+    same_at(rt, 1, on_or_after(Date::MAX, Weekday::Saturday), None);
 }
 
 #[test]
 fn days_of_thirty(rt: HostRuntime) {
+    let rt = &rt;
     // By the bond basis, by the Eurobond basis, and the days.
-    for (from, to, bond, eurobond, days) in [
+    for &(from, to, bond, eurobond, days) in &[
         // The examples that are published with the 2006 ISDA Definitions.
         ((2006, 8, 20), (2007, 2, 20), 180, 180, 184),
         ((2006, 8, 31), (2007, 2, 28), 178, 178, 181),
@@ -382,24 +356,25 @@ fn days_of_thirty(rt: HostRuntime) {
         (MIN, MAX, 719_999_640, 719_999_639, 730_484_633),
         (MAX, MIN, -719_999_639, -719_999_639, -730_484_633),
     ] {
-        let (from, to) = (date(&rt, from), date(&rt, to));
-        for (convention, numerator, denominator) in [
+        let (from, to) = (date(rt, from), date(rt, to));
+        for &(convention, numerator, denominator) in &[
             (DayCount::Thirty360, bond, 360),
             (DayCount::ThirtyE360, eurobond, 360),
             (DayCount::Actual360, days, 360),
             (DayCount::Actual365Fixed, days, 365),
         ] {
             let found = day_count(from, to, convention);
-            same(&rt, to, found.numerator, numerator);
-            same(&rt, to, found.denominator, denominator);
+            same_at(rt, to, found.numerator, numerator);
+            same_at(rt, to, found.denominator, denominator);
         }
     }
 }
 
 #[test]
 fn days_of_years_of_both_lengths(rt: HostRuntime) {
+    let rt = &rt;
     // The days in years of 365 days, and those in years of 366.
-    for (from, to, of_365, of_366) in [
+    for &(from, to, of_365, of_366) in &[
         // The examples of the ISDA's memorandum on actual/actual.
         ((2003, 11, 1), (2004, 5, 1), 61, 121),
         ((1999, 2, 1), (1999, 7, 1), 150, 0),
@@ -414,11 +389,11 @@ fn days_of_years_of_both_lengths(rt: HostRuntime) {
         (MIN, MAX, 552_974_999, 177_509_634),
     ] {
         let wanted = of_365 * 366 + of_366 * 365;
-        let (from, to) = (date(&rt, from), date(&rt, to));
+        let (from, to) = (date(rt, from), date(rt, to));
         let on = day_count(from, to, DayCount::ActualActual);
         let back = day_count(to, from, DayCount::ActualActual);
-        same(&rt, from, on.numerator, wanted);
-        same(&rt, from, back.numerator, 0i64.saturating_sub(wanted));
-        same(&rt, from, on.denominator, 133_590);
+        same_at(rt, from, on.numerator, wanted);
+        same_at(rt, from, back.numerator, 0i64.saturating_sub(wanted));
+        same_at(rt, from, on.denominator, 133_590);
     }
 }

@@ -5,24 +5,14 @@
 //! from its documentation of `busday_offset` and `busday_count`.
 ghost use Rattle.std.specs.Prelude.{◌≡◌};
 
+use crate::tests::{date, same};
 use cal_schedule::{Convention, Workdays};
-use cal_time::{Date, Month};
-use std::fmt::Debug;
+use cal_time::Date;
 use std::process::Abort;
 use std::test::Fail;
 
 /// Monday to Friday.
 const OFFICE: [bool; 7] = [true, true, true, true, true, false, false];
-
-fn date(rt: &impl Abort, (year, month, day): (i32, u8, u8)) -> Date {
-    let Ok(month) = Month::try_from(month) else {
-        panic!(rt; "{month} is no month");
-    };
-    let Ok(date) = Date::from_calendar_date(year, month, day) else {
-        panic!(rt; "{year} {month} {day} is refused");
-    };
-    date
-}
 
 /// The ten holidays.
 fn holidays(rt: &impl Abort) -> [Date; 10] {
@@ -41,24 +31,17 @@ fn holidays(rt: &impl Abort) -> [Date; 10] {
 }
 
 fn workdays<'a>(rt: &impl Abort, marks: [bool; 7], holidays: &'a [Date]) -> Workdays<'a> {
-    let Some(workdays) = Workdays::new(marks, holidays) else {
-        panic!(rt; "the holidays do not rise");
-    };
-    workdays
-}
-
-/// Stops the test unless the two are equal.
-fn same<T: Copy + Debug + PartialEq>(rt: &impl Abort, found: T, wanted: T) {
-    assert!(rt; found == wanted, "{found:?} and not {wanted:?}");
+    Workdays::new(marks, holidays).expect(rt, "the holidays do not rise")
 }
 
 #[test]
 fn days_of_2024(rt: HostRuntime) {
-    let holidays = holidays(&rt);
-    let workdays = workdays(&rt, OFFICE, &holidays);
-    let (first, last) = (date(&rt, (2024, 1, 1)), date(&rt, (2025, 1, 1)));
-    same(&rt, workdays.workdays_between(first, last), 252);
-    same(&rt, workdays.workdays_between(last, first), -252);
+    let rt = &rt;
+    let holidays = holidays(rt);
+    let workdays = workdays(rt, OFFICE, &holidays);
+    let (first, last) = (date(rt, (2024, 1, 1)), date(rt, (2025, 1, 1)));
+    same(rt, workdays.workdays_between(first, last), 252);
+    same(rt, workdays.workdays_between(last, first), -252);
     let months = [
         (1u8, 21),
         (2, 20),
@@ -72,10 +55,10 @@ fn days_of_2024(rt: HostRuntime) {
         (10, 23),
         (11, 19),
     ];
-    for (month, count) in months {
-        let from = date(&rt, (2024, month, 1));
-        let to = date(&rt, (2024, month % 12 + 1, 1));
-        same(&rt, workdays.workdays_between(from, to), count);
+    for &(month, count) in &months {
+        let from = date(rt, (2024, month, 1));
+        let to = date(rt, (2024, month % 12 + 1, 1));
+        same(rt, workdays.workdays_between(from, to), count);
     }
     let rows = [
         ((2024, 12, 23), 2, (2024, 12, 26)),
@@ -89,32 +72,34 @@ fn days_of_2024(rt: HostRuntime) {
         ((2024, 1, 6), -1, (2024, 1, 5)),
         ((2024, 1, 5), 0, (2024, 1, 5)),
     ];
-    for (from, days, to) in rows {
-        let moved = workdays.checked_add_workdays(date(&rt, from), days);
-        same(&rt, moved, Some(date(&rt, to)));
+    for &(from, days, to) in &rows {
+        let moved = workdays.checked_add_workdays(date(rt, from), days);
+        same(rt, moved, Some(date(rt, to)));
     }
 }
 
 #[test]
 fn neighbours(rt: HostRuntime) {
-    let holidays = holidays(&rt);
-    let workdays = workdays(&rt, OFFICE, &holidays);
+    let rt = &rt;
+    let holidays = holidays(rt);
+    let workdays = workdays(rt, OFFICE, &holidays);
     // A Wednesday, Independence Day and the day after it.
     let (wednesday, holiday, friday) = (
-        date(&rt, (2024, 7, 3)),
-        date(&rt, (2024, 7, 4)),
-        date(&rt, (2024, 7, 5)),
+        date(rt, (2024, 7, 3)),
+        date(rt, (2024, 7, 4)),
+        date(rt, (2024, 7, 5)),
     );
-    same(&rt, workdays.is_workday(wednesday), true);
-    same(&rt, workdays.is_workday(holiday), false);
-    same(&rt, workdays.next_workday(wednesday), Some(friday));
-    same(&rt, workdays.previous_workday(friday), Some(wednesday));
+    same(rt, workdays.is_workday(wednesday), true);
+    same(rt, workdays.is_workday(holiday), false);
+    same(rt, workdays.next_workday(wednesday), Some(friday));
+    same(rt, workdays.previous_workday(friday), Some(wednesday));
 }
 
 #[test]
 fn conventions(rt: HostRuntime) {
-    let holidays = holidays(&rt);
-    let workdays = workdays(&rt, OFFICE, &holidays);
+    let rt = &rt;
+    let holidays = holidays(rt);
+    let workdays = workdays(rt, OFFICE, &holidays);
     // The Monday after 31 August is Labor Day.
     let rows = [
         ((2024, 8, 31), Convention::Unadjusted, (2024, 8, 31)),
@@ -126,29 +111,30 @@ fn conventions(rt: HostRuntime) {
         ((2024, 6, 15), Convention::ModifiedPreceding, (2024, 6, 14)),
         ((2024, 12, 24), Convention::Following, (2024, 12, 24)),
     ];
-    for (from, convention, to) in rows {
-        let moved = workdays.adjust(date(&rt, from), convention);
-        same(&rt, moved, Some(date(&rt, to)));
+    for &(from, convention, to) in &rows {
+        let moved = workdays.adjust(date(rt, from), convention);
+        same(rt, moved, Some(date(rt, to)));
     }
 }
 
 #[test]
 fn rows_of_numpy(rt: HostRuntime) {
-    let office = workdays(&rt, OFFICE, &[]);
-    let (year, next) = (date(&rt, (2011, 1, 1)), date(&rt, (2012, 1, 1)));
-    same(&rt, office.workdays_between(year, next), 260);
+    let rt = &rt;
+    let office = workdays(rt, OFFICE, &[]);
+    let (year, next) = (date(rt, (2011, 1, 1)), date(rt, (2012, 1, 1)));
+    same(rt, office.workdays_between(year, next), 260);
     same(
-        &rt,
-        office.workdays_between(year, date(&rt, (2011, 2, 1))),
+        rt,
+        office.workdays_between(year, date(rt, (2011, 2, 1))),
         21,
     );
     // Back, by hand: from a Monday to the Friday before it, and to the Saturday.
-    let monday = date(&rt, (2024, 1, 8));
-    for (to, count) in [((2024, 1, 5), -1), ((2024, 1, 6), 0)] {
-        same(&rt, office.workdays_between(monday, date(&rt, to)), count);
+    let monday = date(rt, (2024, 1, 8));
+    for &(to, count) in &[((2024, 1, 5), -1), ((2024, 1, 6), 0)] {
+        same(rt, office.workdays_between(monday, date(rt, to)), count);
     }
-    let saturdays = workdays(&rt, [false, false, false, false, false, true, false], &[]);
-    same(&rt, saturdays.workdays_between(year, next), 53);
+    let saturdays = workdays(rt, [false, false, false, false, false, true, false], &[]);
+    same(rt, saturdays.workdays_between(year, next), 53);
     let rows = [
         ((2011, 10, 1), 0, (2011, 10, 3)),
         ((2012, 3, 1), -1, (2012, 2, 29)),
@@ -156,9 +142,9 @@ fn rows_of_numpy(rt: HostRuntime) {
         ((2011, 3, 22), 0, (2011, 3, 22)),
         ((2011, 3, 20), 1, (2011, 3, 21)),
     ];
-    for (from, days, to) in rows {
-        let moved = office.checked_add_workdays(date(&rt, from), days);
-        same(&rt, moved, Some(date(&rt, to)));
+    for &(from, days, to) in &rows {
+        let moved = office.checked_add_workdays(date(rt, from), days);
+        same(rt, moved, Some(date(rt, to)));
     }
 }
 
@@ -166,55 +152,58 @@ fn rows_of_numpy(rt: HostRuntime) {
 /// working days are 200,000 weeks, added by `datetime` of Python.
 #[test]
 fn lists_and_weeks(rt: HostRuntime) {
-    let christmas = date(&rt, (2021, 12, 25));
-    let office = workdays(&rt, OFFICE, &[]);
+    let rt = &rt;
+    let christmas = date(rt, (2021, 12, 25));
+    let office = workdays(rt, OFFICE, &[]);
     let saturday = [christmas];
-    let with = workdays(&rt, OFFICE, &saturday);
-    let (first, last) = (date(&rt, (2021, 1, 1)), date(&rt, (2022, 1, 1)));
-    same(&rt, office.workdays_between(first, last), 261);
-    same(&rt, with.workdays_between(first, last), 261);
-    assert!(rt; Workdays::new(OFFICE, &[christmas, christmas]).is_none());
-    let monday = date(&rt, (2024, 1, 1));
+    let with = workdays(rt, OFFICE, &saturday);
+    let (first, last) = (date(rt, (2021, 1, 1)), date(rt, (2022, 1, 1)));
+    same(rt, office.workdays_between(first, last), 261);
+    same(rt, with.workdays_between(first, last), 261);
+    let is_rejected = Workdays::new(OFFICE, &[christmas, christmas]).is_none();
+    same(rt, is_rejected, true);
+    let monday = date(rt, (2024, 1, 1));
     same(
-        &rt,
+        rt,
         office.checked_add_workdays(monday, 1_000_000),
-        Some(date(&rt, (5857, 1, 26))),
+        Some(date(rt, (5857, 1, 26))),
     );
-    let never = workdays(&rt, [false; 7], &[]);
-    same(&rt, never.next_workday(monday), None);
-    same(&rt, never.previous_workday(monday), None);
-    same(&rt, never.checked_add_workdays(monday, 0), None);
-    same(&rt, never.workdays_between(Date::MIN, Date::MAX), 0);
+    let never = workdays(rt, [false; 7], &[]);
+    same(rt, never.next_workday(monday), None);
+    same(rt, never.previous_workday(monday), None);
+    same(rt, never.checked_add_workdays(monday, 0), None);
+    same(rt, never.workdays_between(Date::MIN, Date::MAX), 0);
 }
 
 /// The first day is a Monday, and the last one, number 730,484,633, a Friday.
 #[test]
 fn ends(rt: HostRuntime) {
-    let office = workdays(&rt, OFFICE, &[]);
+    let rt = &rt;
+    let office = workdays(rt, OFFICE, &[]);
     same(
-        &rt,
+        rt,
         office.workdays_between(Date::MIN, Date::MAX),
         521_774_739,
     );
     same(
-        &rt,
+        rt,
         office.workdays_between(Date::MAX, Date::MIN),
         -521_774_739,
     );
-    for end in [Date::MIN, Date::MAX] {
-        same(&rt, office.is_workday(end), true);
+    for &end in &[Date::MIN, Date::MAX] {
+        same(rt, office.is_workday(end), true);
     }
-    same(&rt, office.next_workday(Date::MAX), None);
-    same(&rt, office.previous_workday(Date::MIN), None);
+    same(rt, office.next_workday(Date::MAX), None);
+    same(rt, office.previous_workday(Date::MIN), None);
     same(
-        &rt,
+        rt,
         office.next_workday(Date::MIN),
-        Some(date(&rt, (-999_999, 1, 2))),
+        Some(date(rt, (-999_999, 1, 2))),
     );
     same(
-        &rt,
+        rt,
         office.previous_workday(Date::MAX),
-        Some(date(&rt, (999_999, 12, 30))),
+        Some(date(rt, (999_999, 12, 30))),
     );
     let rows = [
         (Date::MAX, 0, Some(Date::MAX)),
@@ -226,30 +215,31 @@ fn ends(rt: HostRuntime) {
         (Date::MIN, 521_774_739, Some(Date::MAX)),
         (Date::MAX, -521_774_739, Some(Date::MIN)),
     ];
-    for (from, days, to) in rows {
-        same(&rt, office.checked_add_workdays(from, days), to);
+    for &(from, days, to) in &rows {
+        same(rt, office.checked_add_workdays(from, days), to);
     }
 }
 
 #[test]
 fn ends_that_are_holidays(rt: HostRuntime) {
+    let rt = &rt;
     let last = [Date::MAX];
-    let closed = workdays(&rt, OFFICE, &last);
-    let thursday = Some(date(&rt, (999_999, 12, 30)));
-    same(&rt, closed.is_workday(Date::MAX), false);
-    same(&rt, closed.adjust(Date::MAX, Convention::Following), None);
+    let closed = workdays(rt, OFFICE, &last);
+    let thursday = Some(date(rt, (999_999, 12, 30)));
+    same(rt, closed.is_workday(Date::MAX), false);
+    same(rt, closed.adjust(Date::MAX, Convention::Following), None);
     same(
-        &rt,
+        rt,
         closed.adjust(Date::MAX, Convention::ModifiedFollowing),
         thursday,
     );
     let first = [Date::MIN];
-    let late = workdays(&rt, OFFICE, &first);
-    let tuesday = Some(date(&rt, (-999_999, 1, 2)));
-    same(&rt, late.is_workday(Date::MIN), false);
-    same(&rt, late.adjust(Date::MIN, Convention::Preceding), None);
+    let late = workdays(rt, OFFICE, &first);
+    let tuesday = Some(date(rt, (-999_999, 1, 2)));
+    same(rt, late.is_workday(Date::MIN), false);
+    same(rt, late.adjust(Date::MIN, Convention::Preceding), None);
     same(
-        &rt,
+        rt,
         late.adjust(Date::MIN, Convention::ModifiedPreceding),
         tuesday,
     );
@@ -258,10 +248,11 @@ fn ends_that_are_holidays(rt: HostRuntime) {
 /// The text for debugging is the text of Rust's `derive`: the type and its fields.
 #[test]
 fn debug(rt: HostRuntime) -> Result<(), Fail> {
-    let holidays = [date(&rt, (2024, 1, 1))];
-    let text = format!(in rt.alloc(); "{:?}", workdays(&rt, OFFICE, &holidays))?;
+    let rt = &rt;
+    let holidays = [date(rt, (2024, 1, 1))];
+    let text = format!(in rt.alloc(); "{:?}", workdays(rt, OFFICE, &holidays))?;
     same(
-        &rt,
+        rt,
         text.as_str(),
         "Workdays { marks: [true, true, true, true, true, false, false], holidays: [2024-01-01] }",
     );

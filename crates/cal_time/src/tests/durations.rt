@@ -143,6 +143,22 @@ fn differences(a: SignedDuration, b: SignedDuration) -> Option<[i128; 2]> {
     Some([(a - b).number(), difference.number()])
 }
 
+/// Returns the results of `*` and `*=` if the product is a duration.
+fn products_by_i32(duration: SignedDuration, factor: i32) -> Option<[i128; 2]> {
+    duration.checked_mul(factor)?;
+    let mut product = duration;
+    product *= factor;
+    Some([(duration * factor).number(), product.number()])
+}
+
+/// Returns the results of `/` and `/=` if the quotient is a duration.
+fn quotients_by_i32(duration: SignedDuration, divisor: i32) -> Option<[i128; 2]> {
+    duration.checked_div(divisor)?;
+    let mut quotient = duration;
+    quotient /= divisor;
+    Some([(duration / divisor).number(), quotient.number()])
+}
+
 /// Checks a sum of durations, by each call. No duration is wanted if the number is out of range,
 /// and the clamped one is the nearest one.
 pub(super) fn check_sum(rt: &impl Abort, a: SignedDuration, b: SignedDuration, wanted: i128) {
@@ -179,12 +195,7 @@ pub(super) fn check_product(rt: &impl Abort, duration: SignedDuration, factor: i
         clamped(wanted),
     );
     same(rt, number(duration.checked_mul(factor)), exact(wanted));
-    if duration.checked_mul(factor).is_some() {
-        let mut product = duration;
-        product *= factor;
-        same(rt, (duration * factor).number(), wanted);
-        same(rt, product.number(), wanted);
-    }
+    same(rt, products_by_i32(duration, factor), twice(exact(wanted)));
 }
 
 /// Checks the quotient of a duration and a divisor in the same way.
@@ -195,12 +206,7 @@ pub(super) fn check_quotient(
     wanted: Option<i128>,
 ) {
     same(rt, number(duration.checked_div(divisor)), wanted);
-    if duration.checked_div(divisor).is_some() {
-        let mut quotient = duration;
-        quotient /= divisor;
-        same(rt, Some((duration / divisor).number()), wanted);
-        same(rt, Some(quotient.number()), wanted);
-    }
+    same(rt, quotients_by_i32(duration, divisor), twice(wanted));
 }
 
 /// Checks a product and a quotient, each by two calls.

@@ -196,13 +196,17 @@ fn signs_and_magnitudes(rt: HostRuntime) {
     }
 }
 
-/// Checks the parts of a duration with these nanoseconds.
-fn check_parts(rt: &impl Abort, a: SignedDuration, x: i128) {
+/// Checks the whole weeks to seconds of a duration with these nanoseconds.
+fn check_long_parts(rt: &impl Abort, a: SignedDuration, x: i128) {
     same(rt, i128::from(a.whole_weeks()), x / (7 * DAY));
     same(rt, i128::from(a.whole_days()), x / DAY);
     same(rt, i128::from(a.whole_hours()), x / HOUR);
     same(rt, i128::from(a.whole_minutes()), x / MINUTE);
     same(rt, i128::from(a.whole_seconds()), x / SECOND);
+}
+
+/// Checks the shorter parts of a duration with these nanoseconds.
+fn check_short_parts(rt: &impl Abort, a: SignedDuration, x: i128) {
     same(rt, a.whole_milliseconds(), x / 1_000_000);
     same(rt, a.whole_microseconds(), x / 1_000);
     same(rt, a.whole_nanoseconds(), x);
@@ -215,7 +219,8 @@ fn check_parts(rt: &impl Abort, a: SignedDuration, x: i128) {
 #[test]
 fn parts(rt: HostRuntime) {
     for (a, x) in ends() {
-        check_parts(&rt, a, x);
+        check_long_parts(&rt, a, x);
+        check_short_parts(&rt, a, x);
     }
 }
 

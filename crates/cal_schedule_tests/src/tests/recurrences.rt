@@ -1,0 +1,20 @@
+//! Examples of RFC 5545 and of published calendars, and texts with errors.
+
+use cal_recurrence::{Recurrence, parse};
+use std::process::Abort;
+
+mod one_answer;
+mod read_back;
+mod rules;
+mod texts;
+mod written;
+
+/// Parses the text.
+fn read(rt: &impl Abort, text: &str) -> Recurrence {
+    parse(text.as_bytes()).expect(rt, text)
+}
+
+/// Checks a condition of the text.
+fn holds(rt: &impl Abort, text: &str, condition: bool) {
+    assert!(rt; condition, "{text}");
+}
