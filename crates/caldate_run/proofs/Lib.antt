@@ -7,6 +7,7 @@ pub mod Ends
 pub mod Known
 pub mod Lacks
 pub mod Laters
+pub mod Takes
 pub mod Texts
 pub mod Numbers
 pub mod RecordFields

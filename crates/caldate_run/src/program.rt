@@ -1,5 +1,5 @@
 //! The program, from its arguments to its status.
-ghost use Rattle.std.specs.Prelude.{◌≡◌, ℕ, List, Option, Some, None, Result, Ok, Err, unwrap_or};
+ghost use Rattle.std.specs.Prelude.{◌≡◌, ℕ, false, List, Option, Some, None, Result, Ok, Err, unwrap_or};
 ghost use Rattle.caldate_run.specs.Calls.{Reads, Writes, has_read_failure, most_reads, write_failure};
 ghost use Rattle.caldate_run.specs.Ending.{ReportsOutcome};
 ghost use Rattle.caldate_run.specs.Header.{EndsNamed};
@@ -27,6 +27,7 @@ use crate::run::ending::{Ending, end};
 use crate::run::named::run_named;
 use crate::run::run;
 use crate::run::run_error::RunError;
+use crate::streams::text::Text;
 use crate::streams::{Sink, Source};
 use crate::zones::ZoneFiles;
 use cal_datetime::PlainDateTime;
@@ -59,6 +60,7 @@ pub fn perform<R: Source, W: Sink, E: Sink>(
     ensures once { (filter : Filter) (text : List ℕ) → GivesCommandOnce arguments.entry now.now files.now filter text
         → (reader.new ≡ reader.old) × ((outcome : Result Unit RunError) × (rest : Option (List ℕ))
         × IsRunResult filter outcome (Some text) rest (W.contents writer.old) (W.contents writer.new)
+        × (has_read_failure outcome ≡ false)
         × Writes W.write_gives writer.old (write_failure outcome) writer.new
         × ReportsOutcome outcome result (E.contents errors.old) (E.contents errors.new)) }
     ensures named { (filter : Filter) (field : Field)
@@ -78,9 +80,10 @@ pub fn perform<R: Source, W: Sink, E: Sink>(
         × EndsNamed filter field (Some text)
         (λ own outcome. IsRunResult own outcome (Some text) rest
         (W.contents writer.old) (W.contents writer.new)
+        × (has_read_failure outcome ≡ false)
         × Writes W.write_gives writer.old (write_failure outcome) writer.new
         × ReportsOutcome outcome result (E.contents errors.old) (E.contents errors.new))
-        (λ failed words. (writer.new ≡ writer.old) × (result.status ≡ 2)
+        (λ failed words. (failed ≡ false) × (writer.new ≡ writer.old) × (result.status ≡ 2)
         × WritesPage words result.reported (E.contents errors.old) (E.contents errors.new))) }
     ensures list { (listing : Listing) → GivesCommand arguments.entry now.now files.now (Command.Dates listing)
         → (reader.new ≡ reader.old) × ((outcome : Result Unit RunError)
@@ -152,11 +155,12 @@ fn run_once<W: Sink>(
 ) -> Result<(), RunError>
     ensures ended { (rest : Option (List ℕ)) × IsRunResult filter.entry result
         (Some (given_text now filter.entry arguments.now)) rest (W.contents writer.old) (W.contents writer.new) }
+    ensures read { has_read_failure result ≡ false }
     ensures writes { Writes W.write_gives writer.old (write_failure result) writer.new }
 {
     let word = given_word(arguments);
     let written = clock_text(word, &filter.clock, now);
-    let mut text = text_or(&written, word);
+    let mut text = Text::new(text_or(&written, word));
     run(filter, &mut text, writer)
 }
 
@@ -173,15 +177,16 @@ fn run_named_once<W: Sink, E: Sink>(
         × EndsNamed filter.entry field (Some (given_text now filter.entry arguments.now))
         (λ own outcome. IsRunResult own outcome (Some (given_text now filter.entry arguments.now)) rest
         (W.contents writer.old) (W.contents writer.new)
+        × (has_read_failure outcome ≡ false)
         × Writes W.write_gives writer.old (write_failure outcome) writer.new
         × ReportsOutcome outcome result (E.contents errors.old) (E.contents errors.new))
-        (λ failed words. (writer.new ≡ writer.old) × (result.status ≡ 2)
+        (λ failed words. (failed ≡ false) × (writer.new ≡ writer.old) × (result.status ≡ 2)
         × WritesPage words result.reported (E.contents errors.old) (E.contents errors.new)) }
     ensures reported { Writes E.write_gives errors.old (write_failure result.reported) errors.new }
 {
     let word = given_word(arguments);
     let written = clock_text(word, &filter.clock, now);
-    let mut text = text_or(&written, word);
+    let mut text = Text::new(text_or(&written, word));
     run_named(filter, field, &mut text, writer, errors)
 }
 

@@ -81,10 +81,10 @@ fn read_header<R: Source>(input: &mut Input, reader: &mut R) -> Result<u64, RunE
             Ok(count) => count,
             Err(error) => return Err(error),
         };
-        reads -= 1;
         if count == 0 {
             return Ok(reads);
         }
+        reads -= 1;
         if has_header(input.as_bytes()) {
             return Ok(reads);
         }
