@@ -3,6 +3,7 @@ pub mod Quotes
 pub mod Calls
 pub mod Cuts
 pub mod Indices
+pub mod Joins
 pub mod Ends
 pub mod Known
 pub mod Lacks
