@@ -1,7 +1,10 @@
 -- Several texts as one input, each with the line feed that its last line may lack.
-use Rattle.std.specs.Prelude.{◌≡◌, ℕ, Bool, true, false, not, ⊤, List, [], ◌∷◌, ◌++◌, Option, Some, None, if◌then◌else◌, codes}
+use Rattle.std.specs.Prelude.{◌≡◌, ℕ, Bool, true, false, not, ⊤, List, [], ◌∷◌, ◌++◌, map, Option, Some, None, Result, if◌then◌else◌, codes}
+use Rattle.caldate_run.specs.Excerpts.{printable}
 use Rattle.caldate_run.specs.Lines.{is_end}
 use Rattle.caldate_run.specs.ReadZoneErrors.{file_words}
+use Rattle.caldate_run.specs.Runs.{WritesPage}
+use Rattle.caldate_run.specs.declared.run.run_error.RunError.{RunError}
 use Rattle.caldate_run.specs.declared.zones.read_zone_error.FileError.{FileError}
 
 -- A line is unfinished after these bytes, if it was so or not before them.
@@ -35,5 +38,10 @@ IsLast None = ⊤
 IsLast (Some texts) = texts ≡ []
 
 -- ---- a file that can't be read
+-- Its whole name is shown, with `?` for each byte that doesn't print.
 abbrev pub file_message : List ℕ → FileError → List ℕ
-file_message name error = codes "caldate: cannot read '" ++ name ++ codes "': " ++ file_words error ++ 10 ∷ []
+file_message name error = codes "caldate: cannot read '" ++ map printable name ++ codes "': " ++ file_words error ++ 10 ∷ []
+
+-- Standard error took this message, or after a failed write a beginning of it that is not all.
+abbrev pub ReportsFile : List ℕ → FileError → Option (List ℕ) → Option (List ℕ) → Type 0
+ReportsFile name error old new = (outcome : Result Unit RunError) × WritesPage (file_message name error) outcome old new

@@ -1,13 +1,16 @@
 //! The files that the arguments name.
-ghost use Rattle.std.specs.Prelude.{◌≡◌, ◌≤◌, [], false, true, None, length, Result, if◌then◌else◌};
+ghost use Rattle.std.specs.Prelude.{◌≡◌, ◌+◌, ◌≤◌, ◌++◌, ℕ, List, [], false, true, map, None, Ok, Err, length, IfErr, IfOk, OnOk, if◌then◌else◌};
+ghost use Rattle.std.specs.IoError.{error_kind};
 ghost use Rattle.caldate_run.specs.Calls.{Writes, write_failure};
-ghost use Rattle.caldate_run.specs.Files.{file_message};
+ghost use Rattle.caldate_run.specs.Excerpts.{printable};
+ghost use Rattle.caldate_run.specs.Files.{ReportsFile, file_message};
 ghost use Rattle.caldate_run.specs.Runs.{WritesPage};
-ghost use Rattle.caldate_run.specs.declared.run.run_error.RunError.{RunError};
+ghost use Rattle.caldate_run.specs.declared.zones.read_zone_error.FileError.{FileError};
 
 use crate::files::Texts;
 use crate::output::buffer::Buffer;
 use crate::output::write_all;
+use crate::run::excerpt::printable;
 use crate::run::run_error::RunError;
 use crate::streams::Sink;
 use crate::zones::read_zone_error::{FileError, file_words};
@@ -19,6 +22,9 @@ use std::{fs, str};
 
 /// The maximum length of a name, in bytes.
 const MAX_NAME_BYTES: usize = 4096;
+
+/// What is shown for a longer name.
+const LONG_NAME: &[u8] = b"...";
 
 /// The status if a file can't be read.
 const UNREADABLE_FILE: u8 = 2;
@@ -71,15 +77,29 @@ impl<'a, S: Env + Files, R: Read + Drop, E: Sink + Drop> NamedFiles<'a, S, R, E>
         }
     }
 
-    /// Opens the file with this name.
+    /// Opens the file with this name, or writes why it can't.
     fn open(&mut self, name: &[u8])
         requires { length name.now ≤ 4096 }
+        ensures kept { self.old.has_failed ≡ true → self.new.has_failed ≡ true }
     {
         if name == b"-".as_slice() {
             self.current = Current::Input;
             return;
         }
-        match open_file(self.system, name) {
+        let opened = open_file(self.system, name);
+        self.go_to(name, opened);
+    }
+
+    /// Makes this file the current one, or writes why it can't be opened.
+    fn go_to(&mut self, name: &[u8], opened: Result<S::File, FileError>)
+        requires { length name.now ≤ 4096 }
+        ensures opened { OnOk opened ((self.new.has_failed ≡ self.old.has_failed)
+            × (self.new.errors ≡ self.old.errors)) }
+        ensures failed { IfErr opened (λ error. (self.new.has_failed ≡ true)
+            × ReportsFile name.now error
+            (E.contents self.old.errors) (E.contents self.new.errors)) }
+    {
+        match opened {
             Ok(file) => self.current = Current::File(file),
             Err(error) => self.fail(name, error),
         }
@@ -89,8 +109,7 @@ impl<'a, S: Env + Files, R: Read + Drop, E: Sink + Drop> NamedFiles<'a, S, R, E>
     fn fail(&mut self, name: &[u8], error: FileError)
         requires { length name.now ≤ 4096 }
         ensures failed { self.new.has_failed ≡ true }
-        ensures words { (outcome : Result Unit RunError)
-            × WritesPage (file_message name.now error) outcome
+        ensures words { ReportsFile name.now error
             (E.contents self.old.errors) (E.contents self.new.errors) }
     {
         self.current = Current::Nothing;
@@ -99,8 +118,35 @@ impl<'a, S: Env + Files, R: Read + Drop, E: Sink + Drop> NamedFiles<'a, S, R, E>
         let _ = report_file_error(name, error, &mut self.errors);
     }
 
+    /// Returns the result of a read of the current file. A failed read ends the file, and this writes
+    /// why, unless the read was only interrupted.
+    fn settle(&mut self, given: io::Result<usize>) -> io::Result<usize>
+        ensures ok { IfOk given (λ n. (result ≡ Ok n)
+            × (self.new.has_failed ≡ self.old.has_failed) × (self.new.errors ≡ self.old.errors)) }
+        ensures interrupted { IfErr given (λ error. error_kind error ≡ ErrorKind.Interrupted
+            → (result ≡ Err error)
+            × (self.new.has_failed ≡ self.old.has_failed) × (self.new.errors ≡ self.old.errors)) }
+        ensures failed { IfErr given (λ error. (error_kind error ≡ ErrorKind.Interrupted → ⊥)
+            → (result ≡ Ok 0) × (self.new.has_failed ≡ true)
+            × ((name : List ℕ) × ((error : FileError) × ReportsFile name error
+            (E.contents self.old.errors) (E.contents self.new.errors)))) }
+    {
+        match given {
+            Ok(count) => Ok(count),
+            Err(error) if error.kind() == ErrorKind::Interrupted => Err(error),
+            Err(error) => {
+                self.fail_current(file_error(&error));
+                Ok(0)
+            }
+        }
+    }
+
     /// Writes why the current file can't be read.
-    fn fail_current(&mut self, error: FileError) {
+    fn fail_current(&mut self, error: FileError)
+        ensures failed { self.new.has_failed ≡ true }
+        ensures words { (name : List ℕ) × ReportsFile name error
+            (E.contents self.old.errors) (E.contents self.new.errors) }
+    {
         let mut name = [0u8; MAX_NAME_BYTES];
         match self.system.arg(self.next.saturating_sub(1), &mut name) {
             Ok(length) => self.fail(&name[..length], error),
@@ -116,17 +162,11 @@ impl<S: Env + Files, R: Read + Drop, E: Sink + Drop> Texts for NamedFiles<'_, S,
 
     fn read(&mut self, buffer: &mut [u8]) -> io::Result<usize> {
         let result = match &mut self.current {
-            Current::Nothing => return Ok(0),
+            Current::Nothing => Ok(0),
             Current::Input => self.input.read(buffer),
             Current::File(file) => file.read(buffer),
         };
-        match result {
-            Err(error) if error.kind() != ErrorKind::Interrupted => {
-                self.fail_current(file_error(&error));
-                Ok(0)
-            }
-            result => result,
-        }
+        self.settle(result)
     }
 
     fn go_on(&mut self) -> bool {
@@ -139,7 +179,7 @@ impl<S: Env + Files, R: Read + Drop, E: Sink + Drop> Texts for NamedFiles<'_, S,
             }
             Err(FillError::TooLong) => {
                 self.next = self.next.saturating_add(1);
-                self.fail(b"", FileError::TooLong);
+                self.fail(LONG_NAME, FileError::TooLong);
                 true
             }
             Err(FillError::NotPresent) => false,
@@ -179,8 +219,19 @@ fn push_file_message(line: &mut Buffer, name: &[u8], error: FileError)
     ensures { line.new ≡ file_message name.now error }
 {
     line.push(b"caldate: cannot read '");
-    line.push(name);
+    push_name(line, name);
     line.push(b"': ");
     line.push(file_words(error));
     line.push(b"\n");
+}
+
+/// Appends the name, with `?` for each byte that does not print.
+fn push_name(line: &mut Buffer, name: &[u8])
+    requires { length line.old + length name.now ≤ 65000 }
+    ensures text { line.new ≡ line.old ++ map printable name.now }
+    ensures longer { length line.new ≡ length line.old + length name.now }
+{
+    for i in 0..name.len() {
+        line.push(&[printable(name[i])]);
+    }
 }
