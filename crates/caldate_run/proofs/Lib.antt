@@ -14,6 +14,7 @@ pub mod Numbers
 pub mod RecordFields
 pub mod NewFields
 pub mod Replied
+pub mod Reported
 pub mod Steps
 pub mod OneCount
 pub mod OneAnswer

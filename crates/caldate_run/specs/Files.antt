@@ -1,5 +1,5 @@
 -- Several texts as one input, each with the line feed that its last line may lack.
-use Rattle.std.specs.Prelude.{◌≡◌, ℕ, Bool, true, false, not, ⊤, List, [], ◌∷◌, ◌++◌, map, Option, Some, None, Result, if◌then◌else◌, codes}
+use Rattle.std.specs.Prelude.{◌≡◌, ◌⊎◌, ℕ, Bool, true, false, not, ⊤, List, [], ◌∷◌, ◌++◌, map, Option, Some, None, Result, if◌then◌else◌, codes}
 use Rattle.caldate_run.specs.Excerpts.{printable}
 use Rattle.caldate_run.specs.Lines.{is_end}
 use Rattle.caldate_run.specs.ReadZoneErrors.{file_words}
@@ -37,6 +37,12 @@ abbrev pub IsLast : Option (List (List ℕ)) → Type 0
 IsLast None = ⊤
 IsLast (Some texts) = texts ≡ []
 
+-- Steps of this kind lead from one state to another.
+module _ {S : Type 0} (step : S → S → Type 0) where
+  pub data Steps : S → S → Type 0 where
+    none : (s : S) → Steps s s
+    some : (s t end : S) → step s t → Steps t end → Steps s end
+
 -- ---- a file that can't be read
 -- Its whole name is shown, with `?` for each byte that doesn't print.
 abbrev pub file_message : List ℕ → FileError → List ℕ
@@ -45,3 +51,7 @@ file_message name error = codes "caldate: cannot read '" ++ map printable name +
 -- Standard error took this message, or after a failed write a beginning of it that is not all.
 abbrev pub ReportsFile : List ℕ → FileError → Option (List ℕ) → Option (List ℕ) → Type 0
 ReportsFile name error old new = (outcome : Result Unit RunError) × WritesPage (file_message name error) outcome old new
+
+-- From one state to another, a file failed, or nothing was written to standard error.
+abbrev pub FailsOrKeeps : {E : Type 0} → Bool → Bool → E → E → Type 0
+FailsOrKeeps failed fails old new = (fails ≡ true) ⊎ (fails ≡ failed) × (new ≡ old)

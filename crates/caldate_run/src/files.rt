@@ -1,9 +1,9 @@
 //! Several files as one input.
-ghost use Rattle.std.specs.Prelude.{◌≡◌, false, true, ℕ, List, [], Bool, Option, Some, ⊤, Result};
+ghost use Rattle.std.specs.Prelude.{◌≡◌, false, true, ℕ, List, [], Bool, Option, Some, Result};
 ghost use Rattle.std.specs.Io.{ReadsAtMost};
 ghost use Rattle.std.specs.Io.KnownBytes.{ReadConsumes};
 ghost use Rattle.std.specs.declared.io.Error.{Error};
-ghost use Rattle.caldate_run.specs.Files.{IsLast, IsNext, joined, joined_rest};
+ghost use Rattle.caldate_run.specs.Files.{IsLast, IsNext, Steps, joined, joined_rest};
 
 pub mod named_files;
 
@@ -18,18 +18,23 @@ pub trait Texts {
     // The texts after it, if they are known.
     ghost later: { Self → Option (List (List ℕ)) };
 
+    // A read or `go_on` may lead from these texts to those.
+    ghost leads: { Self → Self → Type 0 };
+
     /// Reads bytes of the current text into the front of the buffer, and returns their number: 0 at
     /// the end of the text.
     fn read(&mut self, buffer: &mut [u8]) -> io::Result<usize>
         ensures bound { ReadsAtMost result buffer.new }
         ensures bytes { ReadConsumes (rest self.old) (rest self.new) result buffer.new }
-        ensures later { later self.new ≡ later self.old };
+        ensures later { later self.new ≡ later self.old }
+        ensures leads { leads self.old self.new };
 
     /// Goes on to the next text, and returns false if there is none.
     fn go_on(&mut self) -> bool
         ensures next { result ≡ true → IsNext (later self.old) (rest self.new) (later self.new) }
         ensures last { result ≡ false → IsLast (later self.old)
-            × (rest self.new ≡ rest self.old) × (later self.new ≡ later self.old) };
+            × (rest self.new ≡ rest self.old) × (later self.new ≡ later self.old) }
+        ensures leads { leads self.old self.new };
 }
 
 /// A reader of texts as one input. A last line of a text gets a line feed if it has none.
@@ -57,7 +62,7 @@ impl<T: Texts> Joined<T> {
 impl<T: Texts> Source for Joined<T> {
     ghost remaining = { λ joined. joined_rest joined.is_unfinished (T.rest joined.texts) (T.later joined.texts) };
 
-    ghost read_gives = { λ old result new. ⊤ };
+    ghost read_gives = { λ old result new. Steps T.leads old.texts new.texts };
 
     fn read(&mut self, buffer: &mut [u8]) -> io::Result<usize> {
         if buffer.is_empty() {

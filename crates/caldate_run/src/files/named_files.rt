@@ -3,7 +3,7 @@ ghost use Rattle.std.specs.Prelude.{◌≡◌, ◌+◌, ◌≤◌, ◌++◌, ℕ
 ghost use Rattle.std.specs.IoError.{error_kind};
 ghost use Rattle.caldate_run.specs.Calls.{Writes, write_failure};
 ghost use Rattle.caldate_run.specs.Excerpts.{printable};
-ghost use Rattle.caldate_run.specs.Files.{ReportsFile, file_message};
+ghost use Rattle.caldate_run.specs.Files.{FailsOrKeeps, ReportsFile, file_message};
 ghost use Rattle.caldate_run.specs.Runs.{WritesPage};
 ghost use Rattle.caldate_run.specs.declared.zones.read_zone_error.FileError.{FileError};
 
@@ -80,7 +80,8 @@ impl<'a, S: Env + Files, R: Read + Drop, E: Sink + Drop> NamedFiles<'a, S, R, E>
     /// Opens the file with this name, or writes why it can't.
     fn open(&mut self, name: &[u8])
         requires { length name.now ≤ 4096 }
-        ensures kept { self.old.has_failed ≡ true → self.new.has_failed ≡ true }
+        ensures leads { FailsOrKeeps self.old.has_failed self.new.has_failed
+            self.old.errors self.new.errors }
     {
         if name == b"-".as_slice() {
             self.current = Current::Input;
@@ -159,6 +160,8 @@ impl<S: Env + Files, R: Read + Drop, E: Sink + Drop> Texts for NamedFiles<'_, S,
     ghost rest = { λ files. None };
 
     ghost later = { λ files. None };
+
+    ghost leads = { λ old new. FailsOrKeeps old.has_failed new.has_failed old.errors new.errors };
 
     fn read(&mut self, buffer: &mut [u8]) -> io::Result<usize> {
         let result = match &mut self.current {
