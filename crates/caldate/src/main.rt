@@ -1,11 +1,12 @@
-//! Answers each line of standard input, a date or a moment, with one line on standard output.
+//! Answers each line of standard input or of files, a date or a moment, with one line on standard
+//! output.
 #![tactic(auto)]
 
 use caldate_run::args::arguments::{MAX_BYTES, join};
 use caldate_run::clock::read_clock;
 use caldate_run::files::Joined;
 use caldate_run::files::named_files::NamedFiles;
-use caldate_run::program::perform;
+use caldate_run::program::{perform, perform_on_files};
 use caldate_run::zones::ZoneFiles;
 use caldate_run::zones::zone_source::{MAX_FILE_BYTES, MAX_PATH_BYTES, find_folder, read_missing};
 use std::io;
@@ -46,7 +47,7 @@ fn main(rt: HostRuntime) -> ExitCode {
         let ending = perform(words, &now, &files, &mut reader, &mut writer, &mut errors);
         return ExitCode::from(ending.status);
     };
-    let mut reader = Joined::new(NamedFiles::new(&rt, first, rt.reader(), rt.stderr()));
-    let ending = perform(words, &now, &files, &mut reader, &mut writer, &mut errors);
-    ExitCode::from(reader.texts.status(ending.status))
+    let mut input = Joined::new(NamedFiles::new(&rt, first, rt.reader(), rt.stderr()));
+    let ending = perform_on_files(words, &now, &files, &mut input, &mut writer, &mut errors);
+    ExitCode::from(ending.status)
 }

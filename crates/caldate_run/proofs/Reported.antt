@@ -1,7 +1,7 @@
 -- The steps of the files in a run.
-use Rattle.std.proofs.Common.{◌≡◌, ◌⊎◌, ℕ, Bool, true, Result, refl, ◌∙◌, inl, inr}
+use Rattle.std.proofs.Common.{◌≡◌, ◌⊎◌, ℕ, Bool, true, false, Result, refl, ◌∙◌, inl, inr}
 use Rattle.std.specs.declared.io.Error.{Error}
-use Rattle.caldate_run.specs.Calls.{Gives, Reads}
+use Rattle.caldate_run.specs.Calls.{Gives, Reads, most_reads}
 use Rattle.caldate_run.specs.Calls.Gives.{ok, fails, again}
 use Rattle.caldate_run.specs.Calls.Reads.{no_more, given, ended, failed, too_many}
 use Rattle.caldate_run.specs.Files.{FailsOrKeeps, Steps}
@@ -39,3 +39,7 @@ pub fails_or_keeps : {S E : Type 0} (flag : S → Bool) (errors : S → E) (s en
     → Steps (λ old new. FailsOrKeeps (flag old) (flag new) (errors old) (errors new)) s end → FailsOrKeeps (flag s) (flag end) (errors s) (errors end)
 fails_or_keeps flag errors s end (none _) = inr (refl, refl)
 fails_or_keeps flag errors s end (some _ t _ step more) = both _ _ _ _ _ _ step (fails_or_keeps flag errors t end more)
+
+-- nothing is read
+pub no_reads : {S : Type 0} (read : S → Result ℕ Error → S → Type 0) (s : S) → (fault : Bool) × Reads read most_reads s fault s
+no_reads read s = (false, no_more most_reads s)

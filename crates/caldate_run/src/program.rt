@@ -1,12 +1,14 @@
 //! The program, from its arguments to its status.
-ghost use Rattle.std.specs.Prelude.{◌≡◌, ℕ, false, List, Option, Some, None, Result, Ok, Err, unwrap_or};
+ghost use Rattle.std.specs.Prelude.{◌≡◌, ℕ, Bool, false, List, Option, Some, None, Result, Ok, Err, unwrap_or, if◌then◌else◌};
 ghost use Rattle.caldate_run.specs.Calls.{Reads, Writes, has_read_failure, most_reads, write_failure};
 ghost use Rattle.caldate_run.specs.Ending.{ReportsOutcome};
+ghost use Rattle.caldate_run.specs.Files.{FailsOrKeeps};
 ghost use Rattle.caldate_run.specs.Header.{EndsNamed};
 ghost use Rattle.caldate_run.specs.Lists.{Lists};
 ghost use Rattle.caldate_run.specs.Program.{GivesCommand, GivesCommandOnce, GivesNamedOnce, HasUsageMessage, given_text, given_word};
 ghost use Rattle.caldate_run.specs.Recurring.{ListsOccurrences};
 ghost use Rattle.caldate_run.specs.Runs.{IsRunResult, WritesPage};
+ghost use Rattle.caldate_run.specs.declared.run.ending.Ending.{Ending};
 ghost use Rattle.caldate_run.specs.declared.run.run_error.RunError.{RunError};
 ghost use Rattle.caldate_run.specs.declared.request.Field.{Field};
 ghost use Rattle.caldate_run.specs.declared.request.Filter.{Filter};
@@ -18,6 +20,8 @@ use crate::args::clock_words::clock_text;
 use crate::args::parse_args;
 use crate::args::usage_message::{TOO_LONG, report_usage_error};
 use crate::args::words::word_at;
+use crate::files::Joined;
+use crate::files::named_files::NamedFiles;
 use crate::help::{HELP, VERSION};
 use crate::list::list;
 use crate::list::recurring::list_occurrences;
@@ -32,6 +36,9 @@ use crate::streams::{Sink, Source};
 use crate::zones::ZoneFiles;
 use cal_datetime::PlainDateTime;
 use cal_time::ShortText;
+use std::env::Env;
+use std::fs::Files;
+use std::io::Read;
 
 /// The status for invalid arguments.
 const INVALID_ARGUMENTS: u8 = 2;
@@ -108,6 +115,7 @@ pub fn perform<R: Source, W: Sink, E: Sink>(
     ensures usage_error { (words : List ℕ) → HasUsageMessage arguments.entry now.now files.now words
         → (reader.new ≡ reader.old) × (writer.new ≡ writer.old) × (result.status ≡ 2)
         × WritesPage words result.reported (E.contents errors.old) (E.contents errors.new) }
+    ensures reads { (failed : Bool) × Reads R.read_gives most_reads reader.old failed reader.new }
     ensures reported { Writes E.write_gives errors.old (write_failure result.reported) errors.new }
 {
     let Some(arguments) = arguments else {
@@ -143,6 +151,34 @@ pub fn perform<R: Source, W: Sink, E: Sink>(
             status: INVALID_ARGUMENTS,
             reported: report_usage_error(arguments, files, usage_error, errors),
         },
+    }
+}
+
+/// Performs the command as `perform` does, and reads the files as one input. Returns the ending of
+/// `perform`, with status 2 if a file couldn't be read.
+pub fn perform_on_files<S: Env + Files, I: Read + Drop, F: Sink + Drop, W: Sink, E: Sink>(
+    arguments: Option<&[u8]>,
+    now: &Option<PlainDateTime>,
+    zones: &ZoneFiles<'_>,
+    files: &mut Joined<NamedFiles<'_, S, I, F>>,
+    writer: &mut W,
+    errors: &mut E,
+) -> Ending
+    ensures failed { FailsOrKeeps files.old.texts.has_failed files.new.texts.has_failed
+        files.old.texts.errors files.new.texts.errors }
+    ensures status { (own : Ending) × (result.reported ≡ own.reported)
+        × (result.status ≡ (if files.new.texts.has_failed then 2 else own.status))
+        × ((filter : Filter) → GivesCommand arguments.entry now.now zones.now (Command.Lines filter)
+        → (outcome : Result Unit RunError)
+        × IsRunResult filter outcome None None (W.contents writer.old) (W.contents writer.new)
+        × Writes W.write_gives writer.old (write_failure outcome) writer.new
+        × ReportsOutcome outcome own (E.contents errors.old) (E.contents errors.new)) }
+    ensures reported { Writes E.write_gives errors.old (write_failure result.reported) errors.new }
+{
+    let ending = perform(arguments, now, zones, files, writer, errors);
+    Ending {
+        status: files.texts.status(ending.status),
+        reported: ending.reported,
     }
 }
 

@@ -40,6 +40,7 @@ pub fn run_named<R: Source, W: Sink, E: Sink>(
         (λ failed words. Reads R.read_gives most_reads reader.old failed reader.new
         × (writer.new ≡ writer.old) × (result.status ≡ 2)
         × WritesPage words result.reported (E.contents errors.old) (E.contents errors.new)) }
+    ensures reads { (failed : Bool) × Reads R.read_gives most_reads reader.old failed reader.new }
     ensures reported { Writes E.write_gives errors.old (write_failure result.reported) errors.new }
 {
     let mut input = Input::new();
