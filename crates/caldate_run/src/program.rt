@@ -48,7 +48,7 @@ const INVALID_ARGUMENTS: u8 = 2;
 /// Returns the status and the result of writing to standard error. If the arguments are invalid, or
 /// `None` because they are too long, this only writes one line to standard error, and the status is
 /// 2.
-#[tactic(auto, using(crate::proofs::Calls::sent_all))]
+#[tactic(auto, using(crate::proofs::Calls::sent_all, crate::proofs::Reported::no_reads))]
 pub fn perform<R: Source, W: Sink, E: Sink>(
     arguments: Option<&[u8]>,
     now: &Option<PlainDateTime>,

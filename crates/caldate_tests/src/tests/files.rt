@@ -1,5 +1,5 @@
 //! Several texts as one input.
-ghost use Rattle.std.specs.Prelude.{◌≡◌, ℕ, List, Some, map};
+ghost use Rattle.std.specs.Prelude.{◌≡◌, ℕ, List, Some, map, ⊤};
 ghost use Rattle.caldate_run.specs.Files.{joined};
 
 use caldate_run::files::{Joined, Texts};
@@ -19,6 +19,8 @@ impl Texts for Slices<'_> {
     ghost rest = { λ slices. Some slices.rest.now };
 
     ghost later = { λ slices. Some (map (λ text. text.now) slices.later.now) };
+
+    ghost leads = { λ old new. ⊤ };
 
     fn read(&mut self, buffer: &mut [u8]) -> io::Result<usize> {
         Read::read(&mut self.rest, buffer)

@@ -1,3 +1,4 @@
+use Rattle.std.proofs.Common.{refl}
 use Rattle.caldate_run.proofs.Reported.{fails_or_keeps, steps_read}
 use Rattle.caldate_run.proofs.program.perform_on_files.Goals as goal
 
@@ -7,4 +8,9 @@ returns-clause-failed g c =
     (steps_read (λ reader. reader.texts) _ _ c.args.files.now c.perform-ending.new.reader _ c.perform-ending.ensures.reads.1)
 
 pub returns-clause-status : goal.returns-clause-status
-returns-clause-status g c = ?
+returns-clause-status g c = (
+  c.perform-ending.result,
+  refl,
+  c.status.ensures,
+  λ filter given. let lines = c.perform-ending.ensures.lines filter given in (lines.0, lines.1, lines.3, lines.4),
+)
