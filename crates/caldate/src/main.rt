@@ -1,9 +1,12 @@
-//! Answers each line of standard input, a date or a moment, with one line on standard output.
+//! Answers each line of standard input or of files, a date or a moment, with one line on standard
+//! output.
 #![tactic(auto)]
 
 use caldate_run::args::arguments::{MAX_BYTES, join};
 use caldate_run::clock::read_clock;
-use caldate_run::program::perform;
+use caldate_run::files::Joined;
+use caldate_run::files::named_files::NamedFiles;
+use caldate_run::program::{perform, perform_on_files};
 use caldate_run::zones::ZoneFiles;
 use caldate_run::zones::zone_source::{MAX_FILE_BYTES, MAX_PATH_BYTES, find_folder, read_missing};
 use std::io;
@@ -13,10 +16,8 @@ use std::process::ExitCode;
 fn main(rt: HostRuntime) -> ExitCode {
     let now = read_clock(&rt);
     let mut arguments = [0u8; MAX_BYTES];
-    let joined = match join(&rt, &mut arguments) {
-        Some(length) => Some(&arguments[..length]),
-        None => None,
-    };
+    let joined = join(&rt, &mut arguments);
+    let words = joined.map(|joined| joined.words);
     let mut folder = [0u8; MAX_PATH_BYTES];
     let mut first = [0u8; MAX_FILE_BYTES];
     let mut second = [0u8; MAX_FILE_BYTES];
@@ -27,27 +28,26 @@ fn main(rt: HostRuntime) -> ExitCode {
         first: None,
         second: None,
     };
-    if let Some(arguments) = joined {
+    if let Some(words) = words {
         let one = ZoneFiles {
             folder,
-            first: read_missing(&rt, arguments, &files, &mut first),
+            first: read_missing(&rt, words, &files, &mut first),
             second: None,
         };
         files = ZoneFiles {
             folder,
             first: one.first,
-            second: read_missing(&rt, arguments, &one, &mut second),
+            second: read_missing(&rt, words, &one, &mut second),
         };
     }
-    let mut reader = rt.reader();
     let mut writer = io::writer(&rt);
-    let ending = perform(
-        joined,
-        &now,
-        &files,
-        &mut reader,
-        &mut writer,
-        &mut rt.stderr(),
-    );
+    let mut errors = rt.stderr();
+    let Some(first) = joined.and_then(|joined| joined.first_file) else {
+        let mut reader = rt.reader();
+        let ending = perform(words, &now, &files, &mut reader, &mut writer, &mut errors);
+        return ExitCode::from(ending.status);
+    };
+    let mut input = Joined::new(NamedFiles::new(&rt, first, rt.reader(), rt.stderr()));
+    let ending = perform_on_files(words, &now, &files, &mut input, &mut writer, &mut errors);
     ExitCode::from(ending.status)
 }

@@ -1,10 +1,10 @@
 -- How the calls of a run follow one another.
-use Rattle.std.proofs.Common.{◌≡◌, ℕ, ◌+◌, Bool, true, false, List, [], ◌∷◌, length, Option, None, Some, Err, Ok, Result, arith, refl, sym, subst}
+use Rattle.std.proofs.Common.{◌≡◌, ℕ, ◌+◌, ◌<◌, Bool, true, false, List, [], ◌∷◌, length, Option, None, Some, Err, Ok, Result, arith, refl, sym, subst}
 use Rattle.std.specs.Prelude.{IfErr, IsErrAnd}
 use Rattle.std.specs.declared.io.Error.{Error}
 use Rattle.std.specs.declared.io.ErrorKind.{ErrorKind}
 use Rattle.caldate_run.specs.Calls.{Gives, Reads, Sends, Writes, has_read_failure, is_of_read, most_retries}
-use Rattle.caldate_run.specs.Calls.Reads.{given, failed as fails}
+use Rattle.caldate_run.specs.Calls.Reads.{given, ended, failed as fails}
 use Rattle.caldate_run.specs.Calls.Writes.{no_more, sent, failed}
 use Rattle.caldate_run.specs.Calls.Sends.{all}
 use Rattle.caldate_run.specs.Runs.{IsEarly, IsOfWrite}
@@ -34,9 +34,13 @@ writes_then write s t end outcome (no_more _) more = more
 writes_then write s t end outcome (sent _ mid _ bytes _ sends others) more = sent s mid end bytes outcome sends (writes_then write mid t end outcome others more)
 
 -- ---- reads, of which one more is left than after it
-pub reads_given : {S : Type 0} (read : S → Result ℕ Error → S → Type 0) (most left n : ℕ) (s t end : S) (outcome : Bool) → most ≡ left + 1
+pub reads_given : {S : Type 0} (read : S → Result ℕ Error → S → Type 0) (most left n : ℕ) (s t end : S) (outcome : Bool) → most ≡ left + 1 → 0 < n
     → Gives read most_retries s (Ok n) t → Reads read left t outcome end → Reads read most s outcome end
-reads_given read most left n s t end outcome e gives more = subst (λ most. Reads read most s outcome end) (sym e) (given left n s t end outcome gives more)
+reads_given read most left n s t end outcome e some gives more = subst (λ most. Reads read most s outcome end) (sym e) (given left n s t end outcome some gives more)
+
+pub reads_ended : {S : Type 0} (read : S → Result ℕ Error → S → Type 0) (most n : ℕ) (s t end : S) (outcome : Bool) → n ≡ 0
+    → Gives read most_retries s (Ok n) t → Reads read most t outcome end → Reads read most s outcome end
+reads_ended read most n s t end outcome none gives more = ended most s t end outcome (subst (λ n. Gives read most_retries s (Ok n) t) none gives) more
 
 pub reads_failed : {S : Type 0} (read : S → Result ℕ Error → S → Type 0) (most left : ℕ) (s end : S) (error : Error) → most ≡ left + 1
     → Gives read most_retries s (Err error) end → Reads read most s true end

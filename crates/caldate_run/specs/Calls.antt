@@ -11,7 +11,7 @@ use Rattle.caldate_run.specs.declared.run.run_error.RunError.TheVariants.{Read, 
 abbrev pub most_retries : ℕ
 most_retries = 4096
 
--- The maximum number of reads in a run.
+-- The maximum number of reads in a run that give bytes.
 abbrev pub most_reads : ℕ
 most_reads = 2 ^ 64 - 1
 
@@ -51,11 +51,12 @@ module _ {S : Type 0} (read : S → Result ℕ Error → S → Type 0) where
     again : (retries : ℕ) (s t end : S) (error : Error) (outcome : Result ℕ Error) → error_kind error ≡ Interrupted → read s (Err error) t
         → Gives retries t outcome end → Gives (retries + 1) s outcome end
 
-  -- All reads of a run, at most `most`. The flag says that one failed, after which nothing is read,
-  -- or that one more was needed.
+  -- All reads of a run, of which at most `most` give bytes. The flag says that one failed, after
+  -- which nothing is read, or that one more was needed.
   pub data Reads : ℕ → S → Bool → S → Type 0 where
     no_more : (most : ℕ) (s : S) → Reads most s false s
-    given : (most n : ℕ) (s t end : S) (failed : Bool) → Gives most_retries s (Ok n) t → Reads most t failed end → Reads (most + 1) s failed end
+    given : (most n : ℕ) (s t end : S) (failed : Bool) → 0 < n → Gives most_retries s (Ok n) t → Reads most t failed end → Reads (most + 1) s failed end
+    ended : (most : ℕ) (s t end : S) (failed : Bool) → Gives most_retries s (Ok 0) t → Reads most t failed end → Reads most s failed end
     failed : (most : ℕ) (s end : S) (error : Error) → Gives most_retries s (Err error) end → Reads (most + 1) s true end
     too_many : (s : S) → Reads 0 s true s
 
@@ -77,3 +78,8 @@ write_failure (Err error) = kind_of error
 abbrev pub has_read_failure : {T : Type 0} → Result T RunError → Bool
 has_read_failure (Ok value) = false
 has_read_failure (Err error) = is_of_read error
+
+-- A read of a text in memory takes bytes from its front, and never fails.
+abbrev pub Takes : List ℕ → Result ℕ Error → List ℕ → Type 0
+Takes old (Ok n) new = length old ≡ n + length new
+Takes old (Err error) new = ⊥

@@ -7,6 +7,7 @@ pub mod UsageMessages
 pub mod Counts
 pub mod Ending
 pub mod Fields
+pub mod Files
 pub mod Forms
 pub mod Found
 pub mod Header

@@ -533,6 +533,14 @@ options_after meanings (Invalid what) at words = Err (usage_error_at at what)
 abbrev pub asks_for_help : List ℕ → Bool
 asks_for_help word = bytes_eq word (codes "--help") || bytes_eq word (codes "-h") || bytes_eq word (codes "help")
 
+-- The words that begin like this give no command that reads an input.
+abbrev pub reads_no_input : List ℕ → Bool
+reads_no_input word = asks_for_help word || bytes_eq word (codes "--version") || bytes_eq word (codes "list") || bytes_eq word (codes "--date")
+
+abbrev pub reads_input : List (List ℕ) → Bool
+reads_input [] = true
+reads_input (word ∷ words) = not (reads_no_input word)
+
 -- The fields that the options select. The default separator is a tab, or a comma in CSV.
 abbrev pub field_of : Options → Option Field
 field_of options =

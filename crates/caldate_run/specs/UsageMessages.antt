@@ -173,7 +173,7 @@ is_file_like (byte ∷ bytes) =
 
 -- A hint if a word too many looks like a file.
 abbrev pub file_hint : Expected → List ℕ → List ℕ
-file_hint expected.End word = if is_file_like word then codes "; to read a file, write '<' before its name" else []
+file_hint expected.End word = if is_file_like word then codes "; to read a file, write '--' before its name" else []
 file_hint what word = []
 
 -- The message on a word: `unknown unit 'fortnights'; expected ..`, or `duplicate --field`.

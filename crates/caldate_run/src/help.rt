@@ -4,11 +4,12 @@
 pub const VERSION: &[u8] = b"caldate 0.1.0\n";
 
 /// The text of `--help`.
-pub const HELP: &[u8] = b"Usage: caldate [OPTION].. COMMAND <FILE
+pub const HELP: &[u8] = b"Usage: caldate [OPTION].. COMMAND [-- FILE ..]
        caldate list from A to B [by N UNIT or by RULE]
 
-Answers each line of the input, a date or a moment, with one line. The status is 0, 1 if a line has
-no answer, or 2 if the arguments are invalid, or the input or the output fails.
+Answers each line of the files, or of standard input, with one line. A line is a date or a moment. A
+file - is standard input. The status is 0, 1 if a line has no answer, or 2 if the arguments are
+invalid, or the input or the output fails.
 
   caldate to FORM                 the same as calendar, ordinal, week, julian, weekday,
                                   short-weekday, month, quarter, basic, rfc3339, unix, unix-ms,

@@ -1,12 +1,14 @@
 //! The program, from its arguments to its status.
-ghost use Rattle.std.specs.Prelude.{◌≡◌, ℕ, List, Option, Some, None, Result, Ok, Err, unwrap_or};
+ghost use Rattle.std.specs.Prelude.{◌≡◌, ℕ, Bool, false, List, Option, Some, None, Result, Ok, Err, unwrap_or, if◌then◌else◌};
 ghost use Rattle.caldate_run.specs.Calls.{Reads, Writes, has_read_failure, most_reads, write_failure};
 ghost use Rattle.caldate_run.specs.Ending.{ReportsOutcome};
+ghost use Rattle.caldate_run.specs.Files.{FailsOrKeeps};
 ghost use Rattle.caldate_run.specs.Header.{EndsNamed};
 ghost use Rattle.caldate_run.specs.Lists.{Lists};
 ghost use Rattle.caldate_run.specs.Program.{GivesCommand, GivesCommandOnce, GivesNamedOnce, HasUsageMessage, given_text, given_word};
 ghost use Rattle.caldate_run.specs.Recurring.{ListsOccurrences};
 ghost use Rattle.caldate_run.specs.Runs.{IsRunResult, WritesPage};
+ghost use Rattle.caldate_run.specs.declared.run.ending.Ending.{Ending};
 ghost use Rattle.caldate_run.specs.declared.run.run_error.RunError.{RunError};
 ghost use Rattle.caldate_run.specs.declared.request.Field.{Field};
 ghost use Rattle.caldate_run.specs.declared.request.Filter.{Filter};
@@ -18,6 +20,8 @@ use crate::args::clock_words::clock_text;
 use crate::args::parse_args;
 use crate::args::usage_message::{TOO_LONG, report_usage_error};
 use crate::args::words::word_at;
+use crate::files::Joined;
+use crate::files::named_files::NamedFiles;
 use crate::help::{HELP, VERSION};
 use crate::list::list;
 use crate::list::recurring::list_occurrences;
@@ -27,10 +31,14 @@ use crate::run::ending::{Ending, end};
 use crate::run::named::run_named;
 use crate::run::run;
 use crate::run::run_error::RunError;
+use crate::streams::text::Text;
 use crate::streams::{Sink, Source};
 use crate::zones::ZoneFiles;
 use cal_datetime::PlainDateTime;
 use cal_time::ShortText;
+use std::env::Env;
+use std::fs::Files;
+use std::io::Read;
 
 /// The status for invalid arguments.
 const INVALID_ARGUMENTS: u8 = 2;
@@ -40,7 +48,7 @@ const INVALID_ARGUMENTS: u8 = 2;
 /// Returns the status and the result of writing to standard error. If the arguments are invalid, or
 /// `None` because they are too long, this only writes one line to standard error, and the status is
 /// 2.
-#[tactic(auto, using(crate::proofs::Calls::sent_all))]
+#[tactic(auto, using(crate::proofs::Calls::sent_all, crate::proofs::Reported::no_reads))]
 pub fn perform<R: Source, W: Sink, E: Sink>(
     arguments: Option<&[u8]>,
     now: &Option<PlainDateTime>,
@@ -59,6 +67,7 @@ pub fn perform<R: Source, W: Sink, E: Sink>(
     ensures once { (filter : Filter) (text : List ℕ) → GivesCommandOnce arguments.entry now.now files.now filter text
         → (reader.new ≡ reader.old) × ((outcome : Result Unit RunError) × (rest : Option (List ℕ))
         × IsRunResult filter outcome (Some text) rest (W.contents writer.old) (W.contents writer.new)
+        × (has_read_failure outcome ≡ false)
         × Writes W.write_gives writer.old (write_failure outcome) writer.new
         × ReportsOutcome outcome result (E.contents errors.old) (E.contents errors.new)) }
     ensures named { (filter : Filter) (field : Field)
@@ -78,9 +87,10 @@ pub fn perform<R: Source, W: Sink, E: Sink>(
         × EndsNamed filter field (Some text)
         (λ own outcome. IsRunResult own outcome (Some text) rest
         (W.contents writer.old) (W.contents writer.new)
+        × (has_read_failure outcome ≡ false)
         × Writes W.write_gives writer.old (write_failure outcome) writer.new
         × ReportsOutcome outcome result (E.contents errors.old) (E.contents errors.new))
-        (λ failed words. (writer.new ≡ writer.old) × (result.status ≡ 2)
+        (λ failed words. (failed ≡ false) × (writer.new ≡ writer.old) × (result.status ≡ 2)
         × WritesPage words result.reported (E.contents errors.old) (E.contents errors.new))) }
     ensures list { (listing : Listing) → GivesCommand arguments.entry now.now files.now (Command.Dates listing)
         → (reader.new ≡ reader.old) × ((outcome : Result Unit RunError)
@@ -105,6 +115,7 @@ pub fn perform<R: Source, W: Sink, E: Sink>(
     ensures usage_error { (words : List ℕ) → HasUsageMessage arguments.entry now.now files.now words
         → (reader.new ≡ reader.old) × (writer.new ≡ writer.old) × (result.status ≡ 2)
         × WritesPage words result.reported (E.contents errors.old) (E.contents errors.new) }
+    ensures reads { (failed : Bool) × Reads R.read_gives most_reads reader.old failed reader.new }
     ensures reported { Writes E.write_gives errors.old (write_failure result.reported) errors.new }
 {
     let Some(arguments) = arguments else {
@@ -143,6 +154,34 @@ pub fn perform<R: Source, W: Sink, E: Sink>(
     }
 }
 
+/// Performs the command as `perform` does, and reads the files as one input. Returns the ending of
+/// `perform`, with status 2 if a file couldn't be read.
+pub fn perform_on_files<S: Env + Files, I: Read + Drop, F: Sink + Drop, W: Sink, E: Sink>(
+    arguments: Option<&[u8]>,
+    now: &Option<PlainDateTime>,
+    zones: &ZoneFiles<'_>,
+    files: &mut Joined<NamedFiles<'_, S, I, F>>,
+    writer: &mut W,
+    errors: &mut E,
+) -> Ending
+    ensures failed { FailsOrKeeps files.old.texts.has_failed files.new.texts.has_failed
+        files.old.texts.errors files.new.texts.errors }
+    ensures status { (own : Ending) × (result.reported ≡ own.reported)
+        × (result.status ≡ (if files.new.texts.has_failed then 2 else own.status))
+        × ((filter : Filter) → GivesCommand arguments.entry now.now zones.now (Command.Lines filter)
+        → (outcome : Result Unit RunError)
+        × IsRunResult filter outcome None None (W.contents writer.old) (W.contents writer.new)
+        × Writes W.write_gives writer.old (write_failure outcome) writer.new
+        × ReportsOutcome outcome own (E.contents errors.old) (E.contents errors.new)) }
+    ensures reported { Writes E.write_gives errors.old (write_failure result.reported) errors.new }
+{
+    let ending = perform(arguments, now, zones, files, writer, errors);
+    Ending {
+        status: files.texts.status(ending.status),
+        reported: ending.reported,
+    }
+}
+
 /// Answers the text after `--date`.
 fn run_once<W: Sink>(
     filter: Filter<'_>,
@@ -152,11 +191,12 @@ fn run_once<W: Sink>(
 ) -> Result<(), RunError>
     ensures ended { (rest : Option (List ℕ)) × IsRunResult filter.entry result
         (Some (given_text now filter.entry arguments.now)) rest (W.contents writer.old) (W.contents writer.new) }
+    ensures read { has_read_failure result ≡ false }
     ensures writes { Writes W.write_gives writer.old (write_failure result) writer.new }
 {
     let word = given_word(arguments);
     let written = clock_text(word, &filter.clock, now);
-    let mut text = text_or(&written, word);
+    let mut text = Text::new(text_or(&written, word));
     run(filter, &mut text, writer)
 }
 
@@ -173,15 +213,16 @@ fn run_named_once<W: Sink, E: Sink>(
         × EndsNamed filter.entry field (Some (given_text now filter.entry arguments.now))
         (λ own outcome. IsRunResult own outcome (Some (given_text now filter.entry arguments.now)) rest
         (W.contents writer.old) (W.contents writer.new)
+        × (has_read_failure outcome ≡ false)
         × Writes W.write_gives writer.old (write_failure outcome) writer.new
         × ReportsOutcome outcome result (E.contents errors.old) (E.contents errors.new))
-        (λ failed words. (writer.new ≡ writer.old) × (result.status ≡ 2)
+        (λ failed words. (failed ≡ false) × (writer.new ≡ writer.old) × (result.status ≡ 2)
         × WritesPage words result.reported (E.contents errors.old) (E.contents errors.new)) }
     ensures reported { Writes E.write_gives errors.old (write_failure result.reported) errors.new }
 {
     let word = given_word(arguments);
     let written = clock_text(word, &filter.clock, now);
-    let mut text = text_or(&written, word);
+    let mut text = Text::new(text_or(&written, word));
     run_named(filter, field, &mut text, writer, errors)
 }
 

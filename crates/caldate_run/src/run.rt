@@ -43,7 +43,7 @@ const MAX_KEPT: usize = 4097;
 /// Writes the answers to one read before the next read. Fails with `RunError::Read` or
 /// `RunError::Write`, with `RunError::Stopped` at a line that ends the run, and with
 /// `RunError::Unanswered` if the run is complete but some of its lines have no answer. 2^64 - 1
-/// reads end like a failed read.
+/// reads that give bytes end like a failed read.
 pub fn run<R: Source, W: Sink>(
     filter: Filter<'_>,
     reader: &mut R,

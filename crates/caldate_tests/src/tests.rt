@@ -14,6 +14,7 @@ use std::process::Abort;
 
 mod arguments;
 mod clock;
+mod files;
 mod long;
 mod named;
 mod one_answer;

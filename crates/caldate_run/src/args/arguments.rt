@@ -1,15 +1,27 @@
 //! The arguments of the program.
-ghost use Rattle.std.specs.Prelude.{◌≤◌, IfSome};
+ghost use Rattle.std.specs.Prelude.{◌≡◌, ◌≤◌, IfSome, length};
+ghost use Rattle.caldate_run.specs.Requests.{arguments_of, reads_input, reads_no_input};
 
+use crate::args::spelling::asks_for_help;
+use crate::args::words::cut;
 use std::env::{Env, FillError};
 
 /// The maximum length of all arguments together, in bytes.
 pub const MAX_BYTES: usize = 4096;
 
-/// Writes the arguments to the front of the buffer, with zero bytes between them, and returns their
-/// length, or `None` if they don't fit. `add 1 day` takes nine bytes.
-pub fn join<E: Env>(env: &E, buffer: &mut [u8; MAX_BYTES]) -> Option<usize>
-    ensures { IfSome result (λ n. n ≤ 4096) }
+/// The words of the arguments, and the files after them.
+#[derive(Clone, Copy)]
+pub struct Arguments<'a> {
+    /// The words, with zero bytes between them.
+    pub words: &'a [u8],
+    /// The index of the first file, if `--` and files come after the words.
+    pub first_file: Option<usize>,
+}
+
+/// Writes the words of the arguments, or those before the `--` of files, to the front of the buffer,
+/// and returns them, or `None` if they don't fit. `add 1 day` takes nine bytes.
+pub fn join<'a, E: Env>(env: &E, buffer: &'a mut [u8; MAX_BYTES]) -> Option<Arguments<'a>>
+    ensures { IfSome result (λ arguments. length arguments.words.now ≤ 4096) }
 {
     let mut filled = 0;
     // Argument 0 is the name of the program.
@@ -17,6 +29,13 @@ pub fn join<E: Env>(env: &E, buffer: &mut [u8; MAX_BYTES]) -> Option<usize>
         let start = if i == 1 { 0 } else { MAX_BYTES.min(filled + 1) };
         match env.arg(i, &mut buffer[start..]) {
             Ok(length) => {
+                let is_mark = &buffer[start..start + length] == b"--".as_slice();
+                if is_mark && reads_input(&buffer[..filled]) && has_arg(env, i + 1) {
+                    return Some(Arguments {
+                        words: &buffer[..filled],
+                        first_file: Some(i + 1),
+                    });
+                }
                 if i > 1 {
                     if filled == MAX_BYTES {
                         return None;
@@ -25,9 +44,36 @@ pub fn join<E: Env>(env: &E, buffer: &mut [u8; MAX_BYTES]) -> Option<usize>
                 }
                 filled = start + length;
             }
-            Err(FillError::NotPresent) => return Some(filled),
+            Err(FillError::NotPresent) => {
+                return Some(Arguments {
+                    words: &buffer[..filled],
+                    first_file: None,
+                });
+            }
             Err(FillError::TooLong) => return None,
         }
     }
     None
+}
+
+/// Returns whether there is an argument with this index.
+fn has_arg<E: Env>(env: &E, i: usize) -> bool {
+    !matches!(env.arg(i, &mut [0u8; 0]), Err(FillError::NotPresent))
+}
+
+/// Returns whether the words may be a command that reads an input.
+fn reads_input(words: &[u8]) -> bool
+    ensures { result ≡ reads_input (arguments_of words.now) }
+{
+    !reads_no_input(cut(words).0)
+}
+
+/// Returns whether words that begin like this give no command that reads an input.
+fn reads_no_input(word: &[u8]) -> bool
+    ensures { result ≡ reads_no_input word.now }
+{
+    asks_for_help(word)
+        || word == b"--version".as_slice()
+        || word == b"list".as_slice()
+        || word == b"--date".as_slice()
 }

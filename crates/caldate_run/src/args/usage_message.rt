@@ -252,7 +252,7 @@ fn push_file_hint(line: &mut Buffer, expected: Expected, word: &[u8])
     ensures short { length line.new ≤ length line.old + 50 }
 {
     if expected == Expected::End && is_file_like(word) {
-        line.push(b"; to read a file, write '<' before its name");
+        line.push(b"; to read a file, write '--' before its name");
     }
 }
 

@@ -36,7 +36,7 @@ impl Excerpt {
 }
 
 /// Returns the byte, or `?` if it does not print.
-fn printable(byte: u8) -> u8
+pub(crate) fn printable(byte: u8) -> u8
     ensures { result ≡ printable byte }
 {
     if byte >= b' ' && byte <= b'~' {

@@ -40,6 +40,7 @@ pub fn run_named<R: Source, W: Sink, E: Sink>(
         (λ failed words. Reads R.read_gives most_reads reader.old failed reader.new
         × (writer.new ≡ writer.old) × (result.status ≡ 2)
         × WritesPage words result.reported (E.contents errors.old) (E.contents errors.new)) }
+    ensures reads { (failed : Bool) × Reads R.read_gives most_reads reader.old failed reader.new }
     ensures reported { Writes E.write_gives errors.old (write_failure result.reported) errors.new }
 {
     let mut input = Input::new();
@@ -81,10 +82,10 @@ fn read_header<R: Source>(input: &mut Input, reader: &mut R) -> Result<u64, RunE
             Ok(count) => count,
             Err(error) => return Err(error),
         };
-        reads -= 1;
         if count == 0 {
             return Ok(reads);
         }
+        reads -= 1;
         if has_header(input.as_bytes()) {
             return Ok(reads);
         }

@@ -46,7 +46,8 @@ pub fn push_fault(line: &mut Buffer, error: ReadZoneError)
     }
 }
 
-fn file_words(error: FileError) -> &'static [u8]
+/// Returns the reason, such as `not found`.
+pub(crate) fn file_words(error: FileError) -> &'static [u8]
     ensures words { result.now ≡ file_words error }
     ensures short { length result.now ≤ 40 }
 {

@@ -132,7 +132,7 @@ fn read_whole<R: Read>(file: &mut R, buffer: &mut [u8; MAX_FILE_BYTES]) -> Resul
     Err(FileError::TooLong)
 }
 
-fn file_error(error: &Error) -> FileError {
+pub(crate) fn file_error(error: &Error) -> FileError {
     match error.kind() {
         ErrorKind::NotFound => FileError::NotFound,
         ErrorKind::PermissionDenied => FileError::Denied,

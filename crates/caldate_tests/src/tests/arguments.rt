@@ -1,6 +1,6 @@
 //! Arguments that are joined, up to the size of the buffer.
 use crate::tests::repeated;
-use caldate_run::args::arguments::{MAX_BYTES, join};
+use caldate_run::args::arguments::{Arguments, MAX_BYTES, join};
 use std::env::{Env, FillError};
 use std::process::Abort;
 use std::test::Fail;
@@ -32,11 +32,20 @@ impl Env for Words<'_> {
     }
 }
 
-/// Checks how these arguments are joined.
-fn check_joined(rt: &impl Abort, all: &[u8], joined: &[u8]) {
+/// Checks how these arguments are joined, and the index of the first file.
+fn check_files(rt: &impl Abort, all: &[u8], joined: &[u8], first_file: Option<usize>) {
     let mut buffer = [0u8; MAX_BYTES];
-    let length = join(&Words { all }, &mut buffer).unwrap_or(MAX_BYTES);
-    assert!(rt; &buffer[..length] == joined);
+    let none = Arguments {
+        words: b"",
+        first_file: None,
+    };
+    let found = join(&Words { all }, &mut buffer).unwrap_or(none);
+    assert!(rt; found.words == joined && found.first_file == first_file);
+}
+
+/// Checks how these arguments are joined if they name no files.
+fn check_joined(rt: &impl Abort, all: &[u8], joined: &[u8]) {
+    check_files(rt, all, joined, None);
 }
 
 #[test]
@@ -51,10 +60,27 @@ fn arguments_are_joined(rt: HostRuntime) {
     );
 }
 
+// Files come after the first `--` of a command that reads an input.
+#[test]
+fn arguments_before_files(rt: HostRuntime) {
+    check_files(&rt, b"caldate|to|week|--|a", b"to\0week", Some(4));
+    check_files(&rt, b"caldate|to|--|--|a", b"to", Some(3));
+    check_files(&rt, b"caldate|--|", b"", Some(2));
+    check_joined(&rt, b"caldate|to|week|--", b"to\0week\0--");
+    check_joined(&rt, b"caldate|list|--|a", b"list\0--\0a");
+    check_joined(&rt, b"caldate|--date|x|--|a", b"--date\0x\0--\0a");
+    check_joined(&rt, b"caldate|-h|--|a", b"-h\0--\0a");
+    check_joined(&rt, b"caldate|--version|--|a", b"--version\0--\0a");
+}
+
 /// Checks the length of these arguments together, or that they don't fit.
 fn check_length(rt: &impl Abort, all: &[u8], length: Option<usize>) {
     let mut buffer = [0u8; MAX_BYTES];
-    assert!(rt; join(&Words { all }, &mut buffer) == length);
+    let found = match join(&Words { all }, &mut buffer) {
+        Some(joined) => Some(joined.words.len()),
+        None => None,
+    };
+    assert!(rt; found == length);
 }
 
 // Arguments fit up to the size of the buffer, including the zero bytes between them.

@@ -6,7 +6,7 @@ use Rattle.caldate_run.specs.Calls.Reads.{no_more, too_many}
 use Rattle.caldate_run.specs.RunStates.{no_lines}
 use Rattle.caldate_run.specs.declared.run.progress.Progress.{Progress}
 use Rattle.caldate_run.specs.declared.run.run_error.RunError.TheVariants.{Read}
-use Rattle.caldate_run.proofs.Calls.{no_read_failed, no_writes, read_failed, reads_failed, reads_given, writes_then}
+use Rattle.caldate_run.proofs.Calls.{no_read_failed, no_writes, read_failed, reads_ended, reads_failed, reads_given, writes_then}
 use Rattle.caldate_run.proofs.Rounds.{after_lines, after_read, begun_with, ends_early, ends_early_last, ends_unread, ends_whole, same_pending}
 use Rattle.caldate_run.proofs.run.answer_input.Goals as goal
 
@@ -58,7 +58,7 @@ loop-error-preserved g c =
     let s = after_lines c.args.filter.now c.args.input.now _ _ _ _ _ c.loop-error.input c.answer_read.new.input c.loop-error.progress c.answer_read.new.progress c.loop-error.invariant.0 c.in-Ok.ensures.ok in (
       after_read c.args.filter.now c.args.input.now _ _ _ _ _ c.answer_read.new.input c.read_more.new.self c.answer_read.new.progress s c.in_ok-read_more.ensures.given,
       c.in-Ok.ensures.none,
-      λ failed end more. c.loop-error.invariant.2 failed end (reads_given _ c.loop-error.reads _ _ _ _ _ _ (omega arith) c.in_ok-read_more.ensures.gives more),
+      λ failed end more. c.loop-error.invariant.2 failed end (reads_given _ c.loop-error.reads _ _ _ _ _ _ (omega arith) (omega arith) c.in_ok-read_more.ensures.gives more),
       writes_then _ _ _ _ _ c.loop-error.invariant.3 c.in-Ok.ensures.writes,
     )
 
@@ -82,12 +82,12 @@ returns-in_err-read_more-clause-reads g c =
 pub returns-in-Ok-answer_last-clause-reads : goal.returns-in-Ok-answer_last-clause-reads
 returns-in-Ok-answer_last-clause-reads g c =
     c.loop-error.invariant.2 _ _ (subst (λ failed. Reads g.R.Source.read_gives c.loop-error.reads c.loop-error.reader failed c.read_more.new.reader) (sym c.outcome.ensures.read)
-    (reads_given _ c.loop-error.reads (c.loop-error.reads - 1) _ _ _ _ _ (omega arith) c.in_ok-read_more.ensures.gives (no_more _ _)))
+    (reads_ended _ c.loop-error.reads _ _ _ _ _ c.if-branch-eq0.true c.in_ok-read_more.ensures.gives (no_more _ _)))
 
 pub returns-in-Err-answer_last-clause-reads : goal.returns-in-Err-answer_last-clause-reads
 returns-in-Err-answer_last-clause-reads g c =
     c.loop-error.invariant.2 _ _ (subst (λ failed. Reads g.R.Source.read_gives c.loop-error.reads c.loop-error.reader failed c.read_more.new.reader) (sym (no_read_failed (Err c.in-Err-answer_last.error) c.in-Err-answer_last.ensures.others))
-    (reads_given _ c.loop-error.reads (c.loop-error.reads - 1) _ _ _ _ _ (omega arith) c.in_ok-read_more.ensures.gives (no_more _ _)))
+    (reads_ended _ c.loop-error.reads _ _ _ _ _ c.if-branch-eq0.true c.in_ok-read_more.ensures.gives (no_more _ _)))
 
 -- ---- the writes
 pub returns-in-Err-clause-writes : goal.returns-in-Err-clause-writes

@@ -4,7 +4,7 @@ use Rattle.std.proofs.KnownBytes.{Consumes-kept, Consumes-nil, Consumes-trans}
 use Rattle.caldate_run.specs.Calls.{Reads}
 use Rattle.caldate_run.specs.Calls.Reads.{too_many}
 use Rattle.caldate_run.specs.RunStates.{NoEnd}
-use Rattle.caldate_run.proofs.Calls.{reads_failed, reads_given}
+use Rattle.caldate_run.proofs.Calls.{reads_ended, reads_failed, reads_given}
 use Rattle.caldate_run.proofs.Named.{has_header}
 use Rattle.caldate_run.proofs.run.named.read_header.Goals as goal
 
@@ -37,7 +37,7 @@ returns-then-count-eq0-clause-header g c = inr (inl (c.in-Ok.ensures.end c.if-co
 
 pub returns-then-count-eq0-clause-reads : goal.returns-then-count-eq0-clause-reads
 returns-then-count-eq0-clause-reads g c = λ failed last more.
-    c.loop-reads.invariant.3 failed last (reads_given _ c.loop-reads.reads _ _ _ _ _ _ (omega arith) c.in-Ok.ensures.gives more)
+    c.loop-reads.invariant.3 failed last (reads_ended _ c.loop-reads.reads _ _ _ _ _ c.if-count-eq0.true c.in-Ok.ensures.gives more)
 
 pub returns-then-has_header-clause-given : goal.returns-then-has_header-clause-given
 returns-then-has_header-clause-given g c =
@@ -50,7 +50,7 @@ returns-then-has_header-clause-header g c = has_header _ c.as_bytes.result.now c
 
 pub returns-then-has_header-clause-reads : goal.returns-then-has_header-clause-reads
 returns-then-has_header-clause-reads g c = λ failed last more.
-    c.loop-reads.invariant.3 failed last (reads_given _ c.loop-reads.reads _ _ _ _ _ _ (omega arith) c.in-Ok.ensures.gives more)
+    c.loop-reads.invariant.3 failed last (reads_given _ c.loop-reads.reads _ _ _ _ _ _ (omega arith) (omega arith) c.in-Ok.ensures.gives more)
 
 pub loop-reads-preserved : goal.loop-reads-preserved
 loop-reads-preserved g c =
@@ -59,7 +59,7 @@ loop-reads-preserved g c =
           (Consumes-trans _ _ _ _ _ c.loop-reads.invariant.0 more.1),
       subst NoEnd c.as_bytes.ensures.value (c.has_header.ensures.no_end c.if-has_header.false),
       omega (arith, ap length c.as_bytes.ensures.value, c.has_header.ensures.few c.if-has_header.false),
-      λ failed last more. c.loop-reads.invariant.3 failed last (reads_given _ c.loop-reads.reads _ _ _ _ _ _ (omega arith) c.in-Ok.ensures.gives more),
+      λ failed last more. c.loop-reads.invariant.3 failed last (reads_given _ c.loop-reads.reads _ _ _ _ _ _ (omega arith) (omega arith) c.in-Ok.ensures.gives more),
     )
 
 pub returns-clause-no_end : goal.returns-clause-no_end

@@ -1,4 +1,4 @@
-use Rattle.std.proofs.Common.{◌≡◌, ℕ, List, Err, None, Some, false, inl, inr, refl, subst}
+use Rattle.std.proofs.Common.{◌≡◌, ℕ, List, Err, None, Some, true, false, inl, inr, refl, subst}
 use Rattle.caldate_run.specs.Calls.Reads.{no_more}
 use Rattle.caldate_run.specs.Ending.{ReportsOutcome}
 use Rattle.caldate_run.specs.Header.{header_error, header_of, name_of_field, number_of}
@@ -57,3 +57,13 @@ returns-in-Some-clause-ended g c =
         ),
       );
     }
+
+-- ---- the reads
+pub returns-in-Err-clause-reads : goal.returns-in-Err-clause-reads
+returns-in-Err-clause-reads g c = (true, c.in-Err.ensures.failed)
+
+pub returns-in-None-clause-reads : goal.returns-in-None-clause-reads
+returns-in-None-clause-reads g c = (false, c.in-Ok.ensures.reads false _ (no_more _ _))
+
+pub returns-in-Some-clause-reads : goal.returns-in-Some-clause-reads
+returns-in-Some-clause-reads g c = (_, c.in-Ok.ensures.reads _ _ c.answer_input-outcome.ensures.reads)
