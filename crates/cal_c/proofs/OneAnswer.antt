@@ -6,12 +6,12 @@ use Rattle.cal_recurrence.specs.Days.{days_of}
 use Rattle.cal_recurrence.specs.Text.{recurrence_of}
 use Rattle.cal_recurrence.specs.declared.fault.ParseRuleError.{ParseRuleError}
 use Rattle.cal_recurrence.specs.declared.recurrence.Recurrence.{Recurrence}
-use Rattle.cal_c.proofs.Days.{either}
-use Rattle.cal_c.specs.RecurrenceTexts.{recurrence_ok, recurrence_error, recurrence_parse_error}
-use Rattle.cal_c.specs.Recurrences.{AreDatesWritten}
-use Rattle.cal_c.specs.Statuses.{invalid_date}
-use Rattle.cal_c.specs.Values.{IsJulianDay, day_of}
-use Rattle.cal_c.specs.declared.schedule.recurrences.results.RecurrenceResult.{RecurrenceResult}
+use Rattle.cal_c_values.proofs.Days.{either}
+use Rattle.cal_c_values.specs.RecurrenceTexts.{recurrence_ok, recurrence_error, recurrence_parse_error}
+use Rattle.cal_c_values.specs.Recurrences.{AreDatesWritten}
+use Rattle.cal_c_values.specs.Statuses.{invalid_date}
+use Rattle.cal_c_values.specs.Values.{IsJulianDay, day_of}
+use Rattle.cal_c_values.specs.declared.schedule.recurrences.results.RecurrenceResult.{RecurrenceResult}
 
 pub decided : {P : Type 0} (r : Option ℕ) (v : ℕ) → SomeIff r P v → P ⊎ (¬ P)
 decided None v h = inr h

@@ -5,7 +5,7 @@ use Rattle.std.proofs.lemmas.Int.{ints}
 use Rattle.std.proofs.lemmas.List.{take-take, drop-drop}
 use Rattle.std.proofs.lemmas.Slice.{between_is}
 use Rattle.std.specs.List.{between}
-use Rattle.cal_c.specs.TextColumns.{AreBoundsWithin, text_at}
+use Rattle.cal_c_values.specs.TextColumns.{AreBoundsWithin, text_at}
 
 -- The texts of the first rows are before the end, each between its bounds, and the bytes after the
 -- end are unchanged.

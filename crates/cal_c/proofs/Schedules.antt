@@ -7,13 +7,13 @@ use Rattle.cal_schedule.specs.declared.year_fraction.DayCount.TheVariants.{Actua
 use Rattle.cal_schedule.specs.declared.period.Period.{Period}
 use Rattle.cal_schedule.specs.declared.workdays.convention.Convention.{Convention}
 use Rattle.cal_schedule.specs.declared.workdays.convention.Convention.TheVariants.{Unadjusted, Following, ModifiedFollowing, Preceding, ModifiedPreceding}
-use Rattle.cal_c.specs.Columns.{IsByte}
-use Rattle.cal_c.specs.Results.{date_error, date_or_out_of_range, number_ok, IsDateWith}
-use Rattle.cal_c.specs.Schedule.{day_count_number, period_ok, IsNumberWith, IsPeriodWith}
-use Rattle.cal_c.specs.Statuses.{result_out_of_range}
-use Rattle.cal_c.specs.Values.{IsJulianDay, day_of}
-use Rattle.cal_c.specs.Weekmasks.{convention_number}
-use Rattle.cal_c.proofs.Days.{IsDateWith-at}
+use Rattle.cal_c_values.specs.Columns.{IsByte}
+use Rattle.cal_c_values.specs.Results.{date_error, date_or_out_of_range, number_ok, IsDateWith}
+use Rattle.cal_c_values.specs.Schedule.{day_count_number, period_ok, IsNumberWith, IsPeriodWith}
+use Rattle.cal_c_values.specs.Statuses.{result_out_of_range}
+use Rattle.cal_c_values.specs.Values.{IsJulianDay, day_of}
+use Rattle.cal_c_values.specs.Weekmasks.{convention_number}
+use Rattle.cal_c_values.proofs.Days.{IsDateWith-at}
 
 pub day-if-any : (Has : ℕ → Type 0) (A : Type 0) (r : Option ℕ) → IfSome r (λ n. IsDate n × Has n) → IfNone r (A → ⊥) → A → IsDateWith Has (date_or_out_of_range r)
 day-if-any Has A None has none a = absurd (none a)

@@ -7,11 +7,11 @@ use Rattle.cal_text.specs.Position.{IsErrorAtStop}
 use Rattle.cal_text.specs.Parsing.{component_of}
 use Rattle.cal_text.specs.declared.error.ParseError.{ParseError}
 use Rattle.cal_text.specs.declared.error.ParseError.TheVariants.{UnexpectedByte, UnexpectedEnd, OutOfRange}
-use Rattle.cal_c.specs.Statuses.{unexpected_byte, unexpected_end, component_status}
-use Rattle.cal_c.specs.Texts.{IsDateSyntaxError, IsMomentSyntaxError, parsed_date_error, parsed_moment_error}
-use Rattle.cal_c.specs.ParseErrors.{date_of_parse_error, moment_of_parse_error}
-use Rattle.cal_c.specs.declared.texts.ParseDateResult.{ParseDateResult}
-use Rattle.cal_c.specs.declared.texts.ParseMomentResult.{ParseMomentResult}
+use Rattle.cal_c_values.specs.Statuses.{unexpected_byte, unexpected_end, component_status}
+use Rattle.cal_c_values.specs.Texts.{IsDateSyntaxError, IsMomentSyntaxError, parsed_date_error, parsed_moment_error}
+use Rattle.cal_c_values.specs.ParseErrors.{date_of_parse_error, moment_of_parse_error}
+use Rattle.cal_c_values.specs.declared.texts.ParseDateResult.{ParseDateResult}
+use Rattle.cal_c_values.specs.declared.texts.ParseMomentResult.{ParseMomentResult}
 
 -- ---- dates
 pub unreadable_date : (IsText : List ℕ → Type 0) (text : List ℕ) (e : ParseError) (r : ParseDateResult) → component_of e ≡ None

@@ -5,8 +5,8 @@ use Rattle.cal_format.specs.declared.item.Item.{Item}
 use Rattle.cal_zone.specs.Abbreviation.{abbreviation}
 use Rattle.cal_zone.specs.declared.local_type.LocalType.{LocalType}
 use Rattle.cal_zone.specs.Timeline.{Timeline, kind_at, offset_at}
-use Rattle.cal_c.specs.Zones.{IsPrintedAt, IsPrintedInZone}
-use Rattle.cal_c.specs.declared.formats.results.LengthResult.{LengthResult}
+use Rattle.cal_c_values.specs.Zones.{IsPrintedAt, IsPrintedInZone}
+use Rattle.cal_c_values.specs.declared.formats.results.LengthResult.{LengthResult}
 
 pub printed_there : (bytes : List ℕ) (z : Timeline) (m other : LocalAndOffset) (kind : LocalType) (a : List ℕ) (o : ℤ) (found items : List Item) (old new : List ℕ) (r : LengthResult)
     → m ≡ other → kind ≡ kind_at z (unix_seconds (instant m)) → a ≡ abbreviation bytes kind.name_start kind.name_end → o ≡ offset_at z (unix_seconds (instant m))

@@ -2,13 +2,14 @@
 ghost use Rattle.std.specs.Prelude.{◌≡◌, ◌+◌, ◌-◌, ◌%◌, pos, if◌then◌else◌};
 ghost use Rattle.cal_time.specs.Lengths.{is_leap_year, days_in_year, days_in_month};
 ghost use Rattle.cal_time.specs.Weeks.{weeks_in_year};
-ghost use Rattle.cal_c.specs.Results.{number_ok, number_error};
-ghost use Rattle.cal_c.specs.Statuses.{invalid_weekday, month_status};
-ghost use Rattle.cal_c.specs.Values.{IsMonth, IsWeekday};
+ghost use Rattle.cal_c_values.specs.Results.{number_ok, number_error};
+ghost use Rattle.cal_c_values.specs.Statuses.{invalid_weekday, month_status};
+ghost use Rattle.cal_c_values.specs.Values.{IsMonth, IsWeekday};
 
-use crate::results::NumberResult;
-use crate::status::{INVALID_WEEKDAY, MONTH_OUT_OF_RANGE};
-use crate::values::{valid_month, valid_weekday};
+use cal_c_values::or_error;
+use cal_c_values::results::NumberResult;
+use cal_c_values::status::{INVALID_WEEKDAY, MONTH_OUT_OF_RANGE};
+use cal_c_values::values::{valid_month, valid_weekday};
 use cal_time::util::{days_in_year, is_leap_year, weeks_in_year};
 
 /// Returns the number of days of a month in a year. For 2 and 2000 it is 29.

@@ -1,16 +1,17 @@
 //! Constructors and components of durations.
 ghost use Rattle.std.specs.Prelude.{◌≡◌, pos, ◌+ℤ◌, ◌*ℤ◌};
 ghost use Rattle.cal_time.specs.SignedDuration.{microsecond, millisecond, second, minute, hour, day, week, cut, subsec_nanoseconds};
-ghost use Rattle.cal_c.specs.Results.{IsDurationOrOutOfRange, IsInt64OrOutOfRange, duration_ok, number_ok, number_error, int64_ok, int64_error};
-ghost use Rattle.cal_c.specs.Statuses.{invalid_duration};
-ghost use Rattle.cal_c.specs.Values.{IsDurationPair, nanoseconds_in};
-
-use crate::results::{Duration, DurationResult, Int64Result, NumberResult};
-use crate::status::{INVALID_DURATION, RESULT_OUT_OF_RANGE};
-use crate::values::valid_duration;
-use cal_time::SignedDuration;
+ghost use Rattle.cal_c_values.specs.Results.{IsDurationOrOutOfRange, IsInt64OrOutOfRange, duration_ok, number_ok, number_error, int64_ok, int64_error};
+ghost use Rattle.cal_c_values.specs.Statuses.{invalid_duration};
+ghost use Rattle.cal_c_values.specs.Values.{IsDurationPair, nanoseconds_in};
 
 mod arithmetic;
+
+use cal_c_values::results::{Duration, DurationResult, Int64Result, NumberResult};
+use cal_c_values::status::{INVALID_DURATION, RESULT_OUT_OF_RANGE};
+use cal_c_values::values::valid_duration;
+use cal_c_values::{or_error, or_return};
+use cal_time::SignedDuration;
 
 /// Creates a duration from seconds and nanoseconds, whose signs may differ. Fails if it is out of
 /// range. -1 and 1 give 0 seconds and -999999999 nanoseconds.

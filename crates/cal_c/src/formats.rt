@@ -1,10 +1,5 @@
 //! Formats: values in text by a format that C passes.
-mod components;
-pub mod format_parts;
-mod items;
+
 mod making;
-mod names;
-mod parse_results;
 pub mod parsing;
 pub mod printing;
-pub mod results;

@@ -1,12 +1,13 @@
 //! Offsets from UTC, in seconds.
 ghost use Rattle.std.specs.Prelude.{◌≡◌, ◌<◌, ◌≤◌, neg_ℤ, unsigned_abs};
 ghost use Rattle.cal_time.specs.UtcOffset.{IsOffset, offset_of, whole_hours, whole_minutes, minutes_past_hour, seconds_past_minute};
-ghost use Rattle.cal_c.specs.Results.{offset_ok, offset_error, offset_hms_ok, offset_hms_error, number_ok, number_error};
-ghost use Rattle.cal_c.specs.Statuses.{invalid_offset, offset_hour_status, offset_minute_status, offset_second_status, seconds_status};
+ghost use Rattle.cal_c_values.specs.Results.{offset_ok, offset_error, offset_hms_ok, offset_hms_error, number_ok, number_error};
+ghost use Rattle.cal_c_values.specs.Statuses.{invalid_offset, offset_hour_status, offset_minute_status, offset_second_status, seconds_status};
 
-use crate::results::{NumberResult, OffsetHmsResult, OffsetResult};
-use crate::status::{INVALID_OFFSET, OK, SECONDS_OUT_OF_RANGE};
-use crate::values::{saturating_i8, valid_offset};
+use cal_c_values::results::{NumberResult, OffsetHmsResult, OffsetResult};
+use cal_c_values::status::{INVALID_OFFSET, OK, SECONDS_OUT_OF_RANGE};
+use cal_c_values::values::{saturating_i8, valid_offset};
+use cal_c_values::{ok_or_error, or_error, or_return};
 use cal_time::UtcOffset;
 
 /// Creates an offset from hours, minutes and seconds. The first that isn't 0 gives the sign of all.

@@ -2,13 +2,14 @@
 ghost use Rattle.std.specs.Prelude.{◌≡◌, ◌+ℤ◌, ◌-ℤ◌};
 ghost use Rattle.cal_time.specs.Pair.{pair_number};
 ghost use Rattle.cal_time.specs.Time.{IsTime};
-ghost use Rattle.cal_c.specs.Results.{pair_error, IsPairOrOutOfRange};
-ghost use Rattle.cal_c.specs.Statuses.{invalid_date, invalid_time, invalid_duration};
-ghost use Rattle.cal_c.specs.Values.{need◌else◌then◌, IsJulianDay, IsDurationPair, day_of, nanoseconds_in};
+ghost use Rattle.cal_c_values.specs.Results.{pair_error, IsPairOrOutOfRange};
+ghost use Rattle.cal_c_values.specs.Statuses.{invalid_date, invalid_time, invalid_duration};
+ghost use Rattle.cal_c_values.specs.Values.{need◌else◌then◌, IsJulianDay, IsDurationPair, day_of, nanoseconds_in};
 
-use crate::results::{Duration, PairResult};
-use crate::status::{INVALID_DATE, INVALID_DURATION, INVALID_TIME};
-use crate::values::{valid_date, valid_duration, valid_time};
+use cal_c_values::or_error;
+use cal_c_values::results::{Duration, PairResult};
+use cal_c_values::status::{INVALID_DATE, INVALID_DURATION, INVALID_TIME};
+use cal_c_values::values::{valid_date, valid_duration, valid_time};
 use cal_time::{add_to_pair, sub_from_pair};
 
 /// Adds a duration to a date and a time. Fails if the resulting date is out of range. 2 hours after

@@ -3,7 +3,6 @@
 mod months;
 mod period_ends;
 mod recurrences;
-mod results;
 mod until;
 mod weekdays;
 pub mod workdays;

@@ -4,11 +4,7 @@
 //! a few steps that the bytes have all parts. No call keeps a pointer.
 
 pub mod changes;
-pub mod checked_zone;
-pub mod laws;
 mod offsets;
 pub mod parsing;
-pub mod policy;
 mod printing;
 mod resolution;
-pub mod results;

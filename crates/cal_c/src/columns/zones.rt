@@ -1,22 +1,15 @@
 //! Columns of Unix times and of readings in one zone.
-ghost use Rattle.std.specs.Prelude.{◌≡◌, MatchOption, length, ◌∷◌, []};
-ghost use Rattle.cal_zone.specs.Span.{IsSpan};
-ghost use Rattle.cal_zone.specs.Timeline.{offset_at, InOrder, IsMoment};
-ghost use Rattle.cal_c.specs.Columns.{int_at, nat_at, SameLength, AreRows};
-ghost use Rattle.cal_c.specs.Results.{int64_error, offset_error, offset_ok};
-ghost use Rattle.cal_c.specs.Statuses.{invalid_policy, invalid_zone};
-ghost use Rattle.cal_c.specs.Values.{need◌else◌then◌};
-ghost use Rattle.cal_c.specs.ZoneColumns.{instant_by, int64_row, offset_row, IsInstantByPolicy, IsInstantOfReading, IsOffsetAt};
-ghost use Rattle.cal_c.specs.Zones.{AreInstantsOf};
+ghost use Rattle.std.specs.Prelude.{◌≡◌, length, ◌∷◌, []};
+ghost use Rattle.cal_c_values.specs.Columns.{int_at, nat_at, SameLength, AreRows};
+ghost use Rattle.cal_c_values.specs.Values.{need◌else◌then◌};
+ghost use Rattle.cal_c_values.specs.ZoneColumns.{int64_row, offset_row, IsInstantOfReading, IsOffsetAt};
 
-use super::statuses::{
-    INVALID_POLICY, INVALID_ZONE, OK, REPEATED_TIME, RESULT_OUT_OF_RANGE, SKIPPED_TIME,
-};
-use super::{LENGTH_MISMATCH, NO_VALUE, count_errors};
-use crate::zones::checked_zone::CheckedZone;
-use crate::zones::policy::Policy;
-use crate::zones::results::at_offset;
-use cal_zone::{Instants, Span, UncheckedZone};
+use super::LENGTH_MISMATCH;
+use cal_c_values::columns::count_errors;
+use cal_c_values::columns::zones::{Resolver, row_of_instant, row_of_offset};
+use cal_c_values::zones::checked_zone::CheckedZone;
+use cal_c_values::zones::policy::Policy;
+use cal_zone::Span;
 
 /// Writes the offsets at Unix times, like `fots_zone_offset`.
 #[unsafe(no_mangle)]
@@ -57,105 +50,4 @@ pub extern "C" fn fots_zone_instants(
     };
     let mut span = Span::empty();
     write_rows!(row_of_instant(readings; &resolver, &mut span) => seconds; statuses)
-}
-
-/// A zone and a policy, or what is wrong with them.
-#[derive(Drop)]
-struct Resolver<'a> {
-    zone: Option<UncheckedZone<'a>>,
-    policy: Option<Policy>,
-}
-
-/// Returns the row of the offset at a Unix time. Tries the span of the row before first.
-fn row_of_offset(seconds: i64, zone: &Option<UncheckedZone<'_>>, span: &mut Span) -> (i32, u8)
-    ensures { MatchOption zone.now (offset_row result.0 result.1 ≡ offset_error invalid_zone)
-        (λ z. InOrder z → IsSpan z span.old → IsSpan z span.new
-        × (offset_row result.0 result.1 ≡ offset_ok (offset_at z seconds))) }
-{
-    match zone {
-        Some(zone) => (offset_in(seconds, zone, span), OK),
-        None => (NO_VALUE, INVALID_ZONE),
-    }
-}
-
-/// Returns the offset at a Unix time. Keeps the span if that is in it.
-fn offset_in(seconds: i64, zone: &UncheckedZone<'_>, span: &mut Span) -> i32
-    ensures { InOrder zone.now → IsSpan zone.now span.old → IsSpan zone.now span.new
-        × (result ≡ offset_at zone.now seconds) }
-{
-    if !span.contains(seconds) {
-        *span = zone.span_after(seconds, *span);
-    }
-    span.offset
-}
-
-/// Returns the row of the instant of a reading. Tries the span of the row before first.
-fn row_of_instant(reading: i64, resolver: &Resolver<'_>, span: &mut Span) -> (i64, u8)
-    ensures { MatchOption resolver.now.zone (int64_row result.0 result.1 ≡ int64_error invalid_zone)
-        (λ z. InOrder z → IsSpan z span.old → IsSpan z span.new × MatchOption resolver.now.policy
-        (int64_row result.0 result.1 ≡ int64_error invalid_policy)
-        (λ policy. IsInstantByPolicy z reading policy (int64_row result.0 result.1))) }
-{
-    match &resolver.zone {
-        Some(zone) => match &resolver.policy {
-            Some(policy) => instant_by_policy(reading, zone, *policy, span),
-            None => (i64::MIN, INVALID_POLICY),
-        },
-        None => (i64::MIN, INVALID_ZONE),
-    }
-}
-
-/// Returns the row of the instant of a reading by a policy.
-fn instant_by_policy(
-    reading: i64,
-    zone: &UncheckedZone<'_>,
-    policy: Policy,
-    span: &mut Span,
-) -> (i64, u8)
-    ensures { InOrder zone.now → IsSpan zone.now span.old → IsSpan zone.now span.new
-        × IsInstantByPolicy zone.now reading policy (int64_row result.0 result.1) }
-{
-    if reading < -1_152_921_504_606_846_976 || 1_152_921_504_606_846_976 < reading {
-        return (i64::MIN, RESULT_OUT_OF_RANGE);
-    }
-    choose(reading, instants_in(reading, zone, span), policy)
-}
-
-/// Returns the instants at which clocks show a reading. Keeps the span if there is one instant in
-/// it.
-fn instants_in(reading: i64, zone: &UncheckedZone<'_>, span: &mut Span) -> Instants
-    requires { IsMoment reading }
-    ensures { InOrder zone.now → IsSpan zone.now span.old → IsSpan zone.now span.new
-        × AreInstantsOf zone.now reading result }
-{
-    if let Some(instant) = span.single(reading) {
-        return Instants::Single(instant);
-    }
-    *span = zone.span_at(reading);
-    match span.single(reading) {
-        Some(instant) => Instants::Single(instant),
-        None => zone.instants_near_change(reading),
-    }
-}
-
-/// Returns the row of a reading whose instants are known.
-fn choose(reading: i64, instants: Instants, policy: Policy) -> (i64, u8)
-    requires { IsMoment reading }
-    ensures { int64_row result.0 result.1 ≡ instant_by policy reading instants }
-{
-    match instants {
-        Instants::Single(instant) => (instant, OK),
-        Instants::Gap { before, after, .. } => match policy {
-            Policy::Compatible => (at_offset(reading, before), OK),
-            Policy::Earlier => (at_offset(reading, after), OK),
-            Policy::Later => (at_offset(reading, before), OK),
-            Policy::Reject => (i64::MIN, SKIPPED_TIME),
-        },
-        Instants::Fold { earlier, later } => match policy {
-            Policy::Compatible => (earlier, OK),
-            Policy::Earlier => (earlier, OK),
-            Policy::Later => (later, OK),
-            Policy::Reject => (i64::MIN, REPEATED_TIME),
-        },
-    }
 }

@@ -1,18 +1,19 @@
 //! Dates plus and minus days, and the durations between dates.
 ghost use Rattle.std.specs.Prelude.{◌≡◌, pos, ◌+ℤ◌, ◌-ℤ◌, ◌*ℤ◌};
 ghost use Rattle.cal_time.specs.SignedDuration.{day, whole_days};
-ghost use Rattle.cal_c.specs.Columns.{IsDateDaysLater};
-ghost use Rattle.cal_c.specs.Results.{IsDateOrOutOfRange, date_ok, date_error, duration_ok, duration_error};
-ghost use Rattle.cal_c.specs.Statuses.{invalid_date, invalid_duration};
-ghost use Rattle.cal_c.specs.Values.{need◌else◌then◌, IsJulianDay, clamped_julian_day, IsDurationPair, nanoseconds_in};
+ghost use Rattle.cal_c_values.specs.Columns.{IsDateDaysLater};
+ghost use Rattle.cal_c_values.specs.Results.{IsDateOrOutOfRange, date_ok, date_error, duration_ok, duration_error};
+ghost use Rattle.cal_c_values.specs.Statuses.{invalid_date, invalid_duration};
+ghost use Rattle.cal_c_values.specs.Values.{need◌else◌then◌, IsJulianDay, clamped_julian_day, IsDurationPair, nanoseconds_in};
 
-use crate::day_number::{
+use cal_c_values::day_number::{
     checked_add_days, checked_sub_days, duration_between, is_julian_day, saturating_add_days,
     saturating_sub_days,
 };
-use crate::results::{DateResult, Duration, DurationResult};
-use crate::status::{INVALID_DATE, INVALID_DURATION};
-use crate::values::valid_duration;
+use cal_c_values::or_error;
+use cal_c_values::results::{DateResult, Duration, DurationResult};
+use cal_c_values::status::{INVALID_DATE, INVALID_DURATION};
+use cal_c_values::values::valid_duration;
 
 /// Returns the next day. Fails for the last day, 366963559. After 2451604 it is 2451605.
 #[unsafe(no_mangle)]

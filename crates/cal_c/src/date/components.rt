@@ -2,15 +2,18 @@
 ghost use Rattle.std.specs.Prelude.{◌≡◌, ◌+◌, pos};
 ghost use Rattle.cal_time.specs.Date.{year_at, month_at, day_of_month_at, ordinal_at, weekday_at};
 ghost use Rattle.cal_time.specs.IsoWeekDate.{iso_week_at, weekday_count};
-ghost use Rattle.cal_c.specs.Columns.{IsCalendarDateOf, IsOrdinalDateOf, IsIsoWeekDateOf};
-ghost use Rattle.cal_c.specs.Results.{number_ok, number_error};
-ghost use Rattle.cal_c.specs.Statuses.{invalid_date};
-ghost use Rattle.cal_c.specs.Values.{IsJulianDay, day_of};
+ghost use Rattle.cal_c_values.specs.Columns.{IsCalendarDateOf, IsOrdinalDateOf, IsIsoWeekDateOf};
+ghost use Rattle.cal_c_values.specs.Results.{number_ok, number_error};
+ghost use Rattle.cal_c_values.specs.Statuses.{invalid_date};
+ghost use Rattle.cal_c_values.specs.Values.{IsJulianDay, day_of};
 
-use crate::day_number::day_number;
-use crate::results::{CalendarDateResult, IsoWeekDateResult, NumberResult, OrdinalDateResult};
-use crate::status::{INVALID_DATE, OK};
-use crate::values::valid_date;
+use cal_c_values::day_number::day_number;
+use cal_c_values::or_error;
+use cal_c_values::results::{
+    CalendarDateResult, IsoWeekDateResult, NumberResult, OrdinalDateResult,
+};
+use cal_c_values::status::{INVALID_DATE, OK};
+use cal_c_values::values::valid_date;
 use cal_time::day_number::{days_since_monday, to_calendar_date, to_iso_week_date};
 
 /// Returns the year, the month and the day of the month. For 2451604 they are 2000, 2 and 29.

@@ -1,15 +1,16 @@
 //! Constructors of dates.
-ghost use Rattle.cal_c.specs.Columns.{IsDateOfJulianDay, IsDateOfCalendarDate, IsDateOfOrdinalDate, IsDateOfIsoWeekDate};
+ghost use Rattle.cal_c_values.specs.Columns.{IsDateOfJulianDay, IsDateOfCalendarDate, IsDateOfOrdinalDate, IsDateOfIsoWeekDate};
 
-use crate::day_number::julian_day;
-use crate::results::DateResult;
-use crate::status::{
+use cal_c_values::day_number::julian_day;
+use cal_c_values::results::DateResult;
+use cal_c_values::status::{
     DAY_OUT_OF_RANGE, INVALID_WEEKDAY, JULIAN_DAY_OUT_OF_RANGE, MONTH_OUT_OF_RANGE, OK,
     YEAR_OUT_OF_RANGE,
 };
-use crate::values::{
+use cal_c_values::values::{
     day_or_invalid, ordinal_or_invalid, valid_date_i64, valid_weekday, week_or_invalid,
 };
+use cal_c_values::{ok_or_error, or_error, or_return};
 use cal_time::Date;
 use cal_time::day_number::{from_calendar_date, is_day_of_month};
 use cal_time::limits::{MAX_YEAR, MIN_YEAR};

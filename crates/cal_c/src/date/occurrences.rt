@@ -1,14 +1,14 @@
 //! The days with a weekday after a date, and before it.
-ghost use Rattle.std.specs.Prelude.{◌≡◌, ◌+◌, ◌-◌, ◌%◌, ◌≤◌};
-ghost use Rattle.cal_time.specs.Date.{IsDate};
+ghost use Rattle.std.specs.Prelude.{◌≡◌, ◌-◌, ◌≤◌};
 ghost use Rattle.cal_time.specs.Occurrences.{next_occurrences, prev_occurrences, kth};
-ghost use Rattle.cal_c.specs.Results.{date_error, date_or_out_of_range};
-ghost use Rattle.cal_c.specs.Statuses.{invalid_date, invalid_weekday, invalid_count};
-ghost use Rattle.cal_c.specs.Values.{need◌else◌then◌, IsJulianDay, IsWeekday, day_of};
+ghost use Rattle.cal_c_values.specs.Results.{date_error, date_or_out_of_range};
+ghost use Rattle.cal_c_values.specs.Statuses.{invalid_date, invalid_weekday, invalid_count};
+ghost use Rattle.cal_c_values.specs.Values.{need◌else◌then◌, IsJulianDay, IsWeekday, day_of};
 
-use crate::day_number::{date_result, day_number};
-use crate::results::DateResult;
-use crate::status::{INVALID_COUNT, INVALID_DATE, INVALID_WEEKDAY};
+use cal_c_values::day_number::{date_result, day_number};
+use cal_c_values::or_error;
+use cal_c_values::results::DateResult;
+use cal_c_values::status::{INVALID_COUNT, INVALID_DATE, INVALID_WEEKDAY};
 use cal_time::day_number::{nth_next_occurrence, nth_prev_occurrence};
 
 /// Returns the `count`-th day with a weekday after a date, from 1 to 255. Fails if it is out of

@@ -1,13 +1,14 @@
 //! Dates with a component replaced.
 ghost use Rattle.std.specs.Prelude.{◌≡◌};
 ghost use Rattle.cal_time.specs.Date.{year_at, month_at, day_of_month_at, IsYear, IsDayOfMonth, IsOrdinal, HasCalendarDate, HasOrdinalDate};
-ghost use Rattle.cal_c.specs.Results.{date_error, IsDateWith};
-ghost use Rattle.cal_c.specs.Statuses.{invalid_date, year_status, month_status, day_status, ordinal_status};
-ghost use Rattle.cal_c.specs.Values.{need◌else◌then◌, IsJulianDay, IsMonth, day_of};
+ghost use Rattle.cal_c_values.specs.Results.{date_error, IsDateWith};
+ghost use Rattle.cal_c_values.specs.Statuses.{invalid_date, year_status, month_status, day_status, ordinal_status};
+ghost use Rattle.cal_c_values.specs.Values.{need◌else◌then◌, IsJulianDay, IsMonth, day_of};
 
-use crate::results::DateResult;
-use crate::status::{INVALID_DATE, MONTH_OUT_OF_RANGE};
-use crate::values::{day_or_invalid, ordinal_or_invalid, valid_date, valid_month};
+use cal_c_values::results::DateResult;
+use cal_c_values::status::{INVALID_DATE, MONTH_OUT_OF_RANGE};
+use cal_c_values::values::{day_or_invalid, ordinal_or_invalid, valid_date, valid_month};
+use cal_c_values::{ok_or_error, or_error};
 
 /// Replaces the year. Returns the error `year`, or `day` for 29 February in a common year. 2451604
 /// with the year 2004 is 2453065.

@@ -1,13 +1,14 @@
 //! Arithmetic with durations.
 ghost use Rattle.std.specs.Prelude.{◌≡◌, pos, neg_ℤ, ◌+ℤ◌, ◌-ℤ◌, ◌*ℤ◌, ◌<ℤ◌, unsigned_abs};
 ghost use Rattle.cal_time.specs.SignedDuration.{HasQuotient, clamp, cut};
-ghost use Rattle.cal_c.specs.Results.{IsDurationOrOutOfRange, duration_ok, duration_error, number_ok, number_error};
-ghost use Rattle.cal_c.specs.Statuses.{result_out_of_range, invalid_duration};
-ghost use Rattle.cal_c.specs.Values.{need◌else◌then◌, IsDurationPair, nanoseconds_in};
+ghost use Rattle.cal_c_values.specs.Results.{IsDurationOrOutOfRange, duration_ok, duration_error, number_ok, number_error};
+ghost use Rattle.cal_c_values.specs.Statuses.{result_out_of_range, invalid_duration};
+ghost use Rattle.cal_c_values.specs.Values.{need◌else◌then◌, IsDurationPair, nanoseconds_in};
 
-use crate::results::{Duration, DurationResult, NumberResult};
-use crate::status::INVALID_DURATION;
-use crate::values::valid_duration;
+use cal_c_values::or_error;
+use cal_c_values::results::{Duration, DurationResult, NumberResult};
+use cal_c_values::status::INVALID_DURATION;
+use cal_c_values::values::valid_duration;
 
 /// Adds two durations. Fails if the sum is out of range. 1 second plus -2.5 seconds is -1.5
 /// seconds.

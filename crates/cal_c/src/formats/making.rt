@@ -3,10 +3,10 @@
 //! A call fails at the first byte that is not UTF-8, at a position where no item begins, or for
 //! more than 64 items.
 ghost use Rattle.cal_format.specs.declared.item.Syntax.TheVariants.{Percent, Brackets};
-ghost use Rattle.cal_c.specs.Formats.{IsFormatOf};
+ghost use Rattle.cal_c_values.specs.Formats.{IsFormatOf};
 
-use super::results::FormatResult;
-use crate::status::UNEXPECTED_BYTE;
+use cal_c_values::formats::results::FormatResult;
+use cal_c_values::status::UNEXPECTED_BYTE;
 use cal_format::Format;
 use std::str::from_utf8;
 

@@ -6,16 +6,19 @@ ghost use Rattle.std.specs.Prelude.{◌≡◌, List};
 ghost use Rattle.cal_format.specs.declared.item.Item.{Item};
 ghost use Rattle.cal_format.specs.Reading.{DeterminesDate, DeterminesTime, DeterminesOffset, DeterminesDateTime, DeterminesOffsetDateTime};
 ghost use Rattle.cal_format.specs.Rejection.{IsRejection};
-ghost use Rattle.cal_c.specs.Formats.{HasItems, IsFormat};
-ghost use Rattle.cal_c.specs.FormatParsing.{IsParsed, IsTextOfDate, IsTextOfTime, IsTextOfOffset, IsTextOfPair, IsTextOfMoment, parsed_time_ok, parsed_time_error_at, parsed_offset_ok, parsed_offset_error_at, parsed_pair_ok};
-ghost use Rattle.cal_c.specs.Statuses.{invalid_format, insufficient_format};
-ghost use Rattle.cal_c.specs.Texts.{no_position, parsed_date_ok, parsed_date_error_at, parsed_moment_ok, parsed_moment_error_at};
+ghost use Rattle.cal_c_values.specs.Formats.{HasItems, IsFormat};
+ghost use Rattle.cal_c_values.specs.FormatParsing.{IsParsed, IsTextOfDate, IsTextOfTime, IsTextOfOffset, IsTextOfPair, IsTextOfMoment, parsed_time_ok, parsed_time_error_at, parsed_offset_ok, parsed_offset_error_at, parsed_pair_ok};
+ghost use Rattle.cal_c_values.specs.Statuses.{invalid_format, insufficient_format};
+ghost use Rattle.cal_c_values.specs.Texts.{no_position, parsed_date_ok, parsed_date_error_at, parsed_moment_ok, parsed_moment_error_at};
 
-use super::format_parts::FormatParts;
-use super::parse_results::{ParseOffsetResult, ParseTimeResult, status_and_position};
-use crate::status::{INSUFFICIENT_FORMAT, INVALID_FORMAT};
-use crate::texts::{ParseDateResult, ParseMomentResult};
-use cal_format::{DateFormat, DateTimeFormat, OffsetDateTimeFormat, OffsetFormat, TimeFormat};
+use cal_c_values::formats::format_parts::FormatParts;
+use cal_c_values::formats::parse_results::{ParseOffsetResult, ParseTimeResult};
+use cal_c_values::formats::parsing::{
+    parse_date, parse_moment, parse_offset, parse_pair, parse_time,
+};
+use cal_c_values::or_return;
+use cal_c_values::status::{INSUFFICIENT_FORMAT, INVALID_FORMAT};
+use cal_c_values::texts::{ParseDateResult, ParseMomentResult};
 
 /// The position of an error that has none.
 const NO_POSITION: usize = usize::MAX;
@@ -36,19 +39,6 @@ macro_rules! parse_by_format {
     }};
 }
 
-/// Returns the result of a parsed value, or of an error.
-macro_rules! result_of {
-    ($parsed:expr, $value:ident => $ok:expr, $result:ident) => {
-        match $parsed {
-            Ok($value) => $ok,
-            Err(error) => {
-                let (status, position) = status_and_position(error);
-                $result::error_at(status, position)
-            }
-        }
-    };
-}
-
 /// Parses a date in the text of a format, such as `29/02/2024` by `%d/%m/%Y`.
 #[unsafe(no_mangle)]
 pub extern "C" fn fots_date_parse_format(text: &[u8], format: &FormatParts) -> ParseDateResult
@@ -60,12 +50,6 @@ pub extern "C" fn fots_date_parse_format(text: &[u8], format: &FormatParts) -> P
         → IsParsed (IsTextOfDate items text.now) (IsRejection items text.now) parsed_date_ok parsed_date_error_at result }
 {
     parse_by_format!(text, format, for_dates, parse_date, ParseDateResult)
-}
-
-fn parse_date(text: &[u8], format: &DateFormat) -> ParseDateResult
-    ensures { IsParsed (IsTextOfDate format.now text.now) (IsRejection format.now text.now) parsed_date_ok parsed_date_error_at result }
-{
-    result_of!(format.parse(text), date => ParseDateResult::ok(date), ParseDateResult)
 }
 
 /// Parses a time of day in the text of a format, such as `23:59` by `%H:%M`.
@@ -81,12 +65,6 @@ pub extern "C" fn fots_time_parse_format(text: &[u8], format: &FormatParts) -> P
     parse_by_format!(text, format, for_times, parse_time, ParseTimeResult)
 }
 
-fn parse_time(text: &[u8], format: &TimeFormat) -> ParseTimeResult
-    ensures { IsParsed (IsTextOfTime format.now text.now) (IsRejection format.now text.now) parsed_time_ok parsed_time_error_at result }
-{
-    result_of!(format.parse(text), time => ParseTimeResult::ok(time), ParseTimeResult)
-}
-
 /// Parses an offset in the text of a format, such as `+05:30` by `%:z`.
 #[unsafe(no_mangle)]
 pub extern "C" fn fots_offset_parse_format(text: &[u8], format: &FormatParts) -> ParseOffsetResult
@@ -98,12 +76,6 @@ pub extern "C" fn fots_offset_parse_format(text: &[u8], format: &FormatParts) ->
         → IsParsed (IsTextOfOffset items text.now) (IsRejection items text.now) parsed_offset_ok parsed_offset_error_at result }
 {
     parse_by_format!(text, format, for_offsets, parse_offset, ParseOffsetResult)
-}
-
-fn parse_offset(text: &[u8], format: &OffsetFormat) -> ParseOffsetResult
-    ensures { IsParsed (IsTextOfOffset format.now text.now) (IsRejection format.now text.now) parsed_offset_ok parsed_offset_error_at result }
-{
-    result_of!(format.parse(text), offset => ParseOffsetResult::ok(offset), ParseOffsetResult)
 }
 
 /// Parses a date and a time of day in the text of a format, such as `2024-02-29 23:59` by `%F %R`.
@@ -118,16 +90,6 @@ pub extern "C" fn fots_pair_parse_format(text: &[u8], format: &FormatParts) -> P
         → IsParsed (IsTextOfPair items text.now) (IsRejection items text.now) parsed_pair_ok parsed_moment_error_at result }
 {
     parse_by_format!(text, format, for_date_times, parse_pair, ParseMomentResult)
-}
-
-fn parse_pair(text: &[u8], format: &DateTimeFormat) -> ParseMomentResult
-    ensures { IsParsed (IsTextOfPair format.now text.now) (IsRejection format.now text.now) parsed_pair_ok parsed_moment_error_at result }
-{
-    result_of!(
-        format.parse(text),
-        date_time => ParseMomentResult::ok(date_time.assume_utc()),
-        ParseMomentResult
-    )
 }
 
 /// Parses a date, a time of day and an offset in the text of a format, such as
@@ -148,10 +110,4 @@ pub extern "C" fn fots_moment_parse_format(text: &[u8], format: &FormatParts) ->
         parse_moment,
         ParseMomentResult
     )
-}
-
-fn parse_moment(text: &[u8], format: &OffsetDateTimeFormat) -> ParseMomentResult
-    ensures { IsParsed (IsTextOfMoment format.now text.now) (IsRejection format.now text.now) parsed_moment_ok parsed_moment_error_at result }
-{
-    result_of!(format.parse(text), moment => ParseMomentResult::ok(moment), ParseMomentResult)
 }

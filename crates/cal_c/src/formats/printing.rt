@@ -3,7 +3,7 @@
 //! A call fails for an invalid value, for numbers that are not a format, and for a format that
 //! shows something that the value doesn't have. If the buffer is too short for the text, the call
 //! returns the length of the text. After an error the buffer is as before.
-ghost use Rattle.std.specs.Prelude.{◌≡◌, ◌≤◌, List, None, IfSome, length, take};
+ghost use Rattle.std.specs.Prelude.{List};
 ghost use Rattle.cal_time.specs.Time.{IsTime};
 ghost use Rattle.cal_time.specs.UtcOffset.{IsOffset};
 ghost use Rattle.cal_datetime.specs.DateTime.{date_time};
@@ -11,39 +11,23 @@ ghost use Rattle.cal_format.specs.declared.item.Item.{Item};
 ghost use Rattle.cal_format.specs.Moment.{moment_of_date, moment_of_time, moment_of_offset, moment_of_date_time, moment_of_offset_date_time};
 ghost use Rattle.cal_format.specs.Reading.{are_date_items, are_time_items, are_offset_items, are_date_time_items, are_moment_items};
 ghost use Rattle.cal_format.specs.Text.{text_of};
-ghost use Rattle.cal_c.specs.Formats.{HasItems, IsFormat};
-ghost use Rattle.cal_c.specs.FormatTexts.{IsPrinted, IsUnprinted, IsWritten, length_error};
-ghost use Rattle.cal_c.specs.Moments.{IsMoment, local_and_offset_in};
-ghost use Rattle.cal_c.specs.Statuses.{invalid_date, invalid_time, invalid_offset, invalid_moment, invalid_format, unsupported_item};
-ghost use Rattle.cal_c.specs.Values.{IsJulianDay, day_of};
+ghost use Rattle.cal_c_values.specs.Formats.{HasItems, IsFormat};
+ghost use Rattle.cal_c_values.specs.FormatTexts.{IsPrinted, IsUnprinted, length_error};
+ghost use Rattle.cal_c_values.specs.Moments.{IsMoment, local_and_offset_in};
+ghost use Rattle.cal_c_values.specs.Statuses.{invalid_date, invalid_time, invalid_offset, invalid_moment, invalid_format};
+ghost use Rattle.cal_c_values.specs.Values.{IsJulianDay, day_of};
 
-use super::format_parts::FormatParts;
-use super::results::LengthResult;
-use crate::moment::valid_moment;
-use crate::results::Moment;
-use crate::status::{
-    INVALID_DATE, INVALID_FORMAT, INVALID_MOMENT, INVALID_OFFSET, INVALID_TIME, UNSUPPORTED_ITEM,
+use cal_c_values::formats::format_parts::FormatParts;
+use cal_c_values::formats::printing::{MAX_LENGTH, write};
+use cal_c_values::formats::results::LengthResult;
+use cal_c_values::moment::valid_moment;
+use cal_c_values::or_error;
+use cal_c_values::results::Moment;
+use cal_c_values::status::{
+    INVALID_DATE, INVALID_FORMAT, INVALID_MOMENT, INVALID_OFFSET, INVALID_TIME,
 };
-use crate::values::{valid_date, valid_offset, valid_time};
+use cal_c_values::values::{valid_date, valid_offset, valid_time};
 use cal_datetime::PlainDateTime;
-
-/// The maximum length of a text: 64 items of 15 bytes.
-pub const MAX_LENGTH: usize = 960;
-
-/// Writes the bytes of a text to the front of a buffer. A text of `None` is one that the format
-/// doesn't have.
-pub(crate) fn write(text: &[u8], end: Option<usize>, bytes: &mut [u8]) -> LengthResult
-    requires { IfSome end (λ n. n ≤ length text.now) }
-    ensures none { end ≡ None → IsUnprinted bytes.old bytes.new result (length_error unsupported_item) }
-    ensures some { IfSome end (λ n. IsWritten (take n text.now) bytes.old bytes.new result) }
-{
-    let length = or_error!(LengthResult, end, UNSUPPORTED_ITEM);
-    if length > bytes.len() {
-        return LengthResult::too_short(length);
-    }
-    bytes[..length].copy_from_slice(&text[..length]);
-    LengthResult::ok(length)
-}
 
 /// Prints a value to a buffer of its own, and writes the text.
 macro_rules! print_to {

@@ -1,20 +1,17 @@
 //! Moments plus and minus durations, comparison, and the durations between moments.
-ghost use Rattle.std.specs.Prelude.{◌≡◌, pos, neg_ℤ, ◌+ℤ◌, ◌-ℤ◌, ◌*ℤ◌, ◌<ℤ◌};
-ghost use Rattle.cal_time.specs.SignedDuration.{day};
-ghost use Rattle.cal_time.specs.Time.{IsTime};
+ghost use Rattle.std.specs.Prelude.{◌≡◌, pos, neg_ℤ, ◌+ℤ◌, ◌-ℤ◌, ◌<ℤ◌};
 ghost use Rattle.cal_datetime.specs.DateTime.{clamped_date_time};
 ghost use Rattle.cal_datetime.specs.OffsetDateTime.{instant};
-ghost use Rattle.cal_c.specs.Moments.{IsMoment, IsMomentOrError, local_in, moment_ok, moment_error, local_and_offset_in};
-ghost use Rattle.cal_c.specs.Results.{duration_ok, duration_error, number_ok, number_error};
-ghost use Rattle.cal_c.specs.Statuses.{invalid_duration, invalid_moment, result_out_of_range};
-ghost use Rattle.cal_c.specs.Values.{need◌else◌then◌, IsDurationPair, day_of, nanoseconds_in};
+ghost use Rattle.cal_c_values.specs.Moments.{IsMoment, IsMomentOrError, local_in, moment_ok, moment_error, local_and_offset_in};
+ghost use Rattle.cal_c_values.specs.Results.{duration_ok, duration_error, number_ok, number_error};
+ghost use Rattle.cal_c_values.specs.Statuses.{invalid_duration, invalid_moment, result_out_of_range};
+ghost use Rattle.cal_c_values.specs.Values.{need◌else◌then◌, IsDurationPair, nanoseconds_in};
 
-use crate::day_number::later_day;
-use crate::moment::{valid_moment, valid_time_of};
-use crate::results::{Duration, DurationResult, Moment, MomentResult, NumberResult};
-use crate::status::{INVALID_DURATION, INVALID_MOMENT, OK, RESULT_OUT_OF_RANGE};
-use crate::values::{days_of, nanoseconds_since_midnight, valid_duration};
-use cal_time::Time;
+use cal_c_values::moment::{at_later_day, valid_moment, valid_time_of};
+use cal_c_values::or_error;
+use cal_c_values::results::{Duration, DurationResult, Moment, MomentResult, NumberResult};
+use cal_c_values::status::{INVALID_DURATION, INVALID_MOMENT};
+use cal_c_values::values::{days_of, valid_duration};
 
 /// Adds a duration and keeps the offset. Fails if the local result is out of range. 2 hours after
 /// 2024-02-29 23:59 +01:00 it is 2024-03-01 1:59 +01:00.
@@ -44,26 +41,6 @@ pub extern "C" fn fots_moment_checked_sub(moment: Moment, duration: Duration) ->
     let (adjustment, time) = time.adjusting_sub(duration);
     let days = i64::from(days_of(adjustment)) - duration.whole_days();
     at_later_day(moment, days, time)
-}
-
-/// Returns the moment some days later at a time of day, and fails if the day is out of range.
-fn at_later_day(moment: Moment, days: i64, time: Time) -> MomentResult
-    requires moment { IsMoment moment }
-    requires time { IsTime time }
-    ensures { IsMomentOrError result_out_of_range ((pos (day_of moment.date) +ℤ days) *ℤ pos day +ℤ pos time) moment.offset result }
-{
-    let date = or_return!(
-        later_day(moment.date, days),
-        MomentResult::error(RESULT_OUT_OF_RANGE)
-    );
-    MomentResult {
-        status: OK,
-        moment: Moment {
-            date,
-            offset: moment.offset,
-            time: nanoseconds_since_midnight(time),
-        },
-    }
 }
 
 /// Adds a duration and keeps the offset. A local result out of range is clamped to the first or the

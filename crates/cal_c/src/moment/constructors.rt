@@ -3,18 +3,16 @@ ghost use Rattle.std.specs.Prelude.{◌≡◌};
 ghost use Rattle.cal_time.specs.Time.{IsTime};
 ghost use Rattle.cal_time.specs.UtcOffset.{IsOffset};
 ghost use Rattle.cal_datetime.specs.OffsetDateTime.{instant, local_at};
-ghost use Rattle.cal_c.specs.Moments.{IsMoment, IsMomentOrError, local_in, moment_ok, moment_error, local_and_offset_in};
-ghost use Rattle.cal_c.specs.Statuses.{invalid_date, invalid_moment, invalid_offset, invalid_time, result_out_of_range};
-ghost use Rattle.cal_c.specs.Values.{need◌else◌then◌, IsJulianDay, moment_of};
+ghost use Rattle.cal_c_values.specs.Moments.{IsMoment, IsMomentOrError, local_in, moment_ok, moment_error, local_and_offset_in};
+ghost use Rattle.cal_c_values.specs.Statuses.{invalid_date, invalid_moment, invalid_offset, invalid_time, result_out_of_range};
+ghost use Rattle.cal_c_values.specs.Values.{need◌else◌then◌, IsJulianDay, moment_of};
 
-use crate::moment::valid_moment;
-use crate::results::{Moment, MomentResult};
-use crate::status::{
-    INVALID_DATE, INVALID_MOMENT, INVALID_OFFSET, INVALID_TIME, RESULT_OUT_OF_RANGE,
-};
-use crate::values::{valid_date, valid_offset, valid_time};
+use cal_c_values::moment::{at_offset, valid_moment};
+use cal_c_values::or_error;
+use cal_c_values::results::{Moment, MomentResult};
+use cal_c_values::status::{INVALID_DATE, INVALID_MOMENT, INVALID_OFFSET, INVALID_TIME};
+use cal_c_values::values::{valid_date, valid_offset, valid_time};
 use cal_datetime::OffsetDateTime;
-use cal_time::UtcOffset;
 
 /// Creates a moment from a local date, a local time of day and an offset. 2460370, 86399250000000
 /// and 3600 give 2024-02-29 23:59:59.25 +01:00.
@@ -44,17 +42,6 @@ pub extern "C" fn fots_moment_to_offset(moment: Moment, offset: i32) -> MomentRe
     let moment = or_error!(MomentResult, valid_moment(moment), INVALID_MOMENT);
     let offset = or_error!(MomentResult, valid_offset(offset), INVALID_OFFSET);
     at_offset(moment, offset)
-}
-
-/// Converts a moment to another offset.
-fn at_offset(moment: OffsetDateTime, offset: UtcOffset) -> MomentResult
-    ensures { IsMomentOrError result_out_of_range (local_at (instant moment) offset) offset result }
-{
-    let shown = or_return!(
-        moment.checked_to_offset(offset),
-        MomentResult::error(RESULT_OUT_OF_RANGE)
-    );
-    MomentResult::ok(shown)
 }
 
 /// Replaces the offset and keeps the local date and time of day. 2024-02-29 23:59 +01:00 at the

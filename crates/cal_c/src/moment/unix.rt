@@ -2,17 +2,17 @@
 ghost use Rattle.std.specs.Prelude.{◌≡◌, pos, ◌+ℤ◌, ◌*ℤ◌};
 ghost use Rattle.cal_time.specs.SignedDuration.{second};
 ghost use Rattle.cal_datetime.specs.OffsetDateTime.{instant, unix_epoch, unix_nanoseconds, unix_seconds};
-ghost use Rattle.cal_c.specs.Moments.{IsMoment, IsMomentOrError, moment_error, local_and_offset_in};
-ghost use Rattle.cal_c.specs.Results.{duration_ok, duration_error, int64_ok, int64_error};
-ghost use Rattle.cal_c.specs.Statuses.{invalid_duration, invalid_moment, timestamp_status};
-ghost use Rattle.cal_c.specs.Values.{IsDurationPair, nanoseconds_in};
+ghost use Rattle.cal_c_values.specs.Moments.{IsMoment, IsMomentOrError, moment_error, local_and_offset_in};
+ghost use Rattle.cal_c_values.specs.Results.{duration_ok, duration_error, int64_ok, int64_error};
+ghost use Rattle.cal_c_values.specs.Statuses.{invalid_duration, invalid_moment, timestamp_status};
+ghost use Rattle.cal_c_values.specs.Values.{IsDurationPair, nanoseconds_in};
 
-use crate::moment::valid_moment;
-use crate::results::{Duration, DurationResult, Int64Result, Moment, MomentResult};
-use crate::status::{INVALID_DURATION, INVALID_MOMENT, TIMESTAMP_OUT_OF_RANGE};
-use crate::values::valid_duration;
+use cal_c_values::moment::{moment_at_unix_time, valid_moment};
+use cal_c_values::results::{Duration, DurationResult, Int64Result, Moment, MomentResult};
+use cal_c_values::status::{INVALID_DURATION, INVALID_MOMENT, TIMESTAMP_OUT_OF_RANGE};
+use cal_c_values::values::valid_duration;
+use cal_c_values::{or_error, or_return};
 use cal_datetime::OffsetDateTime;
-use cal_time::SignedDuration;
 
 /// Creates a moment at UTC from Unix seconds. Returns the error `timestamp` out of range.
 /// 1709247599 is 2024-02-29 22:59:59.
@@ -35,15 +35,6 @@ pub extern "C" fn fots_moment_from_unix_time(duration: Duration) -> MomentResult
 {
     let duration = or_error!(MomentResult, valid_duration(duration), INVALID_DURATION);
     moment_at_unix_time(duration)
-}
-
-/// Creates a moment at UTC from a Unix time.
-fn moment_at_unix_time(duration: SignedDuration) -> MomentResult
-    ensures { IsMomentOrError timestamp_status (unix_epoch +ℤ duration) (pos 0) result }
-{
-    let moment =
-        or_return!(OffsetDateTime::from_unix_timestamp_nanos(duration.whole_nanoseconds()), _ => MomentResult::error(TIMESTAMP_OUT_OF_RANGE));
-    MomentResult::ok(moment)
 }
 
 /// Returns the Unix timestamp in seconds, rounded down. Half a second before 1970 it is -1.

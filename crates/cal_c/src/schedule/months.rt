@@ -2,14 +2,15 @@
 ghost use Rattle.std.specs.Prelude.{◌≡◌, pos, ◌+ℤ◌, ◌*ℤ◌, ◌<ℤ◌, ◌≤ℤ◌};
 ghost use Rattle.cal_time.specs.Date.{first_julian_day, first_year, last_day, last_year, julian_day_at, year_at, IsYear};
 ghost use Rattle.cal_schedule.specs.Months.{month_number_at, IsMonthNumber, IsMonthsLater};
-ghost use Rattle.cal_c.specs.Columns.{IsDateMonthsLater};
-ghost use Rattle.cal_c.specs.Results.{date_ok, date_error, IsDateWith};
-ghost use Rattle.cal_c.specs.Statuses.{invalid_date, result_out_of_range};
-ghost use Rattle.cal_c.specs.Values.{need◌else◌then◌, IsJulianDay, day_of};
+ghost use Rattle.cal_c_values.specs.Columns.{IsDateMonthsLater};
+ghost use Rattle.cal_c_values.specs.Results.{date_ok, date_error, IsDateWith};
+ghost use Rattle.cal_c_values.specs.Statuses.{invalid_date, result_out_of_range};
+ghost use Rattle.cal_c_values.specs.Values.{need◌else◌then◌, IsJulianDay, day_of};
 
-use crate::results::DateResult;
-use crate::status::INVALID_DATE;
-use crate::values::valid_date;
+use cal_c_values::or_error;
+use cal_c_values::results::DateResult;
+use cal_c_values::status::INVALID_DATE;
+use cal_c_values::values::valid_date;
 use cal_schedule::{checked_add_months, checked_add_years, saturating_add_months};
 
 /// Adds months, or subtracts them if the number is negative. The day of the month stays, or becomes

@@ -4,13 +4,14 @@ ghost use Rattle.cal_time.specs.Date.{last_day, year_at, month_at, weekday_at, j
 ghost use Rattle.cal_time.specs.IsoWeekDate.{iso_year_at, iso_week_at, HasIsoWeekDate};
 ghost use Rattle.cal_time.specs.Lengths.{days_in_month};
 ghost use Rattle.cal_schedule.specs.Months.{quarter_at};
-ghost use Rattle.cal_c.specs.Results.{date_ok, date_error, number_ok, number_error, IsDateWith};
-ghost use Rattle.cal_c.specs.Statuses.{invalid_date, result_out_of_range};
-ghost use Rattle.cal_c.specs.Values.{IsJulianDay, day_of};
+ghost use Rattle.cal_c_values.specs.Results.{date_ok, date_error, number_ok, number_error, IsDateWith};
+ghost use Rattle.cal_c_values.specs.Statuses.{invalid_date, result_out_of_range};
+ghost use Rattle.cal_c_values.specs.Values.{IsJulianDay, day_of};
 
-use crate::results::{DateResult, NumberResult};
-use crate::status::INVALID_DATE;
-use crate::values::valid_date;
+use cal_c_values::or_error;
+use cal_c_values::results::{DateResult, NumberResult};
+use cal_c_values::status::INVALID_DATE;
+use cal_c_values::values::valid_date;
 use cal_schedule::{
     first_of_iso_week, first_of_month, first_of_quarter, first_of_year, last_of_iso_week,
     last_of_month, last_of_quarter, last_of_year, quarter,

@@ -3,31 +3,24 @@
 //! A rule is a struct of its parts. Each of its lists has at most 62 values.
 ghost use Rattle.std.specs.Prelude.{◌≡◌, pos, slice_get, if◌then◌else◌};
 ghost use Rattle.cal_schedule.specs.Rule.{occurrences_after, occurrences, is_occurrence};
-ghost use Rattle.cal_c.specs.Recurrences.{days_ok, days_error, AreDatesWritten, IsRule, IsRuleStatus, rule_in};
-ghost use Rattle.cal_c.specs.Results.{date_or_out_of_range, date_error, number_ok, number_error};
-ghost use Rattle.cal_c.specs.Statuses.{invalid_date};
-ghost use Rattle.cal_c.specs.Values.{IsJulianDay, day_of};
+ghost use Rattle.cal_c_values.specs.Recurrences.{days_ok, days_error, AreDatesWritten, IsRule, IsRuleStatus, rule_in};
+ghost use Rattle.cal_c_values.specs.Results.{date_or_out_of_range, date_error, number_ok, number_error};
+ghost use Rattle.cal_c_values.specs.Statuses.{invalid_date};
+ghost use Rattle.cal_c_values.specs.Values.{IsJulianDay, day_of};
 
 mod days;
 mod formatting;
 mod laws;
-mod lists;
-mod months;
 mod parsing;
-mod recurrence_parts;
-mod results;
-mod rule_from_parts;
-mod rule_parts;
-mod weekdays;
 
-use crate::results::{DateResult, NumberResult};
-use crate::schedule::results::DaysResult;
-use crate::status::INVALID_DATE;
-use crate::values::valid_date;
-use cal_schedule::Rule;
-use cal_time::Date;
-use rule_from_parts::rule_from_parts;
-use rule_parts::RuleParts;
+use cal_c_values::results::{DateResult, NumberResult};
+use cal_c_values::schedule::recurrences::rule_from_parts::rule_from_parts;
+use cal_c_values::schedule::recurrences::rule_parts::RuleParts;
+use cal_c_values::schedule::recurrences::write_days;
+use cal_c_values::schedule::results::DaysResult;
+use cal_c_values::status::INVALID_DATE;
+use cal_c_values::values::valid_date;
+use cal_c_values::{or_error, or_return};
 
 /// Returns the first day of a rule. Fails if the range has none. For the last Friday of each month
 /// from 2460311, 2024-01-01, it is 2460336, 2024-01-26.
@@ -93,19 +86,4 @@ pub extern "C" fn fots_rule_days_after(
     let rule = or_return!(rule_from_parts(rule), status => DaysResult::error(status));
     let date = or_error!(DaysResult, valid_date(date), INVALID_DATE);
     DaysResult::ok(write_days(&rule, date, days))
-}
-
-/// Writes the days of a rule after a date, as many as fit in the array, and returns their number.
-fn write_days(rule: &Rule, date: Date, days: &mut [i32]) -> usize
-    ensures { AreDatesWritten (occurrences_after rule.now date) days.old days.new result }
-{
-    let mut last = date;
-    for index in 0..days.len() {
-        let Some(day) = rule.next_after(last) else {
-            return index;
-        };
-        days[index] = day.to_julian_day();
-        last = day;
-    }
-    days.len()
 }

@@ -1,15 +1,16 @@
 //! The months, the years and the period from one date to another.
 ghost use Rattle.std.specs.Prelude.{◌≡◌, pos, neg_ℤ, ◌*ℤ◌, ◌<ℤ◌, ◌≤ℤ◌};
 ghost use Rattle.cal_schedule.specs.Until.{months_of, IsGreatest, IsLeast, IsPeriodUntil, IsMonthsUpTo, IsMonthsBackTo};
-ghost use Rattle.cal_c.specs.Results.{number_error};
-ghost use Rattle.cal_c.specs.Schedule.{period_error, IsNumberWith, IsPeriodWith};
-ghost use Rattle.cal_c.specs.Statuses.{invalid_date};
-ghost use Rattle.cal_c.specs.Values.{IsJulianDay, day_of};
+ghost use Rattle.cal_c_values.specs.Results.{number_error};
+ghost use Rattle.cal_c_values.specs.Schedule.{period_error, IsNumberWith, IsPeriodWith};
+ghost use Rattle.cal_c_values.specs.Statuses.{invalid_date};
+ghost use Rattle.cal_c_values.specs.Values.{IsJulianDay, day_of};
 
-use crate::results::NumberResult;
-use crate::schedule::results::PeriodResult;
-use crate::status::INVALID_DATE;
-use crate::values::valid_date;
+use cal_c_values::or_error;
+use cal_c_values::results::NumberResult;
+use cal_c_values::schedule::results::PeriodResult;
+use cal_c_values::status::INVALID_DATE;
+use cal_c_values::values::valid_date;
 use cal_schedule::{months_until, period_until, years_until};
 
 /// Returns the whole months from `date` to `other`, truncated toward zero: as many as possible

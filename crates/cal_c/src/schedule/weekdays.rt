@@ -2,13 +2,14 @@
 ghost use Rattle.std.specs.Prelude.{◌≡◌, ◌-◌, ◌<◌, ◌≤◌, ℕ, slice_get};
 ghost use Rattle.cal_time.specs.Date.{julian_day_at, IsDate, IsYear, NoDate};
 ghost use Rattle.cal_schedule.specs.Weekdays.{IsNthWeekday, IsLastWeekday, occurrences_from, occurrences_upto};
-ghost use Rattle.cal_c.specs.Results.{date_ok, date_error, date_or_out_of_range};
-ghost use Rattle.cal_c.specs.Statuses.{invalid_count, invalid_date, invalid_weekday, month_status, weekday_status, year_status};
-ghost use Rattle.cal_c.specs.Values.{need◌else◌then◌, IsJulianDay, IsMonth, IsWeekday, day_of};
+ghost use Rattle.cal_c_values.specs.Results.{date_ok, date_error, date_or_out_of_range};
+ghost use Rattle.cal_c_values.specs.Statuses.{invalid_count, invalid_date, invalid_weekday, month_status, weekday_status, year_status};
+ghost use Rattle.cal_c_values.specs.Values.{need◌else◌then◌, IsJulianDay, IsMonth, IsWeekday, day_of};
 
-use crate::results::DateResult;
-use crate::status::{INVALID_COUNT, INVALID_DATE, INVALID_WEEKDAY, MONTH_OUT_OF_RANGE};
-use crate::values::{valid_date, valid_month, valid_weekday};
+use cal_c_values::results::DateResult;
+use cal_c_values::status::{INVALID_COUNT, INVALID_DATE, INVALID_WEEKDAY, MONTH_OUT_OF_RANGE};
+use cal_c_values::values::{valid_date, valid_month, valid_weekday};
+use cal_c_values::{ok_or_error, or_error};
 use cal_schedule::{last_weekday_of_month, nth_weekday_of_month, on_or_after, on_or_before};
 
 /// Returns the n-th day with a weekday in a month, counted from 1. Returns the error `year`, or

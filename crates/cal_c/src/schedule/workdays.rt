@@ -2,29 +2,27 @@
 //!
 //! A weekmask is a sum of 1 for Monday, 2 for Tuesday, 4, 8, 16, 32, and 64 for Sunday;
 //! 31 is Monday to Friday. The holidays are dates in ascending order, at most 1024.
-ghost use Rattle.std.specs.Prelude.{◌≡◌, ◌+◌, ◌<◌, ◌≤◌, length, pos, slice_get, IfErr, IfOk, MatchOption, if◌then◌else◌};
+ghost use Rattle.std.specs.Prelude.{◌≡◌, ◌+◌, ◌<◌, ◌≤◌, length, pos, slice_get, if◌then◌else◌};
 ghost use Rattle.cal_schedule.specs.declared.workdays.convention.Convention.{Convention};
-ghost use Rattle.cal_schedule.specs.Workdays.{is_workday, nth_workday, workdays_before, workdays_from};
+ghost use Rattle.cal_schedule.specs.Workdays.{is_workday, workdays_before, workdays_from};
 ghost use Rattle.cal_schedule.specs.WorkdaysConvention.{adjusted_date};
-ghost use Rattle.cal_c.specs.Columns.{IsDateWorkdaysLater, IsWorkdaysBetween};
-ghost use Rattle.cal_c.specs.Results.{date_or_out_of_range, date_error, number_ok, number_error};
-ghost use Rattle.cal_c.specs.Statuses.{invalid_convention, invalid_date, invalid_holidays, invalid_weekmask, too_many_holidays};
-ghost use Rattle.cal_c.specs.Values.{IsJulianDay, day_of};
-ghost use Rattle.cal_c.specs.Weekmasks.{convention_number, max_holidays, work_week, workdays_between, AreHolidays, IsConvention, IsWeekmask};
+ghost use Rattle.cal_c_values.specs.Columns.{IsDateWorkdaysLater, IsWorkdaysBetween};
+ghost use Rattle.cal_c_values.specs.Results.{date_or_out_of_range, date_error, number_ok, number_error};
+ghost use Rattle.cal_c_values.specs.Statuses.{invalid_convention, invalid_date, invalid_holidays, invalid_weekmask, too_many_holidays};
+ghost use Rattle.cal_c_values.specs.Values.{IsJulianDay, day_of};
+ghost use Rattle.cal_c_values.specs.Weekmasks.{convention_number, max_holidays, work_week, AreHolidays, IsConvention, IsWeekmask};
 
-mod adjusting;
-pub mod calendar;
 mod calls;
-pub mod checked_workdays;
 mod checking;
-mod holidays;
-pub mod ranks;
 
-use crate::results::{DateResult, NumberResult};
-use crate::status::{INVALID_CONVENTION, INVALID_DATE};
-use crate::values::valid_date;
-use cal_schedule::Convention;
-use calendar::Calendar;
+use cal_c_values::results::{DateResult, NumberResult};
+use cal_c_values::schedule::workdays::calendar::Calendar;
+use cal_c_values::schedule::workdays::{
+    valid_convention, workdays_between_result, workdays_later_result,
+};
+use cal_c_values::status::{INVALID_CONVENTION, INVALID_DATE};
+use cal_c_values::values::valid_date;
+use cal_c_values::{or_error, or_return};
 
 /// Returns 1 if a date is a working day, else 0. For 2451604, a Tuesday, it is 1 with the marks 31
 /// and without holidays.
@@ -108,23 +106,6 @@ pub extern "C" fn fots_date_add_workdays(
     workdays_later_result(date, days, &Calendar::from_c(weekmask, holidays))
 }
 
-/// Adds working days of a calendar.
-fn workdays_later_result(date: i32, days: i32, calendar: &Result<Calendar, i32>) -> DateResult
-    ensures invalid_date { ¬ IsJulianDay date → result ≡ date_error invalid_date }
-    ensures error { IsJulianDay date
-        → IfErr calendar.now (λ status. result ≡ date_error status) }
-    ensures value { IsJulianDay date → IfOk calendar.now
-        (λ w. result ≡ date_or_out_of_range (nth_workday w days (day_of date))) }
-{
-    let date = or_error!(DateResult, valid_date(date), INVALID_DATE);
-    match calendar {
-        Ok(calendar) => {
-            DateResult::from_option(calendar.workdays().checked_add_workdays(date, days))
-        }
-        Err(status) => DateResult::error(*status),
-    }
-}
-
 /// Counts the working days from the earlier date on, without the later one. The number is negative
 /// or 0 if `other` comes first. From 2451545, 2000-01-01, to 2451911, 2001-01-01, it is 260 with
 /// the marks 31 and without holidays.
@@ -138,36 +119,6 @@ pub extern "C" fn fots_date_workdays_between(
     ensures { IsWorkdaysBetween date other weekmask holidays.now result }
 {
     workdays_between_result(date, other, &Calendar::from_c(weekmask, holidays))
-}
-
-/// Counts the working days of a calendar from `date` to `other`.
-fn workdays_between_result(date: i32, other: i32, calendar: &Result<Calendar, i32>) -> NumberResult
-    ensures invalid_date { ¬ (IsJulianDay date × IsJulianDay other) → result ≡ number_error invalid_date }
-    ensures error { IsJulianDay date → IsJulianDay other
-        → IfErr calendar.now (λ status. result ≡ number_error status) }
-    ensures value { IsJulianDay date → IsJulianDay other
-        → IfOk calendar.now (λ w. result
-        ≡ number_ok (workdays_between w (day_of date) (day_of other))) }
-{
-    let date = or_error!(NumberResult, valid_date(date), INVALID_DATE);
-    let other = or_error!(NumberResult, valid_date(other), INVALID_DATE);
-    let calendar = or_return!(calendar, status => NumberResult::error(*status));
-    NumberResult::ok(calendar.workdays().workdays_between(date, other))
-}
-
-/// Returns the convention with a number, from 0 for `Unadjusted`, or `None`.
-fn valid_convention(number: u32) -> Option<Convention>
-    ensures { MatchOption result (¬ IsConvention number)
-        (λ found. IsConvention number × (convention_number found ≡ number)) }
-{
-    match number {
-        0 => Some(Convention::Unadjusted),
-        1 => Some(Convention::Following),
-        2 => Some(Convention::ModifiedFollowing),
-        3 => Some(Convention::Preceding),
-        4 => Some(Convention::ModifiedPreceding),
-        _ => None,
-    }
 }
 
 /// Moves a date by a convention: 0 is unadjusted, 1 following, 2 modified following, 3 preceding,

@@ -1,30 +1,17 @@
 //! Fractions of a year for interest.
-ghost use Rattle.std.specs.Prelude.{◌≡◌, MatchOption};
+ghost use Rattle.std.specs.Prelude.{◌≡◌};
 ghost use Rattle.cal_schedule.specs.declared.year_fraction.DayCount.{DayCount};
 ghost use Rattle.cal_schedule.specs.YearFraction.{day_count_numerator, day_count_denominator};
-ghost use Rattle.cal_c.specs.Schedule.{day_count_number, year_fraction_ok, year_fraction_error, IsDayCount};
-ghost use Rattle.cal_c.specs.Statuses.{invalid_convention, invalid_date};
-ghost use Rattle.cal_c.specs.Values.{IsJulianDay, day_of};
+ghost use Rattle.cal_c_values.specs.Schedule.{day_count_number, year_fraction_ok, year_fraction_error, IsDayCount};
+ghost use Rattle.cal_c_values.specs.Statuses.{invalid_convention, invalid_date};
+ghost use Rattle.cal_c_values.specs.Values.{IsJulianDay, day_of};
 
-use crate::schedule::results::YearFractionResult;
-use crate::status::{INVALID_CONVENTION, INVALID_DATE};
-use crate::values::valid_date;
-use cal_schedule::{DayCount, day_count};
-
-/// Returns the day count convention with a number, from 1 for actual/360, or `None`.
-fn valid_day_count(number: u32) -> Option<DayCount>
-    ensures { MatchOption result (¬ IsDayCount number)
-        (λ found. IsDayCount number × (day_count_number found ≡ number)) }
-{
-    match number {
-        1 => Some(DayCount::Actual360),
-        2 => Some(DayCount::Actual365Fixed),
-        3 => Some(DayCount::Thirty360),
-        4 => Some(DayCount::ThirtyE360),
-        5 => Some(DayCount::ActualActual),
-        _ => None,
-    }
-}
+use cal_c_values::schedule::results::YearFractionResult;
+use cal_c_values::schedule::year_fraction::valid_day_count;
+use cal_c_values::status::{INVALID_CONVENTION, INVALID_DATE};
+use cal_c_values::values::valid_date;
+use cal_c_values::{or_error, or_return};
+use cal_schedule::day_count;
 
 /// Returns the fraction of a year from `date` to `other` by a convention: 1 is actual/360, 2
 /// actual/365 (fixed), 3 30/360 (bond basis), 4 30E/360, and 5 actual/actual (ISDA). From 2452945,

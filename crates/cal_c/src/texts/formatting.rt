@@ -8,20 +8,19 @@ ghost use Rattle.cal_text.specs.DateForms.{ordinal_text, week_text};
 ghost use Rattle.cal_text.specs.JulianForm.{julian_text};
 ghost use Rattle.cal_text.specs.Rfc3339.{HasMomentText, moment_text};
 ghost use Rattle.cal_text.specs.UnixText.{unix_text};
-ghost use Rattle.cal_c.specs.Statuses.{invalid_date, invalid_time, invalid_offset, invalid_weekday, month_status, result_out_of_range};
-ghost use Rattle.cal_c.specs.Texts.{month_name, text_ok, text_error, weekday_name};
-ghost use Rattle.cal_c.specs.Values.{IsJulianDay, IsMonth, IsWeekday, day_of, moment_of};
+ghost use Rattle.cal_c_values.specs.Statuses.{invalid_date, invalid_time, invalid_offset, invalid_weekday, month_status, result_out_of_range};
+ghost use Rattle.cal_c_values.specs.Texts.{month_name, text_ok, text_error, weekday_name};
+ghost use Rattle.cal_c_values.specs.Values.{IsJulianDay, IsMonth, IsWeekday, day_of, moment_of};
 
-use crate::status::{
+use cal_c_values::or_error;
+use cal_c_values::status::{
     INVALID_DATE, INVALID_OFFSET, INVALID_TIME, INVALID_WEEKDAY, MONTH_OUT_OF_RANGE,
-    RESULT_OUT_OF_RANGE,
 };
-use crate::texts::TextResult;
-use crate::values::{valid_date, valid_month, valid_offset, valid_time, valid_weekday};
+use cal_c_values::texts::{TextResult, moment_text_result, unix_text_result};
+use cal_c_values::values::{valid_date, valid_month, valid_offset, valid_time, valid_weekday};
 use cal_datetime::OffsetDateTime;
 use cal_text::date::{CalendarText, OrdinalText, WeekText};
 use cal_text::julian_day::JulianText;
-use cal_text::{rfc3339, unix};
 
 /// Returns the calendar date in text, such as `2024-02-29`.
 #[unsafe(no_mangle)]
@@ -84,15 +83,6 @@ pub extern "C" fn fots_moment_text(date: i32, time: u64, offset: i32) -> TextRes
     moment_text_result(OffsetDateTime::new_in_offset(date, time, offset))
 }
 
-/// Returns a moment in RFC 3339, or fails if it has no text.
-fn moment_text_result(moment: OffsetDateTime) -> TextResult
-    ensures result_out_of_range { ¬ HasMomentText moment → result ≡ text_error result_out_of_range }
-    ensures value { HasMomentText moment → result ≡ text_ok (moment_text moment) }
-{
-    let text = or_error!(TextResult, rfc3339::Text::new(moment), RESULT_OUT_OF_RANGE);
-    TextResult::ok(text.text().as_bytes())
-}
-
 /// Returns the Unix time of a date and a time at an offset, such as `@1709164800.5`.
 #[unsafe(no_mangle)]
 pub extern "C" fn fots_unix_text(date: i32, time: u64, offset: i32) -> TextResult
@@ -109,15 +99,8 @@ pub extern "C" fn fots_unix_text(date: i32, time: u64, offset: i32) -> TextResul
     unix_text_result(OffsetDateTime::new_in_offset(date, time, offset))
 }
 
-/// Returns the Unix time of a moment in text.
-fn unix_text_result(moment: OffsetDateTime) -> TextResult
-    ensures { result ≡ text_ok (unix_text (unix_nanoseconds (instant moment))) }
-{
-    TextResult::ok(unix::Text::new(moment).text().as_bytes())
-}
-
 /// Returns the English name of a month, or the error `month`. For 2 it is February.
-#[tactic(auto, using(crate::proofs::TextBytes::names))]
+#[tactic(auto, using(cal_c_values::proofs::TextBytes::names))]
 #[unsafe(no_mangle)]
 pub extern "C" fn fots_month_name(month: u32) -> TextResult
     ensures month { ¬ IsMonth month → result ≡ text_error month_status }
@@ -128,7 +111,7 @@ pub extern "C" fn fots_month_name(month: u32) -> TextResult
 }
 
 /// Returns the English name of a weekday. For 4 it is Thursday.
-#[tactic(auto, using(crate::proofs::TextBytes::names))]
+#[tactic(auto, using(cal_c_values::proofs::TextBytes::names))]
 #[unsafe(no_mangle)]
 pub extern "C" fn fots_weekday_name(weekday: u32) -> TextResult
     ensures invalid_weekday { ¬ IsWeekday weekday → result ≡ text_error invalid_weekday }

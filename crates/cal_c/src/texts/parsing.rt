@@ -15,20 +15,21 @@ ghost use Rattle.cal_text.specs.Position.{HasSome};
 ghost use Rattle.cal_text.specs.Parsing.{HasError};
 ghost use Rattle.cal_text.specs.Rfc3339Form.{IsMomentText};
 ghost use Rattle.cal_text.specs.UnixText.{HasUnixForm, IsUnixText, IsUnixTimeError};
-ghost use Rattle.cal_c.specs.Results.{duration_ok, duration_error, pair_at_local, pair_error};
-ghost use Rattle.cal_c.specs.Statuses.{invalid_date, invalid_time, invalid_offset, invalid_duration, result_out_of_range, component_status};
-ghost use Rattle.cal_c.specs.Texts.{parsed_date_ok, parsed_date_error, parsed_moment_ok, parsed_moment_error, HasDateSyntax, HasMomentSyntax, HasDateError, HasMomentError, IsDateSyntaxError, IsMomentSyntaxError};
-ghost use Rattle.cal_c.specs.Values.{need◌else◌then◌, IsDurationPair, IsJulianDay, moment_of, nanoseconds_in};
+ghost use Rattle.cal_c_values.specs.Results.{duration_ok, duration_error, pair_at_local, pair_error};
+ghost use Rattle.cal_c_values.specs.Statuses.{invalid_date, invalid_time, invalid_offset, invalid_duration, result_out_of_range, component_status};
+ghost use Rattle.cal_c_values.specs.Texts.{parsed_date_ok, parsed_date_error, parsed_moment_ok, parsed_moment_error, HasDateSyntax, HasMomentSyntax, HasDateError, HasMomentError, IsDateSyntaxError, IsMomentSyntaxError};
+ghost use Rattle.cal_c_values.specs.Values.{need◌else◌then◌, IsDurationPair, IsJulianDay, moment_of, nanoseconds_in};
 
-use crate::results::{Duration, DurationResult, PairResult};
-use crate::status::{
+use cal_c_values::moment::epoch_at_offset;
+use cal_c_values::results::{Duration, DurationResult, PairResult};
+use cal_c_values::status::{
     INVALID_DATE, INVALID_DURATION, INVALID_OFFSET, INVALID_TIME, RESULT_OUT_OF_RANGE,
 };
-use crate::texts::{ParseDateResult, ParseMomentResult};
-use crate::values::{valid_date, valid_duration, valid_offset, valid_time};
+use cal_c_values::texts::{ParseDateResult, ParseMomentResult};
+use cal_c_values::values::{valid_date, valid_duration, valid_offset, valid_time};
+use cal_c_values::{or_error, or_return};
 use cal_datetime::OffsetDateTime;
 use cal_text::{date, julian_day, rfc3339, unix};
-use cal_time::UtcOffset;
 
 /// Parses a calendar, ordinal or week date: `2024-02-29`, `2024-060` or `2024-W09-4`.
 #[unsafe(no_mangle)]
@@ -117,17 +118,4 @@ pub extern "C" fn fots_unix_pair(duration: Duration, offset: i32) -> PairResult
         PairResult::error(RESULT_OUT_OF_RANGE)
     );
     PairResult::from_option(Some((moment.date(), moment.time())))
-}
-
-/// Returns 1970-01-01 0:00 UTC at an offset.
-fn epoch_at_offset(offset: UtcOffset) -> OffsetDateTime
-    ensures { result ≡ record { local = local_at unix_epoch offset; offset = offset } }
-{
-    // This call states that the offset is in its range. It costs nothing.
-    let _ = offset.whole_seconds();
-    let epoch = OffsetDateTime::unix_epoch();
-    match epoch.checked_to_offset(offset) {
-        Some(shown) => shown,
-        None => epoch,
-    }
 }

@@ -1,13 +1,14 @@
 //! Times plus and minus durations, and the durations between times.
 ghost use Rattle.std.specs.Prelude.{◌≡◌, pos, ◌+ℤ◌, ◌-ℤ◌};
 ghost use Rattle.cal_time.specs.Time.{IsTime, modulo_day};
-ghost use Rattle.cal_c.specs.Results.{time_ok, time_error, duration_ok, duration_error, adjusted_time_error, IsAddAdjusted, IsSubAdjusted};
-ghost use Rattle.cal_c.specs.Statuses.{invalid_time, invalid_duration};
-ghost use Rattle.cal_c.specs.Values.{need◌else◌then◌, IsDurationPair, nanoseconds_in};
+ghost use Rattle.cal_c_values.specs.Results.{time_ok, time_error, duration_ok, duration_error, adjusted_time_error, IsAddAdjusted, IsSubAdjusted};
+ghost use Rattle.cal_c_values.specs.Statuses.{invalid_time, invalid_duration};
+ghost use Rattle.cal_c_values.specs.Values.{need◌else◌then◌, IsDurationPair, nanoseconds_in};
 
-use crate::results::{AdjustedTimeResult, Duration, DurationResult, TimeResult};
-use crate::status::{INVALID_DURATION, INVALID_TIME};
-use crate::values::{valid_duration, valid_time};
+use cal_c_values::results::{AdjustedTimeResult, Duration, DurationResult, TimeResult};
+use cal_c_values::status::{INVALID_DURATION, INVALID_TIME};
+use cal_c_values::values::{valid_duration, valid_time};
+use cal_c_values::{or_error, or_return};
 
 /// Adds a duration, modulo a day. 23:00 plus 2 hours is 1:00.
 #[unsafe(no_mangle)]

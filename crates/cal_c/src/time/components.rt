@@ -1,12 +1,13 @@
 //! The components of times of day.
 ghost use Rattle.std.specs.Prelude.{◌≡◌, pos};
 ghost use Rattle.cal_time.specs.Time.{IsTime, hour_of, minute_of, second_of, millisecond_of, microsecond_of, nanosecond_of};
-ghost use Rattle.cal_c.specs.Results.{number_ok, number_error, hms_nano_ok, hms_nano_error};
-ghost use Rattle.cal_c.specs.Statuses.{invalid_time};
+ghost use Rattle.cal_c_values.specs.Results.{number_ok, number_error, hms_nano_ok, hms_nano_error};
+ghost use Rattle.cal_c_values.specs.Statuses.{invalid_time};
 
-use crate::results::{HmsNanoResult, NumberResult};
-use crate::status::{INVALID_TIME, OK};
-use crate::values::valid_time;
+use cal_c_values::or_error;
+use cal_c_values::results::{HmsNanoResult, NumberResult};
+use cal_c_values::status::{INVALID_TIME, OK};
+use cal_c_values::values::valid_time;
 
 /// Returns the hour, minute, second and nanosecond. For 3723004005006: 1, 2, 3 and 4005006.
 #[unsafe(no_mangle)]

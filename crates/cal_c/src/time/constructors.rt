@@ -1,11 +1,12 @@
 //! Constructors of times of day.
 ghost use Rattle.std.specs.Prelude.{◌≡◌, ◌*◌, ◌<◌, ◌≤◌};
 ghost use Rattle.cal_time.specs.Time.{time_of};
-ghost use Rattle.cal_c.specs.Results.{time_ok, time_error};
-ghost use Rattle.cal_c.specs.Statuses.{hour_status, minute_status, second_status, millisecond_status, microsecond_status, nanosecond_status};
+ghost use Rattle.cal_c_values.specs.Results.{time_ok, time_error};
+ghost use Rattle.cal_c_values.specs.Statuses.{hour_status, minute_status, second_status, millisecond_status, microsecond_status, nanosecond_status};
 
-use crate::results::TimeResult;
-use crate::values::{saturating_u8, saturating_u16};
+use cal_c_values::ok_or_error;
+use cal_c_values::results::TimeResult;
+use cal_c_values::values::{saturating_u8, saturating_u16};
 use cal_time::Time;
 
 /// Creates a time from an hour, a minute and a second. Returns the first error that applies:

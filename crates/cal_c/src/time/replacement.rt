@@ -1,13 +1,14 @@
 //! Times of day with a component replaced.
 ghost use Rattle.std.specs.Prelude.{◌≡◌, ◌*◌, ◌≤◌};
 ghost use Rattle.cal_time.specs.Time.{IsTime, time_of, hour_of, minute_of, second_of, nanosecond_of};
-ghost use Rattle.cal_c.specs.Results.{time_ok, time_error};
-ghost use Rattle.cal_c.specs.Statuses.{invalid_time, hour_status, minute_status, second_status, millisecond_status, microsecond_status, nanosecond_status};
-ghost use Rattle.cal_c.specs.Values.{need◌else◌then◌};
+ghost use Rattle.cal_c_values.specs.Results.{time_ok, time_error};
+ghost use Rattle.cal_c_values.specs.Statuses.{invalid_time, hour_status, minute_status, second_status, millisecond_status, microsecond_status, nanosecond_status};
+ghost use Rattle.cal_c_values.specs.Values.{need◌else◌then◌};
 
-use crate::results::TimeResult;
-use crate::status::INVALID_TIME;
-use crate::values::{saturating_u8, saturating_u16, valid_time};
+use cal_c_values::results::TimeResult;
+use cal_c_values::status::INVALID_TIME;
+use cal_c_values::values::{saturating_u8, saturating_u16, valid_time};
+use cal_c_values::{ok_or_error, or_error};
 
 /// Replaces the hour. Returns the error `hour` above 23. 3723004005006 with 0 is 123004005006.
 #[unsafe(no_mangle)]

@@ -1,12 +1,13 @@
 //! Truncated times of day.
 ghost use Rattle.std.specs.Prelude.{◌≡◌, ◌*◌};
 ghost use Rattle.cal_time.specs.Time.{IsTime, time_of, hour_of, minute_of, second_of, millisecond_of, microsecond_of};
-ghost use Rattle.cal_c.specs.Results.{time_ok, time_error};
-ghost use Rattle.cal_c.specs.Statuses.{invalid_time};
+ghost use Rattle.cal_c_values.specs.Results.{time_ok, time_error};
+ghost use Rattle.cal_c_values.specs.Statuses.{invalid_time};
 
-use crate::results::TimeResult;
-use crate::status::INVALID_TIME;
-use crate::values::valid_time;
+use cal_c_values::or_error;
+use cal_c_values::results::TimeResult;
+use cal_c_values::status::INVALID_TIME;
+use cal_c_values::values::valid_time;
 
 /// Truncates to the hour. 3723004005006 becomes 3600000000000.
 #[unsafe(no_mangle)]

@@ -1,12 +1,13 @@
 //! The changes of a zone's clocks.
 ghost use Rattle.std.specs.Prelude.{◌≡◌};
-ghost use Rattle.cal_c.specs.Results.{int64_error};
-ghost use Rattle.cal_c.specs.Statuses.{invalid_zone};
-ghost use Rattle.cal_c.specs.Zones.{IsForZone, IsNextResult, IsPreviousResult};
+ghost use Rattle.cal_c_values.specs.Results.{int64_error};
+ghost use Rattle.cal_c_values.specs.Statuses.{invalid_zone};
+ghost use Rattle.cal_c_values.specs.Zones.{IsForZone, IsNextResult, IsPreviousResult};
 
-use crate::results::Int64Result;
-use crate::status::{INVALID_ZONE, RESULT_OUT_OF_RANGE};
-use crate::zones::checked_zone::CheckedZone;
+use cal_c_values::or_error;
+use cal_c_values::results::Int64Result;
+use cal_c_values::status::{INVALID_ZONE, RESULT_OUT_OF_RANGE};
+use cal_c_values::zones::checked_zone::CheckedZone;
 
 /// Returns the Unix time of the first change after a Unix time in seconds. Fails if there is none.
 /// In Berlin it is 1711846800 after 1700000000.

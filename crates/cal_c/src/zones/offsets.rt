@@ -1,19 +1,19 @@
 //! How the clocks of a zone are set at an instant.
 ghost use Rattle.std.specs.Prelude.{◌≡◌};
-ghost use Rattle.cal_c.specs.Moments.{IsMoment, moment_error, local_and_offset_in};
-ghost use Rattle.cal_c.specs.Statuses.{invalid_moment, invalid_zone};
-ghost use Rattle.cal_c.specs.Values.{need◌else◌then◌};
-ghost use Rattle.cal_c.specs.Zones.{local_type_error, local_type_ok, zone_in, HasZone, IsForZone, IsMomentInZone};
-ghost use Rattle.cal_zone.specs.Timeline.{kind_at, offset_at, InOrder};
-ghost use Rattle.cal_c.specs.Results.{offset_error, offset_ok};
+ghost use Rattle.cal_c_values.specs.Moments.{IsMoment, moment_error, local_and_offset_in};
+ghost use Rattle.cal_c_values.specs.Statuses.{invalid_moment, invalid_zone};
+ghost use Rattle.cal_c_values.specs.Values.{need◌else◌then◌};
+ghost use Rattle.cal_c_values.specs.Zones.{local_type_error, local_type_ok, IsForZone, IsMomentInZone};
+ghost use Rattle.cal_zone.specs.Timeline.{kind_at, offset_at};
+ghost use Rattle.cal_c_values.specs.Results.{offset_error, offset_ok};
 
-use crate::moment::valid_moment;
-use crate::results::{Moment, MomentResult, OffsetResult};
-use crate::status::{INVALID_MOMENT, INVALID_ZONE, OK, RESULT_OUT_OF_RANGE};
-use crate::zones::checked_zone::CheckedZone;
-use crate::zones::results::LocalTypeResult;
-use cal_datetime::OffsetDateTime;
-use cal_zone::UncheckedZone;
+use cal_c_values::moment::valid_moment;
+use cal_c_values::or_error;
+use cal_c_values::results::{Moment, MomentResult, OffsetResult};
+use cal_c_values::status::{INVALID_MOMENT, INVALID_ZONE};
+use cal_c_values::zones::checked_zone::CheckedZone;
+use cal_c_values::zones::offsets::{moment_in_zone, offset_by_rule};
+use cal_c_values::zones::results::LocalTypeResult;
 
 /// Returns the offset at a Unix time in seconds. In Berlin it is 7200 at 1711846800, 2024-03-31
 /// 1:00 UTC.
@@ -27,31 +27,6 @@ pub extern "C" fn fots_zone_offset(zone: &CheckedZone<'_>, seconds: i64) -> Offs
         Some(offset) => OffsetResult::ok(offset),
         None => offset_by_rule(zone, seconds),
     }
-}
-
-/// Returns the offset at a Unix time, which the rule may decide. It isn't inlined, so that a search
-/// in the table copies no rule.
-#[inline(never)]
-fn offset_by_rule(zone: &CheckedZone<'_>, seconds: i64) -> OffsetResult
-    requires { HasZone zone.now }
-    ensures { InOrder (zone_in zone.now)
-        → result ≡ offset_ok (offset_at (zone_in zone.now) seconds) }
-{
-    match zone.parts.offset_by_rule(seconds) {
-        Some(offset) => OffsetResult { status: OK, offset },
-        None => offset_in_zone(zone, seconds),
-    }
-}
-
-/// Returns the offset at a Unix time. It isn't inlined, since it copies all parts.
-#[inline(never)]
-fn offset_in_zone(zone: &CheckedZone<'_>, seconds: i64) -> OffsetResult
-    ensures { IsForZone zone.now (λ z. result ≡ offset_ok (offset_at z seconds))
-        (result ≡ offset_error invalid_zone) }
-{
-    let zone = or_error!(OffsetResult, zone.unchecked(), INVALID_ZONE);
-    let offset = or_error!(OffsetResult, zone.utc_offset_at(seconds), INVALID_ZONE);
-    OffsetResult::ok(offset)
 }
 
 /// Returns how the clocks are set at a Unix time in seconds: the offset, whether it is daylight
@@ -77,17 +52,4 @@ pub extern "C" fn fots_moment_in_zone(moment: Moment, zone: &CheckedZone<'_>) ->
     let moment = or_error!(MomentResult, valid_moment(moment), INVALID_MOMENT);
     let zone = or_error!(MomentResult, zone.unchecked(), INVALID_ZONE);
     moment_in_zone(moment, &zone)
-}
-
-/// Converts a moment to the time of a zone.
-fn moment_in_zone(moment: OffsetDateTime, zone: &UncheckedZone<'_>) -> MomentResult
-    ensures { InOrder zone.now → IsMomentInZone zone.now moment result }
-{
-    let offset = or_error!(
-        MomentResult,
-        zone.utc_offset_at(moment.unix_timestamp()),
-        INVALID_ZONE
-    );
-    let moved = moment.checked_to_offset(offset);
-    MomentResult::ok(or_error!(MomentResult, moved, RESULT_OUT_OF_RANGE))
 }

@@ -1,23 +1,20 @@
 //! Texts of moments by the clocks of a zone.
-ghost use Rattle.std.specs.Prelude.{List, ◌≤◌, length};
-ghost use Rattle.cal_datetime.specs.OffsetDateTime.{instant, local_at};
+ghost use Rattle.std.specs.Prelude.{List};
 ghost use Rattle.cal_format.specs.declared.item.Item.{Item};
-ghost use Rattle.cal_c.specs.Formats.{HasItems, IsFormat};
-ghost use Rattle.cal_c.specs.FormatTexts.{IsUnprinted, length_error};
-ghost use Rattle.cal_c.specs.Moments.{IsMoment, local_and_offset_in};
-ghost use Rattle.cal_c.specs.Statuses.{invalid_format, invalid_moment, invalid_zone};
-ghost use Rattle.cal_c.specs.Zones.{IsForZone, IsPrintedAt, IsPrintedInZone};
+ghost use Rattle.cal_c_values.specs.Formats.{HasItems, IsFormat};
+ghost use Rattle.cal_c_values.specs.FormatTexts.{IsUnprinted, length_error};
+ghost use Rattle.cal_c_values.specs.Moments.{IsMoment, local_and_offset_in};
+ghost use Rattle.cal_c_values.specs.Statuses.{invalid_format, invalid_moment, invalid_zone};
+ghost use Rattle.cal_c_values.specs.Zones.{IsForZone, IsPrintedInZone};
 
-use crate::formats::format_parts::FormatParts;
-use crate::formats::printing::{MAX_LENGTH, write};
-use crate::formats::results::LengthResult;
-use crate::moment::valid_moment;
-use crate::results::Moment;
-use crate::status::{INVALID_FORMAT, INVALID_MOMENT, INVALID_ZONE, RESULT_OUT_OF_RANGE};
-use crate::zones::checked_zone::CheckedZone;
-use cal_datetime::OffsetDateTime;
-use cal_format::Format;
-use cal_time::UtcOffset;
+use cal_c_values::formats::format_parts::FormatParts;
+use cal_c_values::formats::results::LengthResult;
+use cal_c_values::moment::valid_moment;
+use cal_c_values::or_error;
+use cal_c_values::results::Moment;
+use cal_c_values::status::{INVALID_FORMAT, INVALID_MOMENT, INVALID_ZONE};
+use cal_c_values::zones::checked_zone::CheckedZone;
+use cal_c_values::zones::printing::print_at;
 
 /// Prints a moment as the clocks of a zone show it, such as `03:00 CEST` by `%H:%M %Z`. Fails if
 /// the local result is out of range, or if the abbreviation has more than 15 bytes.
@@ -43,25 +40,4 @@ pub extern "C" fn fots_moment_format_in_zone(
     let offset = or_error!(LengthResult, unchecked.utc_offset_at(seconds), INVALID_ZONE);
     let abbreviation = unchecked.kind_at(seconds).abbreviation(zone.bytes);
     print_at(moment, offset, abbreviation, &format, bytes)
-}
-
-/// Prints a moment at an offset with this abbreviation.
-fn print_at(
-    moment: OffsetDateTime,
-    offset: UtcOffset,
-    abbreviation: &[u8],
-    format: &Format,
-    bytes: &mut [u8],
-) -> LengthResult
-    requires { length format.now ≤ 64 }
-    ensures { IsPrintedAt abbreviation.now (local_at (instant moment) offset) offset format.now bytes.old bytes.new result }
-{
-    let moved = or_error!(
-        LengthResult,
-        moment.checked_to_offset(offset),
-        RESULT_OUT_OF_RANGE
-    );
-    let mut text = [0; MAX_LENGTH];
-    let end = format.print_in_zone(moved, abbreviation, &mut text);
-    write(&text, end, bytes)
 }

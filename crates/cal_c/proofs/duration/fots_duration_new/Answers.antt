@@ -1,7 +1,7 @@
 use Rattle.std.proofs.Common.{◌≡◌, pos, ◌+ℤ◌, ◌*ℤ◌, sym, subst, arith}
 use Rattle.std.proofs.lemmas.Int.{ints, to_z-of_z}
 use Rattle.cal_time.specs.SignedDuration.{second}
-use Rattle.cal_c.specs.Results.{IsDurationOrOutOfRange}
+use Rattle.cal_c_values.specs.Results.{IsDurationOrOutOfRange}
 use Rattle.cal_c.proofs.Durations.{duration-if-any}
 use Rattle.cal_c.proofs.duration.fots_duration_new.Goals as goal
 

@@ -2,7 +2,7 @@ use Rattle.std.proofs.Common.{pos, ap, ◌∙◌, subst, rules, FitsSigned}
 use Rattle.std.proofs.lemmas.Int.{to_z-of_z}
 use Rattle.std.specs.Int.{w128}
 use Rattle.cal_time.specs.SignedDuration.{microsecond, cut}
-use Rattle.cal_c.specs.Results.{IsInt64OrOutOfRange}
+use Rattle.cal_c_values.specs.Results.{IsInt64OrOutOfRange}
 use Rattle.cal_c.proofs.duration.fots_duration_whole_microseconds.Goals as goal
 
 pub returns-clause-value : goal.returns-clause-value

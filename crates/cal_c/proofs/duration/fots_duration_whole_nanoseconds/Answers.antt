@@ -1,7 +1,7 @@
 use Rattle.std.proofs.Common.{◌∙◌, subst, rules, FitsSigned}
 use Rattle.std.proofs.lemmas.Int.{to_z-of_z}
 use Rattle.std.specs.Int.{w128}
-use Rattle.cal_c.specs.Results.{IsInt64OrOutOfRange}
+use Rattle.cal_c_values.specs.Results.{IsInt64OrOutOfRange}
 use Rattle.cal_c.proofs.duration.fots_duration_whole_nanoseconds.Goals as goal
 
 pub returns-clause-value : goal.returns-clause-value

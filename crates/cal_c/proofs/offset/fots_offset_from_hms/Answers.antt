@@ -2,8 +2,8 @@ use Rattle.std.proofs.Common.{◌≤◌, ap, ◌∙◌, sym, subst, rules, arith
 use Rattle.std.specs.Prelude.{unsigned_abs}
 use Rattle.std.proofs.lemmas.Int.{to_z-of_z}
 use Rattle.cal_time.specs.declared.error.ComponentRange.{ComponentRange}
-use Rattle.cal_c.specs.Results.{offset_error}
-use Rattle.cal_c.specs.Statuses.{component_status}
+use Rattle.cal_c_values.specs.Results.{offset_error}
+use Rattle.cal_c_values.specs.Statuses.{component_status}
 use Rattle.cal_c.proofs.offset.fots_offset_from_hms.Goals as goal
 
 pub returns-in-Ok-clause-hour : goal.returns-in-Ok-clause-hour

@@ -1,6 +1,6 @@
 use Rattle.std.proofs.Common.{rules}
 use Rattle.std.proofs.lemmas.Int.{to_z-of_z}
-use Rattle.cal_c.proofs.Needs.{met}
+use Rattle.cal_c_values.proofs.Needs.{met}
 use Rattle.cal_c.proofs.pair.fots_sub_from_pair.Goals as goal
 
 pub returns : goal.returns

@@ -1,26 +1,19 @@
 //! Columns of dates in the texts of a format.
-ghost use Rattle.std.specs.Prelude.{◌≡◌, ◌+◌, ◌≤◌, ◌*◌, IsTrue, length, take, pos};
-ghost use Rattle.cal_format.specs.Moment.{moment_of_date};
-ghost use Rattle.cal_format.specs.Reading.{are_date_items};
-ghost use Rattle.cal_format.specs.Text.{text_of};
-ghost use Rattle.cal_c.specs.Columns.{date_row, int_at, nat_at, AreRows};
-ghost use Rattle.cal_c.specs.FormatColumns.{IsDateByFormat, IsDateByFormatRow, IsTextByFormatRow, room_for_text};
-ghost use Rattle.cal_c.specs.Statuses.{ok_status, unsupported_item};
-ghost use Rattle.cal_c.specs.TextColumns.{ArePrinted, HasRoomFor};
-ghost use Rattle.cal_c.specs.Values.{need◌else◌then◌};
+ghost use Rattle.std.specs.Prelude.{◌≡◌, ◌+◌, length};
+ghost use Rattle.cal_c_values.specs.Columns.{date_row, int_at, nat_at, AreRows};
+ghost use Rattle.cal_c_values.specs.FormatColumns.{IsDateByFormat, IsDateByFormatRow, IsTextByFormatRow, room_for_text};
+ghost use Rattle.cal_c_values.specs.TextColumns.{ArePrinted, HasRoomFor};
+ghost use Rattle.cal_c_values.specs.Values.{need◌else◌then◌};
 
-use super::formatting::{has_room, put};
-use super::parsing::{are_bounds, bytes_between};
-use crate::columns::statuses::{
-    INVALID_BOUNDS, INVALID_DATE, INVALID_FORMAT, OK, UNSUPPORTED_ITEM, byte_status,
-};
-use crate::columns::{LENGTH_MISMATCH, NO_VALUE, count_errors};
-use crate::formats::format_parts::FormatParts;
+use crate::columns::LENGTH_MISMATCH;
 use crate::formats::parsing::fots_date_parse_format;
-use crate::formats::printing::MAX_LENGTH;
-use crate::values::valid_date;
-use cal_format::Format;
-use cal_time::Date;
+use cal_c_values::columns::statuses::{INVALID_BOUNDS, byte_status};
+use cal_c_values::columns::texts::formats::{room_for_text, text_row};
+use cal_c_values::columns::texts::formatting::{has_room, put};
+use cal_c_values::columns::texts::parsing::{are_bounds, bytes_between};
+use cal_c_values::columns::{NO_VALUE, count_errors};
+use cal_c_values::formats::format_parts::FormatParts;
+use cal_c_values::formats::printing::MAX_LENGTH;
 
 /// Parses dates, like `fots_date_parse_format`.
 #[unsafe(no_mangle)]
@@ -104,44 +97,4 @@ pub extern "C" fn fots_dates_format(
         statuses[row] = status;
     }
     count_errors(statuses)
-}
-
-/// Returns the bytes of room for each text.
-fn room_for_text(format: &FormatParts) -> usize
-    ensures value { result ≡ room_for_text format.now }
-    ensures range { (15 ≤ result) × (result ≤ 960) }
-{
-    (format.length as usize).min(64).max(1) * 15
-}
-
-/// Writes the text of a date, or an empty text, and returns its length and the status.
-fn text_row(date: i32, format: &FormatParts, text: &mut [u8]) -> (usize, u8)
-    requires { length text.old ≡ 960 }
-    ensures value { IsTextByFormatRow format.now date (take result.0 text.new) result.1 }
-    ensures max_length { result.0 ≤ room_for_text format.now }
-    ensures room { length text.new ≡ 960 }
-{
-    let date = or_return!(valid_date(date), (0, INVALID_DATE));
-    let format = or_return!(format.to_format(), (0, INVALID_FORMAT));
-    print_row(date, &format, text)
-}
-
-/// Writes the text of a date, or an empty text, and returns its length and the status.
-fn print_row(date: Date, format: &Format, text: &mut [u8]) -> (usize, u8)
-    requires few { length format.now ≤ 64 }
-    requires room { length text.old ≡ 960 }
-    ensures unsupported_item { ¬ IsTrue (are_date_items format.now)
-        → (result.0 ≡ 0) × (pos result.1 ≡ unsupported_item) }
-    ensures value { IsTrue (are_date_items format.now)
-        → (take result.0 text.new ≡ text_of format.now (moment_of_date date))
-        × (pos result.1 ≡ ok_status) }
-    ensures max_length { result.0 ≤ length format.now * 15 }
-    ensures room { length text.new ≡ 960 }
-{
-    // This call states that the date is in its range. It costs nothing.
-    let _ = date.to_julian_day();
-    match format.print_date(date, text) {
-        Some(length) => (length, OK),
-        None => (0, UNSUPPORTED_ITEM),
-    }
 }

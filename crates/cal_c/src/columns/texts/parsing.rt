@@ -1,13 +1,15 @@
 //! Columns of texts to parse.
-ghost use Rattle.std.specs.Prelude.{◌≡◌, ◌↔◌, ◌+◌, length, IsTrue, MatchOption, ◌∷◌, []};
-ghost use Rattle.cal_c.specs.Columns.{date_row, int_at, SameLength, nat_at, AreRows};
-ghost use Rattle.cal_c.specs.TextColumns.{AreBoundsWithin, IsParsedDateRow, IsParsedDate, IsParsedMomentRow, IsParsedMoment, moment_row, bytes_between};
-ghost use Rattle.cal_c.specs.Values.{need◌else◌then◌};
+ghost use Rattle.std.specs.Prelude.{◌≡◌, ◌+◌, length, ◌∷◌, []};
+ghost use Rattle.cal_c_values.specs.Columns.{date_row, int_at, SameLength, nat_at, AreRows};
+ghost use Rattle.cal_c_values.specs.TextColumns.{IsParsedDateRow, IsParsedDate, IsParsedMomentRow, IsParsedMoment, moment_row};
+ghost use Rattle.cal_c_values.specs.Values.{need◌else◌then◌};
 
-use crate::columns::statuses::{INVALID_BOUNDS, byte_status};
-use crate::columns::{LENGTH_MISMATCH, NO_VALUE, count_errors};
-use crate::results::{Moment, MomentResult};
+use crate::columns::LENGTH_MISMATCH;
 use crate::texts::parsing::{fots_date_parse, fots_moment_parse};
+use cal_c_values::columns::statuses::{INVALID_BOUNDS, byte_status};
+use cal_c_values::columns::texts::parsing::{are_bounds, bytes_between};
+use cal_c_values::columns::{NO_VALUE, count_errors};
+use cal_c_values::results::{Moment, MomentResult};
 
 /// Parses dates, like `fots_date_parse`.
 #[unsafe(no_mangle)]
@@ -66,27 +68,6 @@ pub extern "C" fn fots_moments_parse(
         statuses[row] = status;
     }
     count_errors(statuses)
-}
-
-/// Returns `true` if there is one bound more than rows.
-pub(super) fn are_bounds(bounds: &[i32], rows: usize) -> bool
-    ensures { IsTrue result ↔ (length bounds.now ≡ rows + 1) }
-{
-    bounds.len() > rows && bounds.len() - 1 == rows
-}
-
-/// Returns the bytes between two bounds, or `None` if the bounds are invalid.
-pub(super) fn bytes_between(bytes: &[u8], from: i32, to: i32) -> Option<&[u8]>
-    ensures { MatchOption result (¬ AreBoundsWithin bytes.now from to)
-        (λ text. AreBoundsWithin bytes.now from to × (text.now ≡ bytes_between bytes.now from to)) }
-{
-    let from = usize::try_from(from).ok()?;
-    let to = usize::try_from(to).ok()?;
-    if from <= to && to <= bytes.len() {
-        Some(&bytes[from..to])
-    } else {
-        None
-    }
 }
 
 /// Returns the row of the date between two bounds.

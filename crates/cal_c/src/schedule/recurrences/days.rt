@@ -1,21 +1,20 @@
 //! The days of recurrences in text.
-ghost use Rattle.std.specs.Prelude.{◌≡◌, Err, List, Ok, false, filter, nat_le, ℕ};
-ghost use Rattle.cal_recurrence.specs.Days.{days_of, up_to_end};
+ghost use Rattle.std.specs.Prelude.{◌≡◌, Err, Ok, filter, nat_le};
+ghost use Rattle.cal_recurrence.specs.Days.{days_of};
 ghost use Rattle.cal_recurrence.specs.Text.{recurrence_of};
 ghost use Rattle.cal_recurrence.specs.declared.fault.ParseRuleError.{ParseRuleError};
 ghost use Rattle.cal_recurrence.specs.declared.recurrence.Recurrence.{Recurrence};
-ghost use Rattle.cal_c.specs.RecurrenceTexts.{recurrence_ok, recurrence_error, recurrence_parse_error};
-ghost use Rattle.cal_c.specs.Recurrences.{AreDatesWritten};
-ghost use Rattle.cal_c.specs.Statuses.{invalid_date};
-ghost use Rattle.cal_c.specs.Values.{IsJulianDay, day_of};
+ghost use Rattle.cal_c_values.specs.RecurrenceTexts.{recurrence_ok, recurrence_error, recurrence_parse_error};
+ghost use Rattle.cal_c_values.specs.Recurrences.{AreDatesWritten};
+ghost use Rattle.cal_c_values.specs.Statuses.{invalid_date};
+ghost use Rattle.cal_c_values.specs.Values.{IsJulianDay, day_of};
 
-use super::results::RecurrenceResult;
-use super::write_days;
-use crate::status::INVALID_DATE;
-use crate::values::valid_date;
-use cal_recurrence::{Recurrence, RuleEnd, parse};
-use cal_schedule::RuleDays;
-use cal_time::Date;
+use cal_c_values::or_return;
+use cal_c_values::schedule::recurrences::days::write_days_from;
+use cal_c_values::schedule::recurrences::results::RecurrenceResult;
+use cal_c_values::status::INVALID_DATE;
+use cal_c_values::values::valid_date;
+use cal_recurrence::parse;
 
 /// Writes the days of a recurrence in text with this start, from the date `from` on, in ascending
 /// order, as many as fit in the array. Returns their number. The rest of the array stays as it is.
@@ -45,42 +44,4 @@ pub extern "C" fn fots_recurrence_days(
         return RecurrenceResult::error(INVALID_DATE);
     };
     RecurrenceResult::ok(write_days_from(&recurrence, start, from, days))
-}
-
-/// Returns `true` if the recurrence ends after a number of days.
-fn is_counted(recurrence: &Recurrence) -> bool
-    ensures { result ≡ false → (days : List ℕ) → up_to_end recurrence.now.end days ≡ days }
-{
-    matches!(recurrence.end, RuleEnd::Count(_))
-}
-
-/// Writes the days of a recurrence from a date on, as many as fit, and returns their number.
-fn write_days_from(recurrence: &Recurrence, start: Date, from: Date, days: &mut [i32]) -> usize
-    ensures { AreDatesWritten (filter (nat_le from) (days_of recurrence.now start))
-        days.old days.new result }
-{
-    if is_counted(recurrence) {
-        return write_late(recurrence.days(start), from, days);
-    }
-    match from.previous_day() {
-        Some(before) => write_days(&recurrence.rule(start), before, days),
-        None => write_late(recurrence.days(start), from, days),
-    }
-}
-
-/// Writes the days of an iterator from a date on, as many as fit, and returns their number.
-fn write_late(mut walk: RuleDays, from: Date, days: &mut [i32]) -> usize
-    ensures { AreDatesWritten (filter (nat_le from) walk) days.old days.new result }
-{
-    let mut index = 0;
-    while index < days.len() {
-        let Some(day) = walk.next() else {
-            return index;
-        };
-        if from <= day {
-            days[index] = day.to_julian_day();
-            index += 1;
-        }
-    }
-    index
 }

@@ -1,57 +1,10 @@
 //! The text of a recurrence, in one order.
-ghost use Rattle.std.specs.Prelude.{◌≡◌, ◌≤◌, length};
-ghost use Rattle.cal_recurrence.specs.RecurrenceText.{capacity};
+ghost use Rattle.std.specs.Prelude.{◌≡◌};
 ghost use Rattle.cal_recurrence.specs.Text.{recurrence_of};
-ghost use Rattle.cal_c.specs.RecurrenceTexts.{recurrence_text_error, recurrence_text_result, recurrence_text_ok};
+ghost use Rattle.cal_c_values.specs.RecurrenceTexts.{recurrence_text_result};
 
-use super::results::{error_part, reason_status};
-use crate::status::OK;
-use cal_recurrence::{ParseRuleError, parse};
-
-/// The bytes of a text: enough for the longest recurrence, and zero bytes.
-const CAPACITY: usize = 2728;
-
-/// A text in ASCII, followed by zero bytes, or the first wrong part of the text that was passed.
-#[repr(C)]
-#[derive(Clone, Copy)]
-pub struct RecurrenceTextResult {
-    pub status: i32,
-    /// The number of the wrong part, from 1 for `FREQ`, or 0.
-    pub part: u32,
-    /// The position of the wrong part.
-    pub position: usize,
-    pub length: u32,
-    pub bytes: [u8; CAPACITY],
-}
-
-impl RecurrenceTextResult {
-    fn ok(text: &[u8]) -> Self
-        requires { length text.now ≤ capacity }
-        ensures { result ≡ recurrence_text_ok text.now }
-    {
-        let mut bytes = [0; CAPACITY];
-        bytes[..text.len()].copy_from_slice(text);
-        RecurrenceTextResult {
-            status: OK,
-            part: 0,
-            position: usize::MAX,
-            length: text.len() as u32,
-            bytes,
-        }
-    }
-
-    fn parse_error(fault: ParseRuleError) -> Self
-        ensures { result ≡ recurrence_text_error fault }
-    {
-        RecurrenceTextResult {
-            status: reason_status(fault.reason),
-            part: error_part(fault.reason),
-            position: fault.position,
-            length: 0,
-            bytes: [0; CAPACITY],
-        }
-    }
-}
+use cal_c_values::schedule::recurrences::formatting::RecurrenceTextResult;
+use cal_recurrence::parse;
 
 /// Parses a recurrence and writes it with its parts in one order.
 /// `byday=-01fr;count=3;freq=monthly` becomes `FREQ=MONTHLY;COUNT=3;BYDAY=-1FR`.

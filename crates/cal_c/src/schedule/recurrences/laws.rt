@@ -2,8 +2,8 @@
 ghost use Rattle.std.specs.Prelude.{◌≡◌};
 
 use super::days::fots_recurrence_days;
-use super::results::RecurrenceResult;
-use crate::values::valid_date;
+use cal_c_values::schedule::recurrences::results::RecurrenceResult;
+use cal_c_values::values::valid_date;
 
 /// Makes the same call over two equal arrays. The results and the arrays are equal afterwards.
 pub fn days_twice(

@@ -1,24 +1,13 @@
 //! Parsing a recurrence to its parts.
 ghost use Rattle.std.specs.Prelude.{◌≡◌};
 ghost use Rattle.cal_recurrence.specs.Text.{recurrence_of};
-ghost use Rattle.cal_c.specs.RecurrenceParts.{parse_recurrence_result};
+ghost use Rattle.cal_c_values.specs.RecurrenceParts.{parse_recurrence_result};
 
-use super::recurrence_parts::RecurrenceParts;
-use super::results::{error_part, reason_status};
-use crate::status::OK;
+use cal_c_values::schedule::recurrences::parsing::ParseRecurrenceResult;
+use cal_c_values::schedule::recurrences::recurrence_parts::RecurrenceParts;
+use cal_c_values::schedule::recurrences::results::{error_part, reason_status};
+use cal_c_values::status::OK;
 use cal_recurrence::parse;
-
-/// A parsed recurrence, or the first wrong part of the text.
-#[repr(C)]
-#[derive(Clone, Copy)]
-pub struct ParseRecurrenceResult {
-    pub status: i32,
-    /// The number of the wrong part, from 1 for `FREQ`, or 0.
-    pub part: u32,
-    /// The position of the wrong part.
-    pub position: usize,
-    pub recurrence: RecurrenceParts,
-}
 
 /// Parses a recurrence. `FREQ=MONTHLY;BYDAY=-1FR;COUNT=3` gives the frequency 3, the interval 1,
 /// weeks from 1, no last day, the count 3, and one weekday, -1 and 5.

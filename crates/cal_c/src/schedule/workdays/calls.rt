@@ -1,20 +1,21 @@
 //! Calls that take checked working days.
-ghost use Rattle.std.specs.Prelude.{◌≡◌, ◌<◌, ◌≤◌, Bool, pos, if◌then◌else◌};
+ghost use Rattle.std.specs.Prelude.{◌≡◌, ◌<◌, Bool, pos, if◌then◌else◌};
 ghost use Rattle.cal_schedule.specs.declared.workdays.convention.Convention.{Convention};
 ghost use Rattle.cal_schedule.specs.Workdays.{is_workday};
 ghost use Rattle.cal_schedule.specs.WorkdaysConvention.{adjusted_date};
-ghost use Rattle.cal_c.specs.CheckedWorkdays.{week_of, HasLimits, IsChecked, IsDateWorkdaysLaterIn, IsSomeDate, IsWorkdaysBetweenIn};
-ghost use Rattle.cal_c.specs.Results.{date_or_out_of_range, date_error, number_ok, number_error};
-ghost use Rattle.cal_c.specs.Statuses.{invalid_convention, invalid_date, invalid_weekmask, too_many_holidays};
-ghost use Rattle.cal_c.specs.Values.{IsJulianDay, day_of};
-ghost use Rattle.cal_c.specs.Weekmasks.{convention_number, max_holidays, IsConvention, IsWeekmask};
+ghost use Rattle.cal_c_values.specs.CheckedWorkdays.{week_of, HasLimits, IsChecked, IsDateWorkdaysLaterIn, IsSomeDate, IsWorkdaysBetweenIn};
+ghost use Rattle.cal_c_values.specs.Results.{date_or_out_of_range, date_error, number_ok, number_error};
+ghost use Rattle.cal_c_values.specs.Statuses.{invalid_convention, invalid_date, invalid_weekmask, too_many_holidays};
+ghost use Rattle.cal_c_values.specs.Values.{IsJulianDay, day_of};
+ghost use Rattle.cal_c_values.specs.Weekmasks.{convention_number, max_holidays, IsConvention, IsWeekmask};
 
-use super::valid_convention;
-use crate::day_number::{date_result, day_number};
-use crate::results::{DateResult, NumberResult};
-use crate::schedule::workdays::checked_workdays::CheckedWorkdays;
-use crate::schedule::workdays::ranks::RankedWorkdays;
-use crate::status::{INVALID_CONVENTION, INVALID_DATE};
+use cal_c_values::day_number::{date_result, day_number};
+use cal_c_values::results::{DateResult, NumberResult};
+use cal_c_values::schedule::workdays::checked_workdays::CheckedWorkdays;
+use cal_c_values::schedule::workdays::ranks::RankedWorkdays;
+use cal_c_values::schedule::workdays::valid_convention;
+use cal_c_values::status::{INVALID_CONVENTION, INVALID_DATE};
+use cal_c_values::{or_error, or_return};
 
 /// Returns 1 if a date is a working day, else 0, like `fots_date_is_workday`.
 #[unsafe(no_mangle)]

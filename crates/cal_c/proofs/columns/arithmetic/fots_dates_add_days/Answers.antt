@@ -1,8 +1,8 @@
 use Rattle.std.proofs.Common.{◌≡◌, ◌≢◌, sym, get_or, get_or-set_other, pos, arith, rules, FitsSigned, w32, to_z, of_z}
 use Rattle.std.proofs.lemmas.Int.{to_z-of_z}
-use Rattle.cal_c.specs.Columns.{IsDateDaysLater, date_row}
-use Rattle.cal_c.proofs.HeldDays.{held, IsDateDaysLater-held}
-use Rattle.cal_c.proofs.Rows.{rows_two}
+use Rattle.cal_c_values.specs.Columns.{IsDateDaysLater, date_row}
+use Rattle.cal_c_values.proofs.HeldDays.{held, IsDateDaysLater-held}
+use Rattle.cal_c_values.proofs.Rows.{rows_two}
 use Rattle.cal_c.proofs.columns.arithmetic.fots_dates_add_days.Goals as goal
 
 pub loop-row-preserved : goal.loop-row-preserved

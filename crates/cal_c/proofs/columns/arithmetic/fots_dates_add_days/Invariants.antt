@@ -1,6 +1,6 @@
 use Rattle.std.proofs.Common.{◌≡◌, ℕ, ◌<◌, ◌≤◌, length, get_or, pos}
-use Rattle.cal_c.specs.Columns.{IsDateDaysLater, date_row}
-use Rattle.cal_c.proofs.HeldDays.{held}
+use Rattle.cal_c_values.specs.Columns.{IsDateDaysLater, date_row}
+use Rattle.cal_c_values.proofs.HeldDays.{held}
 use Rattle.cal_c.proofs.columns.arithmetic.fots_dates_add_days.Given as goal
 
 abbrev pub invariant-loop-row : goal.invariant-loop-row

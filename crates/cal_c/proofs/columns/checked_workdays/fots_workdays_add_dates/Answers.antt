@@ -1,9 +1,9 @@
 use Rattle.std.proofs.Common.{◌≡◌, ℤ, get_or, pos, arith, rules, FitsSigned, w32, to_z, of_z}
 use Rattle.std.proofs.lemmas.Int.{ints, to_z-of_z}
-use Rattle.cal_c.specs.CheckedWorkdays.{IsDateWorkdaysLaterIn}
-use Rattle.cal_c.specs.Columns.{date_row}
-use Rattle.cal_c.specs.Results.{date_error}
-use Rattle.cal_c.proofs.Rows.{rows_two}
+use Rattle.cal_c_values.specs.CheckedWorkdays.{IsDateWorkdaysLaterIn}
+use Rattle.cal_c_values.specs.Columns.{date_row}
+use Rattle.cal_c_values.specs.Results.{date_error}
+use Rattle.cal_c_values.proofs.Rows.{rows_two}
 use Rattle.cal_c.proofs.Schedules.{if_refused, if_read}
 use Rattle.cal_c.proofs.columns.checked_workdays.fots_workdays_add_dates.Goals as goal
 

@@ -1,9 +1,9 @@
 use Rattle.std.proofs.Common.{◌≡◌, ℤ, get_or, pos, arith, rules, FitsSigned, w32, to_z, of_z}
 use Rattle.std.proofs.lemmas.Int.{ints, to_z-of_z}
-use Rattle.cal_c.specs.CheckedWorkdays.{IsWorkdaysBetweenIn}
-use Rattle.cal_c.specs.Columns.{number_row}
-use Rattle.cal_c.specs.Results.{number_error}
-use Rattle.cal_c.proofs.Rows.{rows_two}
+use Rattle.cal_c_values.specs.CheckedWorkdays.{IsWorkdaysBetweenIn}
+use Rattle.cal_c_values.specs.Columns.{number_row}
+use Rattle.cal_c_values.specs.Results.{number_error}
+use Rattle.cal_c_values.proofs.Rows.{rows_two}
 use Rattle.cal_c.proofs.Schedules.{if_refused, if_read}
 use Rattle.cal_c.proofs.columns.checked_workdays.fots_workdays_between_dates.Goals as goal
 

@@ -1,6 +1,6 @@
 use Rattle.std.proofs.Common.{ℕ, ◌<◌, pos, get_or}
-use Rattle.cal_c.specs.CheckedWorkdays.{IsWorkdaysBetweenIn}
-use Rattle.cal_c.specs.Columns.{number_row}
+use Rattle.cal_c_values.specs.CheckedWorkdays.{IsWorkdaysBetweenIn}
+use Rattle.cal_c_values.specs.Columns.{number_row}
 use Rattle.cal_c.proofs.columns.checked_workdays.fots_workdays_between_dates.Given as goal
 
 abbrev pub invariant-loop-row : goal.invariant-loop-row

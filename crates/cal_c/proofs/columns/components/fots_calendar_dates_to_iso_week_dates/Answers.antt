@@ -1,7 +1,7 @@
 use Rattle.std.proofs.Common.{get_or, pos, arith, rules, FitsSigned, w32, to_z, of_z}
 use Rattle.std.proofs.lemmas.Int.{to_z-of_z}
-use Rattle.cal_c.specs.Columns.{IsIsoWeekDateOfCalendarDate, iso_week_date_row}
-use Rattle.cal_c.proofs.Rows.{rows_four}
+use Rattle.cal_c_values.specs.Columns.{IsIsoWeekDateOfCalendarDate, iso_week_date_row}
+use Rattle.cal_c_values.proofs.Rows.{rows_four}
 use Rattle.cal_c.proofs.columns.components.fots_calendar_dates_to_iso_week_dates.Goals as goal
 
 pub loop-row-preserved : goal.loop-row-preserved

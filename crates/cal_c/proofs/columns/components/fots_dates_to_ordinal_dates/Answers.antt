@@ -1,7 +1,7 @@
 use Rattle.std.proofs.Common.{get_or, pos, arith, rules, FitsSigned, w32, to_z, of_z}
 use Rattle.std.proofs.lemmas.Int.{to_z-of_z}
-use Rattle.cal_c.specs.Columns.{IsOrdinalDateOf, ordinal_date_row}
-use Rattle.cal_c.proofs.Rows.{rows_three}
+use Rattle.cal_c_values.specs.Columns.{IsOrdinalDateOf, ordinal_date_row}
+use Rattle.cal_c_values.proofs.Rows.{rows_three}
 use Rattle.cal_c.proofs.columns.components.fots_dates_to_ordinal_dates.Goals as goal
 
 pub loop-row-preserved : goal.loop-row-preserved

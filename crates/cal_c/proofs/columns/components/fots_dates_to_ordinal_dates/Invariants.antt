@@ -1,5 +1,5 @@
 use Rattle.std.proofs.Common.{ℕ, ◌<◌, pos, get_or}
-use Rattle.cal_c.specs.Columns.{IsOrdinalDateOf, ordinal_date_row}
+use Rattle.cal_c_values.specs.Columns.{IsOrdinalDateOf, ordinal_date_row}
 use Rattle.cal_c.proofs.columns.components.fots_dates_to_ordinal_dates.Given as goal
 
 abbrev pub invariant-loop-row : goal.invariant-loop-row

@@ -1,7 +1,7 @@
 use Rattle.std.proofs.Common.{get_or, pos, arith, rules, FitsSigned, w32, to_z, of_z}
 use Rattle.std.proofs.lemmas.Int.{to_z-of_z}
-use Rattle.cal_c.specs.Columns.{IsDateOfCalendarDate, date_row}
-use Rattle.cal_c.proofs.Rows.{rows_two}
+use Rattle.cal_c_values.specs.Columns.{IsDateOfCalendarDate, date_row}
+use Rattle.cal_c_values.proofs.Rows.{rows_two}
 use Rattle.cal_c.proofs.columns.constructors.fots_dates_from_calendar_dates.Goals as goal
 
 pub loop-row-preserved : goal.loop-row-preserved

@@ -1,5 +1,5 @@
 use Rattle.std.proofs.Common.{ℕ, ◌<◌, pos, get_or}
-use Rattle.cal_c.specs.Columns.{IsDateOfIsoWeekDate, date_row}
+use Rattle.cal_c_values.specs.Columns.{IsDateOfIsoWeekDate, date_row}
 use Rattle.cal_c.proofs.columns.constructors.fots_dates_from_iso_week_dates.Given as goal
 
 abbrev pub invariant-loop-row : goal.invariant-loop-row

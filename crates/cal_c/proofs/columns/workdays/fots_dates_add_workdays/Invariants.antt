@@ -1,5 +1,5 @@
 use Rattle.std.proofs.Common.{ℕ, ◌<◌, pos, get_or}
-use Rattle.cal_c.specs.Columns.{IsDateWorkdaysLater, date_row}
+use Rattle.cal_c_values.specs.Columns.{IsDateWorkdaysLater, date_row}
 use Rattle.cal_c.proofs.columns.workdays.fots_dates_add_workdays.Given as goal
 
 abbrev pub invariant-loop-row : goal.invariant-loop-row

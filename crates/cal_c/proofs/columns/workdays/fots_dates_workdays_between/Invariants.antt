@@ -1,5 +1,5 @@
 use Rattle.std.proofs.Common.{ℕ, ◌<◌, pos, get_or}
-use Rattle.cal_c.specs.Columns.{IsWorkdaysBetween, number_row}
+use Rattle.cal_c_values.specs.Columns.{IsWorkdaysBetween, number_row}
 use Rattle.cal_c.proofs.columns.workdays.fots_dates_workdays_between.Given as goal
 
 abbrev pub invariant-loop-row : goal.invariant-loop-row

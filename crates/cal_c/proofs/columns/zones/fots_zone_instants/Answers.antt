@@ -2,14 +2,14 @@ use Rattle.std.proofs.Common.{◌≡◌, get_or, pos, arith, rules, FitsSigned, 
 use Rattle.std.proofs.lemmas.Int.{to_z-of_z}
 use Rattle.std.specs.Prelude.{MatchOption}
 use Rattle.cal_zone.specs.Timeline.{Timeline, InOrder}
-use Rattle.cal_c.specs.Results.{int64_error}
-use Rattle.cal_c.specs.Statuses.{invalid_policy, invalid_zone}
-use Rattle.cal_c.specs.Values.{need◌else◌then◌}
-use Rattle.cal_c.specs.ZoneColumns.{IsInstantByPolicy, IsInstantOfReading, int64_row}
-use Rattle.cal_c.specs.Zones.{policy_number, IsPolicy}
-use Rattle.cal_c.specs.declared.zones.policy.Policy.{Policy}
-use Rattle.cal_c.proofs.Rows.{rows_two}
-use Rattle.cal_c.proofs.ZoneResults.{for_policy, for_some, match_by, next_span}
+use Rattle.cal_c_values.specs.Results.{int64_error}
+use Rattle.cal_c_values.specs.Statuses.{invalid_policy, invalid_zone}
+use Rattle.cal_c_values.specs.Values.{need◌else◌then◌}
+use Rattle.cal_c_values.specs.ZoneColumns.{IsInstantByPolicy, IsInstantOfReading, int64_row}
+use Rattle.cal_c_values.specs.Zones.{policy_number, IsPolicy}
+use Rattle.cal_c_values.specs.declared.zones.policy.Policy.{Policy}
+use Rattle.cal_c_values.proofs.Rows.{rows_two}
+use Rattle.cal_c_values.proofs.ZoneResults.{for_policy, for_some, match_by, next_span}
 use Rattle.cal_c.proofs.columns.zones.fots_zone_instants.Goals as goal
 
 pub loop-row-preserved : goal.loop-row-preserved

@@ -1,11 +1,11 @@
 use Rattle.std.proofs.Common.{◌≡◌, get_or, pos, arith, rules, FitsSigned, w32, w64, to_z, of_z}
 use Rattle.std.proofs.lemmas.Int.{to_z-of_z}
 use Rattle.cal_zone.specs.Timeline.{Timeline, offset_at}
-use Rattle.cal_c.specs.Results.{offset_ok, offset_error}
-use Rattle.cal_c.specs.Statuses.{invalid_zone}
-use Rattle.cal_c.specs.ZoneColumns.{IsOffsetAt, offset_row}
-use Rattle.cal_c.proofs.Rows.{rows_two}
-use Rattle.cal_c.proofs.ZoneResults.{first_span, for_some, next_span}
+use Rattle.cal_c_values.specs.Results.{offset_ok, offset_error}
+use Rattle.cal_c_values.specs.Statuses.{invalid_zone}
+use Rattle.cal_c_values.specs.ZoneColumns.{IsOffsetAt, offset_row}
+use Rattle.cal_c_values.proofs.Rows.{rows_two}
+use Rattle.cal_c_values.proofs.ZoneResults.{first_span, for_some, next_span}
 use Rattle.cal_c.proofs.columns.zones.fots_zone_offsets.Goals as goal
 
 pub loop-row-preserved : goal.loop-row-preserved

@@ -1,6 +1,6 @@
 use Rattle.std.proofs.Common.{ℕ, ◌<◌, pos, get_or}
-use Rattle.cal_c.specs.ZoneColumns.{IsOffsetAt, offset_row}
-use Rattle.cal_c.proofs.ZoneResults.{HasSpan}
+use Rattle.cal_c_values.specs.ZoneColumns.{IsOffsetAt, offset_row}
+use Rattle.cal_c_values.proofs.ZoneResults.{HasSpan}
 use Rattle.cal_c.proofs.columns.zones.fots_zone_offsets.Given as goal
 
 abbrev pub invariant-loop-row : goal.invariant-loop-row

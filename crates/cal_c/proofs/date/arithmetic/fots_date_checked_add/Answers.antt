@@ -1,8 +1,8 @@
 use Rattle.std.proofs.Common.{rules, w64, FitsSigned, ap, ◌∙◌, subst, ◌+ℤ◌}
 use Rattle.std.proofs.lemmas.Int.{to_z-of_z}
 use Rattle.cal_time.specs.SignedDuration.{whole_days}
-use Rattle.cal_c.specs.Results.{IsDateOrOutOfRange}
-use Rattle.cal_c.proofs.Needs.{met}
+use Rattle.cal_c_values.specs.Results.{IsDateOrOutOfRange}
+use Rattle.cal_c_values.proofs.Needs.{met}
 use Rattle.cal_c.proofs.date.arithmetic.fots_date_checked_add.Goals as goal
 
 pub returns : goal.returns

@@ -1,7 +1,7 @@
 use Rattle.std.proofs.Common.{ap, ◌∙◌}
 use Rattle.std.proofs.lemmas.Int.{to_z-of_z}
-use Rattle.cal_c.specs.Values.{IsJulianDay}
-use Rattle.cal_c.specs.Results.{duration_ok}
+use Rattle.cal_c_values.specs.Values.{IsJulianDay}
+use Rattle.cal_c_values.specs.Results.{duration_ok}
 use Rattle.cal_c.proofs.date.arithmetic.fots_date_duration_since.Goals as goal
 
 pub returns-clause-invalid_date : goal.returns-clause-invalid_date

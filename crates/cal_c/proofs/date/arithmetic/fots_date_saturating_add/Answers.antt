@@ -1,9 +1,9 @@
 use Rattle.std.proofs.Common.{rules, w64, FitsSigned, ap, ◌∙◌, ◌+ℤ◌}
 use Rattle.std.proofs.lemmas.Int.{to_z-of_z}
 use Rattle.cal_time.specs.SignedDuration.{whole_days}
-use Rattle.cal_c.specs.Results.{date_ok}
-use Rattle.cal_c.specs.Values.{clamped_julian_day}
-use Rattle.cal_c.proofs.Needs.{met}
+use Rattle.cal_c_values.specs.Results.{date_ok}
+use Rattle.cal_c_values.specs.Values.{clamped_julian_day}
+use Rattle.cal_c_values.proofs.Needs.{met}
 use Rattle.cal_c.proofs.date.arithmetic.fots_date_saturating_add.Goals as goal
 
 pub returns : goal.returns

@@ -1,8 +1,8 @@
 use Rattle.std.proofs.Common.{◌≡◌, ◌∙◌, sym, subst, rules, pos, to_z, of_z, w32, FitsSigned}
 use Rattle.std.proofs.lemmas.Int.{to_z-of_z}
 use Rattle.cal_time.specs.Date.{HasCalendarDate}
-use Rattle.cal_c.specs.Results.{IsDateWith}
-use Rattle.cal_c.proofs.Days.{IsDateWith-at}
+use Rattle.cal_c_values.specs.Results.{IsDateWith}
+use Rattle.cal_c_values.proofs.Days.{IsDateWith-at}
 use Rattle.cal_c.proofs.date.constructors.fots_date_from_calendar_date.Goals as goal
 
 pub returns : goal.returns

@@ -2,8 +2,8 @@ use Rattle.std.proofs.Common.{◌≡◌, ◌-◌, ap, ◌∙◌, sym, arith}
 use Rattle.std.proofs.lemmas.Int.{to_z-of_z}
 use Rattle.cal_time.specs.Weekday.{index}
 use Rattle.cal_time.specs.Date.{julian_day_at}
-use Rattle.cal_c.specs.Results.{date_ok}
-use Rattle.cal_c.proofs.Days.{same_ok}
+use Rattle.cal_c_values.specs.Results.{date_ok}
+use Rattle.cal_c_values.proofs.Days.{same_ok}
 use Rattle.cal_c.proofs.date.constructors.fots_date_from_iso_week_date.Goals as goal
 
 pub returns-in-Ok : goal.returns-in-Ok

@@ -1,10 +1,10 @@
 use Rattle.std.proofs.Common.{rules, ◌∙◌, sym, subst}
 use Rattle.std.proofs.lemmas.Int.{to_z-of_z}
 use Rattle.cal_time.specs.Date.{year_at, HasOrdinalDate}
-use Rattle.cal_c.specs.Results.{IsDateWith}
-use Rattle.cal_c.specs.Values.{day_of}
-use Rattle.cal_c.proofs.Days.{IsDateWith-at}
-use Rattle.cal_c.proofs.Needs.{met}
+use Rattle.cal_c_values.specs.Results.{IsDateWith}
+use Rattle.cal_c_values.specs.Values.{day_of}
+use Rattle.cal_c_values.proofs.Days.{IsDateWith-at}
+use Rattle.cal_c_values.proofs.Needs.{met}
 use Rattle.cal_c.proofs.date.replacement.fots_date_replace_ordinal.Goals as goal
 
 pub returns-in-Ok : goal.returns-in-Ok

@@ -1,6 +1,6 @@
 use Rattle.std.proofs.Common.{◌+ℤ◌, sym, subst}
-use Rattle.cal_c.specs.Results.{IsDurationOrOutOfRange}
-use Rattle.cal_c.specs.Values.{nanoseconds_in}
+use Rattle.cal_c_values.specs.Results.{IsDurationOrOutOfRange}
+use Rattle.cal_c_values.specs.Values.{nanoseconds_in}
 use Rattle.cal_c.proofs.Durations.{duration-if-any}
 use Rattle.cal_c.proofs.duration.arithmetic.fots_duration_checked_add.Goals as goal
 

@@ -1,7 +1,7 @@
 use Rattle.std.proofs.Common.{◌∙◌}
 use Rattle.std.proofs.lemmas.Int.{to_z-of_z}
 use Rattle.cal_c.proofs.Durations.{duration-none, duration-some}
-use Rattle.cal_c.proofs.Needs.{met}
+use Rattle.cal_c_values.proofs.Needs.{met}
 use Rattle.cal_c.proofs.duration.arithmetic.fots_duration_checked_div.Goals as goal
 
 pub returns : goal.returns

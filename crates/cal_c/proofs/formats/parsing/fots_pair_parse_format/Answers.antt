@@ -1,9 +1,9 @@
 use Rattle.std.proofs.Common.{List, subst}
 use Rattle.cal_format.specs.declared.item.Item.{Item}
 use Rattle.cal_format.specs.Rejection.{IsRejection}
-use Rattle.cal_c.specs.FormatParsing.{IsParsed, IsTextOfPair, parsed_pair_ok}
-use Rattle.cal_c.specs.Texts.{parsed_moment_error_at}
-use Rattle.cal_c.proofs.FormatItems.{at_items}
+use Rattle.cal_c_values.specs.FormatParsing.{IsParsed, IsTextOfPair, parsed_pair_ok}
+use Rattle.cal_c_values.specs.Texts.{parsed_moment_error_at}
+use Rattle.cal_c_values.proofs.FormatItems.{at_items}
 use Rattle.cal_c.proofs.formats.parsing.fots_pair_parse_format.Goals as goal
 
 pub returns-clause-value : goal.returns-clause-value

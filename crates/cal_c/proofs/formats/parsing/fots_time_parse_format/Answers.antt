@@ -1,8 +1,8 @@
 use Rattle.std.proofs.Common.{List, subst}
 use Rattle.cal_format.specs.declared.item.Item.{Item}
 use Rattle.cal_format.specs.Rejection.{IsRejection}
-use Rattle.cal_c.specs.FormatParsing.{IsParsed, IsTextOfTime, parsed_time_ok, parsed_time_error_at}
-use Rattle.cal_c.proofs.FormatItems.{at_items}
+use Rattle.cal_c_values.specs.FormatParsing.{IsParsed, IsTextOfTime, parsed_time_ok, parsed_time_error_at}
+use Rattle.cal_c_values.proofs.FormatItems.{at_items}
 use Rattle.cal_c.proofs.formats.parsing.fots_time_parse_format.Goals as goal
 
 pub returns-clause-value : goal.returns-clause-value

@@ -4,8 +4,8 @@ use Rattle.cal_format.specs.Moment.{IsMoment, moment_of_offset_date_time}
 use Rattle.cal_format.specs.Reading.{are_moment_items}
 use Rattle.cal_format.specs.Text.{text_of}
 use Rattle.cal_format.proofs.Lengths.{text-short}
-use Rattle.cal_c.specs.FormatTexts.{IsPrinted}
-use Rattle.cal_c.proofs.FormatPrinting.{printed_by}
+use Rattle.cal_c_values.specs.FormatTexts.{IsPrinted}
+use Rattle.cal_c_values.proofs.FormatPrinting.{printed_by}
 use Rattle.cal_c.proofs.formats.printing.fots_moment_format.Goals as goal
 
 pub returns-clause-value : goal.returns-clause-value

@@ -1,11 +1,11 @@
 use Rattle.std.proofs.Common.{w32, w64, FitsSigned, rules, ◌≤◌, unsigned_abs, ◌+ℤ◌, ap, ◌∙◌, sym, subst}
 use Rattle.std.proofs.lemmas.Int.{to_z-of_z}
 use Rattle.cal_time.specs.SignedDuration.{whole_days}
-use Rattle.cal_c.specs.Moments.{IsMomentOrError}
-use Rattle.cal_c.specs.Statuses.{result_out_of_range}
-use Rattle.cal_c.specs.Values.{day_of}
-use Rattle.cal_c.proofs.Needs.{met}
-use Rattle.cal_c.proofs.LaterMoments.{later-add, days-fit}
+use Rattle.cal_c_values.specs.Moments.{IsMomentOrError}
+use Rattle.cal_c_values.specs.Statuses.{result_out_of_range}
+use Rattle.cal_c_values.specs.Values.{day_of}
+use Rattle.cal_c_values.proofs.Needs.{met}
+use Rattle.cal_c_values.proofs.LaterMoments.{later-add, days-fit}
 use Rattle.cal_c.proofs.moment.arithmetic.fots_moment_checked_add.Goals as goal
 
 pub returns : goal.returns

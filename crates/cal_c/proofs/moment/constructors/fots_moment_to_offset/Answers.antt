@@ -1,5 +1,5 @@
 use Rattle.std.proofs.lemmas.Int.{to_z-of_z}
-use Rattle.cal_c.proofs.Needs.{met}
+use Rattle.cal_c_values.proofs.Needs.{met}
 use Rattle.cal_c.proofs.moment.constructors.fots_moment_to_offset.Goals as goal
 
 pub returns : goal.returns

@@ -1,7 +1,7 @@
 use Rattle.std.proofs.Common.{pos, ◌+ℤ◌, subst}
 use Rattle.cal_datetime.specs.OffsetDateTime.{unix_epoch}
-use Rattle.cal_c.specs.Moments.{IsMomentOrError}
-use Rattle.cal_c.specs.Statuses.{timestamp_status}
+use Rattle.cal_c_values.specs.Moments.{IsMomentOrError}
+use Rattle.cal_c_values.specs.Statuses.{timestamp_status}
 use Rattle.cal_c.proofs.moment.unix.fots_moment_from_unix_time.Goals as goal
 
 pub returns-clause-value : goal.returns-clause-value

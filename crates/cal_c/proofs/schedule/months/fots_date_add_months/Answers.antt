@@ -1,6 +1,6 @@
 use Rattle.std.proofs.Common.{sym, subst, ◌∙◌}
 use Rattle.std.proofs.lemmas.Int.{to_z-of_z}
-use Rattle.cal_c.specs.Results.{IsDateWith}
+use Rattle.cal_c_values.specs.Results.{IsDateWith}
 use Rattle.cal_c.proofs.Schedules.{day-if-any, past-if-any}
 use Rattle.cal_c.proofs.schedule.months.fots_date_add_months.Goals as goal
 

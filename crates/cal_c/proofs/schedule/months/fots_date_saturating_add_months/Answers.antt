@@ -1,9 +1,9 @@
 use Rattle.std.proofs.Common.{sym, subst}
 use Rattle.std.proofs.lemmas.Int.{to_z-of_z}
 use Rattle.cal_schedule.specs.Months.{IsMonthsLater}
-use Rattle.cal_c.specs.Results.{IsDateWith}
-use Rattle.cal_c.specs.Values.{day_of}
-use Rattle.cal_c.proofs.Days.{IsDateWith-at}
+use Rattle.cal_c_values.specs.Results.{IsDateWith}
+use Rattle.cal_c_values.specs.Values.{day_of}
+use Rattle.cal_c_values.proofs.Days.{IsDateWith-at}
 use Rattle.cal_c.proofs.schedule.months.fots_date_saturating_add_months.Goals as goal
 
 pub returns-clause-value : goal.returns-clause-value

@@ -1,9 +1,9 @@
 use Rattle.std.proofs.Common.{sym, subst}
 use Rattle.std.proofs.lemmas.Int.{to_z-of_z}
 use Rattle.cal_time.specs.IsoWeekDate.{iso_year_at, iso_week_at, HasIsoWeekDate}
-use Rattle.cal_c.specs.Results.{IsDateWith}
-use Rattle.cal_c.specs.Values.{day_of}
-use Rattle.cal_c.proofs.Days.{IsDateWith-at}
+use Rattle.cal_c_values.specs.Results.{IsDateWith}
+use Rattle.cal_c_values.specs.Values.{day_of}
+use Rattle.cal_c_values.proofs.Days.{IsDateWith-at}
 use Rattle.cal_c.proofs.schedule.period_ends.fots_date_first_of_iso_week.Goals as goal
 
 pub returns-clause-value : goal.returns-clause-value

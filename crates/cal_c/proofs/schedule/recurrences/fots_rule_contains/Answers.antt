@@ -1,7 +1,7 @@
 use Rattle.std.proofs.Common.{◌≡◌, ap, ◌∙◌, rules, if◌then◌else◌, pos}
 use Rattle.std.proofs.lemmas.Int.{to_z-of_z}
 use Rattle.cal_schedule.specs.Rule.{is_occurrence}
-use Rattle.cal_c.specs.Results.{number_ok}
+use Rattle.cal_c_values.specs.Results.{number_ok}
 use Rattle.cal_c.proofs.schedule.recurrences.fots_rule_contains.Goals as goal
 
 pub returns-clause-value : goal.returns-clause-value

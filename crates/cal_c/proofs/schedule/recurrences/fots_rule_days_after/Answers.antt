@@ -1,7 +1,7 @@
 use Rattle.std.proofs.Common.{ap, ◌∙◌, subst, sym}
 use Rattle.std.proofs.lemmas.Int.{to_z-of_z}
 use Rattle.cal_schedule.specs.Rule.{occurrences_after}
-use Rattle.cal_c.specs.Recurrences.{days_ok, AreDatesWritten}
+use Rattle.cal_c_values.specs.Recurrences.{days_ok, AreDatesWritten}
 use Rattle.cal_c.proofs.schedule.recurrences.fots_rule_days_after.Goals as goal
 
 pub returns-clause-value : goal.returns-clause-value

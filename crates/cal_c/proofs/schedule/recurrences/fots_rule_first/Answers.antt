@@ -1,7 +1,7 @@
 use Rattle.std.proofs.Common.{ap, ◌∙◌, slice_get}
 use Rattle.cal_schedule.specs.Rule.{occurrences}
-use Rattle.cal_c.specs.Results.{date_or_out_of_range}
-use Rattle.cal_c.proofs.Recurring.{first_given}
+use Rattle.cal_c_values.specs.Results.{date_or_out_of_range}
+use Rattle.cal_c_values.proofs.Recurring.{first_given}
 use Rattle.cal_c.proofs.schedule.recurrences.fots_rule_first.Goals as goal
 
 pub returns-clause-value : goal.returns-clause-value

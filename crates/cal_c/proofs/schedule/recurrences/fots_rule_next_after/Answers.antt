@@ -1,7 +1,7 @@
 use Rattle.std.proofs.Common.{ap, ◌∙◌, slice_get}
 use Rattle.std.proofs.lemmas.Int.{to_z-of_z}
 use Rattle.cal_schedule.specs.Rule.{occurrences_after}
-use Rattle.cal_c.specs.Results.{date_or_out_of_range}
+use Rattle.cal_c_values.specs.Results.{date_or_out_of_range}
 use Rattle.cal_c.proofs.schedule.recurrences.fots_rule_next_after.Goals as goal
 
 pub returns-clause-value : goal.returns-clause-value

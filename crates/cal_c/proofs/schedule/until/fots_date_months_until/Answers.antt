@@ -1,8 +1,8 @@
 use Rattle.std.proofs.Common.{sym, subst, rules, FitsSigned, w32}
 use Rattle.std.proofs.lemmas.Int.{to_z-of_z}
 use Rattle.cal_schedule.specs.Until.{IsGreatest, IsLeast, IsMonthsUpTo, IsMonthsBackTo}
-use Rattle.cal_c.specs.Schedule.{IsNumberWith}
-use Rattle.cal_c.specs.Values.{day_of}
+use Rattle.cal_c_values.specs.Schedule.{IsNumberWith}
+use Rattle.cal_c_values.specs.Values.{day_of}
 use Rattle.cal_c.proofs.Schedules.{before, not_after, number-with}
 use Rattle.cal_c.proofs.schedule.until.fots_date_months_until.Goals as goal
 

@@ -2,8 +2,8 @@ use Rattle.std.proofs.Common.{pos, neg_ℤ, ◌≤ℤ◌, sym, subst}
 use Rattle.std.proofs.lemmas.Int.{to_z-of_z}
 use Rattle.cal_schedule.specs.declared.period.Period.{Period}
 use Rattle.cal_schedule.specs.Until.{months_of, IsGreatest, IsLeast, IsMonthsUpTo, IsMonthsBackTo}
-use Rattle.cal_c.specs.Schedule.{IsPeriodWith}
-use Rattle.cal_c.specs.Values.{day_of}
+use Rattle.cal_c_values.specs.Schedule.{IsPeriodWith}
+use Rattle.cal_c_values.specs.Values.{day_of}
 use Rattle.cal_c.proofs.Schedules.{before, not_after, period-with}
 use Rattle.cal_c.proofs.schedule.until.fots_date_period_until.Goals as goal
 

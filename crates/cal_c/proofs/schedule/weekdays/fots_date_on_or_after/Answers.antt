@@ -1,8 +1,8 @@
 use Rattle.std.proofs.Common.{◌≡◌, ◌-◌, ap, ◌∙◌, arith}
 use Rattle.std.proofs.lemmas.Int.{to_z-of_z}
 use Rattle.cal_time.specs.Weekday.{index}
-use Rattle.cal_c.specs.Results.{date_or_out_of_range}
-use Rattle.cal_c.proofs.Needs.{met}
+use Rattle.cal_c_values.specs.Results.{date_or_out_of_range}
+use Rattle.cal_c_values.proofs.Needs.{met}
 use Rattle.cal_c.proofs.schedule.weekdays.fots_date_on_or_after.Goals as goal
 
 pub returns : goal.returns

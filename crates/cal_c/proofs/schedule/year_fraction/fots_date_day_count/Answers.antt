@@ -1,8 +1,8 @@
 use Rattle.std.proofs.Common.{ap, ◌∙◌, sym}
 use Rattle.std.proofs.lemmas.Int.{to_z-of_z}
 use Rattle.cal_schedule.specs.YearFraction.{day_count_numerator}
-use Rattle.cal_c.specs.Schedule.{year_fraction_ok}
-use Rattle.cal_c.specs.Values.{day_of}
+use Rattle.cal_c_values.specs.Schedule.{year_fraction_ok}
+use Rattle.cal_c_values.specs.Values.{day_of}
 use Rattle.cal_c.proofs.Schedules.{same_count}
 use Rattle.cal_c.proofs.schedule.year_fraction.fots_date_day_count.Goals as goal
 

@@ -1,6 +1,6 @@
 use Rattle.std.proofs.Common.{ap, ◌∙◌}
 use Rattle.cal_text.proofs.Results.{not_ok, one}
-use Rattle.cal_c.specs.Texts.{parsed_date_ok}
+use Rattle.cal_c_values.specs.Texts.{parsed_date_ok}
 use Rattle.cal_c.proofs.Unreads.{refused_date, unreadable_date}
 use Rattle.cal_c.proofs.texts.parsing.fots_date_parse.Goals as goal
 

@@ -2,7 +2,7 @@ use Rattle.std.proofs.Common.{rules, ◌+ℤ◌, ap, subst, sym, ◌∙◌}
 use Rattle.std.proofs.lemmas.Int.{to_z-of_z}
 use Rattle.cal_datetime.specs.DateTime.{IsDateTime}
 use Rattle.cal_datetime.specs.OffsetDateTime.{LocalAndOffset, local_at, unix_epoch}
-use Rattle.cal_c.proofs.Needs.{met}
+use Rattle.cal_c_values.proofs.Needs.{met}
 use Rattle.cal_c.proofs.texts.parsing.fots_unix_pair.Goals as goal
 
 pub returns : goal.returns

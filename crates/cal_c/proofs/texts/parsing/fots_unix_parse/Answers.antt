@@ -1,6 +1,6 @@
 use Rattle.std.proofs.Common.{ap, ◌∙◌}
 use Rattle.cal_text.proofs.Results.{not_ok, one}
-use Rattle.cal_c.specs.Texts.{parsed_moment_ok}
+use Rattle.cal_c_values.specs.Texts.{parsed_moment_ok}
 use Rattle.cal_c.proofs.Unreads.{refused_moment, unreadable_moment}
 use Rattle.cal_c.proofs.texts.parsing.fots_unix_parse.Goals as goal
 

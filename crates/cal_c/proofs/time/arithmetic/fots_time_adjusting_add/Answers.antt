@@ -1,8 +1,8 @@
 use Rattle.std.proofs.Common.{refl, sym, subst}
 use Rattle.cal_time.specs.Time.{carry}
-use Rattle.cal_c.specs.Values.{nanoseconds_in}
-use Rattle.cal_c.specs.Results.{adjusted_time_ok, IsAddAdjusted}
-use Rattle.cal_c.proofs.Needs.{met}
+use Rattle.cal_c_values.specs.Values.{nanoseconds_in}
+use Rattle.cal_c_values.specs.Results.{adjusted_time_ok, IsAddAdjusted}
+use Rattle.cal_c_values.proofs.Needs.{met}
 use Rattle.cal_c.proofs.time.arithmetic.fots_time_adjusting_add.Goals as goal
 
 pub returns : goal.returns

@@ -1,8 +1,8 @@
 use Rattle.std.proofs.Common.{◌∙◌, ap, rules, FitsSigned, w64}
 use Rattle.std.proofs.Math.Facts.{to_z-of_z}
-use Rattle.cal_c.specs.Results.{int64_ok}
-use Rattle.cal_c.specs.Zones.IsNextResult.{change, none}
-use Rattle.cal_c.proofs.ZoneResults.{for_zone}
+use Rattle.cal_c_values.specs.Results.{int64_ok}
+use Rattle.cal_c_values.specs.Zones.IsNextResult.{change, none}
+use Rattle.cal_c_values.proofs.ZoneResults.{for_zone}
 use Rattle.cal_c.proofs.zones.changes.fots_zone_next_change.Goals as goal
 
 pub returns-in-Some-next_change : goal.returns-in-Some-next_change

@@ -1,5 +1,5 @@
-use Rattle.cal_c.proofs.Needs.{met}
-use Rattle.cal_c.proofs.ZoneResults.{for_none, for_zone}
+use Rattle.cal_c_values.proofs.Needs.{met}
+use Rattle.cal_c_values.proofs.ZoneResults.{for_none, for_zone}
 use Rattle.cal_c.proofs.zones.offsets.fots_moment_in_zone.Goals as goal
 
 pub returns-in-None-unchecked : goal.returns-in-None-unchecked

@@ -1,8 +1,8 @@
 use Rattle.std.proofs.Common.{◌∙◌, ap}
 use Rattle.std.proofs.Math.Facts.{to_z-of_z}
 use Rattle.cal_zone.specs.declared.local_type.LocalType.{LocalType}
-use Rattle.cal_c.specs.Zones.{local_type_ok}
-use Rattle.cal_c.proofs.ZoneResults.{for_zone}
+use Rattle.cal_c_values.specs.Zones.{local_type_ok}
+use Rattle.cal_c_values.proofs.ZoneResults.{for_zone}
 use Rattle.cal_c.proofs.zones.offsets.fots_zone_local_type.Goals as goal
 
 pub returns : goal.returns

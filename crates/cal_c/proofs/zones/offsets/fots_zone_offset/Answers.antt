@@ -1,8 +1,8 @@
 use Rattle.std.proofs.Common.{◌∙◌, refl, ap}
 use Rattle.std.proofs.Math.Facts.{to_z-of_z}
-use Rattle.cal_c.specs.Results.{offset_ok}
-use Rattle.cal_c.specs.Zones.{zone_in}
-use Rattle.cal_c.proofs.ZoneResults.{for_zone}
+use Rattle.cal_c_values.specs.Results.{offset_ok}
+use Rattle.cal_c_values.specs.Zones.{zone_in}
+use Rattle.cal_c_values.proofs.ZoneResults.{for_zone}
 use Rattle.cal_c.proofs.zones.offsets.fots_zone_offset.Goals as goal
 
 pub returns-in-Some-utc_offset_in_table : goal.returns-in-Some-utc_offset_in_table

@@ -1,7 +1,7 @@
 use Rattle.std.proofs.Common.{◌≡◌}
 use Rattle.cal_zone.specs.Zone.{AreParts}
 use Rattle.cal_tzif.specs.File.{IsFile, IsFileError}
-use Rattle.cal_c.proofs.ZoneResults.{made}
+use Rattle.cal_c_values.proofs.ZoneResults.{made}
 use Rattle.cal_c.proofs.zones.parsing.fots_zone_file_parts.Goals as goal
 
 pub returns : goal.returns

@@ -3,7 +3,7 @@ use Rattle.cal_zone.specs.Timeline.{InOrder}
 use Rattle.cal_zone.specs.Zone.{made_of, AreParts}
 use Rattle.cal_tzif.specs.File.{IsPosix}
 use Rattle.cal_tzif.specs.PosixError.{IsTextError}
-use Rattle.cal_c.proofs.ZoneResults.{made}
+use Rattle.cal_c_values.proofs.ZoneResults.{made}
 use Rattle.cal_c.proofs.zones.parsing.fots_zone_posix_parts.Goals as goal
 
 pub returns : goal.returns

@@ -1,5 +1,5 @@
 use Rattle.std.proofs.Math.Facts.{to_z-of_z}
-use Rattle.cal_c.proofs.ZoneResults.{for_zone}
+use Rattle.cal_c_values.proofs.ZoneResults.{for_zone}
 use Rattle.cal_c.proofs.zones.resolution.fots_zone_moment.Goals as goal
 
 pub returns : goal.returns

@@ -5,11 +5,11 @@ use Rattle.cal_time.specs.Date.{IsDate}
 use Rattle.cal_datetime.specs.DateTime.{date_time}
 use Rattle.cal_datetime.specs.OffsetDateTime.{unix_seconds}
 use Rattle.cal_zone.specs.declared.instants.Instants.TheVariants as instants
-use Rattle.cal_c.specs.Values.{day_of}
-use Rattle.cal_c.specs.Zones.{zone_in, IsResolved}
-use Rattle.cal_c.proofs.Days.{IsDate-day_of}
-use Rattle.cal_c.proofs.Needs.{met}
-use Rattle.cal_c.proofs.ZoneResults.{for_zone, resolved}
+use Rattle.cal_c_values.specs.Values.{day_of}
+use Rattle.cal_c_values.specs.Zones.{zone_in, IsResolved}
+use Rattle.cal_c_values.proofs.Days.{IsDate-day_of}
+use Rattle.cal_c_values.proofs.Needs.{met}
+use Rattle.cal_c_values.proofs.ZoneResults.{for_zone, resolved}
 use Rattle.cal_c.proofs.zones.resolution.fots_zone_resolve.Goals as goal
 
 pub returns-in-None-day_number : goal.returns-in-None-day_number

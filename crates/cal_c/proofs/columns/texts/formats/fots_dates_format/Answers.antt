@@ -2,8 +2,8 @@ use Rattle.std.proofs.Common.{◌≡◌, ◌≤◌, ◌<◌, ◌+◌, ◌*◌, g
 use Rattle.std.specs.Prelude.{unsigned_abs}
 use Rattle.std.proofs.lemmas.List.{length-set, length-take-le}
 use Rattle.std.proofs.lemmas.Int.{to_z-of_z, ints}
-use Rattle.cal_c.specs.FormatColumns.{IsTextByFormatRow, room_for_text}
-use Rattle.cal_c.specs.TextColumns.{HasRoomFor}
+use Rattle.cal_c_values.specs.FormatColumns.{IsTextByFormatRow, room_for_text}
+use Rattle.cal_c_values.specs.TextColumns.{HasRoomFor}
 use Rattle.cal_c.proofs.FormatRows.{Fits, next-fits}
 use Rattle.cal_c.proofs.PrintedRows.{IsPut, one-more-at}
 use Rattle.cal_c.proofs.columns.texts.formats.fots_dates_format.Goals as goal

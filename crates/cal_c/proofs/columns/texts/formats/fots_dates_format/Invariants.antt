@@ -1,5 +1,5 @@
 use Rattle.std.proofs.Common.{◌≡◌, length, pos, get_or}
-use Rattle.cal_c.specs.FormatColumns.{IsTextByFormatRow, room_for_text}
+use Rattle.cal_c_values.specs.FormatColumns.{IsTextByFormatRow, room_for_text}
 use Rattle.cal_c.proofs.PrintedRows.{Printed}
 use Rattle.cal_c.proofs.columns.texts.formats.fots_dates_format.Given as goal
 

@@ -1,6 +1,6 @@
 use Rattle.std.proofs.Common.{ℕ, ◌<◌, ◌+◌, pos, get_or}
-use Rattle.cal_c.specs.Columns.{date_row}
-use Rattle.cal_c.specs.FormatColumns.{IsDateByFormatRow}
+use Rattle.cal_c_values.specs.Columns.{date_row}
+use Rattle.cal_c_values.specs.FormatColumns.{IsDateByFormatRow}
 use Rattle.cal_c.proofs.columns.texts.formats.fots_dates_parse_format.Given as goal
 
 abbrev pub invariant-loop-row : goal.invariant-loop-row

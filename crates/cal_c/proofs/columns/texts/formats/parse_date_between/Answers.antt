@@ -1,8 +1,8 @@
 use Rattle.std.proofs.Common.{◌≡◌, subst, rules, FitsSigned, w32}
 use Rattle.std.proofs.lemmas.Int.{to_z-of_z}
-use Rattle.cal_c.specs.Columns.{date_row}
-use Rattle.cal_c.specs.FormatColumns.{IsDateByFormat}
-use Rattle.cal_c.specs.TextColumns.{AreBoundsWithin, bytes_between}
+use Rattle.cal_c_values.specs.Columns.{date_row}
+use Rattle.cal_c_values.specs.FormatColumns.{IsDateByFormat}
+use Rattle.cal_c_values.specs.TextColumns.{AreBoundsWithin, bytes_between}
 use Rattle.cal_c.proofs.columns.texts.formats.parse_date_between.Goals as goal
 
 pub returns-in-Some : goal.returns-in-Some

@@ -1,9 +1,9 @@
 use Rattle.std.proofs.Common.{rules, arith, FitsSigned, w32}
 use Rattle.std.proofs.lemmas.Int.{ints, to_z-of_z}
-use Rattle.cal_c.specs.FormatParsing.{parse_status, parse_position}
-use Rattle.cal_c.specs.Statuses.{invalid_format, insufficient_format}
-use Rattle.cal_c.proofs.FormatParsing.{parse_byte}
-use Rattle.cal_c.proofs.TextRows.{IsByteOf, date_of_done, date_of_refused, date_of_refused_at}
+use Rattle.cal_c_values.specs.FormatParsing.{parse_status, parse_position}
+use Rattle.cal_c_values.specs.Statuses.{invalid_format, insufficient_format}
+use Rattle.cal_c_values.proofs.FormatParsing.{parse_byte}
+use Rattle.cal_c_values.proofs.TextRows.{IsByteOf, date_of_done, date_of_refused, date_of_refused_at}
 use Rattle.cal_c.proofs.columns.texts.formats.parse_date_row.Goals as goal
 
 pub returns : goal.returns

@@ -1,5 +1,5 @@
 use Rattle.std.proofs.Common.{pos, get_or}
-use Rattle.cal_c.specs.TextColumns.{IsDateTextRow}
+use Rattle.cal_c_values.specs.TextColumns.{IsDateTextRow}
 use Rattle.cal_c.proofs.PrintedRows.{Printed}
 use Rattle.cal_c.proofs.columns.texts.formatting.fots_dates_calendar_texts.Given as goal
 

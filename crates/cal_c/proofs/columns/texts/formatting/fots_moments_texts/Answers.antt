@@ -1,7 +1,7 @@
 use Rattle.std.proofs.Common.{◌≡◌, ◌≤◌, ◌<◌, ◌+◌, ◌*◌, get_or, pos, arith, rules, refl, ap, subst, sym, length, FitsSigned, w32, to_z}
 use Rattle.std.proofs.lemmas.List.{length-set}
 use Rattle.std.proofs.lemmas.Int.{to_z-of_z}
-use Rattle.cal_c.specs.TextColumns.{HasRoomFor, IsMomentTextRow}
+use Rattle.cal_c_values.specs.TextColumns.{HasRoomFor, IsMomentTextRow}
 use Rattle.cal_c.proofs.PrintedRows.{IsPut, one-more-at}
 use Rattle.cal_c.proofs.columns.texts.formatting.fots_moments_texts.Goals as goal
 

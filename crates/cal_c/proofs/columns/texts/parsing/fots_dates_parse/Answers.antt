@@ -1,8 +1,8 @@
 use Rattle.std.proofs.Common.{◌+◌, get_or, pos, arith, rules, FitsSigned, w32, to_z, of_z}
 use Rattle.std.proofs.lemmas.Int.{to_z-of_z}
-use Rattle.cal_c.specs.Columns.{date_row}
-use Rattle.cal_c.specs.TextColumns.{IsParsedDateRow}
-use Rattle.cal_c.proofs.Rows.{rows_two}
+use Rattle.cal_c_values.specs.Columns.{date_row}
+use Rattle.cal_c_values.specs.TextColumns.{IsParsedDateRow}
+use Rattle.cal_c_values.proofs.Rows.{rows_two}
 use Rattle.cal_c.proofs.columns.texts.parsing.fots_dates_parse.Goals as goal
 
 pub loop-row-preserved : goal.loop-row-preserved

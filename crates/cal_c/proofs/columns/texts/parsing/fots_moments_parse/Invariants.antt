@@ -1,6 +1,6 @@
 use Rattle.std.proofs.Common.{ℕ, ◌<◌, ◌+◌, pos, get_or}
-use Rattle.cal_c.specs.TextColumns.{moment_row}
-use Rattle.cal_c.specs.TextColumns.{IsParsedMomentRow}
+use Rattle.cal_c_values.specs.TextColumns.{moment_row}
+use Rattle.cal_c_values.specs.TextColumns.{IsParsedMomentRow}
 use Rattle.cal_c.proofs.columns.texts.parsing.fots_moments_parse.Given as goal
 
 abbrev pub invariant-loop-row : goal.invariant-loop-row

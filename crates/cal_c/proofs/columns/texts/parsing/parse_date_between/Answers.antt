@@ -1,7 +1,7 @@
 use Rattle.std.proofs.Common.{◌≡◌, subst, rules, FitsSigned, w32}
 use Rattle.std.proofs.lemmas.Int.{to_z-of_z}
-use Rattle.cal_c.specs.Columns.{date_row}
-use Rattle.cal_c.specs.TextColumns.{AreBoundsWithin, IsParsedDate, bytes_between}
+use Rattle.cal_c_values.specs.Columns.{date_row}
+use Rattle.cal_c_values.specs.TextColumns.{AreBoundsWithin, IsParsedDate, bytes_between}
 use Rattle.cal_c.proofs.columns.texts.parsing.parse_date_between.Goals as goal
 
 pub returns-in-Some : goal.returns-in-Some

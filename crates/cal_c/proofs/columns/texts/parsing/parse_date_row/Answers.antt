@@ -1,6 +1,6 @@
 use Rattle.std.proofs.Common.{rules, FitsSigned, w32}
 use Rattle.std.proofs.lemmas.Int.{to_z-of_z}
-use Rattle.cal_c.proofs.TextRows.{is_byte, IsByteOf, date_of_done, date_of_refused, date_of_unreadable}
+use Rattle.cal_c_values.proofs.TextRows.{is_byte, IsByteOf, date_of_done, date_of_refused, date_of_unreadable}
 use Rattle.cal_c.proofs.columns.texts.parsing.parse_date_row.Goals as goal
 
 pub returns : goal.returns

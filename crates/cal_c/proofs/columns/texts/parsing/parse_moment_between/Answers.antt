@@ -1,6 +1,6 @@
 use Rattle.std.proofs.Common.{◌≡◌, subst, rules, FitsSigned, w32}
 use Rattle.std.proofs.lemmas.Int.{to_z-of_z}
-use Rattle.cal_c.specs.TextColumns.{AreBoundsWithin, IsParsedMoment, moment_row, bytes_between}
+use Rattle.cal_c_values.specs.TextColumns.{AreBoundsWithin, IsParsedMoment, moment_row, bytes_between}
 use Rattle.cal_c.proofs.columns.texts.parsing.parse_moment_between.Goals as goal
 
 pub returns-in-Some : goal.returns-in-Some

@@ -1,6 +1,6 @@
 use Rattle.std.proofs.Common.{rules, FitsSigned, w32}
 use Rattle.std.proofs.lemmas.Int.{to_z-of_z}
-use Rattle.cal_c.proofs.TextRows.{is_byte, IsByteOf, moment_of_done, moment_of_refused, moment_of_unreadable}
+use Rattle.cal_c_values.proofs.TextRows.{is_byte, IsByteOf, moment_of_done, moment_of_refused, moment_of_unreadable}
 use Rattle.cal_c.proofs.columns.texts.parsing.parse_moment_row.Goals as goal
 
 pub returns : goal.returns

@@ -2,8 +2,8 @@ use Rattle.std.proofs.Common.{ap, ◌∙◌, sym, subst, rules}
 use Rattle.std.proofs.lemmas.Int.{to_z-of_z}
 use Rattle.cal_schedule.specs.Workdays.{nth_workday}
 use Rattle.cal_text.proofs.Results.{one}
-use Rattle.cal_c.specs.CheckedWorkdays.{week_of, IsChecked}
-use Rattle.cal_c.specs.Results.{date_or_out_of_range}
+use Rattle.cal_c_values.specs.CheckedWorkdays.{week_of, IsChecked}
+use Rattle.cal_c_values.specs.Results.{date_or_out_of_range}
 use Rattle.cal_c.proofs.schedule.workdays.calls.fots_workdays_add.Goals as goal
 
 pub returns : goal.returns

@@ -1,10 +1,10 @@
 use Rattle.std.proofs.Common.{ap, ◌∙◌, sym, subst, rules, FitsSigned, w32}
 use Rattle.std.proofs.lemmas.Int.{to_z-of_z}
 use Rattle.cal_text.proofs.Results.{one}
-use Rattle.cal_c.specs.CheckedWorkdays.{week_of, IsChecked}
-use Rattle.cal_c.specs.Results.{number_ok}
-use Rattle.cal_c.specs.Values.{day_of}
-use Rattle.cal_c.specs.Weekmasks.{workdays_between}
+use Rattle.cal_c_values.specs.CheckedWorkdays.{week_of, IsChecked}
+use Rattle.cal_c_values.specs.Results.{number_ok}
+use Rattle.cal_c_values.specs.Values.{day_of}
+use Rattle.cal_c_values.specs.Weekmasks.{workdays_between}
 use Rattle.cal_c.proofs.schedule.workdays.calls.fots_workdays_between.Goals as goal
 
 pub returns : goal.returns

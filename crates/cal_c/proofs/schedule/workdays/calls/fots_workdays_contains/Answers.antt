@@ -2,9 +2,9 @@ use Rattle.std.proofs.Common.{ap, refl, ◌∙◌, sym, subst, rules, FitsSigned
 use Rattle.std.proofs.lemmas.Int.{to_z-of_z}
 use Rattle.cal_schedule.specs.Workdays.{is_workday}
 use Rattle.cal_text.proofs.Results.{one}
-use Rattle.cal_c.specs.CheckedWorkdays.{week_of, IsChecked}
-use Rattle.cal_c.specs.Results.{number_ok}
-use Rattle.cal_c.proofs.CheckedHolidays.{bit-of}
+use Rattle.cal_c_values.specs.CheckedWorkdays.{week_of, IsChecked}
+use Rattle.cal_c_values.specs.Results.{number_ok}
+use Rattle.cal_c_values.proofs.CheckedHolidays.{bit-of}
 use Rattle.cal_c.proofs.schedule.workdays.calls.fots_workdays_contains.Goals as goal
 
 pub returns-clause-any : goal.returns-clause-any

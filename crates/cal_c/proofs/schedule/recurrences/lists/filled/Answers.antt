@@ -1,5 +1,0 @@
-use Rattle.cal_c.proofs.Filled.{copied-over}
-use Rattle.cal_c.proofs.schedule.recurrences.lists.filled.Goals as goal
-
-pub returns : goal.returns
-returns g c = copied-over 62 c.args.filler c.args.values.now c.copy_from_slice.new.self c.copy_from_slice.ensures.after

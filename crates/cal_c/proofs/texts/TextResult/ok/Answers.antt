@@ -1,5 +1,0 @@
-use Rattle.cal_c.proofs.TextBytes.{copied-over-zeros}
-use Rattle.cal_c.proofs.texts.TextResult.ok.Goals as goal
-
-pub returns : goal.returns
-returns c = copied-over-zeros c.args.text.now c.copy_from_slice.new.self c.copy_from_slice.ensures.after

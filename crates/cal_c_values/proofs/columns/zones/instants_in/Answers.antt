@@ -1,0 +1,18 @@
+use Rattle.std.proofs.Common.{◌≡◌, ◌↔◌, rules, sym, subst, w64}
+use Rattle.std.proofs.lemmas.Int.{to_z-of_z}
+use Rattle.std.specs.Prelude.{ℤ}
+use Rattle.cal_zone.specs.Timeline.{local_at}
+use Rattle.cal_c_values.proofs.columns.zones.instants_in.Goals as goal
+
+pub returns-in-Some-single : goal.returns-in-Some-single
+returns-in-Some-single c = λ order held.
+    let zone = c.args.zone.now in
+    let span = c.span_at.ensures.span order in (
+      span,
+      record {
+        set = λ i. subst (λ (x : ℤ). (i ≡ x) ↔ (local_at zone i ≡ c.args.reading)) (sym (to_z-of_z w64 c.in-Some-single.instant (search rules)))
+            (subst (λ (r : ℤ). (i ≡ c.in-Some-single.instant) ↔ (local_at zone i ≡ r)) (to_z-of_z w64 c.args.reading c.ranges.reading)
+            (c.in-Some-single.ensures zone order span i));
+        explained = tt;
+      },
+    )

@@ -1,0 +1,13 @@
+use Rattle.std.proofs.Common.{ℕ, List, length, ap}
+use Rattle.cal_c_values.specs.Statuses.{ok_status}
+use Rattle.cal_c_values.specs.Texts.{no_position}
+use Rattle.cal_c_values.specs.declared.schedule.recurrences.formatting.RecurrenceTextResult.{RecurrenceTextResult}
+use Rattle.cal_c_values.proofs.Filled.{copied-over}
+use Rattle.cal_c_values.proofs.schedule.recurrences.formatting.RecurrenceTextResult.ok.Goals as goal
+
+abbrev written_with : List ℕ → List ℕ → RecurrenceTextResult
+written_with text bytes = record { status = ok_status; part = 0; position = no_position; length = length text; bytes = bytes }
+
+pub returns : goal.returns
+returns c =
+    ap (written_with c.args.text.now) (copied-over 2728 0 c.args.text.now c.copy_from_slice.new.self c.copy_from_slice.ensures.after)

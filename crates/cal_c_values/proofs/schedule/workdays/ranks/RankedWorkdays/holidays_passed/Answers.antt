@@ -1,0 +1,57 @@
+use Rattle.std.proofs.Common.{◌+◌, ◌-◌, ◌/◌, ◌<◌, ap, arith, length}
+use Rattle.cal_time.specs.IsoWeekDate.{count_before}
+use Rattle.cal_schedule.specs.Workdays.{is_marked}
+use Rattle.cal_schedule.proofs.WorkdaysWeeks.{rises}
+use Rattle.cal_c_values.specs.CheckedWorkdays.{holidays_of, week_of}
+use Rattle.cal_c_values.specs.Weekmasks.{holidays_in}
+use Rattle.cal_c_values.proofs.CheckedHolidays.{rank-at, passed-more, left-less}
+use Rattle.cal_c_values.proofs.schedule.workdays.ranks.RankedWorkdays.holidays_passed.Goals as goal
+
+pub loop-low-init : goal.loop-low-init
+loop-low-init c =
+    let count = c.holiday_count-high.ensures in
+    record {
+      order = omega arith;
+      most = omega (arith, count.value);
+      before = λ checked j h. absurd (omega arith);
+      after = λ checked j most low. absurd (omega (arith, count.length));
+    }
+
+pub loop-low-preserved-then-marked-rank : goal.loop-low-preserved-then-marked-rank
+loop-low-preserved-then-marked-rank c =
+    let w = week_of c.args.self.now in
+    let days = holidays_in (holidays_of c.args.self.now) in
+    let middle = c.loop-low.low + (c.loop-low.high - c.loop-low.low) / 2 in
+    let low : middle < length days = omega (arith, c.loop-low.invariant.most, c.holiday_count-high.ensures.value, c.holiday_count-high.ensures.length) in
+    record {
+      order = omega arith;
+      most = c.loop-low.invariant.most;
+      before = λ checked.
+          let r = rises days checked.holidays.rising in
+          let at = ap (count_before (is_marked w)) (c.holiday.ensures checked) in
+          passed-more w r middle c.args.rank low (omega (arith, rank-at w r middle low, at, c.marked_before.ensures.value, c.from-marked.ensures, c.marked_holidays.ensures.value checked));
+      after = c.loop-low.invariant.after;
+    }
+
+pub loop-low-preserved : goal.loop-low-preserved
+loop-low-preserved c =
+    let w = week_of c.args.self.now in
+    let days = holidays_in (holidays_of c.args.self.now) in
+    let middle = c.loop-low.low + (c.loop-low.high - c.loop-low.low) / 2 in
+    let low : middle < length days = omega (arith, c.loop-low.invariant.most, c.holiday_count-high.ensures.value, c.holiday_count-high.ensures.length) in
+    record {
+      order = omega arith;
+      most = omega (arith, c.loop-low.invariant.most);
+      before = c.loop-low.invariant.before;
+      after = λ checked.
+          let r = rises days checked.holidays.rising in
+          let at = ap (count_before (is_marked w)) (c.holiday.ensures checked) in
+          left-less w r middle c.args.rank (omega (arith, rank-at w r middle low, at, c.marked_before.ensures.value, c.from-marked.ensures, c.marked_holidays.ensures.value checked));
+    }
+
+pub returns-clause-passed : goal.returns-clause-passed
+returns-clause-passed c = λ checked. record {
+  most = omega (arith, c.loop-low.invariant.most, c.holiday_count-high.ensures.value, c.holiday_count-high.ensures.length);
+  before = c.loop-low.invariant.before checked;
+  after = λ j most low. c.loop-low.invariant.after checked j (omega arith) low;
+}

@@ -1,0 +1,13 @@
+use Rattle.std.proofs.Math.Facts.{to_z-of_z}
+use Rattle.cal_zone.specs.Table.{changes_in}
+use Rattle.cal_c_values.specs.Zones.{zone_of_parts}
+use Rattle.cal_c_values.proofs.ZoneResults.{with_rule}
+use Rattle.cal_c_values.proofs.zones.checked_zone.CheckedParts.single_by_rule.Goals as goal
+
+pub returns-in-Some : goal.returns-in-Some
+returns-in-Some c = λ bytes order.
+    let g = c.ranges.reading in
+    let p = c.args.self.now in
+    let found = simp to_z-of_z at c.single_after.ensures in
+    let rule = c.in-Some.ensures.some in
+    found (zone_of_parts bytes p) (changes_in bytes p.layout) order (with_rule p bytes _ _ c.if-self-eq-RULE.true rule.0 rule.1)

@@ -1,0 +1,70 @@
+-- The working days that a struct of C holds.
+use Rattle.std.specs.Prelude.{◌≡◌, ◌⊎◌, ℕ, ◌+◌, ◌<◌, ◌≤◌, List, length, take, get_or, ℤ, pos, ◌<ℤ◌, ◌≤ℤ◌, true, Option, IfSome}
+use Rattle.cal_time.specs.Date.{last_day, IsDate}
+use Rattle.cal_time.specs.IsoWeekDate.{count_before}
+use Rattle.cal_schedule.specs.Workdays.{WorkWeek, is_workday, nth_workday}
+use Rattle.cal_schedule.specs.WorkdaysSplit.{marked_count}
+use Rattle.cal_c_values.specs.Results.{date_or_out_of_range, date_error, number_ok, number_error}
+use Rattle.cal_c_values.specs.Statuses.{invalid_date, invalid_weekmask, ok_status, too_many_holidays}
+use Rattle.cal_c_values.specs.Values.{IsJulianDay, day_of}
+use Rattle.cal_c_values.specs.Weekmasks.{max_holidays, work_week, workdays_between, AreHolidays, IsWeekmask}
+use Rattle.cal_c_values.specs.declared.results.DateResult.{DateResult}
+use Rattle.cal_c_values.specs.declared.results.NumberResult.{NumberResult}
+use Rattle.cal_c_values.specs.declared.schedule.workdays.checked_workdays.CheckedWorkdays.{CheckedWorkdays}
+
+-- The holidays of a struct, and its working week.
+abbrev pub holidays_of : CheckedWorkdays → List ℤ
+holidays_of c = take c.holidays_length c.holidays
+
+abbrev pub week_of : CheckedWorkdays → WorkWeek
+week_of c = work_week c.weekmask (holidays_of c)
+
+-- The weekmask and the number of holidays are valid. Each call rejects a struct with invalid ones.
+pub record HasLimits (c : CheckedWorkdays) : Type 0 where
+  pub weekmask : IsWeekmask c.weekmask
+  pub length : c.holidays_length ≤ max_holidays
+
+-- The holidays are valid, and those with a marked weekday are counted before each index. This holds
+-- for each struct that `fots_workdays_new` returns without an error, and no call tests it again.
+pub record IsChecked (c : CheckedWorkdays) : Type 0 where
+  pub limits : HasLimits c
+  pub holidays : AreHolidays (holidays_of c)
+  pub counts : (i : ℕ) → i ≤ c.holidays_length → get_or c.marked_before i 0 ≡ marked_count (week_of c) i
+
+-- The result is a date of the range, or out of range. This holds for each struct with these limits,
+-- also for one that isn't checked.
+abbrev pub IsSomeDate : DateResult → Type 0
+IsSomeDate r = (found : Option ℕ) × IfSome found IsDate × (r ≡ date_or_out_of_range found)
+
+-- The result of `fots_workdays_add`.
+pub record IsDateWorkdaysLaterIn (c : CheckedWorkdays) (date days : ℤ) (r : DateResult) : Type 0 where
+  pub invalid_weekmask : (IsWeekmask c.weekmask → ⊥) → r ≡ date_error invalid_weekmask
+  pub too_many_holidays : IsWeekmask c.weekmask → max_holidays < c.holidays_length → r ≡ date_error too_many_holidays
+  pub invalid_date : HasLimits c → (IsJulianDay date → ⊥) → r ≡ date_error invalid_date
+  pub any : HasLimits c → IsJulianDay date → IsSomeDate r
+  pub day : IsChecked c → IsJulianDay date → r ≡ date_or_out_of_range (nth_workday (week_of c) days (day_of date))
+
+-- The result of `fots_workdays_between`.
+pub record IsWorkdaysBetweenIn (c : CheckedWorkdays) (date other : ℤ) (r : NumberResult) : Type 0 where
+  pub invalid_weekmask : (IsWeekmask c.weekmask → ⊥) → r ≡ number_error invalid_weekmask
+  pub too_many_holidays : IsWeekmask c.weekmask → max_holidays < c.holidays_length → r ≡ number_error too_many_holidays
+  pub invalid_date : HasLimits c → (IsJulianDay date × IsJulianDay other → ⊥) → r ≡ number_error invalid_date
+  pub any : HasLimits c → IsJulianDay date → IsJulianDay other → r.status ≡ ok_status
+  pub value : IsChecked c → IsJulianDay date → IsJulianDay other → r ≡ number_ok (workdays_between (week_of c) (day_of date) (day_of other))
+
+-- The rank of a day is the number of working days before it. The first i holidays are those with at
+-- most this rank.
+pub record HavePassed (w : WorkWeek) (rank i : ℕ) : Type 0 where
+  pub most : i ≤ length w.holidays
+  pub before : (j : ℕ) → j < i → count_before (is_workday w) (get_or w.holidays j 0) ≤ rank
+  pub after : (j : ℕ) → i ≤ j → j < length w.holidays → rank < count_before (is_workday w) (get_or w.holidays j 0)
+
+-- Day x is the working day of the range with this rank.
+pub record IsDayOfRank (w : WorkWeek) (rank : ℤ) (x : ℕ) : Type 0 where
+  pub date : IsDate x
+  pub workday : is_workday w x ≡ true
+  pub has_rank : pos (count_before (is_workday w) x) ≡ rank
+
+-- No working day of the range has this rank.
+abbrev pub NoDayOfRank : WorkWeek → ℤ → Type 0
+NoDayOfRank w rank = (rank <ℤ pos 0) ⊎ (pos (count_before (is_workday w) (last_day + 1)) ≤ℤ rank)

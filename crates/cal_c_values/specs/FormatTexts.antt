@@ -1,0 +1,32 @@
+-- Texts of formats.
+use Rattle.std.specs.Prelude.{◌≡◌, ℕ, ◌<◌, ◌≤◌, ℤ, List, ◌++◌, length, drop, Bool, IsTrue}
+use Rattle.cal_c_values.specs.Statuses.{ok_status, buffer_too_short, unsupported_item}
+use Rattle.cal_c_values.specs.declared.formats.results.LengthResult.{LengthResult}
+
+-- ---- the length of a text
+-- The result with the length of a text, or with an error.
+abbrev pub length_ok : ℕ → LengthResult
+length_ok n = record { status = ok_status; length = n }
+
+abbrev pub length_error : ℤ → LengthResult
+length_error s = record { status = s; length = 0 }
+
+-- The buffer is too short for a text of n bytes.
+abbrev pub too_short : ℕ → LengthResult
+too_short n = record { status = buffer_too_short; length = n }
+
+-- The call fails, and the buffer stays as it is.
+pub record IsUnprinted (old new : List ℕ) (r error : LengthResult) : Type 0 where
+  pub result_is : r ≡ error
+  pub unchanged : new ≡ old
+
+-- The text is at the front of the buffer, if that has room. The bytes after it stay as they are.
+pub record IsWritten (text old new : List ℕ) (r : LengthResult) : Type 0 where
+  pub buffer_too_short : length old < length text → IsUnprinted old new r (too_short (length text))
+  pub length_is : length text ≤ length old → r ≡ length_ok (length text)
+  pub text_is : length text ≤ length old → new ≡ text ++ drop (length text) old
+
+-- The text of a value is written, if the items show only what the value has.
+pub record IsPrinted (shown : Bool) (text old new : List ℕ) (r : LengthResult) : Type 0 where
+  pub unsupported_item : (IsTrue shown → ⊥) → IsUnprinted old new r (length_error unsupported_item)
+  pub written : IsTrue shown → IsWritten text old new r

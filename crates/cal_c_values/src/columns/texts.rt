@@ -1,0 +1,4 @@
+//! Rows of texts.
+pub mod formats;
+pub mod formatting;
+pub mod parsing;

@@ -1,0 +1,46 @@
+//! Laws: the cases of parsing are complete, so the clauses of the parsers allow only one result.
+ghost use Rattle.std.specs.Prelude.{◌≡◌, ◌⊎◌, ℕ};
+ghost use Rattle.cal_time.specs.Date.{IsDate};
+ghost use Rattle.cal_time.specs.declared.error.ComponentRange.{ComponentRange};
+ghost use Rattle.cal_datetime.specs.OffsetDateTime.{LocalAndOffset};
+ghost use Rattle.cal_text.specs.DateForms.{IsDateText};
+ghost use Rattle.cal_text.specs.JulianForm.{julian_text, IsJulianForm, IsJulianDayError};
+ghost use Rattle.cal_text.specs.Position.{HasSome};
+ghost use Rattle.cal_text.specs.Parsing.{HasError};
+ghost use Rattle.cal_text.specs.Rfc3339Form.{IsMomentText};
+ghost use Rattle.cal_text.specs.UnixText.{HasUnixForm, IsUnixText, IsUnixTimeError};
+ghost use Rattle.cal_c_values.specs.Texts.{HasDateSyntax, HasMomentSyntax, HasDateError, HasMomentError};
+
+use cal_text::{date, julian_day, rfc3339, unix};
+
+/// States that a text is a date, has no form of a date, or has a component out of range.
+pub fn date_cases(text: &[u8])
+    ensures { ((n : ℕ) × IsDate n × IsDateText text.now n) ⊎ (¬ HasDateSyntax text.now)
+        ⊎ ((why : ComponentRange) × HasDateError text.now why) }
+{
+    let _ = date::parse(text);
+}
+
+/// States that a text is a Julian day of a date, has no such form, or is out of range.
+pub fn julian_day_cases(text: &[u8])
+    ensures { ((n : ℕ) × IsDate n × (text.now ≡ julian_text n)) ⊎ (¬ HasSome IsJulianForm text.now)
+        ⊎ ((why : ComponentRange) × HasError IsJulianForm IsJulianDayError text.now why) }
+{
+    let _ = julian_day::parse(text);
+}
+
+/// States that a text is a moment, has no such form, or has a component out of range.
+pub fn moment_cases(text: &[u8])
+    ensures { ((m : LocalAndOffset) × IsMomentText text.now m) ⊎ (¬ HasMomentSyntax text.now)
+        ⊎ ((why : ComponentRange) × HasMomentError text.now why) }
+{
+    let _ = rfc3339::parse(text);
+}
+
+/// States that a text is a Unix time of a moment, has no such form, or is out of range.
+pub fn unix_cases(text: &[u8])
+    ensures { ((m : LocalAndOffset) × IsUnixText text.now m) ⊎ (¬ HasSome HasUnixForm text.now)
+        ⊎ ((why : ComponentRange) × HasError HasUnixForm IsUnixTimeError text.now why) }
+{
+    let _ = unix::parse(text);
+}

@@ -1,0 +1,53 @@
+//! The result of the text of a recurrence.
+ghost use Rattle.std.specs.Prelude.{◌≡◌, ◌≤◌, length};
+ghost use Rattle.cal_recurrence.specs.RecurrenceText.{capacity};
+ghost use Rattle.cal_c_values.specs.RecurrenceTexts.{recurrence_text_error, recurrence_text_ok};
+
+use super::results::{error_part, reason_status};
+use crate::status::OK;
+use cal_recurrence::ParseRuleError;
+
+/// The bytes of a text: enough for the longest recurrence, and zero bytes.
+const CAPACITY: usize = 2728;
+
+/// A text in ASCII, followed by zero bytes, or the first wrong part of the text that was passed.
+#[repr(C)]
+#[derive(Clone, Copy)]
+pub struct RecurrenceTextResult {
+    pub status: i32,
+    /// The number of the wrong part, from 1 for `FREQ`, or 0.
+    pub part: u32,
+    /// The position of the wrong part.
+    pub position: usize,
+    pub length: u32,
+    pub bytes: [u8; CAPACITY],
+}
+
+impl RecurrenceTextResult {
+    pub fn ok(text: &[u8]) -> Self
+        requires { length text.now ≤ capacity }
+        ensures { result ≡ recurrence_text_ok text.now }
+    {
+        let mut bytes = [0; CAPACITY];
+        bytes[..text.len()].copy_from_slice(text);
+        RecurrenceTextResult {
+            status: OK,
+            part: 0,
+            position: usize::MAX,
+            length: text.len() as u32,
+            bytes,
+        }
+    }
+
+    pub fn parse_error(fault: ParseRuleError) -> Self
+        ensures { result ≡ recurrence_text_error fault }
+    {
+        RecurrenceTextResult {
+            status: reason_status(fault.reason),
+            part: error_part(fault.reason),
+            position: fault.position,
+            length: 0,
+            bytes: [0; CAPACITY],
+        }
+    }
+}

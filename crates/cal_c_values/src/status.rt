@@ -1,0 +1,223 @@
+//! The statuses. The header has them as an enum. The statuses from `YEAR_OUT_OF_RANGE` to
+//! `TIMESTAMP_OUT_OF_RANGE`, and from `DAY_OUT_OF_RANGE` on, name a component that is out of range.
+ghost use Rattle.std.specs.Prelude.{◌≡◌};
+ghost use Rattle.cal_c_values.specs.Statuses.{component_status};
+
+use cal_time::error::{Component, ComponentRange};
+
+/// The call returns a value.
+pub const OK: i32 = 0;
+
+/// The exact result is out of range, or there is none.
+pub const RESULT_OUT_OF_RANGE: i32 = 1;
+
+/// The date is not a Julian day from -363521074 to 366963559.
+pub const INVALID_DATE: i32 = 2;
+
+/// The time of day is not from 0 to 86399999999999 nanoseconds since midnight.
+pub const INVALID_TIME: i32 = 3;
+
+/// The offset is not from -93599 to 93599 seconds.
+pub const INVALID_OFFSET: i32 = 4;
+
+/// The nanoseconds of the duration are not from -999999999 to 999999999, or their sign is not the
+/// sign of the seconds.
+pub const INVALID_DURATION: i32 = 5;
+
+/// The weekday is not from 1, Monday, to 7, Sunday.
+pub const INVALID_WEEKDAY: i32 = 6;
+
+/// The count is above 255.
+pub const INVALID_COUNT: i32 = 7;
+
+/// A byte of the text is wrong: no text of the form has it there.
+pub const UNEXPECTED_BYTE: i32 = 8;
+
+/// The date, the time of day or the offset of the moment is invalid.
+pub const INVALID_MOMENT: i32 = 9;
+
+/// The frequency is not from 1, daily, to 4, yearly.
+pub const INVALID_FREQUENCY: i32 = 10;
+
+/// A list of the rule has more than 62 values.
+pub const TOO_MANY_PARTS: i32 = 11;
+
+/// The convention is not from 0 to 4, or for a day count from 1 to 5.
+pub const INVALID_CONVENTION: i32 = 12;
+
+/// The weekmask is above 127: it has more marks than the seven of a week.
+pub const INVALID_WEEKMASK: i32 = 13;
+
+/// The holidays are not in ascending order, or one is not a date.
+pub const INVALID_HOLIDAYS: i32 = 14;
+
+/// There are more than 1024 holidays.
+pub const TOO_MANY_HOLIDAYS: i32 = 15;
+
+pub const YEAR_OUT_OF_RANGE: i32 = 16;
+
+pub const MONTH_OUT_OF_RANGE: i32 = 17;
+
+pub const JULIAN_DAY_OUT_OF_RANGE: i32 = 18;
+
+pub const HOUR_OUT_OF_RANGE: i32 = 19;
+
+pub const MINUTE_OUT_OF_RANGE: i32 = 20;
+
+pub const SECOND_OUT_OF_RANGE: i32 = 21;
+
+pub const MILLISECOND_OUT_OF_RANGE: i32 = 22;
+
+pub const MICROSECOND_OUT_OF_RANGE: i32 = 23;
+
+pub const NANOSECOND_OUT_OF_RANGE: i32 = 24;
+
+pub const OFFSET_HOUR_OUT_OF_RANGE: i32 = 25;
+
+pub const OFFSET_MINUTE_OUT_OF_RANGE: i32 = 26;
+
+pub const OFFSET_SECOND_OUT_OF_RANGE: i32 = 27;
+
+pub const SECONDS_OUT_OF_RANGE: i32 = 28;
+
+pub const TIMESTAMP_OUT_OF_RANGE: i32 = 29;
+
+/// The bounds of a text are not within the bytes, in order.
+pub const INVALID_BOUNDS: i32 = 30;
+
+/// The text ends too early: more bytes could complete it.
+pub const UNEXPECTED_END: i32 = 31;
+
+/// A part of the recurrence has an unknown name.
+pub const UNKNOWN_PART: i32 = 32;
+
+/// A part of the recurrence is a duplicate.
+pub const DUPLICATE_PART: i32 = 33;
+
+/// A part of the recurrence has more than 62 values.
+pub const TOO_MANY_VALUES: i32 = 34;
+
+/// A part of the recurrence has an invalid value.
+pub const INVALID_VALUE: i32 = 35;
+
+/// The recurrence has no frequency.
+pub const MISSING_FREQUENCY: i32 = 36;
+
+/// The numbers are not a format.
+pub const INVALID_FORMAT: i32 = 37;
+
+/// No item of a format begins at the position.
+pub const UNKNOWN_ITEM: i32 = 38;
+
+/// The format has more than 64 items.
+pub const TOO_MANY_ITEMS: i32 = 39;
+
+/// An item of the format shows something that the value doesn't have.
+pub const UNSUPPORTED_ITEM: i32 = 40;
+
+/// The texts of the format don't determine a value, or show more than one.
+pub const INSUFFICIENT_FORMAT: i32 = 41;
+
+/// The buffer has no room for the text.
+pub const BUFFER_TOO_SHORT: i32 = 42;
+
+/// A component of a text isn't the component of the value that the others determine.
+pub const CONTRADICTION: i32 = 43;
+
+/// The struct is not a zone: it has other numbers than a call makes.
+pub const INVALID_ZONE: i32 = 45;
+
+/// The policy is not from 0, `Compatible`, to 3, `Reject`.
+pub const INVALID_POLICY: i32 = 46;
+
+/// The clocks of the zone skip the reading.
+pub const SKIPPED_TIME: i32 = 47;
+
+/// The clocks of the zone show the reading twice.
+pub const REPEATED_TIME: i32 = 48;
+
+/// The file doesn't begin with `TZif`.
+pub const NOT_A_ZONE_FILE: i32 = 49;
+
+/// The version of the file isn't 2, 3 or 4.
+pub const UNSUPPORTED_VERSION: i32 = 50;
+
+/// The file has leap seconds.
+pub const LEAP_SECONDS: i32 = 51;
+
+/// The file has no local time type.
+pub const MISSING_LOCAL_TYPE: i32 = 52;
+
+/// A change has the index of a local time type that doesn't exist.
+pub const INVALID_TYPE_INDEX: i32 = 53;
+
+/// The offset or the daylight flag of a local time type is out of range.
+pub const INVALID_LOCAL_TYPE: i32 = 54;
+
+/// An abbreviation is invalid.
+pub const INVALID_ABBREVIATION: i32 = 55;
+
+/// The changes don't rise, or one is out of range.
+pub const CHANGES_OUT_OF_ORDER: i32 = 56;
+
+/// The gaps or folds of two changes overlap.
+pub const OVERLAPPING_CHANGES: i32 = 57;
+
+/// A newline before or after the footer is missing.
+pub const MISSING_NEWLINE: i32 = 58;
+
+/// A POSIX text has no offset of at most 24 hours.
+pub const INVALID_POSIX_OFFSET: i32 = 59;
+
+/// A POSIX text has no day of a change, such as `M3.5.0`.
+pub const INVALID_RULE_DAY: i32 = 60;
+
+/// A POSIX text has no time of a change of at most 167 hours.
+pub const INVALID_RULE_TIME: i32 = 61;
+
+/// The months of a POSIX text are the same or neighbours.
+pub const MONTHS_TOO_CLOSE: i32 = 62;
+
+/// A POSIX text has bytes after its end.
+pub const TRAILING_BYTES: i32 = 63;
+
+pub const DAY_OUT_OF_RANGE: i32 = 64;
+
+pub const ORDINAL_OUT_OF_RANGE: i32 = 65;
+
+pub const WEEK_OUT_OF_RANGE: i32 = 66;
+
+pub const WEEKDAY_OUT_OF_RANGE: i32 = 67;
+
+/// Returns the status of an error, by its component.
+pub fn error_status(error: ComponentRange) -> i32
+    ensures { result ≡ component_status error.component }
+{
+    component_status(error.component())
+}
+
+/// Returns the status of a component that is out of range.
+pub fn component_status(component: Component) -> i32
+    ensures { result ≡ component_status component }
+{
+    match component {
+        Component::Year => YEAR_OUT_OF_RANGE,
+        Component::Month => MONTH_OUT_OF_RANGE,
+        Component::JulianDay => JULIAN_DAY_OUT_OF_RANGE,
+        Component::Hour => HOUR_OUT_OF_RANGE,
+        Component::Minute => MINUTE_OUT_OF_RANGE,
+        Component::Second => SECOND_OUT_OF_RANGE,
+        Component::Millisecond => MILLISECOND_OUT_OF_RANGE,
+        Component::Microsecond => MICROSECOND_OUT_OF_RANGE,
+        Component::Nanosecond => NANOSECOND_OUT_OF_RANGE,
+        Component::OffsetHour => OFFSET_HOUR_OUT_OF_RANGE,
+        Component::OffsetMinute => OFFSET_MINUTE_OUT_OF_RANGE,
+        Component::OffsetSecond => OFFSET_SECOND_OUT_OF_RANGE,
+        Component::Seconds => SECONDS_OUT_OF_RANGE,
+        Component::Timestamp => TIMESTAMP_OUT_OF_RANGE,
+        Component::Day => DAY_OUT_OF_RANGE,
+        Component::Ordinal => ORDINAL_OUT_OF_RANGE,
+        Component::Week => WEEK_OUT_OF_RANGE,
+        Component::Weekday => WEEKDAY_OUT_OF_RANGE,
+    }
+}

@@ -1,0 +1,155 @@
+//! Texts and the results of parsing.
+ghost use Rattle.std.specs.Prelude.{◌≡◌, ◌≤◌, length};
+ghost use Rattle.cal_c_values.specs.Texts.{parsed_date_error_at, parsed_moment_error_at, parsed_date_ok, parsed_moment_ok, text_ok, text_error};
+ghost use Rattle.cal_c_values.specs.ParseErrors.{date_of_parse_error, moment_of_parse_error};
+ghost use Rattle.cal_datetime.specs.OffsetDateTime.{instant, unix_nanoseconds};
+ghost use Rattle.cal_text.specs.Rfc3339.{HasMomentText, moment_text};
+ghost use Rattle.cal_text.specs.UnixText.{unix_text};
+ghost use Rattle.cal_c_values.specs.Statuses.{result_out_of_range};
+
+use crate::status::{OK, RESULT_OUT_OF_RANGE, UNEXPECTED_BYTE, UNEXPECTED_END, error_status};
+use crate::values::nanoseconds_since_midnight;
+use cal_datetime::OffsetDateTime;
+use cal_text::{ParseError, rfc3339, unix};
+use cal_time::Date;
+
+/// The bytes of a text: enough for the longest one and a zero byte.
+const CAPACITY: usize = 40;
+
+/// A text in ASCII, followed by zero bytes.
+#[repr(C)]
+#[derive(Clone, Copy)]
+pub struct TextResult {
+    pub status: i32,
+    pub length: u32,
+    pub bytes: [u8; CAPACITY],
+}
+
+/// A parsed date, or the position of the first wrong byte or of an end that comes too early.
+#[repr(C)]
+#[derive(Clone, Copy)]
+pub struct ParseDateResult {
+    pub status: i32,
+    pub date: i32,
+    pub position: usize,
+}
+
+/// A parsed date, time and offset, or a position as for a date.
+#[repr(C)]
+#[derive(Clone, Copy)]
+pub struct ParseMomentResult {
+    pub status: i32,
+    pub date: i32,
+    pub time: u64,
+    pub offset: i32,
+    pub position: usize,
+}
+
+impl TextResult {
+    pub fn ok(text: &[u8]) -> Self
+        requires { length text.now ≤ 39 }
+        ensures { result ≡ text_ok text.now }
+    {
+        let mut bytes = [0; CAPACITY];
+        bytes[..text.len()].copy_from_slice(text);
+        TextResult {
+            status: OK,
+            length: text.len() as u32,
+            bytes,
+        }
+    }
+
+    pub fn error(status: i32) -> Self
+        ensures { result ≡ text_error status }
+    {
+        TextResult {
+            status,
+            length: 0,
+            bytes: [0; CAPACITY],
+        }
+    }
+}
+
+impl ParseDateResult {
+    pub fn ok(date: Date) -> Self
+        ensures { result ≡ parsed_date_ok date }
+    {
+        ParseDateResult {
+            status: OK,
+            date: date.to_julian_day(),
+            position: usize::MAX,
+        }
+    }
+
+    pub fn error(error: ParseError) -> Self
+        ensures { result ≡ date_of_parse_error error }
+    {
+        match error {
+            ParseError::UnexpectedByte(position) => Self::error_at(UNEXPECTED_BYTE, position),
+            ParseError::UnexpectedEnd(position) => Self::error_at(UNEXPECTED_END, position),
+            ParseError::OutOfRange(error) => Self::error_at(error_status(error), usize::MAX),
+        }
+    }
+
+    pub fn error_at(status: i32, position: usize) -> Self
+        ensures { result ≡ parsed_date_error_at status position }
+    {
+        ParseDateResult {
+            status,
+            date: i32::MIN,
+            position,
+        }
+    }
+}
+
+impl ParseMomentResult {
+    pub fn ok(moment: OffsetDateTime) -> Self
+        ensures { result ≡ parsed_moment_ok moment }
+    {
+        ParseMomentResult {
+            status: OK,
+            date: moment.date().to_julian_day(),
+            time: nanoseconds_since_midnight(moment.time()),
+            offset: moment.offset().whole_seconds(),
+            position: usize::MAX,
+        }
+    }
+
+    pub fn error(error: ParseError) -> Self
+        ensures { result ≡ moment_of_parse_error error }
+    {
+        match error {
+            ParseError::UnexpectedByte(position) => Self::error_at(UNEXPECTED_BYTE, position),
+            ParseError::UnexpectedEnd(position) => Self::error_at(UNEXPECTED_END, position),
+            ParseError::OutOfRange(error) => Self::error_at(error_status(error), usize::MAX),
+        }
+    }
+
+    pub fn error_at(status: i32, position: usize) -> Self
+        ensures { result ≡ parsed_moment_error_at status position }
+    {
+        ParseMomentResult {
+            status,
+            date: i32::MIN,
+            time: u64::MAX,
+            offset: i32::MIN,
+            position,
+        }
+    }
+}
+
+/// Returns a moment in RFC 3339, or fails if it has no text.
+pub fn moment_text_result(moment: OffsetDateTime) -> TextResult
+    ensures result_out_of_range { ¬ HasMomentText moment → result ≡ text_error result_out_of_range }
+    ensures value { HasMomentText moment → result ≡ text_ok (moment_text moment) }
+{
+    let text = or_error!(TextResult, rfc3339::Text::new(moment), RESULT_OUT_OF_RANGE);
+    TextResult::ok(text.text().as_bytes())
+}
+
+/// Returns the Unix time of a moment in text.
+pub fn unix_text_result(moment: OffsetDateTime) -> TextResult
+    ensures { result ≡ text_ok (unix_text (unix_nanoseconds (instant moment))) }
+{
+    TextResult::ok(unix::Text::new(moment).text().as_bytes())
+}
