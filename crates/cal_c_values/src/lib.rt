@@ -1,8 +1,8 @@
-//! What the calls for C stand on: checked values from plain numbers, results with their statuses, and
-//! the rows of columns.
+//! Values, results and rows for the calls of `cal_c`: checked values from plain numbers, results
+//! with their statuses, and the rows of columns.
 //!
-//! `cal_c` exports the calls. It is a static library, which is proved once for each archive; what
-//! it doesn't export is here, in a library that is proved once.
+//! `cal_c` is a static library, which is proved again for each archive. What it doesn't export is
+//! in this library, which is proved once.
 #![tactic(auto)]
 
 /// Returns the value, or makes the function return `$answer`.
