@@ -6,7 +6,6 @@ ghost use Rattle.cal_c_values.specs.Results.{number_ok, number_error};
 ghost use Rattle.cal_c_values.specs.Statuses.{invalid_weekday, month_status};
 ghost use Rattle.cal_c_values.specs.Values.{IsMonth, IsWeekday};
 
-use cal_c_values::or_error;
 use cal_c_values::results::NumberResult;
 use cal_c_values::status::{INVALID_WEEKDAY, MONTH_OUT_OF_RANGE};
 use cal_c_values::values::{valid_month, valid_weekday};

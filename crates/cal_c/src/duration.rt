@@ -10,7 +10,6 @@ mod arithmetic;
 use cal_c_values::results::{Duration, DurationResult, Int64Result, NumberResult};
 use cal_c_values::status::{INVALID_DURATION, RESULT_OUT_OF_RANGE};
 use cal_c_values::values::valid_duration;
-use cal_c_values::{or_error, or_return};
 use cal_time::SignedDuration;
 
 /// Creates a duration from seconds and nanoseconds, whose signs may differ. Fails if it is out of

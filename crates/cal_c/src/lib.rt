@@ -10,6 +10,42 @@
 //! `month`, or a result out of range. No call keeps a pointer, allocates, or has a state.
 #![tactic(auto)]
 
+/// Returns the value, or makes the function return `$answer`.
+macro_rules! or_return {
+    ($option:expr, $answer:expr) => {
+        match $option {
+            Some(value) => value,
+            None => return $answer,
+        }
+    };
+    ($result:expr, $error:pat => $answer:expr) => {
+        match $result {
+            Ok(value) => value,
+            Err($error) => return $answer,
+        }
+    };
+}
+
+/// Returns the value, or makes the function return the result of a status.
+macro_rules! or_error {
+    ($answer:ident, $option:expr, $status:expr) => {
+        match $option {
+            Some(value) => value,
+            None => return $answer::error($status),
+        }
+    };
+}
+
+/// Returns the result of a value, or the result of its error.
+macro_rules! ok_or_error {
+    ($answer:ident, $made:expr) => {
+        match $made {
+            Ok(made) => $answer::ok(made),
+            Err(error) => $answer::error(cal_c_values::status::error_status(error)),
+        }
+    };
+}
+
 mod columns;
 mod cycle;
 mod date;

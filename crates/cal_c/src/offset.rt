@@ -7,7 +7,6 @@ ghost use Rattle.cal_c_values.specs.Statuses.{invalid_offset, offset_hour_status
 use cal_c_values::results::{NumberResult, OffsetHmsResult, OffsetResult};
 use cal_c_values::status::{INVALID_OFFSET, OK, SECONDS_OUT_OF_RANGE};
 use cal_c_values::values::{saturating_i8, valid_offset};
-use cal_c_values::{ok_or_error, or_error, or_return};
 use cal_time::UtcOffset;
 
 /// Creates an offset from hours, minutes and seconds. The first that isn't 0 gives the sign of all.

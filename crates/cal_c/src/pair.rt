@@ -6,7 +6,6 @@ ghost use Rattle.cal_c_values.specs.Results.{pair_error, IsPairOrOutOfRange};
 ghost use Rattle.cal_c_values.specs.Statuses.{invalid_date, invalid_time, invalid_duration};
 ghost use Rattle.cal_c_values.specs.Values.{need◌else◌then◌, IsJulianDay, IsDurationPair, day_of, nanoseconds_in};
 
-use cal_c_values::or_error;
 use cal_c_values::results::{Duration, PairResult};
 use cal_c_values::status::{INVALID_DATE, INVALID_DURATION, INVALID_TIME};
 use cal_c_values::values::{valid_date, valid_duration, valid_time};

@@ -10,7 +10,6 @@ use cal_c_values::day_number::{
     checked_add_days, checked_sub_days, duration_between, is_julian_day, saturating_add_days,
     saturating_sub_days,
 };
-use cal_c_values::or_error;
 use cal_c_values::results::{DateResult, Duration, DurationResult};
 use cal_c_values::status::{INVALID_DATE, INVALID_DURATION};
 use cal_c_values::values::valid_duration;

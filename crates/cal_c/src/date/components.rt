@@ -8,7 +8,6 @@ ghost use Rattle.cal_c_values.specs.Statuses.{invalid_date};
 ghost use Rattle.cal_c_values.specs.Values.{IsJulianDay, day_of};
 
 use cal_c_values::day_number::day_number;
-use cal_c_values::or_error;
 use cal_c_values::results::{
     CalendarDateResult, IsoWeekDateResult, NumberResult, OrdinalDateResult,
 };

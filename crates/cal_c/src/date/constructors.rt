@@ -10,7 +10,6 @@ use cal_c_values::status::{
 use cal_c_values::values::{
     day_or_invalid, ordinal_or_invalid, valid_date_i64, valid_weekday, week_or_invalid,
 };
-use cal_c_values::{ok_or_error, or_error, or_return};
 use cal_time::Date;
 use cal_time::day_number::{from_calendar_date, is_day_of_month};
 use cal_time::limits::{MAX_YEAR, MIN_YEAR};

@@ -6,7 +6,6 @@ ghost use Rattle.cal_c_values.specs.Statuses.{invalid_date, invalid_weekday, inv
 ghost use Rattle.cal_c_values.specs.Values.{need◌else◌then◌, IsJulianDay, IsWeekday, day_of};
 
 use cal_c_values::day_number::{date_result, day_number};
-use cal_c_values::or_error;
 use cal_c_values::results::DateResult;
 use cal_c_values::status::{INVALID_COUNT, INVALID_DATE, INVALID_WEEKDAY};
 use cal_time::day_number::{nth_next_occurrence, nth_prev_occurrence};

@@ -8,7 +8,6 @@ ghost use Rattle.cal_c_values.specs.Values.{need◌else◌then◌, IsJulianDay, 
 use cal_c_values::results::DateResult;
 use cal_c_values::status::{INVALID_DATE, MONTH_OUT_OF_RANGE};
 use cal_c_values::values::{day_or_invalid, ordinal_or_invalid, valid_date, valid_month};
-use cal_c_values::{ok_or_error, or_error};
 
 /// Replaces the year. Returns the error `year`, or `day` for 29 February in a common year. 2451604
 /// with the year 2004 is 2453065.

@@ -5,7 +5,6 @@ ghost use Rattle.cal_c_values.specs.Results.{IsDurationOrOutOfRange, duration_ok
 ghost use Rattle.cal_c_values.specs.Statuses.{result_out_of_range, invalid_duration};
 ghost use Rattle.cal_c_values.specs.Values.{need◌else◌then◌, IsDurationPair, nanoseconds_in};
 
-use cal_c_values::or_error;
 use cal_c_values::results::{Duration, DurationResult, NumberResult};
 use cal_c_values::status::INVALID_DURATION;
 use cal_c_values::values::valid_duration;

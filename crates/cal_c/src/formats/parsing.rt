@@ -16,7 +16,6 @@ use cal_c_values::formats::parse_results::{ParseOffsetResult, ParseTimeResult};
 use cal_c_values::formats::parsing::{
     parse_date, parse_moment, parse_offset, parse_pair, parse_time,
 };
-use cal_c_values::or_return;
 use cal_c_values::status::{INSUFFICIENT_FORMAT, INVALID_FORMAT};
 use cal_c_values::texts::{ParseDateResult, ParseMomentResult};
 

@@ -21,7 +21,6 @@ use cal_c_values::formats::format_parts::FormatParts;
 use cal_c_values::formats::printing::{MAX_LENGTH, write};
 use cal_c_values::formats::results::LengthResult;
 use cal_c_values::moment::valid_moment;
-use cal_c_values::or_error;
 use cal_c_values::results::Moment;
 use cal_c_values::status::{
     INVALID_DATE, INVALID_FORMAT, INVALID_MOMENT, INVALID_OFFSET, INVALID_TIME,

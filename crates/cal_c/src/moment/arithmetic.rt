@@ -8,7 +8,6 @@ ghost use Rattle.cal_c_values.specs.Statuses.{invalid_duration, invalid_moment, 
 ghost use Rattle.cal_c_values.specs.Values.{need◌else◌then◌, IsDurationPair, nanoseconds_in};
 
 use cal_c_values::moment::{at_later_day, valid_moment, valid_time_of};
-use cal_c_values::or_error;
 use cal_c_values::results::{Duration, DurationResult, Moment, MomentResult, NumberResult};
 use cal_c_values::status::{INVALID_DURATION, INVALID_MOMENT};
 use cal_c_values::values::{days_of, valid_duration};

@@ -8,7 +8,6 @@ ghost use Rattle.cal_c_values.specs.Statuses.{invalid_date, invalid_moment, inva
 ghost use Rattle.cal_c_values.specs.Values.{need◌else◌then◌, IsJulianDay, moment_of};
 
 use cal_c_values::moment::{at_offset, valid_moment};
-use cal_c_values::or_error;
 use cal_c_values::results::{Moment, MomentResult};
 use cal_c_values::status::{INVALID_DATE, INVALID_MOMENT, INVALID_OFFSET, INVALID_TIME};
 use cal_c_values::values::{valid_date, valid_offset, valid_time};

@@ -11,7 +11,6 @@ use cal_c_values::moment::{moment_at_unix_time, valid_moment};
 use cal_c_values::results::{Duration, DurationResult, Int64Result, Moment, MomentResult};
 use cal_c_values::status::{INVALID_DURATION, INVALID_MOMENT, TIMESTAMP_OUT_OF_RANGE};
 use cal_c_values::values::valid_duration;
-use cal_c_values::{or_error, or_return};
 use cal_datetime::OffsetDateTime;
 
 /// Creates a moment at UTC from Unix seconds. Returns the error `timestamp` out of range.

@@ -7,7 +7,6 @@ ghost use Rattle.cal_c_values.specs.Results.{date_ok, date_error, IsDateWith};
 ghost use Rattle.cal_c_values.specs.Statuses.{invalid_date, result_out_of_range};
 ghost use Rattle.cal_c_values.specs.Values.{need◌else◌then◌, IsJulianDay, day_of};
 
-use cal_c_values::or_error;
 use cal_c_values::results::DateResult;
 use cal_c_values::status::INVALID_DATE;
 use cal_c_values::values::valid_date;

@@ -8,7 +8,6 @@ ghost use Rattle.cal_c_values.specs.Results.{date_ok, date_error, number_ok, num
 ghost use Rattle.cal_c_values.specs.Statuses.{invalid_date, result_out_of_range};
 ghost use Rattle.cal_c_values.specs.Values.{IsJulianDay, day_of};
 
-use cal_c_values::or_error;
 use cal_c_values::results::{DateResult, NumberResult};
 use cal_c_values::status::INVALID_DATE;
 use cal_c_values::values::valid_date;

@@ -20,7 +20,6 @@ use cal_c_values::schedule::recurrences::write_days;
 use cal_c_values::schedule::results::DaysResult;
 use cal_c_values::status::INVALID_DATE;
 use cal_c_values::values::valid_date;
-use cal_c_values::{or_error, or_return};
 
 /// Returns the first day of a rule. Fails if the range has none. For the last Friday of each month
 /// from 2460311, 2024-01-01, it is 2460336, 2024-01-26.

@@ -6,7 +6,6 @@ ghost use Rattle.cal_c_values.specs.Schedule.{period_error, IsNumberWith, IsPeri
 ghost use Rattle.cal_c_values.specs.Statuses.{invalid_date};
 ghost use Rattle.cal_c_values.specs.Values.{IsJulianDay, day_of};
 
-use cal_c_values::or_error;
 use cal_c_values::results::NumberResult;
 use cal_c_values::schedule::results::PeriodResult;
 use cal_c_values::status::INVALID_DATE;

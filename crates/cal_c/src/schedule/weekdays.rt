@@ -9,7 +9,6 @@ ghost use Rattle.cal_c_values.specs.Values.{need◌else◌then◌, IsJulianDay, 
 use cal_c_values::results::DateResult;
 use cal_c_values::status::{INVALID_COUNT, INVALID_DATE, INVALID_WEEKDAY, MONTH_OUT_OF_RANGE};
 use cal_c_values::values::{valid_date, valid_month, valid_weekday};
-use cal_c_values::{ok_or_error, or_error};
 use cal_schedule::{last_weekday_of_month, nth_weekday_of_month, on_or_after, on_or_before};
 
 /// Returns the n-th day with a weekday in a month, counted from 1. Returns the error `year`, or

@@ -22,7 +22,6 @@ use cal_c_values::schedule::workdays::{
 };
 use cal_c_values::status::{INVALID_CONVENTION, INVALID_DATE};
 use cal_c_values::values::valid_date;
-use cal_c_values::{or_error, or_return};
 
 /// Returns 1 if a date is a working day, else 0. For 2451604, a Tuesday, it is 1 with the marks 31
 /// and without holidays.

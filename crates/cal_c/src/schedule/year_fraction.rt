@@ -10,7 +10,6 @@ use cal_c_values::schedule::results::YearFractionResult;
 use cal_c_values::schedule::year_fraction::valid_day_count;
 use cal_c_values::status::{INVALID_CONVENTION, INVALID_DATE};
 use cal_c_values::values::valid_date;
-use cal_c_values::{or_error, or_return};
 use cal_schedule::day_count;
 
 /// Returns the fraction of a year from `date` to `other` by a convention: 1 is actual/360, 2

@@ -12,7 +12,6 @@ ghost use Rattle.cal_c_values.specs.Statuses.{invalid_date, invalid_time, invali
 ghost use Rattle.cal_c_values.specs.Texts.{month_name, text_ok, text_error, weekday_name};
 ghost use Rattle.cal_c_values.specs.Values.{IsJulianDay, IsMonth, IsWeekday, day_of, moment_of};
 
-use cal_c_values::or_error;
 use cal_c_values::status::{
     INVALID_DATE, INVALID_OFFSET, INVALID_TIME, INVALID_WEEKDAY, MONTH_OUT_OF_RANGE,
 };

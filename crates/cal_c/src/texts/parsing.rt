@@ -27,7 +27,6 @@ use cal_c_values::status::{
 };
 use cal_c_values::texts::{ParseDateResult, ParseMomentResult};
 use cal_c_values::values::{valid_date, valid_duration, valid_offset, valid_time};
-use cal_c_values::{or_error, or_return};
 use cal_datetime::OffsetDateTime;
 use cal_text::{date, julian_day, rfc3339, unix};
 

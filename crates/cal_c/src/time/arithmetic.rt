@@ -8,7 +8,6 @@ ghost use Rattle.cal_c_values.specs.Values.{need◌else◌then◌, IsDurationPai
 use cal_c_values::results::{AdjustedTimeResult, Duration, DurationResult, TimeResult};
 use cal_c_values::status::{INVALID_DURATION, INVALID_TIME};
 use cal_c_values::values::{valid_duration, valid_time};
-use cal_c_values::{or_error, or_return};
 
 /// Adds a duration, modulo a day. 23:00 plus 2 hours is 1:00.
 #[unsafe(no_mangle)]

@@ -4,7 +4,6 @@ ghost use Rattle.cal_time.specs.Time.{IsTime, hour_of, minute_of, second_of, mil
 ghost use Rattle.cal_c_values.specs.Results.{number_ok, number_error, hms_nano_ok, hms_nano_error};
 ghost use Rattle.cal_c_values.specs.Statuses.{invalid_time};
 
-use cal_c_values::or_error;
 use cal_c_values::results::{HmsNanoResult, NumberResult};
 use cal_c_values::status::{INVALID_TIME, OK};
 use cal_c_values::values::valid_time;

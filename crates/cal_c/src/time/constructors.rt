@@ -4,7 +4,6 @@ ghost use Rattle.cal_time.specs.Time.{time_of};
 ghost use Rattle.cal_c_values.specs.Results.{time_ok, time_error};
 ghost use Rattle.cal_c_values.specs.Statuses.{hour_status, minute_status, second_status, millisecond_status, microsecond_status, nanosecond_status};
 
-use cal_c_values::ok_or_error;
 use cal_c_values::results::TimeResult;
 use cal_c_values::values::{saturating_u8, saturating_u16};
 use cal_time::Time;

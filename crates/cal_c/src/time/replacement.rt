@@ -8,7 +8,6 @@ ghost use Rattle.cal_c_values.specs.Values.{need◌else◌then◌};
 use cal_c_values::results::TimeResult;
 use cal_c_values::status::INVALID_TIME;
 use cal_c_values::values::{saturating_u8, saturating_u16, valid_time};
-use cal_c_values::{ok_or_error, or_error};
 
 /// Replaces the hour. Returns the error `hour` above 23. 3723004005006 with 0 is 123004005006.
 #[unsafe(no_mangle)]

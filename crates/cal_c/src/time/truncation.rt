@@ -4,7 +4,6 @@ ghost use Rattle.cal_time.specs.Time.{IsTime, time_of, hour_of, minute_of, secon
 ghost use Rattle.cal_c_values.specs.Results.{time_ok, time_error};
 ghost use Rattle.cal_c_values.specs.Statuses.{invalid_time};
 
-use cal_c_values::or_error;
 use cal_c_values::results::TimeResult;
 use cal_c_values::status::INVALID_TIME;
 use cal_c_values::values::valid_time;

@@ -4,7 +4,6 @@ ghost use Rattle.cal_c_values.specs.Results.{int64_error};
 ghost use Rattle.cal_c_values.specs.Statuses.{invalid_zone};
 ghost use Rattle.cal_c_values.specs.Zones.{IsForZone, IsNextResult, IsPreviousResult};
 
-use cal_c_values::or_error;
 use cal_c_values::results::Int64Result;
 use cal_c_values::status::{INVALID_ZONE, RESULT_OUT_OF_RANGE};
 use cal_c_values::zones::checked_zone::CheckedZone;

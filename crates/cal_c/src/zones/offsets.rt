@@ -8,7 +8,6 @@ ghost use Rattle.cal_zone.specs.Timeline.{kind_at, offset_at};
 ghost use Rattle.cal_c_values.specs.Results.{offset_error, offset_ok};
 
 use cal_c_values::moment::valid_moment;
-use cal_c_values::or_error;
 use cal_c_values::results::{Moment, MomentResult, OffsetResult};
 use cal_c_values::status::{INVALID_MOMENT, INVALID_ZONE};
 use cal_c_values::zones::checked_zone::CheckedZone;

@@ -10,7 +10,6 @@ ghost use Rattle.cal_c_values.specs.Zones.{IsForZone, IsPrintedInZone};
 use cal_c_values::formats::format_parts::FormatParts;
 use cal_c_values::formats::results::LengthResult;
 use cal_c_values::moment::valid_moment;
-use cal_c_values::or_error;
 use cal_c_values::results::Moment;
 use cal_c_values::status::{INVALID_FORMAT, INVALID_MOMENT, INVALID_ZONE};
 use cal_c_values::zones::checked_zone::CheckedZone;

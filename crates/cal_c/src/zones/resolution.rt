@@ -10,7 +10,6 @@ ghost use Rattle.cal_c_values.specs.Zones.{local_error, policy_number, IsForZone
 ghost use Rattle.cal_c_values.specs.declared.zones.policy.Policy.{Policy};
 
 use cal_c_values::day_number::day_number;
-use cal_c_values::or_error;
 use cal_c_values::results::MomentResult;
 use cal_c_values::status::{INVALID_DATE, INVALID_TIME, INVALID_ZONE};
 use cal_c_values::values::time_number;

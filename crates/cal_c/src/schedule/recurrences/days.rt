@@ -9,7 +9,6 @@ ghost use Rattle.cal_c_values.specs.Recurrences.{AreDatesWritten};
 ghost use Rattle.cal_c_values.specs.Statuses.{invalid_date};
 ghost use Rattle.cal_c_values.specs.Values.{IsJulianDay, day_of};
 
-use cal_c_values::or_return;
 use cal_c_values::schedule::recurrences::days::write_days_from;
 use cal_c_values::schedule::recurrences::results::RecurrenceResult;
 use cal_c_values::status::INVALID_DATE;

@@ -15,7 +15,6 @@ use cal_c_values::schedule::workdays::checked_workdays::CheckedWorkdays;
 use cal_c_values::schedule::workdays::ranks::RankedWorkdays;
 use cal_c_values::schedule::workdays::valid_convention;
 use cal_c_values::status::{INVALID_CONVENTION, INVALID_DATE};
-use cal_c_values::{or_error, or_return};
 
 /// Returns 1 if a date is a working day, else 0, like `fots_date_is_workday`.
 #[unsafe(no_mangle)]
