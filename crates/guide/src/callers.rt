@@ -1,6 +1,7 @@
 //! Functions that are proved from the clauses of the calls only.
-ghost use Rattle.std.specs.Prelude.{◌≡◌, ℕ, ◌+◌, ◌-◌, ◌<◌, ◌≤◌, ◌-ℤ◌, ◌≤ℤ◌, ◌==◌, ◌⊎◌, pos, IfSome, IfNone, IsNone, IsSome, ◌↔◌, Ok};
+ghost use Rattle.std.specs.Prelude.{◌≡◌, ℕ, ◌+◌, ◌-◌, ◌<◌, ◌≤◌, ◌+ℤ◌, ◌-ℤ◌, ◌≤ℤ◌, ◌==◌, ◌⊎◌, pos, IfSome, IfNone, IsNone, IsSome, ◌↔◌, Ok};
 ghost use Rattle.cal_time.specs.Date.{last_day, year_at, month_at, day_of_month_at, ordinal_at, weekday_at, HasCalendarDate, IsYear, NoDate};
+ghost use Rattle.cal_time.specs.Arithmetic.{IsDateNumber};
 ghost use Rattle.cal_time.specs.IsoWeekDate.{HasIsoWeekDate};
 ghost use Rattle.cal_time.specs.Lengths.{days_in_year, days_in_month};
 ghost use Rattle.cal_time.specs.Month.{number};
@@ -141,6 +142,15 @@ fn due_in_30_days(date: Date) -> Option<(Date, u8)>
     Some((due, due.iso_week()))
 }
 
+/// Returns the date some days later, or earlier if the number is negative, or `None` if it is out of
+/// range.
+fn days_later(date: Date, days: i32) -> Option<Date>
+    ensures found { IfSome result (λ later. pos later ≡ pos date +ℤ days) }
+    ensures none { IfNone result (¬ IsDateNumber (pos date +ℤ days)) }
+{
+    date.checked_add(SignedDuration::days(i64::from(days)))
+}
+
 /// Returns the next Thursday, at most a week later.
 fn next_thursday(date: Date) -> Option<Date>
     ensures { IfSome result (λ day. (date < day) × (day ≤ date + 7) × (weekday_at day ≡ 3)) }
@@ -220,8 +230,9 @@ fn counted(date: Date) -> ([u16; 2], [u8; 3]) {
 }
 
 /// Returns days near a date.
-fn days_near(date: Date) -> [Option<Date>; 5] {
+fn days_near(date: Date) -> [Option<Date>; 6] {
     [
+        days_later(date, -30),
         last_friday(2024, Month::February),
         round_trip_by(date, SignedDuration::DAY),
         week_before(date),

@@ -1,7 +1,7 @@
 //! Functions that are proved from the clauses of `cal_time` only.
-ghost use Rattle.std.specs.Prelude.{◌≡◌, pos, ◌+ℤ◌, IfOk, IfSome};
+ghost use Rattle.std.specs.Prelude.{◌≡◌, pos, ◌+ℤ◌, ◌↔◌, IfOk, IfSome, IsNone, SomeIff};
 ghost use Rattle.cal_time.specs.Date.{last_day, year_at, month_at, HasCalendarDate};
-ghost use Rattle.cal_time.specs.Arithmetic.{IsDateNumber};
+ghost use Rattle.cal_time.specs.Arithmetic.{IsDateNumber, clamped_date};
 ghost use Rattle.cal_time.specs.Lengths.{days_in_month};
 ghost use Rattle.cal_time.specs.Month.{number};
 
@@ -26,9 +26,10 @@ fn month_start(date: Date) -> Date
     Date::from_month_index_clamped(date.year(), index, 1)
 }
 
-/// Returns the same day, by way of the next one.
+/// Returns the same day, by way of the next one, or `None` for the last day.
 fn next_day_round_trip(date: Date) -> Option<Date>
-    ensures { IfSome result (λ same. same ≡ date) }
+    ensures same { IfSome result (λ same. same ≡ date) }
+    ensures none { IsNone result ↔ (date ≡ last_day) }
 {
     date.next_day()?.previous_day()
 }
@@ -39,6 +40,17 @@ fn week_after(date: Date) -> Date
     ensures { pos result ≡ pos date +ℤ pos 7 }
 {
     date + SignedDuration::days(7)
+}
+
+/// Returns the day a week later, or `None` if it is out of range.
+fn week_after_if_any(date: Date) -> Option<Date>
+    ensures { SomeIff result (IsDateNumber (pos date +ℤ pos 7)) (clamped_date (pos date +ℤ pos 7)) }
+{
+    if date.checked_add(SignedDuration::WEEK).is_some() {
+        Some(week_after(date))
+    } else {
+        None
+    }
 }
 
 /// Returns the last day of the range.
@@ -55,8 +67,8 @@ pub fn show(rt: &impl Print) -> io::Result<()> {
             month_start(date),
             next_day_round_trip(date)
         )?;
-        if date.checked_add(SignedDuration::days(7)).is_some() {
-            println!(rt; "{}", week_after(date))?;
+        if let Some(day) = week_after_if_any(date) {
+            println!(rt; "{day}")?;
         }
     }
     println!(rt; "{}", last_day())?;
