@@ -122,7 +122,7 @@ def is_like_date(value: object) -> bool:
 
 def status_error(status: int, position: int | None = None, part: int = 0) -> Exception | None:
     """Returns the exception that a call of one value would raise for the status of a row, or
-    `None` for 0.
+    `None` for 0. For a wrong text that is a `ValueError`, or with its position a `ParseError`.
 
     >>> status_error(0), status_error(64)
     (None, ComponentRange('day', True))
