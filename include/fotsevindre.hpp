@@ -5,6 +5,7 @@
 #ifndef FOTSEVINDRE_HPP
 #define FOTSEVINDRE_HPP
 
+#include <algorithm>
 #include <array>
 #include <cstddef>
 #include <cstdint>
@@ -485,7 +486,8 @@ public:
     // Converts a day of <chrono>, or throws FOTS_JULIAN_DAY_OUT_OF_RANGE.
     static Date from_sys_days(std::chrono::sys_days day)
     {
-        return from_julian_day(std::int64_t{day.time_since_epoch().count()} + unix_epoch);
+        // Days after the range stay after it, and their sum can't overflow.
+        return from_julian_day(std::min(std::int64_t{day.time_since_epoch().count()}, std::int64_t{INT32_MAX}) + unix_epoch);
     }
     // Converts to a day of <chrono>.
     std::chrono::sys_days to_sys_days() const
@@ -625,11 +627,11 @@ public:
     {
         return detail::value_or_throw(with([date](const fots_rule *rule) { return fots_rule_contains(rule, date.c()); })).number == 1;
     }
-    // Returns the first days after a date, in order: `count` of them, or fewer if no more follow.
+    // Returns the first days after a date, in order: `count` of them, or fewer if no more follow. Allocates room for `count` days.
     std::vector<Date> days_after(Date date, std::size_t count) const
     {
-        // One more than needed, so that data() is not null.
-        std::vector<fots_date> room(count + 1);
+        // At least one, so that data() is not null.
+        std::vector<fots_date> room(std::max(count, std::size_t{1}));
         const fots_days_result written = detail::value_or_throw(
             with([&](const fots_rule *rule) { return fots_rule_days_after(rule, date.c(), room.data(), count); }));
         return detail::first_dates(room, written.length);
@@ -737,13 +739,13 @@ public:
         return rule;
     }
 
-    // Returns the first days from a start: `count` of them, or fewer if no more follow.
+    // Returns the first days from a start: `count` of them, or fewer if no more follow. Allocates room for `count` days.
     std::vector<Date> days(Date start, std::size_t count) const { return days_from(start, start, count); }
     // Returns the first of these days that are not before `from`.
     std::vector<Date> days_from(Date start, Date from, std::size_t count) const
     {
-        // One more than needed, so that data() is not null.
-        std::vector<fots_date> room(count + 1);
+        // At least one, so that data() is not null.
+        std::vector<fots_date> room(std::max(count, std::size_t{1}));
         const fots_recurrence_result written = detail::recurrence_or_throw(
             fots_recurrence_days(text_.data(), text_.size(), start.c(), from.c(), room.data(), count));
         return detail::first_dates(room, written.length);

@@ -35,6 +35,16 @@ template <class Call> void throws(Call call, std::int32_t status, const std::str
     }
 }
 
+template <class Call> void has_no_room(Call call, const char *what)
+{
+    try {
+        call();
+        check(false, what);
+    } catch (const std::length_error &) {
+        check(true, what);
+    }
+}
+
 void dates()
 {
     const Date day = Date::from_calendar_date(2024, Month::February, 29);
@@ -206,6 +216,7 @@ void recurrences()
     check(mondays.next_after(Date::parse("1997-12-22")) == Date::parse("1998-01-19") && mondays.contains(Date::parse("1998-02-16"))
         && !mondays.contains(Date::parse("1998-02-23")), "one at a time");
     check(mondays.first_days(0).empty() && mondays.days_after(Date::parse("1997-11-17"), 1) == dates({"1997-12-22"}), "after a day");
+    has_no_room([&] { mondays.days_after(Date::min(), SIZE_MAX); }, "room for too many days after a day");
     Rule election(Date::parse("1996-11-05"), Frequency::Yearly);
     election.interval = 4;
     election.months = {Month::November};
@@ -262,6 +273,7 @@ void recurrences()
     check(by_text.days(start, 9) == mondays.first_days(6) && by_text.days(start, 2) == mondays.first_days(2), "by its text");
     check(by_text.days_from(start, Date::parse("1998-01-01"), 9) == dates({"1998-01-19", "1998-02-16"}), "from a day on");
     check(by_text.days(start, 0).empty() && by_text.days_from(start, Date::max(), 9).empty(), "none of them");
+    has_no_room([&] { by_text.days(start, SIZE_MAX); }, "room for too many days of a recurrence");
     check(by_text.rule(start).next_after(Date::parse("1998-02-16")) == Date::parse("1998-03-23") && by_text.rule(start).contains(start), "its rule");
     check(by_text.count() == 6 && !by_text.until() && by_text.interval() == 1 && by_text.frequency() == Frequency::Monthly, "its parts");
     const Recurrence all_parts = Recurrence::parse("byday=tu,+02we,-1su;bymonthday=-31,+07;bymonth=06,12;until=19971231;wkst=su;interval=002;freq=yearly");
