@@ -2,13 +2,15 @@
 //! output.
 #![tactic(auto)]
 
+use cal_time::Date;
 use caldate_run::args::arguments::{MAX_BYTES, join};
 use caldate_run::clock::read_clock;
 use caldate_run::files::Joined;
 use caldate_run::files::named_files::NamedFiles;
+use caldate_run::holidays::holiday_source::{MAX_HOLIDAYS, read_files};
 use caldate_run::program::{perform, perform_on_files};
 use caldate_run::zones::ZoneFiles;
-use caldate_run::zones::zone_source::{MAX_FILE_BYTES, MAX_PATH_BYTES, find_folder, read_missing};
+use caldate_run::zones::zone_source::{MAX_FILE_BYTES, MAX_PATH_BYTES, find_folder};
 use std::io;
 use std::process::ExitCode;
 
@@ -23,22 +25,15 @@ fn main(rt: HostRuntime) -> ExitCode {
     let mut second = [0u8; MAX_FILE_BYTES];
     let length = find_folder(&rt, &mut folder);
     let folder = &folder[..length];
+    let mut days = [Date::MIN; MAX_HOLIDAYS];
     let mut files = ZoneFiles {
         folder,
         first: None,
         second: None,
+        holidays: None,
     };
     if let Some(words) = words {
-        let one = ZoneFiles {
-            folder,
-            first: read_missing(&rt, words, &files, &mut first),
-            second: None,
-        };
-        files = ZoneFiles {
-            folder,
-            first: one.first,
-            second: read_missing(&rt, words, &one, &mut second),
-        };
+        files = read_files(&rt, words, folder, &mut first, &mut second, &mut days);
     }
     let mut writer = io::writer(&rt);
     let mut errors = rt.stderr();

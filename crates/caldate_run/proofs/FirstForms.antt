@@ -1,6 +1,6 @@
 -- A text in the first of some forms, by what the parser of the first form says and what those of the
 -- others say.
-use Rattle.std.proofs.Common.{◌≡◌, ℕ, ◌-◌, ◌≤◌, List, [], ◌∷◌, Option, Some, None, Result, Ok, Err, inl, inr, refl, sym, ap, subst, ◌∙◌, arith, length, take, drop, get_or}
+use Rattle.std.proofs.Common.{◌≡◌, ℕ, ◌-◌, ◌≤◌, List, [], ◌∷◌, Option, Some, None, Result, Ok, Err, inl, inr, refl, sym, ap, subst, arith, length, take, drop, get_or}
 use Rattle.std.specs.Prelude.{ℤ, IfSome, MatchOption}
 use Rattle.std.proofs.lemmas.List.{take_all}
 use Rattle.std.proofs.lemmas.Option.{none-some, same_Some}
@@ -67,7 +67,7 @@ lacks_by offset r form text w e lack g h = not_ok w g (lack g (text_in offset r 
 pub other_every : (offset : ℤ) (r : Reader) (rs : List Reader) (form : Reading) (text : List ℕ) (w : NoAnswer) (f found : DateOrMoment) → named offset r ≡ Some form
     → Lacks form text w → ((g : DateOrMoment) → IsFoundBy offset rs text g → Some f ≡ Some g) → IsFoundBy offset (r ∷ rs) text found → f ≡ found
 other_every offset r rs form text w f found e lack every (inl h) = absurd (lacks_by offset r form text w e lack found h)
-other_every offset r rs form text w f found e lack every (inr (has_too_few, h)) = same_Some f found (every found h)
+other_every offset r rs form text w f found e lack every (inr (no_text, h)) = same_Some f found (every found h)
 
 pub other_has : (offset : ℤ) (r : Reader) (rs : List Reader) (form : Reading) (text : List ℕ) (w : NoAnswer) (f : DateOrMoment) → named offset r ≡ Some form
     → Lacks form text w → IsFoundBy offset rs text f → IsFoundBy offset (r ∷ rs) text f
@@ -76,7 +76,7 @@ other_has offset r rs form text w f e lack h = inr (lacks_by offset r form text 
 pub none_found : (offset : ℤ) (r : Reader) (rs : List Reader) (form : Reading) (text : List ℕ) (w : NoAnswer) → named offset r ≡ Some form
     → Lacks form text w → ((g : DateOrMoment) → IsFoundBy offset rs text g → None ≡ Some g) → (found : DateOrMoment) → ¬ IsFoundBy offset (r ∷ rs) text found
 none_found offset r rs form text w e lack every found (inl h) = lacks_by offset r form text w e lack found h
-none_found offset r rs form text w e lack every found (inr (has_too_few, h)) = none-some found (every found h)
+none_found offset r rs form text w e lack every found (inr (no_text, h)) = none-some found (every found h)
 
 pub none_unread : (offset : ℤ) (r : Reader) (rs : List Reader) (form : Reading) (text : List ℕ) (w : NoAnswer) → named offset r ≡ Some form
     → Lacks form text w → ((g : DateOrMoment) → IsFoundBy offset rs text g → None ≡ Some g) → IsUnreadIn form text w → IsUnread offset (r ∷ rs) text w
@@ -110,7 +110,7 @@ pub later_every : (offset : ℤ) (r : Reader) (rs : List Reader) (text : List �
     → ((g : DateOrMoment) → IsTextBy offset r text g → None ≡ Some g) → ((g : DateOrMoment) → IsFoundBy offset rs text g → o ≡ Some g)
     → IsFoundBy offset (r ∷ rs) text found → o ≡ Some found
 later_every offset r rs text o found lack every (inl h) = absurd (none-some found (lack found h))
-later_every offset r rs text o found lack every (inr (has_too_few, h)) = every found h
+later_every offset r rs text o found lack every (inr (no_text, h)) = every found h
 
 pub later_has : (offset : ℤ) (r : Reader) (rs : List Reader) (text : List ℕ) (o : Option DateOrMoment)
     → ((g : DateOrMoment) → IsTextBy offset r text g → None ≡ Some g) → IfSome o (IsFoundBy offset rs text) → IfSome o (IsFoundBy offset (r ∷ rs) text)

@@ -25,13 +25,13 @@ use Rattle.caldate_run.specs.declared.reading.Reading.{Reading}
 use Rattle.caldate_run.specs.declared.request.Clock.{Clock}
 use Rattle.caldate_run.specs.declared.request.Filter.{Filter}
 
-pub has_too_few : (reading : Reading) (text : List ℕ) (error : ParseError)
+pub is_unread : (reading : Reading) (text : List ℕ) (error : ParseError)
     → (FailsWithSyntax {V = DateOrMoment} (Err error) ↔ ¬ HasFormIn reading text)
     → ((why : ComponentRange) → FailsWithComponent {V = DateOrMoment} why (Err error) ↔ IsErrorIn reading text why)
     → IsErrorAtStop (HasFormIn reading) text error → IsUnreadIn reading text (reason_of error)
-has_too_few reading text (UnexpectedByte at) form component stop = (form.0 refl, stop.0)
-has_too_few reading text (UnexpectedEnd at) form component stop = (form.0 refl, stop.0)
-has_too_few reading text (OutOfRange e) form component stop = (component e).0 refl
+is_unread reading text (UnexpectedByte at) form component stop = (form.0 refl, stop.0)
+is_unread reading text (UnexpectedEnd at) form component stop = (form.0 refl, stop.0)
+is_unread reading text (OutOfRange e) form component stop = (component e).0 refl
 
 -- what the parser says, as an answer
 abbrev pub reported : Result DateOrMoment ParseError → Result DateOrMoment NoAnswer
@@ -53,6 +53,8 @@ lacks_only reading text (Err (UnexpectedEnd p)) (why.Unreadable at) form compone
     ap (λ at. Err (why.Unreadable at)) (one_position (HasFormIn reading) text p at stop.0 h.1)
 lacks_only reading text r why.TooLong form component stop h = absurd h
 lacks_only reading text r why.NoField form component stop h = absurd h
+lacks_only reading text r why.NoOtherField form component stop h = absurd h
+lacks_only reading text r why.UnreadOtherField form component stop h = absurd h
 lacks_only reading text r why.None form component stop h = absurd h
 lacks_only reading text r why.NoForm form component stop h = absurd h
 lacks_only reading text r why.Skipped form component stop h = absurd h
@@ -84,6 +86,8 @@ unread filter text why.Skipped h = h
 unread filter text why.Repeated h = h
 unread filter text why.TooLong h = h
 unread filter text why.NoField h = h
+unread filter text why.NoOtherField h = h
+unread filter text why.UnreadOtherField h = h
 unread filter text why.NoForm h = h
 unread filter text (why.Rejected component) h = h
 unread filter text (why.Unreadable at) h = h

@@ -8,7 +8,7 @@ use Rattle.cal_schedule.specs.Workdays.{WorkWeek, nth_workday, is_workday}
 use Rattle.cal_time.specs.Laws.{calendar_date-one, weekday_at-is}
 use Rattle.cal_schedule.proofs.MonthMoves.{IsMonthNumber-date, one_later}
 use Rattle.cal_schedule.specs.Ranks.{count-most, none-nth_from, none-nth_back}
-use Rattle.caldate_run.specs.Moves.{monday_to_friday, IsFirstOf, IsLastOf, MovesTo}
+use Rattle.caldate_run.specs.Moves.{IsFirstOf, IsLastOf, MovesTo}
 use Rattle.caldate_run.specs.declared.request.DayMove.{DayMove}
 use Rattle.caldate_run.specs.declared.request.DayMove.TheVariants.{Next, Last, OnOrAfter, OnOrBefore, Months, Years, Workdays, Start, End}
 use Rattle.caldate_run.specs.declared.request.Period.{Period}
@@ -55,27 +55,26 @@ years_inside n d y s e h =
     (omega (arith, ints, a.not_before, a.not_after, b.not_before, b.not_after, h.month), omega (arith, ints, a.not_before, a.not_after, b.not_before, b.not_after, h.month))
 
 -- the range has fewer than 2000000000 working days
-no_workday : (z : ℤ) (n : ℕ) → IsDate n → (pos 2000000000 ≤ℤ z) ⊎ (z ≤ℤ neg_ℤ (pos 2000000000)) → nth_workday monday_to_friday z n ≡ None
-no_workday (pos zero) n d far = absurd (elim far [ inl on ↦ omega (arith, ints, on) | inr back ↦ omega (arith, ints, back) ])
-no_workday (pos (suc k)) n d far =
+no_workday : (w : WorkWeek) (z : ℤ) (n : ℕ) → IsDate n → (pos 2000000000 ≤ℤ z) ⊎ (z ≤ℤ neg_ℤ (pos 2000000000)) → nth_workday w z n ≡ None
+no_workday w (pos zero) n d far = absurd (elim far [ inl on ↦ omega (arith, ints, on) | inr back ↦ omega (arith, ints, back) ])
+no_workday w (pos (suc k)) n d far =
     let many : 1999999999 ≤ k = elim far [ inl on ↦ omega (arith, ints, on) | inr back ↦ omega (arith, ints, back) ] in
-    none-nth_from (is_workday monday_to_friday) (n + 1) (last_day + 1 - (n + 1)) k
-    (omega (arith, d, many, count-most (is_workday monday_to_friday) (n + 1 + (last_day + 1 - (n + 1)))))
-no_workday (negsuc k) n d far =
+    none-nth_from (is_workday w) (n + 1) (last_day + 1 - (n + 1)) k
+    (omega (arith, d, many, count-most (is_workday w) (n + 1 + (last_day + 1 - (n + 1)))))
+no_workday w (negsuc k) n d far =
     let many : 1999999999 ≤ k = elim far [ inl on ↦ omega (arith, ints, on) | inr back ↦ omega (arith, ints, back) ] in
-    none-nth_back (is_workday monday_to_friday) n k (omega (arith, d, many, count-most (is_workday monday_to_friday) n))
+    none-nth_back (is_workday w) n k (omega (arith, d, many, count-most (is_workday w) n))
 
-by_workdays : (z k : ℤ) (n : ℕ) → IsDate n → IsNearest z k → nth_workday monday_to_friday k n ≡ nth_workday monday_to_friday z n
-by_workdays z k n d near =
+by_workdays : (w : WorkWeek) (z k : ℤ) (n : ℕ) → IsDate n → IsNearest z k → nth_workday w k n ≡ nth_workday w z n
+by_workdays w z k n d near =
     by_lt_z z (neg_ℤ (pos 2000000000))
-    (λ less. no_workday k n d (inr (omega (arith, ints, near.below (omega (arith, ints, less))))) ∙ sym (no_workday z n d (inr (omega (arith, ints, less)))))
+    (λ less. no_workday w k n d (inr (omega (arith, ints, near.below (omega (arith, ints, less))))) ∙ sym (no_workday w z n d (inr (omega (arith, ints, less)))))
     (λ least. by_lt_z (pos 2000000000) z
-    (λ more. no_workday k n d (inl (omega (arith, ints, near.above (omega (arith, ints, more))))) ∙ sym (no_workday z n d (inl (omega (arith, ints, more)))))
-    (λ most. ap (λ y. nth_workday monday_to_friday y n) (near.within least most)))
+    (λ more. no_workday w k n d (inl (omega (arith, ints, near.above (omega (arith, ints, more))))) ∙ sym (no_workday w z n d (inl (omega (arith, ints, more)))))
+    (λ most. ap (λ y. nth_workday w y n) (near.within least most)))
 
-pub workday_by_nearest : (z k : ℤ) (n : ℕ) (w : WorkWeek) (r : Option ℕ) → r ≡ nth_workday w k n → w ≡ monday_to_friday → IsDate n → IsNearest z k
-    → r ≡ nth_workday monday_to_friday z n
-workday_by_nearest z k n w r e same d near = e ∙ ap (λ w. nth_workday w k n) same ∙ by_workdays z k n d near
+pub workday_by_nearest : (w : WorkWeek) (z k : ℤ) (n : ℕ) (r : Option ℕ) → r ≡ nth_workday w k n → IsDate n → IsNearest z k → r ≡ nth_workday w z n
+workday_by_nearest w z k n r e d near = e ∙ by_workdays w z k n d near
 
 -- a move gives one day
 one_kth : (a b : ℕ) (o : Option ℕ) → o ≡ Some a → o ≡ Some b → a ≡ b
@@ -93,16 +92,16 @@ last-one Month n a b d e h k = calendar_date-one _ _ _ a b d e h k
 last-one Quarter n a b d e h k = calendar_date-one _ _ _ a b d e h k
 last-one Year n a b d e h k = calendar_date-one _ _ _ a b d e h k
 
-pub one_lead : (by : DayMove) (n a b : ℕ) → MovesTo by n a → MovesTo by n b → a ≡ b
-one_lead (Next w k) n a b h i = one_kth a b _ h i
-one_lead (Last w k) n a b h i = one_kth a b _ h i
-one_lead (OnOrAfter w) n a b h i = one_kth a b _ h i
-one_lead (OnOrBefore w) n a b h i = one_kth a b _ h i
-one_lead (Months z) n a b h i = one_later n a b z h.1 i.1
-one_lead (Years z) n a b h i = one_later n a b (pos 12 *ℤ z) h.1 i.1
-one_lead (Workdays z) n a b h i = one_kth a b _ h i
-one_lead (Start period) n a b h i = first-one period n a b h.0 i.0 h.1 i.1
-one_lead (End period) n a b h i = last-one period n a b h.0 i.0 h.1 i.1
+pub one_lead : (workdays : WorkWeek) (by : DayMove) (n a b : ℕ) → MovesTo workdays by n a → MovesTo workdays by n b → a ≡ b
+one_lead workdays (Next w k) n a b h i = one_kth a b _ h i
+one_lead workdays (Last w k) n a b h i = one_kth a b _ h i
+one_lead workdays (OnOrAfter w) n a b h i = one_kth a b _ h i
+one_lead workdays (OnOrBefore w) n a b h i = one_kth a b _ h i
+one_lead workdays (Months z) n a b h i = one_later n a b z h.1 i.1
+one_lead workdays (Years z) n a b h i = one_later n a b (pos 12 *ℤ z) h.1 i.1
+one_lead workdays (Workdays z) n a b h i = one_kth a b _ h i
+one_lead workdays (Start period) n a b h i = first-one period n a b h.0 i.0 h.1 i.1
+one_lead workdays (End period) n a b h i = last-one period n a b h.0 i.0 h.1 i.1
 
 -- the end of a week is a day of the range, or past it
 pub week_end : (n : ℕ) (r : Option ℕ) → IsDate n → SomeIff r (n + 6 ≤ last_day + weekday_at n) (n + 6 - weekday_at n)

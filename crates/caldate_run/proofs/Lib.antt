@@ -15,10 +15,13 @@ pub mod RecordFields
 pub mod NewFields
 pub mod Replied
 pub mod Reported
+pub mod DayLists
+pub mod HolidayLines
 pub mod Steps
 pub mod OneCount
 pub mod OneAnswer
 pub mod OneReply
+pub mod Others
 pub mod Leads
 pub mod Listed
 pub mod ReadNumbers
@@ -41,3 +44,6 @@ mod ReadWith
 pub mod Rounds
 pub mod HeaderNames
 pub mod Named
+pub mod TextBounds
+pub mod Scans
+pub mod OneScan

@@ -14,7 +14,7 @@ use Rattle.caldate_run.specs.Readings.{HasFormIn}
 use Rattle.caldate_run.specs.Templates.{Fits, IsTemplateFor, stands_at}
 use Rattle.caldate_run.specs.declared.reading.Reading.TheVariants.{Local}
 use Rattle.caldate_run.proofs.DateTemplates.{given, guarded, is_digit, stands_digit}
-use Rattle.caldate_run.proofs.ShapeBytes.{from-first, branch-first, conflict_in}
+use Rattle.caldate_run.proofs.ShapeBytes.{from-first, branch-first, lacks_byte}
 use Rattle.caldate_run.proofs.Templates.{fits-front, template_for}
 
 -- bytes that fill the template and fit it are a text of the shape with a Z; of bytes that are not
@@ -120,10 +120,10 @@ separator f places c = record { into = into; back = back }
 time_offset-ends : EndsHere time_offset
 time_offset-ends [] e = refl
 time_offset-ends (x ∷ xs) e = elim (branch-first 90 0 End _ x (xs ++ 90 ∷ []) e) [
-  | inl upper ↦ absurd (conflict_in 90 End xs [] refl upper.1)
+  | inl upper ↦ absurd (lacks_byte 90 End xs [] refl upper.1)
   | inr other ↦ elim (branch-first 122 0 End _ x (xs ++ 90 ∷ []) other) [
-    | inl lower ↦ absurd (conflict_in 90 End xs [] refl lower.1)
-    | inr signed ↦ absurd (conflict_in 90 signed_offset (x ∷ xs) [] refl signed)
+    | inl lower ↦ absurd (lacks_byte 90 End xs [] refl lower.1)
+    | inr signed ↦ absurd (lacks_byte 90 signed_offset (x ∷ xs) [] refl signed)
   ]
 ]
 
@@ -155,10 +155,10 @@ local =
 
 -- ---- only a moment ends in Z
 moment_in : (bytes : List ℕ) → length bytes ≤ 29 → HasAnyForm (bytes ++ 90 ∷ []) → unmatched_bytes (moment 30) (bytes ++ 90 ∷ []) ≡ 0
-moment_in bytes short (inl h) = absurd (conflict_in 90 date bytes [] refl (date_shape.each _ h))
-moment_in bytes short (inr (inl h)) = absurd (conflict_in 90 julian_day bytes [] refl (julian_shape.each _ h))
+moment_in bytes short (inl h) = absurd (lacks_byte 90 date bytes [] refl (date_shape.each _ h))
+moment_in bytes short (inr (inl h)) = absurd (lacks_byte 90 julian_day bytes [] refl (julian_shape.each _ h))
 moment_in bytes short (inr (inr (inl h))) = moment_shapes.each 30 _ (omega (arith, short, length-append bytes (90 ∷ []))) h
-moment_in bytes short (inr (inr (inr h))) = absurd (conflict_in 90 unix_time bytes [] refl (unix_shape.each _ h))
+moment_in bytes short (inr (inr (inr h))) = absurd (lacks_byte 90 unix_time bytes [] refl (unix_shape.each _ h))
 
 pub local_template : (offset : ℤ) (text : List ℕ) → IsTemplateFor (HasFormIn (Local offset)) text (codes "dddd-dd-ddTdd:dd:dd.ddddddddd")
 local_template offset text = template_for (HasFormIn (Local offset)) (codes "dddd-dd-ddTdd:dd:dd.ddddddddd") text into back

@@ -1,8 +1,8 @@
--- Runs whose field has a name.
+-- Runs with names of fields.
 use denote.Ref.{Bor}
-use Rattle.std.proofs.Common.{◌≡◌, ◌⊎◌, ◌<◌, ◌∙◌, ℕ, ℤ, List, Bool, false, Option, Some, None, Result, Ok, inl, inr, length, subst, sym}
-use Rattle.std.specs.Prelude.{MatchOption}
-use Rattle.caldate_run.specs.Header.{EndsNamed, HasHeader, HasLine, header_error, header_of, name_of_field, number_of, numbered}
+use Rattle.std.proofs.Common.{◌≡◌, ◌⊎◌, ◌<◌, ◌∙◌, ℕ, ℤ, List, Bool, false, Option, Some, Result, Ok, Err, inl, inr, length, subst, sym}
+use Rattle.std.specs.Prelude.{MatchResult}
+use Rattle.caldate_run.specs.Header.{EndsNamed, HasHeader, HasLine, header_error, header_of, numbered, numbers_in}
 use Rattle.caldate_run.specs.Meanings.{AreMeanings, Meanings}
 use Rattle.caldate_run.specs.Program.{GivesCommand, GivesNamedOnce, given_text}
 use Rattle.caldate_run.specs.Requests.{arguments_of, parse_args}
@@ -21,29 +21,26 @@ has_header left bytes input e (inl line) = subst (HasHeader left) e (inl line)
 has_header left bytes input e (inr long) = subst (HasHeader left) e (inr (inr long))
 
 -- what the header says
-pub says_none : (o : Option ℕ) (P : Type 0) (Q : ℕ → Type 0) → o ≡ None → P → MatchOption o P Q
-says_none o P Q e p = subst (λ (o : Option ℕ). MatchOption o P Q) (sym e) p
-
-pub says_some : (o : Option ℕ) (P : Type 0) (Q : ℕ → Type 0) (n : ℕ) → o ≡ Some n → Q n → MatchOption o P Q
-says_some o P Q n e q = subst (λ (o : Option ℕ). MatchOption o P Q) (sym e) q
+pub says : {A B : Type 0} (r s : Result A B) (P : A → Type 0) (Q : B → Type 0) → r ≡ s → MatchResult s P Q → MatchResult r P Q
+says r s P Q e h = subst (λ r. MatchResult r P Q) (sym e) h
 
 -- ---- the same end, of which less is said
-match_weaker : (o : Option ℕ) (P P' : Type 0) (Q Q' : ℕ → Type 0) → (P → P') → ((n : ℕ) → Q n → Q' n) → MatchOption o P Q → MatchOption o P' Q'
-match_weaker None P P' Q Q' f g h = f h
-match_weaker (Some n) P P' Q Q' f g h = g n h
+match_weaker : {A B : Type 0} (r : Result A B) (P P' : A → Type 0) (Q Q' : B → Type 0) → ((a : A) → P a → P' a) → ((b : B) → Q b → Q' b) → MatchResult r P Q → MatchResult r P' Q'
+match_weaker (Ok a) P P' Q Q' f g h = f a h
+match_weaker (Err b) P P' Q Q' f g h = g b h
 
 ends_weaker : (filter : Filter) (field : Field) (left : Option (List ℕ)) (front words : List ℕ) (Runs Runs' : Filter → Result Unit RunError → Type 0) (Stops Stops' : Bool → List ℕ → Type 0)
     → ((own : Filter) (outcome : Result Unit RunError) → Runs own outcome → Runs' own outcome) → ((failed : Bool) (words : List ℕ) → Stops failed words → Stops' failed words)
     → (failed : Bool)
     → (NoEnd front × Stops failed words)
-    ⊎ (HasHeader left front × MatchOption (number_of field (name_of_field filter) (header_of front)) (Stops false (header_error field (name_of_field filter) (header_of front)))
-    (λ n. (outcome : Result Unit RunError) × Runs (numbered filter field n) outcome))
+    ⊎ (HasHeader left front × MatchResult (numbers_in filter field (header_of front)) (λ numbers. (outcome : Result Unit RunError) × Runs (numbered filter field numbers) outcome)
+    (λ name. Stops false (header_error field name (header_of front))))
     → (NoEnd front × Stops' failed words)
-    ⊎ (HasHeader left front × MatchOption (number_of field (name_of_field filter) (header_of front)) (Stops' false (header_error field (name_of_field filter) (header_of front)))
-    (λ n. (outcome : Result Unit RunError) × Runs' (numbered filter field n) outcome))
+    ⊎ (HasHeader left front × MatchResult (numbers_in filter field (header_of front)) (λ numbers. (outcome : Result Unit RunError) × Runs' (numbered filter field numbers) outcome)
+    (λ name. Stops' false (header_error field name (header_of front))))
 ends_weaker filter field left front words Runs Runs' Stops Stops' runs stops failed (inl h) = inl (h.0, stops failed words h.1)
 ends_weaker filter field left front words Runs Runs' Stops Stops' runs stops failed (inr h) =
-    inr (h.0, match_weaker (number_of field (name_of_field filter) (header_of front)) _ _ _ _ (stops false _) (λ n r. (r.0, runs (numbered filter field n) r.0 r.1)) h.1)
+    inr (h.0, match_weaker (numbers_in filter field (header_of front)) _ _ _ _ (λ numbers r. (r.0, runs (numbered filter field numbers) r.0 r.1)) (λ name. stops false _) h.1)
 
 pub named_weaker : (filter : Filter) (field : Field) (old : Option (List ℕ)) (Runs Runs' : Filter → Result Unit RunError → Type 0) (Stops Stops' : Bool → List ℕ → Type 0)
     → ((own : Filter) (outcome : Result Unit RunError) → Runs own outcome → Runs' own outcome) → ((failed : Bool) (words : List ℕ) → Stops failed words → Stops' failed words)

@@ -11,6 +11,7 @@ use Rattle.std.proofs.lemmas.List.Elements.{All-cons, All-nil}
 use Rattle.cal_datetime.specs.OffsetDateTime.{LocalAndOffset}
 use Rattle.cal_text.specs.declared.any.DateOrMoment.{DateOrMoment}
 use Rattle.cal_text.specs.declared.any.MomentForm.TheVariants.{Rfc3339, Unix}
+use Rattle.cal_schedule.specs.Workdays.{WorkWeek}
 use Rattle.caldate_run.specs.Answers.{Answer, HasNone, IsAnswer, IsAnswerTo, IsBetween, IsNotRead, IsReadAs, compares, day_of, floored, form_read, leaves_out, moment_of, on_day}
 use Rattle.caldate_run.specs.Bounds.{lies_in}
 use Rattle.caldate_run.specs.Forms.{IsInForm}
@@ -28,6 +29,7 @@ use Rattle.caldate_run.specs.declared.request.Form.TheVariants.{Date, Weekday, M
 use Rattle.caldate_run.specs.declared.request.Form.TheVariants as form
 use Rattle.caldate_run.specs.declared.request.Request.{Request}
 use Rattle.caldate_run.specs.declared.request.Request.TheVariants.{To, Print, Add, Move, Floor, Until, Since, At, Keep}
+use Rattle.caldate_run.specs.declared.request.Target.TheVariants as target
 use Rattle.caldate_run.specs.declared.request.TimeUnit.{TimeUnit}
 use Rattle.caldate_run.specs.declared.run.tally.Tally.{Tally}
 use Rattle.caldate_run.proofs.Laters.{one_later}
@@ -49,33 +51,37 @@ in_form (form.Unix unit) m a b h k = h ∙ sym k
 in_form_at : (form : Form) (m n : LocalAndOffset) (a b : List ℕ) → m ≡ n → IsInForm form m a → IsInForm form n b → a ≡ b
 in_form_at form m n a b e h k = in_form form n a b (subst (λ m. IsInForm form m a) e h) k
 
-between : (unit : Option TimeUnit) (from to : DateOrMoment) (a b : List ℕ) → IsBetween unit from to a → IsBetween unit from to b → a ≡ b
-between None from to a b h k = h ∙ sym k
-between (Some unit) from to a b h k = h.2 ∙ ap signed_decimal (one_count unit (moment_of from) (moment_of to) h.0 k.0 h.1 k.1) ∙ sym k.2
+between : (workdays : WorkWeek) (unit : Option TimeUnit) (from to : DateOrMoment) (a b : List ℕ) → IsBetween workdays unit from to a → IsBetween workdays unit from to b → a ≡ b
+between workdays None from to a b h k = h ∙ sym k
+between workdays (Some unit) from to a b h k = h.2 ∙ ap signed_decimal (one_count workdays unit (moment_of from) (moment_of to) h.0 k.0 h.1 k.1) ∙ sym k.2
 
-one_answer_to : (q : Request) (text : List ℕ) (found : DateOrMoment) (a b : List ℕ) → IsAnswerTo q text found a → IsAnswerTo q text found b → a ≡ b
-one_answer_to (To form) text found a b h k = in_form form (moment_of found) a b h k
-one_answer_to (Print items) text found a b h k = h ∙ sym k
-one_answer_to (Add d) text found a b h k = in_form_at (form_read found) h.0 k.0 a b (one_later found d h.0 k.0 h.1 k.1) h.2 k.2
-one_answer_to (Move by) text found a b h k =
-    in_form_at (form_read found) _ _ a b (ap (on_day (moment_of found)) (one_lead by (day_of found) h.0 k.0 h.1 k.1)) h.2 k.2
-one_answer_to (Floor n) text found a b h k = in_form (form_read found) (floored n (moment_of found)) a b h k
-one_answer_to (Until target unit) text found a b h k = between unit found target a b h k
-one_answer_to (Since target unit) text found a b h k = between unit target found a b h k
-one_answer_to (At offset) text found a b h k = in_form_at (Moment Rfc3339) _ _ a b (h.1.excerpt_of ∙ sym k.1.excerpt_of) h.2 k.2
-one_answer_to (Keep bounds) text found a b h k = h.1 ∙ sym k.1
+one_answer_to : (workdays : WorkWeek) (q : Request) (text : List ℕ) (found : DateOrMoment) (a b : List ℕ) → IsAnswerTo workdays q text found a → IsAnswerTo workdays q text found b → a ≡ b
+one_answer_to workdays (To form) text found a b h k = in_form form (moment_of found) a b h k
+one_answer_to workdays (Print items) text found a b h k = h ∙ sym k
+one_answer_to workdays (Add d) text found a b h k = in_form_at (form_read found) h.0 k.0 a b (one_later found d h.0 k.0 h.1 k.1) h.2 k.2
+one_answer_to workdays (Move by) text found a b h k =
+    in_form_at (form_read found) _ _ a b (ap (on_day (moment_of found)) (one_lead workdays by (day_of found) h.0 k.0 h.1 k.1)) h.2 k.2
+one_answer_to workdays (Floor n) text found a b h k = in_form (form_read found) (floored n (moment_of found)) a b h k
+one_answer_to workdays (Until (target.Text to) unit) text found a b h k = between workdays unit found to a b h k
+one_answer_to workdays (Until (target.Fields numbers) unit) text found a b h k = absurd h
+one_answer_to workdays (Until (target.Name name) unit) text found a b h k = absurd h
+one_answer_to workdays (Since (target.Text from) unit) text found a b h k = between workdays unit from found a b h k
+one_answer_to workdays (Since (target.Fields numbers) unit) text found a b h k = absurd h
+one_answer_to workdays (Since (target.Name name) unit) text found a b h k = absurd h
+one_answer_to workdays (At offset) text found a b h k = in_form_at (Moment Rfc3339) _ _ a b (h.1.value ∙ sym k.1.value) h.2 k.2
+one_answer_to workdays (Keep bounds) text found a b h k = h.1 ∙ sym k.1
 
 -- a line with an answer is not left out
-stays : (q : Request) (text : List ℕ) (found : DateOrMoment) (words : List ℕ) → IsAnswerTo q text found words → leaves_out q found ≡ true → ⊥
-stays (Keep bounds) text found words h out = false≢true (sym (ap (λ lies. option_map_or not lies false) h.0) ∙ out)
-stays (To form) text found words h out = false≢true out
-stays (Print items) text found words h out = false≢true out
-stays (Add d) text found words h out = false≢true out
-stays (Move by) text found words h out = false≢true out
-stays (Floor n) text found words h out = false≢true out
-stays (Until target unit) text found words h out = false≢true out
-stays (Since target unit) text found words h out = false≢true out
-stays (At offset) text found words h out = false≢true out
+stays : (workdays : WorkWeek) (q : Request) (text : List ℕ) (found : DateOrMoment) (words : List ℕ) → IsAnswerTo workdays q text found words → leaves_out q found ≡ true → ⊥
+stays workdays (Keep bounds) text found words h out = false≢true (sym (ap (λ lies. option_map_or not lies false) h.0) ∙ out)
+stays workdays (To form) text found words h out = false≢true out
+stays workdays (Print items) text found words h out = false≢true out
+stays workdays (Add d) text found words h out = false≢true out
+stays workdays (Move by) text found words h out = false≢true out
+stays workdays (Floor n) text found words h out = false≢true out
+stays workdays (Until target unit) text found words h out = false≢true out
+stays workdays (Since target unit) text found words h out = false≢true out
+stays workdays (At offset) text found words h out = false≢true out
 
 -- a line without an answer is left out if `keep` compares it
 by_bounds : (lies : Option Bool) → (lies ≡ Some true → ⊥) → option_map_or not lies false ≡ is_some lies
@@ -83,33 +89,33 @@ by_bounds None lacks = refl
 by_bounds (Some true) lacks = absurd (lacks refl)
 by_bounds (Some false) lacks = refl
 
-pub left_out : (q : Request) (text : List ℕ) (found : DateOrMoment) → ((words : List ℕ) → ¬ IsAnswerTo q text found words) → leaves_out q found ≡ compares q found
-left_out (Keep bounds) text found lacks = by_bounds (lies_in bounds found) (λ lies. lacks text (lies, refl))
-left_out (To form) text found lacks = refl
-left_out (Print items) text found lacks = refl
-left_out (Add d) text found lacks = refl
-left_out (Move by) text found lacks = refl
-left_out (Floor n) text found lacks = refl
-left_out (Until target unit) text found lacks = refl
-left_out (Since target unit) text found lacks = refl
-left_out (At offset) text found lacks = refl
+pub left_out : (workdays : WorkWeek) (q : Request) (text : List ℕ) (found : DateOrMoment) → ((words : List ℕ) → ¬ IsAnswerTo workdays q text found words) → leaves_out q found ≡ compares q found
+left_out workdays (Keep bounds) text found lacks = by_bounds (lies_in bounds found) (λ lies. lacks text (lies, refl))
+left_out workdays (To form) text found lacks = refl
+left_out workdays (Print items) text found lacks = refl
+left_out workdays (Add d) text found lacks = refl
+left_out workdays (Move by) text found lacks = refl
+left_out workdays (Floor n) text found lacks = refl
+left_out workdays (Until target unit) text found lacks = refl
+left_out workdays (Since target unit) text found lacks = refl
+left_out workdays (At offset) text found lacks = refl
 
 -- ---- the answer for what a reader says of the text
 abbrev ToldOf : Filter → List ℕ → DateOrMoment → Answer → Type 0
 ToldOf filter text found answer =
-    ((words : List ℕ) × (answer ≡ Ok (Some words)) × IsAnswerTo filter.request text found words)
+    ((words : List ℕ) × (answer ≡ Ok (Some words)) × IsAnswerTo filter.workdays filter.request text found words)
     ⊎ (answer ≡ Ok None) × (leaves_out filter.request found ≡ true)
-    ⊎ (answer ≡ Err why.None) × HasNone filter.request text found
+    ⊎ (answer ≡ Err why.None) × HasNone filter.workdays filter.request text found
 
 abbrev Told : Filter → List ℕ → Result DateOrMoment NoAnswer → Answer → Type 0
 Told filter text (Ok found) answer = ToldOf filter text found answer
 Told filter text (Err any) answer = answer ≡ Err any
 
 one_of : (filter : Filter) (text : List ℕ) (found : DateOrMoment) (a b : Answer) → ToldOf filter text found a → ToldOf filter text found b → a ≡ b
-one_of filter text found a b (inl h) (inl k) = h.1 ∙ ap (λ words. Ok (Some words)) (one_answer_to filter.request text found h.0 k.0 h.2 k.2) ∙ sym k.1
-one_of filter text found a b (inl h) (inr (inl k)) = absurd (stays filter.request text found h.0 h.2 k.1)
+one_of filter text found a b (inl h) (inl k) = h.1 ∙ ap (λ words. Ok (Some words)) (one_answer_to filter.workdays filter.request text found h.0 k.0 h.2 k.2) ∙ sym k.1
+one_of filter text found a b (inl h) (inr (inl k)) = absurd (stays filter.workdays filter.request text found h.0 h.2 k.1)
 one_of filter text found a b (inl h) (inr (inr k)) = absurd (k.1.1 h.0 h.2)
-one_of filter text found a b (inr (inl h)) (inl k) = absurd (stays filter.request text found k.0 k.2 h.1)
+one_of filter text found a b (inr (inl h)) (inl k) = absurd (stays filter.workdays filter.request text found k.0 k.2 h.1)
 one_of filter text found a b (inr (inl h)) (inr (inl k)) = h.0 ∙ sym k.0
 one_of filter text found a b (inr (inl h)) (inr (inr k)) = absurd (false≢true (sym k.1.0 ∙ h.1))
 one_of filter text found a b (inr (inr h)) (inl k) = absurd (h.1.1 k.0 k.2)
@@ -137,6 +143,8 @@ reported filter text r (Err (why.Rejected e)) every unread h = unread_told filte
 reported filter text r (Err (why.Unreadable at)) every unread h = unread_told filter text r (why.Unreadable at) (unread (why.Unreadable at) h)
 reported filter text r (Err why.TooLong) every unread h = unread_told filter text r why.TooLong (unread why.TooLong h)
 reported filter text r (Err why.NoField) every unread h = unread_told filter text r why.NoField (unread why.NoField h)
+reported filter text r (Err why.NoOtherField) every unread h = unread_told filter text r why.NoOtherField (unread why.NoOtherField h)
+reported filter text r (Err why.UnreadOtherField) every unread h = unread_told filter text r why.UnreadOtherField (unread why.UnreadOtherField h)
 reported filter text r (Err why.NoForm) every unread h = unread_told filter text r why.NoForm (unread why.NoForm h)
 reported filter text r (Err why.Skipped) every unread h = unread_told filter text r why.Skipped (unread why.Skipped h)
 reported filter text r (Err why.Repeated) every unread h = unread_told filter text r why.Repeated (unread why.Repeated h)

@@ -3,6 +3,7 @@ use Rattle.std.proofs.Common.{◌≡◌, ℕ, ◌<◌, ◌≤◌, sym, subst, �
 use Rattle.cal_datetime.specs.DateTime.{date_at}
 use Rattle.cal_datetime.specs.OffsetDateTime.{LocalAndOffset}
 use Rattle.cal_schedule.specs.Until.{IsMonthsUpTo, IsMonthsBackTo, IsGreatest, IsLeast}
+use Rattle.cal_schedule.specs.Workdays.{WorkWeek}
 use Rattle.cal_schedule.proofs.OneAnswer.{until-one}
 use Rattle.caldate_run.specs.Counts.{AreMonths, AreYears, IsCount, reached}
 use Rattle.caldate_run.specs.declared.request.TimeUnit.{TimeUnit}
@@ -25,12 +26,12 @@ pub are_months : (n t : ℕ) (z y : ℤ) → z ≡ y → (n ≤ t → IsGreatest
 unfolding AreMonths
 are_months n t z y e on back = subst (AreMonths n t) (sym e) (on, back)
 
-pub one_count : (unit : TimeUnit) (from to : LocalAndOffset) (y z : ℤ) → IsCount unit from to y → IsCount unit from to z → y ≡ z
-one_count Years from to y z h k = years (date_at from.local) (reached from to) y z h k
-one_count Months from to y z h k = months (date_at from.local) (reached from to) y z h k
-one_count Workdays from to y z h k = h ∙ sym k
-one_count Weeks from to y z h k = h ∙ sym k
-one_count Days from to y z h k = h ∙ sym k
-one_count Hours from to y z h k = h ∙ sym k
-one_count Minutes from to y z h k = h ∙ sym k
-one_count Seconds from to y z h k = h ∙ sym k
+pub one_count : (workdays : WorkWeek) (unit : TimeUnit) (from to : LocalAndOffset) (y z : ℤ) → IsCount workdays unit from to y → IsCount workdays unit from to z → y ≡ z
+one_count workdays Years from to y z h k = years (date_at from.local) (reached from to) y z h k
+one_count workdays Months from to y z h k = months (date_at from.local) (reached from to) y z h k
+one_count workdays Workdays from to y z h k = h ∙ sym k
+one_count workdays Weeks from to y z h k = h ∙ sym k
+one_count workdays Days from to y z h k = h ∙ sym k
+one_count workdays Hours from to y z h k = h ∙ sym k
+one_count workdays Minutes from to y z h k = h ∙ sym k
+one_count workdays Seconds from to y z h k = h ∙ sym k

@@ -1,7 +1,6 @@
 -- A reading has one moment by a policy, or one reason why it has none.
-use Rattle.std.proofs.Common.{◌≡◌, ◌∙◌, Option, None, Some, Result, Ok, Err, ap, refl, subst, sym}
-use Rattle.std.specs.Prelude.{ℤ, SomeIff}
-use Rattle.cal_datetime.specs.DateTime.{IsDateTime}
+use Rattle.std.proofs.Common.{◌≡◌, ◌∙◌, Option, None, Some, Result, ap, refl, subst, sym}
+use Rattle.std.specs.Prelude.{ℤ}
 use Rattle.cal_datetime.specs.OffsetDateTime.{LocalAndOffset}
 use Rattle.cal_text.specs.declared.any.DateOrMoment.{DateOrMoment}
 use Rattle.cal_text.specs.declared.any.MomentForm.{MomentForm}

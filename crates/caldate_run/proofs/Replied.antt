@@ -5,13 +5,17 @@ use Rattle.std.proofs.Math.Seq.{take-append-add, take-append_seam}
 use Rattle.std.proofs.lemmas.Bool.{false≢true, le-ltb, lt-ltb}
 use Rattle.std.proofs.lemmas.List.{append-nil, get_or-append-add}
 use Rattle.cal_text.specs.declared.any.DateOrMoment.{DateOrMoment}
+use Rattle.cal_schedule.specs.Workdays.{WorkWeek}
 use Rattle.caldate_run.specs.Answers.{Answer, IsAnswer, IsAnswerTo, keeps}
+use Rattle.caldate_run.proofs.Others.{by_itself, no_other}
 use Rattle.caldate_run.proofs.Steps.{passed_none, shown_front}
 use Rattle.caldate_run.specs.Fields.{selected_text, text_with, text_without}
 use Rattle.caldate_run.specs.Lines.{has_return, text_of}
-use Rattle.caldate_run.specs.Replies.{IsCounted, Describes, RepliesWith, IsAnswerIn, IsAnswerOf, IsAnswerToText, IsReplyTo, in_place, in_text, more, skipped, stops, with_end, with_reason}
+use Rattle.caldate_run.specs.Replies.{IsCounted, Describes, RepliesWith, IsAnswerIn, IsAnswerOf, IsAnswerToLine, IsAnswerToText, IsReplyTo, in_place, in_text, more, skipped, stops, with_end, with_reason}
 use Rattle.caldate_run.specs.Runs.{AppendsSome, AppendsAnswer, AppendsReply}
+use Rattle.caldate_run.specs.Scans.{IsScanned}
 use Rattle.caldate_run.specs.RunStates.{AtLine, IsDroppedFront, HasExcerpt, passed}
+use Rattle.caldate_run.specs.Targets.{IsAnswerAt}
 use Rattle.caldate_run.specs.Excerpts.{excerpt_of, excerpt_bytes}
 use Rattle.caldate_run.specs.declared.run.no_answer.NoAnswer.{NoAnswer}
 use Rattle.caldate_run.specs.declared.run.no_answer.NoAnswer.TheVariants as why
@@ -48,40 +52,50 @@ is_too_long kept line h = text_long (has_return (kept ++ line)) (kept ++ line) 4
 
 -- ---- the answer to the text of a line
 of_short : (filter : Filter) (before : ℕ) (text : List ℕ) (answer : Answer) → length text ≤ 4096
-    → MatchBool (nat_lt before filter.skip) (answer ≡ skipped filter before text) (IsAnswerToText filter text answer) → IsAnswerOf filter before text answer
+    → MatchBool (nat_lt before filter.skip) (answer ≡ skipped filter before text) (IsAnswerToLine filter text answer) → IsAnswerOf filter before text answer
 of_short filter before text answer fits h =
-    subst (λ b. MatchBool b (answer ≡ Err why.TooLong) (MatchBool (nat_lt before filter.skip) (answer ≡ skipped filter before text) (IsAnswerToText filter text answer)))
+    subst (λ b. MatchBool b (answer ≡ Err why.TooLong) (MatchBool (nat_lt before filter.skip) (answer ≡ skipped filter before text) (IsAnswerToLine filter text answer)))
     (sym (le-ltb 4096 (length text) fits)) h
 
-pub of_text : (filter : Filter) (before : ℕ) (text : List ℕ) (answer : Answer) → length text ≤ 4096 → filter.skip ≤ before
-    → IsAnswerToText filter text answer → IsAnswerOf filter before text answer
-of_text filter before text answer fits skip h =
-    let whole = subst (λ b. MatchBool b (answer ≡ skipped filter before text) (IsAnswerToText filter text answer)) (sym (le-ltb before filter.skip skip)) h in
+of_line : (filter : Filter) (before : ℕ) (text : List ℕ) (answer : Answer) → length text ≤ 4096 → filter.skip ≤ before
+    → IsAnswerToLine filter text answer → IsAnswerOf filter before text answer
+of_line filter before text answer fits skip h =
+    let whole = subst (λ b. MatchBool b (answer ≡ skipped filter before text) (IsAnswerToLine filter text answer)) (sym (le-ltb before filter.skip skip)) h in
     of_short filter before text answer fits whole
+
+pub of_text : (filter : Filter) (before : ℕ) (text : List ℕ) (answer : Answer) → length text ≤ 4096 → filter.skip ≤ before → filter.scans ≡ false
+    → IsAnswerToText filter text answer → IsAnswerOf filter before text answer
+of_text filter before text answer fits skip whole h =
+    of_line filter before text answer fits skip (subst (λ b. MatchBool b (IsScanned filter text answer) (IsAnswerToText filter text answer)) (sym whole) h)
+
+pub of_scan : (filter : Filter) (before : ℕ) (text : List ℕ) (answer : Answer) → length text ≤ 4096 → filter.skip ≤ before → filter.scans ≡ true
+    → IsScanned filter text answer → IsAnswerOf filter before text answer
+of_scan filter before text answer fits skip scans h =
+    of_line filter before text answer fits skip (subst (λ b. MatchBool b (IsScanned filter text answer) (IsAnswerToText filter text answer)) (sym scans) h)
 
 pub of_skipped : (filter : Filter) (before : ℕ) (text : List ℕ) (answer : Answer) → length text ≤ 4096 → before < filter.skip
     → answer ≡ skipped filter before text → IsAnswerOf filter before text answer
 of_skipped filter before text answer fits skip h =
-    let whole = subst (λ b. MatchBool b (answer ≡ skipped filter before text) (IsAnswerToText filter text answer)) (sym (lt-ltb before filter.skip skip)) h in
+    let whole = subst (λ b. MatchBool b (answer ≡ skipped filter before text) (IsAnswerToLine filter text answer)) (sym (lt-ltb before filter.skip skip)) h in
     of_short filter before text answer fits whole
 
 pub in_field : (filter : Filter) (field : Option Field) (text asked : List ℕ) (own : Answer) → filter.field ≡ field → selected_text field text ≡ Some asked
-    → IsAnswer filter asked own → IsAnswerToText filter text (in_text filter text own)
+    → IsAnswerAt filter text asked own → IsAnswerToText filter text (in_text filter text own)
 in_field filter field text asked own is e h =
     subst (λ o. MatchOption o (in_text filter text own ≡ Err why.NoField) (IsAnswerIn filter text (in_text filter text own)))
     (sym (ap (λ f. selected_text f text) is ∙ e)) (own, h, refl)
 
 -- `keep` answers with the text itself
-kept_words : (q : Request) (text : List ℕ) (found : DateOrMoment) (words : List ℕ) → IsAnswerTo q text found words → keeps q ≡ true → words ≡ text
-kept_words (Keep bounds) text found words h e = h.1
-kept_words (To form) text found words h e = absurd (false≢true e)
-kept_words (Print items) text found words h e = absurd (false≢true e)
-kept_words (Add d) text found words h e = absurd (false≢true e)
-kept_words (Move by) text found words h e = absurd (false≢true e)
-kept_words (Floor n) text found words h e = absurd (false≢true e)
-kept_words (Until target unit) text found words h e = absurd (false≢true e)
-kept_words (Since target unit) text found words h e = absurd (false≢true e)
-kept_words (At place) text found words h e = absurd (false≢true e)
+kept_words : (workdays : WorkWeek) (q : Request) (text : List ℕ) (found : DateOrMoment) (words : List ℕ) → IsAnswerTo workdays q text found words → keeps q ≡ true → words ≡ text
+kept_words workdays (Keep bounds) text found words h e = h.1
+kept_words workdays (To form) text found words h e = absurd (false≢true e)
+kept_words workdays (Print items) text found words h e = absurd (false≢true e)
+kept_words workdays (Add d) text found words h e = absurd (false≢true e)
+kept_words workdays (Move by) text found words h e = absurd (false≢true e)
+kept_words workdays (Floor n) text found words h e = absurd (false≢true e)
+kept_words workdays (Until target unit) text found words h e = absurd (false≢true e)
+kept_words workdays (Since target unit) text found words h e = absurd (false≢true e)
+kept_words workdays (At place) text found words h e = absurd (false≢true e)
 
 one_of : (b : Bool) (kept text all : List ℕ) → (b ≡ true → kept ≡ all) → text ≡ all → cond b kept text ≡ all
 one_of true kept text all h e = h refl
@@ -90,10 +104,10 @@ one_of false kept text all h e = e
 -- the text as it is for `keep`, or with the words
 pub kept_or : (filter : Filter) (asked words text other all : List ℕ) → IsAnswer filter asked (Ok (Some words)) → (words ≡ asked → text ≡ all) → other ≡ all
     → cond (keeps filter.request) text other ≡ all
-kept_or filter asked words text other all h kept e = one_of (keeps filter.request) text other all (λ e. kept (kept_words filter.request asked h.0 words h.2 e)) e
+kept_or filter asked words text other all h kept e = one_of (keeps filter.request) text other all (λ e. kept (kept_words filter.workdays filter.request asked h.0 words h.2 e)) e
 
 pub in_part : (filter : Filter) (field : Field) (text asked words all : List ℕ) → filter.field ≡ Some field → selected_text (Some field) text ≡ Some asked
-    → IsAnswer filter asked (Ok (Some words)) → cond (keeps filter.request) text (text_with (Some field) text words) ≡ all → IsAnswerToText filter text (Ok (Some all))
+    → IsAnswerAt filter text asked (Ok (Some words)) → cond (keeps filter.request) text (text_with (Some field) text words) ≡ all → IsAnswerToText filter text (Ok (Some all))
 in_part filter field text asked words all is e h out =
     subst (IsAnswerToText filter text) (ap (λ t. Ok (Some t)) (ap (λ f. cond (keeps filter.request) text (text_with f text words)) is ∙ out))
     (in_field filter (Some field) text asked (Ok (Some words)) is e h)
@@ -105,7 +119,9 @@ same_text filter text (Ok None) e h = refl
 same_text filter text (Err any) e h = refl
 
 pub in_whole : (filter : Filter) (text : List ℕ) (answer : Answer) → filter.field ≡ None → IsAnswer filter text answer → IsAnswerToText filter text answer
-in_whole filter text answer none h = subst (IsAnswerToText filter text) (same_text filter text answer none h) (in_field filter None text text answer none refl h)
+in_whole filter text answer none h =
+    subst (IsAnswerToText filter text) (same_text filter text answer none h)
+    (in_field filter None text text answer none refl (by_itself filter text text answer (no_other filter none) h))
 
 pub puts_other : (P Q : Answer → Type 0) (r : Result Bool NoAnswer) (old new : List ℕ) → ((answer : Answer) → P answer → Q answer) → AppendsAnswer P r old new → AppendsAnswer Q r old new
 puts_other P Q (Ok true) old new f h = (h.0, h.1, f (Ok (Some h.0)) h.2)

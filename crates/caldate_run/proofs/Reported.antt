@@ -1,5 +1,5 @@
 -- The steps of the files in a run.
-use Rattle.std.proofs.Common.{◌≡◌, ◌⊎◌, ℕ, Bool, true, false, Result, refl, ◌∙◌, inl, inr}
+use Rattle.std.proofs.Common.{ℕ, Bool, false, Result, refl, ◌∙◌, inl, inr}
 use Rattle.std.specs.declared.io.Error.{Error}
 use Rattle.caldate_run.specs.Calls.{Gives, Reads, most_reads}
 use Rattle.caldate_run.specs.Calls.Gives.{ok, fails, again}

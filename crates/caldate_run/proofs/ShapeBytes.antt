@@ -29,22 +29,22 @@ out : (low above b : ℕ) → is_out low above b ≡ true → ¬ IsIn low above 
 out low above b e here = let least = here.0 in let most = here.1 in grind (arith, nat_tests)
 
 -- ---- a byte that no text of the shape has
-abbrev pub has_too_few : ℕ → Shape → Bool
-has_too_few b End = true
-has_too_few b (ByteRange low above f) = is_out low above b && has_too_few b f
-has_too_few b (Branch low above f g) = is_out low above b && (has_too_few b f && has_too_few b g)
+abbrev pub lacks : ℕ → Shape → Bool
+lacks b End = true
+lacks b (ByteRange low above f) = is_out low above b && lacks b f
+lacks b (Branch low above f g) = is_out low above b && (lacks b f && lacks b g)
 
-pub conflict_in : (b : ℕ) (f : Shape) (xs ys : List ℕ) → has_too_few b f ≡ true → unmatched_bytes f (xs ++ b ∷ ys) ≡ 0 → ⊥
-conflict_in b End [] ys h e = absurd (omega (arith, e, unmatched_bytes-more b ys))
-conflict_in b End (x ∷ xs) ys h e = absurd (omega (arith, e, unmatched_bytes-more x (xs ++ b ∷ ys)))
-conflict_in b (ByteRange low above f) [] ys h e = absurd (out low above b (and_parts _ _ h).0 (from-first low above f b ys e).0)
-conflict_in b (ByteRange low above f) (x ∷ xs) ys h e = conflict_in b f xs ys (and_parts _ _ h).1 (from-first low above f x (xs ++ b ∷ ys) e).1
-conflict_in b (Branch low above f g) [] ys h e =
+pub lacks_byte : (b : ℕ) (f : Shape) (xs ys : List ℕ) → lacks b f ≡ true → unmatched_bytes f (xs ++ b ∷ ys) ≡ 0 → ⊥
+lacks_byte b End [] ys h e = absurd (omega (arith, e, unmatched_bytes-more b ys))
+lacks_byte b End (x ∷ xs) ys h e = absurd (omega (arith, e, unmatched_bytes-more x (xs ++ b ∷ ys)))
+lacks_byte b (ByteRange low above f) [] ys h e = absurd (out low above b (and_parts _ _ h).0 (from-first low above f b ys e).0)
+lacks_byte b (ByteRange low above f) (x ∷ xs) ys h e = lacks_byte b f xs ys (and_parts _ _ h).1 (from-first low above f x (xs ++ b ∷ ys) e).1
+lacks_byte b (Branch low above f g) [] ys h e =
     let all = and_parts _ _ h in
-    elim (branch-first low above f g b ys e) [ inl here ↦ out low above b all.0 here.0 | inr other ↦ conflict_in b g [] ys (and_parts _ _ all.1).1 other ]
-conflict_in b (Branch low above f g) (x ∷ xs) ys h e =
+    elim (branch-first low above f g b ys e) [ inl here ↦ out low above b all.0 here.0 | inr other ↦ lacks_byte b g [] ys (and_parts _ _ all.1).1 other ]
+lacks_byte b (Branch low above f g) (x ∷ xs) ys h e =
     let all = and_parts _ _ (and_parts _ _ h).1 in
-    elim (branch-first low above f g x (xs ++ b ∷ ys) e) [ inl here ↦ conflict_in b f xs ys all.0 here.1 | inr other ↦ conflict_in b g (x ∷ xs) ys all.1 other ]
+    elim (branch-first low above f g x (xs ++ b ∷ ys) e) [ inl here ↦ lacks_byte b f xs ys all.0 here.1 | inr other ↦ lacks_byte b g (x ∷ xs) ys all.1 other ]
 
 -- ---- bytes, some of which are known, that are not a text of the shape
 abbrev pub Knows : List (Option ℕ) → List ℕ → Type 0

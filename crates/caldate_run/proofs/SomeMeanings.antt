@@ -16,7 +16,7 @@ abbrev pub HasMeanings : List (List ℕ) → Type 0
 HasMeanings words = (meanings : Meanings) × AreMeanings meanings words
 
 abbrev no_meaning : Meanings
-no_meaning text = record { found = None; items = None; zone = Err (File NotFound) }
+no_meaning text = record { found = None; items = None; zone = Err (File NotFound); holidays = Ok [] }
 
 pub none_meant : HasMeanings []
 none_meant = (no_meaning, All-nil (AreMeant no_meaning))
@@ -72,7 +72,7 @@ is_items text None every has = λ items h. let e = every items h in cc
 
 pub meant : (text : List ℕ) (r : Result DateOrMoment ParseError) (o : Option (List Item)) → ((found : DateOrMoment) → IsTextOf text found → r ≡ Ok found)
     → IfOk r (IsTextOf text) → ((items : List Item) → IsItems (format_named text) items → o ≡ Some items) → IfSome o (IsItems (format_named text))
-    → IsMeaningOf text (record { found = result_ok r; items = o; zone = Err (File NotFound) })
+    → IsMeaningOf text (record { found = result_ok r; items = o; zone = Err (File NotFound); holidays = Ok [] })
 meant text r o every has every_items has_items = record {
   found = is_found text r every has;
   items = is_items (format_named text) o every_items has_items;

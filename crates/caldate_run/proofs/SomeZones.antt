@@ -1,9 +1,9 @@
--- Meanings of words are those of the same words with the zones of two files.
-use Rattle.std.proofs.Common.{◌≡◌, ℕ, Bool, true, false, cond, List, Option, None, Result, Err, refl}
+-- Meanings of words are those of the same words with the zones and the holidays of the files.
+use Rattle.std.proofs.Common.{ℕ, Bool, true, false, cond, List, Option, None, Result, Err, refl}
 use Rattle.std.proofs.lemmas.List.Elements.{All-weaker}
 use Rattle.cal_zone.specs.Timeline.{Timeline}
 use Rattle.caldate_run.specs.Meanings.{AreMeanings, AreMeant, Meanings}
-use Rattle.caldate_run.specs.Zones.{AreZones, IsZoneOf, file_named, has_name}
+use Rattle.caldate_run.specs.Zones.{AreZones, IsZoneOf, has_name, holidays_named}
 use Rattle.caldate_run.specs.declared.zones.read_zone_error.FileError.TheVariants.{NotFound}
 use Rattle.caldate_run.specs.declared.zones.read_zone_error.ReadZoneError.{ReadZoneError}
 use Rattle.caldate_run.specs.declared.zones.read_zone_error.ReadZoneError.TheVariants.{File}
@@ -24,7 +24,7 @@ abbrev zone_for : ZoneFiles → Result Timeline ReadZoneError → Result Timelin
 zone_for files r s name = zone_by (has_name name files.first) (has_name name files.second) r s
 
 abbrev with_zones : ZoneFiles → Result Timeline ReadZoneError → Result Timeline ReadZoneError → Meanings → Meanings
-with_zones files r s meanings word = record { found = (meanings word).found; items = (meanings word).items; zone = zone_for files r s word }
+with_zones files r s meanings word = record { found = (meanings word).found; items = (meanings word).items; zone = zone_for files r s word; holidays = holidays_named files word }
 
 still_meant : (files : ZoneFiles) (r s : Result Timeline ReadZoneError) (meanings : Meanings) (text : List ℕ) → AreMeant meanings text
     → AreMeant (with_zones files r s meanings) text
@@ -39,5 +39,5 @@ some_zones files r s words a b (meanings, h) =
     let more = with_zones files r s meanings in (
       more,
       All-weaker (AreMeant meanings) (AreMeant more) (still_meant files r s meanings) words h,
-      λ name. is_zone_by (has_name name files.first) (has_name name files.second) files.first files.second r s a b,
+      λ name. (is_zone_by (has_name name files.first) (has_name name files.second) files.first files.second r s a b, refl),
     )

@@ -156,7 +156,7 @@ gone IsReply mode input start now new buffered left written pending progress e a
 }
 
 -- ---- the lines of the input
-part_counts : (part : List ℕ) (parts : List (List ℕ)) → 0 < length parts
+pub part_counts : (part : List ℕ) (parts : List (List ℕ)) → 0 < length parts
     → without_empty_last (part ∷ parts) ≡ part ∷ without_empty_last parts
 part_counts [] [] h = absurd (omega arith)
 part_counts (b ∷ bs) [] h = absurd (omega arith)
@@ -171,7 +171,7 @@ lines_begin : (lines : List (List ℕ)) (parts : List (List ℕ)) → 0 < length
 lines_begin [] parts h = refl
 lines_begin (l ∷ lines) parts h = part_counts l (lines ++ parts) (some_parts lines parts h) ∙ ap (λ ls. l ∷ ls) (lines_begin lines parts h)
 
-split_some : (xs : List ℕ) → 0 < length (slice_split is_end xs)
+pub split_some : (xs : List ℕ) → 0 < length (slice_split is_end xs)
 split_some xs = omega (arith, length-slice_split is_end xs)
 
 -- those that are answered, and those that are pending
@@ -233,7 +233,7 @@ begins (x ∷ xs) pending n =
     )
 
 -- a line that has a byte and no end
-one_line : (line : List ℕ) → NoEnd line → 0 < length line → lines_of line ≡ line ∷ []
+pub one_line : (line : List ℕ) → NoEnd line → 0 < length line → lines_of line ≡ line ∷ []
 one_line [] n h = absurd (omega arith)
 one_line (b ∷ bs) n h = ap without_empty_last (slice_split_none is_end (b ∷ bs) n)
 

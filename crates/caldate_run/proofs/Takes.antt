@@ -1,5 +1,5 @@
 -- Reads of a text in memory.
-use Rattle.std.proofs.Common.{◌≡◌, ℕ, ◌+◌, ◌<◌, Bool, false, List, length, Err, Ok, Result, arith, refl}
+use Rattle.std.proofs.Common.{◌≡◌, ℕ, ◌<◌, Bool, false, List, length, Err, Ok, Result, arith, refl}
 use Rattle.std.specs.declared.io.Error.{Error}
 use Rattle.caldate_run.specs.Calls.{Gives, Reads, Takes, most_retries}
 use Rattle.caldate_run.specs.Calls.Gives.{ok, fails, again}

@@ -11,6 +11,7 @@ use Rattle.cal_datetime.specs.OffsetDateTime.{LocalAndOffset, instant, local_at,
 use Rattle.cal_text.specs.declared.any.DateOrMoment.{DateOrMoment}
 use Rattle.cal_text.specs.declared.any.DateOrMoment.TheVariants as read
 use Rattle.cal_text.specs.declared.any.MomentForm.TheVariants.{Rfc3339}
+use Rattle.cal_schedule.specs.Workdays.{WorkWeek}
 use Rattle.cal_zone.specs.Timeline.{offset_at}
 use Rattle.caldate_run.specs.Clocks.{IsPlaced}
 use Rattle.caldate_run.specs.Counts.{IsCount}
@@ -22,13 +23,16 @@ use Rattle.caldate_run.specs.Readers.{IsFoundBy, IsUnread}
 use Rattle.caldate_run.specs.declared.run.no_answer.NoAnswer.{NoAnswer}
 use Rattle.caldate_run.specs.declared.run.no_answer.NoAnswer.TheVariants as why
 use Rattle.caldate_run.specs.declared.request.DayMove.{DayMove}
+use Rattle.caldate_run.specs.declared.request.DayMove.TheVariants as move
 use Rattle.caldate_run.specs.declared.request.Filter.{Filter}
 use Rattle.caldate_run.specs.declared.request.Form.TheVariants.{Moment}
 use Rattle.caldate_run.specs.declared.request.Place.{Place}
 use Rattle.caldate_run.specs.declared.request.Place.TheVariants as place
 use Rattle.caldate_run.specs.declared.request.Request.{Request}
 use Rattle.caldate_run.specs.declared.request.Request.TheVariants.{To, Print, Add, Move, Floor, Until, Since, At, Keep}
+use Rattle.caldate_run.specs.declared.request.Target.TheVariants as target
 use Rattle.caldate_run.specs.declared.request.TimeUnit.{TimeUnit}
+use Rattle.caldate_run.specs.declared.request.TimeUnit.TheVariants as unit
 
 -- Moment m moves to day n and keeps its time of day and offset.
 abbrev pub on_day : LocalAndOffset → ℕ → LocalAndOffset
@@ -56,14 +60,14 @@ until_text from to =
     else duration.text (instant (moment_of to) -ℤ instant (moment_of from))
 
 -- With a unit, the text is the number of whole units, truncated toward zero.
-abbrev pub IsBetween : Option TimeUnit → DateOrMoment → DateOrMoment → List ℕ → Type 0
-IsBetween None from to words = words ≡ until_text from to
-IsBetween (Some unit) from to words = (z : ℤ) × IsCount unit (moment_of from) (moment_of to) z × (words ≡ signed_decimal z)
+abbrev pub IsBetween : WorkWeek → Option TimeUnit → DateOrMoment → DateOrMoment → List ℕ → Type 0
+IsBetween workdays None from to words = words ≡ until_text from to
+IsBetween workdays (Some unit) from to words = (z : ℤ) × IsCount workdays unit (moment_of from) (moment_of to) z × (words ≡ signed_decimal z)
 
 -- Moment m is the moment `from` at the offset.
 pub record IsShownAt (offset : ℤ) (from m : LocalAndOffset) : Type 0 where
   pub in_range : IsDateTime (local_at (instant from) offset)
-  pub excerpt_of : m ≡ record { local = local_at (instant from) offset; offset = offset }
+  pub value : m ≡ record { local = local_at (instant from) offset; offset = offset }
 
 -- The offset of a place at a moment.
 abbrev pub offset_in : Place → LocalAndOffset → ℤ
@@ -75,8 +79,8 @@ abbrev pub IsAt : Place → LocalAndOffset → List ℕ → Type 0
 IsAt place from words = (m : LocalAndOffset) × IsShownAt (offset_in place from) from m × IsInForm (Moment Rfc3339) m words
 
 -- The words are the moved day in the form that was read, at the same time of day.
-abbrev pub IsMoved : DayMove → DateOrMoment → List ℕ → Type 0
-IsMoved by found words = (n : ℕ) × MovesTo by (day_of found) n × IsInForm (form_read found) (on_day (moment_of found) n) words
+abbrev pub IsMoved : WorkWeek → DayMove → DateOrMoment → List ℕ → Type 0
+IsMoved workdays by found words = (n : ℕ) × MovesTo workdays by (day_of found) n × IsInForm (form_read found) (on_day (moment_of found) n) words
 
 -- The time of day is rounded down to a multiple of n minutes after midnight, or of 1 minute for 0.
 abbrev pub floored : ℕ → LocalAndOffset → LocalAndOffset
@@ -84,22 +88,31 @@ floored n m =
     let minutes = hour_of (time_at m.local) * 60 + minute_of (time_at m.local) in
     record { local = date_time (date_at m.local) ((minutes - minutes % max n 1) * duration.minute); offset = m.offset }
 
--- The words replace the text that was read. `keep` leaves it as it is.
-abbrev pub IsAnswerTo : Request → List ℕ → DateOrMoment → List ℕ → Type 0
-IsAnswerTo (To form) text found words = IsInForm form (moment_of found) words
-IsAnswerTo (Print items) text found words = words ≡ format_text items (moment_of found)
-IsAnswerTo (Add d) text found words = (m : LocalAndOffset) × IsLater found d m × IsInForm (form_read found) m words
-IsAnswerTo (Move by) text found words = IsMoved by found words
-IsAnswerTo (Floor n) text found words = IsInForm (form_read found) (floored n (moment_of found)) words
-IsAnswerTo (Until target unit) text found words = IsBetween unit found target words
-IsAnswerTo (Since target unit) text found words = IsBetween unit target found words
-IsAnswerTo (At place) text found words = IsAt place (moment_of found) words
-IsAnswerTo (Keep bounds) text found words = (lies_in bounds found ≡ Some true) × (words ≡ text)
+-- The words replace the text that was read. `keep` leaves it as it is. TEXT of `until` and `since`
+-- must be given: if other fields have it, it is put in at each line.
+abbrev pub IsAnswerTo : WorkWeek → Request → List ℕ → DateOrMoment → List ℕ → Type 0
+IsAnswerTo workdays (To form) text found words = IsInForm form (moment_of found) words
+IsAnswerTo workdays (Print items) text found words = words ≡ format_text items (moment_of found)
+IsAnswerTo workdays (Add d) text found words = (m : LocalAndOffset) × IsLater found d m × IsInForm (form_read found) m words
+IsAnswerTo workdays (Move by) text found words = IsMoved workdays by found words
+IsAnswerTo workdays (Floor n) text found words = IsInForm (form_read found) (floored n (moment_of found)) words
+IsAnswerTo workdays (Until (target.Text to) unit) text found words = IsBetween workdays unit found to words
+IsAnswerTo workdays (Since (target.Text from) unit) text found words = IsBetween workdays unit from found words
+IsAnswerTo workdays (At place) text found words = IsAt place (moment_of found) words
+IsAnswerTo workdays (Keep bounds) text found words = (lies_in bounds found ≡ Some true) × (words ≡ text)
+IsAnswerTo workdays other text found words = ⊥
 
 -- `keep` answers with the text itself.
 abbrev pub keeps : Request → Bool
 keeps (Keep bounds) = true
 keeps other = false
+
+-- The request counts working days.
+abbrev pub counts_workdays : Request → Bool
+counts_workdays (Move (move.Workdays z)) = true
+counts_workdays (Until target (Some unit.Workdays)) = true
+counts_workdays (Since target (Some unit.Workdays)) = true
+counts_workdays other = false
 
 -- `keep` leaves out a line whose date or moment lies outside of its bounds.
 abbrev pub leaves_out : Request → DateOrMoment → Bool
@@ -117,8 +130,8 @@ abbrev pub Answer : Type 0
 Answer = Result (Option (List ℕ)) NoAnswer
 
 -- The date or moment that was read has no answer, and its line is not left out.
-abbrev pub HasNone : Request → List ℕ → DateOrMoment → Type 0
-HasNone request text found = (leaves_out request found ≡ false) × ((words : List ℕ) → ¬ IsAnswerTo request text found words)
+abbrev pub HasNone : WorkWeek → Request → List ℕ → DateOrMoment → Type 0
+HasNone workdays request text found = (leaves_out request found ≡ false) × ((words : List ℕ) → ¬ IsAnswerTo workdays request text found words)
 
 -- The text is read, as this date or moment. With a clock, its local time is a reading of the clock.
 abbrev pub IsReadAs : Filter → List ℕ → DateOrMoment → Type 0
@@ -132,7 +145,7 @@ IsNotRead filter text any = IsUnread filter.offset filter.readers text any
 
 -- The answer to a text.
 abbrev pub IsAnswer : Filter → List ℕ → Answer → Type 0
-IsAnswer filter text (Ok (Some words)) = (found : DateOrMoment) × IsReadAs filter text found × IsAnswerTo filter.request text found words
+IsAnswer filter text (Ok (Some words)) = (found : DateOrMoment) × IsReadAs filter text found × IsAnswerTo filter.workdays filter.request text found words
 IsAnswer filter text (Ok None) = (found : DateOrMoment) × IsReadAs filter text found × (leaves_out filter.request found ≡ true)
-IsAnswer filter text (Err why.None) = (found : DateOrMoment) × IsReadAs filter text found × HasNone filter.request text found
+IsAnswer filter text (Err why.None) = (found : DateOrMoment) × IsReadAs filter text found × HasNone filter.workdays filter.request text found
 IsAnswer filter text (Err other) = IsNotRead filter text other

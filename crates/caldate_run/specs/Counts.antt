@@ -5,8 +5,7 @@ use Rattle.cal_time.specs.SignedDuration.{cut, whole_days, week, day, hour, minu
 use Rattle.cal_datetime.specs.DateTime.{date_at}
 use Rattle.cal_datetime.specs.OffsetDateTime.{LocalAndOffset, instant}
 use Rattle.cal_schedule.specs.Until.{IsMonthsUpTo, IsMonthsBackTo, IsGreatest, IsLeast}
-use Rattle.cal_schedule.specs.Workdays.{workdays_within}
-use Rattle.caldate_run.specs.Moves.{monday_to_friday}
+use Rattle.cal_schedule.specs.Workdays.{WorkWeek, workdays_within}
 use Rattle.caldate_run.specs.declared.request.TimeUnit.{TimeUnit}
 use Rattle.caldate_run.specs.declared.request.TimeUnit.TheVariants as unit
 
@@ -30,16 +29,16 @@ AreYears n t z = IsCut n t (λ y. IsMonthsUpTo n t (pos 12 *ℤ y)) (λ y. IsMon
 unfoldable pub AreMonths : ℕ → ℕ → ℤ → Type 0
 AreMonths n t z = IsCut n t (IsMonthsUpTo n t) (IsMonthsBackTo n t) z
 
-abbrev pub AreWorkdays : ℕ → ℕ → ℤ → Type 0
-AreWorkdays n t z = z ≡ pos (length (workdays_within monday_to_friday n t)) -ℤ pos (length (workdays_within monday_to_friday t n))
+abbrev pub AreWorkdays : WorkWeek → ℕ → ℕ → ℤ → Type 0
+AreWorkdays workdays n t z = z ≡ pos (length (workdays_within workdays n t)) -ℤ pos (length (workdays_within workdays t n))
 
 -- The number of units from one moment to another is z.
-abbrev pub IsCount : TimeUnit → LocalAndOffset → LocalAndOffset → ℤ → Type 0
-IsCount unit.Years from to z = AreYears (date_at from.local) (reached from to) z
-IsCount unit.Months from to z = AreMonths (date_at from.local) (reached from to) z
-IsCount unit.Workdays from to z = AreWorkdays (date_at from.local) (reached from to) z
-IsCount unit.Weeks from to z = z ≡ cut (duration_between from to) (pos week)
-IsCount unit.Days from to z = z ≡ cut (duration_between from to) (pos day)
-IsCount unit.Hours from to z = z ≡ cut (duration_between from to) (pos hour)
-IsCount unit.Minutes from to z = z ≡ cut (duration_between from to) (pos minute)
-IsCount unit.Seconds from to z = z ≡ cut (duration_between from to) (pos second)
+abbrev pub IsCount : WorkWeek → TimeUnit → LocalAndOffset → LocalAndOffset → ℤ → Type 0
+IsCount workdays unit.Years from to z = AreYears (date_at from.local) (reached from to) z
+IsCount workdays unit.Months from to z = AreMonths (date_at from.local) (reached from to) z
+IsCount workdays unit.Workdays from to z = AreWorkdays workdays (date_at from.local) (reached from to) z
+IsCount workdays unit.Weeks from to z = z ≡ cut (duration_between from to) (pos week)
+IsCount workdays unit.Days from to z = z ≡ cut (duration_between from to) (pos day)
+IsCount workdays unit.Hours from to z = z ≡ cut (duration_between from to) (pos hour)
+IsCount workdays unit.Minutes from to z = z ≡ cut (duration_between from to) (pos minute)
+IsCount workdays unit.Seconds from to z = z ≡ cut (duration_between from to) (pos second)

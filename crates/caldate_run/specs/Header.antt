@@ -1,15 +1,19 @@
 -- The header, the first line of an input, and fields by their names in it.
-use Rattle.std.specs.Prelude.{◌≡◌, ◌⊎◌, ℕ, ◌+◌, ◌<◌, ◌&&◌, nat_le, nat_lt, Bool, true, false, unwrap_or, List, [], ◌∷◌, ◌++◌, bytes_eq, codes, length, MatchOption, Option, Some, None, Result, Err, slice_index, if◌then◌else◌}
+use Rattle.std.specs.Prelude.{◌≡◌, ◌⊎◌, ℕ, ◌+◌, ◌<◌, ◌&&◌, nat_le, nat_lt, Bool, true, false, unwrap_or, List, [], ◌∷◌, ◌++◌, bytes_eq, codes, length, MatchResult, Option, Some, None, Result, Ok, Err, slice_index, if◌then◌else◌}
 use Rattle.std.specs.List.{slice_split}
+use Rattle.std.specs.Option.{option_map_or}
 use Rattle.std.specs.Io.KnownBytes.{Consumes, IsAtEnd}
 use Rattle.caldate_run.specs.Ending.{end_message}
 use Rattle.caldate_run.specs.Fields.{fields_of, is_quote, is_quoted, within_quotes}
 use Rattle.caldate_run.specs.Lines.{is_end, text_of}
 use Rattle.caldate_run.specs.Room.{longest_text}
 use Rattle.caldate_run.specs.RunStates.{NoEnd}
+use Rattle.caldate_run.specs.Targets.{target_name, with_target}
 use Rattle.caldate_run.specs.UsageMessages.{quoted}
 use Rattle.caldate_run.specs.declared.request.Field.{Field}
 use Rattle.caldate_run.specs.declared.request.Filter.{Filter}
+use Rattle.caldate_run.specs.declared.request.Request.{Request}
+use Rattle.caldate_run.specs.declared.request.Target.TheVariants.{Fields}
 use Rattle.caldate_run.specs.declared.run.run_error.RunError.{RunError}
 use Rattle.caldate_run.specs.declared.run.run_error.RunError.TheVariants.{Read}
 
@@ -79,23 +83,39 @@ header_problem field name header =
 abbrev pub header_error : Field → List ℕ → List ℕ → List ℕ
 header_error field name header = codes "caldate: " ++ header_problem field name header ++ 10 ∷ []
 
--- ---- a run whose field has a name
--- The name of the field, or nothing if it has none.
-abbrev pub name_of_field : Filter → List ℕ
-name_of_field filter = unwrap_or filter.name []
+-- ---- a run with names of fields
+-- The number that the header gives a name, if there is a name. A name that the header lacks is an
+-- error.
+abbrev pub number_in : Field → List ℕ → Option (List ℕ) → Result (Option ℕ) (List ℕ)
+number_in field header None = Ok None
+number_in field header (Some name) = option_map_or (λ n. Ok (Some n)) (number_of field name header) (Err name)
 
--- The same filter with a number in place of the name.
-abbrev pub numbered : Filter → Field → ℕ → Filter
-numbered filter field n = record filter { field = Some (record field { first = n }); name = None }
+abbrev pub both_numbers : Result (Option ℕ) (List ℕ) → Result (Option ℕ) (List ℕ) → Result (Option ℕ × Option ℕ) (List ℕ)
+both_numbers (Ok own) (Ok target) = Ok (own, target)
+both_numbers (Ok own) (Err name) = Err name
+both_numbers (Err name) target = Err name
+
+-- The numbers of the field to answer and of the field that has TEXT, each if it has a name.
+abbrev pub numbers_in : Filter → Field → List ℕ → Result (Option ℕ × Option ℕ) (List ℕ)
+numbers_in filter field header = both_numbers (number_in field header filter.name) (number_in field header (target_name filter.request))
+
+-- The same filter with these numbers in place of its names.
+abbrev pub with_number : Option ℕ → Request → Request
+with_number None request = request
+with_number (Some n) request = with_target (Fields (record { first = n; joined = 0 })) request
+
+abbrev pub numbered : Filter → Field → (Option ℕ × Option ℕ) → Filter
+numbered filter field numbers =
+    record filter { field = Some (record field { first = unwrap_or numbers.0 field.first }); name = None; request = with_number numbers.1 filter.request }
 
 -- The reader gave `front` first. If a read failed before the header ended, the run stops. Otherwise
--- the filter runs over the whole input with the number that the header gives the name. If it gives
--- none, the run stops with the error of the header.
+-- the filter runs over the whole input with the numbers that the header gives its names. If the
+-- header lacks a name, the run stops with the error of the header.
 pub record EndsNamed (filter : Filter) (field : Field) (old : Option (List ℕ)) (Runs : Filter → Result Unit RunError → Type 0) (Stops : Bool → List ℕ → Type 0) : Type 0 where
   pub front : List ℕ
   pub left : Option (List ℕ)
   pub given : Consumes old left front
   pub ends : (NoEnd front × Stops true (end_message (Err Read)))
-      ⊎ (HasHeader left front × MatchOption (number_of field (name_of_field filter) (header_of front))
-      (Stops false (header_error field (name_of_field filter) (header_of front)))
-      (λ n. (outcome : Result Unit RunError) × Runs (numbered filter field n) outcome))
+      ⊎ (HasHeader left front × MatchResult (numbers_in filter field (header_of front))
+      (λ numbers. (outcome : Result Unit RunError) × Runs (numbered filter field numbers) outcome)
+      (λ name. Stops false (header_error field name (header_of front))))

@@ -11,9 +11,11 @@ pub mod Files
 pub mod Forms
 pub mod Found
 pub mod Header
+pub mod Holidays
 pub mod Lines
 pub mod Lists
 pub mod Meanings
+pub mod MissingZones
 pub mod Moves
 pub mod Offsets
 pub mod Program
@@ -27,7 +29,10 @@ pub mod Room
 pub mod Runs
 pub mod Excerpts
 pub mod Spellings
+pub mod Targets
 pub mod RunStates
+pub mod Scans
 pub mod Templates
+pub mod ReadHolidaysErrors
 pub mod ReadZoneErrors
 pub mod Zones

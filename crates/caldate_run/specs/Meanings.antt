@@ -1,5 +1,5 @@
 -- The meanings of words: the date or moment that a word is a text of, the items of the format that
--- it spells, and the zone that it names, or why it names none.
+-- it spells, and the zone or the holidays that it names, or why it names none.
 use Rattle.std.specs.Prelude.{ℕ, ◌+◌, ◌≤◌, ◌==◌, Bool, IsTrue, IsUtf8, is_some, List, [], length, take, drop, position, bytes_eq, codes, Option, Some, MatchOption, option_and_then, Result, if◌then◌else◌}
 use Rattle.std.specs.List.{All}
 use Rattle.std.specs.Option.{option_map_or}
@@ -12,6 +12,7 @@ use Rattle.cal_text.specs.AnyForm.{IsTextOf}
 use Rattle.cal_text.specs.declared.any.DateOrMoment.{DateOrMoment}
 use Rattle.cal_zone.specs.Timeline.{Timeline}
 use Rattle.caldate_run.specs.ClockWords.{clock_word}
+use Rattle.caldate_run.specs.declared.holidays.read_holidays_error.ReadHolidaysError.{ReadHolidaysError}
 use Rattle.caldate_run.specs.declared.zones.read_zone_error.ReadZoneError.{ReadZoneError}
 
 -- A meaning of a word.
@@ -19,6 +20,7 @@ pub record Meaning : Type 0 where
   pub found : Option DateOrMoment
   pub items : Option (List Item)
   pub zone : Result Timeline ReadZoneError
+  pub holidays : Result (List ℕ) ReadHolidaysError
 
 -- A meaning for each word.
 abbrev pub Meanings : Type 0

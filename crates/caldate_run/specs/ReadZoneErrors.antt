@@ -1,5 +1,7 @@
 -- Why a name has no zone, in words.
 use Rattle.std.specs.Prelude.{ℕ, List, ◌++◌, codes, decimal}
+use Rattle.std.specs.declared.io.ErrorKind.{ErrorKind}
+use Rattle.std.specs.declared.io.ErrorKind.TheVariants as io
 use Rattle.cal_tzif.specs.declared.zone_error.ZoneErrorKind.{ZoneErrorKind}
 use Rattle.cal_tzif.specs.declared.zone_error.ZoneErrorKind.TheVariants as kinds
 use Rattle.cal_zone.specs.declared.change_error.ChangeError.{ChangeError}
@@ -10,6 +12,13 @@ use Rattle.caldate_run.specs.declared.zones.read_zone_error.FileError.{FileError
 use Rattle.caldate_run.specs.declared.zones.read_zone_error.FileError.TheVariants.{NotFound, Denied, Folder, TooLong, Failed}
 use Rattle.caldate_run.specs.declared.zones.read_zone_error.ReadZoneError.{ReadZoneError}
 use Rattle.caldate_run.specs.declared.zones.read_zone_error.ReadZoneError.TheVariants.{File, Zone}
+
+-- The reason why a file can't be read, by the kind of the error.
+abbrev pub file_error : ErrorKind → FileError
+file_error io.NotFound = NotFound
+file_error io.PermissionDenied = Denied
+file_error io.IsADirectory = Folder
+file_error kind = Failed
 
 -- The words for a file that can't be read.
 abbrev pub file_words : FileError → List ℕ

@@ -35,7 +35,7 @@ pub record IsMomentText (items : List Item) (text : List ℕ) (m : LocalAndOffse
   pub offset : IsOffset m.offset
   pub held : AreHeld (moment_of_offset_date_time m) items
   pub time : IsTrue (holds_time items (time_at m.local))
-  pub excerpt_of : IsTrue (holds_offset items m.offset)
+  pub printed_offset : IsTrue (holds_offset items m.offset)
   pub text_is : text ≡ text_of items (moment_of_offset_date_time m)
 
 pub record IsDateTimeText (items : List Item) (text : List ℕ) (z : ℤ) : Type 0 where

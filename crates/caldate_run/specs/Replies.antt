@@ -4,12 +4,14 @@ use Rattle.cal_time.specs.ComponentError.{component_name}
 use Rattle.cal_time.specs.declared.error.ComponentRange.{ComponentRange}
 use Rattle.cal_text.specs.declared.error.ParseError.{ParseError}
 use Rattle.cal_text.specs.declared.error.ParseError.TheVariants.{UnexpectedByte, UnexpectedEnd, OutOfRange}
-use Rattle.caldate_run.specs.Answers.{Answer, IsAnswer, keeps}
+use Rattle.caldate_run.specs.Answers.{Answer, keeps}
 use Rattle.caldate_run.specs.Fields.{selected_text, text_with, text_without, with_last}
 use Rattle.caldate_run.specs.Lines.{end_of, text_of}
 use Rattle.caldate_run.specs.Room.{longest_answer, longest_text}
 use Rattle.caldate_run.specs.Excerpts.{excerpt_of, excerpt_bytes}
 use Rattle.caldate_run.specs.RunStates.{counted}
+use Rattle.caldate_run.specs.Scans.{IsScanned}
+use Rattle.caldate_run.specs.Targets.{IsAnswerAt}
 use Rattle.caldate_run.specs.declared.run.no_answer.NoAnswer.{NoAnswer}
 use Rattle.caldate_run.specs.declared.run.no_answer.NoAnswer.TheVariants as why
 use Rattle.caldate_run.specs.declared.on_invalid.OnInvalid.{OnInvalid}
@@ -28,6 +30,8 @@ refused_text error = codes "refused " ++ component_name error.component ++ (if e
 abbrev pub reason : NoAnswer → List ℕ
 reason why.TooLong = codes "line too long"
 reason why.NoField = codes "no such field"
+reason why.NoOtherField = codes "no other field"
+reason why.UnreadOtherField = codes "other field unreadable"
 reason why.NoForm = codes "in no form of --read"
 reason why.None = codes "none"
 reason why.Skipped = codes "skipped time"
@@ -50,10 +54,14 @@ in_text filter text other = other
 -- The answer to the text of a line, by the text of the fields to answer. If the text doesn't have
 -- them, that is the reason.
 abbrev pub IsAnswerIn : Filter → List ℕ → Answer → List ℕ → Type 0
-IsAnswerIn filter text answer asked = (own : Answer) × IsAnswer filter asked own × (answer ≡ in_text filter text own)
+IsAnswerIn filter text answer asked = (own : Answer) × IsAnswerAt filter text asked own × (answer ≡ in_text filter text own)
 
 abbrev pub IsAnswerToText : Filter → List ℕ → Answer → Type 0
 IsAnswerToText filter text answer = MatchOption (selected_text filter.field text) (answer ≡ Err why.NoField) (IsAnswerIn filter text answer)
+
+-- With --scan, the texts of the line are answered instead.
+abbrev pub IsAnswerToLine : Filter → List ℕ → Answer → Type 0
+IsAnswerToLine filter text answer = MatchBool filter.scans (IsScanned filter text answer) (IsAnswerToText filter text answer)
 
 -- The header with the name of a new field. A name that is longer than an answer has no room.
 abbrev pub with_name : Field → List ℕ → List ℕ → Answer
@@ -71,7 +79,7 @@ skipped filter before text = if before == 0 then header_with filter.field filter
 abbrev pub IsAnswerOf : Filter → ℕ → List ℕ → Answer → Type 0
 IsAnswerOf filter before text answer =
     MatchBool (nat_lt longest_text (length text)) (answer ≡ Err why.TooLong)
-    (MatchBool (nat_lt before filter.skip) (answer ≡ skipped filter before text) (IsAnswerToText filter text answer))
+    (MatchBool (nat_lt before filter.skip) (answer ≡ skipped filter before text) (IsAnswerToLine filter text answer))
 
 -- ---- a line without an answer
 -- A run ends at the line.

@@ -19,11 +19,13 @@ use Rattle.cal_datetime.specs.OffsetDateTime.{LocalAndOffset}
 use Rattle.cal_recurrence.specs.Text.{recurrence_of}
 use Rattle.cal_recurrence.specs.declared.recurrence.Recurrence.{Recurrence}
 use Rattle.cal_zone.specs.Timeline.{Timeline}
-use Rattle.caldate_run.specs.Answers.{keeps}
+use Rattle.caldate_run.specs.Answers.{counts_workdays, keeps}
 use Rattle.caldate_run.specs.ClockWords.{now_in}
 use Rattle.caldate_run.specs.Meanings.{Meanings, found_in, is_format, name_of, value_in}
+use Rattle.caldate_run.specs.Moves.{monday_to_friday}
 use Rattle.caldate_run.specs.Offsets.{is_digit, offset_of}
-use Rattle.caldate_run.specs.Zones.{is_zone_like, zone_of}
+use Rattle.caldate_run.specs.Targets.{reads_other, target_name}
+use Rattle.caldate_run.specs.Zones.{is_zone_like, workdays_of, zone_of}
 use Rattle.caldate_run.specs.declared.on_invalid.OnInvalid.{OnInvalid}
 use Rattle.caldate_run.specs.declared.on_invalid.OnInvalid.TheVariants as invalid
 use Rattle.caldate_run.specs.declared.args.options.Options.{Options}
@@ -50,6 +52,8 @@ use Rattle.caldate_run.specs.declared.request.Pace.{Pace}
 use Rattle.caldate_run.specs.declared.request.Pace.TheVariants.{Steps, Rule}
 use Rattle.caldate_run.specs.declared.request.Step.{Step}
 use Rattle.caldate_run.specs.declared.request.StepUnit.TheVariants as steps
+use Rattle.caldate_run.specs.declared.request.Target.{Target}
+use Rattle.caldate_run.specs.declared.request.Target.TheVariants as target
 use Rattle.caldate_run.specs.declared.request.TimeUnit.{TimeUnit}
 use Rattle.caldate_run.specs.declared.request.TimeUnit.TheVariants as unit
 use Rattle.caldate_run.specs.declared.request.UnixUnit.TheVariants.{Milliseconds, Microseconds, Nanoseconds}
@@ -95,6 +99,23 @@ parse_u8 word = number_between 1 255 word
 
 abbrev pub parse_u32 : List ℕ → Option ℕ
 parse_u32 word = number_between 1 4294967295 word
+
+-- `N`, `N-M`: a field, or neighbouring fields.
+abbrev pub field_number_of : List ℕ → Option ℕ
+field_number_of word = number_between 1 65535 word
+
+abbrev pub fields_from : ℕ → ℕ → Option FieldNumbers
+fields_from n m = if nat_lt m n then None else Some (record { first = n; joined = m - n })
+
+abbrev pub field_numbers_of : List ℕ → Option FieldNumbers
+field_numbers_of word =
+    option_map_or (λ at. option_and_then (λ n. option_and_then (fields_from n) (field_number_of (drop (at + 1) word))) (field_number_of (take at word)))
+    (position (λ b. b == 45) word) (option_map (λ n. record { first = n; joined = 0 }) (field_number_of word))
+
+-- `NAME`: a name of a field doesn't begin with a digit, `+` (43) or `-` (45).
+abbrev pub is_name : List ℕ → Bool
+is_name [] = false
+is_name (byte ∷ bytes) = not (is_digit byte) && (not (byte == 43) && not (byte == 45))
 
 -- The form with one of the further names.
 unfoldable pub further_form_of : List ℕ → Option Form
@@ -244,11 +265,21 @@ in_unit_at words at =
     and_then (word_as words at (keyword (codes "in")) expected.In) (λ in_word.
     and_then (only_at words (at + 1) unit_of expected.UnitOfTime) (λ unit. Ok (Some unit)))
 
--- `TEXT`, `TEXT in UNIT`
-abbrev pub target_at : Option LocalAndOffset → Meanings → List (List ℕ) → ℕ → Result (DateOrMoment × Option TimeUnit) UsageError
+-- `field N`, `field N-M`, `field NAME`
+abbrev pub names_field : List ℕ → Bool
+names_field word = bytes_eq word (codes "field")
+
+abbrev pub other_of : List ℕ → Option Target
+other_of word = if is_name word then Some (target.Name word) else option_map target.Fields (field_numbers_of word)
+
+-- `TEXT`, `TEXT in UNIT`, in which TEXT may be `field N`
+abbrev pub target_at : Option LocalAndOffset → Meanings → List (List ℕ) → ℕ → Result (Target × Option TimeUnit) UsageError
 target_at now meanings words at =
+    if option_map_or names_field (slice_get words at) false then
+    and_then (word_as words (at + 1) other_of expected.FieldNumber) (λ other.
+    and_then (in_unit_at words (at + 2)) (λ unit. Ok (other, unit))) else
     and_then (word_as words at (found_in now meanings) expected.Target) (λ found.
-    and_then (in_unit_at words (at + 1)) (λ unit. Ok (found, unit)))
+    and_then (in_unit_at words (at + 1)) (λ unit. Ok (target.Text found, unit)))
 
 -- `from A to B`, `after A`, `before B`
 abbrev pub range_at : Option LocalAndOffset → Meanings → List (List ℕ) → ℕ → Result Bounds UsageError
@@ -379,7 +410,7 @@ list_of now meanings words =
 -- ---- the options before a request, in any order, each at most once
 -- The options if the arguments have none.
 abbrev pub no_options : Options
-no_options = record { on_invalid = None; fields = None; name = None; append = None; header = false; csv = false; separator = None; skip = None; readers = []; offset = None; zone = None; policy = None }
+no_options = record { on_invalid = None; fields = None; name = None; append = None; header = false; csv = false; scan = false; separator = None; skip = None; readers = []; offset = None; zone = None; policy = None; workdays = None }
 
 -- `--invalid MODE`
 abbrev pub invalid_of : List ℕ → Option OnInvalid
@@ -398,23 +429,6 @@ policy_of word =
     if bytes_eq word (codes "later") then Some policy.Later else
     if bytes_eq word (codes "reject") then Some policy.Reject else
     None
-
--- `--field N`, `--field N-M`
-abbrev pub field_number_of : List ℕ → Option ℕ
-field_number_of word = number_between 1 65535 word
-
-abbrev pub fields_from : ℕ → ℕ → Option FieldNumbers
-fields_from n m = if nat_lt m n then None else Some (record { first = n; joined = m - n })
-
-abbrev pub field_numbers_of : List ℕ → Option FieldNumbers
-field_numbers_of word =
-    option_map_or (λ at. option_and_then (λ n. option_and_then (fields_from n) (field_number_of (drop (at + 1) word))) (field_number_of (take at word)))
-    (position (λ b. b == 45) word) (option_map (λ n. record { first = n; joined = 0 }) (field_number_of word))
-
--- `--field NAME`: a name doesn't begin with a digit, `+` (43) or `-` (45).
-abbrev pub is_name : List ℕ → Bool
-is_name [] = false
-is_name (byte ∷ bytes) = not (is_digit byte) && (not (byte == 43) && not (byte == 45))
 
 -- The options with these fields, or with this name of a field. The name has the number 1 until the
 -- header gives it its own.
@@ -464,14 +478,18 @@ has_room readers = nat_lt (length readers) 4
 abbrev pub with_reader : Options → Reader → Option Options
 with_reader options form = if has_room options.readers then Some (record options { readers = options.readers ++ form ∷ [] }) else None
 
--- `--csv` or `--header`, if it is not given yet.
+-- `--csv`, `--scan` or `--header`, if it is not given yet.
 abbrev pub is_flag : Options → List ℕ → Bool
 is_flag options word =
     if bytes_eq word (codes "--csv") then not options.csv else
+    if bytes_eq word (codes "--scan") then not options.scan else
     bytes_eq word (codes "--header") && not options.header
 
 abbrev pub with_flag : Options → List ℕ → Options
-with_flag options word = if bytes_eq word (codes "--csv") then record options { csv = true } else record options { header = true }
+with_flag options word =
+    if bytes_eq word (codes "--csv") then record options { csv = true } else
+    if bytes_eq word (codes "--scan") then record options { scan = true } else
+    record options { header = true }
 
 -- The value that comes after the word, if the word is an option that is not given yet.
 abbrev pub value_of : Options → List ℕ → Option Expected
@@ -485,6 +503,7 @@ value_of options word =
     if bytes_eq word (codes "--assume") && is_none options.offset then Some expected.Offset else
     if bytes_eq word (codes "--zone") && is_none options.zone then Some expected.Zone else
     if bytes_eq word (codes "--ambiguous") && is_none options.policy then Some expected.Policy else
+    if bytes_eq word (codes "--holidays") && is_none options.workdays then Some expected.Holidays else
     None
 
 -- The word is an option, whatever the others are.
@@ -502,6 +521,7 @@ with_value meanings options value expected.Reading = option_and_then (with_reade
 with_value meanings options value expected.Offset = option_map (λ o. record options { offset = Some o }) (offset_of value)
 with_value meanings options value expected.Zone = option_map (λ zone. record options { zone = Some zone }) (zone_of meanings value)
 with_value meanings options value expected.Policy = option_map (λ p. record options { policy = Some p }) (policy_of value)
+with_value meanings options value expected.Holidays = option_map (λ week. record options { workdays = Some week }) (workdays_of meanings value)
 with_value meanings options value other = None
 
 -- The options, with the option and its value in this word.
@@ -587,11 +607,15 @@ conflict_with_zone options =
     if not (any_local options.readers) || any_own options.readers then Some expected.LocalOnly else
     None
 
--- The option that is missing: `--separator`, `--csv` and `--append` require `--field`, and a form
--- without an offset and `--assume` require each other. A quote separates no fields of a record. A
--- name of a field requires `--header`.
+-- The option that is missing or excluded: `--scan` excludes fields, `--separator`, `--csv` and
+-- `--append` require `--field`, and a form without an offset and `--assume` require each other. A
+-- quote separates no fields of a record. A name of a field requires `--header`.
 abbrev pub conflict_in : Options → Option Expected
 conflict_in options =
+    if options.scan && is_some options.fields then Some expected.ScanField else
+    if options.scan && options.csv then Some expected.ScanCsv else
+    if options.scan && is_some options.append then Some expected.ScanAppend else
+    if options.scan && is_some options.separator then Some expected.ScanSeparator else
     if is_some options.separator && is_none options.fields then Some expected.Field else
     if options.csv && is_none options.fields then Some expected.CsvField else
     if is_some options.append && is_none options.fields then Some expected.AppendField else
@@ -603,11 +627,12 @@ conflict_in options =
     if is_some options.offset && not (any_local options.readers) then Some expected.Local else
     None
 
--- The default: `keep` drops a line without an answer, and with `--field` the line is kept.
-abbrev pub default_mode : Request → Option FieldNumbers → OnInvalid
-default_mode (Keep bounds) numbers = invalid.Drop
-default_mode other (Some numbers) = invalid.Keep
-default_mode other None = invalid.Answer
+-- The default: `keep` drops a line without an answer, and the line is kept if only a part of it is
+-- answered.
+abbrev pub default_mode : Request → Bool → OnInvalid
+default_mode (Keep bounds) part = invalid.Drop
+default_mode other true = invalid.Keep
+default_mode other false = invalid.Answer
 
 -- A header is the first of the lines that are passed on.
 abbrev pub skip_in : Options → ℕ
@@ -621,21 +646,31 @@ clock_of zone chosen = option_map (λ z. record { zone = z; policy = unwrap_or c
 abbrev pub filter_of : Options → Request → Filter
 filter_of options request = record {
   request = request;
+  workdays = unwrap_or options.workdays monday_to_friday;
   readers = readers_in options.readers;
   offset = unwrap_or options.offset (pos 0);
   clock = clock_of options.zone options.policy;
-  on_invalid = unwrap_or options.on_invalid (default_mode request options.fields);
+  on_invalid = unwrap_or options.on_invalid (default_mode request (is_some options.fields || options.scan));
   field = field_of options;
+  scans = options.scan;
   name = options.name;
   column = if options.header then options.append else None;
   skip = skip_in options;
 }
 
--- `keep` writes the line itself, so it appends nothing.
-abbrev pub appended_to : ℕ → Options → Request → Result Filter UsageError
-appended_to at options request =
-    if is_some options.append && keeps request then Err (usage_error_at at expected.AppendKeep) else
-    Ok (filter_of options request)
+-- The requirement of the request that the options don't meet: `keep` writes the line itself, so it
+-- appends nothing. Another field requires `--field`, and its name `--header`. Holidays require a
+-- number of working days.
+abbrev pub conflict_with_request : Options → Request → Option Expected
+conflict_with_request options request =
+    if is_some options.append && keeps request then Some expected.AppendKeep else
+    if reads_other request && is_none options.fields then Some expected.OtherField else
+    if is_some (target_name request) && not options.header then Some expected.Header else
+    if is_some options.workdays && not (counts_workdays request) then Some expected.WorkdaysOnly else
+    None
+
+abbrev pub filter_with : ℕ → Options → Request → Result Filter UsageError
+filter_with at options request = option_map_or (λ what. Err (usage_error_at at what)) (conflict_with_request options request) (Ok (filter_of options request))
 
 -- The options and the request from an index on. `today` and `now` are shown at the offset of the
 -- zone.
@@ -643,11 +678,11 @@ abbrev pub filter_at : Option ℤ → Meanings → List (List ℕ) → ℕ → R
 filter_at now meanings words at =
     and_then (options_from meanings None no_options at (drop at words)) (λ front.
     option_map_or (λ what. Err (usage_error_at front.1 what)) (conflict_in front.0)
-    (and_then (request_at (now_in front.0.zone now) meanings words front.1) (appended_to front.1 front.0)))
+    (and_then (request_at (now_in front.0.zone now) meanings words front.1) (filter_with front.1 front.0)))
 
--- The field that has a name.
+-- The field to answer, if it or another field has a name.
 abbrev pub named_field : Filter → Option Field
-named_field filter = if is_some filter.name then filter.field else None
+named_field filter = if is_some filter.name || is_some (target_name filter.request) then filter.field else None
 
 -- The command for the lines of the input, or for the text after `--date`.
 abbrev pub lines_command : Filter → Command

@@ -10,21 +10,28 @@ use Rattle.cal_zone.specs.Timeline.{Timeline}
 use Rattle.caldate_run.specs.Meanings.{Meanings}
 use Rattle.caldate_run.specs.Requests.{is_option}
 use Rattle.caldate_run.specs.Excerpts.{excerpt_of}
+use Rattle.caldate_run.specs.ReadHolidaysErrors.{holidays_words}
 use Rattle.caldate_run.specs.ReadZoneErrors.{fault_words}
-use Rattle.caldate_run.specs.Zones.{is_zone_name, name_in}
+use Rattle.caldate_run.specs.Zones.{file_in, is_zone_name, name_in}
 use Rattle.caldate_run.specs.declared.args.usage_error.UsageError.{UsageError}
 use Rattle.caldate_run.specs.declared.args.usage_error.Expected.{Expected}
 use Rattle.caldate_run.specs.declared.args.usage_error.Expected.TheVariants as expected
+use Rattle.caldate_run.specs.declared.holidays.read_holidays_error.ReadHolidaysError.{ReadHolidaysError}
 use Rattle.caldate_run.specs.declared.zones.read_zone_error.ReadZoneError.{ReadZoneError}
 
 -- The error, without the word.
 abbrev pub error_phrase : Expected → List ℕ
 error_phrase expected.Something = codes "missing command; try 'caldate --help'"
 error_phrase expected.Start = codes "unknown command"
+error_phrase expected.ScanField = codes "--scan can't be used with --field"
+error_phrase expected.ScanCsv = codes "--scan can't be used with --csv"
+error_phrase expected.ScanAppend = codes "--scan can't be used with --append"
+error_phrase expected.ScanSeparator = codes "--scan can't be used with --separator"
 error_phrase expected.Field = codes "--separator requires --field"
 error_phrase expected.CsvField = codes "--csv requires --field"
 error_phrase expected.AppendField = codes "--append requires --field"
 error_phrase expected.AppendKeep = codes "--append can't be used with keep"
+error_phrase expected.OtherField = codes "another field requires --field"
 error_phrase expected.CsvSeparator = codes "--csv can't use a quote as the separator"
 error_phrase expected.Header = codes "a field name requires --header"
 error_phrase expected.Invalid = codes "unknown mode"
@@ -37,6 +44,8 @@ error_phrase expected.ZoneOption = codes "--ambiguous requires --zone"
 error_phrase expected.OffsetOrZone = codes "--assume can't be used with --zone"
 error_phrase expected.LocalOnly = codes "--zone requires --read of forms without an offset only"
 error_phrase expected.Policy = codes "unknown policy"
+error_phrase expected.Holidays = codes "cannot read holidays"
+error_phrase expected.WorkdaysOnly = codes "--holidays requires the unit workdays"
 error_phrase expected.Local = codes "--assume requires --read of a form without an offset"
 error_phrase expected.Form = codes "unknown form"
 error_phrase expected.Number = codes "invalid number"
@@ -79,6 +88,7 @@ missing_noun expected.Period = codes "period"
 missing_noun expected.StartPeriod = codes "period"
 missing_noun expected.Minutes = codes "unit"
 missing_noun expected.Policy = codes "policy"
+missing_noun expected.Holidays = codes "file"
 missing_noun expected.Offset = codes "offset"
 missing_noun expected.Place = codes "offset or zone"
 missing_noun expected.Zone = codes "zone"
@@ -91,7 +101,7 @@ missing_noun what = codes "argument"
 
 -- The expected words, if the message needs them.
 abbrev pub expected_phrase : Expected → List ℕ
-expected_phrase expected.Start = codes "; expected to, add, next, last, until, since, start, end, on-or-after, on-or-before, at, keep, list, --date, --invalid, --field, --append, --csv, --header, --separator, --skip, --read, --assume, --zone, --ambiguous, --help or --version"
+expected_phrase expected.Start = codes "; expected to, add, next, last, until, since, start, end, on-or-after, on-or-before, at, keep, list, --date, --invalid, --field, --append, --csv, --header, --scan, --separator, --skip, --read, --assume, --zone, --ambiguous, --holidays, --help or --version"
 expected_phrase expected.Verb = codes "; expected to, add, next, last, until, since, start, end, on-or-after, on-or-before, at, keep or another option"
 expected_phrase expected.Invalid = codes "; expected keep, answer, drop or stop"
 expected_phrase expected.FieldNumber = codes "; expected an integer from 1 to 65535, two such as 1-2, or a name"
@@ -124,16 +134,22 @@ expected_phrase what = []
 -- option requires another one.
 abbrev pub names_word : Expected → Bool
 names_word expected.Something = false
+names_word expected.ScanField = false
+names_word expected.ScanCsv = false
+names_word expected.ScanAppend = false
+names_word expected.ScanSeparator = false
 names_word expected.Field = false
 names_word expected.CsvField = false
 names_word expected.AppendField = false
 names_word expected.AppendKeep = false
+names_word expected.OtherField = false
 names_word expected.CsvSeparator = false
 names_word expected.Header = false
 names_word expected.Assume = false
 names_word expected.ZoneOption = false
 names_word expected.OffsetOrZone = false
 names_word expected.LocalOnly = false
+names_word expected.WorkdaysOnly = false
 names_word expected.Local = false
 names_word what = true
 
@@ -160,10 +176,17 @@ abbrev pub zone_error : List ℕ → List ℕ → Result Timeline ReadZoneError 
 zone_error folder name (Ok zone) = []
 zone_error folder name (Err error) = codes ": " ++ excerpt_of folder ++ codes "/" ++ excerpt_of name ++ codes ": " ++ fault_words error
 
-abbrev pub zone_error_in : Meanings → List ℕ → Expected → List ℕ → List ℕ
-zone_error_in meanings folder expected.Zone word =
+-- The reason why the file of the holidays can't be used.
+abbrev pub holidays_error : Result (List ℕ) ReadHolidaysError → List ℕ
+holidays_error (Ok days) = []
+holidays_error (Err error) = codes ": " ++ holidays_words error
+
+-- The same in a word that names one of these files.
+abbrev pub file_error_in : Meanings → List ℕ → Expected → List ℕ → List ℕ
+file_error_in meanings folder expected.Zone word =
     if is_zone_name (name_in word) then zone_error folder (name_in word) (meanings (name_in word)).zone else codes "; expected one such as Europe/Berlin"
-zone_error_in meanings folder what word = []
+file_error_in meanings folder expected.Holidays word = holidays_error (meanings (file_in word)).holidays
+file_error_in meanings folder what word = []
 
 -- The word has a dot or a slash, and doesn't begin with a digit.
 abbrev pub is_file_like : List ℕ → Bool
@@ -180,7 +203,7 @@ file_hint what word = []
 abbrev pub on_word : Meanings → List ℕ → Expected → List ℕ → List ℕ
 on_word meanings folder what word =
     if is_duplicate what word then codes "duplicate " ++ excerpt_of word else
-    error_phrase what ++ codes " " ++ quoted word ++ expected_phrase what ++ rule_error_in what word ++ zone_error_in meanings folder what word
+    error_phrase what ++ codes " " ++ quoted word ++ expected_phrase what ++ rule_error_in what word ++ file_error_in meanings folder what word
     ++ file_hint what word
 
 -- The word before an index, or nothing for the index 0.

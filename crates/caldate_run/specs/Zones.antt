@@ -1,12 +1,17 @@
--- The zones of names: the files, what they say, and why a name has no zone.
+-- The zones and the holidays of names: the files, what they say, and why a name has none.
 use denote.Ref.{Bor}
-use Rattle.std.specs.Prelude.{◌≡◌, ℕ, ◌+◌, ◌==◌, ◌&&◌, ◌||◌, nat_le, not, Bool, false, is_none, List, [], ◌∷◌, drop, position, bytes_eq, Option, Some, None, Result, Ok, Err, if◌then◌else◌}
+use Rattle.std.specs.Prelude.{◌≡◌, ℕ, ◌+◌, ◌==◌, ◌&&◌, ◌||◌, nat_le, not, Bool, false, is_none, List, [], ◌∷◌, ◌++◌, drop, position, bytes_eq, codes, Option, Some, None, option_map, Result, Ok, Err, if◌then◌else◌}
 use Rattle.std.specs.Option.{option_map_or}
 use Rattle.std.specs.Result.{result_ok}
 use Rattle.cal_tzif.specs.File.{IsFile, IsFileError}
 use Rattle.cal_zone.specs.Timeline.{Timeline}
-use Rattle.caldate_run.specs.Meanings.{Meanings}
+use Rattle.cal_schedule.specs.Workdays.{WorkWeek}
+use Rattle.caldate_run.specs.Meanings.{Meanings, name_of, value_in}
+use Rattle.caldate_run.specs.Moves.{weekdays_except}
 use Rattle.caldate_run.specs.Offsets.{offset_of}
+use Rattle.caldate_run.specs.declared.holidays.holiday_file.HolidayFile.{HolidayFile}
+use Rattle.caldate_run.specs.declared.holidays.read_holidays_error.ReadHolidaysError.{ReadHolidaysError}
+use Rattle.caldate_run.specs.declared.holidays.read_holidays_error.ReadHolidaysError.TheVariants as why
 use Rattle.caldate_run.specs.declared.zones.read_zone_error.FileError.{FileError}
 use Rattle.caldate_run.specs.declared.zones.read_zone_error.FileError.TheVariants.{NotFound}
 use Rattle.caldate_run.specs.declared.zones.read_zone_error.ReadZoneError.{ReadZoneError}
@@ -36,6 +41,10 @@ is_zone_like word = is_zone_name word && is_none (offset_of word)
 abbrev pub name_in : List ℕ → List ℕ
 name_in word = option_map_or (λ at. drop (at + 1) word) (position (λ b. b == 61) word) word
 
+-- The name in `FILE` or `--holidays=FILE`.
+abbrev pub file_in : List ℕ → List ℕ
+file_in word = if bytes_eq (name_of word) (codes "--holidays") then value_in word else word
+
 -- ---- files
 -- The file is there, and has this name.
 abbrev pub has_name : List ℕ → Option ZoneFile → Bool
@@ -49,6 +58,22 @@ file_named files name =
     if has_name name files.second then files.second else
     None
 
+-- The dates of the file of the holidays, if it has this name.
+abbrev pub days_of : Result (Bor (List ℕ)) ReadHolidaysError → Result (List ℕ) ReadHolidaysError
+days_of (Ok days) = Ok days.now
+days_of (Err error) = Err error
+
+abbrev pub days_in : List ℕ → Option HolidayFile → Result (List ℕ) ReadHolidaysError
+days_in name None = Err (why.File NotFound)
+days_in name (Some file) = if bytes_eq file.name.now name then days_of file.days else Err (why.File NotFound)
+
+abbrev pub holidays_named : ZoneFiles → List ℕ → Result (List ℕ) ReadHolidaysError
+holidays_named files name = days_in name files.holidays
+
+-- The path of a file in a folder. A slash is byte 47.
+abbrev pub path_in : List ℕ → List ℕ → List ℕ
+path_in folder name = folder ++ 47 ∷ name
+
 -- The contents of a file are a zone, or why it is not one.
 abbrev pub IsZoneIn : Result (Bor (List ℕ)) FileError → Result Timeline ReadZoneError → Type 0
 IsZoneIn (Err error) r = r ≡ Err (File error)
@@ -61,10 +86,15 @@ abbrev pub IsZoneOf : Option ZoneFile → Result Timeline ReadZoneError → Type
 IsZoneOf None r = r ≡ Err (File NotFound)
 IsZoneOf (Some file) r = IsZoneIn file.contents r
 
--- Each name has the zone of its file.
+-- Each name has the zone and the holidays of its file.
 abbrev pub AreZones : ZoneFiles → Meanings → Type 0
-AreZones files meanings = (name : List ℕ) → IsZoneOf (file_named files name) (meanings name).zone
+AreZones files meanings =
+    (name : List ℕ) → IsZoneOf (file_named files name) (meanings name).zone × ((meanings name).holidays ≡ holidays_named files name)
 
 -- The zone of a word that is the name of one.
 abbrev pub zone_of : Meanings → List ℕ → Option Timeline
 zone_of meanings word = if is_zone_name word then result_ok (meanings word).zone else None
+
+-- The working days without the holidays of a word that names a file of them.
+abbrev pub workdays_of : Meanings → List ℕ → Option WorkWeek
+workdays_of meanings word = option_map weekdays_except (result_ok (meanings word).holidays)

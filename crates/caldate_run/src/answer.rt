@@ -25,10 +25,11 @@ use crate::answer::signed::signed_text;
 use crate::args::bounds::{is_comparable, lies_in};
 use crate::output::buffer::Buffer;
 use crate::reading::read;
-use crate::request::{Bounds, DayMove, Filter, Form, Place, Request, TimeUnit};
+use crate::request::{Bounds, DayMove, Filter, Form, Place, Request, Target, TimeUnit};
 use crate::run::no_answer::NoAnswer;
 use cal_datetime::OffsetDateTime;
 use cal_format::Format;
+use cal_schedule::Workdays;
 use cal_text::date::{CalendarText, OrdinalText, WeekText};
 use cal_text::julian_day::JulianText;
 use cal_text::{DateForm, DateOrMoment, MomentForm, rfc3339, unix};
@@ -54,7 +55,7 @@ pub fn push_answer(buffer: &mut Buffer, filter: &Filter<'_>, text: &[u8]) -> Res
         Ok(found) => found,
         Err(why) => return Err(why),
     };
-    if push_answer_to(buffer, &filter.request, text, &found) {
+    if push_answer_to(buffer, &filter.workdays, &filter.request, text, &found) {
         Ok(true)
     } else if compares(&filter.request, &found) {
         Ok(false)
@@ -88,6 +89,8 @@ pub fn push_reason(buffer: &mut Buffer, why: NoAnswer)
     match why {
         NoAnswer::TooLong => buffer.push(b"line too long"),
         NoAnswer::NoField => buffer.push(b"no such field"),
+        NoAnswer::NoOtherField => buffer.push(b"no other field"),
+        NoAnswer::UnreadOtherField => buffer.push(b"other field unreadable"),
         NoAnswer::NoForm => buffer.push(b"in no form of --read"),
         NoAnswer::None => buffer.push(b"none"),
         NoAnswer::Skipped => buffer.push(b"skipped time"),
@@ -117,15 +120,16 @@ fn push_refusal(buffer: &mut Buffer, error: ComponentRange)
 #[inline(always)]
 fn push_answer_to(
     buffer: &mut Buffer,
+    workdays: &Workdays<'_>,
     request: &Request<'_>,
     text: &[u8],
     found: &DateOrMoment,
 ) -> bool
     requires { HasRoom (length text.now + longest_answer) buffer.old }
     ensures has { result ≡ true → AppendsSome
-        (IsAnswerTo request.now text.now found.now) buffer.old buffer.new }
+        (IsAnswerTo workdays.now request.now text.now found.now) buffer.old buffer.new }
     ensures none { result ≡ false → (buffer.new ≡ buffer.old)
-        × ((words : List ℕ) → ¬ IsAnswerTo request.now text.now found.now words) }
+        × ((words : List ℕ) → ¬ IsAnswerTo workdays.now request.now text.now found.now words) }
     ensures short { length buffer.new ≤ length buffer.old + length text.now + longest_answer }
     ensures few { keeps request.now ≡ false
         → length buffer.new ≤ length buffer.old + longest_answer }
@@ -140,19 +144,23 @@ fn push_answer_to(
             Some(later) => push_in_form(buffer, form_read(found), later),
             None => false,
         },
-        Request::Move(by) => push_moved(buffer, *by, found),
+        Request::Move(by) => push_moved(buffer, workdays, *by, found),
         Request::Floor(minutes) => {
             let floor = floored(*minutes, moment_of(found));
             push_in_form(buffer, form_read(found), floor)
         }
-        Request::Until(target, unit) => {
-            push_between(buffer, *unit, found, target);
+        Request::Until(Target::Text(to), unit) => {
+            push_between(buffer, workdays, *unit, found, to);
             true
         }
-        Request::Since(target, unit) => {
-            push_between(buffer, *unit, target, found);
+        Request::Since(Target::Text(from), unit) => {
+            push_between(buffer, workdays, *unit, from, found);
             true
         }
+        Request::Until(Target::Fields(_), _) => false,
+        Request::Until(Target::Name(_), _) => false,
+        Request::Since(Target::Fields(_), _) => false,
+        Request::Since(Target::Name(_), _) => false,
         Request::At(place) => push_at(buffer, place, moment_of(found)),
         Request::Keep(bounds) => push_kept(buffer, bounds, text, found),
     }
@@ -317,16 +325,22 @@ fn moment_later(moment: OffsetDateTime, duration: SignedDuration) -> Option<Offs
 }
 
 /// Appends the moved day at the same time of day, or nothing. Returns whether there is one.
-fn push_moved(buffer: &mut Buffer, by: DayMove, found: &DateOrMoment) -> bool
+fn push_moved(
+    buffer: &mut Buffer,
+    workdays: &Workdays<'_>,
+    by: DayMove,
+    found: &DateOrMoment,
+) -> bool
     requires { HasRoom longest_answer buffer.old }
-    ensures has { result ≡ true → AppendsSome (IsMoved by found.now) buffer.old buffer.new }
+    ensures has { result ≡ true → AppendsSome (IsMoved workdays.now by found.now)
+        buffer.old buffer.new }
     ensures none { result ≡ false → (buffer.new ≡ buffer.old)
-        × ((words : List ℕ) → ¬ IsMoved by found.now words) }
+        × ((words : List ℕ) → ¬ IsMoved workdays.now by found.now words) }
     ensures short { length buffer.new ≤ length buffer.old + longest_answer }
 {
     let moment = moment_of(found);
     let form = form_read(found);
-    match moved_day(moment.date(), by) {
+    match moved_day(workdays, moment.date(), by) {
         Some(day) => push_in_form(buffer, form, on_day(moment, day)),
         None => false,
     }
@@ -341,7 +355,7 @@ fn push_at(buffer: &mut Buffer, place: &Place<'_>, moment: OffsetDateTime) -> bo
     ensures short { length buffer.new ≤ length buffer.old + longest_answer }
 {
     match moment.checked_to_offset(offset_in(place, moment)) {
-        Some(excerpt_of) => push_in_form(buffer, Form::Moment(MomentForm::Rfc3339), excerpt_of),
+        Some(there) => push_in_form(buffer, Form::Moment(MomentForm::Rfc3339), there),
         None => false,
     }
 }
@@ -357,14 +371,21 @@ fn offset_in(place: &Place<'_>, moment: OffsetDateTime) -> UtcOffset
 }
 
 /// Appends the number of units, or without a unit the days or the duration.
-fn push_between(buffer: &mut Buffer, unit: Option<TimeUnit>, from: &DateOrMoment, to: &DateOrMoment)
+pub fn push_between(
+    buffer: &mut Buffer,
+    workdays: &Workdays<'_>,
+    unit: Option<TimeUnit>,
+    from: &DateOrMoment,
+    to: &DateOrMoment,
+)
     requires { HasRoom longest_answer buffer.old }
-    ensures text { AppendsSome (IsBetween unit from.now to.now) buffer.old buffer.new }
+    ensures text { AppendsSome (IsBetween workdays.now unit from.now to.now)
+        buffer.old buffer.new }
     ensures short { length buffer.new ≤ length buffer.old + longest_answer }
 {
     match unit {
         Some(unit) => {
-            let count = count_between(unit, moment_of(from), moment_of(to));
+            let count = count_between(workdays, unit, moment_of(from), moment_of(to));
             buffer.push(signed_text(i128::from(count)).as_bytes());
         }
         None => push_until(buffer, from, to),

@@ -1,11 +1,12 @@
 //! The command that the arguments give.
-ghost use Rattle.std.specs.Prelude.{◌≡◌, ◌+◌, ◌<◌, ◌^◌, ◌≤◌, ℕ, List, Option, None, IfOk, drop, false, slice_get, if◌then◌else◌};
+ghost use Rattle.std.specs.Prelude.{◌≡◌, ◌+◌, ◌<◌, ◌^◌, ◌≤◌, ℕ, List, Option, None, IfOk, drop, false, slice_get, unwrap_or, if◌then◌else◌};
 ghost use Rattle.caldate_run.specs.Lists.{HasValidStep};
 ghost use Rattle.caldate_run.specs.Offsets.{offset_of};
 ghost use Rattle.caldate_run.specs.Meanings.{AreMeanings, Meanings};
+ghost use Rattle.caldate_run.specs.Moves.{monday_to_friday};
 ghost use Rattle.caldate_run.specs.Zones.{AreZones, is_zone_like, zone_of};
 ghost use Rattle.std.specs.Option.{option_map_or};
-ghost use Rattle.caldate_run.specs.Requests.{amount_at, amount_of, appended_to, arguments_of, parse_args, clock_of, count_at, default_mode, duration_of, filter_at, filter_of, floor_at, further_request_at, in_unit_at, occurrence_at, lines_command, named_field, once_command, once_of, only_at, place_at, request_at, skip_in, start_at, target_at, to_of, unit_at, expected_verb, weekday_of, words_left};
+ghost use Rattle.caldate_run.specs.Requests.{amount_at, amount_of, arguments_of, parse_args, clock_of, conflict_with_request, count_at, default_mode, duration_of, filter_at, filter_of, filter_with, floor_at, further_request_at, occurrence_at, lines_command, named_field, once_command, once_of, only_at, place_at, request_at, skip_in, start_at, to_of, unit_at, expected_verb, weekday_of, words_left};
 
 pub mod arguments;
 pub(crate) mod bounds;
@@ -15,10 +16,12 @@ pub(crate) mod listing;
 pub(crate) mod offset;
 pub(crate) mod options;
 pub(crate) mod spelling;
+pub(crate) mod target;
 pub mod usage_error;
 pub(crate) mod usage_message;
 pub(crate) mod words;
 
+use crate::answer::moves;
 use crate::args::bounds::bounds_at;
 use crate::args::clock_words::now_in;
 use crate::args::formats::to_of;
@@ -29,16 +32,15 @@ use crate::args::spelling::{
     asks_for_help, minutes_of, minutes_word, parse_i64, parse_u8, period_of, start_of, unit_of,
     weekday_of,
 };
+use crate::args::target::target_at;
 use crate::args::usage_error::{Expected, UsageError, usage_error_at};
-use crate::args::words::{cut, ended, ends_at, found_at, keyword_at, only_at, word_as, word_at};
+use crate::args::words::{cut, ended, ends_at, only_at, word_as, word_at};
 use crate::field_name::FieldName;
 use crate::on_invalid::OnInvalid;
-use crate::request::{
-    Clock, Command, DayMove, Field, FieldNumbers, Filter, Place, Policy, Request, TimeUnit,
-};
+use crate::request::{Clock, Command, DayMove, Field, Filter, Place, Policy, Request, TimeUnit};
 use crate::zones::{ZoneFiles, is_zone_like, zone_of};
 use cal_datetime::{OffsetDateTime, PlainDateTime};
-use cal_text::DateOrMoment;
+use cal_schedule::Workdays;
 use cal_time::{SignedDuration, UtcOffset, Weekday};
 use cal_zone::Zone;
 
@@ -115,11 +117,11 @@ fn once_command<'a>(filter: Filter<'a>) -> Command<'a>
     }
 }
 
-/// Returns the field that has a name.
+/// Returns the field to answer, if it or another field has a name.
 fn named_field(filter: &Filter<'_>) -> Option<Field>
     ensures { result ≡ named_field filter.now }
 {
-    if filter.name.is_some() {
+    if filter.name.is_some() || filter.request.names_other() {
         filter.field
     } else {
         None
@@ -128,7 +130,7 @@ fn named_field(filter: &Filter<'_>) -> Option<Field>
 
 /// Parses options and a request from the word at an index on, where `rest` is.
 fn filter_at<'a>(
-    words: &[u8],
+    words: &'a [u8],
     rest: Option<&'a [u8]>,
     at: usize,
     now: Option<PlainDateTime>,
@@ -144,21 +146,38 @@ fn filter_at<'a>(
         return Err(usage_error_at(at, expected));
     }
     let request = request_at(words, at, now_in(&options.zone, now), files)?;
-    appended_to(at, options, request)
+    filter_with(at, options, request)
 }
 
-/// Returns the filter, unless `--append` is given with `keep`.
-fn appended_to<'a>(
+/// Returns the filter, unless the request and the options conflict.
+fn filter_with<'a>(
     at: usize,
     options: Options<'a>,
     request: Request<'a>,
 ) -> Result<Filter<'a>, UsageError>
-    ensures { result ≡ appended_to at options.entry request.entry }
+    ensures { result ≡ filter_with at options.entry request.entry }
 {
-    if options.append.is_some() && request.keeps() {
-        return Err(usage_error_at(at, Expected::AppendKeep));
+    if let Some(expected) = conflict_with_request(&options, &request) {
+        return Err(usage_error_at(at, expected));
     }
     Ok(filter_of(options, request))
+}
+
+/// Returns the requirement of the request that the options don't meet, if there is one.
+fn conflict_with_request(options: &Options<'_>, request: &Request<'_>) -> Option<Expected>
+    ensures { result ≡ conflict_with_request options.now request.now }
+{
+    if options.append.is_some() && request.keeps() {
+        Some(Expected::AppendKeep)
+    } else if request.reads_other() && options.fields.is_none() {
+        Some(Expected::OtherField)
+    } else if request.names_other() && !options.header {
+        Some(Expected::Header)
+    } else if options.workdays.is_some() && !request.counts_workdays() {
+        Some(Expected::WorkdaysOnly)
+    } else {
+        None
+    }
 }
 
 fn filter_of<'a>(options: Options<'a>, request: Request<'a>) -> Filter<'a>
@@ -167,17 +186,29 @@ fn filter_of<'a>(options: Options<'a>, request: Request<'a>) -> Filter<'a>
     Filter {
         on_invalid: match options.on_invalid {
             Some(mode) => mode,
-            None => default_mode(&request, options.fields),
+            None => default_mode(&request, options.fields.is_some() || options.scan),
         },
         request,
         field: field_of(&options),
+        scans: options.scan,
         skip: skip_in(&options),
+        workdays: workdays_in(options.workdays),
         name: options.name,
         column: column_of(options.header, options.append),
         offset: options.offset.unwrap_or(UtcOffset::UTC),
         readers: readers_in(options.readers),
         clock: clock_of(options.zone, options.policy),
     }
+}
+
+/// Returns the working days. The default is Monday to Friday.
+fn workdays_in<'a>(workdays: Option<Workdays<'a>>) -> Workdays<'a>
+    ensures { result ≡ unwrap_or workdays.entry monday_to_friday }
+{
+    let Some(workdays) = workdays else {
+        return moves::workdays();
+    };
+    workdays
 }
 
 /// Returns the name of a new field in the header, if there is one.
@@ -211,20 +242,21 @@ fn skip_in(options: &Options<'_>) -> u64
     if options.header && skip == 0 { 1 } else { skip }
 }
 
-/// Returns what is written for a line without an answer if no option says it.
-fn default_mode(request: &Request<'_>, fields: Option<FieldNumbers>) -> OnInvalid
-    ensures { result ≡ default_mode request.now fields }
+/// Returns what is written for a line without an answer if no option says it. `part` is `true` if
+/// only a part of a line is answered.
+fn default_mode(request: &Request<'_>, part: bool) -> OnInvalid
+    ensures { result ≡ default_mode request.now part }
 {
-    match (request, fields) {
+    match (request, part) {
         (Request::Keep(_), _) => OnInvalid::Drop,
-        (_, Some(_)) => OnInvalid::Keep,
-        (_, None) => OnInvalid::Answer,
+        (_, true) => OnInvalid::Keep,
+        (_, false) => OnInvalid::Answer,
     }
 }
 
 /// Parses the request whose verb has this index.
 fn request_at<'a>(
-    words: &[u8],
+    words: &'a [u8],
     at: usize,
     now: Option<OffsetDateTime>,
     files: &ZoneFiles<'a>,
@@ -444,31 +476,4 @@ fn count_at(words: &[u8], at: usize) -> Result<u8, UsageError>
         return Ok(1);
     }
     only_at(words, at, parse_u8, Expected::Count)
-}
-
-/// Parses `TEXT` or `TEXT in UNIT`.
-fn target_at(
-    words: &[u8],
-    at: usize,
-    now: Option<OffsetDateTime>,
-) -> Result<(DateOrMoment, Option<TimeUnit>), UsageError>
-    requires { at + 3 < 2 ^ 64 }
-    ensures { (meanings : Meanings) → AreMeanings meanings (arguments_of words.now)
-        → result ≡ target_at now meanings (arguments_of words.now) at }
-{
-    let target = found_at(words, at, Expected::Target, now)?;
-    Ok((target, in_unit_at(words, at + 1)?))
-}
-
-/// Parses `in UNIT`, or returns `None` if the words end here.
-fn in_unit_at(words: &[u8], at: usize) -> Result<Option<TimeUnit>, UsageError>
-    requires { at + 2 < 2 ^ 64 }
-    ensures { result ≡ in_unit_at (arguments_of words.now) at }
-{
-    if ends_at(words, at) {
-        return Ok(None);
-    }
-    keyword_at(words, at, b"in", Expected::In)?;
-    let unit = only_at(words, at + 1, unit_of, Expected::UnitOfTime)?;
-    Ok(Some(unit))
 }

@@ -28,6 +28,8 @@ invalid, or the input or the output fails.
   caldate until DATE [in UNIT]    the days until that date, the duration until that moment, or
                                   whole units
   caldate since DATE [in UNIT]    the same from that date or moment until the line
+  caldate until field N ...       with --field: the same until the date or moment in the N-th field
+                                  of the line; also since, and N-M or NAME as after --field
   caldate at OFFSET               the moment at that offset, such as +01:00
   caldate at ZONE                 the moment by the clocks of that zone, such as Europe/Berlin
   caldate keep from A to B        the line itself if it is from A to B, otherwise nothing;
@@ -37,8 +39,8 @@ invalid, or the input or the output fails.
                                   recurrence, such as FREQ=MONTHLY;BYDAY=-1FR
   caldate --date DATE ...         answers for this date or moment, without input
   caldate --invalid MODE ...      what is written for a line without an answer: keep for the line
-                                  (the default with --field), answer for the reason (the default
-                                  without it), drop for nothing, or stop to end there
+                                  (the default with --field and --scan), answer for the reason (the
+                                  default without them), drop for nothing, or stop to end there
   caldate --field N ...           reads the N-th field of each line and replaces it by its
                                   answer; fields end at a tab; --field=N is the same
   caldate --field N-M ...         the same for the fields from N to M, as one text
@@ -48,6 +50,8 @@ invalid, or the input or the output fails.
   caldate --csv ...               with --field: reads records of RFC 4180, whose fields end at a
                                   comma
   caldate --header ...            writes the first line unchanged, like --skip 1
+  caldate --scan ...              answers each date or moment in a line in place; keep selects a
+                                  line by its first one
   caldate --separator C ...       with --field: fields end at the byte C
   caldate --skip K ...            writes the first K lines unchanged
   caldate --read FORM ...         reads lines in this form: basic, dmy, mdy, unix, unix-ms, unix-us,
@@ -57,6 +61,8 @@ invalid, or the input or the output fails.
   caldate --zone ZONE ...         the same, by the clocks of that zone
   caldate --ambiguous POLICY ...  with --zone: what is meant by a time that clocks skip or show twice:
                                   compatible (the default), earlier, later, or reject for none
+  caldate --holidays FILE ...     with workdays: the dates in that file, one in each line, are not
+                                  workdays
   caldate --help, -h, help        this page
   caldate --version               the version
 
@@ -77,6 +83,7 @@ moment of the start, and its date at UTC or in the zone of --zone.
   echo 2024-02-29 | caldate end quarter                    2024-03-31
   echo 2000-01-01 | caldate until 2024-02-29               8825
   echo 1980-06-01 | caldate until 2024-02-29 in years      43
+  echo 2024-03-01,2024-02-20 | caldate --csv --field 1 since field 2 in days   10,2024-02-20
   echo 2024-02-29T23:30:00+01:00 | caldate at Z            2024-02-29T22:30:00Z
   echo 2024-07-01T12:00:00Z | caldate at Europe/Berlin     2024-07-01T14:00:00+02:00
   echo 2024-07-01T14:00:00 | caldate --read local --zone Europe/Berlin at Z   2024-07-01T12:00:00Z
@@ -90,6 +97,7 @@ moment of the start, and its date at UTC or in the zone of --zone.
   echo a,2024-02-29 | caldate --csv --field 2 to week      a,2024-W09-4
   echo a,2024-02-29 | caldate --csv --field 2 --append week to week   a,2024-02-29,2024-W09-4
   echo a,2024-02-29 | caldate --field 2 --separator , keep from 2024-02-01 to 2024-02-29   a,2024-02-29
+  echo 'due 2024-02-29, paid' | caldate --scan to week      due 2024-W09-4, paid
   caldate list from 2024-01-31 to 2024-12-31 by 1 month | tail -n 1   2024-12-31
   caldate list from 2024-01-01 to 2024-03-31 by 'FREQ=MONTHLY;BYDAY=-1FR' | tail -n 1   2024-03-29
 ";

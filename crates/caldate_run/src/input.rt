@@ -98,7 +98,7 @@ impl Input {
 }
 
 /// Reads once, and again after an interrupted read while a retry is left.
-fn read_some<R: Source>(reader: &mut R, buffer: &mut [u8]) -> io::Result<usize>
+pub(crate) fn read_some<R: Source>(reader: &mut R, buffer: &mut [u8]) -> io::Result<usize>
     ensures bound { ReadsAtMost result buffer.new }
     ensures bytes { ReadConsumes (R.remaining reader.old)
         (R.remaining reader.new) result buffer.new }

@@ -1,13 +1,15 @@
 //! Laws: a text has one answer, a line has one reply, a record has its fields, an answer becomes
 //! one field, and all arguments have meanings.
 ghost use Rattle.std.specs.List.{join_with_byte};
-ghost use Rattle.std.specs.Prelude.{◌≡◌, ◌==◌, ◌<◌, ℕ, List, All, Option, false, length, true};
+ghost use Rattle.std.specs.Prelude.{◌≡◌, ◌==◌, ◌<◌, ℕ, List, All, Option, false, length, take, true};
 ghost use Rattle.caldate_run.specs.Answers.{Answer, IsAnswer};
 ghost use Rattle.caldate_run.specs.Fields.{in_place_of, split_record};
 ghost use Rattle.caldate_run.specs.Records.{IsField};
 ghost use Rattle.caldate_run.specs.Replies.{IsReplyTo};
 ghost use Rattle.caldate_run.specs.Meanings.{AreMeanings, Meanings};
 ghost use Rattle.caldate_run.specs.Requests.{arguments_of};
+ghost use Rattle.caldate_run.specs.Scans.{IsScanned, part_at};
+ghost use Rattle.caldate_run.specs.Targets.{IsAnswerAt};
 ghost use Rattle.caldate_run.specs.Zones.{AreZones};
 ghost use Rattle.caldate_run.specs.declared.run.tally.Tally.{Tally};
 
@@ -19,6 +21,7 @@ use crate::input::fields::selected_text;
 use crate::request::{Field, Filter};
 use crate::run::lines::cut_return;
 use crate::run::no_answer::NoAnswer;
+use crate::run::other::{other_field, read_other};
 use crate::zones::{ZoneFiles, zone_in};
 use cal_text::{DateOrMoment, parse_any};
 
@@ -37,8 +40,51 @@ pub fn one_reply(filter: &Filter<'_>, line: &[u8]) -> Option<Result<DateOrMoment
         → IsReplyTo filter.now before line.now other v w → reply ≡ other }
 {
     let (text, _has_return) = cut_return(line);
+    one_scan(filter, text);
     let asked = selected_text(filter.field, text)?;
-    Some(read_with(filter, asked))
+    Some(one_answer_at(filter, text, asked))
+}
+
+/// Proves that no part of a line has two answers.
+fn one_answer_at(filter: &Filter<'_>, text: &[u8], asked: &[u8]) -> Result<DateOrMoment, NoAnswer>
+    ensures { (answer other : Answer) → IsAnswerAt filter.now text.now asked.now answer
+        → IsAnswerAt filter.now text.now asked.now other → answer ≡ other }
+{
+    let answer = read_with(filter, asked);
+    match other_field(filter) {
+        Some(other) => read_other(filter, other, text),
+        None => answer,
+    }
+}
+
+/// Proves that no line has two answers to its texts.
+pub fn one_scan(filter: &Filter<'_>, line: &[u8])
+    ensures { (answer other : Answer) → IsScanned filter.now line.now answer
+        → IsScanned filter.now line.now other → answer ≡ other }
+{
+    one_answer_within(filter, line);
+}
+
+/// Proves that no part of the bytes has two answers.
+fn one_answer_within(filter: &Filter<'_>, bytes: &[u8])
+    ensures { (k n : ℕ) (answer other : Answer) → IsAnswer filter.now (part_at bytes.now k n) answer
+        → IsAnswer filter.now (part_at bytes.now k n) other → answer ≡ other }
+{
+    one_answer_before(filter, bytes);
+    if let [_, others @ ..] = bytes {
+        one_answer_within(filter, others);
+    }
+}
+
+/// Proves that no beginning of the bytes has two answers.
+fn one_answer_before(filter: &Filter<'_>, bytes: &[u8])
+    ensures { (n : ℕ) (answer other : Answer) → IsAnswer filter.now (take n bytes.now) answer
+        → IsAnswer filter.now (take n bytes.now) other → answer ≡ other }
+{
+    let _answer = one_answer(filter, bytes);
+    if let [front @ .., _] = bytes {
+        one_answer_before(filter, front);
+    }
 }
 
 /// Proves that the fields of a record of RFC 4180 on one line are split at its separators, which

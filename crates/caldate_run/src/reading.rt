@@ -19,6 +19,7 @@ use crate::reading::number::read_number;
 use crate::reading::parts::{
     basic_parts, day_first_parts, month_first_parts, parted_template, read_parts,
 };
+pub(crate) use crate::reading::readers::reason_of;
 pub use crate::reading::readers::{Readers, read};
 use crate::request::UnixUnit;
 use cal_text::{DateOrMoment, ParseError, parse_any};

@@ -1,12 +1,14 @@
 //! Requests, and how they apply to the lines.
-ghost use Rattle.std.specs.Prelude.{◌≡◌};
-ghost use Rattle.caldate_run.specs.Answers.{keeps};
+ghost use Rattle.std.specs.Prelude.{◌≡◌, MatchOption, None, Some, is_some};
+ghost use Rattle.caldate_run.specs.Answers.{counts_workdays, keeps};
+ghost use Rattle.caldate_run.specs.Targets.{reads_other, target_fields, target_name};
 
 use crate::field_name::FieldName;
 use crate::on_invalid::OnInvalid;
 use crate::reading::Readers;
 use cal_format::Format;
 use cal_recurrence::Recurrence;
+use cal_schedule::Workdays;
 use cal_text::{DateForm, DateOrMoment, MomentForm};
 use cal_time::{Date, SignedDuration, UtcOffset, Weekday};
 use cal_zone::Zone;
@@ -47,7 +49,7 @@ pub enum TimeUnit {
     Months,
     Weeks,
     Days,
-    /// Monday to Friday.
+    /// Monday to Friday, except the holidays.
     Workdays,
     Hours,
     Minutes,
@@ -79,7 +81,7 @@ pub enum DayMove {
     Months(i64),
     /// `add N years`: the same day N years later, or 28 February.
     Years(i64),
-    /// `add N workdays`: the N-th day from Monday to Friday after the day.
+    /// `add N workdays`: the N-th working day after the day.
     Workdays(i64),
     /// `start PERIOD`: the first day of the period.
     Start(Period),
@@ -129,6 +131,17 @@ pub struct Clock<'a> {
     pub policy: Policy,
 }
 
+/// The date or moment TEXT of `until` and `since`, or where each line has it.
+#[derive(Drop)]
+pub enum Target<'a> {
+    /// `TEXT`.
+    Text(DateOrMoment),
+    /// `field N` or `field N-M`: in these fields of the line.
+    Fields(FieldNumbers),
+    /// `field NAME`: in the field of this name, whose number isn't known yet.
+    Name(FieldName<'a>),
+}
+
 /// A request for each line.
 #[derive(Drop)]
 pub enum Request<'a> {
@@ -144,9 +157,9 @@ pub enum Request<'a> {
     /// to a multiple of a number of minutes, from 1 to 1440.
     Floor(u16),
     /// `until TEXT [in UNIT]`: the days or the duration to TEXT, or the whole units.
-    Until(DateOrMoment, Option<TimeUnit>),
+    Until(Target<'a>, Option<TimeUnit>),
     /// `since TEXT [in UNIT]`: the days or the duration from TEXT, or the whole units.
-    Since(DateOrMoment, Option<TimeUnit>),
+    Since(Target<'a>, Option<TimeUnit>),
     /// `at OFFSET` or `at ZONE`: the moment at this offset, or at the offset of the zone.
     At(Place<'a>),
     /// `keep BOUNDS`: the line itself if it lies within the bounds, otherwise nothing.
@@ -160,6 +173,61 @@ impl<'a> Request<'a> {
     {
         match self {
             Request::Keep(_) => true,
+            _ => false,
+        }
+    }
+
+    /// Returns the fields of the line that have TEXT, if their numbers are known.
+    pub fn target_fields(&self) -> Option<FieldNumbers>
+        ensures { result ≡ target_fields self.now }
+    {
+        match self {
+            Request::Until(Target::Fields(numbers), _) => Some(*numbers),
+            Request::Since(Target::Fields(numbers), _) => Some(*numbers),
+            _ => None,
+        }
+    }
+
+    /// Returns the name of the field of the line that has TEXT, if its number isn't known yet.
+    pub fn target_name(&self) -> Option<&[u8]>
+        ensures { MatchOption result (target_name self.now ≡ None)
+            (λ name. target_name self.now ≡ Some name.now) }
+    {
+        match self {
+            Request::Until(Target::Name(name), _) => Some(name.as_bytes()),
+            Request::Since(Target::Name(name), _) => Some(name.as_bytes()),
+            _ => None,
+        }
+    }
+
+    /// Returns whether the field that has TEXT has a name.
+    pub fn names_other(&self) -> bool
+        ensures { result ≡ is_some (target_name self.now) }
+    {
+        match self.target_name() {
+            Some(_) => true,
+            None => false,
+        }
+    }
+
+    /// Returns whether other fields of the line have TEXT.
+    pub fn reads_other(&self) -> bool
+        ensures { result ≡ reads_other self.now }
+    {
+        match self.target_fields() {
+            Some(_) => true,
+            None => self.names_other(),
+        }
+    }
+
+    /// Returns whether this counts working days.
+    pub fn counts_workdays(&self) -> bool
+        ensures { result ≡ counts_workdays self.now }
+    {
+        match self {
+            Request::Move(DayMove::Workdays(_)) => true,
+            Request::Until(_, Some(TimeUnit::Workdays)) => true,
+            Request::Since(_, Some(TimeUnit::Workdays)) => true,
             _ => false,
         }
     }
@@ -194,6 +262,8 @@ pub struct Field {
 pub struct Filter<'a> {
     /// The request for each line.
     pub request: Request<'a>,
+    /// The working days.
+    pub workdays: Workdays<'a>,
     /// The forms that a line is read in.
     pub readers: Readers,
     /// The offset of a text that has none.
@@ -204,7 +274,9 @@ pub struct Filter<'a> {
     pub on_invalid: OnInvalid,
     /// The field to answer, or `None` for the whole line.
     pub field: Option<Field>,
-    /// The name of the field, whose number isn't known yet.
+    /// `true` if each text in the line that has a form is answered, and not the whole line.
+    pub scans: bool,
+    /// The name of the field to answer, whose number isn't known yet.
     pub name: Option<FieldName<'a>>,
     /// The name that the header, the first line, gets for a new last field.
     pub column: Option<FieldName<'a>>,
@@ -268,7 +340,8 @@ pub enum Command<'a> {
     Version,
     /// A request for the lines of the input.
     Lines(Filter<'a>),
-    /// A request for the lines of the input, whose header gives this field its number.
+    /// A request for the lines of the input, whose header gives the numbers of fields. The field to
+    /// answer is this one, whose number may be among them.
     Named(Filter<'a>, Field),
     /// `--date TEXT` and a request: for the second argument instead of an input.
     Once(Filter<'a>),

@@ -14,6 +14,7 @@ pub mod excerpt;
 pub mod lines;
 pub(crate) mod named;
 pub mod no_answer;
+pub(crate) mod other;
 pub(crate) mod progress;
 pub(crate) mod record;
 pub(crate) mod reply;

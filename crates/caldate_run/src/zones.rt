@@ -1,5 +1,5 @@
 //! Time zones by name, from files.
-ghost use Rattle.std.specs.Prelude.{◌≡◌, is_none, not, position};
+ghost use Rattle.std.specs.Prelude.{◌≡◌, [], is_none, None, not, position};
 ghost use Rattle.caldate_run.specs.Meanings.{Meanings};
 ghost use Rattle.caldate_run.specs.Zones.{AreZones, IsZoneOf, file_named, has_name, is_letter, is_name_byte, is_zone_like, is_zone_name, name_in, zone_of};
 
@@ -7,6 +7,7 @@ pub mod read_zone_error;
 pub mod zone_source;
 
 use crate::args::offset::offset_of;
+use crate::holidays::holiday_file::HolidayFile;
 use crate::run::lines::index_of;
 use crate::zones::read_zone_error::{FileError, ReadZoneError};
 use cal_tzif::parse;
@@ -21,22 +22,26 @@ pub struct ZoneFile<'a> {
     pub contents: Result<&'a [u8], FileError>,
 }
 
-/// A folder, and up to two files of zones in it.
+/// A folder, up to two files of zones in it, and the file of the holidays.
 #[derive(Clone, Copy)]
 pub struct ZoneFiles<'a> {
     /// The path of the folder, such as `/usr/share/zoneinfo`.
     pub folder: &'a [u8],
     pub first: Option<ZoneFile<'a>>,
     pub second: Option<ZoneFile<'a>>,
+    pub holidays: Option<HolidayFile<'a>>,
 }
 
 impl ZoneFiles<'_> {
-    /// Creates a value without files.
-    pub fn none() -> ZoneFiles<'static> {
+    /// Creates a value without a folder and files.
+    pub fn none() -> ZoneFiles<'static>
+        ensures { (result.folder.now ≡ []) × (result.first ≡ None) × (result.second ≡ None) }
+    {
         ZoneFiles {
             folder: b"",
             first: None,
             second: None,
+            holidays: None,
         }
     }
 }
@@ -70,7 +75,8 @@ fn has_name_bytes(word: &[u8]) -> bool
     true
 }
 
-fn is_letter(byte: u8) -> bool
+/// Returns whether the byte is a letter of ASCII.
+pub fn is_letter(byte: u8) -> bool
     ensures { result ≡ is_letter byte }
 {
     (byte >= b'A' && byte <= b'Z') || (byte >= b'a' && byte <= b'z')

@@ -1,9 +1,10 @@
 //! Moves from one day to another.
 ghost use Rattle.std.specs.Prelude.{◌≡◌, ℕ, pos, neg_ℤ, ◌*ℤ◌, ◌≤ℤ◌, MatchOption};
-ghost use Rattle.cal_time.specs.Date.{IsDate};
+ghost use Rattle.cal_time.specs.Date.{IsDate, julian_day_at};
 ghost use Rattle.cal_schedule.specs.Months.{IsMonthsLater};
 ghost use Rattle.cal_schedule.specs.Workdays.{nth_workday};
-ghost use Rattle.caldate_run.specs.Moves.{IsFirstOf, IsLastOf, MovesTo, monday_to_friday};
+ghost use Rattle.cal_time.specs.Counted.{IsRising};
+ghost use Rattle.caldate_run.specs.Moves.{IsFirstOf, IsLastOf, MovesTo, monday_to_friday, weekdays_except};
 
 use crate::request::{DayMove, Period};
 use cal_schedule::{
@@ -14,8 +15,9 @@ use cal_schedule::{
 use cal_time::Date;
 
 /// Moves a day, or returns `None` if the result is out of range.
-pub fn moved_day(date: Date, by: DayMove) -> Option<Date>
-    ensures { MatchOption result ((n : ℕ) → ¬ MovesTo by date n) (MovesTo by date) }
+pub fn moved_day(workdays: &Workdays<'_>, date: Date, by: DayMove) -> Option<Date>
+    ensures { MatchOption result ((n : ℕ) → ¬ MovesTo workdays.now by date n)
+        (MovesTo workdays.now by date) }
 {
     match by {
         DayMove::Next(weekday, count) => date.checked_nth_next_occurrence(weekday, count),
@@ -24,7 +26,7 @@ pub fn moved_day(date: Date, by: DayMove) -> Option<Date>
         DayMove::OnOrBefore(weekday) => on_or_before(date, weekday),
         DayMove::Months(months) => months_later(date, months),
         DayMove::Years(years) => years_later(date, years),
-        DayMove::Workdays(days) => workdays_later(date, days),
+        DayMove::Workdays(days) => workdays_later(workdays, date, days),
         DayMove::Start(period) => Some(first_of(period, date)),
         DayMove::End(period) => last_of(period, date),
     }
@@ -44,10 +46,10 @@ fn years_later(date: Date, years: i64) -> Option<Date>
     checked_add_years(date, nearest(years))
 }
 
-fn workdays_later(date: Date, days: i64) -> Option<Date>
-    ensures { result ≡ nth_workday monday_to_friday days date }
+fn workdays_later(workdays: &Workdays<'_>, date: Date, days: i64) -> Option<Date>
+    ensures { result ≡ nth_workday workdays.now days date }
 {
-    workdays().checked_add_workdays(date, nearest(days))
+    workdays.checked_add_workdays(date, nearest(days))
 }
 
 /// Clamps a number to -2000000000..=2000000000. Either bound is past the range in every unit.
@@ -66,11 +68,19 @@ fn nearest(number: i64) -> i32
     }
 }
 
-/// Returns Monday to Friday without holidays.
+/// Returns Monday to Friday.
 pub fn workdays() -> Workdays<'static>
     ensures { result ≡ monday_to_friday }
 {
-    match Workdays::new([true, true, true, true, true, false, false], &[]) {
+    workdays_except(&[])
+}
+
+/// Returns Monday to Friday without the holidays.
+pub fn workdays_except(holidays: &[Date]) -> Workdays<'_>
+    requires { IsRising julian_day_at holidays.now }
+    ensures { result ≡ weekdays_except holidays.now }
+{
+    match Workdays::new([true, true, true, true, true, false, false], holidays) {
         Some(workdays) => workdays,
         None => unreachable!(),
     }

@@ -10,6 +10,7 @@ use crate::args::spelling::parse_i64;
 use crate::args::usage_error::{Expected, UsageError, usage_error_at};
 use crate::args::words::cut;
 use crate::field_name::FieldName;
+use crate::holidays::workdays_of;
 use crate::on_invalid::OnInvalid;
 use crate::reading::reader::Reader;
 use crate::reading::spelling::Spelling;
@@ -17,6 +18,7 @@ use crate::reading::{Readers, Reading};
 use crate::request::{Field, FieldNumbers, Policy};
 use crate::run::lines::index_of;
 use crate::zones::{ZoneFiles, zone_of};
+use cal_schedule::Workdays;
 use cal_time::UtcOffset;
 use cal_zone::Zone;
 
@@ -35,6 +37,8 @@ pub struct Options<'a> {
     pub header: bool,
     /// `true` if `--csv` is given.
     pub csv: bool,
+    /// `true` if `--scan` is given.
+    pub scan: bool,
     /// The byte C of `--separator C`.
     pub separator: Option<u8>,
     /// The number K of `--skip K`.
@@ -47,6 +51,8 @@ pub struct Options<'a> {
     pub zone: Option<Zone<'a>>,
     /// The policy of `--ambiguous POLICY`.
     pub policy: Option<Policy>,
+    /// The working days of `--holidays FILE`.
+    pub workdays: Option<Workdays<'a>>,
 }
 
 /// Returns the options if the arguments have none.
@@ -60,12 +66,14 @@ fn no_options() -> Options<'static>
         append: None,
         header: false,
         csv: false,
+        scan: false,
         separator: None,
         skip: None,
         readers: Readers::new(),
         offset: None,
         zone: None,
         policy: None,
+        workdays: None,
     }
 }
 
@@ -182,29 +190,35 @@ fn value_of(options: &Options<'_>, word: &[u8]) -> Option<Expected>
         Some(Expected::Zone)
     } else if word == b"--ambiguous".as_slice() && options.policy.is_none() {
         Some(Expected::Policy)
+    } else if word == b"--holidays".as_slice() && options.workdays.is_none() {
+        Some(Expected::Holidays)
     } else {
         None
     }
 }
 
-/// Returns whether the word is `--csv` or `--header`, and not given yet.
+/// Returns whether the word is `--csv`, `--scan` or `--header`, and not given yet.
 fn is_flag(options: &Options<'_>, word: &[u8]) -> bool
     ensures { result ≡ is_flag options.now word.now }
 {
     if word == b"--csv".as_slice() {
         !options.csv
+    } else if word == b"--scan".as_slice() {
+        !options.scan
     } else {
         word == b"--header".as_slice() && !options.header
     }
 }
 
-/// Sets `--csv` or `--header`.
+/// Sets `--csv`, `--scan` or `--header`.
 fn with_flag<'a>(options: Options<'a>, word: &[u8]) -> Options<'a>
     ensures { result ≡ with_flag options.entry word.now }
 {
     let mut more = options;
     if word == b"--csv".as_slice() {
         more.csv = true;
+    } else if word == b"--scan".as_slice() {
+        more.scan = true;
     } else {
         more.header = true;
     }
@@ -240,6 +254,7 @@ fn with_value<'a>(
         Expected::Offset => more.offset = Some(offset_of(value)?),
         Expected::Zone => more.zone = Some(zone_of(files, value)?),
         Expected::Policy => more.policy = Some(policy_of(value)?),
+        Expected::Holidays => more.workdays = Some(workdays_of(files, value)?),
         _ => return None,
     }
     Some(more)
@@ -263,7 +278,7 @@ fn with_field<'a>(options: Options<'a>, value: &'a [u8]) -> Option<Options<'a>>
 }
 
 /// Returns whether the word is read as a name of a field, and not as numbers.
-fn is_name(word: &[u8]) -> bool
+pub fn is_name(word: &[u8]) -> bool
     ensures { result ≡ is_name word.now }
 {
     match word {
@@ -307,7 +322,7 @@ fn policy_of(word: &[u8]) -> Option<Policy>
 }
 
 /// Parses `N` or `N-M`, of which M is not less than N.
-fn field_numbers_of(word: &[u8]) -> Option<FieldNumbers>
+pub fn field_numbers_of(word: &[u8]) -> Option<FieldNumbers>
     ensures { result ≡ field_numbers_of word.now }
 {
     match index_of(b'-', word) {
@@ -448,11 +463,19 @@ fn has_own(reader: &Reader) -> bool
     }
 }
 
-/// Returns the option that is missing, if the others need it.
+/// Returns the option that is missing or excluded, if the others need or exclude it.
 pub fn conflict_in(options: &Options<'_>) -> Option<Expected>
     ensures { result ≡ conflict_in options.now }
 {
-    if options.separator.is_some() && options.fields.is_none() {
+    if options.scan && options.fields.is_some() {
+        Some(Expected::ScanField)
+    } else if options.scan && options.csv {
+        Some(Expected::ScanCsv)
+    } else if options.scan && options.append.is_some() {
+        Some(Expected::ScanAppend)
+    } else if options.scan && options.separator.is_some() {
+        Some(Expected::ScanSeparator)
+    } else if options.separator.is_some() && options.fields.is_none() {
         Some(Expected::Field)
     } else if options.csv && options.fields.is_none() {
         Some(Expected::CsvField)

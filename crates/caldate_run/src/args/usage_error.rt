@@ -11,6 +11,14 @@ pub enum Expected {
     Start,
     /// A verb, or an option that is not given yet and needs a verb.
     Verb,
+    /// No `--field`, which `--scan` excludes.
+    ScanField,
+    /// No `--csv`, which `--scan` excludes.
+    ScanCsv,
+    /// No `--append`, which `--scan` excludes.
+    ScanAppend,
+    /// No `--separator`, which `--scan` excludes.
+    ScanSeparator,
     /// `--field`, which `--separator` requires.
     Field,
     /// `--field`, which `--csv` requires.
@@ -19,9 +27,11 @@ pub enum Expected {
     AppendField,
     /// A request that isn't `keep`, which `--append` requires.
     AppendKeep,
+    /// `--field`, which `field N` after `until` or `since` requires.
+    OtherField,
     /// A separator other than a quote, which `--csv` requires.
     CsvSeparator,
-    /// `--header`, which `--field NAME` requires.
+    /// `--header`, which the name of a field requires.
     Header,
     /// A mode of `--invalid`, such as `keep`.
     Invalid,
@@ -47,6 +57,10 @@ pub enum Expected {
     LocalOnly,
     /// A policy of `--ambiguous`, such as `earlier`.
     Policy,
+    /// The name of a file of `--holidays` that can be read, and has a date in each line.
+    Holidays,
+    /// A number of working days, which `--holidays` requires.
+    WorkdaysOnly,
     /// A form, such as `week`.
     Form,
     /// A number.

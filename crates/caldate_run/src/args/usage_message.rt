@@ -1,7 +1,7 @@
 //! The message for invalid arguments.
 ghost use Rattle.std.specs.Prelude.{◌≡◌, ◌+◌, ◌≤◌, ◌++◌, [], Err, length};
 ghost use Rattle.caldate_run.specs.Calls.{Writes, write_failure};
-ghost use Rattle.caldate_run.specs.UsageMessages.{after_word, usage_message, error_phrase, expected_phrase, file_hint, is_duplicate, is_file_like, missing_noun, names_word, on_missing, on_word, problem, quoted, rule_error, rule_error_in, zone_error, zone_error_in};
+ghost use Rattle.caldate_run.specs.UsageMessages.{after_word, usage_message, error_phrase, expected_phrase, file_hint, is_duplicate, is_file_like, missing_noun, holidays_error, names_word, on_missing, on_word, problem, quoted, rule_error, rule_error_in, zone_error, file_error_in};
 ghost use Rattle.cal_recurrence.specs.Text.{recurrence_of};
 ghost use Rattle.caldate_run.specs.Requests.{arguments_of};
 ghost use Rattle.caldate_run.specs.Meanings.{Meanings};
@@ -11,6 +11,8 @@ ghost use Rattle.caldate_run.specs.Zones.{AreZones};
 use crate::args::options::is_option;
 use crate::args::usage_error::{Expected, UsageError};
 use crate::args::words::word_at;
+use crate::holidays::read_holidays_error::push_holidays_error;
+use crate::holidays::{file_in, holidays_named};
 use crate::output::buffer::Buffer;
 use crate::output::write_all;
 use crate::run::excerpt::Excerpt;
@@ -26,7 +28,7 @@ pub const TOO_LONG: &[u8] = b"caldate: arguments too long; expected at most 4096
 
 /// The commands and options for the first argument.
 const COMMANDS: &[u8] =
-    b"; expected to, add, next, last, until, since, start, end, on-or-after, on-or-before, at, keep, list, --date, --invalid, --field, --append, --csv, --header, --separator, --skip, --read, --assume, --zone, --ambiguous, --help or --version";
+    b"; expected to, add, next, last, until, since, start, end, on-or-after, on-or-before, at, keep, list, --date, --invalid, --field, --append, --csv, --header, --scan, --separator, --skip, --read, --assume, --zone, --ambiguous, --holidays, --help or --version";
 
 /// The commands after an option.
 const LINE_COMMANDS: &[u8] =
@@ -75,7 +77,7 @@ pub fn report_usage_error<W: Sink>(
     usage_error: UsageError,
     writer: &mut W,
 ) -> Result<(), RunError>
-    ensures excerpt_of { (meanings : Meanings) → AreZones files.now meanings
+    ensures message { (meanings : Meanings) → AreZones files.now meanings
         → WritesPage (usage_message meanings files.now.folder.now (arguments_of arguments.now) usage_error)
         result (W.contents writer.old) (W.contents writer.new) }
     ensures writes { Writes W.write_gives writer.old (write_failure result) writer.new }
@@ -135,7 +137,7 @@ fn push_on_word(line: &mut Buffer, files: &ZoneFiles<'_>, expected: Expected, wo
     push_quoted(line, word);
     line.push(expected_phrase(expected));
     push_rule_error(line, expected, word);
-    push_zone_error(line, files, expected, word);
+    push_file_error(line, files, expected, word);
     push_file_hint(line, expected, word);
 }
 
@@ -203,20 +205,24 @@ fn push_error_in_rule(line: &mut Buffer, word: &[u8])
     }
 }
 
-/// Appends the error in a word that ought to be the name of a zone.
-fn push_zone_error(line: &mut Buffer, files: &ZoneFiles<'_>, expected: Expected, word: &[u8])
+/// Appends the error in a word that ought to name a zone or a file of holidays.
+fn push_file_error(line: &mut Buffer, files: &ZoneFiles<'_>, expected: Expected, word: &[u8])
     requires { length line.old ≤ 600 }
     ensures text { (meanings : Meanings) → AreZones files.now meanings
-        → line.new ≡ line.old ++ zone_error_in meanings files.now.folder.now expected word.now }
+        → line.new ≡ line.old ++ file_error_in meanings files.now.folder.now expected word.now }
     ensures short { length line.new ≤ length line.old + 250 }
 {
-    if let Expected::Zone = expected {
-        let name = name_in(word);
-        if is_zone_name(name) {
-            push_error_of(line, files, name);
-        } else {
-            line.push(b"; expected one such as Europe/Berlin");
+    match expected {
+        Expected::Zone => {
+            let name = name_in(word);
+            if is_zone_name(name) {
+                push_error_of(line, files, name);
+            } else {
+                line.push(b"; expected one such as Europe/Berlin");
+            }
         }
+        Expected::Holidays => push_error_of_holidays(line, files, file_in(word)),
+        _ => {}
     }
 }
 
@@ -243,6 +249,19 @@ fn push_fault_of(line: &mut Buffer, folder: &[u8], name: &[u8], error: ReadZoneE
     line.push(Excerpt::new(name).as_bytes());
     line.push(b": ");
     push_fault(line, error);
+}
+
+/// Appends the error of a file of holidays: `: line 3: unreadable at 0`.
+fn push_error_of_holidays(line: &mut Buffer, files: &ZoneFiles<'_>, name: &[u8])
+    requires { length line.old ≤ 600 }
+    ensures text { (meanings : Meanings) → AreZones files.now meanings
+        → line.new ≡ line.old ++ holidays_error (meanings name.now).holidays }
+    ensures short { length line.new ≤ length line.old + 250 }
+{
+    if let Err(error) = holidays_named(files, name) {
+        line.push(b": ");
+        push_holidays_error(line, error);
+    }
 }
 
 /// Appends a hint if a word too many looks like a file.
@@ -276,9 +295,11 @@ fn names_word(expected: Expected) -> bool
     match expected {
         Expected::Something | Expected::Field | Expected::CsvField | Expected::CsvSeparator =>
             false,
-        Expected::AppendField | Expected::AppendKeep => false,
+        Expected::ScanField | Expected::ScanCsv => false,
+        Expected::ScanAppend | Expected::ScanSeparator => false,
+        Expected::AppendField | Expected::AppendKeep | Expected::OtherField => false,
         Expected::Header | Expected::Assume | Expected::Local | Expected::ZoneOption => false,
-        Expected::OffsetOrZone | Expected::LocalOnly => false,
+        Expected::OffsetOrZone | Expected::LocalOnly | Expected::WorkdaysOnly => false,
         _ => true,
     }
 }
@@ -298,10 +319,15 @@ fn error_phrase(expected: Expected) -> &'static [u8]
     match expected {
         Expected::Something => b"missing command; try 'caldate --help'".as_slice(),
         Expected::Start => b"unknown command".as_slice(),
+        Expected::ScanField => b"--scan can't be used with --field".as_slice(),
+        Expected::ScanCsv => b"--scan can't be used with --csv".as_slice(),
+        Expected::ScanAppend => b"--scan can't be used with --append".as_slice(),
+        Expected::ScanSeparator => b"--scan can't be used with --separator".as_slice(),
         Expected::Field => b"--separator requires --field".as_slice(),
         Expected::CsvField => b"--csv requires --field".as_slice(),
         Expected::AppendField => b"--append requires --field".as_slice(),
         Expected::AppendKeep => b"--append can't be used with keep".as_slice(),
+        Expected::OtherField => b"another field requires --field".as_slice(),
         Expected::CsvSeparator => b"--csv can't use a quote as the separator".as_slice(),
         Expected::Header => b"a field name requires --header".as_slice(),
         Expected::Invalid => b"unknown mode".as_slice(),
@@ -314,6 +340,8 @@ fn error_phrase(expected: Expected) -> &'static [u8]
         Expected::OffsetOrZone => b"--assume can't be used with --zone".as_slice(),
         Expected::LocalOnly => b"--zone requires --read of forms without an offset only".as_slice(),
         Expected::Policy => b"unknown policy".as_slice(),
+        Expected::Holidays => b"cannot read holidays".as_slice(),
+        Expected::WorkdaysOnly => b"--holidays requires the unit workdays".as_slice(),
         Expected::Local => b"--assume requires --read of a form without an offset".as_slice(),
         Expected::Form => b"unknown form".as_slice(),
         Expected::Number => b"invalid number".as_slice(),
@@ -359,6 +387,7 @@ fn missing_noun(expected: Expected) -> &'static [u8]
         Expected::Target => b"date or moment".as_slice(),
         Expected::Period | Expected::StartPeriod => b"period".as_slice(),
         Expected::Policy => b"policy".as_slice(),
+        Expected::Holidays => b"file".as_slice(),
         Expected::Offset => b"offset".as_slice(),
         Expected::Place => b"offset or zone".as_slice(),
         Expected::Zone => b"zone".as_slice(),

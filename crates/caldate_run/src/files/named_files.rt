@@ -191,7 +191,7 @@ impl<S: Env + Files, R: Read + Drop, E: Sink + Drop> Texts for NamedFiles<'_, S,
 }
 
 /// Opens a file.
-fn open_file<S: Files>(system: &S, name: &[u8]) -> Result<S::File, FileError> {
+pub(crate) fn open_file<S: Files>(system: &S, name: &[u8]) -> Result<S::File, FileError> {
     let Ok(path) = str::from_utf8(name) else {
         return Err(FileError::Failed);
     };

@@ -127,7 +127,7 @@ fn read_named(reading: Reading, text: &[u8]) -> Result<DateOrMoment, NoAnswer>
 }
 
 /// Returns the reason why a text can't be read.
-fn reason_of(error: ParseError) -> NoAnswer
+pub(crate) fn reason_of(error: ParseError) -> NoAnswer
     ensures { result ≡ reason_of error }
 {
     match error {

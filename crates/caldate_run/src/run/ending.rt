@@ -38,7 +38,7 @@ pub fn end<W: Sink>(outcome: Result<(), RunError>, writer: &mut W) -> Ending
 /// never all of it.
 #[tactic(auto, using(crate::proofs::Calls::sent_all))]
 fn report<W: Sink>(outcome: &Result<(), RunError>, writer: &mut W) -> Result<(), RunError>
-    ensures excerpt_of { WritesPage (end_message outcome.now) result
+    ensures message { WritesPage (end_message outcome.now) result
         (W.contents writer.old) (W.contents writer.new) }
     ensures writes { Writes W.write_gives writer.old (write_failure result) writer.new }
 {

@@ -1,27 +1,28 @@
-//! Runs whose field has a name.
-ghost use Rattle.std.specs.Prelude.{◌≡◌, ◌+◌, ◌<◌, ◌≤◌, ◌⊎◌, Bool, [], false, true, length, IfErr, IfOk, OnErr, OnOk};
+//! Runs with names of fields.
+ghost use Rattle.std.specs.Prelude.{◌≡◌, ◌+◌, ◌<◌, ◌≤◌, ◌⊎◌, Bool, [], Err, Ok, Some, false, true, length, IfErr, IfOk, MatchResult, OnErr, OnOk};
 ghost use Rattle.std.specs.Io.KnownBytes.{Consumes};
 ghost use Rattle.caldate_run.specs.Calls.{Reads, Writes, has_read_failure, most_reads, write_failure};
 ghost use Rattle.caldate_run.specs.Ending.{ReportsOutcome};
-ghost use Rattle.caldate_run.specs.Header.{EndsNamed, HasHeader, HasLine, name_of_field, numbered};
+ghost use Rattle.caldate_run.specs.Header.{EndsNamed, HasHeader, HasLine, number_in, numbered, numbers_in, with_number};
 ghost use Rattle.caldate_run.specs.Room.{longest_text};
 ghost use Rattle.caldate_run.specs.Runs.{Gives, IsRunResult, WritesPage};
 ghost use Rattle.caldate_run.specs.RunStates.{NoEnd};
+ghost use Rattle.caldate_run.specs.Targets.{target_name, with_target};
 
 use crate::header::{header_of, number_of, report_header_error};
 use crate::input::Input;
-use crate::request::{Field, Filter};
+use crate::request::{Field, FieldNumbers, Filter, Request, Target};
 use crate::run::ending::{Ending, end};
 use crate::run::lines::first_line;
 use crate::run::run_error::RunError;
 use crate::run::{MAX_KEPT, answer_input};
 use crate::streams::{Sink, Source};
 
-/// The status after a header that gives the field no number.
+/// The status after a header that lacks a name.
 const INVALID_HEADER: u8 = 2;
 
-/// Answers the lines of an input whose header gives the number of the field, and writes why the run
-/// failed. If the header gives no number, writes only its error.
+/// Answers the lines of an input whose header gives the numbers of fields, and writes why the run
+/// failed. If the header lacks a name, writes only its error.
 // Not inlined, so that a run without a name takes no more stack.
 #[inline(never)]
 pub fn run_named<R: Source, W: Sink, E: Sink>(
@@ -49,14 +50,13 @@ pub fn run_named<R: Source, W: Sink, E: Sink>(
         Err(error) => return end(Err(error), errors),
     };
     let header = header_of(input.as_bytes());
-    let name = name_of_field(&filter);
-    match number_of(field, name, header) {
-        Some(number) => {
-            let own = numbered(filter, field, number);
+    match numbers_in(&filter, field, header) {
+        Ok(numbers) => {
+            let own = numbered(filter, field, numbers);
             let outcome = answer_input(&own, &mut input, reads, reader, writer);
             end(outcome, errors)
         }
-        None => Ending {
+        Err(name) => Ending {
             status: INVALID_HEADER,
             reported: report_header_error(field, name, header, errors),
         },
@@ -108,25 +108,101 @@ fn has_header(bytes: &[u8]) -> bool
     }
 }
 
-/// Returns the name of the field, or nothing if it has none.
-fn name_of_field<'a>(filter: &'a Filter<'_>) -> &'a [u8]
-    ensures { result.now ≡ name_of_field filter.now }
+/// Returns the numbers of the field to answer and of the field that has TEXT, each if it has a name,
+/// or the first name that the header lacks.
+fn numbers_in<'a>(
+    filter: &'a Filter<'_>,
+    field: Field,
+    header: &[u8],
+) -> Result<(Option<u16>, Option<u16>), &'a [u8]>
+    ensures { MatchResult result (λ numbers. numbers_in filter.now field header.now ≡ Ok numbers)
+        (λ name. numbers_in filter.now field header.now ≡ Err name.now) }
 {
-    match &filter.name {
-        Some(name) => name.as_bytes(),
-        None => b"",
+    let own = match own_number(filter, field, header) {
+        Ok(own) => own,
+        Err(name) => return Err(name),
+    };
+    match target_number(filter, field, header) {
+        Ok(target) => Ok((own, target)),
+        Err(name) => Err(name),
     }
 }
 
-/// Returns the filter with a number of the field in place of its name.
-fn numbered<'a>(filter: Filter<'a>, field: Field, number: u16) -> Filter<'a>
-    ensures { result ≡ numbered filter.entry field number }
+/// Returns the number of the field to answer if it has a name, or the name if the header lacks it.
+fn own_number<'a>(
+    filter: &'a Filter<'_>,
+    field: Field,
+    header: &[u8],
+) -> Result<Option<u16>, &'a [u8]>
+    ensures { MatchResult result (λ own. number_in field header.now filter.now.name ≡ Ok own)
+        (λ name. number_in field header.now filter.now.name ≡ Err name.now) }
 {
-    let mut own = filter;
-    own.field = Some(Field {
-        first: number,
-        ..field
-    });
-    own.name = None;
-    own
+    match &filter.name {
+        Some(name) => number_in(field, header, name.as_bytes()),
+        None => Ok(None),
+    }
+}
+
+/// Returns the same for the field that has TEXT.
+fn target_number<'a>(
+    filter: &'a Filter<'_>,
+    field: Field,
+    header: &[u8],
+) -> Result<Option<u16>, &'a [u8]>
+    ensures { MatchResult result
+        (λ target. number_in field header.now (target_name filter.now.request) ≡ Ok target)
+        (λ name. number_in field header.now (target_name filter.now.request) ≡ Err name.now) }
+{
+    match filter.request.target_name() {
+        Some(name) => number_in(field, header, name),
+        None => Ok(None),
+    }
+}
+
+/// Returns the number that the header gives the name, or the name if the header lacks it.
+fn number_in<'a>(field: Field, header: &[u8], name: &'a [u8]) -> Result<Option<u16>, &'a [u8]>
+    ensures { MatchResult result (λ number. number_in field header.now (Some name.now) ≡ Ok number)
+        (λ lacking. number_in field header.now (Some name.now) ≡ Err lacking.now) }
+{
+    match number_of(field, name, header) {
+        Some(number) => Ok(Some(number)),
+        None => Err(name),
+    }
+}
+
+/// Returns the filter with these numbers of fields in place of their names.
+fn numbered<'a>(filter: Filter<'a>, field: Field, numbers: (Option<u16>, Option<u16>)) -> Filter<'a>
+    ensures { result ≡ numbered filter.entry field numbers }
+{
+    let (own, target) = numbers;
+    Filter {
+        request: with_number(filter.request, target),
+        field: Some(Field {
+            first: own.unwrap_or(field.first),
+            ..field
+        }),
+        name: None,
+        ..filter
+    }
+}
+
+/// Returns the request with this number of the field that has TEXT, if one is given.
+fn with_number<'a>(request: Request<'a>, number: Option<u16>) -> Request<'a>
+    ensures { result ≡ with_number number request.entry }
+{
+    match number {
+        Some(first) => with_target(request, Target::Fields(FieldNumbers { first, joined: 0 })),
+        None => request,
+    }
+}
+
+/// Returns the request with this target in place of its own, if it has one.
+fn with_target<'a>(request: Request<'a>, target: Target<'a>) -> Request<'a>
+    ensures { result ≡ with_target target.entry request.entry }
+{
+    match request {
+        Request::Until(_, unit) => Request::Until(target, unit),
+        Request::Since(_, unit) => Request::Since(target, unit),
+        other => other,
+    }
 }

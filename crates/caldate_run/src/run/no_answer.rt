@@ -9,6 +9,10 @@ pub enum NoAnswer {
     TooLong,
     /// The line has no such field.
     NoField,
+    /// The line lacks the other field, which has TEXT of `until` or `since`.
+    NoOtherField,
+    /// The other field is not read as a date or moment.
+    UnreadOtherField,
     /// The text was read, and the request has no answer for it.
     None,
     /// The text has a form, and this component is out of its range.

@@ -5,11 +5,11 @@ ghost use Rattle.caldate_run.specs.Replies.{IsAnswerToText};
 ghost use Rattle.caldate_run.specs.Room.{HasRoom, longest_answer, longest_field, longest_reply, longest_text};
 ghost use Rattle.caldate_run.specs.Runs.{AppendsAnswer};
 
-use crate::answer::push_answer;
 use crate::input::fields::{cut_field, is_quoted, within_quotes};
 use crate::output::buffer::Buffer;
 use crate::request::{Field, Filter};
 use crate::run::no_answer::NoAnswer;
+use crate::run::other::push_answer_at;
 
 /// The maximum length of an answer, in bytes.
 pub const LONGEST_ANSWER: usize = 1000;
@@ -35,7 +35,7 @@ pub fn push_in_record(
     let start = buffer.len();
     let quoted = begin_field(buffer, field, text, front, part);
     let answer = buffer.len();
-    match push_answer(buffer, filter, within_quotes(field, part)) {
+    match push_answer_at(buffer, filter, text, within_quotes(field, part)) {
         Ok(true) if filter.request.keeps() => {
             buffer.truncate(start);
             buffer.push(text);

@@ -15,9 +15,11 @@ use crate::output::buffer::Buffer;
 use crate::request::{Field, Filter};
 use crate::run::lines::cut_return;
 use crate::run::no_answer::NoAnswer;
+use crate::run::other::other_field;
 use crate::run::progress::Progress;
 use crate::run::record::{LONGEST_ANSWER, end_field, push_in_record, push_quote, push_separated};
 use crate::run::unanswered::UnansweredLine;
+use crate::scan::push::push_scanned;
 
 /// Appends the reply to a line, whose front may have been dropped because it is too long, and
 /// counts the line. Fails with the reason, and changes nothing, if the run ends at the line.
@@ -255,6 +257,9 @@ fn push_text(
     if number < filter.skip {
         return push_skipped(buffer, filter, number, text);
     }
+    if filter.scans {
+        return push_scanned(buffer, filter, text);
+    }
     match filter.field {
         Some(field) if field.csv || field.appends => push_in_record(buffer, filter, field, text),
         Some(field) => push_field(buffer, filter, field, text),
@@ -327,6 +332,7 @@ fn push_name(buffer: &mut Buffer, field: Field, name: &[u8], text: &[u8]) -> Res
 
 /// Appends the text, which isn't a CSV record, with the answer in place of the field, and returns
 /// whether the line goes out.
+// Other fields are rare, so they are left to the slower way.
 #[inline(always)]
 fn push_field(
     buffer: &mut Buffer,
@@ -342,6 +348,9 @@ fn push_field(
     ensures answered { AppendsAnswer (IsAnswerToText filter.now text.now) result buffer.old buffer.new }
     ensures short { length buffer.new ≤ length buffer.old + longest_text + longest_field }
 {
+    if other_field(filter).is_some() {
+        return push_in_record(buffer, filter, field, text);
+    }
     let Some((front, part, rest)) = cut_field(field, text) else {
         return Err(NoAnswer::NoField);
     };

@@ -1,15 +1,23 @@
 //! The files of zones, as the system has them.
-ghost use Rattle.std.specs.Prelude.{◌≡◌, ◌≤◌, IfOk, IfSome, None, length, true};
-ghost use Rattle.caldate_run.specs.Zones.{file_named, is_zone_name};
+ghost use Rattle.std.specs.IoError.{error_kind};
+ghost use Rattle.std.specs.Io.KnownBytes.{Consumes, IsAtEnd};
+ghost use Rattle.std.specs.Prelude.{◌≡◌, ◌≤◌, ◌<◌, IfErr, IfOk, IfSome, MatchOption, None, Some, SomeIff, Err, length, take, true};
+ghost use Rattle.caldate_run.specs.Meanings.{AreMeanings, Meanings};
+ghost use Rattle.caldate_run.specs.MissingZones.{is_zone_expected, missing_name, name_without_file};
+ghost use Rattle.caldate_run.specs.ReadZoneErrors.{file_error};
+ghost use Rattle.caldate_run.specs.Requests.{arguments_of};
+ghost use Rattle.caldate_run.specs.Zones.{AreZones, file_named, is_zone_name, path_in};
 
 use crate::args::parse_args;
 use crate::args::usage_error::Expected;
 use crate::args::words::word_at;
+use crate::input::read_some;
+use crate::streams::Source;
 use crate::zones::read_zone_error::FileError;
 use crate::zones::{ZoneFile, ZoneFiles, file_named, is_zone_name, name_in};
 use std::env::Env;
 use std::fs::Files;
-use std::io::{Error, ErrorKind, Read};
+use std::io::{Error, ErrorKind};
 use std::{fs, str};
 
 /// The maximum length of a path, in bytes.
@@ -22,9 +30,11 @@ pub const MAX_FILE_BYTES: usize = 8192;
 const FOLDER: &[u8] = b"/usr/share/zoneinfo";
 
 /// Writes the path of the folder of the zones to the front of the buffer, and returns its length.
-/// This is the variable `TZDIR`, if it has 1 to 1024 bytes, or else `/usr/share/zoneinfo`.
+/// This is the variable `TZDIR`, if it has 1 to 1024 bytes, or else `/usr/share/zoneinfo`. No
+/// clause says which, since contracts know nothing about variables.
 pub fn find_folder<E: Env>(env: &E, buffer: &mut [u8; MAX_PATH_BYTES]) -> usize
-    ensures { result ≤ 1024 }
+    ensures some { 0 < result }
+    ensures fits { result ≤ 1024 }
 {
     match env.var("TZDIR", buffer) {
         Ok(length) if length > 0 => length,
@@ -35,14 +45,22 @@ pub fn find_folder<E: Env>(env: &E, buffer: &mut [u8; MAX_PATH_BYTES]) -> usize
     }
 }
 
-/// Reads the file of the first zone in the arguments that needs one, and returns it.
+/// Reads the file of the first zone in the arguments whose file is not given, and returns it.
+/// No clause says what is read, since contracts know nothing about the files of the system.
 pub fn read_missing<'a, F: Files>(
     system: &F,
     arguments: &'a [u8],
     files: &ZoneFiles<'_>,
     buffer: &'a mut [u8; MAX_FILE_BYTES],
-) -> Option<ZoneFile<'a>> {
-    let name = missing_name(arguments, files)?;
+) -> Option<ZoneFile<'a>>
+    ensures name { (meanings : Meanings) → AreMeanings meanings (arguments_of arguments.now)
+        → AreZones files.now meanings → MatchOption result
+        (missing_name meanings files.now (arguments_of arguments.now) ≡ None)
+        (λ file. missing_name meanings files.now (arguments_of arguments.now) ≡ Some file.name.now) }
+{
+    let Some(name) = missing_name(arguments, files) else {
+        return None;
+    };
     match read_file(system, files.folder, name, buffer) {
         Ok(length) => Some(ZoneFile {
             name,
@@ -59,14 +77,36 @@ pub fn read_missing<'a, F: Files>(
 pub fn missing_name<'a>(arguments: &'a [u8], files: &ZoneFiles<'_>) -> Option<&'a [u8]>
     ensures name { IfSome result (λ name. is_zone_name name.now ≡ true) }
     ensures missing { IfSome result (λ name. file_named files.now name.now ≡ None) }
+    ensures value { (meanings : Meanings) → AreMeanings meanings (arguments_of arguments.now)
+        → AreZones files.now meanings → MatchOption result
+        (missing_name meanings files.now (arguments_of arguments.now) ≡ None)
+        (λ name. missing_name meanings files.now (arguments_of arguments.now) ≡ Some name.now) }
 {
     let Err(usage_error) = parse_args(arguments, None, files) else {
         return None;
     };
-    if usage_error.expected != Expected::Zone {
+    if !is_zone_expected(usage_error.expected) {
         return None;
     }
-    let name = name_in(word_at(arguments, usage_error.index)?);
+    let Some(word) = word_at(arguments, usage_error.index) else {
+        return None;
+    };
+    name_without_file(files, name_in(word))
+}
+
+fn is_zone_expected(expected: Expected) -> bool
+    ensures { result ≡ is_zone_expected expected }
+{
+    expected == Expected::Zone
+}
+
+/// Returns the name, if it can be the name of a zone and its file is not given.
+fn name_without_file<'a>(files: &ZoneFiles<'_>, name: &'a [u8]) -> Option<&'a [u8]>
+    ensures name { IfSome result (λ name. is_zone_name name.now ≡ true) }
+    ensures missing { IfSome result (λ name. file_named files.now name.now ≡ None) }
+    ensures value { MatchOption result (name_without_file files.now name.now ≡ None)
+        (λ found. name_without_file files.now name.now ≡ Some found.now) }
+{
     if is_zone_name(name) && file_named(files, name).is_none() {
         Some(name)
     } else {
@@ -82,7 +122,8 @@ fn read_file<F: Files>(
     buffer: &mut [u8; MAX_FILE_BYTES],
 ) -> Result<usize, FileError>
     requires { is_zone_name name.now ≡ true }
-    ensures { IfOk result (λ length. length ≤ 8192) }
+    ensures fits { IfOk result (λ length. length ≤ 8192) }
+    ensures long { 1024 < length (path_in folder.now name.now) → result ≡ Err FileError.TooLong }
 {
     let mut path = [0u8; MAX_PATH_BYTES];
     let Some(end) = join_path(folder, name, &mut path) else {
@@ -100,7 +141,9 @@ fn read_file<F: Files>(
 /// Writes the path of a file to the front of the buffer, and returns its length, or `None` if it
 /// doesn't fit.
 fn join_path(folder: &[u8], name: &[u8], path: &mut [u8; MAX_PATH_BYTES]) -> Option<usize>
-    ensures { IfSome result (λ end. end ≤ 1024) }
+    ensures length { let end = length (path_in folder.now name.now)
+        in SomeIff result (end ≤ 1024) end }
+    ensures path { IfSome result (λ end. take end path.new ≡ path_in folder.now name.now) }
 {
     let between = folder.len();
     if between >= MAX_PATH_BYTES || name.len() >= MAX_PATH_BYTES - between {
@@ -113,26 +156,30 @@ fn join_path(folder: &[u8], name: &[u8], path: &mut [u8; MAX_PATH_BYTES]) -> Opt
     Some(end)
 }
 
-/// Reads to the end of a file, and returns its length.
-fn read_whole<R: Read>(file: &mut R, buffer: &mut [u8; MAX_FILE_BYTES]) -> Result<usize, FileError>
-    ensures { IfOk result (λ length. length ≤ 8192) }
+/// Reads a file to its end into the front of the buffer, and returns its length. Returns
+/// `FileError::TooLong` if the buffer is full.
+pub(crate) fn read_whole<R: Source>(file: &mut R, buffer: &mut [u8]) -> Result<usize, FileError>
+    ensures fits { IfOk result (λ filled. filled ≤ length buffer.old) }
+    ensures whole { IfOk result (λ filled. IsAtEnd (R.remaining file.new)
+        × Consumes (R.remaining file.old) (R.remaining file.new) (take filled buffer.new)) }
+    ensures full { IfErr result (λ error. error ≡ FileError.TooLong
+        → Consumes (R.remaining file.old) (R.remaining file.new) (take (length buffer.old) buffer.new)) }
 {
     let mut filled = 0;
-    for _ in 0..MAX_FILE_BYTES {
-        if filled == MAX_FILE_BYTES {
-            return Err(FileError::TooLong);
-        }
-        match file.read(&mut buffer[filled..]) {
+    while filled < buffer.len() {
+        match read_some(file, &mut buffer[filled..]) {
             Ok(0) => return Ok(filled),
             Ok(count) => filled += count,
-            Err(error) if error.kind() == ErrorKind::Interrupted => {}
             Err(error) => return Err(file_error(&error)),
         }
     }
     Err(FileError::TooLong)
 }
 
-pub(crate) fn file_error(error: &Error) -> FileError {
+/// Returns the reason for an error of the system.
+pub(crate) fn file_error(error: &Error) -> FileError
+    ensures { result ≡ file_error (error_kind error.now) }
+{
     match error.kind() {
         ErrorKind::NotFound => FileError::NotFound,
         ErrorKind::PermissionDenied => FileError::Denied,

@@ -50,6 +50,7 @@ fn check_call<H: Abort + AllocGlobal>(
             contents: Ok(GMT_1),
         }),
         second: None,
+        holidays: None,
     };
     let mut output = Vec::new(rt.alloc());
     let mut words = Vec::new(rt.alloc());

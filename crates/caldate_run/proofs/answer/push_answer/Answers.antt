@@ -9,11 +9,11 @@ returns-in-Err-clause-answered c = (refl, unread c.args.filter.now c.args.text.n
 pub returns-then-compares-clause-answered : goal.returns-then-compares-clause-answered
 returns-then-compares-clause-answered c =
     let none = c.push_answer_to.ensures.none c.if-push_answer_to.false in
-    let out = left_out c.args.filter.now.request c.args.text.now c.in-Ok.found none.1 in
+    let out = left_out c.args.filter.now.workdays c.args.filter.now.request c.args.text.now c.in-Ok.found none.1 in
     (none.0, (c.in-Ok.found, c.in-Ok.ensures.has, out ∙ sym c.compares.ensures ∙ c.if-compares.true))
 
 pub returns-else-compares-clause-answered : goal.returns-else-compares-clause-answered
 returns-else-compares-clause-answered c =
     let none = c.push_answer_to.ensures.none c.if-push_answer_to.false in
-    let out = left_out c.args.filter.now.request c.args.text.now c.in-Ok.found none.1 in
+    let out = left_out c.args.filter.now.workdays c.args.filter.now.request c.args.text.now c.in-Ok.found none.1 in
     (none.0, (c.in-Ok.found, c.in-Ok.ensures.has, (out ∙ sym c.compares.ensures ∙ c.if-compares.false, none.1)))

@@ -10,5 +10,5 @@ pub returns-in-Some-clause-none : goal.returns-in-Some-clause-none
 returns-in-Some-clause-none c = λ no.
     let none = c.push_in_form.ensures.none no in (
       none.0,
-      λ words h. none.1 words (subst (λ m. IsInForm (Moment Rfc3339) m words) (subst (λ (o : ℤ). h.0 ≡ record { local = local_at (instant c.args.moment) o; offset = o }) (sym c.offset_in.ensures) h.1.excerpt_of ∙ sym c.in-Some.ensures.value.1) h.2),
+      λ words h. none.1 words (subst (λ m. IsInForm (Moment Rfc3339) m words) (subst (λ (o : ℤ). h.0 ≡ record { local = local_at (instant c.args.moment) o; offset = o }) (sym c.offset_in.ensures) h.1.value ∙ sym c.in-Some.ensures.value.1) h.2),
     )

@@ -14,10 +14,11 @@ returns-in-Some-clause-none c = λ no.
     let day = c.in-Some.day in
     let none = c.push_in_form.ensures.none no in
     let from = c.date.ensures.value ∙ ap (λ (m : LocalAndOffset). date_at m.local) c.moment_of-moment.ensures in
-    let leads : MovesTo by (day_of found) day = subst (λ n. MovesTo by n day) from c.in-Some.ensures in
+    let workdays = c.args.workdays.now in
+    let leads : MovesTo workdays by (day_of found) day = subst (λ n. MovesTo workdays by n day) from c.in-Some.ensures in
     let there = c.on_day.ensures ∙ ap (λ (m : LocalAndOffset). on_day m day) c.moment_of-moment.ensures in (
       none.0,
       λ words h.
-          let moment = ap (on_day (moment_of found)) (one_lead by (day_of found) h.0 day h.1 leads) ∙ sym there in
+          let moment = ap (on_day (moment_of found)) (one_lead workdays by (day_of found) h.0 day h.1 leads) ∙ sym there in
           none.1 words (subst (λ form. IsInForm form c.on_day.result words) (sym c.form_read-form.ensures) (subst (λ m. IsInForm (form_read found) m words) moment h.2)),
     )

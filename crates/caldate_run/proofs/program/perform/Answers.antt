@@ -1,4 +1,4 @@
-use Rattle.std.proofs.Common.{◌≡◌, ◌∙◌, Ok, ap, refl, sym}
+use Rattle.std.proofs.Common.{◌∙◌, Ok, ap, refl, sym}
 use Rattle.caldate_run.proofs.Named.{named_for, same_named, same_named_once}
 use Rattle.caldate_run.proofs.program.perform.Goals as goal
 

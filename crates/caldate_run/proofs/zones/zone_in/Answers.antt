@@ -1,4 +1,4 @@
-use Rattle.std.proofs.Common.{Ok, Err, subst, sym}
+use Rattle.std.proofs.Common.{Err, subst, sym}
 use Rattle.caldate_run.specs.Zones.{IsZoneIn, IsZoneOf}
 use Rattle.caldate_run.specs.declared.zones.read_zone_error.ReadZoneError.TheVariants.{Zone}
 use Rattle.caldate_run.proofs.zones.zone_in.Goals as goal

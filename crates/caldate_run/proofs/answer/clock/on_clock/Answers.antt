@@ -1,6 +1,5 @@
-use Rattle.std.proofs.Common.{◌≡◌, Some, None, Ok, Err, ap, refl, subst, sym}
+use Rattle.std.proofs.Common.{Some, None, Err, ap, refl, subst}
 use Rattle.std.specs.Prelude.{ℤ}
-use Rattle.cal_datetime.specs.OffsetDateTime.{LocalAndOffset}
 use Rattle.cal_zone.specs.Local.{IsLocalOf}
 use Rattle.caldate_run.specs.Clocks.{IsByPolicy, IsOnClock}
 use Rattle.caldate_run.proofs.OneMoment.{one_moment}

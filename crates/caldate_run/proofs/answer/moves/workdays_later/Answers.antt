@@ -9,7 +9,7 @@ returns c =
     let near = c.nearest.ensures in
     let later = c.checked_add_workdays.ensures in
     let same : to_z w64 (of_z w64 z) ≡ z = to_z-of_z w64 z c.ranges.days in
-    workday_by_nearest z _ c.args.date _ c.checked_add_workdays.result later.value c.workdays.ensures later.in_range
+    workday_by_nearest c.args.workdays.now z _ c.args.date c.checked_add_workdays.result later.value later.in_range
     (record {
       below = λ h. omega (arith, ints, near.below (omega (arith, ints, same, h)));
       within = λ h i. omega (arith, ints, same, near.within (omega (arith, ints, same, h)) (omega (arith, ints, same, i)));

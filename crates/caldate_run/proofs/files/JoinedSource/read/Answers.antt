@@ -1,7 +1,5 @@
-use Rattle.std.proofs.Common.{◌≡◌, ℕ, ◌-◌, ◌<◌, ◌≤◌, Bool, true, false, List, [], ◌∷◌, length, take, Option, refl, sym, ap, ◌∙◌, subst, arith}
-use Rattle.std.specs.Io.KnownBytes.{Consumes, IsAtEnd, Keeps}
-use Rattle.std.proofs.KnownBytes.{Consumes-kept, Keeps-refl, Keeps-trans}
-use Rattle.caldate_run.specs.Files.{joined_rest}
+use Rattle.std.proofs.Common.{◌<◌, length, refl, arith}
+use Rattle.std.proofs.KnownBytes.{Keeps-refl, Keeps-trans}
 use Rattle.caldate_run.specs.Files.Steps.{none, some}
 use Rattle.caldate_run.proofs.Joins.{ends, gives, gives_end, goes_on, keeps, kept_then, none_given}
 use Rattle.caldate_run.proofs.files.JoinedSource.read.Goals as goal

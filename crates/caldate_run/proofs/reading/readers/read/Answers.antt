@@ -1,4 +1,4 @@
-use Rattle.std.proofs.Common.{◌≡◌, ◌∙◌, ◌∷◌, List, Ok, ap, subst, sym}
+use Rattle.std.proofs.Common.{◌∙◌, ◌∷◌, Ok, ap, subst, sym}
 use Rattle.caldate_run.specs.Readers.{IsFoundBy, IsUnread}
 use Rattle.caldate_run.proofs.FirstForms.{none_found, none_unread, ok_every, other_every, other_has, others_of, parts}
 use Rattle.caldate_run.proofs.reading.readers.read.Goals as goal

@@ -1,6 +1,6 @@
 use Rattle.std.proofs.Common.{◌∙◌, ap, Err, Ok, subst, sym}
 use Rattle.caldate_run.specs.Readers.{IsUnreadIn}
-use Rattle.caldate_run.proofs.Lacks.{has_too_few, lacks_only}
+use Rattle.caldate_run.proofs.Lacks.{is_unread, lacks_only}
 use Rattle.caldate_run.proofs.reading.readers.read_named.Goals as goal
 
 pub returns-in-Ok-clause-every_error : goal.returns-in-Ok-clause-every_error
@@ -14,4 +14,4 @@ returns-in-Err-clause-every_error c = λ any h.
 pub returns-in-Err-clause-error : goal.returns-in-Err-clause-error
 returns-in-Err-clause-error c =
     subst (IsUnreadIn c.args.reading c.args.text.now) (sym c.reason_of.ensures)
-    (has_too_few c.args.reading c.args.text.now c.in-Err.error c.in-Err.ensures.form c.in-Err.ensures.component c.in-Err.ensures.position)
+    (is_unread c.args.reading c.args.text.now c.in-Err.error c.in-Err.ensures.form c.in-Err.ensures.component c.in-Err.ensures.position)

@@ -1,6 +1,6 @@
 use Rattle.std.proofs.Common.{◌≡◌, ◌∙◌, ◌++◌, ◌∷◌, [], true, false, cond, ap, append_assoc, sym, take, drop, take-append-drop}
 use Rattle.std.specs.Prelude.{◌&&◌}
-use Rattle.caldate_run.specs.Fields.{end_of_field, needs_quotes}
+use Rattle.caldate_run.specs.Fields.{needs_quotes}
 use Rattle.caldate_run.proofs.NewFields.{escaped_end, plain_end}
 use Rattle.caldate_run.proofs.run.record.end_field.Goals as goal
 use Rattle.caldate_run.proofs.run.record.end_field.Goals.{then-field+then-needs_quotes, else-field, else-field-via-then-field+else-needs_quotes, else-field-via-else-field}

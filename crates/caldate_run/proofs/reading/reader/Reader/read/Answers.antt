@@ -1,4 +1,4 @@
-use Rattle.std.proofs.Common.{◌≡◌, ◌∙◌, ap, refl, subst, sym, Some, Ok}
+use Rattle.std.proofs.Common.{◌∙◌, ap, refl, subst, sym, Some}
 use Rattle.cal_format.proofs.Outcomes.{same-result}
 use Rattle.cal_text.specs.declared.any.DateForm.TheVariants.{Calendar}
 use Rattle.cal_text.specs.declared.any.DateOrMoment.TheVariants as dated

@@ -1,0 +1,97 @@
+-- The answer to a line with --scan: its texts in a form that the run reads are answered in place.
+use Rattle.std.specs.Prelude.{◌≡◌, ◌⊎◌, ℕ, ◌+◌, ◌-◌, ◌==◌, ◌||◌, ◌<◌, ◌≤◌, nat_lt, Bool, true, false, MatchBool, List, [], ◌++◌, length, take, drop, slice_index, Some, None, Ok, Err, if◌then◌else◌}
+use Rattle.cal_text.specs.declared.any.DateOrMoment.{DateOrMoment}
+use Rattle.caldate_run.specs.Answers.{Answer, IsAnswer, IsNotRead, IsReadAs, keeps}
+use Rattle.caldate_run.specs.Offsets.{is_digit}
+use Rattle.caldate_run.specs.Room.{longest_text}
+use Rattle.caldate_run.specs.Zones.{is_letter}
+use Rattle.caldate_run.specs.declared.on_invalid.OnInvalid.TheVariants as invalid
+use Rattle.caldate_run.specs.declared.request.Filter.{Filter}
+use Rattle.caldate_run.specs.declared.run.no_answer.NoAnswer.{NoAnswer}
+use Rattle.caldate_run.specs.declared.run.no_answer.NoAnswer.TheVariants as why
+
+-- ---- the texts of a line
+-- Bytes without an answer for this reason have one of the forms.
+abbrev pub has_form : NoAnswer → Bool
+has_form why.NoForm = false
+has_form (why.Unreadable at) = false
+has_form other = true
+
+-- The bytes have one of the forms, perhaps with a component out of range.
+abbrev pub IsText : Filter → List ℕ → Type 0
+IsText filter bytes =
+    (0 < length bytes) × (((found : DateOrMoment) × IsReadAs filter bytes found) ⊎ ((any : NoAnswer) × IsNotRead filter bytes any × (has_form any ≡ true)))
+
+-- The n bytes from place k of the line on.
+abbrev pub part_at : List ℕ → ℕ → ℕ → List ℕ
+part_at line k n = take n (drop k line)
+
+-- A byte of a word. Before the line and after it is none.
+abbrev pub is_of_word : ℕ → Bool
+is_of_word byte = is_letter byte || is_digit byte
+
+abbrev pub byte_before : List ℕ → ℕ → ℕ
+byte_before line k = if k == 0 then 0 else slice_index line (k - 1)
+
+-- These n bytes are a text, and no letter or digit is beside them.
+pub record IsTextAt (filter : Filter) (line : List ℕ) (k n : ℕ) : Type 0 where
+  pub within : k + n ≤ length line
+  pub is : IsText filter (part_at line k n)
+  pub before : is_of_word (byte_before line k) ≡ false
+  pub after : is_of_word (slice_index line (k + n)) ≡ false
+
+-- No text begins from place i to before place k.
+abbrev pub NoneFrom : Filter → List ℕ → ℕ → ℕ → Type 0
+NoneFrom filter line i k = (j n : ℕ) → i ≤ j → j < k → ¬ IsTextAt filter line j n
+
+abbrev pub HasNoText : Filter → List ℕ → ℕ → Type 0
+HasNoText filter line i = NoneFrom filter line i (length line)
+
+-- The first text from place i on, and the longest that begins there.
+pub record IsFirstText (filter : Filter) (line : List ℕ) (i k n : ℕ) : Type 0 where
+  pub from : i ≤ k
+  pub is : IsTextAt filter line k n
+  pub leftmost : NoneFrom filter line i k
+  pub longest : (m : ℕ) → n < m → ¬ IsTextAt filter line k m
+
+-- ---- the answer to the line
+-- The answer has words, which replace its text.
+abbrev pub has_words : Answer → Bool
+has_words (Ok (Some words)) = true
+has_words other = false
+
+-- A line that becomes longer than a line may be has no answer.
+abbrev pub fitted : List ℕ → Answer
+fitted out = if nat_lt longest_text (length out) then Err why.TooLong else Ok (Some out)
+
+-- The bytes that go out so far, with those up to a text and with its answer.
+abbrev pub with_words : List ℕ → ℕ → ℕ → List ℕ → List ℕ → List ℕ
+with_words line i k out words = out ++ part_at line i (k - i) ++ words
+
+-- The answer to the line if `out` goes out for the bytes before place i.
+pub data IsReplaced (filter : Filter) (line : List ℕ) (answer : Answer) : List ℕ → ℕ → Type 0 where
+  no_more : (out : List ℕ) (i : ℕ) → HasNoText filter line i → answer ≡ fitted (out ++ drop i line) → IsReplaced filter line answer out i
+  answered : (out words : List ℕ) (i k n : ℕ) → IsFirstText filter line i k n → IsAnswer filter (part_at line k n) (Ok (Some words))
+      → length (with_words line i k out words) ≤ longest_text → IsReplaced filter line answer (with_words line i k out words) (k + n)
+      → IsReplaced filter line answer out i
+  too_long : (out words : List ℕ) (i k n : ℕ) → IsFirstText filter line i k n → IsAnswer filter (part_at line k n) (Ok (Some words))
+      → longest_text < length (with_words line i k out words) → answer ≡ Err why.TooLong → IsReplaced filter line answer out i
+  unanswered : (out : List ℕ) (i k n : ℕ) → IsFirstText filter line i k n → IsAnswer filter (part_at line k n) answer → has_words answer ≡ false
+      → IsReplaced filter line answer out i
+
+-- `keep` selects the line by its first text, and leaves out a line without one.
+abbrev pub selected : List ℕ → Answer → Answer
+selected line (Ok (Some words)) = Ok (Some line)
+selected line other = other
+
+abbrev pub IsSelected : Filter → List ℕ → Answer → Type 0
+IsSelected filter line answer =
+    (HasNoText filter line 0 × (answer ≡ Ok None))
+    ⊎ ((k n : ℕ) × (own : Answer) × IsFirstText filter line 0 k n × IsAnswer filter (part_at line k n) own × (answer ≡ selected line own))
+
+-- The answer to the line. A run that ends at a line without an answer ends at one without a text.
+abbrev pub IsScanned : Filter → List ℕ → Answer → Type 0
+IsScanned filter line answer =
+    ((filter.on_invalid ≡ invalid.Stop) × HasNoText filter line 0 × (answer ≡ Err why.NoForm))
+    ⊎ ((filter.on_invalid ≡ invalid.Stop → ¬ HasNoText filter line 0)
+    × MatchBool (keeps filter.request) (IsSelected filter line answer) (IsReplaced filter line answer [] 0))

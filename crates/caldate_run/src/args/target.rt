@@ -1,0 +1,80 @@
+//! TEXT of `until` and `since`, and the unit after it.
+ghost use Rattle.std.specs.Prelude.{◌≡◌, ◌+◌, ◌<◌, ◌^◌, false, slice_get};
+ghost use Rattle.std.specs.Option.{option_map_or};
+ghost use Rattle.caldate_run.specs.Meanings.{AreMeanings, Meanings};
+ghost use Rattle.caldate_run.specs.Requests.{arguments_of, in_unit_at, names_field, other_of, target_at, word_as};
+
+use crate::args::options::{field_numbers_of, is_name};
+use crate::args::spelling::unit_of;
+use crate::args::usage_error::{Expected, UsageError, usage_error_at};
+use crate::args::words::{ends_at, found_at, keyword_at, only_at, word_at};
+use crate::field_name::FieldName;
+use crate::request::{Target, TimeUnit};
+use cal_datetime::OffsetDateTime;
+
+/// Parses `TEXT` or `TEXT in UNIT`. TEXT may be `field N`, `field N-M` or `field NAME`.
+pub fn target_at<'a>(
+    words: &'a [u8],
+    at: usize,
+    now: Option<OffsetDateTime>,
+) -> Result<(Target<'a>, Option<TimeUnit>), UsageError>
+    requires { at + 4 < 2 ^ 64 }
+    ensures { (meanings : Meanings) → AreMeanings meanings (arguments_of words.now)
+        → result ≡ target_at now meanings (arguments_of words.now) at }
+{
+    if names_field(words, at) {
+        let other = other_at(words, at + 1)?;
+        return Ok((other, in_unit_at(words, at + 2)?));
+    }
+    let target = found_at(words, at, Expected::Target, now)?;
+    Ok((Target::Text(target), in_unit_at(words, at + 1)?))
+}
+
+/// Returns whether the word is `field`.
+fn names_field(words: &[u8], at: usize) -> bool
+    ensures { result ≡ option_map_or names_field (slice_get (arguments_of words.now) at) false }
+{
+    match word_at(words, at) {
+        Some(word) => word == b"field".as_slice(),
+        None => false,
+    }
+}
+
+/// Parses `N`, `N-M` or `NAME`.
+fn other_at<'a>(words: &'a [u8], at: usize) -> Result<Target<'a>, UsageError>
+    ensures { result ≡ word_as (arguments_of words.now) at other_of Expected.FieldNumber }
+{
+    let usage_error = usage_error_at(at, Expected::FieldNumber);
+    let Some(word) = word_at(words, at) else {
+        return Err(usage_error);
+    };
+    match other_of(word) {
+        Some(other) => Ok(other),
+        None => Err(usage_error),
+    }
+}
+
+fn other_of<'a>(word: &'a [u8]) -> Option<Target<'a>>
+    ensures { result ≡ other_of word.now }
+{
+    if is_name(word) {
+        return Some(Target::Name(FieldName::new(word)));
+    }
+    match field_numbers_of(word) {
+        Some(numbers) => Some(Target::Fields(numbers)),
+        None => None,
+    }
+}
+
+/// Parses `in UNIT`, or returns `None` if the words end here.
+fn in_unit_at(words: &[u8], at: usize) -> Result<Option<TimeUnit>, UsageError>
+    requires { at + 2 < 2 ^ 64 }
+    ensures { result ≡ in_unit_at (arguments_of words.now) at }
+{
+    if ends_at(words, at) {
+        return Ok(None);
+    }
+    keyword_at(words, at, b"in", Expected::In)?;
+    let unit = only_at(words, at + 1, unit_of, Expected::UnitOfTime)?;
+    Ok(Some(unit))
+}

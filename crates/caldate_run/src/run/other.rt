@@ -1,0 +1,123 @@
+//! Answers by TEXT in other fields of the line.
+ghost use Rattle.std.specs.Prelude.{◌≡◌, ◌+◌, ◌≤◌, List, Result, Some, ℕ, false, is_some, length, true};
+ghost use Rattle.cal_text.specs.declared.any.DateOrMoment.{DateOrMoment};
+ghost use Rattle.caldate_run.specs.Answers.{IsAnswerTo, keeps};
+ghost use Rattle.caldate_run.specs.Room.{HasRoom, longest_answer};
+ghost use Rattle.caldate_run.specs.Runs.{AppendsAnswer, AppendsSome};
+ghost use Rattle.caldate_run.specs.Targets.{IsAnswerAt, IsOther, IsReadOther, other_field, target_fields, with_target};
+ghost use Rattle.caldate_run.specs.declared.request.Target.TheVariants.{Text};
+ghost use Rattle.caldate_run.specs.declared.run.no_answer.NoAnswer.{NoAnswer};
+
+use crate::answer::{push_answer, push_between, read_with};
+use crate::input::fields::selected_text;
+use crate::output::buffer::Buffer;
+use crate::request::{Field, Filter, Request};
+use crate::run::no_answer::NoAnswer;
+use cal_schedule::Workdays;
+use cal_text::DateOrMoment;
+
+/// Returns the other fields that have TEXT, if they do. Field 1 in `until field 1` has the
+/// separator of the field to answer.
+pub fn other_field(filter: &Filter<'_>) -> Option<Field>
+    ensures { result ≡ other_field filter.now }
+{
+    let field = filter.field?;
+    let numbers = filter.request.target_fields()?;
+    Some(Field {
+        first: numbers.first,
+        joined: numbers.joined,
+        ..field
+    })
+}
+
+/// Parses the other fields of a line like the field to answer.
+pub fn read_other(filter: &Filter<'_>, other: Field, text: &[u8]) -> Result<DateOrMoment, NoAnswer>
+    ensures value { IsOther filter.now other text.now result }
+    ensures one { (found : Result DateOrMoment NoAnswer) → IsOther filter.now other text.now found
+        → result ≡ found }
+{
+    match selected_text(Some(other), text) {
+        Some(asked) => read_asked(filter, asked),
+        None => Err(NoAnswer::NoOtherField),
+    }
+}
+
+/// Parses the text of the other fields.
+fn read_asked(filter: &Filter<'_>, asked: &[u8]) -> Result<DateOrMoment, NoAnswer>
+    ensures value { IsReadOther filter.now result asked.now }
+    ensures one { (found : Result DateOrMoment NoAnswer) → IsReadOther filter.now found asked.now
+        → result ≡ found }
+{
+    match read_with(filter, asked) {
+        Ok(found) => Ok(found),
+        Err(_) => Err(NoAnswer::UnreadOtherField),
+    }
+}
+
+/// Appends the answer to a part of the text of a line, and returns whether the line goes out.
+#[inline(always)]
+pub fn push_answer_at(
+    buffer: &mut Buffer,
+    filter: &Filter<'_>,
+    text: &[u8],
+    asked: &[u8],
+) -> Result<bool, NoAnswer>
+    requires { HasRoom (length asked.now + longest_answer) buffer.old }
+    ensures answered { AppendsAnswer (IsAnswerAt filter.now text.now asked.now) result buffer.old buffer.new }
+    ensures short { length buffer.new ≤ length buffer.old + length asked.now + longest_answer }
+    ensures few { keeps filter.now.request ≡ false
+        → length buffer.new ≤ length buffer.old + longest_answer }
+{
+    match other_field(filter) {
+        Some(other) => push_beside(buffer, filter, other, text, asked),
+        None => push_answer(buffer, filter, asked),
+    }
+}
+
+/// Appends the answer by TEXT in these other fields.
+#[inline(never)]
+fn push_beside(
+    buffer: &mut Buffer,
+    filter: &Filter<'_>,
+    other: Field,
+    text: &[u8],
+    asked: &[u8],
+) -> Result<bool, NoAnswer>
+    requires room { HasRoom longest_answer buffer.old }
+    requires other { other_field filter.now ≡ Some other }
+    ensures answered { AppendsAnswer (IsAnswerAt filter.now text.now asked.now) result buffer.old buffer.new }
+    ensures short { length buffer.new ≤ length buffer.old + longest_answer }
+{
+    let target = match read_other(filter, other, text) {
+        Ok(target) => target,
+        Err(why) => return Err(why),
+    };
+    match read_with(filter, asked) {
+        Ok(found) => {
+            push_count(buffer, &filter.workdays, &filter.request, &found, &target);
+            Ok(true)
+        }
+        Err(why) => Err(why),
+    }
+}
+
+/// Appends the count between a date or moment and its TEXT.
+fn push_count(
+    buffer: &mut Buffer,
+    workdays: &Workdays<'_>,
+    request: &Request<'_>,
+    found: &DateOrMoment,
+    target: &DateOrMoment,
+)
+    requires room { HasRoom longest_answer buffer.old }
+    requires other { is_some (target_fields request.now) ≡ true }
+    ensures text { (asked : List ℕ) → AppendsSome
+        (IsAnswerTo workdays.now (with_target (Text target.now) request.now) asked found.now) buffer.old buffer.new }
+    ensures short { length buffer.new ≤ length buffer.old + longest_answer }
+{
+    match request {
+        Request::Until(_, unit) => push_between(buffer, workdays, *unit, found, target),
+        Request::Since(_, unit) => push_between(buffer, workdays, *unit, target, found),
+        _ => unreachable!(),
+    }
+}
