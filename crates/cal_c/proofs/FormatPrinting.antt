@@ -1,5 +1,5 @@
 -- A text of a format that is printed to a buffer of its own, and then written.
-use Rattle.std.proofs.Common.{◌≡◌, ℕ, ◌<◌, ◌≤◌, List, length, take, refl, sym, subst, ◌↔◌, arith}
+use Rattle.std.proofs.Common.{◌≡◌, ℕ, ◌<◌, ◌≤◌, List, length, take, refl, subst, ◌↔◌, arith}
 use Rattle.std.specs.Prelude.{Option, Some, None, IsSome, IfSome, Bool, IsTrue}
 use Rattle.cal_format.specs.declared.item.Item.{Item}
 use Rattle.cal_c.specs.FormatTexts.{IsPrinted, IsUnprinted, IsWritten, length_error}

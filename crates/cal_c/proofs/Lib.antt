@@ -18,6 +18,7 @@ pub mod Walks
 pub mod OneAnswer
 pub mod ZoneResults
 pub mod ZoneTexts
+pub mod OnePass
 pub mod OneZone
 pub mod FormatItems
 pub mod FormatPrinting

@@ -18,3 +18,4 @@ pub mod Formats
 pub mod FormatTexts
 pub mod FormatParsing
 pub mod FormatColumns
+pub mod OnePass

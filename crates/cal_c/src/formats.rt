@@ -4,6 +4,7 @@ pub mod format_parts;
 mod items;
 mod making;
 mod names;
+pub mod one_pass;
 mod parse_results;
 pub mod parsing;
 pub mod printing;

@@ -1,21 +1,97 @@
--- The marks of the components that items show.
-use Rattle.std.proofs.Common.{◌≡◌, ◌-◌, ◌≤◌, ◌∙◌, List, [], ◌∷◌, length, refl, arith}
-use Rattle.std.proofs.lemmas.List.{take_all}
-use Rattle.std.specs.Prelude.{Bool, true, false, ◌||◌, if◌then◌else◌}
+-- The components that items show, with one item more.
+use Rattle.std.proofs.Common.{◌≡◌, ℕ, ◌≤◌, List, [], ◌∷◌, ◌++◌, refl, sym, ap, ◌∙◌, arith}
+use Rattle.std.specs.Prelude.{Bool, true, false, ◌||◌, ◌&&◌, ◌==◌, if◌then◌else◌, IsTrue, Option, Some, None, min, max, nat_le}
+use Rattle.std.proofs.lemmas.Bool.Decides.{nat_tests}
 use Rattle.cal_format.specs.declared.item.Component.{Component}
 use Rattle.cal_format.specs.declared.item.Item.{Item}
-use Rattle.cal_format.specs.Reading.{any_shows, shows}
-use Rattle.cal_format.proofs.Apart.{first_of, others_of}
+use Rattle.cal_format.specs.declared.item.Item.TheVariants as item
+use Rattle.cal_format.specs.declared.shown.Shown.{Shown}
+use Rattle.cal_format.specs.Reading.{index, is_component, item_component, shows, any_shows, mark_of, ends_before, are_apart, lies_within, shows_within, show_within}
+use Rattle.cal_format.specs.Shown.{AreShown, AreFixed, low_of, component_end, end_of, lowest, highest}
 
--- A mark is set by the first item or by another, or was set before.
-either_mark : (a b m : Bool) → (if b then true else (if a then true else m)) ≡ (if a || b then true else m)
-either_mark true true m = refl
-either_mark true false m = refl
-either_mark false b m = refl
+-- ---- one item more
+or-false : (a : Bool) → (a || false) ≡ a
+or-false true = refl
+or-false false = refl
 
-pub marked : (items : List Item) (c : Component) (old mid new : Bool) → 1 ≤ length items → mid ≡ (if shows c (first_of items) then true else old)
-    → new ≡ (if any_shows c (others_of items) then true else mid) → new ≡ (if any_shows c items then true else old)
-marked [] c old mid new some own others = absurd (omega arith)
-marked (i ∷ items) c old mid new some own others =
-    let same = take_all (length (i ∷ items) - 1) items (omega arith) in
-    others ∙ (λ j. if any_shows c (same j) then true else own j) ∙ either_mark (shows c i) (any_shows c items) old
+or-assoc : (a b c : Bool) → (a || (b || c)) ≡ ((a || b) || c)
+or-assoc true b c = refl
+or-assoc false b c = refl
+
+any-more : (c : Component) (items : List Item) (i : Item) → any_shows c (items ++ i ∷ []) ≡ (any_shows c items || shows c i)
+any-more c [] i = or-false (shows c i)
+any-more c (x ∷ items) i = ap (λ b. shows c x || b) (any-more c items i) ∙ or-assoc (shows c x) (any_shows c items) (shows c i)
+
+lowest-more : (items : List Item) (i : Item) → lowest (items ++ i ∷ []) ≡ min (lowest items) (low_of (item_component i))
+lowest-more [] i = omega arith
+lowest-more (x ∷ items) i = omega (arith, lowest-more items i)
+
+highest-more : (items : List Item) (i : Item) → highest (items ++ i ∷ []) ≡ max (highest items) (end_of i)
+highest-more [] i = omega arith
+highest-more (x ∷ items) i = omega (arith, highest-more items i)
+
+pub neither-shown : (a b : Bool) → (a || b) ≡ false → (a ≡ false) × (b ≡ false)
+neither-shown true b e = cc
+neither-shown false b e = (refl, e)
+
+fixed-more : (items : List Item) (i : Item) → AreFixed items → ((others : List Item) → IsTrue (ends_before i others)) → AreFixed (items ++ i ∷ [])
+fixed-more [] i fixed last = (last, tt)
+fixed-more (x ∷ items) i fixed last = (fixed.0, fixed-more items i fixed.1 last)
+
+pub fixed-apart : (items : List Item) → AreFixed items → IsTrue (are_apart items)
+fixed-apart [] fixed = refl
+fixed-apart (i ∷ items) fixed = both-true (ends_before i items) (are_apart items) (fixed.0 items) (fixed-apart items fixed.1)
+  where
+    both-true : (a b : Bool) → IsTrue a → IsTrue b → IsTrue (a && b)
+    both-true true b h k = k
+    both-true false b h k = cc
+
+-- The marks of items with one item more, without a component or with this one.
+or-mark : (a m : Bool) → (if a then true else m) ≡ (m || a)
+or-mark true true = refl
+or-mark true false = refl
+or-mark false true = refl
+or-mark false false = refl
+
+pub added : (items : List Item) (i : Item) (old new : Shown) → AreShown items old → ((c : Component) → mark_of c new.marks ≡ (mark_of c old.marks || shows c i))
+    → (IsTrue new.is_fixed → IsTrue old.is_fixed × ((others : List Item) → IsTrue (ends_before i others)))
+    → new.low ≡ min old.low (low_of (item_component i)) → new.end ≡ max old.end (end_of i) → AreShown (items ++ i ∷ []) new
+added items i old new are marks fixed low end = record {
+  marks = λ c. marks c ∙ ap (λ b. b || shows c i) (are.marks c) ∙ sym (any-more c items i);
+  low = omega (arith, low, are.low, lowest-more items i);
+  end = omega (arith, end, are.end, highest-more items i);
+  fixed = λ h. fixed-more items i (are.fixed (fixed h).0) (fixed h).1;
+}
+
+pub marked-none : (c : Component) (i : Item) (m : Bool) → item_component i ≡ None → m ≡ (m || shows c i)
+marked-none c i m none = sym (ap (λ o. m || is_component c o) none ∙ or-false m)
+
+pub marked-some : (c d : Component) (i : Item) (m : Bool) → item_component i ≡ Some d → (if index d == index c then true else m) ≡ (m || shows c i)
+marked-some c d i m some = or-mark (index d == index c) m ∙ ap (λ o. m || is_component c o) (sym some)
+
+pub both-fixed : (a b : Bool) → IsTrue (a && b) → IsTrue a × IsTrue b
+both-fixed true b h = (refl, h)
+both-fixed false b h = cc
+
+-- ---- a range
+between : (low high a b c d : ℕ) → ((nat_le low a && nat_le b high) && (nat_le low c && nat_le d high)) ≡ (nat_le low (min a c) && nat_le (max b d) high)
+between low high a b c d = grind (arith, nat_tests)
+
+component-within : (low high : ℕ) (o : Option Component) → low ≤ 27 → lies_within low high o ≡ (nat_le low (low_of o) && nat_le (component_end o) high)
+component-within low high None l = grind (arith, nat_tests)
+component-within low high (Some c) l = grind (arith, nat_tests)
+
+item-within : (low high : ℕ) (i : Item) → low ≤ 27 → high ≤ 27 → shows_within low high i ≡ (nat_le low (low_of (item_component i)) && nat_le (end_of i) high)
+item-within low high item.Abbreviation l h = grind (arith, nat_tests)
+item-within low high (item.Literal b) l h = component-within low high None l
+item-within low high (item.Number c p) l h = component-within low high (Some c) l
+item-within low high (item.Name k) l h = component-within low high (item_component (item.Name k)) l
+item-within low high item.Fraction l h = component-within low high (item_component item.Fraction) l
+item-within low high item.Decimals l h = component-within low high (item_component item.Decimals) l
+item-within low high item.OffsetSign l h = component-within low high (item_component item.OffsetSign) l
+item-within low high item.TimestampSign l h = component-within low high (item_component item.TimestampSign) l
+
+pub all-within : (low high : ℕ) (items : List Item) → low ≤ 27 → high ≤ 27 → show_within low high items ≡ (nat_le low (lowest items) && nat_le (highest items) high)
+all-within low high [] l h = grind (arith, nat_tests)
+all-within low high (i ∷ items) l h =
+    (λ j. item-within low high i l h j && all-within low high items l h j) ∙ between low high (low_of (item_component i)) (end_of i) (lowest items) (highest items)

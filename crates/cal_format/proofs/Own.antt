@@ -71,7 +71,7 @@ own-shown : (o : Option Component) (c : Component) (v : Moment) → IsTrue (is_c
 own-shown None c v h = cc
 own-shown (Some d) c v h = ap (λ k. number k v) (index-one d c (same_test (index d) (index c) h))
 
-first-shown : (a b : Bool) (x m n : ℕ) → (IsTrue a → x ≡ n) → m ≡ (if b then n else 0) → (if a then x else m) ≡ (if a || b then n else 0)
+pub first-shown : (a b : Bool) (x m n : ℕ) → (IsTrue a → x ≡ n) → m ≡ (if b then n else 0) → (if a then x else m) ≡ (if a || b then n else 0)
 first-shown true b x m n f e = f refl
 first-shown false b x m n f e = e
 
@@ -119,7 +119,7 @@ no-difference : (c : Component) (a b : Bool) → IsTrue a → IsTrue b → diffe
 no-difference c true b h k = ap (λ x. differing c x) k
 no-difference c false b h k = cc
 
-agrees : (c : Component) (v : Moment) → sign c v ≡ [] → contradiction (Some c) (number c v) v ≡ None
+pub agrees : (c : Component) (v : Moment) → sign c v ≡ [] → contradiction (Some c) (number c v) v ≡ None
 agrees c v plain = no-difference c (number c v == number c v) (is_empty (sign c v)) (eq-eqb (number c v) (number c v) refl) (ap is_empty plain)
 
 item-agrees : (i : Item) (v : Moment) → IsHeld v i → item_contradiction i (item_number v i) v ≡ None

@@ -1,17 +1,61 @@
 -- Numbers and names of a text, read item by item.
-use Rattle.std.specs.Prelude.{◌≡◌, ℕ, ◌<◌, ◌^◌, List, [], ◌∷◌, get_or, if◌then◌else◌, ◌==◌, ℤ, pos, neg_ℤ}
+use Rattle.std.specs.Prelude.{◌≡◌, ℕ, ◌<◌, ◌≤◌, ◌^◌, ◌++◌, ◌||◌, IsTrue, List, [], ◌∷◌, Option, Some, None, false, get_or, if◌then◌else◌, ◌==◌, ℤ, pos, neg_ℤ}
+use Rattle.cal_time.specs.Date.{IsDate, HasCalendarDate}
 use Rattle.cal_format.specs.declared.fields.Fields.{Fields}
 use Rattle.cal_format.specs.declared.item.Item.{Item}
 use Rattle.cal_format.specs.declared.item.Item.TheVariants as item
 use Rattle.cal_format.specs.declared.item.Component.{Component}
+use Rattle.cal_format.specs.declared.item.Component.TheVariants.{Year, Month, Day}
 use Rattle.cal_format.specs.declared.moment.Moment.{Moment}
-use Rattle.cal_format.specs.Moment.{number, width_of}
-use Rattle.cal_format.specs.Text.{sign}
-use Rattle.cal_format.specs.Reading.{index}
+use Rattle.cal_format.specs.Form.{numbered_item, numbered_text, IsNumber, AreNumbers}
+use Rattle.cal_format.specs.Moment.{number, width_of, moment_of_date}
+use Rattle.cal_format.specs.Ranges.{item_error, first_range_error}
+use Rattle.cal_format.specs.Text.{sign, text_of}
+use Rattle.cal_format.specs.Reading.{DeterminesDate, index, mark_of, item_component, shows, any_shows}
+use Rattle.cal_format.specs.Shown.{AreShown, is_calendar}
 
 -- The number of a component in the fields of a text.
 abbrev pub number_at : Component → Fields → ℕ
 number_at c f = get_or f.numbers (index c) 0
+
+-- The number of each item in the fields, which is 0 for an item that shows no component.
+abbrev pub field_of : Fields → Option Component → ℕ
+field_of f None = 0
+field_of f (Some c) = number_at c f
+
+abbrev pub fields_of : List Item → Fields → List ℕ
+fields_of [] f = []
+fields_of (i ∷ items) f = field_of f (item_component i) ∷ fields_of items f
+
+-- A text begins with an item with a number in its range, and then comes the rest. The number is set
+-- for the component of the item, which had no mark.
+pub record HasField (i : Item) (old new : Fields) (text rest : List ℕ) : Type 0 where
+  pub number : ℕ
+  pub fit : IsNumber i number
+  pub in_range : item_error i number ≡ None
+  pub text_is : text ≡ numbered_item i number ++ rest
+  pub set : (c : Component) → number_at c new ≡ (if shows c i then number else number_at c old)
+  pub fresh : (c : Component) → IsTrue (shows c i) → mark_of c old.shown.marks ≡ false
+  pub marks : (c : Component) → mark_of c new.shown.marks ≡ (mark_of c old.shown.marks || shows c i)
+  pub shown : (before : List Item) → AreShown before old.shown → AreShown (before ++ i ∷ []) new.shown
+
+-- The same of items. The numbers of marked and of other components are kept.
+pub record HasFields (items : List Item) (old new : Fields) (text rest : List ℕ) : Type 0 where
+  pub fit : AreNumbers items (fields_of items new)
+  pub in_range : first_range_error items (fields_of items new) ≡ None
+  pub text_is : text ≡ numbered_text items (fields_of items new) ++ rest
+  pub kept : (c : Component) → any_shows c items ≡ false → number_at c new ≡ number_at c old
+  pub marked : (c : Component) → IsTrue (mark_of c old.shown.marks) → number_at c new ≡ number_at c old
+  pub shown : (before : List Item) → AreShown before old.shown → AreShown (before ++ items) new.shown
+
+-- The fields have the numbers of a year, a month and a day, and of nothing else. This is their date.
+pub record IsDateOfFields (f : Fields) (n : ℕ) : Type 0 where
+  pub date : IsDate n
+  pub fixed : IsTrue f.shown.is_fixed
+  pub calendar : IsTrue (is_calendar f.shown)
+  pub year : number_at Year f ≤ 9_999
+  pub has : HasCalendarDate (pos (number_at Year f)) (number_at Month f) (number_at Day f) n
+  pub every : (w : ℕ) → IsDate w → HasCalendarDate (pos (number_at Year f)) (number_at Month f) (number_at Day f) w → w ≡ n
 
 -- The seconds with this sign, which is 1 for minus.
 abbrev pub signed_seconds : ℕ → ℕ → ℤ
@@ -25,3 +69,11 @@ IsHeld v _ = Unit {0}
 abbrev pub AreHeld : Moment → List Item → Type 0
 AreHeld v [] = Unit {0}
 AreHeld v (i ∷ items) = IsHeld v i × AreHeld v items
+
+-- The items determine a date, and the text is the text of this date and of no other.
+pub record IsOneDate (items : List Item) (n : ℕ) (text : List ℕ) : Type 0 where
+  pub determines : DeterminesDate items
+  pub date : IsDate n
+  pub held : AreHeld (moment_of_date n) items
+  pub text_is : text ≡ text_of items (moment_of_date n)
+  pub every : (w : ℕ) → IsDate w → AreHeld (moment_of_date w) items → text ≡ text_of items (moment_of_date w) → w ≡ n

@@ -8,16 +8,15 @@ ghost use Rattle.cal_format.specs.Ranges.{maximum};
 ghost use Rattle.cal_format.specs.Scanning.{number_at};
 ghost use Rattle.cal_format.specs.Values.{year_in, weekday_in, IsDateOf, value_error};
 
-use crate::determines::{
-    Shown, any_shows, shows_calendar_date, shows_ordinal_date, shows_timestamp,
-};
+use crate::determines::{any_shows, shows_calendar_date, shows_ordinal_date, shows_timestamp};
 use crate::fields::Fields;
+use crate::format::Format;
 use crate::item::Component;
 use cal_time::error::{Component as Named, ComponentRange};
 use cal_time::{Date, Month, Weekday};
 
 /// Returns the date with the numbers of the fields.
-pub(crate) fn date_of(items: &Shown, fields: &Fields) -> Option<Date>
+pub(crate) fn date_of(items: &Format, fields: &Fields) -> Option<Date>
     requires { (c : Component) → number_at c fields.now ≤ maximum c }
     ensures every { IsTrue (shows_date items.now) → (n : ℕ) → IsDate n
         → IsDateOf items.now (λ c. number_at c fields.now) n → result ≡ Some n }
@@ -41,7 +40,7 @@ pub(crate) fn date_of(items: &Shown, fields: &Fields) -> Option<Date>
 
 /// Returns the error of numbers that no moment has: the Unix time, the day of the month, the day of
 /// the year or the ISO week.
-pub(crate) fn value_error(items: &Shown) -> ComponentRange
+pub(crate) fn value_error(items: &Format) -> ComponentRange
     ensures { result ≡ value_error items.now }
 {
     if shows_timestamp(items) {
@@ -57,7 +56,7 @@ pub(crate) fn value_error(items: &Shown) -> ComponentRange
 }
 
 /// Returns the year.
-fn year_of(items: &Shown, fields: &Fields) -> u64
+fn year_of(items: &Format, fields: &Fields) -> u64
     requires { (c : Component) → number_at c fields.now ≤ maximum c }
     ensures value { result ≡ year_in items.now (λ c. number_at c fields.now) }
     ensures range { result < 10000 }
@@ -71,7 +70,7 @@ fn year_of(items: &Shown, fields: &Fields) -> u64
 }
 
 /// Returns the number of days since Monday.
-fn weekday_of(items: &Shown, fields: &Fields) -> u8
+fn weekday_of(items: &Format, fields: &Fields) -> u8
     requires { (c : Component) → number_at c fields.now ≤ maximum c }
     ensures value { result ≡ weekday_in items.now (λ c. number_at c fields.now) }
     ensures range { result < 7 }
@@ -88,7 +87,8 @@ fn weekday_of(items: &Shown, fields: &Fields) -> u8
     ((number % 8 + 5) % 7) as u8
 }
 
-fn calendar_date(year: u64, month: u64, day: u64) -> Option<Date>
+/// Returns the date of a year, a month and a day.
+pub(crate) fn calendar_date(year: u64, month: u64, day: u64) -> Option<Date>
     requires { (year < 10000) × (month < 100) × (day < 100) }
     ensures every { (n : ℕ) → IsDate n → HasCalendarDate (pos year) month day n → result ≡ Some n }
     ensures in_range { IfSome result IsDate }

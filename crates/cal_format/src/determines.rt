@@ -1,68 +1,16 @@
 //! The values that a format determines.
-ghost use Rattle.std.specs.Prelude.{◌≡◌, ◌==◌, if◌then◌else◌, true};
-ghost use Rattle.cal_format.specs.declared.item.Component.{Component};
-ghost use Rattle.cal_format.specs.Reading.{index, mark_of, shows, any_shows, begins_apart, begins_past_point, begins_with_decimal, ends_before, are_apart, shows_year, shows_weekday, shows_calendar_date, shows_ordinal_date, shows_iso_week_date, shows_date, shows_hour, shows_subsecond, shows_time, shows_offset, shows_timestamp, shows_moment};
+ghost use Rattle.std.specs.Prelude.{◌≡◌};
+ghost use Rattle.cal_format.specs.Reading.{any_shows, begins_apart, begins_past_point, begins_with_decimal, ends_before, are_apart, shows_year, shows_weekday, shows_calendar_date, shows_ordinal_date, shows_iso_week_date, shows_date, shows_hour, shows_subsecond, shows_time, shows_offset, shows_timestamp, shows_moment};
 
+use crate::format::Format;
 use crate::item::{Component, Item, Padding};
-use std::marker::Model;
-
-/// Items, and a mark for each component that they show. Contracts see the items.
-#[derive(Drop)]
-pub(crate) struct Shown<'a> {
-    items: &'a [Item],
-    marks: [bool; 27],
-}
-
-impl<'a> Model for Shown<'a> {
-    ghost use Rattle.std.specs.Prelude.{◌≡◌, List};
-    ghost use Rattle.cal_format.specs.declared.item.Component.{Component};
-    ghost use Rattle.cal_format.specs.declared.item.Item.{Item};
-    ghost use Rattle.cal_format.specs.Reading.{any_shows, mark_of};
-
-    ghost Value = { List Item };
-
-    ghost view = { λ shown. shown.items.now };
-
-    ghost invariant = { λ shown. (c : Component)
-        → mark_of c shown.marks ≡ any_shows c shown.items.now };
-}
-
-impl Shown<'_> {
-    /// Marks the components that the items show.
-    pub(crate) fn new(items: &[Item]) -> Shown<'_>
-        ensures { result ≡ items.now }
-    {
-        let mut marks = [false; 27];
-        mark(items, &mut marks);
-        Shown { items, marks }
-    }
-}
-
-/// Marks the components that the items show.
-fn mark(items: &[Item], marks: &mut [bool; 27])
-    ensures { (c : Component) → mark_of c marks.new
-        ≡ (if any_shows c items.now then true else mark_of c marks.old) }
-{
-    if let [item, others @ ..] = items {
-        item.mark(marks);
-        mark(others, marks);
-    }
-}
-
-#[inline(always)]
-fn set(component: Component, marks: &mut [bool; 27])
-    ensures { (c : Component) → mark_of c marks.new
-        ≡ (if index component == index c then true else mark_of c marks.old) }
-{
-    marks[component.index()] = true;
-}
 
 /// Returns `true` if an item shows the component.
 #[inline(always)]
-pub(crate) fn any_shows(items: &Shown, component: Component) -> bool
+pub(crate) fn any_shows(items: &Format, component: Component) -> bool
     ensures { result ≡ any_shows component items.now }
 {
-    items.marks[component.index()]
+    items.shown.shows(component)
 }
 
 /// Returns `true` if each item of a width that varies comes before an item that can't continue it.
@@ -117,21 +65,6 @@ fn begins_past_point(items: &[Item]) -> bool
 }
 
 impl Item {
-    /// Marks the component that the item shows.
-    fn mark(self, marks: &mut [bool; 27])
-        ensures { (c : Component) → mark_of c marks.new
-            ≡ (if shows c self then true else mark_of c marks.old) }
-    {
-        match self {
-            Item::Literal(_) | Item::Abbreviation => {}
-            Item::Number(component, _) => set(component, marks),
-            Item::Name(name) => set(name.component(), marks),
-            Item::Fraction | Item::Decimals => set(Component::Nanosecond, marks),
-            Item::OffsetSign => set(Component::OffsetSign, marks),
-            Item::TimestampSign => set(Component::TimestampSign, marks),
-        }
-    }
-
     fn ends_before(self, others: &[Item]) -> bool
         ensures { result ≡ ends_before self others.now }
     {
@@ -146,14 +79,14 @@ impl Item {
 }
 
 /// Returns `true` if the items determine a year.
-fn shows_year(items: &Shown) -> bool
+fn shows_year(items: &Format) -> bool
     ensures { result ≡ shows_year items.now }
 {
     any_shows(items, Component::Year)
         || (any_shows(items, Component::Century) && any_shows(items, Component::YearOfCentury))
 }
 
-fn shows_weekday(items: &Shown) -> bool
+fn shows_weekday(items: &Format) -> bool
     ensures { result ≡ shows_weekday items.now }
 {
     any_shows(items, Component::Weekday)
@@ -161,19 +94,19 @@ fn shows_weekday(items: &Shown) -> bool
         || any_shows(items, Component::SundayWeekday)
 }
 
-pub(crate) fn shows_calendar_date(items: &Shown) -> bool
+pub(crate) fn shows_calendar_date(items: &Format) -> bool
     ensures { result ≡ shows_calendar_date items.now }
 {
     shows_year(items) && any_shows(items, Component::Month) && any_shows(items, Component::Day)
 }
 
-pub(crate) fn shows_ordinal_date(items: &Shown) -> bool
+pub(crate) fn shows_ordinal_date(items: &Format) -> bool
     ensures { result ≡ shows_ordinal_date items.now }
 {
     shows_year(items) && any_shows(items, Component::Ordinal)
 }
 
-fn shows_iso_week_date(items: &Shown) -> bool
+fn shows_iso_week_date(items: &Format) -> bool
     ensures { result ≡ shows_iso_week_date items.now }
 {
     any_shows(items, Component::IsoYear)
@@ -182,20 +115,20 @@ fn shows_iso_week_date(items: &Shown) -> bool
 }
 
 /// Returns `true` if the items determine a date.
-pub(crate) fn shows_date(items: &Shown) -> bool
+pub(crate) fn shows_date(items: &Format) -> bool
     ensures { result ≡ shows_date items.now }
 {
     shows_calendar_date(items) || shows_ordinal_date(items) || shows_iso_week_date(items)
 }
 
-fn shows_hour(items: &Shown) -> bool
+fn shows_hour(items: &Format) -> bool
     ensures { result ≡ shows_hour items.now }
 {
     any_shows(items, Component::Hour)
         || (any_shows(items, Component::Hour12) && any_shows(items, Component::Period))
 }
 
-fn shows_subsecond(items: &Shown) -> bool
+fn shows_subsecond(items: &Format) -> bool
     ensures { result ≡ shows_subsecond items.now }
 {
     any_shows(items, Component::Nanosecond)
@@ -204,7 +137,7 @@ fn shows_subsecond(items: &Shown) -> bool
 }
 
 /// Returns `true` if the items determine a time of day by its coarsest parts.
-pub(crate) fn shows_time(items: &Shown) -> bool
+pub(crate) fn shows_time(items: &Format) -> bool
     ensures { result ≡ shows_time items.now }
 {
     let minute = any_shows(items, Component::Minute);
@@ -213,7 +146,7 @@ pub(crate) fn shows_time(items: &Shown) -> bool
 }
 
 /// Returns `true` if the items determine an offset.
-pub(crate) fn shows_offset(items: &Shown) -> bool
+pub(crate) fn shows_offset(items: &Format) -> bool
     ensures { result ≡ shows_offset items.now }
 {
     let minute = any_shows(items, Component::OffsetMinute);
@@ -223,14 +156,14 @@ pub(crate) fn shows_offset(items: &Shown) -> bool
 }
 
 /// Returns `true` if the items show a Unix time.
-pub(crate) fn shows_timestamp(items: &Shown) -> bool
+pub(crate) fn shows_timestamp(items: &Format) -> bool
     ensures { result ≡ shows_timestamp items.now }
 {
     any_shows(items, Component::TimestampSign) && any_shows(items, Component::Timestamp)
 }
 
 /// Returns `true` if the items determine a date-time at an offset.
-pub(crate) fn shows_moment(items: &Shown) -> bool
+pub(crate) fn shows_moment(items: &Format) -> bool
     ensures { result ≡ shows_moment items.now }
 {
     shows_timestamp(items) || (shows_date(items) && shows_time(items) && shows_offset(items))

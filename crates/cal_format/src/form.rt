@@ -1,6 +1,6 @@
 //! The form of the texts of a format: digits, names and literal bytes, whatever the numbers are.
 ghost use Rattle.std.specs.Prelude.{◌≡◌, ◌+◌, ◌-◌, ◌*◌, ◌<◌, ◌≤◌, ◌^◌, ◌++◌, length, take, drop, IfSome, decimal};
-ghost use Rattle.cal_text.specs.Shape.{Scans, ScansWhole, ParsesMoreDigits, Digits};
+ghost use Rattle.cal_text.specs.Shape.{Scans, ScansWhole, ParsesDigits, ParsesMoreDigits, Digits};
 ghost use Rattle.cal_format.specs.declared.item.Padding.TheVariants as paddings;
 ghost use Rattle.cal_format.specs.declared.item.Item.TheVariants as item_variants;
 ghost use Rattle.cal_time.specs.Digits.{decimals};
@@ -37,7 +37,8 @@ pub(crate) fn scan_items(
 }
 
 /// Parses the number of an item.
-fn scan_item(scanner: &mut Scanner, item: Item) -> Option<u64>
+#[inline(always)]
+pub(crate) fn scan_item(scanner: &mut Scanner, item: Item) -> Option<u64>
     ensures scans { Scans (ItemShape item) scanner.old.rest.now scanner.new.rest.now result }
     ensures value { IfSome result (λ n.
         scanner.old.rest.now ≡ numbered_item item n ++ scanner.new.rest.now) }
@@ -64,6 +65,7 @@ fn scan_item(scanner: &mut Scanner, item: Item) -> Option<u64>
     }
 }
 
+#[inline(always)]
 fn scan_number(scanner: &mut Scanner, pad: Padding, component: Component) -> Option<u64>
     ensures scans { Scans (Padded pad (width_of pad component)) scanner.old.rest.now
         scanner.new.rest.now result }
@@ -72,10 +74,38 @@ fn scan_number(scanner: &mut Scanner, pad: Padding, component: Component) -> Opt
     ensures range { IfSome result (λ n. n < 10 ^ width_of pad component) }
 {
     match pad {
-        Padding::Zero => scan_digits(scanner, 0, component.width()),
+        Padding::Zero => match component.width() {
+            2 => scan_two_digits(scanner),
+            4 => scan_four_digits(scanner),
+            width => scan_digits(scanner, 0, width),
+        },
         Padding::Space => scan_after_spaces(scanner, component.width() - 1),
         Padding::None => scan_decimal(scanner, component.most_digits() - 1),
     }
+}
+
+/// Parses two digits.
+#[inline(always)]
+fn scan_two_digits(scanner: &mut Scanner) -> Option<u64>
+    ensures scans { Scans (Digits 2) scanner.old.rest.now scanner.new.rest.now result }
+    ensures value { IfSome result (ParsesDigits scanner.old.rest.now scanner.new.rest.now 2) }
+    ensures range { IfSome result (λ n. n < 100) }
+{
+    let tens = scanner.digit()?;
+    let ones = scanner.digit()?;
+    Some(u64::from(tens * 10 + ones))
+}
+
+/// Parses four digits.
+#[inline(always)]
+fn scan_four_digits(scanner: &mut Scanner) -> Option<u64>
+    ensures scans { Scans (Digits 4) scanner.old.rest.now scanner.new.rest.now result }
+    ensures value { IfSome result (ParsesDigits scanner.old.rest.now scanner.new.rest.now 4) }
+    ensures range { IfSome result (λ n. n < 10000) }
+{
+    let front = scan_two_digits(scanner)?;
+    let back = scan_two_digits(scanner)?;
+    Some(front * 100 + back)
 }
 
 /// Parses this many digits after the digits of `number`, and returns the new number.

@@ -3,11 +3,14 @@ ghost use Rattle.std.specs.Prelude.{◌≡◌, ℕ, ◌+◌, ◌<◌, ◌≤◌,
 ghost use Rattle.cal_format.specs.declared.item.Item.{Item};
 ghost use Rattle.cal_format.specs.declared.item.Syntax.TheVariants.{Percent, Brackets};
 ghost use Rattle.cal_format.specs.declared.format.FormatError.TheVariants.{UnknownItem, TooLong};
+ghost use Rattle.cal_format.specs.Reading.{are_apart, show_within};
 ghost use Rattle.cal_format.specs.Format.{Spells, IsFaultOf, escape, spelled, front};
 
 use crate::description::description_front;
+use crate::determines::are_apart;
 use crate::directive::{DIRECTIVES, Directive, front_in};
 use crate::item::{Item, Syntax};
+use crate::shown::Shown;
 use std::marker::Model;
 
 /// The maximum number of items.
@@ -27,17 +30,20 @@ pub enum FormatError {
 pub struct Format {
     items: [Item; CAPACITY],
     count: usize,
+    pub(crate) shown: Shown,
 }
 
 impl Model for Format {
     ghost use Rattle.std.specs.Prelude.{◌≤◌, List, take};
     ghost use Rattle.cal_format.specs.declared.item.Item.{Item};
+    ghost use Rattle.cal_format.specs.Shown.{AreShown};
 
     ghost Value = { List Item };
 
     ghost view = { λ format. take format.count format.items };
 
-    ghost invariant = { λ format. format.count ≤ 64 };
+    ghost invariant = { λ format. (format.count ≤ 64)
+        × AreShown (take format.count format.items) format.shown };
 }
 
 impl Format {
@@ -89,11 +95,13 @@ impl Format {
         Format {
             items: [Item::Literal(0); CAPACITY],
             count: 0,
+            shown: Shown::new(),
         }
     }
 
     /// Appends an item and returns `true`. If the format has 64 items, it stays as it is, and the
     /// result is `false`.
+    #[inline(always)]
     pub fn try_push(&mut self, item: Item) -> bool
         ensures room { IsTrue result ↔ (length self.old < 64) }
         ensures value { IsTrue result → self.new ≡ self.old ++ item ∷ [] }
@@ -174,11 +182,13 @@ impl Format {
         ensures appended { self.new ≡ self.old ++ items.now }
         ensures length { length self.new ≡ length self.old + length items.now }
     {
-        let end = self.count + items.len();
-        self.items[self.count..end].copy_from_slice(items);
-        self.count = end;
+        if let [item, others @ ..] = items {
+            self.push(*item);
+            self.extend(others);
+        }
     }
 
+    #[inline(always)]
     fn push(&mut self, item: Item)
         requires { length self.old < 64 }
         ensures appended { self.new ≡ self.old ++ item ∷ [] }
@@ -186,6 +196,25 @@ impl Format {
     {
         self.items[self.count] = item;
         self.count += 1;
+        self.shown.add(item, item.component());
+    }
+
+    /// Returns `true` if the items show only components with an index from `low` to below `high`.
+    #[inline(always)]
+    pub(crate) fn is_within(&self, low: usize, high: usize) -> bool
+        requires { (low ≤ 27) × (high ≤ 27) }
+        ensures { result ≡ show_within low high self.now }
+    {
+        self.shown.is_within(low, high)
+    }
+
+    /// Returns `true` if each item of a width that varies comes before an item that can't continue
+    /// it.
+    #[inline(always)]
+    pub(crate) fn is_apart(&self) -> bool
+        ensures { result ≡ are_apart self.now }
+    {
+        self.shown.is_fixed() || are_apart(self.items())
     }
 
     fn room(&self) -> usize

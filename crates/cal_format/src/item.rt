@@ -2,7 +2,7 @@
 ghost use Rattle.std.specs.Prelude.{◌≡◌, ◌<◌, ◌≤◌};
 ghost use Rattle.cal_format.specs.Format.{escape};
 ghost use Rattle.cal_format.specs.Moment.{width, most_digits};
-ghost use Rattle.cal_format.specs.Reading.{index, name_component};
+ghost use Rattle.cal_format.specs.Reading.{index, name_component, item_component};
 
 /// A number that a format shows of a value. The ranges here are the ranges in a text that parses.
 #[derive(Clone, Copy, Debug, PartialEq, Eq)]
@@ -186,6 +186,23 @@ impl Name {
             Name::Weekday => Component::Weekday,
             Name::ShortWeekday => Component::Weekday,
             Name::Period => Component::Period,
+        }
+    }
+}
+
+impl Item {
+    /// Returns the component that the item shows. A literal and an abbreviation show none.
+    #[inline(always)]
+    pub fn component(self) -> Option<Component>
+        ensures { result ≡ item_component self }
+    {
+        match self {
+            Item::Literal(_) | Item::Abbreviation => None,
+            Item::Number(component, _) => Some(component),
+            Item::Name(name) => Some(name.component()),
+            Item::Fraction | Item::Decimals => Some(Component::Nanosecond),
+            Item::OffsetSign => Some(Component::OffsetSign),
+            Item::TimestampSign => Some(Component::TimestampSign),
         }
     }
 }

@@ -21,17 +21,21 @@ mod item;
 mod laws;
 mod moment;
 mod offset_parts;
+mod one_pass;
 mod parsing;
 mod print;
 mod ranges;
+mod shown;
 mod time_parts;
 mod timestamp;
 mod value;
 mod value_formats;
 
 pub use error::ParseError;
+pub use fields::Fields;
 pub use format::{Format, FormatError};
 pub use item::{Component, Item, Name, Padding, Syntax};
+pub use moment::Moment;
 pub use value_formats::{
     DateFormat, DateTimeFormat, OffsetDateTimeFormat, OffsetFormat, TimeFormat,
 };

@@ -15,9 +15,10 @@ use cal_time::{Date, Month, Time, UtcOffset, Weekday};
 /// The Julian day of 1970-01-01.
 pub(crate) const EPOCH_JULIAN_DAY: i64 = 2_440_588;
 
-/// A day, a time of day and an offset. What a value lacks is 0.
+/// A value that an item prints: a date, a time of day and an offset. A value without one of them
+/// has the first date, midnight or UTC in its place.
 #[derive(Clone, Copy)]
-pub(crate) struct Moment {
+pub struct Moment {
     pub(crate) date: Date,
     pub(crate) time: Time,
     pub(crate) offset: UtcOffset,

@@ -15,13 +15,15 @@ ghost use Rattle.cal_format.specs.Text.{text_of};
 ghost use Rattle.cal_format.specs.Values.{Holds, IsPrinted, time_in, offset_in, IsDateOf, value_error, IsMomentOf, contradiction, item_contradiction, first_contradiction};
 
 use crate::date_parts::{date_of, value_error};
-use crate::determines::{Shown, shows_date, shows_offset, shows_time, shows_timestamp};
+use crate::determines::{shows_date, shows_offset, shows_time, shows_timestamp};
 use crate::error::ParseError;
 use crate::fields::Fields;
 use crate::form::scan_items;
+use crate::format::Format;
 use crate::item::{Component, Item};
 use crate::moment::Moment;
 use crate::offset_parts::offset_of;
+use crate::one_pass::parse_once;
 use crate::print::sign_of;
 use crate::ranges::first_range_error;
 use crate::time_parts::{nanosecond_of, time_of};
@@ -33,8 +35,23 @@ use cal_time::{Date, Time, UtcOffset};
 
 /// Parses a text. Returns the moment that the items hold and print as this text, or why there is
 /// none.
-pub(crate) fn parse_moment(items: &[Item], text: &[u8]) -> Result<Moment, ParseError>
-    requires few { length items.now ≤ 64 }
+pub(crate) fn parse_moment(items: &Format, text: &[u8]) -> Result<Moment, ParseError>
+    requires apart { IsTrue (are_apart items.now) }
+    ensures every { (v : Moment) → Holds items.now v → text.now ≡ text_of items.now v
+        → result ≡ Ok v }
+    ensures value { IfOk result (λ v. IsPrinted items.now v text.now) }
+    ensures error { IfErr result (IsRejection items.now text.now) }
+{
+    match parse_once(items, text) {
+        Some(moment) => Ok(moment),
+        None => parse_in_steps(items, text),
+    }
+}
+
+/// Parses a text like `parse_moment`: first its numbers, then their ranges, the moment and its
+/// contradictions. This finds the error of a text that `parse_once` rejects.
+#[cold]
+fn parse_in_steps(items: &Format, text: &[u8]) -> Result<Moment, ParseError>
     requires apart { IsTrue (are_apart items.now) }
     ensures every { (v : Moment) → Holds items.now v → text.now ≡ text_of items.now v
         → result ≡ Ok v }
@@ -42,9 +59,9 @@ pub(crate) fn parse_moment(items: &[Item], text: &[u8]) -> Result<Moment, ParseE
     ensures error { IfErr result (IsRejection items.now text.now) }
 {
     let mut buffer = [0u64; 64];
-    let numbers = &mut buffer[..items.len()];
+    let numbers = &mut buffer[..items.items().len()];
     let mut scanner = Scanner { rest: text };
-    match scan_items(items, &mut scanner, numbers, 0) {
+    match scan_items(items.items(), &mut scanner, numbers, 0) {
         Some(()) => moment_of_numbers(items, numbers),
         None => Err(unexpected(text.len() - scanner.rest.len(), text.len())),
     }
@@ -63,20 +80,21 @@ fn unexpected(position: usize, length: usize) -> ParseError
 }
 
 /// Returns the moment with these numbers, or why there is none.
-fn moment_of_numbers(items: &[Item], numbers: &[u64]) -> Result<Moment, ParseError>
-    requires fit { AreNumbers items.now numbers.now }
-    ensures every { (v : Moment) → Holds items.now v → numbers.now ≡ numbers_of items.now v
+fn moment_of_numbers(format: &Format, numbers: &[u64]) -> Result<Moment, ParseError>
+    requires fit { AreNumbers format.now numbers.now }
+    ensures every { (v : Moment) → Holds format.now v → numbers.now ≡ numbers_of format.now v
         → result ≡ Ok v }
     ensures value { IfOk result (λ v.
-        IsPrinted items.now v (numbered_text items.now numbers.now)) }
-    ensures error { IfErr result (IsNumberRejection items.now numbers.now) }
+        IsPrinted format.now v (numbered_text format.now numbers.now)) }
+    ensures error { IfErr result (IsNumberRejection format.now numbers.now) }
 {
+    let items = format.items();
     if let Some(error) = first_range_error(items, numbers) {
         return Err(ParseError::OutOfRange(error));
     }
     let mut fields = Fields::new();
     fields.fill(items, numbers);
-    match moment_of(items, &fields) {
+    match moment_of(format, &fields) {
         Ok(moment) => match first_contradiction(items, numbers, &moment) {
             Some(component) => Err(ParseError::Contradiction(component)),
             None => Ok(moment),
@@ -103,16 +121,12 @@ fn first_contradiction(items: &[Item], numbers: &[u64], moment: &Moment) -> Opti
 
 impl Item {
     /// Returns the component of the item if this number isn't its number of the moment.
-    fn contradiction(self, number: u64, moment: &Moment) -> Option<Named>
+    pub(crate) fn contradiction(self, number: u64, moment: &Moment) -> Option<Named>
         ensures { result ≡ item_contradiction self number moment.now }
     {
-        match self {
-            Item::Literal(_) | Item::Abbreviation => None,
-            Item::Number(component, _) => component.contradiction(number, moment),
-            Item::Name(name) => name.component().contradiction(number, moment),
-            Item::Fraction | Item::Decimals => Component::Nanosecond.contradiction(number, moment),
-            Item::OffsetSign => Component::OffsetSign.contradiction(number, moment),
-            Item::TimestampSign => Component::TimestampSign.contradiction(number, moment),
+        match self.component() {
+            Some(component) => component.contradiction(number, moment),
+            None => None,
         }
     }
 }
@@ -131,7 +145,7 @@ impl Component {
 }
 
 /// Returns the moment with the numbers of the fields, or the error of numbers that no moment has.
-fn moment_of(items: &[Item], fields: &Fields) -> Result<Moment, ComponentRange>
+fn moment_of(items: &Format, fields: &Fields) -> Result<Moment, ComponentRange>
     requires { (c : Component) → number_at c fields.now ≤ maximum c }
     ensures every { (v : Moment) → IsMomentOf items.now (λ c. number_at c fields.now) v
         → result ≡ Ok v }
@@ -139,14 +153,13 @@ fn moment_of(items: &[Item], fields: &Fields) -> Result<Moment, ComponentRange>
     ensures error { IfErr result (λ why. (why ≡ value_error items.now) × ((v : Moment)
         → ¬ IsMomentOf items.now (λ c. number_at c fields.now) v)) }
 {
-    let shown = Shown::new(items);
-    match find_moment(&shown, fields) {
+    match find_moment(items, fields) {
         Some(moment) => Ok(moment),
-        None => Err(value_error(&shown)),
+        None => Err(value_error(items)),
     }
 }
 
-fn find_moment(items: &Shown, fields: &Fields) -> Option<Moment>
+pub(crate) fn find_moment(items: &Format, fields: &Fields) -> Option<Moment>
     requires { (c : Component) → number_at c fields.now ≤ maximum c }
     ensures every { (v : Moment) → IsMomentOf items.now (λ c. number_at c fields.now) v
         → result ≡ Some v }
@@ -160,7 +173,7 @@ fn find_moment(items: &Shown, fields: &Fields) -> Option<Moment>
 }
 
 /// Returns the moment of the date and the time of day at the offset.
-fn moment_at_date(items: &Shown, fields: &Fields, offset: UtcOffset) -> Option<Moment>
+fn moment_at_date(items: &Format, fields: &Fields, offset: UtcOffset) -> Option<Moment>
     requires most { (c : Component) → number_at c fields.now ≤ maximum c }
     requires date { IsTrue (not (shows_timestamp items.now)) }
     requires range { IsOffset offset }
@@ -177,7 +190,7 @@ fn moment_at_date(items: &Shown, fields: &Fields, offset: UtcOffset) -> Option<M
 }
 
 /// Returns the moment of the Unix time at the offset.
-fn moment_at_timestamp(items: &Shown, fields: &Fields, offset: UtcOffset) -> Option<Moment>
+fn moment_at_timestamp(items: &Format, fields: &Fields, offset: UtcOffset) -> Option<Moment>
     requires most { (c : Component) → number_at c fields.now ≤ maximum c }
     requires timestamp { IsTrue (shows_timestamp items.now) }
     requires range { IsOffset offset }
@@ -194,7 +207,7 @@ fn moment_at_timestamp(items: &Shown, fields: &Fields, offset: UtcOffset) -> Opt
 }
 
 /// Returns the date of the numbers, or the first date of the range if the items determine none.
-fn date_of_numbers(items: &Shown, fields: &Fields) -> Option<Date>
+fn date_of_numbers(items: &Format, fields: &Fields) -> Option<Date>
     requires { (c : Component) → number_at c fields.now ≤ maximum c }
     ensures every { (n : ℕ) → IsDate n → IsDateOf items.now (λ c. number_at c fields.now) n
         → result ≡ Some n }
@@ -208,7 +221,7 @@ fn date_of_numbers(items: &Shown, fields: &Fields) -> Option<Date>
 }
 
 /// Returns the time of day of the numbers, or midnight if the items determine none.
-fn time_of_numbers(items: &Shown, fields: &Fields) -> Time
+fn time_of_numbers(items: &Format, fields: &Fields) -> Time
     requires { (c : Component) → number_at c fields.now ≤ maximum c }
     ensures value { result ≡ (if shows_time items.now
         then time_in items.now (λ c. number_at c fields.now)
@@ -222,7 +235,7 @@ fn time_of_numbers(items: &Shown, fields: &Fields) -> Time
 }
 
 /// Returns the offset of the numbers, or UTC if the items determine none.
-fn offset_of_numbers(items: &Shown, fields: &Fields) -> UtcOffset
+fn offset_of_numbers(items: &Format, fields: &Fields) -> UtcOffset
     requires { (c : Component) → number_at c fields.now ≤ maximum c }
     ensures value { result ≡ (if shows_offset items.now
         then offset_in (λ c. number_at c fields.now)

@@ -40,6 +40,25 @@ pub(crate) fn print_items(
     }
 }
 
+impl Item {
+    /// Writes what the item prints of a value to the buffer, from this position on. Returns the
+    /// end, or `None` if the buffer is too short. An abbreviation prints nothing. The year `%Y`
+    /// writes `2024` at position 3 of a buffer, and returns 7.
+    #[inline(always)]
+    pub fn print(self, moment: &Moment, buffer: &mut [u8], at: usize) -> Option<usize>
+        ensures room { IsSome result
+            ↔ (at + length (item_text [] moment.now self) ≤ length buffer.old) }
+        ensures text { IfSome result (λ end.
+            take end buffer.new ≡ take at buffer.old ++ item_text [] moment.now self) }
+        ensures end { IfSome result (λ end. end ≡ at + length (item_text [] moment.now self)) }
+    {
+        if at > buffer.len() {
+            return None;
+        }
+        print_item(self, moment, b"", buffer, at)
+    }
+}
+
 #[inline(always)]
 fn print_item(
     item: Item,
@@ -83,12 +102,32 @@ fn print_number(
     ensures end { IfSome result (λ end. end ≡ at + length (sign component moment.now
         ++ padded pad (width component) (number component moment.now))) }
 {
+    if !sign_of(component, moment).is_empty() {
+        return print_signed(component, pad, moment, buffer, at);
+    }
+    put_padded(moment.number(component), component.width(), pad, buffer, at)
+}
+
+/// Writes a number with its sign.
+#[cold]
+#[inline(never)]
+fn print_signed(
+    component: Component,
+    pad: Padding,
+    moment: &Moment,
+    buffer: &mut [u8],
+    at: usize,
+) -> Option<usize>
+    requires { at ≤ length buffer.old }
+    ensures room { IsSome result ↔ (at + length (sign component moment.now
+        ++ padded pad (width component) (number component moment.now)) ≤ length buffer.old) }
+    ensures text { IfSome result (λ end. take end buffer.new ≡ take at buffer.old
+        ++ (sign component moment.now ++ padded pad (width component) (number component moment.now))) }
+    ensures end { IfSome result (λ end. end ≡ at + length (sign component moment.now
+        ++ padded pad (width component) (number component moment.now))) }
+{
     let sign = sign_of(component, moment);
-    let next = if sign.is_empty() {
-        at
-    } else {
-        put(buffer, at, sign)?
-    };
+    let next = put(buffer, at, sign)?;
     put_padded(
         moment.number(component),
         component.width(),
@@ -147,6 +186,7 @@ fn put_padded(number: u64, width: u8, pad: Padding, buffer: &mut [u8], at: usize
 
 /// Writes the digits of a number, with this byte before them up to the width.
 #[tactic(auto, using(crate::proofs::Digits::short_decimals))]
+#[inline(never)]
 fn put_filled(byte: u8, number: u64, width: u8, buffer: &mut [u8], at: usize) -> Option<usize>
     requires at { at ≤ length buffer.old }
     requires width { width ≤ 9 }
@@ -180,6 +220,7 @@ fn put_fill(byte: u8, count: usize, buffer: &mut [u8], at: usize) -> Option<usiz
 }
 
 #[tactic(auto, using(crate::proofs::Digits::short_decimals))]
+#[inline(never)]
 fn put_decimal(number: u64, buffer: &mut [u8], at: usize) -> Option<usize>
     requires { at ≤ length buffer.old }
     ensures room { IsSome result ↔ (at + length (decimal number) ≤ length buffer.old) }
@@ -192,6 +233,7 @@ fn put_decimal(number: u64, buffer: &mut [u8], at: usize) -> Option<usize>
 }
 
 #[tactic(auto, using(crate::proofs::EnglishNames::long_names))]
+#[inline(never)]
 fn print_name(name: Name, moment: &Moment, buffer: &mut [u8], at: usize) -> Option<usize>
     requires { at ≤ length buffer.old }
     ensures room { IsSome result ↔ (at + length (name_text name moment.now) ≤ length buffer.old) }
@@ -214,6 +256,7 @@ fn print_name(name: Name, moment: &Moment, buffer: &mut [u8], at: usize) -> Opti
     }
 }
 
+#[inline(never)]
 fn print_fraction(nanosecond: u32, buffer: &mut [u8], at: usize) -> Option<usize>
     requires at { at ≤ length buffer.old }
     requires range { nanosecond < 1_000_000_000 }
@@ -230,6 +273,7 @@ fn print_fraction(nanosecond: u32, buffer: &mut [u8], at: usize) -> Option<usize
 }
 
 #[tactic(auto, using(crate::proofs::Digits::short_fractions))]
+#[inline(never)]
 fn print_decimals(nanosecond: u32, buffer: &mut [u8], at: usize) -> Option<usize>
     requires at { at ≤ length buffer.old }
     requires range { nanosecond < 1_000_000_000 }
@@ -244,6 +288,7 @@ fn print_decimals(nanosecond: u32, buffer: &mut [u8], at: usize) -> Option<usize
 }
 
 /// Returns the sign of a negative Unix time.
+#[inline(never)]
 fn timestamp_sign(moment: &Moment) -> &'static [u8]
     ensures { result.now ≡ item_text [] moment.now items.TimestampSign }
 {

@@ -6,13 +6,14 @@ ghost use Rattle.cal_format.specs.Ranges.{maximum};
 ghost use Rattle.cal_format.specs.Scanning.{number_at};
 ghost use Rattle.cal_format.specs.Values.{hour_in, nanosecond_in, time_in};
 
-use crate::determines::{Shown, any_shows};
+use crate::determines::any_shows;
 use crate::fields::Fields;
+use crate::format::Format;
 use crate::item::Component;
 use cal_time::Time;
 
 /// Returns the time of day with the numbers of the fields.
-pub(crate) fn time_of(items: &Shown, fields: &Fields) -> Time
+pub(crate) fn time_of(items: &Format, fields: &Fields) -> Time
     requires { (c : Component) → number_at c fields.now ≤ maximum c }
     ensures in_range { IsTime result }
     ensures value { result ≡ time_in items.now (λ c. number_at c fields.now) }
@@ -39,7 +40,7 @@ fn time_with(hour: u8, minute: u8, second: u8, nanosecond: u32) -> Time
     }
 }
 
-fn hour_of(items: &Shown, fields: &Fields) -> u8
+fn hour_of(items: &Format, fields: &Fields) -> u8
     requires { (c : Component) → number_at c fields.now ≤ maximum c }
     ensures value { result ≡ hour_in items.now (λ c. number_at c fields.now) }
     ensures range { result ≤ 23 }
@@ -53,7 +54,7 @@ fn hour_of(items: &Shown, fields: &Fields) -> u8
 }
 
 /// Returns the nanoseconds of the second.
-pub(crate) fn nanosecond_of(items: &Shown, fields: &Fields) -> u32
+pub(crate) fn nanosecond_of(items: &Format, fields: &Fields) -> u32
     requires { (c : Component) → number_at c fields.now ≤ maximum c }
     ensures value { result ≡ nanosecond_in items.now (λ c. number_at c fields.now) }
     ensures range { result ≤ 999_999_999 }

@@ -2,11 +2,11 @@
 ghost use Rattle.std.specs.Prelude.{◌≡◌, ◌≤◌, ◌↔◌, not, IsTrue, IsSome, IfSome, IfNone, length, take, drop};
 ghost use Rattle.cal_time.specs.Date.{IsDate};
 ghost use Rattle.cal_format.specs.Moment.{moment_of_date, moment_of_time, moment_of_date_time, moment_of_offset, moment_of_offset_date_time};
-ghost use Rattle.cal_format.specs.Reading.{is_within, shows_within, show_within, are_date_items, are_time_items, are_date_time_items, are_offset_items, are_moment_items};
+ghost use Rattle.cal_format.specs.Reading.{are_date_items, are_time_items, are_date_time_items, are_offset_items, are_moment_items};
 ghost use Rattle.cal_format.specs.Text.{text_in_zone, text_of};
 
 use crate::format::Format;
-use crate::item::{Component, Item};
+use crate::item::Item;
 use crate::moment::Moment;
 use crate::print::{print_items, put};
 use cal_datetime::{OffsetDateTime, PlainDateTime};
@@ -43,10 +43,10 @@ impl Format {
         ensures after { IfSome result (λ end. drop end buffer.new ≡ drop end buffer.old) }
         ensures unchanged { IfNone result (buffer.new ≡ buffer.old) }
     {
-        if !show_within(self.items(), 0, DATE_END) {
+        if !self.is_within(0, DATE_END) {
             return None;
         }
-        self.print(&moment_of_date(date), b"", buffer)
+        self.print(&Moment::of_date(date), b"", buffer)
     }
 
     /// Writes a time of day to the front of the buffer, and returns the number of bytes. Returns
@@ -61,10 +61,10 @@ impl Format {
         ensures after { IfSome result (λ end. drop end buffer.new ≡ drop end buffer.old) }
         ensures unchanged { IfNone result (buffer.new ≡ buffer.old) }
     {
-        if !show_within(self.items(), DATE_END, TIME_END) {
+        if !self.is_within(DATE_END, TIME_END) {
             return None;
         }
-        self.print(&moment_of_time(time), b"", buffer)
+        self.print(&Moment::of_time(time), b"", buffer)
     }
 
     /// Writes a date-time to the front of the buffer, and returns the number of bytes. Returns
@@ -80,10 +80,10 @@ impl Format {
         ensures after { IfSome result (λ end. drop end buffer.new ≡ drop end buffer.old) }
         ensures unchanged { IfNone result (buffer.new ≡ buffer.old) }
     {
-        if !show_within(self.items(), 0, TIME_END) {
+        if !self.is_within(0, TIME_END) {
             return None;
         }
-        self.print(&moment_of_date_time(date_time), b"", buffer)
+        self.print(&Moment::of_date_time(date_time), b"", buffer)
     }
 
     /// Writes an offset to the front of the buffer, and returns the number of bytes. Returns
@@ -99,10 +99,10 @@ impl Format {
         ensures after { IfSome result (λ end. drop end buffer.new ≡ drop end buffer.old) }
         ensures unchanged { IfNone result (buffer.new ≡ buffer.old) }
     {
-        if !show_within(self.items(), TIME_END, OFFSET_END) {
+        if !self.is_within(TIME_END, OFFSET_END) {
             return None;
         }
-        self.print(&moment_of_offset(offset), b"", buffer)
+        self.print(&Moment::of_offset(offset), b"", buffer)
     }
 
     /// Writes a date-time at an offset to the front of the buffer, and returns the number of bytes.
@@ -125,7 +125,7 @@ impl Format {
         if self.shows_abbreviation() {
             return None;
         }
-        self.print(&moment_of_offset_date_time(date_time), b"", buffer)
+        self.print(&Moment::of_offset_date_time(date_time), b"", buffer)
     }
 
     /// Writes a date-time at the offset of a zone to the front of the buffer, and returns the
@@ -150,7 +150,11 @@ impl Format {
         if abbreviation.len() > MAX_ABBREVIATION {
             return None;
         }
-        self.print(&moment_of_offset_date_time(date_time), abbreviation, buffer)
+        self.print(
+            &Moment::of_offset_date_time(date_time),
+            abbreviation,
+            buffer,
+        )
     }
 
     /// Returns `true` if the format shows the abbreviation of a zone, such as `%Z`. Only
@@ -158,7 +162,20 @@ impl Format {
     pub fn shows_abbreviation(&self) -> bool
         ensures { result ≡ not (are_moment_items self.now) }
     {
-        !show_within(self.items(), 0, MOMENT_END)
+        !self.is_within(0, MOMENT_END)
+    }
+
+    /// Writes a moment to the front of the buffer, and returns the number of bytes. Returns `None`,
+    /// and leaves the buffer as it is, if the buffer is too short. The abbreviation of a zone
+    /// prints nothing. `%R` writes `23:59`.
+    pub fn print_moment(&self, moment: &Moment, buffer: &mut [u8]) -> Option<usize>
+        ensures room { IsSome result ↔ (length (text_of self.now moment.now) ≤ length buffer.old) }
+        ensures text { IfSome result (λ end. take end buffer.new ≡ text_of self.now moment.now) }
+        ensures end { IfSome result (λ end. end ≡ length (text_of self.now moment.now)) }
+        ensures after { IfSome result (λ end. drop end buffer.new ≡ drop end buffer.old) }
+        ensures unchanged { IfNone result (buffer.new ≡ buffer.old) }
+    {
+        self.print(moment, b"", buffer)
     }
 
     fn print(&self, moment: &Moment, abbreviation: &[u8], buffer: &mut [u8]) -> Option<usize>
@@ -219,39 +236,41 @@ macro_rules! moment {
     };
 }
 
-/// Returns a date as a moment.
-pub(crate) fn moment_of_date(date: Date) -> Moment
-    ensures { result ≡ moment_of_date date }
-{
-    moment!(date, Time::MIDNIGHT, UtcOffset::UTC)
-}
+impl Moment {
+    /// Returns a date as a moment.
+    pub fn of_date(date: Date) -> Moment
+        ensures { result ≡ moment_of_date date }
+    {
+        moment!(date, Time::MIDNIGHT, UtcOffset::UTC)
+    }
 
-/// Returns a time of day as a moment.
-pub(crate) fn moment_of_time(time: Time) -> Moment
-    ensures { result ≡ moment_of_time time }
-{
-    moment!(first_date(), time, UtcOffset::UTC)
-}
+    /// Returns a time of day as a moment.
+    pub fn of_time(time: Time) -> Moment
+        ensures { result ≡ moment_of_time time }
+    {
+        moment!(first_date(), time, UtcOffset::UTC)
+    }
 
-/// Returns a date-time as a moment.
-pub(crate) fn moment_of_date_time(date_time: PlainDateTime) -> Moment
-    ensures { result ≡ moment_of_date_time date_time }
-{
-    moment!(date_time.date(), date_time.time(), UtcOffset::UTC)
-}
+    /// Returns a date-time as a moment.
+    pub fn of_date_time(date_time: PlainDateTime) -> Moment
+        ensures { result ≡ moment_of_date_time date_time }
+    {
+        moment!(date_time.date(), date_time.time(), UtcOffset::UTC)
+    }
 
-/// Returns an offset as a moment.
-pub(crate) fn moment_of_offset(offset: UtcOffset) -> Moment
-    ensures { result ≡ moment_of_offset offset }
-{
-    moment!(first_date(), Time::MIDNIGHT, offset)
-}
+    /// Returns an offset as a moment.
+    pub fn of_offset(offset: UtcOffset) -> Moment
+        ensures { result ≡ moment_of_offset offset }
+    {
+        moment!(first_date(), Time::MIDNIGHT, offset)
+    }
 
-/// Returns a date-time at an offset as a moment.
-pub(crate) fn moment_of_offset_date_time(date_time: OffsetDateTime) -> Moment
-    ensures { result ≡ moment_of_offset_date_time date_time }
-{
-    moment!(date_time.date(), date_time.time(), date_time.offset())
+    /// Returns a date-time at an offset as a moment.
+    pub fn of_offset_date_time(date_time: OffsetDateTime) -> Moment
+        ensures { result ≡ moment_of_offset_date_time date_time }
+    {
+        moment!(date_time.date(), date_time.time(), date_time.offset())
+    }
 }
 
 /// Returns the first date of the range.
@@ -260,38 +279,4 @@ pub(crate) fn first_date() -> Date
     ensures range { IsDate result }
 {
     Date::MIN
-}
-
-/// Returns `true` if the items show only components with an index from `low` to below `high`.
-pub(crate) fn show_within(items: &[Item], low: usize, high: usize) -> bool
-    ensures { result ≡ show_within low high items.now }
-{
-    match items {
-        [] => true,
-        [item, others @ ..] => item.is_within(low, high) && show_within(others, low, high),
-    }
-}
-
-impl Component {
-    fn is_within(self, low: usize, high: usize) -> bool
-        ensures { result ≡ is_within low high self }
-    {
-        low <= self.index() && self.index() < high
-    }
-}
-
-impl Item {
-    fn is_within(self, low: usize, high: usize) -> bool
-        ensures { result ≡ shows_within low high self }
-    {
-        match self {
-            Item::Literal(_) => true,
-            Item::Number(component, _) => component.is_within(low, high),
-            Item::Name(name) => name.component().is_within(low, high),
-            Item::Fraction | Item::Decimals => Component::Nanosecond.is_within(low, high),
-            Item::OffsetSign => Component::OffsetSign.is_within(low, high),
-            Item::TimestampSign => Component::TimestampSign.is_within(low, high),
-            Item::Abbreviation => false,
-        }
-    }
 }

@@ -11,12 +11,12 @@ ghost use Rattle.cal_format.specs.Rejection.{IsRejection, IsParsed};
 ghost use Rattle.cal_format.specs.Scanning.{AreHeld};
 ghost use Rattle.cal_format.specs.Text.{text_of};
 
-use crate::determines::{Shown, are_apart, shows_date, shows_moment, shows_offset, shows_time};
+use crate::determines::{shows_date, shows_moment, shows_offset, shows_time};
 use crate::error::ParseError;
 use crate::format::Format;
 use crate::moment::Moment;
 use crate::parsing::parse_moment;
-use crate::value::{DATE_END, MOMENT_END, OFFSET_END, TIME_END, show_within};
+use crate::value::{DATE_END, MOMENT_END, OFFSET_END, TIME_END};
 use cal_datetime::{OffsetDateTime, PlainDateTime};
 use cal_time::{Date, Time, UtcOffset};
 use std::marker::Model;
@@ -116,10 +116,9 @@ impl Model for OffsetDateTimeFormat {
 /// these tests, or `None`.
 macro_rules! determining {
     ($self:ident, $format:ident, [$low:tt..$high:ident] $($shows:ident),+) => {{
-        let shown = Shown::new($self.items());
-        if are_apart($self.items())
-            && show_within($self.items(), $low, $high)
-            $(&& $shows(&shown))+
+        if $self.is_apart()
+            && $self.is_within($low, $high)
+            $(&& $shows(&$self))+
         {
             Some($format { format: $self })
         } else {
@@ -179,7 +178,7 @@ impl Format {
         requires { IsTrue (are_apart self.now) }
         ensures { IsParsed self.now text.now result }
     {
-        parse_moment(self.items(), text)
+        parse_moment(self, text)
     }
 }
 
@@ -198,6 +197,7 @@ impl DateFormat {
         ensures value { IfOk result (λ n. IsDate n × AreHeld (moment_of_date n) self.now
             × (text.now ≡ text_of self.now (moment_of_date n))) }
         ensures error { IfErr result (IsRejection self.now text.now) }
+        ensures determines { DeterminesDate self.now }
     {
         match self.format.parse(text) {
             Ok(moment) => Ok(moment.date),
@@ -221,6 +221,7 @@ impl TimeFormat {
         ensures value { IfOk result (λ n. IsTime n × IsTrue (holds_time self.now n)
             × (text.now ≡ text_of self.now (moment_of_time n))) }
         ensures error { IfErr result (IsRejection self.now text.now) }
+        ensures determines { DeterminesTime self.now }
     {
         match self.format.parse(text) {
             Ok(moment) => Ok(moment.time),
@@ -244,6 +245,7 @@ impl OffsetFormat {
         ensures value { IfOk result (λ o. IsOffset o × IsTrue (holds_offset self.now o)
             × (text.now ≡ text_of self.now (moment_of_offset o))) }
         ensures error { IfErr result (IsRejection self.now text.now) }
+        ensures determines { DeterminesOffset self.now }
     {
         match self.format.parse(text) {
             Ok(moment) => Ok(moment.offset),
@@ -270,6 +272,7 @@ impl DateTimeFormat {
             × IsTrue (holds_time self.now (time_at z))
             × (text.now ≡ text_of self.now (moment_of_date_time z))) }
         ensures error { IfErr result (IsRejection self.now text.now) }
+        ensures determines { DeterminesDateTime self.now }
     {
         match self.format.parse(text) {
             Ok(moment) => Ok(PlainDateTime::new(moment.date, moment.time)),
@@ -301,6 +304,7 @@ impl OffsetDateTimeFormat {
             × IsTrue (holds_offset self.now m.offset)
             × (text.now ≡ text_of self.now (moment_of_offset_date_time m))) }
         ensures error { IfErr result (IsRejection self.now text.now) }
+        ensures determines { DeterminesOffsetDateTime self.now }
     {
         match self.format.parse(text) {
             Ok(moment) => Ok(OffsetDateTime::new_in_offset(

@@ -1,5 +1,5 @@
 //! A format as numbers.
-ghost use Rattle.std.specs.Prelude.{◌≡◌, ◌+◌, ◌≤◌, ◌++◌, ℕ, List, Some, IfSome, IsTrue, length, map};
+ghost use Rattle.std.specs.Prelude.{◌≡◌, ◌+◌, ◌<◌, ◌≤◌, ◌++◌, ℕ, List, None, Some, IfSome, IsTrue, length, take, map};
 ghost use Rattle.cal_format.specs.declared.item.Item.{Item};
 ghost use Rattle.cal_c.specs.Formats.{HasItems, format_of, item_parts, no_format};
 
@@ -54,17 +54,29 @@ impl FormatParts {
         }
     }
 
-    /// Returns the format of these numbers, or `None` if they are not a format.
-    pub fn to_format(&self) -> Option<Format>
-        ensures every { (items : List Item) → HasItems self.now items → result ≡ Some items }
-        ensures value { IfSome result (HasItems self.now) }
+    /// Returns the numbers of the items, or `None` if the length is more than 64.
+    #[inline(always)]
+    pub(super) fn parts(&self) -> Option<&[FormatItem]>
+        ensures few { IfSome result (λ _. self.now.length ≤ 64) }
+        ensures value { IfSome result (λ parts. parts.now ≡ take self.now.length self.now.items) }
+        ensures length { IfSome result (λ parts. length parts.now ≡ self.now.length) }
+        ensures none { result ≡ None → 64 < self.now.length }
     {
         let length = self.length as usize;
         if length > MAX {
             return None;
         }
+        Some(&self.items[..length])
+    }
+
+    /// Returns the format of these numbers, or `None` if they are not a format.
+    pub fn to_format(&self) -> Option<Format>
+        ensures every { (items : List Item) → HasItems self.now items → result ≡ Some items }
+        ensures value { IfSome result (HasItems self.now) }
+    {
+        let parts = self.parts()?;
         let mut format = Format::empty();
-        if push_items(&mut format, &self.items[..length]) {
+        if push_items(&mut format, parts) {
             Some(format)
         } else {
             None

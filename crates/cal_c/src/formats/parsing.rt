@@ -12,6 +12,7 @@ ghost use Rattle.cal_c.specs.Statuses.{invalid_format, insufficient_format};
 ghost use Rattle.cal_c.specs.Texts.{no_position, parsed_date_ok, parsed_date_error_at, parsed_moment_ok, parsed_moment_error_at};
 
 use super::format_parts::FormatParts;
+use super::one_pass::parse_date_at_once;
 use super::parse_results::{ParseOffsetResult, ParseTimeResult, status_and_position};
 use crate::status::{INSUFFICIENT_FORMAT, INVALID_FORMAT};
 use crate::texts::{ParseDateResult, ParseMomentResult};
@@ -59,6 +60,9 @@ pub extern "C" fn fots_date_parse_format(text: &[u8], format: &FormatParts) -> P
     ensures value { (items : List Item) → HasItems format.now items → DeterminesDate items
         → IsParsed (IsTextOfDate items text.now) (IsRejection items text.now) parsed_date_ok parsed_date_error_at result }
 {
+    if let Some(date) = parse_date_at_once(text, format) {
+        return ParseDateResult::ok(date);
+    }
     parse_by_format!(text, format, for_dates, parse_date, ParseDateResult)
 }
 

@@ -18,14 +18,14 @@ ghost use Rattle.cal_c.specs.Statuses.{invalid_date, invalid_time, invalid_offse
 ghost use Rattle.cal_c.specs.Values.{IsJulianDay, day_of};
 
 use super::format_parts::FormatParts;
+use super::one_pass::print_moment;
 use super::results::LengthResult;
 use crate::moment::valid_moment;
-use crate::results::Moment;
-use crate::status::{
-    INVALID_DATE, INVALID_FORMAT, INVALID_MOMENT, INVALID_OFFSET, INVALID_TIME, UNSUPPORTED_ITEM,
-};
+use crate::results::Moment as MomentParts;
+use crate::status::{INVALID_DATE, INVALID_MOMENT, INVALID_OFFSET, INVALID_TIME, UNSUPPORTED_ITEM};
 use crate::values::{valid_date, valid_offset, valid_time};
 use cal_datetime::PlainDateTime;
+use cal_format::Moment;
 
 /// The maximum length of a text: 64 items of 15 bytes.
 pub const MAX_LENGTH: usize = 960;
@@ -45,15 +45,6 @@ pub(crate) fn write(text: &[u8], end: Option<usize>, bytes: &mut [u8]) -> Length
     LengthResult::ok(length)
 }
 
-/// Prints a value to a buffer of its own, and writes the text.
-macro_rules! print_to {
-    ($bytes:ident, $format:ident.$print:ident($value:expr)) => {{
-        let mut text = [0; MAX_LENGTH];
-        let end = $format.$print($value, &mut text);
-        write(&text, end, $bytes)
-    }};
-}
-
 /// Prints a date, such as `29/02/2024` by `%d/%m/%Y`.
 #[unsafe(no_mangle)]
 pub extern "C" fn fots_date_format(
@@ -69,10 +60,9 @@ pub extern "C" fn fots_date_format(
         → IsPrinted (are_date_items items) (text_of items (moment_of_date (day_of date))) bytes.old bytes.new result }
 {
     let date = or_error!(LengthResult, valid_date(date), INVALID_DATE);
-    let format = or_error!(LengthResult, format.to_format(), INVALID_FORMAT);
     // This call states that the date is in its range. It costs nothing.
     let _ = date.to_julian_day();
-    print_to!(bytes, format.print_date(date))
+    print_moment(&Moment::of_date(date), 0, 13, format, bytes)
 }
 
 /// Prints a time of day, such as `23:59` by `%H:%M`.
@@ -90,8 +80,7 @@ pub extern "C" fn fots_time_format(
         → IsPrinted (are_time_items items) (text_of items (moment_of_time time)) bytes.old bytes.new result }
 {
     let time = or_error!(LengthResult, valid_time(time), INVALID_TIME);
-    let format = or_error!(LengthResult, format.to_format(), INVALID_FORMAT);
-    print_to!(bytes, format.print_time(time))
+    print_moment(&Moment::of_time(time), 13, 21, format, bytes)
 }
 
 /// Prints an offset, such as `+05:30` by `%:z`.
@@ -109,14 +98,13 @@ pub extern "C" fn fots_offset_format(
         → IsPrinted (are_offset_items items) (text_of items (moment_of_offset offset)) bytes.old bytes.new result }
 {
     let offset = or_error!(LengthResult, valid_offset(offset), INVALID_OFFSET);
-    let format = or_error!(LengthResult, format.to_format(), INVALID_FORMAT);
-    print_to!(bytes, format.print_offset(offset))
+    print_moment(&Moment::of_offset(offset), 21, 25, format, bytes)
 }
 
 /// Prints a date, a time of day and an offset, such as `2024-02-29 23:59 +0100` by `%F %R %z`.
 #[unsafe(no_mangle)]
 pub extern "C" fn fots_moment_format(
-    moment: Moment,
+    moment: MomentParts,
     format: &FormatParts,
     bytes: &mut [u8],
 ) -> LengthResult
@@ -129,8 +117,8 @@ pub extern "C" fn fots_moment_format(
         (text_of items (moment_of_offset_date_time (local_and_offset_in moment))) bytes.old bytes.new result }
 {
     let moment = or_error!(LengthResult, valid_moment(moment), INVALID_MOMENT);
-    let format = or_error!(LengthResult, format.to_format(), INVALID_FORMAT);
-    print_to!(bytes, format.print_offset_date_time(moment))
+    let moment = Moment::of_offset_date_time(moment);
+    print_moment(&moment, 0, 27, format, bytes)
 }
 
 /// Prints a date and a time of day, such as `2024-02-29 23:59` by `%F %R`.
@@ -153,9 +141,6 @@ pub extern "C" fn fots_pair_format(
 {
     let date = or_error!(LengthResult, valid_date(date), INVALID_DATE);
     let time = or_error!(LengthResult, valid_time(time), INVALID_TIME);
-    let format = or_error!(LengthResult, format.to_format(), INVALID_FORMAT);
-    print_to!(
-        bytes,
-        format.print_date_time(PlainDateTime::new(date, time))
-    )
+    let moment = Moment::of_date_time(PlainDateTime::new(date, time));
+    print_moment(&moment, 0, 21, format, bytes)
 }

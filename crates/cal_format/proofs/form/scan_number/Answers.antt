@@ -1,11 +1,26 @@
-use Rattle.std.proofs.Common.{◌≡◌, ◌+◌, ◌++◌, length}
-use Rattle.cal_text.specs.Shape.{ParsesMoreDigits}
+use Rattle.std.proofs.Common.{◌≡◌, ◌+◌, ◌++◌, length, arith}
+use Rattle.cal_text.specs.Shape.{ParsesDigits, ParsesMoreDigits}
+use Rattle.cal_text.proofs.ReadDigits.{printed}
 use Rattle.cal_time.specs.DateText.{digits_at_least}
-use Rattle.cal_format.proofs.Forms.{counted, mapped_both}
+use Rattle.cal_format.proofs.Forms.{counted, mapped, mapped_both}
 use Rattle.cal_format.proofs.form.scan_number.Goals as goal
 
-pub returns-in-Zero-clause-value : goal.returns-in-Zero-clause-value
-returns-in-Zero-clause-value c =
+pub returns-in-2-clause-value : goal.returns-in-2-clause-value
+returns-in-2-clause-value c =
+    let old = c.args.scanner.now.rest.now in
+    let new = c.scan_two_digits.new.scanner.rest.now in
+    rw (c.in-Zero.is, ← c.width.ensures.value, c.in-2.is)
+    (mapped (ParsesDigits old new 2) (λ n. old ≡ digits_at_least 2 n ++ new) _ (λ n h. (printed old new 2 n (omega arith) (omega arith) h).1) c.scan_two_digits.ensures.value)
+
+pub returns-in-4-clause-value : goal.returns-in-4-clause-value
+returns-in-4-clause-value c =
+    let old = c.args.scanner.now.rest.now in
+    let new = c.scan_four_digits.new.scanner.rest.now in
+    rw (c.in-Zero.is, ← c.width.ensures.value, c.in-4.is)
+    (mapped (ParsesDigits old new 4) (λ n. old ≡ digits_at_least 4 n ++ new) _ (λ n h. (printed old new 4 n (omega arith) (omega arith) h).1) c.scan_four_digits.ensures.value)
+
+pub returns-in_default-clause-value : goal.returns-in_default-clause-value
+returns-in_default-clause-value c =
     let old = c.args.scanner.now.rest.now in
     let new = c.scan_digits.new.scanner.rest.now in
     rw (c.in-Zero.is, ← c.width.ensures.value)

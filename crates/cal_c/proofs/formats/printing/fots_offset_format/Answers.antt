@@ -1,21 +1,12 @@
-use Rattle.std.proofs.Common.{◌≡◌, ℕ, ◌≤◌, length, subst, arith, rules}
-use Rattle.std.proofs.lemmas.List.{length-replicate}
+use Rattle.std.proofs.Common.{◌≡◌, ap, subst, ◌∙◌}
 use Rattle.std.proofs.lemmas.Int.{to_z-of_z}
-use Rattle.cal_format.specs.Moment.{IsMoment, moment_of_offset}
+use Rattle.cal_format.specs.Moment.{moment_of_offset}
 use Rattle.cal_format.specs.Reading.{are_offset_items}
 use Rattle.cal_format.specs.Text.{text_of}
-use Rattle.cal_format.proofs.Lengths.{text-short}
 use Rattle.cal_c.specs.FormatTexts.{IsPrinted}
-use Rattle.cal_c.proofs.FormatPrinting.{printed_by}
 use Rattle.cal_c.proofs.formats.printing.fots_offset_format.Goals as goal
 
 pub returns-clause-value : goal.returns-clause-value
 returns-clause-value c _ items h =
     let valid : c.in-Some.value ≡ c.args.offset = simp (to_z-of_z, c.ranges.offset) at c.in-Some.ensures.1 in
-    let found = c.in-Some-to_format.value in
-    let moment : IsMoment (moment_of_offset c.in-Some.value) = record { date = search rules; time = search rules; offset = search rules } in
-    let short = text-short found (moment_of_offset c.in-Some.value) moment in
-    let few : length found ≤ 64 = c.in-Some-to_format.ensures.value.few in
-    let own = printed_by are_offset_items (λ xs. text_of xs (moment_of_offset c.in-Some.value)) c.to_format.result found items c.print_offset-end.new.buffer c.args.bytes.now c.write.new.bytes _ c.print_offset-end.result c.write.result
-    c.in-Some-to_format.is (c.to_format.ensures.every items h) (omega (arith, short, few, length-replicate {A = ℕ} 960 0)) c.print_offset-end.ensures.room c.print_offset-end.ensures.text c.write.ensures.none c.write.ensures.some in
-    subst (λ v. IsPrinted (are_offset_items items) (text_of items (moment_of_offset v)) c.args.bytes.now c.write.new.bytes c.write.result) valid own
+    subst (λ m. IsPrinted (are_offset_items items) (text_of items m) c.args.bytes.now c.print_moment.new.bytes c.print_moment.result) (c.of_offset.ensures ∙ ap moment_of_offset valid) (c.print_moment.ensures.value items h)

@@ -15,6 +15,7 @@ returns-in-Err c =
       every = λ n date held text. absurd (no-result c.in-Err.error (moment_of_date n) (parsed.every (moment_of_date n) (date-holds c.args.self.now n determines date held) text));
       value = tt;
       error = parsed.error;
+      determines = determines;
     }
 
 pub returns-in-Ok : goal.returns-in-Ok
@@ -26,4 +27,5 @@ returns-in-Ok c =
       every = λ n date held text. ap (λ r. Ok (result-or c.in-Ok.moment r).date) (parsed.every (moment_of_date n) (date-holds c.args.self.now n determines date held) text);
       value = (parsed.value.in_range.date, alike.1 parsed.value.numbers, parsed.value.text_is ∙ alike.0);
       error = tt;
+      determines = determines;
     }

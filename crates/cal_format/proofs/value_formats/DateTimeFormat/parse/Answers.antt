@@ -18,6 +18,7 @@ returns-in-Err c =
       every = λ z range held holds text. absurd (no-result c.in-Err.error (moment_of_date_time z) (parsed.every (moment_of_date_time z) (date_time-holds c.args.self.now z determines range held holds) text));
       value = tt;
       error = parsed.error;
+      determines = determines;
     }
 
 pub returns-in-Ok : goal.returns-in-Ok
@@ -37,4 +38,5 @@ returns-in-Ok c =
       value =
           rw c.new.ensures.value (IsDateTime-date_time v.date v.time parsed.value.in_range.date below, alike.1 parsed.value.numbers, subst (λ n. IsTrue (holds_time c.args.self.now n)) (sym t) parsed.value.parts, parsed.value.text_is ∙ alike.0);
       error = tt;
+      determines = determines;
     }

@@ -21,6 +21,7 @@ returns-in-Err c =
           absurd (no-result c.in-Err.error (moment_of_offset_date_time m) (parsed.every (moment_of_offset_date_time m) (moment-holds c.args.self.now m determines local range held holds whole) text));
       value = tt;
       error = parsed.error;
+      determines = determines;
     }
 
 pub returns-in-Ok : goal.returns-in-Ok
@@ -41,4 +42,5 @@ returns-in-Ok c =
       value =
           rw c.new_in_offset.ensures.value (IsDateTime-date_time v.date v.time parsed.value.in_range.date below, parsed.value.in_range.offset, subst (λ w. AreHeld w c.args.self.now) same parsed.value.numbers, subst (λ n. IsTrue (holds_time c.args.self.now n)) (sym t) parsed.value.parts, parsed.value.offset_parts, parsed.value.text_is ∙ ap (text_of c.args.self.now) same);
       error = tt;
+      determines = determines;
     }

@@ -15,6 +15,7 @@ returns-in-Err c =
       every = λ o range holds text. absurd (no-result c.in-Err.error (moment_of_offset o) (parsed.every (moment_of_offset o) (offset-holds c.args.self.now o determines range holds) text));
       value = tt;
       error = parsed.error;
+      determines = determines;
     }
 
 pub returns-in-Ok : goal.returns-in-Ok
@@ -26,4 +27,5 @@ returns-in-Ok c =
       every = λ o range holds text. ap (λ r. Ok (result-or c.in-Ok.moment r).offset) (parsed.every (moment_of_offset o) (offset-holds c.args.self.now o determines range holds) text);
       value = (parsed.value.in_range.offset, parsed.value.offset_parts, parsed.value.text_is ∙ alike.0);
       error = tt;
+      determines = determines;
     }

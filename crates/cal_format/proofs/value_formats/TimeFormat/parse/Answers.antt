@@ -15,6 +15,7 @@ returns-in-Err c =
       every = λ t time holds text. absurd (no-result c.in-Err.error (moment_of_time t) (parsed.every (moment_of_time t) (time-holds c.args.self.now t determines time holds) text));
       value = tt;
       error = parsed.error;
+      determines = determines;
     }
 
 pub returns-in-Ok : goal.returns-in-Ok
@@ -26,4 +27,5 @@ returns-in-Ok c =
       every = λ t time holds text. ap (λ r. Ok (result-or c.in-Ok.moment r).time) (parsed.every (moment_of_time t) (time-holds c.args.self.now t determines time holds) text);
       value = (parsed.value.in_range.time, parsed.value.parts, parsed.value.text_is ∙ alike.0);
       error = tt;
+      determines = determines;
     }

@@ -1,0 +1,56 @@
+-- The items of numbers, one after the other.
+use Rattle.std.proofs.Common.{◌≡◌, ℕ, ◌+◌, ◌-◌, ◌≤◌, List, [], ◌∷◌, ◌++◌, length, map, take, drop, get_or, refl, sym, ap, ◌∙◌, subst, arith, append_assoc, append-nil, length-append}
+use Rattle.std.proofs.lemmas.List.{take_all, length-map}
+use Rattle.std.specs.Prelude.{Bool, true, false, ◌&&◌, IsTrue}
+use Rattle.cal_format.specs.declared.item.Item.{Item}
+use Rattle.cal_format.specs.declared.moment.Moment.{Moment}
+use Rattle.cal_format.specs.Reading.{shows_within, show_within}
+use Rattle.cal_format.specs.Text.{item_text, text_of}
+use Rattle.cal_c.specs.Formats.{item_parts, parts}
+use Rattle.cal_c.specs.OnePass.{IsItemOf, AreItemsOf, IsFormatOf, PrintsItem, PrintsItems}
+use Rattle.cal_c.specs.declared.formats.format_parts.FormatItem.{FormatItem}
+use Rattle.cal_c.specs.declared.formats.format_parts.FormatParts.{FormatParts}
+
+both-true : (a b : Bool) → IsTrue a → IsTrue b → IsTrue (a && b)
+both-true true b h k = k
+both-true false b h k = cc
+
+-- What holds of an item and of the others holds of them all.
+pub none-of : (P : List Item → Type 0) → P [] → AreItemsOf [] P
+none-of P h = record { items = []; parts_are = refl; every = every }
+  where
+    every : (others : List Item) → [] ≡ map item_parts others → P others
+    every [] e = h
+    every (i ∷ others) e = absurd (omega (arith, ap length e))
+
+pub all-of : (P : Item → Type 0) (Q R : List Item → Type 0) (ps : List FormatItem) → ((i : Item) (items : List Item) → P i → Q items → R (i ∷ items)) → 1 ≤ length ps → IsItemOf (get_or ps 0 (parts 0 0)) P
+    → AreItemsOf (take (length ps - 1) (drop 1 ps)) Q → AreItemsOf ps R
+all-of P Q R [] both some first others = absurd (omega arith)
+all-of P Q R (p ∷ ps) both some first others =
+    let rest : AreItemsOf ps Q = subst (λ l. AreItemsOf l Q) (take_all (length (p ∷ ps) - 1) ps (omega arith)) others in
+    record { items = first.item ∷ rest.items; parts_are = λ j. first.part_is j ∷ rest.parts_are j; every = every first rest }
+  where
+    every : IsItemOf p P → AreItemsOf ps Q → (items : List Item) → p ∷ ps ≡ map item_parts items → R items
+    every f rest [] e = absurd (omega (arith, ap length e))
+    every f rest (i ∷ items) e = both i items (f.every i (ap (λ l. get_or l 0 (parts 0 0)) e)) (rest.every items (ap (λ l. drop 1 l) e))
+
+pub format-of : (f : FormatParts) (ps : List FormatItem) (P Q : List Item → Type 0) → f.length ≤ 64 → ps ≡ take f.length f.items → length ps ≡ f.length → AreItemsOf ps P → ((items : List Item) → P items → Q items)
+    → IsFormatOf f Q
+format-of f ps P Q few are long found then =
+    let same : length found.items ≡ f.length = omega (arith, long, simp length-map at (ap length found.parts_are)) in
+    record {
+      format = (found.items, record { few = omega (arith, few, same); length_is = sym same; items_are = sym are ∙ found.parts_are });
+      every = λ items has. then items (found.every items (are ∙ has.items_are));
+    }
+
+-- ---- printing
+pub prints-none : (low high : ℕ) (v : Moment) (old : List ℕ) (at : ℕ) → AreItemsOf [] (PrintsItems low high v old old at at)
+prints-none low high v old at = none-of (PrintsItems low high v old old at at) (record { within = refl; text = sym (append-nil (take at old)); end_is = omega arith })
+
+pub prints-both : (low high : ℕ) (v : Moment) (old mid new : List ℕ) (at next end : ℕ) (i : Item) (items : List Item) → PrintsItem low high v old mid at next i → PrintsItems low high v mid new next end items
+    → PrintsItems low high v old new at end (i ∷ items)
+prints-both low high v old mid new at next end i items first others = record {
+  within = both-true (shows_within low high i) (show_within low high items) first.within others.within;
+  text = others.text ∙ ap (λ l. l ++ text_of items v) first.text ∙ append_assoc (take at old) (item_text [] v i) (text_of items v);
+  end_is = omega (arith, first.end_is, others.end_is, length-append (item_text [] v i) (text_of items v));
+}

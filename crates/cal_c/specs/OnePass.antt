@@ -1,0 +1,38 @@
+-- What holds of the items with some numbers.
+use Rattle.std.specs.Prelude.{◌≡◌, ℕ, ◌+◌, List, [], ◌++◌, length, take, map, IsTrue}
+use Rattle.cal_format.specs.declared.item.Item.{Item}
+use Rattle.cal_format.specs.declared.moment.Moment.{Moment}
+use Rattle.cal_format.specs.Reading.{shows_within, show_within}
+use Rattle.cal_format.specs.Text.{item_text, text_of}
+use Rattle.cal_c.specs.Formats.{item_parts, HasItems, IsFormat}
+use Rattle.cal_c.specs.declared.formats.format_parts.FormatItem.{FormatItem}
+use Rattle.cal_c.specs.declared.formats.format_parts.FormatParts.{FormatParts}
+
+-- The numbers are an item, and P holds of it.
+pub record IsItemOf (part : FormatItem) (P : Item → Type 0) : Type 0 where
+  pub item : Item
+  pub part_is : part ≡ item_parts item
+  pub every : (i : Item) → part ≡ item_parts i → P i
+
+-- The numbers are items, and P holds of them.
+pub record AreItemsOf (parts : List FormatItem) (P : List Item → Type 0) : Type 0 where
+  pub items : List Item
+  pub parts_are : parts ≡ map item_parts items
+  pub every : (others : List Item) → parts ≡ map item_parts others → P others
+
+-- The numbers are a format, and P holds of its items.
+pub record IsFormatOf (f : FormatParts) (P : List Item → Type 0) : Type 0 where
+  pub format : IsFormat f
+  pub every : (items : List Item) → HasItems f items → P items
+
+-- An item shows only components of a range, and its text stands in the buffer between two positions.
+pub record PrintsItem (low high : ℕ) (v : Moment) (old new : List ℕ) (at end : ℕ) (i : Item) : Type 0 where
+  pub within : IsTrue (shows_within low high i)
+  pub text : take end new ≡ take at old ++ item_text [] v i
+  pub end_is : end ≡ at + length (item_text [] v i)
+
+-- The same of items.
+pub record PrintsItems (low high : ℕ) (v : Moment) (old new : List ℕ) (at end : ℕ) (items : List Item) : Type 0 where
+  pub within : IsTrue (show_within low high items)
+  pub text : take end new ≡ take at old ++ text_of items v
+  pub end_is : end ≡ at + length (text_of items v)

@@ -1,0 +1,66 @@
+//! Parsing in one pass.
+ghost use Rattle.std.specs.Prelude.{◌≡◌, IsTrue, IfSome};
+ghost use Rattle.cal_format.specs.declared.moment.Moment.{Moment};
+ghost use Rattle.cal_format.specs.Reading.{are_apart};
+ghost use Rattle.cal_format.specs.Scanning.{fields_of, HasFields};
+ghost use Rattle.cal_format.specs.Text.{text_of};
+ghost use Rattle.cal_format.specs.Values.{Holds, IsPrinted, first_contradiction};
+
+use crate::fields::Fields;
+use crate::format::Format;
+use crate::item::Item;
+use crate::moment::Moment;
+use crate::parsing::find_moment;
+use cal_text::Scanner;
+use cal_time::error::Component as Named;
+
+/// Parses a text in one pass. Returns the moment that the items hold and print as this text, or
+/// `None` for another text, or if two items show the same component.
+pub(crate) fn parse_once(items: &Format, text: &[u8]) -> Option<Moment>
+    requires apart { IsTrue (are_apart items.now) }
+    ensures every { (v : Moment) → Holds items.now v → text.now ≡ text_of items.now v
+        → IfSome result (λ m. m ≡ v) }
+    ensures value { IfSome result (λ v. IsPrinted items.now v text.now) }
+{
+    let mut fields = Fields::new();
+    let mut scanner = Scanner { rest: text };
+    if !scan_fields(items.items(), &mut scanner, &mut fields) {
+        return None;
+    }
+    if !scanner.rest.is_empty() {
+        return None;
+    }
+    let moment = find_moment(items, &fields)?;
+    match field_contradiction(items.items(), &fields, &moment) {
+        None => Some(moment),
+        Some(_) => None,
+    }
+}
+
+/// Parses the items at the front of a text, and sets the numbers of their components. Returns
+/// `false` at a byte that doesn't fit, or at a number out of range.
+fn scan_fields(items: &[Item], scanner: &mut Scanner, fields: &mut Fields) -> bool
+    ensures { IsTrue result → HasFields items.now fields.old fields.new scanner.old.rest.now
+        scanner.new.rest.now }
+{
+    match items {
+        [] => true,
+        [item, others @ ..] => {
+            fields.scan(*item, scanner) && scan_fields(others, scanner, fields)
+        }
+    }
+}
+
+/// Returns the component of the first item whose number in the fields isn't the number of the
+/// moment.
+fn field_contradiction(items: &[Item], fields: &Fields, moment: &Moment) -> Option<Named>
+    ensures { result ≡ first_contradiction items.now (fields_of items.now fields.now) moment.now }
+{
+    match items {
+        [] => None,
+        [item, others @ ..] => match item.contradiction(fields.number(*item), moment) {
+            Some(component) => Some(component),
+            None => field_contradiction(others, fields, moment),
+        },
+    }
+}
