@@ -729,10 +729,12 @@ static inline fots_rule fots_rule_new(fots_date start, uint32_t frequency)
  * FOTS_INVALID_WEEKDAY; then FOTS_INVALID_DATE for `date`. The examples have the last Fridays from
  * 2024-01-01 on. */
 
-/* Return the first day of the rule, or the first one after a date; FOTS_RESULT_OUT_OF_RANGE if none
- * follows. The first is 2024-01-26, and the next one 2024-02-23. */
+/* Return the first day of the rule, the first one after a date, or the last one before a date;
+ * FOTS_RESULT_OUT_OF_RANGE if no such day exists. The first is 2024-01-26, the next one 2024-02-23,
+ * and the last one before 2024-02-23 is 2024-01-26. */
 fots_date_result fots_rule_first(const fots_rule *rule);
 fots_date_result fots_rule_next_after(const fots_rule *rule, fots_date date);
+fots_date_result fots_rule_previous_before(const fots_rule *rule, fots_date date);
 
 /* Returns 1 if the date is a day of the rule, else 0. 2024-01-26 is 1, and 2024-01-19 is 0. */
 fots_component_result fots_rule_contains(const fots_rule *rule, fots_date date);

@@ -623,6 +623,10 @@ public:
     {
         return Date::if_any(with([date](const fots_rule *rule) { return fots_rule_next_after(rule, date.c()); }));
     }
+    std::optional<Date> previous_before(Date date) const
+    {
+        return Date::if_any(with([date](const fots_rule *rule) { return fots_rule_previous_before(rule, date.c()); }));
+    }
     bool contains(Date date) const
     {
         return detail::value_or_throw(with([date](const fots_rule *rule) { return fots_rule_contains(rule, date.c()); })).number == 1;

@@ -335,6 +335,12 @@ static void recurrences_of_the_rfc(void)
         for (; index < (size_t)COUNT(found) && its->days[index] != 0; index++) {
             is_day(next, of_number(its->days[index]), its->text);
             check(found[index].julian_day == next.date.julian_day, its->text, row, (long long)index);
+            const fots_date_result previous = fots_rule_previous_before(&rule, next.date);
+            if (index == 0) {
+                is_error(previous, FOTS_RESULT_OUT_OF_RANGE, its->text);
+            } else {
+                is_day(previous, of_number(its->days[index - 1]), its->text);
+            }
             const fots_date_result after = fots_rule_next_after(&rule, next.date);
             for (fots_date date = next.date; date.julian_day <= next.date.julian_day + 6; date.julian_day++) {
                 const int is_one = date.julian_day == next.date.julian_day || (after.status == FOTS_OK && after.date.julian_day <= date.julian_day);
@@ -434,6 +440,8 @@ static void rule_errors(void)
     rule.start = date_at(FOTS_NO_VALUE);
     is_error(fots_rule_next_after(&rule, date_at(0)), FOTS_INVALID_DATE, "from no date");
     is_error(fots_rule_next_after(&daily, date_at(FOTS_NO_VALUE)), FOTS_INVALID_DATE, "after no date");
+    is_error(fots_rule_previous_before(&daily, date_at(FOTS_NO_VALUE)), FOTS_INVALID_DATE, "before no date");
+    is_error(fots_rule_previous_before(&daily, daily.start), FOTS_RESULT_OUT_OF_RANGE, "before the start");
     check(fots_rule_contains(&daily, date_at(FOTS_NO_VALUE)).number == FOTS_NO_COMPONENT, "no date of a rule", 0, 0);
     days[0].julian_day = 1;
     const fots_days_result none = fots_rule_days_after(&daily, date_at(FOTS_NO_VALUE), days, 3);

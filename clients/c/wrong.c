@@ -284,6 +284,7 @@ static void rules(int32_t julian_day, uint32_t number, int32_t count)
     with_other = first_of(wrong, of_date(other));
     DATE(wrong, fots_rule_first(&rule));
     DATE(with_other, fots_rule_next_after(&rule, other));
+    DATE(with_other, fots_rule_previous_before(&rule, other));
     COMPONENT(with_other, fots_rule_contains(&rule, other), julian_day);
     written = fots_rule_days_after(&rule, other, days, 3);
     check(written.status == with_other && written.length <= (with_other == FOTS_OK ? 3 : 0), "days_after", julian_day,

@@ -215,6 +215,7 @@ void recurrences()
     check(mondays.first_days(6) == dates({"1997-09-22", "1997-10-20", "1997-11-17", "1997-12-22", "1998-01-19", "1998-02-16"}), "BYDAY=-2MO");
     check(mondays.next_after(Date::parse("1997-12-22")) == Date::parse("1998-01-19") && mondays.contains(Date::parse("1998-02-16"))
         && !mondays.contains(Date::parse("1998-02-23")), "one at a time");
+    check(mondays.previous_before(Date::parse("1998-01-19")) == Date::parse("1997-12-22") && !mondays.previous_before(mondays.start), "before a day");
     check(mondays.first_days(0).empty() && mondays.days_after(Date::parse("1997-11-17"), 1) == dates({"1997-12-22"}), "after a day");
     has_no_room([&] { mondays.days_after(Date::min(), SIZE_MAX); }, "room for too many days after a day");
     Rule election(Date::parse("1996-11-05"), Frequency::Yearly);

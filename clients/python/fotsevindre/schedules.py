@@ -188,6 +188,10 @@ class Rule:
         """Returns the first day of the rule after the day, or `None` if no more follow."""
         return _core.rule_next_after(self._parts, date)
 
+    def previous_before(self, date: Date) -> Date | None:
+        """Returns the last day of the rule before the day, or `None` if no such day exists."""
+        return _core.rule_previous_before(self._parts, date)
+
     def days_after(self, date: Date) -> Iterator[Date]:
         """Iterates over the days of the rule after the day, in order."""
         return self._walk(check(date, Date))

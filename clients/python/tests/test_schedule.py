@@ -149,6 +149,7 @@ class Recurrences(unittest.TestCase):
             wanted = [numbered(number) for number in wanted]
             self.assertEqual(rule.first_days(len(wanted)), wanted, text)
             self.assertEqual([rule.next_after(one) for one in wanted[:-1]], wanted[1:], text)
+            self.assertEqual([rule.previous_before(one) for one in wanted], [None, *wanted[:-1]], text)
             span = wanted[0].iter_to(wanted[-1])
             self.assertEqual([date for date in span if date in rule], wanted, text)
             by_text = Recurrence.parse(text)
@@ -188,7 +189,7 @@ class Recurrences(unittest.TestCase):
         rule = Rule(numbered(19970902), Frequency.Weekly, week_start=SU, weekdays=[TU, TH], until=numbered(19971006))
         self.assertEqual([date.day for date in rule], [2, 4, 9, 11, 16, 18, 23, 25, 30, 2])
         never = Rule(day(2024, 1, 1), Frequency.Yearly, months=[2], month_days=[30])
-        self.assertEqual((list(never), never.first_days(3), never.next_after(Date.MIN)), ([], [], None))
+        self.assertEqual((list(never), never.first_days(3), never.next_after(Date.MIN), never.previous_before(Date.MAX)), ([], [], None, None))
         daily = Rule(day(999999, 12, 30), Frequency.Daily)
         self.assertEqual(list(Recurrence.parse("freq=daily").days(daily.start)), [day(999999, 12, 30), Date.MAX])
         self.assertEqual(list(Recurrence.parse("freq=daily").days(Date.MAX - SignedDuration.days(63)))[-1], Date.MAX)

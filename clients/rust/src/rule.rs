@@ -108,6 +108,11 @@ impl<'a> Rule<'a> {
         or_none(with_parts(self, |rule| ffi::fots_rule_next_after(rule, date.to_c()))).map(Date::from_c)
     }
 
+    /// Returns the last day of the rule before a date, or `None` if no such day exists.
+    pub fn previous_before(&self, date: Date) -> Option<Date> {
+        or_none(with_parts(self, |rule| ffi::fots_rule_previous_before(rule, date.to_c()))).map(Date::from_c)
+    }
+
     /// Returns an iterator over the days of the rule.
     pub fn days<'r>(&'r self) -> RuleDays<'r, 'a> {
         RuleDays { rule: self, front: or_none(with_parts(self, ffi::fots_rule_first)).map(Date::from_c) }

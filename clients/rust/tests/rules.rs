@@ -23,6 +23,7 @@ fn begins(text: &str, rule: &Rule<'_>, days: &[i32], ends: bool) {
     assert_eq!(rule.first_days(days.len() as u32).collect::<Vec<_>>(), days, "{text}");
     for pair in days.windows(2) {
         assert_eq!(rule.next_after(pair[0]), Some(pair[1]), "{text}");
+        assert_eq!(rule.previous_before(pair[1]), Some(pair[0]), "{text}");
     }
     let last = *days.last().unwrap();
     assert!(days[0].iter_to(last).filter(|day| rule.contains(*day)).eq(days.iter().copied()), "{text}");
@@ -166,6 +167,7 @@ fn rules_of_no_day() {
     assert_eq!(of_the_0th.days().next(), None);
     let daily = rule(Daily, 2024_01_01);
     assert_eq!((daily.next_after(Date::MIN), daily.next_after(Date::MAX)), (Some(date(2024_01_01)), None));
+    assert_eq!((daily.previous_before(daily.start), of_february.previous_before(Date::MAX)), (None, None));
 }
 
 #[test]

@@ -10,3 +10,10 @@ pub mod ReadWords
 pub mod ReadDates
 pub mod ReadParts
 pub mod GivenParts
+pub mod Sets
+pub mod TimeSteps
+pub mod TimeTests
+pub mod RuleOccurrences
+pub mod TimeCounts
+pub mod TimePositions
+pub mod SelectedReadings

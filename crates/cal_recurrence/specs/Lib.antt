@@ -5,3 +5,8 @@ pub mod RecurrenceText
 pub mod Written
 pub mod Spelled
 pub mod FaultText
+pub mod Sets
+pub mod TimesOfDay
+pub mod DateTimeRule
+pub mod TimeSearch
+pub mod RuleInside

@@ -2,6 +2,8 @@ pub mod MonthMoves
 pub mod RulePeriods
 pub mod RulePositions
 pub mod Rules
+pub mod RulePrevious
+pub mod RuleSpans
 pub mod RuleSteps
 pub mod RuleNumbers
 pub mod Untils

@@ -269,6 +269,20 @@ is_occurrence-period rule n h low high on =
       positions = sym (positions-period rule n (interval_or_1 rule) low high) ∙ is.positions;
     })
 
+-- A day this many periods after a day of the rule is a day of the rule, if it isn't after the last
+-- day, and neither day is in a year at an end of the range.
+pub is_occurrence-later : (rule : Rule) (n : ℕ) → 372 ≤ n → n + 146097 * interval_or_1 rule + 372 ≤ last_day
+    → matches_until rule.until (n + 146097 * interval_or_1 rule) ≡ true → is_occurrence rule n ≡ true → is_occurrence rule (n + 146097 * interval_or_1 rule) ≡ true
+is_occurrence-later rule n low high until on =
+    let is = IsOn-is_occurrence rule n on in
+    is_occurrence-IsOn rule (n + 146097 * interval_or_1 rule) (record {
+      start = omega (arith, is.start);
+      by = until;
+      turn = periods_past-periods rule n is.start ∙ is.turn;
+      passes = passes-periods rule n (interval_or_1 rule) ∙ is.passes;
+      positions = positions-period rule n (interval_or_1 rule) low high ∙ is.positions;
+    })
+
 -- ---- days that are skipped
 pub is_off : (rule : Rule) (n : ℕ) → ¬ (is_occurrence rule n ≡ true) → is_occurrence rule n ≡ false
 is_off rule n h = false_from_ne_true (is_occurrence rule n) h

@@ -27,7 +27,7 @@ use Rattle.cal_schedule.specs.declared.rule.rule.Rule.{Rule}
 use Rattle.cal_schedule.specs.declared.rule.unit.PeriodUnit.{PeriodUnit}
 use Rattle.cal_schedule.specs.declared.rule.unit.PeriodUnit.TheVariants as unit
 use Rattle.cal_schedule.specs.Months.{HasMonthIndex}
-use Rattle.cal_schedule.specs.Rule.{allows, fourth_day, is_nth_weekday, is_week, matches_weeks, unit_of, occurrences_after, occurrences_left, occurrences, is_empty, matches_months, matches_until, is_month_day, is_year_day, is_occurrence, passes, matches_days, matches_by_day, is_yearly, interval_or_1, period_index, periods_past}
+use Rattle.cal_schedule.specs.Rule.{allows, fourth_day, is_nth_weekday, is_week, matches_weeks, unit_of, occurrences_after, occurrences_left, occurrences, occurrences_from, is_empty, matches_months, matches_until, is_month_day, is_year_day, is_occurrence, passes, matches_days, matches_by_day, is_yearly, interval_or_1, period_index, periods_past}
 use Rattle.cal_schedule.specs.RuleSearch.{may_fall_on, by_day_weekday, IsCandidate, IsFirstOfPeriod, IsNextBefore, IsNextFrom, IsSkip, NoDayBetween}
 use Rattle.cal_schedule.proofs.MonthMoves.{IsMonthNumber-date, same_month}
 use Rattle.cal_schedule.proofs.RulePeriods.{fourth-is, matches_months-alike, matches_until-earlier, pos-months, pos-week_years, pos-years, period_index-rises, weeks-is, year_from, year_until}
@@ -303,25 +303,41 @@ pub left_after : (rule : Rule) (n : ℕ) (r : Option ℕ) → r ≡ slice_get (o
 left_after rule n None e = sym (filter-none (is_occurrence rule) (n + 1) (last_day - n) (none_matching (is_occurrence rule) (n + 1) (last_day - n) (sym e)))
 left_after rule n (Some x) e = sym (left_of rule n x (first_matching (is_occurrence rule) (n + 1) (last_day - n) (Some x) e))
 
--- and all of them, from the first one on
-pub left_from_start : (rule : Rule) (r : Option ℕ) → IsNextFrom rule rule.start r → occurrences_left rule r ≡ occurrences rule
-left_from_start rule None h =
-    sym (filter-none (is_occurrence rule) 0 (last_day + 1) (λ k low high. none-joined rule 0 rule.start (last_day + 1) (before_start rule 0) h k low (omega arith)))
-left_from_start rule (Some x) h =
-    let count : 0 + (last_day + 1) - (x + 1) ≡ last_day - x = omega (arith, h.1) in
-    sym (filter-first (is_occurrence rule) 0 (last_day + 1) x (record {
-      not_before = omega arith;
+-- and those from a day on, from the first of them
+pub left_from : (rule : Rule) (n count m : ℕ) (r : Option ℕ) → count ≡ last_day + 1 - n → n ≤ m → NoDayBetween rule n m → IsNextFrom rule m r
+    → occurrences_left rule r ≡ filter (is_occurrence rule) (days_from n count)
+left_from rule n count m None all low before h =
+    sym (filter-none (is_occurrence rule) n count (λ k low high. none-joined rule n m (last_day + 1) before h k low (omega arith)))
+left_from rule n count m (Some x) all low before h =
+    let rest : n + count - (x + 1) ≡ last_day - x = omega (arith, h.1) in
+    sym (filter-first (is_occurrence rule) n count x (record {
+      not_before = omega (arith, h.0);
       within = omega (arith, h.1);
       passes = h.2;
-      none_before = none-joined rule 0 rule.start x (before_start rule 0) h.3;
-    }) ∙ ap (λ c. x ∷ filter (is_occurrence rule) (days_from (x + 1) c)) count)
+      none_before = none-joined rule n m x before h.3;
+    }) ∙ ap (λ c. x ∷ filter (is_occurrence rule) (days_from (x + 1) c)) rest)
+
+-- and all of them
+pub left_from_start : (rule : Rule) (r : Option ℕ) → IsNextFrom rule rule.start r → occurrences_left rule r ≡ occurrences rule
+left_from_start rule r = left_from rule 0 (last_day + 1) rule.start r (omega arith) (omega arith) (before_start rule 0)
 
 -- The range has fewer days than an iterator may return, so the first `u32.MAX` days are all of
 -- them.
+pub all_from : (rule : Rule) (n count : ℕ) → count ≤ 4294967295
+    → take 4294967295 (filter (is_occurrence rule) (days_from n count)) ≡ filter (is_occurrence rule) (days_from n count)
+all_from rule n count h =
+    let days = days_from n count in
+    take_all 4294967295 (filter (is_occurrence rule) days) (omega (arith, length-filter (is_occurrence rule) days, count_by-le-length (is_occurrence rule) days, length-days_from n count))
+
 pub all_of_them : (rule : Rule) → take 4294967295 (occurrences rule) ≡ occurrences rule
-all_of_them rule =
-    let days = days_from 0 (last_day + 1) in
-    take_all 4294967295 (occurrences rule) (omega (arith, length-filter (is_occurrence rule) days, count_by-le-length (is_occurrence rule) days, length-days_from 0 (last_day + 1)))
+all_of_them rule = all_from rule 0 (last_day + 1) (omega arith)
+
+pub walk_is : (rule : Rule) (n m : ℕ) (r : Option ℕ) → m ≡ max rule.start n → IsNextFrom rule m r
+    → take 4294967295 (occurrences_left rule r) ≡ occurrences_from rule n
+walk_is rule n m r first h =
+    let none : NoDayBetween rule n m = λ k low high. before_start rule 0 k (omega arith) (omega arith) in
+    ap (take 4294967295) (left_from rule n (last_day + 1 - n) m r refl (omega arith) none h)
+    ∙ all_from rule n (last_day + 1 - n) (omega arith)
 
 -- one day of the walk, with the others after it
 pub some_left : (rule : Rule) (n left : ℕ) (front : Option ℕ) → left ≢ 0 → front ≡ slice_get (occurrences_after rule n) 0

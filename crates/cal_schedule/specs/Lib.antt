@@ -1,6 +1,7 @@
 pub mod Months
 pub mod MonthLaws
 pub mod Pattern
+pub mod Previous
 pub mod Rule
 pub mod Ranks
 pub mod RuleLaws

@@ -86,12 +86,12 @@ count-weeks test same (suc q) n =
     omega (arith, ap (count_before test) e, count-week test same (q * 7 + n), count-weeks test same q n, suc-mul q (count_before test 7))
 
 -- If day n passes, the list from day n on is this day and then the list of the other days.
-from-yes : (test : ℕ → Bool) (n count : ℕ) → test n ≡ true → filter test (days_from n (suc count)) ≡ n ∷ filter test (days_from (n + 1) count)
+pub from-yes : (test : ℕ → Bool) (n count : ℕ) → test n ≡ true → filter test (days_from n (suc count)) ≡ n ∷ filter test (days_from (n + 1) count)
 unfolding days_from
 from-yes test n count h = rw h refl
 
 -- If day n doesn't pass, the list from day n on is the list of the other days.
-from-no : (test : ℕ → Bool) (n count : ℕ) → test n ≡ false → filter test (days_from n (suc count)) ≡ filter test (days_from (n + 1) count)
+pub from-no : (test : ℕ → Bool) (n count : ℕ) → test n ≡ false → filter test (days_from n (suc count)) ≡ filter test (days_from (n + 1) count)
 unfolding days_from
 from-no test n count h = rw h refl
 

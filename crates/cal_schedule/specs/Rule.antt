@@ -6,7 +6,7 @@ use Rattle.cal_time.specs.Date.{first_year, last_day, year_at, month_at, day_of_
 use Rattle.cal_time.specs.IsoWeekDate.{count_before}
 use Rattle.cal_time.specs.Lengths.{days_in_month, days_in_year}
 use Rattle.cal_time.specs.Month.{number}
-use Rattle.cal_time.specs.Occurrences.{days_from}
+use Rattle.cal_time.specs.Occurrences.{days_from, days_back_from}
 use Rattle.cal_time.specs.Weekday.{index}
 use Rattle.cal_time.specs.declared.Weekday.{Weekday}
 use Rattle.cal_schedule.specs.Months.{month_number_at}
@@ -166,6 +166,18 @@ is_occurrence rule n =
 -- The days of the rule after day n, in ascending order.
 abbrev pub occurrences_after : Rule → ℕ → List ℕ
 occurrences_after rule n = filter (is_occurrence rule) (days_from (n + 1) (last_day - n))
+
+-- The days of the rule from day n on, in ascending order.
+abbrev pub occurrences_from : Rule → ℕ → List ℕ
+occurrences_from rule n = filter (is_occurrence rule) (days_from n (last_day + 1 - n))
+
+-- The days of the rule from day m on and before day n, in ascending order.
+abbrev pub occurrences_between : Rule → ℕ → ℕ → List ℕ
+occurrences_between rule m n = filter (is_occurrence rule) (days_from m (n - m))
+
+-- The days of the rule before day n, from the nearest back.
+abbrev pub occurrences_before : Rule → ℕ → List ℕ
+occurrences_before rule n = filter (is_occurrence rule) (days_back_from n)
 
 -- All days of the rule, in ascending order.
 abbrev pub occurrences : Rule → List ℕ

@@ -7,7 +7,7 @@ use Rattle.cal_schedule.specs.declared.rule.rule.ByDay.{ByDay}
 use Rattle.cal_schedule.specs.declared.rule.rule.ByDay.TheVariants.{Every, Nth}
 use Rattle.cal_schedule.specs.declared.rule.rule.Rule.{Rule}
 use Rattle.cal_schedule.specs.declared.rule.unit.PeriodUnit.{PeriodUnit}
-use Rattle.cal_schedule.specs.Rule.{allows, is_occurrence, passes, period_index, unit_of}
+use Rattle.cal_schedule.specs.Rule.{allows, is_occurrence, matches_until, passes, period_index, unit_of}
 
 -- No day of the rule is from day m on and before day n.
 abbrev pub NoDayBetween : Rule → ℕ → ℕ → Type 0
@@ -75,3 +75,15 @@ IsNextBefore rule n e r =
 abbrev pub IsNextFrom : Rule → ℕ → Option ℕ → Type 0
 IsNextFrom rule n r =
     MatchOption r (NoDayBetween rule n (last_day + 1)) (λ x. (n ≤ x) × IsDate x × (is_occurrence rule x ≡ true) × NoDayBetween rule n x)
+
+-- Day e is day n, or the day after the last day of the rule if this is earlier.
+pub record IsEndBefore (rule : Rule) (n e : ℕ) : Type 0 where
+  pub range : IsDate n
+  pub most : e ≤ n
+  pub none : NoDayBetween rule e n
+  pub until : (k : ℕ) → k < e → matches_until rule.until k ≡ true
+
+-- r is the last day of the rule from day m on and before day n, or `None` without one.
+abbrev pub IsLastBetween : Rule → ℕ → ℕ → Option ℕ → Type 0
+IsLastBetween rule m n r =
+    MatchOption r (NoDayBetween rule m n) (λ x. (m ≤ x) × (x < n) × IsDate x × (is_occurrence rule x ≡ true) × NoDayBetween rule (x + 1) n)

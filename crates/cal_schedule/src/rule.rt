@@ -5,6 +5,8 @@ mod matching;
 mod pattern;
 mod periods;
 mod positions;
+mod previous;
+mod ranks;
 mod rule;
 mod search;
 mod unit;

@@ -11,6 +11,7 @@ mod one_answer;
 mod recurrences;
 mod rules;
 mod rules_laws;
+mod times_of_day;
 mod workdays;
 
 /// Creates the date with this year, number of the month and day of the month.

@@ -21,6 +21,17 @@ fn next_two(rule: &Rule, date: Date) -> Option<(Date, Date)>
     Some((first, second))
 }
 
+/// Returns the days of a rule next to a date: the last one before it and the first one after it.
+fn days_around(rule: &Rule, date: Date) -> Option<(Date, Date)>
+    ensures order { IfSome result (λ days. (days.0 < date) × (date < days.1)) }
+    ensures found { IfSome result (λ days.
+        (is_occurrence rule.now days.0 ≡ true) × (is_occurrence rule.now days.1 ≡ true)) }
+{
+    let before = rule.previous_before(date)?;
+    let after = rule.next_after(date)?;
+    Some((before, after))
+}
+
 /// Parses the text of a recurrence and writes it again, or passes the error on.
 fn respelled(text: &[u8]) -> Result<RecurrenceText, ParseRuleError>
     ensures written { IfOk result (λ written.
@@ -56,6 +67,12 @@ pub fn show(rt: &impl Print) -> io::Result<()> {
     }
     if let Some((first, second)) = next_two(&last_fridays, start) {
         println!(rt; "{first} {second}")?;
+    }
+    let Ok(date) = Date::from_calendar_date(2024, Month::February, 9) else {
+        return Ok(());
+    };
+    if let Some((before, after)) = days_around(&last_fridays, date) {
+        println!(rt; "{before} {after}")?;
     }
     show_days(rt, "FREQ=MONTHLY;BYDAY=-1FR;COUNT=3", start)?;
     show_days(rt, "FREQ=MONTHLY;BYDAY=-1FR;BYHOUR=9", start)?;

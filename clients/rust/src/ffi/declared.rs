@@ -198,6 +198,7 @@ calls! {
     ) -> usize;
     fots_rule_first(rule: CRulePointer) -> DateResult;
     fots_rule_next_after(rule: CRulePointer, date: i32) -> DateResult;
+    fots_rule_previous_before(rule: CRulePointer, date: i32) -> DateResult;
     fots_rule_contains(rule: CRulePointer, date: i32) -> ComponentResult;
     fots_recurrence_parse(text: &[u8]) -> ParseRecurrenceResult;
     fots_recurrence_text(text: &[u8]) -> RecurrenceTextResult;

@@ -2,7 +2,7 @@
 //!
 //! A rule is a struct of its parts. Each of its lists has at most 62 values.
 ghost use Rattle.std.specs.Prelude.{◌≡◌, pos, slice_get, if◌then◌else◌};
-ghost use Rattle.cal_schedule.specs.Rule.{occurrences_after, occurrences, is_occurrence};
+ghost use Rattle.cal_schedule.specs.Rule.{occurrences_after, occurrences_before, occurrences, is_occurrence};
 ghost use Rattle.cal_c.specs.Recurrences.{days_ok, days_error, AreDatesWritten, IsRule, IsRuleStatus, rule_in};
 ghost use Rattle.cal_c.specs.Results.{date_or_out_of_range, date_error, number_ok, number_error};
 ghost use Rattle.cal_c.specs.Statuses.{invalid_date};
@@ -55,6 +55,22 @@ pub extern "C" fn fots_rule_next_after(rule: &RuleParts<'_>, date: i32) -> DateR
     let rule = or_return!(rule_from_parts(rule), status => DateResult::error(status));
     let date = or_error!(DateResult, valid_date(date), INVALID_DATE);
     DateResult::from_option(rule.next_after(date))
+}
+
+/// Returns the last day of a rule before a date. Fails if the rule has no such day. For the last
+/// Friday of each month from 2460311, 2024-01-01, on it is 2460336, 2024-01-26, before 2460364,
+/// 2024-02-23.
+#[unsafe(no_mangle)]
+pub extern "C" fn fots_rule_previous_before(rule: &RuleParts<'_>, date: i32) -> DateResult
+    ensures error { ¬ IsRule rule.now
+        → IsRuleStatus rule.now result.status × (result ≡ date_error result.status) }
+    ensures invalid_date { IsRule rule.now → ¬ IsJulianDay date → result ≡ date_error invalid_date }
+    ensures value { IsRule rule.now → IsJulianDay date
+        → result ≡ date_or_out_of_range (slice_get (occurrences_before (rule_in rule.now) (day_of date)) 0) }
+{
+    let rule = or_return!(rule_from_parts(rule), status => DateResult::error(status));
+    let date = or_error!(DateResult, valid_date(date), INVALID_DATE);
+    DateResult::from_option(rule.previous_before(date))
 }
 
 /// Returns 1 if a date is a day of the rule, else 0. For the last Friday of each month and 2460336,

@@ -1,10 +1,11 @@
 //! The iterator over the days of a rule.
-ghost use Rattle.std.specs.Prelude.{◌≡◌, length, List, take};
+ghost use Rattle.std.specs.Prelude.{◌≡◌, length, List, max, take};
 ghost use Rattle.std.specs.Iterator.{YieldsFirst, item_count};
-ghost use Rattle.cal_schedule.specs.Rule.{occurrences};
+ghost use Rattle.cal_schedule.specs.Rule.{occurrences, occurrences_between, occurrences_from};
 
 use crate::rule::rule::Rule;
 use cal_time::Date;
+use cal_time::day_number::to_date;
 use std::marker::Model;
 
 /// An iterator over days of a rule, in ascending order. Contracts see the list of the days left.
@@ -25,7 +26,27 @@ impl Model for RuleDays {
     ghost view = { λ walk. take walk.left (occurrences_left walk.rule walk.front) };
 }
 
+/// Returns an iterator over the days of a rule from a date on.
+fn walk_from(rule: Rule, date: Date) -> RuleDays
+    ensures { result ≡ occurrences_from rule date }
+{
+    let front = rule.next_from(rule.first_from(date));
+    // The range has fewer days than this.
+    RuleDays {
+        rule,
+        front,
+        left: u32::MAX,
+    }
+}
+
 impl Rule {
+    /// Returns the start, or a date if it is later.
+    fn first_from(&self, date: Date) -> Date
+        ensures { result ≡ max self.now.start date }
+    {
+        if self.start < date { date } else { self.start }
+    }
+
     /// Returns an iterator over all days of the rule, in ascending order. For the monthly rule from
     /// 31 January 2024 to 31 May 2024 they are 31 January, 31 March and 31 May.
     #[tactic(auto, using(crate::proofs::Rules::all_of_them))]
@@ -34,6 +55,29 @@ impl Rule {
     {
         // The range has fewer days than this.
         self.first_days(u32::MAX)
+    }
+
+    /// Returns an iterator over the days of the rule from a date on, in ascending order. It doesn't
+    /// go through the days before the date. For the last Friday of each month from January 2024 on,
+    /// the days from 1 June 2024 on begin with 28 June.
+    pub fn days_from(&self, date: Date) -> RuleDays
+        ensures { result ≡ occurrences_from self.now date }
+    {
+        walk_from(self.pattern.rule(self.start, self.until), date)
+    }
+
+    /// Returns an iterator over the days of the rule from one date up to, but not including,
+    /// another date, in ascending order. For the last Friday of each month from January 2024 on,
+    /// the days from 1 June to 30 August 2024 are 28 June and 26 July.
+    pub fn days_between(&self, from: Date, to: Date) -> RuleDays
+        ensures { result ≡ occurrences_between self.now from to }
+    {
+        let end = self.end_before(to);
+        if end == 0 {
+            return self.first_days(0);
+        }
+        let last = to_date((end - 1) as u32);
+        walk_from(self.pattern.rule(self.start, Some(last)), from)
     }
 
     /// Returns an iterator over the first `count` days of the rule, or over all of them if there

@@ -24,7 +24,7 @@ fn any_position(positions: &[i16], ahead: u32, back: u32) -> bool
 
 impl Rule {
     /// Returns the first day of the range in the period of a date.
-    fn period_start(&self, date: Date) -> Date
+    pub(super) fn period_start(&self, date: Date) -> Date
         ensures { IsPeriodStart self.now date result }
     {
         let index = u64::from(self.period(date));
@@ -35,7 +35,7 @@ impl Rule {
     }
 
     /// Returns the number of the day after the last day of the range in the period of a date.
-    fn period_end(&self, date: Date) -> u32
+    pub(super) fn period_end(&self, date: Date) -> u32
         ensures { IsPeriodEnd self.now date result }
     {
         let index = u64::from(self.period(date));
@@ -46,7 +46,7 @@ impl Rule {
     }
 
     /// Counts the days that pass, from one day on and before the day with the number `end`.
-    fn count_passing(&self, from: Date, end: u32) -> u32
+    pub(super) fn count_passing(&self, from: Date, end: u32) -> u32
         requires order { from ≤ end }
         requires range { end ≤ last_day + 1 }
         ensures value { result + count_before (passes self.now) from

@@ -12,11 +12,11 @@ use cal_time::{Date, limits};
 const LAST_DAY: u64 = limits::LAST_DAY as u64;
 
 /// The number of days in 400 years, after which the calendar and the weekdays repeat.
-const PERIOD: u64 = 146_097;
+pub(super) const PERIOD: u64 = 146_097;
 
 /// The maximum number of days from one period to the next: 366, and 6 to whole weeks. At the ends
 /// of the range a period can be cut, and then the days do not repeat.
-const YEAR: u64 = 372;
+pub(super) const YEAR: u64 = 372;
 
 impl Rule {
     /// Returns `true` if the rule matches a date. A rule for the last Friday of each month matches
@@ -61,7 +61,7 @@ impl Rule {
 
     /// Returns the first day of the rule from this one on. It can be `None` if no day of the rule
     /// is before the day with the number `end`.
-    fn next_before(&self, first: Date, end: u64) -> Option<Date>
+    pub(super) fn next_before(&self, first: Date, end: u64) -> Option<Date>
         requires { self.now.start ≤ first }
         ensures { IsNextBefore self.now first end result }
     {

@@ -6,6 +6,7 @@ use std::process::Abort;
 mod one_answer;
 mod read_back;
 mod rules;
+mod searches;
 mod texts;
 mod written;
 

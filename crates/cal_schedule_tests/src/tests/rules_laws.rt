@@ -1,7 +1,7 @@
 //! Properties that callers of a rule need, each proved from the clauses of its calls.
 ghost use Rattle.std.specs.Prelude.{◌≡◌, ◌<◌, IfSome, true};
 
-use cal_schedule::Rule;
+use cal_schedule::{Rule, RuleDays};
 use cal_time::Date;
 
 /// Two calls give one answer.
@@ -11,6 +11,24 @@ fn next_after(rule: &Rule, date: Date) -> (Option<Date>, Option<Date>)
     (rule.next_after(date), rule.next_after(date))
 }
 
+fn previous_before(rule: &Rule, date: Date) -> (Option<Date>, Option<Date>)
+    ensures { result.0 ≡ result.1 }
+{
+    (rule.previous_before(date), rule.previous_before(date))
+}
+
+fn days_from(rule: &Rule, date: Date) -> (RuleDays, RuleDays)
+    ensures { result.0 ≡ result.1 }
+{
+    (rule.days_from(date), rule.days_from(date))
+}
+
+fn days_between(rule: &Rule, from: Date, to: Date) -> (RuleDays, RuleDays)
+    ensures { result.0 ≡ result.1 }
+{
+    (rule.days_between(from, to), rule.days_between(from, to))
+}
+
 /// Days of a rule come one after the other.
 fn next_two(rule: &Rule, date: Date) -> Option<(Date, Date)>
     ensures { IfSome result (λ pair. (date < pair.0) × (pair.0 < pair.1)) }
@@ -18,6 +36,16 @@ fn next_two(rule: &Rule, date: Date) -> Option<(Date, Date)>
     let first = rule.next_after(date)?;
     let second = rule.next_after(first)?;
     Some((first, second))
+}
+
+/// The previous day is before the date, and one of the rule's.
+fn previous_is_on(rule: &Rule, date: Date) -> bool
+    ensures { result ≡ true }
+{
+    match rule.previous_before(date) {
+        Some(previous) => previous < date && rule.contains(previous),
+        None => true,
+    }
 }
 
 /// The next day is one of the rule's.

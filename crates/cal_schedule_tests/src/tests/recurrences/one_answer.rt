@@ -5,7 +5,9 @@
 //! fails.
 ghost use Rattle.std.specs.Prelude.{◌≡◌};
 
-use cal_recurrence::{ParseRuleError, Recurrence, RecurrenceText};
+use cal_recurrence::{
+    ParseRuleError, Recurrence, RecurrenceSet, RecurrenceSetDays, RecurrenceText,
+};
 use cal_schedule::{Rule, RuleDays};
 use cal_time::Date;
 
@@ -40,4 +42,34 @@ fn days(recurrence: &Recurrence, start: Date) -> Twice<RuleDays>
     ensures { result.0 ≡ result.1 }
 {
     twice!(recurrence.days(start))
+}
+
+fn set_contains(set: &RecurrenceSet<'_>, date: Date) -> Twice<bool>
+    ensures { result.0 ≡ result.1 }
+{
+    twice!(set.contains(date))
+}
+
+fn set_next_after(set: &RecurrenceSet<'_>, date: Date) -> Twice<Option<Date>>
+    ensures { result.0 ≡ result.1 }
+{
+    twice!(set.next_after(date))
+}
+
+fn set_previous_before(set: &RecurrenceSet<'_>, date: Date) -> Twice<Option<Date>>
+    ensures { result.0 ≡ result.1 }
+{
+    twice!(set.previous_before(date))
+}
+
+fn set_days_from<'a>(set: &RecurrenceSet<'a>, date: Date) -> Twice<RecurrenceSetDays<'a>>
+    ensures { result.0 ≡ result.1 }
+{
+    twice!(set.days_from(date))
+}
+
+fn set_days<'a>(set: &RecurrenceSet<'a>) -> Twice<RecurrenceSetDays<'a>>
+    ensures { result.0 ≡ result.1 }
+{
+    twice!(set.days())
 }

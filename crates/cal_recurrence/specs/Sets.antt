@@ -1,0 +1,55 @@
+-- Recurrence sets of days: the days of a rule and of `RDATE`, without the days of `EXDATE`
+-- (RFC 5545).
+use Rattle.std.specs.Prelude.{◌≡◌, ℕ, ◌+◌, ◌-◌, ◌<◌, ◌==◌, ◌&&◌, ◌||◌, nat_lt, if◌then◌else◌, Bool, true, false, not, List, [], ◌∷◌, filter, Option, MatchOption, Some, None}
+use Rattle.std.specs.List.{list_any}
+use Rattle.cal_time.specs.Date.{last_day, IsDate}
+use Rattle.cal_time.specs.Occurrences.{days_from, days_back_from}
+use Rattle.cal_schedule.specs.Rule.{is_occurrence}
+use Rattle.cal_recurrence.specs.declared.set.RecurrenceSet.{RecurrenceSet}
+
+-- Day n is in a list.
+abbrev pub is_listed : List ℕ → ℕ → Bool
+is_listed days n = list_any (λ d. d == n) days
+
+-- Day n is a day of the rule or one of the other days.
+abbrev pub candidates : RecurrenceSet → ℕ → Bool
+candidates set n = is_occurrence set.rule n || is_listed set.dates.now n
+
+-- Day n is a day of the rule or one of the other days, and isn't left out.
+unfoldable pub is_in_set : RecurrenceSet → ℕ → Bool
+is_in_set set n = candidates set n && not (is_listed set.exceptions.now n)
+
+-- The days of the set from day n on, in ascending order.
+abbrev pub set_days_from : RecurrenceSet → ℕ → List ℕ
+set_days_from set n = filter (is_in_set set) (days_from n (last_day + 1 - n))
+
+-- The days of the set after day n, in ascending order.
+abbrev pub set_days_after : RecurrenceSet → ℕ → List ℕ
+set_days_after set n = filter (is_in_set set) (days_from (n + 1) (last_day - n))
+
+-- The days of the set before day n, from the nearest back.
+abbrev pub set_days_before : RecurrenceSet → ℕ → List ℕ
+set_days_before set n = filter (is_in_set set) (days_back_from n)
+
+-- A day of the set and the days after it, or no days.
+abbrev pub set_days_left : RecurrenceSet → Option ℕ → List ℕ
+set_days_left set None = []
+set_days_left set (Some n) = n ∷ set_days_after set n
+
+-- The earlier day, or the only one.
+abbrev pub earlier : Option ℕ → Option ℕ → Option ℕ
+earlier None other = other
+earlier (Some n) None = Some n
+earlier (Some n) (Some m) = if nat_lt m n then Some m else Some n
+
+-- The later day, or the only one.
+abbrev pub later : Option ℕ → Option ℕ → Option ℕ
+later None other = other
+later (Some n) None = Some n
+later (Some n) (Some m) = if nat_lt n m then Some m else Some n
+
+-- r is the first day of the range after day n that passes a test. If r is `None`, none passes.
+abbrev pub IsNextDay : (ℕ → Bool) → ℕ → Option ℕ → Type 0
+IsNextDay test n r =
+    MatchOption r ((k : ℕ) → n < k → IsDate k → test k ≡ false)
+    (λ x. (n < x) × IsDate x × (test x ≡ true) × ((k : ℕ) → n < k → k < x → test k ≡ false))

@@ -1,0 +1,227 @@
+//! Recurrence rules of date-times without a zone.
+ghost use Rattle.std.specs.Prelude.{◌≡◌, ◌+◌, ◌*◌, ◌<◌, ◌≤◌, ◌≤ℤ◌, pos, slice_get, true};
+ghost use Rattle.cal_time.specs.Date.{IsDate};
+ghost use Rattle.cal_time.specs.SignedDuration.{day};
+ghost use Rattle.cal_datetime.specs.DateTime.{IsDateTime};
+ghost use Rattle.cal_schedule.specs.Rule.{is_occurrence as is_day};
+ghost use Rattle.cal_recurrence.specs.TimeSearch.{IsNext, IsNextReading, selects, selects_time};
+ghost use Rattle.cal_recurrence.specs.DateTimeRule.{date_time_rule, day_rule, is_not_after, is_occurrence, occurrences, occurrences_after, occurrences_from};
+
+use crate::positions::{allows_position, day_positions};
+use crate::times_of_day::{TimesOfDay, nanoseconds};
+use cal_datetime::PlainDateTime;
+use cal_schedule::{Pattern, Rule, Values};
+use cal_time::{Date, Time};
+use std::marker::Model;
+
+const NANOSECONDS_PER_DAY: u64 = 86_400_000_000_000;
+
+/// A recurrence rule of date-times without a zone, as in RFC 5545: the times of day of each day of
+/// a pattern, from a start to an end. An occurrence has the nanoseconds of the start.
+///
+/// Contracts see its parts.
+#[derive(Debug, Drop)]
+pub struct DateTimeRule {
+    start: PlainDateTime,
+    until: Option<PlainDateTime>,
+    /// The rule of the days, with the positions of the days of the readings at `positions`.
+    days: Rule,
+    times: TimesOfDay,
+    positions: Values<i16>,
+    /// The number of times that pass in a day.
+    per_day: u32,
+}
+
+impl Model for DateTimeRule {
+    ghost use Rattle.cal_recurrence.specs.DateTimeRule.{DateTimeParts};
+    ghost use Rattle.cal_recurrence.specs.RuleInside.{IsInside, parts_of};
+
+    ghost Value = { DateTimeParts };
+
+    ghost view = { λ rule. parts_of rule.start rule.until rule.days rule.times rule.positions };
+
+    ghost invariant = { λ rule. IsInside rule.start rule.until rule.days rule.times rule.positions
+        rule.per_day };
+}
+
+impl DateTimeRule {
+    /// Creates a rule from the first reading that can match (`DTSTART`), the last one (`UNTIL`),
+    /// the pattern of the days and the times of day. The positions of the pattern (`BYSETPOS`)
+    /// count the readings of a period.
+    ///
+    /// The pattern of every day with the hours 9 and 17, from 2024-01-01 9:00, gives 9:00 and
+    /// 17:00 of each day. With the position -1 it gives 17:00 only.
+    pub fn new(
+        start: PlainDateTime,
+        until: Option<PlainDateTime>,
+        pattern: Pattern,
+        times: TimesOfDay,
+    ) -> Self
+        ensures { result ≡ date_time_rule start until pattern times }
+    {
+        let last = match until {
+            Some(last) => Some(last.date()),
+            None => None,
+        };
+        let per_day = times.count_before(start.time(), NANOSECONDS_PER_DAY);
+        let mut days = Rule {
+            start: start.date(),
+            until: last,
+            pattern,
+        };
+        let ranked = day_positions(per_day, &days.pattern.set_positions);
+        let positions = std::mem::replace(&mut days.pattern.set_positions, ranked);
+        DateTimeRule {
+            start,
+            until,
+            days,
+            times,
+            positions,
+            per_day,
+        }
+    }
+
+    /// Copies the rule.
+    pub(crate) fn copy(&self) -> Self
+        ensures { result ≡ self.now }
+    {
+        DateTimeRule {
+            start: self.start,
+            until: self.until,
+            days: self.days.pattern.rule(self.days.start, self.days.until),
+            times: self.times.copy(),
+            positions: Values::from_slice(self.positions.as_slice(), 0),
+            per_day: self.per_day,
+        }
+    }
+
+    /// Returns `true` if a reading is not after the last one, if there is one.
+    fn is_not_after(&self, reading: PlainDateTime) -> bool
+        ensures { result ≡ is_not_after self.now.until reading }
+    {
+        match self.until {
+            Some(last) => reading <= last,
+            None => true,
+        }
+    }
+
+    /// Returns the first time of day that passes on a day of the rule and has a position, from the
+    /// nanosecond `first` on.
+    fn next_on_day(&self, date: Date, first: u64) -> Option<Time>
+        requires first { first ≤ day }
+        requires on { is_day (day_rule self.now) date ≡ true }
+        ensures { IsNext (selects_time self.now date) first day result }
+    {
+        let own = self.start.time();
+        if self.positions.is_empty() {
+            return self.times.next_time(own, first);
+        }
+        let (ahead, back) = self.days.ranks(date);
+        let before = u64::from(ahead - 1) * u64::from(self.per_day);
+        let after = u64::from(back - 1) * u64::from(self.per_day);
+        let mut index = self.times.count_before(own, first);
+        let mut from = first;
+        while let Some(time) = self.times.next_time(own, from) {
+            let number = before + u64::from(index) + 1;
+            let back_number = after + u64::from(self.per_day - index);
+            if allows_position(&self.positions, number, back_number) {
+                return Some(time);
+            }
+            index += 1;
+            from = nanoseconds(time) + 1;
+        }
+        None
+    }
+
+    /// Returns `true` if the rule selects a reading by its days, its times and its positions.
+    fn selects(&self, date: Date, time: Time) -> bool
+        ensures { result ≡ selects self.now (date * day + time) }
+    {
+        let first = nanoseconds(time);
+        if !self.days.contains(date) {
+            return false;
+        }
+        match self.next_on_day(date, first) {
+            Some(next) => next == time,
+            None => false,
+        }
+    }
+
+    /// Returns `true` if the rule has a reading. A daily rule from 2024-01-01 9:00 has 2024-01-02
+    /// 9:00.
+    #[tactic(auto, unfolding(crate::specs::DateTimeRule::is_occurrence))]
+    pub fn contains(&self, reading: PlainDateTime) -> bool
+        ensures { result ≡ is_occurrence self.now reading }
+    {
+        let (date, time) = (reading.date(), reading.time());
+        self.start <= reading && self.is_not_after(reading) && self.selects(date, time)
+    }
+
+    /// Returns the day and the time of day of the first reading after a day that the rule selects
+    /// by its days, its times and its positions.
+    fn next_selected_day(&self, date: Date) -> Option<(Date, Time)>
+        ensures value { IsNextReading self.now ((date + 1) * day) result }
+        ensures in_range { IsDate date }
+    {
+        // This states that the date is in its range. It costs nothing.
+        let _ = date.year();
+        let mut last = date;
+        while let Some(next) = self.days.next_after(last) {
+            if let Some(time) = self.next_on_day(next, 0) {
+                return Some((next, time));
+            }
+            last = next;
+        }
+        None
+    }
+
+    /// Returns the day and the time of day of the first reading that the rule selects by its days,
+    /// its times and its positions, from the nanosecond `first` of a day on.
+    fn next_selected(&self, date: Date, first: u64) -> Option<(Date, Time)>
+        requires { first ≤ day }
+        ensures value { IsNextReading self.now (date * day + first) result }
+        ensures in_range { IsDate date }
+    {
+        if self.days.contains(date) {
+            if let Some(time) = self.next_on_day(date, first) {
+                return Some((date, time));
+            }
+        }
+        self.next_selected_day(date)
+    }
+
+    /// Returns the first occurrence from the nanosecond `first` of a day on.
+    fn next_from(&self, date: Date, first: u64) -> Option<PlainDateTime>
+        requires first { first ≤ day }
+        requires start { self.now.start ≤ℤ pos (date * day + first) }
+        ensures { result ≡ slice_get (occurrences_from self.now (date * day + first)) 0 }
+    {
+        let (day, time) = self.next_selected(date, first)?;
+        let reading = PlainDateTime::new(day, time);
+        if self.is_not_after(reading) {
+            Some(reading)
+        } else {
+            None
+        }
+    }
+
+    /// Returns the first occurrence, or `None` if there is none.
+    pub(crate) fn first(&self) -> Option<PlainDateTime>
+        ensures value { result ≡ slice_get (occurrences self.now) 0 }
+        ensures in_range { IsDateTime self.now.start }
+    {
+        self.next_from(self.start.date(), nanoseconds(self.start.time()))
+    }
+
+    /// Returns the first occurrence after a reading, or `None` if the range has none. For a daily
+    /// rule from 2024-01-01 9:00, 2024-01-03 9:00 comes after 2024-01-02 9:00.
+    pub fn next_after(&self, reading: PlainDateTime) -> Option<PlainDateTime>
+        ensures { result ≡ slice_get (occurrences_after self.now reading) 0 }
+    {
+        let date = reading.date();
+        if reading < self.start {
+            return self.first();
+        }
+        self.next_from(date, nanoseconds(reading.time()) + 1)
+    }
+}

@@ -1,0 +1,224 @@
+//! Recurrence sets: the days of a rule and other days, without some of them.
+ghost use Rattle.std.specs.Prelude.{◌≡◌, ◌<◌, ◌==◌, ◌||◌, IfSome, slice_get, true};
+ghost use Rattle.cal_time.specs.Date.{IsDate};
+ghost use Rattle.cal_schedule.specs.Previous.{IsPreviousDay};
+ghost use Rattle.cal_schedule.specs.Rule.{is_occurrence};
+ghost use Rattle.cal_recurrence.specs.Sets.{candidates, earlier, is_in_set, is_listed, later, set_days_after, set_days_before, set_days_from, IsNextDay};
+
+use cal_schedule::Rule;
+use cal_time::Date;
+use cal_time::day_number::{day_number, to_date};
+use std::marker::Model;
+
+/// A recurrence set of RFC 5545: the days of a rule and of `RDATE`, without the days of `EXDATE`.
+/// The lists can be in any order, and can have a day twice.
+#[derive(Debug, Drop)]
+pub struct RecurrenceSet<'a> {
+    /// The rule (`DTSTART` and `RRULE`).
+    pub rule: Rule,
+    /// The other days (`RDATE`).
+    pub dates: &'a [Date],
+    /// The days to leave out (`EXDATE`).
+    pub exceptions: &'a [Date],
+}
+
+/// Returns `true` if a date is in a list.
+fn is_listed(dates: &[Date], date: Date) -> bool
+    ensures { result ≡ is_listed dates.now date }
+{
+    dates.iter().any(|one| *one == date)
+}
+
+/// Returns the earlier date, or the only one.
+fn earlier(date: Option<Date>, other: Option<Date>) -> Option<Date>
+    ensures { result ≡ earlier date other }
+{
+    let Some(one) = date else {
+        return other;
+    };
+    match other {
+        Some(two) if two < one => other,
+        _ => date,
+    }
+}
+
+/// Returns the later date, or the only one.
+fn later(date: Option<Date>, other: Option<Date>) -> Option<Date>
+    ensures { result ≡ later date other }
+{
+    let Some(one) = date else {
+        return other;
+    };
+    match other {
+        Some(two) if one < two => other,
+        _ => date,
+    }
+}
+
+/// Returns a date if it is after another one.
+fn if_after(one: Date, date: Date) -> Option<Date>
+    ensures { IsNextDay (λ k. one == k) date result }
+{
+    if day_number(date) < day_number(one) {
+        Some(one)
+    } else {
+        None
+    }
+}
+
+/// Returns a date if it is before another one.
+fn if_before(one: Date, date: Date) -> Option<Date>
+    ensures { IsPreviousDay (λ k. one == k) date result }
+{
+    if one < date { Some(one) } else { None }
+}
+
+/// Returns the first date of a list after a date.
+fn next_listed(dates: &[Date], date: Date) -> Option<Date>
+    ensures { IsNextDay (is_listed dates.now) date result }
+{
+    let mut next = None;
+    for one in dates {
+        next = earlier(next, if_after(*one, date));
+    }
+    next
+}
+
+/// Returns the last date of a list before a date.
+fn previous_listed(dates: &[Date], date: Date) -> Option<Date>
+    ensures { IsPreviousDay (is_listed dates.now) date result }
+{
+    let mut previous = None;
+    for one in dates {
+        previous = later(previous, if_before(*one, date));
+    }
+    previous
+}
+
+impl<'a> RecurrenceSet<'a> {
+    /// Returns `true` if a date is a day of the set. The set of the last Fridays of the months
+    /// without 26 January 2024 has 23 February, and not 26 January.
+    #[tactic(auto, unfolding(crate::specs::Sets::is_in_set))]
+    pub fn contains(&self, date: Date) -> bool
+        ensures value { result ≡ is_in_set self.now date }
+        ensures in_range { IsDate date }
+    {
+        (self.rule.contains(date) || is_listed(self.dates, date))
+            && !is_listed(self.exceptions, date)
+    }
+
+    /// Returns the first day after a date that is a day of the rule or one of the other days.
+    fn next_candidate(&self, date: Date) -> Option<Date>
+        ensures { IsNextDay (candidates self.now) date result }
+    {
+        earlier(self.rule.next_after(date), next_listed(self.dates, date))
+    }
+
+    /// Returns the last day before a date that is a day of the rule or one of the other days.
+    fn previous_candidate(&self, date: Date) -> Option<Date>
+        ensures { IsPreviousDay (candidates self.now) date result }
+    {
+        later(
+            self.rule.previous_before(date),
+            previous_listed(self.dates, date),
+        )
+    }
+
+    /// Returns the first day of the set after a date, or `None` if the range has no such day. In
+    /// the set of the last Fridays of the months without 26 January 2024, 23 February comes after
+    /// 1 January 2024.
+    pub fn next_after(&self, date: Date) -> Option<Date>
+        ensures value { result ≡ slice_get (set_days_after self.now date) 0 }
+        ensures found { IfSome result (λ n. (date < n) × (is_in_set self.now n ≡ true)) }
+    {
+        let mut last = date;
+        while let Some(next) = self.next_candidate(last) {
+            if !is_listed(self.exceptions, next) {
+                return Some(next);
+            }
+            last = next;
+        }
+        None
+    }
+
+    /// Returns the last day of the set before a date, or `None` if there is no such day. In the set
+    /// of the last Fridays of the months without 26 January 2024, 29 December 2023 comes before 23
+    /// February 2024.
+    pub fn previous_before(&self, date: Date) -> Option<Date>
+        ensures value { result ≡ slice_get (set_days_before self.now date) 0 }
+        ensures found { IfSome result (λ n. (n < date) × (is_in_set self.now n ≡ true)) }
+    {
+        let mut first = date;
+        while let Some(previous) = self.previous_candidate(first) {
+            if !is_listed(self.exceptions, previous) {
+                return Some(previous);
+            }
+            first = previous;
+        }
+        None
+    }
+
+    /// Returns an iterator over the days of the set from a date on, in ascending order, each once.
+    /// It doesn't go through the days before the date.
+    pub fn days_from(&self, date: Date) -> RecurrenceSetDays<'a>
+        ensures { result ≡ set_days_from self.now date }
+    {
+        let front = if self.contains(date) {
+            Some(date)
+        } else {
+            self.next_after(date)
+        };
+        let rule = self.rule.pattern.rule(self.rule.start, self.rule.until);
+        RecurrenceSetDays {
+            set: RecurrenceSet {
+                rule,
+                dates: self.dates,
+                exceptions: self.exceptions,
+            },
+            front,
+        }
+    }
+
+    /// Returns an iterator over all days of the set, in ascending order, each once. The set of the
+    /// last Fridays of the months from January 2024 on without 26 January begins with 23 February.
+    pub fn days(&self) -> RecurrenceSetDays<'a>
+        ensures { result ≡ set_days_from self.now 0 }
+    {
+        // The first day of the range.
+        self.days_from(to_date(0))
+    }
+}
+
+/// An iterator over the days of a recurrence set, in ascending order. Contracts see the list of the
+/// days left.
+#[derive(Debug, Drop)]
+pub struct RecurrenceSetDays<'a> {
+    set: RecurrenceSet<'a>,
+    front: Option<Date>,
+}
+
+impl<'a> Model for RecurrenceSetDays<'a> {
+    ghost use Rattle.std.specs.Prelude.{ℕ, List};
+    ghost use Rattle.cal_recurrence.specs.Sets.{set_days_left};
+
+    ghost Value = { List ℕ };
+
+    ghost view = { λ walk. set_days_left walk.set walk.front };
+}
+
+impl Iterator for RecurrenceSetDays<'_> {
+    type Item = Date;
+
+    ghost use Rattle.std.specs.Iterator.{YieldsFirst, item_count};
+
+    ghost next_gives = { YieldsFirst (λ days. days) };
+
+    ghost remaining = { item_count (λ days. days) };
+
+    /// Returns the next day, or `None` after the last one.
+    fn next(&mut self) -> Option<Date> {
+        let item = self.front?;
+        self.front = self.set.next_after(item);
+        Some(item)
+    }
+}
