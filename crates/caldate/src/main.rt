@@ -9,7 +9,7 @@ use caldate_run::files::Joined;
 use caldate_run::files::named_files::NamedFiles;
 use caldate_run::holidays::holiday_source::{MAX_HOLIDAYS, read_files};
 use caldate_run::program::{perform, perform_on_files};
-use caldate_run::zones::ZoneFiles;
+use caldate_run::zones::DataFiles;
 use caldate_run::zones::zone_source::{MAX_FILE_BYTES, MAX_PATH_BYTES, find_folder};
 use std::io;
 use std::process::ExitCode;
@@ -26,7 +26,7 @@ fn main(rt: HostRuntime) -> ExitCode {
     let length = find_folder(&rt, &mut folder);
     let folder = &folder[..length];
     let mut days = [Date::MIN; MAX_HOLIDAYS];
-    let mut files = ZoneFiles {
+    let mut files = DataFiles {
         folder,
         first: None,
         second: None,

@@ -5,7 +5,7 @@ use Rattle.std.specs.List.{join_with_byte, onto_first, slice_split}
 use Rattle.std.proofs.Math.Seq.{drop-append_seam, take-append_seam, take-append-add}
 use Rattle.std.proofs.lemmas.Bool.{eqb-true}
 use Rattle.std.proofs.lemmas.Bool.Decides.{nat_tests}
-use Rattle.std.proofs.lemmas.List.{append-nil, take_rest}
+use Rattle.std.proofs.lemmas.List.{take_rest}
 use Rattle.std.proofs.lemmas.Option.{none-some}
 use Rattle.std.proofs.lemmas.List.Splits.{join_with_byte-slice_split, length-slice_split}
 use Rattle.caldate_run.specs.Fields.{HasFirst, IsAfter, each_ended, fields_of, has_too_few, in_place_of, is_quote, joined_fields, part_of, split_record, with_part}
@@ -116,16 +116,6 @@ first_of field text n (within, cut, whole) =
       fields = cut;
       around = λ words. join_first field.separator words more (some_fields field (drop (n + 1) text))
           ∙ ap (λ l. words ++ field.separator ∷ l) (join_fields field (drop (n + 1) text)) ∙ ap (λ l. words ++ l) (sym rest);
-    }
-
-pub only_first : (field : Field) (text : List ℕ) → fields_of field text ≡ text ∷ [] → HasFirst field text (length text)
-only_first field text none =
-    let all : take (length text) text ≡ text = ap (take (length text)) (sym (append-nil text)) ∙ take-append_seam text [] in
-    let rest : drop (length text) text ≡ [] = ap (drop (length text)) (sym (append-nil text)) ∙ drop-append_seam text [] in
-    record {
-      others = [];
-      fields = none ∙ ap (λ t. t ∷ []) (sym all);
-      around = λ words. sym (append-nil words) ∙ ap (λ l. words ++ l) (sym rest);
     }
 
 -- ---- the fields that are asked for
@@ -253,6 +243,3 @@ plain_separator field text (Some k) e f =
 unchanged : (b : Bool) (text part all : List ℕ) → cond b None (Some part) ≡ None → cond b text all ≡ text
 unchanged true text part all e = refl
 unchanged false text part all e = absurd (none-some part (sym e))
-
-pub no_field : (field : Field) (text words : List ℕ) → part_of field text ≡ None → with_part field text words ≡ text
-no_field field text words none = unchanged (has_too_few field text) text (joined_fields field text) _ none

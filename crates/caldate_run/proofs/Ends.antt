@@ -50,14 +50,6 @@ pub read_ended : (filter : Filter) (r : Result Unit RunError) (r0 r1 w0 w1 : Opt
 read_ended filter (Ok done) r0 r1 w0 w1 is h = absurd is
 read_ended filter (Err error) r0 r1 w0 w1 is h = subst (λ f. IsRunResult filter (Err f) r0 r1 w0 w1) (sym is) h
 
-pub write_ended : (filter : Filter) (r : Result Unit RunError) (r0 r1 w0 w1 : Option (List ℕ)) → IsErrAnd r IsOfWrite
-    → ReadsLines r0 r1 (λ lines rest. AnswersFront filter lines rest w0 w1) → IsRunResult filter r r0 r1 w0 w1
-write_ended filter (Ok done) r0 r1 w0 w1 is h = absurd is
-write_ended filter (Err Read) r0 r1 w0 w1 is h = absurd is
-write_ended filter (Err (Write kind)) r0 r1 w0 w1 is h = h
-write_ended filter (Err (Stopped reported)) r0 r1 w0 w1 is h = absurd is
-write_ended filter (Err (Unanswered tally)) r0 r1 w0 w1 is h = absurd is
-
 -- ---- lines and lists
 abbrev line_or : UnansweredLine → RunError → UnansweredLine
 line_or d (Stopped reported) = reported

@@ -34,13 +34,13 @@ is_unread reading text (UnexpectedEnd at) form component stop = (form.0 refl, st
 is_unread reading text (OutOfRange e) form component stop = (component e).0 refl
 
 -- what the parser says, as an answer
-abbrev pub reported : Result DateOrMoment ParseError → Result DateOrMoment NoAnswer
-reported (Ok found) = Ok found
-reported (Err error) = Err (reason_of error)
+abbrev pub with_reason : Result DateOrMoment ParseError → Result DateOrMoment NoAnswer
+with_reason (Ok found) = Ok found
+with_reason (Err error) = Err (reason_of error)
 
 pub lacks_only : (reading : Reading) (text : List ℕ) (r : Result DateOrMoment ParseError) (any : NoAnswer)
     → (FailsWithSyntax r ↔ ¬ HasFormIn reading text) → ((why : ComponentRange) → FailsWithComponent why r ↔ IsErrorIn reading text why)
-    → IfErr r (IsErrorAtStop (HasFormIn reading) text) → IsUnreadIn reading text any → reported r ≡ Err any
+    → IfErr r (IsErrorAtStop (HasFormIn reading) text) → IsUnreadIn reading text any → with_reason r ≡ Err any
 lacks_only reading text (Ok found) (why.Rejected e) form component stop h = absurd ((component e).1 h)
 lacks_only reading text (Ok found) (why.Unreadable at) form component stop h = absurd (form.1 h.0)
 lacks_only reading text (Err (OutOfRange o)) (why.Rejected e) form component stop h = ap (λ e. Err (why.Rejected e)) (same_Some o e ((component e).1 h))
@@ -77,7 +77,7 @@ no_none_placed (Some clock) (Moment form m) h = not_placed form h.local h.taken 
     not_placed form (Fold a b) None e = cc
 
 no_none_read : (filter : Filter) (text : List ℕ) → IsNotRead filter text why.None → ⊥
-no_none_read filter text (inl h) = no_none text (first_named filter.offset filter.readers) h.why_is
+no_none_read filter text (inl h) = no_none text (first_named filter.assumptions filter.readers) h.why_is
 no_none_read filter text (inr h) = no_none_placed filter.clock h.0 h.2
 
 pub unread : (filter : Filter) (text : List ℕ) (any : NoAnswer) → IsNotRead filter text any → IsAnswer filter text (Err any)

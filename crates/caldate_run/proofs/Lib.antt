@@ -45,5 +45,6 @@ pub mod Rounds
 pub mod HeaderNames
 pub mod Named
 pub mod TextBounds
+mod TextStarts
 pub mod Scans
 pub mod OneScan

@@ -12,7 +12,7 @@ use Rattle.std.specs.Io.KnownBytes.{Appends}
 use Rattle.cal_time.specs.Date.{IsDate}
 use Rattle.cal_schedule.specs.Months.{IsMonthsLater}
 use Rattle.cal_schedule.proofs.MonthMoves.{IsMonthNumber-date, one_later}
-use Rattle.caldate_run.specs.Lists.{AreAll, AreFirst, IsAfter, IsListed, TakesLines, line_of}
+use Rattle.caldate_run.specs.Lists.{AreAll, AreFirst, IsUnitsAfter, IsListed, TakesLines, line_of}
 use Rattle.caldate_run.specs.Runs.{AppendsFront, IsOfWrite}
 use Rattle.caldate_run.specs.declared.run.run_error.RunError.{RunError}
 use Rattle.caldate_run.specs.declared.request.Listing.{Listing}
@@ -83,7 +83,7 @@ lists_ended All First (Err error) start now new days written buffered all first 
     (err, (days, first, front_more start now new written buffered _ whole taken front))
 
 -- ---- a list has one answer
-pub one_after : (unit : StepUnit) (count n a b : ℕ) → IsAfter unit count n a → IsAfter unit count n b → a ≡ b
+pub one_after : (unit : StepUnit) (count n a b : ℕ) → IsUnitsAfter unit count n a → IsUnitsAfter unit count n b → a ≡ b
 one_after Days count n a b h k = h ∙ sym k
 one_after Months count n a b h k = one_later n a b (pos count) h k
 

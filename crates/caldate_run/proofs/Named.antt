@@ -7,14 +7,14 @@ use Rattle.caldate_run.specs.Meanings.{AreMeanings, Meanings}
 use Rattle.caldate_run.specs.Program.{GivesCommand, GivesNamedOnce, given_text}
 use Rattle.caldate_run.specs.Requests.{arguments_of, parse_args}
 use Rattle.caldate_run.specs.RunStates.{NoEnd}
-use Rattle.caldate_run.specs.Zones.{AreZones}
+use Rattle.caldate_run.specs.Zones.{AreOfFiles}
 use Rattle.caldate_run.specs.declared.args.usage_error.UsageError.{UsageError}
 use Rattle.caldate_run.specs.declared.request.Command.{Command}
 use Rattle.caldate_run.specs.declared.request.Command.TheVariants.{Named, NamedOnce}
 use Rattle.caldate_run.specs.declared.request.Field.{Field}
 use Rattle.caldate_run.specs.declared.request.Filter.{Filter}
 use Rattle.caldate_run.specs.declared.run.run_error.RunError.{RunError}
-use Rattle.caldate_run.specs.declared.zones.ZoneFiles.{ZoneFiles}
+use Rattle.caldate_run.specs.declared.zones.DataFiles.{DataFiles}
 
 pub has_header : (left : Option (List ℕ)) (bytes input : List ℕ) → bytes ≡ input → HasLine bytes ⊎ (4097 < length bytes) → HasHeader left input
 has_header left bytes input e (inl line) = subst (HasHeader left) e (inl line)
@@ -53,18 +53,18 @@ named_weaker filter field old Runs Runs' Stops Stops' runs stops h = record {
 }
 
 -- ---- the command of the arguments
-pub same_named : (arguments : Option (Bor (List ℕ))) (bytes : Bor (List ℕ)) (now : Option ℤ) (files : ZoneFiles) (r : Result Command UsageError) (f filter : Filter) (k field : Field)
+pub same_named : (arguments : Option (Bor (List ℕ))) (bytes : Bor (List ℕ)) (now : Option ℤ) (files : DataFiles) (r : Result Command UsageError) (f filter : Filter) (k field : Field)
     → arguments ≡ Some bytes
-    → ((meanings : Meanings) → AreMeanings meanings (arguments_of bytes.now) → AreZones files meanings → r ≡ parse_args now meanings (arguments_of bytes.now))
+    → ((meanings : Meanings) → AreMeanings meanings (arguments_of bytes.now) → AreOfFiles files meanings → r ≡ parse_args now meanings (arguments_of bytes.now))
     → r ≡ Ok (Named f k) → GivesCommand arguments now files (Named filter field) → (f ≡ filter) × (k ≡ field)
 same_named arguments bytes now files r f filter k field e asked is given =
     let given = subst (λ (a : Option (Bor (List ℕ))). GivesCommand a now files (Named filter field)) e given in
     let same : ◌≡◌ {A = Result Command UsageError} (Ok (Named f k)) (Ok (Named filter field)) = sym is ∙ asked given.0 given.1 given.2 ∙ given.3 in
     ((cc), (cc))
 
-pub same_named_once : (arguments : Option (Bor (List ℕ))) (bytes : Bor (List ℕ)) (now : Option ℤ) (files : ZoneFiles) (r : Result Command UsageError) (f filter : Filter) (k field : Field) (text : List ℕ)
+pub same_named_once : (arguments : Option (Bor (List ℕ))) (bytes : Bor (List ℕ)) (now : Option ℤ) (files : DataFiles) (r : Result Command UsageError) (f filter : Filter) (k field : Field) (text : List ℕ)
     → arguments ≡ Some bytes
-    → ((meanings : Meanings) → AreMeanings meanings (arguments_of bytes.now) → AreZones files meanings → r ≡ parse_args now meanings (arguments_of bytes.now))
+    → ((meanings : Meanings) → AreMeanings meanings (arguments_of bytes.now) → AreOfFiles files meanings → r ≡ parse_args now meanings (arguments_of bytes.now))
     → r ≡ Ok (NamedOnce f k) → GivesNamedOnce arguments now files filter field text → (f ≡ filter) × (k ≡ field) × (text ≡ given_text now filter bytes.now)
 same_named_once arguments bytes now files r f filter k field text e asked is given =
     let given = subst (λ (a : Option (Bor (List ℕ))). GivesNamedOnce a now files filter field text) e given in

@@ -56,8 +56,6 @@ plain_end field true words e csv =
 plain_end field false words e csv = append-nil words ∙ sym (ap (λ b. cond b (in_quotes words) words) e)
 
 -- ---- the bytes before a field
-pub front_kept : (old new x more : List ℕ) → new ≡ old ++ x → take (length old) (new ++ more) ≡ old
-front_kept old new x more e = ap (λ l. take (length old) (l ++ more)) e ∙ ap (take (length old)) (append_assoc old x more) ∙ take-append_seam old (x ++ more)
 
 -- ---- a record with words in place of a field
 closed : (field : Field) (quoted : Bool) (words : List ℕ) → cond quoted (34 ∷ []) [] ++ end_of_field field quoted words ≡ cond quoted (in_quotes words) (as_field field words)

@@ -111,7 +111,7 @@ one bytes (pos zero) n = subst IsOne (sym (n.bytes_are ∙ decimal_digit 0 (lit<
 one bytes (pos (suc k)) n = subst IsOne (sym n.bytes_are) (inr (inr ((first (suc k) (omega (arith, n.few))).1 (omega arith), fits_number (suc k) (omega arith) n.few)))
 one bytes (negsuc k) n = subst IsOne (sym n.bytes_are) (inl (refl, (refl, fits_number (suc k) (omega arith) n.few)))
 
-first_same : (text more : List ℕ) (q : ℕ) → 0 < q → q ≤ length text → get_or (take q text ++ more) 0 0 ≡ get_or text 0 0
+pub first_same : (text more : List ℕ) (q : ℕ) → 0 < q → q ≤ length text → get_or (take q text ++ more) 0 0 ≡ get_or text 0 0
 first_same [] more q some within = absurd (omega (arith, some, within))
 first_same (x ∷ xs) more zero some within = absurd (omega (arith, some))
 first_same (x ∷ xs) more (suc k) some within = refl

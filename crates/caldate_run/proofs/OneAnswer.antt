@@ -133,26 +133,26 @@ found_told filter text r found answer e h = subst (λ r. Told filter text r answ
 unread_told : (filter : Filter) (text : List ℕ) (r : Result DateOrMoment NoAnswer) (any : NoAnswer) → r ≡ Err any → Told filter text r (Err any)
 unread_told filter text r any e = subst (λ r. Told filter text r (Err any)) (sym e) refl
 
-reported : (filter : Filter) (text : List ℕ) (r : Result DateOrMoment NoAnswer) (answer : Answer)
+answer_told : (filter : Filter) (text : List ℕ) (r : Result DateOrMoment NoAnswer) (answer : Answer)
     → ((found : DateOrMoment) → IsReadAs filter text found → r ≡ Ok found)
     → ((any : NoAnswer) → IsNotRead filter text any → r ≡ Err any) → IsAnswer filter text answer → Told filter text r answer
-reported filter text r (Ok (Some words)) every unread h = found_told filter text r h.0 _ (every h.0 h.1) (inl (words, refl, h.2))
-reported filter text r (Ok None) every unread h = found_told filter text r h.0 _ (every h.0 h.1) (inr (inl (refl, h.2)))
-reported filter text r (Err why.None) every unread h = found_told filter text r h.0 _ (every h.0 h.1) (inr (inr (refl, h.2)))
-reported filter text r (Err (why.Rejected e)) every unread h = unread_told filter text r (why.Rejected e) (unread (why.Rejected e) h)
-reported filter text r (Err (why.Unreadable at)) every unread h = unread_told filter text r (why.Unreadable at) (unread (why.Unreadable at) h)
-reported filter text r (Err why.TooLong) every unread h = unread_told filter text r why.TooLong (unread why.TooLong h)
-reported filter text r (Err why.NoField) every unread h = unread_told filter text r why.NoField (unread why.NoField h)
-reported filter text r (Err why.NoOtherField) every unread h = unread_told filter text r why.NoOtherField (unread why.NoOtherField h)
-reported filter text r (Err why.UnreadOtherField) every unread h = unread_told filter text r why.UnreadOtherField (unread why.UnreadOtherField h)
-reported filter text r (Err why.NoForm) every unread h = unread_told filter text r why.NoForm (unread why.NoForm h)
-reported filter text r (Err why.Skipped) every unread h = unread_told filter text r why.Skipped (unread why.Skipped h)
-reported filter text r (Err why.Repeated) every unread h = unread_told filter text r why.Repeated (unread why.Repeated h)
+answer_told filter text r (Ok (Some words)) every unread h = found_told filter text r h.0 _ (every h.0 h.1) (inl (words, refl, h.2))
+answer_told filter text r (Ok None) every unread h = found_told filter text r h.0 _ (every h.0 h.1) (inr (inl (refl, h.2)))
+answer_told filter text r (Err why.None) every unread h = found_told filter text r h.0 _ (every h.0 h.1) (inr (inr (refl, h.2)))
+answer_told filter text r (Err (why.Rejected e)) every unread h = unread_told filter text r (why.Rejected e) (unread (why.Rejected e) h)
+answer_told filter text r (Err (why.Unreadable at)) every unread h = unread_told filter text r (why.Unreadable at) (unread (why.Unreadable at) h)
+answer_told filter text r (Err why.TooLong) every unread h = unread_told filter text r why.TooLong (unread why.TooLong h)
+answer_told filter text r (Err why.NoField) every unread h = unread_told filter text r why.NoField (unread why.NoField h)
+answer_told filter text r (Err why.NoOtherField) every unread h = unread_told filter text r why.NoOtherField (unread why.NoOtherField h)
+answer_told filter text r (Err why.UnreadOtherField) every unread h = unread_told filter text r why.UnreadOtherField (unread why.UnreadOtherField h)
+answer_told filter text r (Err why.NoForm) every unread h = unread_told filter text r why.NoForm (unread why.NoForm h)
+answer_told filter text r (Err why.Skipped) every unread h = unread_told filter text r why.Skipped (unread why.Skipped h)
+answer_told filter text r (Err why.Repeated) every unread h = unread_told filter text r why.Repeated (unread why.Repeated h)
 
 pub one_answer : (filter : Filter) (text : List ℕ) (r : Result DateOrMoment NoAnswer) (a b : Answer)
     → ((found : DateOrMoment) → IsReadAs filter text found → r ≡ Ok found)
     → ((any : NoAnswer) → IsNotRead filter text any → r ≡ Err any) → IsAnswer filter text a → IsAnswer filter text b → a ≡ b
-one_answer filter text r a b every unread h k = one_told filter text r a b (reported filter text r a every unread h) (reported filter text r b every unread k)
+one_answer filter text r a b every unread h k = one_told filter text r a b (answer_told filter text r a every unread h) (answer_told filter text r b every unread k)
 
 -- ---- the answers to all lines
 -- the line has one reply, whatever came before it

@@ -9,12 +9,12 @@ use Rattle.caldate_run.specs.declared.run.no_answer.NoAnswer.{NoAnswer}
 use Rattle.caldate_run.specs.declared.request.Clock.{Clock}
 use Rattle.caldate_run.specs.declared.request.Filter.{Filter}
 
-pub is_read : (filter : Filter) (text : List ℕ) (first : DateOrMoment) (r : Result DateOrMoment NoAnswer) → IsFoundBy filter.offset filter.readers text first
+pub is_read : (filter : Filter) (text : List ℕ) (first : DateOrMoment) (r : Result DateOrMoment NoAnswer) → IsFoundBy filter.assumptions filter.readers text first
     → IsPlaced filter.clock first r → IfOk r (IsReadAs filter text)
 is_read filter text first (Ok found) is placed = (first, is, placed)
 is_read filter text first (Err any) is placed = tt
 
-pub is_not_read : (filter : Filter) (text : List ℕ) (first : DateOrMoment) (r : Result DateOrMoment NoAnswer) → IsFoundBy filter.offset filter.readers text first
+pub is_not_read : (filter : Filter) (text : List ℕ) (first : DateOrMoment) (r : Result DateOrMoment NoAnswer) → IsFoundBy filter.assumptions filter.readers text first
     → IsPlaced filter.clock first r → IfErr r (IsNotRead filter text)
 is_not_read filter text first (Ok found) is placed = tt
 is_not_read filter text first (Err any) is placed = inr (first, is, placed)

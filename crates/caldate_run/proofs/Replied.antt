@@ -2,7 +2,7 @@
 use Rattle.std.proofs.Common.{◌≡◌, ℕ, ◌+◌, ◌-◌, ◌<◌, ◌≤◌, Bool, true, false, cond, eqb, List, [], ◌∷◌, ◌++◌, length, take, get_or, Option, Some, None, Result, Ok, Err, refl, sym, ap, ◌∙◌, subst, arith, length-append, length-take, append_assoc}
 use Rattle.std.specs.Prelude.{IsSomeAnd, OnOk, MatchBool, MatchOption, is_some, nat_lt, unwrap_or}
 use Rattle.std.proofs.Math.Seq.{take-append-add, take-append_seam}
-use Rattle.std.proofs.lemmas.Bool.{false≢true, le-ltb, lt-ltb}
+use Rattle.std.proofs.lemmas.Bool.{false≢true, le-ltb}
 use Rattle.std.proofs.lemmas.List.{append-nil, get_or-append-add}
 use Rattle.cal_text.specs.declared.any.DateOrMoment.{DateOrMoment}
 use Rattle.cal_schedule.specs.Workdays.{WorkWeek}
@@ -47,9 +47,6 @@ text_long : (b : Bool) (line : List ℕ) (n : ℕ) → n + 1 < length line → n
 text_long true line n h = omega (arith, h, length-take (length line - 1) line)
 text_long false line n h = omega (arith, h)
 
-pub is_too_long : (kept line : List ℕ) → IsDroppedFront true kept line → 4096 < length (text_of (kept ++ line))
-is_too_long kept line h = text_long (has_return (kept ++ line)) (kept ++ line) 4096 (omega (arith, h.0, length-append kept line, ap length h.2.2))
-
 -- ---- the answer to the text of a line
 of_short : (filter : Filter) (before : ℕ) (text : List ℕ) (answer : Answer) → length text ≤ 4096
     → MatchBool (nat_lt before filter.skip) (answer ≡ skipped filter before text) (IsAnswerToLine filter text answer) → IsAnswerOf filter before text answer
@@ -72,12 +69,6 @@ pub of_scan : (filter : Filter) (before : ℕ) (text : List ℕ) (answer : Answe
     → IsScanned filter text answer → IsAnswerOf filter before text answer
 of_scan filter before text answer fits skip scans h =
     of_line filter before text answer fits skip (subst (λ b. MatchBool b (IsScanned filter text answer) (IsAnswerToText filter text answer)) (sym scans) h)
-
-pub of_skipped : (filter : Filter) (before : ℕ) (text : List ℕ) (answer : Answer) → length text ≤ 4096 → before < filter.skip
-    → answer ≡ skipped filter before text → IsAnswerOf filter before text answer
-of_skipped filter before text answer fits skip h =
-    let whole = subst (λ b. MatchBool b (answer ≡ skipped filter before text) (IsAnswerToLine filter text answer)) (sym (lt-ltb before filter.skip skip)) h in
-    of_short filter before text answer fits whole
 
 pub in_field : (filter : Filter) (field : Option Field) (text asked : List ℕ) (own : Answer) → filter.field ≡ field → selected_text field text ≡ Some asked
     → IsAnswerAt filter text asked own → IsAnswerToText filter text (in_text filter text own)
@@ -144,8 +135,6 @@ pub taken_back : (old mid rest new : List ℕ) (before : ℕ) → before ≡ len
 taken_back old mid rest new before at e f = f ∙ ap (λ k. take k mid) at ∙ ap (λ l. take (length old) l) e ∙ take-append_seam old rest
 
 -- ---- a line that is whole
-pub of_whole : (P : List ℕ → Type 0) (kept line text : List ℕ) → IsDroppedFront false kept line → text ≡ text_of line → P text → P (text_of (kept ++ line))
-of_whole P kept line text h e p = subst P (e ∙ ap (λ k. text_of (k ++ line)) (sym h)) p
 
 -- ---- the words, and the end of the line
 -- what goes out after a front that was passed on, with the end of the line

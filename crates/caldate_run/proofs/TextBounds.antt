@@ -4,9 +4,18 @@ use Rattle.std.specs.Prelude.{ℤ, IsSomeAnd, MatchOption, codes, nat_lt, slice_
 use Rattle.std.proofs.lemmas.Bool.{cases_lt, false≢true, le-ltb, lt-ltb}
 use Rattle.std.proofs.lemmas.Bool.Decides.{nat_tests}
 use Rattle.std.proofs.lemmas.Int.{ints}
-use Rattle.std.proofs.lemmas.List.{length-take-le, take-append-le, take-take}
+use Rattle.std.proofs.lemmas.List.{get_or-take, length-take-le, take-append-le, take-take}
+use Rattle.std.proofs.Math.Seq.{take-add}
 use Rattle.cal_time.specs.Date.{IsDate, julian_day_at}
 use Rattle.cal_time.specs.declared.error.ComponentRange.{ComponentRange}
+use Rattle.cal_datetime.specs.OffsetDateTime.{LocalAndOffset}
+use Rattle.cal_format.specs.Form.{HasForm}
+use Rattle.cal_format.specs.Moment.{moment_of_date, moment_of_date_time, moment_of_offset_date_time}
+use Rattle.cal_format.specs.Reading.{DeterminesDate, DeterminesDateTime, DeterminesOffsetDateTime}
+use Rattle.cal_format.specs.declared.item.Item.{Item}
+use Rattle.cal_format.proofs.Moments.{date-holds, date_time-holds, moment-holds}
+use Rattle.cal_format.proofs.Own.{has-own}
+use Rattle.cal_format.proofs.Shapes.{has-form}
 use Rattle.cal_text.specs.AnyForm.{HasAnyForm, IsDateOrMomentError, IsTextOf}
 use Rattle.cal_text.specs.Position.{Begins, IsPosition}
 use Rattle.cal_text.specs.declared.any.DateForm.TheVariants.{Calendar, Ordinal, Week, JulianDay}
@@ -15,12 +24,13 @@ use Rattle.cal_text.specs.declared.any.DateOrMoment.TheVariants.{Date, Moment}
 use Rattle.cal_text.specs.declared.any.MomentForm.TheVariants.{Rfc3339, Unix}
 use Rattle.cal_text.proofs.DayForms.{calendar-of, ordinal-of, week-of}
 use Rattle.cal_text.proofs.Positions.{begins_less}
-use Rattle.caldate_run.specs.Readers.{IsFoundBy, IsUnread, IsUnreadIn, named}
+use Rattle.caldate_run.specs.Readers.{IsDateText, IsDateTimeText, IsFoundBy, IsMomentText, IsUnread, IsUnreadIn, named}
 use Rattle.caldate_run.specs.Readings.{HasFormIn, IsErrorIn, IsTextIn, assumed, full_text}
-use Rattle.caldate_run.specs.Scans.{IsText, has_form}
+use Rattle.caldate_run.specs.Scans.{Bounds, IsText, has_form}
 use Rattle.caldate_run.specs.Spellings.{full_by, is_sign, iso_text, unix_text, with_colon, with_point}
 use Rattle.caldate_run.specs.declared.reading.Reading.{Reading}
 use Rattle.caldate_run.specs.declared.reading.Reading.TheVariants as reading
+use Rattle.caldate_run.specs.declared.reading.reader.Assumptions.{Assumptions}
 use Rattle.caldate_run.specs.declared.reading.reader.Reader.{Reader}
 use Rattle.caldate_run.specs.declared.reading.spelling.Spelling.{Spelling}
 use Rattle.caldate_run.specs.declared.reading.spelling.Spelling.TheVariants.{Iso, Seconds}
@@ -32,7 +42,7 @@ use Rattle.caldate_run.specs.declared.run.no_answer.NoAnswer.TheVariants as why
 small : (n : ℕ) → IsDate n → unsigned_abs (julian_day_at n) < 10 ^ 9
 small n date = omega (arith, ints, date)
 
-any_form : (bytes : List ℕ) (found : DateOrMoment) → IsTextOf bytes found → HasAnyForm bytes
+pub any_form : (bytes : List ℕ) (found : DateOrMoment) → IsTextOf bytes found → HasAnyForm bytes
 any_form bytes (Date Calendar n) is = inl (_, (calendar-of bytes n is.0 is.1).0)
 any_form bytes (Date Ordinal n) is = inl (_, (ordinal-of bytes n is.0 is.1).0)
 any_form bytes (Date Week n) is = inl (_, (week-of bytes n is.0 is.1).0)
@@ -77,20 +87,51 @@ rejected_form r bytes why.Repeated h e = absurd h
 
 -- ---- how long a text can be
 -- no text is longer than the part of the bytes that has the form
-pub within_position : (IsForm : List ℕ → Type 0) (bytes : List ℕ) (p n : ℕ) → IsPosition IsForm bytes p → n ≤ length bytes → Begins IsForm (take n bytes) → n ≤ p
+within_position : (IsForm : List ℕ → Type 0) (bytes : List ℕ) (p n : ℕ) → IsPosition IsForm bytes p → n ≤ length bytes → Begins IsForm (take n bytes) → n ≤ p
 within_position IsForm bytes p n at fits is =
     elim (cases_lt p n) as (λ _. n ≤ p) [
       | inl past ↦ absurd (at.no_further (omega (arith, past, fits)) (begins_less IsForm bytes (p + 1) n (omega (arith, past)) is))
       | inr most ↦ most
     ]
 
+pub bounds_at : (IsForm : List ℕ → Type 0) (bytes : List ℕ) (p : ℕ) → IsPosition IsForm bytes p → Bounds IsForm bytes p
+bounds_at IsForm bytes p at = record { within = at.within; begins = λ n fits is. within_position IsForm bytes p n at fits is }
+
+pub bounds_all : (IsForm : List ℕ → Type 0) (bytes : List ℕ) → Bounds IsForm bytes (length bytes)
+bounds_all IsForm bytes = record { within = omega arith; begins = λ n fits is. fits }
+
 begun : (IsForm : List ℕ → Type 0) (bytes : List ℕ) → IsForm bytes → Begins IsForm bytes
 begun IsForm bytes is = record { more = []; text = subst IsForm (sym (append-nil bytes)) is }
 
 -- the bound for what begins the form is one for its texts
-pub form_within : (r : Reading) (bytes : List ℕ) (bound : ℕ) → ((n : ℕ) → n ≤ length bytes → Begins (HasFormIn r) (take n bytes) → n ≤ bound)
-    → (n : ℕ) → n ≤ length bytes → HasFormIn r (take n bytes) → n ≤ bound
-form_within r bytes bound within n fits is = within n fits (begun (HasFormIn r) (take n bytes) is)
+pub form_within : (IsForm : List ℕ → Type 0) (bytes : List ℕ) (bound n : ℕ) → Bounds IsForm bytes bound → n ≤ length bytes → IsForm (take n bytes) → n ≤ bound
+form_within IsForm bytes bound n b fits is = b.begins n fits (begun IsForm (take n bytes) is)
+
+-- ---- the texts of a format, of which the bytes have a front
+front_within : (items : List Item) (bytes : List ℕ) (bound n : ℕ) (more : List ℕ) → Bounds (HasForm items) bytes bound → n ≤ length bytes → HasForm items (take n bytes ++ more)
+    → n ≤ bound
+front_within items bytes bound n more b fits form = b.begins n fits (record { more = more; text = form })
+
+pub dates_within : (items : List Item) (bytes : List ℕ) (bound n : ℕ) (more : List ℕ) (d : ℕ) → DeterminesDate items → Bounds (HasForm items) bytes bound → n ≤ length bytes
+    → IsDateText items (take n bytes ++ more) d → n ≤ bound
+dates_within items bytes bound n more d determines b fits is =
+    let holds = date-holds items d determines is.in_range is.held in
+    let own = has-own items (moment_of_date d) (take n bytes ++ more) holds.in_range holds.numbers is.text_is in
+    front_within items bytes bound n more b fits (has-form items _ (take n bytes ++ more) determines.0 own)
+
+pub moments_within : (items : List Item) (bytes : List ℕ) (bound n : ℕ) (more : List ℕ) (m : LocalAndOffset) → DeterminesOffsetDateTime items → Bounds (HasForm items) bytes bound
+    → n ≤ length bytes → IsMomentText items (take n bytes ++ more) m → n ≤ bound
+moments_within items bytes bound n more m determines b fits is =
+    let holds = moment-holds items m determines is.local is.offset is.held is.time is.printed_offset in
+    let own = has-own items (moment_of_offset_date_time m) (take n bytes ++ more) holds.in_range holds.numbers is.text_is in
+    front_within items bytes bound n more b fits (has-form items _ (take n bytes ++ more) determines.0 own)
+
+pub date_times_within : (items : List Item) (bytes : List ℕ) (bound n : ℕ) (more : List ℕ) (z : ℤ) → DeterminesDateTime items → Bounds (HasForm items) bytes bound → n ≤ length bytes
+    → IsDateTimeText items (take n bytes ++ more) z → n ≤ bound
+date_times_within items bytes bound n more z determines b fits is =
+    let holds = date_time-holds items z determines is.in_range is.held is.time in
+    let own = has-own items (moment_of_date_time z) (take n bytes ++ more) holds.in_range holds.numbers is.text_is in
+    front_within items bytes bound n more b fits (has-form items _ (take n bytes ++ more) determines.0 own)
 
 some_if : (b : Bool) (full : List ℕ) (P : List ℕ → Type 0) → IsSomeAnd (if b then None else Some full) P → b ≡ false
 some_if true full P h = absurd h
@@ -100,26 +141,28 @@ pub spelled_short : (s : Spelling) (bytes : List ℕ) (found : DateOrMoment) →
 spelled_short Iso bytes found h = let few = some_if (nat_lt 60 (length bytes)) (iso_text bytes) (λ full. IsTextOf full found) h in grind (arith, nat_tests)
 spelled_short Seconds bytes found h = let few = some_if (nat_lt 60 (length bytes)) (unix_text bytes) (λ full. IsTextOf full found) h in grind (arith, nat_tests)
 
--- ---- ISO 8601: the first 18 bytes stay
-longer_front : (bytes more : List ℕ) (k : ℕ) → 18 ≤ k → take k bytes ++ more ≡ take 18 bytes ++ (drop 18 (take k bytes) ++ more)
-longer_front bytes more k few =
-    ap (λ l. l ++ more) (sym (take-append-drop 18 (take k bytes)) ∙ ap (λ l. l ++ drop 18 (take k bytes)) (take-take 18 k bytes few))
-    ∙ append_assoc (take 18 bytes) (drop 18 (take k bytes)) more
+-- ---- ISO 8601: the front stays
+abbrev Keeps : ℕ → List ℕ → List ℕ → Type 0
+Keeps k bytes full = (more : List ℕ) × (full ≡ take k bytes ++ more)
 
-abbrev Keeps : List ℕ → List ℕ → Type 0
-Keeps bytes full = (more : List ℕ) × (full ≡ take 18 bytes ++ more)
+longer_front : (k m : ℕ) (bytes more : List ℕ) → k ≤ m → Keeps k bytes (take m bytes ++ more)
+longer_front k m bytes more few = (
+  drop k (take m bytes) ++ more,
+  ap (λ l. l ++ more) (sym (take-append-drop k (take m bytes)) ∙ ap (λ l. l ++ drop k (take m bytes)) (take-take k m bytes few))
+      ∙ append_assoc (take k bytes) (drop k (take m bytes)) more,
+)
 
-either_keeps : (b : Bool) (bytes full other : List ℕ) → Keeps bytes full → Keeps bytes other → Keeps bytes (if b then full else other)
-either_keeps true bytes full other h k = h
-either_keeps false bytes full other h k = k
+either_keeps : (b : Bool) (k : ℕ) (bytes full other : List ℕ) → Keeps k bytes full → Keeps k bytes other → Keeps k bytes (if b then full else other)
+either_keeps true k bytes full other h h2 = h
+either_keeps false k bytes full other h h2 = h2
 
-colon_keeps : (bytes : List ℕ) → 20 ≤ length bytes → Keeps bytes (with_colon bytes)
-colon_keeps bytes long =
-    let k = length bytes - 2 in
+colon_keeps : (k : ℕ) (bytes : List ℕ) → k + 2 ≤ length bytes → Keeps k bytes (with_colon bytes)
+colon_keeps k bytes long =
+    let m = length bytes - 2 in
     let last = if is_sign (slice_index bytes (length bytes - 3)) then codes ":00" else [] in
-    either_keeps (is_sign (slice_index bytes (length bytes - 5))) bytes (take k bytes ++ codes ":" ++ drop k bytes) (bytes ++ last)
-    (drop 18 (take k bytes) ++ (codes ":" ++ drop k bytes), append_assoc (take k bytes) (codes ":") (drop k bytes) ∙ longer_front bytes (codes ":" ++ drop k bytes) k (omega (arith, long)))
-    (drop 18 bytes ++ last, ap (λ l. l ++ last) (sym (take-append-drop 18 bytes)) ∙ append_assoc (take 18 bytes) (drop 18 bytes) last)
+    either_keeps (is_sign (slice_index bytes (length bytes - 5))) k bytes (take m bytes ++ codes ":" ++ drop m bytes) (bytes ++ last)
+    (subst (Keeps k bytes) (sym (append_assoc (take m bytes) (codes ":") (drop m bytes))) (longer_front k m bytes (codes ":" ++ drop m bytes) (omega (arith, long))))
+    (drop k bytes ++ last, ap (λ l. l ++ last) (sym (take-append-drop k bytes)) ∙ append_assoc (take k bytes) (drop k bytes) last)
 
 point_length : (b : Bool) (last : List ℕ) → length last ≡ 1 → length (if b then codes "." else last) ≡ 1
 point_length true last h = refl
@@ -136,61 +179,97 @@ point_keeps bytes long =
           ∙ take-append-le 18 (take 19 bytes) mid (omega (arith, front)) ∙ take-take 18 19 bytes (omega arith),
     )
 
-iso_keeps : (bytes : List ℕ) → 20 ≤ length bytes → Keeps bytes (with_colon (with_point bytes))
-iso_keeps bytes long =
-    let point = point_keeps bytes long in
-    let colon = colon_keeps (with_point bytes) (omega (arith, long, point.0)) in
-    (colon.0, colon.1 ∙ ap (λ l. l ++ colon.0) point.1)
+-- without a comma nothing changes before the offset
+no_point : (bytes : List ℕ) → (slice_index bytes 19 == 44) ≡ false → with_point bytes ≡ bytes
+no_point bytes e =
+    ap (λ b. (take 19 bytes ++ (if b then codes "." else take 1 (drop 19 bytes))) ++ drop 20 bytes) e
+    ∙ ap (λ l. l ++ drop 20 bytes) (sym (take-add 19 1 bytes)) ∙ take-append-drop 20 bytes
 
 some_full : (b : Bool) (full : List ℕ) (P : List ℕ → Type 0) → IsSomeAnd (if b then None else Some full) P → P full
 some_full true full P h = absurd h
 some_full false full P h = h
 
--- if the bytes leave the six forms so early, no text of ISO 8601 is longer
-pub iso_within : (bytes : List ℕ) (bound : ℕ) → ((n : ℕ) → n ≤ length bytes → Begins (HasFormIn reading.Any) (take n bytes) → n ≤ bound) → bound < 18
-    → (n : ℕ) (found : DateOrMoment) → n ≤ length bytes → IsSomeAnd (full_by Iso (take n bytes)) (λ full. IsTextOf full found) → n ≤ bound
-iso_within bytes bound within few n found fits h =
+-- a short text of ISO 8601 is in one of the six forms
+pub short_form : (bytes : List ℕ) (found : DateOrMoment) → length bytes < 20 → IsSomeAnd (full_by Iso bytes) (λ full. IsTextOf full found) → HasAnyForm bytes
+short_form bytes found short h =
+    let is = some_full (nat_lt 60 (length bytes)) (iso_text bytes) (λ full. IsTextOf full found) h in
+    let same : iso_text bytes ≡ bytes = ap (λ b. if b then bytes else with_colon (with_point bytes)) (lt-ltb (length bytes) 20 short) in
+    any_form bytes found (subst (λ full. IsTextOf full found) same is)
+
+-- a text of ISO 8601 whose first k bytes stay begins as in the six forms
+iso_bound : (bytes : List ℕ) (bound k n : ℕ) (found : DateOrMoment) → Bounds (HasFormIn reading.Any) bytes bound → n ≤ length bytes → k + 2 ≤ n
+    → (20 ≤ n → (length (with_point (take n bytes)) ≡ n) × (take k (with_point (take n bytes)) ≡ take k bytes))
+    → IsSomeAnd (full_by Iso (take n bytes)) (λ full. IsTextOf full found) → k ≤ bound
+iso_bound bytes bound k n found b fits less stays h =
     let text = take n bytes in
     let many = length-take-le n bytes fits in
     let is = some_full (nat_lt 60 (length text)) (iso_text text) (λ full. IsTextOf full found) h in
     let full_is : (b : Bool) → nat_lt (length text) 20 ≡ b → iso_text text ≡ (if b then text else with_colon (with_point text)) =
     λ b e. ap (λ b. if b then text else with_colon (with_point text)) e in
-    elim (cases_lt n 20) as (λ _. n ≤ bound) [
+    elim (cases_lt n 20) as (λ _. k ≤ bound) [
       | inl short ↦ (
           let same = full_is true (lt-ltb (length text) 20 (omega (arith, many, short))) in
-          within n fits (begun (HasFormIn reading.Any) text (any_form text found (subst (λ full. IsTextOf full found) same is)))
+          let within = form_within (HasFormIn reading.Any) bytes bound n b fits (any_form text found (subst (λ full. IsTextOf full found) same is)) in
+          omega (arith, within, less)
           )
       | inr long ↦ (
           let same = full_is false (le-ltb (length text) 20 (omega (arith, many, long))) in
-          let kept = iso_keeps text (omega (arith, many, long)) in
-          let front : take 18 text ≡ take 18 bytes = take-take 18 n bytes (omega (arith, long)) in
+          let kept = stays long in
+          let colon = colon_keeps k (with_point text) (omega (arith, less, kept.0)) in
           let form = any_form (iso_text text) found is in
-          let begins : Begins (HasFormIn reading.Any) (take 18 bytes) =
-          record { more = kept.0; text = subst HasAnyForm (same ∙ kept.1 ∙ ap (λ l. l ++ kept.0) front) form } in
-          absurd (omega (arith, few, within 18 (omega (arith, long, fits)) begins))
+          let begins : Begins (HasFormIn reading.Any) (take k bytes) =
+          record { more = colon.0; text = subst HasAnyForm (same ∙ colon.1 ∙ ap (λ l. l ++ colon.0) kept.1) form } in
+          b.begins k (omega (arith, less, fits)) begins
+          )
+    ]
+
+-- if the bytes leave the six forms so early, no text of ISO 8601 is longer
+pub iso_within : (bytes : List ℕ) (bound : ℕ) → Bounds (HasFormIn reading.Any) bytes bound → bound < 18
+    → (n : ℕ) (found : DateOrMoment) → n ≤ length bytes → IsSomeAnd (full_by Iso (take n bytes)) (λ full. IsTextOf full found) → n ≤ bound
+iso_within bytes bound b few n found fits h =
+    elim (cases_lt n 20) as (λ _. n ≤ bound) [
+      | inl short ↦ form_within (HasFormIn reading.Any) bytes bound n b fits (short_form (take n bytes) found (omega (arith, length-take-le n bytes fits, short)) h)
+      | inr long ↦ (
+          let front = iso_bound bytes bound 18 n found b fits (omega (arith, long)) (λ _. let kept = point_keeps (take n bytes) (omega (arith, long, length-take-le n bytes fits)) in
+          (kept.0 ∙ length-take-le n bytes fits, kept.1 ∙ take-take 18 n bytes (omega (arith, long)))) h in
+          absurd (omega (arith, few, front))
+          )
+    ]
+
+-- without a comma, a text of ISO 8601 has at most two bytes more
+pub iso_within_colon : (bytes : List ℕ) (bound : ℕ) → Bounds (HasFormIn reading.Any) bytes bound → (slice_index bytes 19 == 44) ≡ false
+    → (n : ℕ) (found : DateOrMoment) → n ≤ length bytes → IsSomeAnd (full_by Iso (take n bytes)) (λ full. IsTextOf full found) → n ≤ bound + 2
+iso_within_colon bytes bound b comma n found fits h =
+    elim (cases_lt n 2) as (λ _. n ≤ bound + 2) [
+      | inl short ↦ omega (arith, short)
+      | inr some ↦ (
+          let front = iso_bound bytes bound (n - 2) n found b fits (omega (arith, some)) (λ long.
+          let same = no_point (take n bytes) (ap (λ x. x == 44) (get_or-take n bytes 19 0 (omega (arith, long))) ∙ comma) in
+          (ap length same ∙ length-take-le n bytes fits, ap (take (n - 2)) same ∙ take-take (n - 2) n bytes (omega arith))) h in
+          omega (arith, front, some)
           )
     ]
 
 -- ---- all forms
 -- a text that is out of range has the first form
-pub rejected_first : (offset : ℤ) (r : Reader) (rs : List Reader) (bytes : List ℕ) (any : NoAnswer) (n bound : ℕ)
-    → ((form : Reading) → named offset r ≡ Some form → HasFormIn form bytes → n ≤ bound) → IsUnread offset (r ∷ rs) bytes any → has_form any ≡ true → n ≤ bound
-rejected_first offset r rs bytes any n bound within h e = at (named offset r) refl h.why_is
+pub rejected_first : {P : Type 0} (assumptions : Assumptions) (r : Reader) (rs : List Reader) (bytes : List ℕ) (any : NoAnswer)
+    → ((form : Reading) → named assumptions r ≡ Some form → HasFormIn form bytes → P) → IsUnread assumptions (r ∷ rs) bytes any → has_form any ≡ true → P
+rejected_first {P} assumptions r rs bytes any with_form h e = at (named assumptions r) refl h.why_is
   where
-    at : (o : Option Reading) → named offset r ≡ o → MatchOption o (any ≡ why.NoForm) (λ form. IsUnreadIn form bytes any) → n ≤ bound
+    at : (o : Option Reading) → named assumptions r ≡ o → MatchOption o (any ≡ why.NoForm) (λ form. IsUnreadIn form bytes any) → P
     at None is none = absurd (false≢true (sym (ap has_form none) ∙ e))
-    at (Some form) is unread = within form is (rejected_form form bytes any unread e)
+    at (Some form) is unread = with_form form is (rejected_form form bytes any unread e)
 
-pub rejected_none : (offset : ℤ) (bytes : List ℕ) (any : NoAnswer) → IsUnread offset [] bytes any → has_form any ≡ true → ⊥
-rejected_none offset bytes any h e = false≢true (sym (ap has_form h.why_is) ∙ e)
+pub rejected_none : (assumptions : Assumptions) (bytes : List ℕ) (any : NoAnswer) → IsUnread assumptions [] bytes any → has_form any ≡ true → ⊥
+rejected_none assumptions bytes any h e = false≢true (sym (ap has_form h.why_is) ∙ e)
 
 pub none_longer : (filter : Filter) (readers : List Reader) (bytes : List ℕ) (bound : ℕ) → readers ≡ filter.readers
-    → ((n : ℕ) (found : DateOrMoment) → n ≤ length bytes → IsFoundBy filter.offset readers (take n bytes) found → n ≤ bound)
-    → ((n : ℕ) (any : NoAnswer) → n ≤ length bytes → IsUnread filter.offset readers (take n bytes) any → has_form any ≡ true → n ≤ bound)
+    → ((n : ℕ) (found : DateOrMoment) → n ≤ length bytes → IsFoundBy filter.assumptions readers (take n bytes) found → n ≤ bound)
+    → ((n : ℕ) (any : NoAnswer) → n ≤ length bytes → IsUnread filter.assumptions readers (take n bytes) any → has_form any ≡ true → n ≤ bound)
     → (n : ℕ) → bound < n → n ≤ length bytes → IsText filter (take n bytes) → ⊥
 none_longer filter readers bytes bound same found rejected n past fits (some, inl h) =
-    omega (arith, past, found n h.1.0 fits (subst (λ rs. IsFoundBy filter.offset rs (take n bytes) h.1.0) (sym same) h.1.1))
+    omega (arith, past, found n h.1.0 fits (subst (λ rs. IsFoundBy filter.assumptions rs (take n bytes) h.1.0) (sym same) h.1.1))
 none_longer filter readers bytes bound same found rejected n past fits (some, inr (any, inl h, e)) =
-    omega (arith, past, rejected n any fits (subst (λ rs. IsUnread filter.offset rs (take n bytes) any) (sym same) h) e)
+    omega (arith, past, rejected n any fits (subst (λ rs. IsUnread filter.assumptions rs (take n bytes) any) (sym same) h) e)
 none_longer filter readers bytes bound same found rejected n past fits (some, inr (any, inr h, e)) =
-    omega (arith, past, found n h.0 fits (subst (λ rs. IsFoundBy filter.offset rs (take n bytes) h.0) (sym same) h.1))
+    omega (arith, past, found n h.0 fits (subst (λ rs. IsFoundBy filter.assumptions rs (take n bytes) h.0) (sym same) h.1))

@@ -136,12 +136,12 @@ HasNone workdays request text found = (leaves_out request found ≡ false) × ((
 -- The text is read, as this date or moment. With a clock, its local time is a reading of the clock.
 abbrev pub IsReadAs : Filter → List ℕ → DateOrMoment → Type 0
 IsReadAs filter text found =
-    (first : DateOrMoment) × IsFoundBy filter.offset filter.readers text first × IsPlaced filter.clock first (Ok found)
+    (first : DateOrMoment) × IsFoundBy filter.assumptions filter.readers text first × IsPlaced filter.clock first (Ok found)
 
 -- The text is in none of the forms, or its local time is not that of one moment.
 abbrev pub IsNotRead : Filter → List ℕ → NoAnswer → Type 0
-IsNotRead filter text any = IsUnread filter.offset filter.readers text any
-    ⊎ ((first : DateOrMoment) × IsFoundBy filter.offset filter.readers text first × IsPlaced filter.clock first (Err any))
+IsNotRead filter text any = IsUnread filter.assumptions filter.readers text any
+    ⊎ ((first : DateOrMoment) × IsFoundBy filter.assumptions filter.readers text first × IsPlaced filter.clock first (Err any))
 
 -- The answer to a text.
 abbrev pub IsAnswer : Filter → List ℕ → Answer → Type 0

@@ -31,14 +31,14 @@ HasValidStep (Dates listing) = IsStep listing.step
 HasValidStep other = ⊤
 
 -- Day r is `count` days or months after day n.
-abbrev pub IsAfter : StepUnit → ℕ → ℕ → ℕ → Type 0
-IsAfter Days count n r = r ≡ n + count
-IsAfter Months count n r = IsMonthsLater n (pos count) r
+abbrev pub IsUnitsAfter : StepUnit → ℕ → ℕ → ℕ → Type 0
+IsUnitsAfter Days count n r = r ≡ n + count
+IsUnitsAfter Months count n r = IsMonthsLater n (pos count) r
 
 -- The day is `count` days or months after the first day of the list, and not past the last.
 pub record IsWithin (listing : Listing) (count : ℕ) (day : ℕ) : Type 0 where
   pub date : IsDate day
-  pub after : IsAfter listing.step.unit count listing.first day
+  pub after : IsUnitsAfter listing.step.unit count listing.first day
   pub not_past : day ≤ listing.last
 
 -- The k-th day of the list, counted from 0, is k steps after the first day.

@@ -43,6 +43,7 @@ abbrev pub format_named : List ℕ → List ℕ
 format_named word =
     if bytes_eq word (codes "clf") then codes "%d/%b/%Y:%T %z" else
     if bytes_eq word (codes "rfc2822") then codes "%a, %d %b %Y %T %z" else
+    if bytes_eq word (codes "syslog") then codes "%b %e %T" else
     word
 
 -- A format contains a `%`, byte 37.

@@ -1,5 +1,5 @@
 -- The forms that a line is read in. The first that fits wins.
-use Rattle.std.specs.Prelude.{◌≡◌, ◌⊎◌, ℕ, ℤ, List, [], ◌∷◌, Option, Some, None, MatchOption, IsSomeAnd, IsTrue}
+use Rattle.std.specs.Prelude.{◌≡◌, ◌≤◌, ◌⊎◌, ◌++◌, ℕ, ℤ, codes, length, List, [], ◌∷◌, Option, Some, None, MatchOption, IsSomeAnd, IsTrue}
 use Rattle.cal_time.specs.Date.{IsDate}
 use Rattle.cal_time.specs.UtcOffset.{IsOffset}
 use Rattle.cal_datetime.specs.DateTime.{IsDateTime, time_at}
@@ -21,8 +21,11 @@ use Rattle.caldate_run.specs.declared.run.no_answer.NoAnswer.{NoAnswer}
 use Rattle.caldate_run.specs.declared.run.no_answer.NoAnswer.TheVariants as why
 use Rattle.caldate_run.specs.declared.reading.Reading.{Reading}
 use Rattle.caldate_run.specs.declared.reading.Reading.TheVariants as reading
+use Rattle.caldate_run.specs.declared.reading.reader.Assumptions.{Assumptions}
 use Rattle.caldate_run.specs.declared.reading.reader.Reader.{Reader}
-use Rattle.caldate_run.specs.declared.reading.reader.Reader.TheVariants.{Named, Local, Spelled, Dates, Moments, DateTimes}
+use Rattle.caldate_run.specs.declared.reading.reader.Reader.TheVariants.{Named, Local, Spelled, Format, Yearless}
+use Rattle.caldate_run.specs.declared.reading.value_format.ValueFormat.{ValueFormat}
+use Rattle.caldate_run.specs.declared.reading.value_format.ValueFormat.TheVariants.{Dates, Moments, DateTimes}
 
 -- ---- formats: the text is what the items print of a value that they hold
 pub record IsDateText (items : List Item) (text : List ℕ) (n : ℕ) : Type 0 where
@@ -44,22 +47,36 @@ pub record IsDateTimeText (items : List Item) (text : List ℕ) (z : ℤ) : Type
   pub time : IsTrue (holds_time items (time_at z))
   pub text_is : text ≡ text_of items (moment_of_date_time z)
 
--- ---- forms
--- The bytes are a text of this date or moment in the form. A text without an offset is at `offset`.
-abbrev pub IsTextBy : ℤ → Reader → List ℕ → DateOrMoment → Type 0
-IsTextBy offset (Named reading) text found = IsTextIn reading text found
-IsTextBy offset Local text found = IsTextIn (reading.Local offset) text found
-IsTextBy offset (Spelled spelling) text found = IsSomeAnd (full_by spelling text) (λ full. IsTextOf full found)
-IsTextBy offset (Dates items) text found = (n : ℕ) × IsDateText items text n × (found ≡ dated.Date Calendar n)
-IsTextBy offset (Moments items) text found = (m : LocalAndOffset) × IsMomentText items text m × (found ≡ dated.Moment Rfc3339 m)
-IsTextBy offset (DateTimes items) text found =
+-- The text is one of this date or moment. A text without an offset is at `offset`.
+abbrev pub IsFormatText : ℤ → ValueFormat → List ℕ → DateOrMoment → Type 0
+IsFormatText offset (Dates items) text found = (n : ℕ) × IsDateText items text n × (found ≡ dated.Date Calendar n)
+IsFormatText offset (Moments items) text found = (m : LocalAndOffset) × IsMomentText items text m × (found ≡ dated.Moment Rfc3339 m)
+IsFormatText offset (DateTimes items) text found =
     (z : ℤ) × IsDateTimeText items text z × (found ≡ dated.Moment Rfc3339 (record { local = z; offset = offset }))
 
+-- ---- formats without a year: the text followed by the assumed year is one in the format followed
+-- by ` %Y`
+abbrev pub with_year : List ℕ → List ℕ → List ℕ
+with_year year text = text ++ codes " " ++ year
+
+pub record IsYearlessText (assumptions : Assumptions) (format : ValueFormat) (text : List ℕ) (found : DateOrMoment) : Type 0 where
+  pub short : length text ≤ 60
+  pub text_is : IsFormatText assumptions.offset format (with_year assumptions.year text) found
+
+-- ---- forms
+-- The bytes are a text of this date or moment in the form. The parts that it leaves out are assumed.
+abbrev pub IsTextBy : Assumptions → Reader → List ℕ → DateOrMoment → Type 0
+IsTextBy assumptions (Named reading) text found = IsTextIn reading text found
+IsTextBy assumptions Local text found = IsTextIn (reading.Local assumptions.offset) text found
+IsTextBy assumptions (Spelled spelling) text found = IsSomeAnd (full_by spelling text) (λ full. IsTextOf full found)
+IsTextBy assumptions (Format format) text found = IsFormatText assumptions.offset format text found
+IsTextBy assumptions (Yearless format) text found = IsYearlessText assumptions format text found
+
 -- The first form that the text has gives its date or moment.
-abbrev pub IsFoundBy : ℤ → List Reader → List ℕ → DateOrMoment → Type 0
-IsFoundBy offset [] text found = ⊥
-IsFoundBy offset (reader ∷ readers) text found =
-    IsTextBy offset reader text found ⊎ (((other : DateOrMoment) → ¬ IsTextBy offset reader text other) × IsFoundBy offset readers text found)
+abbrev pub IsFoundBy : Assumptions → List Reader → List ℕ → DateOrMoment → Type 0
+IsFoundBy assumptions [] text found = ⊥
+IsFoundBy assumptions (reader ∷ readers) text found =
+    IsTextBy assumptions reader text found ⊎ (((other : DateOrMoment) → ¬ IsTextBy assumptions reader text other) × IsFoundBy assumptions readers text found)
 
 -- ---- a text in none of the forms
 -- The text has the form, with a component out of range, or departs from the form at a position.
@@ -69,16 +86,16 @@ IsUnreadIn reading text (why.Unreadable at) = (¬ HasFormIn reading text) × IsP
 IsUnreadIn reading text other = ⊥
 
 -- The form that says why, if it does.
-abbrev pub named : ℤ → Reader → Option Reading
-named offset (Named reading) = Some reading
-named offset Local = Some (reading.Local offset)
-named offset other = None
+abbrev pub named : Assumptions → Reader → Option Reading
+named assumptions (Named reading) = Some reading
+named assumptions Local = Some (reading.Local assumptions.offset)
+named assumptions other = None
 
-abbrev pub first_named : ℤ → List Reader → Option Reading
-first_named offset [] = None
-first_named offset (reader ∷ readers) = named offset reader
+abbrev pub first_named : Assumptions → List Reader → Option Reading
+first_named assumptions [] = None
+first_named assumptions (reader ∷ readers) = named assumptions reader
 
 -- Why the text is in none of the forms: the first form says it, or that there is none.
-pub record IsUnread (offset : ℤ) (readers : List Reader) (text : List ℕ) (any : NoAnswer) : Type 0 where
-  pub none : (found : DateOrMoment) → ¬ IsFoundBy offset readers text found
-  pub why_is : MatchOption (first_named offset readers) (any ≡ why.NoForm) (λ reading. IsUnreadIn reading text any)
+pub record IsUnread (assumptions : Assumptions) (readers : List Reader) (text : List ℕ) (any : NoAnswer) : Type 0 where
+  pub none : (found : DateOrMoment) → ¬ IsFoundBy assumptions readers text found
+  pub why_is : MatchOption (first_named assumptions readers) (any ≡ why.NoForm) (λ reading. IsUnreadIn reading text any)

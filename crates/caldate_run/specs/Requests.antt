@@ -1,6 +1,6 @@
 -- The command that the arguments give, or the first invalid word and its expected kind.
 use denote.Ref.{Bor}
-use Rattle.std.specs.Prelude.{ℕ, ◌+◌, ◌-◌, nat_lt, max, not, ◌&&◌, ◌||◌, Bool, true, false, is_none, is_some, unwrap_or, ℤ, pos, neg_ℤ, ◌*ℤ◌, int_le, nat_abs, List, [], ◌∷◌, ◌++◌, ◌==◌, length, take, drop, Option, Some, None, option_map, option_and_then, ok_or, Result, Ok, Err, slice_get, position, bytes_eq, codes, if◌then◌else◌, ◌*◌}
+use Rattle.std.specs.Prelude.{ℕ, ◌+◌, ◌-◌, nat_le, nat_lt, slice_index, max, not, ◌&&◌, ◌||◌, Bool, true, false, is_none, is_some, unwrap_or, ℤ, pos, neg_ℤ, ◌*ℤ◌, int_le, nat_abs, List, [], ◌∷◌, ◌++◌, ◌==◌, length, take, drop, Option, Some, None, option_map, option_and_then, ok_or, Result, Ok, Err, slice_get, position, bytes_eq, codes, if◌then◌else◌, ◌*◌}
 use Rattle.std.specs.List.{slice_split}
 use Rattle.std.specs.Option.{option_map_or}
 use Rattle.std.specs.Result.{result_ok}
@@ -10,7 +10,10 @@ use Rattle.cal_time.specs.SignedDuration.{second}
 use Rattle.cal_time.specs.declared.Weekday.{Weekday}
 use Rattle.cal_time.specs.declared.Weekday.TheVariants as weekday
 use Rattle.cal_format.specs.Reading.{are_apart, are_date_items, are_date_time_items, shows_date, shows_moment, shows_time}
+use Rattle.cal_format.specs.declared.item.Component.TheVariants.{Year}
 use Rattle.cal_format.specs.declared.item.Item.{Item}
+use Rattle.cal_format.specs.declared.item.Item.TheVariants as item
+use Rattle.cal_format.specs.declared.item.Padding.TheVariants.{Zero}
 use Rattle.cal_text.specs.declared.any.DateForm.TheVariants.{Calendar, Ordinal, Week, JulianDay}
 use Rattle.cal_text.specs.declared.any.DateOrMoment.{DateOrMoment}
 use Rattle.cal_text.specs.declared.any.DateOrMoment.TheVariants as dated
@@ -32,9 +35,12 @@ use Rattle.caldate_run.specs.declared.args.options.Options.{Options}
 use Rattle.caldate_run.specs.declared.args.options.OptionsAfter.{OptionsAfter}
 use Rattle.caldate_run.specs.declared.args.options.OptionsAfter.TheVariants.{Continued, Ended, Invalid}
 use Rattle.caldate_run.specs.declared.reading.Reading.TheVariants as read
+use Rattle.caldate_run.specs.declared.reading.reader.Assumptions.{Assumptions}
 use Rattle.caldate_run.specs.declared.reading.reader.Reader.{Reader}
 use Rattle.caldate_run.specs.declared.reading.reader.Reader.TheVariants as reader
 use Rattle.caldate_run.specs.declared.reading.spelling.Spelling.TheVariants.{Iso, Seconds}
+use Rattle.caldate_run.specs.declared.reading.value_format.ValueFormat.{ValueFormat}
+use Rattle.caldate_run.specs.declared.reading.value_format.ValueFormat.TheVariants as format
 use Rattle.caldate_run.specs.declared.request.Clock.{Clock}
 use Rattle.caldate_run.specs.declared.request.Policy.{Policy}
 use Rattle.caldate_run.specs.declared.request.Policy.TheVariants as policy
@@ -410,7 +416,7 @@ list_of now meanings words =
 -- ---- the options before a request, in any order, each at most once
 -- The options if the arguments have none.
 abbrev pub no_options : Options
-no_options = record { on_invalid = None; fields = None; name = None; append = None; header = false; csv = false; scan = false; separator = None; skip = None; readers = []; offset = None; zone = None; policy = None; workdays = None }
+no_options = record { on_invalid = None; fields = None; name = None; append = None; header = false; csv = false; scan = false; separator = None; skip = None; readers = []; offset = None; year = None; zone = None; policy = None; workdays = None }
 
 -- `--invalid MODE`
 abbrev pub invalid_of : List ℕ → Option OnInvalid
@@ -442,6 +448,12 @@ abbrev pub byte_of : List ℕ → Option ℕ
 byte_of (byte ∷ []) = Some byte
 byte_of word = None
 
+-- `--assume-year YEAR`: four digits
+abbrev pub year_of : List ℕ → Option (List ℕ)
+year_of word =
+    if (length word == 4) && (is_digit (slice_index word 0) && (is_digit (slice_index word 1) && (is_digit (slice_index word 2) && is_digit (slice_index word 3))))
+    then Some word else None
+
 -- `--skip K`
 abbrev pub skip_of : List ℕ → Option ℕ
 skip_of word = number_between 0 9223372036854775807 word
@@ -460,13 +472,25 @@ reader_named word =
     if bytes_eq word (codes "local") then Some reader.Local else
     None
 
--- `--read FORMAT`: the format determines a date, else a moment with its offset, else one without.
+-- The format determines a date, else a moment with its offset, else one without.
+abbrev pub value_format_of : List Item → Option ValueFormat
+value_format_of items =
+    if are_apart items && (are_date_items items && shows_date items) then Some (format.Dates items) else
+    if are_apart items && shows_moment items then Some (format.Moments items) else
+    if are_apart items && (are_date_time_items items && (shows_date items && shows_time items)) then Some (format.DateTimes items) else
+    None
+
+-- The format itself, or followed by ` %Y`, the year after a space (32). It has at most 64 items.
+abbrev pub items_of : Bool → List Item → Option (List Item)
+items_of false items = Some items
+items_of true items =
+    if nat_le (length items) 62 then Some (items ++ item.Literal 32 ∷ item.Number Year Zero ∷ []) else None
+
+-- `--read FORMAT`: a format that determines no date or moment may do so with a year after it.
 abbrev pub reader_with : List Item → Option Reader
 reader_with items =
-    if are_apart items && (are_date_items items && shows_date items) then Some (reader.Dates items) else
-    if are_apart items && shows_moment items then Some (reader.Moments items) else
-    if are_apart items && (are_date_time_items items && (shows_date items && shows_time items)) then Some (reader.DateTimes items) else
-    None
+    option_map_or (λ f. Some (reader.Format f)) (value_format_of items)
+    (option_map reader.Yearless (option_and_then value_format_of (items_of true items)))
 
 abbrev pub reader_of : Meanings → List ℕ → Option Reader
 reader_of meanings word = if is_format word then option_and_then reader_with (meanings word).items else reader_named word
@@ -501,6 +525,7 @@ value_of options word =
     if bytes_eq word (codes "--skip") && is_none options.skip then Some expected.Skip else
     if bytes_eq word (codes "--read") && has_room options.readers then Some expected.Reading else
     if bytes_eq word (codes "--assume") && is_none options.offset then Some expected.Offset else
+    if bytes_eq word (codes "--assume-year") && is_none options.year then Some expected.Year else
     if bytes_eq word (codes "--zone") && is_none options.zone then Some expected.Zone else
     if bytes_eq word (codes "--ambiguous") && is_none options.policy then Some expected.Policy else
     if bytes_eq word (codes "--holidays") && is_none options.workdays then Some expected.Holidays else
@@ -519,6 +544,7 @@ with_value meanings options value expected.Separator = option_map (λ c. record 
 with_value meanings options value expected.Skip = option_map (λ k. record options { skip = Some k }) (skip_of value)
 with_value meanings options value expected.Reading = option_and_then (with_reader options) (reader_of meanings value)
 with_value meanings options value expected.Offset = option_map (λ o. record options { offset = Some o }) (offset_of value)
+with_value meanings options value expected.Year = option_map (λ y. record options { year = Some y }) (year_of value)
 with_value meanings options value expected.Zone = option_map (λ zone. record options { zone = Some zone }) (zone_of meanings value)
 with_value meanings options value expected.Policy = option_map (λ p. record options { policy = Some p }) (policy_of value)
 with_value meanings options value expected.Holidays = option_map (λ week. record options { workdays = Some week }) (workdays_of meanings value)
@@ -577,10 +603,33 @@ abbrev pub readers_in : List Reader → List Reader
 readers_in [] = reader.Named read.Any ∷ reader.Spelled Iso ∷ []
 readers_in (form ∷ forms) = form ∷ forms
 
+-- The parts that a text may leave out. The default is UTC, and a year that no form needs.
+abbrev pub assumptions_in : Options → Assumptions
+assumptions_in options = record { offset = unwrap_or options.offset (pos 0); year = unwrap_or options.year (codes "0000") }
+
+-- The form has no year.
+abbrev pub is_yearless : Reader → Bool
+is_yearless (reader.Yearless format) = true
+is_yearless form = false
+
+abbrev pub any_yearless : List Reader → Bool
+any_yearless [] = false
+any_yearless (form ∷ forms) = is_yearless form || any_yearless forms
+
+-- The texts of the format have no offset, or have one.
+abbrev pub lacks_offset : ValueFormat → Bool
+lacks_offset (format.DateTimes items) = true
+lacks_offset other = false
+
+abbrev pub shows_offset : ValueFormat → Bool
+shows_offset (format.Moments items) = true
+shows_offset other = false
+
 -- The form has no offset.
 abbrev pub is_local : Reader → Bool
 is_local reader.Local = true
-is_local (reader.DateTimes items) = true
+is_local (reader.Format format) = lacks_offset format
+is_local (reader.Yearless format) = lacks_offset format
 is_local form = false
 
 abbrev pub any_local : List Reader → Bool
@@ -592,7 +641,8 @@ abbrev pub has_own : Reader → Bool
 has_own (reader.Named read.Any) = true
 has_own (reader.Named (read.Unix unit)) = true
 has_own (reader.Spelled spelling) = true
-has_own (reader.Moments items) = true
+has_own (reader.Format format) = shows_offset format
+has_own (reader.Yearless format) = shows_offset format
 has_own form = false
 
 abbrev pub any_own : List Reader → Bool
@@ -607,9 +657,21 @@ conflict_with_zone options =
     if not (any_local options.readers) || any_own options.readers then Some expected.LocalOnly else
     None
 
--- The option that is missing or excluded: `--scan` excludes fields, `--separator`, `--csv` and
--- `--append` require `--field`, and a form without an offset and `--assume` require each other. A
--- quote separates no fields of a record. A name of a field requires `--header`.
+-- A format without a year and `--assume-year` require each other, and so do a form without an offset
+-- and `--assume` or `--zone`.
+abbrev pub conflict_with_readers : Options → Option Expected
+conflict_with_readers options =
+    if any_yearless options.readers && is_none options.year then Some expected.AssumeYear else
+    if is_some options.year && not (any_yearless options.readers) then Some expected.Yearless else
+    if is_some options.policy && is_none options.zone then Some expected.ZoneOption else
+    if is_some options.zone then conflict_with_zone options else
+    if any_local options.readers && is_none options.offset then Some expected.Assume else
+    if is_some options.offset && not (any_local options.readers) then Some expected.Local else
+    None
+
+-- The option that is missing or excluded: `--scan` excludes fields, and `--separator`, `--csv` and
+-- `--append` require `--field`. A quote separates no fields of a record. A name of a field requires
+-- `--header`.
 abbrev pub conflict_in : Options → Option Expected
 conflict_in options =
     if options.scan && is_some options.fields then Some expected.ScanField else
@@ -621,11 +683,7 @@ conflict_in options =
     if is_some options.append && is_none options.fields then Some expected.AppendField else
     if options.csv && option_map_or (λ c. c == 34) options.separator false then Some expected.CsvSeparator else
     if is_some options.name && not options.header then Some expected.Header else
-    if is_some options.policy && is_none options.zone then Some expected.ZoneOption else
-    if is_some options.zone then conflict_with_zone options else
-    if any_local options.readers && is_none options.offset then Some expected.Assume else
-    if is_some options.offset && not (any_local options.readers) then Some expected.Local else
-    None
+    conflict_with_readers options
 
 -- The default: `keep` drops a line without an answer, and the line is kept if only a part of it is
 -- answered.
@@ -648,7 +706,7 @@ filter_of options request = record {
   request = request;
   workdays = unwrap_or options.workdays monday_to_friday;
   readers = readers_in options.readers;
-  offset = unwrap_or options.offset (pos 0);
+  assumptions = assumptions_in options;
   clock = clock_of options.zone options.policy;
   on_invalid = unwrap_or options.on_invalid (default_mode request (is_some options.fields || options.scan));
   field = field_of options;

@@ -1,5 +1,6 @@
 -- The answer to a line with --scan: its texts in a form that the run reads are answered in place.
 use Rattle.std.specs.Prelude.{◌≡◌, ◌⊎◌, ℕ, ◌+◌, ◌-◌, ◌==◌, ◌||◌, ◌<◌, ◌≤◌, nat_lt, Bool, true, false, MatchBool, List, [], ◌++◌, length, take, drop, slice_index, Some, None, Ok, Err, if◌then◌else◌}
+use Rattle.cal_text.specs.Position.{Begins}
 use Rattle.cal_text.specs.declared.any.DateOrMoment.{DateOrMoment}
 use Rattle.caldate_run.specs.Answers.{Answer, IsAnswer, IsNotRead, IsReadAs, keeps}
 use Rattle.caldate_run.specs.Offsets.{is_digit}
@@ -53,6 +54,24 @@ pub record IsFirstText (filter : Filter) (line : List ℕ) (i k n : ℕ) : Type 
   pub is : IsTextAt filter line k n
   pub leftmost : NoneFrom filter line i k
   pub longest : (m : ℕ) → n < m → ¬ IsTextAt filter line k m
+
+-- ---- how a search ends early
+-- No more than `most` of the bytes begin a text.
+pub record Bounds (IsText : List ℕ → Type 0) (bytes : List ℕ) (most : ℕ) : Type 0 where
+  pub within : most ≤ length bytes
+  pub begins : (n : ℕ) → n ≤ length bytes → Begins IsText (take n bytes) → n ≤ most
+
+-- A text in one of the six forms starts with a sign, an @ or a J, or with a digit. Then its fifth
+-- byte is a hyphen.
+abbrev pub is_usual_start : ℕ → ℕ → Bool
+is_usual_start first fifth = if is_digit first then fifth == 45 else (first == 45 || (first == 43 || (first == 64 || first == 74)))
+
+abbrev pub StartsAsUsual : List ℕ → Type 0
+StartsAsUsual bytes = is_usual_start (slice_index bytes 0) (slice_index bytes 4) ≡ true
+
+-- Each text starts so.
+abbrev pub StartAsUsual : Filter → Type 0
+StartAsUsual filter = (bytes : List ℕ) → IsText filter bytes → StartsAsUsual bytes
 
 -- ---- the answer to the line
 -- The answer has words, which replace its text.

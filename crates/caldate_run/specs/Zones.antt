@@ -17,7 +17,7 @@ use Rattle.caldate_run.specs.declared.zones.read_zone_error.FileError.TheVariant
 use Rattle.caldate_run.specs.declared.zones.read_zone_error.ReadZoneError.{ReadZoneError}
 use Rattle.caldate_run.specs.declared.zones.read_zone_error.ReadZoneError.TheVariants.{File, Zone}
 use Rattle.caldate_run.specs.declared.zones.ZoneFile.{ZoneFile}
-use Rattle.caldate_run.specs.declared.zones.ZoneFiles.{ZoneFiles}
+use Rattle.caldate_run.specs.declared.zones.DataFiles.{DataFiles}
 
 -- ---- names
 -- A letter of ASCII.
@@ -47,15 +47,15 @@ file_in word = if bytes_eq (name_of word) (codes "--holidays") then value_in wor
 
 -- ---- files
 -- The file is there, and has this name.
-abbrev pub has_name : List ℕ → Option ZoneFile → Bool
-has_name name None = false
-has_name name (Some file) = bytes_eq file.name.now name
+abbrev pub is_named : List ℕ → Option ZoneFile → Bool
+is_named name None = false
+is_named name (Some file) = bytes_eq file.name.now name
 
 -- The first of the files with this name.
-abbrev pub file_named : ZoneFiles → List ℕ → Option ZoneFile
+abbrev pub file_named : DataFiles → List ℕ → Option ZoneFile
 file_named files name =
-    if has_name name files.first then files.first else
-    if has_name name files.second then files.second else
+    if is_named name files.first then files.first else
+    if is_named name files.second then files.second else
     None
 
 -- The dates of the file of the holidays, if it has this name.
@@ -67,7 +67,7 @@ abbrev pub days_in : List ℕ → Option HolidayFile → Result (List ℕ) ReadH
 days_in name None = Err (why.File NotFound)
 days_in name (Some file) = if bytes_eq file.name.now name then days_of file.days else Err (why.File NotFound)
 
-abbrev pub holidays_named : ZoneFiles → List ℕ → Result (List ℕ) ReadHolidaysError
+abbrev pub holidays_named : DataFiles → List ℕ → Result (List ℕ) ReadHolidaysError
 holidays_named files name = days_in name files.holidays
 
 -- The path of a file in a folder. A slash is byte 47.
@@ -87,8 +87,8 @@ IsZoneOf None r = r ≡ Err (File NotFound)
 IsZoneOf (Some file) r = IsZoneIn file.contents r
 
 -- Each name has the zone and the holidays of its file.
-abbrev pub AreZones : ZoneFiles → Meanings → Type 0
-AreZones files meanings =
+abbrev pub AreOfFiles : DataFiles → Meanings → Type 0
+AreOfFiles files meanings =
     (name : List ℕ) → IsZoneOf (file_named files name) (meanings name).zone × ((meanings name).holidays ≡ holidays_named files name)
 
 -- The zone of a word that is the name of one.

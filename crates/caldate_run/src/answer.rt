@@ -74,7 +74,7 @@ pub fn read_with(filter: &Filter<'_>, text: &[u8]) -> Result<DateOrMoment, NoAns
         → result ≡ Err why }
     ensures error { IfErr result (IsNotRead filter.now text.now) }
 {
-    match read(filter.readers.as_slice(), filter.offset, text) {
+    match read(filter.readers.as_slice(), &filter.assumptions, text) {
         Ok(found) => placed(&filter.clock, found),
         Err(why) => Err(why),
     }

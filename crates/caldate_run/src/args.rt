@@ -4,7 +4,7 @@ ghost use Rattle.caldate_run.specs.Lists.{HasValidStep};
 ghost use Rattle.caldate_run.specs.Offsets.{offset_of};
 ghost use Rattle.caldate_run.specs.Meanings.{AreMeanings, Meanings};
 ghost use Rattle.caldate_run.specs.Moves.{monday_to_friday};
-ghost use Rattle.caldate_run.specs.Zones.{AreZones, is_zone_like, zone_of};
+ghost use Rattle.caldate_run.specs.Zones.{AreOfFiles, is_zone_like, zone_of};
 ghost use Rattle.std.specs.Option.{option_map_or};
 ghost use Rattle.caldate_run.specs.Requests.{amount_at, amount_of, arguments_of, parse_args, clock_of, conflict_with_request, count_at, default_mode, duration_of, filter_at, filter_of, filter_with, floor_at, further_request_at, occurrence_at, lines_command, named_field, once_command, once_of, only_at, place_at, request_at, skip_in, start_at, to_of, unit_at, expected_verb, weekday_of, words_left};
 
@@ -27,7 +27,9 @@ use crate::args::clock_words::now_in;
 use crate::args::formats::to_of;
 use crate::args::listing::list_of;
 use crate::args::offset::offset_of;
-use crate::args::options::{Options, conflict_in, field_of, options_of, readers_in};
+use crate::args::options::{
+    Options, assumptions_in, conflict_in, field_of, options_of, readers_in,
+};
 use crate::args::spelling::{
     asks_for_help, minutes_of, minutes_word, parse_i64, parse_u8, period_of, start_of, unit_of,
     weekday_of,
@@ -38,7 +40,7 @@ use crate::args::words::{cut, ended, ends_at, only_at, word_as, word_at};
 use crate::field_name::FieldName;
 use crate::on_invalid::OnInvalid;
 use crate::request::{Clock, Command, DayMove, Field, Filter, Place, Policy, Request, TimeUnit};
-use crate::zones::{ZoneFiles, is_zone_like, zone_of};
+use crate::zones::{DataFiles, is_zone_like, zone_of};
 use cal_datetime::{OffsetDateTime, PlainDateTime};
 use cal_schedule::Workdays;
 use cal_time::{SignedDuration, UtcOffset, Weekday};
@@ -50,12 +52,12 @@ use cal_zone::Zone;
 pub fn parse_args<'a>(
     words: &'a [u8],
     now: Option<PlainDateTime>,
-    files: &ZoneFiles<'a>,
+    files: &DataFiles<'a>,
 ) -> Result<Command<'a>, UsageError>
     ensures steps { IfOk result HasValidStep }
     ensures value { (meanings : Meanings)
         → AreMeanings meanings (arguments_of words.now)
-        → AreZones files.now meanings → result ≡ parse_args now meanings (arguments_of words.now) }
+        → AreOfFiles files.now meanings → result ≡ parse_args now meanings (arguments_of words.now) }
 {
     let nothing = usage_error_at(0, Expected::Something);
     let first = word_at(words, 0).ok_or(nothing)?;
@@ -78,12 +80,12 @@ pub fn parse_args<'a>(
 fn once_of<'a>(
     words: &'a [u8],
     now: Option<PlainDateTime>,
-    files: &ZoneFiles<'a>,
+    files: &DataFiles<'a>,
 ) -> Result<Command<'a>, UsageError>
     ensures steps { IfOk result HasValidStep }
     ensures value { (meanings : Meanings)
         → AreMeanings meanings (arguments_of words.now)
-        → AreZones files.now meanings → result ≡ once_of now meanings (arguments_of words.now) }
+        → AreOfFiles files.now meanings → result ≡ once_of now meanings (arguments_of words.now) }
 {
     let Some(rest) = cut(words).1 else {
         return Err(usage_error_at(1, Expected::Target));
@@ -134,12 +136,12 @@ fn filter_at<'a>(
     rest: Option<&'a [u8]>,
     at: usize,
     now: Option<PlainDateTime>,
-    files: &ZoneFiles<'a>,
+    files: &DataFiles<'a>,
 ) -> Result<Filter<'a>, UsageError>
     requires few { at ≤ 2 }
     requires rest { words_left rest ≡ drop at (arguments_of words.now) }
     ensures { (meanings : Meanings) → AreMeanings meanings (arguments_of words.now)
-        → AreZones files.now meanings → result ≡ filter_at now meanings (arguments_of words.now) at }
+        → AreOfFiles files.now meanings → result ≡ filter_at now meanings (arguments_of words.now) at }
 {
     let (options, at) = options_of(rest, at, files)?;
     if let Some(expected) = conflict_in(&options) {
@@ -192,10 +194,10 @@ fn filter_of<'a>(options: Options<'a>, request: Request<'a>) -> Filter<'a>
         field: field_of(&options),
         scans: options.scan,
         skip: skip_in(&options),
+        assumptions: assumptions_in(&options),
         workdays: workdays_in(options.workdays),
         name: options.name,
         column: column_of(options.header, options.append),
-        offset: options.offset.unwrap_or(UtcOffset::UTC),
         readers: readers_in(options.readers),
         clock: clock_of(options.zone, options.policy),
     }
@@ -259,11 +261,11 @@ fn request_at<'a>(
     words: &'a [u8],
     at: usize,
     now: Option<OffsetDateTime>,
-    files: &ZoneFiles<'a>,
+    files: &DataFiles<'a>,
 ) -> Result<Request<'a>, UsageError>
     requires { at + 5 < 2 ^ 64 }
     ensures { (meanings : Meanings) → AreMeanings meanings (arguments_of words.now)
-        → AreZones files.now meanings → result ≡ request_at now meanings (arguments_of words.now) at }
+        → AreOfFiles files.now meanings → result ≡ request_at now meanings (arguments_of words.now) at }
 {
     let usage_error = usage_error_at(at, expected_verb(at));
     let verb = word_at(words, at).ok_or(usage_error)?;
@@ -294,11 +296,11 @@ fn further_request_at<'a>(
     at: usize,
     verb: &[u8],
     now: Option<OffsetDateTime>,
-    files: &ZoneFiles<'a>,
+    files: &DataFiles<'a>,
 ) -> Result<Request<'a>, UsageError>
     requires { at + 5 < 2 ^ 64 }
     ensures { (meanings : Meanings) → AreMeanings meanings (arguments_of words.now)
-        → AreZones files.now meanings → result ≡ further_request_at now meanings (arguments_of words.now) at verb.now }
+        → AreOfFiles files.now meanings → result ≡ further_request_at now meanings (arguments_of words.now) at verb.now }
 {
     if verb == b"start".as_slice() {
         start_at(words, at + 1)
@@ -361,9 +363,9 @@ fn floor_at(words: &[u8], at: usize, minutes: u16) -> Result<Request<'static>, U
 }
 
 /// Parses `OFFSET` or `ZONE`.
-fn place_at<'a>(words: &[u8], at: usize, files: &ZoneFiles<'a>) -> Result<Place<'a>, UsageError>
+fn place_at<'a>(words: &[u8], at: usize, files: &DataFiles<'a>) -> Result<Place<'a>, UsageError>
     requires { at + 1 < 2 ^ 64 }
-    ensures { (meanings : Meanings) → AreZones files.now meanings
+    ensures { (meanings : Meanings) → AreOfFiles files.now meanings
         → result ≡ place_at meanings (arguments_of words.now) at }
 {
     if names_zone(words, at) {
@@ -384,9 +386,9 @@ fn names_zone(words: &[u8], at: usize) -> bool
 }
 
 /// Parses `ZONE`.
-fn zone_at<'a>(words: &[u8], at: usize, files: &ZoneFiles<'a>) -> Result<Zone<'a>, UsageError>
+fn zone_at<'a>(words: &[u8], at: usize, files: &DataFiles<'a>) -> Result<Zone<'a>, UsageError>
     requires { at + 1 < 2 ^ 64 }
-    ensures { (meanings : Meanings) → AreZones files.now meanings
+    ensures { (meanings : Meanings) → AreOfFiles files.now meanings
         → result ≡ only_at (arguments_of words.now) at (zone_of meanings) Expected.Zone }
 {
     let usage_error = usage_error_at(at, Expected::Zone);

@@ -29,7 +29,10 @@ pub trait Texts {
         ensures later { later self.new ≡ later self.old }
         ensures leads { leads self.old self.new };
 
-    /// Goes on to the next text, and returns false if there is none.
+    /// Goes on to the next text and returns `true`, or returns `false` after the last one.
+    ///
+    /// With the files `jan` and `feb`, the first call makes `jan` the current text, the second `feb`,
+    /// and the third returns `false`.
     fn go_on(&mut self) -> bool
         ensures next { result ≡ true → IsNext (later self.old) (rest self.new) (later self.new) }
         ensures last { result ≡ false → IsLast (later self.old)

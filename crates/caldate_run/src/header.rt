@@ -8,12 +8,11 @@ ghost use Rattle.caldate_run.specs.Runs.{WritesPage};
 ghost use Rattle.caldate_run.specs.UsageMessages.{quoted};
 
 use crate::answer::LONGEST_TEXT;
-use crate::args::usage_message::push_quoted;
 use crate::input::fields::{first_field, is_quoted};
 use crate::output::buffer::Buffer;
 use crate::output::write_all;
 use crate::request::Field;
-use crate::run::excerpt::Excerpt;
+use crate::run::excerpt::push_quoted;
 use crate::run::lines::{cut_return, first_line};
 use crate::run::run_error::RunError;
 use crate::streams::Sink;
@@ -202,24 +201,12 @@ fn push_names(words: &mut Buffer, field: Field, header: &[u8])
 /// Appends the name of a field in quotes: its first 80 bytes, with `?` for each that doesn't print.
 /// The name is written to `own`.
 fn push_name(words: &mut Buffer, own: &mut Buffer, field: Field, part: &[u8])
-    requires room { HasRoom (length part.now + 2) words.old }
+    requires room { HasRoom 82 words.old }
     requires few { length part.now ≤ longest_text }
     ensures text { words.new ≡ words.old ++ quoted (field_name field part.now) }
     ensures short { length words.new ≤ length words.old + length part.now + 2 }
 {
     own.clear();
     push_field_name(own, field, part);
-    push_excerpt(words, own.as_bytes());
-}
-
-/// Appends an excerpt of the text, in quotes.
-fn push_excerpt(words: &mut Buffer, text: &[u8])
-    requires { HasRoom (length text.now + 2) words.old }
-    ensures quoted { words.new ≡ words.old ++ quoted text.now }
-    ensures short { length words.new ≤ length words.old + length text.now + 2 }
-{
-    let excerpt = Excerpt::new(text);
-    words.push(b"'");
-    words.push(excerpt.as_bytes());
-    words.push(b"'");
+    push_quoted(words, own.as_bytes());
 }

@@ -13,7 +13,7 @@ invalid, or the input or the output fails.
 
   caldate to FORM                 the same as calendar, ordinal, week, julian, weekday,
                                   short-weekday, month, quarter, basic, rfc3339, unix, unix-ms,
-                                  unix-us, unix-ns, clf or rfc2822
+                                  unix-us, unix-ns, clf, rfc2822 or syslog
   caldate to FORMAT               the same in a format of strftime, such as '%A, %-d %B %Y'
   caldate add N [UNIT]            N days, weeks, months, years, workdays, hours, minutes or
                                   seconds later
@@ -55,10 +55,11 @@ invalid, or the input or the output fails.
   caldate --separator C ...       with --field: fields end at the byte C
   caldate --skip K ...            writes the first K lines unchanged
   caldate --read FORM ...         reads lines in this form: basic, dmy, mdy, unix, unix-ms, unix-us,
-                                  unix-ns, clf, rfc2822, iso or local, or in a format of strftime,
-                                  such as %d.%m.%Y; of up to four, the first that fits wins
+                                  unix-ns, clf, rfc2822, syslog, iso or local, or in a format of
+                                  strftime, such as %d.%m.%Y; of up to four, the first that fits wins
   caldate --assume OFFSET ...     with --read local, or a format without an offset: their offset
   caldate --zone ZONE ...         the same, by the clocks of that zone
+  caldate --assume-year YEAR ...  with --read syslog, or a format without a year: their year
   caldate --ambiguous POLICY ...  with --zone: what is meant by a time that clocks skip or show twice:
                                   compatible (the default), earlier, later, or reject for none
   caldate --holidays FILE ...     with workdays: the dates in that file, one in each line, are not

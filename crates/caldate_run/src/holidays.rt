@@ -5,7 +5,7 @@ ghost use Rattle.cal_time.specs.Date.{julian_day_at};
 ghost use Rattle.caldate_run.specs.Holidays.{AreHolidays, IsFirstInvalid, IsInvalidLine, is_left_out};
 ghost use Rattle.caldate_run.specs.Lines.{lines_of};
 ghost use Rattle.caldate_run.specs.Meanings.{Meanings};
-ghost use Rattle.caldate_run.specs.Zones.{AreZones, days_in, days_of, file_in, holidays_named, workdays_of};
+ghost use Rattle.caldate_run.specs.Zones.{AreOfFiles, days_in, days_of, file_in, holidays_named, workdays_of};
 
 pub(crate) mod day_list;
 pub mod holiday_file;
@@ -19,7 +19,7 @@ use crate::holidays::holiday_file::HolidayFile;
 use crate::holidays::holiday_source::MAX_HOLIDAYS;
 use crate::holidays::read_holidays_error::ReadHolidaysError;
 use crate::run::lines::{cut_return, first_line};
-use crate::zones::ZoneFiles;
+use crate::zones::DataFiles;
 use crate::zones::read_zone_error::FileError;
 use cal_schedule::Workdays;
 use cal_text::ParseError;
@@ -27,8 +27,12 @@ use cal_text::date::parse;
 use cal_time::Date;
 
 /// Parses the lines of a file, in any order, and writes their dates to the front of the buffer.
-/// Returns them in ascending order and each once, or the first line that isn't a date.
-pub fn parse_holidays<'a>(
+/// Returns them in ascending order and each once, or the first line that isn't a date. Lines that
+/// are empty or begin with `#` are left out.
+///
+/// The lines `2024-12-26`, `# Christmas` and `2024-12-25` give 2024-12-25 and 2024-12-26. If the
+/// second is `Christmas`, the error is `Line(2, UnexpectedByte(0))`.
+pub(crate) fn parse_holidays<'a>(
     bytes: &[u8],
     days: &'a mut [Date; MAX_HOLIDAYS],
 ) -> Result<&'a [Date], ReadHolidaysError>
@@ -122,7 +126,7 @@ pub fn file_in(word: &[u8]) -> &[u8]
 
 /// Returns the dates of the file with this name, or the reason why it has none.
 pub fn holidays_named<'a>(
-    files: &ZoneFiles<'a>,
+    files: &DataFiles<'a>,
     name: &[u8],
 ) -> Result<&'a [Date], ReadHolidaysError>
     ensures value { days_of result ≡ holidays_named files.now name.now }
@@ -147,8 +151,8 @@ fn days_in<'a>(file: HolidayFile<'a>, name: &[u8]) -> Result<&'a [Date], ReadHol
 }
 
 /// Returns Monday to Friday without the dates of the file with this name.
-pub fn workdays_of<'a>(files: &ZoneFiles<'a>, name: &[u8]) -> Option<Workdays<'a>>
-    ensures { (meanings : Meanings) → AreZones files.now meanings
+pub fn workdays_of<'a>(files: &DataFiles<'a>, name: &[u8]) -> Option<Workdays<'a>>
+    ensures { (meanings : Meanings) → AreOfFiles files.now meanings
         → result ≡ workdays_of meanings name.now }
 {
     match holidays_named(files, name) {

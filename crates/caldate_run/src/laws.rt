@@ -10,7 +10,7 @@ ghost use Rattle.caldate_run.specs.Meanings.{AreMeanings, Meanings};
 ghost use Rattle.caldate_run.specs.Requests.{arguments_of};
 ghost use Rattle.caldate_run.specs.Scans.{IsScanned, part_at};
 ghost use Rattle.caldate_run.specs.Targets.{IsAnswerAt};
-ghost use Rattle.caldate_run.specs.Zones.{AreZones};
+ghost use Rattle.caldate_run.specs.Zones.{AreOfFiles};
 ghost use Rattle.caldate_run.specs.declared.run.tally.Tally.{Tally};
 
 use crate::answer::read_with;
@@ -22,7 +22,7 @@ use crate::request::{Field, Filter};
 use crate::run::lines::cut_return;
 use crate::run::no_answer::NoAnswer;
 use crate::run::other::{other_field, read_other};
-use crate::zones::{ZoneFiles, zone_in};
+use crate::zones::{DataFiles, zone_in};
 use cal_text::{DateOrMoment, parse_any};
 
 /// Proves that no text has two answers to the same request in the same reading.
@@ -121,9 +121,9 @@ pub fn have_meanings(arguments: &[u8])
 
 /// Proves that the words of all arguments have meanings, and that all names have zones, or a reason
 /// why not.
-pub fn have_zones(arguments: &[u8], files: &ZoneFiles<'_>)
+pub fn have_zones(arguments: &[u8], files: &DataFiles<'_>)
     ensures { (meanings : Meanings)
-        × AreMeanings meanings (arguments_of arguments.now) × AreZones files.now meanings }
+        × AreMeanings meanings (arguments_of arguments.now) × AreOfFiles files.now meanings }
 {
     have_meanings(arguments);
     let _first = zone_in(files.first);

@@ -2,7 +2,7 @@
 ghost use Rattle.std.specs.Prelude.{◌≡◌, ◌<◌, ◌≤◌, ◌+◌, ◌++◌, ℕ, length, IfSome, MatchOption};
 ghost use Rattle.cal_time.specs.Date.{IsDate};
 ghost use Rattle.caldate_run.specs.Calls.{Writes, write_failure};
-ghost use Rattle.caldate_run.specs.Lists.{IsAfter, IsStep, IsWithin, Lists, line_of};
+ghost use Rattle.caldate_run.specs.Lists.{IsUnitsAfter, IsStep, IsWithin, Lists, line_of};
 ghost use Rattle.caldate_run.specs.Room.{HasRoom, longest_reply};
 
 pub mod recurring;
@@ -32,7 +32,7 @@ pub fn list<W: Sink>(listing: &Listing, writer: &mut W) -> Result<(), RunError>
     let mut count = 0;
     while let Some(day) = day_within(listing, count) {
         make_room(&mut buffer, 0, writer)?;
-        push_line(&mut buffer, day);
+        push_day(&mut buffer, day);
         count += listing.step.every;
     }
     write_all(writer, buffer.as_bytes())
@@ -53,8 +53,8 @@ fn day_within(listing: &Listing, count: u64) -> Option<Date>
 
 /// Returns the day `count` days or months later, or `None` past the end of the range.
 fn day_after(unit: StepUnit, date: Date, count: u64) -> Option<Date>
-    ensures day { MatchOption result ((n : ℕ) → ¬ (IsDate n × IsAfter unit count date n))
-        (λ n. IsDate n × IsAfter unit count date n) }
+    ensures day { MatchOption result ((n : ℕ) → ¬ (IsDate n × IsUnitsAfter unit count date n))
+        (λ n. IsDate n × IsUnitsAfter unit count date n) }
     ensures near { IfSome result (λ _. count < 1_000_000_000) }
 {
     match unit {
@@ -76,15 +76,15 @@ fn days_after(date: Date, days: u64) -> Option<Date>
 
 fn months_after(date: Date, months: u64) -> Option<Date>
     ensures day { MatchOption result
-        ((n : ℕ) → ¬ (IsDate n × IsAfter StepUnit.Months months date n))
-        (λ n. IsDate n × IsAfter StepUnit.Months months date n) }
+        ((n : ℕ) → ¬ (IsDate n × IsUnitsAfter StepUnit.Months months date n))
+        (λ n. IsDate n × IsUnitsAfter StepUnit.Months months date n) }
     ensures near { IfSome result (λ _. months < 1_000_000_000) }
 {
     checked_add_months(date, months.min(FAR) as i32)
 }
 
 /// Appends the line of a day.
-pub fn push_line(buffer: &mut Buffer, day: Date)
+pub fn push_day(buffer: &mut Buffer, day: Date)
     requires { HasRoom longest_reply buffer.old }
     ensures { buffer.new ≡ buffer.old ++ line_of day }
 {

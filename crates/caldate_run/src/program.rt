@@ -33,7 +33,7 @@ use crate::run::run;
 use crate::run::run_error::RunError;
 use crate::streams::text::Text;
 use crate::streams::{Sink, Source};
-use crate::zones::ZoneFiles;
+use crate::zones::DataFiles;
 use cal_datetime::PlainDateTime;
 use cal_time::ShortText;
 use std::env::Env;
@@ -52,7 +52,7 @@ const INVALID_ARGUMENTS: u8 = 2;
 pub fn perform<R: Source, W: Sink, E: Sink>(
     arguments: Option<&[u8]>,
     now: &Option<PlainDateTime>,
-    files: &ZoneFiles<'_>,
+    files: &DataFiles<'_>,
     reader: &mut R,
     writer: &mut W,
     errors: &mut E,
@@ -159,7 +159,7 @@ pub fn perform<R: Source, W: Sink, E: Sink>(
 pub fn perform_on_files<S: Env + Files, I: Read + Drop, F: Sink + Drop, W: Sink, E: Sink>(
     arguments: Option<&[u8]>,
     now: &Option<PlainDateTime>,
-    zones: &ZoneFiles<'_>,
+    zones: &DataFiles<'_>,
     files: &mut Joined<NamedFiles<'_, S, I, F>>,
     writer: &mut W,
     errors: &mut E,

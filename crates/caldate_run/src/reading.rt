@@ -6,6 +6,7 @@ ghost use Rattle.cal_text.specs.Parsing.{FailsWithComponent, FailsWithSyntax};
 ghost use Rattle.cal_text.specs.declared.any.DateOrMoment.{DateOrMoment};
 ghost use Rattle.caldate_run.specs.Readings.{HasFormIn, IsErrorIn, IsTextIn};
 
+pub(crate) mod full_text;
 mod local;
 mod number;
 mod parts;
@@ -13,6 +14,7 @@ pub mod reader;
 mod readers;
 pub(crate) mod spelling;
 mod template;
+pub mod value_format;
 
 use crate::reading::local::read_local;
 use crate::reading::number::read_number;

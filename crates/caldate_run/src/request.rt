@@ -6,6 +6,7 @@ ghost use Rattle.caldate_run.specs.Targets.{reads_other, target_fields, target_n
 use crate::field_name::FieldName;
 use crate::on_invalid::OnInvalid;
 use crate::reading::Readers;
+use crate::reading::reader::Assumptions;
 use cal_format::Format;
 use cal_recurrence::Recurrence;
 use cal_schedule::Workdays;
@@ -266,8 +267,8 @@ pub struct Filter<'a> {
     pub workdays: Workdays<'a>,
     /// The forms that a line is read in.
     pub readers: Readers,
-    /// The offset of a text that has none.
-    pub offset: UtcOffset,
+    /// The parts that a text may leave out.
+    pub assumptions: Assumptions,
     /// The clocks that a text without an offset is read on instead, if a zone is given.
     pub clock: Option<Clock<'a>>,
     /// The mode for a line without an answer.

@@ -1,14 +1,16 @@
 //! The texts in a line that have a form.
 ghost use Rattle.std.specs.Prelude.{◌≡◌, ℕ, ◌+◌, ◌<◌, ◌≤◌, IfSome, MatchOption, false, length, slice_index, true};
-ghost use Rattle.caldate_run.specs.Scans.{HasNoText, IsFirstText, IsText, IsTextAt, byte_before, has_form, is_of_word, part_at};
+ghost use Rattle.caldate_run.specs.Scans.{HasNoText, IsFirstText, IsText, IsTextAt, StartAsUsual, byte_before, has_form, is_of_word, is_usual_start, part_at};
 
 pub(crate) mod bound;
 pub(crate) mod push;
+pub(crate) mod start;
 
 use crate::answer::read_with;
 use crate::request::Filter;
 use crate::run::no_answer::NoAnswer;
 use crate::scan::bound::bound_of;
+use crate::scan::start::{is_usual_start, start_as_usual};
 use crate::zones::is_letter;
 
 /// Returns the place and the length of the first text from a place of the line on. In
@@ -19,8 +21,9 @@ pub fn first_text(filter: &Filter<'_>, line: &[u8], from: usize) -> Option<(usiz
     ensures within { IfSome result (λ at.
         (from ≤ at.0) × (0 < at.1) × (at.0 + at.1 ≤ length line.now)) }
 {
+    let usual = start_as_usual(filter);
     for place in from..line.len() {
-        let count = text_length(filter, line, place);
+        let count = text_length(filter, usual, line, place);
         if count > 0 {
             return Some((place, count));
         }
@@ -28,15 +31,33 @@ pub fn first_text(filter: &Filter<'_>, line: &[u8], from: usize) -> Option<(usiz
     None
 }
 
-/// Returns the length of the longest text at a place, or 0 if none begins there.
-fn text_length(filter: &Filter<'_>, line: &[u8], place: usize) -> usize
-    requires { place ≤ length line.now }
+/// Returns the length of the longest text at a place, or 0 if none begins there. With `usual`, two
+/// bytes rule out most places.
+#[inline(always)]
+fn text_length(filter: &Filter<'_>, usual: bool, line: &[u8], place: usize) -> usize
+    requires place { place ≤ length line.now }
+    requires usual { usual ≡ true → StartAsUsual filter.now }
     ensures is { 0 < result → IsTextAt filter.now line.now place result }
     ensures longest { (n : ℕ) → result < n → ¬ IsTextAt filter.now line.now place n }
 {
+    if usual && !is_usual_start(byte_at(line, place), byte_at(line, place + 4)) {
+        return 0;
+    }
     if is_of_word(byte_before(line, place)) {
         return 0;
     }
+    longest_text(filter, line, place)
+}
+
+/// Returns the length of the longest text at a place that is not after a letter or a digit, or 0 if
+/// none begins there.
+#[inline(never)]
+fn longest_text(filter: &Filter<'_>, line: &[u8], place: usize) -> usize
+    requires place { place ≤ length line.now }
+    requires before { is_of_word (byte_before line.now place) ≡ false }
+    ensures is { 0 < result → IsTextAt filter.now line.now place result }
+    ensures longest { (n : ℕ) → result < n → ¬ IsTextAt filter.now line.now place n }
+{
     let mut count = bound_of(filter, &line[place..]);
     while count > 0 {
         if is_text_at(filter, line, place, count) {
@@ -104,6 +125,7 @@ fn byte_before(line: &[u8], place: usize) -> u8
 }
 
 /// Returns the byte at an index, or 0 after the line.
+#[inline(always)]
 fn byte_at(line: &[u8], index: usize) -> u8
     ensures { result ≡ slice_index line.now index }
 {

@@ -1,7 +1,7 @@
 //! Time zones by name, from files.
 ghost use Rattle.std.specs.Prelude.{◌≡◌, [], is_none, None, not, position};
 ghost use Rattle.caldate_run.specs.Meanings.{Meanings};
-ghost use Rattle.caldate_run.specs.Zones.{AreZones, IsZoneOf, file_named, has_name, is_letter, is_name_byte, is_zone_like, is_zone_name, name_in, zone_of};
+ghost use Rattle.caldate_run.specs.Zones.{AreOfFiles, IsZoneOf, file_named, is_named, is_letter, is_name_byte, is_zone_like, is_zone_name, name_in, zone_of};
 
 pub mod read_zone_error;
 pub mod zone_source;
@@ -24,7 +24,7 @@ pub struct ZoneFile<'a> {
 
 /// A folder, up to two files of zones in it, and the file of the holidays.
 #[derive(Clone, Copy)]
-pub struct ZoneFiles<'a> {
+pub struct DataFiles<'a> {
     /// The path of the folder, such as `/usr/share/zoneinfo`.
     pub folder: &'a [u8],
     pub first: Option<ZoneFile<'a>>,
@@ -32,12 +32,12 @@ pub struct ZoneFiles<'a> {
     pub holidays: Option<HolidayFile<'a>>,
 }
 
-impl ZoneFiles<'_> {
+impl DataFiles<'_> {
     /// Creates a value without a folder and files.
-    pub fn none() -> ZoneFiles<'static>
+    pub fn none() -> DataFiles<'static>
         ensures { (result.folder.now ≡ []) × (result.first ≡ None) × (result.second ≡ None) }
     {
-        ZoneFiles {
+        DataFiles {
             folder: b"",
             first: None,
             second: None,
@@ -111,8 +111,8 @@ pub fn name_in(word: &[u8]) -> &[u8]
     }
 }
 
-fn has_name(name: &[u8], file: Option<ZoneFile<'_>>) -> bool
-    ensures { result ≡ has_name name.now file.entry }
+fn is_named(name: &[u8], file: Option<ZoneFile<'_>>) -> bool
+    ensures { result ≡ is_named name.now file.entry }
 {
     match file {
         Some(file) => file.name == name,
@@ -121,12 +121,12 @@ fn has_name(name: &[u8], file: Option<ZoneFile<'_>>) -> bool
 }
 
 /// Returns the file with this name, if it is given.
-pub fn file_named<'a>(files: &ZoneFiles<'a>, name: &[u8]) -> Option<ZoneFile<'a>>
+pub fn file_named<'a>(files: &DataFiles<'a>, name: &[u8]) -> Option<ZoneFile<'a>>
     ensures { result ≡ file_named files.now name.now }
 {
-    if has_name(name, files.first) {
+    if is_named(name, files.first) {
         files.first
-    } else if has_name(name, files.second) {
+    } else if is_named(name, files.second) {
         files.second
     } else {
         None
@@ -150,16 +150,16 @@ pub fn zone_in<'a>(file: Option<ZoneFile<'a>>) -> Result<Zone<'a>, ReadZoneError
 }
 
 /// Returns the zone with this name, or the reason why it has none.
-pub fn zone_named<'a>(files: &ZoneFiles<'a>, name: &[u8]) -> Result<Zone<'a>, ReadZoneError>
-    ensures { (meanings : Meanings) → AreZones files.now meanings
+pub fn zone_named<'a>(files: &DataFiles<'a>, name: &[u8]) -> Result<Zone<'a>, ReadZoneError>
+    ensures { (meanings : Meanings) → AreOfFiles files.now meanings
         → result ≡ (meanings name.now).zone }
 {
     zone_in(file_named(files, name))
 }
 
 /// Parses the name of a zone.
-pub fn zone_of<'a>(files: &ZoneFiles<'a>, word: &[u8]) -> Option<Zone<'a>>
-    ensures { (meanings : Meanings) → AreZones files.now meanings
+pub fn zone_of<'a>(files: &DataFiles<'a>, word: &[u8]) -> Option<Zone<'a>>
+    ensures { (meanings : Meanings) → AreOfFiles files.now meanings
         → result ≡ zone_of meanings word.now }
 {
     if !is_zone_name(word) {

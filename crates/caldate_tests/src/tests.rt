@@ -7,7 +7,7 @@ use caldate_run::request::Command;
 use caldate_run::run::ending::end;
 use caldate_run::run::run;
 use caldate_run::run::run_error::RunError;
-use caldate_run::zones::ZoneFiles;
+use caldate_run::zones::DataFiles;
 use std::alloc::{AllocError, Global};
 use std::io::{ErrorKind, Read, Write};
 use std::process::Abort;
@@ -29,7 +29,7 @@ fn run_by<R: Read, W: Write>(
     reader: &mut R,
     writer: &mut W,
 ) -> Result<(), RunError> {
-    match parse_args(arguments, None, &ZoneFiles::none()) {
+    match parse_args(arguments, None, &DataFiles::none()) {
         Ok(Command::Lines(filter)) => run(filter, reader, writer),
         Ok(Command::Dates(listing)) => list(&listing, writer),
         _ => Err(RunError::Write(ErrorKind::InvalidInput)),

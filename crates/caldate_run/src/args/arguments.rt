@@ -18,8 +18,11 @@ pub struct Arguments<'a> {
     pub first_file: Option<usize>,
 }
 
-/// Writes the words of the arguments, or those before the `--` of files, to the front of the buffer,
-/// and returns them, or `None` if they don't fit. `add 1 day` takes nine bytes.
+/// Writes the words of the arguments to the front of the buffer, with a zero byte between two, and
+/// returns them. Returns `None` if they don't fit. Words after a `--` name files, and aren't written.
+///
+/// `add 1 day` takes nine bytes. `to week -- jan feb` takes seven, and the first file has the index
+/// 4.
 pub fn join<'a, E: Env>(env: &E, buffer: &'a mut [u8; MAX_BYTES]) -> Option<Arguments<'a>>
     ensures { IfSome result (λ arguments. length arguments.words.now ≤ 4096) }
 {

@@ -1,17 +1,22 @@
 //! Formats in the words of the arguments.
-ghost use Rattle.std.specs.Prelude.{◌≡◌, IfSome, List, None, Some};
+ghost use Rattle.std.specs.Prelude.{◌≡◌, IfSome, IsTrue, List, None, Some, option_and_then};
+ghost use Rattle.cal_format.specs.Reading.{are_moment_items};
 ghost use Rattle.cal_format.specs.declared.item.Item.{Item};
 ghost use Rattle.caldate_run.specs.Meanings.{IsItems, IsMeaning, Meanings, format_named, is_format};
-ghost use Rattle.caldate_run.specs.Requests.{reader_named, reader_of, reader_with, to_of};
+ghost use Rattle.caldate_run.specs.Requests.{items_of, reader_named, reader_of, reader_with, to_of, value_format_of};
 
 use crate::args::spelling::form_of;
 use crate::reading::Reading;
 use crate::reading::reader::Reader;
 use crate::reading::spelling::Spelling;
+use crate::reading::value_format::ValueFormat;
 use crate::request::{Request, UnixUnit};
 use crate::run::lines::index_of;
-use cal_format::Format;
+use cal_format::{Component, Format, Item, Padding};
 use std::str;
+
+/// The maximum number of items of a format that the year follows.
+const LONGEST_YEARLESS: usize = 62;
 
 /// Returns the text of a format that has a name, or the word itself.
 fn format_named(word: &[u8]) -> &[u8]
@@ -21,6 +26,8 @@ fn format_named(word: &[u8]) -> &[u8]
         b"%d/%b/%Y:%T %z"
     } else if word == b"rfc2822".as_slice() {
         b"%a, %d %b %Y %T %z"
+    } else if word == b"syslog".as_slice() {
+        b"%b %e %T"
     } else {
         word
     }
@@ -73,7 +80,7 @@ pub fn to_of(word: &[u8]) -> Option<Request<'static>>
 }
 
 /// Parses the argument of `--read`: the name of a form, or a format that determines a date, a
-/// moment with its offset, or a moment without one.
+/// moment with its offset, or a moment without one, either itself or with a year after it.
 pub fn reader_of(word: &[u8]) -> Option<Reader>
     ensures { (meanings : Meanings) → IsMeaning meanings word.now
         → result ≡ reader_of meanings word.now }
@@ -85,23 +92,60 @@ pub fn reader_of(word: &[u8]) -> Option<Reader>
     }
 }
 
-/// Returns the form of texts in a format, by what the format determines.
+/// Returns the form of texts in a format.
 fn reader_with(word: &[u8]) -> Option<Reader>
     ensures every { (items : List Item) → IsItems (format_named word.now) items
         → result ≡ reader_with items }
     ensures none { ((items : List Item) → ¬ IsItems (format_named word.now) items)
         → result ≡ None }
 {
-    if let Some(format) = format_of(word)?.for_dates() {
-        return Some(Reader::Dates(format));
+    match value_format_of(word, false) {
+        Some(format) => Some(Reader::Format(format)),
+        None => match value_format_of(word, true) {
+            Some(format) => Some(Reader::Yearless(format)),
+            None => None,
+        },
     }
-    if let Some(format) = format_of(word)?.for_offset_date_times() {
-        return Some(Reader::Moments(format));
+}
+
+/// Parses a format, with ` %Y` after it if `dated` is `true`, and returns it if it determines a date
+/// or a moment.
+fn value_format_of(word: &[u8], dated: bool) -> Option<ValueFormat>
+    ensures every { (items : List Item) → IsItems (format_named word.now) items
+        → result ≡ option_and_then value_format_of (items_of dated items) }
+    ensures none { ((items : List Item) → ¬ IsItems (format_named word.now) items)
+        → result ≡ None }
+{
+    if let Some(format) = format_with(word, dated)?.for_dates() {
+        return Some(ValueFormat::Dates(format));
     }
-    match format_of(word)?.for_date_times() {
-        Some(format) => Some(Reader::DateTimes(format)),
+    if let Some(format) = format_with(word, dated)?.for_offset_date_times() {
+        return Some(ValueFormat::Moments(format));
+    }
+    match format_with(word, dated)?.for_date_times() {
+        Some(format) => Some(ValueFormat::DateTimes(format)),
         None => None,
     }
+}
+
+/// Parses a format, and appends ` %Y` if `dated` is `true`.
+fn format_with(word: &[u8], dated: bool) -> Option<Format>
+    ensures every { (items : List Item) → IsItems (format_named word.now) items
+        → result ≡ items_of dated items }
+    ensures has { IfSome result (λ items. IsTrue (are_moment_items items)) }
+    ensures none { ((items : List Item) → ¬ IsItems (format_named word.now) items)
+        → result ≡ None }
+{
+    let mut format = format_of(word)?;
+    if !dated {
+        return Some(format);
+    }
+    if format.items().len() > LONGEST_YEARLESS {
+        return None;
+    }
+    format.try_push(Item::Literal(b' '));
+    format.try_push(Item::Number(Component::Year, Padding::Zero));
+    Some(format)
 }
 
 fn reader_named(word: &[u8]) -> Option<Reader>

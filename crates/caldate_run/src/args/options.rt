@@ -1,8 +1,8 @@
 //! The options before a request.
 ghost use Rattle.std.specs.Prelude.{◌≡◌, ℕ, ◌+◌, ◌≤◌, ◌^◌, ◌∷◌, List, IfOk, None, length, true};
 ghost use Rattle.caldate_run.specs.Meanings.{AreMeanings, AreMeant, IsMeaning, Meanings, name_of, value_in};
-ghost use Rattle.caldate_run.specs.Requests.{any_local, any_own, byte_of, field_number_of, field_numbers_of, field_of, fields_from, has_own, has_room, invalid_of, is_flag, is_local, is_name, is_option, conflict_in, conflict_with_zone, no_options, options_after, options_from, policy_of, readers_in, skip_of, value_of, with_field, with_flag, with_reader, with_value, words_left};
-ghost use Rattle.caldate_run.specs.Zones.{AreZones};
+ghost use Rattle.caldate_run.specs.Requests.{any_local, any_own, any_yearless, assumptions_in, byte_of, field_number_of, field_numbers_of, field_of, fields_from, has_own, has_room, invalid_of, is_flag, is_local, is_name, is_option, is_yearless, lacks_offset, shows_offset, year_of, conflict_in, conflict_with_readers, conflict_with_zone, no_options, options_after, options_from, policy_of, readers_in, skip_of, value_of, with_field, with_flag, with_reader, with_value, words_left};
+ghost use Rattle.caldate_run.specs.Zones.{AreOfFiles};
 
 use crate::args::formats::reader_of;
 use crate::args::offset::offset_of;
@@ -12,12 +12,13 @@ use crate::args::words::cut;
 use crate::field_name::FieldName;
 use crate::holidays::workdays_of;
 use crate::on_invalid::OnInvalid;
-use crate::reading::reader::Reader;
+use crate::reading::reader::{Assumptions, Reader};
 use crate::reading::spelling::Spelling;
+use crate::reading::value_format::ValueFormat;
 use crate::reading::{Readers, Reading};
 use crate::request::{Field, FieldNumbers, Policy};
 use crate::run::lines::index_of;
-use crate::zones::{ZoneFiles, zone_of};
+use crate::zones::{DataFiles, zone_of};
 use cal_schedule::Workdays;
 use cal_time::UtcOffset;
 use cal_zone::Zone;
@@ -47,6 +48,8 @@ pub struct Options<'a> {
     pub readers: Readers,
     /// The offset of `--assume OFFSET`.
     pub offset: Option<UtcOffset>,
+    /// The four digits of `--assume-year YEAR`.
+    pub year: Option<[u8; 4]>,
     /// The zone of `--zone NAME`.
     pub zone: Option<Zone<'a>>,
     /// The policy of `--ambiguous POLICY`.
@@ -71,6 +74,7 @@ fn no_options() -> Options<'static>
         skip: None,
         readers: Readers::new(),
         offset: None,
+        year: None,
         zone: None,
         policy: None,
         workdays: None,
@@ -93,11 +97,11 @@ pub enum OptionsAfter<'a> {
 pub fn options_of<'a>(
     words: Option<&'a [u8]>,
     at: usize,
-    files: &ZoneFiles<'a>,
+    files: &DataFiles<'a>,
 ) -> Result<(Options<'a>, usize), UsageError>
     requires { at + length (words_left words) ≤ 2 ^ 63 }
     ensures options { (meanings : Meanings) → AreMeanings meanings (words_left words.entry)
-        → AreZones files.now meanings → result ≡ options_from meanings None no_options at (words_left words.entry) }
+        → AreOfFiles files.now meanings → result ≡ options_from meanings None no_options at (words_left words.entry) }
     ensures within { IfOk result (λ front. front.1 ≤ 2 ^ 63) }
 {
     let mut options = no_options();
@@ -128,9 +132,9 @@ fn parse_word<'a>(
     options: Options<'a>,
     expected: Option<Expected>,
     word: &'a [u8],
-    files: &ZoneFiles<'a>,
+    files: &DataFiles<'a>,
 ) -> OptionsAfter<'a>
-    ensures { (meanings : Meanings) → AreMeant meanings word.now → AreZones files.now meanings
+    ensures { (meanings : Meanings) → AreMeant meanings word.now → AreOfFiles files.now meanings
         → (at : ℕ) (words : List (List ℕ)) → options_after meanings result at words
         ≡ options_from meanings expected options.entry at (word.now ∷ words) }
 {
@@ -186,6 +190,8 @@ fn value_of(options: &Options<'_>, word: &[u8]) -> Option<Expected>
         Some(Expected::Reading)
     } else if word == b"--assume".as_slice() && options.offset.is_none() {
         Some(Expected::Offset)
+    } else if word == b"--assume-year".as_slice() && options.year.is_none() {
+        Some(Expected::Year)
     } else if word == b"--zone".as_slice() && options.zone.is_none() {
         Some(Expected::Zone)
     } else if word == b"--ambiguous".as_slice() && options.policy.is_none() {
@@ -238,10 +244,10 @@ fn with_value<'a>(
     options: Options<'a>,
     value: &'a [u8],
     expected: Expected,
-    files: &ZoneFiles<'a>,
+    files: &DataFiles<'a>,
 ) -> Option<Options<'a>>
     ensures { (meanings : Meanings) → IsMeaning meanings value.now
-        → AreZones files.now meanings → result ≡ with_value meanings options.entry value.now expected }
+        → AreOfFiles files.now meanings → result ≡ with_value meanings options.entry value.now expected }
 {
     let mut more = options;
     match expected {
@@ -252,6 +258,7 @@ fn with_value<'a>(
         Expected::Skip => more.skip = Some(skip_of(value)?),
         Expected::Reading => return with_reader(more, reader_of(value)?),
         Expected::Offset => more.offset = Some(offset_of(value)?),
+        Expected::Year => more.year = Some(year_of(value)?),
         Expected::Zone => more.zone = Some(zone_of(files, value)?),
         Expected::Policy => more.policy = Some(policy_of(value)?),
         Expected::Holidays => more.workdays = Some(workdays_of(files, value)?),
@@ -381,6 +388,19 @@ fn skip_of(word: &[u8]) -> Option<u64>
     Some(number as u64)
 }
 
+/// Parses a year of four digits.
+fn year_of(word: &[u8]) -> Option<[u8; 4]>
+    ensures { result ≡ year_of word.now }
+{
+    if word.len() != 4 || !word[0].is_ascii_digit() || !word[1].is_ascii_digit() {
+        return None;
+    }
+    if !word[2].is_ascii_digit() || !word[3].is_ascii_digit() {
+        return None;
+    }
+    Some([word[0], word[1], word[2], word[3]])
+}
+
 /// Returns the fields that the options select. The default separator is a tab, or a comma in CSV.
 pub fn field_of(options: &Options<'_>) -> Option<Field>
     ensures { result ≡ field_of options.now }
@@ -424,6 +444,35 @@ pub fn readers_in(readers: Readers) -> Readers
     default
 }
 
+/// Returns the parts that a text may leave out. The default is UTC, and a year that no form needs.
+pub fn assumptions_in(options: &Options<'_>) -> Assumptions
+    ensures { result ≡ assumptions_in options.now }
+{
+    Assumptions {
+        offset: options.offset.unwrap_or(UtcOffset::UTC),
+        year: options.year.unwrap_or(*b"0000"),
+    }
+}
+
+/// Returns whether a form has no year.
+fn any_yearless(readers: &[Reader]) -> bool
+    ensures { result ≡ any_yearless readers.now }
+{
+    match readers {
+        [] => false,
+        [first, others @ ..] => is_yearless(first) || any_yearless(others),
+    }
+}
+
+fn is_yearless(reader: &Reader) -> bool
+    ensures { result ≡ is_yearless reader.now }
+{
+    match reader {
+        Reader::Yearless(_) => true,
+        _ => false,
+    }
+}
+
 /// Returns whether a form has no offset.
 fn any_local(readers: &[Reader]) -> bool
     ensures { result ≡ any_local readers.now }
@@ -438,7 +487,17 @@ fn is_local(reader: &Reader) -> bool
     ensures { result ≡ is_local reader.now }
 {
     match reader {
-        Reader::Local | Reader::DateTimes(_) => true,
+        Reader::Local => true,
+        Reader::Format(format) | Reader::Yearless(format) => lacks_offset(format),
+        _ => false,
+    }
+}
+
+fn lacks_offset(format: &ValueFormat) -> bool
+    ensures { result ≡ lacks_offset format.now }
+{
+    match format {
+        ValueFormat::DateTimes(_) => true,
         _ => false,
     }
 }
@@ -458,7 +517,17 @@ fn has_own(reader: &Reader) -> bool
 {
     match reader {
         Reader::Named(Reading::Any | Reading::Unix(_)) => true,
-        Reader::Spelled(_) | Reader::Moments(_) => true,
+        Reader::Spelled(_) => true,
+        Reader::Format(format) | Reader::Yearless(format) => shows_offset(format),
+        _ => false,
+    }
+}
+
+fn shows_offset(format: &ValueFormat) -> bool
+    ensures { result ≡ shows_offset format.now }
+{
+    match format {
+        ValueFormat::Moments(_) => true,
         _ => false,
     }
 }
@@ -485,6 +554,19 @@ pub fn conflict_in(options: &Options<'_>) -> Option<Expected>
         Some(Expected::CsvSeparator)
     } else if options.name.is_some() && !options.header {
         Some(Expected::Header)
+    } else {
+        conflict_with_readers(options)
+    }
+}
+
+/// Returns the option that is missing or excluded for the forms of `--read`, if there is one.
+fn conflict_with_readers(options: &Options<'_>) -> Option<Expected>
+    ensures { result ≡ conflict_with_readers options.now }
+{
+    if any_yearless(options.readers.as_slice()) && options.year.is_none() {
+        Some(Expected::AssumeYear)
+    } else if options.year.is_some() && !any_yearless(options.readers.as_slice()) {
+        Some(Expected::Yearless)
     } else if options.policy.is_some() && options.zone.is_none() {
         Some(Expected::ZoneOption)
     } else if options.zone.is_some() {

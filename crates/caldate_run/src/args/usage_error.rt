@@ -49,6 +49,10 @@ pub enum Expected {
     Assume,
     /// `--read local`, which `--assume` requires.
     Local,
+    /// `--assume-year`, which a format without a year requires.
+    AssumeYear,
+    /// A format without a year, which `--assume-year` requires.
+    Yearless,
     /// `--zone`, which `--ambiguous` requires.
     ZoneOption,
     /// Only one of `--assume` and `--zone`.
@@ -83,6 +87,8 @@ pub enum Expected {
     Minutes,
     /// An offset from UTC, such as `+01:00`.
     Offset,
+    /// A year of four digits, such as `2024`.
+    Year,
     /// An offset from UTC or a zone. The word is not the name of a zone.
     Place,
     /// The name of a zone that can be read, such as `Europe/Berlin`.

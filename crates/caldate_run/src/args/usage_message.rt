@@ -1,12 +1,12 @@
 //! The message for invalid arguments.
 ghost use Rattle.std.specs.Prelude.{◌≡◌, ◌+◌, ◌≤◌, ◌++◌, [], Err, length};
 ghost use Rattle.caldate_run.specs.Calls.{Writes, write_failure};
-ghost use Rattle.caldate_run.specs.UsageMessages.{after_word, usage_message, error_phrase, expected_phrase, file_hint, is_duplicate, is_file_like, missing_noun, holidays_error, names_word, on_missing, on_word, problem, quoted, rule_error, rule_error_in, zone_error, file_error_in};
+ghost use Rattle.caldate_run.specs.UsageMessages.{after_word, usage_message, error_phrase, expected_phrase, file_hint, is_duplicate, is_file_like, missing_noun, holidays_error, names_word, on_missing, on_word, problem, rule_error, rule_error_in, zone_error, file_error_in};
 ghost use Rattle.cal_recurrence.specs.Text.{recurrence_of};
 ghost use Rattle.caldate_run.specs.Requests.{arguments_of};
 ghost use Rattle.caldate_run.specs.Meanings.{Meanings};
 ghost use Rattle.caldate_run.specs.Runs.{WritesPage};
-ghost use Rattle.caldate_run.specs.Zones.{AreZones};
+ghost use Rattle.caldate_run.specs.Zones.{AreOfFiles};
 
 use crate::args::options::is_option;
 use crate::args::usage_error::{Expected, UsageError};
@@ -15,12 +15,12 @@ use crate::holidays::read_holidays_error::push_holidays_error;
 use crate::holidays::{file_in, holidays_named};
 use crate::output::buffer::Buffer;
 use crate::output::write_all;
-use crate::run::excerpt::Excerpt;
+use crate::run::excerpt::{Excerpt, push_quoted};
 use crate::run::lines::index_of;
 use crate::run::run_error::RunError;
 use crate::streams::Sink;
 use crate::zones::read_zone_error::{ReadZoneError, push_fault};
-use crate::zones::{ZoneFiles, is_zone_name, name_in, zone_named};
+use crate::zones::{DataFiles, is_zone_name, name_in, zone_named};
 use cal_recurrence::parse;
 
 /// The message for arguments with too many bytes.
@@ -28,7 +28,7 @@ pub const TOO_LONG: &[u8] = b"caldate: arguments too long; expected at most 4096
 
 /// The commands and options for the first argument.
 const COMMANDS: &[u8] =
-    b"; expected to, add, next, last, until, since, start, end, on-or-after, on-or-before, at, keep, list, --date, --invalid, --field, --append, --csv, --header, --scan, --separator, --skip, --read, --assume, --zone, --ambiguous, --holidays, --help or --version";
+    b"; expected to, add, next, last, until, since, start, end, on-or-after, on-or-before, at, keep, list, --date, --invalid, --field, --append, --csv, --header, --scan, --separator, --skip, --read, --assume, --assume-year, --zone, --ambiguous, --holidays, --help or --version";
 
 /// The commands after an option.
 const LINE_COMMANDS: &[u8] =
@@ -36,11 +36,11 @@ const LINE_COMMANDS: &[u8] =
 
 /// The forms of `--read`.
 const READINGS: &[u8] =
-    b"; expected basic, dmy, mdy, unix, unix-ms, unix-us, unix-ns, clf, rfc2822, iso, local or a format such as %d.%m.%Y";
+    b"; expected basic, dmy, mdy, unix, unix-ms, unix-us, unix-ns, clf, rfc2822, syslog, iso, local or a format such as %d.%m.%Y";
 
 /// The forms of `to`.
 const FORMS: &[u8] =
-    b"; expected calendar, ordinal, week, julian, weekday, short-weekday, month, quarter, basic, rfc3339, unix, unix-ms, unix-us, unix-ns, clf, rfc2822 or a format such as %d.%m.%Y";
+    b"; expected calendar, ordinal, week, julian, weekday, short-weekday, month, quarter, basic, rfc3339, unix, unix-ms, unix-us, unix-ns, clf, rfc2822, syslog or a format such as %d.%m.%Y";
 
 /// The periods of `start`.
 const STARTS: &[u8] = b"; expected week, month, quarter, year, day, hour, minute or N minutes";
@@ -73,11 +73,11 @@ const NUMBERS_AND_RULES: &[u8] =
 #[tactic(auto, using(crate::proofs::Calls::sent_all))]
 pub fn report_usage_error<W: Sink>(
     arguments: &[u8],
-    files: &ZoneFiles<'_>,
+    files: &DataFiles<'_>,
     usage_error: UsageError,
     writer: &mut W,
 ) -> Result<(), RunError>
-    ensures message { (meanings : Meanings) → AreZones files.now meanings
+    ensures message { (meanings : Meanings) → AreOfFiles files.now meanings
         → WritesPage (usage_message meanings files.now.folder.now (arguments_of arguments.now) usage_error)
         result (W.contents writer.old) (W.contents writer.new) }
     ensures writes { Writes W.write_gives writer.old (write_failure result) writer.new }
@@ -91,11 +91,11 @@ pub fn report_usage_error<W: Sink>(
 fn push_usage_message(
     line: &mut Buffer,
     arguments: &[u8],
-    files: &ZoneFiles<'_>,
+    files: &DataFiles<'_>,
     usage_error: UsageError,
 )
     requires { line.old ≡ [] }
-    ensures { (meanings : Meanings) → AreZones files.now meanings → line.new
+    ensures { (meanings : Meanings) → AreOfFiles files.now meanings → line.new
         ≡ usage_message meanings files.now.folder.now (arguments_of arguments.now) usage_error }
 {
     line.push(b"caldate: ");
@@ -104,9 +104,9 @@ fn push_usage_message(
 }
 
 /// Appends the error and the expected words.
-fn push_problem(line: &mut Buffer, arguments: &[u8], files: &ZoneFiles<'_>, usage_error: UsageError)
+fn push_problem(line: &mut Buffer, arguments: &[u8], files: &DataFiles<'_>, usage_error: UsageError)
     requires { length line.old ≤ 9 }
-    ensures text { (meanings : Meanings) → AreZones files.now meanings → line.new ≡ line.old
+    ensures text { (meanings : Meanings) → AreOfFiles files.now meanings → line.new ≡ line.old
         ++ problem meanings files.now.folder.now (arguments_of arguments.now) usage_error }
     ensures short { length line.new ≤ 1_000 }
 {
@@ -121,9 +121,9 @@ fn push_problem(line: &mut Buffer, arguments: &[u8], files: &ZoneFiles<'_>, usag
 }
 
 /// Appends the message on a word: `unknown unit 'fortnights'; expected ..`, `duplicate --field`.
-fn push_on_word(line: &mut Buffer, files: &ZoneFiles<'_>, expected: Expected, word: &[u8])
+fn push_on_word(line: &mut Buffer, files: &DataFiles<'_>, expected: Expected, word: &[u8])
     requires { length line.old ≤ 9 }
-    ensures text { (meanings : Meanings) → AreZones files.now meanings
+    ensures text { (meanings : Meanings) → AreOfFiles files.now meanings
         → line.new ≡ line.old ++ on_word meanings files.now.folder.now expected word.now }
     ensures short { length line.new ≤ 1_000 }
 {
@@ -169,17 +169,6 @@ fn push_after_word(line: &mut Buffer, arguments: &[u8], index: usize)
     push_quoted(line, word);
 }
 
-/// Appends the word in quotes: its first 80 bytes, with `?` for each that doesn't print.
-pub(crate) fn push_quoted(line: &mut Buffer, word: &[u8])
-    requires { length line.old ≤ 200 }
-    ensures text { line.new ≡ line.old ++ quoted word.now }
-    ensures short { length line.new ≤ length line.old + 82 }
-{
-    line.push(b"'");
-    line.push(Excerpt::new(word).as_bytes());
-    line.push(b"'");
-}
-
 /// Appends the error in a word that ought to be a rule.
 fn push_rule_error(line: &mut Buffer, expected: Expected, word: &[u8])
     requires { length line.old ≤ 500 }
@@ -206,9 +195,9 @@ fn push_error_in_rule(line: &mut Buffer, word: &[u8])
 }
 
 /// Appends the error in a word that ought to name a zone or a file of holidays.
-fn push_file_error(line: &mut Buffer, files: &ZoneFiles<'_>, expected: Expected, word: &[u8])
+fn push_file_error(line: &mut Buffer, files: &DataFiles<'_>, expected: Expected, word: &[u8])
     requires { length line.old ≤ 600 }
-    ensures text { (meanings : Meanings) → AreZones files.now meanings
+    ensures text { (meanings : Meanings) → AreOfFiles files.now meanings
         → line.new ≡ line.old ++ file_error_in meanings files.now.folder.now expected word.now }
     ensures short { length line.new ≤ length line.old + 250 }
 {
@@ -227,9 +216,9 @@ fn push_file_error(line: &mut Buffer, files: &ZoneFiles<'_>, expected: Expected,
 }
 
 /// Appends the file of a zone and its error: `: /usr/share/zoneinfo/Europe/Berln: not found`.
-fn push_error_of(line: &mut Buffer, files: &ZoneFiles<'_>, name: &[u8])
+fn push_error_of(line: &mut Buffer, files: &DataFiles<'_>, name: &[u8])
     requires { length line.old ≤ 600 }
-    ensures text { (meanings : Meanings) → AreZones files.now meanings → line.new
+    ensures text { (meanings : Meanings) → AreOfFiles files.now meanings → line.new
         ≡ line.old ++ zone_error files.now.folder.now name.now (meanings name.now).zone }
     ensures short { length line.new ≤ length line.old + 250 }
 {
@@ -252,9 +241,9 @@ fn push_fault_of(line: &mut Buffer, folder: &[u8], name: &[u8], error: ReadZoneE
 }
 
 /// Appends the error of a file of holidays: `: line 3: unreadable at 0`.
-fn push_error_of_holidays(line: &mut Buffer, files: &ZoneFiles<'_>, name: &[u8])
+fn push_error_of_holidays(line: &mut Buffer, files: &DataFiles<'_>, name: &[u8])
     requires { length line.old ≤ 600 }
-    ensures text { (meanings : Meanings) → AreZones files.now meanings
+    ensures text { (meanings : Meanings) → AreOfFiles files.now meanings
         → line.new ≡ line.old ++ holidays_error (meanings name.now).holidays }
     ensures short { length line.new ≤ length line.old + 250 }
 {
@@ -299,6 +288,7 @@ fn names_word(expected: Expected) -> bool
         Expected::ScanAppend | Expected::ScanSeparator => false,
         Expected::AppendField | Expected::AppendKeep | Expected::OtherField => false,
         Expected::Header | Expected::Assume | Expected::Local | Expected::ZoneOption => false,
+        Expected::AssumeYear | Expected::Yearless => false,
         Expected::OffsetOrZone | Expected::LocalOnly | Expected::WorkdaysOnly => false,
         _ => true,
     }
@@ -336,6 +326,9 @@ fn error_phrase(expected: Expected) -> &'static [u8]
         Expected::Skip => b"invalid number of lines".as_slice(),
         Expected::Reading => b"unknown input form".as_slice(),
         Expected::Assume => b"a form without an offset requires --assume or --zone".as_slice(),
+        Expected::AssumeYear => b"a format without a year requires --assume-year".as_slice(),
+        Expected::Yearless =>
+            b"--assume-year requires --read of a format without a year".as_slice(),
         Expected::ZoneOption => b"--ambiguous requires --zone".as_slice(),
         Expected::OffsetOrZone => b"--assume can't be used with --zone".as_slice(),
         Expected::LocalOnly => b"--zone requires --read of forms without an offset only".as_slice(),
@@ -354,6 +347,7 @@ fn error_phrase(expected: Expected) -> &'static [u8]
         Expected::StartPeriod => b"unknown start".as_slice(),
         Expected::Minutes => b"invalid unit".as_slice(),
         Expected::Offset => b"invalid offset".as_slice(),
+        Expected::Year => b"invalid year".as_slice(),
         Expected::Place => b"invalid offset or zone".as_slice(),
         Expected::Zone => b"cannot read zone".as_slice(),
         Expected::Bounds => b"unknown bound".as_slice(),
@@ -389,6 +383,7 @@ fn missing_noun(expected: Expected) -> &'static [u8]
         Expected::Policy => b"policy".as_slice(),
         Expected::Holidays => b"file".as_slice(),
         Expected::Offset => b"offset".as_slice(),
+        Expected::Year => b"year".as_slice(),
         Expected::Place => b"offset or zone".as_slice(),
         Expected::Zone => b"zone".as_slice(),
         Expected::Bounds => b"bound".as_slice(),
@@ -425,6 +420,7 @@ fn expected_phrase(expected: Expected) -> &'static [u8]
         Expected::Minutes => b"; expected minutes".as_slice(),
         Expected::Policy => b"; expected compatible, earlier, later or reject".as_slice(),
         Expected::Offset => b"; expected one such as +01:00, -05:30 or Z".as_slice(),
+        Expected::Year => b"; expected four digits, such as 2024".as_slice(),
         Expected::Place => b"; expected one such as +01:00, -05:30, Z or Europe/Berlin".as_slice(),
         Expected::Bounds => b"; expected from, after or before".as_slice(),
         Expected::From => b"; expected 'from'".as_slice(),

@@ -52,7 +52,10 @@ pub struct NamedFiles<'a, S: Env + Files, R: Read + Drop, E: Sink + Drop> {
 }
 
 impl<'a, S: Env + Files, R: Read + Drop, E: Sink + Drop> NamedFiles<'a, S, R, E> {
-    /// Returns the files of the arguments from an index on. Standard input is `input`.
+    /// Creates a reader of the files that the arguments from the index `first` on name. None is open
+    /// yet. Standard input, whose name is `-`, is `input`, and failures are written to `errors`.
+    ///
+    /// In `caldate to week -- jan -`, the file `jan` has the index 4.
     pub fn new(system: &'a S, first: usize, input: R, errors: E) -> Self
         ensures { result.has_failed ≡ false }
     {
@@ -190,7 +193,8 @@ impl<S: Env + Files, R: Read + Drop, E: Sink + Drop> Texts for NamedFiles<'_, S,
     }
 }
 
-/// Opens a file.
+/// Opens a file, or returns the reason why it can't be opened, such as `NotFound`. A name that isn't
+/// UTF-8 is `Failed`.
 pub(crate) fn open_file<S: Files>(system: &S, name: &[u8]) -> Result<S::File, FileError> {
     let Ok(path) = str::from_utf8(name) else {
         return Err(FileError::Failed);
@@ -222,14 +226,14 @@ fn push_file_message(line: &mut Buffer, name: &[u8], error: FileError)
     ensures { line.new ≡ file_message name.now error }
 {
     line.push(b"caldate: cannot read '");
-    push_name(line, name);
+    push_file_name(line, name);
     line.push(b"': ");
     line.push(file_words(error));
     line.push(b"\n");
 }
 
 /// Appends the name, with `?` for each byte that does not print.
-fn push_name(line: &mut Buffer, name: &[u8])
+fn push_file_name(line: &mut Buffer, name: &[u8])
     requires { length line.old + length name.now ≤ 65000 }
     ensures text { line.new ≡ line.old ++ map printable name.now }
     ensures longer { length line.new ≡ length line.old + length name.now }

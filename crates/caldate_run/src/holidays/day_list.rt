@@ -5,8 +5,11 @@ ghost use Rattle.cal_time.specs.Date.{julian_day_at};
 
 use cal_time::Date;
 
-/// Inserts a date into the first `count` of the buffer, which are in ascending order, unless it is
-/// one of them. Returns their number.
+/// Inserts a date into the first `count` dates of the buffer, which are in ascending order, unless
+/// it is one of them. Returns how many dates the buffer then has at its front.
+///
+/// With 2024-12-24 and 2024-12-26 at the front, 2024-12-25 is inserted between them, and the result
+/// is 3. For 2024-12-26, nothing changes, and the result is 2.
 pub fn insert_date(days: &mut [Date], count: usize, date: Date) -> usize
     requires room { count < length days.old }
     requires rising { IsRising julian_day_at (take count days.old) }

@@ -11,7 +11,7 @@ use crate::files::named_files::open_file;
 use crate::holidays::holiday_file::HolidayFile;
 use crate::holidays::read_holidays_error::ReadHolidaysError;
 use crate::holidays::{file_in, parse_holidays};
-use crate::zones::ZoneFiles;
+use crate::zones::DataFiles;
 use crate::zones::read_zone_error::FileError;
 use crate::zones::zone_source::{MAX_FILE_BYTES, read_missing, read_whole};
 use cal_time::Date;
@@ -23,7 +23,12 @@ const MAX_BYTES: usize = 16_384;
 /// The maximum number of dates in such a file: each has a byte and a line feed.
 pub const MAX_HOLIDAYS: usize = 8192;
 
-/// Reads the files that the arguments name, up to two zones and the holidays.
+/// Reads the files that the arguments name: up to two zones in `folder`, and the holidays.
+///
+/// For `--zone Europe/Berlin --read local at UTC`, the first file is `Europe/Berlin`, the second is
+/// `UTC`, without a file of holidays. A file that can't be read has its reason, such as
+/// `NotFound`. No clause says what is read, since contracts know nothing about the files of the
+/// system.
 pub fn read_files<'a, F: Files>(
     system: &F,
     arguments: &'a [u8],
@@ -31,8 +36,8 @@ pub fn read_files<'a, F: Files>(
     first: &'a mut [u8; MAX_FILE_BYTES],
     second: &'a mut [u8; MAX_FILE_BYTES],
     days: &'a mut [Date; MAX_HOLIDAYS],
-) -> ZoneFiles<'a> {
-    let mut files = ZoneFiles {
+) -> DataFiles<'a> {
+    let mut files = DataFiles {
         folder,
         first: None,
         second: None,
@@ -51,7 +56,7 @@ pub fn read_files<'a, F: Files>(
 }
 
 /// Returns the file of the holidays, or one without dates if it is missing.
-fn supposed<'a>(arguments: &'a [u8], files: &ZoneFiles<'a>) -> Option<HolidayFile<'a>> {
+fn supposed<'a>(arguments: &'a [u8], files: &DataFiles<'a>) -> Option<HolidayFile<'a>> {
     match missing_holidays(arguments, files) {
         Some(name) => Some(HolidayFile {
             name,
@@ -62,7 +67,7 @@ fn supposed<'a>(arguments: &'a [u8], files: &ZoneFiles<'a>) -> Option<HolidayFil
 }
 
 /// Returns the name of the file of the holidays, if the arguments need it first and it is not given.
-fn missing_holidays<'a>(arguments: &'a [u8], files: &ZoneFiles<'_>) -> Option<&'a [u8]> {
+fn missing_holidays<'a>(arguments: &'a [u8], files: &DataFiles<'_>) -> Option<&'a [u8]> {
     if files.holidays.is_some() {
         return None;
     }
@@ -75,7 +80,8 @@ fn missing_holidays<'a>(arguments: &'a [u8], files: &ZoneFiles<'_>) -> Option<&'
     Some(file_in(word_at(arguments, usage_error.index)?))
 }
 
-/// Reads the file of the holidays, and writes its dates to the front of the buffer.
+/// Reads the file of the holidays with this name, and writes its dates to the front of the buffer.
+/// The result has the dates, or the reason, such as `File(NotFound)`.
 fn read_holidays<'a, F: Files>(
     system: &F,
     name: &'a [u8],

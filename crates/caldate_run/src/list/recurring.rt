@@ -4,7 +4,7 @@ ghost use Rattle.std.specs.List.{take_while};
 ghost use Rattle.caldate_run.specs.Calls.{Writes, write_failure};
 ghost use Rattle.caldate_run.specs.Recurring.{ListsOccurrences};
 
-use crate::list::push_line;
+use crate::list::push_day;
 use crate::output::buffer::Buffer;
 use crate::output::write_all;
 use crate::request::Occurrences;
@@ -25,7 +25,7 @@ pub fn list_occurrences<W: Sink>(asked: &Occurrences, writer: &mut W) -> Result<
     let mut days = asked.recurrence.days(asked.first);
     while let Some(day) = next_within(&mut days, asked.last) {
         make_room(&mut buffer, 0, writer)?;
-        push_line(&mut buffer, day);
+        push_day(&mut buffer, day);
     }
     write_all(writer, buffer.as_bytes())
 }

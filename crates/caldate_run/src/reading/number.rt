@@ -29,7 +29,7 @@ pub fn read_number(unit: UnixUnit, text: &[u8]) -> Result<DateOrMoment, ParseErr
     ensures component { (why : ComponentRange)
         → FailsWithComponent why result ↔ IsErrorIn (Unix unit) text.now why }
 {
-    let Some(number) = parse_i64(text) else {
+    let Some(number) = parse_number(text) else {
         return Err(wrong_at(text, number_template(text)));
     };
     match OffsetDateTime::from_unix_timestamp_nanos(number * i128::from(nanoseconds_in(unit))) {
@@ -50,7 +50,7 @@ fn nanoseconds_in(unit: UnixUnit) -> u32
 }
 
 /// Parses a number of at most 27 digits without a plus sign and without leading zeros.
-fn parse_i64(text: &[u8]) -> Option<i128>
+fn parse_number(text: &[u8]) -> Option<i128>
     ensures every { (z : ℤ) → IsNumber text.now z → result ≡ Some z }
     ensures has { IfSome result (IsNumber text.now) }
 {

@@ -1,14 +1,23 @@
 //! The forms of `--read`.
-ghost use Rattle.std.specs.Prelude.{◌≡◌, IfSome, Some};
+ghost use Rattle.std.specs.Prelude.{◌≡◌, ◌≤◌, IfSome, Some, length};
 ghost use Rattle.cal_text.specs.declared.any.DateOrMoment.{DateOrMoment};
-ghost use Rattle.caldate_run.specs.Readers.{IsTextBy, named};
+ghost use Rattle.caldate_run.specs.Readers.{IsTextBy, IsYearlessText, named, with_year};
 
+use crate::reading::full_text::{FullText, LONGEST};
 use crate::reading::spelling::Spelling;
+use crate::reading::value_format::ValueFormat;
 use crate::reading::{Reading, read_in};
-use cal_datetime::OffsetDateTime;
-use cal_format::{DateFormat, DateTimeFormat, OffsetDateTimeFormat};
-use cal_text::{DateForm, DateOrMoment, MomentForm};
-use cal_time::{Date, UtcOffset};
+use cal_text::DateOrMoment;
+use cal_time::UtcOffset;
+
+/// The parts of a date or a moment that its text may leave out.
+#[derive(Clone, Copy)]
+pub struct Assumptions {
+    /// The offset of a text that has none.
+    pub offset: UtcOffset,
+    /// The year of a text that has none: four digits, such as `2024`.
+    pub year: [u8; 4],
+}
 
 /// A form of `--read`.
 #[derive(Drop)]
@@ -19,64 +28,67 @@ pub enum Reader {
     Local,
     /// A moment that is spelled in another way than in the six forms.
     Spelled(Spelling),
-    /// A format of dates, such as `%d.%m.%Y`.
-    Dates(DateFormat),
-    /// A format of moments with their offset, such as `%d/%b/%Y:%T %z`.
-    Moments(OffsetDateTimeFormat),
-    /// A format of moments without an offset, such as `%F %T`.
-    DateTimes(DateTimeFormat),
+    /// A format, such as `%d.%m.%Y`.
+    Format(ValueFormat),
+    /// A format without a year, such as `%b %e %T`: here the format followed by ` %Y`.
+    Yearless(ValueFormat),
 }
 
 impl Reader {
-    /// Returns the date or the moment of a text in this form. A text without an offset is at
-    /// `offset`.
-    pub(crate) fn read(&self, offset: UtcOffset, text: &[u8]) -> Option<DateOrMoment>
-        ensures every { (found : DateOrMoment) → IsTextBy offset self.now text.now found
+    /// Returns the date or the moment of a text in this form, with the parts of `assumptions` that
+    /// the form leaves out.
+    pub(crate) fn read(&self, assumptions: &Assumptions, text: &[u8]) -> Option<DateOrMoment>
+        ensures every { (found : DateOrMoment) → IsTextBy assumptions.now self.now text.now found
             → result ≡ Some found }
-        ensures has { IfSome result (IsTextBy offset self.now text.now) }
+        ensures has { IfSome result (IsTextBy assumptions.now self.now text.now) }
     {
         match self {
             Reader::Named(reading) => read_in(*reading, text).ok(),
-            Reader::Local => read_in(Reading::Local(offset), text).ok(),
+            Reader::Local => read_in(Reading::Local(assumptions.offset), text).ok(),
             Reader::Spelled(spelling) => spelling.read(text),
-            Reader::Dates(format) => match format.parse(text) {
-                Ok(date) => Some(in_calendar(date)),
-                Err(_) => None,
-            },
-            Reader::Moments(format) => match format.parse(text) {
-                Ok(moment) => Some(in_rfc3339(moment)),
-                Err(_) => None,
-            },
-            Reader::DateTimes(format) => match format.parse(text) {
-                Ok(local) => Some(in_rfc3339(local.assume_offset(offset))),
-                Err(_) => None,
-            },
+            Reader::Format(format) => format.read(assumptions.offset, text),
+            Reader::Yearless(format) => read_yearless(format, assumptions, text),
         }
     }
 
     /// Returns the form that says why a text isn't read, if it can.
     #[inline(always)]
-    pub(crate) fn named(&self, offset: UtcOffset) -> Option<Reading>
-        ensures { result ≡ named offset self.now }
+    pub(crate) fn named(&self, assumptions: &Assumptions) -> Option<Reading>
+        ensures { result ≡ named assumptions.now self.now }
     {
         match self {
             Reader::Named(reading) => Some(*reading),
-            Reader::Local => Some(Reading::Local(offset)),
+            Reader::Local => Some(Reading::Local(assumptions.offset)),
             _ => None,
         }
     }
 }
 
-/// Returns a date whose answers are calendar dates.
-fn in_calendar(date: Date) -> DateOrMoment
-    ensures { result ≡ DateOrMoment.Date DateForm.Calendar date }
+/// Returns the date or the moment of a text without its year, in the format with the year.
+fn read_yearless(
+    format: &ValueFormat,
+    assumptions: &Assumptions,
+    text: &[u8],
+) -> Option<DateOrMoment>
+    ensures every { (found : DateOrMoment) → IsYearlessText assumptions.now format.now text.now found
+        → result ≡ Some found }
+    ensures has { IfSome result (IsYearlessText assumptions.now format.now text.now) }
 {
-    DateOrMoment::Date(DateForm::Calendar, date)
+    if text.len() > LONGEST {
+        return None;
+    }
+    let full = with_year(assumptions.year, text);
+    format.read(assumptions.offset, full.as_bytes())
 }
 
-/// Returns a moment whose answers are in RFC 3339.
-fn in_rfc3339(moment: OffsetDateTime) -> DateOrMoment
-    ensures { result ≡ DateOrMoment.Moment MomentForm.Rfc3339 moment }
+/// Appends a space and the year.
+fn with_year(year: [u8; 4], text: &[u8]) -> FullText
+    requires { length text.now ≤ 60 }
+    ensures { result ≡ with_year year text.now }
 {
-    DateOrMoment::Moment(MomentForm::Rfc3339, moment)
+    let mut full = FullText::new();
+    full.push(text);
+    full.push(b" ");
+    full.push(&year);
+    full
 }

@@ -6,11 +6,10 @@ ghost use Rattle.caldate_run.specs.Readings.{IsTextIn};
 ghost use Rattle.caldate_run.specs.Replies.{reason_of};
 ghost use Rattle.caldate_run.specs.declared.run.no_answer.NoAnswer.{NoAnswer};
 
-use crate::reading::reader::Reader;
+use crate::reading::reader::{Assumptions, Reader};
 use crate::reading::{Reading, read_in};
 use crate::run::no_answer::NoAnswer;
 use cal_text::{DateOrMoment, ParseError};
-use cal_time::UtcOffset;
 use std::marker::Model;
 
 /// The maximum number of forms.
@@ -70,25 +69,29 @@ impl Readers {
 
 /// Parses a text in the first form that it has. If it has none, the first form says why.
 #[inline(always)]
-pub fn read(readers: &[Reader], offset: UtcOffset, text: &[u8]) -> Result<DateOrMoment, NoAnswer>
-    ensures every { (found : DateOrMoment) → IsFoundBy offset readers.now text.now found
+pub fn read(
+    readers: &[Reader],
+    assumptions: &Assumptions,
+    text: &[u8],
+) -> Result<DateOrMoment, NoAnswer>
+    ensures every { (found : DateOrMoment) → IsFoundBy assumptions.now readers.now text.now found
         → result ≡ Ok found }
-    ensures has { IfOk result (IsFoundBy offset readers.now text.now) }
-    ensures every_error { (why : NoAnswer) → IsUnread offset readers.now text.now why
+    ensures has { IfOk result (IsFoundBy assumptions.now readers.now text.now) }
+    ensures every_error { (why : NoAnswer) → IsUnread assumptions.now readers.now text.now why
         → result ≡ Err why }
-    ensures error { IfErr result (IsUnread offset readers.now text.now) }
+    ensures error { IfErr result (IsUnread assumptions.now readers.now text.now) }
 {
     match readers {
         [] => Err(NoAnswer::NoForm),
-        [first, others @ ..] => match first.named(offset) {
+        [first, others @ ..] => match first.named(assumptions) {
             Some(reading) => match read_named(reading, text) {
                 Ok(found) => Ok(found),
-                Err(why) => match found_by(others, offset, text) {
+                Err(why) => match found_by(others, assumptions, text) {
                     Some(found) => Ok(found),
                     None => Err(why),
                 },
             },
-            None => match found_by(readers, offset, text) {
+            None => match found_by(readers, assumptions, text) {
                 Some(found) => Ok(found),
                 None => Err(NoAnswer::NoForm),
             },
@@ -98,16 +101,16 @@ pub fn read(readers: &[Reader], offset: UtcOffset, text: &[u8]) -> Result<DateOr
 
 /// Parses a text in the first form that it has.
 #[inline(never)]
-fn found_by(readers: &[Reader], offset: UtcOffset, text: &[u8]) -> Option<DateOrMoment>
-    ensures every { (found : DateOrMoment) → IsFoundBy offset readers.now text.now found
+fn found_by(readers: &[Reader], assumptions: &Assumptions, text: &[u8]) -> Option<DateOrMoment>
+    ensures every { (found : DateOrMoment) → IsFoundBy assumptions.now readers.now text.now found
         → result ≡ Some found }
-    ensures has { IfSome result (IsFoundBy offset readers.now text.now) }
+    ensures has { IfSome result (IsFoundBy assumptions.now readers.now text.now) }
 {
     match readers {
         [] => None,
-        [first, others @ ..] => match first.read(offset, text) {
+        [first, others @ ..] => match first.read(assumptions, text) {
             Some(found) => Some(found),
-            None => found_by(others, offset, text),
+            None => found_by(others, assumptions, text),
         },
     }
 }

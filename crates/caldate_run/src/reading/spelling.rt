@@ -4,8 +4,8 @@ ghost use Rattle.cal_text.specs.AnyForm.{IsTextOf};
 ghost use Rattle.cal_text.specs.declared.any.DateOrMoment.{DateOrMoment};
 ghost use Rattle.caldate_run.specs.Spellings.{begins_with_at, full_by, is_sign, iso_text, unix_text, with_colon, with_point};
 
+use crate::reading::full_text::{FullText, LONGEST};
 use cal_text::{DateOrMoment, parse_any};
-use std::marker::Model;
 
 /// A spelling of moments.
 #[derive(Clone, Copy)]
@@ -15,55 +15,6 @@ pub enum Spelling {
     Iso,
     /// Seconds since 1970, also without the `@`.
     Seconds,
-}
-
-/// The maximum length of a text that is spelled in another way.
-const LONGEST: usize = 60;
-
-/// A text with the bytes that its spelling leaves out, of at most 64 bytes.
-#[derive(Drop)]
-struct FullText {
-    bytes: [u8; 64],
-    count: usize,
-}
-
-impl Model for FullText {
-    ghost use Rattle.std.specs.Prelude.{ℕ, ◌≤◌, List, take};
-
-    ghost Value = { List ℕ };
-
-    ghost view = { λ text. take text.count text.bytes };
-
-    ghost invariant = { λ text. text.count ≤ 64 };
-}
-
-impl FullText {
-    /// Creates an empty text.
-    fn new() -> Self
-        ensures { result ≡ [] }
-    {
-        FullText {
-            bytes: [0; 64],
-            count: 0,
-        }
-    }
-
-    /// Appends the bytes.
-    fn push(&mut self, bytes: &[u8])
-        requires { length self.old + length bytes.now ≤ 64 }
-        ensures appended { self.new ≡ self.old ++ bytes.now }
-        ensures longer { length self.new ≡ length self.old + length bytes.now }
-    {
-        let end = self.count + bytes.len();
-        self.bytes[self.count..end].copy_from_slice(bytes);
-        self.count = end;
-    }
-
-    fn as_bytes(&self) -> &[u8]
-        ensures { result.now ≡ self.now }
-    {
-        &self.bytes[..self.count]
-    }
 }
 
 impl Spelling {

@@ -1,6 +1,10 @@
 //! Texts to show on standard error.
-ghost use Rattle.std.specs.Prelude.{◌≡◌, ◌≤◌, length};
+ghost use Rattle.std.specs.Prelude.{◌≡◌, ◌+◌, ◌≤◌, ◌++◌, length};
 ghost use Rattle.caldate_run.specs.Excerpts.{printable, excerpt_of, excerpt_bytes};
+ghost use Rattle.caldate_run.specs.Room.{HasRoom};
+ghost use Rattle.caldate_run.specs.UsageMessages.{quoted};
+
+use crate::output::buffer::Buffer;
 
 /// The maximum number of bytes to show.
 const MAX_SHOWN: usize = 80;
@@ -33,6 +37,19 @@ impl Excerpt {
     {
         &self.bytes[..self.count.min(MAX_SHOWN)]
     }
+}
+
+/// Appends the text to show, in quotes.
+pub(crate) fn push_quoted(line: &mut Buffer, text: &[u8])
+    requires { HasRoom 82 line.old }
+    ensures text { line.new ≡ line.old ++ quoted text.now }
+    ensures few { length line.new ≤ length line.old + 82 }
+    ensures short { length line.new ≤ length line.old + length text.now + 2 }
+{
+    let excerpt = Excerpt::new(text);
+    line.push(b"'");
+    line.push(excerpt.as_bytes());
+    line.push(b"'");
 }
 
 /// Returns the byte, or `?` if it does not print.

@@ -30,7 +30,10 @@ pub fn other_field(filter: &Filter<'_>) -> Option<Field>
     })
 }
 
-/// Parses the other fields of a line like the field to answer.
+/// Parses the other fields of a line in the forms of the field to answer.
+///
+/// For field 2 of `a,2024-02-29` in CSV, this returns 2024-02-29. Returns `NoOtherField` if the line
+/// has too few fields, and `UnreadOtherField` if the text of the other fields is in none of the forms.
 pub fn read_other(filter: &Filter<'_>, other: Field, text: &[u8]) -> Result<DateOrMoment, NoAnswer>
     ensures value { IsOther filter.now other text.now result }
     ensures one { (found : Result DateOrMoment NoAnswer) → IsOther filter.now other text.now found

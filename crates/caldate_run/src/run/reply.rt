@@ -304,7 +304,7 @@ fn push_header(
     ensures short { length buffer.new ≤ length buffer.old + longest_text + longest_field }
 {
     match (field, name) {
-        (Some(field), Some(name)) => push_name(buffer, field, name.as_bytes(), text),
+        (Some(field), Some(name)) => push_column(buffer, field, name.as_bytes(), text),
         _ => {
             buffer.push(text);
             Ok(true)
@@ -313,7 +313,12 @@ fn push_header(
 }
 
 /// Appends the text of the header with the name of a new field.
-fn push_name(buffer: &mut Buffer, field: Field, name: &[u8], text: &[u8]) -> Result<bool, NoAnswer>
+fn push_column(
+    buffer: &mut Buffer,
+    field: Field,
+    name: &[u8],
+    text: &[u8],
+) -> Result<bool, NoAnswer>
     requires room { HasRoom longest_reply buffer.old }
     requires fits { length text.now ≤ longest_text }
     ensures answered { AppendsAnswer (λ answer. answer ≡ with_name field text.now name.now) result buffer.old buffer.new }

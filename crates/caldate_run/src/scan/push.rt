@@ -13,6 +13,12 @@ use crate::run::no_answer::NoAnswer;
 use crate::scan::{first_text, part_at};
 
 /// Appends the line with the answers to its texts in their place, and returns whether it goes out.
+///
+/// For `to week`, `due 2024-02-29.` becomes `due 2024-W09-4.`, and a line without a text stays. For
+/// `keep`, the line itself is appended if its first text lies within the bounds. If a text has no
+/// answer, this appends nothing and returns the reason, such as `Rejected` for `2023-02-29`. Returns
+/// `TooLong` if the line becomes longer than 4096 bytes, and with `--invalid stop` `NoForm` if it has
+/// no text.
 #[inline(never)]
 pub fn push_scanned(buffer: &mut Buffer, filter: &Filter<'_>, line: &[u8]) -> Result<bool, NoAnswer>
     requires room { HasRoom longest_reply buffer.old }

@@ -6,7 +6,7 @@ ghost use Rattle.caldate_run.specs.Meanings.{AreMeanings, Meanings};
 ghost use Rattle.caldate_run.specs.MissingZones.{is_zone_expected, missing_name, name_without_file};
 ghost use Rattle.caldate_run.specs.ReadZoneErrors.{file_error};
 ghost use Rattle.caldate_run.specs.Requests.{arguments_of};
-ghost use Rattle.caldate_run.specs.Zones.{AreZones, file_named, is_zone_name, path_in};
+ghost use Rattle.caldate_run.specs.Zones.{AreOfFiles, file_named, is_zone_name, path_in};
 
 use crate::args::parse_args;
 use crate::args::usage_error::Expected;
@@ -14,7 +14,7 @@ use crate::args::words::word_at;
 use crate::input::read_some;
 use crate::streams::Source;
 use crate::zones::read_zone_error::FileError;
-use crate::zones::{ZoneFile, ZoneFiles, file_named, is_zone_name, name_in};
+use crate::zones::{DataFiles, ZoneFile, file_named, is_zone_name, name_in};
 use std::env::Env;
 use std::fs::Files;
 use std::io::{Error, ErrorKind};
@@ -50,11 +50,11 @@ pub fn find_folder<E: Env>(env: &E, buffer: &mut [u8; MAX_PATH_BYTES]) -> usize
 pub fn read_missing<'a, F: Files>(
     system: &F,
     arguments: &'a [u8],
-    files: &ZoneFiles<'_>,
+    files: &DataFiles<'_>,
     buffer: &'a mut [u8; MAX_FILE_BYTES],
 ) -> Option<ZoneFile<'a>>
     ensures name { (meanings : Meanings) → AreMeanings meanings (arguments_of arguments.now)
-        → AreZones files.now meanings → MatchOption result
+        → AreOfFiles files.now meanings → MatchOption result
         (missing_name meanings files.now (arguments_of arguments.now) ≡ None)
         (λ file. missing_name meanings files.now (arguments_of arguments.now) ≡ Some file.name.now) }
 {
@@ -74,11 +74,11 @@ pub fn read_missing<'a, F: Files>(
 }
 
 /// Returns the name of the first zone in the arguments whose file is not given.
-pub fn missing_name<'a>(arguments: &'a [u8], files: &ZoneFiles<'_>) -> Option<&'a [u8]>
+pub fn missing_name<'a>(arguments: &'a [u8], files: &DataFiles<'_>) -> Option<&'a [u8]>
     ensures name { IfSome result (λ name. is_zone_name name.now ≡ true) }
     ensures missing { IfSome result (λ name. file_named files.now name.now ≡ None) }
     ensures value { (meanings : Meanings) → AreMeanings meanings (arguments_of arguments.now)
-        → AreZones files.now meanings → MatchOption result
+        → AreOfFiles files.now meanings → MatchOption result
         (missing_name meanings files.now (arguments_of arguments.now) ≡ None)
         (λ name. missing_name meanings files.now (arguments_of arguments.now) ≡ Some name.now) }
 {
@@ -101,7 +101,7 @@ fn is_zone_expected(expected: Expected) -> bool
 }
 
 /// Returns the name, if it can be the name of a zone and its file is not given.
-fn name_without_file<'a>(files: &ZoneFiles<'_>, name: &'a [u8]) -> Option<&'a [u8]>
+fn name_without_file<'a>(files: &DataFiles<'_>, name: &'a [u8]) -> Option<&'a [u8]>
     ensures name { IfSome result (λ name. is_zone_name name.now ≡ true) }
     ensures missing { IfSome result (λ name. file_named files.now name.now ≡ None) }
     ensures value { MatchOption result (name_without_file files.now name.now ≡ None)

@@ -3,7 +3,7 @@
 use cal_datetime::PlainDateTime;
 use caldate_run::clock::read_clock;
 use caldate_run::program::perform;
-use caldate_run::zones::{ZoneFile, ZoneFiles};
+use caldate_run::zones::{DataFiles, ZoneFile};
 use std::io::{self, ErrorKind};
 use std::process::Abort;
 use std::time::{Clock, Duration};
@@ -43,7 +43,7 @@ fn check_call<H: Abort + AllocGlobal>(
     mut input: &[u8],
     (status, written, reported): (u8, &[u8], &[u8]),
 ) {
-    let files = ZoneFiles {
+    let files = DataFiles {
         folder: b"zones",
         first: Some(ZoneFile {
             name: b"Etc/GMT-1",

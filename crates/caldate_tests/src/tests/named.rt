@@ -4,7 +4,7 @@ use crate::tests::reads::first_lines;
 use crate::tests::repeated;
 use crate::tests::streams::Dripping;
 use caldate_run::program::perform;
-use caldate_run::zones::ZoneFiles;
+use caldate_run::zones::DataFiles;
 use std::io::ErrorKind;
 use std::process::Abort;
 use std::test::Fail;
@@ -28,7 +28,7 @@ fn check_named<H: Abort + AllocGlobal>(
     let ending = perform(
         Some(arguments),
         &None,
-        &ZoneFiles::none(),
+        &DataFiles::none(),
         &mut reader,
         &mut output,
         &mut words,

@@ -20,7 +20,7 @@ use caldate_run::run::lines::first_line;
 use caldate_run::run::run;
 use caldate_run::run::run_error::RunError;
 use caldate_run::streams::{Sink, Source};
-use caldate_run::zones::ZoneFiles;
+use caldate_run::zones::DataFiles;
 
 /// Proves that each part of the input between line feeds has one reply.
 fn one_reply_each(filter: &Filter<'_>, input: &[u8])
@@ -87,7 +87,7 @@ fn occurrences<W: Sink>(
 fn asks<'a>(
     arguments: &'a [u8],
     now: &Option<PlainDateTime>,
-    files: &ZoneFiles<'a>,
+    files: &DataFiles<'a>,
 ) -> (
     Result<Command<'a>, UsageError>,
     Result<Command<'a>, UsageError>,

@@ -8,7 +8,7 @@ use caldate_run::run::no_answer::NoAnswer;
 use caldate_run::run::run_error::RunError;
 use caldate_run::run::tally::Tally;
 use caldate_run::run::unanswered::UnansweredLine;
-use caldate_run::zones::ZoneFiles;
+use caldate_run::zones::DataFiles;
 use std::io::ErrorKind;
 use std::process::Abort;
 use std::test::Fail;
@@ -176,7 +176,7 @@ fn check_kind<H: Abort + AllocGlobal>(rt: &H, arguments: &[u8], kind: ErrorKind)
     let ending = perform(
         Some(arguments),
         &None,
-        &ZoneFiles::none(),
+        &DataFiles::none(),
         &mut INPUT,
         &mut writer,
         &mut reported,

@@ -31,7 +31,7 @@ loop-day-preserved g c =
         inv.1 ++ room.0,
         one_more listing inv.0 day inv.2 next,
         next_count inv.0 day c.loop-day.count listing.step.every inv.3,
-        one_line_more inv.0 day (inv.1 ++ room.0) c.make_room.new.buffer whole ∙ ap (λ l. inv.1 ++ room.0 ++ l) (sym c.push_line.ensures),
+        one_line_more inv.0 day (inv.1 ++ room.0) c.make_room.new.buffer whole ∙ ap (λ l. inv.1 ++ room.0 ++ l) (sym c.push_day.ensures),
         Appends-trans _ _ _ _ _ inv.5 room.2,
       ),
       omega (arith, c.in-Some.ensures.near, c.requires.1),

@@ -1,25 +1,16 @@
-use Rattle.std.proofs.Common.{ℕ, ◌<◌, ◌≤◌, ◌∙◌, ap, arith, length, length-drop, subst, sym, take, List}
-use Rattle.std.proofs.lemmas.List.{take_rest}
-use Rattle.caldate_run.specs.Scans.{IsText, is_of_word}
-use Rattle.caldate_run.proofs.Scans.{none_in_word, none_less, none_past}
+use Rattle.std.proofs.Common.{◌+◌, ◌∙◌, ap, sym}
+use Rattle.std.specs.Prelude.{slice_index}
+use Rattle.caldate_run.specs.Scans.{is_of_word, is_usual_start}
+use Rattle.caldate_run.proofs.Scans.{none_in_word}
+use Rattle.caldate_run.proofs.TextStarts.{none_starts}
 use Rattle.caldate_run.proofs.scan.text_length.Goals as goal
 
 pub returns-then-is_of_word-clause-longest : goal.returns-then-is_of_word-clause-longest
 returns-then-is_of_word-clause-longest c = λ n some.
     none_in_word c.args.filter.now c.args.line.now c.args.place n (sym (c.is_of_word.ensures ∙ ap is_of_word c.byte_before.ensures) ∙ c.if-is_of_word.true)
 
-pub loop-count-init : goal.loop-count-init
-loop-count-init c =
-    let line = c.args.line.now in
-    let place = c.args.place in
-    let bound = c.bound_of-count.result in record {
-      within = omega (arith, c.bound_of-count.ensures.within, ap length (take_rest line place), length-drop place line, c.requires);
-      longer = none_past c.args.filter.now line place bound
-          (subst (λ (bytes : List ℕ). (n : ℕ) → bound < n → n ≤ length bytes → IsText c.args.filter.now (take n bytes) → ⊥) (take_rest line place) c.bound_of-count.ensures.none);
-    }
-
-pub loop-count-preserved : goal.loop-count-preserved
-loop-count-preserved c = record {
-  within = omega (arith, c.loop-count.invariant.within);
-  longer = none_less c.args.filter.now c.args.line.now c.args.place c.loop-count.count (c.is_text_at.ensures.none c.if-is_text_at.false) c.loop-count.invariant.longer;
-}
+pub returns-then-not-is_usual_start-clause-longest : goal.returns-then-not-is_usual_start-clause-longest
+returns-then-not-is_usual_start-clause-longest c = λ n some.
+    let bytes = ap (λ x. is_usual_start x (slice_index c.args.line.now (c.args.place + 4))) (sym c.byte_at.ensures) ∙ ap (is_usual_start c.byte_at.result) (sym c.byte_at-then-usual.ensures) in
+    let off = bytes ∙ sym c.is_usual_start.ensures ∙ c.if-not-is_usual_start.true in
+    none_starts c.args.filter.now c.args.line.now c.args.place n (c.requires.usual c.if-usual.true) off

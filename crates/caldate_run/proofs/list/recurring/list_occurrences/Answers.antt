@@ -39,7 +39,7 @@ loop-day-preserved g c =
         inv.0 ++ day ∷ [],
         inv.1 ++ room.0,
         one_date_more inv.0 day _ _ _ inv.2 c.in-Some.ensures,
-        one_line_more inv.0 day (inv.1 ++ room.0) c.make_room.new.buffer whole ∙ ap (λ l. inv.1 ++ room.0 ++ l) (sym c.push_line.ensures),
+        one_line_more inv.0 day (inv.1 ++ room.0) c.make_room.new.buffer whole ∙ ap (λ l. inv.1 ++ room.0 ++ l) (sym c.push_day.ensures),
         Appends-trans _ _ _ _ _ inv.4 room.2,
       ),
       writes_then _ _ _ _ _ c.loop-day.invariant.1 c.in_ok-make_room.ensures.writes,

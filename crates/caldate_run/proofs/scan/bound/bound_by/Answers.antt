@@ -7,17 +7,16 @@ use Rattle.caldate_run.proofs.scan.bound.bound_by.Goals as goal
 
 pub returns-in-Some-clause-text : goal.returns-in-Some-clause-text
 returns-in-Some-clause-text c = λ n found fits h.
-    let bytes = c.args.bytes.now in
+    let text = take n c.args.bytes.now in
     let reading = c.in-Some.reading in
-    form_within reading bytes c.bound_by_form.result c.bound_by_form.ensures.begins n fits
-    (text_form reading (take n bytes) found (text_in c.args.offset c.args.reader.now reading (take n bytes) found (sym c.named.ensures ∙ c.in-Some.is) h))
+    form_within (HasFormIn reading) c.args.bytes.now c.bound_by_name.result n c.bound_by_name.ensures fits
+    (text_form reading text found (text_in c.args.assumptions.now c.args.reader.now reading text found (sym c.named.ensures ∙ c.in-Some.is) h))
 
 pub returns-in-Some-clause-form : goal.returns-in-Some-clause-form
 returns-in-Some-clause-form c = λ n form fits is h.
-    let bytes = c.args.bytes.now in
     let reading = c.in-Some.reading in
     let same = same_Some form reading (sym is ∙ sym c.named.ensures ∙ c.in-Some.is) in
-    form_within reading bytes c.bound_by_form.result c.bound_by_form.ensures.begins n fits (subst (λ r. HasFormIn r (take n bytes)) same h)
+    form_within (HasFormIn reading) c.args.bytes.now c.bound_by_name.result n c.bound_by_name.ensures fits (subst (λ r. HasFormIn r (take n c.args.bytes.now)) same h)
 
 pub returns-in-None-clause-form : goal.returns-in-None-clause-form
 returns-in-None-clause-form c = λ n form fits is h. absurd (none-some form (sym c.in-None.is ∙ c.named.ensures ∙ is))

@@ -1,6 +1,6 @@
 use Rattle.std.proofs.Common.{ℕ, ◌+◌, ◌<◌, ◌≤◌, length}
 use Rattle.caldate_run.specs.Scans.{IsTextAt}
-use Rattle.caldate_run.proofs.scan.text_length.Given as goal
+use Rattle.caldate_run.proofs.scan.longest_text.Given as goal
 
 -- no longer text begins at the place
 abbrev pub invariant-loop-count : goal.invariant-loop-count

@@ -5,7 +5,7 @@ use Rattle.std.proofs.lemmas.Bool.{false≢true}
 use Rattle.std.proofs.lemmas.Option.{none-some}
 use Rattle.std.proofs.lemmas.Slice.Eq.{bytes_eq-Decides}
 use Rattle.caldate_run.proofs.ReadNumbers.{number_is_text, one_number, read_back, wide}
-use Rattle.caldate_run.proofs.reading.number.parse_i64.Goals as goal
+use Rattle.caldate_run.proofs.reading.number.parse_number.Goals as goal
 
 pub returns-in_default-clause-every : goal.returns-in_default-clause-every
 returns-in_default-clause-every c z n = absurd (c.in_default.ensures.cases.0 (number_is_text c.args.text.now z n))
