@@ -5,12 +5,15 @@ use Rattle.std.proofs.lemmas.Int.{ints}
 use Rattle.std.specs.Prelude.{ℤ, ◌<ℤ◌, ◌≤ℤ◌}
 use Rattle.std.specs.List.{slice_index_or}
 use Rattle.cal_zone.specs.declared.change.Change.{Change}
+use Rattle.cal_zone.specs.declared.rule.Rule.{Rule}
 use Rattle.cal_zone.specs.declared.yearly.Yearly.{Yearly}
 use Rattle.cal_zone.specs.Rule.{change_of, changes_from, instant_at, rule_count}
 use Rattle.cal_zone.specs.Split.{IsBracket, IsSplit}
 use Rattle.cal_zone.specs.Timeline.{Timeline, after_changes, at, no_change, offset_at, InOrder}
+use Rattle.cal_zone.specs.Zone.{IsByRule}
 use Rattle.cal_zone.proofs.Joins.{item_left, item_right}
 use Rattle.cal_zone.proofs.Offsets.{after_changes-count}
+use Rattle.cal_zone.proofs.Orders.{at_rises, trans}
 use Rattle.cal_zone.proofs.Rules.{item, size}
 use Rattle.cal_zone.proofs.Spans.{span_of}
 
@@ -102,3 +105,26 @@ by_rule zone one other xs s r i x o order is e less split offset =
     subst (λ (j : ℤ). offset_at zone j ≡ o) e
     (rule_span zone one other xs s r (instant_at one other (r - 1)) x o order is less split.inside refl (λ h. split.above r (omega arith) h) offset
     x (split.below (r - 1) (omega arith)) (omega (arith, ints)))
+
+-- If no change before those of a rule is after an instant, all that are after it are the rule's.
+pub by_later : (zone : Timeline) (rule : Rule) (xs : List Change) (s n : ℕ) (i x : ℤ) → InOrder zone → xs ++ changes_from rule.one rule.other s ≡ zone.changes → x ≡ i
+    → IsBracket (at xs) (length xs) x n n → length xs ≤ n → IsByRule zone i
+by_later zone rule xs s n i x order is e b all = record {
+  rule = rule;
+  skip = s;
+  before = xs;
+  changes = sym is;
+  past = λ k h.
+      let last = length xs - 1 in
+      let most = b.inside in
+      let sum = length-append xs (changes_from rule.one rule.other s) in
+      let size = ap (λ (ds : List Change). length ds) is in
+      let rise : at zone.changes k ≤ℤ at zone.changes last = at_rises zone order k last (omega arith) (omega arith) in
+      subst (λ (z : ℤ). at xs k ≤ℤ z) e
+      (trans (at xs k) (at xs last) x
+      (subst (λ (z : ℤ). z ≤ℤ at xs last) (same k h) (subst (λ (z : ℤ). at zone.changes k ≤ℤ z) (same last (omega arith)) rise))
+      (b.below last (omega arith)));
+}
+  where
+    same : (k : ℕ) → k < length xs → at zone.changes k ≡ at xs k
+    same k h = ap (λ (ds : List Change). at ds k) (sym is) ∙ ap (λ (c : Change). c.at) (item_left xs (changes_from rule.one rule.other s) k h)

@@ -14,7 +14,7 @@ use Rattle.cal_zone.specs.Instants.{IsExplained, IsGap, Names}
 use Rattle.cal_zone.specs.Local.{IsLocalOf}
 use Rattle.cal_zone.specs.Timeline.{Timeline, InOrder, IsOrdered, at, begins, ends, local_at, offset_at}
 use Rattle.cal_zone.proofs.Offsets.{offset_from-count}
-use Rattle.cal_zone.proofs.Orders.{at_rises, ends_rise}
+use Rattle.cal_zone.proofs.Orders.{at_rises, ends_rise, trans}
 use Rattle.cal_zone.proofs.Readings.{after, just_before, some_count}
 
 -- ---- over plain numbers
@@ -33,9 +33,6 @@ both_ways a b p q = omega (arith, ints)
 -- a reading before the end of one gap and in another one after it
 not_in_both : (L p x y E q u v : ℤ) → L <ℤ (p +ℤ y) → (p +ℤ int_max x y) ≤ℤ E → E ≤ℤ (q +ℤ int_min u v) → (q +ℤ u) ≤ℤ L → ⊥
 not_in_both L p x y E q u v h i j k = omega (arith, ints, clamps)
-
-trans : (a b c : ℤ) → a ≤ℤ b → b ≤ℤ c → a ≤ℤ c
-trans a b c p q = omega (arith, ints)
 
 -- ---- a gap over a reading is that of the change with an index
 record IsGapOf (zone : Timeline) (L a b f : ℤ) (k : ℕ) : Type 0 where

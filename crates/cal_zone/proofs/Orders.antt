@@ -12,7 +12,7 @@ least_below_most a x y = omega (arith, ints, clamps)
 pub begins_below_ends : (zone : Timeline) (k : ℕ) → begins zone.first.offset zone.changes k ≤ℤ ends zone.first.offset zone.changes k
 begins_below_ends zone k = least_below_most (at zone.changes k) (after_changes zone.first.offset zone.changes k) (after_changes zone.first.offset zone.changes (suc k))
 
-trans : (a b c : ℤ) → a ≤ℤ b → b ≤ℤ c → a ≤ℤ c
+pub trans : (a b c : ℤ) → a ≤ℤ b → b ≤ℤ c → a ≤ℤ c
 trans a b c p q = omega (arith, ints)
 
 same : (a : ℤ) → a ≤ℤ a

@@ -7,7 +7,7 @@ use Rattle.std.specs.Int.{int_min, int_max}
 use Rattle.cal_zone.specs.Timeline.{Timeline, IsOrdered, at, ends, after_changes, offset_at, local_at, IsMoment, IsOffset}
 use Rattle.cal_zone.specs.Instants.{IsGap}
 use Rattle.cal_zone.specs.Split.{IsBracket, IsSplit}
-use Rattle.cal_zone.proofs.Orders.{at_rises, ends_rise}
+use Rattle.cal_zone.proofs.Orders.{at_rises, ends_rise, trans}
 use Rattle.cal_zone.proofs.Splits.{rising_split}
 use Rattle.cal_zone.proofs.Offsets.{offset_from-count, after_changes-offset}
 
@@ -52,9 +52,6 @@ past_before L a x y h = omega (arith, ints, clamps)
 
 ahead_next : (L a x y E : ℤ) → L <ℤ E → E ≤ℤ (a +ℤ int_min x y) → (L -ℤ x) <ℤ a
 ahead_next L a x y E h p = omega (arith, ints, clamps)
-
-trans : (a b c : ℤ) → a ≤ℤ b → b ≤ℤ c → a ≤ℤ c
-trans a b c p q = omega (arith, ints)
 
 less_trans : (a b c : ℤ) → a <ℤ b → b ≤ℤ c → a <ℤ c
 less_trans a b c p q = omega (arith, ints)
@@ -306,6 +303,10 @@ offset_in zone order i =
 pub none_in : (r : Option ℤ) (P Q : Type 0) (x : ℤ) → SomeIff r P x → (Q → P) → IfNone r (¬ Q)
 none_in None P Q x out h = λ q. out (h q)
 none_in (Some y) P Q x given h = tt
+
+pub if_none : (r : Option ℤ) (P Q : Type 0) (x : ℤ) → SomeIff r P x → (¬ P → Q) → IfNone r Q
+if_none None P Q x out h = h out
+if_none (Some y) P Q x given h = tt
 
 pub some_in : (r : Option ℤ) (P : Type 0) (x y : ℤ) → x ≡ y → SomeIff r P x → IfSome r (λ (z : ℤ). z ≡ y)
 some_in None P x y e out = tt

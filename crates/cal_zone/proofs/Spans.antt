@@ -1,11 +1,12 @@
 -- Instants with one offset, and the readings that clocks show only there.
-use Rattle.std.proofs.Common.{◌≡◌, ℕ, suc, ◌<◌, ◌≤◌, ◌↔◌, length, refl, sym, ap, ◌∙◌, arith, subst}
-use Rattle.std.proofs.lemmas.Int.{ints}
+use Rattle.std.proofs.Common.{◌≡◌, ℕ, suc, ◌-◌, ◌<◌, ◌≤◌, ◌↔◌, ◌⊎◌, length, refl, sym, ap, ◌∙◌, arith, subst, inl, inr}
+use Rattle.std.proofs.lemmas.Bool.{cases_lt}
+use Rattle.std.proofs.lemmas.Int.{ints, by_lt_z}
 use Rattle.std.specs.Prelude.{ℤ, pos, ◌<ℤ◌, ◌≤ℤ◌, ◌+ℤ◌, ◌-ℤ◌}
 use Rattle.cal_zone.specs.declared.span.Span.{Span}
-use Rattle.cal_zone.specs.Span.{IsSpan}
+use Rattle.cal_zone.specs.Span.{HasAround, HasNear, IsSpan, IsSpanAfter}
 use Rattle.cal_zone.specs.Split.{IsBracket}
-use Rattle.cal_zone.specs.Timeline.{Timeline, InOrder, IsOffset, at, after_changes, offset_at, local_at}
+use Rattle.cal_zone.specs.Timeline.{Timeline, InOrder, IsMoment, IsOffset, at, after_changes, offset_at, local_at}
 use Rattle.cal_zone.proofs.Offsets.{offset_at-count}
 use Rattle.cal_zone.proofs.Orders.{at_rises}
 use Rattle.cal_zone.proofs.Readings.{offset_in}
@@ -66,3 +67,57 @@ only zone x y o e offset i low high = ap (offset_at zone) (same e low high) ∙ 
   where
     same : y ≡ x → y ≤ℤ i → i ≤ℤ y → i ≡ x
     same e low high = omega (arith, ints)
+
+-- The last instant before a change.
+pub just_before : (l a : ℤ) → l ≡ a -ℤ pos 1 → l <ℤ a
+just_before l a e = omega (arith, ints)
+
+-- If a span doesn't decide a reading, one of its ends is near.
+near_end : (f l r o : ℤ) → IsOffset o → ¬ ((f ≤ℤ ((r -ℤ o) -ℤ pos 187_198)) × (((r -ℤ o) +ℤ pos 187_198) ≤ℤ l))
+    → ((r -ℤ pos 280_797) ≤ℤ f) ⊎ (l <ℤ (r +ℤ pos 280_797))
+near_end f l r o own out =
+    by_lt_z ((r -ℤ o) -ℤ pos 187_198) f (λ less. inl (low less))
+    (λ early. inr (by_lt_z l ((r -ℤ o) +ℤ pos 187_198) high (λ late. absurd (out (early, late)))))
+  where
+    low : ((r -ℤ o) -ℤ pos 187_198) <ℤ f → (r -ℤ pos 280_797) ≤ℤ f
+    low less = omega (arith, ints, own.0, own.1)
+
+    high : l <ℤ ((r -ℤ o) +ℤ pos 187_198) → l <ℤ (r +ℤ pos 280_797)
+    high less = omega (arith, ints, own.0, own.1)
+
+near_at : (f : ℕ → ℤ) (start n k : ℕ) (r x : ℤ) → start ≤ k → k < n → x ≡ f k → (r -ℤ pos 280_797) ≤ℤ x → x ≤ℤ (r +ℤ pos 280_797) → HasNear f start n r
+near_at f start n k r x from inside is low high = record {
+  index = k;
+  from = from;
+  inside = inside;
+  low = subst (λ (z : ℤ). (r -ℤ pos 280_797) ≤ℤ z) is low;
+  high = subst (λ (z : ℤ). z ≤ℤ (r +ℤ pos 280_797)) is high;
+}
+
+-- If the span between two changes doesn't decide a reading between them, one of them is near.
+pub near_between : (f : ℕ → ℤ) (start n count : ℕ) (s : Span) (r : ℤ) → start < count → count < n → s.first ≡ f (count - 1) → s.last ≡ f count -ℤ pos 1
+    → IsOffset s.offset → f (count - 1) ≤ℤ r → r <ℤ f count → ¬ HasAround s (r -ℤ s.offset) → HasNear f start n r
+near_between f start n count s r from inside first last own past ahead out =
+    elim (near_end s.first s.last r s.offset own out) as (λ _. HasNear f start n r) [
+      | inl low ↦ near_at f start n (count - 1) r s.first (omega arith) (omega arith) first low (omega (arith, ints, first))
+      | inr high ↦ near_at f start n count r (f count) (omega arith) inside refl (omega (arith, ints)) (omega (arith, ints, last))
+    ]
+
+-- The same for a span that may have no change before or after it.
+pub near_change : (zone : Timeline) (s : Span) (n : ℕ) (r : ℤ) → IsSpanAfter zone.changes n s → IsOffset s.offset → IsMoment r
+    → IsBracket (at zone.changes) (length zone.changes) r n n → ¬ HasAround s (r -ℤ s.offset) → HasNear (at zone.changes) 0 (length zone.changes) r
+near_change zone s n r is own moment b out =
+    let cs = zone.changes in
+    let inside = b.inside in
+    elim (near_end s.first s.last r s.offset own out) as (λ _. HasNear (at cs) 0 (length cs) r) [
+      | inl low ↦ elim (cases_lt 0 n) as (λ _. HasNear (at cs) 0 (length cs) r) [
+        | inl some ↦
+            let e : suc (n - 1) ≡ n = omega arith in
+            near_at (at cs) 0 (length cs) (n - 1) r s.first (omega arith) (omega arith) (is.first (n - 1) e) low (omega (arith, ints, is.first (n - 1) e, b.below (n - 1) e))
+        | inr none ↦ absurd (omega (arith, ints, is.unbounded_first (omega arith), moment.0))
+      ]
+      | inr high ↦ elim (cases_lt n (length cs)) as (λ _. HasNear (at cs) 0 (length cs) r) [
+        | inl less ↦ near_at (at cs) 0 (length cs) n r (at cs n) (omega arith) less refl (omega (arith, ints, b.above less)) (omega (arith, ints, is.last less))
+        | inr past ↦ absurd (omega (arith, ints, is.unbounded_last past, moment.1))
+      ]
+    ]

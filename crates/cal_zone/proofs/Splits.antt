@@ -3,9 +3,7 @@ use Rattle.std.proofs.Common.{◌≡◌, ℕ, ◌+◌, ◌-◌, ◌<◌, ◌≤�
 use Rattle.std.proofs.lemmas.Int.{ints}
 use Rattle.std.specs.Prelude.{ℤ, ◌<ℤ◌, ◌≤ℤ◌, int_le, int_lt, true, false}
 use Rattle.cal_zone.specs.Split.{IsBracket, IsSplit}
-
-trans : (a b c : ℤ) → a ≤ℤ b → b ≤ℤ c → a ≤ℤ c
-trans a b c p q = omega (arith, ints)
+use Rattle.cal_zone.proofs.Orders.{trans}
 
 trans_less : (a b c : ℤ) → a <ℤ b → b ≤ℤ c → a <ℤ c
 trans_less a b c p q = omega (arith, ints)

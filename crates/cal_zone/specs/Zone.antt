@@ -1,6 +1,6 @@
 -- A zone: the changes of a file, and after the last of them the changes of its rule.
 use Rattle.std.specs.List.{slice_index_or}
-use Rattle.std.specs.Prelude.{ℕ, ◌-◌, ◌<◌, ◌≤◌, Bool, true, ℤ, List, [], ◌∷◌, ◌++◌, length, filter, Option, Some, None, int_lt}
+use Rattle.std.specs.Prelude.{◌≡◌, ℕ, ◌-◌, ◌<◌, ◌≤◌, Bool, true, ℤ, List, [], ◌∷◌, ◌++◌, length, filter, Option, Some, None, int_lt}
 use Rattle.cal_zone.specs.declared.change.Change.{Change}
 use Rattle.cal_zone.specs.declared.local_type.LocalType.{LocalType}
 use Rattle.cal_zone.specs.declared.rule.Rule.{Rule}
@@ -9,6 +9,7 @@ use Rattle.cal_zone.specs.declared.timeline_error.TimelineError.TheVariants as r
 use Rattle.cal_zone.specs.declared.zone_parts.ZoneParts.{ZoneParts}
 use Rattle.cal_zone.specs.ChangeError.{IsChangeError}
 use Rattle.cal_zone.specs.Rule.{changes_from}
+use Rattle.cal_zone.specs.Span.{AllPast}
 use Rattle.cal_zone.specs.Table.{changes_in, IsReadable}
 use Rattle.cal_zone.specs.Timeline.{Timeline, at, after_changes, no_change, IsNext, IsOrdered}
 
@@ -44,6 +45,14 @@ made_of p = held p.first (changes_in p.bytes.now p.layout) p.rule p.skip
 pub record AreParts (p : ZoneParts) : Type 0 where
   pub readable : IsReadable p.bytes.now p.layout
   pub skip : p.skip ≤ 3_999_998
+
+-- All changes of the zone that are after an instant are changes of a rule.
+pub record IsByRule (zone : Timeline) (instant : ℤ) : Type 0 where
+  pub rule : Rule
+  pub skip : ℕ
+  pub before : List Change
+  pub changes : zone.changes ≡ before ++ changes_from rule.one rule.other skip
+  pub past : AllPast (at before) (length before) instant
 
 -- The first of the changes ys is after the last of the changes xs, and so is its gap or fold, if
 -- both lists have changes.

@@ -5,6 +5,7 @@ ghost use Rattle.cal_datetime.specs.DateTime.{IsDateTime};
 ghost use Rattle.cal_datetime.specs.OffsetDateTime.{LocalAndOffset, instant, local_at, unix_epoch, unix_seconds};
 ghost use Rattle.cal_zone.specs.Local.{Shows, NamesMoment, IsLocal, IsLocalOf};
 ghost use Rattle.cal_zone.specs.Timeline.{offset_at, InOrder, IsMoment, IsOffset};
+ghost use Rattle.cal_zone.specs.Zone.{IsByRule};
 
 use crate::gap::local_date_time;
 use crate::{Gap, Instants, Local, UncheckedZone, Zone};
@@ -72,11 +73,13 @@ impl<'a> UncheckedZone<'a> {
 
     /// Returns the offset at a Unix time in seconds by the changes of the table, without the rule.
     ///
-    /// `None` says nothing about the offset; then call `utc_offset_at`. No clause says when `None`
-    /// comes: it does, for example, from the last change on if the zone has a rule.
+    /// `None` says nothing about the offset; then call `utc_offset_at`. It comes only if all
+    /// changes after the instant are changes of a rule.
     #[inline(always)]
     pub fn utc_offset_in_table(&self, instant: i64) -> Option<UtcOffset>
-        ensures { InOrder self.now → IfSome result (λ offset. offset ≡ offset_at self.now instant) }
+        ensures some { InOrder self.now
+            → IfSome result (λ offset. offset ≡ offset_at self.now instant) }
+        ensures none { InOrder self.now → IfNone result (IsByRule self.now instant) }
     {
         match self.count_in_table(instant) {
             Some(count) => utc_offset(self.after(count)),

@@ -1,5 +1,5 @@
 //! The rule of a zone after its last change.
-ghost use Rattle.std.specs.Prelude.{◌≡◌, ℕ, suc, List, ◌++◌, ◌+◌, ◌-◌, ◌<◌, ◌≤◌, ℤ, pos, ◌+ℤ◌, ◌<ℤ◌, ◌↔◌, IsTrue, IfSome, IfNone, filter, length};
+ghost use Rattle.std.specs.Prelude.{◌≡◌, ℕ, suc, List, ◌++◌, ◌+◌, ◌-◌, ◌<◌, ◌≤◌, ℤ, pos, ◌+ℤ◌, ◌-ℤ◌, ◌<ℤ◌, ◌↔◌, ◌⊎◌, IsTrue, IfSome, IfNone, filter, length};
 ghost use Rattle.cal_zone.specs.Rule.{IsCalm};
 ghost use Rattle.cal_zone.specs.Timeline.{Timeline, local_at, offset_at, InOrder, IsMoment, IsNext, IsOffset};
 ghost use Rattle.cal_zone.specs.declared.change.Change.{Change};
@@ -49,6 +49,7 @@ fn index_near(instant: i64) -> u32
 impl Rule {
     ghost use Rattle.cal_zone.specs.Rule.{change_of, changes_from, instant_at, rule_count};
     ghost use Rattle.cal_zone.specs.Zone.{is_after, Joins};
+    ghost use Rattle.cal_zone.specs.Span.{AllAfter, AllPast, HasNear};
     ghost use Rattle.cal_zone.specs.Split.{IsBracket, IsSplit};
     ghost use Rattle.cal_zone.specs.Timeline.{IsOrdered, at};
 
@@ -181,14 +182,13 @@ impl Rule {
     }
 
     /// Returns the offset at a Unix time in seconds, in a zone whose last changes are the rule's
-    /// from the index `skip` on.
-    ///
-    /// `None` says nothing about the offset. No clause says when it comes: it does if all of these
-    /// changes are after the instant.
+    /// from the index `skip` on. Returns `None` if all of these changes are after the instant.
     pub fn offset_after(&self, skip: u32, instant: i64) -> Option<i32>
-        ensures { (zone : Timeline) (xs : List Change) → InOrder zone
+        ensures some { (zone : Timeline) (xs : List Change) → InOrder zone
             → zone.changes ≡ xs ++ changes_from self.now.one self.now.other skip
             → IfSome result (λ offset. offset ≡ offset_at zone instant) }
+        ensures none { IfNone result
+            (AllAfter (instant_at self.now.one self.now.other) skip rule_count instant) }
     {
         let count = self.count(instant);
         if skip < count {
@@ -204,9 +204,10 @@ impl Rule {
         requires min { 1 ≤ count }
         requires max { count < 3_999_998 }
         ensures first { result.first ≡ instant_at self.now.one self.now.other (count - 1) }
-        ensures last { result.last <ℤ instant_at self.now.one self.now.other count }
+        ensures last { result.last ≡ instant_at self.now.one self.now.other count -ℤ pos 1 }
         ensures offset { result.offset
             ≡ (change_of self.now.one self.now.other (count - 1)).kind.offset }
+        ensures in_range { IsOffset result.offset }
     {
         Span {
             first: self.time(count - 1),
@@ -219,13 +220,16 @@ impl Rule {
     /// last changes are the rule's from the index `skip` on. The reading is its seconds since
     /// 1970-01-01 0:00 by the clock, from -2^60 to 2^60.
     ///
-    /// `None` says nothing about the reading. No clause says when it comes: it does, for example,
-    /// near a change, and before these changes.
+    /// `None` says nothing about the reading. It comes only before these changes, after all changes
+    /// of the rule, and at most 280797 seconds before or after one of these changes.
     pub fn single_after(&self, skip: u32, reading: i64) -> Option<i64>
         requires { IsMoment reading }
-        ensures { (zone : Timeline) (xs : List Change) → InOrder zone
+        ensures some { (zone : Timeline) (xs : List Change) → InOrder zone
             → zone.changes ≡ xs ++ changes_from self.now.one self.now.other skip
             → IfSome result (λ instant. (i : ℤ) → (i ≡ instant) ↔ (local_at zone i ≡ reading)) }
+        ensures none { let f = instant_at self.now.one self.now.other
+            in IfNone result (AllAfter f skip rule_count reading
+            ⊎ (AllPast f rule_count reading ⊎ HasNear f skip rule_count reading)) }
     {
         let count = self.count(reading);
         if count <= skip || count == self.len() {

@@ -1,13 +1,13 @@
 //! Instants at which the offset of a zone is the same.
-ghost use Rattle.std.specs.Prelude.{◌≡◌, ◌↔◌, ℤ, ◌≤ℤ◌, IsTrue, IfSome};
-ghost use Rattle.cal_zone.specs.Span.{IsSpan};
+ghost use Rattle.std.specs.Prelude.{◌≡◌, ◌↔◌, ℤ, pos, ◌+ℤ◌, ◌-ℤ◌, ◌<ℤ◌, ◌≤ℤ◌, IsTrue, IfSome, SomeIff};
+ghost use Rattle.cal_zone.specs.Span.{HasAround, IsNear, IsSpan};
 ghost use Rattle.cal_zone.specs.Timeline.{Timeline, local_at, InOrder, IsMoment};
 
 /// The maximum difference of two offsets, in seconds.
 const MAX_DIFFERENCE: i64 = 187_198;
 
 /// Half a year, in seconds.
-const HALF_YEAR: u64 = 15_778_476;
+const HALF_YEAR: i128 = 15_778_476;
 
 /// A span of instants at which clocks have the same offset, from the first to the last. It is empty
 /// if the last one is before the first.
@@ -19,6 +19,14 @@ pub struct Span {
     pub last: i64,
     /// The seconds by which clocks are ahead of UTC.
     pub offset: i32,
+}
+
+/// Checks that an instant is less than half a year after another, or the same.
+#[inline(always)]
+fn is_short(from: i64, to: i64) -> bool
+    ensures { IsTrue result ↔ ((from ≤ℤ to) × (to <ℤ (from +ℤ pos 15_778_476))) }
+{
+    from <= to && i128::from(to) - i128::from(from) < HALF_YEAR
 }
 
 impl Span {
@@ -41,21 +49,26 @@ impl Span {
         self.first <= instant && instant <= self.last
     }
 
-    /// Checks that an instant is less than half a year before or after the span, and not in it.
+    /// Checks that an instant is less than half a year after the last instant of the span, or
+    /// before the first one.
     #[inline(always)]
-    pub(crate) fn is_near(self, instant: i64) -> bool {
-        let after = instant.wrapping_sub(self.last).cast_unsigned();
-        let before = self.first.wrapping_sub(instant).cast_unsigned();
-        after.min(before) < HALF_YEAR
+    pub(crate) fn is_near(self, instant: i64) -> bool
+        ensures { IsTrue result ↔ IsNear self instant }
+    {
+        is_short(self.last, instant) || is_short(instant, self.first)
     }
 
     /// Returns the Unix time of the only instant at which clocks show a reading. The reading is its
-    /// seconds since 1970-01-01 0:00 by the clock, from -2^60 to 2^60. `None` says nothing about
-    /// the reading: clocks may show it at other instants, too.
+    /// seconds since 1970-01-01 0:00 by the clock, from -2^60 to 2^60.
+    ///
+    /// Returns `None`, which says nothing about the reading, unless the span has each instant up to
+    /// 187198 seconds before and after the result. No two offsets differ by more.
     #[inline(always)]
     pub fn single(self, reading: i64) -> Option<i64>
         requires { IsMoment reading }
-        ensures { (zone : Timeline) → InOrder zone → IsSpan zone self
+        ensures value { let instant = reading -ℤ self.offset
+            in SomeIff result (HasAround self instant) instant }
+        ensures only { (zone : Timeline) → InOrder zone → IsSpan zone self
             → IfSome result (λ instant. (i : ℤ) → (i ≡ instant) ↔ (local_at zone i ≡ reading)) }
     {
         let instant = reading - i64::from(self.offset);

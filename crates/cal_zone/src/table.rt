@@ -1,5 +1,5 @@
 //! The changes of a TZif file, read from its bytes.
-ghost use Rattle.std.specs.Prelude.{◌≡◌, ◌≢◌, ℕ, ◌+◌, ◌*◌, ◌^◌, ◌<◌, ◌≤◌, length, slice_index, slice_index_or, List, ℤ, Some, None, IfSome, IfNone, IsTrue, FitsSigned};
+ghost use Rattle.std.specs.Prelude.{◌≡◌, ◌≢◌, ℕ, ◌+◌, ◌*◌, ◌^◌, ◌<◌, ◌≤◌, ◌↔◌, length, slice_index, slice_index_or, List, ℤ, Some, None, IfSome, IfNone, IsTrue, FitsSigned};
 ghost use Rattle.std.proofs.Common.{w32, w64};
 ghost use Rattle.cal_zone.specs.Bytes.{big_endian, two_complement};
 ghost use Rattle.cal_zone.specs.Table.{local_type};
@@ -248,8 +248,8 @@ impl<'a> Table<'a> {
         usize::from(self.time(index) <= instant)
     }
 
-    /// Returns the number of changes that are not after an instant, if they rise and it is from the
-    /// index `start` on, at most 31 more. It looks at ten changes without a branch.
+    /// Returns about the number of changes that are not after an instant, from `start` to
+    /// `start + 31`. It looks at ten changes without a branch, and need not be right.
     #[inline(always)]
     fn count_from(&self, start: usize, instant: i64) -> usize
         requires { start + 31 < length self.now }
@@ -274,7 +274,7 @@ impl<'a> Table<'a> {
     #[inline(always)]
     fn is_count(&self, index: usize, instant: i64) -> bool
         requires { index < length self.now }
-        ensures { IsTrue result → IsBracket (at self.now) (length self.now) instant index index }
+        ensures { IsTrue result ↔ IsBracket (at self.now) (length self.now) instant index index }
     {
         if 0 < index && instant < self.time(index - 1) {
             return false;

@@ -1,12 +1,12 @@
 //! Zones whose changes need not be in order.
 ghost use Rattle.std.specs.List.{slice_index_or};
-ghost use Rattle.std.specs.Prelude.{◌≡◌, ℕ, suc, ◌+◌, ◌^◌, ◌<◌, ◌≤◌, ◌↔◌, ℤ, ◌<ℤ◌, ◌≤ℤ◌, length, IsTrue, IfSome, IfNone};
+ghost use Rattle.std.specs.Prelude.{◌≡◌, ℕ, suc, ◌+◌, ◌^◌, ◌<◌, ◌≤◌, ◌↔◌, ◌⊎◌, ℤ, pos, neg_ℤ, ◌-ℤ◌, ◌<ℤ◌, ◌≤ℤ◌, length, IsTrue, IfSome, IfNone};
 ghost use Rattle.cal_zone.specs.Timeline.{kind_at, local_at, offset_at, after_changes, at, ends, no_change, InOrder, IsMoment, IsOffset};
 ghost use Rattle.cal_zone.specs.Rule.{change_of};
 ghost use Rattle.cal_zone.specs.Split.{IsBracket};
-ghost use Rattle.cal_zone.specs.Zone.{later, made_of, AreParts};
+ghost use Rattle.cal_zone.specs.Zone.{later, made_of, AreParts, IsByRule};
 ghost use Rattle.cal_zone.specs.Instants.{Names, IsExplained};
-ghost use Rattle.cal_zone.specs.Span.{IsSpan};
+ghost use Rattle.cal_zone.specs.Span.{HasNear, IsBetweenChanges, IsNear, IsSpan, IsSpanAfter};
 
 use crate::{Change, Instants, LocalType, Rule, Span, Table, ZoneParts};
 use std::marker::Model;
@@ -161,8 +161,9 @@ impl<'a> UncheckedZone<'a> {
     /// rule's changes.
     #[inline(always)]
     pub(crate) fn count_in_table(&self, instant: i64) -> Option<usize>
-        ensures { IfSome result (λ count.
+        ensures some { IfSome result (λ count.
             IsBracket (at self.now.changes) (length self.now.changes) instant count count) }
+        ensures none { InOrder self.now → IfNone result (IsByRule self.now instant) }
     {
         let count = self.table.count(instant);
         if count < self.table.len() {
@@ -193,7 +194,8 @@ impl<'a> UncheckedZone<'a> {
     #[inline(always)]
     fn start_of(&self, count: usize) -> i64
         requires { count ≤ length self.now.changes }
-        ensures { (k : ℕ) → suc k ≡ count → result ≡ at self.now.changes k }
+        ensures change { (k : ℕ) → suc k ≡ count → result ≡ at self.now.changes k }
+        ensures min { count ≡ 0 → result ≡ neg_ℤ (pos 9_223_372_036_854_775_808) }
     {
         if count == 0 {
             i64::MIN
@@ -206,8 +208,10 @@ impl<'a> UncheckedZone<'a> {
     /// change.
     #[inline(always)]
     fn end_of(&self, index: usize) -> i64
-        ensures { InOrder self.now → index < length self.now.changes
-            → result <ℤ at self.now.changes index }
+        ensures change { InOrder self.now → index < length self.now.changes
+            → result ≡ at self.now.changes index -ℤ pos 1 }
+        ensures max { length self.now.changes ≤ index
+            → result ≡ pos 9_223_372_036_854_775_807 }
     {
         if index < self.len() {
             self.time(index).saturating_sub(1)
@@ -221,6 +225,7 @@ impl<'a> UncheckedZone<'a> {
     fn span_of(&self, count: usize) -> Span
         requires { count ≤ length self.now.changes }
         ensures span { InOrder self.now → IsSpan self.now result }
+        ensures after { InOrder self.now → IsSpanAfter self.now.changes count result }
         ensures offset { result.offset
             ≡ after_changes self.now.first.offset self.now.changes count }
     {
@@ -231,11 +236,13 @@ impl<'a> UncheckedZone<'a> {
         }
     }
 
-    /// Returns the offset at a Unix time in seconds, and instants around it with the same offset.
-    /// In Berlin the offset is 7200 at 1711846800.
+    /// Returns the offset at a Unix time in seconds, and the instants from the last change that is
+    /// not after it to the next change. Without such a change they begin at the minimum, or end at
+    /// the maximum. In Berlin the offset is 7200 from 1711846800 to 1729990799.
     pub fn span_at(&self, instant: i64) -> Span
         ensures span { InOrder self.now → IsSpan self.now result }
         ensures offset { InOrder self.now → result.offset ≡ offset_at self.now instant }
+        ensures ends { InOrder self.now → IsBetweenChanges self.now instant result }
     {
         self.span_of(self.count(instant))
     }
@@ -244,29 +251,33 @@ impl<'a> UncheckedZone<'a> {
     /// the table, without the rule. The reading is its seconds since 1970-01-01 0:00 by the clock,
     /// from -2^60 to 2^60.
     ///
-    /// `None` says nothing about the reading; then call `instants_of`. No clause says when `None`
-    /// comes: it does, for example, near a change.
+    /// `None` says nothing about the reading; then call `instants_of`. It comes only if a change is
+    /// at most 280797 seconds before or after the reading, or if all changes after it are changes
+    /// of a rule.
     #[inline(always)]
     pub fn single_in_table(&self, reading: i64) -> Option<i64>
         requires { IsMoment reading }
-        ensures { InOrder self.now → IfSome result
+        ensures some { InOrder self.now → IfSome result
             (λ instant. (i : ℤ) → (i ≡ instant) ↔ (local_at self.now i ≡ reading)) }
+        ensures none { InOrder self.now → IfNone result (IsByRule self.now reading
+            ⊎ HasNear (at self.now.changes) 0 (length self.now.changes) reading) }
     {
-        let count = self.table.count(reading);
-        if count < self.table.len() {
-            return self.span_of(count).single(reading);
-        }
-        match &self.rule {
-            Some(_) => None,
-            None => self.span_of(count).single(reading),
+        match self.count_in_table(reading) {
+            Some(count) => self.span_of(count).single(reading),
+            None => None,
         }
     }
 
-    /// Returns the same as `span_at`, or only the instant itself with its offset if it is far from
-    /// the span `other`. Then it is faster, and the next instant is seldom in the same span.
+    /// Returns the same as `span_at` if the instant is less than half a year after the last instant
+    /// of the span `other`, or before its first one. Otherwise returns only the instant itself with
+    /// its offset: that is faster, and the next instant is seldom in the same span.
     pub fn span_after(&self, instant: i64, other: Span) -> Span
         ensures span { InOrder self.now → IsSpan self.now result }
         ensures offset { InOrder self.now → result.offset ≡ offset_at self.now instant }
+        ensures near { InOrder self.now → IsNear other instant
+            → IsBetweenChanges self.now instant result }
+        ensures far { ¬ IsNear other instant
+            → (result.first ≡ instant) × (result.last ≡ instant) }
     {
         if other.is_near(instant) {
             self.span_at(instant)

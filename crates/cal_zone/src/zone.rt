@@ -38,6 +38,7 @@ impl<'a> Model for Zone<'a> {
 pub fn join(first: LocalType, table: &Table<'_>, rule: Option<Rule>) -> Result<u32, TimelineError>
     ensures value { IfOk result (λ skip. held first table.now rule skip ≡ zone_of first table.now rule) }
     ensures range { IfOk result (λ skip. skip ≤ 3_999_998) }
+    ensures no_rule { IfNone rule (IfOk result (λ skip. skip ≡ 0)) }
     ensures ordered { OnOk result (IsOrdered first.offset (zone_of first table.now rule).changes) }
     ensures error { IfErr result (IsTimelineError first table.now rule) }
     ensures every { OnErr result (¬ IsOrdered first.offset (zone_of first table.now rule).changes) }

@@ -3,9 +3,10 @@
 //! A proof knows only the clauses of a call. If they allow a second answer, the proof of that call
 //! fails.
 ghost use Rattle.std.specs.Prelude.{◌≡◌};
+ghost use Rattle.cal_zone.specs.Timeline.{InOrder, IsMoment};
 
 use cal_tzif::ZoneError;
-use cal_zone::Zone;
+use cal_zone::{Span, UncheckedZone, Zone};
 
 /// The results of two calls.
 type Twice<T> = (T, T);
@@ -20,4 +21,17 @@ fn parse_posix(text: &[u8]) -> Twice<Result<Zone<'_>, ZoneError>>
     ensures { result.0 ≡ result.1 }
 {
     (cal_tzif::parse_posix(text), cal_tzif::parse_posix(text))
+}
+
+fn span_at(zone: &UncheckedZone<'_>, instant: i64) -> Twice<Span>
+    ensures { InOrder zone.now → result.0 ≡ result.1 }
+{
+    (zone.span_at(instant), zone.span_at(instant))
+}
+
+fn single(span: Span, reading: i64) -> Twice<Option<i64>>
+    requires { IsMoment reading }
+    ensures { result.0 ≡ result.1 }
+{
+    (span.single(reading), span.single(reading))
 }

@@ -8,7 +8,7 @@ use Rattle.cal_c.proofs.zones.offsets.fots_zone_offset.Goals as goal
 pub returns-in-Some-utc_offset_in_table : goal.returns-in-Some-utc_offset_in_table
 returns-in-Some-utc_offset_in_table c =
     let g = c.ranges.seconds in
-    let found = simp to_z-of_z at c.in-Some-utc_offset_in_table.ensures in
+    let found = simp to_z-of_z at c.in-Some-utc_offset_in_table.ensures.some in
     for_zone _ _ _ _ c.in-Some.ensures (λ order. c.ok.ensures ∙ ap offset_ok (found order))
 
 pub returns-in-None-utc_offset_in_table : goal.returns-in-None-utc_offset_in_table

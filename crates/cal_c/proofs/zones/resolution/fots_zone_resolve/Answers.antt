@@ -39,7 +39,7 @@ returns-in-Some-single_in_table c =
     let reading : FitsSigned w64 c.reading_seconds-reading.result = search rules in
     let instant : FitsSigned w64 c.in-Some-single_in_table.instant = search rules in
     let is = c.reading_seconds-reading.ensures.value ∙ ap (λ (n : ℕ). unix_seconds (date_time n c.in-Some-time_number.value)) date.1 ∙ ap (λ (n : ℕ). unix_seconds (date_time (day_of c.args.date) n)) time.1 in
-    let set = simp to_z-of_z at c.in-Some-single_in_table.ensures in
+    let set = simp to_z-of_z at c.in-Some-single_in_table.ensures.some in
     let found = simp to_z-of_z at c.moments.ensures in
     for_zone _ _ _ _ c.in-Some.ensures
     (λ order. met date.0 (met time.0 (resolved _ order _ c.reading_seconds-reading.result (instants.Single c.in-Some-single_in_table.instant) _ is (set order) tt

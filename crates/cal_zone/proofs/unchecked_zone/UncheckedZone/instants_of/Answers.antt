@@ -8,4 +8,4 @@ pub returns-in-Some-clause-set : goal.returns-in-Some-clause-set
 returns-in-Some-clause-set c = λ order i.
     subst (λ (x : ℤ). (i ≡ x) ↔ (local_at c.args.self.now i ≡ c.args.reading)) (sym (to_z-of_z w64 c.in-Some.instant (search rules)))
     (subst (λ (r : ℤ). (i ≡ c.in-Some.instant) ↔ (local_at c.args.self.now i ≡ r)) (to_z-of_z w64 c.args.reading c.ranges.reading)
-    (c.in-Some.ensures c.args.self.now order (c.span_at.ensures.span order) i))
+    (c.in-Some.ensures.only c.args.self.now order (c.span_at.ensures.span order) i))

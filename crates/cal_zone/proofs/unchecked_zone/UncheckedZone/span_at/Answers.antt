@@ -1,8 +1,11 @@
-use Rattle.std.proofs.Common.{sym, subst, w64}
+use Rattle.std.proofs.Common.{length, sym, subst, w64}
 use Rattle.std.proofs.lemmas.Int.{to_z-of_z}
 use Rattle.std.specs.Prelude.{ℤ, ◌<ℤ◌, ◌≤ℤ◌}
+use Rattle.cal_zone.specs.Split.{IsBracket}
 use Rattle.cal_zone.specs.Timeline.{at}
+use Rattle.cal_zone.proofs.Orders.{at_rises}
 use Rattle.cal_zone.proofs.Spans.{offset_between}
+use Rattle.cal_zone.proofs.Splits.{rising_split}
 use Rattle.cal_zone.proofs.unchecked_zone.UncheckedZone.span_at.Goals as goal
 
 pub returns : goal.returns
@@ -17,4 +20,10 @@ returns c =
           (λ k e. subst (λ (y : ℤ). at zone.changes k ≤ℤ y) x (b.below k e))
           (λ within. subst (λ (y : ℤ). y <ℤ at zone.changes n) x (b.above within))
           c.span_of.ensures.offset);
+      ends = λ order. record {
+        count = n;
+        split = rising_split (at zone.changes) (length zone.changes) c.args.instant n (at_rises zone order)
+            (subst (λ (y : ℤ). IsBracket (at zone.changes) (length zone.changes) y n n) x b);
+        after = c.span_of.ensures.after order;
+      };
     }

@@ -8,6 +8,6 @@ pub returns-in-Some : goal.returns-in-Some
 returns-in-Some c = λ bytes order.
     let g = c.ranges.seconds in
     let p = c.args.self.now in
-    let found = simp to_z-of_z at c.offset_after.ensures in
+    let found = simp to_z-of_z at c.offset_after.ensures.some in
     let rule = c.in-Some.ensures.some in
     found (zone_of_parts bytes p) (changes_in bytes p.layout) order (with_rule p bytes _ _ c.if-self-eq-RULE.true rule.0 rule.1)
