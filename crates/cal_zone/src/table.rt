@@ -300,10 +300,11 @@ impl<'a> Table<'a> {
         low
     }
 
-    /// Returns the number of changes that are not after an instant, if they rise. It tries two
-    /// numbers before a search: by two changes a year, and one that is up to 23 more or 8 less.
+    /// Returns the number of changes that are not after an instant, if they rise. Before a search it
+    /// tries two numbers: the guess or one more, and one that is up to 23 more or 8 less. A guess
+    /// that is not below the number of changes is ignored; then it guesses by two changes a year.
     #[inline(always)]
-    pub(crate) fn count(&self, instant: i64) -> usize
+    pub(crate) fn count(&self, instant: i64, guess: usize) -> usize
         ensures { IsBracket (at self.now) (length self.now) instant result result }
     {
         let len = self.len();
@@ -314,7 +315,11 @@ impl<'a> Table<'a> {
         if last <= instant {
             return len;
         }
-        let near = count_near(last, instant, len - 1);
+        let near = if guess < len {
+            guess
+        } else {
+            count_near(last, instant, len - 1)
+        };
         let count = (near + self.past(near, instant)).min(len - 1);
         if self.is_count(count, instant) {
             return count;

@@ -8,8 +8,11 @@ ghost use Rattle.cal_zone.specs.Zone.{later, made_of, AreParts, IsByRule};
 ghost use Rattle.cal_zone.specs.Instants.{Names, IsExplained};
 ghost use Rattle.cal_zone.specs.Span.{HasNear, IsBetweenChanges, IsNear, IsSpan, IsSpanAfter};
 
-use crate::{Change, Instants, LocalType, Rule, Span, Table, ZoneParts};
+use crate::{Change, Guesses, Instants, LocalType, Rule, Span, Table, ZoneParts};
 use std::marker::Model;
+
+/// A number of changes that no table has.
+const NO_GUESS: usize = usize::MAX;
 
 /// A zone whose changes need not be in order. If they are not, a call may return any value.
 ///
@@ -147,7 +150,16 @@ impl<'a> UncheckedZone<'a> {
     fn count(&self, instant: i64) -> usize
         ensures { IsBracket (at self.now.changes) (length self.now.changes) instant result result }
     {
-        let count = self.table.count(instant);
+        self.count_near(instant, NO_GUESS)
+    }
+
+    /// Returns the number of changes that are not after an instant. It is fast if the guess is
+    /// right, or one less.
+    #[inline(always)]
+    fn count_near(&self, instant: i64, guess: usize) -> usize
+        ensures { IsBracket (at self.now.changes) (length self.now.changes) instant result result }
+    {
+        let count = self.table.count(instant, guess);
         if count < self.table.len() {
             return count;
         }
@@ -165,7 +177,7 @@ impl<'a> UncheckedZone<'a> {
             IsBracket (at self.now.changes) (length self.now.changes) instant count count) }
         ensures none { InOrder self.now → IfNone result (IsByRule self.now instant) }
     {
-        let count = self.table.count(instant);
+        let count = self.table.count(instant, NO_GUESS);
         if count < self.table.len() {
             return Some(count);
         }
@@ -236,6 +248,16 @@ impl<'a> UncheckedZone<'a> {
         }
     }
 
+    /// Returns the same as `span_at`.
+    #[inline(always)]
+    fn span_between(&self, instant: i64, guess: usize) -> Span
+        ensures span { InOrder self.now → IsSpan self.now result }
+        ensures offset { InOrder self.now → result.offset ≡ offset_at self.now instant }
+        ensures ends { InOrder self.now → IsBetweenChanges self.now instant result }
+    {
+        self.span_of(self.count_near(instant, guess))
+    }
+
     /// Returns the offset at a Unix time in seconds, and the instants from the last change that is
     /// not after it to the next change. Without such a change they begin at the minimum, or end at
     /// the maximum. In Berlin the offset is 7200 from 1711846800 to 1729990799.
@@ -244,7 +266,16 @@ impl<'a> UncheckedZone<'a> {
         ensures offset { InOrder self.now → result.offset ≡ offset_at self.now instant }
         ensures ends { InOrder self.now → IsBetweenChanges self.now instant result }
     {
-        self.span_of(self.count(instant))
+        self.span_between(instant, NO_GUESS)
+    }
+
+    /// Returns the same as `span_at`, with guesses for many searches in the zone.
+    pub fn span_near(&self, instant: i64, guesses: &mut Guesses) -> Span
+        ensures span { InOrder self.now → IsSpan self.now result }
+        ensures offset { InOrder self.now → result.offset ≡ offset_at self.now instant }
+        ensures ends { InOrder self.now → IsBetweenChanges self.now instant result }
+    {
+        self.span_between(instant, guesses.near(&self.table, instant))
     }
 
     /// Returns the Unix time of the only instant at which clocks show a reading by the changes of
@@ -262,7 +293,7 @@ impl<'a> UncheckedZone<'a> {
         ensures none { InOrder self.now → IfNone result (IsByRule self.now reading
             ⊎ HasNear (at self.now.changes) 0 (length self.now.changes) reading) }
     {
-        let count = self.table.count(reading);
+        let count = self.table.count(reading, NO_GUESS);
         if count < self.table.len() {
             return self.span_of(count).single(reading);
         }
@@ -274,8 +305,9 @@ impl<'a> UncheckedZone<'a> {
 
     /// Returns the same as `span_at` if the instant is less than half a year after the last instant
     /// of the span `other`, or before its first one. Otherwise returns only the instant itself with
-    /// its offset: that is faster, and the next instant is seldom in the same span.
-    pub fn span_after(&self, instant: i64, other: Span) -> Span
+    /// its offset: that is faster, and the next instant is seldom in the same span. It uses guesses
+    /// for many searches in the zone.
+    pub fn span_after(&self, instant: i64, other: Span, guesses: &mut Guesses) -> Span
         ensures span { InOrder self.now → IsSpan self.now result }
         ensures offset { InOrder self.now → result.offset ≡ offset_at self.now instant }
         ensures near { InOrder self.now → IsNear other instant
@@ -283,13 +315,14 @@ impl<'a> UncheckedZone<'a> {
         ensures far { ¬ IsNear other instant
             → (result.first ≡ instant) × (result.last ≡ instant) }
     {
+        let guess = guesses.near(&self.table, instant);
         if other.is_near(instant) {
-            self.span_at(instant)
+            self.span_between(instant, guess)
         } else {
             Span {
                 first: instant,
                 last: instant,
-                offset: self.kind_at(instant).offset,
+                offset: self.span_between(instant, guess).offset,
             }
         }
     }

@@ -5,7 +5,7 @@ use Rattle.cal_zone.specs.Split.{IsBracket}
 use Rattle.cal_zone.specs.Timeline.{Timeline, at}
 use Rattle.cal_zone.specs.Zone.{later}
 use Rattle.cal_zone.proofs.Counts.{in_table, at_end, in_rule, of_changes}
-use Rattle.cal_zone.proofs.unchecked_zone.UncheckedZone.count.Goals as goal
+use Rattle.cal_zone.proofs.unchecked_zone.UncheckedZone.count_near.Goals as goal
 
 pub returns-then-count-len : goal.returns-then-count-len
 returns-then-count-len c =

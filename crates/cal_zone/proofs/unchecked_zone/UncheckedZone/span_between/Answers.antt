@@ -6,13 +6,13 @@ use Rattle.cal_zone.specs.Timeline.{at}
 use Rattle.cal_zone.proofs.Orders.{at_rises}
 use Rattle.cal_zone.proofs.Spans.{offset_between}
 use Rattle.cal_zone.proofs.Splits.{rising_split}
-use Rattle.cal_zone.proofs.unchecked_zone.UncheckedZone.span_at.Goals as goal
+use Rattle.cal_zone.proofs.unchecked_zone.UncheckedZone.span_between.Goals as goal
 
 pub returns : goal.returns
 returns c =
     let zone = c.args.self.now in
-    let n = c.count.result in
-    let b = c.count.ensures in
+    let n = c.count_near.result in
+    let b = c.count_near.ensures in
     let x = to_z-of_z w64 c.args.instant c.ranges.instant in
     record {
       span = c.span_of.ensures.span;
