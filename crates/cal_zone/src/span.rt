@@ -55,6 +55,12 @@ impl Span {
     pub(crate) fn is_near(self, instant: i64) -> bool
         ensures { IsTrue result ↔ IsNear self instant }
     {
+        let after = instant.wrapping_sub(self.last).cast_unsigned();
+        let before = self.first.wrapping_sub(instant).cast_unsigned();
+        // One test without a branch rejects nearly all instants that are not near.
+        if HALF_YEAR <= after.min(before) {
+            return false;
+        }
         is_short(self.last, instant) || is_short(instant, self.first)
     }
 

@@ -10,7 +10,7 @@ use Rattle.cal_zone.proofs.unchecked_zone.UncheckedZone.span_after.Goals as goal
 
 pub returns-then-is_near-clause-near : goal.returns-then-is_near-clause-near
 returns-then-is_near-clause-near c = λ order near.
-    subst (λ (i : ℤ). IsBetweenChanges c.args.self.now i c.span_at.result) (to_z-of_z w64 c.args.instant c.ranges.instant) (c.span_at.ensures.ends order)
+    subst (λ (i : ℤ). IsBetweenChanges c.args.self.now i c.span_between.result) (to_z-of_z w64 c.args.instant c.ranges.instant) (c.span_between.ensures.ends order)
 
 pub returns-then-is_near-clause-far : goal.returns-then-is_near-clause-far
 returns-then-is_near-clause-far c = λ far. absurd (far (subst (IsNear c.args.other) (to_z-of_z w64 c.args.instant c.ranges.instant) (c.is_near.ensures.0 c.if-is_near.true)))
@@ -19,9 +19,9 @@ pub returns-else-is_near : goal.returns-else-is_near
 returns-else-is_near c =
     let zone = c.args.self.now in
     let is = to_z-of_z w64 c.args.instant c.ranges.instant in
-    let offset : InOrder zone → to_z w32 (of_z w32 c.kind_at.result.offset) ≡ offset_at zone c.args.instant =
-    λ order. to_z-of_z w32 c.kind_at.result.offset (omega (arith, ints)) ∙ ap (λ (t : LocalType). t.offset) (c.kind_at.ensures order)
-    ∙ ap (offset_at zone) is in
+    let inner = c.span_between-else-is_near in
+    let offset : InOrder zone → to_z w32 (of_z w32 inner.result.offset) ≡ offset_at zone c.args.instant =
+    λ order. to_z-of_z w32 inner.result.offset (omega (arith, ints)) ∙ inner.ensures.offset order ∙ ap (offset_at zone) is in
     record {
       span = λ order. only zone _ _ _ is (offset order);
       offset = offset;
