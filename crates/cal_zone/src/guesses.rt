@@ -59,6 +59,10 @@ impl Guesses {
             return usize::MAX;
         }
         let part = self.last.wrapping_sub(instant).cast_unsigned() / PART;
-        usize::from(self.counts[part.min(511) as usize])
+        if part < PARTS as u64 {
+            usize::from(self.counts[part as usize])
+        } else {
+            usize::MAX
+        }
     }
 }

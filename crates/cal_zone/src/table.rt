@@ -300,11 +300,30 @@ impl<'a> Table<'a> {
         low
     }
 
-    /// Returns the number of changes that are not after an instant, if they rise. Before a search it
-    /// tries two numbers: the guess or one more, and one that is up to 23 more or 8 less. A guess
-    /// that is not below the number of changes is ignored; then it guesses by two changes a year.
+    /// Returns the number of changes that are not after an instant, if they rise, and it is the
+    /// guess or one more, but not all changes.
     #[inline(always)]
-    pub(crate) fn count(&self, instant: i64, guess: usize) -> usize
+    pub(crate) fn guessed(&self, instant: i64, guess: usize) -> Option<usize>
+        ensures bracket { IfSome result (λ count.
+            IsBracket (at self.now) (length self.now) instant count count) }
+        ensures inside { IfSome result (λ count. count < length self.now) }
+    {
+        let len = self.len();
+        if len <= guess {
+            return None;
+        }
+        let count = guess + self.past(guess, instant);
+        if count < len && self.is_count(count, instant) {
+            Some(count)
+        } else {
+            None
+        }
+    }
+
+    /// Returns the number of changes that are not after an instant, if they rise. It tries two
+    /// numbers before a search: by two changes a year, and one that is up to 23 more or 8 less.
+    #[inline(always)]
+    pub(crate) fn count(&self, instant: i64) -> usize
         ensures { IsBracket (at self.now) (length self.now) instant result result }
     {
         let len = self.len();
@@ -315,11 +334,7 @@ impl<'a> Table<'a> {
         if last <= instant {
             return len;
         }
-        let near = if guess < len {
-            guess
-        } else {
-            count_near(last, instant, len - 1)
-        };
+        let near = count_near(last, instant, len - 1);
         let count = (near + self.past(near, instant)).min(len - 1);
         if self.is_count(count, instant) {
             return count;

@@ -11,9 +11,6 @@ ghost use Rattle.cal_zone.specs.Span.{HasNear, IsBetweenChanges, IsNear, IsSpan,
 use crate::{Change, Guesses, Instants, LocalType, Rule, Span, Table, ZoneParts};
 use std::marker::Model;
 
-/// A number of changes that no table has.
-const NO_GUESS: usize = usize::MAX;
-
 /// A zone whose changes need not be in order. If they are not, a call may return any value.
 ///
 /// Contracts see the same as of a [`Zone`](crate::Zone).
@@ -150,22 +147,27 @@ impl<'a> UncheckedZone<'a> {
     fn count(&self, instant: i64) -> usize
         ensures { IsBracket (at self.now.changes) (length self.now.changes) instant result result }
     {
-        self.count_near(instant, NO_GUESS)
-    }
-
-    /// Returns the number of changes that are not after an instant. It is fast if the guess is
-    /// right, or one less.
-    #[inline(always)]
-    fn count_near(&self, instant: i64, guess: usize) -> usize
-        ensures { IsBracket (at self.now.changes) (length self.now.changes) instant result result }
-    {
-        let count = self.table.count(instant, guess);
+        let count = self.table.count(instant);
         if count < self.table.len() {
             return count;
         }
         match &self.rule {
             Some(rule) => count + rule.count(instant).saturating_sub(self.skip) as usize,
             None => count,
+        }
+    }
+
+    /// Returns the number of changes that are not after an instant. It tries a guess first.
+    #[inline(always)]
+    fn count_near(&self, instant: i64, guesses: &mut Guesses) -> usize
+        ensures { IsBracket (at self.now.changes) (length self.now.changes) instant result result }
+    {
+        match self
+            .table
+            .guessed(instant, guesses.near(&self.table, instant))
+        {
+            Some(count) => count,
+            None => self.count(instant),
         }
     }
 
@@ -177,7 +179,7 @@ impl<'a> UncheckedZone<'a> {
             IsBracket (at self.now.changes) (length self.now.changes) instant count count) }
         ensures none { InOrder self.now → IfNone result (IsByRule self.now instant) }
     {
-        let count = self.table.count(instant, NO_GUESS);
+        let count = self.table.count(instant);
         if count < self.table.len() {
             return Some(count);
         }
@@ -248,14 +250,15 @@ impl<'a> UncheckedZone<'a> {
         }
     }
 
-    /// Returns the same as `span_at`.
+    /// Returns the span of `span_at`, from the number of changes that are not after the instant.
     #[inline(always)]
-    fn span_between(&self, instant: i64, guess: usize) -> Span
+    fn span_after_changes(&self, instant: i64, count: usize) -> Span
+        requires { IsBracket (at self.now.changes) (length self.now.changes) instant count count }
         ensures span { InOrder self.now → IsSpan self.now result }
         ensures offset { InOrder self.now → result.offset ≡ offset_at self.now instant }
         ensures ends { InOrder self.now → IsBetweenChanges self.now instant result }
     {
-        self.span_of(self.count_near(instant, guess))
+        self.span_of(count)
     }
 
     /// Returns the offset at a Unix time in seconds, and the instants from the last change that is
@@ -266,7 +269,7 @@ impl<'a> UncheckedZone<'a> {
         ensures offset { InOrder self.now → result.offset ≡ offset_at self.now instant }
         ensures ends { InOrder self.now → IsBetweenChanges self.now instant result }
     {
-        self.span_between(instant, NO_GUESS)
+        self.span_after_changes(instant, self.count(instant))
     }
 
     /// Returns the same as `span_at`, with guesses for many searches in the zone.
@@ -275,7 +278,7 @@ impl<'a> UncheckedZone<'a> {
         ensures offset { InOrder self.now → result.offset ≡ offset_at self.now instant }
         ensures ends { InOrder self.now → IsBetweenChanges self.now instant result }
     {
-        self.span_between(instant, guesses.near(&self.table, instant))
+        self.span_after_changes(instant, self.count_near(instant, guesses))
     }
 
     /// Returns the Unix time of the only instant at which clocks show a reading by the changes of
@@ -293,7 +296,7 @@ impl<'a> UncheckedZone<'a> {
         ensures none { InOrder self.now → IfNone result (IsByRule self.now reading
             ⊎ HasNear (at self.now.changes) 0 (length self.now.changes) reading) }
     {
-        let count = self.table.count(reading, NO_GUESS);
+        let count = self.table.count(reading);
         if count < self.table.len() {
             return self.span_of(count).single(reading);
         }
@@ -315,14 +318,14 @@ impl<'a> UncheckedZone<'a> {
         ensures far { ¬ IsNear other instant
             → (result.first ≡ instant) × (result.last ≡ instant) }
     {
-        let guess = guesses.near(&self.table, instant);
+        let count = self.count_near(instant, guesses);
         if other.is_near(instant) {
-            self.span_between(instant, guess)
+            self.span_after_changes(instant, count)
         } else {
             Span {
                 first: instant,
                 last: instant,
-                offset: self.span_between(instant, guess).offset,
+                offset: self.after(count),
             }
         }
     }
