@@ -2,8 +2,9 @@
 
 use crate::Table;
 
-/// The searches without a guess. A column in order has fewer, since tables have fewer changes.
-const SEARCHES: u32 = 256;
+/// The searches without a guess. A column in order has fewer: no zone of Debian's has more than 310
+/// changes in its table.
+const SEARCHES: u32 = 320;
 
 /// The seconds of a part: 97 days.
 const PART: u64 = 8_388_608;
@@ -12,7 +13,7 @@ const PART: u64 = 8_388_608;
 const PARTS: usize = 512;
 
 /// Guesses for many searches in the same zone: how many changes are not after an instant. They are
-/// counted after 256 searches, for each 97 days before the last change. They make a search short,
+/// counted after 320 searches, for each 97 days before the last change. They make a search short,
 /// and need not be right.
 #[derive(Drop)]
 pub struct Guesses {
@@ -31,7 +32,7 @@ impl Guesses {
         }
     }
 
-    /// Counts the changes before the end of each part.
+    /// Counts the changes before the first instant of each part.
     fn count(&mut self, table: &Table<'_>) {
         let mut count = table.len();
         if count == 0 {
@@ -48,7 +49,7 @@ impl Guesses {
         }
     }
 
-    /// Returns the guess for an instant, or the maximum if there is none.
+    /// Returns the guess for an instant, or `usize::MAX` without one.
     #[inline(always)]
     pub(crate) fn near(&mut self, table: &Table<'_>, instant: i64) -> usize {
         if self.left > 0 {

@@ -260,7 +260,7 @@ fn spans(rt: HostRuntime) {
     same(rt, zone.span_at(1_710_036_000), ramadan);
     same(rt, zone.span_at(1_713_059_999), ramadan);
     let mut guesses = Guesses::new();
-    'many: for _ in 0..300 {
+    'many: for _ in 0..400 {
         let span = zone.span_near(1_713_059_999, &mut guesses);
         same(rt, span, ramadan);
     }
