@@ -7,7 +7,7 @@ ghost use Rattle.cal_zone.specs.Timeline.{Timeline, local_at, InOrder, IsMoment}
 const MAX_DIFFERENCE: i64 = 187_198;
 
 /// Half a year, in seconds.
-const HALF_YEAR: i128 = 15_778_476;
+const HALF_YEAR: u64 = 15_778_476;
 
 /// A span of instants at which clocks have the same offset, from the first to the last. It is empty
 /// if the last one is before the first.
@@ -26,7 +26,7 @@ pub struct Span {
 fn is_short(from: i64, to: i64) -> bool
     ensures { IsTrue result ↔ ((from ≤ℤ to) × (to <ℤ (from +ℤ pos 15_778_476))) }
 {
-    from <= to && i128::from(to) - i128::from(from) < HALF_YEAR
+    from <= to && to.abs_diff(from) < HALF_YEAR
 }
 
 impl Span {
@@ -55,6 +55,12 @@ impl Span {
     pub(crate) fn is_near(self, instant: i64) -> bool
         ensures { IsTrue result ↔ IsNear self instant }
     {
+        let after = instant.wrapping_sub(self.last).cast_unsigned();
+        let before = self.first.wrapping_sub(instant).cast_unsigned();
+        // One test without a branch rejects nearly all instants that are not near.
+        if HALF_YEAR <= after.min(before) {
+            return false;
+        }
         is_short(self.last, instant) || is_short(instant, self.first)
     }
 

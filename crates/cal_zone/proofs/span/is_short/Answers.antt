@@ -4,6 +4,5 @@ use Rattle.cal_zone.proofs.span.is_short.Goals as goal
 
 pub returns-then-from-to : goal.returns-then-from-to
 returns-then-from-to c =
-    let to = c.from.ensures in
-    let from = c.from-then-from-to.ensures in
+    let difference = c.abs_diff.ensures in
     (λ less. (grind (arith, ints), grind (arith, ints)), λ near. let less = near.1 in grind (arith, ints))
