@@ -3,11 +3,11 @@ use Rattle.std.proofs.Common.{◌≡◌, ℕ, zero, suc, ◌+◌, ◌-◌, ◌<�
 use Rattle.std.proofs.lemmas.Bool.{cases_lt, cases_eq}
 use Rattle.std.proofs.lemmas.List.{get_or_append_left}
 use Rattle.std.proofs.lemmas.Int.{ints, to_z-of_z}
-use Rattle.std.specs.Prelude.{ℤ, ◌<ℤ◌, ◌≤ℤ◌, ◌+ℤ◌, ◌↔◌, int_le, int_lt, true}
+use Rattle.std.specs.Prelude.{ℤ, ◌<ℤ◌, ◌≤ℤ◌, ◌+ℤ◌, ◌↔◌, int_le, true}
 use Rattle.std.specs.Int.{int_min, int_max}
 use Rattle.std.specs.List.{slice_index_or}
 use Rattle.cal_zone.specs.declared.change.Change.{Change}
-use Rattle.cal_zone.specs.Timeline.{Timeline, IsOrdered, IsOffset, IsMoment, at, after_changes, no_change, IsNext}
+use Rattle.cal_zone.specs.Timeline.{IsOrdered, IsOffset, IsMoment, at, after_changes, no_change, IsNext}
 
 -- elements and offsets of lists one after the other
 pub item_right : (xs ys : List Change) (j : ℕ) → slice_index_or (xs ++ ys) (length xs + j) no_change ≡ slice_index_or ys j no_change
@@ -39,7 +39,7 @@ same_next a a' b b' x x' y y' z z' e f g h i is =
     subst (λ (v : ℤ). IsNext v b x y z) (sym e) (subst (λ (v : ℤ). IsNext a' v x y z) (sym f) (subst (λ (v : ℤ). IsNext a' b' v y z) (sym g)
     (subst (λ (v : ℤ). IsNext a' b' x' v z) (sym h) (subst (λ (v : ℤ). IsNext a' b' x' y' v) (sym i) is))))
 
-next_of : (first : ℤ) (xs : List Change) → IsOrdered first xs → (k : ℕ) → suc k < length xs → NextAt first xs k
+pub next_of : (first : ℤ) (xs : List Change) → IsOrdered first xs → (k : ℕ) → suc k < length xs → NextAt first xs k
 next_of first xs order k h = record { rising = order.rising k h; apart = order.apart k h }
 
 -- the last of the ones, and the first of the others
@@ -123,9 +123,6 @@ next_test e' b' a b x y z e f h = (
     le_yes : (p q : ℤ) → p ≤ℤ q → int_le p q ≡ true
     le_yes p q t = grind (arith, ints)
 
-pub less_test : (p q a b : ℤ) → int_lt p q ≡ true → p ≡ a → q ≡ b → a <ℤ b
-less_test p q a b h e f = grind (arith, ints)
-
 -- a sum as the code shows it
 pub sum_shown : (n f m : ℤ) → to_z w64 (of_z w64 f) ≡ m → IsMoment n → IsOffset m → to_z w64 (of_z w64 (to_z w64 (of_z w64 n) +ℤ to_z w64 (of_z w64 f))) ≡ (n +ℤ m)
 sum_shown n f m e h g =
@@ -144,9 +141,3 @@ offset_is x y e h = to_z-of_z w32 x (omega (arith, ints, e, h.0, h.1)) ∙ e
 
 pub offset_shown : (x y : ℤ) → x ≡ y → IsOffset y → IsOffset (to_z w32 (of_z w32 x))
 offset_shown x y e h = subst IsOffset (sym (offset_is x y e h)) h
-
--- A change in order has an instant and an offset in range.
-pub change_in_order : (zone : Timeline) → IsOrdered zone.first.offset zone.changes → (k : ℕ) (c : Change) → k < length zone.changes → c ≡ slice_index_or zone.changes k no_change
-    → IsMoment c.at × IsOffset c.kind.offset
-change_in_order zone order k c inside e =
-    (subst (λ (x : Change). IsMoment x.at) (sym e) (order.moments k inside), subst (λ (x : Change). IsOffset x.kind.offset) (sym e) (order.offsets k inside))

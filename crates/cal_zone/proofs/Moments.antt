@@ -4,10 +4,9 @@ use Rattle.std.proofs.lemmas.Int.{ints}
 use Rattle.std.specs.Prelude.{ℤ, pos, negsuc, ◌<ℤ◌, ◌≤ℤ◌, ◌+ℤ◌, ◌-ℤ◌, ◌*ℤ◌, ◌⊎◌, ◌↔◌}
 use Rattle.std.specs.Int.{int_div_euclid, int_rem_euclid}
 use Rattle.cal_time.specs.SignedDuration.{second}
-use Rattle.cal_datetime.specs.DateTime.{IsDateTime}
 use Rattle.cal_datetime.specs.OffsetDateTime.{LocalAndOffset, instant, unix_seconds, unix_epoch}
 use Rattle.cal_datetime.specs.UnixTimeLaws.{div_euclid-one, seconds-and_past}
-use Rattle.cal_zone.specs.Timeline.{Timeline, offset_at, local_at, InOrder, IsMoment, IsOffset}
+use Rattle.cal_zone.specs.Timeline.{Timeline, offset_at, local_at, InOrder, IsOffset}
 use Rattle.cal_zone.specs.Instants.{IsGap}
 use Rattle.cal_zone.specs.Local.{Shows}
 use Rattle.cal_zone.proofs.Readings.{offset_in}
@@ -26,16 +25,6 @@ seconds-at L o =
     let p = past_range z in
     let e : (L -ℤ o *ℤ pos second) -ℤ unix_epoch ≡ z -ℤ o *ℤ pos second = omega (arith, ints) in
     ap (λ x. int_div_euclid x (pos second)) e ∙ shift z o (int_div_euclid z (pos second)) (int_rem_euclid z (pos second)) (seconds-and_past z) p.0 p.1
-
-bounds : (z q r : ℤ) → (neg : pos 0 ≤ℤ (z +ℤ unix_epoch)) → (z +ℤ unix_epoch) ≤ℤ pos 63_113_872_377_599_999_999_999 → z ≡ q *ℤ pos second +ℤ r → pos 0 ≤ℤ r → r <ℤ pos second → IsMoment q
-bounds z q r low high e f g = (omega (arith, ints, e), omega (arith, ints, e))
-
-pub reading_in : (L : ℤ) → IsDateTime L → IsMoment (unix_seconds L)
-reading_in L h =
-    let z = L -ℤ unix_epoch in
-    let p = past_range z in
-    let e : (z +ℤ unix_epoch) ≡ L = omega (arith, ints) in
-    bounds z (int_div_euclid z (pos second)) (int_rem_euclid z (pos second)) (subst (λ (x : ℤ). pos 0 ≤ℤ x) (sym e) h.not_before) (subst (λ (x : ℤ). x ≤ℤ pos 63_113_872_377_599_999_999_999) (sym e) h.not_after) (seconds-and_past z) p.0 p.1
 
 back : (L o i : ℤ) → i +ℤ o ≡ L → L -ℤ o ≡ i
 back L o i e = omega (arith, ints)

@@ -14,7 +14,7 @@ use Rattle.cal_zone.specs.Instants.{IsExplained, IsGap, Names}
 use Rattle.cal_zone.specs.Local.{IsLocalOf}
 use Rattle.cal_zone.specs.Timeline.{Timeline, InOrder, IsOrdered, at, begins, ends, local_at, offset_at}
 use Rattle.cal_zone.proofs.Offsets.{offset_from-count}
-use Rattle.cal_zone.proofs.Orders.{at_rises, ends_rise, trans}
+use Rattle.cal_zone.proofs.Orders.{at_rises, ends_rise, same, trans}
 use Rattle.cal_zone.proofs.Readings.{after, just_before, some_count}
 
 -- ---- over plain numbers
@@ -87,10 +87,7 @@ not_later zone order L a b f c d g j (suc k) first second less =
     trans (ends zone.first.offset zone.changes j) (ends zone.first.offset zone.changes k) (begins zone.first.offset zone.changes (suc k))
     (ends_rise zone order j k (omega (arith, less)) (omega (arith, second.inside))) (order.apart k second.inside) in
     not_in_both L (at zone.changes j) (after zone j) (after zone (suc j)) (begins zone.first.offset zone.changes (suc k)) (at zone.changes (suc k)) (after zone (suc k)) (after zone (suc (suc k)))
-    first_ends between (trans_same (begins zone.first.offset zone.changes (suc k))) second_starts
-  where
-    trans_same : (a : ℤ) → a ≤ℤ a
-    trans_same a = omega (arith, ints)
+    first_ends between (same (begins zone.first.offset zone.changes (suc k))) second_starts
 
 record AreSame (a b f c d g : ℤ) : Type 0 where
   at_is : a ≡ c

@@ -7,7 +7,7 @@ use Rattle.std.specs.Int.{int_min, int_max}
 use Rattle.cal_zone.specs.Timeline.{Timeline, IsOrdered, at, ends, after_changes, offset_at, local_at, IsMoment, IsOffset}
 use Rattle.cal_zone.specs.Instants.{IsGap}
 use Rattle.cal_zone.specs.Split.{IsBracket, IsSplit}
-use Rattle.cal_zone.proofs.Orders.{at_rises, ends_rise, trans}
+use Rattle.cal_zone.proofs.Orders.{at_rises, ends_rise, less_trans, not_less, trans}
 use Rattle.cal_zone.proofs.Splits.{rising_split}
 use Rattle.cal_zone.proofs.Offsets.{offset_from-count, after_changes-offset}
 
@@ -33,12 +33,9 @@ some_count zone order i (suc n) h =
     (λ past. (
       suc n,
       omega arith,
-      (λ k less. let rise = at_rises zone order k n (omega arith) h in not_after (at zone.changes k) (at zone.changes n) i rise past),
+      (λ k less. let rise = at_rises zone order k n (omega arith) h in trans (at zone.changes k) (at zone.changes n) i rise past),
       λ k more less. absurd (omega arith),
     ))
-  where
-    not_after : (a b c : ℤ) → a ≤ℤ b → b ≤ℤ c → a ≤ℤ c
-    not_after a b c p q = omega (arith, ints)
 
 -- ---- over plain numbers: L the reading, i the instant, a the instant of a change, x and y the offsets before and after it
 not_passed : (L i a x y : ℤ) → (i +ℤ x) ≡ L → i <ℤ a → (a +ℤ int_max x y) ≤ℤ L → ⊥
@@ -52,9 +49,6 @@ past_before L a x y h = omega (arith, ints, clamps)
 
 ahead_next : (L a x y E : ℤ) → L <ℤ E → E ≤ℤ (a +ℤ int_min x y) → (L -ℤ x) <ℤ a
 ahead_next L a x y E h p = omega (arith, ints, clamps)
-
-less_trans : (a b c : ℤ) → a <ℤ b → b ≤ℤ c → a <ℤ c
-less_trans a b c p q = omega (arith, ints)
 
 -- the code's test that a change is past
 pub past_test : (p q t L m x y : ℤ) → p ≡ t → {a : ℤ} → t ≡ a → q ≡ (L -ℤ m) → m ≡ int_max x y
@@ -153,9 +147,6 @@ shown_by zone L i x e f =
     let same : offset_at zone i ≡ x = ap (offset_at zone) e ∙ f in
     ap (λ y. i +ℤ y) same ∙ forth L i x e
 
-not_both : (a b : ℤ) → a <ℤ b → b ≤ℤ a → ⊥
-not_both a b h p = omega (arith, ints)
-
 -- past the last change
 pub once_at_end : (zone : Timeline) → IsOrdered zone.first.offset zone.changes → (L : ℤ) (n : ℕ) → Passed zone L n → length zone.changes ≤ n
     → (e : ℤ) → e ≡ (L -ℤ after zone n) → (i : ℤ) → (i ≡ e) ↔ (local_at zone i ≡ L)
@@ -175,9 +166,6 @@ pub record IsNear (zone : Timeline) (L : ℤ) (n : ℕ) (a e l : ℤ) : Type 0 w
   pub at_is : a ≡ at zone.changes n
   pub earlier_is : e ≡ (L -ℤ after zone n)
   pub later_is : l ≡ (L -ℤ after zone (suc n))
-
-abbrev EarlierShows : Timeline → ℤ → ℤ → Type 0
-EarlierShows zone L e = (i : ℤ) → i ≡ e → local_at zone i ≡ L
 
 earlier_shows : (zone : Timeline) (L : ℤ) (n : ℕ) (a e l : ℤ) → IsNear zone L n a e l → e <ℤ a → (i : ℤ) → i ≡ e → local_at zone i ≡ L
 earlier_shows zone L n a e l near less i same =
@@ -213,21 +201,21 @@ pub once_before : (zone : Timeline) (L : ℤ) (n : ℕ) (a e l : ℤ) → IsNear
     → (i : ℤ) → (i ≡ e) ↔ (local_at zone i ≡ L)
 once_before zone L n a e l near less none i = (
   (λ same. earlier_shows zone L n a e l near less i same),
-  (λ shows. elim (which zone L n a e l near i shows) [ inl w ↦ w.0 | inr w ↦ absurd (not_both l a none w.1) ]),
+  (λ shows. elim (which zone L n a e l near i shows) [ inl w ↦ w.0 | inr w ↦ absurd (not_less l a none w.1) ]),
 )
 
 pub once_after : (zone : Timeline) (L : ℤ) (n : ℕ) (a e l : ℤ) → IsNear zone L n a e l → a ≤ℤ e → a ≤ℤ l
     → (i : ℤ) → (i ≡ l) ↔ (local_at zone i ≡ L)
 once_after zone L n a e l near none more i = (
   (λ same. later_shows zone L n a e l near more i same),
-  (λ shows. elim (which zone L n a e l near i shows) [ inl w ↦ absurd (not_both e a w.1 none) | inr w ↦ w.0 ]),
+  (λ shows. elim (which zone L n a e l near i shows) [ inl w ↦ absurd (not_less e a w.1 none) | inr w ↦ w.0 ]),
 )
 
 pub never : (zone : Timeline) (L : ℤ) (n : ℕ) (a e l : ℤ) → IsNear zone L n a e l → a ≤ℤ e → l <ℤ a
     → (i : ℤ) → ⊥ ↔ (local_at zone i ≡ L)
 never zone L n a e l near none less i = (
   (λ no. absurd no),
-  (λ shows. elim (which zone L n a e l near i shows) [ inl w ↦ not_both e a w.1 none | inr w ↦ not_both l a less w.1 ]),
+  (λ shows. elim (which zone L n a e l near i shows) [ inl w ↦ not_less e a w.1 none | inr w ↦ not_less l a less w.1 ]),
 )
 
 -- a change in between: the offset just before it, and at it
@@ -300,13 +288,12 @@ offset_in zone order i =
     subst IsOffset (sym (offset_from-count zone.first zone.changes i r.0 (λ k less inside. r.2 k less) r.3))
     (after_changes-offset zone.first.offset zone.changes r.0 order.offset order.offsets)
 
-pub none_in : (r : Option ℤ) (P Q : Type 0) (x : ℤ) → SomeIff r P x → (Q → P) → IfNone r (¬ Q)
-none_in None P Q x out h = λ q. out (h q)
-none_in (Some y) P Q x given h = tt
-
 pub if_none : (r : Option ℤ) (P Q : Type 0) (x : ℤ) → SomeIff r P x → (¬ P → Q) → IfNone r Q
 if_none None P Q x out h = h out
 if_none (Some y) P Q x given h = tt
+
+pub none_in : (r : Option ℤ) (P Q : Type 0) (x : ℤ) → SomeIff r P x → (Q → P) → IfNone r (¬ Q)
+none_in r P Q x given h = if_none r P (¬ Q) x given (λ out q. out (h q))
 
 pub some_in : (r : Option ℤ) (P : Type 0) (x y : ℤ) → x ≡ y → SomeIff r P x → IfSome r (λ (z : ℤ). z ≡ y)
 some_in None P x y e out = tt

@@ -3,10 +3,7 @@ use Rattle.std.proofs.Common.{◌≡◌, ℕ, ◌+◌, ◌-◌, ◌<◌, ◌≤�
 use Rattle.std.proofs.lemmas.Int.{ints}
 use Rattle.std.specs.Prelude.{ℤ, ◌<ℤ◌, ◌≤ℤ◌, int_le, int_lt, true, false}
 use Rattle.cal_zone.specs.Split.{IsBracket, IsSplit}
-use Rattle.cal_zone.proofs.Orders.{trans}
-
-trans_less : (a b c : ℤ) → a <ℤ b → b ≤ℤ c → a <ℤ c
-trans_less a b c p q = omega (arith, ints)
+use Rattle.cal_zone.proofs.Orders.{less_trans, trans}
 
 pub from_index : (f : ℕ → ℤ) (n : ℕ) (x : ℤ) (k low high : ℕ) → low ≡ k + 1 → low ≤ high → high ≤ n → f k ≤ℤ x → (high < n → x <ℤ f high) → IsBracket f n x low high
 from_index f n x k low high e ordered inside here above = record {
@@ -29,7 +26,7 @@ rising_split f n x m rises b = record {
   below = λ k h.
       let inside = b.inside in
       trans (f k) (f (m - 1)) x (rises k (m - 1) (omega arith) (omega arith)) (b.below (m - 1) (omega arith));
-  above = λ k h p. trans_less x (f m) (f k) (b.above (omega arith)) (rises m k h p);
+  above = λ k h p. less_trans x (f m) (f k) (b.above (omega arith)) (rises m k h p);
 }
 
 pub ended : (f : ℕ → ℤ) (n : ℕ) (x : ℤ) (low high : ℕ) → high ≤ low → IsBracket f n x low high → IsBracket f n x low low
