@@ -2,7 +2,6 @@
 use Rattle.std.proofs.Common.{◌≡◌, ℕ, ◌+◌, ap, subst, arith, ℤ}
 use Rattle.std.proofs.lemmas.Bool.Decides.{nat_tests}
 use Rattle.cal_time.specs.Date.{year_at, month_at, day_of_month_at, weekday_at, IsDate, HasCalendarDate}
-use Rattle.cal_time.specs.Days.{day_of_month_at-range}
 -- A month has 28 days or more.
 pub use Rattle.cal_time.specs.Days.{days_in_month-least}
 use Rattle.cal_time.specs.IsoWeekDate.{iso_year_at, iso_week_at, thursday_of, weekday_count, HasIsoWeekDate}

@@ -4,6 +4,7 @@ pub mod RulePositions
 pub mod Rules
 pub mod RulePrevious
 pub mod RuleSpans
+pub mod RuleWalks
 pub mod RuleSteps
 pub mod RuleNumbers
 pub mod Untils

@@ -1,8 +1,10 @@
 -- Contracts that allow only one result.
-use Rattle.std.proofs.Common.{◌≡◌, ℕ, ◌<◌, ◌≤◌, inl, inr, refl, sym, ap, ◌∙◌, subst, arith, ℤ, pos, ◌+ℤ◌, ◌*ℤ◌, ◌≤ℤ◌, ◌<ℤ◌, Option, Some, None, Result, Ok, Err}
+use Rattle.std.proofs.Common.{◌≡◌, ℕ, ◌<◌, ◌≤◌, inl, inr, refl, sym, ap, ◌∙◌, subst, arith, ℤ, pos, ◌+ℤ◌, ◌*ℤ◌, ◌≤ℤ◌, ◌<ℤ◌, List, [], ◌∷◌, reverse, slice_get, Option, Some, None, Result, Ok, Err}
 use Rattle.std.specs.Prelude.{IfSome, IfOk, IfErr}
+use Rattle.std.specs.Iterator.{YieldsLast}
 use Rattle.std.proofs.lemmas.Bool.{cases_lt}
 use Rattle.std.proofs.lemmas.Int.{ints, by_lt_z}
+use Rattle.std.proofs.lemmas.List.{reverse-append}
 use Rattle.cal_time.specs.declared.error.ComponentRange.{ComponentRange}
 use Rattle.cal_time.specs.Date.{first_year, last_year, last_day, IsDate}
 use Rattle.cal_schedule.specs.Months.{month_number_at, IsMonthNumber, IsMonthsLater}
@@ -57,3 +59,8 @@ period-one a b p q h k e years months =
     let day : h.day ≡ k.day = one_later a h.day k.day (months_of q) (subst (λ m. IsMonthsLater a m h.day) e h.later) k.later in
     let days : p.days ≡ q.days = omega (arith, ints, h.days, k.days, ap pos day) in
     λ i. record { years = years i; months = months i; days = days i }
+
+-- the last item of a list, which a step from the back takes
+pub last_is : (days rest : List ℕ) (r : Option ℕ) → YieldsLast (λ l. l) days r rest → r ≡ slice_get (reverse days) 0
+last_is days rest None h = ap (λ l. slice_get (reverse l) 0) (sym h.0)
+last_is days rest (Some x) h = sym (ap (λ l. slice_get (reverse l) 0) h ∙ ap (λ l. slice_get l 0) (reverse-append rest (x ∷ [])))

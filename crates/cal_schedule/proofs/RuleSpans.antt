@@ -14,7 +14,7 @@ use Rattle.cal_schedule.specs.RuleSearch.{IsEndBefore}
 use Rattle.cal_schedule.proofs.RulePositions.{IsOn-is_occurrence, is_off}
 
 -- Of two rules that differ in their ends, both take a day if both ends allow it.
-by_until : (pattern : Pattern) (start k : ℕ) (s t : Option ℕ) → matches_until s k ≡ matches_until t k → is_occurrence (rule_of pattern start s) k ≡ is_occurrence (rule_of pattern start t) k
+pub by_until : (pattern : Pattern) (start k : ℕ) (s t : Option ℕ) → matches_until s k ≡ matches_until t k → is_occurrence (rule_of pattern start s) k ≡ is_occurrence (rule_of pattern start t) k
 unfolding is_occurrence periods_past passes matches_months matches_weeks matches_days matches_positions unit_of
 by_until pattern start k s t e =
     let rule = rule_of pattern start t in

@@ -255,10 +255,6 @@ pub next_joined : (rule : Rule) (m x e : ℕ) (r : Option ℕ) → m ≤ x → N
 next_joined rule m x e None h none is rest = none-joined rule m x (last_day + 1) none (λ k low high. rest k low (omega arith) (omega arith))
 next_joined rule m x e (Some y) h none is rest = (omega (arith, rest.0), rest.1, rest.2, none-joined rule m x y none rest.3)
 
--- one step of the search
-pub next_none : (rule : Rule) (m n e : ℕ) → NoDayBetween rule m n → IsSkip rule n None → IsNextBefore rule m e None
-next_none rule m n e a b = λ k low high date. none-joined rule m n (last_day + 1) a b k low (omega arith)
-
 -- the list of the days after a day, from the first of them
 pub first_after : (rule : Rule) (n m : ℕ) (r : Option ℕ) → NoDayBetween rule (n + 1) m → n < m → IsNextFrom rule m r
     → MatchOption r (occurrences_after rule n ≡ []) (λ x. occurrences_after rule n ≡ x ∷ occurrences_after rule x)
@@ -321,23 +317,22 @@ left_from rule n count m (Some x) all low before h =
 pub left_from_start : (rule : Rule) (r : Option ℕ) → IsNextFrom rule rule.start r → occurrences_left rule r ≡ occurrences rule
 left_from_start rule r = left_from rule 0 (last_day + 1) rule.start r (omega arith) (omega arith) (before_start rule 0)
 
--- The range has fewer days than an iterator may return, so the first `u32.MAX` days are all of
--- them.
-pub all_from : (rule : Rule) (n count : ℕ) → count ≤ 4294967295
-    → take 4294967295 (filter (is_occurrence rule) (days_from n count)) ≡ filter (is_occurrence rule) (days_from n count)
-all_from rule n count h =
+-- The first days of a list are all of them if at least as many are taken.
+pub all_from : (rule : Rule) (n count taken : ℕ) → count ≤ taken
+    → take taken (filter (is_occurrence rule) (days_from n count)) ≡ filter (is_occurrence rule) (days_from n count)
+all_from rule n count taken h =
     let days = days_from n count in
-    take_all 4294967295 (filter (is_occurrence rule) days) (omega (arith, length-filter (is_occurrence rule) days, count_by-le-length (is_occurrence rule) days, length-days_from n count))
+    take_all taken (filter (is_occurrence rule) days) (omega (arith, length-filter (is_occurrence rule) days, count_by-le-length (is_occurrence rule) days, length-days_from n count))
 
 pub all_of_them : (rule : Rule) → take 4294967295 (occurrences rule) ≡ occurrences rule
-all_of_them rule = all_from rule 0 (last_day + 1) (omega arith)
+all_of_them rule = all_from rule 0 (last_day + 1) 4294967295 (omega arith)
 
 pub walk_is : (rule : Rule) (n m : ℕ) (r : Option ℕ) → m ≡ max rule.start n → IsNextFrom rule m r
     → take 4294967295 (occurrences_left rule r) ≡ occurrences_from rule n
 walk_is rule n m r first h =
     let none : NoDayBetween rule n m = λ k low high. before_start rule 0 k (omega arith) (omega arith) in
     ap (take 4294967295) (left_from rule n (last_day + 1 - n) m r refl (omega arith) none h)
-    ∙ all_from rule n (last_day + 1 - n) (omega arith)
+    ∙ all_from rule n (last_day + 1 - n) 4294967295 (omega arith)
 
 -- one day of the walk, with the others after it
 pub some_left : (rule : Rule) (n left : ℕ) (front : Option ℕ) → left ≢ 0 → front ≡ slice_get (occurrences_after rule n) 0

@@ -1,5 +1,5 @@
 -- The steps of the search for the next day of a rule.
-use Rattle.std.specs.Prelude.{◌≡◌, ℕ, ◌+◌, ◌<◌, ◌≤◌, ◌==◌, Bool, true, false, Option, MatchOption, Result, MatchResult}
+use Rattle.std.specs.Prelude.{◌≡◌, ℕ, ◌+◌, ◌<◌, ◌≤◌, ◌==◌, Bool, true, false, [], ◌∷◌, ◌++◌, take, Option, Some, MatchOption, Result, MatchResult}
 use Rattle.cal_time.specs.Date.{last_day, IsDate}
 use Rattle.cal_time.specs.Weekday.{index}
 use Rattle.cal_time.specs.declared.Weekday.{Weekday}
@@ -7,7 +7,7 @@ use Rattle.cal_schedule.specs.declared.rule.rule.ByDay.{ByDay}
 use Rattle.cal_schedule.specs.declared.rule.rule.ByDay.TheVariants.{Every, Nth}
 use Rattle.cal_schedule.specs.declared.rule.rule.Rule.{Rule}
 use Rattle.cal_schedule.specs.declared.rule.unit.PeriodUnit.{PeriodUnit}
-use Rattle.cal_schedule.specs.Rule.{allows, is_occurrence, matches_until, passes, period_index, unit_of}
+use Rattle.cal_schedule.specs.Rule.{allows, is_occurrence, matches_until, occurrences_between, occurrences_left, passes, period_index, unit_of}
 
 -- No day of the rule is from day m on and before day n.
 abbrev pub NoDayBetween : Rule → ℕ → ℕ → Type 0
@@ -78,7 +78,7 @@ IsNextFrom rule n r =
 
 -- Day e is day n, or the day after the last day of the rule if this is earlier.
 pub record IsEndBefore (rule : Rule) (n e : ℕ) : Type 0 where
-  pub range : IsDate n
+  pub range : n ≤ last_day + 1
   pub most : e ≤ n
   pub none : NoDayBetween rule e n
   pub until : (k : ℕ) → k < e → matches_until rule.until k ≡ true
@@ -87,3 +87,10 @@ pub record IsEndBefore (rule : Rule) (n e : ℕ) : Type 0 where
 abbrev pub IsLastBetween : Rule → ℕ → ℕ → Option ℕ → Type 0
 IsLastBetween rule m n r =
     MatchOption r (NoDayBetween rule m n) (λ x. (m ≤ x) × (x < n) × IsDate x × (is_occurrence rule x ≡ true) × NoDayBetween rule (x + 1) n)
+
+-- Day x is the last of the first days of the rule from day n on, at most `count`, and the others
+-- are the days before it. Day n is the first of them.
+pub record IsLastOfWalk (rule : Rule) (n count x : ℕ) : Type 0 where
+  pub low : n ≤ x
+  pub passes : is_occurrence rule x ≡ true
+  pub days : take count (occurrences_left rule (Some n)) ≡ occurrences_between rule n x ++ x ∷ []

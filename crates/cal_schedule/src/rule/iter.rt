@@ -1,14 +1,18 @@
 //! The iterator over the days of a rule.
 ghost use Rattle.std.specs.Prelude.{◌≡◌, length, List, max, take};
-ghost use Rattle.std.specs.Iterator.{YieldsFirst, item_count};
+ghost use Rattle.std.specs.Iterator.{YieldsFirst, YieldsLast, item_count};
 ghost use Rattle.cal_schedule.specs.Rule.{occurrences, occurrences_between, occurrences_from};
 
 use crate::rule::rule::Rule;
 use cal_time::Date;
-use cal_time::day_number::to_date;
+use cal_time::day_number::{day_number, to_date};
 use std::marker::Model;
 
-/// An iterator over days of a rule, in ascending order. Contracts see the list of the days left.
+/// An iterator over days of a rule, in ascending order, from both ends. Contracts see the list of
+/// the days left.
+///
+/// A step from the back searches like [`Rule::previous_before`]. The first one of
+/// [`Rule::first_days`] goes through all its days instead.
 #[derive(Debug, Drop)]
 pub struct RuleDays {
     rule: Rule,
@@ -18,12 +22,14 @@ pub struct RuleDays {
 }
 
 impl Model for RuleDays {
-    ghost use Rattle.std.specs.Prelude.{ℕ, List, take};
-    ghost use Rattle.cal_schedule.specs.Rule.{occurrences_left};
+    ghost use Rattle.std.specs.Prelude.{◌≡◌, ℕ, List, take, IfSome, true};
+    ghost use Rattle.cal_schedule.specs.Rule.{is_occurrence, occurrences_left};
 
     ghost Value = { List ℕ };
 
     ghost view = { λ walk. take walk.left (occurrences_left walk.rule walk.front) };
+
+    ghost invariant = { λ walk. IfSome walk.front (λ n. is_occurrence walk.rule n ≡ true) };
 }
 
 /// Returns an iterator over the days of a rule from a date on.
@@ -72,7 +78,7 @@ impl Rule {
     pub fn days_between(&self, from: Date, to: Date) -> RuleDays
         ensures { result ≡ occurrences_between self.now from to }
     {
-        let end = self.end_before(to);
+        let end = self.end_before(u64::from(day_number(to)));
         if end == 0 {
             return self.first_days(0);
         }
@@ -114,5 +120,27 @@ impl Iterator for RuleDays {
         }
         self.front = self.rule.next_after(item);
         Some(item)
+    }
+}
+
+impl DoubleEndedIterator for RuleDays {
+    ghost next_back_gives = { YieldsLast (λ days. days) };
+
+    /// Removes and returns the last day, or returns `None` if no day is left. For the monthly rule
+    /// from 31 January 2024 to 31 May 2024 it is 31 May.
+    fn next_back(&mut self) -> Option<Date> {
+        if self.left == 0 {
+            return None;
+        }
+        let front = self.front?;
+        let last = self.rule.last_of(front, self.left);
+        if last == front {
+            self.front = None;
+        } else {
+            // The other days are all days of the rule that ends before the last one.
+            self.rule.until = last.previous_day();
+            self.left = u32::MAX;
+        }
+        Some(last)
     }
 }

@@ -2,10 +2,10 @@
 ghost use Rattle.std.specs.Prelude.{◌≡◌, ◌+◌, ◌<◌, ◌≤◌, max, slice_get, IfSome, true};
 ghost use Rattle.cal_time.specs.Date.{last_day, IsDate};
 ghost use Rattle.cal_schedule.specs.Rule.{is_occurrence, occurrences_before};
-ghost use Rattle.cal_schedule.specs.RuleSearch.{IsEndBefore, IsLastBetween};
+ghost use Rattle.cal_schedule.specs.RuleSearch.{IsEndBefore, IsLastBetween, IsLastOfWalk};
 
 use crate::rule::rule::Rule;
-use crate::rule::search::{PERIOD, YEAR};
+use crate::rule::search::{LAST_DAY, PERIOD, YEAR};
 use cal_time::Date;
 use cal_time::day_number::{date_from_number, day_number};
 
@@ -21,11 +21,11 @@ fn later(day: Date, number: u64) -> Date
 }
 
 impl Rule {
-    /// Returns the number of a date, or of the day after the last day if this is earlier.
-    pub(super) fn end_before(&self, date: Date) -> u64
-        ensures { IsEndBefore self.now date result }
+    /// Returns the number of a day, or of the day after the last day if this is earlier.
+    pub(super) fn end_before(&self, number: u64) -> u64
+        requires { number ≤ last_day + 1 }
+        ensures { IsEndBefore self.now number result }
     {
-        let number = u64::from(day_number(date));
         match self.until {
             Some(last) => number.min(u64::from(day_number(last)) + 1),
             None => number,
@@ -59,7 +59,8 @@ impl Rule {
     fn last_back(&self, first: Date, end: u64) -> Option<Date>
         requires start { self.now.start ≤ first }
         requires range { end ≤ last_day + 1 }
-        ensures { IsLastBetween self.now first end result }
+        ensures value { IsLastBetween self.now first end result }
+        ensures in_range { IsDate first }
     {
         let mut before = end;
         let mut days = 1u64;
@@ -74,6 +75,40 @@ impl Rule {
         None
     }
 
+    /// Returns the last one of the first `count` days of the rule from `front` on, which is the
+    /// first of them. It goes forward from day to day.
+    fn last_forward(&self, front: Date, count: u32) -> Date
+        requires front { is_occurrence self.now front ≡ true }
+        requires some { 1 ≤ count }
+        ensures { IsLastOfWalk self.now front count result }
+    {
+        let mut last = front;
+        let mut left = count;
+        while left > 1 {
+            match self.next_after(last) {
+                Some(day) => last = day,
+                None => return last,
+            }
+            left -= 1;
+        }
+        last
+    }
+
+    /// Returns the last one of the first `count` days of the rule from `front` on, which is the
+    /// first of them. It goes back from the end if they are all days of the rule.
+    pub(super) fn last_of(&self, front: Date, count: u32) -> Date
+        requires front { is_occurrence self.now front ≡ true }
+        requires some { 1 ≤ count }
+        ensures { IsLastOfWalk self.now front count result }
+    {
+        // The range has no more days.
+        if u64::from(count) > LAST_DAY {
+            let end = self.end_before(LAST_DAY + 1);
+            return self.last_back(front, end).unwrap_or(front);
+        }
+        self.last_forward(front, count)
+    }
+
     /// Returns the last day of the rule before a date, or `None` if there is no such day. For the
     /// last Friday of each month from January 2024 on, 26 January comes before 23 February 2024.
     ///
@@ -86,7 +121,7 @@ impl Rule {
         ensures found { IfSome result (λ n. (n < date) × IsDate n × (is_occurrence self.now n ≡ true)) }
         ensures in_range { IsDate date }
     {
-        let end = self.end_before(date);
+        let end = self.end_before(u64::from(day_number(date)));
         // The calendar repeats: an earlier day that matches has one this much later, unless it is
         // in the first year of the range.
         let days = YEAR + PERIOD * u64::from(self.interval_or_1());

@@ -9,7 +9,7 @@ use cal_time::day_number::{date_from_number, day_number};
 use cal_time::{Date, limits};
 
 /// The number of the last day of the range.
-const LAST_DAY: u64 = limits::LAST_DAY as u64;
+pub(super) const LAST_DAY: u64 = limits::LAST_DAY as u64;
 
 /// The number of days in 400 years, after which the calendar and the weekdays repeat.
 pub(super) const PERIOD: u64 = 146_097;

@@ -3,4 +3,4 @@ use Rattle.cal_schedule.proofs.RulePrevious.{end_by}
 use Rattle.cal_schedule.proofs.rule.rule.Rule.end_before.Goals as goal
 
 pub returns-in-Some : goal.returns-in-Some
-returns-in-Some c = end_by c.args.self.now c.args.date c.in-Some.last _ c.day_number.ensures.in_range c.in-Some.is (omega arith)
+returns-in-Some c = end_by c.args.self.now c.args.number c.in-Some.last _ c.requires c.in-Some.is (omega arith)
