@@ -1,17 +1,7 @@
--- Digits and names, one byte after another.
-use Rattle.std.proofs.Common.{◌≡◌, ℕ, zero, suc, ◌+◌, ◌-◌, ◌*◌, ◌<◌, List, refl, arith, Bool, true, false}
+-- Names, one byte after another.
+use Rattle.std.proofs.Common.{◌≡◌, ℕ, zero, suc, ◌+◌, ◌-◌, ◌<◌, List, refl, arith, Bool, true, false}
 use Rattle.cal_tzif.specs.Bytes.{byte}
-use Rattle.cal_tzif.specs.Posix.{is_digit, digits, is_name_byte, run_end}
-
-pub digits-step : (bytes : List ℕ) (n at value : ℕ) → 0 < n → is_digit (byte bytes at) ≡ true → digits bytes n at value ≡ digits bytes (n - 1) (at + 1) (value * 10 + (byte bytes at - 48))
-unfolding digits
-digits-step bytes zero at value some h = absurd (omega arith)
-digits-step bytes (suc n) at value some h = let e : suc n - 1 ≡ n = omega arith in rw (e, h) refl
-
-pub digits-stop : (bytes : List ℕ) (n at value : ℕ) → is_digit (byte bytes at) ≡ false → digits bytes n at value ≡ (value, at)
-unfolding digits
-digits-stop bytes zero at value h = refl
-digits-stop bytes (suc n) at value h = rw h refl
+use Rattle.cal_tzif.specs.Posix.{is_name_byte, run_end}
 
 pub run_end-step : (q : Bool) (bytes : List ℕ) (n at : ℕ) → 0 < n → is_name_byte q (byte bytes at) ≡ true → run_end q bytes n at ≡ run_end q bytes (n - 1) (at + 1)
 unfolding run_end
@@ -26,7 +16,3 @@ run_end-stop q bytes (suc n) at h = rw h refl
 pub no_name-zero : (q : Bool) → is_name_byte q 0 ≡ false
 no_name-zero false = refl
 no_name-zero true = refl
-
-pub digits-none : (bytes : List ℕ) (at value : ℕ) → digits bytes 0 at value ≡ (value, at)
-unfolding digits
-digits-none bytes at value = refl

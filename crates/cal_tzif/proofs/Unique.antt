@@ -11,8 +11,8 @@ use Rattle.cal_zone.specs.declared.rule.Rule.{Rule}
 use Rattle.cal_zone.specs.declared.yearly.Yearly.{Yearly}
 use Rattle.cal_zone.specs.Rule.{changes_from}
 use Rattle.cal_zone.specs.Timeline.{Timeline}
-use Rattle.cal_zone.specs.Table.{type_in, changes_in}
-use Rattle.cal_zone.specs.Zone.{zone_of, rule_changes}
+use Rattle.cal_zone.specs.Table.{type_in}
+use Rattle.cal_zone.specs.Zone.{rule_changes}
 use Rattle.cal_tzif.specs.declared.footer.Footer.{Footer}
 use Rattle.cal_tzif.specs.declared.zone_error.ZoneError.{ZoneError}
 use Rattle.cal_tzif.specs.File.{HasFooter, IsFooterText, rule_type, footer_type, footer_rule, zone_in, IsFile, IsPosix}
@@ -84,9 +84,6 @@ footer_text-one bytes at kind None None h k = record { first = refl; changes = r
 footer_text-one bytes at kind None (Some g) h k = absurd (k.0 h)
 footer_text-one bytes at kind (Some f) None h k = absurd (h.0 k)
 footer_text-one bytes at kind (Some f) (Some g) h k = spelled-one _ at kind f g h.1 k.1
-
-same_zone : (first first' : LocalType) (bytes : List ℕ) (p : Layout) (r s : Option Rule) → first ≡ first' → rule_changes r ≡ rule_changes s → zone_of first (changes_in bytes p) r ≡ zone_of first' (changes_in bytes p) s
-same_zone first first' bytes p r s e f = cc
 
 pub zone_in-one : (bytes : List ℕ) (p : Layout) (end : ℕ) (f g : Option Footer) → HasFooter bytes end f → HasFooter bytes end g → zone_in bytes p f ≡ zone_in bytes p g
 zone_in-one bytes p end f g h k =

@@ -1,7 +1,6 @@
 -- Changes that have an error are not in order.
 use Rattle.std.proofs.Common.{◌≡◌, ℕ, suc, ◌+◌, ◌-◌, ◌<◌, List, ◌++◌, length, filter, sym, ap, ◌∙◌, subst, arith, length-append}
-use Rattle.std.proofs.lemmas.Int.{ints}
-use Rattle.std.specs.Prelude.{ℤ, ◌<ℤ◌, ◌≤ℤ◌, Option}
+use Rattle.std.specs.Prelude.{ℤ, Option}
 use Rattle.std.specs.List.{slice_index_or}
 use Rattle.cal_zone.specs.declared.change.Change.{Change}
 use Rattle.cal_zone.specs.declared.change_error.ChangeError.{ChangeError}
@@ -10,14 +9,12 @@ use Rattle.cal_zone.specs.declared.local_type.LocalType.{LocalType}
 use Rattle.cal_zone.specs.declared.rule.Rule.{Rule}
 use Rattle.cal_zone.specs.declared.timeline_error.TimelineError.{TimelineError}
 use Rattle.cal_zone.specs.declared.timeline_error.TimelineError.TheVariants as refused
-use Rattle.cal_zone.specs.ChangeError.{IsChangeError}
+use Rattle.cal_zone.specs.ChangeError.{IsChangeError, Follows}
 use Rattle.cal_zone.specs.Timeline.{IsOrdered, IsOffset, IsMoment, at, after_changes, begins, ends, no_change}
 use Rattle.cal_zone.specs.Zone.{zone_of, is_after, rule_changes, Joins, IsTimelineError}
-use Rattle.cal_zone.proofs.Joins.{NextAt, same_next, item_left, item_right, offset_left, offset_right}
+use Rattle.cal_zone.proofs.Joins.{next_of, same_next, item_left, item_right, offset_left, offset_right}
 use Rattle.cal_zone.proofs.Offsets.{after_changes-at, after_changes-count}
-
-next_of : (first : ℤ) (xs : List Change) → IsOrdered first xs → (k : ℕ) → suc k < length xs → NextAt first xs k
-next_of first xs order k h = record { rising = order.rising k h; apart = order.apart k h }
+use Rattle.cal_zone.proofs.Orders.{not_less}
 
 -- So are the first ones of changes in order.
 pub front : (first : ℤ) (xs ys : List Change) → IsOrdered first (xs ++ ys) → IsOrdered first xs
@@ -32,7 +29,7 @@ front first xs ys order = record {
     inside : (k : ℕ) → k < length xs → k < length (xs ++ ys)
     inside k h = let e = length-append xs ys in omega arith
 
-    next : (k : ℕ) → suc k < length xs → NextAt first xs k
+    next : (k : ℕ) → suc k < length xs → Follows first xs k
     next k h = same_next _ _ _ _ _ _ _ _ _ _
         (ap (λ (c : Change). c.at) (sym (item_left xs ys k (omega arith)))) (ap (λ (c : Change). c.at) (sym (item_left xs ys (suc k) h)))
         (sym (offset_left first xs ys k (omega arith))) (sym (offset_left first xs ys (suc k) (omega arith))) (sym (offset_left first xs ys (suc (suc k)) (omega arith)))
@@ -51,9 +48,6 @@ joint first xs ys order some more =
     (sym (offset_left first xs ys k (omega arith))) (sym (offset_left first xs ys (suc k) (omega arith) ∙ ap (after_changes first xs) e ∙ last))
     (sym (ap (after_changes first (xs ++ ys)) e2 ∙ offset_right first xs ys 1 ∙ after_changes-at (after_changes first xs (length xs)) ys 0 more))
     (next_of first (xs ++ ys) order k (let n = length-append xs ys in omega arith))
-
-pub not_less : (a b : ℤ) → a <ℤ b → b ≤ℤ a → ⊥
-not_less a b h k = omega (arith, ints)
 
 pub change_error : (first : ℤ) (cs : List Change) → IsOrdered first cs → (e : ChangeError) → IsChangeError first cs e → ⊥
 change_error first cs order FirstOffset h = h order.offset

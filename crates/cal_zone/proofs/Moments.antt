@@ -4,13 +4,12 @@ use Rattle.std.proofs.lemmas.Int.{ints}
 use Rattle.std.specs.Prelude.{ℤ, pos, negsuc, ◌<ℤ◌, ◌≤ℤ◌, ◌+ℤ◌, ◌-ℤ◌, ◌*ℤ◌, ◌⊎◌, ◌↔◌}
 use Rattle.std.specs.Int.{int_div_euclid, int_rem_euclid}
 use Rattle.cal_time.specs.SignedDuration.{second}
-use Rattle.cal_datetime.specs.DateTime.{IsDateTime}
 use Rattle.cal_datetime.specs.OffsetDateTime.{LocalAndOffset, instant, unix_seconds, unix_epoch}
 use Rattle.cal_datetime.specs.UnixTimeLaws.{div_euclid-one, seconds-and_past}
-use Rattle.cal_zone.specs.Timeline.{Timeline, offset_at, local_at, InOrder, IsMoment, IsOffset}
+use Rattle.cal_zone.specs.Timeline.{Timeline, offset_at, local_at, InOrder, IsOffset}
 use Rattle.cal_zone.specs.Instants.{IsGap}
 use Rattle.cal_zone.specs.Local.{Shows}
-use Rattle.cal_zone.proofs.Readings.{offset_in}
+use Rattle.cal_zone.proofs.Readings.{back, forth, offset_in}
 
 past_range : (z : ℤ) → (pos 0 ≤ℤ int_rem_euclid z (pos second)) × (int_rem_euclid z (pos second) <ℤ pos second)
 past_range (pos a) = (omega (arith, ints), omega (arith, ints))
@@ -27,27 +26,11 @@ seconds-at L o =
     let e : (L -ℤ o *ℤ pos second) -ℤ unix_epoch ≡ z -ℤ o *ℤ pos second = omega (arith, ints) in
     ap (λ x. int_div_euclid x (pos second)) e ∙ shift z o (int_div_euclid z (pos second)) (int_rem_euclid z (pos second)) (seconds-and_past z) p.0 p.1
 
-bounds : (z q r : ℤ) → (neg : pos 0 ≤ℤ (z +ℤ unix_epoch)) → (z +ℤ unix_epoch) ≤ℤ pos 63_113_872_377_599_999_999_999 → z ≡ q *ℤ pos second +ℤ r → pos 0 ≤ℤ r → r <ℤ pos second → IsMoment q
-bounds z q r low high e f g = (omega (arith, ints, e), omega (arith, ints, e))
-
-pub reading_in : (L : ℤ) → IsDateTime L → IsMoment (unix_seconds L)
-reading_in L h =
-    let z = L -ℤ unix_epoch in
-    let p = past_range z in
-    let e : (z +ℤ unix_epoch) ≡ L = omega (arith, ints) in
-    bounds z (int_div_euclid z (pos second)) (int_rem_euclid z (pos second)) (subst (λ (x : ℤ). pos 0 ≤ℤ x) (sym e) h.not_before) (subst (λ (x : ℤ). x ≤ℤ pos 63_113_872_377_599_999_999_999) (sym e) h.not_after) (seconds-and_past z) p.0 p.1
-
-back : (L o i : ℤ) → i +ℤ o ≡ L → L -ℤ o ≡ i
-back L o i e = omega (arith, ints)
-
-forth : (L o i : ℤ) → i ≡ L -ℤ o → i +ℤ o ≡ L
-forth L o i e = omega (arith, ints)
-
 -- of an instant that shows the reading
 pub moment_shows : (zone : Timeline) (L i : ℤ) → local_at zone i ≡ unix_seconds L → Shows zone L (record { local = L; offset = offset_at zone i })
 moment_shows zone L i e = record {
   same = refl;
-  offset = ap (offset_at zone) (sym (seconds-at L (offset_at zone i) ∙ back (unix_seconds L) (offset_at zone i) i e));
+  offset = ap (offset_at zone) (back (unix_seconds L) i (offset_at zone i) e ∙ sym (seconds-at L (offset_at zone i)));
 }
 
 -- and each moment that shows it is of one
@@ -57,7 +40,7 @@ shown_instant zone L m h =
     let i = unix_seconds L -ℤ m.offset in
     let e : unix_seconds (instant m) ≡ i = ap (λ x. unix_seconds (instant (record { local = x; offset = m.offset }))) h.same ∙ seconds-at L m.offset in
     let o : m.offset ≡ offset_at zone i = h.offset ∙ ap (offset_at zone) e in
-    (i, ap (λ x. i +ℤ x) (sym o) ∙ forth (unix_seconds L) m.offset i refl, λ k. record { local = h.same k; offset = o k })
+    (i, ap (λ x. i +ℤ x) (sym o) ∙ forth (unix_seconds L) i m.offset refl, λ k. record { local = h.same k; offset = o k })
 
 pub later_instant : (L i j o p : ℤ) → i +ℤ o ≡ j +ℤ p → i <ℤ j → instant (record { local = L; offset = o }) <ℤ instant (record { local = L; offset = p })
 unfolding instant
@@ -70,12 +53,12 @@ moment_of zone L i = record { local = L; offset = offset_at zone i }
 -- what the code makes of a reading R and an instant that shows it
 pub shown : (zone : Timeline) (L R s i : ℤ) (m : LocalAndOffset) → local_at zone i ≡ R → s ≡ i → m ≡ record { local = L; offset = R -ℤ s } → m ≡ moment_of zone L s
 shown zone L R s i m shows f e =
-    let own : R -ℤ i ≡ offset_at zone i = back R (offset_at zone i) i shows in
+    let own : R -ℤ i ≡ offset_at zone i = difference R (offset_at zone i) i shows in
     e ∙ ap (λ x. record { local = L; offset = R -ℤ x }) f
     ∙ ap (λ x. record { local = L; offset = x }) (own ∙ ap (offset_at zone) (sym f))
   where
-    back : (r o x : ℤ) → x +ℤ o ≡ r → r -ℤ x ≡ o
-    back r o x h = omega (arith, ints)
+    difference : (r o x : ℤ) → x +ℤ o ≡ r → r -ℤ x ≡ o
+    difference r o x h = omega (arith, ints)
 
 pub in_range : (zone : Timeline) → InOrder zone → (R s i : ℤ) → local_at zone i ≡ R → s ≡ i → IsOffset (R -ℤ s)
 in_range zone order R s i shows f =

@@ -5,9 +5,9 @@ use Rattle.std.specs.Prelude.{ℤ, ◌<ℤ◌, ◌≤ℤ◌, int_le}
 use Rattle.std.specs.List.{slice_index_or}
 use Rattle.cal_zone.specs.declared.change.Change.{Change}
 use Rattle.cal_zone.specs.declared.local_type.LocalType.{LocalType}
-use Rattle.cal_zone.specs.Timeline.{Timeline, offset_at, kind_at, kind_from, after_changes, at, no_change, IsOffset}
+use Rattle.cal_zone.specs.Timeline.{Timeline, kind_at, kind_from, after_changes, at, no_change, IsOffset}
 
-is_past : (a b : ℤ) → a ≤ℤ b → int_le a b ≡ true
+pub is_past : (a b : ℤ) → a ≤ℤ b → int_le a b ≡ true
 is_past a b h = grind (arith, ints)
 
 is_ahead : (a b : ℤ) → b <ℤ a → int_le a b ≡ false
@@ -64,13 +64,6 @@ pub after_changes-count : (offset : ℤ) (cs : List Change) (n : ℕ) → 0 < n 
 after_changes-count offset cs zero some inside = absurd (omega arith)
 after_changes-count offset cs (suc n) some inside =
     let e : suc n - 1 ≡ n = omega arith in rw e (after_changes-at offset cs n (omega arith))
-
-pub offset_at-count : (zone : Timeline) (i j : ℤ) (n : ℕ) → j ≡ i
-    → ((k : ℕ) → k < n → at zone.changes k ≤ℤ j)
-    → ((k : ℕ) → n ≤ k → k < length zone.changes → j <ℤ at zone.changes k)
-    → offset_at zone i ≡ after_changes zone.first.offset zone.changes n
-offset_at-count zone i j n e below above =
-    ap (offset_at zone) (sym e) ∙ offset_from-count zone.first zone.changes j n (λ k less inside. below k less) above
 
 -- and none is of 26 hours or more, where none of the changes' is
 pub after_changes-offset : (offset : ℤ) (cs : List Change) (n : ℕ) → IsOffset offset → ((k : ℕ) → k < length cs → IsOffset (slice_index_or cs k no_change).kind.offset) → IsOffset (after_changes offset cs n)

@@ -13,7 +13,8 @@ use Rattle.cal_zone.specs.declared.timeline_error.TimelineError.TheVariants as r
 use Rattle.cal_zone.specs.ChangeError.{IsChangeError, IsSound, Follows}
 use Rattle.cal_zone.specs.Timeline.{at, begins, ends, IsOffset, no_change}
 use Rattle.cal_zone.specs.Zone.{IsTimelineError}
-use Rattle.cal_zone.proofs.Errors.{not_less, change_error}
+use Rattle.cal_zone.proofs.Errors.{change_error}
+use Rattle.cal_zone.proofs.Orders.{not_less}
 
 -- Where one number is neither less nor more than another, they are the same.
 pub same : (j k : ℕ) → (j < k → ⊥) → (k < j → ⊥) → j ≡ k

@@ -11,10 +11,10 @@ use Rattle.cal_zone.specs.declared.local.Local.TheVariants.{Single, Gap, Fold}
 use Rattle.cal_zone.specs.declared.instants.Instants.{Instants}
 use Rattle.cal_zone.specs.declared.instants.Instants.TheVariants as its
 use Rattle.cal_zone.specs.Instants.{IsExplained, IsGap, Names}
-use Rattle.cal_zone.specs.Local.{IsLocalOf}
+use Rattle.cal_zone.specs.Local.{IsLocalOf, Shows}
 use Rattle.cal_zone.specs.Timeline.{Timeline, InOrder, IsOrdered, at, begins, ends, local_at, offset_at}
 use Rattle.cal_zone.proofs.Offsets.{offset_from-count}
-use Rattle.cal_zone.proofs.Orders.{at_rises, ends_rise, trans}
+use Rattle.cal_zone.proofs.Orders.{at_rises, ends_rise, not_less, same, trans, weaken}
 use Rattle.cal_zone.proofs.Readings.{after, just_before, some_count}
 
 -- ---- over plain numbers
@@ -87,113 +87,76 @@ not_later zone order L a b f c d g j (suc k) first second less =
     trans (ends zone.first.offset zone.changes j) (ends zone.first.offset zone.changes k) (begins zone.first.offset zone.changes (suc k))
     (ends_rise zone order j k (omega (arith, less)) (omega (arith, second.inside))) (order.apart k second.inside) in
     not_in_both L (at zone.changes j) (after zone j) (after zone (suc j)) (begins zone.first.offset zone.changes (suc k)) (at zone.changes (suc k)) (after zone (suc k)) (after zone (suc (suc k)))
-    first_ends between (trans_same (begins zone.first.offset zone.changes (suc k))) second_starts
-  where
-    trans_same : (a : ℤ) → a ≤ℤ a
-    trans_same a = omega (arith, ints)
+    first_ends between (same (begins zone.first.offset zone.changes (suc k))) second_starts
 
-record AreSame (a b f c d g : ℤ) : Type 0 where
-  at_is : a ≡ c
-  before_is : b ≡ d
-  after_is : f ≡ g
-
-at_same : (zone : Timeline) (L a b f c d g : ℤ) (j k : ℕ) → j ≡ k → IsGapOf zone L a b f j → IsGapOf zone L c d g k → AreSame a b f c d g
+at_same : (zone : Timeline) (L a b f c d g : ℤ) (j k : ℕ) → j ≡ k → IsGapOf zone L a b f j → IsGapOf zone L c d g k → (a ≡ c) × (b ≡ d) × (f ≡ g)
 at_same zone L a b f c d g j k e first second =
-    let second = subst (IsGapOf zone L c d g) (sym e) second in record {
-      at_is = first.at_is ∙ sym second.at_is;
-      before_is = first.before_is ∙ sym second.before_is;
-      after_is = first.after_is ∙ sym second.after_is;
-    }
+    let second = subst (IsGapOf zone L c d g) (sym e) second in
+    (first.at_is ∙ sym second.at_is, first.before_is ∙ sym second.before_is, first.after_is ∙ sym second.after_is)
 
-gap-one : (zone : Timeline) → IsOrdered zone.first.offset zone.changes → (L a b f c d g : ℤ) → IsGap zone L a b f → IsGap zone L c d g → AreSame a b f c d g
+gap-one : (zone : Timeline) → IsOrdered zone.first.offset zone.changes → (L a b f c d g : ℤ) → IsGap zone L a b f → IsGap zone L c d g → (a ≡ c) × (b ≡ d) × (f ≡ g)
 gap-one zone order L a b f c d g one other =
     let (j, first) = gap_index zone order L a b f one in
     let (k, second) = gap_index zone order L c d g other in
-    elim (cases_lt j k) as (λ _. AreSame a b f c d g) [
+    elim (cases_lt j k) as (λ _. (a ≡ c) × (b ≡ d) × (f ≡ g)) [
       | inl less ↦ absurd (not_later zone order L a b f c d g j k first second less)
-      | inr more ↦ elim (cases_lt k j) as (λ _. AreSame a b f c d g) [
+      | inr more ↦ elim (cases_lt k j) as (λ _. (a ≡ c) × (b ≡ d) × (f ≡ g)) [
         | inl less ↦ absurd (not_later zone order L c d g a b f k j second first less)
         | inr least ↦ at_same zone L a b f c d g j k (omega (arith, more, least)) first second
       ]
     ]
 
 -- ---- descriptions
-not_before_itself : (a b : LocalAndOffset) → a ≡ b → instant a <ℤ instant b → ⊥
-not_before_itself a b e h = irreflexive (instant a) (subst (λ (m : LocalAndOffset). instant a <ℤ instant m) (sym e) h)
-  where
-    irreflexive : (z : ℤ) → z <ℤ z → ⊥
-    irreflexive z h = omega (arith, ints)
+not_itself : (A : Type 0) (f : A → ℤ) (a b : A) → a ≡ b → f a <ℤ f b → ⊥
+not_itself A f a b e h = not_less (f a) (f b) h (subst (λ (m : A). f m ≤ℤ f a) e (same (f a)))
 
-not_both_ways : (y z : ℤ) → y <ℤ z → z <ℤ y → ⊥
-not_both_ways y z p q = omega (arith, ints)
+no_fold : (A : Type 0) (f : A → ℤ) (Shown : A → Type 0) (x e l : A) → ((m : A) → (m ≡ x) ↔ Shown m) → ((m : A) → ((m ≡ e) ⊎ (m ≡ l)) ↔ Shown m) → f e <ℤ f l → ⊥
+no_fold A f Shown x e l p q less =
+    let first : e ≡ x = (p e).1 ((q e).0 (inl refl)) in
+    let second : l ≡ x = (p l).1 ((q l).0 (inr refl)) in
+    not_itself A f e l (first ∙ sym second) less
 
-abbrev made : ℤ → ℤ → ℤ → ℤ → gaps.Gap
-made l a b f = record { reading = l; at = a; before = b; after = f }
-
-same_parts : (l a b f m c d g : ℤ) → l ≡ m → a ≡ c → b ≡ d → f ≡ g → made l a b f ≡ made m c d g
-same_parts l a b f m c d g p q r s = cc
+folds : (A : Type 0) (f : A → ℤ) (e l e' l' : A) → f e <ℤ f l → f e' <ℤ f l' → (e ≡ e') ⊎ (e ≡ l') → (l ≡ e') ⊎ (l ≡ l') → (e ≡ e') × (l ≡ l')
+folds A f e l e' l' h k (inl p) (inl q) = absurd (not_itself A f e l (p ∙ sym q) h)
+folds A f e l e' l' h k (inl p) (inr q) = (p, q)
+folds A f e l e' l' h k (inr p) (inl q) = absurd (not_less (f e) (f l) h (weaken (f l) (f e) (subst (λ (m : A). f l <ℤ f m) (sym p) (subst (λ (m : A). f m <ℤ f l') (sym q) k))))
+folds A f e l e' l' h k (inr p) (inr q) = absurd (not_itself A f e l (p ∙ sym q) h)
 
 same_gap : (g h : gaps.Gap) → g.reading ≡ h.reading → g.at ≡ h.at → g.before ≡ h.before → g.after ≡ h.after → g ≡ h
-same_gap g h p q r s = same_parts g.reading g.at g.before g.after h.reading h.at h.before h.after p q r s
-
-no_fold : (zone : Timeline) (reading : ℤ) (x e l : LocalAndOffset) → IsLocalOf zone reading (Single x) → IsLocalOf zone reading (Fold e l) → ⊥
-no_fold zone reading x e l a b =
-    let first : e ≡ x = (a.set e).1 ((b.set e).0 (inl refl)) in
-    let second : l ≡ x = (a.set l).1 ((b.set l).0 (inr refl)) in
-    not_before_itself e l (first ∙ sym second) b.explained
-
-folds : (e l e' l' : LocalAndOffset) → instant e <ℤ instant l → instant e' <ℤ instant l' → (e ≡ e') ⊎ (e ≡ l') → (l ≡ e') ⊎ (l ≡ l') → (e ≡ e') × (l ≡ l')
-folds e l e' l' h k (inl p) (inl q) = absurd (not_before_itself e l (p ∙ sym q) h)
-folds e l e' l' h k (inl p) (inr q) = (p, q)
-folds e l e' l' h k (inr p) (inl q) =
-    absurd (not_both_ways (instant e) (instant l) h (subst (λ (m : LocalAndOffset). instant l <ℤ instant m) (sym p) (subst (λ (m : LocalAndOffset). instant m <ℤ instant l') (sym q) k)))
-folds e l e' l' h k (inr p) (inr q) = absurd (not_before_itself e l (p ∙ sym q) h)
+same_gap g h p q r s = λ i. record { reading = p i; at = q i; before = r i; after = s i }
 
 pub local-one : (zone : Timeline) → InOrder zone → (reading : ℤ) (a b : Local) → IsLocalOf zone reading a → IsLocalOf zone reading b → a ≡ b
 local-one zone order reading (Single x) (Single y) a b = ap (λ (m : LocalAndOffset). Single m) ((b.set x).1 ((a.set x).0 refl))
 local-one zone order reading (Single x) (Gap g) a b = absurd ((b.set x).1 ((a.set x).0 refl))
-local-one zone order reading (Single x) (Fold e l) a b = absurd (no_fold zone reading x e l a b)
+local-one zone order reading (Single x) (Fold e l) a b = absurd (no_fold LocalAndOffset instant (Shows zone reading) x e l a.set b.set b.explained)
 local-one zone order reading (Gap g) (Single y) a b = absurd ((a.set y).1 ((b.set y).0 refl))
 local-one zone order reading (Gap g) (Gap h) a b =
     let same = gap-one zone order (unix_seconds reading) g.at g.before g.after h.at h.before h.after a.explained.1 b.explained.1 in
-    ap (λ (x : gaps.Gap). Gap x) (same_gap g h (a.explained.0 ∙ sym b.explained.0) same.at_is same.before_is same.after_is)
+    ap (λ (x : gaps.Gap). Gap x) (same_gap g h (a.explained.0 ∙ sym b.explained.0) same.0 same.1 same.2)
 local-one zone order reading (Gap g) (Fold e l) a b = absurd ((a.set e).1 ((b.set e).0 (inl refl)))
-local-one zone order reading (Fold e l) (Single y) a b = absurd (no_fold zone reading y e l b a)
+local-one zone order reading (Fold e l) (Single y) a b = absurd (no_fold LocalAndOffset instant (Shows zone reading) y e l b.set a.set a.explained)
 local-one zone order reading (Fold e l) (Gap g) a b = absurd ((b.set e).1 ((a.set e).0 (inl refl)))
 local-one zone order reading (Fold e l) (Fold e' l') a b =
-    let same = folds e l e' l' a.explained b.explained ((b.set e).1 ((a.set e).0 (inl refl))) ((b.set l).1 ((a.set l).0 (inr refl))) in
+    let same = folds LocalAndOffset instant e l e' l' a.explained b.explained ((b.set e).1 ((a.set e).0 (inl refl))) ((b.set l).1 ((a.set l).0 (inr refl))) in
     let p = same.0 in
     let q = same.1 in
     cc
-
--- ---- the same of instants
-no_fold_of : (z : Timeline) (l i j k : ℤ) → ((x : ℤ) → (x ≡ i) ↔ (local_at z x ≡ l)) → ((x : ℤ) → ((x ≡ j) ⊎ (x ≡ k)) ↔ (local_at z x ≡ l)) → j <ℤ k → ⊥
-no_fold_of z l i j k p q less =
-    let first : j ≡ i = (p j).1 ((q j).0 (inl refl)) in
-    let second : k ≡ i = (p k).1 ((q k).0 (inr refl)) in
-    omega (arith, ints)
-
-folds_of : (i j k l : ℤ) → i <ℤ j → k <ℤ l → (i ≡ k) ⊎ (i ≡ l) → (j ≡ k) ⊎ (j ≡ l) → (i ≡ k) × (j ≡ l)
-folds_of i j k l p q (inl e) (inl f) = absurd (omega (arith, ints))
-folds_of i j k l p q (inl e) (inr f) = (e, f)
-folds_of i j k l p q (inr e) (inl f) = absurd (omega (arith, ints))
-folds_of i j k l p q (inr e) (inr f) = absurd (omega (arith, ints))
 
 pub instants-one : (z : Timeline) → InOrder z → (l : ℤ) (a b : Instants) → ((i : ℤ) → Names a i ↔ (local_at z i ≡ l)) → ((i : ℤ) → Names b i ↔ (local_at z i ≡ l))
     → IsExplained z l a → IsExplained z l b → a ≡ b
 instants-one z order l (its.Single i) (its.Single j) p q e f = ap (λ (x : ℤ). its.Single x) ((q i).1 ((p i).0 refl))
 instants-one z order l (its.Single i) (its.Gap a b c) p q e f = absurd ((q i).1 ((p i).0 refl))
-instants-one z order l (its.Single i) (its.Fold j k) p q e f = absurd (no_fold_of z l i j k p q f)
+instants-one z order l (its.Single i) (its.Fold j k) p q e f = absurd (no_fold ℤ (λ x. x) (λ x. local_at z x ≡ l) i j k p q f)
 instants-one z order l (its.Gap a b c) (its.Single i) p q e f = absurd ((p i).1 ((q i).0 refl))
 instants-one z order l (its.Gap a b c) (its.Gap d g h) p q e f =
     let same = gap-one z order l a b c d g h e f in
-    let at = same.at_is in
-    let before = same.before_is in
-    let after = same.after_is in cc
+    let at = same.0 in
+    let before = same.1 in
+    let after = same.2 in cc
 instants-one z order l (its.Gap a b c) (its.Fold j k) p q e f = absurd ((p j).1 ((q j).0 (inl refl)))
-instants-one z order l (its.Fold j k) (its.Single i) p q e f = absurd (no_fold_of z l i j k q p e)
+instants-one z order l (its.Fold j k) (its.Single i) p q e f = absurd (no_fold ℤ (λ x. x) (λ x. local_at z x ≡ l) i j k q p e)
 instants-one z order l (its.Fold j k) (its.Gap a b c) p q e f = absurd ((q j).1 ((p j).0 (inl refl)))
 instants-one z order l (its.Fold i j) (its.Fold g h) p q e f =
-    let same = folds_of i j g h e f ((q i).1 ((p i).0 (inl refl))) ((q j).1 ((p j).0 (inr refl))) in
+    let same = folds ℤ (λ x. x) i j g h e f ((q i).1 ((p i).0 (inl refl))) ((q j).1 ((p j).0 (inr refl))) in
     let first = same.0 in
     let second = same.1 in cc

@@ -15,10 +15,16 @@ begins_below_ends zone k = least_below_most (at zone.changes k) (after_changes z
 pub trans : (a b c : ℤ) → a ≤ℤ b → b ≤ℤ c → a ≤ℤ c
 trans a b c p q = omega (arith, ints)
 
-same : (a : ℤ) → a ≤ℤ a
+pub less_trans : (a b c : ℤ) → a <ℤ b → b ≤ℤ c → a <ℤ c
+less_trans a b c p q = omega (arith, ints)
+
+pub not_less : (a b : ℤ) → a <ℤ b → b ≤ℤ a → ⊥
+not_less a b h k = omega (arith, ints)
+
+pub same : (a : ℤ) → a ≤ℤ a
 same a = omega (arith, ints)
 
-weaken : (a b : ℤ) → a <ℤ b → a ≤ℤ b
+pub weaken : (a b : ℤ) → a <ℤ b → a ≤ℤ b
 weaken a b h = omega (arith, ints)
 
 -- what rises from each index to the next rises

@@ -1,5 +1,5 @@
 -- Which instants show a reading, by how many changes lie wholly before it.
-use Rattle.std.proofs.Common.{◌≡◌, ◌≢◌, add-one, ℕ, zero, suc, ◌+◌, ◌-◌, ◌<◌, ◌≤◌, ◌⊎◌, ◌↔◌, length, sym, ap, ◌∙◌, arith, inl, inr, subst}
+use Rattle.std.proofs.Common.{◌≡◌, ◌≢◌, add-one, ℕ, zero, suc, ◌+◌, ◌-◌, ◌<◌, ◌≤◌, ◌⊎◌, ◌↔◌, length, refl, sym, ap, ◌∙◌, arith, inl, inr, subst}
 use Rattle.std.proofs.lemmas.Int.{ints, clamps, by_lt_z}
 use Rattle.std.proofs.lemmas.Bool.{cases_lt, cases_eq}
 use Rattle.std.specs.Prelude.{ℤ, Option, Some, None, SomeIff, IfNone, IfSome, int_le, true, pos, ◌<ℤ◌, ◌≤ℤ◌, ◌+ℤ◌, ◌-ℤ◌}
@@ -7,13 +7,22 @@ use Rattle.std.specs.Int.{int_min, int_max}
 use Rattle.cal_zone.specs.Timeline.{Timeline, IsOrdered, at, ends, after_changes, offset_at, local_at, IsMoment, IsOffset}
 use Rattle.cal_zone.specs.Instants.{IsGap}
 use Rattle.cal_zone.specs.Split.{IsBracket, IsSplit}
-use Rattle.cal_zone.proofs.Orders.{at_rises, ends_rise, trans}
+use Rattle.cal_zone.proofs.Orders.{at_rises, ends_rise, not_less, same, trans}
 use Rattle.cal_zone.proofs.Splits.{rising_split}
 use Rattle.cal_zone.proofs.Offsets.{offset_from-count, after_changes-offset}
 
 -- the offset after the first n changes
 abbrev pub after : Timeline → ℕ → ℤ
 after zone n = after_changes zone.first.offset zone.changes n
+
+-- The offset after n changes, at an instant between the last of them and the next one.
+pub offset_between : (zone : Timeline) → IsOrdered zone.first.offset zone.changes → (i o : ℤ) (n : ℕ) → n ≤ length zone.changes
+    → ((k : ℕ) → suc k ≡ n → at zone.changes k ≤ℤ i) → (n < length zone.changes → i <ℤ at zone.changes n)
+    → o ≡ after zone n → offset_at zone i ≡ o
+offset_between zone order i o n inside below above after =
+    let bracket : IsBracket (at zone.changes) (length zone.changes) i n n = record { ordered = omega arith; inside = inside; below = below; above = above } in
+    let split = rising_split (at zone.changes) (length zone.changes) i n (at_rises zone order) bracket in
+    offset_from-count zone.first zone.changes i n (λ k less _. split.below k less) split.above ∙ sym after
 
 -- as many changes are not after an instant
 pub some_count : (zone : Timeline) → IsOrdered zone.first.offset zone.changes → (i : ℤ) (n : ℕ) → n ≤ length zone.changes
@@ -33,12 +42,9 @@ some_count zone order i (suc n) h =
     (λ past. (
       suc n,
       omega arith,
-      (λ k less. let rise = at_rises zone order k n (omega arith) h in not_after (at zone.changes k) (at zone.changes n) i rise past),
+      (λ k less. let rise = at_rises zone order k n (omega arith) h in trans (at zone.changes k) (at zone.changes n) i rise past),
       λ k more less. absurd (omega arith),
     ))
-  where
-    not_after : (a b c : ℤ) → a ≤ℤ b → b ≤ℤ c → a ≤ℤ c
-    not_after a b c p q = omega (arith, ints)
 
 -- ---- over plain numbers: L the reading, i the instant, a the instant of a change, x and y the offsets before and after it
 not_passed : (L i a x y : ℤ) → (i +ℤ x) ≡ L → i <ℤ a → (a +ℤ int_max x y) ≤ℤ L → ⊥
@@ -52,9 +58,6 @@ past_before L a x y h = omega (arith, ints, clamps)
 
 ahead_next : (L a x y E : ℤ) → L <ℤ E → E ≤ℤ (a +ℤ int_min x y) → (L -ℤ x) <ℤ a
 ahead_next L a x y E h p = omega (arith, ints, clamps)
-
-less_trans : (a b c : ℤ) → a <ℤ b → b ≤ℤ c → a <ℤ c
-less_trans a b c p q = omega (arith, ints)
 
 -- the code's test that a change is past
 pub past_test : (p q t L m x y : ℤ) → p ≡ t → {a : ℤ} → t ≡ a → q ≡ (L -ℤ m) → m ≡ int_max x y
@@ -70,32 +73,19 @@ pub shows_before : (zone : Timeline) → IsOrdered zone.first.offset zone.change
     → ((n < length zone.changes) → (L -ℤ after zone n) <ℤ at zone.changes n)
     → offset_at zone (L -ℤ after zone n) ≡ after zone n
 shows_before zone order L n split ahead =
-    offset_from-count zone.first zone.changes (L -ℤ after zone n) n (below n split) above
-  where
-    below : (n : ℕ) → Passed zone L n → (k : ℕ) → k < n → k < length zone.changes → at zone.changes k ≤ℤ (L -ℤ after zone n)
-    below zero split k less inside = absurd (omega arith)
-    below (suc m) split k less inside =
-        let last : at zone.changes m ≤ℤ (L -ℤ after zone (suc m)) = past_before L (at zone.changes m) (after zone m) (after zone (suc m)) (split.below m (omega arith)) in
-        trans (at zone.changes k) (at zone.changes m) (L -ℤ after zone (suc m)) (at_rises zone order k m (omega arith) (let i = split.inside in omega arith)) last
-
-    above : (k : ℕ) → n ≤ k → k < length zone.changes → (L -ℤ after zone n) <ℤ at zone.changes k
-    above k more inside = less_trans (L -ℤ after zone n) (at zone.changes n) (at zone.changes k) (ahead (omega arith)) (at_rises zone order n k more inside)
+    offset_between zone order _ _ n split.inside
+    (λ k e. subst (λ (m : ℕ). at zone.changes k ≤ℤ (L -ℤ after zone m)) e (past_before L (at zone.changes k) (after zone k) (after zone (suc k)) (split.below k (omega arith))))
+    ahead refl
 
 -- and one with the offset after the next change
 pub shows_after : (zone : Timeline) → IsOrdered zone.first.offset zone.changes → (L : ℤ) (n : ℕ) → Passed zone L n → n < length zone.changes
     → at zone.changes n ≤ℤ (L -ℤ after zone (suc n))
     → offset_at zone (L -ℤ after zone (suc n)) ≡ after zone (suc n)
 shows_after zone order L n split some past =
-    offset_from-count zone.first zone.changes (L -ℤ after zone (suc n)) (suc n) below above
-  where
-    below : (k : ℕ) → k < suc n → k < length zone.changes → at zone.changes k ≤ℤ (L -ℤ after zone (suc n))
-    below k less inside = trans (at zone.changes k) (at zone.changes n) (L -ℤ after zone (suc n)) (at_rises zone order k n (omega arith) some) past
-
-    above : (k : ℕ) → suc n ≤ k → k < length zone.changes → (L -ℤ after zone (suc n)) <ℤ at zone.changes k
-    above k more inside =
-        let next : (L -ℤ after zone (suc n)) <ℤ at zone.changes (suc n) =
-        ahead_next L (at zone.changes (suc n)) (after zone (suc n)) (after zone (suc (suc n))) (ends zone.first.offset zone.changes n) (split.above n (omega arith) some) (order.apart n (omega arith)) in
-        less_trans (L -ℤ after zone (suc n)) (at zone.changes (suc n)) (at zone.changes k) next (at_rises zone order (suc n) k more inside)
+    offset_between zone order _ _ (suc n) (omega arith)
+    (λ k e. let same : k ≡ n = omega arith in rw same past)
+    (λ inside. ahead_next L (at zone.changes (suc n)) (after zone (suc n)) (after zone (suc (suc n))) (ends zone.first.offset zone.changes n) (split.above n (omega arith) some) (order.apart n inside))
+    refl
 
 -- an instant that shows the reading has one of the two
 pub record IsBefore (zone : Timeline) (L i : ℤ) (n : ℕ) : Type 0 where
@@ -107,7 +97,7 @@ pub record IsAfter (zone : Timeline) (L i : ℤ) (n : ℕ) : Type 0 where
   pub value : i ≡ (L -ℤ after zone (suc n))
   pub past : at zone.changes n ≤ℤ i
 
-back : (L i x : ℤ) → (i +ℤ x) ≡ L → i ≡ (L -ℤ x)
+pub back : (L i x : ℤ) → (i +ℤ x) ≡ L → i ≡ (L -ℤ x)
 back L i x e = omega (arith, ints)
 
 pub one_of_two : (zone : Timeline) → IsOrdered zone.first.offset zone.changes → (L i : ℤ) (n : ℕ) → Passed zone L n → local_at zone i ≡ L → IsBefore zone L i n ⊎ IsAfter zone L i n
@@ -145,16 +135,13 @@ one_of_two zone order L i n split shows =
         ]
 
 -- ---- the set of the instants, arm by arm
-forth : (L i x : ℤ) → i ≡ (L -ℤ x) → (i +ℤ x) ≡ L
+pub forth : (L i x : ℤ) → i ≡ (L -ℤ x) → (i +ℤ x) ≡ L
 forth L i x e = omega (arith, ints)
 
 shown_by : (zone : Timeline) (L i x : ℤ) → i ≡ (L -ℤ x) → offset_at zone (L -ℤ x) ≡ x → local_at zone i ≡ L
 shown_by zone L i x e f =
     let same : offset_at zone i ≡ x = ap (offset_at zone) e ∙ f in
     ap (λ y. i +ℤ y) same ∙ forth L i x e
-
-not_both : (a b : ℤ) → a <ℤ b → b ≤ℤ a → ⊥
-not_both a b h p = omega (arith, ints)
 
 -- past the last change
 pub once_at_end : (zone : Timeline) → IsOrdered zone.first.offset zone.changes → (L : ℤ) (n : ℕ) → Passed zone L n → length zone.changes ≤ n
@@ -175,9 +162,6 @@ pub record IsNear (zone : Timeline) (L : ℤ) (n : ℕ) (a e l : ℤ) : Type 0 w
   pub at_is : a ≡ at zone.changes n
   pub earlier_is : e ≡ (L -ℤ after zone n)
   pub later_is : l ≡ (L -ℤ after zone (suc n))
-
-abbrev EarlierShows : Timeline → ℤ → ℤ → Type 0
-EarlierShows zone L e = (i : ℤ) → i ≡ e → local_at zone i ≡ L
 
 earlier_shows : (zone : Timeline) (L : ℤ) (n : ℕ) (a e l : ℤ) → IsNear zone L n a e l → e <ℤ a → (i : ℤ) → i ≡ e → local_at zone i ≡ L
 earlier_shows zone L n a e l near less i same =
@@ -213,47 +197,39 @@ pub once_before : (zone : Timeline) (L : ℤ) (n : ℕ) (a e l : ℤ) → IsNear
     → (i : ℤ) → (i ≡ e) ↔ (local_at zone i ≡ L)
 once_before zone L n a e l near less none i = (
   (λ same. earlier_shows zone L n a e l near less i same),
-  (λ shows. elim (which zone L n a e l near i shows) [ inl w ↦ w.0 | inr w ↦ absurd (not_both l a none w.1) ]),
+  (λ shows. elim (which zone L n a e l near i shows) [ inl w ↦ w.0 | inr w ↦ absurd (not_less l a none w.1) ]),
 )
 
 pub once_after : (zone : Timeline) (L : ℤ) (n : ℕ) (a e l : ℤ) → IsNear zone L n a e l → a ≤ℤ e → a ≤ℤ l
     → (i : ℤ) → (i ≡ l) ↔ (local_at zone i ≡ L)
 once_after zone L n a e l near none more i = (
   (λ same. later_shows zone L n a e l near more i same),
-  (λ shows. elim (which zone L n a e l near i shows) [ inl w ↦ absurd (not_both e a w.1 none) | inr w ↦ w.0 ]),
+  (λ shows. elim (which zone L n a e l near i shows) [ inl w ↦ absurd (not_less e a w.1 none) | inr w ↦ w.0 ]),
 )
 
 pub never : (zone : Timeline) (L : ℤ) (n : ℕ) (a e l : ℤ) → IsNear zone L n a e l → a ≤ℤ e → l <ℤ a
     → (i : ℤ) → ⊥ ↔ (local_at zone i ≡ L)
 never zone L n a e l near none less i = (
   (λ no. absurd no),
-  (λ shows. elim (which zone L n a e l near i shows) [ inl w ↦ not_both e a w.1 none | inr w ↦ not_both l a less w.1 ]),
+  (λ shows. elim (which zone L n a e l near i shows) [ inl w ↦ not_less e a w.1 none | inr w ↦ not_less l a less w.1 ]),
 )
 
 -- a change in between: the offset just before it, and at it
 pub just_before : (zone : Timeline) → IsOrdered zone.first.offset zone.changes → (n : ℕ) → n < length zone.changes → offset_at zone (at zone.changes n -ℤ pos 1) ≡ after zone n
-just_before zone order n some = offset_from-count zone.first zone.changes (at zone.changes n -ℤ pos 1) n below above
+just_before zone order n some =
+    offset_between zone order _ _ n (omega arith)
+    (λ k e. one_less (at zone.changes k) (at zone.changes n) (subst (λ (m : ℕ). at zone.changes k <ℤ at zone.changes m) e (order.rising k (omega arith))))
+    (λ _. less_one (at zone.changes n)) refl
   where
     one_less : (a b : ℤ) → a <ℤ b → a ≤ℤ (b -ℤ pos 1)
     one_less a b h = omega (arith, ints)
 
-    less_one : (a b : ℤ) → b ≤ℤ a → (b -ℤ pos 1) <ℤ a
-    less_one a b h = omega (arith, ints)
-
-    below : (k : ℕ) → k < n → k < length zone.changes → at zone.changes k ≤ℤ (at zone.changes n -ℤ pos 1)
-    below k less inside = one_less (at zone.changes k) (at zone.changes n) (less_trans (at zone.changes k) (at zone.changes (suc k)) (at zone.changes n) (order.rising k (omega arith)) (at_rises zone order (suc k) n (omega arith) some))
-
-    above : (k : ℕ) → n ≤ k → k < length zone.changes → (at zone.changes n -ℤ pos 1) <ℤ at zone.changes k
-    above k more inside = less_one (at zone.changes k) (at zone.changes n) (at_rises zone order n k more inside)
+    less_one : (a : ℤ) → (a -ℤ pos 1) <ℤ a
+    less_one a = omega (arith, ints)
 
 pub just_at : (zone : Timeline) → IsOrdered zone.first.offset zone.changes → (n : ℕ) → n < length zone.changes → offset_at zone (at zone.changes n) ≡ after zone (suc n)
-just_at zone order n some = offset_from-count zone.first zone.changes (at zone.changes n) (suc n) below above
-  where
-    below : (k : ℕ) → k < suc n → k < length zone.changes → at zone.changes k ≤ℤ at zone.changes n
-    below k less inside = at_rises zone order k n (omega arith) some
-
-    above : (k : ℕ) → suc n ≤ k → k < length zone.changes → at zone.changes n <ℤ at zone.changes k
-    above k more inside = less_trans (at zone.changes n) (at zone.changes (suc n)) (at zone.changes k) (order.rising n (omega arith)) (at_rises zone order (suc n) k more inside)
+just_at zone order n some =
+    offset_between zone order _ _ (suc n) (omega arith) (λ k e. let f : k ≡ n = omega arith in rw f (same (at zone.changes n))) (λ inside. order.rising n inside) refl
 
 -- as the code finds them: M is the reading that was passed on, b and f are the offsets that were looked up
 pub passed : (zone : Timeline) (L M : ℤ) (n : ℕ) → M ≡ L → IsOrdered zone.first.offset zone.changes
@@ -261,17 +237,18 @@ pub passed : (zone : Timeline) (L M : ℤ) (n : ℕ) → M ≡ L → IsOrdered z
 passed zone L M n same order b =
     subst (λ (x : ℤ). Passed zone x n) same (rising_split (ends zone.first.offset zone.changes) (length zone.changes) M n (ends_rise zone order) b)
 
-pub near : (zone : Timeline) (L : ℤ) (n : ℕ) (a e l b f : ℤ) → IsOrdered zone.first.offset zone.changes → Passed zone L n → n ≢ length zone.changes
-    → a ≡ at zone.changes n → b ≡ after zone n → f ≡ after zone (n + 1) → e ≡ (L -ℤ b) → l ≡ (L -ℤ f)
-    → IsNear zone L n a e l
-near zone L n a e l b f order split other at_is b_is f_is e_is l_is = record {
-  order = order;
-  split = split;
-  some = let i = split.inside in omega arith;
-  at_is = at_is;
-  earlier_is = e_is ∙ ap (λ x. L -ℤ x) b_is;
-  later_is = l_is ∙ ap (λ x. L -ℤ x) (f_is ∙ ap (after zone) (add-one n));
-}
+pub near : (zone : Timeline) (L M : ℤ) (n : ℕ) (a e l b f : ℤ) → IsOrdered zone.first.offset zone.changes → M ≡ L → IsBracket (ends zone.first.offset zone.changes) (length zone.changes) M n n
+    → n ≢ length zone.changes → a ≡ at zone.changes n → b ≡ after zone n → f ≡ after zone (n + 1) → e ≡ (L -ℤ b) → l ≡ (L -ℤ f) → IsNear zone L n a e l
+near zone L M n a e l b f order same bracket other at_is b_is f_is e_is l_is =
+    let split = passed zone L M n same order bracket in
+    record {
+      order = order;
+      split = split;
+      some = let i = split.inside in omega arith;
+      at_is = at_is;
+      earlier_is = e_is ∙ ap (λ x. L -ℤ x) b_is;
+      later_is = l_is ∙ ap (λ x. L -ℤ x) (f_is ∙ ap (after zone) (add-one n));
+    }
 
 pub explained : (zone : Timeline) (L : ℤ) (n : ℕ) (a e l b f : ℤ) → IsNear zone L n a e l → b ≡ after zone n → f ≡ after zone (n + 1)
     → a ≤ℤ e → l <ℤ a → IsGap zone L a b f
@@ -300,13 +277,12 @@ offset_in zone order i =
     subst IsOffset (sym (offset_from-count zone.first zone.changes i r.0 (λ k less inside. r.2 k less) r.3))
     (after_changes-offset zone.first.offset zone.changes r.0 order.offset order.offsets)
 
-pub none_in : (r : Option ℤ) (P Q : Type 0) (x : ℤ) → SomeIff r P x → (Q → P) → IfNone r (¬ Q)
-none_in None P Q x out h = λ q. out (h q)
-none_in (Some y) P Q x given h = tt
-
 pub if_none : (r : Option ℤ) (P Q : Type 0) (x : ℤ) → SomeIff r P x → (¬ P → Q) → IfNone r Q
 if_none None P Q x out h = h out
 if_none (Some y) P Q x given h = tt
+
+pub none_in : (r : Option ℤ) (P Q : Type 0) (x : ℤ) → SomeIff r P x → (Q → P) → IfNone r (¬ Q)
+none_in r P Q x given h = if_none r P (¬ Q) x given (λ out q. out (h q))
 
 pub some_in : (r : Option ℤ) (P : Type 0) (x y : ℤ) → x ≡ y → SomeIff r P x → IfSome r (λ (z : ℤ). z ≡ y)
 some_in None P x y e out = tt

@@ -1,12 +1,10 @@
 -- Each year has the day of a rule's change, which lies in its month.
-use Rattle.std.proofs.Common.{◌≡◌, ℕ, zero, suc, ◌+◌, ◌-◌, ◌*◌, ◌%◌, ◌<◌, ◌≤◌, ◌==◌, refl, sym, ap, ◌∙◌, subst, arith, ℤ, pos, ◌+ℤ◌, ◌-ℤ◌, ◌*ℤ◌, ◌<ℤ◌, ◌≤ℤ◌, inl, inr, Bool, true, false, filter, slice_get, Some}
-use Rattle.std.proofs.lemmas.Bool.{cases_lt, cases_Bool, cases_eq, false≢true}
+use Rattle.std.proofs.Common.{◌≡◌, ℕ, suc, ◌+◌, ◌-◌, ◌*◌, ◌%◌, ◌<◌, ◌≤◌, ◌==◌, refl, sym, ap, ◌∙◌, subst, arith, ℤ, pos, ◌+ℤ◌, ◌-ℤ◌, ◌*ℤ◌, ◌<ℤ◌, inl, inr, true, false, filter, slice_get, Some}
+use Rattle.std.proofs.lemmas.Bool.{and_parts, cases_lt, cases_Bool, cases_eq, eq-eqb, eqb-true}
 use Rattle.std.proofs.lemmas.Bool.Decides.{nat_tests, Decides-int_eq}
 use Rattle.std.proofs.lemmas.Int.{ints}
-use Rattle.std.specs.Ordering.{int_eq}
-use Rattle.cal_time.specs.Date.{last_day, year_at, month_at, weekday_at, IsDate, IsYear, HasCalendarDate}
-use Rattle.cal_time.specs.Components.{months-rise}
-use Rattle.cal_time.specs.Days.{IsMonth, day_with, days-follow}
+use Rattle.cal_time.specs.Date.{last_day, year_at, weekday_at, IsDate, IsYear, HasCalendarDate}
+use Rattle.cal_time.specs.Days.{IsMonth, day_with, days-follow, days_in_month-least}
 use Rattle.cal_time.specs.IsoWeekDate.{count_before}
 use Rattle.cal_time.specs.Laws.{weekday_at-is}
 use Rattle.cal_time.specs.Lengths.{days_in_month}
@@ -15,8 +13,10 @@ use Rattle.cal_time.specs.Weekday.{index}
 use Rattle.cal_time.specs.MonthCycle as months
 use Rattle.cal_time.specs.WeekdayCycle as weekdays
 use Rattle.cal_time.specs.Occurrences.{days_from, days_back_from}
+use Rattle.cal_time.proofs.Weekdays.{count_before-same}
+use Rattle.cal_schedule.specs.MonthLaws.{month_numbers-rise, number_from}
 use Rattle.cal_schedule.specs.Months.{month_number_at}
-use Rattle.cal_schedule.specs.Ranks.{count-none, count-yes, count-no, nth-from, nth-back}
+use Rattle.cal_schedule.specs.Ranks.{count-none, count-yes, nth-from, nth-back}
 use Rattle.cal_schedule.specs.Weekdays.{is_weekday_in_month, IsWeekdayInMonth, IsNthWeekday, IsLastWeekday}
 use Rattle.cal_schedule.specs.WeekdaysLaws.{index-nth, last-index}
 use Rattle.cal_zone.specs.declared.yearly.Yearly.{Yearly}
@@ -24,23 +24,13 @@ use Rattle.cal_zone.specs.Rule.{day_of, IsYearly}
 
 -- the test and what it means
 test-yes : (w : ℕ) (y : ℤ) (m n : ℕ) → IsWeekdayInMonth y m w n → is_weekday_in_month w y m n ≡ true
-test-yes w y m n is =
-    let month : (month_at n == m) ≡ true = let e = is.month in grind (arith, nat_tests) in
-    let weekday : (weekday_at n == w) ≡ true = let e = is.weekday in grind (arith, nat_tests) in
-    rw ((Decides-int_eq (year_at n) y).1 is.year, month, weekday) refl
+test-yes w y m n is = rw ((Decides-int_eq (year_at n) y).1 is.year, eq-eqb _ _ is.month, eq-eqb _ _ is.weekday) refl
 
 test-is : (w : ℕ) (y : ℤ) (m n : ℕ) → is_weekday_in_month w y m n ≡ true → IsWeekdayInMonth y m w n
 test-is w y m n h =
-    elim (cases_Bool (int_eq (year_at n) y)) [
-      | inr not ↦ absurd (false≢true (rw not at h))
-      | inl same ↦ elim (cases_Bool (month_at n == m)) [
-        | inr not ↦ absurd (false≢true (rw (same, not) at h))
-        | inl alike ↦ elim (cases_Bool (weekday_at n == w)) [
-          | inr not ↦ absurd (false≢true (rw (same, alike, not) at h))
-          | inl equal ↦ record { year = (Decides-int_eq (year_at n) y).0 same; month = grind (arith, nat_tests); weekday = grind (arith, nat_tests) }
-        ]
-      ]
-    ]
+    let year = and_parts _ _ h in
+    let month = and_parts _ _ year.1 in
+    record { year = (Decides-int_eq (year_at n) y).0 year.0; month = eqb-true _ _ month.0; weekday = eqb-true _ _ month.1 }
 
 -- ---- what the code finds is what the definition finds
 pub found-nth : (w : ℕ) (y : ℤ) (m k n size : ℕ) → n < size → 1 ≤ k → IsNthWeekday y m w k n
@@ -52,12 +42,6 @@ found-nth w y m k n size below some is =
     nth-from test 0 size (k - 1) n (omega arith) (omega arith) on
     (omega (arith, count-none test, count-yes test n on, ap (count_before test) next, is.nth))
 
-count-still : (test : ℕ → Bool) (n j : ℕ) → ((k : ℕ) → n ≤ k → test k ≡ false) → count_before test (n + j) ≡ count_before test n
-count-still test n zero none = let e : n + zero ≡ n = omega arith in ap (count_before test) e
-count-still test n (suc j) none =
-    let e : n + suc j ≡ suc (n + j) = omega arith in
-    ap (count_before test) e ∙ count-no test (n + j) (none (n + j) (omega arith)) ∙ count-still test n j none
-
 pub found-last : (w : ℕ) (y : ℤ) (m n size : ℕ) → n < size → IsLastWeekday y m w n
     → slice_get (filter (is_weekday_in_month w y m) (days_back_from size)) 0 ≡ Some n
 found-last w y m n size below is =
@@ -67,16 +51,12 @@ found-last w y m n size below is =
       | inl hit ↦ absurd (is.last k (omega arith) (test-is w y m k hit))
       | inr miss ↦ miss
     ] in
-    let still = count-still test (suc n) (size - suc n) later in
+    let still = count_before-same test (suc n) (size - suc n) later in
     let sums : suc n + (size - suc n) ≡ size = omega arith in
     nth-back test size 0 n below on
     (omega (arith, count-yes test n on, still, ap (count_before test) sums))
 
 -- ---- each year has it
-pub days_in_month-least : (y : ℤ) (m : ℕ) → 28 ≤ days_in_month y m
-unfolding days_in_month
-days_in_month-least y m = grind (arith, nat_tests)
-
 pub record IsFound (P : ℕ → Type 0) : Type 0 where
   pub day : ℕ
   pub date : IsDate day
@@ -156,13 +136,6 @@ rule_day r y year h =
           let f = some-nth y (number r.month) (index r.weekday) r.week year (is_month r) (weekdays.index-below r.weekday) h.week.0 (let most = h.week.1 in omega arith) in
           in_month r y f.day (day_of-nth r y f.day f.date h.week.0 (let most = h.week.1 in omega arith) f.is) f.date f.is.is
     ]
-
--- The numbers of months rise, and are those of the calendar dates.
-month_numbers-rise : (m n : ℕ) → m ≤ n → month_number_at m ≤ℤ month_number_at n
-month_numbers-rise m n h = omega (arith, ints, months-rise m n h)
-
-number_from : (n : ℕ) (y : ℤ) (m d : ℕ) → HasCalendarDate y m d n → month_number_at n ≡ y *ℤ pos 12 +ℤ pos m -ℤ pos 1
-number_from n y m d e = ap (λ day. day.year *ℤ pos 12 +ℤ pos day.month -ℤ pos 1) e
 
 -- ---- a whole month lies between days whose months are two apart
 before_month : (a f : ℕ) → month_number_at a <ℤ month_number_at f → a < f

@@ -9,30 +9,16 @@ use Rattle.std.specs.List.{range_with_len, slice_index_or}
 use Rattle.cal_time.specs.Date.{first_year, IsYear}
 use Rattle.cal_time.specs.Month.{number}
 use Rattle.cal_zone.specs.declared.change.Change.{Change}
-use Rattle.cal_zone.specs.declared.local_type.LocalType.{LocalType}
 use Rattle.cal_zone.specs.declared.yearly.Yearly.{Yearly}
 use Rattle.cal_zone.specs.Rule.{moment, change_of, instant_at, day_of, rule_count, changes_from, epoch_day, IsYearly, IsCalm}
+use Rattle.cal_zone.specs.ChangeError.{Follows}
 use Rattle.cal_zone.specs.Timeline.{IsOrdered, at, after_changes, no_change, IsOffset, IsMoment, IsNext}
 use Rattle.cal_zone.specs.Split.{IsSplit}
 use Rattle.cal_zone.specs.Zone.{is_after, Joins}
-use Rattle.cal_zone.proofs.Offsets.{after_changes-at, after_changes-count, after_changes-offset}
+use Rattle.cal_zone.proofs.Offsets.{after_changes-offset}
 use Rattle.cal_zone.proofs.Orders.{rises}
-use Rattle.cal_zone.proofs.Joins.{NextAt, same_next, joined}
+use Rattle.cal_zone.proofs.Joins.{same_next, joined}
 use Rattle.cal_zone.proofs.RuleDays.{rule_day, month_between, is_month}
-
-pub change-even : (one other : Yearly) (k : ℕ) (a : ℤ) (o : LocalType) (b y : ℤ) → a ≡ moment one b y → k % 2 ≡ 0 → b ≡ other.kind.offset → y ≡ first_year +ℤ pos (k / 2) → o ≡ one.kind
-    → (record { at = a; kind = o }) ≡ change_of one other k
-change-even one other k a o b y value even b_is y_is o_is =
-    let test : (k % 2 == 0) ≡ true = grind (arith, nat_tests) in
-    let at_is : a ≡ moment one other.kind.offset (first_year +ℤ pos (k / 2)) = value ∙ ap (λ z. moment one z y) b_is ∙ ap (moment one other.kind.offset) y_is in
-    rw test (λ i. record { at = at_is i; kind = o_is i })
-
-pub change-odd : (one other : Yearly) (k : ℕ) (a : ℤ) (o : LocalType) (b y : ℤ) → a ≡ moment other b y → (k % 2 ≡ 0 → ⊥) → b ≡ one.kind.offset → y ≡ first_year +ℤ pos (k / 2) → o ≡ other.kind
-    → (record { at = a; kind = o }) ≡ change_of one other k
-change-odd one other k a o b y value odd b_is y_is o_is =
-    let test : (k % 2 == 0) ≡ false = grind (arith, nat_tests) in
-    let at_is : a ≡ moment other one.kind.offset (first_year +ℤ pos (k / 2)) = value ∙ ap (λ z. moment other z y) b_is ∙ ap (moment other one.kind.offset) y_is in
-    rw test (λ i. record { at = at_is i; kind = o_is i })
 
 -- ---- by parity
 at_even : (one other : Yearly) (k : ℕ) → k % 2 ≡ 0 → ((change_of one other k).at ≡ moment one other.kind.offset (first_year +ℤ pos (k / 2))) × ((change_of one other k).kind.offset ≡ one.kind.offset)
@@ -40,6 +26,12 @@ at_even one other k even = let test : (k % 2 == 0) ≡ true = grind (arith, nat_
 
 at_odd : (one other : Yearly) (k : ℕ) → k % 2 ≡ 1 → ((change_of one other k).at ≡ moment other one.kind.offset (first_year +ℤ pos (k / 2))) × ((change_of one other k).kind.offset ≡ other.kind.offset)
 at_odd one other k odd = let test : (k % 2 == 0) ≡ false = grind (arith, nat_tests) in rw test (refl, refl)
+
+pub time_even : (one other : Yearly) (k : ℕ) (a b y : ℤ) → a ≡ moment one b y → k % 2 ≡ 0 → b ≡ other.kind.offset → y ≡ first_year +ℤ pos (k / 2) → a ≡ instant_at one other k
+time_even one other k a b y value even b_is y_is = value ∙ ap (λ z. moment one z y) b_is ∙ ap (moment one other.kind.offset) y_is ∙ sym (at_even one other k even).0
+
+pub time_odd : (one other : Yearly) (k : ℕ) (a b y : ℤ) → a ≡ moment other b y → k % 2 ≡ 1 → b ≡ one.kind.offset → y ≡ first_year +ℤ pos (k / 2) → a ≡ instant_at one other k
+time_odd one other k a b y value odd b_is y_is = value ∙ ap (λ z. moment other z y) b_is ∙ ap (moment other one.kind.offset) y_is ∙ sym (at_odd one other k odd).0
 
 -- ---- one change and the next: days whose months are two apart
 year_in : (k : ℕ) → k < 3_999_998 → IsYear (first_year +ℤ pos (k / 2))
@@ -126,10 +118,6 @@ change_in one other j calm h =
           (subst IsMoment (sym p.0) (moment_in other one.kind.offset _ (year_in j h) calm.second calm.first.offset), subst IsOffset (sym p.1) calm.second.offset)
     ]
 
--- what the code finds at an index is in range
-pub found_in : (one other : Yearly) (j : ℕ) (c : Change) → IsCalm one other → j < 3_999_998 → c ≡ change_of one other j → IsMoment c.at × IsOffset c.kind.offset
-found_in one other j c calm h e = subst (λ (x : Change). IsMoment x.at × IsOffset x.kind.offset) (sym e) (change_in one other j calm h)
-
 pub rule_count-is : rule_count ≡ 3_999_998
 unfolding rule_count
 rule_count-is = refl
@@ -169,7 +157,7 @@ rule_ordered one other a o calm first = record {
     offsets : (k : ℕ) → k < length (changes_from one other a) → IsOffset (slice_index_or (changes_from one other a) k no_change).kind.offset
     offsets k h = subst (λ (c : Change). IsOffset c.kind.offset) (sym (item one other a k (within k h))) (change_in one other (a + k) calm (inside k h)).1
 
-    next : (k : ℕ) → suc k < length (changes_from one other a) → NextAt o (changes_from one other a) k
+    next : (k : ℕ) → suc k < length (changes_from one other a) → Follows o (changes_from one other a) k
     next k h =
         let cs = changes_from one other a in
         let e : a + suc k ≡ suc (a + k) = omega arith in
@@ -265,8 +253,4 @@ pub whole : (one other : Yearly) (first : ℤ) (xs : List Change) (s : ℕ) → 
     → Joins first xs (changes_from one other s) → IsOrdered first (xs ++ changes_from one other s)
 whole one other first xs s calm order joins =
     joined first xs (changes_from one other s) order
-    (rule_ordered one other s (after_changes first xs (length xs)) calm (after_changes-offset first xs (length xs) order.offset order.offsets))
-    (λ some. record { offset = λ more. same_next _ _ _ _ _ _ _ _ _ _ refl refl refl (last some) (after_changes-at (after_changes first xs (length xs)) (changes_from one other s) 0 more) (joins some more) })
-  where
-    last : 0 < length xs → after_changes first xs (length xs) ≡ (slice_index_or xs (length xs - 1) no_change).kind.offset
-    last some = after_changes-count first xs (length xs) some (omega arith)
+    (rule_ordered one other s (after_changes first xs (length xs)) calm (after_changes-offset first xs (length xs) order.offset order.offsets)) joins

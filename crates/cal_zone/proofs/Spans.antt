@@ -7,19 +7,7 @@ use Rattle.cal_zone.specs.declared.span.Span.{Span}
 use Rattle.cal_zone.specs.Span.{HasAround, HasNear, IsSpan, IsSpanAfter}
 use Rattle.cal_zone.specs.Split.{IsBracket}
 use Rattle.cal_zone.specs.Timeline.{Timeline, InOrder, IsMoment, IsOffset, at, after_changes, offset_at, local_at}
-use Rattle.cal_zone.proofs.Offsets.{offset_at-count}
-use Rattle.cal_zone.proofs.Orders.{at_rises}
-use Rattle.cal_zone.proofs.Readings.{offset_in}
-use Rattle.cal_zone.proofs.Splits.{rising_split}
-
--- The offset after n changes, at an instant between the last of them and the next one.
-pub offset_between : (zone : Timeline) → InOrder zone → (i o : ℤ) (n : ℕ) → n ≤ length zone.changes
-    → ((k : ℕ) → suc k ≡ n → at zone.changes k ≤ℤ i) → (n < length zone.changes → i <ℤ at zone.changes n)
-    → o ≡ after_changes zone.first.offset zone.changes n → offset_at zone i ≡ o
-offset_between zone order i o n inside below above after =
-    let bracket : IsBracket (at zone.changes) (length zone.changes) i n n = record { ordered = omega arith; inside = inside; below = below; above = above } in
-    let split = rising_split (at zone.changes) (length zone.changes) i n (at_rises zone order) bracket in
-    offset_at-count zone i i n refl split.below split.above ∙ sym after
+use Rattle.cal_zone.proofs.Readings.{forth, offset_between, offset_in}
 
 less : (a b c : ℤ) → a ≤ℤ b → b <ℤ c → a <ℤ c
 less a b c h p = omega (arith, ints)
@@ -41,9 +29,6 @@ inside f l e low high = (omega (arith, ints), omega (arith, ints))
 near : (f l e L i o p : ℤ) → e ≡ (L -ℤ o) → IsOffset o → IsOffset p → (i +ℤ p) ≡ L → f ≤ℤ (e -ℤ pos 187_198) → (e +ℤ pos 187_198) ≤ℤ l → (f ≤ℤ i) × (i ≤ℤ l)
 near f l e L i o p is g h shows low high = (omega (arith, ints, g.0, g.1, h.0, h.1), omega (arith, ints, g.0, g.1, h.0, h.1))
 
-forth : (e L o i : ℤ) → e ≡ (L -ℤ o) → i ≡ e → (i +ℤ o) ≡ L
-forth e L o i is same = omega (arith, ints)
-
 back : (e L o i p : ℤ) → e ≡ (L -ℤ o) → p ≡ o → (i +ℤ p) ≡ L → i ≡ e
 back e L o i p is same shows = omega (arith, ints)
 
@@ -53,7 +38,7 @@ single_in zone order s span L e is low high i = (
   (λ same.
       let h = inside s.first s.last e low high in
       let o : offset_at zone i ≡ s.offset = ap (offset_at zone) same ∙ span e h.0 h.1 in
-      ap (λ y. i +ℤ y) o ∙ forth e L s.offset i is same),
+      ap (λ y. i +ℤ y) o ∙ forth L i s.offset (same ∙ is)),
   (λ shows.
       let h = inside s.first s.last e low high in
       let own : IsOffset s.offset = subst IsOffset (span e h.0 h.1) (offset_in zone order e) in

@@ -3,10 +3,7 @@ use Rattle.std.proofs.Common.{◌≡◌, ℕ, ◌+◌, ◌-◌, ◌<◌, ◌≤�
 use Rattle.std.proofs.lemmas.Int.{ints}
 use Rattle.std.specs.Prelude.{ℤ, ◌<ℤ◌, ◌≤ℤ◌, int_le, int_lt, true, false}
 use Rattle.cal_zone.specs.Split.{IsBracket, IsSplit}
-use Rattle.cal_zone.proofs.Orders.{trans}
-
-trans_less : (a b c : ℤ) → a <ℤ b → b ≤ℤ c → a <ℤ c
-trans_less a b c p q = omega (arith, ints)
+use Rattle.cal_zone.proofs.Orders.{less_trans, trans}
 
 pub from_index : (f : ℕ → ℤ) (n : ℕ) (x : ℤ) (k low high : ℕ) → low ≡ k + 1 → low ≤ high → high ≤ n → f k ≤ℤ x → (high < n → x <ℤ f high) → IsBracket f n x low high
 from_index f n x k low high e ordered inside here above = record {
@@ -19,9 +16,6 @@ from_index f n x k low high e ordered inside here above = record {
 pub upward : (f : ℕ → ℤ) (n : ℕ) (x : ℤ) (low high middle : ℕ) → IsBracket f n x low high → middle < high → f middle ≤ℤ x → IsBracket f n x (middle + 1) high
 upward f n x low high middle b less here = from_index f n x middle (middle + 1) high (omega arith) (omega arith) b.inside here b.above
 
-pub downward : (f : ℕ → ℤ) (n : ℕ) (x : ℤ) (low high middle : ℕ) → IsBracket f n x low high → low ≤ middle → middle < high → x <ℤ f middle → IsBracket f n x low middle
-downward f n x low high middle b more less here = record { ordered = more; inside = (let i = b.inside in omega arith); below = b.below; above = λ _. here }
-
 pub rising_split : (f : ℕ → ℤ) (n : ℕ) (x : ℤ) (m : ℕ) → ((j k : ℕ) → j ≤ k → k < n → f j ≤ℤ f k) → IsBracket f n x m m → IsSplit f n x m m
 rising_split f n x m rises b = record {
   ordered = omega arith;
@@ -29,7 +23,7 @@ rising_split f n x m rises b = record {
   below = λ k h.
       let inside = b.inside in
       trans (f k) (f (m - 1)) x (rises k (m - 1) (omega arith) (omega arith)) (b.below (m - 1) (omega arith));
-  above = λ k h p. trans_less x (f m) (f k) (b.above (omega arith)) (rises m k h p);
+  above = λ k h p. less_trans x (f m) (f k) (b.above (omega arith)) (rises m k h p);
 }
 
 pub ended : (f : ℕ → ℤ) (n : ℕ) (x : ℤ) (low high : ℕ) → high ≤ low → IsBracket f n x low high → IsBracket f n x low low

@@ -4,7 +4,7 @@ use Rattle.std.specs.List.{slice_index_or}
 use Rattle.cal_zone.specs.declared.change.Change.{Change}
 use Rattle.cal_zone.specs.declared.change_error.ChangeError.{ChangeError}
 use Rattle.cal_zone.specs.declared.change_error.ChangeError.TheVariants.{FirstOffset, Offset, Instant, NotRising, Overlap}
-use Rattle.cal_zone.specs.Timeline.{IsOffset, IsMoment, no_change, at, begins, ends}
+use Rattle.cal_zone.specs.Timeline.{IsOffset, IsMoment, IsNext, no_change, at, after_changes, begins, ends}
 
 -- The offset and the instant of the change with an index are in range.
 pub record IsSound (cs : List Change) (k : ℕ) : Type 0 where
@@ -12,9 +12,8 @@ pub record IsSound (cs : List Change) (k : ℕ) : Type 0 where
   pub moment : IsMoment (at cs k)
 
 -- The next change is later, and its gap or fold begins when the gap or fold of this one has ended.
-pub record Follows (first : ℤ) (cs : List Change) (k : ℕ) : Type 0 where
-  pub rising : at cs k <ℤ at cs (suc k)
-  pub apart : ends first cs k ≤ℤ begins first cs (suc k)
+abbrev pub Follows : ℤ → List Change → ℕ → Type 0
+Follows first cs k = IsNext (at cs k) (at cs (suc k)) (after_changes first cs k) (after_changes first cs (suc k)) (after_changes first cs (suc (suc k)))
 
 -- The offsets and the instants of the first n changes are in range.
 abbrev pub AreSound : List Change → ℕ → Type 0

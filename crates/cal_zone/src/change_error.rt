@@ -1,6 +1,6 @@
 //! Errors of changes that are not in order.
 ghost use Rattle.std.specs.Prelude.{◌≡◌, ℕ, suc, ◌+◌, ◌<◌, ◌≤◌, ◌↔◌, ℤ, length, IsTrue, IfSome, IfNone};
-ghost use Rattle.cal_zone.specs.Timeline.{after_changes, IsMoment, IsOffset};
+ghost use Rattle.cal_zone.specs.Timeline.{after_changes, IsMoment, IsNext, IsOffset};
 
 use crate::{LocalType, Table};
 
@@ -46,9 +46,21 @@ pub(crate) fn after(first: LocalType, table: &Table<'_>, count: usize) -> i32
     }
 }
 
+/// Checks that the gap or fold of a change at one instant ends before the gap or fold of the next
+/// change begins. The offsets are those before, between and after the changes.
+pub(crate) fn is_next(at: i64, next: i64, before: i32, between: i32, after: i32) -> bool
+    requires at { IsMoment at × IsMoment next }
+    requires offset { IsOffset before × IsOffset between × IsOffset after }
+    ensures { IsTrue result ↔ IsNext at next before between after }
+{
+    let end = at + i64::from(before.max(between));
+    let begin = next + i64::from(between.min(after));
+    at < next && end <= begin
+}
+
 impl ChangeError {
     ghost use Rattle.cal_zone.specs.ChangeError.{IsChangeError, IsSound, AreSound, Follows, AllFollow};
-    ghost use Rattle.cal_zone.specs.Timeline.{IsOrdered, begins, ends};
+    ghost use Rattle.cal_zone.specs.Timeline.{IsOrdered};
 
     /// Returns the error of a single change, if it has one.
     fn of(table: &Table<'_>, index: usize, first: LocalType) -> Option<ChangeError>
@@ -68,28 +80,6 @@ impl ChangeError {
         }
     }
 
-    /// Returns the first reading of the gap or fold of the change.
-    fn begin(table: &Table<'_>, index: usize, first: LocalType) -> i64
-        requires index { index < length table.now }
-        requires first { IsOffset first.offset }
-        requires sound { AreSound table.now (length table.now) }
-        ensures value { result ≡ begins first.offset table.now index }
-    {
-        let change = table.change(index);
-        change.at + i64::from(after(first, table, index).min(change.kind.offset))
-    }
-
-    /// Returns the first reading after the gap or fold of the change.
-    fn end(table: &Table<'_>, index: usize, first: LocalType) -> i64
-        requires index { index < length table.now }
-        requires first { IsOffset first.offset }
-        requires sound { AreSound table.now (length table.now) }
-        ensures value { result ≡ ends first.offset table.now index }
-    {
-        let change = table.change(index);
-        change.at + i64::from(after(first, table, index).max(change.kind.offset))
-    }
-
     /// Returns the error of the change and the next one, if they have one.
     fn between(table: &Table<'_>, index: usize, first: LocalType) -> Option<ChangeError>
         requires next { suc index < length table.now }
@@ -104,10 +94,17 @@ impl ChangeError {
         if next.at <= change.at {
             return Some(ChangeError::NotRising(index));
         }
-        if ChangeError::begin(table, index + 1, first) < ChangeError::end(table, index, first) {
-            return Some(ChangeError::Overlap(index));
+        let before = after(first, table, index);
+        if is_next(
+            change.at,
+            next.at,
+            before,
+            change.kind.offset,
+            next.kind.offset,
+        ) {
+            return None;
         }
-        None
+        Some(ChangeError::Overlap(index))
     }
 
     /// Returns the first error of the changes, or `None` if they are in order.

@@ -1,23 +1,11 @@
 //! The rule of a zone after its last change.
 ghost use Rattle.std.specs.Prelude.{◌≡◌, ℕ, suc, List, ◌++◌, ◌+◌, ◌-◌, ◌<◌, ◌≤◌, ℤ, pos, ◌+ℤ◌, ◌-ℤ◌, ◌<ℤ◌, ◌↔◌, ◌⊎◌, IsTrue, IfSome, IfNone, filter, length};
 ghost use Rattle.cal_zone.specs.Rule.{IsCalm};
-ghost use Rattle.cal_zone.specs.Timeline.{Timeline, local_at, offset_at, InOrder, IsMoment, IsNext, IsOffset};
+ghost use Rattle.cal_zone.specs.Timeline.{Timeline, local_at, offset_at, InOrder, IsMoment, IsOffset};
 ghost use Rattle.cal_zone.specs.declared.change.Change.{Change};
 
-use crate::change_error::after;
+use crate::change_error::{after, is_next};
 use crate::{LocalType, Span, Table, Yearly};
-
-/// Checks that the gap or fold of a change at one instant ends before the gap or fold of the next
-/// change begins. The offsets are those before, between and after the changes.
-fn is_next(at: i64, next: i64, before: i32, between: i32, after: i32) -> bool
-    requires at { IsMoment at × IsMoment next }
-    requires offset { IsOffset before × IsOffset between × IsOffset after }
-    ensures { IsTrue result ↔ IsNext at next before between after }
-{
-    let end = at + i64::from(before.max(between));
-    let begin = next + i64::from(between.min(after));
-    at < next && end <= begin
-}
 
 /// A rule of two changes each year, such as the rule of the POSIX text
 /// `CET-1CEST,M3.5.0,M10.5.0/3`. The first change comes earlier in the year.
@@ -129,7 +117,7 @@ impl Rule {
         ensures value { result ≡ (change_of self.now.one self.now.other index).kind }
         ensures offset { IsOffset result.offset }
     {
-        let _ = self.len();
+        let _ = &self.one;
         if index % 2 == 0 {
             self.one.kind
         } else {
@@ -189,6 +177,8 @@ impl Rule {
             → IfSome result (λ offset. offset ≡ offset_at zone instant) }
         ensures none { IfNone result
             (AllAfter (instant_at self.now.one self.now.other) skip rule_count instant) }
+        ensures exact { IfSome result (λ offset. ¬ AllAfter
+            (instant_at self.now.one self.now.other) skip rule_count instant) }
     {
         let count = self.count(instant);
         if skip < count {

@@ -1,22 +1,13 @@
-use Rattle.std.proofs.Common.{◌≡◌, sym, ap, ◌∙◌, subst, rules, List, ◌++◌, Option}
+use Rattle.std.proofs.Common.{sym, ◌∙◌, subst, rules, List, ◌++◌, Option}
 use Rattle.std.proofs.lemmas.Bool.{false≢true}
 use Rattle.cal_zone.specs.declared.change.Change.{Change}
-use Rattle.cal_zone.specs.declared.local_type.LocalType.{LocalType}
 use Rattle.cal_zone.specs.declared.rule.Rule.{Rule}
 use Rattle.cal_zone.specs.declared.timeline_error.TimelineError.TheVariants as refused
-use Rattle.cal_zone.specs.Timeline.{Timeline, IsOrdered}
-use Rattle.cal_zone.specs.Zone.{held, IsTimelineError, Joins, zone_of}
+use Rattle.cal_zone.specs.Timeline.{IsOrdered}
+use Rattle.cal_zone.specs.Zone.{IsTimelineError, Joins, zone_of}
 use Rattle.cal_zone.proofs.Errors.{timeline_error}
 use Rattle.cal_zone.proofs.Rules.{whole}
 use Rattle.cal_zone.proofs.zone.join.Goals as goal
-
-pub returns-then-joins-clause-value : goal.returns-then-joins-clause-value
-returns-then-joins-clause-value c =
-    subst (λ (rule : Option Rule). held c.args.first c.args.table.now rule c.skip-skip.result ≡ zone_of c.args.first c.args.table.now rule) (sym c.in-Some-rule.is)
-    (ap (λ (ys : List Change). zone c.args.first (c.args.table.now ++ ys)) (sym c.skip-skip.ensures.rest))
-  where
-    zone : LocalType → List Change → Timeline
-    zone first changes = record { first = first; changes = changes }
 
 pub returns-then-joins-clause-ordered : goal.returns-then-joins-clause-ordered
 returns-then-joins-clause-ordered c =

@@ -11,9 +11,6 @@ use Rattle.cal_zone.proofs.Splits.{same_split}
 use Rattle.cal_zone.proofs.rule.Rule.single_after.Goals.{then-count-skip-via-then-count-skip, then-count-skip-via-else-count-skip+then-count-len}
 use Rattle.cal_zone.proofs.rule.Rule.single_after.Goals as goal
 
-pub span_before-requires-clause-max : goal.span_before-requires-clause-max
-span_before-requires-clause-max c = omega (arith, c.count-count.ensures.split.inside, c.len.ensures.len, c.len.ensures.at_most)
-
 pub returns-clause-some : goal.returns-clause-some
 returns-clause-some c = λ zone xs order is.
     let span = c.span_before.ensures in

@@ -1,23 +1,11 @@
-use Rattle.std.proofs.Common.{◌≡◌, ℕ, ◌+◌, ◌++◌, length, ap, sym, subst, arith, Option, Some, to_z, of_z, w64}
+use Rattle.std.proofs.Common.{ℕ, ◌+◌, ◌++◌, length, ap, sym, subst, arith, Option, Some, to_z, of_z, w64}
 use Rattle.std.proofs.lemmas.Int.{to_z-of_z}
 use Rattle.cal_zone.specs.declared.rule.Rule.{Rule}
 use Rattle.cal_zone.specs.Split.{IsBracket}
 use Rattle.cal_zone.specs.Timeline.{Timeline, at}
 use Rattle.cal_zone.specs.Zone.{later}
-use Rattle.cal_zone.proofs.Counts.{in_table, at_end, in_rule, of_changes}
+use Rattle.cal_zone.proofs.Counts.{in_rule, of_changes}
 use Rattle.cal_zone.proofs.unchecked_zone.UncheckedZone.count.Goals as goal
-
-pub returns-then-count-len : goal.returns-then-count-len
-returns-then-count-len c =
-    of_changes _ _ _ _ c.count-count.result (ap (λ (z : Timeline). z.changes) c.self.view_is) (to_z-of_z w64 c.args.instant c.ranges.instant)
-    (in_table c.self.inside.table (later c.self.inside.rule c.self.inside.skip) _ _ c.count-count.ensures (omega (arith, c.len.ensures.len)))
-
-pub returns-in-None : goal.returns-in-None
-returns-in-None c =
-    let ys = later c.self.inside.rule c.self.inside.skip in
-    let none : length ys ≡ 0 = ap (λ (r : Option Rule). length (later r c.self.inside.skip)) c.in-None.is in
-    of_changes _ _ _ _ c.count-count.result (ap (λ (z : Timeline). z.changes) c.self.view_is) (to_z-of_z w64 c.args.instant c.ranges.instant)
-    (at_end c.self.inside.table ys _ _ c.count-count.ensures (omega (arith, c.len.ensures.len)) none)
 
 pub returns-in-Some : goal.returns-in-Some
 returns-in-Some c =

@@ -1,11 +1,10 @@
-use Rattle.std.proofs.Common.{◌∙◌, sym, ap, subst, arith, w32, w64}
+use Rattle.std.proofs.Common.{◌∙◌, sym, ap, arith, w32, w64}
 use Rattle.std.proofs.lemmas.Int.{ints, to_z-of_z}
 use Rattle.cal_zone.specs.Timeline.{offset_at}
 use Rattle.cal_zone.specs.Zone.{IsByRule}
 use Rattle.cal_zone.proofs.Joins.{offset_shown}
 use Rattle.cal_zone.proofs.Offsets.{after_changes-offset}
-use Rattle.cal_zone.proofs.Readings.{if_none, some_in}
-use Rattle.cal_zone.proofs.Spans.{offset_between}
+use Rattle.cal_zone.proofs.Readings.{if_none, offset_between, some_in}
 use Rattle.cal_zone.proofs.unchecked_zone.UncheckedZone.utc_offset_in_table.Goals as goal
 
 pub returns-in-Some-clause-some : goal.returns-in-Some-clause-some
@@ -21,6 +20,3 @@ returns-in-Some-clause-none c = λ order.
     let zone = c.args.self.now in
     if_none c.utc_offset.result _ (IsByRule zone c.args.instant) _ c.utc_offset.ensures
     (λ out. absurd (out (offset_shown _ _ c.after.ensures (after_changes-offset zone.first.offset zone.changes c.in-Some.count order.offset order.offsets))))
-
-pub returns-in-None-clause-none : goal.returns-in-None-clause-none
-returns-in-None-clause-none c = λ order. subst (IsByRule c.args.self.now) (to_z-of_z w64 c.args.instant c.ranges.instant) (c.in-None.ensures.none order)

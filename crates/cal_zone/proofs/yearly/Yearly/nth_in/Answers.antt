@@ -1,8 +1,9 @@
 use Rattle.std.proofs.Common.{refl, arith, to_z, of_z, w32}
 use Rattle.std.proofs.lemmas.Int.{to_z-of_z}
+use Rattle.cal_time.specs.Days.{days_in_month-least}
 use Rattle.cal_time.specs.Laws.{weekday_at-is}
 use Rattle.cal_time.specs.Month.{number}
-use Rattle.cal_zone.proofs.RuleDays.{days_in_month-least, nth_is}
+use Rattle.cal_zone.proofs.RuleDays.{nth_is}
 use Rattle.cal_zone.proofs.yearly.Yearly.nth_in.Goals as goal
 
 pub overflow_sub-ahead : goal.overflow_sub-ahead
