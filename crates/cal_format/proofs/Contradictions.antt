@@ -1,7 +1,7 @@
 -- Numbers that no item contradicts are the numbers of a moment whose text they print.
 use Rattle.std.proofs.Common.{◌≡◌, ℕ, zero, suc, ◌+◌, ◌-◌, ◌*◌, ◌/◌, ◌%◌, ◌≤◌, List, [], ◌∷◌, ◌++◌, refl, sym, ap, subst, ◌∙◌, arith, inl, inr}
 use Rattle.std.specs.Prelude.{Bool, true, false, IsTrue, None, Some, ◌==◌, ◌&&◌, ◌||◌, not, nat_lt, if◌then◌else◌, ℤ, pos, negsuc, neg_ℤ, int_lt, unsigned_abs, codes}
-use Rattle.std.proofs.lemmas.Bool.{cases_lt}
+use Rattle.std.proofs.lemmas.Bool.{and_from, cases_lt, or_parts}
 use Rattle.std.proofs.lemmas.Bool.Decides.{nat_tests}
 use borrow.Author.Tests.{eq-eqb, le-ltb}
 use Rattle.cal_time.specs.Time.{hour_of, minute_of, second_of, nanosecond_of, time_of}
@@ -94,10 +94,6 @@ same-text (i ∷ items) (n ∷ numbers) v fit e =
     ((λ j. first.0 j ++ rest.0 j), (first.1, rest.1))
 
 -- ---- what isn't shown is 0
-neither : (a b : Bool) → (a || b) ≡ false → (a ≡ false) × (b ≡ false)
-neither true b e = cc
-neither false b e = (refl, e)
-
 skipped : (b : Bool) (x y : ℕ) → b ≡ false → y ≡ 0 → (if b then x else y) ≡ 0
 skipped true x y e f = cc
 skipped false x y e f = f
@@ -106,7 +102,7 @@ not-shown : (items : List Item) (numbers : List ℕ) (c : Component) → any_sho
 not-shown [] numbers c e = refl
 not-shown (i ∷ items) [] c e = refl
 not-shown (i ∷ items) (n ∷ numbers) c e =
-    let none = neither (shows c i) (any_shows c items) e in
+    let none = or_parts (shows c i) (any_shows c items) e in
     skipped (shows c i) n (number_in items numbers c) none.0 (not-shown items numbers c none.1)
 
 -- ---- the format holds the moment
@@ -157,17 +153,13 @@ subsecond-held false true c x y z n e = eq-eqb (n % 1_000) 0 (omega (arith, e))
 subsecond-held false false true x y z n e = eq-eqb (n % 1_000_000) 0 (omega (arith, e))
 subsecond-held false false false x y z n e = eq-eqb n 0 e
 
-both-true : (a b : Bool) → IsTrue a → IsTrue b → IsTrue (a && b)
-both-true true b h k = k
-both-true false b h k = cc
-
 shown-parts : (items : List Item) (numbers : List ℕ) (t : ℕ) → AreMost (number_in items numbers) → t ≡ time_in items (number_in items numbers) → IsTrue (holds_parts items t)
 shown-parts items numbers t most e =
     let at = number_in items numbers in
     let parts = parts-are t (hour_in items (number_in items numbers)) (number_in items numbers Minute) (number_in items numbers Second) (nanosecond_in items (number_in items numbers))
     (hour-most items (number_in items numbers) most) (most Minute) (most Second) (nanosecond-most items (number_in items numbers) most) e in
-    both-true _ _ (shown-or (any_shows Minute items) (minute_of t) _ parts.minute (λ f. not-shown items numbers Minute f))
-    (both-true _ _ (shown-or (any_shows Second items) (second_of t) _ parts.second (λ f. not-shown items numbers Second f))
+    and_from _ _ (shown-or (any_shows Minute items) (minute_of t) _ parts.minute (λ f. not-shown items numbers Minute f))
+    (and_from _ _ (shown-or (any_shows Second items) (second_of t) _ parts.second (λ f. not-shown items numbers Second f))
     (subsecond-held (any_shows Nanosecond items) (any_shows Microsecond items) (any_shows Millisecond items) _ _ _ (nanosecond_of t) parts.nanosecond))
 
 -- What isn't determined is 0.
@@ -179,8 +171,8 @@ subsecond-zero false false false = refl
 
 zero-parts : (items : List Item) → IsTrue (holds_parts items 0)
 zero-parts items =
-    both-true _ _ (shown-or (any_shows Minute items) (minute_of 0) 0 refl (λ f. refl))
-    (both-true _ _ (shown-or (any_shows Second items) (second_of 0) 0 refl (λ f. refl)) (subsecond-zero (any_shows Nanosecond items) (any_shows Microsecond items) (any_shows Millisecond items)))
+    and_from _ _ (shown-or (any_shows Minute items) (minute_of 0) 0 refl (λ f. refl))
+    (and_from _ _ (shown-or (any_shows Second items) (second_of 0) 0 refl (λ f. refl)) (subsecond-zero (any_shows Nanosecond items) (any_shows Microsecond items) (any_shows Millisecond items)))
 
 pub zero-holds : (items : List Item) → IsTrue (holds_time items 0)
 zero-holds items =
@@ -188,7 +180,7 @@ zero-holds items =
 
 pub zero-offset : (items : List Item) → IsTrue (holds_offset items (pos 0))
 zero-offset items = if-holds (shows_offset items) _ _
-    (λ _. both-true _ _ (shown-or (any_shows OffsetMinute items) 0 0 refl (λ f. refl)) (shown-or (any_shows OffsetSecond items) 0 0 refl (λ f. refl))) (λ _. refl)
+    (λ _. and_from _ _ (shown-or (any_shows OffsetMinute items) 0 0 refl (λ f. refl)) (shown-or (any_shows OffsetSecond items) 0 0 refl (λ f. refl))) (λ _. refl)
 
 either-time : (b : Bool) (x t : ℕ) (P : Type 0) → t ≡ (if b then x else 0) → (t ≡ x → P) → (t ≡ 0 → P) → P
 either-time true x t P e f g = f e
@@ -222,7 +214,7 @@ shown-offset items numbers o most e =
     let size : unsigned_abs o ≡ number_in items numbers OffsetHour * 3_600 + number_in items numbers OffsetMinute * 60 + number_in items numbers OffsetSecond =
     ap unsigned_abs e ∙ signed-abs (number_in items numbers OffsetSign == 1) _ in
     let parts = offset-parts-are (unsigned_abs o) _ _ _ (most OffsetMinute) (most OffsetSecond) size in
-    both-true _ _ (shown-or (any_shows OffsetMinute items) (unsigned_abs o / 60 % 60) _ parts.minute (λ f. not-shown items numbers OffsetMinute f))
+    and_from _ _ (shown-or (any_shows OffsetMinute items) (unsigned_abs o / 60 % 60) _ parts.minute (λ f. not-shown items numbers OffsetMinute f))
     (shown-or (any_shows OffsetSecond items) (unsigned_abs o % 60) _ parts.second (λ f. not-shown items numbers OffsetSecond f))
 
 either-offset : (b a : Bool) (x o : ℤ) → o ≡ (if b then x else pos 0) → (o ≡ x → IsTrue a) → IsTrue (if b then a else unsigned_abs o == 0)

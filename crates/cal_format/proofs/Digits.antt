@@ -54,10 +54,6 @@ pub digits-some : (c : Component) → 1 ≤ most_digits c
 digits-some Year = lit≤ tt
 digits-some _ = lit≤ tt
 
-pub digits-most : (c : Component) → most_digits c ≤ 14
-digits-most Year = lit≤ tt
-digits-most _ = lit≤ tt
-
 -- A number with padding has no more digits than one without.
 width-up : (c : Component) → 10 ^ width c ≤ 10 ^ most_digits c
 width-up Year = lit≤ tt

@@ -1,7 +1,10 @@
 -- The components that items show, with one item more.
 use Rattle.std.proofs.Common.{◌≡◌, ℕ, ◌≤◌, List, [], ◌∷◌, ◌++◌, refl, sym, ap, ◌∙◌, arith}
 use Rattle.std.specs.Prelude.{Bool, true, false, ◌||◌, ◌&&◌, ◌==◌, if◌then◌else◌, IsTrue, Option, Some, None, min, max, nat_le}
+use Rattle.std.proofs.Math.Bool.{or-false}
+use Rattle.std.proofs.lemmas.Bool.{and_from}
 use Rattle.std.proofs.lemmas.Bool.Decides.{nat_tests}
+use Rattle.std.proofs.lemmas.List.Recursion.{or_push}
 use Rattle.cal_format.specs.declared.item.Component.{Component}
 use Rattle.cal_format.specs.declared.item.Item.{Item}
 use Rattle.cal_format.specs.declared.item.Item.TheVariants as item
@@ -10,17 +13,8 @@ use Rattle.cal_format.specs.Reading.{index, is_component, item_component, shows,
 use Rattle.cal_format.specs.Shown.{AreShown, AreFixed, low_of, component_end, end_of, lowest, highest}
 
 -- ---- one item more
-or-false : (a : Bool) → (a || false) ≡ a
-or-false true = refl
-or-false false = refl
-
-or-assoc : (a b c : Bool) → (a || (b || c)) ≡ ((a || b) || c)
-or-assoc true b c = refl
-or-assoc false b c = refl
-
 any-more : (c : Component) (items : List Item) (i : Item) → any_shows c (items ++ i ∷ []) ≡ (any_shows c items || shows c i)
-any-more c [] i = or-false (shows c i)
-any-more c (x ∷ items) i = ap (λ b. shows c x || b) (any-more c items i) ∙ or-assoc (shows c x) (any_shows c items) (shows c i)
+any-more c items i = or_push (any_shows c) (shows c) refl (λ x xs. refl) items i
 
 lowest-more : (items : List Item) (i : Item) → lowest (items ++ i ∷ []) ≡ min (lowest items) (low_of (item_component i))
 lowest-more [] i = omega arith
@@ -40,11 +34,7 @@ fixed-more (x ∷ items) i fixed last = (fixed.0, fixed-more items i fixed.1 las
 
 pub fixed-apart : (items : List Item) → AreFixed items → IsTrue (are_apart items)
 fixed-apart [] fixed = refl
-fixed-apart (i ∷ items) fixed = both-true (ends_before i items) (are_apart items) (fixed.0 items) (fixed-apart items fixed.1)
-  where
-    both-true : (a b : Bool) → IsTrue a → IsTrue b → IsTrue (a && b)
-    both-true true b h k = k
-    both-true false b h k = cc
+fixed-apart (i ∷ items) fixed = and_from (ends_before i items) (are_apart items) (fixed.0 items) (fixed-apart items fixed.1)
 
 -- The marks of items with one item more, without a component or with this one.
 or-mark : (a m : Bool) → (if a then true else m) ≡ (m || a)
@@ -68,10 +58,6 @@ marked-none c i m none = sym (ap (λ o. m || is_component c o) none ∙ or-false
 
 pub marked-some : (c d : Component) (i : Item) (m : Bool) → item_component i ≡ Some d → (if index d == index c then true else m) ≡ (m || shows c i)
 marked-some c d i m some = or-mark (index d == index c) m ∙ ap (λ o. m || is_component c o) (sym some)
-
-pub both-fixed : (a b : Bool) → IsTrue (a && b) → IsTrue a × IsTrue b
-both-fixed true b h = (refl, h)
-both-fixed false b h = cc
 
 -- ---- a range
 between : (low high a b c d : ℕ) → ((nat_le low a && nat_le b high) && (nat_le low c && nat_le d high)) ≡ (nat_le low (min a c) && nat_le (max b d) high)

@@ -62,16 +62,6 @@ pub second-or : (a b : Bool) → IsTrue b → IsTrue (a || b)
 second-or true b h = refl
 second-or false b h = h
 
-pub scanned-none : (f : Fields) (text : List ℕ) → HasFields [] f f text text
-scanned-none f text = record {
-  fit = tt;
-  in_range = refl;
-  text_is = refl;
-  kept = λ c e. refl;
-  marked = λ c h. refl;
-  shown = λ before are. subst (λ l. AreShown l f.shown) (sym (append-nil before)) are;
-}
-
 pub scanned-more : (i : Item) (items : List Item) (old mid new : Fields) (text rest end : List ℕ) → HasField i old mid text rest → HasFields items mid new rest end → HasFields (i ∷ items) old new text end
 scanned-more i items old mid new text rest end first next =
     let marked : (c : Component) → IsTrue (shows c i) → IsTrue (mark_of c mid.shown.marks) = λ c h. subst IsTrue (sym (first.marks c)) (second-or (mark_of c old.shown.marks) (shows c i) h) in

@@ -36,6 +36,19 @@ pub(crate) fn scan_items(
     }
 }
 
+/// Parses the items up to the end of the text, whatever their numbers are.
+pub(crate) fn scan_form(items: &[Item], scanner: &mut Scanner) -> Option<()>
+    ensures { ScansWhole (shape_of items.now) scanner.old.rest.now scanner.new.rest.now result }
+{
+    match items {
+        [] => scanner.end(),
+        [item, others @ ..] => {
+            scan_item(scanner, *item)?;
+            scan_form(others, scanner)
+        }
+    }
+}
+
 /// Parses the number of an item.
 #[inline(always)]
 pub(crate) fn scan_item(scanner: &mut Scanner, item: Item) -> Option<u64>

@@ -1,12 +1,13 @@
 //! Parsing: the numbers of a text, and the moment that they determine.
-ghost use Rattle.std.specs.Prelude.{◌≡◌, ℕ, ◌<◌, ◌≤◌, length, Ok, Some, IsTrue, IfOk, IfErr, IfSome, not, pos, if◌then◌else◌};
+ghost use Rattle.std.specs.Prelude.{◌≡◌, ℕ, ◌<◌, ◌≤◌, length, Ok, Some, IsTrue, IfOk, IfErr, IfNone, IfSome, not, pos, if◌then◌else◌};
 ghost use Rattle.cal_time.specs.Date.{IsDate};
 ghost use Rattle.cal_time.specs.Time.{IsTime};
 ghost use Rattle.cal_time.specs.UtcOffset.{IsOffset};
 ghost use Rattle.cal_format.specs.declared.error.ParseError.TheVariants.{UnexpectedByte, UnexpectedEnd};
 ghost use Rattle.cal_format.specs.declared.item.Component.{Component};
 ghost use Rattle.cal_format.specs.declared.moment.Moment.{Moment};
-ghost use Rattle.cal_format.specs.Form.{AreNumbers, numbered_text, numbers_of};
+ghost use Rattle.cal_text.specs.Position.{IsPosition};
+ghost use Rattle.cal_format.specs.Form.{AreNumbers, HasForm, numbered_text, numbers_of};
 ghost use Rattle.cal_format.specs.Ranges.{maximum};
 ghost use Rattle.cal_format.specs.Reading.{are_apart, shows_time, shows_offset, shows_timestamp};
 ghost use Rattle.cal_format.specs.Rejection.{IsRejection, IsNumberRejection};
@@ -18,7 +19,7 @@ use crate::date_parts::{date_of, value_error};
 use crate::determines::{shows_date, shows_offset, shows_time, shows_timestamp};
 use crate::error::ParseError;
 use crate::fields::Fields;
-use crate::form::scan_items;
+use crate::form::{scan_form, scan_items};
 use crate::format::Format;
 use crate::item::{Component, Item};
 use crate::moment::Moment;
@@ -32,6 +33,23 @@ use crate::value::first_date;
 use cal_text::Scanner;
 use cal_time::error::{Component as Named, ComponentRange};
 use cal_time::{Date, Time, UtcOffset};
+
+impl Format {
+    /// Returns the position at which a text stops matching the form of the format, or `None` if it
+    /// has the form, whatever its numbers are. For `%F`, `2024-99-99` has the form, and
+    /// `2024-2-29` gives 6.
+    pub fn first_mismatch(&self, text: &[u8]) -> Option<usize>
+        ensures form { IfNone result (HasForm self.now text.now) }
+        ensures other { IfSome result (λ _. ¬ HasForm self.now text.now) }
+        ensures position { IfSome result (IsPosition (HasForm self.now) text.now) }
+    {
+        let mut scanner = Scanner { rest: text };
+        match scan_form(self.items(), &mut scanner) {
+            Some(()) => None,
+            None => Some(text.len() - scanner.rest.len()),
+        }
+    }
+}
 
 /// Parses a text. Returns the moment that the items hold and print as this text, or why there is
 /// none.

@@ -183,6 +183,14 @@ impl Format {
 }
 
 impl DateFormat {
+    /// Returns its items as a format of any values.
+    pub fn as_format(&self) -> &Format
+        ensures items { result.now ≡ self.now }
+        ensures determines { DeterminesDate self.now }
+    {
+        &self.format
+    }
+
     /// Parses a text. Returns the date that the format holds and prints as this text, if it is the
     /// text of a date. The format holds a date if each year that it shows is from 0 to 9999.
     ///
@@ -255,6 +263,14 @@ impl OffsetFormat {
 }
 
 impl DateTimeFormat {
+    /// Returns its items as a format of any values.
+    pub fn as_format(&self) -> &Format
+        ensures items { result.now ≡ self.now }
+        ensures determines { DeterminesDateTime self.now }
+    {
+        &self.format
+    }
+
     /// Parses a text. Returns the date-time that the format holds and prints as this text, if it is
     /// the text of a date-time. The format holds a date-time if each year that it shows is from 0
     /// to 9999, and each part of the time of day that it doesn't show is 0.
@@ -282,6 +298,14 @@ impl DateTimeFormat {
 }
 
 impl OffsetDateTimeFormat {
+    /// Returns its items as a format of any values.
+    pub fn as_format(&self) -> &Format
+        ensures items { result.now ≡ self.now }
+        ensures determines { DeterminesOffsetDateTime self.now }
+    {
+        &self.format
+    }
+
     /// Parses a text. Returns the date-time that the format holds and prints as this text, if it is
     /// the text of a date-time. The format holds a date-time if each year that it shows is from 0
     /// to 9999, and each part of the time of day and of the offset that it doesn't determine is 0.

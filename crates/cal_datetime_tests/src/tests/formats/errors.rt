@@ -56,6 +56,23 @@ fn positions(rt: HostRuntime) -> Result<(), Fail> {
     Ok(())
 }
 
+/// The position is that of the error. A text with numbers out of range has the form.
+#[test]
+fn mismatches(rt: HostRuntime) -> Result<(), Fail> {
+    let rt = &rt;
+    for &(spelling, text, position) in &[
+        ("%F", "2024/02-29", Some(4)),
+        ("%F", "2024-02-29 ", Some(10)),
+        ("%F", "2024-02-2", Some(9)),
+        ("%F", "2024-99-99", None),
+    ] {
+        let format = date_format(spelling, rt);
+        let found = format.as_format().first_mismatch(text.as_bytes());
+        holds(rt, text, found == position);
+    }
+    Ok(())
+}
+
 /// The first component of the format that is out of range, or a day that its month doesn't have.
 #[test]
 fn ranges(rt: HostRuntime) -> Result<(), Fail> {

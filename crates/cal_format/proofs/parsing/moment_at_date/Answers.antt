@@ -1,7 +1,5 @@
 use Rattle.std.proofs.Common.{sym, ◌∙◌}
 use Rattle.std.specs.Prelude.{Some}
-use Rattle.cal_format.specs.Reading.{shows_timestamp}
-use Rattle.cal_format.proofs.Apart.{not_test}
 use Rattle.cal_format.proofs.Outcomes.{same-value, no-value}
 use Rattle.cal_format.proofs.parsing.moment_at_date.Goals as goal
 
@@ -14,12 +12,3 @@ returns-clause-every c v is =
     let t = c.time_of_numbers-time.ensures.value ∙ sym (is.time c.requires.date) in
     let o = c.requires.offset ∙ sym is.offset in
     λ i. Some (record { date = d i; time = t i; offset = o i })
-
-pub returns-clause-value : goal.returns-clause-value
-returns-clause-value c = record {
-  in_range = record { date = c.in_ok-date.ensures.range; time = c.time_of_numbers-time.ensures.range; offset = c.requires.range };
-  timestamp = λ h. absurd (not_test (shows_timestamp c.args.items.now) c.requires.date h);
-  date = λ h. c.in_ok-date.ensures.value;
-  time = λ h. c.time_of_numbers-time.ensures.value;
-  offset = c.requires.offset;
-}
