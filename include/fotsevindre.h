@@ -97,8 +97,9 @@ typedef struct fots_recurrence {
     int16_t set_positions[FOTS_MAX_VALUES];
 } fots_recurrence;
 
-/* The maximum number of holidays. */
+/* The maximum number of holidays, and of the dates and the exceptions of a rule. */
 #define FOTS_MAX_HOLIDAYS 1024
+#define FOTS_MAX_DATES 1024
 
 /* Working days, which fots_workdays_new fills. After a change by hand results can be wrong, but no
  * call reads past the struct. */
@@ -185,6 +186,7 @@ enum fots_status {
     FOTS_INSUFFICIENT_FORMAT = 41, /* the texts of a format don't determine such a value */
     FOTS_BUFFER_TOO_SHORT = 42, /* a buffer has no room for the text */
     FOTS_CONTRADICTION = 43, /* a component of a text isn't that of the value, as a weekday */
+    FOTS_TOO_MANY_DATES = 44, /* too many dates or exceptions of a rule; expected at most 1024 */
     FOTS_INVALID_ZONE = 45, /* a fots_zone has other numbers than a call makes */
     FOTS_INVALID_POLICY = 46, /* expected 0 (compatible) to 3 (reject) */
     FOTS_SKIPPED_TIME = 47, /* the clocks of a zone skip the date and time */
@@ -259,6 +261,7 @@ static inline const char *fots_status_name(int32_t status)
     case FOTS_INSUFFICIENT_FORMAT: return "insufficient format";
     case FOTS_BUFFER_TOO_SHORT: return "buffer too short";
     case FOTS_CONTRADICTION: return "contradiction";
+    case FOTS_TOO_MANY_DATES: return "too many dates";
     case FOTS_INVALID_ZONE: return "invalid zone";
     case FOTS_INVALID_POLICY: return "invalid policy";
     case FOTS_SKIPPED_TIME: return "skipped time";
@@ -466,7 +469,7 @@ typedef struct fots_recurrence_text_result {
     uint32_t part; /* this and position as above */
     size_t position;
     uint32_t length; /* in bytes, or 0 */
-    char bytes[2728]; /* ASCII, then zero bytes */
+    char bytes[4064]; /* ASCII, then zero bytes */
 } fots_recurrence_text_result;
 
 typedef struct fots_workdays_result {
@@ -677,7 +680,8 @@ enum fots_frequency { FOTS_DAILY = 1, FOTS_WEEKLY = 2, FOTS_MONTHLY = 3, FOTS_YE
 /* A recurrence rule in a subset of RFC 5545. A day matches if it matches all parts; an empty list
  * excludes no day. A list has at most FOTS_MAX_VALUES values. A rule without days of the year, days
  * of the month and weekdays takes the day of its start. Weeks, days and positions count from 1, or
- * from -1 at the end; 0 matches no day. */
+ * from -1 at the end; 0 matches no day. The days of the rule are the days that match and the dates,
+ * also those outside start and until, without the exceptions. */
 typedef struct fots_rule {
     fots_date start; /* the first possible day; it counts only if it matches */
     fots_date until; /* the last possible day; {FOTS_MAX_JULIAN_DAY} for no end */
@@ -696,6 +700,10 @@ typedef struct fots_rule {
     size_t weekdays_length;
     const int16_t *set_positions; /* among the days of a period that match the lists above */
     size_t set_positions_length;
+    const fots_date *dates; /* RDATE, in any order, at most FOTS_MAX_DATES */
+    size_t dates_length;
+    const fots_date *exceptions; /* EXDATE, in any order, at most FOTS_MAX_DATES */
+    size_t exceptions_length;
 } fots_rule;
 
 /* Returns the rule of every day, or the same day of every week (from Monday), month or year. */
@@ -703,6 +711,7 @@ static inline fots_rule fots_rule_new(fots_date start, uint32_t frequency)
 {
     static const fots_rule_weekday none = {0, 0};
     static const int16_t no_number = 0;
+    static const fots_date no_date = {0};
     fots_rule rule;
     rule.start = start;
     rule.until.julian_day = FOTS_MAX_JULIAN_DAY;
@@ -721,13 +730,17 @@ static inline fots_rule fots_rule_new(fots_date start, uint32_t frequency)
     rule.weekdays_length = 0;
     rule.set_positions = &no_number;
     rule.set_positions_length = 0;
+    rule.dates = &no_date;
+    rule.dates_length = 0;
+    rule.exceptions = &no_date;
+    rule.exceptions_length = 0;
     return rule;
 }
 
 /* The calls check the rule first: FOTS_INVALID_DATE for start and until, FOTS_INVALID_FREQUENCY,
  * FOTS_INVALID_WEEKDAY for week_start, FOTS_TOO_MANY_PARTS, FOTS_MONTH_OUT_OF_RANGE,
- * FOTS_INVALID_WEEKDAY; then FOTS_INVALID_DATE for `date`. The examples have the last Fridays from
- * 2024-01-01 on. */
+ * FOTS_INVALID_WEEKDAY, FOTS_TOO_MANY_DATES, FOTS_INVALID_DATE for dates and exceptions; then
+ * FOTS_INVALID_DATE for `date`. The examples have the last Fridays from 2024-01-01 on. */
 
 /* Return the first day of the rule, the first one after a date, or the last one before a date;
  * FOTS_RESULT_OUT_OF_RANGE if no such day exists. The first is 2024-01-26, the next one 2024-02-23,
@@ -740,7 +753,7 @@ fots_date_result fots_rule_previous_before(const fots_rule *rule, fots_date date
 fots_component_result fots_rule_contains(const fots_rule *rule, fots_date date);
 
 /* Writes the days of the rule after a date, in order, and returns their number: `days_length`, or
- * fewer if no more follow. The array must not overlap the rule. */
+ * fewer if no more follow. The array must not overlap the rule or its lists. */
 fots_days_result fots_rule_days_after(const fots_rule *rule, fots_date date, fots_date *days, size_t days_length);
 
 /* The parts of the text of a recurrence. */
@@ -755,12 +768,16 @@ enum fots_rule_part {
     FOTS_RULE_COUNT = 8,
     FOTS_RULE_BYSETPOS = 9,
     FOTS_RULE_BYYEARDAY = 10,
-    FOTS_RULE_BYWEEKNO = 11
+    FOTS_RULE_BYWEEKNO = 11,
+    FOTS_RULE_BYHOUR = 12,
+    FOTS_RULE_BYMINUTE = 13,
+    FOTS_RULE_BYSECOND = 14
 };
 
 /* Parses the text of a recurrence, as RFC 5545 has it after RRULE:. It can also begin with RRULE:.
  * Calls with such a text return its first wrong part as FOTS_UNKNOWN_PART, FOTS_TOO_MANY_VALUES,
- * FOTS_DUPLICATE_PART, FOTS_INVALID_VALUE or FOTS_MISSING_FREQUENCY.
+ * FOTS_DUPLICATE_PART, FOTS_INVALID_VALUE or FOTS_MISSING_FREQUENCY. BYHOUR, BYMINUTE, BYSECOND and
+ * the time of an UNTIL are checked and ignored.
  * "FREQ=MONTHLY;BYDAY=-1FR;COUNT=3" has FOTS_MONTHLY, the interval 1, the week start 1, the count 3
  * and the weekday {-1, 5}. */
 fots_parse_recurrence_result fots_recurrence_parse(const char *text, size_t text_length);

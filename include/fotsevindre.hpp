@@ -525,6 +525,32 @@ enum class Convention : std::uint32_t {
     ModifiedPreceding = FOTS_MODIFIED_PRECEDING
 };
 
+namespace detail {
+
+// Returns the first dates of an array.
+inline std::vector<Date> first_dates(const std::vector<fots_date> &written, std::size_t length)
+{
+    std::vector<Date> dates;
+    dates.reserve(length);
+    for (std::size_t index = 0; index < length; ++index) {
+        dates.push_back(Date(written[index], {}));
+    }
+    return dates;
+}
+
+// Returns dates as C has them.
+inline std::vector<fots_date> dates_of_c(const std::vector<Date> &dates)
+{
+    std::vector<fots_date> converted;
+    converted.reserve(dates.size());
+    for (const Date date : dates) {
+        converted.push_back(date.c());
+    }
+    return converted;
+}
+
+} // namespace detail
+
 // The days of a week without holidays: at most FOTS_MAX_HOLIDAYS, in strictly ascending order.
 class Workdays {
 public:
@@ -537,12 +563,9 @@ public:
         for (std::size_t index = 0; index < marks.size(); ++index) {
             weekmask |= std::uint32_t{marks[index]} << index;
         }
-        std::vector<fots_date> dates;
+        std::vector<fots_date> dates = detail::dates_of_c(holidays);
         // One more than needed, so that data() is not null.
-        dates.reserve(holidays.size() + 1);
-        for (const Date holiday : holidays) {
-            dates.push_back(holiday.c());
-        }
+        dates.reserve(dates.size() + 1);
         const fots_workdays_result made = fots_workdays_new(weekmask, dates.data(), dates.size());
         if (made.status == FOTS_INVALID_HOLIDAYS) {
             std::size_t position = 1;
@@ -574,21 +597,6 @@ private:
     fots_workdays workdays_;
 };
 
-namespace detail {
-
-// Returns the first dates of an array.
-inline std::vector<Date> first_dates(const std::vector<fots_date> &written, std::size_t length)
-{
-    std::vector<Date> dates;
-    dates.reserve(length);
-    for (std::size_t index = 0; index < length; ++index) {
-        dates.push_back(Date(written[index], {}));
-    }
-    return dates;
-}
-
-} // namespace detail
-
 enum class Frequency : std::uint32_t { Daily = FOTS_DAILY, Weekly = FOTS_WEEKLY, Monthly = FOTS_MONTHLY, Yearly = FOTS_YEARLY };
 
 // A weekday of a rule: every one if number is 0, else the n-th, or from the end if negative.
@@ -600,8 +608,10 @@ struct ByDay {
     Weekday weekday;
 };
 
-// A recurrence rule of RFC 5545. An empty list excludes no day. If a list has more than
-// FOTS_MAX_VALUES values, the calls throw FOTS_TOO_MANY_PARTS.
+// A recurrence rule of RFC 5545. An empty list excludes no day. The days of the rule are the days
+// that match and the dates, also those outside start and until, without the exceptions. If a list
+// has more than FOTS_MAX_VALUES values, the calls throw FOTS_TOO_MANY_PARTS, and for more than
+// FOTS_MAX_DATES dates or exceptions FOTS_TOO_MANY_DATES.
 class Rule {
 public:
     Rule(Date its_start, Frequency its_frequency) : start(its_start), frequency(its_frequency) {}
@@ -617,6 +627,8 @@ public:
     std::vector<ByDay> weekdays{};
     std::vector<std::int16_t> set_positions{};
     std::optional<Date> until{};
+    std::vector<Date> dates{};
+    std::vector<Date> exceptions{};
 
     std::optional<Date> first() const { return Date::if_any(with([](const fots_rule *rule) { return fots_rule_first(rule); })); }
     std::optional<Date> next_after(Date date) const
@@ -674,6 +686,9 @@ private:
         set(month_days, rule.month_days, rule.month_days_length);
         set(parts, rule.weekdays, rule.weekdays_length);
         set(set_positions, rule.set_positions, rule.set_positions_length);
+        const std::vector<fots_date> more = detail::dates_of_c(dates), fewer = detail::dates_of_c(exceptions);
+        set(more, rule.dates, rule.dates_length);
+        set(fewer, rule.exceptions, rule.exceptions_length);
         return call(&rule);
     }
 

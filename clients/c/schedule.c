@@ -303,6 +303,7 @@ static void by_its_parts(const recurrence *its, const fots_rule *rule)
     check(said.start.julian_day == rule->start.julian_day && said.until.julian_day == rule->until.julian_day, its->text, said.until.julian_day, 0);
     check(said.frequency == rule->frequency && said.interval == rule->interval && said.week_start == rule->week_start, its->text, said.interval, 0);
     check(SAME(months) && SAME(weeks) && SAME(year_days) && SAME(month_days) && SAME(weekdays) && SAME(set_positions), its->text, 0, 0);
+    check(said.dates_length == 0 && said.exceptions_length == 0, its->text, 0, 0);
     for (size_t index = said.weekdays_length; index < 62; index++) {
         check(said.weekdays[index].number == 0 && said.weekdays[index].weekday == 0, its->text, (long long)index, 0);
     }
@@ -449,6 +450,118 @@ static void rule_errors(void)
     check(fots_rule_days_after(&rule, daily.start, days, 3).status == FOTS_INVALID_DATE && days[0].julian_day == 1, "days from no date", 0, 0);
 }
 
+/* Checks that a rule with lists of dates has exactly these days. */
+static void has_days(const fots_rule *rule, const fots_date *wanted, size_t length, const char *what)
+{
+    fots_date found[16];
+    fots_date_result next = fots_rule_first(rule);
+    const fots_days_result written = fots_rule_days_after(rule, date_at(FOTS_MIN_JULIAN_DAY), found, COUNT(found));
+    check(written.status == FOTS_OK && written.length == length, what, written.status, (long long)written.length);
+    is_error(fots_rule_previous_before(rule, wanted[0]), FOTS_RESULT_OUT_OF_RANGE, what);
+    for (size_t index = 0; index < length; index++) {
+        is_day(next, wanted[index], what);
+        check(found[index].julian_day == wanted[index].julian_day, what, (long long)index, found[index].julian_day);
+        next = fots_rule_next_after(rule, wanted[index]);
+        const int32_t end = index + 1 < length ? wanted[index + 1].julian_day : wanted[index].julian_day + 40;
+        is_day(fots_rule_previous_before(rule, date_at(end)), wanted[index], what);
+        for (fots_date date = wanted[index]; date.julian_day < end; date.julian_day++) {
+            check(fots_rule_contains(rule, date).number == (date.julian_day == wanted[index].julian_day), what, (long long)index, date.julian_day);
+        }
+    }
+    is_error(next, FOTS_RESULT_OUT_OF_RANGE, what);
+}
+
+/* Sets of RFC 5545: its example of RDATE, its Fridays the 13th, and a set with the days that dateutil gives. */
+static void sets(void)
+{
+    const int32_t holidays[] = {19970101, 19970120, 19970217, 19970421, 19970526, 19970704, 19970901, 19971014, 19971128, 19971129, 19971225};
+    const int32_t dates[] = {20240223, 20231225, 20240229, 20240701, 20240201, 20231225, 20240229};
+    const int32_t exceptions[] = {20240531, 20240126, 20240701, 20240102, 20240126};
+    const int32_t days[] = {20231225, 20240201, 20240223, 20240229, 20240329, 20240426, 20240628};
+    const int32_t fridays[] = {19980213, 19980313, 19981113, 19990813, 20001013};
+    fots_date list[16], left_out[16], wanted[16];
+    fots_rule rule = fots_rule_new(day(1997, 9, 2), FOTS_DAILY);
+    rule.until = day(1997, 9, 1);
+    for (size_t index = 0; index < (size_t)COUNT(holidays); index++) {
+        wanted[index] = of_number(holidays[index]);
+        list[COUNT(holidays) - 1 - index] = wanted[index];
+    }
+    rule.dates = list;
+    rule.dates_length = COUNT(holidays);
+    has_days(&rule, wanted, COUNT(holidays), "RDATE");
+
+    const fots_rule_weekday last_friday = {-1, 5};
+    rule = fots_rule_new(day(2024, 1, 1), FOTS_MONTHLY);
+    rule.until = day(2024, 6, 30);
+    rule.weekdays = &last_friday;
+    rule.weekdays_length = 1;
+    for (size_t index = 0; index < (size_t)COUNT(dates); index++) {
+        list[index] = of_number(dates[index]);
+        wanted[index] = of_number(days[index]);
+        left_out[index] = of_number(exceptions[index % (size_t)COUNT(exceptions)]);
+    }
+    rule.dates = list;
+    rule.dates_length = COUNT(dates);
+    rule.exceptions = left_out;
+    rule.exceptions_length = COUNT(exceptions);
+    has_days(&rule, wanted, COUNT(days), "RDATE and EXDATE");
+
+    const fots_rule_weekday friday = {0, 5};
+    const int8_t the_13th = 13;
+    rule = fots_rule_new(day(1997, 9, 2), FOTS_MONTHLY);
+    rule.until = day(2000, 12, 31);
+    rule.weekdays = &friday;
+    rule.weekdays_length = 1;
+    rule.month_days = &the_13th;
+    rule.month_days_length = 1;
+    rule.exceptions = &rule.start;
+    rule.exceptions_length = 1;
+    for (size_t index = 0; index < (size_t)COUNT(fridays); index++) {
+        wanted[index] = of_number(fridays[index]);
+    }
+    has_days(&rule, wanted, COUNT(fridays), "EXDATE");
+}
+
+/* The longest lists of dates, and wrong ones. */
+static void set_errors(void)
+{
+    static fots_date dates[FOTS_MAX_DATES + 1], exceptions[FOTS_MAX_DATES + 1], days[FOTS_MAX_DATES + 1];
+    fots_rule rule = fots_rule_new(date_at(0), FOTS_DAILY);
+    rule.until = date_at(FOTS_MAX_DATES - 1);
+    for (int index = 0; index <= FOTS_MAX_DATES; index++) {
+        dates[index] = date_at(-index);
+        exceptions[index] = date_at(FOTS_MAX_DATES - 1 - index);
+    }
+    rule.dates = dates + 1;
+    rule.dates_length = FOTS_MAX_DATES;
+    rule.exceptions = exceptions;
+    rule.exceptions_length = FOTS_MAX_DATES;
+    check(fots_rule_days_after(&rule, date_at(FOTS_MIN_JULIAN_DAY), days, FOTS_MAX_DATES + 1).length == FOTS_MAX_DATES, "1024 dates", 0, 0);
+    is_day(fots_rule_first(&rule), date_at(-FOTS_MAX_DATES), "the last of 1024 dates");
+    is_error(fots_rule_next_after(&rule, date_at(-1)), FOTS_RESULT_OUT_OF_RANGE, "1024 exceptions");
+    rule.exceptions_length = FOTS_MAX_DATES - 1;
+    is_day(fots_rule_next_after(&rule, date_at(-1)), date_at(0), "1023 exceptions");
+    is_error(fots_rule_next_after(&rule, date_at(FOTS_NO_VALUE)), FOTS_INVALID_DATE, "after no date");
+    /* From the last check to the first. */
+    exceptions[FOTS_MAX_DATES - 2] = date_at(FOTS_MAX_JULIAN_DAY + 1);
+    is_error(fots_rule_first(&rule), FOTS_INVALID_DATE, "an exception that is no date");
+    rule.exceptions_length = FOTS_MAX_DATES - 2;
+    dates[FOTS_MAX_DATES] = date_at(FOTS_MIN_JULIAN_DAY - 1);
+    is_error(fots_rule_previous_before(&rule, date_at(0)), FOTS_INVALID_DATE, "another day that is no date");
+    rule.exceptions_length = FOTS_MAX_DATES + 1;
+    is_error(fots_rule_first(&rule), FOTS_TOO_MANY_DATES, "1025 exceptions");
+    rule.exceptions_length = 0;
+    rule.dates = dates;
+    rule.dates_length = FOTS_MAX_DATES + 1;
+    is_error(fots_rule_first(&rule), FOTS_TOO_MANY_DATES, "1025 dates");
+    check(fots_rule_contains(&rule, date_at(0)).status == FOTS_TOO_MANY_DATES, "1025 dates", 0, 0);
+    check(fots_rule_days_after(&rule, date_at(0), days, 1).status == FOTS_TOO_MANY_DATES, "1025 dates", 0, 0);
+    const uint8_t no_month = 13;
+    rule.months = &no_month;
+    rule.months_length = 1;
+    is_error(fots_rule_first(&rule), FOTS_MONTH_OUT_OF_RANGE, "month 13 before 1025 dates");
+}
+
 /* Checks that each call accepts a rule of every day with lists of this length, or rejects it as too long. */
 static void accepts_up_to_62(const fots_rule *rule, const char *made, long long length, int lists)
 {
@@ -544,6 +657,7 @@ static void texts_in_one_order(void)
             "FREQ=YEARLY;INTERVAL=2;UNTIL=19971231;BYMONTH=6,12;BYMONTHDAY=-31,7;BYDAY=TU,2WE,-1SU;WKST=SU"},
         {"freq=yearly;bysetpos=-366,+002;byday=mo;byyearday=-001,100;byweekno=53,-01",
             "FREQ=YEARLY;BYWEEKNO=53,-1;BYYEARDAY=-1,100;BYDAY=MO;BYSETPOS=-366,2"},
+        {"byhour=09,17;freq=daily;until=20241231t235960z", "FREQ=DAILY;UNTIL=20241231T235959Z;BYHOUR=9,17"},
         {words, words},
     };
     for (int list = 0; list < 4; list++) {
@@ -585,7 +699,7 @@ static void text_errors(void)
         size_t position;
     } rows[] = {
         {"", FOTS_UNKNOWN_PART, 0, 0},
-        {"FREQ=MONTHLY;BYHOUR=9;BYDAY=FR", FOTS_UNKNOWN_PART, 0, 13},
+        {"FREQ=MONTHLY;HOUR=9;BYDAY=FR", FOTS_UNKNOWN_PART, 0, 13},
         {"FREQ=DAILY;", FOTS_UNKNOWN_PART, 0, 11},
         {"FREQ=DAILY;UNTIL=20241231;COUNT=3", FOTS_DUPLICATE_PART, FOTS_RULE_COUNT, 26},
         {"FREQ=DAILY;freq=daily", FOTS_DUPLICATE_PART, FOTS_RULE_FREQ, 11},
@@ -598,6 +712,9 @@ static void text_errors(void)
         {"FREQ=DAILY;UNTIL=20241231T240000Z", FOTS_INVALID_VALUE, FOTS_RULE_UNTIL, 11},
         {"FREQ=DAILY;COUNT=4294967296", FOTS_INVALID_VALUE, FOTS_RULE_COUNT, 11},
         {"FREQ=YEARLY;BYWEEKNO=54", FOTS_INVALID_VALUE, FOTS_RULE_BYWEEKNO, 12},
+        {"FREQ=DAILY;BYHOUR=24", FOTS_INVALID_VALUE, FOTS_RULE_BYHOUR, 11},
+        {"FREQ=DAILY;BYMINUTE=60", FOTS_INVALID_VALUE, FOTS_RULE_BYMINUTE, 11},
+        {"FREQ=DAILY;BYSECOND=61", FOTS_INVALID_VALUE, FOTS_RULE_BYSECOND, 11},
         {"FREQ=YEARLY;BYYEARDAY=0", FOTS_INVALID_VALUE, FOTS_RULE_BYYEARDAY, 12},
         {"FREQ=YEARLY;BYDAY=MO;BYSETPOS=367", FOTS_INVALID_VALUE, FOTS_RULE_BYSETPOS, 21},
         {"FREQ=YEARLY;BYSETPOS=1", FOTS_INVALID_VALUE, FOTS_RULE_BYSETPOS, 12},
@@ -665,6 +782,8 @@ int main(void)
     drawn_months();
     recurrences_of_the_rfc();
     rule_errors();
+    sets();
+    set_errors();
     long_lists();
     filled_by_hand();
     texts_in_one_order();

@@ -309,6 +309,20 @@ static void rules(int32_t julian_day, uint32_t number, int32_t count)
     rule.year_days_length = 0;
     rule.set_positions_length = FOTS_MAX_VALUES + 1;
     DATE(wrong, fots_rule_first(&rule));
+    rule.set_positions_length = 0;
+    rule.months_length = 0;
+    rule.dates = &other;
+    rule.exceptions = &other;
+    wrong = first_of(first_of(of_date(date), no_frequency), is_weekday(rule.week_start) ? FOTS_OK : FOTS_INVALID_WEEKDAY);
+    rule.dates_length = 1;
+    DATE(first_of(wrong, of_date(other)), fots_rule_first(&rule));
+    rule.exceptions_length = FOTS_MAX_DATES + 1;
+    DATE(first_of(wrong, FOTS_TOO_MANY_DATES), fots_rule_first(&rule));
+    rule.dates_length = 0;
+    rule.exceptions_length = 1;
+    DATE(first_of(wrong, of_date(other)), fots_rule_first(&rule));
+    rule.dates_length = FOTS_MAX_DATES + 1;
+    DATE(first_of(wrong, FOTS_TOO_MANY_DATES), fots_rule_first(&rule));
 }
 
 /* A daily rule has the date as its first day from there on, or the start if that is later. */
@@ -664,7 +678,7 @@ static void read_recurrence(const char *bytes, size_t length)
         return;
     }
     const int names_part = found.status >= FOTS_DUPLICATE_PART && found.status <= FOTS_INVALID_VALUE;
-    check(names_part ? found.part >= FOTS_RULE_FREQ && found.part <= FOTS_RULE_BYWEEKNO : found.part == 0, "its part", found.status, found.part);
+    check(names_part ? found.part >= FOTS_RULE_FREQ && found.part <= FOTS_RULE_BYSECOND : found.part == 0, "its part", found.status, found.part);
     check(found.length == 0 && days[0].julian_day == -1, "no day", found.status, (long long)found.length);
     if (found.status == FOTS_MISSING_FREQUENCY) {
         check(found.position == length, "missing frequency", (long long)found.position, (long long)length);

@@ -256,6 +256,18 @@ void recurrences()
         many.set_positions.resize(FOTS_MAX_VALUES);
         check(many.first() == many.start, "62 values");
     }
+    Rule fridays(Date::parse("2024-01-01"), Frequency::Monthly);
+    fridays.until = Date::parse("2024-06-30");
+    fridays.weekdays = {{-1, Weekday::Friday}};
+    fridays.dates = dates({"2024-02-23", "2023-12-25", "2024-02-29", "2024-07-01", "2024-02-01", "2023-12-25"});
+    fridays.exceptions = dates({"2024-05-31", "2024-01-26", "2024-07-01", "2024-01-02"});
+    check(fridays.first_days(9) == dates({"2023-12-25", "2024-02-01", "2024-02-23", "2024-02-29", "2024-03-29", "2024-04-26", "2024-06-28"}), "RDATE, EXDATE");
+    check(fridays.contains(fridays.dates[1]) && !fridays.contains(fridays.exceptions[1]), "a day and an exception");
+    fridays.dates.assign(FOTS_MAX_DATES + 1, fridays.start);
+    throws([&] { fridays.first(); }, FOTS_TOO_MANY_DATES, "too many dates", "dates");
+    fridays.dates.clear();
+    fridays.exceptions.assign(FOTS_MAX_DATES + 1, fridays.start);
+    throws([&] { fridays.first(); }, FOTS_TOO_MANY_DATES, "too many dates", "exceptions");
     Rule third(Date::parse("1997-09-04"), Frequency::Monthly);
     third.weekdays = {Weekday::Tuesday, Weekday::Wednesday, Weekday::Thursday};
     third.set_positions = {3};

@@ -10,16 +10,18 @@
 static int to_rule(const State *state, PyObject *tuple, fots_rule *rule)
 {
     PyObject *start, *until, *week_start;
-    if (!PyArg_ParseTuple(tuple, "OOIIOy#y#y#y#y#y#", &start, &until, &rule->frequency,
+    if (!PyArg_ParseTuple(tuple, "OOIIOy#y#y#y#y#y#y#y#", &start, &until, &rule->frequency,
             &rule->interval, &week_start, LIST_OF_RULE(months), LIST_OF_RULE(weeks),
             LIST_OF_RULE(year_days), LIST_OF_RULE(month_days), LIST_OF_RULE(weekdays),
-            LIST_OF_RULE(set_positions))) {
+            LIST_OF_RULE(set_positions), LIST_OF_RULE(dates), LIST_OF_RULE(exceptions))) {
         return 0;
     }
-    /* The lengths are in bytes, and some values take two. */
+    /* The lengths are in bytes, and some values take more than one. */
     rule->year_days_length /= sizeof *rule->year_days;
     rule->weekdays_length /= sizeof *rule->weekdays;
     rule->set_positions_length /= sizeof *rule->set_positions;
+    rule->dates_length /= sizeof *rule->dates;
+    rule->exceptions_length /= sizeof *rule->exceptions;
     return to_date(state, start, &rule->start) && to_date(state, until, &rule->until) &&
         to_weekday(state, week_start, &rule->week_start);
 }

@@ -20,7 +20,7 @@ from .zones import Zone
 
 # The lists of a rule, and their numbers in C as the module array has them.
 _LISTS = {"months": "B", "weeks": "b", "year_days": "h", "month_days": "b", "weekdays": "b",
-    "set_positions": "h"}
+    "set_positions": "h", "dates": "i", "exceptions": "i"}
 _UNTIL = "%Y%m%dT%H%M%S%.fZ"
 
 
@@ -72,8 +72,6 @@ class Workdays(_core.Workdays):
 
     >>> Workdays().add_workdays(Date(2024, 2, 29), 10)
     2024-03-14
-    >>> Workdays(holidays=[Date(2024, 3, 1)]).next_workday(Date(2024, 2, 29))
-    2024-03-04
     """
 
     __slots__ = ()
@@ -139,16 +137,14 @@ class Rule:
     """A recurrence rule in a subset of RFC 5545. An iteration returns its days in order.
 
     A day is in every n-th day, week, month or year from the start, and in each list that isn't
-    empty: `months`, `weeks` and `year_days` of the year, `month_days`, where -1 is the last day of
-    the month, and `weekdays`. A `Weekday` is every one, and `(-1, Weekday.Friday)` the last Friday
-    of the month, or of the year in a yearly rule without months. `set_positions` select from the
-    days of each period that are in these lists. `ValueError` for more than 62 values in a list.
+    empty: `months`, `weeks` and `year_days` of the year, `month_days`, with -1 for the last one,
+    and `weekdays`: a `Weekday` or, for the last Friday of the month, `(-1, Weekday.Friday)`.
+    `set_positions` select from the days of each period that are in these lists. `dates` (`RDATE`)
+    are days too, and `exceptions` (`EXDATE`) aren't. At most 62 values in a list, or 1024 dates.
 
     >>> last_fridays = Rule(Date(2024, 1, 1), Frequency.Monthly, weekdays=[(-1, Weekday.Friday)])
     >>> last_fridays.first_days(2), last_fridays.next_after(Date(2024, 8, 30))
     ([2024-01-26, 2024-02-23], 2024-09-27)
-    >>> Date(2024, 5, 31) in last_fridays
-    True
     """
 
     start: Date
@@ -162,10 +158,11 @@ class Rule:
     weeks: Sequence[int] = ()
     year_days: Sequence[int] = ()
     set_positions: Sequence[int] = ()
+    dates: Sequence[Date] = ()
+    exceptions: Sequence[Date] = ()
 
     def __post_init__(self) -> None:
-        for name in _LISTS:
-            values = getattr(self, name)
+        for name, values in zip(_LISTS, operator.attrgetter(*_LISTS)(self)):
             if not hasattr(values, "__iter__"):
                 raise TypeError(f"expected a list, such as {name}=[{values!r}], not {values!r}")
             vars(self)[name] = tuple(values)
@@ -181,7 +178,8 @@ class Rule:
             check(self.start, Date), Date.MAX if self.until is None else check(self.until, Date),
             int(check(self.frequency, Frequency)), _fit(self.interval, "I"),
             check(self.week_start, Weekday),
-            *(array.array(code, [_fit(one, code) for one in lists[name]]).tobytes()
+            *(array.array(code, [check(one, Date).to_julian_day() if code == "i" else
+                _fit(one, code) for one in lists[name]]).tobytes()
                 if lists[name] else b"" for name, code in _LISTS.items()))
 
     def next_after(self, date: Date) -> Date | None:
@@ -201,11 +199,16 @@ class Rule:
         return list(itertools.islice(self, operator.index(count)))
 
     def __iter__(self) -> Iterator[Date]:
-        first = (self.start,) if self.start in self else ()
-        return itertools.chain(first, self._walk(self.start))
+        return itertools.chain([Date.MIN] if Date.MIN in self else [], self._walk(Date.MIN))
 
     def __contains__(self, date: object) -> bool:
         return _is_date(date) and _core.rule_contains(self._parts, date)
+
+    def __reversed__(self) -> Iterator[Date]:
+        day = Date.MAX if Date.MAX in self else self.previous_before(Date.MAX)
+        while day is not None:
+            yield day
+            day = self.previous_before(day)
 
     def _walk(self, date: Date) -> Iterator[Date]:
         days = [date] * 64
@@ -247,13 +250,13 @@ class Recurrence:
     def __post_init__(self) -> None:
         _, *names = self.__dataclass_fields__
         parts = dict(zip(names, _core.recurrence_parse(self.text)))
-        lists = {name: tuple(array.array(code, parts[name])) for name, code in _LISTS.items()}
+        lists = {k: tuple(array.array(_LISTS[k], parts[k])) for k in parts.keys() & _LISTS}
         numbers, text = iter(lists["weekdays"]), _core.recurrence_text(self.text)
-        # C reads only the day of such an UNTIL.
-        last = re.search("UNTIL=([0-9]{8}T[0-9]{6}Z)", self.text.upper().replace("60Z", "59Z"))
+        # The parts of C have only the day of such an UNTIL.
+        last = re.search("UNTIL=([0-9]{8}T[0-9]{6}Z)", text)
+        moment = last and PlainDateTime.strptime(last[1], _UNTIL).assume_utc()
         vars(self).update(
-            {**parts, **lists}, text=re.sub("UNTIL=[0-9]+", last[0], text) if last else text,
-            until_moment=last and PlainDateTime.strptime(last[1], _UNTIL).assume_utc(),
+            {**parts, **lists}, text=text, until_moment=moment,
             frequency=Frequency(parts["frequency"]), count=parts["count"] or None,
             months=tuple(map(Month, lists["months"])),
             weekdays=tuple((number, Weekday(day - 1)) if number else Weekday(day - 1)
@@ -284,9 +287,6 @@ class Recurrence:
 
         >>> print(Recurrence.from_parts(Frequency.Monthly, byweekday=[(-1, Weekday.Friday)]))
         FREQ=MONTHLY;BYDAY=-1FR
-        >>> workdays = tuple(Weekday)[:5]
-        >>> print(Recurrence.from_parts(Frequency.Monthly, byweekday=workdays, bysetpos=-1))
-        FREQ=MONTHLY;BYDAY=MO,TU,WE,TH,FR;BYSETPOS=-1
         """
         def listed(values: Any, text_of: Callable[[Any], object] = operator.index) -> str:
             values = values if isinstance(values, Iterable) else (values,)
@@ -309,7 +309,7 @@ class Recurrence:
 
     def rule(self, start: Date) -> Rule:
         """Returns the rule from a start, without the number of times."""
-        _, *names = Rule.__dataclass_fields__
+        names = Rule.__dataclass_fields__.keys() & vars(self)
         return Rule(start, **{name: vars(self)[name] for name in names})
 
     def days(self, start: Date) -> Iterator[Date]:
@@ -324,7 +324,9 @@ class Recurrence:
                 since: OffsetDateTime | None = None) -> Iterator[OffsetDateTime]:
         """Iterates over the moments at which the clocks of a zone show the days from a start to the
         end, at its time of day, in order, each once, and without those before `since`. A time that
-        the clocks skip or show twice means `Local.compatible`."""
+        the clocks skip or show twice means `Local.compatible`. `BYHOUR` raises `ValueError`."""
+        if re.search("BY(HOUR|MINUTE|SECOND)=", self.text):
+            raise ValueError("moments with BYHOUR, BYMINUTE or BYSECOND")
         date, until = check(start, PlainDateTime).date(), self.until_moment
         # The dates of a moment differ by at most 3 days, as offsets are below 26 hours.
         first = date if since is None else \

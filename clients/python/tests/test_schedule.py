@@ -1,5 +1,6 @@
 """Tests of the months, the working days, the recurrences and the day counts of the Python client. Expected values are from calendars, from the
-memorandum of the ISDA, from the examples of RFC 5545, and from the calendar of the standard library, one day at a time."""
+memorandum of the ISDA, from the examples of RFC 5545, from the calendar of the standard library, one day at a time, and from dateutil, if it is
+installed."""
 
 import calendar
 import copy
@@ -9,6 +10,11 @@ import itertools
 import pickle
 import random
 import unittest
+
+try:
+    from dateutil import rrule
+except ImportError:
+    rrule = None
 
 from fotsevindre import ComponentRange, Convention, Date, DayCount, Frequency, Month, Recurrence, Rule, ParseRuleError, ParseRuleErrorKind, SignedDuration, Weekday, Workdays
 
@@ -195,6 +201,7 @@ class Recurrences(unittest.TestCase):
         self.assertEqual(list(Recurrence.parse("freq=daily").days(Date.MAX - SignedDuration.days(63)))[-1], Date.MAX)
         self.assertEqual(list(Recurrence.parse("FREQ=DAILY;UNTIL=20231231").days(day(2024, 1, 1))), [])
         self.assertEqual(list(daily), [day(999999, 12, 30), Date.MAX])
+        self.assertEqual([[date.day for date in reversed(one)] for one in (rule, never, daily)], [[2, 30, 25, 23, 18, 16, 11, 9, 4, 2], [], [31, 30]])
         self.assertNotIn(5, daily)
         self.assertRaises(TypeError, lambda: datetime.date(2024, 1, 1) in daily)
 
@@ -209,6 +216,49 @@ class Recurrences(unittest.TestCase):
         self.assertEqual(list(counted.days(days[0])), days[:129])
         self.assertEqual(list(counted.days_from(days[0], days[128])), days[128:129])
         self.assertEqual(list(itertools.islice(Recurrence.parse("FREQ=DAILY;INTERVAL=3").days_from(days[0], days[70]), 200)), days[70:270])
+
+    @unittest.skipUnless(rrule, "dateutil is not installed")
+    def test_sets(self):
+        """Rules with other dates and exceptions, by the sets of dateutil."""
+        draw, start = random.Random(5545), datetime.datetime(2023, 11, 13)
+        frequencies = {Frequency.Daily: rrule.DAILY, Frequency.Weekly: rrule.WEEKLY, Frequency.Monthly: rrule.MONTHLY, Frequency.Yearly: rrule.YEARLY}
+        for _ in range(500):
+            frequency, interval = draw.choice(list(Frequency)), draw.choice((1, 1, 2, 3))
+            months = draw.sample(range(1, 13), draw.choice((0, 9)))
+            until = start + datetime.timedelta(days=draw.randrange(-1, 500))
+            wanted, drawn = rrule.rruleset(), [[start + datetime.timedelta(days=draw.randrange(-60, 560)) for _ in range(draw.choice((0, 1, 9, 40)))]
+                for _ in range(2)]
+            wanted.rrule(rrule.rrule(frequencies[frequency], start, interval, until=until, bymonth=months or None))
+            # Each day twice, and some of the rule among the exceptions.
+            drawn[1] += draw.sample(list(wanted), len(list(wanted)) // 3)
+            for dates, add in zip(drawn, (wanted.rdate, wanted.exdate)):
+                for one in draw.sample(dates * 2, 2 * len(dates)):
+                    add(one)
+            dates, exceptions = ([Date.from_date(one.date()) for one in draw.sample(listed * 2, 2 * len(listed))] for listed in drawn)
+            rule = Rule(
+                Date.from_date(start.date()), frequency, interval, months=months, until=Date.from_date(until.date()), dates=dates,
+                exceptions=iter(exceptions))
+            days = [Date.from_date(one.date()) for one in wanted]
+            self.assertEqual((list(rule), rule.first_days(len(days))), (days, days))
+            self.assertEqual(list(rule.days_after(Date.from_date(start.date()))), [one for one in days if one > rule.start])
+            for before, after in zip([None, *days], [*days, None]):
+                self.assertEqual(rule.next_after(before or Date.MIN), after)
+                self.assertEqual(rule.previous_before(after or Date.MAX), before)
+            for one in {*dates, *exceptions}:
+                self.assertEqual(one in rule, one in days)
+        self.assertEqual((hash(rule), rule), (hash(copy.deepcopy(rule)), pickle.loads(pickle.dumps(rule))))
+
+    def test_dates_of_sets(self):
+        start = day(2024, 1, 1)
+        ends = Rule(start, Frequency.Daily, until=start, dates=[Date.MAX, Date.MIN], exceptions=[start])
+        self.assertEqual((list(ends), ends.dates, ends.exceptions), ([Date.MIN, Date.MAX], (Date.MAX, Date.MIN), (start,)))
+        many = [start + SignedDuration.days(2 * count) for count in range(1025)]
+        self.assertEqual(list(Rule(start, Frequency.Yearly, until=start, dates=many[:1024], exceptions=many[1:1023])), [start, many[1023]])
+        for name in ("dates", "exceptions"):
+            with self.assertRaisesRegex(ValueError, "^too many dates or exceptions of a rule; expected at most 1024$"):
+                Rule(start, Frequency.Daily, **{name: many})
+            for wrong in (start, [datetime.date(2024, 1, 1)], [2460311], [None]):
+                self.assertRaises(TypeError, Rule, start, Frequency.Daily, **{name: wrong})
 
     def test_fields(self):
         rule = Rule(day(2024, 1, 1), Frequency.Monthly, weekdays=[FR, (-1, SA)], months=iter([1, 2]))
@@ -240,7 +290,7 @@ class Recurrences(unittest.TestCase):
         for parts in ({"weekdays": [5]}, {"months": ["1"]}, {"until": 1}, {"week_start": 1}, {"weekdays": [(1, 5)]}):
             self.assertRaises(TypeError, Rule, start, Frequency.Yearly, **parts)
         for text, wanted in {
-            "FREQ=MONTHLY;BYHOUR=9;BYDAY=FR": (13, ParseRuleErrorKind.Unknown, None, "unknown part at 13"),
+            "FREQ=MONTHLY;HOUR=9;BYDAY=FR": (13, ParseRuleErrorKind.Unknown, None, "unknown part at 13"),
             "FREQ=DAILY;UNTIL=20241231;COUNT=3": (26, ParseRuleErrorKind.Twice, "COUNT", "duplicate COUNT at 26"),
             "FREQ=DAILY;BYMONTHDAY=1" + ",1" * 62: (11, ParseRuleErrorKind.TooMany, "BYMONTHDAY", "too many values in BYMONTHDAY at 11"),
             "FREQ=DAILY;UNTIL=20241231T240000Z": (11, ParseRuleErrorKind.Value, "UNTIL", "invalid value of UNTIL at 11"),

@@ -205,15 +205,17 @@ impl FormatError {
 
 /// Calls with the parts of a rule, which live until the call returns. Panics with too many of them.
 pub(crate) fn with_parts<T>(rule: &Rule<'_>, call: impl FnOnce(CRulePointer) -> T) -> T {
-    for (length, name) in [
-        (rule.months.len(), "months"),
-        (rule.weeks.len(), "weeks"),
-        (rule.year_days.len(), "days of the year"),
-        (rule.month_days.len(), "days of the month"),
-        (rule.weekdays.len(), "weekdays"),
-        (rule.set_positions.len(), "positions"),
+    for (length, name, most) in [
+        (rule.months.len(), "months", Rule::MAX_VALUES),
+        (rule.weeks.len(), "weeks", Rule::MAX_VALUES),
+        (rule.year_days.len(), "days of the year", Rule::MAX_VALUES),
+        (rule.month_days.len(), "days of the month", Rule::MAX_VALUES),
+        (rule.weekdays.len(), "weekdays", Rule::MAX_VALUES),
+        (rule.set_positions.len(), "positions", Rule::MAX_VALUES),
+        (rule.dates.len(), "dates", Rule::MAX_DATES),
+        (rule.exceptions.len(), "exceptions", Rule::MAX_DATES),
     ] {
-        assert!(length <= Rule::MAX_VALUES, "too many {name} in a rule: {length}; expected at most {}", Rule::MAX_VALUES);
+        assert!(length <= most, "too many {name} in a rule: {length}; expected at most {most}");
     }
     let mut months = [0; Rule::MAX_VALUES];
     for (number, month) in months.iter_mut().zip(rule.months) {
@@ -246,6 +248,10 @@ pub(crate) fn with_parts<T>(rule: &Rule<'_>, call: impl FnOnce(CRulePointer) -> 
         weekdays_length: rule.weekdays.len(),
         set_positions: rule.set_positions.as_ptr(),
         set_positions_length: rule.set_positions.len(),
+        dates: julian_days(rule.dates).as_ptr(),
+        dates_length: rule.dates.len(),
+        exceptions: julian_days(rule.exceptions).as_ptr(),
+        exceptions_length: rule.exceptions.len(),
     })
 }
 

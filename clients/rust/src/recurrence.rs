@@ -49,11 +49,17 @@ pub enum RulePart {
     YearDays = 10,
     /// `BYWEEKNO`
     Weeks = 11,
+    /// `BYHOUR`
+    Hours = 12,
+    /// `BYMINUTE`
+    Minutes = 13,
+    /// `BYSECOND`
+    Seconds = 14,
 }
 
 impl RulePart {
     /// The parts by their numbers, from 1.
-    const ALL: [Self; 11] = [
+    const ALL: [Self; 14] = [
         Self::Frequency,
         Self::Interval,
         Self::WeekStart,
@@ -65,6 +71,9 @@ impl RulePart {
         Self::Positions,
         Self::YearDays,
         Self::Weeks,
+        Self::Hours,
+        Self::Minutes,
+        Self::Seconds,
     ];
 
     /// Returns the name, such as `BYDAY`.
@@ -76,7 +85,7 @@ impl RulePart {
 /// Why a part is wrong.
 #[derive(Clone, Copy, Debug, PartialEq, Eq, Hash)]
 pub enum ParseRuleErrorKind {
-    /// The part has another name, such as `BYHOUR=9`.
+    /// The part has another name, such as `RSCALE=GREGORIAN`.
     Unknown,
     /// The part is there twice, or is a second end after `UNTIL` or `COUNT`.
     Twice(RulePart),
@@ -209,6 +218,8 @@ impl<'a> Recurrence<'a> {
                 RuleEnd::Until(day) => Some(day),
                 RuleEnd::Never | RuleEnd::Count(_) => None,
             },
+            dates: &[],
+            exceptions: &[],
         }
     }
 

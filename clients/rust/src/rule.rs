@@ -36,9 +36,9 @@ pub enum ByDay {
 
 /// A recurrence rule in a subset of RFC 5545. A day matches if it matches all parts; an empty slice
 /// excludes no day. A rule without days of the year, days of the month and weekdays takes the day of
-/// its start.
+/// its start. The days of the rule are the days that match and the dates, without the exceptions.
 ///
-/// Calls panic if a slice has more than [`Rule::MAX_VALUES`] values.
+/// Calls panic if a slice has more than [`Rule::MAX_VALUES`] values, or [`Rule::MAX_DATES`] dates.
 ///
 /// ```
 /// use fotsevindre::{ByDay, Date, Frequency, Month, Rule, Weekday};
@@ -75,11 +75,18 @@ pub struct Rule<'a> {
     pub set_positions: &'a [i16],
     /// The last possible day.
     pub until: Option<Date>,
+    /// Other days (`RDATE`), in any order, also outside the start and the end.
+    pub dates: &'a [Date],
+    /// Days to leave out (`EXDATE`), in any order.
+    pub exceptions: &'a [Date],
 }
 
 impl<'a> Rule<'a> {
     /// The maximum number of values of a list.
     pub const MAX_VALUES: usize = 62;
+
+    /// The maximum number of dates, and of exceptions.
+    pub const MAX_DATES: usize = 1024;
 
     /// Creates the rule of every day, or the same day of every week (from Monday), month or year.
     pub fn new(start: Date, frequency: Frequency) -> Self {
@@ -95,6 +102,8 @@ impl<'a> Rule<'a> {
             weekdays: &[],
             set_positions: &[],
             until: None,
+            dates: &[],
+            exceptions: &[],
         }
     }
 
@@ -115,7 +124,8 @@ impl<'a> Rule<'a> {
 
     /// Returns an iterator over the days of the rule.
     pub fn days<'r>(&'r self) -> RuleDays<'r, 'a> {
-        RuleDays { rule: self, front: or_none(with_parts(self, ffi::fots_rule_first)).map(Date::from_c) }
+        let front = or_none(with_parts(self, ffi::fots_rule_first)).map(Date::from_c);
+        RuleDays { rule: self, front, back: None }
     }
 
     /// Returns an iterator over the first `count` days of the rule.
@@ -124,11 +134,13 @@ impl<'a> Rule<'a> {
     }
 }
 
-/// An iterator over the days of a rule, in order.
+/// An iterator over the days of a rule, in order, from both ends.
 #[derive(Clone, Debug)]
 pub struct RuleDays<'r, 'a> {
     rule: &'r Rule<'a>,
     front: Option<Date>,
+    /// The last day that came from the back.
+    back: Option<Date>,
 }
 
 impl Iterator for RuleDays<'_, '_> {
@@ -136,7 +148,20 @@ impl Iterator for RuleDays<'_, '_> {
 
     fn next(&mut self) -> Option<Date> {
         let item = self.front?;
-        self.front = self.rule.next_after(item);
+        let next = self.rule.next_after(item);
+        self.front = next.filter(|day| !self.back.is_some_and(|back| back <= *day));
+        Some(item)
+    }
+}
+
+impl DoubleEndedIterator for RuleDays<'_, '_> {
+    fn next_back(&mut self) -> Option<Date> {
+        let front = self.front?;
+        let item = match self.back {
+            None if self.rule.contains(Date::MAX) => Date::MAX,
+            back => self.rule.previous_before(back.unwrap_or(Date::MAX))?,
+        };
+        (self.front, self.back) = (Some(front).filter(|day| *day < item), Some(item));
         Some(item)
     }
 }

@@ -28,6 +28,7 @@ fn begins(text: &str, rule: &Rule<'_>, days: &[i32], ends: bool) {
     let last = *days.last().unwrap();
     assert!(days[0].iter_to(last).filter(|day| rule.contains(*day)).eq(days.iter().copied()), "{text}");
     assert!(!ends || (rule.next_after(last).is_none() && rule.days().count() == days.len()), "{text}");
+    assert!(!ends || rule.days().rev().eq(days.iter().rev().copied()), "{text}");
 
     let by_text = parse(text.as_bytes()).unwrap();
     assert!(by_text.days(rule.start).take(days.len()).eq(days.iter().copied()), "{text}");
@@ -159,6 +160,33 @@ fn examples_of_the_rfc() {
     );
 }
 
+/// The days that `rruleset` of `dateutil` gives.
+#[test]
+fn sets() {
+    let dates = [2024_02_23, 2023_12_25, 2024_02_29, 2024_07_01, 2024_02_01, 2023_12_25].map(date);
+    let exceptions = [2024_05_31, 2024_01_26, 2024_07_01, 2024_01_02, 2024_01_26].map(date);
+    let fridays = Rule {
+        weekdays: &[Nth(-1, Friday)],
+        until: Some(date(2024_06_30)),
+        dates: &dates,
+        exceptions: &exceptions,
+        ..rule(Monthly, 2024_01_01)
+    };
+    let days = [2023_12_25, 2024_02_01, 2024_02_23, 2024_02_29, 2024_03_29, 2024_04_26, 2024_06_28].map(date);
+    assert!(fridays.days().eq(days));
+    assert_eq!((fridays.next_after(days[1]), fridays.previous_before(days[0])), (Some(days[2]), None));
+    assert!(days.iter().all(|day| fridays.contains(*day)) && !exceptions.iter().any(|day| fridays.contains(*day)));
+    let many = [days[0]; Rule::MAX_DATES];
+    assert!(Rule { dates: &many, ..fridays }.days().eq([0, 2, 4, 5, 6].map(|index| days[index])));
+}
+
+#[test]
+#[should_panic(expected = "too many exceptions in a rule: 1025; expected at most 1024")]
+fn too_many_exceptions() {
+    let many = [date(2024_01_01); Rule::MAX_DATES + 1];
+    let _ = Rule { exceptions: &many, ..rule(Daily, 2024_01_01) }.days();
+}
+
 #[test]
 fn rules_of_no_day() {
     let of_february = Rule { months: &[February], month_days: &[30], ..rule(Yearly, 2024_01_01) };
@@ -168,6 +196,7 @@ fn rules_of_no_day() {
     let daily = rule(Daily, 2024_01_01);
     assert_eq!((daily.next_after(Date::MIN), daily.next_after(Date::MAX)), (Some(date(2024_01_01)), None));
     assert_eq!((daily.previous_before(daily.start), of_february.previous_before(Date::MAX)), (None, None));
+    assert_eq!((daily.days().next_back(), of_february.days().next_back()), (Some(Date::MAX), None));
 }
 
 #[test]
@@ -191,7 +220,7 @@ fn days_by_many_pages() {
 fn texts_at_fault() {
     let many = format!("FREQ=DAILY;BYMONTHDAY=1{}", ",1".repeat(62));
     for (text, position, reason, printed) in [
-        ("FREQ=MONTHLY;BYHOUR=9;BYDAY=FR", 13, ParseRuleErrorKind::Unknown, "unknown part at 13"),
+        ("FREQ=MONTHLY;HOUR=9;BYDAY=FR", 13, ParseRuleErrorKind::Unknown, "unknown part at 13"),
         ("FREQ=DAILY;UNTIL=20241231;COUNT=3", 26, ParseRuleErrorKind::Twice(RulePart::Count), "duplicate COUNT at 26"),
         (&many, 11, ParseRuleErrorKind::TooMany(RulePart::MonthDays), "too many values in BYMONTHDAY at 11"),
         ("FREQ=HOURLY", 0, ParseRuleErrorKind::Value(RulePart::Frequency), "invalid value of FREQ at 0"),

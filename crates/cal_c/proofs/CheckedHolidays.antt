@@ -15,8 +15,7 @@ use Rattle.cal_schedule.specs.Workdays.{WorkWeek, is_marked, is_workday, nth_wor
 use Rattle.cal_schedule.specs.WorkdaysSplit.{IsSplit, marked_count}
 use Rattle.cal_schedule.proofs.WorkdaysWeeks.{Rises, ranks, free, none-marked, workday-unmarked, marked-is}
 use Rattle.cal_c.specs.CheckedWorkdays.{HavePassed, IsDayOfRank, NoDayOfRank}
-use Rattle.cal_c.specs.Values.{IsJulianDay, day_of}
-use Rattle.cal_c.specs.Weekmasks.{holidays_in}
+use Rattle.cal_c.specs.Values.{IsJulianDay, dates_in, day_of}
 
 -- the marks of a week, counted
 pub mark-of : (w : WorkWeek) (marks : List Bool) (i : ℕ) → w.marks ≡ marks → i < 7 → get_or marks i false ≡ is_marked w i
@@ -45,11 +44,11 @@ marked-here test n i most less =
     ]
 
 -- the holidays of an array
-pub held-length : (hs : List ℤ) (n : ℕ) → n ≤ length hs → length (holidays_in (take n hs)) ≡ n
+pub held-length : (hs : List ℤ) (n : ℕ) → n ≤ length hs → length (dates_in (take n hs)) ≡ n
 held-length hs n le = length-map (take n hs) day_of ∙ length-take-le n hs le
 
 pub held-at : (hs : List ℤ) (n i : ℕ) → i < n → n ≤ length hs → All IsJulianDay (take n hs)
-    → IsJulianDay (get_or hs i (pos 0)) × (day_of (get_or hs i (pos 0)) ≡ get_or (holidays_in (take n hs)) i 0)
+    → IsJulianDay (get_or hs i (pos 0)) × (day_of (get_or hs i (pos 0)) ≡ get_or (dates_in (take n hs)) i 0)
 held-at hs n i less le dates =
     let at : get_or (take n hs) i (pos 0) ≡ get_or hs i (pos 0) = get_or-take n hs i (pos 0) less in
     let low : i < length (take n hs) = omega (arith, length-take-le n hs le) in (

@@ -8,12 +8,12 @@ pub mod TextBytes
 pub mod Filled
 pub mod Cases
 pub mod Schedules
-pub mod Holidays
 pub mod CheckedHolidays
 pub mod PrintedRows
 pub mod TextRows
 pub mod Unreads
 pub mod Recurring
+pub mod RuleSets
 pub mod Walks
 pub mod OneAnswer
 pub mod ZoneResults

@@ -1,5 +1,5 @@
 -- The clauses of the call that reads the text of a recurrence leave one answer.
-use Rattle.std.proofs.Common.{◌≡◌, ℕ, ap, ◌∙◌, sym, arith, subst, filter, nat_le, length, List, ℤ, pos, Option, Some, None, SomeIff, Result, Ok, Err, ◌⊎◌, inl, inr}
+use Rattle.std.proofs.Common.{◌≡◌, ℕ, ap, ◌∙◌, sym, arith, filter, nat_le, length, List, ℤ, pos, Option, Some, None, SomeIff, Result, Ok, Err, ◌⊎◌, inl, inr}
 use Rattle.std.proofs.lemmas.Bool.{cases_lt}
 use Rattle.std.proofs.lemmas.List.{ext_get_or}
 use Rattle.cal_recurrence.specs.Days.{days_of}

@@ -1,5 +1,5 @@
 -- The items of numbers, one after the other.
-use Rattle.std.proofs.Common.{◌≡◌, ℕ, ◌+◌, ◌-◌, ◌≤◌, List, [], ◌∷◌, ◌++◌, length, map, take, drop, get_or, refl, sym, ap, ◌∙◌, subst, arith, append_assoc, append-nil, length-append}
+use Rattle.std.proofs.Common.{◌≡◌, ℕ, ◌-◌, ◌≤◌, List, [], ◌∷◌, ◌++◌, length, map, take, drop, get_or, refl, sym, ap, ◌∙◌, subst, arith, append_assoc, length-append}
 use Rattle.std.proofs.lemmas.List.{take_all, length-map}
 use Rattle.std.specs.Prelude.{Bool, true, false, ◌&&◌, IsTrue}
 use Rattle.cal_format.specs.declared.item.Item.{Item}
@@ -42,10 +42,6 @@ format-of f ps P Q few are long found then =
       format = (found.items, record { few = omega (arith, few, same); length_is = sym same; items_are = sym are ∙ found.parts_are });
       every = λ items has. then items (found.every items (are ∙ has.items_are));
     }
-
--- ---- printing
-pub prints-none : (low high : ℕ) (v : Moment) (old : List ℕ) (at : ℕ) → AreItemsOf [] (PrintsItems low high v old old at at)
-prints-none low high v old at = none-of (PrintsItems low high v old old at at) (record { within = refl; text = sym (append-nil (take at old)); end_is = omega arith })
 
 pub prints-both : (low high : ℕ) (v : Moment) (old mid new : List ℕ) (at next end : ℕ) (i : Item) (items : List Item) → PrintsItem low high v old mid at next i → PrintsItems low high v mid new next end items
     → PrintsItems low high v old new at end (i ∷ items)

@@ -2,17 +2,12 @@
 use Rattle.std.proofs.Common.{◌≡◌, ◌≢◌, refl, ℕ, ◌+◌, ◌-◌, ◌<◌, ◌≤◌, ap, sym, ◌∙◌, arith, below_more, add-one, List, [], ◌∷◌, ◌++◌, length, get_or, get_or-set_other, get_or-set_same, map, take, drop, drop-cons, length-drop, slice_get, ℤ, pos, Option, Some, None, MatchOption}
 use Rattle.std.proofs.Math.ListN.{set}
 use Rattle.std.proofs.lemmas.List.{map_more}
-use Rattle.cal_time.specs.Date.{last_day}
-use Rattle.cal_time.specs.Filters.{first_matching}
 use Rattle.cal_time.specs.Month.{index, month_of_index, number}
 use Rattle.cal_time.specs.MonthCycle.{month_of_index-index}
 use Rattle.cal_time.specs.Weekday as weekdays
 use Rattle.cal_time.specs.WeekdayCycle.{weekday_of_index-index}
 use Rattle.cal_time.specs.declared.Month.{Month}
 use Rattle.cal_time.specs.declared.Weekday.{Weekday}
-use Rattle.cal_schedule.specs.declared.rule.rule.Rule.{Rule}
-use Rattle.cal_schedule.specs.Rule.{occurrences_after, is_occurrence}
-use Rattle.cal_schedule.proofs.Rules.{left_of}
 use Rattle.cal_c.specs.Recurrences.{AreDates, AreListsShort, AreMonths, ArePlain, AreWeekdays, IsFrequency, IsRule, IsRuleStatus}
 use Rattle.cal_c.specs.Statuses.{invalid_date, invalid_frequency, invalid_weekday, month_status}
 use Rattle.cal_c.specs.Values.{IsWeekday}
@@ -99,10 +94,6 @@ refused_weekdays p plain short months out = (
 pub first_given : (r : Option ℕ) (xs ys : List ℕ) → MatchOption r ((xs ≡ []) × (ys ≡ [])) (λ x. xs ≡ x ∷ ys) → r ≡ slice_get xs 0
 first_given None xs ys h = ap (λ l. slice_get l 0) (sym h.0)
 first_given (Some x) xs ys h = ap (λ l. slice_get l 0) (sym h)
-
--- the days after a day, from the first of them on
-pub after_next : (rule : Rule) (n x : ℕ) → Some x ≡ slice_get (occurrences_after rule n) 0 → occurrences_after rule n ≡ x ∷ occurrences_after rule x
-after_next rule n x e = left_of rule n x (first_matching (is_occurrence rule) (n + 1) (last_day - n) (Some x) e)
 
 pub none_first : (xs : List ℕ) → None ≡ slice_get xs 0 → xs ≡ []
 none_first [] e = refl

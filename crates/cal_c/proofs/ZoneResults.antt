@@ -63,10 +63,6 @@ with_rule p bytes one other two first second =
 abbrev pub HasSpan : Option Timeline → Span → Type 0
 HasSpan o s = MatchOption o ⊤ (λ (z : Timeline). InOrder z → IsSpan z s)
 
-pub first_span : (o : Option Timeline) (s : Span) → ((z : Timeline) → IsSpan z s) → HasSpan o s
-first_span (Some z) s is = λ order. is z
-first_span None s is = tt
-
 pub next_span : (o : Option Timeline) (s s' : Span) (Bad : Type 0) (Then : Timeline → Type 0)
     → MatchOption o Bad (λ (z : Timeline). InOrder z → IsSpan z s → IsSpan z s' × Then z) → HasSpan o s
     → MatchOption o Bad (λ (z : Timeline). InOrder z → Then z) × HasSpan o s'

@@ -6,8 +6,8 @@ use Rattle.cal_schedule.specs.Workdays.{WorkWeek, is_workday, nth_workday}
 use Rattle.cal_schedule.specs.WorkdaysSplit.{marked_count}
 use Rattle.cal_c.specs.Results.{date_or_out_of_range, date_error, number_ok, number_error}
 use Rattle.cal_c.specs.Statuses.{invalid_date, invalid_weekmask, ok_status, too_many_holidays}
-use Rattle.cal_c.specs.Values.{IsJulianDay, day_of}
-use Rattle.cal_c.specs.Weekmasks.{max_holidays, work_week, workdays_between, AreHolidays, IsWeekmask}
+use Rattle.cal_c.specs.Values.{IsJulianDay, day_of, max_dates}
+use Rattle.cal_c.specs.Weekmasks.{work_week, workdays_between, AreHolidays, IsWeekmask}
 use Rattle.cal_c.specs.declared.results.DateResult.{DateResult}
 use Rattle.cal_c.specs.declared.results.NumberResult.{NumberResult}
 use Rattle.cal_c.specs.declared.schedule.workdays.checked_workdays.CheckedWorkdays.{CheckedWorkdays}
@@ -22,7 +22,7 @@ week_of c = work_week c.weekmask (holidays_of c)
 -- The weekmask and the number of holidays are valid. Each call rejects a struct with invalid ones.
 pub record HasLimits (c : CheckedWorkdays) : Type 0 where
   pub weekmask : IsWeekmask c.weekmask
-  pub length : c.holidays_length ≤ max_holidays
+  pub length : c.holidays_length ≤ max_dates
 
 -- The holidays are valid, and those with a marked weekday are counted before each index. This holds
 -- for each struct that `fots_workdays_new` returns without an error, and no call tests it again.
@@ -39,7 +39,7 @@ IsSomeDate r = (found : Option ℕ) × IfSome found IsDate × (r ≡ date_or_out
 -- The result of `fots_workdays_add`.
 pub record IsDateWorkdaysLaterIn (c : CheckedWorkdays) (date days : ℤ) (r : DateResult) : Type 0 where
   pub invalid_weekmask : (IsWeekmask c.weekmask → ⊥) → r ≡ date_error invalid_weekmask
-  pub too_many_holidays : IsWeekmask c.weekmask → max_holidays < c.holidays_length → r ≡ date_error too_many_holidays
+  pub too_many_holidays : IsWeekmask c.weekmask → max_dates < c.holidays_length → r ≡ date_error too_many_holidays
   pub invalid_date : HasLimits c → (IsJulianDay date → ⊥) → r ≡ date_error invalid_date
   pub any : HasLimits c → IsJulianDay date → IsSomeDate r
   pub day : IsChecked c → IsJulianDay date → r ≡ date_or_out_of_range (nth_workday (week_of c) days (day_of date))
@@ -47,7 +47,7 @@ pub record IsDateWorkdaysLaterIn (c : CheckedWorkdays) (date days : ℤ) (r : Da
 -- The result of `fots_workdays_between`.
 pub record IsWorkdaysBetweenIn (c : CheckedWorkdays) (date other : ℤ) (r : NumberResult) : Type 0 where
   pub invalid_weekmask : (IsWeekmask c.weekmask → ⊥) → r ≡ number_error invalid_weekmask
-  pub too_many_holidays : IsWeekmask c.weekmask → max_holidays < c.holidays_length → r ≡ number_error too_many_holidays
+  pub too_many_holidays : IsWeekmask c.weekmask → max_dates < c.holidays_length → r ≡ number_error too_many_holidays
   pub invalid_date : HasLimits c → (IsJulianDay date × IsJulianDay other → ⊥) → r ≡ number_error invalid_date
   pub any : HasLimits c → IsJulianDay date → IsJulianDay other → r.status ≡ ok_status
   pub value : IsChecked c → IsJulianDay date → IsJulianDay other → r ≡ number_ok (workdays_between (week_of c) (day_of date) (day_of other))

@@ -6,8 +6,8 @@ use Rattle.cal_schedule.specs.Months.{month_number_at, IsMonthNumber, IsMonthsLa
 use Rattle.cal_schedule.specs.Workdays.{nth_workday}
 use Rattle.cal_c.specs.Results.{IsDateOrOutOfRange, date_ok, date_or_out_of_range, date_error, number_ok, number_error, IsDateWith, calendar_date_ok, calendar_date_error, ordinal_date_ok, ordinal_date_error, iso_week_date_ok, iso_week_date_error}
 use Rattle.cal_c.specs.Statuses.{ok_status, result_out_of_range, invalid_date, invalid_weekday, invalid_weekmask, invalid_holidays, too_many_holidays, year_status, month_status, julian_day_status, day_status, ordinal_status, week_status, weekday_status}
-use Rattle.cal_c.specs.Values.{IsJulianDay, IsMonth, IsWeekday, day_of}
-use Rattle.cal_c.specs.Weekmasks.{max_holidays, work_week, workdays_between, AreHolidays, IsWeekmask}
+use Rattle.cal_c.specs.Values.{IsJulianDay, IsMonth, IsWeekday, day_of, max_dates}
+use Rattle.cal_c.specs.Weekmasks.{work_week, workdays_between, AreHolidays, IsWeekmask}
 use Rattle.cal_c.specs.declared.results.DateResult.{DateResult}
 use Rattle.cal_c.specs.declared.results.NumberResult.{NumberResult}
 use Rattle.cal_c.specs.declared.results.CalendarDateResult.{CalendarDateResult}
@@ -124,17 +124,17 @@ pub record IsDateMonthsLater (date : ℤ) (months : ℤ) (r : DateResult) : Type
 pub record IsDateWorkdaysLater (date : ℤ) (days : ℤ) (weekmask : ℕ) (holidays : List ℤ) (r : DateResult) : Type 0 where
   pub invalid_date : (IsJulianDay date → ⊥) → r ≡ date_error invalid_date
   pub invalid_weekmask : IsJulianDay date → (IsWeekmask weekmask → ⊥) → r ≡ date_error invalid_weekmask
-  pub too_many_holidays : IsJulianDay date → IsWeekmask weekmask → max_holidays < length holidays → r ≡ date_error too_many_holidays
-  pub invalid_holidays : IsJulianDay date → IsWeekmask weekmask → length holidays ≤ max_holidays → (AreHolidays holidays → ⊥) → r ≡ date_error invalid_holidays
-  pub day : IsJulianDay date → IsWeekmask weekmask → length holidays ≤ max_holidays → AreHolidays holidays
+  pub too_many_holidays : IsJulianDay date → IsWeekmask weekmask → max_dates < length holidays → r ≡ date_error too_many_holidays
+  pub invalid_holidays : IsJulianDay date → IsWeekmask weekmask → length holidays ≤ max_dates → (AreHolidays holidays → ⊥) → r ≡ date_error invalid_holidays
+  pub day : IsJulianDay date → IsWeekmask weekmask → length holidays ≤ max_dates → AreHolidays holidays
       → r ≡ date_or_out_of_range (nth_workday (work_week weekmask holidays) days (day_of date))
 
 -- The result of `fots_date_workdays_between`.
 pub record IsWorkdaysBetween (date : ℤ) (other : ℤ) (weekmask : ℕ) (holidays : List ℤ) (r : NumberResult) : Type 0 where
   pub invalid_date : (IsJulianDay date × IsJulianDay other → ⊥) → r ≡ number_error invalid_date
   pub invalid_weekmask : IsJulianDay date → IsJulianDay other → (IsWeekmask weekmask → ⊥) → r ≡ number_error invalid_weekmask
-  pub too_many_holidays : IsJulianDay date → IsJulianDay other → IsWeekmask weekmask → max_holidays < length holidays → r ≡ number_error too_many_holidays
-  pub invalid_holidays : IsJulianDay date → IsJulianDay other → IsWeekmask weekmask → length holidays ≤ max_holidays → (AreHolidays holidays → ⊥)
+  pub too_many_holidays : IsJulianDay date → IsJulianDay other → IsWeekmask weekmask → max_dates < length holidays → r ≡ number_error too_many_holidays
+  pub invalid_holidays : IsJulianDay date → IsJulianDay other → IsWeekmask weekmask → length holidays ≤ max_dates → (AreHolidays holidays → ⊥)
       → r ≡ number_error invalid_holidays
-  pub value : IsJulianDay date → IsJulianDay other → IsWeekmask weekmask → length holidays ≤ max_holidays → AreHolidays holidays
+  pub value : IsJulianDay date → IsJulianDay other → IsWeekmask weekmask → length holidays ≤ max_dates → AreHolidays holidays
       → r ≡ number_ok (workdays_between (work_week weekmask holidays) (day_of date) (day_of other))

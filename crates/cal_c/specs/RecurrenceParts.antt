@@ -5,6 +5,7 @@ use Rattle.cal_time.specs.Month.{number}
 use Rattle.cal_time.specs.Weekday.{index}
 use Rattle.cal_schedule.specs.declared.rule.rule.ByDay.{ByDay}
 use Rattle.cal_schedule.specs.declared.rule.rule.ByDay.TheVariants.{Every, Nth}
+use Rattle.cal_recurrence.specs.DateOrTime.{date_of}
 use Rattle.cal_recurrence.specs.declared.fault.ParseRuleError.{ParseRuleError}
 use Rattle.cal_recurrence.specs.declared.recurrence.Recurrence.{Recurrence}
 use Rattle.cal_recurrence.specs.declared.recurrence.RuleEnd.{RuleEnd}
@@ -21,13 +22,13 @@ use Rattle.cal_c.specs.declared.schedule.recurrences.rule_parts.RuleWeekday.{Rul
 -- The last day of a recurrence as a Julian day, or the number for no last day.
 abbrev pub until_in : RuleEnd → ℤ
 until_in Never = no_value
-until_in (Until day) = julian_day_at day
+until_in (Until last) = julian_day_at (date_of last)
 until_in (Count n) = no_value
 
 -- The number of days of a recurrence, or 0.
 abbrev pub count_in : RuleEnd → ℕ
 count_in Never = 0
-count_in (Until day) = 0
+count_in (Until last) = 0
 count_in (Count n) = n
 
 -- A weekday of a rule as numbers.

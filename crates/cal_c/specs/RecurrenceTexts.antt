@@ -2,7 +2,7 @@
 use Rattle.std.specs.Prelude.{ℕ, ◌-◌, ℤ, List, ◌++◌, length, replicate, Result, Ok, Err}
 use Rattle.cal_recurrence.specs.declared.fault.ParseRuleError.{ParseRuleError}
 use Rattle.cal_recurrence.specs.declared.fault.RulePart.{RulePart}
-use Rattle.cal_recurrence.specs.declared.fault.RulePart.TheVariants.{Frequency, Interval, WeekStart, Months, MonthDays, Weekdays, Until, Count, Positions, YearDays, Weeks}
+use Rattle.cal_recurrence.specs.declared.fault.RulePart.TheVariants.{Frequency, Interval, WeekStart, Months, MonthDays, Weekdays, Until, Count, Positions, YearDays, Weeks, Hours, Minutes, Seconds}
 use Rattle.cal_recurrence.specs.declared.fault.ParseRuleErrorKind.{ParseRuleErrorKind}
 use Rattle.cal_recurrence.specs.declared.fault.ParseRuleErrorKind.TheVariants.{Unknown, Twice, TooMany, Value, Excluded, Alone, Missing}
 use Rattle.cal_recurrence.specs.Written.{text_of}
@@ -25,6 +25,9 @@ part_number Count = 8
 part_number Positions = 9
 part_number YearDays = 10
 part_number Weeks = 11
+part_number Hours = 12
+part_number Minutes = 13
+part_number Seconds = 14
 
 -- The status of a reason.
 abbrev pub reason_status : ParseRuleErrorKind → ℤ
@@ -59,15 +62,15 @@ abbrev pub recurrence_parse_error : ParseRuleError → RecurrenceResult
 recurrence_parse_error fault =
     record { status = reason_status fault.reason; part = error_part fault.reason; length = 0; position = fault.position }
 
--- The result with a text, filled with zeros up to 2728 bytes.
+-- The result with a text, filled with zeros up to 4064 bytes.
 abbrev pub recurrence_text_ok : List ℕ → RecurrenceTextResult
 recurrence_text_ok text =
-    record { status = ok_status; part = 0; position = no_position; length = length text; bytes = text ++ replicate (2728 - length text) 0 }
+    record { status = ok_status; part = 0; position = no_position; length = length text; bytes = text ++ replicate (4064 - length text) 0 }
 
 -- The result with the first wrong part of the text.
 abbrev pub recurrence_text_error : ParseRuleError → RecurrenceTextResult
 recurrence_text_error fault =
-    record { status = reason_status fault.reason; part = error_part fault.reason; position = fault.position; length = 0; bytes = replicate 2728 0 }
+    record { status = reason_status fault.reason; part = error_part fault.reason; position = fault.position; length = 0; bytes = replicate 4064 0 }
 
 -- The result of parsing a text and writing its recurrence.
 abbrev pub recurrence_text_result : Result Recurrence ParseRuleError → RecurrenceTextResult

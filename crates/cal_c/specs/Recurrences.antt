@@ -1,5 +1,5 @@
 -- Recurrence rules with the parts that C passes.
-use Rattle.std.specs.Prelude.{◌≡◌, ℕ, zero, ◌+◌, ◌-◌, ◌<◌, ◌≤◌, min, ℤ, pos, List, [], ◌∷◌, All, get_or, length, map, slice_index_or, Some}
+use Rattle.std.specs.Prelude.{◌≡◌, ℕ, zero, ◌-◌, ◌<◌, ◌≤◌, min, ℤ, pos, List, [], ◌∷◌, All, get_or, length, map, slice_index_or, Some}
 use Rattle.cal_time.specs.Date.{julian_day_at}
 use Rattle.cal_schedule.specs.Pattern.{rule_of}
 use Rattle.cal_schedule.specs.Values.{most_values}
@@ -9,12 +9,13 @@ use Rattle.cal_schedule.specs.declared.rule.rule.ByDay.TheVariants.{Every, Nth}
 use Rattle.cal_schedule.specs.declared.rule.rule.Frequency.{Frequency}
 use Rattle.cal_schedule.specs.declared.rule.rule.Frequency.TheVariants.{Daily, Weekly, Monthly, Yearly}
 use Rattle.cal_schedule.specs.declared.rule.rule.Rule.{Rule}
+use Rattle.cal_recurrence.specs.declared.set.RecurrenceSet.{RecurrenceSet}
 use Rattle.cal_time.specs.Month.{month_of_index}
 use Rattle.cal_time.specs.Weekday.{weekday_of_index}
 use Rattle.cal_time.specs.declared.Month.{Month}
 use Rattle.cal_time.specs.declared.Weekday.{Weekday}
-use Rattle.cal_c.specs.Statuses.{invalid_date, invalid_frequency, invalid_weekday, ok_status, too_many_parts, month_status}
-use Rattle.cal_c.specs.Values.{IsJulianDay, IsMonth, IsWeekday, day_of}
+use Rattle.cal_c.specs.Statuses.{invalid_date, invalid_frequency, invalid_weekday, ok_status, too_many_dates, too_many_parts, month_status}
+use Rattle.cal_c.specs.Values.{IsJulianDay, IsMonth, IsWeekday, dates_in, day_of, max_dates}
 use Rattle.cal_c.specs.declared.schedule.recurrences.rule_from_parts.PlainParts.{PlainParts}
 use Rattle.cal_c.specs.declared.schedule.recurrences.rule_parts.RuleParts.{RuleParts}
 use Rattle.cal_c.specs.declared.schedule.recurrences.rule_parts.RuleWeekday.{RuleWeekday}
@@ -110,6 +111,35 @@ pattern_in p = record {
 -- The rule with the parts p (RFC 5545): their pattern from the start to the last day.
 abbrev pub rule_in : RuleParts → Rule
 rule_in p = rule_of (pattern_in p) (day_of p.start) (Some (day_of p.until))
+
+-- The other dates (`RDATE`) and the exceptions (`EXDATE`) are at most 1024 each.
+abbrev pub AreDatesFew : RuleParts → Type 0
+AreDatesFew p = (length p.dates.now ≤ max_dates) × (length p.exceptions.now ≤ max_dates)
+
+-- They are valid.
+abbrev pub AreListedDates : RuleParts → Type 0
+AreListedDates p = All IsJulianDay p.dates.now × All IsJulianDay p.exceptions.now
+
+-- All parts and dates are valid.
+pub record IsSet (p : RuleParts) : Type 0 where
+  pub rule : IsRule p
+  pub few : AreDatesFew p
+  pub dates : AreListedDates p
+
+-- The status of the first invalid part or list.
+pub record IsSetStatus (p : RuleParts) (s : ℤ) : Type 0 where
+  pub rule : ¬ IsRule p → IsRuleStatus p s
+  pub few : IsRule p → ¬ AreDatesFew p → s ≡ too_many_dates
+  pub dates : IsRule p → AreDatesFew p → ¬ AreListedDates p → s ≡ invalid_date
+
+-- The set with the parts p: their rule with the other dates and without the exceptions. The
+-- definitions of a set don't read where a list is in memory.
+abbrev pub set_in : RuleParts → RecurrenceSet
+set_in p = record {
+  rule = rule_in p;
+  dates = record { ref_ptr = (0, 0); now = dates_in p.dates.now };
+  exceptions = record { ref_ptr = (0, 0); now = dates_in p.exceptions.now };
+}
 
 -- The result with a number of days written.
 abbrev pub days_ok : ℕ → DaysResult

@@ -157,6 +157,10 @@ buffer_too_short = pos 42
 abbrev pub contradiction : ℤ
 contradiction = pos 43
 
+-- A list of dates of a rule has too many dates.
+abbrev pub too_many_dates : ℤ
+too_many_dates = pos 44
+
 -- A struct is not a zone, or a number is not the number of a policy.
 abbrev pub invalid_zone : ℤ
 invalid_zone = pos 45

@@ -1,6 +1,6 @@
 -- Valid numbers from C, and their values. A time of day is its nanoseconds since midnight and an
 -- offset its seconds, as in `IsTime` and `IsOffset`.
-use Rattle.std.specs.Prelude.{ℕ, ◌≤◌, ℤ, pos, neg_ℤ, ◌+ℤ◌, ◌-ℤ◌, ◌*ℤ◌, ◌<ℤ◌, ◌≤ℤ◌, unsigned_abs}
+use Rattle.std.specs.Prelude.{ℕ, ◌≤◌, List, map, ℤ, pos, neg_ℤ, ◌+ℤ◌, ◌-ℤ◌, ◌*ℤ◌, ◌<ℤ◌, ◌≤ℤ◌, unsigned_abs}
 use Rattle.std.specs.Int.{int_min, int_max}
 use Rattle.cal_time.specs.Date.{first_julian_day, last_day, julian_day_at}
 use Rattle.cal_time.specs.SignedDuration.{second}
@@ -16,6 +16,13 @@ pub record IsJulianDay (j : ℤ) : Type 0 where
 -- The number of the day with the Julian day j.
 abbrev pub day_of : ℤ → ℕ
 day_of j = unsigned_abs (j -ℤ first_julian_day)
+
+-- The days with these Julian days. A list of dates has at most 1024.
+abbrev pub dates_in : List ℤ → List ℕ
+dates_in js = map day_of js
+
+abbrev pub max_dates : ℕ
+max_dates = 1024
 
 -- The Julian day of the range that is nearest to j.
 abbrev pub clamped_julian_day : ℤ → ℤ

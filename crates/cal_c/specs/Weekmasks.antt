@@ -1,11 +1,11 @@
 -- The working days that C passes: a weekmask, and the holidays as Julian days.
-use Rattle.std.specs.Prelude.{ℕ, ◌/◌, ◌%◌, ◌<◌, ◌≤◌, ◌==◌, Bool, List, [], ◌∷◌, All, length, map, ℤ, pos, ◌-ℤ◌}
+use Rattle.std.specs.Prelude.{ℕ, ◌/◌, ◌%◌, ◌<◌, ◌≤◌, ◌==◌, Bool, List, [], ◌∷◌, All, length, ℤ, pos, ◌-ℤ◌}
 use Rattle.cal_time.specs.Counted.{IsRising}
 use Rattle.cal_time.specs.Date.{julian_day_at}
 use Rattle.cal_schedule.specs.Workdays.{WorkWeek, workdays_within}
 use Rattle.cal_schedule.specs.declared.workdays.convention.Convention.{Convention}
 use Rattle.cal_schedule.specs.declared.workdays.convention.Convention.TheVariants.{Unadjusted, Following, ModifiedFollowing, Preceding, ModifiedPreceding}
-use Rattle.cal_c.specs.Values.{IsJulianDay, day_of}
+use Rattle.cal_c.specs.Values.{IsJulianDay, dates_in}
 
 -- A weekmask is a sum of 1 for Monday, 2 for Tuesday, up to 64 for Sunday.
 abbrev pub IsWeekmask : ℕ → Type 0
@@ -16,22 +16,14 @@ weekmask_in k =
     (k % 2 == 1) ∷ (k / 2 % 2 == 1) ∷ (k / 4 % 2 == 1) ∷ (k / 8 % 2 == 1) ∷ (k / 16 % 2 == 1) ∷ (k / 32 % 2 == 1)
     ∷ (k / 64 % 2 == 1) ∷ []
 
--- A call takes at most 1024 holidays.
-abbrev pub max_holidays : ℕ
-max_holidays = 1024
-
--- The days with these Julian days.
-abbrev pub holidays_in : List ℤ → List ℕ
-holidays_in hs = map day_of hs
-
 -- Holidays are Julian days in ascending order.
 pub record AreHolidays (hs : List ℤ) : Type 0 where
   pub dates : All IsJulianDay hs
-  pub rising : IsRising julian_day_at (holidays_in hs)
+  pub rising : IsRising julian_day_at (dates_in hs)
 
 -- The working week with these marks and holidays.
 abbrev pub work_week : ℕ → List ℤ → WorkWeek
-work_week marks hs = record { marks = weekmask_in marks; holidays = holidays_in hs }
+work_week marks hs = record { marks = weekmask_in marks; holidays = dates_in hs }
 
 -- The number of working days from day n to the day before day t, negative if t comes first.
 abbrev pub workdays_between : WorkWeek → ℕ → ℕ → ℤ

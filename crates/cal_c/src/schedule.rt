@@ -1,5 +1,6 @@
 //! Months and years, ends of periods, weekdays of months, day counts, working days, recurrences.
 
+mod date_list;
 mod months;
 mod period_ends;
 mod recurrences;

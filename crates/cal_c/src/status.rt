@@ -124,6 +124,9 @@ pub const BUFFER_TOO_SHORT: i32 = 42;
 /// A component of a text isn't the component of the value that the others determine.
 pub const CONTRADICTION: i32 = 43;
 
+/// A list of dates of a rule has more than 1024 dates.
+pub const TOO_MANY_DATES: i32 = 44;
+
 /// The struct is not a zone: it has other numbers than a call makes.
 pub const INVALID_ZONE: i32 = 45;
 

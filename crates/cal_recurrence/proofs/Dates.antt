@@ -12,7 +12,7 @@ use Rattle.cal_time.specs.Month.{number, index, month_of_index as month_with_ind
 use Rattle.cal_time.specs.MonthCycle.{month_of_index-index}
 use Rattle.cal_time.specs.declared.Month.{Month}
 use Rattle.cal_time.specs.declared.error.ComponentRange.{ComponentRange}
-use Rattle.cal_recurrence.specs.Words.{day_with, has_digits}
+use Rattle.cal_recurrence.specs.DateWords.{day_with, has_digits}
 
 -- the test of the digits
 pub same_date : (y : ℤ) (m d k : ℕ) → year_at k ≡ y → month_at k ≡ m → day_of_month_at k ≡ d → HasCalendarDate y m d k

@@ -1,6 +1,6 @@
 -- A parsed recurrence is spelled: each value is a value of its part.
 use Rattle.std.proofs.Common.{◌≡◌, ℕ, zero, suc, ◌+◌, ◌-◌, ◌/◌, ◌%◌, ◌<◌, ◌≤◌, Bool, true, false, cond, eqb, List, [], ◌∷◌, length, take, drop, slice_index_or, Option, Some, None, Result, Ok, Err, ℤ, pos, refl, sym, ap, ◌∙◌, subst, arith}
-use Rattle.std.specs.Prelude.{⊤, nat_le, nat_lt, neg_ℤ, slice_index, option_map, option_and_then, not, ◌&&◌, IfSome, IfOk, ◌≤ℤ◌}
+use Rattle.std.specs.Prelude.{⊤, codes, min, nat_le, nat_lt, neg_ℤ, slice_index, option_map, option_and_then, not, ◌&&◌, IfSome, IfOk, ◌≤ℤ◌}
 use Rattle.std.specs.List.{All}
 use Rattle.std.specs.Option.{option_map_or, option_zip}
 use Rattle.std.specs.Str.Parse.{digits_value}
@@ -11,12 +11,18 @@ use Rattle.std.proofs.lemmas.List.{length-take}
 use Rattle.std.proofs.lemmas.Str.Parse.{digits_value_short}
 use Rattle.cal_time.specs.Date.{last_day, year_at}
 use Rattle.cal_time.specs.Filters.{IsFirstDay, first_matching}
+use Rattle.cal_time.specs.SignedDuration.{day}
+use Rattle.cal_time.specs.Time.{nanosecond_of, time_of}
 use Rattle.cal_time.specs.declared.Weekday.{Weekday}
+use Rattle.cal_datetime.specs.DateTime.{date_time}
+use Rattle.cal_datetime.specs.DateTimeLaws.{IsDateTime-date_time, date_at-date_time, time_at-date_time}
 use Rattle.cal_schedule.specs.declared.rule.rule.ByDay.TheVariants.{Every, Nth}
+use Rattle.cal_recurrence.specs.DateWords.{date_or_time_of, day_with, has_digits, time_with, with_time, with_zone}
 use Rattle.cal_recurrence.specs.Days.{excluded, ranks_alone}
-use Rattle.cal_recurrence.specs.Spelled.{IsCount, IsIndex, IsMonthDay, IsByDay, IsPosition, IsWeek, IsEnd, IsSpelled}
+use Rattle.cal_recurrence.specs.Spelled.{HasFourDigits, IsCount, IsDateOrTime, IsIndex, IsMonthDay, IsByDay, IsHour, IsMinute, IsPosition, IsSecond, IsWeek, IsEnd, IsSpelled, IsWhole}
 use Rattle.cal_recurrence.specs.Text.{fault, each, list_of, has_few_words, is_given, put, put_value, put_part, and_on, read_on, nothing}
-use Rattle.cal_recurrence.specs.Words.{bytes_after, first_bytes, is_time, parts_at, front_at, rest_at, part_of, frequency_of, is_number, number_of, from_one_to, count_of, short_count_of, index_of, weekday_of, month_of, month_day_of, week_of, by_day_of, position_of, has_digits, day_with, date_of}
+use Rattle.cal_recurrence.specs.Words.{bytes_after, by_hour_of, by_minute_of, by_second_of, clock_value_of, first_bytes, is_alike, parts_at, up_to, front_at, rest_at, part_of, frequency_of, is_number, number_of, from_one_to, count_of, short_count_of, index_of, weekday_of, month_of, month_day_of, week_of, by_day_of, position_of}
+use Rattle.cal_recurrence.specs.declared.date_or_time.DateOrTime.TheVariants.{Date, Local, Utc}
 use Rattle.cal_recurrence.specs.declared.draft.Draft.{Draft}
 use Rattle.cal_recurrence.specs.declared.fault.ParseRuleError.{ParseRuleError}
 use Rattle.cal_recurrence.specs.declared.fault.ParseRuleErrorKind.{ParseRuleErrorKind}
@@ -24,7 +30,6 @@ use Rattle.cal_recurrence.specs.declared.fault.ParseRuleErrorKind.TheVariants.{U
 use Rattle.cal_recurrence.specs.declared.fault.RulePart.{RulePart}
 use Rattle.cal_recurrence.specs.declared.fault.RulePart.TheVariants as part
 use Rattle.cal_recurrence.specs.declared.recurrence.Recurrence.{Recurrence}
-use Rattle.cal_recurrence.specs.declared.recurrence.RuleEnd.TheVariants.{Until}
 use Rattle.cal_recurrence.proofs.Dates.{has_them}
 use Rattle.cal_recurrence.proofs.Numbers.{digits, is_numeral}
 
@@ -81,6 +86,16 @@ indexed size most word =
     either (IsIndex most) (eqb (slice_index word 0) 45) (option_map (λ n. neg_ℤ (pos n)) after) positive (λ e. minus_is)
     (either (IsIndex most) (eqb (slice_index word 0) 43) (option_map pos after) (option_map pos plain) (λ e. plus_is) plain_is)
 
+-- ---- times of day
+at-most : (most n : ℕ) → IfSome (up_to (min most 60) n) (λ k. k ≤ most)
+at-most most n = guarded (λ k. k ≤ most) (nat_le n (min most 60)) n (λ e. grind (arith, nat_tests, e))
+
+clock-valued : (most : ℕ) (word : List ℕ) → IfSome (clock_value_of most word) (λ k. k ≤ most)
+clock-valued most word =
+    let number = option_and_then (up_to (min most 60)) (number_of word) in
+    either (λ k. k ≤ most) (nat_le (length word) 2) number None
+    (λ e. if_there (λ n. ⊤) (λ k. k ≤ most) (up_to (min most 60)) (number_of word) (λ n h. at-most most n) (any (number_of word))) tt
+
 counts : (word : List ℕ) → IfSome (count_of 4294967295 word) IsCount
 counts word = weaker (count_of 4294967295 word) (counted 4294967295 word)
   where
@@ -106,11 +121,11 @@ by_days word =
 year-within : (z : ℤ) (n : ℕ) → z ≡ pos n → n ≤ 9999 → (pos 0 ≤ℤ z) × (z ≤ℤ pos 9999)
 year-within z n e h = subst (λ y. (pos 0 ≤ℤ y) × (y ≤ℤ pos 9999)) (sym e) (omega (arith, ints), omega (arith, ints, h))
 
-day-within : (n : ℕ) → n < 100000000 → IfSome (day_with n) (λ day. IsEnd (Until day))
+day-within : (n : ℕ) → n < 100000000 → IfSome (day_with n) HasFourDigits
 unfolding day_with
 day-within n small = within (day_with n) (first_matching (has_digits n) 0 (last_day + 1) (day_with n) refl)
   where
-    within : (o : Option ℕ) → IfSome o (IsFirstDay (has_digits n) 0 (last_day + 1)) → IfSome o (λ day. IsEnd (Until day))
+    within : (o : Option ℕ) → IfSome o (IsFirstDay (has_digits n) 0 (last_day + 1)) → IfSome o HasFourDigits
     within None h = tt
     within (Some k) h =
         let year = year-within (year_at k) (n / 10000) (ap (λ d. d.year) (has_them n (n / 100 % 100) k refl h.passes)) (omega (arith, small)) in
@@ -125,13 +140,53 @@ length-first : (n : ℕ) (word : List ℕ) → length (first_bytes n word) ≤ n
 unfolding first_bytes
 length-first n word = omega (arith, length-take n word)
 
-dates : (word : List ℕ) → IfSome (date_of word) (λ day. IsEnd (Until day))
+-- a time of day without a fraction of a second
+abbrev IsWholeTime : ℕ → Type 0
+IsWholeTime t = (t < day) × (nanosecond_of t ≡ 0)
+
+whole-time : (h m s : ℕ) → h < 24 → m < 60 → IsWholeTime (time_of h m (min s 59) 0)
+whole-time h m s e f =
+    let few : min s 59 ≤ 59 = grind (arith, nat_tests) in
+    (omega (arith, e, f, few), omega (arith, few))
+
+times : (k : ℕ) → IfSome (time_with k) IsWholeTime
+times k =
+    let hour = nat_lt (k / 10000) 24 in
+    let minute = nat_lt (k / 100 % 100) 60 in
+    let second = nat_le (k % 100) 60 in
+    guarded IsWholeTime (hour && (minute && second)) (time_of (k / 10000) (k / 100 % 100) (min (k % 100) 59) 0)
+    (λ e. let both = and_parts hour (minute && second) e in
+    whole-time (k / 10000) (k / 100 % 100) (k % 100) (grind (arith, nat_tests, both.0)) (grind (arith, nat_tests, (and_parts minute second both.1).0)))
+
+whole : (n t : ℕ) → HasFourDigits n → IsWholeTime t → IsWhole (date_time n t)
+whole n t h k =
+    (IsDateTime-date_time n t h.0 k.0, subst HasFourDigits (sym (date_at-date_time n t k.0)) h, ap nanosecond_of (time_at-date_time n t k.0) ∙ k.1)
+
+zoned : (zone : List ℕ) (z : ℤ) → IsWhole z → IfSome (with_zone zone z) IsDateOrTime
+zoned zone z h =
+    let utc = is_alike zone (codes "Z") in
+    either IsDateOrTime (eqb (length zone) 0) (Some (Local z)) (cond utc (Some (Utc z)) None) (λ e. h) (guarded IsDateOrTime utc (Utc z) (λ e. h))
+
+timed : (time : List ℕ) (n : ℕ) → HasFourDigits n → IfSome (with_time time n) IsDateOrTime
+timed time n h =
+    let clock = number_of (first_bytes 6 (bytes_after 1 time)) in
+    let zone = bytes_after 6 (bytes_after 1 time) in
+    let reading = option_and_then (λ t. with_zone zone (date_time n t)) (option_and_then time_with clock) in
+    let marked = is_alike (first_bytes 1 time) (codes "T") in
+    either IsDateOrTime (eqb (length time) 0) (Some (Date n)) (cond (nat_lt (length time) 7) None (cond marked reading None)) (λ e. h)
+    (either IsDateOrTime (nat_lt (length time) 7) None (cond marked reading None) (λ e. tt)
+    (either IsDateOrTime marked reading None
+    (λ e. if_there IsWholeTime IsDateOrTime (λ t. with_zone zone (date_time n t)) (option_and_then time_with clock) (λ t k. zoned zone (date_time n t) (whole n t h k))
+    (if_there (λ k. ⊤) IsWholeTime time_with clock (λ k p. times k) (any clock))) tt))
+
+dates : (word : List ℕ) → IfSome (date_or_time_of word) IsDateOrTime
 dates word =
-    let day = option_and_then day_with (number_of (first_bytes 8 word)) in
-    either (λ day. IsEnd (Until day)) (nat_lt (length word) 8) None (cond (is_time (bytes_after 8 word)) day None) (λ e. tt)
-    (either (λ day. IsEnd (Until day)) (is_time (bytes_after 8 word)) day None
-    (λ e. if_there (λ n. n < 100000000) (λ day. IsEnd (Until day)) day_with (number_of (first_bytes 8 word)) day-within
-    (numbers (first_bytes 8 word) (omega (arith, length-first 8 word)))) tt)
+    let number = number_of (first_bytes 8 word) in
+    let day = option_and_then day_with number in
+    let reading = option_and_then (with_time (bytes_after 8 word)) day in
+    either IsDateOrTime (nat_lt (length word) 8) None reading (λ e. tt)
+    (if_there HasFourDigits IsDateOrTime (with_time (bytes_after 8 word)) day (timed (bytes_after 8 word))
+    (if_there (λ n. n < 100000000) HasFourDigits day_with number day-within (numbers (first_bytes 8 word) (omega (arith, length-first 8 word)))))
 
 -- ---- lists
 all-none : {X : Type 0} (P : X → Type 0) → All P []
@@ -164,6 +219,9 @@ record IsRead (r : Recurrence) : Type 0 where
   year_days : All IsPosition r.pattern.year_days
   month_days : All IsMonthDay r.pattern.month_days
   weekdays : All IsByDay r.pattern.weekdays
+  hours : All IsHour r.times.hours
+  minutes : All IsMinute r.times.minutes
+  seconds : All IsSecond r.times.seconds
   set_positions : All IsPosition r.pattern.set_positions
   end : IsEnd r.end
 
@@ -171,17 +229,20 @@ abbrev IsDraft : Draft → Type 0
 IsDraft d = IsRead d.recurrence
 
 put-is : (d : Draft) (at : RulePart) (value : List ℕ) → IsDraft d → IfSome (put d at value) IsDraft
-put-is d part.Frequency value h = mapped (λ x. ⊤) IsDraft _ (frequency_of value) (λ x p. record { interval = h.interval; weeks = h.weeks; year_days = h.year_days; month_days = h.month_days; weekdays = h.weekdays; set_positions = h.set_positions; end = h.end }) (any (frequency_of value))
-put-is d part.Interval value h = mapped IsCount IsDraft _ (count_of 4294967295 value) (λ x p. record { interval = p; weeks = h.weeks; year_days = h.year_days; month_days = h.month_days; weekdays = h.weekdays; set_positions = h.set_positions; end = h.end }) (counts value)
-put-is d part.WeekStart value h = mapped (λ x. ⊤) IsDraft _ (weekday_of value) (λ x p. record { interval = h.interval; weeks = h.weeks; year_days = h.year_days; month_days = h.month_days; weekdays = h.weekdays; set_positions = h.set_positions; end = h.end }) (any (weekday_of value))
-put-is d part.Months value h = mapped (λ x. ⊤) IsDraft _ (list_of month_of value) (λ x p. record { interval = h.interval; weeks = h.weeks; year_days = h.year_days; month_days = h.month_days; weekdays = h.weekdays; set_positions = h.set_positions; end = h.end }) (any (list_of month_of value))
-put-is d part.Weeks value h = mapped (All IsWeek) IsDraft _ (list_of week_of value) (λ x p. record { interval = h.interval; weeks = p; year_days = h.year_days; month_days = h.month_days; weekdays = h.weekdays; set_positions = h.set_positions; end = h.end }) (list-is IsWeek week_of (indexed 2 53) value)
-put-is d part.YearDays value h = mapped (All IsPosition) IsDraft _ (list_of position_of value) (λ x p. record { interval = h.interval; weeks = h.weeks; year_days = p; month_days = h.month_days; weekdays = h.weekdays; set_positions = h.set_positions; end = h.end }) (list-is IsPosition position_of (indexed 3 366) value)
-put-is d part.MonthDays value h = mapped (All IsMonthDay) IsDraft _ (list_of month_day_of value) (λ x p. record { interval = h.interval; weeks = h.weeks; year_days = h.year_days; month_days = p; weekdays = h.weekdays; set_positions = h.set_positions; end = h.end }) (list-is IsMonthDay month_day_of (indexed 2 31) value)
-put-is d part.Weekdays value h = mapped (All IsByDay) IsDraft _ (list_of by_day_of value) (λ x p. record { interval = h.interval; weeks = h.weeks; year_days = h.year_days; month_days = h.month_days; weekdays = p; set_positions = h.set_positions; end = h.end }) (list-is IsByDay by_day_of by_days value)
-put-is d part.Positions value h = mapped (All IsPosition) IsDraft _ (list_of position_of value) (λ x p. record { interval = h.interval; weeks = h.weeks; year_days = h.year_days; month_days = h.month_days; weekdays = h.weekdays; set_positions = p; end = h.end }) (list-is IsPosition position_of (indexed 3 366) value)
-put-is d part.Until value h = mapped (λ day. IsEnd (Until day)) IsDraft _ (date_of value) (λ x p. record { interval = h.interval; weeks = h.weeks; year_days = h.year_days; month_days = h.month_days; weekdays = h.weekdays; set_positions = h.set_positions; end = p }) (dates value)
-put-is d part.Count value h = mapped IsCount IsDraft _ (count_of 4294967295 value) (λ x p. record { interval = h.interval; weeks = h.weeks; year_days = h.year_days; month_days = h.month_days; weekdays = h.weekdays; set_positions = h.set_positions; end = p }) (counts value)
+put-is d part.Frequency value h = mapped (λ x. ⊤) IsDraft _ (frequency_of value) (λ x p. record { interval = h.interval; weeks = h.weeks; year_days = h.year_days; month_days = h.month_days; weekdays = h.weekdays; hours = h.hours; minutes = h.minutes; seconds = h.seconds; set_positions = h.set_positions; end = h.end }) (any (frequency_of value))
+put-is d part.Interval value h = mapped IsCount IsDraft _ (count_of 4294967295 value) (λ x p. record { interval = p; weeks = h.weeks; year_days = h.year_days; month_days = h.month_days; weekdays = h.weekdays; hours = h.hours; minutes = h.minutes; seconds = h.seconds; set_positions = h.set_positions; end = h.end }) (counts value)
+put-is d part.WeekStart value h = mapped (λ x. ⊤) IsDraft _ (weekday_of value) (λ x p. record { interval = h.interval; weeks = h.weeks; year_days = h.year_days; month_days = h.month_days; weekdays = h.weekdays; hours = h.hours; minutes = h.minutes; seconds = h.seconds; set_positions = h.set_positions; end = h.end }) (any (weekday_of value))
+put-is d part.Months value h = mapped (λ x. ⊤) IsDraft _ (list_of month_of value) (λ x p. record { interval = h.interval; weeks = h.weeks; year_days = h.year_days; month_days = h.month_days; weekdays = h.weekdays; hours = h.hours; minutes = h.minutes; seconds = h.seconds; set_positions = h.set_positions; end = h.end }) (any (list_of month_of value))
+put-is d part.Weeks value h = mapped (All IsWeek) IsDraft _ (list_of week_of value) (λ x p. record { interval = h.interval; weeks = p; year_days = h.year_days; month_days = h.month_days; weekdays = h.weekdays; hours = h.hours; minutes = h.minutes; seconds = h.seconds; set_positions = h.set_positions; end = h.end }) (list-is IsWeek week_of (indexed 2 53) value)
+put-is d part.YearDays value h = mapped (All IsPosition) IsDraft _ (list_of position_of value) (λ x p. record { interval = h.interval; weeks = h.weeks; year_days = p; month_days = h.month_days; weekdays = h.weekdays; hours = h.hours; minutes = h.minutes; seconds = h.seconds; set_positions = h.set_positions; end = h.end }) (list-is IsPosition position_of (indexed 3 366) value)
+put-is d part.MonthDays value h = mapped (All IsMonthDay) IsDraft _ (list_of month_day_of value) (λ x p. record { interval = h.interval; weeks = h.weeks; year_days = h.year_days; month_days = p; weekdays = h.weekdays; hours = h.hours; minutes = h.minutes; seconds = h.seconds; set_positions = h.set_positions; end = h.end }) (list-is IsMonthDay month_day_of (indexed 2 31) value)
+put-is d part.Weekdays value h = mapped (All IsByDay) IsDraft _ (list_of by_day_of value) (λ x p. record { interval = h.interval; weeks = h.weeks; year_days = h.year_days; month_days = h.month_days; weekdays = p; hours = h.hours; minutes = h.minutes; seconds = h.seconds; set_positions = h.set_positions; end = h.end }) (list-is IsByDay by_day_of by_days value)
+put-is d part.Hours value h = mapped (All IsHour) IsDraft _ (list_of by_hour_of value) (λ x p. record { interval = h.interval; weeks = h.weeks; year_days = h.year_days; month_days = h.month_days; weekdays = h.weekdays; hours = p; minutes = h.minutes; seconds = h.seconds; set_positions = h.set_positions; end = h.end }) (list-is IsHour by_hour_of (clock-valued 23) value)
+put-is d part.Minutes value h = mapped (All IsMinute) IsDraft _ (list_of by_minute_of value) (λ x p. record { interval = h.interval; weeks = h.weeks; year_days = h.year_days; month_days = h.month_days; weekdays = h.weekdays; hours = h.hours; minutes = p; seconds = h.seconds; set_positions = h.set_positions; end = h.end }) (list-is IsMinute by_minute_of (clock-valued 59) value)
+put-is d part.Seconds value h = mapped (All IsSecond) IsDraft _ (list_of by_second_of value) (λ x p. record { interval = h.interval; weeks = h.weeks; year_days = h.year_days; month_days = h.month_days; weekdays = h.weekdays; hours = h.hours; minutes = h.minutes; seconds = p; set_positions = h.set_positions; end = h.end }) (list-is IsSecond by_second_of (clock-valued 60) value)
+put-is d part.Positions value h = mapped (All IsPosition) IsDraft _ (list_of position_of value) (λ x p. record { interval = h.interval; weeks = h.weeks; year_days = h.year_days; month_days = h.month_days; weekdays = h.weekdays; hours = h.hours; minutes = h.minutes; seconds = h.seconds; set_positions = p; end = h.end }) (list-is IsPosition position_of (indexed 3 366) value)
+put-is d part.Until value h = mapped IsDateOrTime IsDraft _ (date_or_time_of value) (λ x p. record { interval = h.interval; weeks = h.weeks; year_days = h.year_days; month_days = h.month_days; weekdays = h.weekdays; hours = h.hours; minutes = h.minutes; seconds = h.seconds; set_positions = h.set_positions; end = p }) (dates value)
+put-is d part.Count value h = mapped IsCount IsDraft _ (count_of 4294967295 value) (λ x p. record { interval = h.interval; weeks = h.weeks; year_days = h.year_days; month_days = h.month_days; weekdays = h.weekdays; hours = h.hours; minutes = h.minutes; seconds = h.seconds; set_positions = h.set_positions; end = p }) (counts value)
 
 or-err : {E : Type 0} (o : Option Draft) (why : E) → IfSome o IsDraft → IfOk (option_map_or Ok o (Err why)) IsDraft
 or-err None why h = tt
@@ -223,5 +284,5 @@ pub read_is_spelled : (at : ℕ) (draft : Draft) (texts : List (List ℕ)) (r : 
 read_is_spelled at draft texts r e f allowed ranked =
     let is : IfOk {E = ParseRuleError} (Ok r) IsRead =
     subst (λ s. IfOk s IsRead) (sym (f ∙ ap (λ d. read_on at d texts) e))
-    (read-on at nothing texts (record { interval = (omega arith, omega arith); weeks = all-none IsWeek; year_days = all-none IsPosition; month_days = all-none IsMonthDay; weekdays = all-none IsByDay; set_positions = all-none IsPosition; end = tt })) in
-    record { interval = is.interval; each_week = is.weeks; each_year_day = is.year_days; each_month_day = is.month_days; each_weekday = is.weekdays; each_position = is.set_positions; allowed = allowed; ranked = ranked; end = is.end }
+    (read-on at nothing texts (record { interval = (omega arith, omega arith); weeks = all-none IsWeek; year_days = all-none IsPosition; month_days = all-none IsMonthDay; weekdays = all-none IsByDay; hours = all-none IsHour; minutes = all-none IsMinute; seconds = all-none IsSecond; set_positions = all-none IsPosition; end = tt })) in
+    record { interval = is.interval; each_week = is.weeks; each_year_day = is.year_days; each_month_day = is.month_days; each_weekday = is.weekdays; each_hour = is.hours; each_minute = is.minutes; each_second = is.seconds; each_position = is.set_positions; allowed = allowed; ranked = ranked; end = is.end }

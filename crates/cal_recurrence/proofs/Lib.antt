@@ -10,10 +10,14 @@ pub mod ReadWords
 pub mod ReadDates
 pub mod ReadParts
 pub mod GivenParts
+pub mod FirstNumbers
 pub mod Sets
+pub mod DateTimeSets
+pub mod ZonedSearch
 pub mod TimeSteps
 pub mod TimeTests
 pub mod RuleOccurrences
 pub mod TimeCounts
 pub mod TimePositions
 pub mod SelectedReadings
+pub mod Unfolding

@@ -4,19 +4,19 @@ use Rattle.std.specs.Prelude.{option_map}
 use Rattle.std.specs.Option.{option_zip}
 use Rattle.cal_recurrence.specs.Text.{each}
 
--- the values of the words that are left come after those so far, and each word has its position
-pub record IsRead {X : Type 0} (meaning : List ℕ → Option X) (so_far : List X) (left all : List (List ℕ)) : Type 0 where
-  pub joined : option_map (λ more. so_far ++ more) (each meaning left) ≡ each meaning all
-  pub count : length so_far + length left ≡ length all
+-- the values of the words that are left come after those so far, which begin with `start`
+pub record IsRead {X : Type 0} (meaning : List ℕ → Option X) (start so_far : List X) (left all : List (List ℕ)) : Type 0 where
+  pub joined : option_map (λ more. so_far ++ more) (each meaning left) ≡ option_map (λ more. start ++ more) (each meaning all)
+  pub count : length so_far + length left ≡ length start + length all
 
 one_more : {X : Type 0} (xs : List X) (x : X) (o : Option (List X))
     → option_map (λ more. (xs ++ x ∷ []) ++ more) o ≡ option_map (λ more. xs ++ more) (option_map (λ both. both.0 ∷ both.1) (option_zip (Some x) o))
 one_more xs x None = refl
 one_more xs x (Some ys) = ap Some (append_assoc xs (x ∷ []) ys)
 
-pub more_read : {X : Type 0} (meaning : List ℕ → Option X) (xs : List X) (x : X) (word : List ℕ) (left words all : List (List ℕ))
-    → IsRead meaning xs words all → words ≡ word ∷ left → Some x ≡ meaning word → IsRead meaning (xs ++ x ∷ []) left all
-more_read meaning xs x word left words all h e f = record {
+pub more_read : {X : Type 0} (meaning : List ℕ → Option X) (start xs : List X) (x : X) (word : List ℕ) (left words all : List (List ℕ))
+    → IsRead meaning start xs words all → words ≡ word ∷ left → Some x ≡ meaning word → IsRead meaning start (xs ++ x ∷ []) left all
+more_read meaning start xs x word left words all h e f = record {
   joined =
       one_more xs x (each meaning left)
       ∙ ap (λ o. option_map (λ more. xs ++ more) (option_map (λ both. both.0 ∷ both.1) (option_zip o (each meaning left)))) f
@@ -25,6 +25,6 @@ more_read meaning xs x word left words all h e f = record {
 }
 
 -- if there is room for all of them, there is room for one that is left
-pub room_left : {X : Type 0} (meaning : List ℕ → Option X) (xs : List X) (word : List ℕ) (left words all : List (List ℕ))
-    → IsRead meaning xs words all → words ≡ word ∷ left → length all ≤ 62 → length xs < 62
-room_left meaning xs word left words all h e few = omega (arith, h.count, ap length e)
+pub room_left : {X : Type 0} (meaning : List ℕ → Option X) (start xs : List X) (word : List ℕ) (left words all : List (List ℕ))
+    → IsRead meaning start xs words all → words ≡ word ∷ left → length start + length all ≤ 62 → length xs < 62
+room_left meaning start xs word left words all h e few = omega (arith, h.count, ap length e)

@@ -9,7 +9,7 @@ pub record IsWritten {X : Type 0} (word : X → List ℕ) (whole start text mark
   pub short : length text + length mark ≤ length start + name + 7 * count
 
 -- the word at an index, and those after it
-at_index : {X : Type 0} (xs : List X) (i : ℕ) (x : X) → i < length xs → drop i xs ≡ slice_index_or xs i x ∷ drop (i + 1) xs
+pub at_index : {X : Type 0} (xs : List X) (i : ℕ) (x : X) → i < length xs → drop i xs ≡ slice_index_or xs i x ∷ drop (i + 1) xs
 at_index [] i x less = absurd (omega (arith, less))
 at_index (y ∷ ys) zero x less = refl
 at_index (y ∷ ys) (suc i) x less =

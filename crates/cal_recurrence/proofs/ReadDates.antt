@@ -1,24 +1,32 @@
--- The day of a text in eight digits, read back.
+-- The days and readings of a text, read back.
 use Rattle.std.proofs.Math.Nat.{pow-suc}
-use Rattle.std.proofs.Common.{◌≡◌, ℕ, zero, suc, ◌+◌, ◌-◌, ◌*◌, ◌/◌, ◌%◌, ◌<◌, ◌≤◌, ◌^◌, true, false, cond, List, [], ◌∷◌, ◌++◌, length, Some, None, ℤ, pos, negsuc, inl, inr, refl, ap, ◌∙◌, arith, lit<, slice_get}
-use Rattle.std.specs.Prelude.{decimal, nat_lt, replicate, option_and_then, ◌≤ℤ◌}
+use Rattle.std.proofs.Common.{◌≡◌, ℕ, zero, suc, ◌+◌, ◌-◌, ◌*◌, ◌/◌, ◌%◌, ◌<◌, ◌≤◌, ◌^◌, true, false, cond, eqb, List, [], ◌∷◌, ◌++◌, append-nil, append_assoc, length, Option, Some, None, ℤ, pos, negsuc, inl, inr, refl, sym, ap, ◌∙◌, arith, lit<, slice_get}
+use Rattle.std.specs.Prelude.{◌⊎◌, codes, decimal, min, nat_le, nat_lt, replicate, option_and_then, ◌≤ℤ◌}
 use Rattle.std.specs.Char.{digit_value}
 use Rattle.std.specs.Str.{all_ascii_digits}
 use Rattle.std.specs.Str.Parse.{digits_value, digits_value_after}
-use Rattle.std.proofs.lemmas.Bool.{and_from, and_parts, false_from_ne_true}
+use Rattle.std.proofs.lemmas.Bool.{and_from, and_parts, cond-true, false_from_ne_true, ne_eqb}
 use Rattle.std.proofs.lemmas.Bool.Decides.{nat_tests}
 use Rattle.std.proofs.lemmas.Fmt.{digits_decimal, digits_value-decimal, length-decimal-le}
 use Rattle.std.proofs.lemmas.Int.{ints}
-use Rattle.std.proofs.lemmas.List.{drop_all, length-append, length-replicate, take_all}
+use Rattle.std.proofs.lemmas.List.{drop-append-le, drop_all, length-append, length-replicate, take-append-le, take_all}
 use Rattle.cal_time.specs.Date.{last_day, year_at, month_at, day_of_month_at, IsDate, HasCalendarDate}
 use Rattle.cal_time.specs.DateText.{digits_at_least, sign_text, year_text}
 use Rattle.cal_time.specs.Days.{month_at-range, day_of_month_at-range}
 use Rattle.cal_time.specs.Filters.{filter-first}
 use Rattle.cal_time.specs.Laws.{calendar_date-one}
+use Rattle.cal_time.specs.SignedDuration.{day}
+use Rattle.cal_time.specs.Time.{hour_of, minute_of, nanosecond_of, second_of, time_of}
+use Rattle.cal_datetime.specs.DateTime.{date_at, date_time, time_at}
+use Rattle.cal_datetime.specs.DateTimeLaws.{IsTime-time_at, date_time-parts}
 use Rattle.cal_schedule.proofs.WeekdaysOfMonths.{days_in_month-most}
-use Rattle.cal_recurrence.specs.Words.{bytes_after, first_bytes, day_with, date_of, has_digits, is_time, number_of}
-use Rattle.cal_recurrence.specs.Written.{day_text}
-use Rattle.cal_recurrence.proofs.Avoided.{avoids}
+use Rattle.cal_recurrence.specs.DateWords.{date_or_time_of, day_with, has_digits, time_with, with_time, with_zone}
+use Rattle.cal_recurrence.specs.Spelled.{HasFourDigits, IsDateOrTime, IsWhole}
+use Rattle.cal_recurrence.specs.Words.{bytes_after, first_bytes, number_of}
+use Rattle.cal_recurrence.specs.Written.{date_or_time_text, day_text, reading_text}
+use Rattle.cal_recurrence.specs.declared.date_or_time.DateOrTime.{DateOrTime}
+use Rattle.cal_recurrence.specs.declared.date_or_time.DateOrTime.TheVariants.{Date, Local, Utc}
+use Rattle.cal_recurrence.proofs.Avoided.{avoids, avoids-append, avoids-cons}
 use Rattle.cal_recurrence.proofs.Dates.{same_date, has_them, passes}
 use Rattle.cal_recurrence.proofs.Numbers.{digits}
 use Rattle.cal_recurrence.proofs.ReadValues.{IsWord}
@@ -87,18 +95,11 @@ day-back number n date h =
     }) in
     ap (λ days. slice_get days 0) first
 
-eight-digits : (word : List ℕ) (n number : ℕ) → AreDigits 8 number word → number < 4294967296 → day_with number ≡ Some n
-    → date_of word ≡ Some n
-unfolding first_bytes bytes_after
-eight-digits word n number h small day =
-    let long : nat_lt (length word) 8 ≡ false = grind (arith, nat_tests, h.size) in
-    let rest : bytes_after 8 word ≡ [] = drop_all 8 word (omega (arith, h.size)) in
-    let whole : first_bytes 8 word ≡ word = take_all 8 word (omega (arith, h.size)) in
-    ap (λ b. cond b None (cond (is_time (bytes_after 8 word)) (option_and_then day_with (number_of (first_bytes 8 word))) None)) long
-    ∙ ap (λ r. cond (is_time r) (option_and_then day_with (number_of (first_bytes 8 word))) None) rest
-    ∙ ap (λ w. option_and_then day_with (number_of w)) whole
-    ∙ ap (option_and_then day_with) (number-back word number h.all (omega (arith, h.size)) h.value small)
-    ∙ day
+-- a text of eight digits that spells a day
+record SpellsDay (n : ℕ) (ds : List ℕ) : Type 0 where
+  all : all_ascii_digits ds ≡ true
+  size : length ds ≡ 8
+  day : option_and_then day_with (number_of ds) ≡ Some n
 
 plain-year : (y : ℕ) → y ≤ 9999 → sign_text (pos y) ≡ []
 plain-year y h = grind (arith, nat_tests)
@@ -107,8 +108,15 @@ four_digits : (z : ℤ) → pos 0 ≤ℤ z → z ≤ℤ pos 9999 → (y : ℕ) �
 four_digits (pos y) low high = (y, refl, omega (arith, ints, high))
 four_digits (negsuc y) low high = absurd (omega (arith, ints, low))
 
+-- the text of two numbers of two digits after these digits
+four-more : (width n a b : ℕ) (ds : List ℕ) → AreDigits width n ds → a < 100 → b < 100
+    → AreDigits (width + 2 + 2) ((n * 100 + a) * 100 + b) (ds ++ digits_at_least 2 a ++ digits_at_least 2 b)
+four-more width n a b ds h few less =
+    two-more (width + 2) (n * 100 + a) b _ _ (two-more width n a ds _ h (filled 2 a (lit< tt) (omega (arith, few)) (omega (arith, few))))
+    (filled 2 b (lit< tt) (omega (arith, less)) (omega (arith, less)))
+
 spelled : (y m d n : ℕ) → IsDate n → year_at n ≡ pos y → month_at n ≡ m → day_of_month_at n ≡ d → y ≤ 9999 → m < 100 → d < 100
-    → IsWord date_of n (day_text n)
+    → SpellsDay n (day_text n)
 spelled y m d n date e f g small few less =
     let number = (y * 100 + m) * 100 + d in
     let year : year_text (year_at n) ≡ digits_at_least 4 y = ap year_text e ∙ ap (λ sign. sign ++ digits_at_least 4 y) (plain-year y small) in
@@ -118,21 +126,140 @@ spelled y m d n date e f g small few less =
     ∙ ap (λ second. digits_at_least 4 y ++ digits_at_least 2 second ++ digits_at_least 2 (day_of_month_at n)) f
     ∙ ap (λ last. digits_at_least 4 y ++ digits_at_least 2 m ++ digits_at_least 2 last) g in
     let are : AreDigits 8 number word =
-    two-more 6 (y * 100 + m) d _ _ (two-more 4 y m _ _ (filled 4 y (lit< tt) (omega (arith, small)) (omega (arith, small)))
-    (filled 2 m (lit< tt) (omega (arith, few)) (omega (arith, few)))) (filled 2 d (lit< tt) (omega (arith, less)) (omega (arith, less))) in
+    four-more 4 y m d _ (filled 4 y (lit< tt) (omega (arith, small)) (omega (arith, small))) few less in
     let year_is : y ≡ number / 10000 = omega (arith, few, less) in
     let month_is : m ≡ number / 100 % 100 = omega (arith, few, less) in
     let day_is : d ≡ number % 100 = omega (arith, few, less) in
     let has = same_date _ _ _ n (e ∙ ap pos year_is) (f ∙ month_is) (g ∙ day_is) in
     record {
-      comma = ap (avoids 44) same ∙ digits-avoid 44 word (inl (lit< tt)) are.all;
-      semicolon = ap (avoids 59) same ∙ digits-avoid 59 word (inr (lit< tt)) are.all;
-      means = ap date_of same ∙ eight-digits word n number are (omega (arith, small, few, less)) (day-back number n date has);
+      all = ap all_ascii_digits same ∙ are.all;
+      size = ap length same ∙ are.size;
+      day =
+          ap (λ w. option_and_then day_with (number_of w)) same
+          ∙ ap (option_and_then day_with) (number-back word number are.all (omega (arith, are.size)) are.value (omega (arith, small, few, less)))
+          ∙ day-back number n date has;
     }
 
-pub day-word : (n : ℕ) → IsDate n → pos 0 ≤ℤ year_at n → year_at n ≤ℤ pos 9999 → IsWord date_of n (day_text n)
-day-word n date low high =
-    let year = four_digits (year_at n) low high in
+day-spelled : (n : ℕ) → HasFourDigits n → SpellsDay n (day_text n)
+day-spelled n h =
+    let year = four_digits (year_at n) h.1 h.2 in
     let day = day_of_month_at-range n in
-    spelled year.0 (month_at n) (day_of_month_at n) n date year.1 refl refl year.2 (omega (arith, (month_at-range n).1))
+    spelled year.0 (month_at n) (day_of_month_at n) n h.0 year.1 refl refl year.2 (omega (arith, (month_at-range n).1))
     (omega (arith, day.1, days_in_month-most (year_at n) (month_at n)))
+
+-- the day, and what follows it
+day-then : (n : ℕ) (ds rest : List ℕ) → SpellsDay n ds → date_or_time_of (ds ++ rest) ≡ with_time rest n
+unfolding first_bytes bytes_after
+day-then n ds rest h =
+    let word = ds ++ rest in
+    let long : nat_lt (length word) 8 ≡ false = grind (arith, nat_tests, h.size, length-append ds rest) in
+    let front : first_bytes 8 word ≡ ds = take-append-le 8 ds rest (omega (arith, h.size)) ∙ take_all 8 ds (omega (arith, h.size)) in
+    let after : bytes_after 8 word ≡ rest = drop-append-le 8 ds rest (omega (arith, h.size)) ∙ ap (λ bytes. bytes ++ rest) (drop_all 8 ds (omega (arith, h.size))) in
+    ap (λ b. cond b None (option_and_then (with_time (bytes_after 8 word)) (option_and_then day_with (number_of (first_bytes 8 word))))) long
+    ∙ ap (λ r. option_and_then (with_time r) (option_and_then day_with (number_of (first_bytes 8 word)))) after
+    ∙ ap (λ w. option_and_then (with_time rest) (option_and_then day_with (number_of w))) front
+    ∙ ap (option_and_then (with_time rest)) h.day
+
+-- ---- the time of day
+abbrev clock_digits : ℕ → List ℕ
+clock_digits t = digits_at_least 2 (hour_of t) ++ digits_at_least 2 (minute_of t) ++ digits_at_least 2 (second_of t)
+
+record SpellsTime (t : ℕ) (ds : List ℕ) : Type 0 where
+  all : all_ascii_digits ds ≡ true
+  size : length ds ≡ 6
+  time : option_and_then time_with (number_of ds) ≡ Some t
+
+time-back : (h m s t : ℕ) → h < 24 → m < 60 → s < 60 → time_of h m s 0 ≡ t → time_with ((h * 100 + m) * 100 + s) ≡ Some t
+time-back h m s t few some less e =
+    let number = (h * 100 + m) * 100 + s in
+    let hour : number / 10000 ≡ h = omega (arith, some, less) in
+    let minute : number / 100 % 100 ≡ m = omega (arith, some, less) in
+    let second : number % 100 ≡ s = omega (arith, less) in
+    let hours : nat_lt (number / 10000) 24 ≡ true = grind (arith, nat_tests, hour, few) in
+    let minutes : nat_lt (number / 100 % 100) 60 ≡ true = grind (arith, nat_tests, minute, some) in
+    let seconds : nat_le (number % 100) 60 ≡ true = grind (arith, nat_tests, second, less) in
+    let plain : min (number % 100) 59 ≡ s = grind (arith, nat_tests, second, less) in
+    cond-true _ (Some (time_of (number / 10000) (number / 100 % 100) (min (number % 100) 59) 0)) None (and_from _ _ hours (and_from _ _ minutes seconds))
+    ∙ ap Some (ap (λ k. time_of k (number / 100 % 100) (min (number % 100) 59) 0) hour ∙ ap (λ k. time_of h k (min (number % 100) 59) 0) minute
+    ∙ ap (λ k. time_of h m k 0) plain ∙ e)
+
+time-spelled : (t : ℕ) → t < day → nanosecond_of t ≡ 0 → SpellsTime t (clock_digits t)
+time-spelled t below none =
+    let h = hour_of t in
+    let m = minute_of t in
+    let s = second_of t in
+    let few : h < 24 = omega (arith, below) in
+    let some : m < 60 = omega arith in
+    let less : s < 60 = omega arith in
+    let are : AreDigits 6 ((h * 100 + m) * 100 + s) (clock_digits t) = four-more 2 h m s _ (filled 2 h (lit< tt) (omega (arith, few)) (omega (arith, few))) (omega (arith, some)) (omega (arith, less)) in
+    let whole : time_of h m s 0 ≡ t = omega (arith, none) in
+    record {
+      all = are.all;
+      size = are.size;
+      time =
+          ap (option_and_then time_with) (number-back (clock_digits t) _ are.all (omega (arith, are.size)) are.value (omega (arith, few, some, less)))
+          ∙ time-back h m s t few some less whole;
+    }
+
+-- the mark `T`, a time of day and the mark of its zone
+time-then : (n t : ℕ) (ds zone : List ℕ) → SpellsTime t ds → with_time (84 ∷ (ds ++ zone)) n ≡ with_zone zone (date_time n t)
+unfolding first_bytes bytes_after
+time-then n t ds zone h =
+    let clock = ds ++ zone in
+    let size = length-append ds zone in
+    let some : eqb (length (84 ∷ clock)) 0 ≡ false = ne_eqb _ _ (λ e. omega (arith, e)) in
+    let long : nat_lt (length (84 ∷ clock)) 7 ≡ false = grind (arith, nat_tests, h.size, size) in
+    let front : first_bytes 6 clock ≡ ds = take-append-le 6 ds zone (omega (arith, h.size)) ∙ take_all 6 ds (omega (arith, h.size)) in
+    let after : bytes_after 6 clock ≡ zone = drop-append-le 6 ds zone (omega (arith, h.size)) ∙ ap (λ bytes. bytes ++ zone) (drop_all 6 ds (omega (arith, h.size))) in
+    let reading : List ℕ → List ℕ → Option DateOrTime = λ zone w. option_and_then (λ t. with_zone zone (date_time n t)) (option_and_then time_with (number_of w)) in
+    ap (λ b. cond b (Some (Date n)) (cond (nat_lt (length (84 ∷ clock)) 7) None (reading (bytes_after 6 clock) (first_bytes 6 clock)))) some
+    ∙ ap (λ b. cond b None (reading (bytes_after 6 clock) (first_bytes 6 clock))) long
+    ∙ ap (λ z. reading z (first_bytes 6 clock)) after
+    ∙ ap (reading zone) front
+    ∙ ap (option_and_then (λ t. with_zone zone (date_time n t))) h.time
+
+-- ---- the whole word
+split-reading : (ds a b c : List ℕ) → ds ++ codes "T" ++ a ++ b ++ c ≡ ds ++ (84 ∷ (a ++ b ++ c))
+split-reading ds a b c =
+    ap (λ w. (w ++ b) ++ c) (append_assoc ds (codes "T") a) ∙ ap (λ w. w ++ c) (append_assoc ds (84 ∷ a) b) ∙ append_assoc ds (84 ∷ (a ++ b)) c
+
+reading-split : (z : ℤ) → reading_text z ≡ day_text (date_at z) ++ (84 ∷ clock_digits (time_at z))
+reading-split z = split-reading (day_text (date_at z)) (digits_at_least 2 (hour_of (time_at z))) (digits_at_least 2 (minute_of (time_at z))) (digits_at_least 2 (second_of (time_at z)))
+
+reading-spelled : (z : ℤ) → IsWhole z → SpellsTime (time_at z) (clock_digits (time_at z))
+reading-spelled z h = time-spelled (time_at z) (IsTime-time_at z).below_day h.2
+
+reading-back : (z : ℤ) (zone : List ℕ) → IsWhole z → date_or_time_of (reading_text z ++ zone) ≡ with_zone zone z
+reading-back z zone h =
+    let day = day_text (date_at z) in
+    let clock = clock_digits (time_at z) in
+    ap (λ w. date_or_time_of (w ++ zone)) (reading-split z) ∙ ap date_or_time_of (append_assoc day (84 ∷ clock) zone)
+    ∙ day-then (date_at z) day (84 ∷ (clock ++ zone)) (day-spelled (date_at z) h.1)
+    ∙ time-then (date_at z) (time_at z) clock zone (reading-spelled z h)
+    ∙ ap (with_zone zone) (date_time-parts z h.0)
+
+reading-avoids : (byte : ℕ) (z : ℤ) → (byte < 48) ⊎ (57 < byte) → eqb 84 byte ≡ false → IsWhole z → avoids byte (reading_text z) ≡ true
+reading-avoids byte z out mark h =
+    let clock = clock_digits (time_at z) in
+    ap (avoids byte) (reading-split z)
+    ∙ avoids-append byte (day_text (date_at z)) (84 ∷ clock) (digits-avoid byte (day_text (date_at z)) out (day-spelled (date_at z) h.1).all)
+    (avoids-cons byte 84 clock mark (digits-avoid byte clock out (reading-spelled z h).all))
+
+pub date-word : (value : DateOrTime) → IsDateOrTime value → IsWord date_or_time_of value (date_or_time_text value)
+date-word (Date n) h =
+    let day = day-spelled n h in
+    record {
+      comma = digits-avoid 44 (day_text n) (inl (lit< tt)) day.all;
+      semicolon = digits-avoid 59 (day_text n) (inr (lit< tt)) day.all;
+      means = ap date_or_time_of (sym (append-nil (day_text n))) ∙ day-then n (day_text n) [] day;
+    }
+date-word (Local z) h = record {
+  comma = reading-avoids 44 z (inl (lit< tt)) refl h;
+  semicolon = reading-avoids 59 z (inr (lit< tt)) refl h;
+  means = ap date_or_time_of (sym (append-nil (reading_text z))) ∙ reading-back z [] h;
+}
+date-word (Utc z) h = record {
+  comma = avoids-append 44 (reading_text z) (codes "Z") (reading-avoids 44 z (inl (lit< tt)) refl h) refl;
+  semicolon = avoids-append 59 (reading_text z) (codes "Z") (reading-avoids 59 z (inr (lit< tt)) refl h) refl;
+  means = reading-back z (codes "Z") h;
+}

@@ -1,5 +1,5 @@
 -- The parts of a text that was written, read back one after another.
-use Rattle.std.proofs.Common.{◌≡◌, ℕ, suc, ◌+◌, ◌≤◌, Bool, true, false, cond, eqb, List, [], ◌∷◌, ◌++◌, append-nil, append_assoc, length, Option, Ok, Err, ℤ, refl, sym, ap, subst, ◌∙◌, arith, inl, inr}
+use Rattle.std.proofs.Common.{◌≡◌, ℕ, suc, ◌+◌, ◌≤◌, Bool, true, false, cond, eqb, List, [], ◌∷◌, ◌++◌, append-nil, append_assoc, length, Option, Ok, Err, ℤ, refl, sym, ap, subst, ◌∙◌, arith, inl, inr, lit<}
 use Rattle.std.specs.Prelude.{codes, decimal, nat_le, not, option_map, ◌&&◌}
 use Rattle.std.specs.List.{All}
 use Rattle.std.proofs.lemmas.Bool.{cases_Bool, eqb-true}
@@ -11,11 +11,13 @@ use Rattle.cal_schedule.specs.declared.rule.rule.ByDay.{ByDay}
 use Rattle.cal_schedule.specs.Pattern.{every}
 use Rattle.cal_schedule.specs.declared.rule.pattern.Pattern.{Pattern}
 use Rattle.std.specs.Option.{option_map_or}
+use Rattle.cal_recurrence.specs.DateWords.{date_or_time_of}
 use Rattle.cal_recurrence.specs.Days.{ranks_alone}
-use Rattle.cal_recurrence.specs.Spelled.{IsCount, IsMonthDay, IsByDay, IsPosition, IsWeek, IsEnd, IsSpelled}
+use Rattle.cal_recurrence.specs.Spelled.{IsCount, IsMonthDay, IsByDay, IsHour, IsMinute, IsPosition, IsSecond, IsWeek, IsEnd, IsSpelled}
 use Rattle.cal_recurrence.specs.Text.{checked, fault, later_of, list_of, is_given, parts_say, place_of, put, put_value, put_part, and_on, read_on, nothing, recurrence_of}
-use Rattle.cal_recurrence.specs.Words.{bytes_after, first_bytes, has_name, parts_at, frequency_of, weekday_of, count_of, month_of, month_day_of, week_of, by_day_of, position_of, date_of}
-use Rattle.cal_recurrence.specs.Written.{frequency_text, weekday_text, month_text, by_day_text, position_text, day_text, interval_text, end_text, list_text, week_start_text, text_of}
+use Rattle.cal_recurrence.specs.TimesOfDay.{no_times}
+use Rattle.cal_recurrence.specs.Words.{bytes_after, first_bytes, has_name, parts_at, frequency_of, weekday_of, count_of, month_of, month_day_of, week_of, by_day_of, by_hour_of, by_minute_of, by_second_of, position_of}
+use Rattle.cal_recurrence.specs.Written.{frequency_text, weekday_text, month_text, by_day_text, position_text, date_or_time_text, interval_text, end_text, list_text, week_start_text, text_of}
 use Rattle.cal_recurrence.specs.declared.draft.Draft.{Draft}
 use Rattle.cal_recurrence.specs.declared.fault.RulePart.{RulePart}
 use Rattle.cal_recurrence.specs.declared.fault.RulePart.TheVariants as part
@@ -23,10 +25,11 @@ use Rattle.cal_recurrence.specs.declared.fault.ParseRuleErrorKind.TheVariants.{A
 use Rattle.cal_recurrence.specs.declared.recurrence.Recurrence.{Recurrence}
 use Rattle.cal_recurrence.specs.declared.recurrence.RuleEnd.{RuleEnd}
 use Rattle.cal_recurrence.specs.declared.recurrence.RuleEnd.TheVariants.{Never, Until, Count}
+use Rattle.cal_recurrence.specs.declared.times_of_day.TimesOfDay.{TimesOfDay}
 use Rattle.cal_recurrence.proofs.Avoided.{avoids, avoids-append, cut-here, cut-nowhere}
-use Rattle.cal_recurrence.proofs.ReadDates.{day-word}
+use Rattle.cal_recurrence.proofs.ReadDates.{date-word}
 use Rattle.cal_recurrence.proofs.ReadValues.{IsWord, IsValue, AreWords, one-word, list-value}
-use Rattle.cal_recurrence.proofs.ReadWords.{count-word, month-word, month_day-word, week-word, by_day-word, position-word, frequency-word, weekday-word}
+use Rattle.cal_recurrence.proofs.ReadWords.{clock-word, count-word, month-word, month_day-word, week-word, by_day-word, position-word, frequency-word, weekday-word}
 
 -- ---- parts, each after a mark
 abbrev parts_after : List ℕ → List (List ℕ)
@@ -58,55 +61,55 @@ given draft at value meaning x to h new e =
     ∙ ap (λ o. option_map_or Ok o (Err (Value at))) (e ∙ ap (option_map to) h.means)
 
 -- ---- the parts in their order, each of which may be left out, and the draft after each
-abbrev draft_of : Pattern → RuleEnd → Bool → Bool → Draft
-draft_of pattern end has_interval has_week_start = record {
-  recurrence = record { pattern = pattern; end = end };
+abbrev draft_of : Pattern → TimesOfDay → RuleEnd → Bool → Bool → Draft
+draft_of pattern times end has_interval has_week_start = record {
+  recurrence = record { pattern = pattern; times = times; end = end };
   has_frequency = true;
   has_interval = has_interval;
   has_week_start = has_week_start;
 }
 
-frequency-said : (f : Frequency) (rest : List ℕ) (r : Recurrence) → Says (draft_of (every f) Never false false) rest r
+frequency-said : (f : Frequency) (rest : List ℕ) (r : Recurrence) → Says (draft_of (every f) no_times Never false false) rest r
     → read_on 0 nothing (parts_at 59 ((codes "FREQ=" ++ frequency_text f) ++ rest)) ≡ Ok r
 frequency-said f rest r h =
     let value = one-word frequency_of f (frequency_text f) (frequency-word f) in
-    (one-part nothing (draft_of (every f) Never false false) (codes "FREQ=" ++ frequency_text f) rest r
+    (one-part nothing (draft_of (every f) no_times Never false false) (codes "FREQ=" ++ frequency_text f) rest r
     (avoids-append 59 (codes "FREQ=") (frequency_text f) refl value.semicolon)
-    (given nothing part.Frequency (frequency_text f) frequency_of f (λ x. draft_of (every x) Never false false) value refl refl) h).reads 0
+    (given nothing part.Frequency (frequency_text f) frequency_of f (λ x. draft_of (every x) no_times Never false false) value refl refl) h).reads 0
 
 interval-said : (p : Pattern) (n : ℕ) (rest : List ℕ) (r : Recurrence) → IsCount n
-    → ((b : Bool) → Says (draft_of (record p { interval = n }) Never b false) rest r)
-    → Says (draft_of (record p { interval = 1 }) Never false false) (interval_text n ++ rest) r
+    → ((b : Bool) → Says (draft_of (record p { interval = n }) no_times Never b false) rest r)
+    → Says (draft_of (record p { interval = 1 }) no_times Never false false) (interval_text n ++ rest) r
 interval-said p n rest r is h =
-    let none = draft_of (record p { interval = 1 }) Never false false in
+    let none = draft_of (record p { interval = 1 }) no_times Never false false in
     let value = one-word (count_of 4294967295) n (decimal n) (count-word n is) in
     let text : Bool → List ℕ = λ b. cond b [] (codes ";INTERVAL=" ++ decimal n) in
     elim (cases_Bool (eqb n 1)) as (λ _. Says none (interval_text n ++ rest) r) [
       | inl one ↦
           subst (λ b. Says none (text b ++ rest) r) (sym one)
-          (subst (λ m. Says (draft_of (record p { interval = m }) Never false false) rest r) (eqb-true n 1 one) (h false))
+          (subst (λ m. Says (draft_of (record p { interval = m }) no_times Never false false) rest r) (eqb-true n 1 one) (h false))
       | inr more ↦
           subst (λ b. Says none (text b ++ rest) r) (sym more)
-          (one-part none (draft_of (record p { interval = n }) Never true false) (codes "INTERVAL=" ++ decimal n) rest r
+          (one-part none (draft_of (record p { interval = n }) no_times Never true false) (codes "INTERVAL=" ++ decimal n) rest r
           (avoids-append 59 (codes "INTERVAL=") (decimal n) refl value.semicolon)
-          (given none part.Interval (decimal n) (count_of 4294967295) n (λ x. draft_of (record p { interval = x }) Never true false) value refl refl) (h true))
+          (given none part.Interval (decimal n) (count_of 4294967295) n (λ x. draft_of (record p { interval = x }) no_times Never true false) value refl refl) (h true))
     ]
 
-end-said : (p : Pattern) (i : Bool) (end : RuleEnd) (rest : List ℕ) (r : Recurrence) → IsEnd end → Says (draft_of p end i false) rest r
-    → Says (draft_of p Never i false) (end_text end ++ rest) r
+end-said : (p : Pattern) (i : Bool) (end : RuleEnd) (rest : List ℕ) (r : Recurrence) → IsEnd end → Says (draft_of p no_times end i false) rest r
+    → Says (draft_of p no_times Never i false) (end_text end ++ rest) r
 end-said p i Never rest r is h = h
-end-said p i (Until day) rest r is h =
-    let none = draft_of p Never i false in
-    let value = one-word date_of day (day_text day) (day-word day is.0 is.1 is.2) in
-    one-part none (draft_of p (Until day) i false) (codes "UNTIL=" ++ day_text day) rest r
-    (avoids-append 59 (codes "UNTIL=") (day_text day) refl value.semicolon)
-    (given none part.Until (day_text day) date_of day (λ x. draft_of p (Until x) i false) value refl refl) h
+end-said p i (Until last) rest r is h =
+    let none = draft_of p no_times Never i false in
+    let value = one-word date_or_time_of last (date_or_time_text last) (date-word last is) in
+    one-part none (draft_of p no_times (Until last) i false) (codes "UNTIL=" ++ date_or_time_text last) rest r
+    (avoids-append 59 (codes "UNTIL=") (date_or_time_text last) refl value.semicolon)
+    (given none part.Until (date_or_time_text last) date_or_time_of last (λ x. draft_of p no_times (Until x) i false) value refl refl) h
 end-said p i (Count n) rest r is h =
-    let none = draft_of p Never i false in
+    let none = draft_of p no_times Never i false in
     let value = one-word (count_of 4294967295) n (decimal n) (count-word n is) in
-    one-part none (draft_of p (Count n) i false) (codes "COUNT=" ++ decimal n) rest r
+    one-part none (draft_of p no_times (Count n) i false) (codes "COUNT=" ++ decimal n) rest r
     (avoids-append 59 (codes "COUNT=") (decimal n) refl value.semicolon)
-    (given none part.Count (decimal n) (count_of 4294967295) n (λ x. draft_of p (Count x) i false) value refl refl) h
+    (given none part.Count (decimal n) (count_of 4294967295) n (λ x. draft_of p no_times (Count x) i false) value refl refl) h
 
 -- a list, with the draft for each value of its part
 list-said : {X : Type 0} (to : List X → Draft) (at : RulePart) (name : List ℕ) (meaning : List ℕ → Option X) (text : X → List ℕ)
@@ -124,28 +127,28 @@ list-said to at name meaning text named new putting plain (x ∷ xs) rest r word
     (avoids-append 59 name value plain is.semicolon)
     (named value ∙ given (to []) at value (list_of meaning) (x ∷ xs) to is new (putting value)) h)
 
-week_start-given : (p : Pattern) (end : RuleEnd) (i : Bool) (s : Weekday) (rest : List ℕ) (r : Recurrence)
-    → Says (draft_of (record p { week_start = s }) end i true) rest r
-    → Says (draft_of (record p { week_start = weekday.Monday }) end i false) ((codes ";WKST=" ++ weekday_text s) ++ rest) r
-week_start-given p end i s rest r h =
-    let none = draft_of (record p { week_start = weekday.Monday }) end i false in
+week_start-given : (p : Pattern) (t : TimesOfDay) (end : RuleEnd) (i : Bool) (s : Weekday) (rest : List ℕ) (r : Recurrence)
+    → Says (draft_of (record p { week_start = s }) t end i true) rest r
+    → Says (draft_of (record p { week_start = weekday.Monday }) t end i false) ((codes ";WKST=" ++ weekday_text s) ++ rest) r
+week_start-given p t end i s rest r h =
+    let none = draft_of (record p { week_start = weekday.Monday }) t end i false in
     let value = one-word weekday_of s (weekday_text s) (weekday-word s) in
-    one-part none (draft_of (record p { week_start = s }) end i true) (codes "WKST=" ++ weekday_text s) rest r
+    one-part none (draft_of (record p { week_start = s }) t end i true) (codes "WKST=" ++ weekday_text s) rest r
     (avoids-append 59 (codes "WKST=") (weekday_text s) refl value.semicolon)
-    (given none part.WeekStart (weekday_text s) weekday_of s (λ x. draft_of (record p { week_start = x }) end i true) value refl refl) h
+    (given none part.WeekStart (weekday_text s) weekday_of s (λ x. draft_of (record p { week_start = x }) t end i true) value refl refl) h
 
-week_start-said : (p : Pattern) (end : RuleEnd) (i : Bool) (s : Weekday) (rest : List ℕ) (r : Recurrence)
-    → ((b : Bool) → Says (draft_of (record p { week_start = s }) end i b) rest r)
-    → Says (draft_of (record p { week_start = weekday.Monday }) end i false) (week_start_text s ++ rest) r
-week_start-said p end i weekday.Monday rest r h = h false
-week_start-said p end i weekday.Tuesday rest r h = week_start-given p end i weekday.Tuesday rest r (h true)
-week_start-said p end i weekday.Wednesday rest r h = week_start-given p end i weekday.Wednesday rest r (h true)
-week_start-said p end i weekday.Thursday rest r h = week_start-given p end i weekday.Thursday rest r (h true)
-week_start-said p end i weekday.Friday rest r h = week_start-given p end i weekday.Friday rest r (h true)
-week_start-said p end i weekday.Saturday rest r h = week_start-given p end i weekday.Saturday rest r (h true)
-week_start-said p end i weekday.Sunday rest r h = week_start-given p end i weekday.Sunday rest r (h true)
+week_start-said : (p : Pattern) (t : TimesOfDay) (end : RuleEnd) (i : Bool) (s : Weekday) (rest : List ℕ) (r : Recurrence)
+    → ((b : Bool) → Says (draft_of (record p { week_start = s }) t end i b) rest r)
+    → Says (draft_of (record p { week_start = weekday.Monday }) t end i false) (week_start_text s ++ rest) r
+week_start-said p t end i weekday.Monday rest r h = h false
+week_start-said p t end i weekday.Tuesday rest r h = week_start-given p t end i weekday.Tuesday rest r (h true)
+week_start-said p t end i weekday.Wednesday rest r h = week_start-given p t end i weekday.Wednesday rest r (h true)
+week_start-said p t end i weekday.Thursday rest r h = week_start-given p t end i weekday.Thursday rest r (h true)
+week_start-said p t end i weekday.Friday rest r h = week_start-given p t end i weekday.Friday rest r (h true)
+week_start-said p t end i weekday.Saturday rest r h = week_start-given p t end i weekday.Saturday rest r (h true)
+week_start-said p t end i weekday.Sunday rest r h = week_start-given p t end i weekday.Sunday rest r (h true)
 
-all-said : (r : Recurrence) (i s : Bool) → Says (draft_of r.pattern r.end i s) [] r
+all-said : (r : Recurrence) (i s : Bool) → Says (draft_of r.pattern r.times r.end i s) [] r
 all-said r i s = record {
   cut = λ text clean. ap (parts_at 59) (append-nil text) ∙ cut-nowhere 59 text clean;
   reads = λ at. refl;
@@ -168,15 +171,21 @@ month-words [] = tt
 month-words (x ∷ xs) = (month-word x, month-words xs)
 
 -- ---- the whole
-grouped : (a b c d e f g h k l : List ℕ)
-    → a ++ b ++ c ++ d ++ e ++ f ++ g ++ h ++ k ++ l ≡ a ++ (b ++ (c ++ (d ++ (e ++ (f ++ (g ++ (h ++ (k ++ (l ++ [])))))))))
-grouped a b c d e f g h k l =
-    append_assoc (a ++ b ++ c ++ d ++ e ++ f ++ g ++ h) k l ∙ append_assoc (a ++ b ++ c ++ d ++ e ++ f ++ g) h (k ++ l)
-    ∙ append_assoc (a ++ b ++ c ++ d ++ e ++ f) g (h ++ (k ++ l))
-    ∙ append_assoc (a ++ b ++ c ++ d ++ e) f (g ++ (h ++ (k ++ l))) ∙ append_assoc (a ++ b ++ c ++ d) e (f ++ (g ++ (h ++ (k ++ l))))
-    ∙ append_assoc (a ++ b ++ c) d (e ++ (f ++ (g ++ (h ++ (k ++ l))))) ∙ append_assoc (a ++ b) c (d ++ (e ++ (f ++ (g ++ (h ++ (k ++ l))))))
-    ∙ append_assoc a b (c ++ (d ++ (e ++ (f ++ (g ++ (h ++ (k ++ l)))))))
-    ∙ ap (λ last. a ++ (b ++ (c ++ (d ++ (e ++ (f ++ (g ++ (h ++ (k ++ last))))))))) (sym (append-nil l))
+grouped : (a b c d e f g h j k l m n : List ℕ)
+    → a ++ b ++ c ++ d ++ e ++ f ++ g ++ h ++ j ++ k ++ l ++ m ++ n ≡ a ++ (b ++ (c ++ (d ++ (e ++ (f ++ (g ++ (h ++ (j ++ (k ++ (l ++ (m ++ (n ++ []))))))))))))
+grouped a b c d e f g h j k l m n =
+    append_assoc (a ++ b ++ c ++ d ++ e ++ f ++ g ++ h ++ j ++ k ++ l) m n
+    ∙ append_assoc (a ++ b ++ c ++ d ++ e ++ f ++ g ++ h ++ j ++ k) l (m ++ n)
+    ∙ append_assoc (a ++ b ++ c ++ d ++ e ++ f ++ g ++ h ++ j) k (l ++ (m ++ n))
+    ∙ append_assoc (a ++ b ++ c ++ d ++ e ++ f ++ g ++ h) j (k ++ (l ++ (m ++ n)))
+    ∙ append_assoc (a ++ b ++ c ++ d ++ e ++ f ++ g) h (j ++ (k ++ (l ++ (m ++ n))))
+    ∙ append_assoc (a ++ b ++ c ++ d ++ e ++ f) g (h ++ (j ++ (k ++ (l ++ (m ++ n)))))
+    ∙ append_assoc (a ++ b ++ c ++ d ++ e) f (g ++ (h ++ (j ++ (k ++ (l ++ (m ++ n))))))
+    ∙ append_assoc (a ++ b ++ c ++ d) e (f ++ (g ++ (h ++ (j ++ (k ++ (l ++ (m ++ n)))))))
+    ∙ append_assoc (a ++ b ++ c) d (e ++ (f ++ (g ++ (h ++ (j ++ (k ++ (l ++ (m ++ n))))))))
+    ∙ append_assoc (a ++ b) c (d ++ (e ++ (f ++ (g ++ (h ++ (j ++ (k ++ (l ++ (m ++ n)))))))))
+    ∙ append_assoc a b (c ++ (d ++ (e ++ (f ++ (g ++ (h ++ (j ++ (k ++ (l ++ (m ++ n))))))))))
+    ∙ ap (λ last. a ++ (b ++ (c ++ (d ++ (e ++ (f ++ (g ++ (h ++ (j ++ (k ++ (l ++ (m ++ (last))))))))))))) (sym (append-nil n))
 
 no-name : (r : Recurrence) → has_name (text_of r) ≡ false
 unfolding first_bytes
@@ -187,22 +196,31 @@ no-name r = and-false (nat_le 6 (length (text_of r)))
     and-false false = refl
 
 -- no list has more values than its part may have
-pub record AreFew (p : Pattern) : Type 0 where
-  pub months : length p.months ≤ 62
-  pub weeks : length p.weeks ≤ 62
-  pub year_days : length p.year_days ≤ 62
-  pub month_days : length p.month_days ≤ 62
-  pub weekdays : length p.weekdays ≤ 62
-  pub set_positions : length p.set_positions ≤ 62
+pub record AreFew (r : Recurrence) : Type 0 where
+  pub months : length r.pattern.months ≤ 62
+  pub weeks : length r.pattern.weeks ≤ 62
+  pub year_days : length r.pattern.year_days ≤ 62
+  pub month_days : length r.pattern.month_days ≤ 62
+  pub weekdays : length r.pattern.weekdays ≤ 62
+  pub hours : length r.times.hours ≤ 62
+  pub minutes : length r.times.minutes ≤ 62
+  pub seconds : length r.times.seconds ≤ 62
+  pub set_positions : length r.pattern.set_positions ≤ 62
 
-said : (r : Recurrence) → AreFew r.pattern → IsSpelled r → read_on 0 nothing (parts_at 59 (text_of r)) ≡ Ok r
+said : (r : Recurrence) → AreFew r → IsSpelled r → read_on 0 nothing (parts_at 59 (text_of r)) ≡ Ok r
 said r few h =
     let p = r.pattern in
+    let t = r.times in
     let to : List Month → List ℤ → List ℤ → List ℤ → List ByDay → List ℤ → Pattern =
     λ m n y d w k. record { frequency = p.frequency; interval = p.interval; week_start = weekday.Monday; months = m; weeks = n; year_days = y; month_days = d; weekdays = w; set_positions = k } in
+    let at : List ℕ → List ℕ → List ℕ → TimesOfDay = λ h m s. record { hours = h; minutes = m; seconds = s } in
+    let days = to p.months p.weeks p.year_days p.month_days p.weekdays [] in
     let starts = week_start_text p.week_start ++ [] in
     let positions = list_text (codes ";BYSETPOS=") position_text p.set_positions ++ starts in
-    let weekdays = list_text (codes ";BYDAY=") by_day_text p.weekdays ++ positions in
+    let seconds = list_text (codes ";BYSECOND=") decimal t.seconds ++ positions in
+    let minutes = list_text (codes ";BYMINUTE=") decimal t.minutes ++ seconds in
+    let hours = list_text (codes ";BYHOUR=") decimal t.hours ++ minutes in
+    let weekdays = list_text (codes ";BYDAY=") by_day_text p.weekdays ++ hours in
     let month_days = list_text (codes ";BYMONTHDAY=") position_text p.month_days ++ weekdays in
     let year_days = list_text (codes ";BYYEARDAY=") position_text p.year_days ++ month_days in
     let weeks = list_text (codes ";BYWEEKNO=") position_text p.weeks ++ year_days in
@@ -213,23 +231,36 @@ said r few h =
     let year_day_words = words IsPosition position_of position_text position-word p.year_days h.each_year_day in
     let day_words = words IsMonthDay month_day_of position_text month_day-word p.month_days h.each_month_day in
     let weekday_words = words IsByDay by_day_of by_day_text by_day-word p.weekdays h.each_weekday in
+    let hour_words = words IsHour by_hour_of decimal (λ n. clock-word 23 n (lit< tt)) t.hours h.each_hour in
+    let minute_words = words IsMinute by_minute_of decimal (λ n. clock-word 59 n (lit< tt)) t.minutes h.each_minute in
+    let second_words = words IsSecond by_second_of decimal (λ n. clock-word 60 n (lit< tt)) t.seconds h.each_second in
     let position_words = words IsPosition position_of position_text position-word p.set_positions h.each_position in
     ap (λ text. read_on 0 nothing (parts_at 59 text)) (grouped (codes "FREQ=" ++ frequency_text p.frequency) (interval_text p.interval) (end_text r.end)
-    (list_text (codes ";BYMONTH=") month_text p.months) (list_text (codes ";BYWEEKNO=") position_text p.weeks) (list_text (codes ";BYYEARDAY=") position_text p.year_days)
+    (list_text (codes ";BYMONTH=") month_text p.months)
+    (list_text (codes ";BYWEEKNO=") position_text p.weeks)
+    (list_text (codes ";BYYEARDAY=") position_text p.year_days)
     (list_text (codes ";BYMONTHDAY=") position_text p.month_days)
-    (list_text (codes ";BYDAY=") by_day_text p.weekdays) (list_text (codes ";BYSETPOS=") position_text p.set_positions) (week_start_text p.week_start))
+    (list_text (codes ";BYDAY=") by_day_text p.weekdays)
+    (list_text (codes ";BYHOUR=") decimal t.hours)
+    (list_text (codes ";BYMINUTE=") decimal t.minutes)
+    (list_text (codes ";BYSECOND=") decimal t.seconds)
+    (list_text (codes ";BYSETPOS=") position_text p.set_positions)
+    (week_start_text p.week_start))
     ∙ frequency-said p.frequency interval r (interval-said (to [] [] [] [] [] []) p.interval end r h.interval (λ i.
     end-said (to [] [] [] [] [] []) i r.end months r h.end (
-    list-said (λ xs. draft_of (to xs [] [] [] [] []) r.end i false) part.Months (codes "BYMONTH=") month_of month_text (λ v. refl) refl (λ v. refl) refl p.months weeks r (month-words p.months) few.months (
-    list-said (λ xs. draft_of (to p.months xs [] [] [] []) r.end i false) part.Weeks (codes "BYWEEKNO=") week_of position_text (λ v. refl) refl (λ v. refl) refl p.weeks year_days r week_words few.weeks (
-    list-said (λ xs. draft_of (to p.months p.weeks xs [] [] []) r.end i false) part.YearDays (codes "BYYEARDAY=") position_of position_text (λ v. refl) refl (λ v. refl) refl p.year_days month_days r year_day_words few.year_days (
-    list-said (λ xs. draft_of (to p.months p.weeks p.year_days xs [] []) r.end i false) part.MonthDays (codes "BYMONTHDAY=") month_day_of position_text (λ v. refl) refl (λ v. refl) refl p.month_days weekdays r day_words few.month_days (
-    list-said (λ xs. draft_of (to p.months p.weeks p.year_days p.month_days xs []) r.end i false) part.Weekdays (codes "BYDAY=") by_day_of by_day_text (λ v. refl) refl (λ v. refl) refl p.weekdays positions r weekday_words few.weekdays (
-    list-said (λ xs. draft_of (to p.months p.weeks p.year_days p.month_days p.weekdays xs) r.end i false) part.Positions (codes "BYSETPOS=") position_of position_text (λ v. refl) refl (λ v. refl) refl p.set_positions starts r position_words few.set_positions (
-    week_start-said (to p.months p.weeks p.year_days p.month_days p.weekdays p.set_positions) r.end i p.week_start [] r (λ s.
-    all-said r i s))))))))))
+    list-said (λ xs. draft_of (to xs [] [] [] [] []) no_times r.end i false) part.Months (codes "BYMONTH=") month_of month_text (λ v. refl) refl (λ v. refl) refl p.months weeks r (month-words p.months) few.months (
+    list-said (λ xs. draft_of (to p.months xs [] [] [] []) no_times r.end i false) part.Weeks (codes "BYWEEKNO=") week_of position_text (λ v. refl) refl (λ v. refl) refl p.weeks year_days r week_words few.weeks (
+    list-said (λ xs. draft_of (to p.months p.weeks xs [] [] []) no_times r.end i false) part.YearDays (codes "BYYEARDAY=") position_of position_text (λ v. refl) refl (λ v. refl) refl p.year_days month_days r year_day_words few.year_days (
+    list-said (λ xs. draft_of (to p.months p.weeks p.year_days xs [] []) no_times r.end i false) part.MonthDays (codes "BYMONTHDAY=") month_day_of position_text (λ v. refl) refl (λ v. refl) refl p.month_days weekdays r day_words few.month_days (
+    list-said (λ xs. draft_of (to p.months p.weeks p.year_days p.month_days xs []) no_times r.end i false) part.Weekdays (codes "BYDAY=") by_day_of by_day_text (λ v. refl) refl (λ v. refl) refl p.weekdays hours r weekday_words few.weekdays (
+    list-said (λ xs. draft_of days (at xs [] []) r.end i false) part.Hours (codes "BYHOUR=") by_hour_of decimal (λ v. refl) refl (λ v. refl) refl t.hours minutes r hour_words few.hours (
+    list-said (λ xs. draft_of days (at t.hours xs []) r.end i false) part.Minutes (codes "BYMINUTE=") by_minute_of decimal (λ v. refl) refl (λ v. refl) refl t.minutes seconds r minute_words few.minutes (
+    list-said (λ xs. draft_of days (at t.hours t.minutes xs) r.end i false) part.Seconds (codes "BYSECOND=") by_second_of decimal (λ v. refl) refl (λ v. refl) refl t.seconds positions r second_words few.seconds (
+    list-said (λ xs. draft_of (to p.months p.weeks p.year_days p.month_days p.weekdays xs) t r.end i false) part.Positions (codes "BYSETPOS=") position_of position_text (λ v. refl) refl (λ v. refl) refl p.set_positions starts r position_words few.set_positions (
+    week_start-said (to p.months p.weeks p.year_days p.month_days p.weekdays p.set_positions) t r.end i p.week_start [] r (λ s.
+    all-said r i s)))))))))))))
 
-reads_back_of : (r : Recurrence) → AreFew r.pattern → IsSpelled r → recurrence_of (text_of r) ≡ Ok r
+reads_back_of : (r : Recurrence) → AreFew r → IsSpelled r → recurrence_of (text_of r) ≡ Ok r
 reads_back_of r few h =
     ap (λ b. cond b (parts_say 6 (parts_at 59 (bytes_after 6 (text_of r)))) (parts_say 0 (parts_at 59 (text_of r)))) (no-name r)
     ∙ ap (checked 0 (parts_at 59 (text_of r))) (said r few h)
@@ -237,5 +268,5 @@ reads_back_of r few h =
     (cond (ranks_alone r) (Err (fault (place_of (codes "BYSETPOS") 0 (parts_at 59 (text_of r))) (Alone part.Positions))) (Ok r))) h.allowed
     ∙ ap (λ b. cond b (Err (fault (place_of (codes "BYSETPOS") 0 (parts_at 59 (text_of r))) (Alone part.Positions))) (Ok r)) h.ranked
 
-pub reads_back : (r : Recurrence) (text : List ℕ) → text ≡ text_of r → AreFew r.pattern → IsSpelled r → recurrence_of text ≡ Ok r
+pub reads_back : (r : Recurrence) (text : List ℕ) → text ≡ text_of r → AreFew r → IsSpelled r → recurrence_of text ≡ Ok r
 reads_back r text e few h = ap recurrence_of e ∙ reads_back_of r few h

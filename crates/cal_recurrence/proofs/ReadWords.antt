@@ -1,6 +1,6 @@
 -- The numbers and the names of a text, read back.
 use Rattle.std.proofs.Common.{◌≡◌, ℕ, suc, ◌-◌, ◌<◌, ◌≤◌, ◌^◌, true, false, cond, eqb, List, [], ◌∷◌, ◌++◌, length, take, drop, Option, Some, None, ℤ, pos, negsuc, inl, inr, refl, ap, ◌∙◌, arith, lit<}
-use Rattle.std.specs.Prelude.{◌⊎◌, decimal, neg_ℤ, nat_le, slice_index, option_map, option_and_then, ◌&&◌}
+use Rattle.std.specs.Prelude.{◌⊎◌, decimal, min, neg_ℤ, nat_le, slice_index, option_map, option_and_then, ◌&&◌}
 use Rattle.std.specs.Option.{option_zip}
 use Rattle.std.specs.Fmt.{signed_decimal}
 use Rattle.std.specs.Str.{all_ascii_digits}
@@ -20,7 +20,7 @@ use Rattle.cal_schedule.specs.declared.rule.rule.Frequency.TheVariants as freque
 use Rattle.cal_schedule.specs.declared.rule.rule.ByDay.{ByDay}
 use Rattle.cal_schedule.specs.declared.rule.rule.ByDay.TheVariants.{Every, Nth}
 use Rattle.cal_recurrence.specs.Spelled.{IsCount, IsIndex, IsByDay}
-use Rattle.cal_recurrence.specs.Words.{is_number, number_of, from_one_to, count_of, short_count_of, index_of, frequency_of, weekday_of, month_of, month_day_of, week_of, position_of, by_day_of}
+use Rattle.cal_recurrence.specs.Words.{is_number, number_of, from_one_to, up_to, clock_value_of, count_of, short_count_of, index_of, frequency_of, weekday_of, month_of, month_day_of, week_of, position_of, by_day_of}
 use Rattle.cal_recurrence.specs.Written.{frequency_text, weekday_text, month_text, position_text, by_day_text}
 use Rattle.cal_recurrence.proofs.Avoided.{avoids, avoids-append, avoids-cons}
 use Rattle.cal_recurrence.proofs.Numbers.{digits, numeral_is}
@@ -119,6 +119,23 @@ position-word z h = record {
   comma = signed-avoids 44 366 z (lit< tt) h refl (inl (lit< tt));
   semicolon = signed-avoids 59 366 z (lit< tt) h refl (inr (lit< tt));
   means = index-back 3 366 z (lit< tt) (lit< tt) (lit< tt) h;
+}
+
+-- ---- an hour, a minute or a second
+clock-back : (most n : ℕ) → n ≤ most → most ≤ 60 → clock_value_of most (decimal n) ≡ Some n
+clock-back most n high few =
+    let short : length (decimal n) ≤ 2 = length-decimal-le 2 n (lit< tt) (omega (arith, high, few)) (omega (arith, high, few)) in
+    let test : nat_le (length (decimal n)) 2 ≡ true = grind (arith, nat_tests, short) in
+    let within : nat_le n (min most 60) ≡ true = grind (arith, nat_tests, high, few) in
+    ap (λ b. cond b (option_and_then (up_to (min most 60)) (number_of (decimal n))) None) test
+    ∙ ap (option_and_then (up_to (min most 60))) (decimal-number n (omega (arith, high, few)))
+    ∙ ap (λ b. cond b (Some n) None) within
+
+pub clock-word : (most n : ℕ) → most ≤ 60 → n ≤ most → IsWord (clock_value_of most) n (decimal n)
+clock-word most n few high = record {
+  comma = decimal-avoids 44 n (inl (lit< tt)) (omega (arith, high, few));
+  semicolon = decimal-avoids 59 n (inr (lit< tt)) (omega (arith, high, few));
+  means = clock-back most n high few;
 }
 
 -- ---- names

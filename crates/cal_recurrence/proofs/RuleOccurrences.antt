@@ -6,22 +6,13 @@ use Rattle.std.proofs.lemmas.Int.{ints}
 use Rattle.std.proofs.lemmas.List.{length-map, take_all}
 use Rattle.std.proofs.lemmas.Option.{slice_get-map}
 use Rattle.std.proofs.lemmas.List.Sums.{count_by-le-length, length-filter}
-use Rattle.cal_time.specs.Date.{last_day, IsDate}
 use Rattle.cal_time.specs.Filters.{IsFirstDay, filter-first, filter-none, first_matching, none_matching}
 use Rattle.cal_time.specs.Occurrences.{days_from}
 use Rattle.cal_datetime.specs.DateTime.{last_date_time, IsDateTime, date_at, time_at}
 use Rattle.cal_time.proofs.DateIters.{length-days_from}
-use Rattle.cal_schedule.specs.declared.rule.rule.Rule.{Rule}
-use Rattle.cal_schedule.specs.Rule as date
-use Rattle.cal_recurrence.specs.DateTimeRule.{DateTimeParts, is_not_after, is_occurrence, occurrences, occurrences_after, occurrences_from, occurrences_left}
+use Rattle.cal_recurrence.specs.DateTimeRule.{DateTimeParts, is_not_after, is_occurrence, occurrences, occurrences_after, occurrences_from, occurrences_left, readings_from, readings_left}
 use Rattle.cal_recurrence.specs.TimeSearch.{NoneIn, IsFirst, IsNext, selects}
-
--- the next day of a rule of days
-pub next-day : (rule : Rule) (n : ℕ) (r : Option ℕ) → IsDate n → r ≡ slice_get (date.occurrences_after rule n) 0 → IsNext (date.is_occurrence rule) (n + 1) (last_day + 1) r
-next-day rule n None h e = λ k low high. none_matching (date.is_occurrence rule) (n + 1) (last_day - n) (sym e) k low (omega arith)
-next-day rule n (Some x) h e =
-    let first : IsFirstDay (date.is_occurrence rule) (n + 1) (last_day - n) x = first_matching (date.is_occurrence rule) (n + 1) (last_day - n) (Some x) e in
-    record { not_before = first.not_before; below = omega (arith, first.within); passes = first.passes; none_before = first.none_before }
+use Rattle.cal_recurrence.proofs.FirstNumbers.{first-of_list, list-first, list-none}
 
 le-true : (a b : ℤ) → int_le a b ≡ true → a ≤ℤ b
 le-true a b e = grind (arith, ints)
@@ -61,17 +52,10 @@ abbrev pub test : DateTimeParts → ℕ → Bool
 test rule k = is_occurrence rule (pos k)
 
 none-listed : (rule : DateTimeParts) (m : ℕ) → m ≤ last_date_time + 1 → NoneIn (test rule) m (last_date_time + 1) → occurrences_from rule m ≡ []
-none-listed rule m h none = ap (map pos) (filter-none (test rule) m (last_date_time + 1 - m) (λ k low high. none k low (omega arith)))
+none-listed rule m h none = ap (map pos) (list-none (test rule) m (last_date_time + 1) none)
 
 first-listed : (rule : DateTimeParts) (m x : ℕ) → IsFirst (test rule) m (last_date_time + 1) x → occurrences_from rule m ≡ pos x ∷ occurrences_after rule (pos x)
-first-listed rule m x h =
-    let count : m + (last_date_time + 1 - m) - (x + 1) ≡ last_date_time + 1 - (x + 1) = omega (arith, h.not_before, h.below) in
-    ap (map pos) (filter-first (test rule) m (last_date_time + 1 - m) x (record {
-      not_before = h.not_before;
-      within = omega (arith, h.not_before, h.below);
-      passes = h.passes;
-      none_before = h.none_before;
-    })) ∙ ap (λ c. pos x ∷ map pos (filter (test rule) (days_from (x + 1) c))) count
+first-listed rule m x h = ap (map pos) (list-first (test rule) m (last_date_time + 1) x h)
 
 -- the first occurrence from a reading on, by the first reading that passes
 pub none-pass : (rule : DateTimeParts) (m : ℕ) → m ≤ last_date_time + 1 → NoneIn (selects rule) m (last_date_time + 1) → None ≡ slice_get (occurrences_from rule m) 0
@@ -126,24 +110,16 @@ before-start rule z h start less =
     sym (from-start rule 0 s is (omega arith) within)
     ∙ from-start rule (unsigned_abs z + 1) s is (omega (arith, ints, h.not_before, start.not_before)) within
 
--- the occurrences that are left, from the first of them
-listed : (rule : DateTimeParts) (m : ℕ) (q : Option ℕ) (r : Option ℤ) → q ≡ slice_get (filter (test rule) (days_from m (last_date_time + 1 - m))) 0 → r ≡ option_map pos q
-    → occurrences_left rule r ≡ occurrences_from rule m
-listed rule m None r e f =
-    ap (occurrences_left rule) f
-    ∙ sym (ap (map pos) (filter-none (test rule) m (last_date_time + 1 - m) (none_matching (test rule) m (last_date_time + 1 - m) (sym e))))
-listed rule m (Some x) r e f =
-    let first : IsFirstDay (test rule) m (last_date_time + 1 - m) x = first_matching (test rule) m (last_date_time + 1 - m) (Some x) e in
-    ap (occurrences_left rule) f
-    ∙ sym (first-listed rule m x (record {
-      not_before = first.not_before;
-      below = omega (arith, first.within, first.not_before);
-      passes = first.passes;
-      none_before = first.none_before;
-    }))
+-- the readings that are left, from the first of them
+listed : (on : ℤ → Bool) (m : ℕ) (q : Option ℕ) (r : Option ℤ) → IsNext (λ k. on (pos k)) m (last_date_time + 1) q → r ≡ option_map pos q → readings_left on r ≡ readings_from on m
+listed on m None r none f = ap (readings_left on) f ∙ sym (ap (map pos) (list-none (λ k. on (pos k)) m (last_date_time + 1) none))
+listed on m (Some x) r h f = ap (readings_left on) f ∙ sym (ap (map pos) (list-first (λ k. on (pos k)) m (last_date_time + 1) x h))
 
-pub left-from : (rule : DateTimeParts) (m : ℕ) (r : Option ℤ) → r ≡ slice_get (occurrences_from rule m) 0 → occurrences_left rule r ≡ occurrences_from rule m
-left-from rule m r e = listed rule m _ r refl (e ∙ slice_get-map pos (filter (test rule) (days_from m (last_date_time + 1 - m))) 0)
+pub left-from : (on : ℤ → Bool) (m : ℕ) (r : Option ℤ) → r ≡ slice_get (readings_from on m) 0 → readings_left on r ≡ readings_from on m
+left-from on m r e =
+    let q = slice_get (filter (λ k. on (pos k)) (days_from m (last_date_time + 1 - m))) 0 in
+    listed on m q r (first-of_list (λ k. on (pos k)) m (last_date_time + 1) q refl)
+    (e ∙ slice_get-map pos (filter (λ k. on (pos k)) (days_from m (last_date_time + 1 - m))) 0)
 
 -- one reading of the walk, with the others after it
 pub some-left : (rule : DateTimeParts) (z : ℤ) (left : ℕ) (front : Option ℤ) → left ≢ 0 → front ≡ slice_get (occurrences_after rule z) 0
@@ -151,7 +127,7 @@ pub some-left : (rule : DateTimeParts) (z : ℤ) (left : ℕ) (front : Option �
 some-left rule z zero front some e = absurd (some refl)
 some-left rule z (suc left) front some e =
     let less : left ≡ suc left - 1 = omega arith in
-    ap (λ rest. z ∷ take left rest) (sym (left-from rule (unsigned_abs z + 1) front e)) ∙ ap (λ n. z ∷ take n (occurrences_left rule front)) less
+    ap (λ rest. z ∷ take left rest) (sym (left-from (is_occurrence rule) (unsigned_abs z + 1) front e)) ∙ ap (λ n. z ∷ take n (occurrences_left rule front)) less
 
 -- The range has fewer readings than an iterator may return.
 pub all_of_them : (rule : DateTimeParts) → take (2 ^ 128 - 1) (occurrences rule) ≡ occurrences rule

@@ -5,74 +5,30 @@ use Rattle.std.proofs.lemmas.Bool.{cases_lt}
 use Rattle.std.proofs.lemmas.Bool.Decides.{nat_tests}
 use Rattle.cal_time.specs.Date.{last_day, IsDate}
 use Rattle.cal_time.specs.Occurrences.{days_from}
-use Rattle.cal_time.specs.Filters.{filter-first, filter-none, first_matching, none_matching}
 use Rattle.cal_schedule.specs.Previous.{IsPreviousDay, is_previous_day}
 use Rattle.cal_schedule.specs.Ranks.{from-no, from-yes}
-use Rattle.cal_schedule.specs.Rule.{is_occurrence, occurrences_after}
-use Rattle.cal_schedule.specs.declared.rule.rule.Rule.{Rule}
-use Rattle.cal_recurrence.specs.Sets.{candidates, earlier, is_in_set, is_listed, later, set_days_after, set_days_before, set_days_from, set_days_left, IsNextDay}
+use Rattle.cal_recurrence.specs.Sets.{candidates, is_in_set, is_listed, later, set_days_after, set_days_before, set_days_from, set_days_left, IsNextDay}
 use Rattle.cal_recurrence.specs.declared.set.RecurrenceSet.{RecurrenceSet}
+use Rattle.cal_recurrence.proofs.FirstNumbers.{Leaves, first-in_list, first-of_list, first_one, list-first, list-none, neither, other_one}
 
-neither : (a b : Bool) → a ≡ false → b ≡ false → (a || b) ≡ false
-neither a b p q = rw (p, q) refl
+-- ---- one day, and lists
+pub one_after : (d n : ℕ) → n < d → IsDate d → IsNextDay (λ k. eqb d k) n (Some d)
+one_after d n late date = record {
+  not_before = omega (arith, late);
+  below = omega (arith, date);
+  passes = eq-eqb d d refl;
+  none_before = λ k after before. ne_eqb d k (λ e. absurd (omega arith));
+}
 
-first_one : (a b : Bool) → a ≡ true → (a || b) ≡ true
-first_one a b p = rw p refl
+pub one_not_after : (d n : ℕ) → d ≤ n → IsNextDay (λ k. eqb d k) n None
+one_not_after d n early = λ k late date. ne_eqb d k (λ e. absurd (omega arith))
 
-other_one : (a b : Bool) → b ≡ true → (a || b) ≡ true
-other_one true b p = refl
-other_one false b p = p
-
+-- ---- the nearest day that passes one of two tests
 is_earlier : (x y : ℕ) → nat_lt x y ≡ true → x < y
 is_earlier x y h = grind (arith, nat_tests)
 
 is_later : (x y : ℕ) → nat_lt x y ≡ false → y ≤ x
 is_later x y h = grind (arith, nat_tests)
-
--- ---- one day, and lists
-pub one_after : (d n : ℕ) → n < d → IsDate d → IsNextDay (λ k. eqb d k) n (Some d)
-one_after d n late date = (late, date, eq-eqb d d refl, λ k after before. ne_eqb d k (λ e. absurd (omega arith)))
-
-pub one_not_after : (d n : ℕ) → d ≤ n → IsNextDay (λ k. eqb d k) n None
-one_not_after d n early = λ k late date. ne_eqb d k (λ e. absurd (omega arith))
-
-pub one_before : (d n : ℕ) → d < n → IsPreviousDay (λ k. eqb d k) n (Some d)
-one_before d n early = (early, eq-eqb d d refl, λ k after before. ne_eqb d k (λ e. absurd (omega arith)))
-
-pub one_not_before : (d n : ℕ) → n ≤ d → IsPreviousDay (λ k. eqb d k) n None
-one_not_before d n late = λ k early. ne_eqb d k (λ e. absurd (omega arith))
-
--- ---- tests that agree
-pub next-alike : (t u : ℕ → Bool) (n : ℕ) (r : Option ℕ) → ((k : ℕ) → u k ≡ t k) → IsNextDay t n r → IsNextDay u n r
-next-alike t u n None same none = λ k late date. same k ∙ none k late date
-next-alike t u n (Some x) same next = (next.0, next.1, same x ∙ next.2, λ k late before. same k ∙ next.3 k late before)
-
-pub previous-alike : (t u : ℕ → Bool) (n : ℕ) (r : Option ℕ) → ((k : ℕ) → u k ≡ t k) → IsPreviousDay t n r → IsPreviousDay u n r
-previous-alike t u n None same none = λ k early. same k ∙ none k early
-previous-alike t u n (Some x) same last = (last.0, same x ∙ last.1, λ k after early. same k ∙ last.2 k after early)
-
--- ---- the nearest day that passes one of two tests
-earlier-at : (s t : ℕ → Bool) (n x y : ℕ) (b : Bool) → nat_lt y x ≡ b → IsNextDay s n (Some x) → IsNextDay t n (Some y) → IsNextDay (λ k. s k || t k) n (earlier (Some x) (Some y))
-earlier-at s t n x y true e p q = rw e (
-  q.0,
-  q.1,
-  other_one (s y) (t y) q.2,
-  λ k late before. neither (s k) (t k) (p.3 k late (omega (arith, before, is_earlier y x e))) (q.3 k late before),
-)
-earlier-at s t n x y false e p q = rw e (
-  p.0,
-  p.1,
-  first_one (s x) (t x) p.2,
-  λ k late before. neither (s k) (t k) (p.3 k late before) (q.3 k late (omega (arith, before, is_later y x e))),
-)
-
-pub earlier_is : (s t : ℕ → Bool) (n : ℕ) (p q : Option ℕ) → IsNextDay s n p → IsNextDay t n q → IsNextDay (λ k. s k || t k) n (earlier p q)
-earlier_is s t n None None a b = λ k late date. neither (s k) (t k) (a k late date) (b k late date)
-earlier_is s t n None (Some y) a b =
-    (b.0, b.1, other_one (s y) (t y) b.2, λ k late before. neither (s k) (t k) (a k late (omega (arith, before, b.1))) (b.3 k late before))
-earlier_is s t n (Some x) None a b =
-    (a.0, a.1, first_one (s x) (t x) a.2, λ k late before. neither (s k) (t k) (a.3 k late before) (b k late (omega (arith, before, a.1))))
-earlier_is s t n (Some x) (Some y) a b = earlier-at s t n x y (nat_lt y x) refl a b
 
 later-at : (s t : ℕ → Bool) (n x y : ℕ) (b : Bool) → nat_lt x y ≡ b → IsPreviousDay s n (Some x) → IsPreviousDay t n (Some y) → IsPreviousDay (λ k. s k || t k) n (later (Some x) (Some y))
 later-at s t n x y true e p q =
@@ -86,11 +42,15 @@ later_is s t n None (Some y) a b = (b.0, other_one (s y) (t y) b.1, λ k after e
 later_is s t n (Some x) None a b = (a.0, first_one (s x) (t x) a.1, λ k after early. neither (s k) (t k) (a.2 k after early) (b k early))
 later_is s t n (Some x) (Some y) a b = later-at s t n x y (nat_lt x y) refl a b
 
-pub by_rule : (rule : Rule) (n : ℕ) (r : Option ℕ) → r ≡ slice_get (occurrences_after rule n) 0 → IsNextDay (is_occurrence rule) n r
-by_rule rule n None e = λ k late date. none_matching (is_occurrence rule) (n + 1) (last_day - n) (sym e) k (omega arith) (omega (arith, date))
-by_rule rule n (Some x) e =
-    let first = first_matching (is_occurrence rule) (n + 1) (last_day - n) (Some x) e in
-    (omega (arith, first.not_before), omega (arith, first.within, first.not_before), first.passes, λ k late before. first.none_before k (omega arith) before)
+-- The days after day n as a list of the numbers below the end of the range.
+after-count : (test : ℕ → Bool) (n : ℕ) → filter test (days_from (n + 1) (last_day - n)) ≡ filter test (days_from (n + 1) (last_day + 1 - (n + 1)))
+after-count test n = let e : last_day - n ≡ last_day + 1 - (n + 1) = omega arith in ap (λ c. filter test (days_from (n + 1) c)) e
+
+pub next_day : (test : ℕ → Bool) (n : ℕ) (r : Option ℕ) → r ≡ slice_get (filter test (days_from (n + 1) (last_day - n))) 0 → IsNextDay test n r
+next_day test n r e = first-of_list test (n + 1) (last_day + 1) r (e ∙ ap (λ l. slice_get l 0) (after-count test n))
+
+pub is_next_day : (test : ℕ → Bool) (n : ℕ) (r : Option ℕ) → IsNextDay test n r → r ≡ slice_get (filter test (days_from (n + 1) (last_day - n))) 0
+is_next_day test n r h = first-in_list test (n + 1) (last_day + 1) r h ∙ ap (λ l. slice_get l 0) (sym (after-count test n))
 
 -- ---- days that the set has, and days that it hasn't
 no_candidate : (set : RecurrenceSet) (k : ℕ) → candidates set k ≡ false → is_in_set set k ≡ false
@@ -101,6 +61,10 @@ and_not : (a b : Bool) → b ≡ true → (a && not b) ≡ false
 and_not true b e = rw e refl
 and_not false b e = refl
 
+pub leaves : (set : RecurrenceSet) → Leaves (is_in_set set) (candidates set) (is_listed set.exceptions.now)
+unfolding is_in_set
+leaves set k = refl
+
 left_out : (set : RecurrenceSet) (k : ℕ) → is_listed set.exceptions.now k ≡ true → is_in_set set k ≡ false
 unfolding is_in_set
 left_out set k e = and_not _ _ e
@@ -109,25 +73,9 @@ pub in_set : (set : RecurrenceSet) (k : ℕ) → candidates set k ≡ true → i
 unfolding is_in_set
 in_set set k e f = rw (e, f) refl
 
--- No day of the set comes after day n and up to day m.
-abbrev pub NoneUpTo : RecurrenceSet → ℕ → ℕ → Type 0
-NoneUpTo set n m = (k : ℕ) → n < k → k ≤ m → is_in_set set k ≡ false
-
 -- No day of the set is from day m on and before day n.
 abbrev pub NoneFrom : RecurrenceSet → ℕ → ℕ → Type 0
 NoneFrom set m n = (k : ℕ) → m ≤ k → k < n → is_in_set set k ≡ false
-
-none_to : (set : RecurrenceSet) (n m x : ℕ) → NoneUpTo set n m → ((k : ℕ) → m < k → k < x → candidates set k ≡ false) → (k : ℕ) → n < k → k < x → is_in_set set k ≡ false
-none_to set n m x none next k late before = elim (cases_lt m k) as (λ _. is_in_set set k ≡ false) [
-  | inl after ↦ no_candidate set k (next k after before)
-  | inr upto ↦ none k late upto
-]
-
-pub past_left_out : (set : RecurrenceSet) (n m x : ℕ) → NoneUpTo set n m → IsNextDay (candidates set) m (Some x) → is_listed set.exceptions.now x ≡ true → NoneUpTo set n x
-past_left_out set n m x none next out = λ k late early. elim (cases_lt k x) as (λ _. is_in_set set k ≡ false) [
-  | inl before ↦ none_to set n m x none next.3 k late before
-  | inr same ↦ let e : x ≡ k = omega arith in left_out set k (ap (is_listed set.exceptions.now) (sym e) ∙ out)
-]
 
 back_left_out : (set : RecurrenceSet) (n m x k : ℕ) → NoneFrom set m n → ((k : ℕ) → x < k → k < m → candidates set k ≡ false) → x < k → k < n → is_in_set set k ≡ false
 back_left_out set n m x k none last after early = elim (cases_lt k m) as (λ _. is_in_set set k ≡ false) [
@@ -142,21 +90,6 @@ before_left_out set n m x none last out = λ k after early. elim (cases_lt x k) 
 ]
 
 -- ---- the ends of the searches
-pub found : (set : RecurrenceSet) (n m x : ℕ) → n ≤ m → NoneUpTo set n m → IsNextDay (candidates set) m (Some x) → is_listed set.exceptions.now x ≡ false
-    → Some x ≡ slice_get (set_days_after set n) 0
-found set n m x h none next within =
-    ap (λ days. slice_get days 0) (sym (filter-first (is_in_set set) (n + 1) (last_day - n) x (record {
-      not_before = omega (arith, h, next.0);
-      within = omega (arith, h, next.0, next.1);
-      passes = in_set set x next.2 within;
-      none_before = λ k low high. none_to set n m x none next.3 k (omega arith) high;
-    })))
-
-pub not_found : (set : RecurrenceSet) (n m : ℕ) → n ≤ m → NoneUpTo set n m → IsNextDay (candidates set) m None → None ≡ slice_get (set_days_after set n) 0
-not_found set n m h none next =
-    ap (λ days. slice_get days 0) (sym (filter-none (is_in_set set) (n + 1) (last_day - n)
-    (λ k low high. none_to set n m (last_day + 1) none (λ j after before. next j after (omega arith)) k (omega arith) (omega arith))))
-
 pub found_back : (set : RecurrenceSet) (n m x : ℕ) → m ≤ n → NoneFrom set m n → IsPreviousDay (candidates set) m (Some x) → is_listed set.exceptions.now x ≡ false
     → Some x ≡ slice_get (set_days_before set n) 0
 found_back set n m x h none last within =
@@ -170,12 +103,14 @@ not_found_back set n m none last =
     ])
 
 -- ---- the days left, from the next one on
+left_of : (set : RecurrenceSet) (n : ℕ) (r : Option ℕ) → IsNextDay (is_in_set set) n r → set_days_left set r ≡ set_days_after set n
+left_of set n None none = sym (after-count (is_in_set set) n ∙ list-none (is_in_set set) (n + 1) (last_day + 1) none)
+left_of set n (Some x) h =
+    ap (λ days. x ∷ days) (after-count (is_in_set set) x)
+    ∙ sym (after-count (is_in_set set) n ∙ list-first (is_in_set set) (n + 1) (last_day + 1) x h)
+
 pub left_after : (set : RecurrenceSet) (n : ℕ) (r : Option ℕ) → r ≡ slice_get (set_days_after set n) 0 → set_days_left set r ≡ set_days_after set n
-left_after set n None e = sym (filter-none (is_in_set set) (n + 1) (last_day - n) (none_matching (is_in_set set) (n + 1) (last_day - n) (sym e)))
-left_after set n (Some x) e =
-    let first = first_matching (is_in_set set) (n + 1) (last_day - n) (Some x) e in
-    let count : n + 1 + (last_day - n) - (x + 1) ≡ last_day - x = omega (arith, first.not_before, first.within) in
-    sym (filter-first (is_in_set set) (n + 1) (last_day - n) x first ∙ ap (λ c. x ∷ filter (is_in_set set) (days_from (x + 1) c)) count)
+left_after set n r e = left_of set n r (next_day (is_in_set set) n r e)
 
 pub from_here : (set : RecurrenceSet) (n : ℕ) → IsDate n → is_in_set set n ≡ true → set_days_left set (Some n) ≡ set_days_from set n
 from_here set n date on =

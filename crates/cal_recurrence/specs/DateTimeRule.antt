@@ -60,9 +60,19 @@ is_occurrence rule z =
     && (is_not_after rule.until z
     && (date.is_occurrence (day_rule rule) (date_at z) && (matches_time rule.times (time_at rule.start) (time_at z) && matches_positions rule z)))
 
+-- The readings of the range that pass a test, from the reading with the number n on, in ascending
+-- order.
+abbrev pub readings_from : (ℤ → Bool) → ℕ → List ℤ
+readings_from test n = map pos (filter (λ k. test (pos k)) (days_from n (last_date_time + 1 - n)))
+
+-- A reading and the readings after it that pass a test, or no readings.
+abbrev pub readings_left : (ℤ → Bool) → Option ℤ → List ℤ
+readings_left test None = []
+readings_left test (Some z) = z ∷ readings_from test (unsigned_abs z + 1)
+
 -- The occurrences of the range from the reading with the number n on, in ascending order.
 abbrev pub occurrences_from : DateTimeParts → ℕ → List ℤ
-occurrences_from rule n = map pos (filter (λ k. is_occurrence rule (pos k)) (days_from n (last_date_time + 1 - n)))
+occurrences_from rule n = readings_from (is_occurrence rule) n
 
 -- The occurrences after the reading z, in ascending order.
 abbrev pub occurrences_after : DateTimeParts → ℤ → List ℤ
@@ -74,5 +84,4 @@ occurrences rule = occurrences_from rule 0
 
 -- An occurrence and the occurrences after it, or no occurrences.
 abbrev pub occurrences_left : DateTimeParts → Option ℤ → List ℤ
-occurrences_left rule None = []
-occurrences_left rule (Some z) = z ∷ occurrences_after rule z
+occurrences_left rule r = readings_left (is_occurrence rule) r

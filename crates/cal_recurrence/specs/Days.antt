@@ -9,6 +9,7 @@ use Rattle.cal_recurrence.specs.declared.fault.RulePart.{RulePart}
 use Rattle.cal_recurrence.specs.declared.fault.RulePart.TheVariants as part
 use Rattle.cal_schedule.specs.Pattern.{rule_of}
 use Rattle.cal_schedule.specs.Rule.{occurrences}
+use Rattle.cal_recurrence.specs.DateOrTime.{date_of}
 use Rattle.cal_recurrence.specs.declared.recurrence.Recurrence.{Recurrence}
 use Rattle.cal_recurrence.specs.declared.recurrence.RuleEnd.{RuleEnd}
 use Rattle.cal_recurrence.specs.declared.recurrence.RuleEnd.TheVariants.{Never, Until, Count}
@@ -16,18 +17,18 @@ use Rattle.cal_recurrence.specs.declared.recurrence.RuleEnd.TheVariants.{Never, 
 -- The last day that the rule can have: the day of an UNTIL, or `None` without one.
 abbrev pub last_of : RuleEnd → Option ℕ
 last_of Never = None
-last_of (Until day) = Some day
+last_of (Until last) = Some (date_of last)
 last_of (Count count) = None
 
 -- The end is an UNTIL or a COUNT.
 abbrev pub has_end : RuleEnd → Bool
 has_end Never = false
-has_end (Until day) = true
+has_end (Until last) = true
 has_end (Count count) = true
 
--- The recurrence has positions, and no list that selects the days that they rank.
+-- The recurrence has positions, and no other list.
 abbrev pub ranks_alone : Recurrence → Bool
-ranks_alone r = not (length r.pattern.set_positions == 0) && ((length r.pattern.months == 0) && ((length r.pattern.weeks == 0) && ((length r.pattern.year_days == 0) && ((length r.pattern.month_days == 0) && (length r.pattern.weekdays == 0)))))
+ranks_alone r = not (length r.pattern.set_positions == 0) && ((length r.pattern.months == 0) && ((length r.pattern.weeks == 0) && ((length r.pattern.year_days == 0) && ((length r.pattern.month_days == 0) && ((length r.pattern.weekdays == 0) && ((length r.times.hours == 0) && ((length r.times.minutes == 0) && (length r.times.seconds == 0))))))))
 
 -- A weekday has a number.
 abbrev pub is_numbered : ByDay → Bool
@@ -55,10 +56,11 @@ excluded_at Yearly r = if not (length r.pattern.weeks == 0) && list_any is_numbe
 abbrev pub excluded : Recurrence → Option (RulePart × RulePart)
 excluded r = excluded_at r.pattern.frequency r
 
--- The days up to the end: the first `count` of them if the end is a COUNT. An UNTIL is in the rule.
-abbrev pub up_to_end : RuleEnd → List ℕ → List ℕ
+-- The days or readings up to the end: the first `count` of them if the end is a COUNT. An UNTIL is in
+-- the rule.
+abbrev pub up_to_end : {X : Type 0} → RuleEnd → List X → List X
 up_to_end Never days = days
-up_to_end (Until day) days = days
+up_to_end (Until last) days = days
 up_to_end (Count count) days = take count days
 
 -- The days of a recurrence from the start `first`.

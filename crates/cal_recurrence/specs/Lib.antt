@@ -1,4 +1,6 @@
 pub mod Words
+pub mod DateOrTime
+pub mod DateWords
 pub mod Text
 pub mod Days
 pub mod RecurrenceText
@@ -8,5 +10,12 @@ pub mod FaultText
 pub mod Sets
 pub mod TimesOfDay
 pub mod DateTimeRule
+pub mod DateTimeSet
 pub mod TimeSearch
 pub mod RuleInside
+pub mod RecurrenceReadings
+pub mod Folding
+pub mod SetFaultText
+pub mod SetText
+pub mod ZonedSet
+pub mod Occurrences

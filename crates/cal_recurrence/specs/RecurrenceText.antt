@@ -3,7 +3,7 @@ use Rattle.std.specs.Prelude.{ℕ, ◌+◌, ◌≤◌, List, length}
 
 -- The capacity of the text of a recurrence, in bytes.
 abbrev pub capacity : ℕ
-capacity = 2724
+capacity = 4060
 
 -- After a text there is room for n more bytes.
 abbrev pub HasRoom : ℕ → List ℕ → Type 0

@@ -1,10 +1,11 @@
 -- Recurrence sets of days: the days of a rule and of `RDATE`, without the days of `EXDATE`
 -- (RFC 5545).
-use Rattle.std.specs.Prelude.{◌≡◌, ℕ, ◌+◌, ◌-◌, ◌<◌, ◌==◌, ◌&&◌, ◌||◌, nat_lt, if◌then◌else◌, Bool, true, false, not, List, [], ◌∷◌, filter, Option, MatchOption, Some, None}
+use Rattle.std.specs.Prelude.{ℕ, ◌+◌, ◌-◌, ◌==◌, ◌&&◌, ◌||◌, nat_lt, if◌then◌else◌, Bool, not, List, [], ◌∷◌, filter, Option, Some, None}
 use Rattle.std.specs.List.{list_any}
-use Rattle.cal_time.specs.Date.{last_day, IsDate}
+use Rattle.cal_time.specs.Date.{last_day}
 use Rattle.cal_time.specs.Occurrences.{days_from, days_back_from}
 use Rattle.cal_schedule.specs.Rule.{is_occurrence}
+use Rattle.cal_recurrence.specs.TimeSearch.{IsNext}
 use Rattle.cal_recurrence.specs.declared.set.RecurrenceSet.{RecurrenceSet}
 
 -- Day n is in a list.
@@ -50,6 +51,4 @@ later (Some n) (Some m) = if nat_lt n m then Some m else Some n
 
 -- r is the first day of the range after day n that passes a test. If r is `None`, none passes.
 abbrev pub IsNextDay : (ℕ → Bool) → ℕ → Option ℕ → Type 0
-IsNextDay test n r =
-    MatchOption r ((k : ℕ) → n < k → IsDate k → test k ≡ false)
-    (λ x. (n < x) × IsDate x × (test x ≡ true) × ((k : ℕ) → n < k → k < x → test k ≡ false))
+IsNextDay test n r = IsNext test (n + 1) (last_day + 1) r

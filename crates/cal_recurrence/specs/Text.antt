@@ -7,8 +7,10 @@ use Rattle.cal_schedule.specs.Values.{most_values}
 use Rattle.cal_schedule.specs.declared.rule.pattern.Pattern.{Pattern}
 use Rattle.cal_schedule.specs.declared.rule.rule.Frequency.TheVariants.{Daily}
 use Rattle.cal_recurrence.specs.Days.{excluded, has_end, ranks_alone}
+use Rattle.cal_recurrence.specs.DateWords.{date_or_time_of}
 use Rattle.cal_recurrence.specs.FaultText.{part_name}
-use Rattle.cal_recurrence.specs.Words.{bytes_after, has_name, is_alike, parts_at, front_at, rest_at, part_of, frequency_of, weekday_of, count_of, month_of, month_day_of, week_of, by_day_of, position_of, date_of}
+use Rattle.cal_recurrence.specs.TimesOfDay.{no_times}
+use Rattle.cal_recurrence.specs.Words.{bytes_after, has_name, is_alike, parts_at, front_at, rest_at, part_of, frequency_of, weekday_of, count_of, month_of, month_day_of, week_of, by_day_of, by_hour_of, by_minute_of, by_second_of, position_of}
 use Rattle.cal_recurrence.specs.declared.draft.Draft.{Draft}
 use Rattle.cal_recurrence.specs.declared.fault.RulePart.{RulePart}
 use Rattle.cal_recurrence.specs.declared.fault.RulePart.TheVariants as part
@@ -17,6 +19,7 @@ use Rattle.cal_recurrence.specs.declared.fault.ParseRuleErrorKind.TheVariants.{U
 use Rattle.cal_recurrence.specs.declared.fault.ParseRuleError.{ParseRuleError}
 use Rattle.cal_recurrence.specs.declared.recurrence.Recurrence.{Recurrence}
 use Rattle.cal_recurrence.specs.declared.recurrence.RuleEnd.{RuleEnd}
+use Rattle.cal_recurrence.specs.declared.times_of_day.TimesOfDay.{TimesOfDay}
 use Rattle.cal_recurrence.specs.declared.recurrence.RuleEnd.TheVariants.{Never, Until, Count}
 
 -- ---- lists
@@ -45,6 +48,9 @@ is_given draft part.Weeks = not (length draft.recurrence.pattern.weeks == 0)
 is_given draft part.YearDays = not (length draft.recurrence.pattern.year_days == 0)
 is_given draft part.MonthDays = not (length draft.recurrence.pattern.month_days == 0)
 is_given draft part.Weekdays = not (length draft.recurrence.pattern.weekdays == 0)
+is_given draft part.Hours = not (length draft.recurrence.times.hours == 0)
+is_given draft part.Minutes = not (length draft.recurrence.times.minutes == 0)
+is_given draft part.Seconds = not (length draft.recurrence.times.seconds == 0)
 is_given draft part.Positions = not (length draft.recurrence.pattern.set_positions == 0)
 is_given draft part.Until = has_end draft.recurrence.end
 is_given draft part.Count = has_end draft.recurrence.end
@@ -52,6 +58,10 @@ is_given draft part.Count = has_end draft.recurrence.end
 -- The draft with another pattern.
 abbrev pub with_pattern : Draft → Pattern → Draft
 with_pattern draft pattern = record draft { recurrence = record draft.recurrence { pattern = pattern } }
+
+-- The draft with other times of day.
+abbrev pub with_times : Draft → TimesOfDay → Draft
+with_times draft times = record draft { recurrence = record draft.recurrence { times = times } }
 
 -- The draft with another end.
 abbrev pub with_end : Draft → RuleEnd → Draft
@@ -70,8 +80,11 @@ put draft part.Weeks value = option_map (λ x. with_pattern draft (record draft.
 put draft part.YearDays value = option_map (λ x. with_pattern draft (record draft.recurrence.pattern { year_days = x })) (list_of position_of value)
 put draft part.MonthDays value = option_map (λ x. with_pattern draft (record draft.recurrence.pattern { month_days = x })) (list_of month_day_of value)
 put draft part.Weekdays value = option_map (λ x. with_pattern draft (record draft.recurrence.pattern { weekdays = x })) (list_of by_day_of value)
+put draft part.Hours value = option_map (λ x. with_times draft (record draft.recurrence.times { hours = x })) (list_of by_hour_of value)
+put draft part.Minutes value = option_map (λ x. with_times draft (record draft.recurrence.times { minutes = x })) (list_of by_minute_of value)
+put draft part.Seconds value = option_map (λ x. with_times draft (record draft.recurrence.times { seconds = x })) (list_of by_second_of value)
 put draft part.Positions value = option_map (λ x. with_pattern draft (record draft.recurrence.pattern { set_positions = x })) (list_of position_of value)
-put draft part.Until value = option_map (λ day. with_end draft (Until day)) (date_of value)
+put draft part.Until value = option_map (λ last. with_end draft (Until last)) (date_or_time_of value)
 put draft part.Count value = option_map (λ n. with_end draft (Count n)) (count_of 4294967295 value)
 
 -- The draft with the value of one more part. Its first error is that there are too many words, then
@@ -110,7 +123,7 @@ read_on at draft (text ∷ texts) = and_on at (λ more. read_on (at + length tex
 -- The draft without parts. The defaults are an interval of 1, weeks from Monday, empty lists and no
 -- end.
 abbrev pub nothing : Draft
-nothing = record { recurrence = record { pattern = every Daily; end = Never }; has_frequency = false; has_interval = false; has_week_start = false }
+nothing = record { recurrence = record { pattern = every Daily; times = no_times; end = Never }; has_frequency = false; has_interval = false; has_week_start = false }
 
 -- The position of the first part with a name, or the end. The first of the parts begins at byte
 -- `at`.
@@ -126,8 +139,8 @@ later at place other other_place = if nat_lt place other_place then fault other_
 abbrev pub later_of : ℕ → List (List ℕ) → RulePart × RulePart → ParseRuleError
 later_of at texts both = later both.0 (place_of (part_name both.0) at texts) both.1 (place_of (part_name both.1) at texts)
 
--- A recurrence, or an error if two of its parts exclude each other or a BYSETPOS has no days to
--- rank. An earlier error stays.
+-- A recurrence, or an error if two of its parts exclude each other or a BYSETPOS has no other list.
+-- An earlier error stays.
 abbrev pub checked : ℕ → List (List ℕ) → Result Recurrence ParseRuleError → Result Recurrence ParseRuleError
 checked at texts (Ok r) = option_map_or (λ both. Err (later_of at texts both)) (excluded r)
     (if ranks_alone r then Err (fault (place_of (codes "BYSETPOS") at texts) (Alone part.Positions)) else Ok r)

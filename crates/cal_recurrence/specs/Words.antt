@@ -1,14 +1,11 @@
 -- The words of the text of a rule. Letters match in any case.
 use denote.Ref.{Bor}
-use Rattle.std.specs.Prelude.{ℕ, min, ◌+◌, ◌-◌, ◌/◌, ◌%◌, nat_lt, nat_le, ◌==◌, ◌&&◌, ◌||◌, Bool, true, false, ℤ, pos, neg_ℤ, List, [], length, take, drop, slice_get, slice_index, filter, Option, Some, None, option_map, option_and_then, codes, if◌then◌else◌}
+use Rattle.std.specs.Prelude.{ℕ, min, ◌-◌, nat_lt, nat_le, ◌==◌, ◌&&◌, Bool, ℤ, pos, neg_ℤ, List, [], length, take, drop, slice_index, Option, Some, None, option_map, option_and_then, codes, if◌then◌else◌}
 use Rattle.std.specs.List.{slice_split, before_first, after_first}
-use Rattle.std.specs.Option.{option_map_or, option_zip}
-use Rattle.std.specs.Ordering.{int_eq}
+use Rattle.std.specs.Option.{option_zip}
 use Rattle.std.specs.Str.{all_ascii_digits, str_eq_ignore_ascii_case}
 use Rattle.std.specs.Str.Parse.{digits_value}
-use Rattle.cal_time.specs.Date.{last_day, year_at, month_at, day_of_month_at}
 use Rattle.cal_time.specs.Month.{month_of_index as month_with_index}
-use Rattle.cal_time.specs.Occurrences.{days_from}
 use Rattle.cal_time.specs.declared.Month.{Month}
 use Rattle.cal_time.specs.declared.Weekday.{Weekday}
 use Rattle.cal_time.specs.declared.Weekday.TheVariants as weekday
@@ -70,6 +67,9 @@ part_of word =
     if is_alike word (codes "BYYEARDAY") then Some part.YearDays else
     if is_alike word (codes "BYMONTHDAY") then Some part.MonthDays else
     if is_alike word (codes "BYDAY") then Some part.Weekdays else
+    if is_alike word (codes "BYHOUR") then Some part.Hours else
+    if is_alike word (codes "BYMINUTE") then Some part.Minutes else
+    if is_alike word (codes "BYSECOND") then Some part.Seconds else
     if is_alike word (codes "BYSETPOS") then Some part.Positions else
     if is_alike word (codes "UNTIL") then Some part.Until else
     if is_alike word (codes "COUNT") then Some part.Count else
@@ -154,33 +154,22 @@ by_day_of word =
     if front == 0 then option_map Every (weekday_of word)
     else option_map (λ both. Nth both.0 both.1) (option_zip (index_of 2 53 (take front word)) (weekday_of (drop front word)))
 
--- Day k has the year, the month and the day of the month that the eight digits of n spell.
-abbrev pub has_digits : ℕ → ℕ → Bool
-has_digits n k = int_eq (year_at k) (pos (n / 10000)) && ((month_at k == n / 100 % 100) && (day_of_month_at k == n % 100))
+-- The number n, if it is at most `most`.
+abbrev pub up_to : ℕ → ℕ → Option ℕ
+up_to most n = if nat_le n most then Some n else None
 
--- The day of the range with the year, the month and the day of the month of these digits, if there
--- is one.
-unfoldable pub day_with : ℕ → Option ℕ
-day_with n = slice_get (filter (has_digits n) (days_from 0 (last_day + 1))) 0
+-- The hour, minute or second, from 0 up to `most` and up to 60, of at most two digits.
+abbrev pub clock_value_of : ℕ → List ℕ → Option ℕ
+clock_value_of most word = if nat_le (length word) 2 then option_and_then (up_to (min most 60)) (number_of word) else None
 
--- Six digits are a time of day. A second of 60 is a leap second.
-abbrev pub is_clock : List ℕ → Bool
-is_clock word = option_map_or (λ n. nat_lt (n / 10000) 24 && (nat_lt (n / 100 % 100) 60 && nat_le (n % 100) 60)) (number_of word) false
+-- An hour, from 0 to 23.
+abbrev pub by_hour_of : List ℕ → Option ℕ
+by_hour_of word = clock_value_of 23 word
 
--- Nothing, or `Z`, which marks a time in UTC.
-abbrev pub is_zone : List ℕ → Bool
-is_zone word = (length word == 0) || is_alike word (codes "Z")
+-- A minute, from 0 to 59.
+abbrev pub by_minute_of : List ℕ → Option ℕ
+by_minute_of word = clock_value_of 59 word
 
--- Nothing, or a time of day: `T`, six digits, and the mark of UTC or nothing.
-abbrev pub is_time : List ℕ → Bool
-is_time word =
-    if length word == 0 then true else
-    if nat_lt (length word) 7 then false else
-    is_alike (first_bytes 1 word) (codes "T")
-    && (is_clock (first_bytes 6 (bytes_after 1 word)) && is_zone (bytes_after 6 (bytes_after 1 word)))
-
--- The date of eight digits, which a time of day may follow.
-abbrev pub date_of : List ℕ → Option ℕ
-date_of word =
-    if nat_lt (length word) 8 then None else
-    if is_time (bytes_after 8 word) then option_and_then day_with (number_of (first_bytes 8 word)) else None
+-- A second, from 0 to 60.
+abbrev pub by_second_of : List ℕ → Option ℕ
+by_second_of word = clock_value_of 60 word

@@ -4,13 +4,17 @@ use Rattle.std.specs.Fmt.{signed_decimal}
 use Rattle.cal_time.specs.Date.{year_at, month_at, day_of_month_at}
 use Rattle.cal_time.specs.DateText.{digits_at_least, year_text}
 use Rattle.cal_time.specs.Month.{number}
+use Rattle.cal_time.specs.Time.{hour_of, minute_of, second_of}
 use Rattle.cal_time.specs.declared.Month.{Month}
 use Rattle.cal_time.specs.declared.Weekday.{Weekday}
 use Rattle.cal_time.specs.declared.Weekday.TheVariants as weekday
+use Rattle.cal_datetime.specs.DateTime.{date_at, time_at}
 use Rattle.cal_schedule.specs.declared.rule.rule.Frequency.{Frequency}
 use Rattle.cal_schedule.specs.declared.rule.rule.Frequency.TheVariants as frequency
 use Rattle.cal_schedule.specs.declared.rule.rule.ByDay.{ByDay}
 use Rattle.cal_schedule.specs.declared.rule.rule.ByDay.TheVariants.{Every, Nth}
+use Rattle.cal_recurrence.specs.declared.date_or_time.DateOrTime.{DateOrTime}
+use Rattle.cal_recurrence.specs.declared.date_or_time.DateOrTime.TheVariants.{Date, Local, Utc}
 use Rattle.cal_recurrence.specs.declared.recurrence.Recurrence.{Recurrence}
 use Rattle.cal_recurrence.specs.declared.recurrence.RuleEnd.{RuleEnd}
 use Rattle.cal_recurrence.specs.declared.recurrence.RuleEnd.TheVariants.{Never, Until, Count}
@@ -50,6 +54,16 @@ by_day_text (Nth index weekday) = signed_decimal index ++ weekday_text weekday
 abbrev pub day_text : ℕ → List ℕ
 day_text n = year_text (year_at n) ++ digits_at_least 2 (month_at n) ++ digits_at_least 2 (day_of_month_at n)
 
+-- A reading in digits: its day, `T`, its hour, its minute and its second, such as `20241231T235959`.
+abbrev pub reading_text : ℤ → List ℕ
+reading_text z = day_text (date_at z) ++ codes "T" ++ digits_at_least 2 (hour_of (time_at z)) ++ digits_at_least 2 (minute_of (time_at z)) ++ digits_at_least 2 (second_of (time_at z))
+
+-- A day or a reading in digits, with `Z` at UTC.
+abbrev pub date_or_time_text : DateOrTime → List ℕ
+date_or_time_text (Date n) = day_text n
+date_or_time_text (Local z) = reading_text z
+date_or_time_text (Utc z) = reading_text z ++ codes "Z"
+
 -- ---- parts
 -- The part INTERVAL, or nothing for an interval of 1.
 abbrev pub interval_text : ℕ → List ℕ
@@ -58,7 +72,7 @@ interval_text n = if n == 1 then [] else codes ";INTERVAL=" ++ decimal n
 -- The part UNTIL or COUNT, or nothing without an end.
 abbrev pub end_text : RuleEnd → List ℕ
 end_text Never = []
-end_text (Until day) = codes ";UNTIL=" ++ day_text day
+end_text (Until last) = codes ";UNTIL=" ++ date_or_time_text last
 end_text (Count n) = codes ";COUNT=" ++ decimal n
 
 -- The values of a list, each after a mark. The first mark is the name of the part, and the others
@@ -79,5 +93,7 @@ text_of r =
     codes "FREQ=" ++ frequency_text r.pattern.frequency ++ interval_text r.pattern.interval ++ end_text r.end
     ++ list_text (codes ";BYMONTH=") month_text r.pattern.months ++ list_text (codes ";BYWEEKNO=") position_text r.pattern.weeks ++ list_text (codes ";BYYEARDAY=") position_text r.pattern.year_days
     ++ list_text (codes ";BYMONTHDAY=") position_text r.pattern.month_days
-    ++ list_text (codes ";BYDAY=") by_day_text r.pattern.weekdays ++ list_text (codes ";BYSETPOS=") position_text r.pattern.set_positions
+    ++ list_text (codes ";BYDAY=") by_day_text r.pattern.weekdays
+    ++ list_text (codes ";BYHOUR=") decimal r.times.hours ++ list_text (codes ";BYMINUTE=") decimal r.times.minutes ++ list_text (codes ";BYSECOND=") decimal r.times.seconds
+    ++ list_text (codes ";BYSETPOS=") position_text r.pattern.set_positions
     ++ week_start_text r.pattern.week_start

@@ -14,9 +14,9 @@ impl Recurrence {
     /// Returns the text that the recurrence prints, such as `FREQ=MONTHLY;COUNT=12;BYDAY=-1FR`.
     ///
     /// The order is `FREQ`, `INTERVAL`, `UNTIL` or `COUNT`, `BYMONTH`, `BYWEEKNO`, `BYYEARDAY`,
-    /// `BYMONTHDAY`, `BYDAY`, `BYSETPOS`, `WKST`. An interval of 1, weeks from Monday, empty lists
-    /// and a missing end are left out. For each recurrence that [`parse`](crate::parse) can return,
-    /// parsing its text gives the recurrence again.
+    /// `BYMONTHDAY`, `BYDAY`, `BYHOUR`, `BYMINUTE`, `BYSECOND`, `BYSETPOS`, `WKST`. An interval of
+    /// 1, weeks from Monday, empty lists and a missing end are left out. For each recurrence that
+    /// [`parse`](crate::parse) can return, parsing its text gives the recurrence again.
     pub fn text(&self) -> RecurrenceText
         ensures text { result ≡ text_of self.now }
         ensures reads_back { IsSpelled self.now → recurrence_of result ≡ Ok self.now }
@@ -35,6 +35,9 @@ impl Recurrence {
             self.pattern.month_days.as_slice(),
         );
         push_list(&mut text, ";BYDAY=", self.pattern.weekdays.as_slice());
+        push_list(&mut text, ";BYHOUR=", self.times.hours.as_slice());
+        push_list(&mut text, ";BYMINUTE=", self.times.minutes.as_slice());
+        push_list(&mut text, ";BYSECOND=", self.times.seconds.as_slice());
         push_list(
             &mut text,
             ";BYSETPOS=",

@@ -4,10 +4,12 @@ ghost use Rattle.cal_schedule.specs.Values.{most_values};
 ghost use Rattle.cal_recurrence.specs.Text.{finished, is_given, nothing, put, put_part, put_value};
 ghost use Rattle.cal_recurrence.specs.Words.{parts_at};
 
+use crate::date_words::date_or_time_of;
 use crate::fault::{ParseRuleError, ParseRuleErrorKind, RulePart};
 use crate::lists::{has_few_words, values_of};
 use crate::recurrence::{Recurrence, RuleEnd};
-use crate::words::{count_of, cut, date_of, frequency_of, part_of, weekday_of};
+use crate::times_of_day::TimesOfDay;
+use crate::words::{count_of, cut, frequency_of, part_of, weekday_of};
 use cal_schedule::{ByDay, Frequency, Pattern};
 use cal_time::{Month, Weekday};
 
@@ -29,6 +31,7 @@ impl Draft {
         Draft {
             recurrence: Recurrence {
                 pattern: Pattern::new(Frequency::Daily),
+                times: TimesOfDay::new(),
                 end: RuleEnd::Never,
             },
             has_frequency: false,
@@ -70,7 +73,7 @@ impl Draft {
     fn is_given(&self, part: RulePart) -> bool
         ensures { result ≡ is_given self.now part }
     {
-        let pattern = &self.recurrence.pattern;
+        let (pattern, times) = (&self.recurrence.pattern, &self.recurrence.times);
         match part {
             RulePart::Frequency => self.has_frequency,
             RulePart::Interval => self.has_interval,
@@ -80,6 +83,9 @@ impl Draft {
             RulePart::YearDays => !pattern.year_days.is_empty(),
             RulePart::MonthDays => !pattern.month_days.is_empty(),
             RulePart::Weekdays => !pattern.weekdays.is_empty(),
+            RulePart::Hours => !times.hours.is_empty(),
+            RulePart::Minutes => !times.minutes.is_empty(),
+            RulePart::Seconds => !times.seconds.is_empty(),
             RulePart::Positions => !pattern.set_positions.is_empty(),
             RulePart::Until | RulePart::Count => self.recurrence.end.is_given(),
         }
@@ -128,12 +134,24 @@ impl Draft {
                 self.recurrence.pattern.weekdays = values_of(value, filler, 53)?;
                 Some(self)
             }
+            RulePart::Hours => {
+                self.recurrence.times.hours = values_of(value, 0u8, 23)?;
+                Some(self)
+            }
+            RulePart::Minutes => {
+                self.recurrence.times.minutes = values_of(value, 0u8, 59)?;
+                Some(self)
+            }
+            RulePart::Seconds => {
+                self.recurrence.times.seconds = values_of(value, 0u8, 60)?;
+                Some(self)
+            }
             RulePart::Positions => {
                 self.recurrence.pattern.set_positions = values_of(value, 0i16, 366)?;
                 Some(self)
             }
             RulePart::Until => {
-                self.recurrence.end = RuleEnd::Until(date_of(value)?);
+                self.recurrence.end = RuleEnd::Until(date_or_time_of(value)?);
                 Some(self)
             }
             RulePart::Count => {

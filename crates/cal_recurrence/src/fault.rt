@@ -24,6 +24,12 @@ pub enum RulePart {
     MonthDays,
     /// `BYDAY`
     Weekdays,
+    /// `BYHOUR`
+    Hours,
+    /// `BYMINUTE`
+    Minutes,
+    /// `BYSECOND`
+    Seconds,
     /// `BYSETPOS`
     Positions,
     /// `UNTIL`
@@ -35,7 +41,7 @@ pub enum RulePart {
 /// A reason why a text is not a recurrence.
 #[derive(Clone, Copy, Debug, PartialEq, Eq)]
 pub enum ParseRuleErrorKind {
-    /// The part has an unknown name, such as `BYHOUR=9`.
+    /// The part has an unknown name, such as `RSCALE=GREGORIAN`.
     Unknown,
     /// An earlier part has the same name. `UNTIL` and `COUNT` both set the end, so a second one of
     /// either is an error.
@@ -49,8 +55,7 @@ pub enum ParseRuleErrorKind {
     /// `BYYEARDAY` and `BYWEEKNO` require `FREQ=YEARLY`, and `BYMONTHDAY` excludes `FREQ=WEEKLY`. A
     /// number in `BYDAY` requires `FREQ=MONTHLY` or `FREQ=YEARLY`, and excludes `BYWEEKNO`.
     Excluded(RulePart),
-    /// The part requires another one that selects days: `BYMONTH`, `BYWEEKNO`, `BYYEARDAY`,
-    /// `BYMONTHDAY` or `BYDAY`. Only `BYSETPOS` does.
+    /// The part requires another list, such as `BYDAY` or `BYHOUR`. Only `BYSETPOS` does.
     Alone(RulePart),
     /// The text has no `FREQ`.
     Missing,
@@ -84,6 +89,9 @@ impl RulePart {
             RulePart::YearDays => "BYYEARDAY",
             RulePart::MonthDays => "BYMONTHDAY",
             RulePart::Weekdays => "BYDAY",
+            RulePart::Hours => "BYHOUR",
+            RulePart::Minutes => "BYMINUTE",
+            RulePart::Seconds => "BYSECOND",
             RulePart::Positions => "BYSETPOS",
             RulePart::Until => "UNTIL",
             RulePart::Count => "COUNT",

@@ -1,29 +1,51 @@
-//! Recurrence rules of RFC 5545: parses and formats the text of an `RRULE` and lists its days.
+//! Recurrences of RFC 5545: rules of days and of times of day, sets, and their texts.
 //!
-//! `parse` returns the recurrence, or the position and the reason of the first error.
+//! `parse` returns the recurrence of an `RRULE`, or the position and the reason of the first error. A
+//! [`DateTimeRule`] has the readings of a clock, and a [`RecurrenceSet`] the days of a rule with
+//! others and without exceptions.
 #![tactic(auto)]
 
+mod date_or_time;
 mod date_time_rule;
+mod date_time_set;
+mod date_words;
 mod display;
 mod draft;
 mod fault;
+mod folding;
 mod lists;
+mod occurrences;
+mod parsing;
 mod positions;
-mod reading;
+mod reach;
 mod readings;
 mod recurrence;
+mod recurrence_readings;
 mod set;
+mod set_draft;
+mod set_fault;
+mod set_parsing;
+mod set_parts;
 mod text;
 mod times_of_day;
 mod words;
 mod writing;
+mod zoned_set;
 
 pub use cal_schedule::{Pattern, Values};
+pub use date_or_time::DateOrTime;
 pub use date_time_rule::DateTimeRule;
+pub use date_time_set::{DateTimeSet, DateTimeSetReadings};
 pub use fault::{ParseRuleError, ParseRuleErrorKind, RulePart};
-pub use reading::parse;
+pub use folding::unfold;
+pub use occurrences::Occurrences;
+pub use parsing::parse;
 pub use readings::RuleReadings;
 pub use recurrence::{Recurrence, RuleEnd};
 pub use set::{RecurrenceSet, RecurrenceSetDays};
+pub use set_fault::{ParseSetError, ParseSetErrorKind, SetLine};
+pub use set_parsing::parse_set;
+pub use set_parts::SetParts;
 pub use text::RecurrenceText;
 pub use times_of_day::TimesOfDay;
+pub use zoned_set::ZonedSet;

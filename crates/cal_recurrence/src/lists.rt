@@ -1,6 +1,7 @@
 //! Lists of values.
 ghost use Rattle.std.specs.Prelude.{◌≡◌, ◌≤◌, ◌==◌, count_by, length};
 ghost use Rattle.cal_schedule.specs.Values.{most_values};
+ghost use Rattle.cal_recurrence.specs.SetText.{has_room};
 ghost use Rattle.cal_recurrence.specs.Text.{has_few_words, list_of};
 ghost use Rattle.cal_recurrence.specs.Words.{parts_at};
 
@@ -26,6 +27,14 @@ pub fn has_few_words(value: &[u8]) -> bool
     ensures { result ≡ has_few_words value.now }
 {
     commas(value) < 62
+}
+
+/// Returns `true` if a list of `filled` values has room for the words with commas between them.
+pub fn has_room(filled: usize, value: &[u8]) -> bool
+    requires { filled ≤ most_values }
+    ensures { result ≡ has_room filled value.now }
+{
+    commas(value) < 62 - filled
 }
 
 /// Parses values up to `most` with commas between them, or returns `None` if one is invalid. There

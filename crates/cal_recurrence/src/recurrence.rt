@@ -4,18 +4,20 @@ ghost use Rattle.std.specs.List.{list_any};
 ghost use Rattle.cal_schedule.specs.Pattern.{rule_of};
 ghost use Rattle.cal_recurrence.specs.Days.{days_of, excluded, has_end, is_numbered, last_of, ranks_alone};
 
+use crate::date_or_time::DateOrTime;
 use crate::fault::RulePart;
+use crate::times_of_day::TimesOfDay;
 use cal_schedule::{ByDay, Frequency, Pattern, Rule, RuleDays};
 use cal_time::Date;
 
 /// The end of a recurrence.
 #[derive(Clone, Copy, Debug, PartialEq, Eq)]
 pub enum RuleEnd {
-    /// No end: the days go on to the end of the range.
+    /// No end: the days or readings go on to the end of the range.
     Never,
-    /// The last possible day (`UNTIL`), which counts if the rule has it.
-    Until(Date),
-    /// The number of days (`COUNT`).
+    /// The last possible day or reading (`UNTIL`), which counts if the rule has it.
+    Until(DateOrTime),
+    /// The number of days or readings (`COUNT`).
     Count(u32),
 }
 
@@ -24,7 +26,9 @@ pub enum RuleEnd {
 pub struct Recurrence {
     /// The pattern of the days.
     pub pattern: Pattern,
-    /// The end of the days.
+    /// The times of day, which count only for a start with a time.
+    pub times: TimesOfDay,
+    /// The end of the days or readings.
     pub end: RuleEnd,
 }
 
@@ -52,8 +56,7 @@ fn any_numbered(weekdays: &[ByDay]) -> bool
 }
 
 impl Recurrence {
-    /// Returns `true` if the recurrence has positions, and no list that selects the days that they
-    /// rank.
+    /// Returns `true` if the recurrence has positions, and no other list.
     pub(crate) fn ranks_alone(&self) -> bool
         ensures { result ≡ ranks_alone self.now }
     {
@@ -63,6 +66,9 @@ impl Recurrence {
             && self.pattern.year_days.is_empty()
             && self.pattern.month_days.is_empty()
             && self.pattern.weekdays.is_empty()
+            && self.times.hours.is_empty()
+            && self.times.minutes.is_empty()
+            && self.times.seconds.is_empty()
     }
 
     /// Returns two parts that exclude each other, or `None` if no parts do.
@@ -107,7 +113,7 @@ impl Recurrence {
         ensures { result ≡ last_of self.now.end }
     {
         match self.end {
-            RuleEnd::Until(day) => Some(day),
+            RuleEnd::Until(last) => Some(last.date()),
             RuleEnd::Never | RuleEnd::Count(_) => None,
         }
     }

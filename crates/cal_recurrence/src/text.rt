@@ -9,9 +9,9 @@ use std::marker::Model;
 use std::str::from_utf8_unchecked;
 
 /// The capacity in bytes. A recurrence with 62 values in each of its lists needs fewer.
-const CAPACITY: usize = 2724;
+const CAPACITY: usize = 4060;
 
-/// A text of a recurrence, of at most 2724 bytes, without allocation or a formatter. Contracts see
+/// A text of a recurrence, of at most 4060 bytes, without allocation or a formatter. Contracts see
 /// its bytes.
 #[derive(Drop)]
 pub struct RecurrenceText {
@@ -50,7 +50,7 @@ impl RecurrenceText {
         unsafe { from_utf8_unchecked(&self.bytes[..self.filled]) }
     }
 
-    /// Returns the bytes of the text, which is UTF-8. They are at most 2724.
+    /// Returns the bytes of the text, which is UTF-8. They are at most 4060.
     pub fn as_bytes(&self) -> &[u8]
         ensures value { result.now ≡ self.now }
         ensures short { length result.now ≤ capacity }
@@ -58,7 +58,7 @@ impl RecurrenceText {
         &self.bytes[..self.filled]
     }
 
-    /// Returns the number of bytes, at most 2724. For `FREQ=DAILY` it is 10.
+    /// Returns the number of bytes, at most 4060. For `FREQ=DAILY` it is 10.
     pub fn len(&self) -> usize
         ensures value { result ≡ length self.now }
         ensures max { result ≤ capacity }

@@ -1,10 +1,10 @@
 //! Single words of the text of a rule.
 ghost use Rattle.std.specs.Prelude.{◌≡◌, true, ◌+◌, ◌<◌, ◌≤◌, ◌==◌, ◌∷◌, length, position, slice_index, MatchOption, IfSome, unsigned_abs};
-ghost use Rattle.cal_recurrence.specs.Words.{by_day_of, bytes_after, bytes_left, count_of, date_of, day_with, first_bytes, frequency_of, from_one_to, front_at, has_name, is_alike, is_clock, is_time, is_zone, month_of, number_of, part_of, parts_at, parts_left, index_of, position_of, rest_at, short_count_of, small_index_of, weekday_of};
+ghost use Rattle.cal_recurrence.specs.Words.{by_day_of, bytes_after, bytes_left, clock_value_of, count_of, first_bytes, frequency_of, from_one_to, front_at, has_name, is_alike, month_of, number_of, part_of, parts_at, parts_left, index_of, position_of, rest_at, short_count_of, small_index_of, weekday_of};
 
 use crate::fault::RulePart;
 use cal_schedule::{ByDay, Frequency};
-use cal_time::{Date, Month, Weekday};
+use cal_time::{Month, Weekday};
 use std::str;
 
 /// Returns the index of the first such byte, or `None` without one.
@@ -76,6 +76,12 @@ pub fn part_of(name: &[u8]) -> Option<RulePart>
         Some(RulePart::MonthDays)
     } else if is_alike(name, b"BYDAY") {
         Some(RulePart::Weekdays)
+    } else if is_alike(name, b"BYHOUR") {
+        Some(RulePart::Hours)
+    } else if is_alike(name, b"BYMINUTE") {
+        Some(RulePart::Minutes)
+    } else if is_alike(name, b"BYSECOND") {
+        Some(RulePart::Seconds)
     } else if is_alike(name, b"BYSETPOS") {
         Some(RulePart::Positions)
     } else if is_alike(name, b"UNTIL") {
@@ -135,7 +141,7 @@ fn begins_with_plus(word: &[u8]) -> bool
 }
 
 /// Parses a number from 0 to 4294967295, or returns `None` if the word isn't one.
-fn number_of(word: &[u8]) -> Option<u32>
+pub fn number_of(word: &[u8]) -> Option<u32>
     ensures { result ≡ number_of word.now }
 {
     if begins_with_plus(word) {
@@ -145,6 +151,21 @@ fn number_of(word: &[u8]) -> Option<u32>
         return None;
     };
     text.parse().ok()
+}
+
+/// Parses an hour, a minute or a second of at most two digits, from 0 to `most`. It is never past
+/// 60.
+pub fn clock_value_of(word: &[u8], most: u16) -> Option<u8>
+    ensures { result ≡ clock_value_of most word.now }
+{
+    if word.len() > 2 {
+        return None;
+    }
+    let number = number_of(word)?;
+    if number > u32::from(most.min(60)) {
+        return None;
+    }
+    Some(number as u8)
 }
 
 /// Parses a number from 1 to `most`, or returns `None` if the word isn't one.
@@ -218,64 +239,4 @@ pub fn by_day_of(word: &[u8]) -> Option<ByDay>
     let front = word.len() - 2;
     let index = index_of(&word[..front], 2, 53)?;
     Some(ByDay::Nth(index as i8, weekday_of(&word[front..])?))
-}
-
-/// Returns the date whose eight digits these are, or `None` if it doesn't exist.
-fn day_with(number: u32) -> Option<Date>
-    ensures { result ≡ day_with number }
-{
-    let Ok(month) = Month::try_from((number / 100 % 100) as u8) else {
-        return None;
-    };
-    Date::from_calendar_date((number / 10_000) as i32, month, (number % 100) as u8).ok()
-}
-
-/// Returns `true` if six digits are a time of day. A second can be 60.
-fn is_clock(word: &[u8]) -> bool
-    ensures { result ≡ is_clock word.now }
-{
-    match number_of(word) {
-        Some(n) => n / 10_000 < 24 && n / 100 % 100 < 60 && n % 100 <= 60,
-        None => false,
-    }
-}
-
-/// Returns `true` if the word is empty or `Z`.
-fn is_zone(word: &[u8]) -> bool
-    ensures { result ≡ is_zone word.now }
-{
-    word.is_empty() || is_alike(word, b"Z")
-}
-
-/// Returns `true` if the word is empty or a time of day, such as `T235959` or `T235959Z`.
-fn is_time(word: &[u8]) -> bool
-    ensures { result ≡ is_time word.now }
-{
-    if word.is_empty() {
-        return true;
-    }
-    if word.len() < 7 {
-        return false;
-    }
-    let (mark, rest) = split(word, 1);
-    let (clock, zone) = split(rest, 6);
-    is_alike(mark, b"T") && is_clock(clock) && is_zone(zone)
-}
-
-/// Parses the date of a date such as `20241231`, or of a date and time such as `20241231T235959Z`.
-/// Returns `None` if the word is neither.
-pub fn date_of(word: &[u8]) -> Option<Date>
-    ensures { result ≡ date_of word.now }
-{
-    if word.len() < 8 {
-        return None;
-    }
-    let (day, time) = split(word, 8);
-    if !is_time(time) {
-        return None;
-    }
-    match number_of(day) {
-        Some(number) => day_with(number),
-        None => None,
-    }
 }

@@ -1,14 +1,16 @@
 //! The parts of the text of a recurrence.
-ghost use Rattle.std.specs.Prelude.{◌≡◌, ◌+◌, ◌*◌, ◌≤◌, ◌++◌, List, ℕ, Option, length};
+ghost use Rattle.std.specs.Prelude.{◌≡◌, ◌+◌, ◌*◌, ◌≤◌, ◌++◌, List, ℕ, Option, decimal, length};
 ghost use Rattle.std.specs.Fmt.{signed_decimal};
 ghost use Rattle.cal_recurrence.specs.RecurrenceText.{HasRoom};
 ghost use Rattle.cal_schedule.specs.Values.{most_values};
-ghost use Rattle.cal_recurrence.specs.Words.{by_day_of, month_of, position_of, small_index_of};
-ghost use Rattle.cal_recurrence.specs.Written.{by_day_text, day_text, end_text, frequency_text, interval_text, list_text, month_text, position_text, week_start_text, weekday_text};
+ghost use Rattle.cal_recurrence.specs.Words.{by_day_of, clock_value_of, month_of, position_of, small_index_of};
+ghost use Rattle.cal_recurrence.specs.Written.{by_day_text, date_or_time_text, day_text, end_text, frequency_text, interval_text, list_text, month_text, position_text, reading_text, week_start_text, weekday_text};
 
+use crate::date_or_time::DateOrTime;
 use crate::recurrence::RuleEnd;
 use crate::text::RecurrenceText;
-use crate::words::{by_day_of, month_of, position_of, small_index_of};
+use crate::words::{by_day_of, clock_value_of, month_of, position_of, small_index_of};
+use cal_datetime::PlainDateTime;
 use cal_schedule::{ByDay, Frequency};
 use cal_time::{Cycle, Date, Month, ShortText, Weekday};
 
@@ -23,8 +25,8 @@ pub trait Word: Copy {
         ensures text { result ≡ text_of self }
         ensures short { length result ≤ 6 };
 
-    /// Parses a value, or returns `None` if it is invalid. A day of the month or a week is at most
-    /// `most`.
+    /// Parses a value, or returns `None` if it is invalid. A day of the month, a week,
+    /// an hour, a minute or a second is at most `most`.
     fn read(word: &[u8], most: u16) -> Option<Self>
         ensures { result ≡ meaning_of most word.now };
 }
@@ -57,6 +59,23 @@ impl Word for i8 {
 
     fn word(self) -> ShortText {
         index_text(self)
+    }
+}
+
+impl Word for u8 {
+    ghost text_of = { decimal };
+
+    ghost meaning_of = { clock_value_of };
+
+    fn read(word: &[u8], most: u16) -> Option<Self> {
+        clock_value_of(word, most)
+    }
+
+    #[tactic(auto, using(crate::proofs::Digits::three_digits))]
+    fn word(self) -> ShortText {
+        let mut text = ShortText::new();
+        text.push_number(u64::from(self));
+        text
     }
 }
 
@@ -156,6 +175,36 @@ fn day_text(date: Date) -> ShortText
     text
 }
 
+/// Formats a reading in digits, such as `20241231T235959`.
+fn reading_text(reading: PlainDateTime) -> ShortText
+    ensures text { result ≡ reading_text reading }
+    ensures short { length result ≤ 18 }
+{
+    let (hour, minute, second) = reading.time().as_hms();
+    let mut text = day_text(reading.date());
+    text.push("T");
+    text.push_two_digits(u32::from(hour));
+    text.push_two_digits(u32::from(minute));
+    text.push_two_digits(u32::from(second));
+    text
+}
+
+/// Formats a date or a reading in digits, such as `20241231T235959Z`.
+fn date_or_time_text(value: DateOrTime) -> ShortText
+    ensures text { result ≡ date_or_time_text value }
+    ensures short { length result ≤ 19 }
+{
+    match value {
+        DateOrTime::Date(date) => day_text(date),
+        DateOrTime::Local(reading) => reading_text(reading),
+        DateOrTime::Utc(reading) => {
+            let mut text = reading_text(reading);
+            text.push("Z");
+            text
+        }
+    }
+}
+
 /// Appends the part `INTERVAL`, unless the interval is 1. There must be room for 20 bytes.
 pub fn push_interval(text: &mut RecurrenceText, interval: u32)
     requires { HasRoom 20 text.old }
@@ -169,17 +218,17 @@ pub fn push_interval(text: &mut RecurrenceText, interval: u32)
     text.push_number(interval);
 }
 
-/// Appends the part `UNTIL` or `COUNT`, if there is an end. There must be room for 18 bytes.
+/// Appends the part `UNTIL` or `COUNT`, if there is an end. There must be room for 26 bytes.
 pub fn push_end(text: &mut RecurrenceText, end: RuleEnd)
-    requires { HasRoom 18 text.old }
+    requires { HasRoom 26 text.old }
     ensures appended { text.new ≡ text.old ++ end_text end }
-    ensures short { length text.new ≤ length text.old + 18 }
+    ensures short { length text.new ≤ length text.old + 26 }
 {
     match end {
         RuleEnd::Never => {}
-        RuleEnd::Until(day) => {
+        RuleEnd::Until(last) => {
             text.push(";UNTIL=");
-            text.push(day_text(day).as_str());
+            text.push(date_or_time_text(last).as_str());
         }
         RuleEnd::Count(count) => {
             text.push(";COUNT=");

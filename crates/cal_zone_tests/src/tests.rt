@@ -1,5 +1,6 @@
 //! Clocks of zones around their changes. The values are those of Python's `zoneinfo`.
 
+mod occurrences;
 mod tzif;
 
 use cal_datetime::{OffsetDateTime, PlainDateTime, with_hms_nano};

@@ -75,7 +75,7 @@ pub fn show(rt: &impl Print) -> io::Result<()> {
         println!(rt; "{before} {after}")?;
     }
     show_days(rt, "FREQ=MONTHLY;BYDAY=-1FR;COUNT=3", start)?;
-    show_days(rt, "FREQ=MONTHLY;BYDAY=-1FR;BYHOUR=9", start)?;
+    show_days(rt, "FREQ=MONTHLY;BYDAY=-1FR;HOUR=9", start)?;
     if let Ok(text) = respelled(b"byday=-01fr;count=3;freq=monthly") {
         println!(rt; "{}", text.as_str())?;
     }

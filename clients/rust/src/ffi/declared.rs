@@ -74,8 +74,9 @@ pub(crate) fn zone_error(status: Status) -> Option<&'static str> {
 }
 
 /// The names of the parts of a recurrence, by their numbers from 1.
-pub(crate) const PARTS: [&str; 11] = [
-    "FREQ", "INTERVAL", "WKST", "BYMONTH", "BYMONTHDAY", "BYDAY", "UNTIL", "COUNT", "BYSETPOS", "BYYEARDAY", "BYWEEKNO",
+pub(crate) const PARTS: [&str; 14] = [
+    "FREQ", "INTERVAL", "WKST", "BYMONTH", "BYMONTHDAY", "BYDAY", "UNTIL", "COUNT", "BYSETPOS", "BYYEARDAY", "BYWEEKNO", "BYHOUR",
+    "BYMINUTE", "BYSECOND",
 ];
 
 structs! {
@@ -94,7 +95,7 @@ structs! {
         start: i32, until: i32, frequency: u32, interval: u32, week_start: u32, months: *const u8, months_length: usize,
         weeks: *const i8, weeks_length: usize, year_days: *const i16, year_days_length: usize, month_days: *const i8,
         month_days_length: usize, weekdays: *const CRuleWeekday, weekdays_length: usize, set_positions: *const i16,
-        set_positions_length: usize,
+        set_positions_length: usize, dates: *const i32, dates_length: usize, exceptions: *const i32, exceptions_length: usize,
     };
     CZoneClock { offset: i32, is_daylight: u32, name_start: usize, name_end: usize };
     CZoneYearly { month: u8, week: u8, weekday: u8, time: i32, clock: CZoneClock };
@@ -129,7 +130,7 @@ results! {
     PeriodResult { years: i32, months: i32, days: i32 } else Status;
     RecurrenceResult { part: u32, length: usize, position: usize } else ParseRuleError(part, position);
     ParseRecurrenceResult { part: u32, position: usize, recurrence: CRecurrence } else ParseRuleError(part, position);
-    RecurrenceTextResult { part: u32, position: usize, length: u32, bytes: [u8; 2728] } else ParseRuleError(part, position);
+    RecurrenceTextResult { part: u32, position: usize, length: u32, bytes: [u8; 4064] } else ParseRuleError(part, position);
     WorkdaysResult { workdays: CWorkdays } else Status;
     YearFractionResult { denominator: u32, numerator: i64 } else Status;
     ZonePartsResult { position: usize, parts: CZoneParts } else ZoneError(position);

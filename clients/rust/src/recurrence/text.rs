@@ -3,17 +3,17 @@
 use core::fmt;
 use core::str;
 
-/// The text of a recurrence in place: at most 2724 ASCII bytes.
+/// The text of a recurrence in place: at most 4060 ASCII bytes.
 #[derive(Clone, Copy)]
 pub struct RecurrenceText {
-    bytes: [u8; 2728],
+    bytes: [u8; 4064],
     length: usize,
 }
 
 #[allow(clippy::len_without_is_empty)]
 impl RecurrenceText {
     /// Converts from the result of C.
-    pub(super) fn from_c((_, _, length, bytes): (u32, usize, u32, [u8; 2728])) -> Self {
+    pub(super) fn from_c((_, _, length, bytes): (u32, usize, u32, [u8; 4064])) -> Self {
         Self { bytes, length: length as usize }
     }
 
@@ -27,7 +27,7 @@ impl RecurrenceText {
         &self.bytes[..self.length]
     }
 
-    /// Returns the number of bytes, at most 2724.
+    /// Returns the number of bytes, at most 4060.
     pub fn len(&self) -> usize {
         self.length
     }

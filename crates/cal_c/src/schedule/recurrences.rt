@@ -1,9 +1,10 @@
 //! Recurrence rules of RFC 5545.
 //!
-//! A rule is a struct of its parts. Each of its lists has at most 62 values.
+//! A rule is a struct of its parts, with other dates and exceptions. Each of its lists has at most
+//! 62 values, or 1024 dates.
 ghost use Rattle.std.specs.Prelude.{◌≡◌, pos, slice_get, if◌then◌else◌};
-ghost use Rattle.cal_schedule.specs.Rule.{occurrences_after, occurrences_before, occurrences, is_occurrence};
-ghost use Rattle.cal_c.specs.Recurrences.{days_ok, days_error, AreDatesWritten, IsRule, IsRuleStatus, rule_in};
+ghost use Rattle.cal_recurrence.specs.Sets.{is_in_set, set_days_after, set_days_before, set_days_from};
+ghost use Rattle.cal_c.specs.Recurrences.{days_ok, days_error, AreDatesWritten, IsSet, IsSetStatus, set_in};
 ghost use Rattle.cal_c.specs.Results.{date_or_out_of_range, date_error, number_ok, number_error};
 ghost use Rattle.cal_c.specs.Statuses.{invalid_date};
 ghost use Rattle.cal_c.specs.Values.{IsJulianDay, day_of};
@@ -16,45 +17,47 @@ mod months;
 mod parsing;
 mod recurrence_parts;
 mod results;
+mod rule_dates;
 mod rule_from_parts;
 mod rule_parts;
+mod set_search;
 mod weekdays;
 
 use crate::results::{DateResult, NumberResult};
 use crate::schedule::results::DaysResult;
 use crate::status::INVALID_DATE;
 use crate::values::valid_date;
-use cal_schedule::Rule;
+use cal_recurrence::RecurrenceSet;
 use cal_time::Date;
-use rule_from_parts::rule_from_parts;
+use rule_dates::checked_rule;
 use rule_parts::RuleParts;
 
 /// Returns the first day of a rule. Fails if the range has none. For the last Friday of each month
 /// from 2460311, 2024-01-01, it is 2460336, 2024-01-26.
 #[unsafe(no_mangle)]
 pub extern "C" fn fots_rule_first(rule: &RuleParts<'_>) -> DateResult
-    ensures error { ¬ IsRule rule.now
-        → IsRuleStatus rule.now result.status × (result ≡ date_error result.status) }
-    ensures value { IsRule rule.now
-        → result ≡ date_or_out_of_range (slice_get (occurrences (rule_in rule.now)) 0) }
+    ensures error { ¬ IsSet rule.now
+        → IsSetStatus rule.now result.status × (result ≡ date_error result.status) }
+    ensures value { IsSet rule.now
+        → result ≡ date_or_out_of_range (slice_get (set_days_from (set_in rule.now) 0) 0) }
 {
-    let rule = or_return!(rule_from_parts(rule), status => DateResult::error(status));
-    DateResult::from_option(rule.days().next())
+    let its = or_return!(checked_rule(rule), status => DateResult::error(status));
+    DateResult::from_option(set_search::first(rule, its))
 }
 
 /// Returns the first day of a rule after a date. Fails if the range has none. For the last Friday
 /// of each month after 2460336, 2024-01-26, it is 2460364, 2024-02-23.
 #[unsafe(no_mangle)]
 pub extern "C" fn fots_rule_next_after(rule: &RuleParts<'_>, date: i32) -> DateResult
-    ensures error { ¬ IsRule rule.now
-        → IsRuleStatus rule.now result.status × (result ≡ date_error result.status) }
-    ensures invalid_date { IsRule rule.now → ¬ IsJulianDay date → result ≡ date_error invalid_date }
-    ensures value { IsRule rule.now → IsJulianDay date
-        → result ≡ date_or_out_of_range (slice_get (occurrences_after (rule_in rule.now) (day_of date)) 0) }
+    ensures error { ¬ IsSet rule.now
+        → IsSetStatus rule.now result.status × (result ≡ date_error result.status) }
+    ensures invalid_date { IsSet rule.now → ¬ IsJulianDay date → result ≡ date_error invalid_date }
+    ensures value { IsSet rule.now → IsJulianDay date
+        → result ≡ date_or_out_of_range (slice_get (set_days_after (set_in rule.now) (day_of date)) 0) }
 {
-    let rule = or_return!(rule_from_parts(rule), status => DateResult::error(status));
+    let its = or_return!(checked_rule(rule), status => DateResult::error(status));
     let date = or_error!(DateResult, valid_date(date), INVALID_DATE);
-    DateResult::from_option(rule.next_after(date))
+    DateResult::from_option(set_search::next_after(rule, its, date))
 }
 
 /// Returns the last day of a rule before a date. Fails if the rule has no such day. For the last
@@ -62,30 +65,30 @@ pub extern "C" fn fots_rule_next_after(rule: &RuleParts<'_>, date: i32) -> DateR
 /// 2024-02-23.
 #[unsafe(no_mangle)]
 pub extern "C" fn fots_rule_previous_before(rule: &RuleParts<'_>, date: i32) -> DateResult
-    ensures error { ¬ IsRule rule.now
-        → IsRuleStatus rule.now result.status × (result ≡ date_error result.status) }
-    ensures invalid_date { IsRule rule.now → ¬ IsJulianDay date → result ≡ date_error invalid_date }
-    ensures value { IsRule rule.now → IsJulianDay date
-        → result ≡ date_or_out_of_range (slice_get (occurrences_before (rule_in rule.now) (day_of date)) 0) }
+    ensures error { ¬ IsSet rule.now
+        → IsSetStatus rule.now result.status × (result ≡ date_error result.status) }
+    ensures invalid_date { IsSet rule.now → ¬ IsJulianDay date → result ≡ date_error invalid_date }
+    ensures value { IsSet rule.now → IsJulianDay date
+        → result ≡ date_or_out_of_range (slice_get (set_days_before (set_in rule.now) (day_of date)) 0) }
 {
-    let rule = or_return!(rule_from_parts(rule), status => DateResult::error(status));
+    let its = or_return!(checked_rule(rule), status => DateResult::error(status));
     let date = or_error!(DateResult, valid_date(date), INVALID_DATE);
-    DateResult::from_option(rule.previous_before(date))
+    DateResult::from_option(set_search::previous_before(rule, its, date))
 }
 
 /// Returns 1 if a date is a day of the rule, else 0. For the last Friday of each month and 2460336,
 /// 2024-01-26, it is 1.
 #[unsafe(no_mangle)]
 pub extern "C" fn fots_rule_contains(rule: &RuleParts<'_>, date: i32) -> NumberResult
-    ensures error { ¬ IsRule rule.now
-        → IsRuleStatus rule.now result.status × (result ≡ number_error result.status) }
-    ensures invalid_date { IsRule rule.now → ¬ IsJulianDay date → result ≡ number_error invalid_date }
-    ensures value { IsRule rule.now → IsJulianDay date
-        → result ≡ number_ok (if is_occurrence (rule_in rule.now) (day_of date) then pos 1 else pos 0) }
+    ensures error { ¬ IsSet rule.now
+        → IsSetStatus rule.now result.status × (result ≡ number_error result.status) }
+    ensures invalid_date { IsSet rule.now → ¬ IsJulianDay date → result ≡ number_error invalid_date }
+    ensures value { IsSet rule.now → IsJulianDay date
+        → result ≡ number_ok (if is_in_set (set_in rule.now) (day_of date) then pos 1 else pos 0) }
 {
-    let rule = or_return!(rule_from_parts(rule), status => NumberResult::error(status));
+    let its = or_return!(checked_rule(rule), status => NumberResult::error(status));
     let date = or_error!(NumberResult, valid_date(date), INVALID_DATE);
-    NumberResult::ok(i32::from(rule.contains(date)))
+    NumberResult::ok(i32::from(set_search::contains(rule, its, date)))
 }
 
 /// Writes the days of a rule after a date, in ascending order, as many as fit in the array, and
@@ -97,27 +100,27 @@ pub extern "C" fn fots_rule_days_after(
     date: i32,
     days: &mut [i32],
 ) -> DaysResult
-    ensures error { ¬ IsRule rule.now
-        → IsRuleStatus rule.now result.status × (result ≡ days_error result.status)
+    ensures error { ¬ IsSet rule.now
+        → IsSetStatus rule.now result.status × (result ≡ days_error result.status)
         × (days.new ≡ days.old) }
-    ensures invalid_date { IsRule rule.now → ¬ IsJulianDay date
+    ensures invalid_date { IsSet rule.now → ¬ IsJulianDay date
         → (result ≡ days_error invalid_date) × (days.new ≡ days.old) }
-    ensures value { IsRule rule.now → IsJulianDay date
+    ensures value { IsSet rule.now → IsJulianDay date
         → (result ≡ days_ok result.length)
-        × AreDatesWritten (occurrences_after (rule_in rule.now) (day_of date)) days.old days.new result.length }
+        × AreDatesWritten (set_days_after (set_in rule.now) (day_of date)) days.old days.new result.length }
 {
-    let rule = or_return!(rule_from_parts(rule), status => DaysResult::error(status));
+    let its = or_return!(checked_rule(rule), status => DaysResult::error(status));
     let date = or_error!(DaysResult, valid_date(date), INVALID_DATE);
-    DaysResult::ok(write_days(&rule, date, days))
+    DaysResult::ok(set_search::write_days_after(rule, its, date, days))
 }
 
-/// Writes the days of a rule after a date, as many as fit in the array, and returns their number.
-fn write_days(rule: &Rule, date: Date, days: &mut [i32]) -> usize
-    ensures { AreDatesWritten (occurrences_after rule.now date) days.old days.new result }
+/// Writes the days of a set after a date, as many as fit in the array, and returns their number.
+fn write_days(set: &RecurrenceSet<'_>, date: Date, days: &mut [i32]) -> usize
+    ensures { AreDatesWritten (set_days_after set.now date) days.old days.new result }
 {
     let mut last = date;
     for index in 0..days.len() {
-        let Some(day) = rule.next_after(last) else {
+        let Some(day) = set.next_after(last) else {
             return index;
         };
         days[index] = day.to_julian_day();

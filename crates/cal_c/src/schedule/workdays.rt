@@ -9,15 +9,14 @@ ghost use Rattle.cal_schedule.specs.WorkdaysConvention.{adjusted_date};
 ghost use Rattle.cal_c.specs.Columns.{IsDateWorkdaysLater, IsWorkdaysBetween};
 ghost use Rattle.cal_c.specs.Results.{date_or_out_of_range, date_error, number_ok, number_error};
 ghost use Rattle.cal_c.specs.Statuses.{invalid_convention, invalid_date, invalid_holidays, invalid_weekmask, too_many_holidays};
-ghost use Rattle.cal_c.specs.Values.{IsJulianDay, day_of};
-ghost use Rattle.cal_c.specs.Weekmasks.{convention_number, max_holidays, work_week, workdays_between, AreHolidays, IsConvention, IsWeekmask};
+ghost use Rattle.cal_c.specs.Values.{IsJulianDay, day_of, max_dates};
+ghost use Rattle.cal_c.specs.Weekmasks.{convention_number, work_week, workdays_between, AreHolidays, IsConvention, IsWeekmask};
 
 mod adjusting;
 pub mod calendar;
 mod calls;
 pub mod checked_workdays;
 mod checking;
-mod holidays;
 pub mod ranks;
 
 use crate::results::{DateResult, NumberResult};
@@ -32,11 +31,11 @@ use calendar::Calendar;
 pub extern "C" fn fots_date_is_workday(date: i32, weekmask: u32, holidays: &[i32]) -> NumberResult
     ensures invalid_date { ¬ IsJulianDay date → result ≡ number_error invalid_date }
     ensures invalid_weekmask { IsJulianDay date → ¬ IsWeekmask weekmask → result ≡ number_error invalid_weekmask }
-    ensures too_many_holidays { IsJulianDay date → IsWeekmask weekmask → max_holidays < length holidays.now
+    ensures too_many_holidays { IsJulianDay date → IsWeekmask weekmask → max_dates < length holidays.now
         → result ≡ number_error too_many_holidays }
-    ensures invalid_holidays { IsJulianDay date → IsWeekmask weekmask → length holidays.now ≤ max_holidays
+    ensures invalid_holidays { IsJulianDay date → IsWeekmask weekmask → length holidays.now ≤ max_dates
         → ¬ AreHolidays holidays.now → result ≡ number_error invalid_holidays }
-    ensures value { IsJulianDay date → IsWeekmask weekmask → length holidays.now ≤ max_holidays
+    ensures value { IsJulianDay date → IsWeekmask weekmask → length holidays.now ≤ max_dates
         → AreHolidays holidays.now
         → result ≡ number_ok (if is_workday (work_week weekmask holidays.now)
         (day_of date) then pos 1 else pos 0) }
@@ -53,11 +52,11 @@ pub extern "C" fn fots_date_is_workday(date: i32, weekmask: u32, holidays: &[i32
 pub extern "C" fn fots_date_next_workday(date: i32, weekmask: u32, holidays: &[i32]) -> DateResult
     ensures invalid_date { ¬ IsJulianDay date → result ≡ date_error invalid_date }
     ensures invalid_weekmask { IsJulianDay date → ¬ IsWeekmask weekmask → result ≡ date_error invalid_weekmask }
-    ensures too_many_holidays { IsJulianDay date → IsWeekmask weekmask → max_holidays < length holidays.now
+    ensures too_many_holidays { IsJulianDay date → IsWeekmask weekmask → max_dates < length holidays.now
         → result ≡ date_error too_many_holidays }
-    ensures invalid_holidays { IsJulianDay date → IsWeekmask weekmask → length holidays.now ≤ max_holidays
+    ensures invalid_holidays { IsJulianDay date → IsWeekmask weekmask → length holidays.now ≤ max_dates
         → ¬ AreHolidays holidays.now → result ≡ date_error invalid_holidays }
-    ensures value { IsJulianDay date → IsWeekmask weekmask → length holidays.now ≤ max_holidays
+    ensures value { IsJulianDay date → IsWeekmask weekmask → length holidays.now ≤ max_dates
         → AreHolidays holidays.now
         → result ≡ date_or_out_of_range (slice_get
         (workdays_from (work_week weekmask holidays.now) (day_of date + 1)) 0) }
@@ -78,11 +77,11 @@ pub extern "C" fn fots_date_previous_workday(
 ) -> DateResult
     ensures invalid_date { ¬ IsJulianDay date → result ≡ date_error invalid_date }
     ensures invalid_weekmask { IsJulianDay date → ¬ IsWeekmask weekmask → result ≡ date_error invalid_weekmask }
-    ensures too_many_holidays { IsJulianDay date → IsWeekmask weekmask → max_holidays < length holidays.now
+    ensures too_many_holidays { IsJulianDay date → IsWeekmask weekmask → max_dates < length holidays.now
         → result ≡ date_error too_many_holidays }
-    ensures invalid_holidays { IsJulianDay date → IsWeekmask weekmask → length holidays.now ≤ max_holidays
+    ensures invalid_holidays { IsJulianDay date → IsWeekmask weekmask → length holidays.now ≤ max_dates
         → ¬ AreHolidays holidays.now → result ≡ date_error invalid_holidays }
-    ensures value { IsJulianDay date → IsWeekmask weekmask → length holidays.now ≤ max_holidays
+    ensures value { IsJulianDay date → IsWeekmask weekmask → length holidays.now ≤ max_dates
         → AreHolidays holidays.now
         → result ≡ date_or_out_of_range (slice_get
         (workdays_before (work_week weekmask holidays.now) (day_of date)) 0) }
@@ -186,11 +185,11 @@ pub extern "C" fn fots_date_adjust(
     ensures invalid_weekmask { IsJulianDay date → IsConvention convention → ¬ IsWeekmask weekmask
         → result ≡ date_error invalid_weekmask }
     ensures too_many_holidays { IsJulianDay date → IsConvention convention → IsWeekmask weekmask
-        → max_holidays < length holidays.now → result ≡ date_error too_many_holidays }
+        → max_dates < length holidays.now → result ≡ date_error too_many_holidays }
     ensures invalid_holidays { IsJulianDay date → IsConvention convention → IsWeekmask weekmask
-        → length holidays.now ≤ max_holidays → ¬ AreHolidays holidays.now
+        → length holidays.now ≤ max_dates → ¬ AreHolidays holidays.now
         → result ≡ date_error invalid_holidays }
-    ensures value { IsJulianDay date → IsWeekmask weekmask → length holidays.now ≤ max_holidays
+    ensures value { IsJulianDay date → IsWeekmask weekmask → length holidays.now ≤ max_dates
         → AreHolidays holidays.now
         → (c : Convention) → convention_number c ≡ convention
         → result ≡ date_or_out_of_range (adjusted_date (work_week weekmask holidays.now) c (day_of date)) }

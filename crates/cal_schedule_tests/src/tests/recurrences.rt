@@ -5,8 +5,10 @@ use std::process::Abort;
 
 mod one_answer;
 mod read_back;
+mod readings;
 mod rules;
 mod searches;
+mod sets;
 mod texts;
 mod written;
 

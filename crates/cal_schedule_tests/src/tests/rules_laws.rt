@@ -1,5 +1,6 @@
 //! Properties that callers of a rule need, each proved from the clauses of its calls.
-ghost use Rattle.std.specs.Prelude.{◌≡◌, ◌<◌, IfSome, true};
+ghost use Rattle.std.specs.Prelude.{◌≡◌, ◌<◌, reverse, slice_get, IfSome, true};
+ghost use Rattle.cal_schedule.specs.Rule.{occurrences_from};
 
 use cal_schedule::{Rule, RuleDays};
 use cal_time::Date;
@@ -27,6 +28,14 @@ fn days_between(rule: &Rule, from: Date, to: Date) -> (RuleDays, RuleDays)
     ensures { result.0 ≡ result.1 }
 {
     (rule.days_between(from, to), rule.days_between(from, to))
+}
+
+/// A step from the back gives the last day of the list.
+#[tactic(auto, using(cal_schedule::proofs::OneAnswer::last_is))]
+fn last_day(rule: &Rule, date: Date) -> Option<Date>
+    ensures { result ≡ slice_get (reverse (occurrences_from rule.now date)) 0 }
+{
+    rule.days_from(date).next_back()
 }
 
 /// Days of a rule come one after the other.

@@ -13,7 +13,7 @@ use std::test::Fail;
 mod one_answer;
 
 /// Creates the reading with the digits of a date and of a time, such as 1997_09_02 and 9_20_00.
-fn reading(rt: &impl Abort, (date, time): (i64, u32)) -> PlainDateTime {
+pub(super) fn reading(rt: &impl Abort, (date, time): (i64, u32)) -> PlainDateTime {
     let hour = u8::try_from(time / 10_000).expect(rt, "no hour");
     let minute = u8::try_from(time / 100 % 100).expect(rt, "no minute");
     let second = u8::try_from(time % 100).expect(rt, "no second");

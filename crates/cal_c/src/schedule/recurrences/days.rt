@@ -13,7 +13,7 @@ use super::results::RecurrenceResult;
 use super::write_days;
 use crate::status::INVALID_DATE;
 use crate::values::valid_date;
-use cal_recurrence::{Recurrence, RuleEnd, parse};
+use cal_recurrence::{Recurrence, RecurrenceSet, RuleEnd, parse};
 use cal_schedule::RuleDays;
 use cal_time::Date;
 
@@ -63,7 +63,14 @@ fn write_days_from(recurrence: &Recurrence, start: Date, from: Date, days: &mut 
         return write_late(recurrence.days(start), from, days);
     }
     match from.previous_day() {
-        Some(before) => write_days(&recurrence.rule(start), before, days),
+        Some(before) => {
+            let set = RecurrenceSet {
+                rule: recurrence.rule(start),
+                dates: &[],
+                exceptions: &[],
+            };
+            write_days(&set, before, days)
+        }
         None => write_late(recurrence.days(start), from, days),
     }
 }

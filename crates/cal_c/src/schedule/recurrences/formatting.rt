@@ -9,7 +9,7 @@ use crate::status::OK;
 use cal_recurrence::{ParseRuleError, parse};
 
 /// The bytes of a text: enough for the longest recurrence, and zero bytes.
-const CAPACITY: usize = 2728;
+const CAPACITY: usize = 4064;
 
 /// A text in ASCII, followed by zero bytes, or the first wrong part of the text that was passed.
 #[repr(C)]

@@ -49,7 +49,7 @@ fn until_in(end: RuleEnd) -> i32
     ensures { result ≡ until_in end }
 {
     match end {
-        RuleEnd::Until(day) => day.to_julian_day(),
+        RuleEnd::Until(last) => last.date().to_julian_day(),
         RuleEnd::Never | RuleEnd::Count(_) => i32::MIN,
     }
 }

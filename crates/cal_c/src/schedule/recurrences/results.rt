@@ -34,6 +34,9 @@ fn part_number(part: RulePart) -> u32
         RulePart::Positions => 9,
         RulePart::YearDays => 10,
         RulePart::Weeks => 11,
+        RulePart::Hours => 12,
+        RulePart::Minutes => 13,
+        RulePart::Seconds => 14,
     }
 }
 

@@ -28,4 +28,7 @@ pub struct RuleParts<'a> {
     pub month_days: &'a [i8],
     pub weekdays: &'a [RuleWeekday],
     pub set_positions: &'a [i16],
+    /// Other days (`RDATE`) and days to leave out (`EXDATE`), in any order.
+    pub dates: &'a [i32],
+    pub exceptions: &'a [i32],
 }

@@ -1,10 +1,11 @@
 //! The working days that C passes.
 ghost use Rattle.std.specs.Prelude.{◌≡◌, ◌<◌, ◌≤◌, Ok, Err, IfOk, SomeIff, length};
 ghost use Rattle.cal_c.specs.Statuses.{invalid_holidays, invalid_weekmask, too_many_holidays};
-ghost use Rattle.cal_c.specs.Weekmasks.{weekmask_in, max_holidays, work_week, AreHolidays, IsWeekmask};
+ghost use Rattle.cal_c.specs.Values.{max_dates};
+ghost use Rattle.cal_c.specs.Weekmasks.{weekmask_in, work_week, AreHolidays, IsWeekmask};
 
-use crate::schedule::workdays::holidays::Holidays;
-use crate::status::{INVALID_HOLIDAYS, INVALID_WEEKMASK};
+use crate::schedule::date_list::{DateList, MAX_DATES};
+use crate::status::{INVALID_HOLIDAYS, INVALID_WEEKMASK, TOO_MANY_HOLIDAYS};
 use cal_schedule::Workdays;
 use cal_time::is_rising;
 use std::marker::Model;
@@ -13,7 +14,7 @@ use std::marker::Model;
 #[derive(Drop)]
 pub struct Calendar {
     marks: [bool; 7],
-    holidays: Holidays,
+    holidays: DateList,
 }
 
 impl Model for Calendar {
@@ -50,17 +51,20 @@ impl Calendar {
     /// Checks and converts the marks and the holidays, or returns the status of the first error.
     pub fn from_c(weekmask: u32, holidays: &[i32]) -> Result<Self, i32>
         ensures invalid_weekmask { ¬ IsWeekmask weekmask → result ≡ Err invalid_weekmask }
-        ensures too_many_holidays { IsWeekmask weekmask → max_holidays < length holidays.now
+        ensures too_many_holidays { IsWeekmask weekmask → max_dates < length holidays.now
             → result ≡ Err too_many_holidays }
-        ensures invalid_holidays { IsWeekmask weekmask → length holidays.now ≤ max_holidays
+        ensures invalid_holidays { IsWeekmask weekmask → length holidays.now ≤ max_dates
             → ¬ AreHolidays holidays.now → result ≡ Err invalid_holidays }
-        ensures value { IsWeekmask weekmask → length holidays.now ≤ max_holidays
+        ensures value { IsWeekmask weekmask → length holidays.now ≤ max_dates
             → AreHolidays holidays.now → result ≡ Ok (work_week weekmask holidays.now) }
-        ensures valid { IfOk result (λ w. IsWeekmask weekmask × (length holidays.now ≤ max_holidays)
+        ensures valid { IfOk result (λ w. IsWeekmask weekmask × (length holidays.now ≤ max_dates)
             × AreHolidays holidays.now × (w.marks ≡ weekmask_in weekmask)) }
     {
         let marks = or_return!(valid_weekmask(weekmask), Err(INVALID_WEEKMASK));
-        let holidays = Holidays::from_julian_days(holidays)?;
+        if holidays.len() > MAX_DATES {
+            return Err(TOO_MANY_HOLIDAYS);
+        }
+        let holidays = or_return!(DateList::from_julian_days(holidays), Err(INVALID_HOLIDAYS));
         if !is_rising(holidays.as_slice()) {
             return Err(INVALID_HOLIDAYS);
         }

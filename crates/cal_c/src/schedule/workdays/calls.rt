@@ -6,8 +6,8 @@ ghost use Rattle.cal_schedule.specs.WorkdaysConvention.{adjusted_date};
 ghost use Rattle.cal_c.specs.CheckedWorkdays.{week_of, HasLimits, IsChecked, IsDateWorkdaysLaterIn, IsSomeDate, IsWorkdaysBetweenIn};
 ghost use Rattle.cal_c.specs.Results.{date_or_out_of_range, date_error, number_ok, number_error};
 ghost use Rattle.cal_c.specs.Statuses.{invalid_convention, invalid_date, invalid_weekmask, too_many_holidays};
-ghost use Rattle.cal_c.specs.Values.{IsJulianDay, day_of};
-ghost use Rattle.cal_c.specs.Weekmasks.{convention_number, max_holidays, IsConvention, IsWeekmask};
+ghost use Rattle.cal_c.specs.Values.{IsJulianDay, day_of, max_dates};
+ghost use Rattle.cal_c.specs.Weekmasks.{convention_number, IsConvention, IsWeekmask};
 
 use super::valid_convention;
 use crate::day_number::{date_result, day_number};
@@ -20,7 +20,7 @@ use crate::status::{INVALID_CONVENTION, INVALID_DATE};
 #[unsafe(no_mangle)]
 pub extern "C" fn fots_workdays_contains(workdays: &CheckedWorkdays, date: i32) -> NumberResult
     ensures invalid_weekmask { ¬ IsWeekmask workdays.now.weekmask → result ≡ number_error invalid_weekmask }
-    ensures too_many_holidays { IsWeekmask workdays.now.weekmask → max_holidays < workdays.now.holidays_length
+    ensures too_many_holidays { IsWeekmask workdays.now.weekmask → max_dates < workdays.now.holidays_length
         → result ≡ number_error too_many_holidays }
     ensures invalid_date { HasLimits workdays.now → ¬ IsJulianDay date → result ≡ number_error invalid_date }
     ensures any { HasLimits workdays.now → IsJulianDay date
@@ -66,7 +66,7 @@ pub extern "C" fn fots_workdays_adjust(
     convention: u32,
 ) -> DateResult
     ensures invalid_weekmask { ¬ IsWeekmask workdays.now.weekmask → result ≡ date_error invalid_weekmask }
-    ensures too_many_holidays { IsWeekmask workdays.now.weekmask → max_holidays < workdays.now.holidays_length
+    ensures too_many_holidays { IsWeekmask workdays.now.weekmask → max_dates < workdays.now.holidays_length
         → result ≡ date_error too_many_holidays }
     ensures invalid_date { HasLimits workdays.now → ¬ IsJulianDay date → result ≡ date_error invalid_date }
     ensures invalid_convention { HasLimits workdays.now → IsJulianDay date → ¬ IsConvention convention

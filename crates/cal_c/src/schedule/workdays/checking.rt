@@ -3,8 +3,8 @@ ghost use Rattle.std.specs.Prelude.{◌≡◌, ℕ, ◌<◌, ◌≤◌, Ok, Err,
 ghost use Rattle.cal_schedule.specs.WorkdaysSplit.{marked_count};
 ghost use Rattle.cal_c.specs.CheckedWorkdays.{holidays_of, week_of, IsChecked};
 ghost use Rattle.cal_c.specs.Statuses.{invalid_holidays, invalid_weekmask, ok_status, too_many_holidays};
-ghost use Rattle.cal_c.specs.Values.{IsJulianDay};
-ghost use Rattle.cal_c.specs.Weekmasks.{max_holidays, weekmask_in, work_week, AreHolidays, IsWeekmask};
+ghost use Rattle.cal_c.specs.Values.{IsJulianDay, max_dates};
+ghost use Rattle.cal_c.specs.Weekmasks.{weekmask_in, work_week, AreHolidays, IsWeekmask};
 
 use crate::day_number::wrapped_number;
 use crate::schedule::workdays::calendar::{Calendar, valid_weekmask};
@@ -34,7 +34,7 @@ impl CheckedWorkdays {
     /// Creates working days from valid holidays, and counts those with a marked weekday.
     fn from_valid(weekmask: u32, marks: [bool; 7], holidays: &[i32]) -> Self
         requires weekmask { IsWeekmask weekmask × (marks ≡ weekmask_in weekmask) }
-        requires holidays { (length holidays.now ≤ max_holidays) × AreHolidays holidays.now }
+        requires holidays { (length holidays.now ≤ max_dates) × AreHolidays holidays.now }
         ensures { IsChecked result × (week_of result ≡ work_week weekmask holidays.now) }
     {
         let mut workdays = Self::without_holidays(weekmask);
@@ -55,11 +55,11 @@ impl CheckedWorkdays {
 #[unsafe(no_mangle)]
 pub extern "C" fn fots_workdays_new(weekmask: u32, holidays: &[i32]) -> WorkdaysResult
     ensures invalid_weekmask { ¬ IsWeekmask weekmask → result.status ≡ invalid_weekmask }
-    ensures too_many_holidays { IsWeekmask weekmask → max_holidays < length holidays.now
+    ensures too_many_holidays { IsWeekmask weekmask → max_dates < length holidays.now
         → result.status ≡ too_many_holidays }
-    ensures invalid_holidays { IsWeekmask weekmask → length holidays.now ≤ max_holidays
+    ensures invalid_holidays { IsWeekmask weekmask → length holidays.now ≤ max_dates
         → ¬ AreHolidays holidays.now → result.status ≡ invalid_holidays }
-    ensures value { IsWeekmask weekmask → length holidays.now ≤ max_holidays
+    ensures value { IsWeekmask weekmask → length holidays.now ≤ max_dates
         → AreHolidays holidays.now → (result.status ≡ ok_status) × IsChecked result.workdays
         × (week_of result.workdays ≡ work_week weekmask holidays.now) }
     ensures rejected { (¬ (result.status ≡ ok_status)) → ¬ IsWeekmask result.workdays.weekmask }

@@ -6,7 +6,8 @@ ghost use Rattle.cal_schedule.specs.Workdays.{is_marked, is_workday, nth_workday
 ghost use Rattle.cal_schedule.specs.WorkdaysSplit.{IsSplit, marked_count};
 ghost use Rattle.cal_c.specs.CheckedWorkdays.{holidays_of, week_of, HasLimits, IsChecked, HavePassed, IsDayOfRank, NoDayOfRank};
 ghost use Rattle.cal_c.specs.Statuses.{invalid_weekmask, too_many_holidays};
-ghost use Rattle.cal_c.specs.Weekmasks.{holidays_in, max_holidays, workdays_between, IsWeekmask};
+ghost use Rattle.cal_c.specs.Values.{dates_in, max_dates};
+ghost use Rattle.cal_c.specs.Weekmasks.{workdays_between, IsWeekmask};
 
 use crate::day_number::{LAST_DAY_NUMBER, wrapped_number};
 use crate::schedule::workdays::calendar::valid_weekmask;
@@ -27,14 +28,14 @@ impl<'a> Model for RankedWorkdays<'a> {
     ghost use Rattle.cal_time.specs.IsoWeekDate.{count_before};
     ghost use Rattle.cal_schedule.specs.Workdays.{is_marked};
     ghost use Rattle.cal_c.specs.CheckedWorkdays.{week_of, HasLimits};
-    ghost use Rattle.cal_c.specs.Weekmasks.{max_holidays};
+    ghost use Rattle.cal_c.specs.Values.{max_dates};
     ghost use Rattle.cal_c.specs.declared.schedule.workdays.checked_workdays.CheckedWorkdays.{CheckedWorkdays};
 
     ghost Value = { CheckedWorkdays };
 
     ghost view = { λ r. r.workdays.now };
 
-    ghost invariant = { λ r. HasLimits r.workdays.now × (length r.workdays.now.holidays ≡ max_holidays)
+    ghost invariant = { λ r. HasLimits r.workdays.now × (length r.workdays.now.holidays ≡ max_dates)
         × ((i : ℕ) → i ≤ 7 → get_or r.marked_in_week i 0 ≡ count_before (is_marked (week_of r.workdays.now)) i) };
 }
 
@@ -54,7 +55,7 @@ impl<'a> RankedWorkdays<'a> {
     /// Checks the weekmask and the number of holidays, or returns the status of the first error.
     pub fn new(workdays: &'a CheckedWorkdays) -> Result<Self, i32>
         ensures invalid_weekmask { ¬ IsWeekmask workdays.now.weekmask → result ≡ Err invalid_weekmask }
-        ensures too_many_holidays { IsWeekmask workdays.now.weekmask → max_holidays < workdays.now.holidays_length
+        ensures too_many_holidays { IsWeekmask workdays.now.weekmask → max_dates < workdays.now.holidays_length
             → result ≡ Err too_many_holidays }
         ensures value { HasLimits workdays.now → result ≡ Ok workdays.now }
     {
@@ -80,7 +81,7 @@ impl<'a> RankedWorkdays<'a> {
     /// Returns the number of holidays.
     fn holiday_count(&self) -> usize
         ensures value { result ≡ self.now.holidays_length }
-        ensures length { result ≡ length (holidays_in (holidays_of self.now)) }
+        ensures length { result ≡ length (dates_in (holidays_of self.now)) }
     {
         self.workdays.holidays_length as usize
     }
@@ -88,7 +89,7 @@ impl<'a> RankedWorkdays<'a> {
     /// Returns the number of the holiday at an index.
     fn holiday(&self, index: usize) -> u32
         requires { index < self.now.holidays_length }
-        ensures { IsChecked self.now → result ≡ slice_index (holidays_in (holidays_of self.now)) index }
+        ensures { IsChecked self.now → result ≡ slice_index (dates_in (holidays_of self.now)) index }
     {
         let workdays = self.workdays;
         wrapped_number(workdays.holidays[index])
@@ -140,7 +141,7 @@ impl<'a> RankedWorkdays<'a> {
 
     /// Returns the number of holidays before a day.
     fn holidays_before(&self, day: u32) -> usize
-        ensures split { IsChecked self.now → IsSplit (holidays_in (holidays_of self.now)) result day }
+        ensures split { IsChecked self.now → IsSplit (dates_in (holidays_of self.now)) result day }
         ensures max { result ≤ self.now.holidays_length }
     {
         let (mut low, mut high) = (0, self.holiday_count());

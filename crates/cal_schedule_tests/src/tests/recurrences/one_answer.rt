@@ -5,8 +5,10 @@
 //! fails.
 ghost use Rattle.std.specs.Prelude.{◌≡◌};
 
+use cal_datetime::PlainDateTime;
 use cal_recurrence::{
-    ParseRuleError, Recurrence, RecurrenceSet, RecurrenceSetDays, RecurrenceText,
+    DateOrTime, DateTimeRule, ParseRuleError, ParseSetError, Recurrence, RecurrenceSet,
+    RecurrenceSetDays, RecurrenceText, RuleReadings, SetParts,
 };
 use cal_schedule::{Rule, RuleDays};
 use cal_time::Date;
@@ -26,6 +28,12 @@ fn parse(text: &[u8]) -> Twice<Result<Recurrence, ParseRuleError>>
     twice!(cal_recurrence::parse(text))
 }
 
+fn parse_set(text: &[u8]) -> Twice<Result<SetParts, ParseSetError>>
+    ensures { result.0 ≡ result.1 }
+{
+    twice!(cal_recurrence::parse_set(text))
+}
+
 fn text(recurrence: &Recurrence) -> Twice<RecurrenceText>
     ensures { result.0 ≡ result.1 }
 {
@@ -42,6 +50,30 @@ fn days(recurrence: &Recurrence, start: Date) -> Twice<RuleDays>
     ensures { result.0 ≡ result.1 }
 {
     twice!(recurrence.days(start))
+}
+
+fn date_time_rule(recurrence: &Recurrence, start: PlainDateTime) -> Twice<DateTimeRule>
+    ensures { result.0 ≡ result.1 }
+{
+    twice!(recurrence.date_time_rule(start))
+}
+
+fn readings(recurrence: &Recurrence, start: PlainDateTime) -> Twice<RuleReadings>
+    ensures { result.0 ≡ result.1 }
+{
+    twice!(recurrence.readings(start))
+}
+
+fn date(value: &DateOrTime) -> Twice<Date>
+    ensures { result.0 ≡ result.1 }
+{
+    twice!(value.date())
+}
+
+fn last_reading(value: &DateOrTime) -> Twice<PlainDateTime>
+    ensures { result.0 ≡ result.1 }
+{
+    twice!(value.last_reading())
 }
 
 fn set_contains(set: &RecurrenceSet<'_>, date: Date) -> Twice<bool>

@@ -188,6 +188,56 @@ fn days_between(rt: HostRuntime) {
     );
 }
 
+/// The last Fridays of 2024, from the back.
+#[test]
+fn days_from_the_back(rt: HostRuntime) {
+    let rt = &rt;
+    let text = "FREQ=MONTHLY;BYDAY=-1FR;UNTIL=20241231";
+    let rule = read(rt, text).rule(day(rt, 2024_01_01));
+    let mut back = rule.days().rev();
+    for &digits in &[
+        2024_12_27, 2024_11_29, 2024_10_25, 2024_09_27, 2024_08_30, 2024_07_26, 2024_06_28,
+        2024_05_31, 2024_04_26, 2024_03_29, 2024_02_23, 2024_01_26,
+    ] {
+        same_day(rt, text, back.next(), Some(day(rt, digits)));
+    }
+    same_day(rt, text, back.next(), None);
+}
+
+/// Takes the days from the back and from the front in turn, as far as they are on either side.
+fn has_days_in_turn(rt: &impl Abort, text: &str, mut walk: RuleDays, turns: &[(i64, i64)]) {
+    for &(last, first) in turns {
+        same_day(rt, text, walk.next_back(), day_or_none(rt, last));
+        same_day(rt, text, walk.next(), day_or_none(rt, first));
+    }
+}
+
+/// The days of a counted list meet in the middle. The last days of the range are by the calendar.
+#[test]
+fn days_from_both_ends(rt: HostRuntime) {
+    let rt = &rt;
+    let start = day(rt, 1997_09_02);
+    let text = "FREQ=DAILY;INTERVAL=10;COUNT=5";
+    let turns = [
+        (1997_10_12, 1997_09_02),
+        (1997_10_02, 1997_09_12),
+        (1997_09_22, 0),
+        (0, 0),
+    ];
+    has_days_in_turn(rt, text, read(rt, text).days(start), &turns);
+    let text = "FREQ=MONTHLY;BYDAY=-1FR";
+    let rule = read(rt, text).rule(start);
+    let turns = [(999999_12_31, 1997_09_26), (999999_11_26, 1997_10_31)];
+    has_days_in_turn(rt, text, rule.days(), &turns);
+    let (from, to) = (day(rt, 2024_06_28), day(rt, 2024_08_30));
+    let turns = [(2024_07_26, 2024_06_28), (0, 0)];
+    has_days_in_turn(rt, text, rule.days_between(from, to), &turns);
+    has_days_in_turn(rt, text, rule.first_days(0), &[(0, 0)]);
+    let text = "FREQ=MONTHLY;BYMONTH=2;BYMONTHDAY=30";
+    let never = read(rt, text).rule(start);
+    has_days_in_turn(rt, text, never.days(), &[(0, 0)]);
+}
+
 /// Checks that a walk over a set has these days.
 fn has_set_days(rt: &impl Abort, mut walk: RecurrenceSetDays<'_>, days: &[i64]) {
     for digits in days {

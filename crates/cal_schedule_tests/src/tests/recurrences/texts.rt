@@ -1,8 +1,10 @@
 //! Texts with errors, texts in any case and order, and the fields of recurrences.
 use crate::tests::recurrences::{holds, read};
 use crate::tests::{date, same, same_at};
+use cal_datetime::{midnight, with_hms};
 use cal_recurrence::{
-    ParseRuleError, ParseRuleErrorKind, Pattern, Recurrence, RuleEnd, RulePart, parse,
+    DateOrTime, ParseRuleError, ParseRuleErrorKind, Pattern, Recurrence, RuleEnd, RulePart,
+    TimesOfDay, parse,
 };
 use cal_schedule::{ByDay, Frequency};
 use cal_time::{Month, Weekday};
@@ -56,11 +58,17 @@ fn faults(rt: HostRuntime) {
     );
     refused(
         rt,
-        "FREQ=YEARLY;BYMINUTE=1,30",
+        "FREQ=YEARLY;BYMINUTES=1,30",
         12,
         ParseRuleErrorKind::Unknown,
     );
-    refused(rt, "FREQ=DAILY;BYHOUR=9", 11, ParseRuleErrorKind::Unknown);
+    refused(rt, "FREQ=DAILY;HOUR=9", 11, ParseRuleErrorKind::Unknown);
+    refused(
+        rt,
+        "BYHOUR=9;FREQ=DAILY;byhour=10",
+        20,
+        ParseRuleErrorKind::Twice(RulePart::Hours),
+    );
     refused(
         rt,
         "FREQ=DAILY;FREQ=DAILY",
@@ -128,7 +136,7 @@ fn refused_as(rt: &impl Abort, alloc: Global, text: &str, words: &str) -> Result
 fn texts_of_faults(rt: HostRuntime) -> Result<(), Fail> {
     let alloc = rt.alloc();
     let rt = &rt;
-    refused_as(rt, alloc, "FREQ=DAILY;BYHOUR=9", "unknown part at 11")?;
+    refused_as(rt, alloc, "FREQ=DAILY;HOUR=9", "unknown part at 11")?;
     refused_as(rt, alloc, "FREQ=DAILY;FREQ=DAILY", "duplicate FREQ at 11")?;
     refused_as(
         rt,
@@ -179,6 +187,24 @@ fn texts_of_faults(rt: HostRuntime) -> Result<(), Fail> {
         alloc,
         "FREQ=WEEKLY;BYMONTHDAY=1",
         "excluded BYMONTHDAY at 12",
+    )?;
+    refused_as(
+        rt,
+        alloc,
+        "FREQ=DAILY;BYHOUR=24",
+        "invalid value of BYHOUR at 11",
+    )?;
+    refused_as(
+        rt,
+        alloc,
+        "FREQ=DAILY;BYMINUTE=60",
+        "invalid value of BYMINUTE at 11",
+    )?;
+    refused_as(
+        rt,
+        alloc,
+        "FREQ=DAILY;BYSECOND=61",
+        "invalid value of BYSECOND at 11",
     )?;
     refused_as(rt, alloc, "BYDAY=MO", "missing FREQ at 8")
 }
@@ -258,6 +284,19 @@ fn wrong_values(rt: HostRuntime) {
             "FREQ=DAILY;BYSETPOS=0001;BYDAY=MO",
         ],
     );
+    refused_value(
+        rt,
+        RulePart::Hours,
+        &[
+            "FREQ=DAILY;BYHOUR=24",
+            "FREQ=DAILY;BYHOUR=-1",
+            "FREQ=DAILY;BYHOUR=+9",
+            "FREQ=DAILY;BYHOUR=009",
+            "FREQ=DAILY;BYHOUR=9,",
+        ],
+    );
+    refused_value(rt, RulePart::Minutes, &["FREQ=DAILY;BYMINUTE=60"]);
+    refused_value(rt, RulePart::Seconds, &["FREQ=DAILY;BYSECOND=61"]);
     refused_value(
         rt,
         RulePart::Until,
@@ -355,19 +394,35 @@ fn excluded(rt: HostRuntime) {
     refused(rt, "BYMONTHDAY=1;INTERVAL=2;FREQ=WEEKLY", 24, excluded);
 }
 
-/// Fails unless the text is daily until 31 December 2024.
-fn until(rt: &impl Abort, text: &str) {
-    let last = date(rt, (2024, 12, 31));
-    holds(rt, text, read(rt, text).end == RuleEnd::Until(last));
+/// Fails unless the text is daily until this date or reading.
+fn until(rt: &impl Abort, text: &str, last: DateOrTime) {
+    let recurrence = read(rt, text);
+    holds(rt, text, recurrence.end == RuleEnd::Until(last));
+    let day = date(rt, (2024, 12, 31));
+    same_at(rt, text, recurrence.rule(day).until, Some(day));
 }
 
 #[test]
 fn texts_of_calendars(rt: HostRuntime) {
     let rt = &rt;
-    until(rt, "RRULE:FREQ=DAILY;UNTIL=20241231");
-    until(rt, "rrule:FREQ=DAILY;UNTIL=20241231T000000");
-    until(rt, "FREQ=DAILY;UNTIL=20241231T235959Z");
-    until(rt, "RRULE:UNTIL=20241231t235960z;FREQ=DAILY");
+    let day = date(rt, (2024, 12, 31));
+    let last = with_hms(day, 23, 59, 59).expect(rt, "no reading");
+    until(rt, "RRULE:FREQ=DAILY;UNTIL=20241231", DateOrTime::Date(day));
+    until(
+        rt,
+        "rrule:FREQ=DAILY;UNTIL=20241231T000000",
+        DateOrTime::Local(midnight(day)),
+    );
+    until(
+        rt,
+        "FREQ=DAILY;UNTIL=20241231T235959Z",
+        DateOrTime::Utc(last),
+    );
+    until(
+        rt,
+        "RRULE:UNTIL=20241231t235960z;FREQ=DAILY",
+        DateOrTime::Utc(last),
+    );
 }
 
 #[test]
@@ -379,6 +434,7 @@ fn by_fields(rt: HostRuntime) {
     same(rt, pattern.weekdays.is_full(), false);
     let recurrence = Recurrence {
         pattern,
+        times: TimesOfDay::new(),
         end: RuleEnd::Count(1),
     };
     let (start, thanksgiving) = (date(rt, (2024, 1, 1)), date(rt, (2024, 11, 28)));

@@ -1,7 +1,7 @@
 //! Recurrences that are formatted and parsed again.
 use crate::tests::recurrences::{holds, read};
 use crate::tests::same;
-use cal_recurrence::{Pattern, Recurrence, RuleEnd, Values, parse};
+use cal_recurrence::{DateOrTime, Pattern, Recurrence, RuleEnd, TimesOfDay, Values, parse};
 use cal_schedule::{ByDay, Frequency};
 use cal_time::{Date, Month, Weekday};
 use std::process::Abort;
@@ -24,8 +24,8 @@ fn unchanged(rt: &impl Abort, texts: &[&str]) {
     }
 }
 
-/// The examples of RFC 5545 with their parts in this order. Times of day are not parsed, so each
-/// `UNTIL` is a date: `19971224` instead of `19971224T000000Z`.
+/// The examples of RFC 5545 with their parts in this order. Some `UNTIL` are a date here: `19971224`
+/// instead of `19971224T000000Z`.
 #[test]
 fn examples_of_the_rfc(rt: HostRuntime) {
     let rt = &rt;
@@ -34,6 +34,8 @@ fn examples_of_the_rfc(rt: HostRuntime) {
         &[
             "FREQ=DAILY;COUNT=10",
             "FREQ=DAILY;UNTIL=19971224",
+            "FREQ=DAILY;UNTIL=19971224T000000Z",
+            "FREQ=DAILY;BYHOUR=9,10,11,12,13,14,15,16;BYMINUTE=0,20,40",
             "FREQ=DAILY;INTERVAL=2",
             "FREQ=DAILY;INTERVAL=10;COUNT=5",
             "FREQ=YEARLY;UNTIL=20000131;BYMONTH=1;BYDAY=SU,MO,TU,WE,TH,FR,SA",
@@ -105,6 +107,11 @@ fn other_orders(rt: HostRuntime) {
         "until=00010203;byday=+01mo,-53We;bymonth=12,01;interval=01;freq=yearly",
         "FREQ=YEARLY;UNTIL=00010203;BYMONTH=12,1;BYDAY=1MO,-53WE",
     );
+    written(
+        rt,
+        "bysecond=60,07;byminute=00;until=00010203t040560;byhour=23,0;freq=daily;bysetpos=2",
+        "FREQ=DAILY;UNTIL=00010203T040559;BYHOUR=23,0;BYMINUTE=0;BYSECOND=60,7;BYSETPOS=2",
+    );
 }
 
 /// Creates a full list.
@@ -116,6 +123,15 @@ fn full<T: Copy>(value: T) -> Values<T> {
         }
     }
     values
+}
+
+/// Creates full lists of times.
+fn full_times() -> TimesOfDay {
+    TimesOfDay {
+        hours: full(255),
+        minutes: full(255),
+        seconds: full(255),
+    }
 }
 
 #[test]
@@ -134,10 +150,11 @@ fn longest(rt: HostRuntime) {
     };
     let recurrence = Recurrence {
         pattern,
-        end: RuleEnd::Until(Date::MIN),
+        times: full_times(),
+        end: RuleEnd::Until(DateOrTime::Date(Date::MIN)),
     };
     let text = recurrence.text();
-    same(rt, text.len(), 2219);
+    same(rt, text.len(), 2988);
     let text = text.as_str();
     let start = "FREQ=MONTHLY;INTERVAL=4294967295;UNTIL=-9999990101;BYMONTH=12,12,";
     holds(rt, text, text.starts_with(start));

@@ -5,7 +5,7 @@ use Rattle.cal_c.specs.Results.{offset_ok, offset_error}
 use Rattle.cal_c.specs.Statuses.{invalid_zone}
 use Rattle.cal_c.specs.ZoneColumns.{IsOffsetAt, offset_row}
 use Rattle.cal_c.proofs.Rows.{rows_two}
-use Rattle.cal_c.proofs.ZoneResults.{first_span, for_some, next_span}
+use Rattle.cal_c.proofs.ZoneResults.{for_some, next_span}
 use Rattle.cal_c.proofs.columns.zones.fots_zone_offsets.Goals as goal
 
 pub loop-row-preserved : goal.loop-row-preserved

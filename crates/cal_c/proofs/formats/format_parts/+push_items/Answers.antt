@@ -1,4 +1,4 @@
-use Rattle.std.proofs.Common.{◌≡◌, ◌++◌, ◌∷◌, [], refl, sym, ap, ◌∙◌, append_assoc}
+use Rattle.std.proofs.Common.{◌++◌, ◌∷◌, [], sym, ap, ◌∙◌, append_assoc}
 use Rattle.cal_c.proofs.FormatItems.{first_of, none_some, some_one}
 use Rattle.cal_c.proofs.formats.format_parts.+push_items.Goals as goal
 

@@ -1,6 +1,5 @@
-use Rattle.std.proofs.Common.{refl, ap, ◌≡◌, ◌∙◌, arith, w64}
+use Rattle.std.proofs.Common.{refl, ap, ◌∙◌, arith, w64}
 use Rattle.std.proofs.lemmas.Int.{ints, to_z-of_z}
-use Rattle.cal_datetime.specs.OffsetDateTime.{instant, unix_seconds}
 use Rattle.cal_zone.specs.Timeline.{kind_at, offset_at}
 use Rattle.cal_c.proofs.FormatItems.{some_one}
 use Rattle.cal_c.proofs.ZoneResults.{for_none, for_zone}

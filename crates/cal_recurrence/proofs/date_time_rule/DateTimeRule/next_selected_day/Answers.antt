@@ -3,8 +3,8 @@ use Rattle.cal_time.specs.Date.{last_day}
 use Rattle.cal_time.specs.SignedDuration.{day}
 use Rattle.cal_schedule.specs.Rule.{is_occurrence}
 use Rattle.cal_recurrence.specs.TimeSearch.{NoneIn, IsFirst, selects}
-use Rattle.cal_recurrence.proofs.RuleOccurrences.{next-day}
 use Rattle.cal_recurrence.proofs.SelectedReadings.{days-none, first-on_day, joined, none-on_day, on-ranked}
+use Rattle.cal_recurrence.proofs.Sets.{next_day}
 use Rattle.cal_recurrence.proofs.TimePositions.{days-are, ranked}
 use Rattle.cal_recurrence.proofs.date_time_rule.DateTimeRule.next_selected_day.Goals as goal
 
@@ -12,7 +12,7 @@ pub next_on_day-requires-clause-on : goal.next_on_day-requires-clause-on
 next_on_day-requires-clause-on c =
     let days = days-are _ _ _ _ _ _ c.self.invariant ∙ ap ranked c.self.view_is in
     let next : IsFirst (is_occurrence c.self.inside.days) (c.loop-next.last + 1) (last_day + 1) c.in-Some.next =
-    next-day c.self.inside.days c.loop-next.last (Some c.in-Some.next) c.loop-next.invariant.range.1 c.in-Some.ensures.value in
+    next_day (is_occurrence c.self.inside.days) c.loop-next.last (Some c.in-Some.next) c.in-Some.ensures.value in
     on-ranked c.args.self.now _ c.in-Some.next days next.passes
 
 pub returns-in-Some-next_on_day-clause-value : goal.returns-in-Some-next_on_day-clause-value
@@ -20,7 +20,7 @@ returns-in-Some-next_on_day-clause-value c =
     let days = days-are _ _ _ _ _ _ c.self.invariant ∙ ap ranked c.self.view_is in
     let at = c.loop-next in
     let next : IsFirst (is_occurrence c.self.inside.days) (at.last + 1) (last_day + 1) c.in-Some.next =
-    next-day c.self.inside.days at.last (Some c.in-Some.next) at.invariant.range.1 c.in-Some.ensures.value in
+    next_day (is_occurrence c.self.inside.days) at.last (Some c.in-Some.next) c.in-Some.ensures.value in
     first-on_day c.args.self.now c.self.inside.days ((c.args.date + 1) * day) at.last c.in-Some.next c.in-Some-next_on_day.time days (omega arith) at.invariant.none next c.in-Some-next_on_day.ensures
 
 pub loop-next-preserved : goal.loop-next-preserved
@@ -28,7 +28,7 @@ loop-next-preserved c =
     let days = days-are _ _ _ _ _ _ c.self.invariant ∙ ap ranked c.self.view_is in
     let at = c.loop-next in
     let next : IsFirst (is_occurrence c.self.inside.days) (at.last + 1) (last_day + 1) c.in-Some.next =
-    next-day c.self.inside.days at.last (Some c.in-Some.next) at.invariant.range.1 c.in-Some.ensures.value in
+    next_day (is_occurrence c.self.inside.days) at.last (Some c.in-Some.next) c.in-Some.ensures.value in
     record {
       later = omega (arith, next.not_before);
       range = (at.invariant.range.0, (omega (arith, next.below)));
@@ -40,6 +40,6 @@ returns-clause-value c =
     let rule = c.args.self.now in
     let days = days-are _ _ _ _ _ _ c.self.invariant ∙ ap ranked c.self.view_is in
     let none : NoneIn (is_occurrence c.self.inside.days) (c.loop-next.last + 1) (last_day + 1) =
-    next-day c.self.inside.days c.loop-next.last None c.loop-next.invariant.range.1 c.in_default.ensures.value in
+    next_day (is_occurrence c.self.inside.days) c.loop-next.last None c.in_default.ensures.value in
     joined (selects rule) ((c.args.date + 1) * day) ((c.loop-next.last + 1) * day) ((last_day + 1) * day) c.loop-next.invariant.none
     (days-none rule (c.loop-next.last + 1) (last_day + 1) (omega arith) (subst (λ d. NoneIn (is_occurrence d) (c.loop-next.last + 1) (last_day + 1)) days none))

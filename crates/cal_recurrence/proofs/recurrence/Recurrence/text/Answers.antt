@@ -10,5 +10,8 @@ returns-clause-reads_back c =
       year_days = omega (arith, c.as_slice-3.ensures.few, ap length c.as_slice-3.ensures.values);
       month_days = omega (arith, c.as_slice-4.ensures.few, ap length c.as_slice-4.ensures.values);
       weekdays = omega (arith, c.as_slice-5.ensures.few, ap length c.as_slice-5.ensures.values);
-      set_positions = omega (arith, c.as_slice-6.ensures.few, ap length c.as_slice-6.ensures.values);
+      hours = omega (arith, c.as_slice-6.ensures.few, ap length c.as_slice-6.ensures.values);
+      minutes = omega (arith, c.as_slice-7.ensures.few, ap length c.as_slice-7.ensures.values);
+      seconds = omega (arith, c.as_slice-8.ensures.few, ap length c.as_slice-8.ensures.values);
+      set_positions = omega (arith, c.as_slice-9.ensures.few, ap length c.as_slice-9.ensures.values);
     })

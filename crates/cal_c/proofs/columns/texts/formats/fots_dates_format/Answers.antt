@@ -1,7 +1,7 @@
-use Rattle.std.proofs.Common.{◌≡◌, ◌≤◌, ◌<◌, ◌+◌, ◌*◌, get_or, pos, arith, rules, refl, ap, sym, subst, ◌∙◌, take, drop, length, FitsSigned, w32, to_z}
+use Rattle.std.proofs.Common.{◌≡◌, ◌≤◌, ◌<◌, ◌+◌, get_or, pos, arith, rules, refl, ap, sym, subst, ◌∙◌, take, drop, length, FitsSigned, w32, to_z}
 use Rattle.std.specs.Prelude.{unsigned_abs}
 use Rattle.std.proofs.lemmas.List.{length-set, length-take-le}
-use Rattle.std.proofs.lemmas.Int.{to_z-of_z, ints}
+use Rattle.std.proofs.lemmas.Int.{to_z-of_z}
 use Rattle.cal_c.specs.FormatColumns.{IsTextByFormatRow, room_for_text}
 use Rattle.cal_c.specs.TextColumns.{HasRoomFor}
 use Rattle.cal_c.proofs.FormatRows.{Fits, next-fits}

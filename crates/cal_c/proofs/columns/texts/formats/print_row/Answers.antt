@@ -1,4 +1,4 @@
-use Rattle.std.proofs.Common.{ℕ, ◌≤◌, ◌*◌, length, arith, rules}
+use Rattle.std.proofs.Common.{arith, rules}
 use Rattle.cal_format.specs.Moment.{IsMoment, moment_of_date}
 use Rattle.cal_format.proofs.Lengths.{text-short}
 use Rattle.cal_c.proofs.FormatItems.{no_some}

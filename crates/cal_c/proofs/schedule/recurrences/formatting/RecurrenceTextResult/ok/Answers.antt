@@ -10,4 +10,4 @@ written_with text bytes = record { status = ok_status; part = 0; position = no_p
 
 pub returns : goal.returns
 returns c =
-    ap (written_with c.args.text.now) (copied-over 2728 0 c.args.text.now c.copy_from_slice.new.self c.copy_from_slice.ensures.after)
+    ap (written_with c.args.text.now) (copied-over 4064 0 c.args.text.now c.copy_from_slice.new.self c.copy_from_slice.ensures.after)

@@ -5,7 +5,7 @@ use Rattle.cal_schedule.specs.Ranks.{count-rises}
 use Rattle.cal_schedule.specs.Workdays.{is_workday}
 use Rattle.cal_schedule.proofs.WorkdaysWeeks.{rises}
 use Rattle.cal_c.specs.CheckedWorkdays.{holidays_of, week_of}
-use Rattle.cal_c.specs.Weekmasks.{holidays_in}
+use Rattle.cal_c.specs.Values.{dates_in}
 use Rattle.cal_c.proofs.CheckedHolidays.{found-rank, none-ranked}
 use Rattle.cal_c.proofs.schedule.workdays.ranks.RankedWorkdays.day_of_rank.Goals as goal
 
@@ -19,13 +19,13 @@ returns-then-marked_in_week-eq0-clause-value c = λ checked.
 pub returns-then-day-from-clause-value : goal.returns-then-day-from-clause-value
 returns-then-day-from-clause-value c = λ checked.
     let w = week_of c.args.self.now in
-    let r = rises (holidays_in (holidays_of c.args.self.now)) checked.holidays.rising in
+    let r = rises (dates_in (holidays_of c.args.self.now)) checked.holidays.rising in
     let found = found-rank w r _ _ c.nth_marked-day.result _ (c.holidays_passed.ensures.passed checked) c.nth_marked-day.ensures.marked c.nth_marked-day.ensures.value (c.marked_holidays-holidays.ensures.value checked) in
     inr (omega (arith, ints, found.1, count-rises (is_workday w) (last_day + 1) c.nth_marked-day.result (omega arith)))
 
 pub returns-clause-value : goal.returns-clause-value
 returns-clause-value c = λ checked.
     let w = week_of c.args.self.now in
-    let r = rises (holidays_in (holidays_of c.args.self.now)) checked.holidays.rising in
+    let r = rises (dates_in (holidays_of c.args.self.now)) checked.holidays.rising in
     let found = found-rank w r _ _ c.nth_marked-day.result _ (c.holidays_passed.ensures.passed checked) c.nth_marked-day.ensures.marked c.nth_marked-day.ensures.value (c.marked_holidays-holidays.ensures.value checked) in
     record { date = omega arith; workday = found.0; has_rank = omega (arith, ints, found.1) }

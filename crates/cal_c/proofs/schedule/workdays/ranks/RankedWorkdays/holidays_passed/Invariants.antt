@@ -2,16 +2,16 @@ use Rattle.std.proofs.Common.{◌-◌, ℕ, ◌<◌, ◌≤◌, length, get_or}
 use Rattle.cal_time.specs.IsoWeekDate.{count_before}
 use Rattle.cal_schedule.specs.Workdays.{is_workday}
 use Rattle.cal_c.specs.CheckedWorkdays.{holidays_of, week_of, IsChecked}
-use Rattle.cal_c.specs.Weekmasks.{holidays_in}
+use Rattle.cal_c.specs.Values.{dates_in}
 use Rattle.cal_c.proofs.schedule.workdays.ranks.RankedWorkdays.holidays_passed.Given as goal
 
 abbrev pub invariant-loop-low : goal.invariant-loop-low
 invariant-loop-low l = record {
   order : l.low ≤ l.high;
   most : l.high ≤ l.self.holidays_length;
-  before : IsChecked l.self → (j : ℕ) → j < l.low → count_before (is_workday (week_of l.self)) (get_or (holidays_in (holidays_of l.self)) j 0) ≤ l.rank;
-  after : IsChecked l.self → (j : ℕ) → l.high ≤ j → j < length (holidays_in (holidays_of l.self))
-      → l.rank < count_before (is_workday (week_of l.self)) (get_or (holidays_in (holidays_of l.self)) j 0);
+  before : IsChecked l.self → (j : ℕ) → j < l.low → count_before (is_workday (week_of l.self)) (get_or (dates_in (holidays_of l.self)) j 0) ≤ l.rank;
+  after : IsChecked l.self → (j : ℕ) → l.high ≤ j → j < length (dates_in (holidays_of l.self))
+      → l.rank < count_before (is_workday (week_of l.self)) (get_or (dates_in (holidays_of l.self)) j 0);
 }
 
 abbrev pub decreases-loop-low : goal.decreases-loop-low

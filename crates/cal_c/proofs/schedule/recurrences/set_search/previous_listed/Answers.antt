@@ -1,0 +1,11 @@
+use Rattle.std.proofs.Common.{ap, ◌∙◌, filter, slice_get}
+use Rattle.cal_time.specs.Occurrences.{days_back_from}
+use Rattle.cal_c.specs.Recurrences.{set_in}
+use Rattle.cal_c.proofs.RuleSets.{same_days}
+use Rattle.cal_c.proofs.schedule.recurrences.set_search.previous_listed.Goals as goal
+
+pub returns : goal.returns
+returns c =
+    let same = same_days c.set.result (set_in c.args.parts.now) (c.set.ensures.rule ∙ c.requires.rule) (c.set.ensures.dates ∙ c.from_parts-lists.ensures.dates)
+    (c.set.ensures.exceptions ∙ c.from_parts-lists.ensures.exceptions) in
+    c.previous_before.ensures.value ∙ ap (λ test. slice_get (filter test (days_back_from c.args.date)) 0) same

@@ -1,0 +1,12 @@
+use Rattle.std.proofs.Common.{◌+◌, ◌-◌, ◌∙◌, filter, subst}
+use Rattle.cal_time.specs.Date.{last_day}
+use Rattle.cal_time.specs.Occurrences.{days_from}
+use Rattle.cal_c.specs.Recurrences.{set_in, AreDatesWritten}
+use Rattle.cal_c.proofs.RuleSets.{same_days}
+use Rattle.cal_c.proofs.schedule.recurrences.set_search.write_listed.Goals as goal
+
+pub returns : goal.returns
+returns c =
+    let same = same_days c.set.result (set_in c.args.parts.now) (c.set.ensures.rule ∙ c.requires.rule) (c.set.ensures.dates ∙ c.from_parts-lists.ensures.dates)
+    (c.set.ensures.exceptions ∙ c.from_parts-lists.ensures.exceptions) in
+    subst (λ test. AreDatesWritten (filter test (days_from (c.args.date + 1) (last_day - c.args.date))) c.args.days.now c.write_days.new.days c.write_days.result) same c.write_days.ensures

@@ -1,0 +1,50 @@
+-- Recurrence sets of date-times: the readings of a rule and of `RDATE`, without the readings of
+-- `EXDATE` (RFC 5545).
+use Rattle.std.specs.Prelude.{◌≡◌, ℕ, ◌+◌, Bool, ◌&&◌, ◌||◌, not, ℤ, pos, int_lt, unsigned_abs, if◌then◌else◌, List, Option, Some, None, option_map}
+use Rattle.std.specs.List.{list_any}
+use Rattle.std.specs.Ordering.{int_eq}
+use Rattle.cal_datetime.specs.DateTime.{last_date_time}
+use Rattle.cal_recurrence.specs.DateTimeRule.{is_occurrence, readings_from, readings_left}
+use Rattle.cal_recurrence.specs.TimeSearch.{IsNext}
+use Rattle.cal_recurrence.specs.declared.date_time_set.DateTimeSet.{DateTimeSet}
+
+-- The reading z is in a list.
+abbrev pub is_listed : List ℤ → ℤ → Bool
+is_listed readings z = list_any (λ y. int_eq y z) readings
+
+-- The rule has the reading z, or it is one of the other readings.
+abbrev pub candidates : DateTimeSet → ℤ → Bool
+candidates set z = is_occurrence set.rule z || is_listed set.dates.now z
+
+-- The rule has the reading z, or it is one of the other readings, and it isn't left out.
+unfoldable pub is_in_set : DateTimeSet → ℤ → Bool
+is_in_set set z = candidates set z && not (is_listed set.exceptions.now z)
+
+-- The readings of the set from the reading z on, in ascending order.
+abbrev pub set_readings_from : DateTimeSet → ℤ → List ℤ
+set_readings_from set z = readings_from (is_in_set set) (unsigned_abs z)
+
+-- The readings of the set after the reading z, in ascending order.
+abbrev pub set_readings_after : DateTimeSet → ℤ → List ℤ
+set_readings_after set z = readings_from (is_in_set set) (unsigned_abs z + 1)
+
+-- A reading of the set and the readings after it, or no readings.
+abbrev pub set_readings_left : DateTimeSet → Option ℤ → List ℤ
+set_readings_left set r = readings_left (is_in_set set) r
+
+-- The earlier reading, or the only one.
+abbrev pub earlier : Option ℤ → Option ℤ → Option ℤ
+earlier None other = other
+earlier (Some z) None = Some z
+earlier (Some z) (Some y) = if int_lt y z then Some y else Some z
+
+-- r is the first reading of the range from the number n on that passes a test. If r is `None`, none
+-- passes.
+pub record IsNextFrom (test : ℤ → Bool) (n : ℕ) (r : Option ℤ) : Type 0 where
+  pub number : Option ℕ
+  pub is : r ≡ option_map pos number
+  pub next : IsNext (λ k. test (pos k)) n (last_date_time + 1) number
+
+-- r is the first reading of the range after the reading z that passes a test.
+abbrev pub IsNextOf : (ℤ → Bool) → ℤ → Option ℤ → Type 0
+IsNextOf test z r = IsNextFrom test (unsigned_abs z + 1) r

@@ -1,0 +1,176 @@
+//! Recurrence sets of date-times without a zone.
+ghost use Rattle.std.specs.Prelude.{◌≡◌, ◌<ℤ◌, IfSome, slice_get, true, pos};
+ghost use Rattle.std.specs.Ordering.{int_eq};
+ghost use Rattle.cal_datetime.specs.DateTime.{IsDateTime};
+ghost use Rattle.cal_recurrence.specs.DateTimeSet.{candidates, earlier, is_in_set, is_listed, set_readings_after, set_readings_from, IsNextOf};
+
+use crate::date_time_rule::DateTimeRule;
+use cal_datetime::{PlainDateTime, midnight};
+use cal_time::day_number::to_date;
+use std::marker::Model;
+
+/// A recurrence set of RFC 5545 with times of day: the readings of a rule and of `RDATE`, without
+/// the readings of `EXDATE`. The lists can be in any order, and can have a reading twice.
+#[derive(Debug, Drop)]
+pub struct DateTimeSet<'a> {
+    /// The rule (`DTSTART` and `RRULE`).
+    pub rule: DateTimeRule,
+    /// The other readings (`RDATE`).
+    pub dates: &'a [PlainDateTime],
+    /// The readings to leave out (`EXDATE`).
+    pub exceptions: &'a [PlainDateTime],
+}
+
+/// Returns `true` if a reading is in a list.
+fn is_listed(readings: &[PlainDateTime], reading: PlainDateTime) -> bool
+    ensures { result ≡ is_listed readings.now reading }
+{
+    readings.iter().any(|one| *one == reading)
+}
+
+/// Returns the earlier reading, or the only one.
+fn earlier(reading: Option<PlainDateTime>, other: Option<PlainDateTime>) -> Option<PlainDateTime>
+    ensures { result ≡ earlier reading other }
+{
+    let Some(one) = reading else {
+        return other;
+    };
+    match other {
+        Some(two) if two < one => other,
+        _ => reading,
+    }
+}
+
+/// Returns a reading if it is after another one.
+fn if_after(one: PlainDateTime, reading: PlainDateTime) -> Option<PlainDateTime>
+    ensures { IsNextOf (int_eq one) reading result }
+{
+    // These calls state that both are in range. They cost nothing.
+    let _ = one.date();
+    let _ = reading.date();
+    if reading < one { Some(one) } else { None }
+}
+
+/// Returns the first reading of a list after a reading.
+fn next_listed(readings: &[PlainDateTime], reading: PlainDateTime) -> Option<PlainDateTime>
+    ensures { IsNextOf (is_listed readings.now) reading result }
+{
+    let mut next = None;
+    for one in readings {
+        next = earlier(next, if_after(*one, reading));
+    }
+    next
+}
+
+impl<'a> DateTimeSet<'a> {
+    /// Returns `true` if a reading is in the set. The set of 9:00 on every day without 2024-01-02
+    /// 9:00 has 2024-01-01 9:00, and not 2024-01-02 9:00.
+    #[tactic(auto, unfolding(crate::specs::DateTimeSet::is_in_set))]
+    pub fn contains(&self, reading: PlainDateTime) -> bool
+        ensures value { result ≡ is_in_set self.now reading }
+        ensures in_range { IsDateTime reading }
+    {
+        let _ = reading.date();
+        (self.rule.contains(reading) || is_listed(self.dates, reading))
+            && !is_listed(self.exceptions, reading)
+    }
+
+    /// Returns the first reading after a reading that the rule has or that is one of the others.
+    fn next_candidate(&self, reading: PlainDateTime) -> Option<PlainDateTime>
+        ensures { IsNextOf (candidates self.now) reading result }
+    {
+        earlier(
+            self.rule.next_after(reading),
+            next_listed(self.dates, reading),
+        )
+    }
+
+    /// Returns the first reading of the set after a reading, or `None` if the range has no such
+    /// reading. In the set of 9:00 on every day without 2024-01-02 9:00, 2024-01-03 9:00 comes
+    /// after 2024-01-01 9:00.
+    pub fn next_after(&self, reading: PlainDateTime) -> Option<PlainDateTime>
+        ensures value { result ≡ slice_get (set_readings_after self.now reading) 0 }
+        ensures found { IfSome result (λ z. (reading <ℤ z) × (is_in_set self.now z ≡ true)) }
+    {
+        // This states that the reading is in range. It costs nothing.
+        let _ = reading.date();
+        let mut last = reading;
+        while let Some(next) = self.next_candidate(last) {
+            if !is_listed(self.exceptions, next) {
+                return Some(next);
+            }
+            last = next;
+        }
+        None
+    }
+
+    /// Returns the first reading of the set that isn't before a reading, or `None` if the range has
+    /// no such reading.
+    pub fn first_from(&self, reading: PlainDateTime) -> Option<PlainDateTime>
+        ensures { result ≡ slice_get (set_readings_from self.now reading) 0 }
+    {
+        if self.contains(reading) {
+            Some(reading)
+        } else {
+            self.next_after(reading)
+        }
+    }
+
+    /// Returns an iterator over the readings of the set from a reading on, in ascending order, each
+    /// once. It doesn't go through the readings before it.
+    pub fn readings_from(&self, reading: PlainDateTime) -> DateTimeSetReadings<'a>
+        ensures { result ≡ set_readings_from self.now reading }
+    {
+        DateTimeSetReadings {
+            set: DateTimeSet {
+                rule: self.rule.copy(),
+                dates: self.dates,
+                exceptions: self.exceptions,
+            },
+            front: self.first_from(reading),
+        }
+    }
+
+    /// Returns an iterator over all readings of the set, in ascending order, each once. The set of
+    /// 9:00 on every day from 2024-01-01 on without this day begins with 2024-01-02 9:00.
+    pub fn readings(&self) -> DateTimeSetReadings<'a>
+        ensures { result ≡ set_readings_from self.now (pos 0) }
+    {
+        // The first reading of the range.
+        self.readings_from(midnight(to_date(0)))
+    }
+}
+
+/// An iterator over the readings of a recurrence set, in ascending order. Contracts see the list of
+/// the readings left.
+#[derive(Debug, Drop)]
+pub struct DateTimeSetReadings<'a> {
+    set: DateTimeSet<'a>,
+    front: Option<PlainDateTime>,
+}
+
+impl<'a> Model for DateTimeSetReadings<'a> {
+    ghost use Rattle.std.specs.Prelude.{ℤ, List};
+    ghost use Rattle.cal_recurrence.specs.DateTimeSet.{set_readings_left};
+
+    ghost Value = { List ℤ };
+
+    ghost view = { λ walk. set_readings_left walk.set walk.front };
+}
+
+impl Iterator for DateTimeSetReadings<'_> {
+    type Item = PlainDateTime;
+
+    ghost use Rattle.std.specs.Iterator.{YieldsFirst, item_count};
+
+    ghost next_gives = { YieldsFirst (λ readings. readings) };
+
+    ghost remaining = { item_count (λ readings. readings) };
+
+    /// Returns the next reading, or `None` after the last one.
+    fn next(&mut self) -> Option<PlainDateTime> {
+        let item = self.front?;
+        self.front = self.set.next_after(item);
+        Some(item)
+    }
+}

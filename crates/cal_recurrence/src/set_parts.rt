@@ -1,0 +1,18 @@
+//! The parts of a recurrence set in text.
+
+use crate::date_or_time::DateOrTime;
+use crate::recurrence::Recurrence;
+use cal_schedule::Values;
+
+/// The parts of a recurrence set, as its lines in a calendar file say them.
+#[derive(Clone, Debug, PartialEq, Eq, Drop)]
+pub struct SetParts {
+    /// The start (`DTSTART`).
+    pub start: DateOrTime,
+    /// The recurrence (`RRULE`). Without such a line it is `FREQ=DAILY;COUNT=1`, the start only.
+    pub recurrence: Recurrence,
+    /// The other dates or readings (`RDATE`).
+    pub dates: Values<DateOrTime>,
+    /// The dates or readings to leave out (`EXDATE`).
+    pub exceptions: Values<DateOrTime>,
+}

@@ -1,0 +1,23 @@
+//! Each contract leaves one answer: two calls with the same arguments are proved to return the
+//! same.
+ghost use Rattle.std.specs.Prelude.{◌≡◌};
+
+use cal_datetime::OffsetDateTime;
+use cal_recurrence::ZonedSet;
+use cal_zone::laws::one_local;
+
+/// The results of two calls.
+type Twice<T> = (T, T);
+
+fn next_after(set: &ZonedSet<'_>, moment: OffsetDateTime) -> Twice<Option<OffsetDateTime>>
+    ensures { result.0 ≡ result.1 }
+{
+    one_local(set.zone);
+    (set.next_after(moment), set.next_after(moment))
+}
+
+fn contains(set: &ZonedSet<'_>, moment: OffsetDateTime) -> Twice<bool>
+    ensures { result.0 ≡ result.1 }
+{
+    (set.contains(moment), set.contains(moment))
+}
