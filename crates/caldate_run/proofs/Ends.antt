@@ -2,7 +2,7 @@
 use Rattle.std.proofs.Common.{◌≡◌, ℕ, List, [], ◌∷◌, length, true, None, ap, refl, sym, subst, arith, Option, Result, Ok, Err}
 use Rattle.std.specs.Prelude.{is_some, IfErr, IsErrAnd, IsErrOf, OnErr, OnOk}
 use Rattle.std.specs.Io.KnownBytes.{Appends, IsAtEnd}
-use Rattle.caldate_run.specs.Lines.{lines_of}
+use Rattle.caldate_run.specs.Lines.{all_lines}
 use Rattle.caldate_run.specs.Runs.{AnswersAll, AnswersEnded, AnswersFront, AppendsFront, IsRunResult, Gives, ReadsLines, IsEarly, IsOfWrite, WritesPage, StopsAt}
 use Rattle.caldate_run.specs.declared.request.Filter.{Filter}
 use Rattle.caldate_run.specs.declared.run.tally.Tally.{Tally}
@@ -29,8 +29,8 @@ wrote bytes (Err error) old new ok front err = (err, front)
 
 -- ---- what a run read and wrote
 pub early_ended : (filter : Filter) (r : Result Unit RunError) (r0 r1 w0 w1 : Option (List ℕ)) → IsErrAnd r IsEarly
-    → (IsErrAnd r IsOfWrite → ReadsLines r0 r1 (λ lines rest. AnswersFront filter lines rest w0 w1))
-    → ((reported : UnansweredLine) → IsErrOf r (Stopped reported) → ReadsLines r0 r1 (λ lines rest. StopsAt filter reported lines w0 w1))
+    → (IsErrAnd r IsOfWrite → ReadsLines filter r0 r1 (λ lines rest. AnswersFront filter lines rest w0 w1))
+    → ((reported : UnansweredLine) → IsErrOf r (Stopped reported) → ReadsLines filter r0 r1 (λ lines rest. StopsAt filter reported lines w0 w1))
     → IsRunResult filter r r0 r1 w0 w1
 early_ended filter (Ok done) r0 r1 w0 w1 is write stopped = absurd is
 early_ended filter (Err Read) r0 r1 w0 w1 is write stopped = absurd is
@@ -40,7 +40,7 @@ early_ended filter (Err (Unanswered tally)) r0 r1 w0 w1 is write stopped = absur
 
 pub all_ended : (filter : Filter) (r : Result Unit RunError) (tally : Tally) (r0 r1 w0 w1 : Option (List ℕ)) → OnOk r (tally.first ≡ None)
     → IfErr r (λ error. (error ≡ Unanswered tally) × (is_some tally.first ≡ true))
-    → IsAtEnd r1 → Gives r0 r1 (λ input. AnswersAll filter (lines_of input) tally w0 w1) → IsRunResult filter r r0 r1 w0 w1
+    → IsAtEnd r1 → Gives r0 r1 (λ input. AnswersAll filter (all_lines filter.field input) tally w0 w1) → IsRunResult filter r r0 r1 w0 w1
 all_ended filter (Ok done) tally r0 r1 w0 w1 none err end (input, given, all) = (end, (input, given, (tally, none, all)))
 all_ended filter (Err error) tally r0 r1 w0 w1 none err end (input, given, all) =
     subst (λ f. IsRunResult filter (Err f) r0 r1 w0 w1) (sym err.0) (end, (input, given, (tally, (refl, err.1), all)))

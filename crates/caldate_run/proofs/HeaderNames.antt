@@ -1,28 +1,32 @@
 -- The header, and the names of its fields.
 use Rattle.std.proofs.Common.{◌≡◌, ◌++◌, ◌∷◌, ◌∙◌, ◌+◌, ◌<◌, ◌≤◌, ℕ, Bool, List, [], Option, Some, ap, append_assoc, arith, cond, drop, false, get_or, length, length-append, length-take, refl, sym, take, true}
 use Rattle.std.specs.Prelude.{◌&&◌, codes, nat_le}
-use Rattle.std.specs.List.{slice_split}
 use Rattle.std.proofs.lemmas.Bool.{false≢true}
 use Rattle.std.proofs.lemmas.Bool.Decides.{nat_tests}
 use Rattle.std.proofs.lemmas.List.{append-nil, length-map}
-use Rattle.std.proofs.lemmas.List.Splits.{slice_split_at, slice_split_none}
 use Rattle.caldate_run.specs.Excerpts.{excerpt_of, printable}
 use Rattle.caldate_run.specs.Fields.{fields_of, is_quote}
-use Rattle.caldate_run.specs.Header.{field_name, first_part, has_name, header_of, is_pair, name_number, names_text, unescaped}
-use Rattle.caldate_run.specs.Lines.{is_end, text_of}
-use Rattle.caldate_run.specs.RunStates.{NoEnd}
+use Rattle.caldate_run.specs.Header.{HasLine, field_name, first_part, has_name, header_of, is_pair, name_number, names_text, unescaped}
+use Rattle.caldate_run.specs.Lines.{split_input, text_of}
+use Rattle.caldate_run.specs.RunStates.{FirstEnds, NoEnd}
 use Rattle.caldate_run.specs.UsageMessages.{quoted}
 use Rattle.caldate_run.specs.declared.request.Field.{Field}
+use Rattle.caldate_run.specs.declared.run.quoting.Quoting.TheVariants.{Ready}
 use Rattle.caldate_run.proofs.Cuts.{some_fields}
 use Rattle.caldate_run.proofs.Ends.{empty}
+use Rattle.caldate_run.proofs.Splits.{parts_some}
 
 -- ---- the text of the first line
-pub ended_header : (bytes line after : List ℕ) → NoEnd line → bytes ≡ line ++ 10 ∷ after → header_of bytes ≡ text_of line
-ended_header bytes line after none e =
-    ap (λ parts. text_of (first_part parts)) (ap (slice_split is_end) e ∙ slice_split_at is_end line 10 after none refl)
+pub ended_header : (field : Field) (bytes line after : List ℕ) → FirstEnds (Some field) Ready bytes line after → header_of field bytes ≡ text_of line
+ended_header field bytes line after first =
+    ap (λ b. header_of field b) (sym (append-nil bytes)) ∙ ap (λ parts. text_of (first_part parts)) (first [])
 
-pub unended_header : (bytes : List ℕ) → NoEnd bytes → header_of bytes ≡ text_of bytes
-unended_header bytes none = ap (λ parts. text_of (first_part parts)) (slice_split_none is_end bytes none)
+pub unended_header : (field : Field) (bytes : List ℕ) → NoEnd (Some field) Ready bytes → header_of field bytes ≡ text_of bytes
+unended_header field bytes none = ap (λ parts. text_of (first_part parts)) none
+
+pub has_line : (field : Field) (bytes line after : List ℕ) → FirstEnds (Some field) Ready bytes line after → HasLine field bytes
+has_line field bytes line after first =
+    omega (arith, ap (λ b. length (split_input (Some field) b)) (sym (append-nil bytes)), ap length (first []), parts_some (Some field) Ready (after ++ []))
 
 -- ---- the fields one after the other
 pub longer : (bytes part others : List ℕ) (c : ℕ) → bytes ≡ part ++ c ∷ others → length bytes ≡ length part + length others + 1

@@ -5,22 +5,23 @@ use Rattle.std.specs.Prelude.{◌↔◌, Contains}
 use Rattle.std.proofs.lemmas.Bool.{false≢true}
 use Rattle.std.proofs.lemmas.List.{append-nil}
 use Rattle.std.proofs.lemmas.List.Elements.{All-nil, All-push, Contains-append_left, Contains-push, Contains-push_cases}
-use Rattle.std.proofs.lemmas.List.Splits.{slice_split_at}
+use Rattle.std.proofs.lemmas.List.Splits.{length-slice_split, slice_split_at, slice_split_none}
 use Rattle.cal_time.specs.Counted.{IsRising}
 use Rattle.cal_time.specs.Date.{IsDate, julian_day_at}
 use Rattle.cal_text.specs.DateForms.{IsDateText}
 use Rattle.cal_text.specs.declared.error.ParseError.{ParseError}
 use Rattle.caldate_run.specs.Holidays.{AreHolidays, IsHoliday, IsInvalidAt, IsInvalidLine, IsValidLine, is_left_out}
 use Rattle.caldate_run.specs.Lines.{is_end, lines_of, text_of, without_empty_last}
-use Rattle.caldate_run.specs.RunStates.{NoEnd}
-use Rattle.caldate_run.proofs.Steps.{one_line, part_counts, split_some}
+use Rattle.caldate_run.specs.RunStates.{HasNoFeed}
+use Rattle.caldate_run.proofs.Steps.{part_counts}
 
 -- a line, and those after it
-pub first_cut : (line after : List ℕ) → NoEnd line → lines_of (line ++ 10 ∷ after) ≡ line ∷ lines_of after
-first_cut line after n = ap without_empty_last (slice_split_at is_end line 10 after n refl) ∙ part_counts line (slice_split is_end after) (split_some after)
+pub first_cut : (line after : List ℕ) → HasNoFeed line → lines_of (line ++ 10 ∷ after) ≡ line ∷ lines_of after
+first_cut line after n = ap without_empty_last (slice_split_at is_end line 10 after n refl) ∙ part_counts line (slice_split is_end after) (omega (arith, length-slice_split is_end after))
 
-pub last_cut : (line : List ℕ) → NoEnd line → 0 < length line → lines_of line ≡ line ∷ lines_of []
-last_cut line n some = one_line line n some
+pub last_cut : (line : List ℕ) → HasNoFeed line → 0 < length line → lines_of line ≡ line ∷ lines_of []
+last_cut [] n some = absurd (omega (arith, some))
+last_cut (b ∷ bs) n some = ap without_empty_last (slice_split_none is_end (b ∷ bs) n)
 
 -- ---- one more line
 pub line_left_out : (lines : List (List ℕ)) (line days : List ℕ) → is_left_out (text_of line) ≡ true → AreHolidays lines days → AreHolidays (lines ++ line ∷ []) days

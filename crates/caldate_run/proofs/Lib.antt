@@ -1,5 +1,6 @@
 pub mod Parts
 pub mod Quotes
+pub mod Splits
 pub mod Calls
 pub mod Cuts
 pub mod Indices
@@ -13,6 +14,7 @@ pub mod Texts
 pub mod Numbers
 pub mod RecordFields
 pub mod NewFields
+pub mod Each
 pub mod Replied
 pub mod Reported
 pub mod DayLists
@@ -46,5 +48,6 @@ pub mod HeaderNames
 pub mod Named
 pub mod TextBounds
 mod TextStarts
+mod DigitStarts
 pub mod Scans
 pub mod OneScan

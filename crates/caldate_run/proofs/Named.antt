@@ -13,12 +13,13 @@ use Rattle.caldate_run.specs.declared.request.Command.{Command}
 use Rattle.caldate_run.specs.declared.request.Command.TheVariants.{Named, NamedOnce}
 use Rattle.caldate_run.specs.declared.request.Field.{Field}
 use Rattle.caldate_run.specs.declared.request.Filter.{Filter}
+use Rattle.caldate_run.specs.declared.run.quoting.Quoting.TheVariants.{Ready}
 use Rattle.caldate_run.specs.declared.run.run_error.RunError.{RunError}
 use Rattle.caldate_run.specs.declared.zones.DataFiles.{DataFiles}
 
-pub has_header : (left : Option (List ℕ)) (bytes input : List ℕ) → bytes ≡ input → HasLine bytes ⊎ (4097 < length bytes) → HasHeader left input
-has_header left bytes input e (inl line) = subst (HasHeader left) e (inl line)
-has_header left bytes input e (inr long) = subst (HasHeader left) e (inr (inr long))
+pub has_header : (field : Field) (left : Option (List ℕ)) (bytes input : List ℕ) → bytes ≡ input → HasLine field bytes ⊎ (4097 < length bytes) → HasHeader field left input
+has_header field left bytes input e (inl line) = subst (HasHeader field left) e (inl line)
+has_header field left bytes input e (inr long) = subst (HasHeader field left) e (inr (inr long))
 
 -- what the header says
 pub says : {A B : Type 0} (r s : Result A B) (P : A → Type 0) (Q : B → Type 0) → r ≡ s → MatchResult s P Q → MatchResult r P Q
@@ -32,15 +33,15 @@ match_weaker (Err b) P P' Q Q' f g h = g b h
 ends_weaker : (filter : Filter) (field : Field) (left : Option (List ℕ)) (front words : List ℕ) (Runs Runs' : Filter → Result Unit RunError → Type 0) (Stops Stops' : Bool → List ℕ → Type 0)
     → ((own : Filter) (outcome : Result Unit RunError) → Runs own outcome → Runs' own outcome) → ((failed : Bool) (words : List ℕ) → Stops failed words → Stops' failed words)
     → (failed : Bool)
-    → (NoEnd front × Stops failed words)
-    ⊎ (HasHeader left front × MatchResult (numbers_in filter field (header_of front)) (λ numbers. (outcome : Result Unit RunError) × Runs (numbered filter field numbers) outcome)
-    (λ name. Stops false (header_error field name (header_of front))))
-    → (NoEnd front × Stops' failed words)
-    ⊎ (HasHeader left front × MatchResult (numbers_in filter field (header_of front)) (λ numbers. (outcome : Result Unit RunError) × Runs' (numbered filter field numbers) outcome)
-    (λ name. Stops' false (header_error field name (header_of front))))
+    → (NoEnd (Some field) Ready front × Stops failed words)
+    ⊎ (HasHeader field left front × MatchResult (numbers_in filter field (header_of field front)) (λ numbers. (outcome : Result Unit RunError) × Runs (numbered filter field numbers) outcome)
+    (λ name. Stops false (header_error field name (header_of field front))))
+    → (NoEnd (Some field) Ready front × Stops' failed words)
+    ⊎ (HasHeader field left front × MatchResult (numbers_in filter field (header_of field front)) (λ numbers. (outcome : Result Unit RunError) × Runs' (numbered filter field numbers) outcome)
+    (λ name. Stops' false (header_error field name (header_of field front))))
 ends_weaker filter field left front words Runs Runs' Stops Stops' runs stops failed (inl h) = inl (h.0, stops failed words h.1)
 ends_weaker filter field left front words Runs Runs' Stops Stops' runs stops failed (inr h) =
-    inr (h.0, match_weaker (numbers_in filter field (header_of front)) _ _ _ _ (λ numbers r. (r.0, runs (numbered filter field numbers) r.0 r.1)) (λ name. stops false _) h.1)
+    inr (h.0, match_weaker (numbers_in filter field (header_of field front)) _ _ _ _ (λ numbers r. (r.0, runs (numbered filter field numbers) r.0 r.1)) (λ name. stops false _) h.1)
 
 pub named_weaker : (filter : Filter) (field : Field) (old : Option (List ℕ)) (Runs Runs' : Filter → Result Unit RunError → Type 0) (Stops Stops' : Bool → List ℕ → Type 0)
     → ((own : Filter) (outcome : Result Unit RunError) → Runs own outcome → Runs' own outcome) → ((failed : Bool) (words : List ℕ) → Stops failed words → Stops' failed words)

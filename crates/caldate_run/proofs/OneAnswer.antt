@@ -1,6 +1,5 @@
 -- A text has one answer.
 use Rattle.std.proofs.Common.{◌≡◌, ◌⊎◌, ℕ, suc, ◌+◌, Bool, true, false, List, [], ◌∷◌, ◌++◌, Option, Some, None, Result, Ok, Err, inl, inr, ap, refl, sym, subst, ◌∙◌, arith}
-use Rattle.std.specs.List.{slice_split}
 use Rattle.std.specs.Option.{option_map_or}
 use Rattle.std.specs.Prelude.{⊤, All, is_some, not}
 use Rattle.std.specs.Fmt.{signed_decimal}
@@ -15,7 +14,7 @@ use Rattle.cal_schedule.specs.Workdays.{WorkWeek}
 use Rattle.caldate_run.specs.Answers.{Answer, HasNone, IsAnswer, IsAnswerTo, IsBetween, IsNotRead, IsReadAs, compares, day_of, floored, form_read, leaves_out, moment_of, on_day}
 use Rattle.caldate_run.specs.Bounds.{lies_in}
 use Rattle.caldate_run.specs.Forms.{IsInForm}
-use Rattle.caldate_run.specs.Lines.{is_end, lines_of, without_empty_last}
+use Rattle.caldate_run.specs.Lines.{all_lines, split_input, without_empty_last}
 use Rattle.caldate_run.specs.Replies.{IsReplyTo}
 use Rattle.caldate_run.specs.Runs.{AnswersInput, IsRunResult, IsComplete}
 use Rattle.caldate_run.specs.RunStates.{AreReplies, no_lines}
@@ -168,7 +167,7 @@ replies-one filter before (line ∷ lines) a b t u v w one (reply, rest, mid, is
     let after = replies-one filter (before + 1) lines rest left mid u mid' w (λ i d h. one (suc i) d (omega (arith, h))) more more' in
     cc
 
--- the lines are parts between line feeds
+-- the lines are parts of the input
 lines-all : (P : List ℕ → Type 0) (parts : List (List ℕ)) → All P parts → All P (without_empty_last parts)
 lines-all P [] all = all
 lines-all P ([] ∷ []) all = All-nil P
@@ -196,15 +195,15 @@ complete filter (Err Read) r0 r1 w0 w1 c h = absurd c
 complete filter (Err (Write kind)) r0 r1 w0 w1 c h = absurd c
 complete filter (Err (Stopped reported)) r0 r1 w0 w1 c h = absurd c
 
-inputs-one : (filter : Filter) (input held : List ℕ) (left rest w v : Option (List ℕ)) → All (HasOneReply filter) (slice_split is_end input)
+inputs-one : (filter : Filter) (input held : List ℕ) (left rest w v : Option (List ℕ)) → All (HasOneReply filter) (split_input filter.field input)
     → AnswersInput filter (λ tally. ⊤) (Some input) left (Some held) w → AnswersInput filter (λ tally. ⊤) (Some input) rest (Some held) v → w ≡ v
 inputs-one filter input held left rest w v one (end_left, (bytes, given, (t, has, answers))) (end_rest, (others, taken, (u, too, replies))) =
-    let here = subst (λ l. AreReplies (IsReplyTo filter) 0 (lines_of l) answers.out no_lines t) (all_given input bytes left given end_left) answers.replies in
-    let there = subst (λ l. AreReplies (IsReplyTo filter) 0 (lines_of l) replies.out no_lines u) (all_given input others rest taken end_rest) replies.replies in
-    let same = replies-one filter 0 (lines_of input) answers.out replies.out no_lines t no_lines u (lines-all (HasOneReply filter) (slice_split is_end input) one) here there in
+    let here = subst (λ l. AreReplies (IsReplyTo filter) 0 (all_lines filter.field l) answers.out no_lines t) (all_given input bytes left given end_left) answers.replies in
+    let there = subst (λ l. AreReplies (IsReplyTo filter) 0 (all_lines filter.field l) replies.out no_lines u) (all_given input others rest taken end_rest) replies.replies in
+    let same = replies-one filter 0 (all_lines filter.field input) answers.out replies.out no_lines t no_lines u (lines-all (HasOneReply filter) (split_input filter.field input) one) here there in
     took-one held answers.out replies.out w v answers.taken replies.taken same
 
-pub ended-one : (filter : Filter) (input held : List ℕ) (r s : Result Unit RunError) (left rest w v : Option (List ℕ)) → All (HasOneReply filter) (slice_split is_end input)
+pub ended-one : (filter : Filter) (input held : List ℕ) (r s : Result Unit RunError) (left rest w v : Option (List ℕ)) → All (HasOneReply filter) (split_input filter.field input)
     → IsComplete r → IsComplete s → IsRunResult filter r (Some input) left (Some held) w → IsRunResult filter s (Some input) rest (Some held) v → w ≡ v
 ended-one filter input held r s left rest w v one c d first second =
     inputs-one filter input held left rest w v one (complete filter r (Some input) left (Some held) w c first) (complete filter s (Some input) rest (Some held) v d second)

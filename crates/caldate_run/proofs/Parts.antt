@@ -10,7 +10,7 @@ use Rattle.std.proofs.lemmas.Option.{cond_some}
 use Rattle.std.proofs.lemmas.Bool.Decides.{nat_tests}
 use Rattle.caldate_run.specs.Lines.{is_end}
 use Rattle.caldate_run.specs.Requests.{arguments_of}
-use Rattle.caldate_run.specs.RunStates.{NoEnd}
+use Rattle.caldate_run.specs.RunStates.{HasNoFeed}
 
 -- the first part ends at the position
 split_at_some : (p : ℕ → Bool) (xs : List ℕ) (k : ℕ) → position p xs ≡ Some k
@@ -71,19 +71,29 @@ some_fields c xs k e =
     let cut = split_at_some p xs k e in
     (cut.0, cut.1, subst (λ n. xs ≡ take n xs ++ c ∷ drop (n + 1) xs) found.1 whole)
 
+-- no separator comes before it
+pub none_before : (c : ℕ) (xs : List ℕ) (k : ℕ) → position (λ b. eqb b c) xs ≡ Some k → All (λ b. eqb b c ≡ false) (take k xs)
+none_before c xs k e =
+    let p : ℕ → Bool = λ b. eqb b c in
+    let front : All (λ b. p b ≡ false) (take (position_or_len p xs) xs) = λ j d m. before p xs j d m in
+    subst (λ n. All (λ b. p b ≡ false) (take n xs)) (cond_some _ _ _ e).1 front
+
+pub no_separator : (c : ℕ) (xs : List ℕ) → position (λ b. eqb b c) xs ≡ None → All (λ b. eqb b c ≡ false) xs
+no_separator c xs e = all_fail (λ b. eqb b c) xs e
+
 pub no_fields : (c : ℕ) (xs : List ℕ) → position (λ b. eqb b c) xs ≡ None → slice_split (λ b. eqb b c) xs ≡ xs ∷ []
 no_fields c xs e = slice_split_none (λ b. eqb b c) xs (all_fail (λ b. eqb b c) xs e)
 
 -- a line that ends
 pub first_ends : (xs : List ℕ) (k : ℕ) → position (λ b. eqb b 10) xs ≡ Some k
-    → (k < length xs) × NoEnd (take k xs) × (xs ≡ take k xs ++ 10 ∷ drop (k + 1) xs)
+    → (k < length xs) × HasNoFeed (take k xs) × (xs ≡ take k xs ++ 10 ∷ drop (k + 1) xs)
 first_ends xs k e =
     let c = cond_some _ _ _ e in
     let within : position_or_len is_end xs < length xs = grind (arith, nat_tests) in
     let byte = eqb-true _ 10 (passes_at_first is_end xs 0 within) in
-    let front : NoEnd (take (position_or_len is_end xs) xs) = λ j d m. before is_end xs j d m in
+    let front : HasNoFeed (take (position_or_len is_end xs) xs) = λ j d m. before is_end xs j d m in
     let whole = split_at_first is_end xs 0 within ∙ ap (λ b. take (position_or_len is_end xs) xs ++ b ∷ drop (position_or_len is_end xs + 1) xs) byte in
-    (omega arith, subst (λ n. NoEnd (take n xs)) c.1 front, subst (λ n. xs ≡ take n xs ++ 10 ∷ drop (n + 1) xs) c.1 whole)
+    (omega arith, subst (λ n. HasNoFeed (take n xs)) c.1 front, subst (λ n. xs ≡ take n xs ++ 10 ∷ drop (n + 1) xs) c.1 whole)
 
-pub none_ends : (xs : List ℕ) → position (λ b. eqb b 10) xs ≡ None → NoEnd xs
+pub none_ends : (xs : List ℕ) → position (λ b. eqb b 10) xs ≡ None → HasNoFeed xs
 none_ends xs e = all_fail (λ b. eqb b 10) xs e

@@ -1,16 +1,15 @@
--- The separators of a record outside of its quotes.
-use Rattle.std.proofs.Common.{◌≡◌, ◌⊎◌, inl, inr, eq-eqb, ℕ, ◌+◌, ◌<◌, Bool, true, false, cond, eqb, List, [], ◌∷◌, ◌++◌, length, take, drop, get_or, refl, sym, ap, ◌∙◌, add-one, take-append-drop}
-use Rattle.std.specs.Prelude.{not, ◌&&◌}
+-- The parts of a record outside of its quotes.
+use Rattle.std.proofs.Common.{◌≡◌, ◌⊎◌, inl, inr, eq-eqb, ℕ, ◌+◌, ◌<◌, Bool, true, false, cond, eqb, List, [], ◌∷◌, ◌++◌, length, take, drop, get_or, refl, sym, ap, ◌∙◌, add-one, append_assoc, take-append-drop}
+use Rattle.std.specs.Prelude.{not, ◌&&◌, All}
 use Rattle.std.specs.List.{onto_first}
-use Rattle.std.proofs.Math.Seq.{drop-append_seam, drop-cons, take-append_seam}
-use Rattle.std.proofs.lemmas.Bool.{ne_eqb}
+use Rattle.std.proofs.Math.Seq.{drop-cons, take-length}
+use Rattle.std.proofs.lemmas.Bool.{false≢true, ne_eqb}
 use Rattle.std.proofs.lemmas.List.{append-nil, take_more}
-use Rattle.caldate_run.specs.Fields.{is_quote, split_record}
-
--- these bytes in front of the first part
-abbrev pub onto : List ℕ → List (List ℕ) → List (List ℕ)
-onto [] parts = parts
-onto (x ∷ xs) parts = onto_first x (onto xs parts)
+use Rattle.std.proofs.lemmas.List.Elements.{All-head, All-tail}
+use Rattle.caldate_run.specs.Fields.{is_open, is_quote, quoting_after, quoting_past, split_outside_quotes}
+use Rattle.caldate_run.specs.RunStates.{onto}
+use Rattle.caldate_run.specs.declared.run.quoting.Quoting.{Quoting}
+use Rattle.caldate_run.specs.declared.run.quoting.Quoting.TheVariants.{Ready, Open, Bare}
 
 pub onto_more : (xs : List ℕ) (x : ℕ) (parts : List (List ℕ)) → onto (xs ++ x ∷ []) parts ≡ onto xs (onto_first x parts)
 onto_more [] x parts = refl
@@ -20,61 +19,133 @@ pub onto_one : (xs part : List ℕ) (parts : List (List ℕ)) → onto xs (part 
 onto_one [] part parts = refl
 onto_one (x ∷ xs) part parts = ap (onto_first x) (onto_one xs part parts)
 
--- how far the first part goes at least
-abbrev pub Goes : ℕ → List ℕ → ℕ → Bool → Type 0
-Goes c text i quoted = split_record c false text ≡ onto (take i text) (split_record c quoted (drop i text))
+-- ---- one byte
+abbrev Splits : ℕ → ℕ → Quoting → ℕ → List ℕ → Bool → List (List ℕ)
+Splits e c q x xs ends = cond ends ([] ∷ split_outside_quotes e c Ready xs) (onto_first x (split_outside_quotes e c (quoting_after c q x) xs))
+
+pub goes : (e c : ℕ) (q : Quoting) (x : ℕ) (xs : List ℕ) → (eqb x e && not (is_open q)) ≡ false
+    → split_outside_quotes e c q (x ∷ xs) ≡ onto_first x (split_outside_quotes e c (quoting_after c q x) xs)
+goes e c q x xs h = ap (Splits e c q x xs) h
+
+pub stops : (e c : ℕ) (q : Quoting) (x : ℕ) (xs : List ℕ) → (eqb x e && not (is_open q)) ≡ true
+    → split_outside_quotes e c q (x ∷ xs) ≡ [] ∷ split_outside_quotes e c Ready xs
+stops e c q x xs h = ap (Splits e c q x xs) h
+
+calm : (e x : ℕ) (q : Quoting) → eqb x e ≡ false → (eqb x e && not (is_open q)) ≡ false
+calm e x q h = ap (λ t. t && not (is_open q)) h
+
+-- ---- how far the first part goes at least
+abbrev pub Goes : ℕ → ℕ → Quoting → List ℕ → ℕ → Quoting → Type 0
+Goes e c start text i q = (more : List ℕ) → split_outside_quotes e c start (take i text ++ more) ≡ onto (take i text) (split_outside_quotes e c q more)
 
 rest_is : (text : List ℕ) (i : ℕ) → i < length text → drop i text ≡ get_or text i 0 ∷ drop (i + 1) text
 rest_is text i h = drop-cons text i 0 h ∙ ap (λ k. get_or text i 0 ∷ drop k text) (sym (add-one i))
 
-pub goes_on : (c : ℕ) (text : List ℕ) (i : ℕ) (quoted next : Bool) → i < length text → (eqb (get_or text i 0) c && not quoted) ≡ false
-    → next ≡ cond (is_quote (get_or text i 0)) (not quoted) quoted → Goes c text i quoted → Goes c text (i + 1) next
-goes_on c text i quoted next h stays e goes =
+pub goes_on : (e c : ℕ) (start : Quoting) (text : List ℕ) (i : ℕ) (q : Quoting) → i < length text → (eqb (get_or text i 0) e && not (is_open q)) ≡ false
+    → Goes e c start text i q → Goes e c start text (i + 1) (quoting_after c q (get_or text i 0))
+goes_on e c start text i q h test before = λ more.
+    let b = get_or text i 0 in
+    let front = take_more text i 0 h in
+    ap (λ t. split_outside_quotes e c start (t ++ more)) front ∙ ap (split_outside_quotes e c start) (append_assoc (take i text) (b ∷ []) more)
+    ∙ before (b ∷ more) ∙ ap (onto (take i text)) (goes e c q b more test)
+    ∙ sym (onto_more (take i text) b (split_outside_quotes e c (quoting_after c q b) more))
+    ∙ ap (λ t. onto t (split_outside_quotes e c (quoting_after c q b) more)) (sym front)
+
+pub found : (e c : ℕ) (start : Quoting) (text : List ℕ) (i : ℕ) (q : Quoting) → i < length text → get_or text i 0 ≡ e → (eqb (get_or text i 0) e && not (is_open q)) ≡ true
+    → Goes e c start text i q
+    → (i < length text) × ((more : List ℕ) → split_outside_quotes e c start (text ++ more) ≡ take i text ∷ split_outside_quotes e c Ready (drop (i + 1) text ++ more))
+    × (text ≡ take i text ++ e ∷ drop (i + 1) text)
+found e c start text i q h is test before =
     let b = get_or text i 0 in
     let after = drop (i + 1) text in
-    goes ∙ ap (λ rest. onto (take i text) (split_record c quoted rest)) (rest_is text i h)
-    ∙ ap (λ t. onto (take i text) (cond t ([] ∷ split_record c false after) (onto_first b (split_record c (cond (is_quote b) (not quoted) quoted) after)))) stays
-    ∙ sym (onto_more (take i text) b (split_record c (cond (is_quote b) (not quoted) quoted) after))
-    ∙ ap (λ front. onto front (split_record c (cond (is_quote b) (not quoted) quoted) after)) (sym (take_more text i 0 h))
-    ∙ ap (λ q. onto (take (i + 1) text) (split_record c q after)) (sym e)
-
-pub stops : (c : ℕ) (text : List ℕ) (i : ℕ) (quoted : Bool) → i < length text → get_or text i 0 ≡ c → quoted ≡ false → (eqb (get_or text i 0) c && not quoted) ≡ true
-    → Goes c text i quoted → (i < length text) × (split_record c false text ≡ take i text ∷ split_record c false (drop (i + 1) text)) × (text ≡ take i text ++ c ∷ drop (i + 1) text)
-stops c text i quoted h e f test goes =
-    let b = get_or text i 0 in
-    let after = drop (i + 1) text in (
+    let whole : text ≡ take i text ++ b ∷ after = sym (take-append-drop i text) ∙ ap (λ l. take i text ++ l) (rest_is text i h) in (
       h,
-      goes ∙ ap (λ rest. onto (take i text) (split_record c quoted rest)) (rest_is text i h)
-          ∙ ap (λ t. onto (take i text) (cond t ([] ∷ split_record c false after) (onto_first b (split_record c (cond (is_quote b) (not quoted) quoted) after)))) test
-          ∙ onto_one (take i text) [] (split_record c false after) ∙ ap (λ l. l ∷ split_record c false after) (append-nil (take i text)),
-      sym (take-append-drop i text) ∙ ap (λ l. take i text ++ l) (rest_is text i h ∙ ap (λ x. x ∷ after) e),
+      λ more. ap (λ t. split_outside_quotes e c start (t ++ more)) whole ∙ ap (split_outside_quotes e c start) (append_assoc (take i text) (b ∷ after) more)
+          ∙ before (b ∷ (after ++ more)) ∙ ap (onto (take i text)) (stops e c q b (after ++ more) test)
+          ∙ onto_one (take i text) [] (split_outside_quotes e c Ready (after ++ more)) ∙ ap (λ l. l ∷ split_outside_quotes e c Ready (after ++ more)) (append-nil (take i text)),
+      whole ∙ ap (λ x. take i text ++ x ∷ after) is,
     )
 
-pub ends : (c : ℕ) (text : List ℕ) (quoted : Bool) → Goes c text (length text) quoted → split_record c false text ≡ text ∷ []
-ends c text quoted goes =
-    let rest : drop (length text) text ≡ [] = ap (drop (length text)) (sym (append-nil text)) ∙ drop-append_seam text [] in
-    let all : take (length text) text ≡ text = ap (take (length text)) (sym (append-nil text)) ∙ take-append_seam text [] in
-    goes ∙ ap (λ r. onto (take (length text) text) (split_record c quoted r)) rest ∙ ap (λ t. onto t ([] ∷ [])) all
+pub ends : (e c : ℕ) (start : Quoting) (text : List ℕ) (q : Quoting) → Goes e c start text (length text) q → split_outside_quotes e c start text ≡ text ∷ []
+ends e c start text q before =
+    let all = take-length text in
+    ap (split_outside_quotes e c start) (sym (append-nil text) ∙ ap (λ t. t ++ []) (sym all)) ∙ before [] ∙ ap (λ t. onto t ([] ∷ [])) all
     ∙ onto_one text [] [] ∙ ap (λ l. l ∷ []) (append-nil text)
 
--- ---- the tests of the loop
-separates : (b c : ℕ) (quoted : Bool) → b ≡ c → quoted ≡ false → (eqb b c && not quoted) ≡ true
-separates b c quoted e f = ap (λ t. t && not quoted) (eq-eqb b c e) ∙ ap not f
+-- ---- the test of the loop
+pub not_end : (e x : ℕ) (q : Quoting) → ((x ≡ e) × (is_open q ≡ true)) ⊎ (x ≡ e → ⊥) → (eqb x e && not (is_open q)) ≡ false
+not_end e x q (inl h) = ap (λ t. t && not (is_open q)) (eq-eqb x e h.0) ∙ ap not h.1
+not_end e x q (inr h) = calm e x q (ne_eqb x e h)
 
-stays : (b c : ℕ) (quoted : Bool) → ((b ≡ c) × (quoted ≡ true)) ⊎ (b ≡ c → ⊥) → (eqb b c && not quoted) ≡ false
-stays b c quoted (inl h) = ap (λ t. t && not quoted) (eq-eqb b c h.0) ∙ ap not h.1
-stays b c quoted (inr h) = ap (λ t. t && not quoted) (ne_eqb b c h)
+-- ---- bytes of a field
+pub closed : (e x : ℕ) (q : Quoting) → eqb x e ≡ true → is_open q ≡ false → (eqb x e && not (is_open q)) ≡ true
+closed e x q is shut = ap (λ t. t && not (is_open q)) is ∙ ap not shut
 
-pub found : (c : ℕ) (text : List ℕ) (i : ℕ) (quoted : Bool) → i < length text → get_or text i 0 ≡ c → quoted ≡ false → Goes c text i quoted
-    → (i < length text) × (split_record c false text ≡ take i text ∷ split_record c false (drop (i + 1) text)) × (text ≡ take i text ++ c ∷ drop (i + 1) text)
-found c text i quoted h e f goes = stops c text i quoted h e f (separates (get_or text i 0) c quoted e f) goes
+-- the bytes end no part, and end outside of quotes
+pub record Passes (e c : ℕ) (start : Quoting) (xs : List ℕ) : Type 0 where
+  pub state : Quoting
+  pub closed : is_open state ≡ false
+  pub parts : (more : List ℕ) → split_outside_quotes e c start (xs ++ more) ≡ onto xs (split_outside_quotes e c state more)
 
-pub at_quote : (c : ℕ) (text : List ℕ) (i : ℕ) (quoted next : Bool) → i < length text → ((get_or text i 0 ≡ c) × (quoted ≡ true)) ⊎ (get_or text i 0 ≡ c → ⊥)
-    → get_or text i 0 ≡ 34 → next ≡ not quoted → Goes c text i quoted → Goes c text (i + 1) next
-at_quote c text i quoted next h e is f goes =
-    goes_on c text i quoted next h (stays (get_or text i 0) c quoted e) (f ∙ ap (λ t. cond t (not quoted) quoted) (sym (eq-eqb (get_or text i 0) 34 is))) goes
+pub ends_after : (e c : ℕ) (start : Quoting) (xs more : List ℕ) → Passes e c start xs → split_outside_quotes e c start (xs ++ e ∷ more) ≡ xs ∷ split_outside_quotes e c Ready more
+ends_after e c start xs more h =
+    h.parts (e ∷ more) ∙ ap (onto xs) (stops e c h.state e more (closed e e h.state (eq-eqb e e refl) h.closed))
+    ∙ onto_one xs [] (split_outside_quotes e c Ready more) ∙ ap (λ l. l ∷ split_outside_quotes e c Ready more) (append-nil xs)
 
-pub at_other : (c : ℕ) (text : List ℕ) (i : ℕ) (quoted next : Bool) → i < length text → ((get_or text i 0 ≡ c) × (quoted ≡ true)) ⊎ (get_or text i 0 ≡ c → ⊥)
-    → (get_or text i 0 ≡ 34 → ⊥) → next ≡ quoted → Goes c text i quoted → Goes c text (i + 1) next
-at_other c text i quoted next h e is f goes =
-    goes_on c text i quoted next h (stays (get_or text i 0) c quoted e) (f ∙ ap (λ t. cond t (not quoted) quoted) (sym (ne_eqb (get_or text i 0) 34 is))) goes
+pub ends_last : (e c : ℕ) (start : Quoting) (xs : List ℕ) → Passes e c start xs → split_outside_quotes e c start xs ≡ xs ∷ []
+ends_last e c start xs h =
+    ap (split_outside_quotes e c start) (sym (append-nil xs)) ∙ h.parts [] ∙ onto_one xs [] [] ∙ ap (λ l. l ∷ []) (append-nil xs)
+
+-- in the rest of a field, a quote is an ordinary byte
+in_bare : (e c : ℕ) (xs more : List ℕ) → All (λ x. eqb x e ≡ false) xs → All (λ x. eqb x c ≡ false) xs
+    → split_outside_quotes e c Bare (xs ++ more) ≡ onto xs (split_outside_quotes e c Bare more)
+in_bare e c [] more h k = refl
+in_bare e c (x ∷ xs) more h k =
+    goes e c Bare x (xs ++ more) (calm e x Bare (All-head (λ x. eqb x e ≡ false) x xs h))
+    ∙ ap (λ b. onto_first x (split_outside_quotes e c (cond b Ready Bare) (xs ++ more))) (All-head (λ x. eqb x c ≡ false) x xs k)
+    ∙ ap (onto_first x) (in_bare e c xs more (All-tail (λ x. eqb x e ≡ false) x xs h) (All-tail (λ x. eqb x c ≡ false) x xs k))
+
+pub bare_passes : (e c : ℕ) (xs : List ℕ) → is_quote (get_or xs 0 0) ≡ false → All (λ x. eqb x e ≡ false) xs → All (λ x. eqb x c ≡ false) xs → Passes e c Ready xs
+bare_passes e c [] first h k = record { state = Ready; closed = refl; parts = λ more. refl }
+bare_passes e c (x ∷ xs) first h k = record {
+  state = Bare;
+  closed = refl;
+  parts = λ more. goes e c Ready x (xs ++ more) (calm e x Ready (All-head (λ x. eqb x e ≡ false) x xs h))
+      ∙ ap (λ b. onto_first x (split_outside_quotes e c (cond b Open (cond (eqb x c) Ready Bare)) (xs ++ more))) first
+      ∙ ap (λ b. onto_first x (split_outside_quotes e c (cond b Ready Bare) (xs ++ more))) (All-head (λ x. eqb x c ≡ false) x xs k)
+      ∙ ap (onto_first x) (in_bare e c xs more (All-tail (λ x. eqb x e ≡ false) x xs h) (All-tail (λ x. eqb x c ≡ false) x xs k));
+}
+
+-- ---- bytes of which none ends a part
+pub passes_all : (e c : ℕ) (q : Quoting) (xs more : List ℕ) → All (λ x. eqb x e ≡ false) xs
+    → split_outside_quotes e c q (xs ++ more) ≡ onto xs (split_outside_quotes e c (quoting_past c q xs) more)
+passes_all e c q [] more h = refl
+passes_all e c q (x ∷ xs) more h =
+    goes e c q x (xs ++ more) (calm e x q (All-head (λ x. eqb x e ≡ false) x xs h))
+    ∙ ap (onto_first x) (passes_all e c (quoting_after c q x) xs more (All-tail (λ x. eqb x e ≡ false) x xs h))
+
+stays_closed : (c x : ℕ) (q : Quoting) → is_quote x ≡ false → is_open q ≡ false → is_open (quoting_after c q x) ≡ false
+stays_closed c x Ready h k = ap (λ b. is_open (cond b Open (cond (eqb x c) Ready Bare))) h ∙ either (eqb x c)
+  where
+    either : (b : Bool) → is_open (cond b Ready Bare) ≡ false
+    either true = refl
+    either false = refl
+stays_closed c x Bare h k = either (eqb x c)
+  where
+    either : (b : Bool) → is_open (cond b Ready Bare) ≡ false
+    either true = refl
+    either false = refl
+stays_closed c x Open h k = absurd (false≢true (sym k))
+
+closed_past : (c : ℕ) (q : Quoting) (xs : List ℕ) → All (λ x. is_quote x ≡ false) xs → is_open q ≡ false → is_open (quoting_past c q xs) ≡ false
+closed_past c q [] h k = k
+closed_past c q (x ∷ xs) h k =
+    closed_past c (quoting_after c q x) xs (All-tail (λ x. is_quote x ≡ false) x xs h) (stays_closed c x q (All-head (λ x. is_quote x ≡ false) x xs h) k)
+
+-- a line without a quote
+pub unquoted_passes : (c : ℕ) (q : Quoting) (xs : List ℕ) → is_open q ≡ false → All (λ x. eqb x 10 ≡ false) xs → All (λ x. is_quote x ≡ false) xs → Passes 10 c q xs
+unquoted_passes c q xs k h none = record { state = quoting_past c q xs; closed = closed_past c q xs none k; parts = λ more. passes_all 10 c q xs more h }
+
+pub no_end_passes : (c : ℕ) (q : Quoting) (xs : List ℕ) → All (λ x. eqb x 10 ≡ false) xs → split_outside_quotes 10 c q xs ≡ xs ∷ []
+no_end_passes c q xs h =
+    ap (split_outside_quotes 10 c q) (sym (append-nil xs)) ∙ passes_all 10 c q xs [] h ∙ onto_one xs [] [] ∙ ap (λ l. l ∷ []) (append-nil xs)

@@ -1,70 +1,114 @@
 -- A record is split into its fields.
-use Rattle.std.proofs.Common.{◌≡◌, ℕ, ◌<◌, Bool, true, false, cond, eqb, eq-eqb, List, [], ◌∷◌, ◌++◌, length, refl, sym, ap, ◌∙◌, subst, arith, append_assoc}
-use Rattle.std.specs.Prelude.{not, ◌&&◌, All}
-use Rattle.std.specs.List.{join_with_byte, onto_first}
-use Rattle.std.proofs.lemmas.List.{append-nil}
+use Rattle.std.proofs.Common.{◌≡◌, ℕ, ◌<◌, Bool, true, false, cond, eqb, eq-eqb, List, get_or, Some, [], ◌∷◌, ◌++◌, length, refl, sym, ap, ◌∙◌, subst, arith, append_assoc}
+use Rattle.std.specs.Prelude.{not, ◌&&◌, All, map}
+use Rattle.std.specs.List.{join_with_byte, onto_first, slice_split}
 use Rattle.std.proofs.lemmas.List.Elements.{All-cons, All-head, All-nil, All-tail}
-use Rattle.caldate_run.specs.Fields.{as_field, in_place_of, in_quotes, is_quote, is_quoted, is_special, needs_quotes, split_record}
+use Rattle.caldate_run.specs.Fields.{as_field, in_place_of, in_quotes, is_quote, is_open, is_quoted, is_special, needs_quotes, quoting_after, split_outside_quotes, split_record}
 use Rattle.caldate_run.specs.Fields.{doubled as doubled_quotes}
 use Rattle.caldate_run.specs.declared.request.Field.{Field}
-use Rattle.caldate_run.specs.Records.{IsEscaped, IsField}
+use Rattle.caldate_run.specs.Records.{IsEscaped, IsField, IsRecord, IsRecordField, records_text}
+use Rattle.caldate_run.specs.RunStates.{onto}
+use Rattle.caldate_run.specs.declared.run.quoting.Quoting.TheVariants.{Ready, Open, Bare}
+use Rattle.caldate_run.specs.declared.run.quoting.Quoting.{Quoting}
+use Rattle.caldate_run.specs.Lines.{all_lines, is_end, without_empty_last}
+use Rattle.std.proofs.lemmas.Bool.{false≢true, ne_eqb}
+use Rattle.caldate_run.proofs.Cuts.{record_some}
+use Rattle.caldate_run.proofs.Splits.{onto_onto}
+use Rattle.caldate_run.proofs.Steps.{part_counts}
 use Rattle.caldate_run.specs.Records.IsEscaped.{none, byte, doubled}
 use Rattle.caldate_run.specs.Records.IsField.{bare, escaped}
 use Rattle.caldate_run.proofs.NewFields.{not_special, or_false}
-use Rattle.caldate_run.proofs.Quotes.{onto, onto_more, onto_one}
-
-abbrev Splits : ℕ → Bool → ℕ → List ℕ → Bool → Bool → List (List ℕ)
-Splits c quoted x xs separates quotes = cond separates ([] ∷ split_record c false xs) (onto_first x (split_record c (cond quotes (not quoted) quoted) xs))
-
--- a byte that ends no field
-one : (c : ℕ) (quoted quotes : Bool) (x : ℕ) (xs : List ℕ) → (eqb x c && not quoted) ≡ false → is_quote x ≡ quotes
-    → split_record c quoted (x ∷ xs) ≡ onto_first x (split_record c (cond quotes (not quoted) quoted) xs)
-one c quoted quotes x xs e f = ap (λ s. Splits c quoted x xs s (is_quote x)) e ∙ ap (λ q. Splits c quoted x xs false q) f
-
-stays : (b quoted : Bool) → b ≡ false → (b && not quoted) ≡ false
-stays b quoted e = ap (λ t. t && not quoted) e
+use Rattle.caldate_run.proofs.Quotes.{Passes, bare_passes, ends_after, ends_last, goes, onto_more}
 
 within : (b : Bool) → (b && not true) ≡ false
 within true = refl
 within false = refl
 
-in_bare : (c : ℕ) (xs tail : List ℕ) → All (λ x. is_quote x ≡ false) xs → All (λ x. eqb x c ≡ false) xs
-    → split_record c false (xs ++ tail) ≡ onto xs (split_record c false tail)
-in_bare c [] tail h k = refl
-in_bare c (x ∷ xs) tail h k =
-    one c false false x (xs ++ tail) (stays (eqb x c) false (All-head (λ x. eqb x c ≡ false) x xs k)) (All-head (λ x. is_quote x ≡ false) x xs h)
-    ∙ ap (onto_first x) (in_bare c xs tail (All-tail (λ x. is_quote x ≡ false) x xs h) (All-tail (λ x. eqb x c ≡ false) x xs k))
+-- a byte within quotes
+one : (e c x : ℕ) (quotes : Bool) (xs : List ℕ) → is_quote x ≡ quotes
+    → split_outside_quotes e c Open (x ∷ xs) ≡ onto_first x (split_outside_quotes e c (cond quotes Ready Open) xs)
+one e c x quotes xs is = goes e c Open x xs (within (eqb x e)) ∙ ap (λ b. onto_first x (split_outside_quotes e c (cond b Ready Open) xs)) is
 
-in_escaped : (c : ℕ) (xs tail : List ℕ) → (eqb 34 c) ≡ false → IsEscaped xs → split_record c true (xs ++ tail) ≡ onto xs (split_record c true tail)
-in_escaped c _ tail d none = refl
-in_escaped c _ tail d (byte x xs h more) = one c true false x (xs ++ tail) (within (eqb x c)) h ∙ ap (onto_first x) (in_escaped c xs tail d more)
-in_escaped c _ tail d (doubled xs more) =
-    one c true true 34 (34 ∷ (xs ++ tail)) (within (eqb 34 c)) refl
-    ∙ ap (onto_first 34) (one c false true 34 (xs ++ tail) (stays (eqb 34 c) false d) refl ∙ ap (onto_first 34) (in_escaped c xs tail d more))
+-- a quote that opens quotes
+opens : (e c : ℕ) (xs : List ℕ) → eqb 34 e ≡ false → split_outside_quotes e c Ready (34 ∷ xs) ≡ onto_first 34 (split_outside_quotes e c Open xs)
+opens e c xs d = goes e c Ready 34 xs (ap (λ t. t && not false) d)
 
-in_field : (c : ℕ) (xs tail : List ℕ) → (eqb 34 c) ≡ false → IsField c xs → split_record c false (xs ++ tail) ≡ onto xs (split_record c false tail)
-in_field c _ tail d (bare xs h k) = in_bare c xs tail h k
-in_field c _ tail d (escaped xs h) =
-    one c false true 34 ((xs ++ 34 ∷ []) ++ tail) (stays (eqb 34 c) false d) refl
-    ∙ ap (λ l. onto_first 34 (split_record c true l)) (append_assoc xs (34 ∷ []) tail)
-    ∙ ap (onto_first 34) (in_escaped c xs (34 ∷ tail) d h
-    ∙ ap (onto xs) (one c true true 34 tail (within (eqb 34 c)) refl) ∙ sym (onto_more xs 34 (split_record c false tail)))
+in_escaped : (e c : ℕ) (xs more : List ℕ) → eqb 34 e ≡ false → IsEscaped xs → split_outside_quotes e c Open (xs ++ more) ≡ onto xs (split_outside_quotes e c Open more)
+in_escaped e c _ more d none = refl
+in_escaped e c _ more d (byte x xs h rest) = one e c x false (xs ++ more) h ∙ ap (onto_first x) (in_escaped e c xs more d rest)
+in_escaped e c _ more d (doubled xs rest) =
+    one e c 34 true (34 ∷ (xs ++ more)) refl ∙ ap (onto_first 34) (opens e c (xs ++ more) d ∙ ap (onto_first 34) (in_escaped e c xs more d rest))
 
-at_separator : (c : ℕ) (tail : List ℕ) → split_record c false (c ∷ tail) ≡ [] ∷ split_record c false tail
-at_separator c tail = ap (λ s. Splits c false c tail s (is_quote c)) (ap (λ t. t && not false) (eq-eqb c c refl))
+no_quote : (xs : List ℕ) → All (λ x. is_quote x ≡ false) xs → is_quote (get_or xs 0 0) ≡ false
+no_quote [] h = refl
+no_quote (x ∷ xs) h = All-head (λ x. is_quote x ≡ false) x xs h
+
+passes : (e c : ℕ) (xs : List ℕ) → eqb 34 e ≡ false → IsField c xs → (is_quote (get_or xs 0 0) ≡ false → All (λ x. eqb x e ≡ false) xs) → Passes e c Ready xs
+passes e c _ d (bare xs h k) n = bare_passes e c xs (no_quote xs h) (n (no_quote xs h)) k
+passes e c _ d (escaped xs h) n = record {
+  state = Ready;
+  closed = refl;
+  parts = λ more. opens e c ((xs ++ 34 ∷ []) ++ more) d ∙ ap (λ l. onto_first 34 (split_outside_quotes e c Open l)) (append_assoc xs (34 ∷ []) more)
+      ∙ ap (onto_first 34) (in_escaped e c xs (34 ∷ more) d h ∙ ap (onto xs) (one e c 34 true more refl) ∙ sym (onto_more xs 34 (split_outside_quotes e c Ready more)));
+}
+
+unseparated : (c : ℕ) (xs : List ℕ) → IsField c xs → is_quote (get_or xs 0 0) ≡ false → All (λ x. eqb x c ≡ false) xs
+unseparated c _ (bare xs h k) e = k
+unseparated c _ (escaped xs h) e = absurd (false≢true (sym e))
+
+field_passes : (c : ℕ) (xs : List ℕ) → eqb 34 c ≡ false → IsField c xs → Passes c c Ready xs
+field_passes c xs d h = passes c c xs d h (unseparated c xs h)
 
 pub fields_are : (c : ℕ) (fields : List (List ℕ)) → (eqb 34 c) ≡ false → 0 < length fields → All (IsField c) fields
-    → split_record c false (join_with_byte c fields) ≡ fields
+    → split_record c (join_with_byte c fields) ≡ fields
 fields_are c [] d some all = absurd (omega (arith, some))
-fields_are c (field ∷ []) d some all =
-    ap (split_record c false) (sym (append-nil field)) ∙ in_field c field [] d (All-head (IsField c) field [] all)
-    ∙ onto_one field [] [] ∙ ap (λ f. f ∷ []) (append-nil field)
+fields_are c (field ∷ []) d some all = ends_last c c Ready field (field_passes c field d (All-head (IsField c) field [] all))
 fields_are c (field ∷ next ∷ fields) d some all =
-    let more = join_with_byte c (next ∷ fields) in
-    in_field c field (c ∷ more) d (All-head (IsField c) field (next ∷ fields) all)
-    ∙ ap (onto field) (at_separator c more) ∙ onto_one field [] (split_record c false more)
-    ∙ ap (λ f. f ∷ split_record c false more) (append-nil field)
+    ends_after c c Ready field (join_with_byte c (next ∷ fields)) (field_passes c field d (All-head (IsField c) field (next ∷ fields) all))
     ∙ ap (λ fs. field ∷ fs) (fields_are c (next ∷ fields) d (omega arith) (All-tail (IsField c) field (next ∷ fields) all))
+
+-- ---- the records of an input
+at_separator : (c : ℕ) (q : Quoting) → eqb 34 c ≡ false → is_open q ≡ false → quoting_after c q c ≡ Ready
+at_separator c Ready d k = ap (λ b. cond b Open (cond (eqb c c) Ready Bare)) (ne_eqb c 34 (λ e. false≢true (sym d ∙ eq-eqb 34 c (sym e)))) ∙ ap (λ b. cond b Ready Bare) (eq-eqb c c refl)
+at_separator c Bare d k = ap (λ b. cond b Ready Bare) (eq-eqb c c refl)
+at_separator c Open d k = absurd (false≢true (sym k))
+
+then_passes : (e c : ℕ) (xs ys : List ℕ) → eqb 34 c ≡ false → eqb c e ≡ false → Passes e c Ready xs → Passes e c Ready ys → Passes e c Ready (xs ++ c ∷ ys)
+then_passes e c xs ys d s h k = record {
+  state = k.state;
+  closed = k.closed;
+  parts = λ more. ap (split_outside_quotes e c Ready) (append_assoc xs (c ∷ ys) more) ∙ h.parts (c ∷ (ys ++ more))
+      ∙ ap (onto xs) (goes e c h.state c (ys ++ more) (ap (λ t. t && not (is_open h.state)) s)
+      ∙ ap (λ q. onto_first c (split_outside_quotes e c q (ys ++ more))) (at_separator c h.state d h.closed) ∙ ap (onto_first c) (k.parts more))
+      ∙ onto_onto xs (c ∷ ys) (split_outside_quotes e c k.state more);
+}
+
+record_passes : (c : ℕ) (fields : List (List ℕ)) → eqb 34 c ≡ false → eqb c 10 ≡ false → 0 < length fields → All (IsRecordField c) fields
+    → Passes 10 c Ready (join_with_byte c fields)
+record_passes c [] d s some all = absurd (omega (arith, some))
+record_passes c (field ∷ []) d s some all = let h = All-head (IsRecordField c) field [] all in passes 10 c field refl h.0 h.1
+record_passes c (field ∷ next ∷ fields) d s some all =
+    let h = All-head (IsRecordField c) field (next ∷ fields) all in
+    then_passes 10 c field (join_with_byte c (next ∷ fields)) d s (passes 10 c field refl h.0 h.1)
+    (record_passes c (next ∷ fields) d s (omega arith) (All-tail (IsRecordField c) field (next ∷ fields) all))
+
+parts_are : (c : ℕ) (records : List (List (List ℕ))) → eqb 34 c ≡ false → eqb c 10 ≡ false → All (IsRecord c) records
+    → without_empty_last (split_outside_quotes 10 c Ready (records_text c records)) ≡ map (join_with_byte c) records
+parts_are c [] d s all = refl
+parts_are c (fields ∷ records) d s all =
+    let h = All-head (IsRecord c) fields records all in
+    let rest = split_outside_quotes 10 c Ready (records_text c records) in
+    ap without_empty_last (ends_after 10 c Ready (join_with_byte c fields) (records_text c records) (record_passes c fields d s h.0 h.1))
+    ∙ part_counts (join_with_byte c fields) rest (record_some 10 c Ready (records_text c records))
+    ∙ ap (λ lines. join_with_byte c fields ∷ lines) (parts_are c records d s (All-tail (IsRecord c) fields records all))
+
+pub records_are : (field : Field) (records : List (List (List ℕ))) → field.csv ≡ true → eqb 34 field.separator ≡ false → eqb 10 field.separator ≡ false
+    → All (IsRecord field.separator) records → all_lines (Some field) (records_text field.separator records) ≡ map (join_with_byte field.separator) records
+records_are field records csv d s all =
+    let c = field.separator in
+    let text = records_text c records in
+    ap (λ b. without_empty_last (cond b (split_outside_quotes 10 c Ready text) (slice_split is_end text))) csv
+    ∙ parts_are c records d (ne_eqb c 10 (λ e. false≢true (sym s ∙ eq-eqb 10 c (sym e)))) all
 
 -- ---- words that become a field
 escaped_one : (b : Bool) (x : ℕ) (xs : List ℕ) → is_quote x ≡ b → IsEscaped xs → IsEscaped (cond b (34 ∷ 34 ∷ xs) (x ∷ xs))

@@ -2,17 +2,17 @@
 use Rattle.std.proofs.Common.{◌≡◌, ℕ, ◌+◌, ◌-◌, ◌<◌, ◌≤◌, Bool, true, false, cond, eqb, List, [], ◌∷◌, ◌++◌, length, take, get_or, Option, Some, None, Result, Ok, Err, refl, sym, ap, ◌∙◌, subst, arith, length-append, length-take, append_assoc}
 use Rattle.std.specs.Prelude.{IsSomeAnd, OnOk, MatchBool, MatchOption, is_some, nat_lt, unwrap_or}
 use Rattle.std.proofs.Math.Seq.{take-append-add, take-append_seam}
-use Rattle.std.proofs.lemmas.Bool.{false≢true, le-ltb}
+use Rattle.std.proofs.lemmas.Bool.{false≢true, le-ltb, lt-ltb}
 use Rattle.std.proofs.lemmas.List.{append-nil, get_or-append-add}
 use Rattle.cal_text.specs.declared.any.DateOrMoment.{DateOrMoment}
 use Rattle.cal_schedule.specs.Workdays.{WorkWeek}
 use Rattle.caldate_run.specs.Answers.{Answer, IsAnswer, IsAnswerTo, keeps}
 use Rattle.caldate_run.proofs.Others.{by_itself, no_other}
 use Rattle.caldate_run.proofs.Steps.{passed_none, shown_front}
-use Rattle.caldate_run.specs.Fields.{selected_text, text_with, text_without}
+use Rattle.caldate_run.specs.Fields.{selected_text, several, text_with, text_without}
 use Rattle.caldate_run.specs.Lines.{has_return, text_of}
-use Rattle.caldate_run.specs.Replies.{IsCounted, Describes, RepliesWith, IsAnswerIn, IsAnswerOf, IsAnswerToLine, IsAnswerToText, IsReplyTo, in_place, in_text, more, skipped, stops, with_end, with_reason}
-use Rattle.caldate_run.specs.Runs.{AppendsSome, AppendsAnswer, AppendsReply}
+use Rattle.caldate_run.specs.Replies.{IsCounted, Describes, RepliesWith, IsAnswerIn, IsAnswerOf, IsAnswerToEach, IsAnswerToLine, IsAnswerToText, IsInPlace, IsLeftByEach, IsReplyTo, in_place, in_text, more, skipped, stops, with_end, with_reason}
+use Rattle.caldate_run.specs.Runs.{AppendsOut, AppendsSome, AppendsAnswer, AppendsReply}
 use Rattle.caldate_run.specs.Scans.{IsScanned}
 use Rattle.caldate_run.specs.RunStates.{AtLine, IsDroppedFront, HasExcerpt, passed}
 use Rattle.caldate_run.specs.Targets.{IsAnswerAt}
@@ -23,6 +23,7 @@ use Rattle.caldate_run.specs.declared.on_invalid.OnInvalid.{OnInvalid}
 use Rattle.caldate_run.specs.declared.on_invalid.OnInvalid.TheVariants as invalid
 use Rattle.caldate_run.specs.declared.run.progress.Progress.{Progress}
 use Rattle.caldate_run.specs.declared.request.Field.{Field}
+use Rattle.caldate_run.specs.declared.request.FieldNumbers.{FieldNumbers}
 use Rattle.caldate_run.specs.declared.request.Filter.{Filter}
 use Rattle.caldate_run.specs.declared.request.Request.{Request}
 use Rattle.caldate_run.specs.declared.request.Request.TheVariants.{To, Print, Add, Move, Floor, Until, Since, At, Keep}
@@ -41,11 +42,7 @@ same_return kept line some =
 
 same_cut : (b : Bool) (kept line : List ℕ) → IsDroppedFront b kept line → has_return (kept ++ line) ≡ has_return line
 same_cut false kept line h = ap (λ k. has_return (k ++ line)) h
-same_cut true kept line h = same_return kept line (omega (arith, ap length h.2.2))
-
-text_long : (b : Bool) (line : List ℕ) (n : ℕ) → n + 1 < length line → n < length (cond b (take (length line - 1) line) line)
-text_long true line n h = omega (arith, h, length-take (length line - 1) line)
-text_long false line n h = omega (arith, h)
+same_cut true kept line h = same_return kept line (omega (arith, h.1))
 
 -- ---- the answer to the text of a line
 of_short : (filter : Filter) (before : ℕ) (text : List ℕ) (answer : Answer) → length text ≤ 4096
@@ -61,20 +58,21 @@ of_line filter before text answer fits skip h =
     of_short filter before text answer fits whole
 
 pub of_text : (filter : Filter) (before : ℕ) (text : List ℕ) (answer : Answer) → length text ≤ 4096 → filter.skip ≤ before → filter.scans ≡ false
-    → IsAnswerToText filter text answer → IsAnswerOf filter before text answer
+    → IsAnswerToEach filter (several filter.field filter.more) text answer → IsAnswerOf filter before text answer
 of_text filter before text answer fits skip whole h =
-    of_line filter before text answer fits skip (subst (λ b. MatchBool b (IsScanned filter text answer) (IsAnswerToText filter text answer)) (sym whole) h)
+    of_line filter before text answer fits skip
+    (subst (λ b. MatchBool b (IsScanned filter text answer) (IsAnswerToEach filter (several filter.field filter.more) text answer)) (sym whole) h)
 
 pub of_scan : (filter : Filter) (before : ℕ) (text : List ℕ) (answer : Answer) → length text ≤ 4096 → filter.skip ≤ before → filter.scans ≡ true
     → IsScanned filter text answer → IsAnswerOf filter before text answer
 of_scan filter before text answer fits skip scans h =
-    of_line filter before text answer fits skip (subst (λ b. MatchBool b (IsScanned filter text answer) (IsAnswerToText filter text answer)) (sym scans) h)
+    of_line filter before text answer fits skip (subst (λ b. MatchBool b (IsScanned filter text answer) (IsAnswerToEach filter (several filter.field filter.more) text answer)) (sym scans) h)
 
-pub in_field : (filter : Filter) (field : Option Field) (text asked : List ℕ) (own : Answer) → filter.field ≡ field → selected_text field text ≡ Some asked
-    → IsAnswerAt filter text asked own → IsAnswerToText filter text (in_text filter text own)
-in_field filter field text asked own is e h =
-    subst (λ o. MatchOption o (in_text filter text own ≡ Err why.NoField) (IsAnswerIn filter text (in_text filter text own)))
-    (sym (ap (λ f. selected_text f text) is ∙ e)) (own, h, refl)
+pub in_field : (filter : Filter) (field : Option Field) (text asked : List ℕ) (own : Answer) → selected_text field text ≡ Some asked
+    → IsAnswerAt filter text asked own → IsAnswerToText filter field text (in_text filter field text own)
+in_field filter field text asked own e h =
+    subst (λ o. MatchOption o (in_text filter field text own ≡ Err why.NoField) (IsAnswerIn filter field text (in_text filter field text own)))
+    (sym e) (own, h, refl)
 
 -- `keep` answers with the text itself
 kept_words : (workdays : WorkWeek) (q : Request) (text : List ℕ) (found : DateOrMoment) (words : List ℕ) → IsAnswerTo workdays q text found words → keeps q ≡ true → words ≡ text
@@ -97,22 +95,35 @@ pub kept_or : (filter : Filter) (asked words text other all : List ℕ) → IsAn
     → cond (keeps filter.request) text other ≡ all
 kept_or filter asked words text other all h kept e = one_of (keeps filter.request) text other all (λ e. kept (kept_words filter.workdays filter.request asked h.0 words h.2 e)) e
 
-pub in_part : (filter : Filter) (field : Field) (text asked words all : List ℕ) → filter.field ≡ Some field → selected_text (Some field) text ≡ Some asked
-    → IsAnswerAt filter text asked (Ok (Some words)) → cond (keeps filter.request) text (text_with (Some field) text words) ≡ all → IsAnswerToText filter text (Ok (Some all))
-in_part filter field text asked words all is e h out =
-    subst (IsAnswerToText filter text) (ap (λ t. Ok (Some t)) (ap (λ f. cond (keeps filter.request) text (text_with f text words)) is ∙ out))
-    (in_field filter (Some field) text asked (Ok (Some words)) is e h)
+pub in_part : (filter : Filter) (field : Field) (text asked words all : List ℕ) → selected_text (Some field) text ≡ Some asked
+    → IsAnswerAt filter text asked (Ok (Some words)) → cond (keeps filter.request) text (text_with (Some field) text words) ≡ all → IsAnswerToText filter (Some field) text (Ok (Some all))
+in_part filter field text asked words all e h out =
+    subst (IsAnswerToText filter (Some field) text) (ap (λ t. Ok (Some t)) out) (in_field filter (Some field) text asked (Ok (Some words)) e h)
 
-same_text : (filter : Filter) (text : List ℕ) (answer : Answer) → filter.field ≡ None → IsAnswer filter text answer → in_text filter text answer ≡ answer
-same_text filter text (Ok (Some words)) e h =
-    ap (λ t. Ok (Some t)) (kept_or filter text words text (text_with filter.field text words) words h sym (ap (λ f. text_with f text words) e))
-same_text filter text (Ok None) e h = refl
-same_text filter text (Err any) e h = refl
+same_text : (filter : Filter) (text : List ℕ) (answer : Answer) → IsAnswer filter text answer → in_text filter None text answer ≡ answer
+same_text filter text (Ok (Some words)) h = ap (λ t. Ok (Some t)) (kept_or filter text words text words words h sym refl)
+same_text filter text (Ok None) h = refl
+same_text filter text (Err any) h = refl
 
-pub in_whole : (filter : Filter) (text : List ℕ) (answer : Answer) → filter.field ≡ None → IsAnswer filter text answer → IsAnswerToText filter text answer
+in_whole : (filter : Filter) (text : List ℕ) (answer : Answer) → filter.field ≡ None → IsAnswer filter text answer → IsAnswerToText filter None text answer
 in_whole filter text answer none h =
-    subst (IsAnswerToText filter text) (same_text filter text answer none h)
-    (in_field filter None text text answer none refl (by_itself filter text text answer (no_other filter none) h))
+    subst (IsAnswerToText filter None text) (same_text filter text answer h)
+    (in_field filter None text text answer refl (by_itself filter text text answer (no_other filter none) h))
+
+-- one field, or none
+single : (filter : Filter) (field : Option Field) (text : List ℕ) (answer : Answer) → filter.field ≡ field → several filter.field filter.more ≡ []
+    → IsAnswerToText filter field text answer → IsAnswerToEach filter (several filter.field filter.more) text answer
+single filter field text answer is none h =
+    subst (λ fields. IsAnswerToEach filter fields text answer) (sym none) (subst (λ f. IsAnswerToText filter f text answer) (sym is) h)
+
+no_more : (field : Option Field) (others : List FieldNumbers) → length others ≡ 0 → several field others ≡ []
+no_more None others e = refl
+no_more (Some field) [] e = refl
+no_more (Some field) (next ∷ others) e = absurd (omega (arith, e))
+
+pub of_whole : (filter : Filter) (text : List ℕ) (answer : Answer) → filter.field ≡ None → IsAnswer filter text answer
+    → IsAnswerToEach filter (several filter.field filter.more) text answer
+of_whole filter text answer none h = single filter None text answer none (ap (λ f. several f filter.more) none) (in_whole filter text answer none h)
 
 pub puts_other : (P Q : Answer → Type 0) (r : Result Bool NoAnswer) (old new : List ℕ) → ((answer : Answer) → P answer → Q answer) → AppendsAnswer P r old new → AppendsAnswer Q r old new
 puts_other P Q (Ok true) old new f h = (h.0, h.1, f (Ok (Some h.0)) h.2)
@@ -190,17 +201,16 @@ text_at true kept line some =
     ap (λ k. take k (kept ++ line)) at ∙ take-append-add kept line (length line - 1)
 text_at false kept line some = refl
 
-text_after : (b : Bool) (kept line : List ℕ) → IsDroppedFront b kept line → text_of (kept ++ line) ≡ kept ++ text_of line
-text_after false kept line h = ap (λ k. text_of (k ++ line)) h ∙ ap (λ k. k ++ text_of line) (sym h)
-text_after true kept line h =
+text_after : (kept line : List ℕ) → IsDroppedFront true kept line → text_of (kept ++ line) ≡ kept ++ text_of line
+text_after kept line h =
     ap (λ c. cond c (take (length (kept ++ line) - 1) (kept ++ line)) (kept ++ line)) (same_cut true kept line h)
-    ∙ text_at (has_return line) kept line (omega (arith, ap length h.2.2))
+    ∙ text_at (has_return line) kept line (omega (arith, h.1))
 
-same_reason : (b : Bool) (filter : Filter) (kept line text : List ℕ) (any : NoAnswer) → IsDroppedFront b kept line → text ≡ text_of line → (b ≡ true → any ≡ why.TooLong)
-    → with_reason filter text any ≡ with_reason filter (text_of (kept ++ line)) any
-same_reason false filter kept line text any h e long = ap (λ t. with_reason filter t any) (e ∙ ap (λ k. text_of (k ++ line)) (sym h))
-same_reason true filter kept line text any h e long =
-    ap (with_reason filter text) (long refl) ∙ ap (with_reason filter (text_of (kept ++ line))) (sym (long refl))
+too_long : (kept line : List ℕ) → IsDroppedFront true kept line → nat_lt 4096 (length (text_of (kept ++ line))) ≡ true
+too_long kept line h = lt-ltb 4096 (length (text_of (kept ++ line))) (omega (arith, h.0, ap length (text_after kept line h), length-append kept (text_of line)))
+
+same_reason : (field : Option Field) (text whole : List ℕ) (any : NoAnswer) → any ≡ why.TooLong → with_reason field text any ≡ with_reason field whole any
+same_reason field text whole any long = ap (with_reason field text) long ∙ ap (with_reason field whole) (sym long)
 
 -- what goes out in place of an answer, after the front that was passed on
 without_after : (field : Option Field) (kept text : List ℕ) → text_without field (kept ++ text) ≡ kept ++ text_without field text
@@ -211,33 +221,63 @@ without_after (Some field) kept text = without_end field.appends kept text (fiel
     without_end true kept text more = append_assoc kept text more
     without_end false kept text more = refl
 
-same_place : (mode : OnInvalid) (b : Bool) (filter : Filter) (kept line text : List ℕ) (any : NoAnswer) → IsDroppedFront b kept line → text ≡ text_of line
-    → (b ≡ true → any ≡ why.TooLong) → passed mode kept ++ unwrap_or (in_place mode filter text any) [] ≡ unwrap_or (in_place mode filter (text_of (kept ++ line)) any) []
-same_place invalid.Keep b filter kept line text any h e long =
-    sym (without_after filter.field kept text) ∙ ap (text_without filter.field) (ap (λ t. kept ++ t) e ∙ sym (text_after b kept line h))
-same_place invalid.Answer b filter kept line text any h e long = same_reason b filter kept line text any h e long
-same_place invalid.Drop b filter kept line text any h e long = refl
-same_place invalid.Stop b filter kept line text any h e long = refl
+same_place : (mode : OnInvalid) (field : Option Field) (kept line text : List ℕ) (any : NoAnswer) → IsDroppedFront true kept line → text ≡ text_of line
+    → any ≡ why.TooLong → passed mode kept ++ unwrap_or (in_place mode field text any) [] ≡ unwrap_or (in_place mode field (text_of (kept ++ line)) any) []
+same_place invalid.Keep field kept line text any h e long =
+    sym (without_after field kept text) ∙ ap (text_without field) (ap (λ t. kept ++ t) e ∙ sym (text_after kept line h))
+same_place invalid.Answer field kept line text any h e long = same_reason field text (text_of (kept ++ line)) any long
+same_place invalid.Drop field kept line text any h e long = refl
+same_place invalid.Stop field kept line text any h e long = refl
 
-same_goes : (mode : OnInvalid) (filter : Filter) (x y : List ℕ) (any : NoAnswer) → is_some (in_place mode filter x any) ≡ is_some (in_place mode filter y any)
-same_goes invalid.Keep filter x y any = refl
-same_goes invalid.Answer filter x y any = refl
-same_goes invalid.Drop filter x y any = refl
-same_goes invalid.Stop filter x y any = refl
+same_goes : (mode : OnInvalid) (field : Option Field) (x y : List ℕ) (any : NoAnswer) → is_some (in_place mode field x any) ≡ is_some (in_place mode field y any)
+same_goes invalid.Keep field x y any = refl
+same_goes invalid.Answer field x y any = refl
+same_goes invalid.Drop field x y any = refl
+same_goes invalid.Stop field x y any = refl
+
+-- what goes out in place of an answer, after the front that was passed on
+abbrev pub Instead : Filter → List ℕ → List ℕ → List ℕ → List ℕ → List ℕ → NoAnswer → Bool → Type 0
+Instead filter kept whole text old mid any goes =
+    (out : Option (List ℕ)) × (words : List ℕ) × (mid ≡ old ++ words) × (passed filter.on_invalid kept ++ words ≡ unwrap_or out []) × (goes ≡ is_some out) × IsInPlace filter whole any out
+
+put_instead : (filter : Filter) (b : Bool) (kept line text old mid : List ℕ) (any : NoAnswer) (goes : Bool) → IsDroppedFront b kept line → text ≡ text_of line
+    → (b ≡ true → any ≡ why.TooLong) → (b ≡ false → AppendsOut (IsInPlace filter text any) goes old mid)
+    → (b ≡ true → AppendsOut (λ out. out ≡ in_place filter.on_invalid filter.field text any) goes old mid)
+    → Instead filter kept (text_of (kept ++ line)) text old mid any goes
+put_instead filter false kept line text old mid any goes h e why whole long =
+    let put = whole refl in (
+      put.0,
+      unwrap_or put.0 [],
+      put.1,
+      ap (λ p. p ++ unwrap_or put.0 []) (front_none filter.on_invalid kept h),
+      put.2,
+      subst (λ t. IsInPlace filter t any put.0) (e ∙ ap (λ k. text_of (k ++ line)) (sym h)) put.3,
+    )
+put_instead filter true kept line text old mid any goes h e why whole long =
+    let mode = filter.on_invalid in
+    let put = long refl in
+    let all = text_of (kept ++ line) in
+    let place = in_place mode filter.field all any in (
+      place,
+      unwrap_or (in_place mode filter.field text any) [],
+      put.1 ∙ ap (λ o. old ++ unwrap_or o []) put.3,
+      same_place mode filter.field kept line text any h e (why refl),
+      put.2 ∙ ap is_some put.3 ∙ same_goes mode filter.field text all any,
+      subst (λ c. MatchBool c (place ≡ place) (IsLeftByEach filter (several filter.field filter.more) all any place)) (sym (too_long kept line h)) refl,
+    )
 
 pub unanswered : (filter : Filter) (before : ℕ) (b : Bool) (kept line text old mid new : List ℕ) (any : NoAnswer) (goes cut : Bool) (t u : Tally) (reported : UnansweredLine)
     → IsDroppedFront b kept line → text ≡ text_of line → (b ≡ true → any ≡ why.TooLong) → stops filter.on_invalid ≡ false
-    → IsAnswerOf filter before (text_of (kept ++ line)) (Err any) → mid ≡ old ++ unwrap_or (in_place filter.on_invalid filter text any) []
-    → goes ≡ is_some (in_place filter.on_invalid filter text any) → cut ≡ has_return line → new ≡ mid ++ cond goes (cond cut (13 ∷ 10 ∷ []) (10 ∷ [])) []
+    → IsAnswerOf filter before (text_of (kept ++ line)) (Err any) → (b ≡ false → AppendsOut (IsInPlace filter text any) goes old mid)
+    → (b ≡ true → AppendsOut (λ out. out ≡ in_place filter.on_invalid filter.field text any) goes old mid)
+    → cut ≡ has_return line → new ≡ mid ++ cond goes (cond cut (13 ∷ 10 ∷ []) (10 ∷ [])) []
     → Describes before (kept ++ line) any reported → u.lines ≡ more t.lines → u.unanswered ≡ more t.unanswered → MatchOption t.first (u.first ≡ Some reported) (λ f. u.first ≡ Some f)
     → AppendsSome (λ words. IsReplyTo filter before (kept ++ line) (passed filter.on_invalid kept ++ words) t u) old new
-unanswered filter before b kept line text old mid new any goes cut t u reported h e long on is put out has f describes lines count first =
-    let mode = filter.on_invalid in
-    let place = in_place mode filter (text_of (kept ++ line)) any in
-    replies_with filter before (kept ++ line) (passed mode kept) old new (Err any) place t u
-    (ended b kept line (passed mode kept) old mid new (unwrap_or (in_place mode filter text any) []) place goes cut h put
-    (same_place mode b filter kept line text any h e long) (out ∙ same_goes mode filter text (text_of (kept ++ line)) any) has f)
-    is (on, refl) (lines, count, first_counts before (kept ++ line) any t.first u.first reported describes first)
+unanswered filter before b kept line text old mid new any goes cut t u reported h e long on is whole_out long_out has f describes lines count first =
+    let put = put_instead filter b kept line text old mid any goes h e long whole_out long_out in
+    replies_with filter before (kept ++ line) (passed filter.on_invalid kept) old new (Err any) put.0 t u
+    (ended b kept line (passed filter.on_invalid kept) old mid new put.1 put.0 goes cut h put.2 put.3 put.4 has f)
+    is (on, (put.0, put.5, refl)) (lines, count, first_counts before (kept ++ line) any t.first u.first reported describes first)
 
 -- ---- the shown text of a line
 shown_cut : (kept line : List ℕ) → 80 ≤ length kept → 0 < length line → excerpt_of (take (length (kept ++ line) - 1) (kept ++ line)) ≡ excerpt_of kept
@@ -254,4 +294,4 @@ pub text_shown : (b : Bool) (front : Excerpt) (kept line text : List ℕ) (repor
     → (b ≡ false → excerpt_bytes reported ≡ excerpt_of text) → (b ≡ true → reported ≡ front) → excerpt_bytes reported ≡ excerpt_of (text_of (kept ++ line))
 text_shown false front kept line text reported held is e whole long = whole refl ∙ ap excerpt_of (e ∙ ap (λ k. text_of (k ++ line)) (sym held))
 text_shown true front kept line text reported held is e whole long =
-    ap excerpt_bytes (long refl) ∙ is ∙ sym (shown_long (has_return (kept ++ line)) kept line (omega (arith, held.0)) (omega (arith, ap length held.2.2)))
+    ap excerpt_bytes (long refl) ∙ is ∙ sym (shown_long (has_return (kept ++ line)) kept line (omega (arith, held.0)) (omega (arith, held.1)))

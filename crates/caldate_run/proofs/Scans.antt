@@ -1,11 +1,11 @@
 -- The texts in a line: which is the first, and the answer to the line.
-use Rattle.std.proofs.Common.{◌≡◌, inl, inr, ℕ, ◌+◌, ◌-◌, ◌<◌, ◌≤◌, Bool, true, false, List, ◌++◌, append_assoc, length, length-drop, length-take, take, drop, Some, Result, Ok, Err, sym, ap, subst, ◌∙◌, arith}
-use Rattle.std.specs.Prelude.{if◌then◌else◌}
+use Rattle.std.proofs.Common.{◌≡◌, inl, inr, ℕ, ◌+◌, ◌-◌, ◌<◌, ◌≤◌, Bool, true, false, List, ◌++◌, append_assoc, length, length-drop, length-take, take, drop, Option, Some, None, Result, Ok, Err, sym, ap, subst, ◌∙◌, arith}
+use Rattle.std.specs.Prelude.{IfOk, IfErr, MatchOption, slice_index, if◌then◌else◌}
 use Rattle.std.proofs.lemmas.Bool.{cases_lt, false≢true, le-ltb, lt-ltb}
 use Rattle.std.proofs.lemmas.List.{take_rest}
 use Rattle.cal_text.specs.declared.any.DateOrMoment.{DateOrMoment}
 use Rattle.caldate_run.specs.Answers.{IsNotRead, IsReadAs}
-use Rattle.caldate_run.specs.Scans.{IsFirstText, IsText, IsTextAt, NoneFrom, byte_before, fitted, has_form, is_of_word, part_at, with_words}
+use Rattle.caldate_run.specs.Scans.{IsFirstText, IsReadWith, IsText, IsTextAt, NoneFrom, byte_before, fitted, has_form, is_of_word, part_at, with_words}
 use Rattle.caldate_run.specs.declared.request.Filter.{Filter}
 use Rattle.caldate_run.specs.declared.run.no_answer.NoAnswer.{NoAnswer}
 use Rattle.caldate_run.specs.declared.run.no_answer.NoAnswer.TheVariants as why
@@ -25,6 +25,21 @@ pub no_text : (filter : Filter) (bytes : List ℕ) (any : NoAnswer) → ((found 
     → ((other : NoAnswer) → IsNotRead filter bytes other → result any ≡ Err other) → has_form any ≡ false → IsText filter bytes → ⊥
 no_text filter bytes any every unread e (some, inl h) = not_ok any h.0 (every h.0 h.1)
 no_text filter bytes any every unread e (some, inr (other, h, has)) = false≢true (sym e ∙ ap has_form (same_error any other (unread other h)) ∙ has)
+
+pub read_so : (filter : Filter) (bytes : List ℕ) (r : Result DateOrMoment NoAnswer) → IfOk r (IsReadAs filter bytes) → IfErr r (IsNotRead filter bytes) → IsReadWith filter bytes r
+read_so filter bytes (Ok found) is not = is
+read_so filter bytes (Err any) is not = not
+
+-- whether bytes of the line are a text, by what their reading gives
+pub read_there : (filter : Filter) (line : List ℕ) (k n : ℕ) (bytes : List ℕ) (r : Option (Result DateOrMoment NoAnswer)) → k + n ≤ length line
+    → is_of_word (byte_before line k) ≡ false → is_of_word (slice_index line (k + n)) ≡ false → bytes ≡ part_at line k n
+    → MatchOption r (¬ IsText filter bytes) (λ read. IsText filter bytes × IsReadWith filter bytes read)
+    → MatchOption r (¬ IsTextAt filter line k n) (λ read. IsTextAt filter line k n × IsReadWith filter (part_at line k n) read)
+read_there filter line k n bytes None within before after e none = λ h. none (subst (IsText filter) (sym e) h.is)
+read_there filter line k n bytes (Some read) within before after e some = (
+  record { within = within; is = subst (IsText filter) e some.0; before = before; after = after },
+  subst (λ b. IsReadWith filter b read) e some.1,
+)
 
 -- ---- the longest text at a place
 pub some_bytes : (filter : Filter) (line : List ℕ) (k n : ℕ) → IsTextAt filter line k n → 0 < n

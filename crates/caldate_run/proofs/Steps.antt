@@ -1,27 +1,29 @@
 -- How far a run is after each of its steps.
-use Rattle.std.proofs.Common.{◌≡◌, ℕ, inl, inr, ◌+◌, ◌-◌, ◌<◌, ◌≤◌, Bool, true, false, List, [], ◌∷◌, ◌++◌, length, take, drop, Option, Err, refl, sym, ap, ◌∙◌, subst, arith, append_assoc, length-append, length-take, length-drop, take-append-drop}
-use Rattle.std.specs.List.{onto_first, slice_split}
+use Rattle.std.proofs.Common.{◌≡◌, ℕ, inl, inr, ◌+◌, ◌-◌, ◌<◌, ◌≤◌, Bool, true, false, cond, List, [], ◌∷◌, ◌++◌, length, take, drop, Option, Err, refl, sym, ap, ◌∙◌, subst, arith, append_assoc, length-append, length-take, length-drop, take-append-drop}
 use Rattle.std.specs.Io.KnownBytes.{Appends}
 use Rattle.std.proofs.KnownBytes.{Appends-trans, Appends-nil}
 use Rattle.std.proofs.Math.Nat.{min-eq_left}
 use Rattle.std.specs.Prelude.{map}
-use Rattle.std.proofs.lemmas.List.{append-nil, take-append-le}
-use Rattle.std.proofs.lemmas.List.Elements.{All-append, All-head, All-tail, All-take, All-drop}
-use Rattle.std.proofs.lemmas.List.Splits.{slice_split_at, slice_split_none, slice_split-cons_no, length-slice_split}
+use Rattle.std.proofs.lemmas.List.{append-nil, take-append-le, take_all}
 use Rattle.std.proofs.lemmas.Bool.{false≢true}
-use Rattle.caldate_run.specs.Lines.{ended_lines, is_end, last_part, lines_of, text_of, unended, without_empty_last, without_last}
+use Rattle.caldate_run.specs.Lines.{all_lines, ended_lines, last_part, split_from, split_input, text_of, unended, without_empty_last, without_last}
 use Rattle.caldate_run.specs.Replies.{Describes, EndsAt, IsAnswerOf, IsReplyTo, stops}
 use Rattle.caldate_run.specs.Runs.{AnswersAll, AnswersEnded, AnswersFront, AppendsFront, IsPassedOn, AppendsReply, StopsAt}
-use Rattle.caldate_run.specs.RunStates.{AreReplies, AtLine, IsDroppedFront, HasExcerpt, NoEnd, Replies, RunState, counted, no_lines, passed}
+use Rattle.caldate_run.specs.RunStates.{AreReplies, AtLine, FirstEnds, IsDroppedFront, HasExcerpt, NoEnd, Replies, RunState, counted, no_lines, onto, passed, quoting_in, quoting_of}
 use Rattle.caldate_run.specs.Excerpts.{printable, excerpt_of, excerpt_bytes}
 use Rattle.caldate_run.specs.declared.run.no_answer.NoAnswer.{NoAnswer}
 use Rattle.caldate_run.specs.declared.on_invalid.OnInvalid.{OnInvalid}
 use Rattle.caldate_run.specs.declared.on_invalid.OnInvalid.TheVariants as invalid
 use Rattle.caldate_run.specs.declared.run.progress.Progress.{Progress}
+use Rattle.caldate_run.specs.declared.request.Field.{Field}
 use Rattle.caldate_run.specs.declared.request.Filter.{Filter}
+use Rattle.caldate_run.specs.declared.run.quoting.Quoting.{Quoting}
+use Rattle.caldate_run.specs.declared.run.quoting.Quoting.TheVariants.{Ready}
 use Rattle.caldate_run.specs.declared.run.excerpt.Excerpt.{Excerpt}
 use Rattle.caldate_run.specs.declared.run.tally.Tally.{Tally}
 use Rattle.caldate_run.specs.declared.run.unanswered.UnansweredLine.{UnansweredLine}
+use Rattle.caldate_run.proofs.Quotes.{onto_one}
+use Rattle.caldate_run.proofs.Splits.{line_some, of_none, onto_onto, onto_parts, parts_some, passes_front}
 
 -- ---- replies
 pub one_reply : (IsReply : Replies) (before n : ℕ) (lines : List (List ℕ)) (line out reply : List ℕ) (t u v : Tally) → n ≡ before + length lines
@@ -44,32 +46,10 @@ one_reply IsReply before n (l ∷ lines) line out reply t u v e h r = (
 )
 
 -- ---- the line that was held
-kept_no_end : (b : Bool) (kept pending : List ℕ) → IsDroppedFront b kept pending → NoEnd kept
-kept_no_end false kept pending h = subst NoEnd (sym h) (λ k d l. absurd (omega arith))
-kept_no_end true kept pending h = h.1
-
--- the first pending byte is the first byte of the line
-first_of : (first : ℕ) (more line after : List ℕ) → first ∷ more ≡ line ++ 10 ∷ after → is_end first ≡ false
-    → (rest : List ℕ) × (line ≡ first ∷ rest)
-first_of first more [] after e n = absurd (false≢true (sym n ∙ ap (λ l. is_end (head_or l)) e))
-  where
-    head_or : List ℕ → ℕ
-    head_or [] = 0
-    head_or (x ∷ xs) = x
-first_of first more (x ∷ xs) after e n = (xs, ap (λ f. f ∷ xs) (sym (ap head_or e)))
-  where
-    head_or : List ℕ → ℕ
-    head_or [] = 0
-    head_or (y ∷ ys) = y
-
-pub held_line : (b : Bool) (kept pending line after : List ℕ) → IsDroppedFront b kept pending → pending ≡ line ++ 10 ∷ after → IsDroppedFront b kept line
-held_line false kept pending line after h e = h
-held_line true kept pending line after h e =
-    let found = first_of h.2.0 h.2.1 line after (sym h.2.2 ∙ e) h.2.3 in
-    (h.0, h.1, (h.2.0, found.0, found.1, h.2.3))
-
-no_end_append : (xs ys : List ℕ) → NoEnd xs → NoEnd ys → NoEnd (xs ++ ys)
-no_end_append xs ys h e = All-append (λ byte. is_end byte ≡ false) xs ys h e
+pub held_line : (field : Option Field) (b : Bool) (q : Quoting) (kept pending line after : List ℕ) → IsDroppedFront b kept pending
+    → (b ≡ true → NoEnd field q (take 1 pending)) → FirstEnds field (cond b q Ready) pending line after → IsDroppedFront b kept line
+held_line field false q kept pending line after h goes first = h
+held_line field true q kept pending line after h goes first = (h.0, line_some field q pending line after h.1 (goes refl) first)
 
 -- ---- the front that was passed on
 pub passed_none : (mode : OnInvalid) → passed mode [] ≡ []
@@ -104,44 +84,39 @@ passes invalid.Drop b kept pending rest h = refl
 passes invalid.Stop b kept pending rest h = refl
 
 -- ---- one line
-cut_line : (kept line after more pending : List ℕ) → NoEnd kept → NoEnd line → pending ≡ line ++ 10 ∷ after
-    → slice_split is_end (kept ++ (pending ++ more)) ≡ (kept ++ line) ∷ slice_split is_end (after ++ more)
-cut_line kept line after more pending h n e =
-    ap (λ p. slice_split is_end (kept ++ (p ++ more))) e
-    ∙ ap (slice_split is_end) (ap (λ l. kept ++ l) (append_assoc line (10 ∷ after) more) ∙ sym (append_assoc kept line (10 ∷ (after ++ more))))
-    ∙ slice_split_at is_end (kept ++ line) 10 (after ++ more) (no_end_append kept line h n) refl
-
 counted_more : (n m : ℕ) → m ≡ counted n → counted (m + 1) ≡ counted (n + 1)
 counted_more n m e = omega (arith, e)
 
-pub answered : (IsReply : Replies) (mode : OnInvalid) (input : List ℕ) (start now : Option (List ℕ)) (buffered buffered_now pending line after : List ℕ) (progress progress_now : Progress)
-    → NoEnd line → pending ≡ line ++ 10 ∷ after
+pub answered : (IsReply : Replies) (mode : OnInvalid) (field : Option Field) (input : List ℕ) (start now : Option (List ℕ)) (buffered buffered_now pending line after : List ℕ) (progress progress_now : Progress)
+    → FirstEnds field (quoting_of progress) pending line after
     → AppendsReply IsReply mode progress progress_now.tally line buffered buffered_now
     → progress_now.is_long ≡ false → progress_now.tally.lines ≡ counted (progress.tally.lines + 1)
-    → RunState IsReply mode input start now buffered pending progress → RunState IsReply mode input start now buffered_now after progress_now
-answered IsReply mode input start now buffered buffered_now pending line after progress progress_now n e reply short number s =
-    let r = reply s.kept (length s.lines) (held_line progress.is_long s.kept pending line after s.held e) s.front s.number in
+    → RunState IsReply mode field input start now buffered pending progress → RunState IsReply mode field input start now buffered_now after progress_now
+answered IsReply mode field input start now buffered buffered_now pending line after progress progress_now first reply short number s =
+    let r = reply s.kept (length s.lines) (held_line field progress.is_long progress.quoting s.kept pending line after s.held s.goes_on first) s.front s.number in
     record {
       lines = s.lines ++ (s.kept ++ line) ∷ [];
       kept = [];
       out = s.out ++ (passed mode s.kept ++ r.0);
       written = s.written;
-      cut = λ more. s.cut more ∙ ap (λ parts. s.lines ++ parts) (cut_line s.kept line after more pending (kept_no_end progress.is_long s.kept pending s.held) n e)
-          ∙ sym (append_assoc s.lines ((s.kept ++ line) ∷ []) (slice_split is_end (after ++ more)));
+      cut = λ more. s.cut more ∙ ap (λ parts. s.lines ++ onto s.kept parts) (first more) ∙ ap (λ parts. s.lines ++ parts) (onto_one s.kept line (split_input field (after ++ more)))
+          ∙ sym (append_assoc s.lines ((s.kept ++ line) ∷ []) (split_input field (after ++ more)))
+          ∙ ap (λ b. (s.lines ++ (s.kept ++ line) ∷ []) ++ split_from field (cond b progress_now.quoting Ready) (after ++ more)) (sym short);
       replies = one_reply IsReply 0 _ s.lines (s.kept ++ line) s.out (passed mode s.kept ++ r.0) _ _ _ (omega arith) s.replies r.2;
       whole = ap (λ p. s.out ++ (passed mode s.kept ++ r.0) ++ p) (passed_none mode) ∙ append-nil (s.out ++ (passed mode s.kept ++ r.0))
           ∙ sym (append_assoc s.out (passed mode s.kept) r.0) ∙ ap (λ o. o ++ r.0) s.whole ∙ append_assoc s.written buffered r.0 ∙ ap (λ l. s.written ++ l) (sym r.1);
       taken = s.taken;
       held = subst (λ b. IsDroppedFront b [] after) (sym short) refl;
+      goes_on = λ long. absurd (false≢true (sym short ∙ long));
       front = subst (λ b. HasExcerpt b progress_now.front []) (sym short) tt;
       number = number ∙ counted_more (length s.lines) progress.tally.lines s.number ∙ ap counted (sym (length-append s.lines ((s.kept ++ line) ∷ [])));
     }
 
 -- ---- the buffer is written, all of it or a front of it
-pub gone : (IsReply : Replies) (mode : OnInvalid) (input : List ℕ) (start now new : Option (List ℕ)) (buffered left written pending : List ℕ) (progress : Progress)
+pub gone : (IsReply : Replies) (mode : OnInvalid) (field : Option Field) (input : List ℕ) (start now new : Option (List ℕ)) (buffered left written pending : List ℕ) (progress : Progress)
     → buffered ≡ written ++ left → Appends now new written
-    → RunState IsReply mode input start now buffered pending progress → RunState IsReply mode input start new left pending progress
-gone IsReply mode input start now new buffered left written pending progress e a s = record {
+    → RunState IsReply mode field input start now buffered pending progress → RunState IsReply mode field input start new left pending progress
+gone IsReply mode field input start now new buffered left written pending progress e a s = record {
   lines = s.lines;
   kept = s.kept;
   out = s.out;
@@ -151,6 +126,7 @@ gone IsReply mode input start now new buffered left written pending progress e a
   whole = s.whole ∙ ap (λ l. s.written ++ l) e ∙ sym (append_assoc s.written written left);
   taken = Appends-trans start now new _ _ s.taken a;
   held = s.held;
+  goes_on = s.goes_on;
   front = s.front;
   number = s.number;
 }
@@ -171,21 +147,14 @@ lines_begin : (lines : List (List ℕ)) (parts : List (List ℕ)) → 0 < length
 lines_begin [] parts h = refl
 lines_begin (l ∷ lines) parts h = part_counts l (lines ++ parts) (some_parts lines parts h) ∙ ap (λ ls. l ∷ ls) (lines_begin lines parts h)
 
-pub split_some : (xs : List ℕ) → 0 < length (slice_split is_end xs)
-split_some xs = omega (arith, length-slice_split is_end xs)
-
 -- those that are answered, and those that are pending
-lines_are : (input kept pending : List ℕ) (lines : List (List ℕ))
-    → ((more : List ℕ) → slice_split is_end (input ++ more) ≡ lines ++ slice_split is_end (kept ++ (pending ++ more)))
-    → slice_split is_end input ≡ lines ++ slice_split is_end (kept ++ pending)
-lines_are input kept pending lines cut =
-    ap (slice_split is_end) (sym (append-nil input)) ∙ cut [] ∙ ap (λ p. lines ++ slice_split is_end (kept ++ p)) (append-nil pending)
+abbrev Cut : Option Field → List ℕ → List (List ℕ) → List ℕ → Quoting → List ℕ → Type 0
+Cut field input lines kept q pending = (more : List ℕ) → split_input field (input ++ more) ≡ lines ++ onto kept (split_from field q (pending ++ more))
 
-lines_of_are : (input kept pending : List ℕ) (lines : List (List ℕ))
-    → ((more : List ℕ) → slice_split is_end (input ++ more) ≡ lines ++ slice_split is_end (kept ++ (pending ++ more)))
-    → lines_of input ≡ lines ++ lines_of (kept ++ pending)
-lines_of_are input kept pending lines cut =
-    ap without_empty_last (lines_are input kept pending lines cut) ∙ lines_begin lines (slice_split is_end (kept ++ pending)) (split_some (kept ++ pending))
+lines_are : (field : Option Field) (input kept pending : List ℕ) (lines : List (List ℕ)) (q : Quoting) → Cut field input lines kept q pending
+    → split_input field input ≡ lines ++ onto kept (split_from field q pending)
+lines_are field input kept pending lines q cut =
+    ap (split_input field) (sym (append-nil input)) ∙ cut [] ∙ ap (λ p. lines ++ onto kept (split_from field q p)) (append-nil pending)
 
 -- those that have ended
 part_ended : (part : List ℕ) (parts : List (List ℕ)) → 0 < length parts → without_last (part ∷ parts) ≡ part ∷ without_last parts
@@ -195,12 +164,6 @@ part_ended part (p ∷ parts) h = refl
 ended_begin : (lines : List (List ℕ)) (parts : List (List ℕ)) → 0 < length parts → without_last (lines ++ parts) ≡ lines ++ without_last parts
 ended_begin [] parts h = refl
 ended_begin (l ∷ lines) parts h = part_ended l (lines ++ parts) (some_parts lines parts h) ∙ ap (λ ls. l ∷ ls) (ended_begin lines parts h)
-
-ended_are : (input kept pending : List ℕ) (lines : List (List ℕ))
-    → ((more : List ℕ) → slice_split is_end (input ++ more) ≡ lines ++ slice_split is_end (kept ++ (pending ++ more)))
-    → ended_lines input ≡ lines ++ ended_lines (kept ++ pending)
-ended_are input kept pending lines cut =
-    ap without_last (lines_are input kept pending lines cut) ∙ ended_begin lines (slice_split is_end (kept ++ pending)) (split_some (kept ++ pending))
 
 parts_are : (parts : List (List ℕ)) → 0 < length parts → without_last parts ++ last_part parts ∷ [] ≡ parts
 parts_are [] h = absurd (omega (arith, h))
@@ -213,29 +176,13 @@ last_is (line ∷ []) part = refl
 last_is (line ∷ next ∷ lines) part = last_is (next ∷ lines) part
 
 -- the lines that have ended, and the bytes after them
-rest_is : (input kept pending : List ℕ) (lines : List (List ℕ))
-    → ((more : List ℕ) → slice_split is_end (input ++ more) ≡ lines ++ slice_split is_end (kept ++ (pending ++ more)))
-    → ended_lines input ++ unended input ∷ [] ≡ lines ++ slice_split is_end (kept ++ pending)
-rest_is input kept pending lines cut = parts_are (slice_split is_end input) (split_some input) ∙ lines_are input kept pending lines cut
+rest_is : (field : Option Field) (input kept pending : List ℕ) (lines : List (List ℕ)) (q : Quoting) → Cut field input lines kept q pending
+    → ended_lines field input ++ unended field input ∷ [] ≡ lines ++ onto kept (split_from field q pending)
+rest_is field input kept pending lines q cut = parts_are (split_input field input) (parts_some field Ready input) ∙ lines_are field input kept pending lines q cut
 
-some_list : (xs : List (List ℕ)) → 0 < length xs → (first : List ℕ) × (rest : List (List ℕ)) × (xs ≡ first ∷ rest)
-some_list [] h = absurd (omega (arith, h))
-some_list (x ∷ xs) h = (x, xs, refl)
-
--- the first part begins with bytes that have no end
-begins : (kept pending : List ℕ) → NoEnd kept → (rest : List ℕ) × (more : List (List ℕ)) × (slice_split is_end (kept ++ pending) ≡ (kept ++ rest) ∷ more)
-begins [] pending n = some_list (slice_split is_end pending) (split_some pending)
-begins (x ∷ xs) pending n =
-    let tail = begins xs pending (All-tail (λ byte. is_end byte ≡ false) x xs n) in (
-      tail.0,
-      tail.1,
-      slice_split-cons_no is_end x (xs ++ pending) (All-head (λ byte. is_end byte ≡ false) x xs n) ∙ ap (onto_first x) tail.2,
-    )
-
--- a line that has a byte and no end
-pub one_line : (line : List ℕ) → NoEnd line → 0 < length line → lines_of line ≡ line ∷ []
-one_line [] n h = absurd (omega arith)
-one_line (b ∷ bs) n h = ap without_empty_last (slice_split_none is_end (b ∷ bs) n)
+some_line : (line : List ℕ) → 0 < length line → without_empty_last (line ∷ []) ≡ line ∷ []
+some_line [] h = absurd (omega (arith, h))
+some_line (b ∷ bs) h = refl
 
 -- ---- a write that failed
 pub front_more : (start now new : Option (List ℕ)) (written buffered out : List ℕ) → out ≡ written ++ buffered → Appends start now written
@@ -250,9 +197,9 @@ front_more start now new written buffered out e a f = record {
 
 pub failed : (filter : Filter) (input : List ℕ) (start now new : Option (List ℕ)) (buffered pending : List ℕ) (progress : Progress)
     → AppendsFront now new buffered
-    → RunState (IsReplyTo filter) filter.on_invalid input start now buffered pending progress → AnswersFront filter (ended_lines input) (unended input) start new
+    → RunState (IsReplyTo filter) filter.on_invalid filter.field input start now buffered pending progress → AnswersFront filter (ended_lines filter.field input) (unended filter.field input) start new
 failed filter input start now new buffered pending progress f s =
-    let parts = begins s.kept pending (kept_no_end progress.is_long s.kept pending s.held) in
+    let parts = onto_parts s.kept (split_from filter.field (quoting_of progress) pending) (parts_some filter.field (quoting_of progress) pending) in
     record {
       lines = s.lines;
       next = s.kept ++ parts.0;
@@ -260,7 +207,7 @@ failed filter input start now new buffered pending progress f s =
       out = s.out;
       front = passed filter.on_invalid s.kept;
       tally = progress.tally;
-      cut = rest_is input s.kept pending s.lines s.cut ∙ ap (λ ps. s.lines ++ ps) parts.2;
+      cut = rest_is filter.field input s.kept pending s.lines (quoting_of progress) s.cut ∙ ap (λ ps. s.lines ++ ps) parts.2;
       replies = s.replies;
       passed = passes filter.on_invalid progress.is_long s.kept pending parts.0 s.held;
       taken = front_more start now new s.written buffered (s.out ++ passed filter.on_invalid s.kept) s.whole s.taken f;
@@ -291,21 +238,20 @@ ends_at filter old now line any reported same ends described = λ kept before he
     }
 
 pub stopped : (filter : Filter) (input : List ℕ) (start now new : Option (List ℕ)) (buffered pending line after : List ℕ) (progress : Progress) (reported : UnansweredLine)
-    → NoEnd line → pending ≡ line ++ 10 ∷ after → Ends filter progress line reported → Appends now new buffered
-    → RunState (IsReplyTo filter) filter.on_invalid input start now buffered pending progress → StopsAt filter reported (ended_lines input) start new
-stopped filter input start now new buffered pending line after progress reported n e ends f s =
-    let held = kept_no_end progress.is_long s.kept pending s.held in
-    let at = ends s.kept (length s.lines) (held_line progress.is_long s.kept pending line after s.held e) s.front s.number in
-    let parts = cut_line s.kept line after [] pending held n e in
-    let parts = ap (λ p. slice_split is_end (s.kept ++ p)) (sym (append-nil pending)) ∙ parts ∙ ap (λ a. (s.kept ++ line) ∷ slice_split is_end a) (append-nil after) in
+    → FirstEnds filter.field (quoting_of progress) pending line after → Ends filter progress line reported → Appends now new buffered
+    → RunState (IsReplyTo filter) filter.on_invalid filter.field input start now buffered pending progress → StopsAt filter reported (ended_lines filter.field input) start new
+stopped filter input start now new buffered pending line after progress reported first ends f s =
+    let at = ends s.kept (length s.lines) (held_line filter.field progress.is_long progress.quoting s.kept pending line after s.held s.goes_on first) s.front s.number in
+    let rest = split_input filter.field (after ++ []) in
+    let parts : split_input filter.field input ≡ s.lines ++ (s.kept ++ line) ∷ rest =
+    ap (split_input filter.field) (sym (append-nil input)) ∙ s.cut [] ∙ ap (λ ps. s.lines ++ onto s.kept ps) (first []) ∙ ap (λ ps. s.lines ++ ps) (onto_one s.kept line rest) in
     record {
       lines = s.lines;
       line = s.kept ++ line;
-      more = ended_lines after;
+      more = without_last rest;
       out = s.out;
       tally = progress.tally;
-      cut = ended_are input s.kept pending s.lines s.cut
-          ∙ ap (λ p. s.lines ++ without_last p) parts ∙ ap (λ l. s.lines ++ l) (part_ended (s.kept ++ line) (slice_split is_end after) (split_some after));
+      cut = ap without_last parts ∙ ended_begin s.lines ((s.kept ++ line) ∷ rest) (omega arith) ∙ ap (λ l. s.lines ++ l) (part_ended (s.kept ++ line) rest (parts_some filter.field Ready (after ++ [])));
       ends = at;
       replies = s.replies;
       taken = all_more start now new s.written buffered s.out (none_passed filter s.out s.kept _ (stops_passed filter.on_invalid s.kept at.ends) s.whole) s.taken f;
@@ -314,36 +260,40 @@ stopped filter input start now new buffered pending line after progress reported
 -- ---- the end of the input
 kept_none : (b : Bool) (kept : List ℕ) → IsDroppedFront b kept [] → kept ≡ []
 kept_none false kept h = h
-kept_none true kept h = absurd (omega (arith, ap length h.2.2))
-
-held_some : (b : Bool) (kept pending : List ℕ) → IsDroppedFront b kept pending → 0 < length pending → 0 < length (kept ++ pending)
-held_some b kept pending h l = omega (arith, l, length-append kept pending)
+kept_none true kept h = absurd (omega (arith, h.1))
 
 pub all_answered : (filter : Filter) (input : List ℕ) (start now : Option (List ℕ)) (progress : Progress)
-    → RunState (IsReplyTo filter) filter.on_invalid input start now [] [] progress → AnswersAll filter (lines_of input) progress.tally start now
+    → RunState (IsReplyTo filter) filter.on_invalid filter.field input start now [] [] progress → AnswersAll filter (all_lines filter.field input) progress.tally start now
 all_answered filter input start now progress s =
     let none = kept_none progress.is_long s.kept s.held in
-    let lines : lines_of input ≡ s.lines =
-    lines_of_are input s.kept [] s.lines s.cut ∙ ap (λ k. s.lines ++ lines_of (k ++ [])) none ∙ append-nil s.lines in
+    let lines : all_lines filter.field input ≡ s.lines =
+    ap without_empty_last (lines_are filter.field input s.kept [] s.lines (quoting_of progress) s.cut ∙ ap (λ k. s.lines ++ onto k (split_from filter.field (quoting_of progress) [])) none
+    ∙ ap (λ ps. s.lines ++ ps) (of_none filter.field (quoting_of progress))) ∙ lines_begin s.lines ([] ∷ []) (omega arith) ∙ append-nil s.lines in
     record {
       out = s.out;
       replies = subst (λ ls. AreReplies (IsReplyTo filter) 0 ls s.out no_lines progress.tally) (sym lines) s.replies;
       taken = subst (Appends start now) (sym (none_passed filter s.out s.kept _ (ap (passed filter.on_invalid) none ∙ passed_none filter.on_invalid) (s.whole ∙ append-nil s.written))) s.taken;
     }
 
+-- the parts of the input, of which the last one is pending
+whole_parts : (filter : Filter) (input : List ℕ) (start now : Option (List ℕ)) (buffered pending : List ℕ) (progress : Progress) → NoEnd filter.field (quoting_of progress) pending
+    → (s : RunState (IsReplyTo filter) filter.on_invalid filter.field input start now buffered pending progress) → split_input filter.field input ≡ s.lines ++ (s.kept ++ pending) ∷ []
+whole_parts filter input start now buffered pending progress n s =
+    lines_are filter.field input s.kept pending s.lines (quoting_of progress) s.cut ∙ ap (λ ps. s.lines ++ onto s.kept ps) n ∙ ap (λ ps. s.lines ++ ps) (onto_one s.kept pending [])
+
 -- the lines, and the last one, which has no end
 with_last : (filter : Filter) (input : List ℕ) (start now : Option (List ℕ)) (buffered line : List ℕ) (progress : Progress)
-    → NoEnd line → 0 < length line → (s : RunState (IsReplyTo filter) filter.on_invalid input start now buffered line progress)
-    → lines_of input ≡ s.lines ++ (s.kept ++ line) ∷ []
+    → NoEnd filter.field (quoting_of progress) line → 0 < length line → (s : RunState (IsReplyTo filter) filter.on_invalid filter.field input start now buffered line progress)
+    → all_lines filter.field input ≡ s.lines ++ (s.kept ++ line) ∷ []
 with_last filter input start now buffered line progress n l s =
-    lines_of_are input s.kept line s.lines s.cut
-    ∙ ap (λ ls. s.lines ++ ls) (one_line (s.kept ++ line) (no_end_append s.kept line (kept_no_end progress.is_long s.kept line s.held) n) (held_some progress.is_long s.kept line s.held l))
+    ap without_empty_last (whole_parts filter input start now buffered line progress n s) ∙ lines_begin s.lines ((s.kept ++ line) ∷ []) (omega arith)
+    ∙ ap (λ ls. s.lines ++ ls) (some_line (s.kept ++ line) (omega (arith, l, length-append s.kept line)))
 
 pub last_answered : (filter : Filter) (input : List ℕ) (start now new : Option (List ℕ)) (buffered line : List ℕ) (progress : Progress) (tally : Tally)
-    → NoEnd line → 0 < length line
+    → NoEnd filter.field (quoting_of progress) line → 0 < length line
     → AppendsReply (IsReplyTo filter) filter.on_invalid progress tally line [] buffered
     → Appends now new buffered
-    → RunState (IsReplyTo filter) filter.on_invalid input start now [] line progress → AnswersAll filter (lines_of input) tally start new
+    → RunState (IsReplyTo filter) filter.on_invalid filter.field input start now [] line progress → AnswersAll filter (all_lines filter.field input) tally start new
 last_answered filter input start now new buffered line progress tally n l reply f s =
     let r = reply s.kept (length s.lines) s.held s.front s.number in
     record {
@@ -354,10 +304,10 @@ last_answered filter input start now new buffered line progress tally n l reply 
     }
 
 pub last_failed : (filter : Filter) (input : List ℕ) (start now new : Option (List ℕ)) (buffered line : List ℕ) (progress : Progress) (tally : Tally)
-    → NoEnd line → 0 < length line
+    → NoEnd filter.field (quoting_of progress) line → 0 < length line
     → AppendsReply (IsReplyTo filter) filter.on_invalid progress tally line [] buffered
     → AppendsFront now new buffered
-    → RunState (IsReplyTo filter) filter.on_invalid input start now [] line progress → AnswersFront filter (lines_of input) [] start new
+    → RunState (IsReplyTo filter) filter.on_invalid filter.field input start now [] line progress → AnswersFront filter (all_lines filter.field input) [] start new
 last_failed filter input start now new buffered line progress tally n l reply f s =
     let r = reply s.kept (length s.lines) s.held s.front s.number in
     record {
@@ -374,8 +324,8 @@ last_failed filter input start now new buffered line progress tally n l reply f 
     }
 
 pub last_stopped : (filter : Filter) (input : List ℕ) (start now : Option (List ℕ)) (line : List ℕ) (progress : Progress) (reported : UnansweredLine)
-    → NoEnd line → 0 < length line → Ends filter progress line reported
-    → RunState (IsReplyTo filter) filter.on_invalid input start now [] line progress → StopsAt filter reported (lines_of input) start now
+    → NoEnd filter.field (quoting_of progress) line → 0 < length line → Ends filter progress line reported
+    → RunState (IsReplyTo filter) filter.on_invalid filter.field input start now [] line progress → StopsAt filter reported (all_lines filter.field input) start now
 last_stopped filter input start now line progress reported n l ends s =
     let at = ends s.kept (length s.lines) s.held s.front s.number in
     record {
@@ -391,55 +341,55 @@ last_stopped filter input start now line progress reported n l ends s =
     }
 
 -- ---- reads
-pub begun : (IsReply : Replies) (mode : OnInvalid) (start : Option (List ℕ)) (progress : Progress) → progress.is_long ≡ false → progress.tally ≡ no_lines
-    → RunState IsReply mode [] start start [] [] progress
-begun IsReply mode start progress short none = record {
+pub begun : (IsReply : Replies) (mode : OnInvalid) (field : Option Field) (start : Option (List ℕ)) (progress : Progress) → progress.is_long ≡ false → progress.tally ≡ no_lines
+    → RunState IsReply mode field [] start start [] [] progress
+begun IsReply mode field start progress short none = record {
   lines = [];
   kept = [];
   out = [];
   written = [];
-  cut = λ more. refl;
+  cut = λ more. ap (λ b. split_from field (cond b progress.quoting Ready) more) (sym short);
   replies = (refl, none);
   whole = passed_none mode;
   taken = Appends-nil start;
   held = subst (λ b. IsDroppedFront b [] []) (sym short) refl;
+  goes_on = λ long. absurd (false≢true (sym short ∙ long));
   front = subst (λ b. HasExcerpt b progress.front []) (sym short) tt;
   number = ap (λ (t : Tally). t.lines) none;
 }
 
 held_more : (b : Bool) (kept pending given : List ℕ) → IsDroppedFront b kept pending → IsDroppedFront b kept (pending ++ given)
 held_more false kept pending given h = h
-held_more true kept pending given h = (h.0, h.1, (h.2.0, h.2.1 ++ given, ap (λ p. p ++ given) h.2.2, h.2.3))
+held_more true kept pending given h = (h.0, omega (arith, h.1, length-append pending given))
 
-pub read : (IsReply : Replies) (mode : OnInvalid) (input given : List ℕ) (start now : Option (List ℕ)) (buffered pending : List ℕ) (progress : Progress)
-    → RunState IsReply mode input start now buffered pending progress → RunState IsReply mode (input ++ given) start now buffered (pending ++ given) progress
-read IsReply mode input given start now buffered pending progress s = record {
+goes_more : (field : Option Field) (b : Bool) (q : Quoting) (kept pending given : List ℕ) → IsDroppedFront b kept pending → (b ≡ true → NoEnd field q (take 1 pending))
+    → b ≡ true → NoEnd field q (take 1 (pending ++ given))
+goes_more field false q kept pending given h n e = absurd (false≢true e)
+goes_more field true q kept pending given h n e = subst (NoEnd field q) (sym (take-append-le 1 pending given (omega (arith, h.1)))) (n e)
+
+pub read : (IsReply : Replies) (mode : OnInvalid) (field : Option Field) (input given : List ℕ) (start now : Option (List ℕ)) (buffered pending : List ℕ) (progress : Progress)
+    → RunState IsReply mode field input start now buffered pending progress → RunState IsReply mode field (input ++ given) start now buffered (pending ++ given) progress
+read IsReply mode field input given start now buffered pending progress s = record {
   lines = s.lines;
   kept = s.kept;
   out = s.out;
   written = s.written;
-  cut = λ more. ap (slice_split is_end) (append_assoc input given more) ∙ s.cut (given ++ more)
-      ∙ ap (λ p. s.lines ++ slice_split is_end (s.kept ++ p)) (sym (append_assoc pending given more));
+  cut = λ more. ap (split_input field) (append_assoc input given more) ∙ s.cut (given ++ more)
+      ∙ ap (λ p. s.lines ++ onto s.kept (split_from field (quoting_of progress) p)) (sym (append_assoc pending given more));
   replies = s.replies;
   whole = s.whole;
   taken = s.taken;
   held = held_more progress.is_long s.kept pending given s.held;
+  goes_on = goes_more field progress.is_long progress.quoting s.kept pending given s.held s.goes_on;
   front = s.front;
   number = s.number;
 }
 
--- the parts of the input whose last one is pending
-whole_parts : (filter : Filter) (input : List ℕ) (start now : Option (List ℕ)) (buffered pending : List ℕ) (progress : Progress) → NoEnd pending
-    → (s : RunState (IsReplyTo filter) filter.on_invalid input start now buffered pending progress) → slice_split is_end input ≡ s.lines ++ (s.kept ++ pending) ∷ []
-whole_parts filter input start now buffered pending progress n s =
-    lines_are input s.kept pending s.lines s.cut
-    ∙ ap (λ ps. s.lines ++ ps) (slice_split_none is_end (s.kept ++ pending) (no_end_append s.kept pending (kept_no_end progress.is_long s.kept pending s.held) n))
-
-pub ended_answered : (filter : Filter) (input : List ℕ) (start now : Option (List ℕ)) (pending : List ℕ) (progress : Progress) → NoEnd pending
-    → RunState (IsReplyTo filter) filter.on_invalid input start now [] pending progress → AnswersEnded filter input start now
+pub ended_answered : (filter : Filter) (input : List ℕ) (start now : Option (List ℕ)) (pending : List ℕ) (progress : Progress) → NoEnd filter.field (quoting_of progress) pending
+    → RunState (IsReplyTo filter) filter.on_invalid filter.field input start now [] pending progress → AnswersEnded filter input start now
 ended_answered filter input start now pending progress n s =
     let parts = whole_parts filter input start now [] pending progress n s in
-    let lines : ended_lines input ≡ s.lines = ap without_last parts ∙ ended_begin s.lines ((s.kept ++ pending) ∷ []) (omega arith) ∙ append-nil s.lines in
+    let lines : ended_lines filter.field input ≡ s.lines = ap without_last parts ∙ ended_begin s.lines ((s.kept ++ pending) ∷ []) (omega arith) ∙ append-nil s.lines in
     record {
       out = s.out;
       front = passed filter.on_invalid s.kept;
@@ -451,10 +401,6 @@ ended_answered filter input start now pending progress n s =
     }
 
 -- ---- a long line is dropped except for its last byte
-one_byte : (xs : List ℕ) → 0 < length xs → NoEnd xs → (first : ℕ) × (more : List ℕ) × (xs ≡ first ∷ more) × (is_end first ≡ false)
-one_byte [] h n = absurd (omega arith)
-one_byte (x ∷ xs) h n = (x, xs, refl, All-head (λ byte. is_end byte ≡ false) x xs n)
-
 -- a line with a long front shows the same as that front
 pub shown_front : (xs ys : List ℕ) → 80 ≤ length xs → excerpt_of (xs ++ ys) ≡ excerpt_of xs
 unfolding excerpt_of
@@ -467,44 +413,42 @@ front_shown false front front_now kept pending k h held is whole same =
 front_shown true front front_now kept pending k h held is whole same =
     ap excerpt_bytes (same refl) ∙ is ∙ sym (shown_front kept (take k pending) (omega (arith, held.0)))
 
-pub discard_long_line : (IsReply : Replies) (mode : OnInvalid) (input : List ℕ) (start now new : Option (List ℕ)) (pending pending_now : List ℕ) (progress progress_now : Progress)
-    → NoEnd pending → Appends now new (passed mode (take (length pending - 1) pending)) → 4097 < length pending → pending_now ≡ drop (length pending - 1) pending → (progress.is_long ≡ false → excerpt_bytes progress_now.front ≡ excerpt_of pending)
+pub discard_long_line : (IsReply : Replies) (mode : OnInvalid) (field : Option Field) (input : List ℕ) (start now new : Option (List ℕ)) (pending pending_now : List ℕ) (progress progress_now : Progress)
+    → NoEnd field (quoting_of progress) pending → Appends now new (passed mode (take (length pending - 1) pending)) → 4097 < length pending → pending_now ≡ drop (length pending - 1) pending
+    → progress_now.quoting ≡ quoting_in field (quoting_of progress) (take (length pending - 1) pending) → (progress.is_long ≡ false → excerpt_bytes progress_now.front ≡ excerpt_of pending)
     → (progress.is_long ≡ true → progress_now.front ≡ progress.front) → progress_now.is_long ≡ true → progress_now.tally ≡ progress.tally
-    → RunState IsReply mode input start now [] pending progress → RunState IsReply mode input start new [] pending_now progress_now
-discard_long_line IsReply mode input start now new pending pending_now progress progress_now n went long last_byte whole_front same_front is_long same s =
+    → RunState IsReply mode field input start now [] pending progress → RunState IsReply mode field input start new [] pending_now progress_now
+discard_long_line IsReply mode field input start now new pending pending_now progress progress_now n went long last_byte state whole_front same_front is_long same s =
     let k = length pending - 1 in
     let front : length (take k pending) ≡ k = length-take k pending ∙ min-eq_left (omega arith) in
     let last : length (drop k pending) ≡ 1 = omega (arith, length-drop k pending) in
-    let n_front : NoEnd (take k pending) = All-take (λ byte. is_end byte ≡ false) k pending n in
-    let n_last : NoEnd (drop k pending) = All-drop (λ byte. is_end byte ≡ false) k pending n in
-    let whole : (more : List ℕ) → s.kept ++ (pending ++ more) ≡ (s.kept ++ take k pending) ++ (drop k pending ++ more) = λ more.
-    ap (λ p. s.kept ++ (p ++ more)) (sym (take-append-drop k pending)) ∙ ap (λ l. s.kept ++ l) (append_assoc (take k pending) (drop k pending) more)
-    ∙ sym (append_assoc s.kept (take k pending) (drop k pending ++ more)) in
-    let held : IsDroppedFront true (s.kept ++ take k pending) (drop k pending) = (
-      omega (arith, front, length-append s.kept (take k pending)),
-      no_end_append s.kept (take k pending) (kept_no_end progress.is_long s.kept pending s.held) n_front,
-      one_byte (drop k pending) (omega (arith, last)) n_last,
-    ) in
-    subst (λ (p : List ℕ). RunState IsReply mode input start new [] p progress_now) (sym last_byte) (record {
+    let parts = passes_front field (quoting_of progress) (take k pending) (drop k pending) (subst (NoEnd field (quoting_of progress)) (sym (take-append-drop k pending)) n) in
+    let whole : (more : List ℕ) → split_from field (quoting_of progress) (pending ++ more) ≡ onto (take k pending) (split_from field (quoting_of progress_now) (drop k pending ++ more)) = λ more.
+    ap (λ p. split_from field (quoting_of progress) (p ++ more)) (sym (take-append-drop k pending)) ∙ ap (split_from field (quoting_of progress)) (append_assoc (take k pending) (drop k pending) more)
+    ∙ parts.0 (drop k pending ++ more) ∙ ap (λ q. onto (take k pending) (split_from field q (drop k pending ++ more))) (sym state ∙ ap (λ b. cond b progress_now.quoting Ready) (sym is_long)) in
+    let held : IsDroppedFront true (s.kept ++ take k pending) (drop k pending) = (omega (arith, front, length-append s.kept (take k pending)), omega (arith, last)) in
+    subst (λ (p : List ℕ). RunState IsReply mode field input start new [] p progress_now) (sym last_byte) (record {
       lines = s.lines;
       kept = s.kept ++ take k pending;
       out = s.out;
       written = s.written ++ passed mode (take k pending);
-      cut = λ more. s.cut more ∙ ap (λ p. s.lines ++ slice_split is_end p) (whole more);
+      cut = λ more. s.cut more ∙ ap (λ ps. s.lines ++ onto s.kept ps) (whole more) ∙ ap (λ ps. s.lines ++ ps) (onto_onto s.kept (take k pending) (split_from field (quoting_of progress_now) (drop k pending ++ more)));
       replies = subst (AreReplies IsReply 0 s.lines s.out no_lines) (sym same) s.replies;
       whole = ap (λ p. s.out ++ p) (passed_append mode s.kept (take k pending)) ∙ sym (append_assoc s.out (passed mode s.kept) (passed mode (take k pending)))
           ∙ ap (λ o. o ++ passed mode (take k pending)) (s.whole ∙ append-nil s.written) ∙ sym (append-nil (s.written ++ passed mode (take k pending)));
       taken = Appends-trans start now new _ _ s.taken went;
       held = subst (λ b. IsDroppedFront b (s.kept ++ take k pending) (drop k pending)) (sym is_long) held;
+      goes_on = λ long. subst (λ q. NoEnd field q (take 1 (drop k pending))) (sym state)
+          (subst (NoEnd field (quoting_in field (quoting_of progress) (take k pending))) (sym (take_all 1 (drop k pending) (omega (arith, last)))) parts.1);
       front = subst (λ b. HasExcerpt b progress_now.front (s.kept ++ take k pending)) (sym is_long)
           (front_shown progress.is_long progress.front progress_now.front s.kept pending k (omega arith) s.held s.front whole_front same_front);
       number = ap (λ (t : Tally). t.lines) same ∙ s.number;
     })
 
 -- a front of it that is passed on is not written whole
-pub let_go_failed : (filter : Filter) (input : List ℕ) (start now new : Option (List ℕ)) (pending : List ℕ) (progress : Progress) → NoEnd pending
+pub let_go_failed : (filter : Filter) (input : List ℕ) (start now new : Option (List ℕ)) (pending : List ℕ) (progress : Progress) → NoEnd filter.field (quoting_of progress) pending
     → filter.on_invalid ≡ invalid.Keep → 4097 < length pending → AppendsFront now new (take (length pending - 1) pending)
-    → RunState (IsReplyTo filter) filter.on_invalid input start now [] pending progress → AnswersFront filter (ended_lines input) (unended input) start new
+    → RunState (IsReplyTo filter) filter.on_invalid filter.field input start now [] pending progress → AnswersFront filter (ended_lines filter.field input) (unended filter.field input) start new
 let_go_failed filter input start now new pending progress n keeps long f s =
     let k = length pending - 1 in
     let front = s.kept ++ take k pending in
@@ -517,7 +461,7 @@ let_go_failed filter input start now new pending progress n keeps long f s =
       out = s.out;
       front = front;
       tally = progress.tally;
-      cut = parts_are (slice_split is_end input) (split_some input) ∙ whole_parts filter input start now [] pending progress n s;
+      cut = parts_are (split_input filter.field input) (parts_some filter.field Ready input) ∙ whole_parts filter input start now [] pending progress n s;
       replies = s.replies;
       passed = subst (λ mode. IsPassedOn mode (s.kept ++ pending) front) (sym keeps)
           (inr (omega (arith, long, length-take k pending, length-append s.kept (take k pending)), (drop k pending, whole)));

@@ -97,9 +97,6 @@ within_position IsForm bytes p n at fits is =
 pub bounds_at : (IsForm : List ℕ → Type 0) (bytes : List ℕ) (p : ℕ) → IsPosition IsForm bytes p → Bounds IsForm bytes p
 bounds_at IsForm bytes p at = record { within = at.within; begins = λ n fits is. within_position IsForm bytes p n at fits is }
 
-pub bounds_all : (IsForm : List ℕ → Type 0) (bytes : List ℕ) → Bounds IsForm bytes (length bytes)
-bounds_all IsForm bytes = record { within = omega arith; begins = λ n fits is. fits }
-
 begun : (IsForm : List ℕ → Type 0) (bytes : List ℕ) → IsForm bytes → Begins IsForm bytes
 begun IsForm bytes is = record { more = []; text = subst IsForm (sym (append-nil bytes)) is }
 
@@ -108,30 +105,24 @@ pub form_within : (IsForm : List ℕ → Type 0) (bytes : List ℕ) (bound n : �
 form_within IsForm bytes bound n b fits is = b.begins n fits (begun IsForm (take n bytes) is)
 
 -- ---- the texts of a format, of which the bytes have a front
-front_within : (items : List Item) (bytes : List ℕ) (bound n : ℕ) (more : List ℕ) → Bounds (HasForm items) bytes bound → n ≤ length bytes → HasForm items (take n bytes ++ more)
+pub front_within : (items : List Item) (bytes : List ℕ) (bound n : ℕ) (more : List ℕ) → Bounds (HasForm items) bytes bound → n ≤ length bytes → HasForm items (take n bytes ++ more)
     → n ≤ bound
 front_within items bytes bound n more b fits form = b.begins n fits (record { more = more; text = form })
 
-pub dates_within : (items : List Item) (bytes : List ℕ) (bound n : ℕ) (more : List ℕ) (d : ℕ) → DeterminesDate items → Bounds (HasForm items) bytes bound → n ≤ length bytes
-    → IsDateText items (take n bytes ++ more) d → n ≤ bound
-dates_within items bytes bound n more d determines b fits is =
+pub date_form : (items : List Item) (bytes : List ℕ) (d : ℕ) → DeterminesDate items → IsDateText items bytes d → HasForm items bytes
+date_form items bytes d determines is =
     let holds = date-holds items d determines is.in_range is.held in
-    let own = has-own items (moment_of_date d) (take n bytes ++ more) holds.in_range holds.numbers is.text_is in
-    front_within items bytes bound n more b fits (has-form items _ (take n bytes ++ more) determines.0 own)
+    has-form items _ bytes determines.0 (has-own items (moment_of_date d) bytes holds.in_range holds.numbers is.text_is)
 
-pub moments_within : (items : List Item) (bytes : List ℕ) (bound n : ℕ) (more : List ℕ) (m : LocalAndOffset) → DeterminesOffsetDateTime items → Bounds (HasForm items) bytes bound
-    → n ≤ length bytes → IsMomentText items (take n bytes ++ more) m → n ≤ bound
-moments_within items bytes bound n more m determines b fits is =
+pub moment_form : (items : List Item) (bytes : List ℕ) (m : LocalAndOffset) → DeterminesOffsetDateTime items → IsMomentText items bytes m → HasForm items bytes
+moment_form items bytes m determines is =
     let holds = moment-holds items m determines is.local is.offset is.held is.time is.printed_offset in
-    let own = has-own items (moment_of_offset_date_time m) (take n bytes ++ more) holds.in_range holds.numbers is.text_is in
-    front_within items bytes bound n more b fits (has-form items _ (take n bytes ++ more) determines.0 own)
+    has-form items _ bytes determines.0 (has-own items (moment_of_offset_date_time m) bytes holds.in_range holds.numbers is.text_is)
 
-pub date_times_within : (items : List Item) (bytes : List ℕ) (bound n : ℕ) (more : List ℕ) (z : ℤ) → DeterminesDateTime items → Bounds (HasForm items) bytes bound → n ≤ length bytes
-    → IsDateTimeText items (take n bytes ++ more) z → n ≤ bound
-date_times_within items bytes bound n more z determines b fits is =
+pub date_time_form : (items : List Item) (bytes : List ℕ) (z : ℤ) → DeterminesDateTime items → IsDateTimeText items bytes z → HasForm items bytes
+date_time_form items bytes z determines is =
     let holds = date_time-holds items z determines is.in_range is.held is.time in
-    let own = has-own items (moment_of_date_time z) (take n bytes ++ more) holds.in_range holds.numbers is.text_is in
-    front_within items bytes bound n more b fits (has-form items _ (take n bytes ++ more) determines.0 own)
+    has-form items _ bytes determines.0 (has-own items (moment_of_date_time z) bytes holds.in_range holds.numbers is.text_is)
 
 some_if : (b : Bool) (full : List ℕ) (P : List ℕ → Type 0) → IsSomeAnd (if b then None else Some full) P → b ≡ false
 some_if true full P h = absurd h
@@ -259,9 +250,6 @@ rejected_first {P} assumptions r rs bytes any with_form h e = at (named assumpti
     at : (o : Option Reading) → named assumptions r ≡ o → MatchOption o (any ≡ why.NoForm) (λ form. IsUnreadIn form bytes any) → P
     at None is none = absurd (false≢true (sym (ap has_form none) ∙ e))
     at (Some form) is unread = with_form form is (rejected_form form bytes any unread e)
-
-pub rejected_none : (assumptions : Assumptions) (bytes : List ℕ) (any : NoAnswer) → IsUnread assumptions [] bytes any → has_form any ≡ true → ⊥
-rejected_none assumptions bytes any h e = false≢true (sym (ap has_form h.why_is) ∙ e)
 
 pub none_longer : (filter : Filter) (readers : List Reader) (bytes : List ℕ) (bound : ℕ) → readers ≡ filter.readers
     → ((n : ℕ) (found : DateOrMoment) → n ≤ length bytes → IsFoundBy filter.assumptions readers (take n bytes) found → n ≤ bound)

@@ -13,9 +13,10 @@ use Rattle.cal_text.specs.declared.any.DateOrMoment.{DateOrMoment}
 use Rattle.cal_text.proofs.FormShapes.{date_shape}
 use Rattle.cal_text.proofs.MomentShapes.{moment_shapes}
 use Rattle.cal_text.proofs.Stops.{IsIn}
+use Rattle.caldate_run.specs.Offsets.{is_digit}
 use Rattle.caldate_run.specs.Readers.{IsFoundBy, IsUnread}
 use Rattle.caldate_run.specs.Readings.{HasFormIn, IsTextIn}
-use Rattle.caldate_run.specs.Scans.{Bounds, IsTextAt, StartAsUsual, StartsAsUsual, has_form, is_usual_start, part_at}
+use Rattle.caldate_run.specs.Scans.{Bounds, IsText, IsTextAt, StartAsUsual, StartWithDigit, StartsAsUsual, has_form, is_usual_start, part_at}
 use Rattle.caldate_run.specs.Spellings.{full_by}
 use Rattle.caldate_run.specs.declared.reading.Reading.{Reading}
 use Rattle.caldate_run.specs.declared.reading.Reading.TheVariants as reading
@@ -142,23 +143,32 @@ pub iso_text_start : (s : Spelling) (bytes : List ℕ) (found : DateOrMoment) �
 iso_text_start s bytes found e some h = iso_start bytes found some (subst (λ s. IsSomeAnd (full_by s bytes) (λ full. IsTextOf full found)) e h)
 
 -- ---- all forms
-pub usual_filter : (filter : Filter) (readers : List Reader) → readers ≡ filter.readers
-    → ((assumptions : Assumptions) (bytes : List ℕ) (found : DateOrMoment) → 0 < length bytes → IsFoundBy assumptions readers bytes found → StartsAsUsual bytes)
-    → ((assumptions : Assumptions) (bytes : List ℕ) (any : NoAnswer) → 0 < length bytes → IsUnread assumptions readers bytes any → has_form any ≡ true → StartsAsUsual bytes)
-    → StartAsUsual filter
-usual_filter filter readers same found rejected bytes (some, inl h) = found filter.assumptions bytes h.1.0 some (subst (λ rs. IsFoundBy filter.assumptions rs bytes h.1.0) (sym same) h.1.1)
-usual_filter filter readers same found rejected bytes (some, inr (any, inl h, e)) =
+pub each_text : (P : List ℕ → Type 0) (filter : Filter) (readers : List Reader) → readers ≡ filter.readers
+    → ((assumptions : Assumptions) (bytes : List ℕ) (found : DateOrMoment) → 0 < length bytes → IsFoundBy assumptions readers bytes found → P bytes)
+    → ((assumptions : Assumptions) (bytes : List ℕ) (any : NoAnswer) → 0 < length bytes → IsUnread assumptions readers bytes any → has_form any ≡ true → P bytes)
+    → (bytes : List ℕ) → IsText filter bytes → P bytes
+each_text P filter readers same found rejected bytes (some, inl h) = found filter.assumptions bytes h.1.0 some (subst (λ rs. IsFoundBy filter.assumptions rs bytes h.1.0) (sym same) h.1.1)
+each_text P filter readers same found rejected bytes (some, inr (any, inl h, e)) =
     rejected filter.assumptions bytes any some (subst (λ rs. IsUnread filter.assumptions rs bytes any) (sym same) h) e
-usual_filter filter readers same found rejected bytes (some, inr (any, inr h, e)) =
+each_text P filter readers same found rejected bytes (some, inr (any, inr h, e)) =
     found filter.assumptions bytes h.0 some (subst (λ rs. IsFoundBy filter.assumptions rs bytes h.0) (sym same) h.1)
+
+first_there : (line : List ℕ) (k n : ℕ) → 0 < n → slice_index (part_at line k n) 0 ≡ slice_index line k
+first_there line k n some =
+    let same : k + 0 ≡ k = omega arith in
+    get_or-take n (drop k line) 0 0 some ∙ get_or-drop k line 0 0 ∙ ap (slice_index line) same
+
+-- no text starts at a place with another byte
+pub none_digit : (filter : Filter) (line : List ℕ) (k n : ℕ) → StartWithDigit filter → is_digit (slice_index line k) ≡ false → IsTextAt filter line k n → ⊥
+none_digit filter line k n digit off h =
+    false≢true (sym off ∙ ap is_digit (sym (first_there line k n (some_bytes filter line k n h))) ∙ digit (part_at line k n) h.is)
 
 -- no text starts at a place with other bytes
 pub none_starts : (filter : Filter) (line : List ℕ) (k n : ℕ) → StartAsUsual filter → is_usual_start (slice_index line k) (slice_index line (k + 4)) ≡ false
     → IsTextAt filter line k n → ⊥
 none_starts filter line k n usual off h =
     let some = some_bytes filter line k n h in
-    let same : k + 0 ≡ k = omega arith in
-    let first : slice_index (part_at line k n) 0 ≡ slice_index line k = get_or-take n (drop k line) 0 0 some ∙ get_or-drop k line 0 0 ∙ ap (slice_index line) same in
+    let first = first_there line k n some in
     let is = ap (λ x. is_usual_start x (slice_index (part_at line k n) 4)) (sym first) ∙ usual (part_at line k n) h.is in
     elim (cases_lt 4 n) as (λ _. ⊥) [
       | inl long ↦ (

@@ -1,22 +1,60 @@
 -- The part of a line to answer: all of its text, or some of its fields.
-use Rattle.std.specs.Prelude.{◌≡◌, ℕ, ◌+◌, ◌-◌, ◌==◌, ◌&&◌, ◌||◌, not, nat_le, Bool, false, List, [], ◌∷◌, ◌++◌, length, take, drop, Option, Some, None, option_map, slice_index, if◌then◌else◌}
+use Rattle.std.specs.Prelude.{◌≡◌, ℕ, ◌+◌, ◌-◌, ◌==◌, ◌&&◌, ◌||◌, not, nat_le, Bool, true, false, List, [], ◌∷◌, ◌++◌, length, take, drop, Option, Some, None, option_map, slice_index, if◌then◌else◌}
 use Rattle.std.specs.List.{join_with_byte, onto_first, slice_split}
+use Rattle.caldate_run.specs.declared.run.quoting.Quoting.{Quoting}
+use Rattle.caldate_run.specs.declared.run.quoting.Quoting.TheVariants.{Ready, Open, Bare}
 use Rattle.caldate_run.specs.declared.request.Field.{Field}
+use Rattle.caldate_run.specs.declared.request.FieldNumbers.{FieldNumbers}
+
+-- The same field with other numbers.
+abbrev pub with_numbers : Field → FieldNumbers → Field
+with_numbers field numbers = record field { first = numbers.first; joined = numbers.joined }
+
+-- The fields after the first one, which have its separator.
+abbrev pub each_of : Field → List FieldNumbers → List Field
+each_of field [] = []
+each_of field (next ∷ more) = with_numbers field next ∷ each_of field more
+
+-- All fields to answer, if there are more than one.
+abbrev pub several : Option Field → List FieldNumbers → List Field
+several None more = []
+several (Some field) [] = []
+several (Some field) (next ∷ more) = field ∷ each_of field (next ∷ more)
 
 -- A quote is byte 34.
 abbrev pub is_quote : ℕ → Bool
 is_quote byte = byte == 34
 
--- A record is split at each separator outside of quotes.
-abbrev pub split_record : ℕ → Bool → List ℕ → List (List ℕ)
-split_record separator quoted [] = [] ∷ []
-split_record separator quoted (byte ∷ bytes) =
-    if byte == separator && not quoted then [] ∷ split_record separator false bytes else
-    onto_first byte (split_record separator (if is_quote byte then not quoted else quoted) bytes)
+-- The quotes of a CSV record after a byte. A quote opens them at the start of a field, and again just
+-- after another quote closed them: a doubled quote. In the rest of a field it is an ordinary byte.
+abbrev pub quoting_after : ℕ → Quoting → ℕ → Quoting
+quoting_after separator Ready byte = if is_quote byte then Open else if byte == separator then Ready else Bare
+quoting_after separator Open byte = if is_quote byte then Ready else Open
+quoting_after separator Bare byte = if byte == separator then Ready else Bare
+
+-- The same after all of these bytes.
+abbrev pub quoting_past : ℕ → Quoting → List ℕ → Quoting
+quoting_past separator quoting [] = quoting
+quoting_past separator quoting (byte ∷ bytes) = quoting_past separator (quoting_after separator quoting byte) bytes
+
+abbrev pub is_open : Quoting → Bool
+is_open Open = true
+is_open quoting = false
+
+-- The bytes are split at each byte `end` outside of quotes.
+abbrev pub split_outside_quotes : ℕ → ℕ → Quoting → List ℕ → List (List ℕ)
+split_outside_quotes end separator quoting [] = [] ∷ []
+split_outside_quotes end separator quoting (byte ∷ bytes) =
+    if byte == end && not (is_open quoting) then [] ∷ split_outside_quotes end separator Ready bytes else
+    onto_first byte (split_outside_quotes end separator (quoting_after separator quoting byte) bytes)
+
+-- A CSV record is split at its separators.
+abbrev pub split_record : ℕ → List ℕ → List (List ℕ)
+split_record separator text = split_outside_quotes separator separator Ready text
 
 -- The fields of a text are between separators.
 abbrev pub fields_of : Field → List ℕ → List (List ℕ)
-fields_of field text = if field.csv then split_record field.separator false text else slice_split (λ byte. byte == field.separator) text
+fields_of field text = if field.csv then split_record field.separator text else slice_split (λ byte. byte == field.separator) text
 
 -- The text doesn't have the last of the fields to answer.
 abbrev pub has_too_few : Field → List ℕ → Bool

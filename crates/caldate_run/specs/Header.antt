@@ -1,15 +1,15 @@
 -- The header, the first line of an input, and fields by their names in it.
-use Rattle.std.specs.Prelude.{◌≡◌, ◌⊎◌, ℕ, ◌+◌, ◌<◌, ◌&&◌, nat_le, nat_lt, Bool, true, false, unwrap_or, List, [], ◌∷◌, ◌++◌, bytes_eq, codes, length, MatchResult, Option, Some, None, Result, Ok, Err, slice_index, if◌then◌else◌}
-use Rattle.std.specs.List.{slice_split}
+use Rattle.std.specs.Prelude.{◌⊎◌, ℕ, ◌+◌, ◌<◌, ◌&&◌, nat_le, nat_lt, Bool, true, false, unwrap_or, List, [], ◌∷◌, ◌++◌, bytes_eq, codes, length, MatchResult, Option, Some, None, Result, Ok, Err, slice_index, if◌then◌else◌}
 use Rattle.std.specs.Option.{option_map_or}
 use Rattle.std.specs.Io.KnownBytes.{Consumes, IsAtEnd}
 use Rattle.caldate_run.specs.Ending.{end_message}
 use Rattle.caldate_run.specs.Fields.{fields_of, is_quote, is_quoted, within_quotes}
-use Rattle.caldate_run.specs.Lines.{is_end, text_of}
+use Rattle.caldate_run.specs.Lines.{split_input, text_of}
 use Rattle.caldate_run.specs.Room.{longest_text}
 use Rattle.caldate_run.specs.RunStates.{NoEnd}
 use Rattle.caldate_run.specs.Targets.{target_name, with_target}
 use Rattle.caldate_run.specs.UsageMessages.{quoted}
+use Rattle.caldate_run.specs.declared.run.quoting.Quoting.TheVariants.{Ready}
 use Rattle.caldate_run.specs.declared.request.Field.{Field}
 use Rattle.caldate_run.specs.declared.request.Filter.{Filter}
 use Rattle.caldate_run.specs.declared.request.Request.{Request}
@@ -23,16 +23,16 @@ abbrev pub first_part : List (List ℕ) → List ℕ
 first_part [] = []
 first_part (part ∷ parts) = part
 
-abbrev pub header_of : List ℕ → List ℕ
-header_of input = text_of (first_part (slice_split is_end input))
+abbrev pub header_of : Field → List ℕ → List ℕ
+header_of field input = text_of (first_part (split_input (Some field) input))
 
 -- A line ends within the bytes.
-abbrev pub HasLine : List ℕ → Type 0
-HasLine bytes = (line after : List ℕ) × NoEnd line × (bytes ≡ line ++ 10 ∷ after)
+abbrev pub HasLine : Field → List ℕ → Type 0
+HasLine field bytes = 1 < length (split_input (Some field) bytes)
 
 -- The bytes have the whole header, or more bytes than a line may have.
-abbrev pub HasHeader : Option (List ℕ) → List ℕ → Type 0
-HasHeader left bytes = HasLine bytes ⊎ (IsAtEnd left ⊎ (longest_text + 1 < length bytes))
+abbrev pub HasHeader : Field → Option (List ℕ) → List ℕ → Type 0
+HasHeader field left bytes = HasLine field bytes ⊎ (IsAtEnd left ⊎ (longest_text + 1 < length bytes))
 
 -- ---- names
 -- The text begins with a doubled quote.
@@ -115,7 +115,7 @@ pub record EndsNamed (filter : Filter) (field : Field) (old : Option (List ℕ))
   pub front : List ℕ
   pub left : Option (List ℕ)
   pub given : Consumes old left front
-  pub ends : (NoEnd front × Stops true (end_message (Err Read)))
-      ⊎ (HasHeader left front × MatchResult (numbers_in filter field (header_of front))
+  pub ends : (NoEnd (Some field) Ready front × Stops true (end_message (Err Read)))
+      ⊎ (HasHeader field left front × MatchResult (numbers_in filter field (header_of field front))
       (λ numbers. (outcome : Result Unit RunError) × Runs (numbered filter field numbers) outcome)
-      (λ name. Stops false (header_error field name (header_of front))))
+      (λ name. Stops false (header_error field name (header_of field front))))

@@ -1,6 +1,10 @@
--- The lines of an input, and the text of a line.
-use Rattle.std.specs.Prelude.{ℕ, ◌-◌, Bool, List, [], ◌∷◌, ◌==◌, length, take, slice_index, if◌then◌else◌}
+-- The lines of an input, or its CSV records, and the text of a line.
+use Rattle.std.specs.Prelude.{ℕ, ◌-◌, Bool, List, [], ◌∷◌, ◌==◌, length, take, Option, Some, None, slice_index, if◌then◌else◌}
 use Rattle.std.specs.List.{slice_split}
+use Rattle.caldate_run.specs.Fields.{split_outside_quotes}
+use Rattle.caldate_run.specs.declared.run.quoting.Quoting.{Quoting}
+use Rattle.caldate_run.specs.declared.run.quoting.Quoting.TheVariants.{Ready}
+use Rattle.caldate_run.specs.declared.request.Field.{Field}
 
 -- A line feed, byte 10, ends a line.
 abbrev pub is_end : ℕ → Bool
@@ -16,25 +20,40 @@ without_empty_last (part ∷ parts) = part ∷ without_empty_last parts
 abbrev pub lines_of : List ℕ → List (List ℕ)
 lines_of input = without_empty_last (slice_split is_end input)
 
+-- ---- the lines that a run answers
+-- Between line feeds, or with --csv between line feeds outside of quotes.
+abbrev pub split_from : Option Field → Quoting → List ℕ → List (List ℕ)
+split_from None quoting bytes = slice_split is_end bytes
+split_from (Some field) quoting bytes =
+    if field.csv then split_outside_quotes 10 field.separator quoting bytes else slice_split is_end bytes
+
+abbrev pub split_input : Option Field → List ℕ → List (List ℕ)
+split_input field input = split_from field Ready input
+
+-- All of them. The bytes after the last one that has ended are one more if there are any.
+abbrev pub all_lines : Option Field → List ℕ → List (List ℕ)
+all_lines field input = without_empty_last (split_input field input)
+
 -- The parts, without the last one.
 abbrev pub without_last : List (List ℕ) → List (List ℕ)
 without_last [] = []
 without_last (part ∷ []) = []
 without_last (part ∷ parts) = part ∷ without_last parts
 
--- The lines of the input that have their line feed.
-abbrev pub ended_lines : List ℕ → List (List ℕ)
-ended_lines input = without_last (slice_split is_end input)
+-- The lines that have ended with their line feed.
+abbrev pub ended_lines : Option Field → List ℕ → List (List ℕ)
+ended_lines field input = without_last (split_input field input)
 
--- The bytes after the last line feed of the input.
+-- The bytes after them.
 abbrev pub last_part : List (List ℕ) → List ℕ
 last_part [] = []
 last_part (part ∷ []) = part
 last_part (part ∷ parts) = last_part parts
 
-abbrev pub unended : List ℕ → List ℕ
-unended input = last_part (slice_split is_end input)
+abbrev pub unended : Option Field → List ℕ → List ℕ
+unended field input = last_part (split_input field input)
 
+-- ---- the text of a line
 -- The last byte of the line is a carriage return, byte 13.
 abbrev pub has_return : List ℕ → Bool
 has_return line = slice_index line (length line - 1) == 13

@@ -416,7 +416,7 @@ list_of now meanings words =
 -- ---- the options before a request, in any order, each at most once
 -- The options if the arguments have none.
 abbrev pub no_options : Options
-no_options = record { on_invalid = None; fields = None; name = None; append = None; header = false; csv = false; scan = false; separator = None; skip = None; readers = []; offset = None; year = None; zone = None; policy = None; workdays = None }
+no_options = record { on_invalid = None; fields = None; name = None; more = []; append = None; header = false; csv = false; scan = false; separator = None; skip = None; readers = []; offset = None; year = None; zone = None; policy = None; workdays = None }
 
 -- `--invalid MODE`
 abbrev pub invalid_of : List ℕ → Option OnInvalid
@@ -442,6 +442,13 @@ abbrev pub with_field : Options → List ℕ → Option Options
 with_field options value =
     if is_name value then Some (record options { fields = Some (record { first = 1; joined = 0 }); name = Some value }) else
     option_map (λ numbers. record options { fields = Some numbers }) (field_numbers_of value)
+
+-- Up to three fields may be given after the first one, by their numbers.
+abbrev pub has_room_for_field : List FieldNumbers → Bool
+has_room_for_field more = nat_lt (length more) 3
+
+abbrev pub with_next : Options → FieldNumbers → Option Options
+with_next options field = if has_room_for_field options.more then Some (record options { more = options.more ++ field ∷ [] }) else None
 
 -- `--separator C`: one byte
 abbrev pub byte_of : List ℕ → Option ℕ
@@ -520,6 +527,7 @@ abbrev pub value_of : Options → List ℕ → Option Expected
 value_of options word =
     if bytes_eq word (codes "--invalid") && is_none options.on_invalid then Some expected.Invalid else
     if bytes_eq word (codes "--field") && is_none options.fields then Some expected.FieldNumber else
+    if bytes_eq word (codes "--field") && has_room_for_field options.more then Some expected.NextField else
     if bytes_eq word (codes "--append") && is_none options.append then Some expected.Column else
     if bytes_eq word (codes "--separator") && is_none options.separator then Some expected.Separator else
     if bytes_eq word (codes "--skip") && is_none options.skip then Some expected.Skip else
@@ -539,6 +547,7 @@ is_option word = is_flag no_options word || is_some (value_of no_options (name_o
 abbrev pub with_value : Meanings → Options → List ℕ → Expected → Option Options
 with_value meanings options value expected.Invalid = option_map (λ mode. record options { on_invalid = Some mode }) (invalid_of value)
 with_value meanings options value expected.FieldNumber = with_field options value
+with_value meanings options value expected.NextField = option_and_then (with_next options) (field_numbers_of value)
 with_value meanings options value expected.Column = Some (record options { append = Some value })
 with_value meanings options value expected.Separator = option_map (λ c. record options { separator = Some c }) (byte_of value)
 with_value meanings options value expected.Skip = option_map (λ k. record options { skip = Some k }) (skip_of value)
@@ -670,8 +679,8 @@ conflict_with_readers options =
     None
 
 -- The option that is missing or excluded: `--scan` excludes fields, and `--separator`, `--csv` and
--- `--append` require `--field`. A quote separates no fields of a record. A name of a field requires
--- `--header`.
+-- `--append` require `--field`, `--append` a single one. A quote separates no fields of a record. A
+-- name of a field requires `--header`.
 abbrev pub conflict_in : Options → Option Expected
 conflict_in options =
     if options.scan && is_some options.fields then Some expected.ScanField else
@@ -681,6 +690,7 @@ conflict_in options =
     if is_some options.separator && is_none options.fields then Some expected.Field else
     if options.csv && is_none options.fields then Some expected.CsvField else
     if is_some options.append && is_none options.fields then Some expected.AppendField else
+    if is_some options.append && nat_lt 0 (length options.more) then Some expected.AppendFields else
     if options.csv && option_map_or (λ c. c == 34) options.separator false then Some expected.CsvSeparator else
     if is_some options.name && not options.header then Some expected.Header else
     conflict_with_readers options
@@ -710,6 +720,7 @@ filter_of options request = record {
   clock = clock_of options.zone options.policy;
   on_invalid = unwrap_or options.on_invalid (default_mode request (is_some options.fields || options.scan));
   field = field_of options;
+  more = options.more;
   scans = options.scan;
   name = options.name;
   column = if options.header then options.append else None;

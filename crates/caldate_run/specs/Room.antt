@@ -19,6 +19,11 @@ longest_answer = 1000
 abbrev pub longest_field : ℕ
 longest_field = 2003
 
+-- The maximum length of what several fields leave of a text: a text with an answer as a new field,
+-- and a separator for each later field without an answer.
+abbrev pub longest_left : ℕ
+longest_left = 6102
+
 abbrev pub longest_reply : ℕ
 longest_reply = 9200
 

@@ -1,11 +1,15 @@
 -- The state of a run.
-use Rattle.std.specs.Prelude.{◌≡◌, ℕ, ⊤, ◌+◌, ◌-◌, ◌^◌, ◌<◌, min, Bool, true, false, List, [], ◌∷◌, ◌++◌, length, All, Option, None}
-use Rattle.std.specs.List.{slice_split}
+use Rattle.std.specs.Prelude.{◌≡◌, ℕ, ⊤, ◌+◌, ◌-◌, ◌^◌, ◌<◌, min, Bool, true, false, List, [], ◌∷◌, ◌++◌, length, take, All, Option, Some, None, if◌then◌else◌}
+use Rattle.std.specs.List.{onto_first}
 use Rattle.std.specs.Io.KnownBytes.{Appends}
-use Rattle.caldate_run.specs.Lines.{is_end}
+use Rattle.caldate_run.specs.Fields.{quoting_past}
+use Rattle.caldate_run.specs.Lines.{is_end, split_from, split_input}
 use Rattle.caldate_run.specs.Room.{longest_text}
 use Rattle.caldate_run.specs.Excerpts.{excerpt_of, excerpt_bytes}
+use Rattle.caldate_run.specs.declared.run.quoting.Quoting.{Quoting}
+use Rattle.caldate_run.specs.declared.run.quoting.Quoting.TheVariants.{Ready}
 use Rattle.caldate_run.specs.declared.on_invalid.OnInvalid.{OnInvalid}
+use Rattle.caldate_run.specs.declared.request.Field.{Field}
 use Rattle.caldate_run.specs.declared.on_invalid.OnInvalid.TheVariants as invalid
 use Rattle.caldate_run.specs.declared.run.progress.Progress.{Progress}
 use Rattle.caldate_run.specs.declared.run.excerpt.Excerpt.{Excerpt}
@@ -26,16 +30,41 @@ AreReplies IsReply before (line ∷ lines) out old new =
 abbrev pub no_lines : Tally
 no_lines = record { lines = 0; unanswered = 0; first = None }
 
+-- No line feed is in the bytes.
+abbrev pub HasNoFeed : List ℕ → Type 0
+HasNoFeed bytes = All (λ byte. is_end byte ≡ false) bytes
+
 -- No line ends within the bytes.
-abbrev pub NoEnd : List ℕ → Type 0
-NoEnd bytes = All (λ byte. is_end byte ≡ false) bytes
+abbrev pub NoEnd : Option Field → Quoting → List ℕ → Type 0
+NoEnd field quoting bytes = split_from field quoting bytes ≡ bytes ∷ []
+
+-- The first line of the bytes ends, and these come after it, whatever follows.
+abbrev pub FirstEnds : Option Field → Quoting → List ℕ → List ℕ → List ℕ → Type 0
+FirstEnds field quoting bytes line after = (more : List ℕ) → split_from field quoting (bytes ++ more) ≡ line ∷ split_input field (after ++ more)
 
 -- The dropped front of a line whose rest is pending is empty. For a long line, it is longer than a
 -- line may be, and the rest is not empty.
 abbrev pub IsDroppedFront : Bool → List ℕ → List ℕ → Type 0
 IsDroppedFront false kept pending = kept ≡ []
-IsDroppedFront true kept pending =
-    (longest_text < length kept) × NoEnd kept × ((first : ℕ) × (more : List ℕ) × (pending ≡ first ∷ more) × (is_end first ≡ false))
+IsDroppedFront true kept pending = (longest_text < length kept) × (0 < length pending)
+
+-- The quotes after these bytes, if there are any.
+abbrev pub quoting_in : Option Field → Quoting → List ℕ → Quoting
+quoting_in None quoting bytes = quoting
+quoting_in (Some field) quoting bytes = quoting_past field.separator quoting bytes
+
+-- The quotes after the dropped front.
+abbrev pub quoting_of : Progress → Quoting
+quoting_of progress = if progress.is_long then progress.quoting else Ready
+
+-- A long line doesn't end at its first pending byte.
+abbrev pub GoesOn : Option Field → Progress → List ℕ → Type 0
+GoesOn field progress pending = progress.is_long ≡ true → NoEnd field progress.quoting (take 1 pending)
+
+-- These bytes in front of the first part.
+abbrev pub onto : List ℕ → List (List ℕ) → List (List ℕ)
+onto [] parts = parts
+onto (byte ∷ bytes) parts = onto_first byte (onto bytes parts)
 
 -- The bytes of a dropped front that were passed on: in mode `keep` all of them.
 abbrev pub passed : OnInvalid → List ℕ → List ℕ
@@ -60,21 +89,22 @@ AtLine progress line Holds =
 -- Some lines of the input are answered. The writer has their replies and the front that was passed
 -- on, except for the buffered bytes. The bytes after the lines are pending, except for the dropped
 -- front of a long line.
-pub record RunState (IsReply : Replies) (mode : OnInvalid) (input : List ℕ) (start now : Option (List ℕ)) (buffered pending : List ℕ) (progress : Progress) : Type 0 where
+pub record RunState (IsReply : Replies) (mode : OnInvalid) (field : Option Field) (input : List ℕ) (start now : Option (List ℕ)) (buffered pending : List ℕ) (progress : Progress) : Type 0 where
   pub lines : List (List ℕ)
   pub kept : List ℕ
   pub out : List ℕ
   pub written : List ℕ
-  pub cut : (more : List ℕ) → slice_split is_end (input ++ more) ≡ lines ++ slice_split is_end (kept ++ (pending ++ more))
+  pub cut : (more : List ℕ) → split_input field (input ++ more) ≡ lines ++ onto kept (split_from field (quoting_of progress) (pending ++ more))
   pub replies : AreReplies IsReply 0 lines out no_lines progress.tally
   pub whole : out ++ passed mode kept ≡ written ++ buffered
   pub taken : Appends start now written
   pub held : IsDroppedFront progress.is_long kept pending
+  pub goes_on : GoesOn field progress pending
   pub front : HasExcerpt progress.is_long progress.front kept
   pub number : progress.tally.lines ≡ counted (length lines)
 
 -- The run advances for any input, and for any bytes that the writer held at the start.
-abbrev pub Advances : Replies → OnInvalid → Option (List ℕ) → Option (List ℕ) → List ℕ → List ℕ → List ℕ → List ℕ → Progress → Progress → Type 0
-Advances IsReply mode old new buffered buffered_now pending pending_now progress progress_now =
-    (input : List ℕ) (start : Option (List ℕ)) → RunState IsReply mode input start old buffered pending progress
-    → RunState IsReply mode input start new buffered_now pending_now progress_now
+abbrev pub Advances : Replies → OnInvalid → Option Field → Option (List ℕ) → Option (List ℕ) → List ℕ → List ℕ → List ℕ → List ℕ → Progress → Progress → Type 0
+Advances IsReply mode field old new buffered buffered_now pending pending_now progress progress_now =
+    (input : List ℕ) (start : Option (List ℕ)) → RunState IsReply mode field input start old buffered pending progress
+    → RunState IsReply mode field input start new buffered_now pending_now progress_now

@@ -1,8 +1,8 @@
 -- The effect of a run on the bytes of its reader and its writer, if they are known.
-use Rattle.std.specs.Prelude.{◌≡◌, ◌⊎◌, ℕ, ⊤, ◌<◌, Bool, true, false, List, [], ◌∷◌, ◌++◌, length, is_some, Option, Some, None, Result, Ok, Err}
+use Rattle.std.specs.Prelude.{◌≡◌, ◌⊎◌, ℕ, ⊤, ◌<◌, Bool, true, false, List, [], ◌∷◌, ◌++◌, length, is_some, unwrap_or, Option, Some, None, Result, Ok, Err}
 use Rattle.std.specs.Io.KnownBytes.{Appends, Consumes, IsAtEnd}
 use Rattle.caldate_run.specs.Answers.{Answer}
-use Rattle.caldate_run.specs.Lines.{ended_lines, lines_of, unended}
+use Rattle.caldate_run.specs.Lines.{all_lines, ended_lines, unended}
 use Rattle.caldate_run.specs.Replies.{EndsAt, IsReplyTo}
 use Rattle.caldate_run.specs.Room.{longest_text}
 use Rattle.caldate_run.specs.RunStates.{AreReplies, IsDroppedFront, HasExcerpt, Replies, RunState, counted, no_lines, passed}
@@ -25,6 +25,10 @@ abbrev pub AppendsAnswer : (Answer → Type 0) → Result Bool NoAnswer → List
 AppendsAnswer Is (Ok true) old new = AppendsSome (λ words. Is (Ok (Some words))) old new
 AppendsAnswer Is (Ok false) old new = (new ≡ old) × Is (Ok None)
 AppendsAnswer Is (Err any) old new = (new ≡ old) × Is (Err any)
+
+-- The new bytes are the old ones and what goes out, if anything does.
+abbrev pub AppendsOut : (Option (List ℕ) → Type 0) → Bool → List ℕ → List ℕ → Type 0
+AppendsOut Is goes old new = (out : Option (List ℕ)) × (new ≡ old ++ unwrap_or out []) × (goes ≡ is_some out) × Is out
 
 -- The new bytes are the old ones and the reply to the line that the run is at, without the front
 -- that was passed on.
@@ -89,8 +93,8 @@ pub record AnswersEnded (filter : Filter) (input : List ℕ) (old new : Option (
   pub out : List ℕ
   pub front : List ℕ
   pub tally : Tally
-  pub replies : AreReplies (IsReplyTo filter) 0 (ended_lines input) out no_lines tally
-  pub passed : IsPassedOn filter.on_invalid (unended input) front
+  pub replies : AreReplies (IsReplyTo filter) 0 (ended_lines filter.field input) out no_lines tally
+  pub passed : IsPassedOn filter.on_invalid (unended filter.field input) front
   pub taken : Appends old new (out ++ front)
 
 -- The writer took exactly the replies to the lines before the one at which the run ends.
@@ -111,23 +115,23 @@ Gives old new P = (input : List ℕ) × Consumes old new input × P input
 
 -- The reader gave an input. Its lines with a line feed and the bytes after them have this property,
 -- or all of its lines at the end of the input.
-pub record ReadsLines (old new : Option (List ℕ)) (Holds : List (List ℕ) → List ℕ → Type 0) : Type 0 where
+pub record ReadsLines (filter : Filter) (old new : Option (List ℕ)) (Holds : List (List ℕ) → List ℕ → Type 0) : Type 0 where
   pub input : List ℕ
   pub given : Consumes old new input
-  pub holds : Holds (ended_lines input) (unended input) ⊎ IsAtEnd new × Holds (lines_of input) []
+  pub holds : Holds (ended_lines filter.field input) (unended filter.field input) ⊎ IsAtEnd new × Holds (all_lines filter.field input) []
 
 -- All lines of the input got their replies, and their tally has this property.
 abbrev pub AnswersInput : Filter → (Tally → Type 0) → Option (List ℕ) → Option (List ℕ) → Option (List ℕ) → Option (List ℕ) → Type 0
 AnswersInput filter Has r0 r w0 w =
-    IsAtEnd r × Gives r0 r (λ input. (tally : Tally) × Has tally × AnswersAll filter (lines_of input) tally w0 w)
+    IsAtEnd r × Gives r0 r (λ input. (tally : Tally) × Has tally × AnswersAll filter (all_lines filter.field input) tally w0 w)
 
 -- A run with this outcome read and wrote these bytes.
 abbrev pub IsRunResult : Filter → Result Unit RunError → Option (List ℕ) → Option (List ℕ) → Option (List ℕ) → Option (List ℕ) → Type 0
 IsRunResult filter (Ok done) r0 r w0 w = AnswersInput filter (λ tally. tally.first ≡ None) r0 r w0 w
 IsRunResult filter (Err (Unanswered reported)) r0 r w0 w = AnswersInput filter (λ tally. (tally ≡ reported) × (is_some tally.first ≡ true)) r0 r w0 w
-IsRunResult filter (Err (Write kind)) r0 r w0 w = ReadsLines r0 r (λ lines rest. AnswersFront filter lines rest w0 w)
+IsRunResult filter (Err (Write kind)) r0 r w0 w = ReadsLines filter r0 r (λ lines rest. AnswersFront filter lines rest w0 w)
 IsRunResult filter (Err Read) r0 r w0 w = Gives r0 r (λ input. AnswersEnded filter input w0 w)
-IsRunResult filter (Err (Stopped reported)) r0 r w0 w = ReadsLines r0 r (λ lines rest. StopsAt filter reported lines w0 w)
+IsRunResult filter (Err (Stopped reported)) r0 r w0 w = ReadsLines filter r0 r (λ lines rest. StopsAt filter reported lines w0 w)
 
 -- With this outcome, all lines of the input got their replies.
 abbrev pub IsComplete : Result Unit RunError → Type 0
@@ -144,17 +148,17 @@ WritesPage page (Err error) old new = IsOfWrite error × AppendsFront old new pa
 -- The run ends as after a failed write.
 abbrev pub FailsFrom : Filter → (List ℕ → List (List ℕ)) → (List ℕ → List ℕ) → Option (List ℕ) → Option (List ℕ) → List ℕ → List ℕ → Progress → Type 0
 FailsFrom filter lines_in rest_in old new buffered pending progress =
-    (input : List ℕ) (start : Option (List ℕ)) → RunState (IsReplyTo filter) filter.on_invalid input start old buffered pending progress
+    (input : List ℕ) (start : Option (List ℕ)) → RunState (IsReplyTo filter) filter.on_invalid filter.field input start old buffered pending progress
     → AnswersFront filter (lines_in input) (rest_in input) start new
 
 -- The run ends at this line, which has no answer.
 abbrev pub StopsFrom : Filter → UnansweredLine → (List ℕ → List (List ℕ)) → Option (List ℕ) → Option (List ℕ) → List ℕ → List ℕ → Progress → Type 0
 StopsFrom filter reported lines_in old new buffered pending progress =
-    (input : List ℕ) (start : Option (List ℕ)) → RunState (IsReplyTo filter) filter.on_invalid input start old buffered pending progress
+    (input : List ℕ) (start : Option (List ℕ)) → RunState (IsReplyTo filter) filter.on_invalid filter.field input start old buffered pending progress
     → StopsAt filter reported (lines_in input) start new
 
 -- The run ends with all lines answered.
 abbrev pub EndsFrom : Filter → Tally → Option (List ℕ) → Option (List ℕ) → List ℕ → List ℕ → Progress → Type 0
 EndsFrom filter tally old new buffered pending progress =
-    (input : List ℕ) (start : Option (List ℕ)) → RunState (IsReplyTo filter) filter.on_invalid input start old buffered pending progress
-    → AnswersAll filter (lines_of input) tally start new
+    (input : List ℕ) (start : Option (List ℕ)) → RunState (IsReplyTo filter) filter.on_invalid filter.field input start old buffered pending progress
+    → AnswersAll filter (all_lines filter.field input) tally start new

@@ -1,5 +1,5 @@
 -- The answer to a line with --scan: its texts in a form that the run reads are answered in place.
-use Rattle.std.specs.Prelude.{◌≡◌, ◌⊎◌, ℕ, ◌+◌, ◌-◌, ◌==◌, ◌||◌, ◌<◌, ◌≤◌, nat_lt, Bool, true, false, MatchBool, List, [], ◌++◌, length, take, drop, slice_index, Some, None, Ok, Err, if◌then◌else◌}
+use Rattle.std.specs.Prelude.{◌≡◌, ◌⊎◌, ℕ, ◌+◌, ◌-◌, ◌==◌, ◌||◌, ◌<◌, ◌≤◌, nat_lt, Bool, true, false, MatchBool, List, [], ◌++◌, length, take, drop, slice_index, Some, None, Result, Ok, Err, if◌then◌else◌}
 use Rattle.cal_text.specs.Position.{Begins}
 use Rattle.cal_text.specs.declared.any.DateOrMoment.{DateOrMoment}
 use Rattle.caldate_run.specs.Answers.{Answer, IsAnswer, IsNotRead, IsReadAs, keeps}
@@ -10,6 +10,7 @@ use Rattle.caldate_run.specs.declared.on_invalid.OnInvalid.TheVariants as invali
 use Rattle.caldate_run.specs.declared.request.Filter.{Filter}
 use Rattle.caldate_run.specs.declared.run.no_answer.NoAnswer.{NoAnswer}
 use Rattle.caldate_run.specs.declared.run.no_answer.NoAnswer.TheVariants as why
+use Rattle.caldate_run.specs.declared.scan.found_text.FoundText.{FoundText}
 
 -- ---- the texts of a line
 -- Bytes without an answer for this reason have one of the forms.
@@ -22,6 +23,11 @@ has_form other = true
 abbrev pub IsText : Filter → List ℕ → Type 0
 IsText filter bytes =
     (0 < length bytes) × (((found : DateOrMoment) × IsReadAs filter bytes found) ⊎ ((any : NoAnswer) × IsNotRead filter bytes any × (has_form any ≡ true)))
+
+-- What reading the bytes gives.
+abbrev pub IsReadWith : Filter → List ℕ → Result DateOrMoment NoAnswer → Type 0
+IsReadWith filter bytes (Ok found) = IsReadAs filter bytes found
+IsReadWith filter bytes (Err any) = IsNotRead filter bytes any
 
 -- The n bytes from place k of the line on.
 abbrev pub part_at : List ℕ → ℕ → ℕ → List ℕ
@@ -40,6 +46,13 @@ pub record IsTextAt (filter : Filter) (line : List ℕ) (k n : ℕ) : Type 0 whe
   pub is : IsText filter (part_at line k n)
   pub before : is_of_word (byte_before line k) ≡ false
   pub after : is_of_word (slice_index line (k + n)) ≡ false
+
+-- The text at place k is the longest there, and is read so.
+pub record IsLongestText (filter : Filter) (line : List ℕ) (k : ℕ) (text : FoundText) : Type 0 where
+  pub at : text.place ≡ k
+  pub is : IsTextAt filter line k text.count
+  pub longest : (m : ℕ) → text.count < m → ¬ IsTextAt filter line k m
+  pub read : IsReadWith filter (part_at line k text.count) text.read
 
 -- No text begins from place i to before place k.
 abbrev pub NoneFrom : Filter → List ℕ → ℕ → ℕ → Type 0
@@ -72,6 +85,13 @@ StartsAsUsual bytes = is_usual_start (slice_index bytes 0) (slice_index bytes 4)
 -- Each text starts so.
 abbrev pub StartAsUsual : Filter → Type 0
 StartAsUsual filter = (bytes : List ℕ) → IsText filter bytes → StartsAsUsual bytes
+
+-- Each text starts with a digit.
+abbrev pub StartsWithDigit : List ℕ → Type 0
+StartsWithDigit bytes = is_digit (slice_index bytes 0) ≡ true
+
+abbrev pub StartWithDigit : Filter → Type 0
+StartWithDigit filter = (bytes : List ℕ) → IsText filter bytes → StartsWithDigit bytes
 
 -- ---- the answer to the line
 -- The answer has words, which replace its text.

@@ -2,7 +2,7 @@
 use Rattle.std.specs.Prelude.{◌≡◌, ◌||◌, ℕ, Bool, List, MatchOption, Option, Some, None, is_some, option_and_then, option_map, Result, Ok, Err}
 use Rattle.cal_text.specs.declared.any.DateOrMoment.{DateOrMoment}
 use Rattle.caldate_run.specs.Answers.{Answer, IsAnswer, IsNotRead, IsReadAs}
-use Rattle.caldate_run.specs.Fields.{selected_text}
+use Rattle.caldate_run.specs.Fields.{selected_text, with_numbers}
 use Rattle.caldate_run.specs.declared.request.Field.{Field}
 use Rattle.caldate_run.specs.declared.request.FieldNumbers.{FieldNumbers}
 use Rattle.caldate_run.specs.declared.request.Filter.{Filter}
@@ -38,7 +38,7 @@ with_target target request = request
 -- ---- lines
 -- The other fields have the separator of the fields to answer, and are in quotes like them.
 abbrev pub fields_beside : Request → Field → Option Field
-fields_beside request field = option_map (λ numbers. record field { first = numbers.first; joined = numbers.joined }) (target_fields request)
+fields_beside request field = option_map (with_numbers field) (target_fields request)
 
 abbrev pub other_field : Filter → Option Field
 other_field filter = option_and_then (fields_beside filter.request) filter.field

@@ -9,6 +9,7 @@ ghost use Rattle.caldate_run.specs.Forms.{IsInForm, format_text};
 ghost use Rattle.caldate_run.specs.Replies.{reason, refused_text};
 ghost use Rattle.caldate_run.specs.Room.{HasRoom, longest_answer};
 ghost use Rattle.caldate_run.specs.Runs.{AppendsSome, AppendsAnswer};
+ghost use Rattle.caldate_run.specs.Scans.{IsReadWith};
 ghost use Rattle.caldate_run.specs.declared.run.no_answer.NoAnswer.{NoAnswer};
 
 pub(crate) mod clock;
@@ -51,7 +52,25 @@ pub fn push_answer(buffer: &mut Buffer, filter: &Filter<'_>, text: &[u8]) -> Res
     ensures few { keeps filter.now.request ≡ false
         → length buffer.new ≤ length buffer.old + longest_answer }
 {
-    let found = match read_with(filter, text) {
+    push_read(buffer, filter, text, read_with(filter, text))
+}
+
+/// Appends the answer to `text`, which is read so, and returns whether its line goes out.
+#[inline(always)]
+pub fn push_read(
+    buffer: &mut Buffer,
+    filter: &Filter<'_>,
+    text: &[u8],
+    read: Result<DateOrMoment, NoAnswer>,
+) -> Result<bool, NoAnswer>
+    requires room { HasRoom (length text.now + longest_answer) buffer.old }
+    requires read { IsReadWith filter.now text.now read }
+    ensures answered { AppendsAnswer (IsAnswer filter.now text.now) result buffer.old buffer.new }
+    ensures short { length buffer.new ≤ length buffer.old + length text.now + longest_answer }
+    ensures few { keeps filter.now.request ≡ false
+        → length buffer.new ≤ length buffer.old + longest_answer }
+{
+    let found = match read {
         Ok(found) => found,
         Err(why) => return Err(why),
     };

@@ -197,6 +197,7 @@ fn filter_of<'a>(options: Options<'a>, request: Request<'a>) -> Filter<'a>
         assumptions: assumptions_in(&options),
         workdays: workdays_in(options.workdays),
         name: options.name,
+        more: options.more,
         column: column_of(options.header, options.append),
         readers: readers_in(options.readers),
         clock: clock_of(options.zone, options.policy),

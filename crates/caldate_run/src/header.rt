@@ -13,15 +13,16 @@ use crate::output::buffer::Buffer;
 use crate::output::write_all;
 use crate::request::Field;
 use crate::run::excerpt::push_quoted;
-use crate::run::lines::{cut_return, first_line};
+use crate::run::lines::{cut_return, next_line};
+use crate::run::quoting::Quoting;
 use crate::run::run_error::RunError;
 use crate::streams::Sink;
 
 /// Returns the text of the first line, which may not have its line feed.
-pub(crate) fn header_of(input: &[u8]) -> &[u8]
-    ensures { result.now ≡ header_of input.now }
+pub(crate) fn header_of(field: Field, input: &[u8]) -> &[u8]
+    ensures { result.now ≡ header_of field input.now }
 {
-    match first_line(input) {
+    match next_line(Some(field), Quoting::Ready, input) {
         Some((line, _after)) => cut_return(line).0,
         None => cut_return(input).0,
     }

@@ -42,7 +42,8 @@ invalid, or the input or the output fails.
                                   (the default with --field and --scan), answer for the reason (the
                                   default without them), drop for nothing, or stop to end there
   caldate --field N ...           reads the N-th field of each line and replaces it by its
-                                  answer; fields end at a tab; --field=N is the same
+                                  answer; fields end at a tab; --field=N is the same; up to four
+                                  are answered one after the other
   caldate --field N-M ...         the same for the fields from N to M, as one text
   caldate --field NAME ...        with --header: the same for the field that has this name there
   caldate --append NAME ...       with --field: writes the answer as a new last field, and with --header

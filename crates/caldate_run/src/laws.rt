@@ -1,24 +1,29 @@
 //! Laws: a text has one answer, a line has one reply, a record has its fields, an answer becomes
 //! one field, and all arguments have meanings.
 ghost use Rattle.std.specs.List.{join_with_byte};
-ghost use Rattle.std.specs.Prelude.{◌≡◌, ◌==◌, ◌<◌, ℕ, List, All, Option, false, length, take, true};
+ghost use Rattle.std.specs.Prelude.{◌≡◌, ◌+◌, ◌∷◌, ◌==◌, ◌<◌, ◌≤◌, ℕ, List, All, Option, Some, false, length, map, take, true};
 ghost use Rattle.caldate_run.specs.Answers.{Answer, IsAnswer};
-ghost use Rattle.caldate_run.specs.Fields.{in_place_of, split_record};
-ghost use Rattle.caldate_run.specs.Records.{IsField};
-ghost use Rattle.caldate_run.specs.Replies.{IsReplyTo};
+ghost use Rattle.caldate_run.specs.Fields.{each_of, in_place_of, several, split_record};
+ghost use Rattle.caldate_run.specs.Lines.{all_lines};
+ghost use Rattle.caldate_run.specs.Records.{IsField, IsRecord, records_text};
+ghost use Rattle.caldate_run.specs.Replies.{AreAnswers, IsAnswerToPart, IsReplyTo};
 ghost use Rattle.caldate_run.specs.Meanings.{AreMeanings, Meanings};
 ghost use Rattle.caldate_run.specs.Requests.{arguments_of};
+ghost use Rattle.caldate_run.specs.Room.{longest_left, longest_text};
 ghost use Rattle.caldate_run.specs.Scans.{IsScanned, part_at};
 ghost use Rattle.caldate_run.specs.Targets.{IsAnswerAt};
 ghost use Rattle.caldate_run.specs.Zones.{AreOfFiles};
+ghost use Rattle.caldate_run.specs.declared.run.no_answer.NoAnswer.{NoAnswer};
 ghost use Rattle.caldate_run.specs.declared.run.tally.Tally.{Tally};
 
-use crate::answer::read_with;
+use crate::answer::{LONGEST_TEXT, read_with};
 use crate::args::formats::format_of;
 use crate::args::options::cut_value;
 use crate::args::words::cut;
 use crate::input::fields::selected_text;
-use crate::request::{Field, Filter};
+use crate::output::buffer::Buffer;
+use crate::request::{Field, FieldNumbers, Filter};
+use crate::run::each::push_part;
 use crate::run::lines::cut_return;
 use crate::run::no_answer::NoAnswer;
 use crate::run::other::{other_field, read_other};
@@ -41,7 +46,58 @@ pub fn one_reply(filter: &Filter<'_>, line: &[u8]) -> Option<Result<DateOrMoment
 {
     let (text, _has_return) = cut_return(line);
     one_scan(filter, text);
+    one_several(filter, text);
     let asked = selected_text(filter.field, text)?;
+    Some(one_answer_at(filter, text, asked))
+}
+
+/// Proves that several fields leave one text, and have one first reason.
+fn one_several(filter: &Filter<'_>, text: &[u8])
+    ensures { (out other : Option (List ℕ)) (first later : Option NoAnswer) → length text.now ≤ longest_text
+        → AreAnswers filter.now (several filter.now.field filter.now.more) (Some text.now) out first
+        → AreAnswers filter.now (several filter.now.field filter.now.more) (Some text.now) other later
+        → (out ≡ other) × (first ≡ later) }
+{
+    let Some(field) = filter.field else {
+        return;
+    };
+    if text.len() > LONGEST_TEXT {
+        return;
+    }
+    one_each(filter, field, filter.more.as_slice(), text);
+}
+
+/// Proves the same for a field and the fields after it.
+fn one_each(filter: &Filter<'_>, field: Field, more: &[FieldNumbers], text: &[u8])
+    requires few { length more.now ≤ 3 }
+    requires fits { length text.now + length more.now < longest_left }
+    ensures { (out other : Option (List ℕ)) (first later : Option NoAnswer)
+        → AreAnswers filter.now (field ∷ each_of field more.now) (Some text.now) out first
+        → AreAnswers filter.now (field ∷ each_of field more.now) (Some text.now) other later
+        → (out ≡ other) × (first ≡ later) }
+{
+    one_part(filter, field, text);
+    let mut buffer = Buffer::new();
+    let (goes_out, _why) = push_part(&mut buffer, filter, field, text);
+    let [next, others @ ..] = more else {
+        return;
+    };
+    if !goes_out {
+        return;
+    }
+    one_each(filter, field.with_numbers(*next), others, buffer.as_bytes());
+}
+
+/// Proves that no field of a text has two answers.
+fn one_part(
+    filter: &Filter<'_>,
+    field: Field,
+    text: &[u8],
+) -> Option<Result<DateOrMoment, NoAnswer>>
+    ensures { (answer other : Answer) → IsAnswerToPart filter.now field text.now answer
+        → IsAnswerToPart filter.now field text.now other → answer ≡ other }
+{
+    let asked = selected_text(Some(field), text)?;
     Some(one_answer_at(filter, text, asked))
 }
 
@@ -87,13 +143,22 @@ fn one_answer_before(filter: &Filter<'_>, bytes: &[u8])
     }
 }
 
-/// Proves that the fields of a record of RFC 4180 on one line are split at its separators, which
-/// are not quotes.
+/// Proves that the fields of a record of RFC 4180 are split at its separators, which are not quotes.
 #[tactic(auto, using(crate::proofs::RecordFields::fields_are))]
 pub fn record_fields(separator: u8)
     ensures { (fields : List (List ℕ)) → (34 == separator) ≡ false → 0 < length fields
         → All (IsField separator) fields
-        → split_record separator false (join_with_byte separator fields) ≡ fields }
+        → split_record separator (join_with_byte separator fields) ≡ fields }
+{}
+
+/// Proves that the records of RFC 4180 are the lines of an input, which may have quoted line feeds.
+/// The separator is not a line feed.
+#[tactic(auto, using(crate::proofs::RecordFields::records_are))]
+pub fn records(field: Field)
+    ensures { (records : List (List (List ℕ))) → field.csv ≡ true → (34 == field.separator) ≡ false
+        → (10 == field.separator) ≡ false → All (IsRecord field.separator) records
+        → all_lines (Some field) (records_text field.separator records)
+        ≡ map (join_with_byte field.separator) records }
 {}
 
 /// Proves that an answer becomes a field of a record of RFC 4180.

@@ -13,6 +13,7 @@ pub mod holidays;
 mod input;
 pub mod laws;
 pub mod list;
+pub mod more_fields;
 pub mod on_invalid;
 mod output;
 pub mod program;

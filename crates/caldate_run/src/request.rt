@@ -1,9 +1,11 @@
 //! Requests, and how they apply to the lines.
 ghost use Rattle.std.specs.Prelude.{◌≡◌, MatchOption, None, Some, is_some};
 ghost use Rattle.caldate_run.specs.Answers.{counts_workdays, keeps};
+ghost use Rattle.caldate_run.specs.Fields.{with_numbers};
 ghost use Rattle.caldate_run.specs.Targets.{reads_other, target_fields, target_name};
 
 use crate::field_name::FieldName;
+use crate::more_fields::MoreFields;
 use crate::on_invalid::OnInvalid;
 use crate::reading::Readers;
 use crate::reading::reader::Assumptions;
@@ -258,6 +260,19 @@ pub struct Field {
     pub appends: bool,
 }
 
+impl Field {
+    /// Returns the same field with other numbers.
+    pub fn with_numbers(self, numbers: FieldNumbers) -> Self
+        ensures { result ≡ with_numbers self numbers }
+    {
+        Field {
+            first: numbers.first,
+            joined: numbers.joined,
+            ..self
+        }
+    }
+}
+
 /// A request with its options.
 #[derive(Drop)]
 pub struct Filter<'a> {
@@ -275,6 +290,8 @@ pub struct Filter<'a> {
     pub on_invalid: OnInvalid,
     /// The field to answer, or `None` for the whole line.
     pub field: Option<Field>,
+    /// The fields to answer after it, which have its separator.
+    pub more: MoreFields,
     /// `true` if each text in the line that has a form is answered, and not the whole line.
     pub scans: bool,
     /// The name of the field to answer, whose number isn't known yet.

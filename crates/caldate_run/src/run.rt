@@ -2,13 +2,14 @@
 ghost use Rattle.std.specs.Prelude.{◌≡◌, ◌<◌, ◌≤◌, ◌+◌, ◌-◌, ◌++◌, ℕ, List, [], false, true, is_some, length, drop, None, Option, OnOk, OnErr, IfOk, IfErr, IsErrAnd, IsErrOf};
 ghost use Rattle.std.specs.Io.KnownBytes.{Appends, Consumes};
 ghost use Rattle.caldate_run.specs.Calls.{Reads, Writes, has_read_failure, kind_of, most_reads, write_failure};
-ghost use Rattle.caldate_run.specs.Lines.{ended_lines, lines_of, unended};
+ghost use Rattle.caldate_run.specs.Lines.{all_lines, ended_lines, unended};
 ghost use Rattle.caldate_run.specs.Replies.{IsReplyTo};
 ghost use Rattle.caldate_run.specs.Room.{HasRoom, capacity, longest_reply, longest_text};
 ghost use Rattle.caldate_run.specs.Runs.{AppendsFront, IsRunResult, EndsFrom, FailsFrom, IsEarly, IsOfWrite, StopsFrom};
-ghost use Rattle.caldate_run.specs.RunStates.{Advances, NoEnd, passed};
+ghost use Rattle.caldate_run.specs.RunStates.{Advances, NoEnd, passed, quoting_of};
 ghost use Rattle.caldate_run.specs.declared.run.unanswered.UnansweredLine.{UnansweredLine};
 
+pub(crate) mod each;
 pub mod ending;
 pub mod excerpt;
 pub mod lines;
@@ -16,6 +17,7 @@ pub(crate) mod named;
 pub mod no_answer;
 pub(crate) mod other;
 pub(crate) mod progress;
+pub mod quoting;
 pub(crate) mod record;
 pub(crate) mod reply;
 pub mod run_error;
@@ -28,8 +30,9 @@ use crate::output::buffer::Buffer;
 use crate::output::write_all;
 use crate::request::Filter;
 use crate::run::excerpt::Excerpt;
-use crate::run::lines::first_line;
+use crate::run::lines::{next_line, quoting_in};
 use crate::run::progress::Progress;
+use crate::run::quoting::Quoting;
 use crate::run::reply::{describe_line, push_reply};
 use crate::run::run_error::RunError;
 use crate::run::tally::Tally;
@@ -83,6 +86,7 @@ pub(crate) fn answer_input<R: Source, W: Sink>(
         },
         is_long: false,
         front: Excerpt::new(b""),
+        quoting: Quoting::Ready,
     };
     let mut reads = most;
     loop {
@@ -115,15 +119,15 @@ fn answer_read<W: Sink>(
     requires { buffer.old ≡ [] }
     ensures none { OnOk result (buffer.new ≡ []) }
     ensures few { OnOk result (length input.new ≤ longest_text + 1) }
-    ensures no_end { OnOk result (NoEnd input.new) }
-    ensures ok { OnOk result (Advances (IsReplyTo filter.now) filter.now.on_invalid
+    ensures no_end { OnOk result (NoEnd filter.now.field (quoting_of progress.new) input.new) }
+    ensures ok { OnOk result (Advances (IsReplyTo filter.now) filter.now.on_invalid filter.now.field
         (W.contents writer.old) (W.contents writer.new) [] [] input.old input.new progress.old
         progress.new) }
     ensures write { IsErrAnd result IsOfWrite
-        → FailsFrom filter.now ended_lines unended (W.contents writer.old)
+        → FailsFrom filter.now (ended_lines filter.now.field) (unended filter.now.field) (W.contents writer.old)
         (W.contents writer.new) [] input.old progress.old }
     ensures stopped { (reported : UnansweredLine) → IsErrOf result (RunError.Stopped reported)
-        → StopsFrom filter.now reported ended_lines (W.contents writer.old)
+        → StopsFrom filter.now reported (ended_lines filter.now.field) (W.contents writer.old)
         (W.contents writer.new) [] input.old progress.old }
     ensures others { IfErr result IsEarly }
     ensures writes { Writes W.write_gives writer.old (write_failure result) writer.new }
@@ -149,22 +153,22 @@ fn answer_lines<W: Sink>(
 ) -> Result<usize, RunError>
     requires { length bytes.now ≤ capacity }
     ensures within { IfOk result (λ left. left ≤ length bytes.now) }
-    ensures no_end { IfOk result (λ left. NoEnd (drop (length bytes.now - left) bytes.now)) }
+    ensures no_end { IfOk result (λ left. NoEnd filter.now.field (quoting_of progress.new) (drop (length bytes.now - left) bytes.now)) }
     ensures ok { IfOk result (λ left.
-        Advances (IsReplyTo filter.now) filter.now.on_invalid (W.contents writer.old)
+        Advances (IsReplyTo filter.now) filter.now.on_invalid filter.now.field (W.contents writer.old)
         (W.contents writer.new) buffer.old buffer.new
         bytes.now (drop (length bytes.now - left) bytes.now) progress.old progress.new) }
     ensures write { IsErrAnd result IsOfWrite
-        → FailsFrom filter.now ended_lines unended (W.contents writer.old)
+        → FailsFrom filter.now (ended_lines filter.now.field) (unended filter.now.field) (W.contents writer.old)
         (W.contents writer.new) buffer.old bytes.now progress.old }
     ensures stopped { (reported : UnansweredLine) → IsErrOf result (RunError.Stopped reported)
-        → StopsFrom filter.now reported ended_lines (W.contents writer.old)
+        → StopsFrom filter.now reported (ended_lines filter.now.field) (W.contents writer.old)
         (W.contents writer.new) buffer.old bytes.now progress.old }
     ensures others { IfErr result IsEarly }
     ensures writes { Writes W.write_gives writer.old (write_failure result) writer.new }
 {
     let mut rest = bytes;
-    while let Some((line, after)) = first_line(rest) {
+    while let Some((line, after)) = next_line(filter.field, progress.quoting(), rest) {
         make_room(buffer, line.len(), writer)?;
         match push_reply(buffer, filter, progress, line) {
             Ok(()) => {}
@@ -203,16 +207,16 @@ fn answer_last<W: Sink>(
     writer: &mut W,
     line: &[u8],
 ) -> Result<(), RunError>
-    requires no_end { NoEnd line.now }
+    requires no_end { NoEnd filter.now.field (quoting_of progress.old) line.now }
     requires none { buffer.old ≡ [] }
     requires few { length line.now ≤ longest_text + 1 }
     ensures ok { OnOk result (EndsFrom filter.now progress.new.tally (W.contents writer.old)
         (W.contents writer.new) [] line.now progress.old) }
     ensures write { IsErrAnd result IsOfWrite
-        → FailsFrom filter.now lines_of (λ _. []) (W.contents writer.old)
+        → FailsFrom filter.now (all_lines filter.now.field) (λ _. []) (W.contents writer.old)
         (W.contents writer.new) [] line.now progress.old }
     ensures stopped { (reported : UnansweredLine) → IsErrOf result (RunError.Stopped reported)
-        → StopsFrom filter.now reported lines_of (W.contents writer.old)
+        → StopsFrom filter.now reported (all_lines filter.now.field) (W.contents writer.old)
         (W.contents writer.new) [] line.now progress.old }
     ensures others { IfErr result IsEarly }
     ensures writes { Writes W.write_gives writer.old (write_failure result) writer.new }
@@ -249,20 +253,22 @@ fn discard_long_line<W: Sink>(
     progress: &mut Progress,
     writer: &mut W,
 ) -> Result<(), RunError>
-    requires { NoEnd input.old }
+    requires { NoEnd filter.now.field (quoting_of progress.old) input.old }
     ensures few { OnOk result (length input.new ≤ longest_text + 1) }
-    ensures no_end { OnOk result (NoEnd input.new) }
-    ensures advances { OnOk result (Advances (IsReplyTo filter.now) filter.now.on_invalid
+    ensures no_end { OnOk result (NoEnd filter.now.field (quoting_of progress.new) input.new) }
+    ensures advances { OnOk result (Advances (IsReplyTo filter.now) filter.now.on_invalid filter.now.field
         (W.contents writer.old) (W.contents writer.new) [] [] input.old input.new progress.old
         progress.new) }
-    ensures failed { OnErr result (FailsFrom filter.now ended_lines unended
+    ensures failed { OnErr result (FailsFrom filter.now (ended_lines filter.now.field) (unended filter.now.field)
         (W.contents writer.old) (W.contents writer.new) [] input.old progress.old) }
     ensures err { IfErr result IsOfWrite }
     ensures writes { Writes W.write_gives writer.old (write_failure result) writer.new }
 {
     if input.len() > MAX_KEPT {
         let bytes = input.as_bytes();
-        pass_on(filter.on_invalid, &bytes[..bytes.len() - 1], writer)?;
+        let front = &bytes[..bytes.len() - 1];
+        pass_on(filter.on_invalid, front, writer)?;
+        progress.quoting = quoting_in(filter.field, progress.quoting(), front);
         progress.front = progress.excerpt_of(input.as_bytes());
         input.keep_last(1);
         progress.is_long = true;

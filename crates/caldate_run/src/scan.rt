@@ -1,8 +1,11 @@
 //! The texts in a line that have a form.
 ghost use Rattle.std.specs.Prelude.{◌≡◌, ℕ, ◌+◌, ◌<◌, ◌≤◌, IfSome, MatchOption, false, length, slice_index, true};
-ghost use Rattle.caldate_run.specs.Scans.{HasNoText, IsFirstText, IsText, IsTextAt, StartAsUsual, byte_before, has_form, is_of_word, is_usual_start, part_at};
+ghost use Rattle.caldate_run.specs.Offsets.{is_digit};
+ghost use Rattle.caldate_run.specs.Scans.{HasNoText, IsFirstText, IsLongestText, IsReadWith, IsText, IsTextAt, StartAsUsual, StartWithDigit, byte_before, has_form, is_of_word, is_usual_start, part_at};
 
 pub(crate) mod bound;
+pub(crate) mod digit_start;
+pub(crate) mod found_text;
 pub(crate) mod push;
 pub(crate) mod start;
 
@@ -10,76 +13,93 @@ use crate::answer::read_with;
 use crate::request::Filter;
 use crate::run::no_answer::NoAnswer;
 use crate::scan::bound::bound_of;
+use crate::scan::digit_start::start_with_digit;
+use crate::scan::found_text::FoundText;
 use crate::scan::start::{is_usual_start, start_as_usual};
 use crate::zones::is_letter;
+use cal_text::DateOrMoment;
 
-/// Returns the place and the length of the first text from a place of the line on. In
-/// `due 2024-02-29, paid`, these are 4 and 10.
-pub fn first_text(filter: &Filter<'_>, line: &[u8], from: usize) -> Option<(usize, usize)>
+/// Returns the first text from a place of the line on. In `due 2024-02-29, paid`, it has place 4
+/// and 10 bytes.
+pub fn first_text(filter: &Filter<'_>, line: &[u8], from: usize) -> Option<FoundText>
     ensures first { MatchOption result (HasNoText filter.now line.now from)
-        (λ at. IsFirstText filter.now line.now from at.0 at.1) }
-    ensures within { IfSome result (λ at.
-        (from ≤ at.0) × (0 < at.1) × (at.0 + at.1 ≤ length line.now)) }
+        (λ text. IsFirstText filter.now line.now from text.place text.count) }
+    ensures read { IfSome result (λ text.
+        IsReadWith filter.now (part_at line.now text.place text.count) text.read) }
+    ensures within { IfSome result (λ text. (from ≤ text.place) × (0 < text.count)
+        × (text.place + text.count ≤ length line.now)) }
 {
     let usual = start_as_usual(filter);
+    let digit = start_with_digit(filter);
     for place in from..line.len() {
-        let count = text_length(filter, usual, line, place);
-        if count > 0 {
-            return Some((place, count));
+        if !may_begin(filter, usual, digit, line, place) {
+            continue;
+        }
+        if let Some(text) = longest_text(filter, line, place) {
+            return Some(text);
         }
     }
     None
 }
 
-/// Returns the length of the longest text at a place, or 0 if none begins there. With `usual`, two
-/// bytes rule out most places.
+/// Returns `false` only if no text begins at the place. With `usual` two bytes rule out most places,
+/// and with `digit` one.
 #[inline(always)]
-fn text_length(filter: &Filter<'_>, usual: bool, line: &[u8], place: usize) -> usize
+fn may_begin(filter: &Filter<'_>, usual: bool, digit: bool, line: &[u8], place: usize) -> bool
     requires place { place ≤ length line.now }
     requires usual { usual ≡ true → StartAsUsual filter.now }
-    ensures is { 0 < result → IsTextAt filter.now line.now place result }
-    ensures longest { (n : ℕ) → result < n → ¬ IsTextAt filter.now line.now place n }
+    requires digit { digit ≡ true → StartWithDigit filter.now }
+    ensures none { result ≡ false → (n : ℕ) → ¬ IsTextAt filter.now line.now place n }
+    ensures before { result ≡ true → is_of_word (byte_before line.now place) ≡ false }
 {
     if usual && !is_usual_start(byte_at(line, place), byte_at(line, place + 4)) {
-        return 0;
+        return false;
+    }
+    if digit && !is_digit(byte_at(line, place)) {
+        return false;
     }
     if is_of_word(byte_before(line, place)) {
-        return 0;
+        return false;
     }
-    longest_text(filter, line, place)
+    true
 }
 
-/// Returns the length of the longest text at a place that is not after a letter or a digit, or 0 if
-/// none begins there.
+/// Returns the longest text at a place that is not after a letter or a digit, if one begins there.
 #[inline(never)]
-fn longest_text(filter: &Filter<'_>, line: &[u8], place: usize) -> usize
+fn longest_text(filter: &Filter<'_>, line: &[u8], place: usize) -> Option<FoundText>
     requires place { place ≤ length line.now }
     requires before { is_of_word (byte_before line.now place) ≡ false }
-    ensures is { 0 < result → IsTextAt filter.now line.now place result }
-    ensures longest { (n : ℕ) → result < n → ¬ IsTextAt filter.now line.now place n }
+    ensures { MatchOption result ((n : ℕ) → ¬ IsTextAt filter.now line.now place n)
+        (IsLongestText filter.now line.now place) }
 {
     let mut count = bound_of(filter, &line[place..]);
     while count > 0 {
-        if is_text_at(filter, line, place, count) {
-            return count;
+        if let Some(read) = read_at(filter, line, place, count) {
+            return Some(FoundText { place, count, read });
         }
         count -= 1;
     }
-    count
+    None
 }
 
-/// Returns whether these bytes of the line, which follow no letter or digit, are a text.
-fn is_text_at(filter: &Filter<'_>, line: &[u8], place: usize, count: usize) -> bool
+/// Reads these bytes of the line, which follow no letter or digit, if they are a text.
+fn read_at(
+    filter: &Filter<'_>,
+    line: &[u8],
+    place: usize,
+    count: usize,
+) -> Option<Result<DateOrMoment, NoAnswer>>
     requires some { 0 < count }
     requires within { place + count ≤ length line.now }
     requires before { is_of_word (byte_before line.now place) ≡ false }
-    ensures has { result ≡ true → IsTextAt filter.now line.now place count }
-    ensures none { result ≡ false → ¬ IsTextAt filter.now line.now place count }
+    ensures { MatchOption result (¬ IsTextAt filter.now line.now place count)
+        (λ read. IsTextAt filter.now line.now place count
+        × IsReadWith filter.now (part_at line.now place count) read) }
 {
     if is_of_word(byte_at(line, place + count)) {
-        return false;
+        return None;
     }
-    is_text(filter, part_at(line, place, count))
+    read_text(filter, part_at(line, place, count))
 }
 
 /// Returns the bytes from a place of the line on.
@@ -91,15 +111,15 @@ pub fn part_at(line: &[u8], place: usize, count: usize) -> &[u8]
     &line[place..place + count]
 }
 
-/// Returns whether the bytes have one of the forms, perhaps with a component out of range.
-fn is_text(filter: &Filter<'_>, bytes: &[u8]) -> bool
+/// Reads the bytes if they have one of the forms, perhaps with a component out of range.
+fn read_text(filter: &Filter<'_>, bytes: &[u8]) -> Option<Result<DateOrMoment, NoAnswer>>
     requires { 0 < length bytes.now }
-    ensures has { result ≡ true → IsText filter.now bytes.now }
-    ensures none { result ≡ false → ¬ IsText filter.now bytes.now }
+    ensures { MatchOption result (¬ IsText filter.now bytes.now)
+        (λ read. IsText filter.now bytes.now × IsReadWith filter.now bytes.now read) }
 {
     match read_with(filter, bytes) {
-        Ok(_found) => true,
-        Err(why) => has_form(why),
+        Ok(found) => Some(Ok(found)),
+        Err(why) => { if has_form(why) { Some(Err(why)) } else { None } }
     }
 }
 
@@ -139,5 +159,11 @@ fn byte_at(line: &[u8], index: usize) -> u8
 fn is_of_word(byte: u8) -> bool
     ensures { result ≡ is_of_word byte }
 {
-    is_letter(byte) || byte.is_ascii_digit()
+    is_letter(byte) || is_digit(byte)
+}
+
+fn is_digit(byte: u8) -> bool
+    ensures { result ≡ is_digit byte }
+{
+    byte.is_ascii_digit()
 }

@@ -1,7 +1,7 @@
 //! The options before a request.
 ghost use Rattle.std.specs.Prelude.{◌≡◌, ℕ, ◌+◌, ◌≤◌, ◌^◌, ◌∷◌, List, IfOk, None, length, true};
 ghost use Rattle.caldate_run.specs.Meanings.{AreMeanings, AreMeant, IsMeaning, Meanings, name_of, value_in};
-ghost use Rattle.caldate_run.specs.Requests.{any_local, any_own, any_yearless, assumptions_in, byte_of, field_number_of, field_numbers_of, field_of, fields_from, has_own, has_room, invalid_of, is_flag, is_local, is_name, is_option, is_yearless, lacks_offset, shows_offset, year_of, conflict_in, conflict_with_readers, conflict_with_zone, no_options, options_after, options_from, policy_of, readers_in, skip_of, value_of, with_field, with_flag, with_reader, with_value, words_left};
+ghost use Rattle.caldate_run.specs.Requests.{any_local, any_own, any_yearless, assumptions_in, byte_of, field_number_of, field_numbers_of, field_of, fields_from, has_own, has_room, invalid_of, is_flag, is_local, is_name, is_option, is_yearless, lacks_offset, shows_offset, year_of, conflict_in, conflict_with_readers, conflict_with_zone, no_options, options_after, options_from, policy_of, readers_in, skip_of, value_of, with_field, with_flag, with_next, with_reader, with_value, words_left};
 ghost use Rattle.caldate_run.specs.Zones.{AreOfFiles};
 
 use crate::args::formats::reader_of;
@@ -11,6 +11,7 @@ use crate::args::usage_error::{Expected, UsageError, usage_error_at};
 use crate::args::words::cut;
 use crate::field_name::FieldName;
 use crate::holidays::workdays_of;
+use crate::more_fields::{MAX_MORE, MoreFields};
 use crate::on_invalid::OnInvalid;
 use crate::reading::reader::{Assumptions, Reader};
 use crate::reading::spelling::Spelling;
@@ -32,6 +33,8 @@ pub struct Options<'a> {
     pub fields: Option<FieldNumbers>,
     /// The name of `--field NAME`, for which `fields` has the number 1.
     pub name: Option<FieldName<'a>>,
+    /// The fields of the other `--field N` or `--field N-M`.
+    pub more: MoreFields,
     /// The name of `--append NAME`.
     pub append: Option<FieldName<'a>>,
     /// `true` if `--header` is given.
@@ -66,6 +69,7 @@ fn no_options() -> Options<'static>
         on_invalid: None,
         fields: None,
         name: None,
+        more: MoreFields::new(),
         append: None,
         header: false,
         csv: false,
@@ -180,6 +184,8 @@ fn value_of(options: &Options<'_>, word: &[u8]) -> Option<Expected>
         Some(Expected::Invalid)
     } else if word == b"--field".as_slice() && options.fields.is_none() {
         Some(Expected::FieldNumber)
+    } else if word == b"--field".as_slice() && options.more.as_slice().len() < MAX_MORE {
+        Some(Expected::NextField)
     } else if word == b"--append".as_slice() && options.append.is_none() {
         Some(Expected::Column)
     } else if word == b"--separator".as_slice() && options.separator.is_none() {
@@ -253,6 +259,7 @@ fn with_value<'a>(
     match expected {
         Expected::Invalid => more.on_invalid = Some(invalid_of(value)?),
         Expected::FieldNumber => return with_field(more, value),
+        Expected::NextField => return with_next(more, field_numbers_of(value)?),
         Expected::Column => more.append = Some(FieldName::new(value)),
         Expected::Separator => more.separator = Some(byte_of(value)?),
         Expected::Skip => more.skip = Some(skip_of(value)?),
@@ -282,6 +289,18 @@ fn with_field<'a>(options: Options<'a>, value: &'a [u8]) -> Option<Options<'a>>
     }
     more.fields = Some(field_numbers_of(value)?);
     Some(more)
+}
+
+/// Adds the numbers of other fields, or returns `None` if three are given.
+fn with_next(options: Options<'_>, field: FieldNumbers) -> Option<Options<'_>>
+    ensures { result ≡ with_next options.entry field }
+{
+    let mut more = options;
+    if more.more.try_push(field) {
+        Some(more)
+    } else {
+        None
+    }
 }
 
 /// Returns whether the word is read as a name of a field, and not as numbers.
@@ -550,6 +569,8 @@ pub fn conflict_in(options: &Options<'_>) -> Option<Expected>
         Some(Expected::CsvField)
     } else if options.append.is_some() && options.fields.is_none() {
         Some(Expected::AppendField)
+    } else if options.append.is_some() && options.more.as_slice().len() > 0 {
+        Some(Expected::AppendFields)
     } else if options.csv && options.separator == Some(b'"') {
         Some(Expected::CsvSeparator)
     } else if options.name.is_some() && !options.header {

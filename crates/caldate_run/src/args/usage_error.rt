@@ -25,6 +25,8 @@ pub enum Expected {
     CsvField,
     /// `--field`, which `--append` requires.
     AppendField,
+    /// A single `--field`, which `--append` requires.
+    AppendFields,
     /// A request that isn't `keep`, which `--append` requires.
     AppendKeep,
     /// `--field`, which `field N` after `until` or `since` requires.
@@ -37,6 +39,8 @@ pub enum Expected {
     Invalid,
     /// A number from 1 to 65535, two such numbers, or a name.
     FieldNumber,
+    /// A number from 1 to 65535, or two such numbers.
+    NextField,
     /// A name of a new last field.
     Column,
     /// One byte.

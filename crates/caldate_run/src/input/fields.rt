@@ -1,9 +1,11 @@
 //! The fields of a line.
-ghost use Rattle.std.specs.Prelude.{◌≡◌, ◌+◌, ◌<◌, ◌≤◌, ◌++◌, ◌∷◌, [], ℕ, List, Some, None, IfSome, IsTrue, MatchOption, drop, false, length, take};
-ghost use Rattle.caldate_run.specs.Fields.{HasFirst, IsAfter, fields_of, in_place_of, is_quoted, part_of, selected_text, split_record, with_part, within_quotes};
+ghost use Rattle.std.specs.Prelude.{◌≡◌, ◌+◌, ◌<◌, ◌≤◌, ◌++◌, ◌∷◌, [], ℕ, List, Some, None, IfSome, IsTrue, MatchOption, drop, false, length, slice_index, take};
+ghost use Rattle.caldate_run.specs.Fields.{HasFirst, IsAfter, fields_of, in_place_of, is_quote, is_quoted, part_of, selected_text, split_outside_quotes, with_part, within_quotes};
+ghost use Rattle.caldate_run.specs.declared.run.quoting.Quoting.TheVariants.{Ready};
 
 use crate::request::Field;
 use crate::run::lines::index_of;
+use crate::run::quoting::Quoting;
 
 /// Returns the fields of the text within their quotes, if the text has them. Without fields,
 /// returns the whole text.
@@ -105,29 +107,39 @@ fn separator_index(field: Field, bytes: &[u8]) -> Option<usize>
         ≡ take at bytes.now ∷ fields_of field (drop (at + 1) bytes.now))
         × (bytes.now ≡ take at bytes.now ++ field.separator ∷ drop (at + 1) bytes.now)) }
 {
-    if field.csv {
-        index_outside_quotes(field.separator, bytes)
+    if field.csv && has_first_quote(bytes) {
+        index_outside_quotes(field.separator, field.separator, Quoting::Ready, bytes)
     } else {
         index_of(field.separator, bytes)
     }
 }
 
-/// Returns the index of the first separator outside of quotes.
-#[inline(never)]
-fn index_outside_quotes(separator: u8, bytes: &[u8]) -> Option<usize>
-    ensures { MatchOption result (split_record separator false bytes.now ≡ bytes.now ∷ [])
-        (λ at. (at < length bytes.now) × (split_record separator false bytes.now
-        ≡ take at bytes.now ∷ split_record separator false (drop (at + 1) bytes.now))
-        × (bytes.now ≡ take at bytes.now ++ separator ∷ drop (at + 1) bytes.now)) }
+/// Returns whether the first byte is a quote.
+fn has_first_quote(bytes: &[u8]) -> bool
+    ensures { result ≡ is_quote (slice_index bytes.now 0) }
 {
-    let mut quoted = false;
+    match bytes {
+        [b'"', ..] => true,
+        _ => false,
+    }
+}
+
+/// Returns the index of the first byte `end` outside of quotes, from a state of the quotes on.
+#[inline(never)]
+pub fn index_outside_quotes(end: u8, separator: u8, quoting: Quoting, bytes: &[u8]) -> Option<usize>
+    ensures { MatchOption result
+        (split_outside_quotes end separator quoting bytes.now ≡ bytes.now ∷ [])
+        (λ at. (at < length bytes.now) × ((more : List ℕ)
+        → split_outside_quotes end separator quoting (bytes.now ++ more)
+        ≡ take at bytes.now ∷ split_outside_quotes end separator Ready (drop (at + 1) bytes.now ++ more))
+        × (bytes.now ≡ take at bytes.now ++ end ∷ drop (at + 1) bytes.now)) }
+{
+    let mut state = quoting;
     for (i, byte) in bytes.iter().enumerate() {
-        if *byte == separator && !quoted {
+        if *byte == end && !state.is_open() {
             return Some(i);
         }
-        if *byte == b'"' {
-            quoted = !quoted;
-        }
+        state = state.after(separator, *byte);
     }
     None
 }

@@ -1,18 +1,105 @@
 //! The lines of the input.
-ghost use Rattle.std.specs.Prelude.{◌≡◌, ◌∷◌, ◌+◌, ◌++◌, ◌<◌, ◌≤◌, ◌==◌, length, position, MatchOption, if◌then◌else◌};
+ghost use Rattle.std.specs.Prelude.{◌≡◌, ◌∷◌, ◌+◌, ◌++◌, ◌<◌, ◌≤◌, ◌==◌, [], ℕ, List, None, drop, false, length, position, take, MatchOption, if◌then◌else◌};
 ghost use Rattle.caldate_run.specs.Lines.{has_return, text_of};
-ghost use Rattle.caldate_run.specs.RunStates.{NoEnd};
+ghost use Rattle.caldate_run.specs.Fields.{is_quote, quoting_past, split_outside_quotes};
+ghost use Rattle.caldate_run.specs.RunStates.{FirstEnds, HasNoFeed, NoEnd, quoting_in};
+ghost use Rattle.caldate_run.specs.declared.run.quoting.Quoting.TheVariants.{Ready};
+
+use crate::input::fields::index_outside_quotes;
+use crate::request::Field;
+use crate::run::quoting::Quoting;
 
 /// Returns the first complete line, without its line feed, and the bytes after it.
 #[tactic(auto, using(crate::proofs::Parts::first_ends, crate::proofs::Parts::none_ends, std::proofs::lemmas::List::take_rest))]
 pub fn first_line(bytes: &[u8]) -> Option<(&[u8], &[u8])>
-    ensures parts { MatchOption result (NoEnd bytes.now)
-        (λ parts. NoEnd parts.0.now × (bytes.now ≡ parts.0.now ++ 10 ∷ parts.1.now)) }
+    ensures parts { MatchOption result (HasNoFeed bytes.now)
+        (λ parts. HasNoFeed parts.0.now × (bytes.now ≡ parts.0.now ++ 10 ∷ parts.1.now)) }
     ensures shorter { MatchOption result (length bytes.now ≡ length bytes.now)
         (λ parts. length parts.1.now < length bytes.now) }
 {
     let at = index_of(b'\n', bytes)?;
     Some((&bytes[..at], &bytes[at + 1..]))
+}
+
+/// Returns the first complete line from a state of the quotes on, without its line feed, and the
+/// bytes after it. A line feed in the quotes of a CSV record doesn't end it.
+#[inline(always)]
+pub fn next_line(field: Option<Field>, quoting: Quoting, bytes: &[u8]) -> Option<(&[u8], &[u8])>
+    ensures parts { MatchOption result (NoEnd field quoting bytes.now)
+        (λ parts. FirstEnds field quoting bytes.now parts.0.now parts.1.now) }
+    ensures whole { MatchOption result (length bytes.now ≡ length bytes.now)
+        (λ parts. bytes.now ≡ parts.0.now ++ 10 ∷ parts.1.now) }
+    ensures shorter { MatchOption result (length bytes.now ≡ length bytes.now)
+        (λ parts. length parts.1.now < length bytes.now) }
+{
+    match field {
+        Some(field) if field.csv => first_record(field.separator, quoting, bytes),
+        _ => first_line(bytes),
+    }
+}
+
+/// Returns the first complete record, without its line feed, and the bytes after it.
+fn first_record(separator: u8, quoting: Quoting, bytes: &[u8]) -> Option<(&[u8], &[u8])>
+    ensures parts { MatchOption result
+        (split_outside_quotes 10 separator quoting bytes.now ≡ bytes.now ∷ [])
+        (λ parts. (more : List ℕ) → split_outside_quotes 10 separator quoting (bytes.now ++ more)
+        ≡ parts.0.now ∷ split_outside_quotes 10 separator Ready (parts.1.now ++ more)) }
+    ensures whole { MatchOption result (length bytes.now ≡ length bytes.now)
+        (λ parts. bytes.now ≡ parts.0.now ++ 10 ∷ parts.1.now) }
+    ensures shorter { MatchOption result (length bytes.now ≡ length bytes.now)
+        (λ parts. length parts.1.now < length bytes.now) }
+{
+    let at = record_end(separator, quoting, bytes)?;
+    Some((&bytes[..at], &bytes[at + 1..]))
+}
+
+/// Returns the index of the first line feed outside of quotes.
+// Most records have no quotes, and a search for one byte is faster.
+fn record_end(separator: u8, quoting: Quoting, bytes: &[u8]) -> Option<usize>
+    ensures { MatchOption result
+        (split_outside_quotes 10 separator quoting bytes.now ≡ bytes.now ∷ [])
+        (λ at. (at < length bytes.now) × ((more : List ℕ)
+        → split_outside_quotes 10 separator quoting (bytes.now ++ more)
+        ≡ take at bytes.now ∷ split_outside_quotes 10 separator Ready (drop (at + 1) bytes.now ++ more))
+        × (bytes.now ≡ take at bytes.now ++ 10 ∷ drop (at + 1) bytes.now)) }
+{
+    let Some(at) = index_of(b'\n', bytes) else {
+        return None;
+    };
+    if !quoting.is_open() && !has_quote(&bytes[..at]) {
+        return Some(at);
+    }
+    index_outside_quotes(b'\n', separator, quoting, bytes)
+}
+
+/// Returns whether a quote is among the bytes.
+fn has_quote(bytes: &[u8]) -> bool
+    ensures { result ≡ false → position is_quote bytes.now ≡ None }
+{
+    index_of(b'"', bytes).is_some()
+}
+
+/// Returns the state of the quotes after bytes of a line, from another state on.
+pub fn quoting_in(field: Option<Field>, quoting: Quoting, bytes: &[u8]) -> Quoting
+    ensures { result ≡ quoting_in field quoting bytes.now }
+{
+    match field {
+        Some(field) => quoting_past(field.separator, quoting, bytes),
+        None => quoting,
+    }
+}
+
+/// Returns the state of the quotes after bytes of a record.
+fn quoting_past(separator: u8, quoting: Quoting, bytes: &[u8]) -> Quoting
+    ensures { result ≡ quoting_past separator quoting bytes.now }
+{
+    let mut state = quoting;
+    let mut rest = bytes;
+    while let [first, others @ ..] = rest {
+        state = state.after(separator, *first);
+        rest = others;
+    }
+    state
 }
 
 /// Removes the carriage return at the end of a line, and returns whether there was one.

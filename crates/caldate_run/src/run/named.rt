@@ -7,13 +7,15 @@ ghost use Rattle.caldate_run.specs.Header.{EndsNamed, HasHeader, HasLine, number
 ghost use Rattle.caldate_run.specs.Room.{longest_text};
 ghost use Rattle.caldate_run.specs.Runs.{Gives, IsRunResult, WritesPage};
 ghost use Rattle.caldate_run.specs.RunStates.{NoEnd};
+ghost use Rattle.caldate_run.specs.declared.run.quoting.Quoting.TheVariants.{Ready};
 ghost use Rattle.caldate_run.specs.Targets.{target_name, with_target};
 
 use crate::header::{header_of, number_of, report_header_error};
 use crate::input::Input;
 use crate::request::{Field, FieldNumbers, Filter, Request, Target};
 use crate::run::ending::{Ending, end};
-use crate::run::lines::first_line;
+use crate::run::lines::next_line;
+use crate::run::quoting::Quoting;
 use crate::run::run_error::RunError;
 use crate::run::{MAX_KEPT, answer_input};
 use crate::streams::{Sink, Source};
@@ -45,11 +47,11 @@ pub fn run_named<R: Source, W: Sink, E: Sink>(
     ensures reported { Writes E.write_gives errors.old (write_failure result.reported) errors.new }
 {
     let mut input = Input::new();
-    let reads = match read_header(&mut input, reader) {
+    let reads = match read_header(field, &mut input, reader) {
         Ok(reads) => reads,
         Err(error) => return end(Err(error), errors),
     };
-    let header = header_of(input.as_bytes());
+    let header = header_of(field, input.as_bytes());
     match numbers_in(&filter, field, header) {
         Ok(numbers) => {
             let own = numbered(filter, field, numbers);
@@ -65,14 +67,14 @@ pub fn run_named<R: Source, W: Sink, E: Sink>(
 
 /// Reads until the input has the end of its first line, has ended, or has more bytes than a line
 /// may have. Returns how many more reads a run may make.
-fn read_header<R: Source>(input: &mut Input, reader: &mut R) -> Result<u64, RunError>
+fn read_header<R: Source>(field: Field, input: &mut Input, reader: &mut R) -> Result<u64, RunError>
     requires { input.old ≡ [] }
     ensures given { OnOk result (Consumes (R.remaining reader.old) (R.remaining reader.new) input.new) }
-    ensures header { OnOk result (HasHeader (R.remaining reader.new) input.new) }
+    ensures header { OnOk result (HasHeader field (R.remaining reader.new) input.new) }
     ensures reads { IfOk result (λ left. (failed : Bool) (last : R)
         → Reads R.read_gives left reader.new failed last
         → Reads R.read_gives most_reads reader.old failed last) }
-    ensures no_end { OnErr result (Gives (R.remaining reader.old) (R.remaining reader.new) NoEnd) }
+    ensures no_end { OnErr result (Gives (R.remaining reader.old) (R.remaining reader.new) (NoEnd (Some field) Ready)) }
     ensures err { IfErr result (λ error. error ≡ RunError.Read) }
     ensures failed { OnErr result (Reads R.read_gives most_reads reader.old true reader.new) }
 {
@@ -86,7 +88,7 @@ fn read_header<R: Source>(input: &mut Input, reader: &mut R) -> Result<u64, RunE
             return Ok(reads);
         }
         reads -= 1;
-        if has_header(input.as_bytes()) {
+        if has_header(field, input.as_bytes()) {
             return Ok(reads);
         }
     }
@@ -94,15 +96,15 @@ fn read_header<R: Source>(input: &mut Input, reader: &mut R) -> Result<u64, RunE
 }
 
 /// Returns whether a line ends within the bytes, or they are more than a line may have.
-fn has_header(bytes: &[u8]) -> bool
-    ensures whole { result ≡ true → HasLine bytes.now ⊎ (longest_text + 1 < length bytes.now) }
-    ensures no_end { result ≡ false → NoEnd bytes.now }
+fn has_header(field: Field, bytes: &[u8]) -> bool
+    ensures whole { result ≡ true → HasLine field bytes.now ⊎ (longest_text + 1 < length bytes.now) }
+    ensures no_end { result ≡ false → NoEnd (Some field) Ready bytes.now }
     ensures few { result ≡ false → length bytes.now ≤ longest_text + 1 }
 {
     if bytes.len() > MAX_KEPT {
         return true;
     }
-    match first_line(bytes) {
+    match next_line(Some(field), Quoting::Ready, bytes) {
         Some((_line, _after)) => true,
         None => false,
     }

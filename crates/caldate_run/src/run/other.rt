@@ -23,11 +23,7 @@ pub fn other_field(filter: &Filter<'_>) -> Option<Field>
 {
     let field = filter.field?;
     let numbers = filter.request.target_fields()?;
-    Some(Field {
-        first: numbers.first,
-        joined: numbers.joined,
-        ..field
-    })
+    Some(field.with_numbers(numbers))
 }
 
 /// Parses the other fields of a line in the forms of the field to answer.

@@ -1,8 +1,10 @@
 //! The progress of a run.
 ghost use Rattle.std.specs.Prelude.{◌≡◌, false, true};
 ghost use Rattle.caldate_run.specs.Excerpts.{excerpt_of, excerpt_bytes};
+ghost use Rattle.caldate_run.specs.RunStates.{quoting_of};
 
 use crate::run::excerpt::Excerpt;
+use crate::run::quoting::Quoting;
 use crate::run::tally::Tally;
 
 /// A record of how far a run is.
@@ -14,9 +16,22 @@ pub struct Progress {
     pub is_long: bool,
     /// The front of that line to show, if it is long.
     pub front: Excerpt,
+    /// The state of the quotes after that front, if the line is long.
+    pub quoting: Quoting,
 }
 
 impl Progress {
+    /// Returns the state of the quotes at the next byte: at the start of a line, a quote opens them.
+    pub fn quoting(&self) -> Quoting
+        ensures { result ≡ quoting_of self.now }
+    {
+        if self.is_long {
+            self.quoting
+        } else {
+            Quoting::Ready
+        }
+    }
+
     /// Returns the text to show of a line. `text` lacks the front if that was dropped.
     pub fn excerpt_of(&self, text: &[u8]) -> Excerpt
         ensures whole { self.now.is_long ≡ false → excerpt_bytes result ≡ excerpt_of text.now }

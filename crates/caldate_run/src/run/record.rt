@@ -25,8 +25,8 @@ pub fn push_in_record(
 ) -> Result<bool, NoAnswer>
     requires room { HasRoom longest_reply buffer.old }
     requires fits { length text.now ≤ longest_text }
-    requires field { filter.now.field ≡ Some field }
-    ensures answered { AppendsAnswer (IsAnswerToText filter.now text.now) result buffer.old buffer.new }
+    ensures answered { AppendsAnswer (IsAnswerToText filter.now (Some field) text.now) result
+        buffer.old buffer.new }
     ensures short { length buffer.new ≤ length buffer.old + longest_text + longest_field }
 {
     let Some((front, part, rest)) = cut_field(field, text) else {

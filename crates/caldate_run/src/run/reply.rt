@@ -1,10 +1,10 @@
 //! The reply to a line.
-ghost use Rattle.std.specs.Prelude.{◌≡◌, ◌⊎◌, ◌+◌, ◌<◌, ◌≤◌, ◌++◌, ◌∷◌, [], ℕ, List, Some, Err, false, true, is_some, length, max, unwrap_or, IfErr, OnErr, OnOk, if◌then◌else◌};
+ghost use Rattle.std.specs.Prelude.{◌≡◌, ◌⊎◌, ◌+◌, ◌<◌, ◌≤◌, ◌++◌, ◌∷◌, [], ℕ, List, Some, Err, false, true, is_some, length, max, nat_lt, unwrap_or, IfErr, OnErr, OnOk, if◌then◌else◌};
 ghost use Rattle.caldate_run.specs.Fields.{text_with, text_without};
 ghost use Rattle.caldate_run.specs.Lines.{has_return, text_of};
-ghost use Rattle.caldate_run.specs.Replies.{Describes, IsAnswerOf, IsAnswerToText, IsReplyTo, header_with, in_place, more, reason, skipped, stops, with_name, with_reason};
-ghost use Rattle.caldate_run.specs.Room.{HasRoom, longest_field, longest_reply, longest_text};
-ghost use Rattle.caldate_run.specs.Runs.{AppendsSome, AppendsAnswer, AppendsReply};
+ghost use Rattle.caldate_run.specs.Replies.{Describes, IsAnswerOf, IsAnswerToText, IsInPlace, IsReplyTo, header_with, in_place, more, reason, skipped, stops, with_name, with_reason};
+ghost use Rattle.caldate_run.specs.Room.{HasRoom, longest_field, longest_left, longest_reply, longest_text};
+ghost use Rattle.caldate_run.specs.Runs.{AppendsOut, AppendsSome, AppendsAnswer, AppendsReply};
 ghost use Rattle.caldate_run.specs.RunStates.{AtLine, counted};
 
 use crate::answer::{LONGEST_TEXT, push_answer, push_reason};
@@ -13,6 +13,7 @@ use crate::input::fields::{cut_field, is_quoted};
 use crate::on_invalid::OnInvalid;
 use crate::output::buffer::Buffer;
 use crate::request::{Field, Filter};
+use crate::run::each::{push_each, push_several};
 use crate::run::lines::cut_return;
 use crate::run::no_answer::NoAnswer;
 use crate::run::other::other_field;
@@ -70,7 +71,7 @@ fn push_line(
     ensures whole { OnOk result (progress.now.is_long ≡ false) }
     ensures fits { IfErr result (λ why.
         progress.now.is_long ≡ true ⊎ longest_text < length text.now → why ≡ NoAnswer.TooLong) }
-    ensures short { length buffer.new ≤ length buffer.old + longest_text + longest_field }
+    ensures short { length buffer.new ≤ length buffer.old + longest_left }
 {
     if progress.is_long || text.len() > LONGEST_TEXT {
         return Err(NoAnswer::TooLong);
@@ -110,7 +111,7 @@ fn push_unanswered(
         return Err(why);
     }
     let reported = describe(progress, text, why);
-    let goes_out = push_in_place(buffer, filter, text, why);
+    let goes_out = push_instead(buffer, filter, progress.is_long, text, why);
     push_end(buffer, goes_out, with_return);
     progress.tally.count_unanswered(reported);
     progress.is_long = false;
@@ -157,24 +158,65 @@ fn stops(on_invalid: OnInvalid) -> bool
     on_invalid == OnInvalid::Stop
 }
 
-/// Appends what goes out in place of an answer, and returns whether the line goes out.
-fn push_in_place(buffer: &mut Buffer, filter: &Filter<'_>, text: &[u8], why: NoAnswer) -> bool
+/// Appends what goes out in place of the answer to the text of a line, and returns whether the line
+/// goes out. If the line is long, its front was dropped.
+fn push_instead(
+    buffer: &mut Buffer,
+    filter: &Filter<'_>,
+    is_long: bool,
+    text: &[u8],
+    why: NoAnswer,
+) -> bool
+    requires room { HasRoom longest_reply buffer.old }
+    requires line { HasRoom (length text.now + 1) buffer.old }
+    requires fits { is_long ≡ true ⊎ longest_text < length text.now → why ≡ NoAnswer.TooLong }
+    ensures whole { is_long ≡ false
+        → AppendsOut (IsInPlace filter.now text.now why) result buffer.old buffer.new }
+    ensures long { is_long ≡ true
+        → AppendsOut (λ out. out ≡ in_place filter.now.on_invalid filter.now.field text.now why) result
+        buffer.old buffer.new }
+    ensures short { length buffer.new
+        ≤ length buffer.old + max (length text.now + 1) longest_left }
+{
+    match filter.field {
+        Some(field) if !is_long && text.len() <= LONGEST_TEXT && has_more(filter) => {
+            push_each(buffer, filter, field, filter.more.as_slice(), text).0
+        }
+        field => push_in_place(buffer, filter.on_invalid, field, text, why),
+    }
+}
+
+/// Returns whether more than one field is answered.
+fn has_more(filter: &Filter<'_>) -> bool
+    ensures { result ≡ nat_lt 0 (length filter.now.more) }
+{
+    filter.more.as_slice().len() > 0
+}
+
+/// Appends what goes out in place of the answer to a field, and returns whether the line goes out.
+pub fn push_in_place(
+    buffer: &mut Buffer,
+    mode: OnInvalid,
+    field: Option<Field>,
+    text: &[u8],
+    why: NoAnswer,
+) -> bool
     requires room { HasRoom longest_reply buffer.old }
     requires line { HasRoom (length text.now + 1) buffer.old }
     requires fits { longest_text < length text.now → why ≡ NoAnswer.TooLong }
     ensures text { buffer.new ≡ buffer.old
-        ++ unwrap_or (in_place filter.now.on_invalid filter.now text.now why) [] }
-    ensures goes_out { result ≡ is_some (in_place filter.now.on_invalid filter.now text.now why) }
+        ++ unwrap_or (in_place mode field text.now why) [] }
+    ensures goes_out { result ≡ is_some (in_place mode field text.now why) }
     ensures short { length buffer.new
         ≤ length buffer.old + max (length text.now + 1) (longest_text + longest_field) }
 {
-    match filter.on_invalid {
+    match mode {
         OnInvalid::Keep => {
-            push_without(buffer, filter.field, text);
+            push_without(buffer, field, text);
             true
         }
         OnInvalid::Answer => {
-            push_with_reason(buffer, filter, text, why);
+            push_with_reason(buffer, field, text, why);
             true
         }
         OnInvalid::Drop | OnInvalid::Stop => false,
@@ -195,15 +237,15 @@ fn push_without(buffer: &mut Buffer, field: Option<Field>, text: &[u8])
 
 /// Appends the text with the reason in place of the answer, or the reason alone if the line is too
 /// long.
-fn push_with_reason(buffer: &mut Buffer, filter: &Filter<'_>, text: &[u8], why: NoAnswer)
+fn push_with_reason(buffer: &mut Buffer, field: Option<Field>, text: &[u8], why: NoAnswer)
     requires room { HasRoom longest_reply buffer.old }
     requires fits { longest_text < length text.now → why ≡ NoAnswer.TooLong }
-    ensures text { buffer.new ≡ buffer.old ++ with_reason filter.now text.now why }
+    ensures text { buffer.new ≡ buffer.old ++ with_reason field text.now why }
     ensures short { length buffer.new ≤ length buffer.old + longest_text + longest_field }
 {
     match why {
         NoAnswer::TooLong => push_reason(buffer, why),
-        _ => push_in_field(buffer, filter.field, text, why),
+        _ => push_in_field(buffer, field, text, why),
     }
 }
 
@@ -252,7 +294,7 @@ fn push_text(
     ensures answered { (before : ℕ) → number ≡ counted before
         → AppendsAnswer (IsAnswerOf filter.now before text.now) result buffer.old buffer.new }
     ensures same { OnErr result (buffer.new ≡ buffer.old) }
-    ensures short { length buffer.new ≤ length buffer.old + longest_text + longest_field }
+    ensures short { length buffer.new ≤ length buffer.old + longest_left }
 {
     if number < filter.skip {
         return push_skipped(buffer, filter, number, text);
@@ -261,6 +303,7 @@ fn push_text(
         return push_scanned(buffer, filter, text);
     }
     match filter.field {
+        Some(field) if has_more(filter) => push_several(buffer, filter, field, text),
         Some(field) if field.csv || field.appends => push_in_record(buffer, filter, field, text),
         Some(field) => push_field(buffer, filter, field, text),
         None => push_answer(buffer, filter, text),
@@ -347,10 +390,10 @@ fn push_field(
 ) -> Result<bool, NoAnswer>
     requires room { HasRoom longest_reply buffer.old }
     requires fits { length text.now ≤ longest_text }
-    requires field { filter.now.field ≡ Some field }
     requires plain { field.csv ≡ false }
     requires in_place { field.appends ≡ false }
-    ensures answered { AppendsAnswer (IsAnswerToText filter.now text.now) result buffer.old buffer.new }
+    ensures answered { AppendsAnswer (IsAnswerToText filter.now (Some field) text.now) result
+        buffer.old buffer.new }
     ensures short { length buffer.new ≤ length buffer.old + longest_text + longest_field }
 {
     if other_field(filter).is_some() {

@@ -1,8 +1,6 @@
 //! The maximum length of a text at the front of some bytes.
 ghost use Rattle.std.specs.Prelude.{◌≡◌, ℕ, ℤ, List, ◌<◌, ◌≤◌, ◌++◌, IsSomeAnd, Some, length, take, true};
 ghost use Rattle.cal_format.specs.Form.{HasForm};
-ghost use Rattle.cal_format.specs.Rejection.{IsRejection};
-ghost use Rattle.cal_format.specs.declared.item.Item.{Item};
 ghost use Rattle.cal_text.specs.AnyForm.{IsTextOf};
 ghost use Rattle.cal_text.specs.declared.any.DateOrMoment.{DateOrMoment};
 ghost use Rattle.caldate_run.specs.Readers.{IsFormatText, IsFoundBy, IsTextBy, IsUnread, named};
@@ -21,7 +19,7 @@ use crate::reading::{Reading, read_in};
 use crate::request::Filter;
 use crate::scan::byte_at;
 use crate::scan::start::has_usual;
-use cal_format::ParseError as FormatParseError;
+use cal_format::Format;
 use cal_text::ParseError;
 
 /// How many bytes at the front of a moment of ISO 8601 are as in RFC 3339.
@@ -130,29 +128,20 @@ fn bound_by_format(format: &ValueFormat, bytes: &[u8]) -> usize
         → IsFormatText offset format.now (take n bytes.now ++ more) found → n ≤ result }
 {
     match format {
-        ValueFormat::Dates(format) => match format.parse(bytes) {
-            Ok(_date) => bytes.len(),
-            Err(error) => bound_by_error(error, bytes),
-        },
-        ValueFormat::Moments(format) => match format.parse(bytes) {
-            Ok(_moment) => bytes.len(),
-            Err(error) => bound_by_error(error, bytes),
-        },
-        ValueFormat::DateTimes(format) => match format.parse(bytes) {
-            Ok(_date_time) => bytes.len(),
-            Err(error) => bound_by_error(error, bytes),
-        },
+        ValueFormat::Dates(format) => bound_by_items(format.as_format(), bytes),
+        ValueFormat::Moments(format) => bound_by_items(format.as_format(), bytes),
+        ValueFormat::DateTimes(format) => bound_by_items(format.as_format(), bytes),
     }
 }
 
-/// Returns the position of the error of a format, or the length of the bytes if it has none.
-fn bound_by_error(error: FormatParseError, bytes: &[u8]) -> usize
-    ensures { (items : List Item) → IsRejection items bytes.now error
-        → Bounds (HasForm items) bytes.now result }
+/// Returns the position at which the bytes leave the form of a format, or their length if they
+/// don't.
+fn bound_by_items(format: &Format, bytes: &[u8]) -> usize
+    ensures { Bounds (HasForm format.now) bytes.now result }
 {
-    match error {
-        FormatParseError::UnexpectedByte(at) | FormatParseError::UnexpectedEnd(at) => at,
-        FormatParseError::OutOfRange(_) | FormatParseError::Contradiction(_) => bytes.len(),
+    match format.first_mismatch(bytes) {
+        Some(at) => at,
+        None => bytes.len(),
     }
 }
 

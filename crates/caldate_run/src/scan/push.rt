@@ -5,7 +5,7 @@ ghost use Rattle.caldate_run.specs.Room.{HasRoom, longest_reply, longest_text};
 ghost use Rattle.caldate_run.specs.Runs.{AppendsAnswer};
 ghost use Rattle.caldate_run.specs.Scans.{HasNoText, IsReplaced, IsScanned, IsSelected};
 
-use crate::answer::{LONGEST_TEXT, push_answer};
+use crate::answer::{LONGEST_TEXT, push_read};
 use crate::on_invalid::OnInvalid;
 use crate::output::buffer::Buffer;
 use crate::request::Filter;
@@ -46,7 +46,7 @@ fn ends_at(filter: &Filter<'_>, line: &[u8]) -> bool
 {
     match filter.on_invalid {
         OnInvalid::Stop => match first_text(filter, line, 0) {
-            Some(_first) => false,
+            Some(_text) => false,
             None => true,
         },
         OnInvalid::Keep | OnInvalid::Answer | OnInvalid::Drop => false,
@@ -61,11 +61,12 @@ fn push_selected(buffer: &mut Buffer, filter: &Filter<'_>, line: &[u8]) -> Resul
     ensures same { OnErr result (buffer.new ≡ buffer.old) }
     ensures short { length buffer.new ≤ length buffer.old + longest_text }
 {
-    let Some((place, count)) = first_text(filter, line, 0) else {
+    let Some(text) = first_text(filter, line, 0) else {
         return Ok(false);
     };
     let start = buffer.len();
-    match push_answer(buffer, filter, part_at(line, place, count)) {
+    let bytes = part_at(line, text.place, text.count);
+    match push_read(buffer, filter, bytes, text.read) {
         Ok(true) => {
             buffer.truncate(start);
             buffer.push(line);
@@ -89,9 +90,10 @@ fn push_replaced(buffer: &mut Buffer, filter: &Filter<'_>, line: &[u8]) -> Resul
 {
     let start = buffer.len();
     let mut from = 0;
-    while let Some((place, count)) = first_text(filter, line, from) {
-        buffer.push(&line[from..place]);
-        match push_answer(buffer, filter, part_at(line, place, count)) {
+    while let Some(text) = first_text(filter, line, from) {
+        buffer.push(&line[from..text.place]);
+        let bytes = part_at(line, text.place, text.count);
+        match push_read(buffer, filter, bytes, text.read) {
             Ok(true) => {}
             Ok(false) => {
                 buffer.truncate(start);
@@ -106,7 +108,7 @@ fn push_replaced(buffer: &mut Buffer, filter: &Filter<'_>, line: &[u8]) -> Resul
             buffer.truncate(start);
             return Err(NoAnswer::TooLong);
         }
-        from = place + count;
+        from = text.place + text.count;
     }
     buffer.push(&line[from..]);
     if buffer.len() - start > LONGEST_TEXT {

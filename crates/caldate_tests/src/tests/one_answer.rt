@@ -1,9 +1,8 @@
 //! A run has one answer: two complete runs over the same input leave the same output. So do two
 //! lists, in steps or by a rule. The arguments give one command, since their words have
 //! meanings.
-ghost use Rattle.std.specs.List.{slice_split};
 ghost use Rattle.std.specs.Prelude.{◌≡◌, List, ℕ, All, Some, IsOk};
-ghost use Rattle.caldate_run.specs.Lines.{is_end};
+ghost use Rattle.caldate_run.specs.Lines.{split_input};
 ghost use Rattle.caldate_run.specs.Lists.{IsStep};
 ghost use Rattle.caldate_run.specs.Replies.{IsReplyTo};
 ghost use Rattle.caldate_run.specs.Runs.{IsComplete};
@@ -16,19 +15,20 @@ use caldate_run::laws::{have_zones, one_reply};
 use caldate_run::list::list;
 use caldate_run::list::recurring::list_occurrences;
 use caldate_run::request::{Command, Filter, Listing, Occurrences};
-use caldate_run::run::lines::first_line;
+use caldate_run::run::lines::next_line;
+use caldate_run::run::quoting::Quoting;
 use caldate_run::run::run;
 use caldate_run::run::run_error::RunError;
 use caldate_run::streams::{Sink, Source};
 use caldate_run::zones::DataFiles;
 
-/// Proves that each part of the input between line feeds has one reply.
+/// Proves that each line of the input has one reply.
 fn one_reply_each(filter: &Filter<'_>, input: &[u8])
     ensures { All (λ line. (before : ℕ) (reply other : List ℕ) (t u v w : Tally)
         → IsReplyTo filter.now before line reply t u → IsReplyTo filter.now before line other v w
-        → reply ≡ other) (slice_split is_end input.now) }
+        → reply ≡ other) (split_input filter.now.field input.now) }
 {
-    match first_line(input) {
+    match next_line(filter.field, Quoting::Ready, input) {
         Some((line, others)) => {
             let _reply = one_reply(filter, line);
             one_reply_each(filter, others);

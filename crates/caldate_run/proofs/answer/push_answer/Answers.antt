@@ -1,19 +1,5 @@
-use Rattle.std.proofs.Common.{◌∙◌, refl, sym}
-use Rattle.caldate_run.proofs.Lacks.{unread}
-use Rattle.caldate_run.proofs.OneAnswer.{left_out}
+use Rattle.caldate_run.proofs.Scans.{read_so}
 use Rattle.caldate_run.proofs.answer.push_answer.Goals as goal
 
-pub returns-in-Err-clause-answered : goal.returns-in-Err-clause-answered
-returns-in-Err-clause-answered c = (refl, unread c.args.filter.now c.args.text.now c.in-Err.why c.in-Err.ensures.error)
-
-pub returns-then-compares-clause-answered : goal.returns-then-compares-clause-answered
-returns-then-compares-clause-answered c =
-    let none = c.push_answer_to.ensures.none c.if-push_answer_to.false in
-    let out = left_out c.args.filter.now.workdays c.args.filter.now.request c.args.text.now c.in-Ok.found none.1 in
-    (none.0, (c.in-Ok.found, c.in-Ok.ensures.has, out ∙ sym c.compares.ensures ∙ c.if-compares.true))
-
-pub returns-else-compares-clause-answered : goal.returns-else-compares-clause-answered
-returns-else-compares-clause-answered c =
-    let none = c.push_answer_to.ensures.none c.if-push_answer_to.false in
-    let out = left_out c.args.filter.now.workdays c.args.filter.now.request c.args.text.now c.in-Ok.found none.1 in
-    (none.0, (c.in-Ok.found, c.in-Ok.ensures.has, (out ∙ sym c.compares.ensures ∙ c.if-compares.false, none.1)))
+pub push_read-requires-clause-read : goal.push_read-requires-clause-read
+push_read-requires-clause-read c = read_so c.args.filter.now c.args.text.now c.read_with.result c.read_with.ensures.has c.read_with.ensures.error

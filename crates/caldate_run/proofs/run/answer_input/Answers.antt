@@ -7,12 +7,13 @@ use Rattle.caldate_run.specs.RunStates.{no_lines}
 use Rattle.caldate_run.specs.declared.run.progress.Progress.{Progress}
 use Rattle.caldate_run.specs.declared.run.run_error.RunError.TheVariants.{Read}
 use Rattle.caldate_run.proofs.Calls.{no_read_failed, no_writes, read_failed, reads_ended, reads_failed, reads_given, writes_then}
+use Rattle.caldate_run.specs.declared.run.quoting.Quoting.TheVariants.{Ready}
 use Rattle.caldate_run.proofs.Rounds.{after_lines, after_read, begun_with, ends_early, ends_early_last, ends_unread, ends_whole, same_pending}
 use Rattle.caldate_run.proofs.run.answer_input.Goals as goal
 
 pub loop-error-init : goal.loop-error-init
 loop-error-init g c =
-    let progress : Progress = record { tally = no_lines; is_long = false; front = c.new.result } in (
+    let progress : Progress = record { tally = no_lines; is_long = false; front = c.new.result; quoting = Ready } in (
       begun_with c.args.filter.now c.args.input.now (g.R.Source.remaining c.args.reader.now) (g.W.Sink.contents c.args.writer.now) progress refl refl,
       c.new-buffer.ensures,
       λ failed end reads. reads,

@@ -12,7 +12,7 @@ pub returns-then-is_empty-clause-ok : goal.returns-then-is_empty-clause-ok
 returns-then-is_empty-clause-ok g c = λ input start s.
     let zero : length c.args.line.now ≡ 0 = search rules in
     all_answered c.args.filter.now input start _ c.args.progress.now
-    (subst (λ line. RunState (IsReplyTo c.args.filter.now) c.args.filter.now.on_invalid input start (g.W.Sink.contents c.args.writer.now) [] line c.args.progress.now) (empty c.args.line.now zero) s)
+    (subst (λ line. RunState (IsReplyTo c.args.filter.now) c.args.filter.now.on_invalid c.args.filter.now.field input start (g.W.Sink.contents c.args.writer.now) [] line c.args.progress.now) (empty c.args.line.now zero) s)
 
 pub returns-in-Err-clause-stopped : goal.returns-in-Err-clause-stopped
 returns-in-Err-clause-stopped g c = λ reported e input start s.

@@ -2,6 +2,7 @@ use Rattle.std.proofs.Common.{◌++◌, ◌∷◌, [], ◌∙◌, ap, sym, subst
 use Rattle.std.specs.Io.KnownBytes.{Appends}
 use Rattle.caldate_run.specs.Replies.{IsReplyTo}
 use Rattle.caldate_run.specs.Runs.{AppendsFront}
+use Rattle.caldate_run.specs.RunStates.{FirstEnds}
 use Rattle.caldate_run.specs.declared.run.run_error.RunError.TheVariants.{Stopped}
 use Rattle.caldate_run.proofs.Calls.{writes_then}
 use Rattle.caldate_run.proofs.Ends.{same_fault}
@@ -15,7 +16,7 @@ returns-in_err-make_room-clause-write g c = λ h input start s.
 pub returns-in-Err-clause-write : goal.returns-in-Err-clause-write
 returns-in-Err-clause-write g c = λ h input start s.
     let room = c.in_ok-make_room.ensures.ok in
-    let s = gone (IsReplyTo c.args.filter.now) c.args.filter.now.on_invalid input start _ _ c.loop-line.buffer c.make_room.new.buffer room.0 c.loop-line.rest.now c.loop-line.progress room.1 room.2 (c.loop-line.invariant.1 input start s) in
+    let s = gone (IsReplyTo c.args.filter.now) c.args.filter.now.on_invalid c.args.filter.now.field input start _ _ c.loop-line.buffer c.make_room.new.buffer room.0 c.loop-line.rest.now c.loop-line.progress room.1 room.2 (c.loop-line.invariant.1 input start s) in
     failed c.args.filter.now input start _ _ c.make_room.new.buffer c.loop-line.rest.now c.loop-line.progress
     (subst (AppendsFront (g.W.Sink.contents c.make_room.new.writer) (g.W.Sink.contents c.stop.new.writer)) c.in-Err.ensures.same (c.stop.ensures.write h)) s
 
@@ -25,9 +26,9 @@ returns-in-Err-clause-stopped g c = λ reported h input start s.
     let went = c.stop.ensures.stopped reported (same_fault c.stop.result (Stopped reported) h) in
     let ends = ends_at c.args.filter.now c.loop-line.progress c.push_reply.new.progress c.in-Some.line.now c.in-Err.why c.describe_line-reported.result
     c.in-Err.ensures.still c.in-Err.ensures.ends c.describe_line-reported.ensures in
-    let s = gone (IsReplyTo c.args.filter.now) c.args.filter.now.on_invalid input start _ _ c.loop-line.buffer c.make_room.new.buffer room.0 c.loop-line.rest.now c.loop-line.progress room.1 room.2 (c.loop-line.invariant.1 input start s) in
+    let s = gone (IsReplyTo c.args.filter.now) c.args.filter.now.on_invalid c.args.filter.now.field input start _ _ c.loop-line.buffer c.make_room.new.buffer room.0 c.loop-line.rest.now c.loop-line.progress room.1 room.2 (c.loop-line.invariant.1 input start s) in
     stopped c.args.filter.now input start _ _ c.make_room.new.buffer c.loop-line.rest.now c.in-Some.line.now c.in-Some.after.now c.loop-line.progress reported
-    c.in-Some.ensures.parts.0 c.in-Some.ensures.parts.1
+    (subst (λ q. FirstEnds c.args.filter.now.field q c.loop-line.rest.now c.in-Some.line.now c.in-Some.after.now) c.quoting.ensures c.in-Some.ensures.parts)
     (subst (Ends c.args.filter.now c.loop-line.progress c.in-Some.line.now) (sym went.0) ends)
     (subst (Appends (g.W.Sink.contents c.make_room.new.writer) (g.W.Sink.contents c.stop.new.writer)) c.in-Err.ensures.same went.1) s
 
@@ -36,13 +37,12 @@ loop-line-preserved g c =
     let front = c.loop-line.invariant.0.0 in
     let line = c.in-Some.line.now in
     let after = c.in-Some.after.now in
-    let parts = c.in-Some.ensures.parts in
     let room = c.in_ok-make_room.ensures.ok in
     let reply = c.in-Ok.ensures.replied in (
-      (front ++ (line ++ 10 ∷ []), c.loop-line.invariant.0.1 ∙ ap (λ rest. front ++ rest) (parts.1 ∙ sym (append_assoc line (10 ∷ []) after)) ∙ sym (append_assoc front (line ++ 10 ∷ []) after)),
+      (front ++ (line ++ 10 ∷ []), c.loop-line.invariant.0.1 ∙ ap (λ rest. front ++ rest) (c.in-Some.ensures.whole ∙ sym (append_assoc line (10 ∷ []) after)) ∙ sym (append_assoc front (line ++ 10 ∷ []) after)),
       λ input start s.
-          answered (IsReplyTo c.args.filter.now) c.args.filter.now.on_invalid input start _ c.make_room.new.buffer c.push_reply.new.buffer c.loop-line.rest.now line after c.loop-line.progress _ parts.0 parts.1 reply
+          answered (IsReplyTo c.args.filter.now) c.args.filter.now.on_invalid c.args.filter.now.field input start _ c.make_room.new.buffer c.push_reply.new.buffer c.loop-line.rest.now line after c.loop-line.progress _ (subst (λ q. FirstEnds c.args.filter.now.field q c.loop-line.rest.now c.in-Some.line.now c.in-Some.after.now) c.quoting.ensures c.in-Some.ensures.parts) reply
           c.in-Ok.ensures.short c.in-Ok.ensures.counted
-          (gone (IsReplyTo c.args.filter.now) c.args.filter.now.on_invalid input start _ _ c.loop-line.buffer c.make_room.new.buffer room.0 c.loop-line.rest.now c.loop-line.progress room.1 room.2 (c.loop-line.invariant.1 input start s)),
+          (gone (IsReplyTo c.args.filter.now) c.args.filter.now.on_invalid c.args.filter.now.field input start _ _ c.loop-line.buffer c.make_room.new.buffer room.0 c.loop-line.rest.now c.loop-line.progress room.1 room.2 (c.loop-line.invariant.1 input start s)),
       writes_then _ _ _ _ _ c.loop-line.invariant.2 c.in_ok-make_room.ensures.writes,
     )

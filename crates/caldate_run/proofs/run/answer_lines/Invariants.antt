@@ -8,7 +8,7 @@ use Rattle.caldate_run.proofs.run.answer_lines.Given as goal
 abbrev pub invariant-loop-line : goal.invariant-loop-line
 invariant-loop-line g l =
     ((front : List ℕ) × (l.bytes ≡ front ++ l.rest))
-    × Advances (IsReplyTo l.filter) l.filter.on_invalid (g.W.Sink.contents l.initial.writer) (g.W.Sink.contents l.writer) l.initial.buffer l.buffer l.bytes l.rest l.initial.progress l.progress
+    × Advances (IsReplyTo l.filter) l.filter.on_invalid l.filter.field (g.W.Sink.contents l.initial.writer) (g.W.Sink.contents l.writer) l.initial.buffer l.buffer l.bytes l.rest l.initial.progress l.progress
     × Writes g.W.Sink.write_gives l.initial.writer None l.writer
 
 abbrev pub decreases-loop-line : goal.decreases-loop-line

@@ -12,24 +12,24 @@ use Rattle.caldate_run.proofs.run.answer_read.Goals as goal
 
 -- the bytes, and those that are buffered, by other names
 same_bytes : (filter : Filter) (input : List ℕ) (start w : Option (List ℕ)) (buffered bytes pending : List ℕ) (progress : Progress) → buffered ≡ [] → bytes ≡ pending
-    → RunState (IsReplyTo filter) filter.on_invalid input start w [] pending progress → RunState (IsReplyTo filter) filter.on_invalid input start w buffered bytes progress
+    → RunState (IsReplyTo filter) filter.on_invalid filter.field input start w [] pending progress → RunState (IsReplyTo filter) filter.on_invalid filter.field input start w buffered bytes progress
 same_bytes filter input start w buffered bytes pending progress none same s =
-    subst (λ (b : List ℕ). RunState (IsReplyTo filter) filter.on_invalid input start w b bytes progress) (sym none)
-    (subst (λ (p : List ℕ). RunState (IsReplyTo filter) filter.on_invalid input start w [] p progress) (sym same) s)
+    subst (λ (b : List ℕ). RunState (IsReplyTo filter) filter.on_invalid filter.field input start w b bytes progress) (sym none)
+    (subst (λ (p : List ℕ). RunState (IsReplyTo filter) filter.on_invalid filter.field input start w [] p progress) (sym same) s)
 
 -- the state after the lines are answered and the rest of the bytes is kept
 kept : (filter : Filter) (input : List ℕ) (start w : Option (List ℕ)) (buffered bytes got left_bytes : List ℕ) (left : ℕ) (progress : Progress) → bytes ≡ got
     → left_bytes ≡ drop (length got - left) got
-    → RunState (IsReplyTo filter) filter.on_invalid input start w buffered (drop (length bytes - left) bytes) progress
-    → RunState (IsReplyTo filter) filter.on_invalid input start w buffered left_bytes progress
+    → RunState (IsReplyTo filter) filter.on_invalid filter.field input start w buffered (drop (length bytes - left) bytes) progress
+    → RunState (IsReplyTo filter) filter.on_invalid filter.field input start w buffered left_bytes progress
 kept filter input start w buffered bytes got left_bytes left progress same e s =
-    subst (λ (p : List ℕ). RunState (IsReplyTo filter) filter.on_invalid input start w buffered p progress) (ap (λ b. drop (length b - left) b) same ∙ sym e) s
+    subst (λ (p : List ℕ). RunState (IsReplyTo filter) filter.on_invalid filter.field input start w buffered p progress) (ap (λ b. drop (length b - left) b) same ∙ sym e) s
 
 -- the state after the answers are written
 all_gone : (filter : Filter) (input : List ℕ) (start w w' : Option (List ℕ)) (buffered left_bytes : List ℕ) (progress : Progress) → Appends w w' buffered
-    → RunState (IsReplyTo filter) filter.on_invalid input start w buffered left_bytes progress → RunState (IsReplyTo filter) filter.on_invalid input start w' [] left_bytes progress
+    → RunState (IsReplyTo filter) filter.on_invalid filter.field input start w buffered left_bytes progress → RunState (IsReplyTo filter) filter.on_invalid filter.field input start w' [] left_bytes progress
 all_gone filter input start w w' buffered left_bytes progress a s =
-    gone (IsReplyTo filter) filter.on_invalid input start w w' buffered [] buffered left_bytes progress (sym (append-nil buffered)) a s
+    gone (IsReplyTo filter) filter.on_invalid filter.field input start w w' buffered [] buffered left_bytes progress (sym (append-nil buffered)) a s
 
 pub returns-in-Err-clause-write : goal.returns-in-Err-clause-write
 returns-in-Err-clause-write g c = λ h input start s.

@@ -1,7 +1,7 @@
-use Rattle.std.proofs.Common.{ℕ, ◌<◌, ◌≤◌, ap, arith, length, length-drop, subst, sym, take, List}
+use Rattle.std.proofs.Common.{ℕ, ◌<◌, ◌≤◌, ap, arith, length, length-drop, refl, subst, take, List}
 use Rattle.std.proofs.lemmas.List.{take_rest}
 use Rattle.caldate_run.specs.Scans.{IsText}
-use Rattle.caldate_run.proofs.Scans.{none_less, none_past}
+use Rattle.caldate_run.proofs.Scans.{none_less, none_past, some_bytes}
 use Rattle.caldate_run.proofs.scan.longest_text.Goals as goal
 
 pub loop-count-init : goal.loop-count-init
@@ -17,5 +17,12 @@ loop-count-init c =
 pub loop-count-preserved : goal.loop-count-preserved
 loop-count-preserved c = record {
   within = omega (arith, c.loop-count.invariant.within);
-  longer = none_less c.args.filter.now c.args.line.now c.args.place c.loop-count.count (c.is_text_at.ensures.none c.if-is_text_at.false) c.loop-count.invariant.longer;
+  longer = none_less c.args.filter.now c.args.line.now c.args.place c.loop-count.count c.in_default.ensures c.loop-count.invariant.longer;
 }
+
+pub returns-in-Some : goal.returns-in-Some
+returns-in-Some c = record { at = refl; is = c.in-Some.ensures.0; longest = c.loop-count.invariant.longer; read = c.in-Some.ensures.1 }
+
+pub returns : goal.returns
+returns c = λ n h.
+    c.loop-count.invariant.longer n (omega (arith, c.loop-count-test.false, some_bytes c.args.filter.now c.args.line.now c.args.place n h)) h

@@ -1,19 +1,28 @@
-use Rattle.std.proofs.Common.{◌≡◌, length, arith, subst}
-use Rattle.caldate_run.proofs.Quotes.{Goes, at_other, at_quote, ends, found}
+use Rattle.std.proofs.Common.{◌≡◌, ◌+◌, ◌∙◌, inl, inr, length, arith, eq-eqb, eqb, false, get_or, subst, sym}
+use Rattle.std.specs.Prelude.{not, ◌&&◌}
+use Rattle.caldate_run.specs.Fields.{is_open}
+use Rattle.caldate_run.proofs.Quotes.{Goes, closed, ends, found, goes_on, not_end}
 use Rattle.caldate_run.proofs.input.fields.index_outside_quotes.Goals as goal
-use Rattle.caldate_run.proofs.input.fields.index_outside_quotes.Goals.{then-byte-eq34, else-byte-eq34}
+use Rattle.caldate_run.proofs.input.fields.index_outside_quotes.Goals.{else-byte-end-via-then-byte-end+else-not-is_open, else-byte-end-via-else-byte-end}
 
 pub loop-i-preserved : goal.loop-i-preserved
 loop-i-preserved c =
-    elim c.if-byte-eq34.branch [
-      | then-byte-eq34 w ↦ at_quote c.args.separator c.args.bytes.now c.loop-i.i c.loop-i.quoted c.if-byte-eq34.quoted c.loop-i-test.true c.else-byte-separator.either w.if-byte-eq34.true w.quoted-is c.loop-i.invariant
-      | else-byte-eq34 w ↦ at_other c.args.separator c.args.bytes.now c.loop-i.i c.loop-i.quoted c.if-byte-eq34.quoted c.loop-i-test.true c.else-byte-separator.either w.if-byte-eq34.false w.quoted-is c.loop-i.invariant
-    ]
+    let text = c.args.bytes.now in
+    let q = c.loop-i.state in
+    let stays : (eqb (get_or text c.loop-i.i 0) c.args.end && not (is_open q)) ≡ false = elim c.else-byte-end.branch [
+      | else-byte-end-via-then-byte-end+else-not-is_open w ↦ not_end c.args.end (get_or text c.loop-i.i 0) q (inl (w.if-byte-end.true, sym w.is_open.ensures ∙ w.if-not-is_open.false))
+      | else-byte-end-via-else-byte-end w ↦ not_end c.args.end (get_or text c.loop-i.i 0) q (inr w.if-byte-end.false)
+    ] in
+    subst (Goes c.args.end c.args.separator c.args.quoting text (c.loop-i.i + 1)) (sym c.after-state.ensures)
+    (goes_on c.args.end c.args.separator c.args.quoting text c.loop-i.i q c.loop-i-test.true stays c.loop-i.invariant)
 
-pub returns-then-not-quoted : goal.returns-then-not-quoted
-returns-then-not-quoted c = found c.args.separator c.args.bytes.now c.loop-i.i c.loop-i.quoted c.loop-i-test.true c.if-byte-separator.true c.if-not-quoted.true c.loop-i.invariant
+pub returns-then-not-is_open : goal.returns-then-not-is_open
+returns-then-not-is_open c =
+    let b = get_or c.args.bytes.now c.loop-i.i 0 in
+    found c.args.end c.args.separator c.args.quoting c.args.bytes.now c.loop-i.i c.loop-i.state c.loop-i-test.true c.if-byte-end.true
+    (closed c.args.end b c.loop-i.state (eq-eqb b c.args.end c.if-byte-end.true) (sym c.is_open.ensures ∙ c.if-not-is_open.true)) c.loop-i.invariant
 
 pub returns : goal.returns
 returns c =
     let i : c.loop-i.i ≡ length c.args.bytes.now = omega arith in
-    ends c.args.separator c.args.bytes.now c.loop-i.quoted (subst (λ n. Goes c.args.separator c.args.bytes.now n c.loop-i.quoted) i c.loop-i.invariant)
+    ends c.args.end c.args.separator c.args.quoting c.args.bytes.now c.loop-i.state (subst (λ n. Goes c.args.end c.args.separator c.args.quoting c.args.bytes.now n c.loop-i.state) i c.loop-i.invariant)

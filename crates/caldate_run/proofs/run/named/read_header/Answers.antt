@@ -1,18 +1,20 @@
-use Rattle.std.proofs.Common.{◌≡◌, ◌-◌, ℕ, List, ap, arith, inl, inr, length, subst, sym, true}
+use Rattle.std.proofs.Common.{◌≡◌, ◌-◌, ℕ, List, ap, arith, inl, inr, length, subst, sym, true, Some}
 use Rattle.std.specs.Io.KnownBytes.{Consumes}
 use Rattle.std.proofs.KnownBytes.{Consumes-kept, Consumes-nil, Consumes-trans}
 use Rattle.caldate_run.specs.Calls.{Reads}
 use Rattle.caldate_run.specs.Calls.Reads.{too_many}
 use Rattle.caldate_run.specs.RunStates.{NoEnd}
 use Rattle.caldate_run.proofs.Calls.{reads_ended, reads_failed, reads_given}
+use Rattle.caldate_run.specs.declared.run.quoting.Quoting.TheVariants.{Ready}
 use Rattle.caldate_run.proofs.Named.{has_header}
+use Rattle.caldate_run.proofs.Splits.{of_none}
 use Rattle.caldate_run.proofs.run.named.read_header.Goals as goal
 
 pub loop-reads-init : goal.loop-reads-init
 loop-reads-init g c =
     let r = g.R.Source.remaining c.args.reader.now in (
       subst (λ (bytes : List ℕ). Consumes r r bytes) (sym c.requires) (Consumes-nil r),
-      subst NoEnd (sym c.requires) (λ k d l. absurd (omega arith)),
+      subst (NoEnd (Some c.args.field) Ready) (sym c.requires) (of_none (Some c.args.field) Ready),
       omega (arith, ap length c.requires),
       λ failed last reads. reads,
     )
@@ -46,7 +48,7 @@ returns-then-has_header-clause-given g c =
     (Consumes-trans _ _ _ _ _ c.loop-reads.invariant.0 more.1)
 
 pub returns-then-has_header-clause-header : goal.returns-then-has_header-clause-header
-returns-then-has_header-clause-header g c = has_header _ c.as_bytes.result.now c.read_more.new.self c.as_bytes.ensures.value (c.has_header.ensures.whole c.if-has_header.true)
+returns-then-has_header-clause-header g c = has_header c.args.field _ c.as_bytes.result.now c.read_more.new.self c.as_bytes.ensures.value (c.has_header.ensures.whole c.if-has_header.true)
 
 pub returns-then-has_header-clause-reads : goal.returns-then-has_header-clause-reads
 returns-then-has_header-clause-reads g c = λ failed last more.
@@ -57,7 +59,7 @@ loop-reads-preserved g c =
     let more = c.in-Ok.ensures.given in (
       subst (λ (bytes : List ℕ). Consumes (g.R.Source.remaining c.args.reader.now) (g.R.Source.remaining c.read_more.new.reader) bytes) (sym more.2)
           (Consumes-trans _ _ _ _ _ c.loop-reads.invariant.0 more.1),
-      subst NoEnd c.as_bytes.ensures.value (c.has_header.ensures.no_end c.if-has_header.false),
+      subst (NoEnd (Some c.args.field) Ready) c.as_bytes.ensures.value (c.has_header.ensures.no_end c.if-has_header.false),
       omega (arith, ap length c.as_bytes.ensures.value, c.has_header.ensures.few c.if-has_header.false),
       λ failed last more. c.loop-reads.invariant.3 failed last (reads_given _ c.loop-reads.reads _ _ _ _ _ _ (omega arith) (omega arith) c.in-Ok.ensures.gives more),
     )

@@ -22,7 +22,7 @@ pub returns-in-Err-numbers_in-clause-ended : goal.returns-in-Err-numbers_in-clau
 returns-in-Err-numbers_in-clause-ended g c =
     let front = c.read_header.new.input in
     let name = c.in-Err-numbers_in.name.now in
-    let header : c.header_of-header.result.now ≡ header_of front = (cc) in
+    let header : c.header_of-header.result.now ≡ header_of c.args.field front = (cc) in
     let lacking = subst (λ (h : List ℕ). numbers_in c.args.filter c.args.field h ≡ Err name) header c.in-Err-numbers_in.ensures in
     record {
       front = front;
@@ -43,7 +43,7 @@ pub returns-in-Ok-numbers_in-clause-ended : goal.returns-in-Ok-numbers_in-clause
 returns-in-Ok-numbers_in-clause-ended g c =
     let front = c.read_header.new.input in
     let numbers = c.in-Ok-numbers_in.numbers in
-    let header : c.header_of-header.result.now ≡ header_of front = (cc) in
+    let header : c.header_of-header.result.now ≡ header_of c.args.field front = (cc) in
     let known = subst (λ (h : List ℕ). numbers_in c.args.filter c.args.field h ≡ Ok numbers) header c.in-Ok-numbers_in.ensures in
     let run = subst (λ (own : Filter). IsRunResult own c.answer_input-outcome.result (g.R.Source.remaining c.args.reader.now) (g.R.Source.remaining c.answer_input-outcome.new.reader) (g.W.Sink.contents c.args.writer.now) (g.W.Sink.contents c.answer_input-outcome.new.writer)) c.numbered-own.ensures
     (c.answer_input-outcome.ensures.ended _ c.in-Ok.ensures.given) in

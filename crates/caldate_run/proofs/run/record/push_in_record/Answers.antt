@@ -23,7 +23,7 @@ returns-in-Ok-true-clause-answered c =
     c.truncate.ensures ∙ ap (λ k. take k given) c.len-start.ensures ∙ ap (take (length old)) put.1 ∙ c.begin_field-quoted.ensures.kept put.0 in (
       text,
       c.push.ensures.appended ∙ ap (λ l. l ++ text) front,
-      in_part filter c.args.field text asked put.0 text c.requires.field selected put.2
+      in_part filter c.args.field text asked put.0 text selected put.2
           (ap (λ b. cond b text (text_with (Some c.args.field) text put.0)) (sym c.keeps.ensures ∙ c.if-keeps.true)),
     )
 
@@ -44,7 +44,7 @@ returns-in-Ok-true-2-clause-answered c =
       with_last field text put.0,
       with_new field text put.0 old c.begin_field-quoted.new.buffer given c.end_field.new.buffer start begun.1 c.len-answer.ensures put.1
           (c.end_field.ensures.text ∙ ap (λ quoted. take start given ++ end_of_field field quoted (drop start given)) begun.0),
-      in_part filter field text asked put.0 (with_last field text put.0) c.requires.field selected put.2
+      in_part filter field text asked put.0 (with_last field text put.0) selected put.2
           (ap (λ b. cond b text (text_with (Some field) text put.0)) (sym c.keeps.ensures ∙ c.if-keeps.false) ∙ appended_text field text put.0 c.if-field.true),
     )
 
@@ -68,7 +68,7 @@ returns-in-Ok-true-3-clause-answered c =
       all,
       with_words field c.begin_field-quoted.result part put.0 old front rest (old ++ front) c.begin_field-quoted.new.buffer given c.end_field-in-Ok-true-3.new.buffer
           c.push-in-Ok-true-3.new.self c.len-answer.result begun.0 refl begun.1 c.len-answer.ensures put.1 c.end_field-in-Ok-true-3.ensures.text c.push-in-Ok-true-3.ensures.appended,
-      in_part filter field text asked put.0 all c.requires.field selected put.2
+      in_part filter field text asked put.0 all selected put.2
           (ap (λ b. cond b text (text_with (Some field) text put.0)) (sym c.keeps.ensures ∙ c.if-keeps.false)
           ∙ in_place_text field text put.0 c.if-field.false ∙ c.in-Some.ensures.around put.0),
     )
@@ -86,7 +86,7 @@ returns-in-Ok-false-clause-answered c =
     let selected : selected_text (Some c.args.field) c.args.text.now ≡ Some asked =
     ap (option_map (within_quotes c.args.field)) c.in-Some.ensures.part ∙ ap Some (sym c.within_quotes.ensures.text) in (
       c.truncate-in-Ok-false.ensures ∙ ap (λ k. take k given) c.len-start.ensures ∙ ap (take (length old)) (put.0 ∙ sym (append-nil begun)) ∙ c.begin_field-quoted.ensures.kept [],
-      in_field filter (Some c.args.field) c.args.text.now asked (Ok None) c.requires.field selected put.1,
+      in_field filter (Some c.args.field) c.args.text.now asked (Ok None) selected put.1,
     )
 
 pub returns-in-Err-clause-answered : goal.returns-in-Err-clause-answered
@@ -100,7 +100,7 @@ returns-in-Err-clause-answered c =
     let selected : selected_text (Some c.args.field) c.args.text.now ≡ Some asked =
     ap (option_map (within_quotes c.args.field)) c.in-Some.ensures.part ∙ ap Some (sym c.within_quotes.ensures.text) in (
       c.truncate-in-Err.ensures ∙ ap (λ k. take k given) c.len-start.ensures ∙ ap (take (length old)) (put.0 ∙ sym (append-nil begun)) ∙ c.begin_field-quoted.ensures.kept [],
-      in_field filter (Some c.args.field) c.args.text.now asked (Err c.in-Err.why) c.requires.field selected put.1,
+      in_field filter (Some c.args.field) c.args.text.now asked (Err c.in-Err.why) selected put.1,
     )
 
 pub truncate-requires-in-Err : goal.truncate-requires-in-Err

@@ -24,7 +24,7 @@ returns-in-Ok-true-clause-answered c =
       front ++ put.0 ++ rest,
       c.push-in-Ok-true.ensures.appended ∙ ap (λ l. l ++ rest) (put.1 ∙ ap (λ l. l ++ put.0) c.push.ensures.appended)
           ∙ ap (λ l. l ++ rest) (append_assoc old front put.0) ∙ append_assoc old (front ++ put.0) rest,
-      in_part filter c.args.field text part put.0 (front ++ put.0 ++ rest) c.requires.field asked (by_itself filter text part (Ok (Some put.0)) none put.2)
+      in_part filter c.args.field text part put.0 (front ++ put.0 ++ rest) asked (by_itself filter text part (Ok (Some put.0)) none put.2)
           (kept_or filter part put.0 text (text_with (Some c.args.field) text put.0) (front ++ put.0 ++ rest) put.2
           (λ kept. c.in-Some.ensures.whole ∙ ap (λ words. front ++ words ++ rest) (sym kept)) around),
     )
@@ -35,7 +35,7 @@ returns-in-Ok-false-clause-answered c =
     let put : (c.push_answer.new.buffer ≡ c.push.new.self) × IsAnswer c.args.filter.now c.in-Some.part.now (Ok None) =
     subst (λ goes. AppendsAnswer (IsAnswer c.args.filter.now c.in-Some.part.now) (Ok goes) c.push.new.self c.push_answer.new.buffer) c.in-Ok-false.field-0-test c.in-Ok-false.ensures.answered in (
       taken_back _ _ c.in-Some.front.now _ _ c.len-start.ensures (put.0 ∙ c.push.ensures.appended) c.truncate.ensures,
-      in_field c.args.filter.now (Some c.args.field) c.args.text.now c.in-Some.part.now (Ok None) c.requires.field (ap (option_map (within_quotes c.args.field)) c.in-Some.ensures.part ∙ ap Some (plain_within c.args.field c.in-Some.part.now c.requires.plain)) (by_itself c.args.filter.now c.args.text.now c.in-Some.part.now (Ok None) none put.1),
+      in_field c.args.filter.now (Some c.args.field) c.args.text.now c.in-Some.part.now (Ok None) (ap (option_map (within_quotes c.args.field)) c.in-Some.ensures.part ∙ ap Some (plain_within c.args.field c.in-Some.part.now c.requires.plain)) (by_itself c.args.filter.now c.args.text.now c.in-Some.part.now (Ok None) none put.1),
     )
 
 pub returns-in-Err-clause-answered : goal.returns-in-Err-clause-answered
@@ -43,5 +43,5 @@ returns-in-Err-clause-answered c =
     let none = tested c.args.filter.now c.other_field.result _ c.other_field.ensures c.is_some.ensures c.if-is_some.false in
     let put = c.in-Err.ensures.answered in (
       taken_back _ _ c.in-Some.front.now _ _ c.len-start.ensures (put.0 ∙ c.push.ensures.appended) c.truncate-in-Err.ensures,
-      in_field c.args.filter.now (Some c.args.field) c.args.text.now c.in-Some.part.now (Err c.in-Err.why) c.requires.field (ap (option_map (within_quotes c.args.field)) c.in-Some.ensures.part ∙ ap Some (plain_within c.args.field c.in-Some.part.now c.requires.plain)) (by_itself c.args.filter.now c.args.text.now c.in-Some.part.now (Err c.in-Err.why) none put.1),
+      in_field c.args.filter.now (Some c.args.field) c.args.text.now c.in-Some.part.now (Err c.in-Err.why) (ap (option_map (within_quotes c.args.field)) c.in-Some.ensures.part ∙ ap Some (plain_within c.args.field c.in-Some.part.now c.requires.plain)) (by_itself c.args.filter.now c.args.text.now c.in-Some.part.now (Err c.in-Err.why) none put.1),
     )

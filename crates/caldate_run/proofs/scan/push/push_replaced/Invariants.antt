@@ -4,8 +4,8 @@ use Rattle.caldate_run.specs.Scans.{IsReplaced}
 use Rattle.caldate_run.proofs.scan.push.push_replaced.Given as goal
 
 -- the answers so far fit in a line, and the answer to the rest completes the answer to the line
-abbrev pub invariant-loop-place : goal.invariant-loop-place
-invariant-loop-place l = record {
+abbrev pub invariant-loop-text : goal.invariant-loop-text
+invariant-loop-text l = record {
   within : l.from ≤ length l.line;
   old : length l.initial.buffer ≤ length l.buffer;
   few : length l.buffer ≤ length l.initial.buffer + 4096;
@@ -13,5 +13,5 @@ invariant-loop-place l = record {
       × ((answer : Answer) → IsReplaced l.filter l.line answer out l.from → IsReplaced l.filter l.line answer [] 0);
 }
 
-abbrev pub decreases-loop-place : goal.decreases-loop-place
-decreases-loop-place l = length l.line - l.from
+abbrev pub decreases-loop-text : goal.decreases-loop-text
+decreases-loop-text l = length l.line - l.from
