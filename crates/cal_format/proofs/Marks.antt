@@ -81,3 +81,12 @@ pub all-within : (low high : ℕ) (items : List Item) → low ≤ 27 → high �
 all-within low high [] l h = grind (arith, nat_tests)
 all-within low high (i ∷ items) l h =
     (λ j. item-within low high i l h j && all-within low high items l h j) ∙ between low high (low_of (item_component i)) (end_of i) (lowest items) (highest items)
+
+-- A byte shows no component.
+lowest-most : (items : List Item) → lowest items ≤ 27
+lowest-most [] = omega arith
+lowest-most (i ∷ items) = omega (arith, lowest-most items)
+
+pub byte-added : (items : List Item) (b : ℕ) (s : Shown) → AreShown items s → AreShown (items ++ item.Literal b ∷ []) s
+byte-added items b s are =
+    added items (item.Literal b) s s are (λ c. sym (or-false (mark_of c s.marks))) (λ h. (h, λ others. refl)) (omega (arith, are.low, lowest-most items)) (omega arith)

@@ -1,7 +1,8 @@
 -- The numbers that one pass over the items leaves in the fields.
 use Rattle.std.proofs.Common.{◌≡◌, ℕ, ◌-◌, ◌≤◌, List, [], ◌∷◌, ◌++◌, length, refl, sym, ap, subst, ◌∙◌, arith, append_assoc, append-nil}
 use Rattle.std.proofs.lemmas.List.{take_all}
-use Rattle.std.specs.Prelude.{Bool, true, false, ◌==◌, ◌||◌, IsTrue, if◌then◌else◌, Option, Some, None}
+use Rattle.std.specs.Prelude.{Bool, true, false, ◌==◌, ◌||◌, IsTrue, if◌then◌else◌, Option, Some, None, is_some, IfSome}
+use Rattle.std.proofs.Math.Bool.{or-false}
 use borrow.Author.Tests.{eq-eqb}
 use Rattle.cal_format.specs.declared.fields.Fields.{Fields}
 use Rattle.cal_format.specs.declared.item.Component.{Component}
@@ -18,7 +19,7 @@ use Rattle.cal_format.specs.Text.{text_of}
 use Rattle.cal_format.specs.Values.{Holds, IsPrinted, IsMomentOf, number_in, first_contradiction}
 use Rattle.cal_format.proofs.Apart.{first_of, others_of, same_test, index-one}
 use Rattle.cal_format.proofs.Contradictions.{same-text, time-holds, offset-holds}
-use Rattle.cal_format.proofs.Marks.{neither-shown}
+use Rattle.cal_format.proofs.Marks.{neither-shown, byte-added}
 use Rattle.cal_format.proofs.Own.{first-shown, has-own, held-moment}
 use Rattle.cal_format.proofs.Rejections.{all-most}
 use Rattle.cal_format.proofs.Uniques.{one-numbers}
@@ -44,6 +45,23 @@ chosen false x y h = cc
 kept : (b : Bool) (x y : ℕ) → b ≡ false → (if b then x else y) ≡ y
 kept true x y e = cc
 kept false x y e = refl
+
+-- A byte has no number.
+pub byte-field : (i : Item) (b : ℕ) (f : Fields) (text rest : List ℕ) → i ≡ item.Literal b → text ≡ b ∷ rest → HasField i f f text rest
+byte-field i b f text rest is begins = subst (λ x. HasField x f f text rest) (sym is) (record {
+  number = 0;
+  fit = refl;
+  in_range = refl;
+  text_is = begins;
+  set = λ c. refl;
+  fresh = λ c h. cc;
+  marks = λ c. sym (or-false (mark_of c f.shown.marks));
+  shown = λ before are. byte-added before b f.shown are;
+})
+
+pub some-holds : {A : Type 0} (o : Option A) (P : Type 0) → IsTrue (is_some o) → IfSome o (λ _. P) → P
+some-holds None P h p = cc
+some-holds (Some x) P h p = p
 
 -- ---- all items
 is-false : (a : Bool) → (IsTrue a → ⊥) → a ≡ false

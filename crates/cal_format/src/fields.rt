@@ -40,6 +40,10 @@ impl Fields {
         ensures { IsTrue result
             → HasField item self.old self.new scanner.old.rest.now scanner.new.rest.now }
     {
+        // A byte has no number, so it takes a shorter way.
+        if let Item::Literal(byte) = item {
+            return scanner.byte(byte).is_some();
+        }
         let component = item.component();
         if self.has(component) {
             return false;

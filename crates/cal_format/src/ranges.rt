@@ -23,6 +23,7 @@ pub(crate) fn first_range_error(items: &[Item], numbers: &[u64]) -> Option<Compo
 
 impl Item {
     /// Returns the error of the number of the item if it is out of range.
+    #[inline(always)]
     pub(crate) fn error(self, number: u64) -> Option<ComponentRange>
         ensures { result ≡ item_error self number }
     {
