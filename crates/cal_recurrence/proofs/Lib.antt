@@ -14,10 +14,12 @@ pub mod FirstNumbers
 pub mod Sets
 pub mod DateTimeSets
 pub mod ZonedSearch
+pub mod ZoneReadings
 pub mod TimeSteps
 pub mod TimeTests
 pub mod RuleOccurrences
 pub mod TimeCounts
 pub mod TimePositions
 pub mod SelectedReadings
+pub mod SetValues
 pub mod Unfolding

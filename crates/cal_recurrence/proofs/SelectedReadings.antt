@@ -161,6 +161,31 @@ some-back rule n back most on e =
 pub index-less : (rule : DateTimeParts) (from index t : ℕ) → index ≡ count_before (times rule) from → IsFirst (times rule) from day t → index < per_day rule
 index-less rule from index t e h = omega (arith, index-of rule from index t e h, count-less (times rule) t day h.passes h.below)
 
+-- A rule without a time of day selects no reading.
+no-time : (rule : DateTimeParts) (t : ℕ) → per_day rule ≡ 0 → t < day → times rule t ≡ false
+no-time rule t none below = elim (cases_Bool (times rule t)) as (λ _. times rule t ≡ false) [
+  | inl on ↦ absurd (omega (
+    arith,
+    none,
+    index-less rule t (count_before (times rule) t) t refl (record {
+      not_before = omega arith;
+      below = below;
+      passes = on;
+      none_before = λ k low high. absurd (omega (arith, low, high));
+    }),
+  ))
+  | inr off ↦ off
+]
+
+off-reading : (a b c : Bool) → b ≡ false → (a && (b && c)) ≡ false
+off-reading true b c e = ap (λ x. x && c) e
+off-reading false b c e = refl
+
+pub never-selected : (rule : DateTimeParts) (m e : ℕ) → per_day rule ≡ 0 → NoneIn (selects rule) m e
+never-selected rule m e none k low high =
+    let below : k % day < day = omega arith in
+    off-reading (date.is_occurrence (day_rule rule) (k / day)) (times rule (k % day)) (reading.matches_positions rule (pos k)) (no-time rule (k % day) none below)
+
 -- No reading is selected before the next day of the rule.
 pub none-before : (rule : DateTimeParts) (days : Rule) (m last next : ℕ) → days ≡ ranked rule → NoneIn (selects rule) m ((last + 1) * day)
     → IsFirst (date.is_occurrence days) (last + 1) (last_day + 1) next → NoneIn (selects rule) m (next * day)

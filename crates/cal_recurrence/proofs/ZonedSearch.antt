@@ -89,11 +89,11 @@ IsUnique zone = (z : ℤ) (a b : Local) → IsLocalOf zone z a → IsLocalOf zon
 pub means-one : (zone : Timeline) → IsUnique zone → (z : ℤ) (m k : LocalAndOffset) → IsMeant zone z m → IsMeant zone z k → k ≡ m
 means-one zone one z m k h g = compatible-one h.local m k h.selected (subst (λ local. IsCompatible local (Some k)) (one z g.local h.local g.shown h.shown) g.selected)
 
+pub nothing-meant : (zone : Timeline) → IsUnique zone → (y : ℤ) (local : Local) → IsLocalOf zone y local → IsCompatible local None → (k : LocalAndOffset) → ¬ IsMeant zone y k
+nothing-meant zone one y local shown none k g = compatible-none local k none (subst (λ other. IsCompatible other (Some k)) (one y g.local local g.shown shown) g.selected)
+
 pub means-none : (set : ZonedSet) → IsUnique set.zone.now → (y x : ℤ) (local : Local) → IsLocalOf set.zone.now y local → IsCompatible local None → NoneAfter (MeansAt set y) x
-means-none set one y x local shown none z k h = absurd (
-    let g : IsMeant set.zone.now y k = subst (λ w. IsMeant set.zone.now w k) h.1 h.0.meant in
-    compatible-none local k none (subst (λ other. IsCompatible other (Some k)) (one y g.local local g.shown shown) g.selected)
-    )
+means-none set one y x local shown none z k h = absurd (nothing-meant set.zone.now one y local shown none k (subst (λ w. IsMeant set.zone.now w k) h.1 h.0.meant))
 
 -- The date-time that a reading means is the first one of this reading.
 same-moment : (set : ZonedSet) → IsUnique set.zone.now → (y : ℤ) (m : LocalAndOffset) → IsMeant set.zone.now y m → (z : ℤ) (k : LocalAndOffset) → MeansAt set y z k → instant k ≡ instant m

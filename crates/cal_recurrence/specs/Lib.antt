@@ -17,5 +17,7 @@ pub mod RecurrenceReadings
 pub mod Folding
 pub mod SetFaultText
 pub mod SetText
+pub mod SetMeaning
 pub mod ZonedSet
+pub mod ZoneReadings
 pub mod Occurrences

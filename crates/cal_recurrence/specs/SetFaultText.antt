@@ -2,7 +2,7 @@
 use Rattle.std.specs.Prelude.{ℕ, List, ◌++◌, codes, decimal}
 use Rattle.cal_recurrence.specs.declared.set_fault.ParseSetError.{ParseSetError}
 use Rattle.cal_recurrence.specs.declared.set_fault.ParseSetErrorKind.{ParseSetErrorKind}
-use Rattle.cal_recurrence.specs.declared.set_fault.ParseSetErrorKind.TheVariants.{Unknown, Twice, TooMany, Value, Rule, Missing}
+use Rattle.cal_recurrence.specs.declared.set_fault.ParseSetErrorKind.TheVariants.{Unknown, Twice, TooMany, Value, OtherZone, Rule, Missing}
 use Rattle.cal_recurrence.specs.declared.set_fault.SetLine.{SetLine}
 use Rattle.cal_recurrence.specs.declared.set_fault.SetLine.TheVariants as line
 
@@ -19,6 +19,7 @@ set_reason_text Unknown = codes "unknown line"
 set_reason_text (Twice at) = codes "duplicate " ++ line_name at
 set_reason_text (TooMany at) = codes "too many values in " ++ line_name at
 set_reason_text (Value at) = codes "invalid value of " ++ line_name at
+set_reason_text (OtherZone at) = codes "another zone in " ++ line_name at
 set_reason_text (Rule fault) = codes "invalid RRULE"
 set_reason_text Missing = codes "missing DTSTART"
 

@@ -1,8 +1,8 @@
 -- The text of a recurrence set, after the properties of RFC 5545. Its lines end with a line feed
 -- (10), which a carriage return (13) can precede. Each has a name, parameters after `;` (59), `:`
 -- (58) and a value, or a list of values separated by `,` (44).
-use Rattle.std.specs.Prelude.{ℕ, ◌+◌, ◌-◌, ◌==◌, ◌&&◌, nat_le, Bool, true, false, not, List, [], ◌∷◌, ◌++◌, codes, length, slice_index, Option, Some, None, option_map, option_and_then, Result, Ok, Err, if◌then◌else◌}
-use Rattle.std.specs.Option.{option_map_or}
+use Rattle.std.specs.Prelude.{ℕ, ◌+◌, ◌-◌, ◌==◌, ◌&&◌, ◌||◌, nat_le, Bool, true, false, not, List, [], ◌∷◌, ◌++◌, codes, length, slice_index, Option, Some, None, option_map, option_and_then, is_some, unwrap_or, bytes_eq, Result, Ok, Err, if◌then◌else◌}
+use Rattle.std.specs.Option.{option_map_or, option_or}
 use Rattle.cal_schedule.specs.Pattern.{every}
 use Rattle.cal_schedule.specs.Values.{most_values}
 use Rattle.cal_schedule.specs.declared.rule.rule.Frequency.TheVariants.{Daily}
@@ -17,7 +17,7 @@ use Rattle.cal_recurrence.specs.declared.recurrence.Recurrence.{Recurrence}
 use Rattle.cal_recurrence.specs.declared.recurrence.RuleEnd.TheVariants.{Count}
 use Rattle.cal_recurrence.specs.declared.set_fault.ParseSetError.{ParseSetError}
 use Rattle.cal_recurrence.specs.declared.set_fault.ParseSetErrorKind.{ParseSetErrorKind}
-use Rattle.cal_recurrence.specs.declared.set_fault.ParseSetErrorKind.TheVariants.{Unknown, Twice, TooMany, Value, Rule, Missing}
+use Rattle.cal_recurrence.specs.declared.set_fault.ParseSetErrorKind.TheVariants.{Unknown, Twice, TooMany, Value, OtherZone, Rule, Missing}
 use Rattle.cal_recurrence.specs.declared.set_fault.SetLine.{SetLine}
 use Rattle.cal_recurrence.specs.declared.set_fault.SetLine.TheVariants as line
 use Rattle.cal_recurrence.specs.declared.set_draft.SetDraft.{SetDraft}
@@ -82,17 +82,9 @@ line_of word =
     if is_alike word (codes "EXDATE") then Some line.Exceptions else
     None
 
--- The draft with a start.
-abbrev pub with_start : SetDraft → DateOrTime → SetDraft
-with_start draft start = record draft { parts = record draft.parts { start = start }; has_start = true }
-
--- The draft with a recurrence.
-abbrev pub with_rule : SetDraft → Recurrence → SetDraft
-with_rule draft its = record draft { parts = record draft.parts { recurrence = its }; has_rule = true }
-
 -- The draft with the recurrence of the line at byte `at`, or its error.
 abbrev pub put_rule : ℕ → SetDraft → Result Recurrence ParseRuleError → Result SetDraft ParseSetError
-put_rule at draft (Ok its) = Ok (with_rule draft its)
+put_rule at draft (Ok its) = Ok (record draft { recurrence = Some its })
 put_rule at draft (Err fault) = Err (set_fault at (Rule fault))
 
 -- A list with the values of one more line that begins at byte `at`, or the error of the line: too
@@ -104,37 +96,79 @@ more_of at its dates parameters value =
 
 -- The draft with other dates.
 abbrev pub put_dates : SetDraft → Result (List DateOrTime) ParseSetError → Result SetDraft ParseSetError
-put_dates draft (Ok dates) = Ok (record draft { parts = record draft.parts { dates = dates } })
+put_dates draft (Ok dates) = Ok (record draft { dates = dates })
 put_dates draft (Err why) = Err why
 
 -- The draft with other exceptions.
 abbrev pub put_exceptions : SetDraft → Result (List DateOrTime) ParseSetError → Result SetDraft ParseSetError
-put_exceptions draft (Ok dates) = Ok (record draft { parts = record draft.parts { exceptions = dates } })
+put_exceptions draft (Ok dates) = Ok (record draft { exceptions = dates })
 put_exceptions draft (Err why) = Err why
 
 -- The draft with one more line that begins at byte `at`, by its name, its parameters and its value.
 abbrev pub put_named : ℕ → SetDraft → List ℕ → List (List ℕ) → List ℕ → SetLine → Result SetDraft ParseSetError
 put_named at draft whole parameters value line.Start =
-    if draft.has_start then Err (set_fault at (Twice line.Start)) else
-    option_map_or (λ start. Ok (with_start draft start)) (value_of parameters value) (Err (set_fault at (Value line.Start)))
-put_named at draft whole parameters value line.Rule = if draft.has_rule then Err (set_fault at (Twice line.Rule)) else put_rule at draft (recurrence_of whole)
-put_named at draft whole parameters value line.Dates = put_dates draft (more_of at line.Dates draft.parts.dates parameters value)
-put_named at draft whole parameters value line.Exceptions = put_exceptions draft (more_of at line.Exceptions draft.parts.exceptions parameters value)
+    if is_some draft.start then Err (set_fault at (Twice line.Start)) else
+    option_map_or (λ start. Ok (record draft { start = Some start })) (value_of parameters value) (Err (set_fault at (Value line.Start)))
+put_named at draft whole parameters value line.Rule = if is_some draft.recurrence then Err (set_fault at (Twice line.Rule)) else put_rule at draft (recurrence_of whole)
+put_named at draft whole parameters value line.Dates = put_dates draft (more_of at line.Dates draft.dates parameters value)
+put_named at draft whole parameters value line.Exceptions = put_exceptions draft (more_of at line.Exceptions draft.exceptions parameters value)
+
+-- ---- zones
+-- The name of a zone that a parameter gives: the value of TZID.
+abbrev pub names_zone : List ℕ → Bool
+names_zone parameter = is_alike (front_at 61 parameter) (codes "TZID")
+
+-- The first name of a zone among some parameters.
+abbrev pub first_zone : List (List ℕ) → Option (List ℕ)
+first_zone [] = None
+first_zone (parameter ∷ parameters) = if names_zone parameter then Some (rest_at 61 parameter) else first_zone parameters
+
+-- Each name of a zone among some parameters is this one.
+abbrev pub all_name : List (List ℕ) → List ℕ → Bool
+all_name [] zone = true
+all_name (parameter ∷ parameters) zone = (not (names_zone parameter) || bytes_eq (rest_at 61 parameter) zone) && all_name parameters zone
+
+-- The draft with the zone of one more line, or the error that the line names another zone than a
+-- line before it, or two zones.
+abbrev pub put_zone_of : ℕ → SetDraft → List (List ℕ) → SetLine → Option (List ℕ) → Result SetDraft ParseSetError
+put_zone_of at draft parameters its None = Ok draft
+put_zone_of at draft parameters its (Some zone) =
+    if all_name parameters zone then Ok (record draft { zone = Some zone }) else Err (set_fault at (OtherZone its))
+
+abbrev pub put_zone : ℕ → SetDraft → List (List ℕ) → SetLine → Result SetDraft ParseSetError
+put_zone at draft parameters its = put_zone_of at draft parameters its (option_or draft.zone (first_zone parameters))
+
+-- The draft with the zone of one more line, or an earlier error of the line.
+abbrev pub and_zone : ℕ → List (List ℕ) → SetLine → Result SetDraft ParseSetError → Result SetDraft ParseSetError
+and_zone at parameters its (Ok draft) = put_zone at draft parameters its
+and_zone at parameters its (Err why) = Err why
+
+-- The draft with one more line that begins at byte `at`: what its name says, and then its zone.
+unfoldable pub put_whole : ℕ → SetDraft → List ℕ → List (List ℕ) → List ℕ → SetLine → Result SetDraft ParseSetError
+put_whole at draft whole parameters value its = and_zone at parameters its (put_named at draft whole parameters value its)
 
 -- The draft with one more line that begins at byte `at`. An empty line says nothing.
 abbrev pub put_line : ℕ → SetDraft → List ℕ → Result SetDraft ParseSetError
 put_line at draft text =
     if length text == 0 then Ok draft else
-    option_map_or (put_named at draft text (parameters_of (front_at 58 text)) (rest_at 58 text)) (line_of (front_at 59 (front_at 58 text))) (Err (set_fault at Unknown))
+    option_map_or (put_whole at draft text (parameters_of (front_at 58 text)) (rest_at 58 text)) (line_of (front_at 59 (front_at 58 text))) (Err (set_fault at Unknown))
 
 -- ---- the whole
 -- A line without the carriage return at its end.
 abbrev pub without_return : List ℕ → List ℕ
 without_return text = if slice_index text (length text - 1) == 13 then first_bytes (length text - 1) text else text
 
+-- The recurrence without a line `RRULE`: the start, once.
+abbrev pub once : Recurrence
+once = record { pattern = every Daily; times = no_times; end = Count 1 }
+
+-- The parts of a draft that has a start.
+abbrev pub parts_from : SetDraft → DateOrTime → SetParts
+parts_from draft start = record { start = start; recurrence = unwrap_or draft.recurrence once; dates = draft.dates; exceptions = draft.exceptions; zone = draft.zone }
+
 -- The parts of a draft, or the error `Missing` without a start.
 abbrev pub set_finished : ℕ → SetDraft → Result SetParts ParseSetError
-set_finished at draft = if draft.has_start then Ok draft.parts else Err (set_fault at Missing)
+set_finished at draft = option_map_or (λ start. Ok (parts_from draft start)) draft.start (Err (set_fault at Missing))
 
 -- The result for a line and the lines after it: the error of this line, or the result for the
 -- others.
@@ -147,13 +181,9 @@ abbrev pub read_lines : ℕ → SetDraft → List (List ℕ) → Result SetParts
 read_lines at draft [] = set_finished (at - 1) draft
 read_lines at draft (text ∷ texts) = and_lines (λ more. read_lines (at + length text + 1) more texts) (put_line at draft (without_return text))
 
--- The recurrence without a line `RRULE`: the start, once.
-abbrev pub once : Recurrence
-once = record { pattern = every Daily; times = no_times; end = Count 1 }
-
 -- The draft without lines.
 abbrev pub no_lines : SetDraft
-no_lines = record { parts = record { start = Date 0; recurrence = once; dates = []; exceptions = [] }; has_start = false; has_rule = false }
+no_lines = record { start = None; recurrence = None; dates = []; exceptions = []; zone = None }
 
 -- The parts of the set that a text says, or its first error.
 abbrev pub set_of : List ℕ → Result SetParts ParseSetError

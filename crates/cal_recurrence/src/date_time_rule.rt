@@ -165,6 +165,11 @@ impl DateTimeRule {
     {
         // This states that the date is in its range. It costs nothing.
         let _ = date.year();
+        // Without this test, a rule whose times never match, such as `BYSECOND=60`, would go
+        // through all days of the range.
+        if self.per_day == 0 {
+            return None;
+        }
         let mut last = date;
         while let Some(next) = self.days.next_after(last) {
             if let Some(time) = self.next_on_day(next, 0) {

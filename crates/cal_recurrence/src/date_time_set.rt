@@ -21,13 +21,6 @@ pub struct DateTimeSet<'a> {
     pub exceptions: &'a [PlainDateTime],
 }
 
-/// Returns `true` if a reading is in a list.
-fn is_listed(readings: &[PlainDateTime], reading: PlainDateTime) -> bool
-    ensures { result ≡ is_listed readings.now reading }
-{
-    readings.iter().any(|one| *one == reading)
-}
-
 /// Returns the earlier reading, or the only one.
 fn earlier(reading: Option<PlainDateTime>, other: Option<PlainDateTime>) -> Option<PlainDateTime>
     ensures { result ≡ earlier reading other }
@@ -71,8 +64,8 @@ impl<'a> DateTimeSet<'a> {
         ensures in_range { IsDateTime reading }
     {
         let _ = reading.date();
-        (self.rule.contains(reading) || is_listed(self.dates, reading))
-            && !is_listed(self.exceptions, reading)
+        (self.rule.contains(reading) || self.dates.contains(&reading))
+            && !self.exceptions.contains(&reading)
     }
 
     /// Returns the first reading after a reading that the rule has or that is one of the others.
@@ -96,7 +89,7 @@ impl<'a> DateTimeSet<'a> {
         let _ = reading.date();
         let mut last = reading;
         while let Some(next) = self.next_candidate(last) {
-            if !is_listed(self.exceptions, next) {
+            if !self.exceptions.contains(&next) {
                 return Some(next);
             }
             last = next;

@@ -28,8 +28,19 @@ impl Recurrence {
         ensures { result ≡ date_time_rule start (last_reading_of self.now.end)
             self.now.pattern self.now.times }
     {
+        self.rule_until(start, self.last_reading())
+    }
+
+    /// Returns the rule of the readings from a start to a last possible reading.
+    pub(crate) fn rule_until(
+        &self,
+        start: PlainDateTime,
+        last: Option<PlainDateTime>,
+    ) -> DateTimeRule
+        ensures { result ≡ date_time_rule start last self.now.pattern self.now.times }
+    {
         let pattern = self.rule(start.date()).pattern;
-        DateTimeRule::new(start, self.last_reading(), pattern, self.times.copy())
+        DateTimeRule::new(start, last, pattern, self.times.copy())
     }
 
     /// Returns an iterator over the readings from a start, in ascending order. For

@@ -22,13 +22,6 @@ pub struct RecurrenceSet<'a> {
     pub exceptions: &'a [Date],
 }
 
-/// Returns `true` if a date is in a list.
-fn is_listed(dates: &[Date], date: Date) -> bool
-    ensures { result ≡ is_listed dates.now date }
-{
-    dates.iter().any(|one| *one == date)
-}
-
 /// Returns the earlier date, or the only one.
 fn earlier(date: Option<Date>, other: Option<Date>) -> Option<Date>
     ensures { result ≡ earlier date other }
@@ -103,8 +96,7 @@ impl<'a> RecurrenceSet<'a> {
         ensures value { result ≡ is_in_set self.now date }
         ensures in_range { IsDate date }
     {
-        (self.rule.contains(date) || is_listed(self.dates, date))
-            && !is_listed(self.exceptions, date)
+        (self.rule.contains(date) || self.dates.contains(&date)) && !self.exceptions.contains(&date)
     }
 
     /// Returns the first day after a date that is a day of the rule or one of the other days.
@@ -133,7 +125,7 @@ impl<'a> RecurrenceSet<'a> {
     {
         let mut last = date;
         while let Some(next) = self.next_candidate(last) {
-            if !is_listed(self.exceptions, next) {
+            if !self.exceptions.contains(&next) {
                 return Some(next);
             }
             last = next;
@@ -150,7 +142,7 @@ impl<'a> RecurrenceSet<'a> {
     {
         let mut first = date;
         while let Some(previous) = self.previous_candidate(first) {
-            if !is_listed(self.exceptions, previous) {
+            if !self.exceptions.contains(&previous) {
                 return Some(previous);
             }
             first = previous;

@@ -1,7 +1,7 @@
 //! A recurrence set while it is parsed.
 ghost use Rattle.std.specs.Prelude.{◌≡◌, ◌+◌, ◌≤◌, ◌++◌, [], length, option_map};
 ghost use Rattle.cal_schedule.specs.Values.{most_values};
-ghost use Rattle.cal_recurrence.specs.SetText.{all_allow, allows, is_date, is_local, line_of, more_of, no_lines, parameters_of, put_line, put_named, set_fault, set_finished, value_of};
+ghost use Rattle.cal_recurrence.specs.SetText.{all_allow, all_name, allows, first_zone, is_date, is_local, line_of, more_of, no_lines, once, parameters_of, put_line, put_named, put_whole, put_zone, set_fault, set_finished, value_of};
 ghost use Rattle.cal_recurrence.specs.Text.{list_of};
 ghost use Rattle.cal_recurrence.specs.declared.set_fault.SetLine.TheVariants.{Start, Rule, Dates, Exceptions};
 ghost use Rattle.cal_recurrence.specs.Words.{parts_at};
@@ -15,16 +15,18 @@ use crate::set_fault::{ParseSetError, ParseSetErrorKind, SetLine};
 use crate::set_parts::SetParts;
 use crate::times_of_day::TimesOfDay;
 use crate::words::{cut, is_alike};
+use crate::zone_name::ZoneName;
 use cal_schedule::{Frequency, Pattern, Values};
 use cal_time::day_number::to_date;
 
-/// The parts of a set that were parsed so far. It notes if the start and the recurrence are among
-/// them.
+/// The parts of a set that were parsed so far.
 #[derive(Drop)]
-pub struct SetDraft {
-    pub parts: SetParts,
-    pub has_start: bool,
-    pub has_rule: bool,
+pub struct SetDraft<'a> {
+    pub start: Option<DateOrTime>,
+    pub recurrence: Option<Recurrence>,
+    pub dates: Values<DateOrTime>,
+    pub exceptions: Values<DateOrTime>,
+    pub zone: Option<ZoneName<'a>>,
 }
 
 /// Returns `true` if the value is a date.
@@ -124,6 +126,17 @@ fn fault(position: usize, reason: ParseSetErrorKind) -> ParseSetError
     ParseSetError { position, reason }
 }
 
+/// Returns the recurrence of a set without `RRULE`.
+fn once() -> Recurrence
+    ensures { result ≡ once }
+{
+    Recurrence {
+        pattern: Pattern::new(Frequency::Daily),
+        times: TimesOfDay::new(),
+        end: RuleEnd::Count(1),
+    }
+}
+
 /// Returns the line with a name, or `None` for an unknown name.
 fn line_of(name: &[u8]) -> Option<SetLine>
     ensures { result ≡ line_of name.now }
@@ -141,40 +154,97 @@ fn line_of(name: &[u8]) -> Option<SetLine>
     }
 }
 
-impl SetDraft {
-    /// Creates a draft without lines, with the recurrence of a set without `RRULE`.
+/// Returns the first name of a zone among the parameters, or `None` without one.
+fn first_zone(head: &[u8]) -> Option<&[u8]>
+    ensures { option_map (λ name. name.now) result ≡ first_zone (parameters_of head.now) }
+{
+    let rest = cut(head, b';').1?;
+    let (name, value) = cut(cut(rest, b';').0, b'=');
+    if is_alike(name, b"TZID") {
+        Some(value.unwrap_or(b"".as_slice()))
+    } else {
+        first_zone(rest)
+    }
+}
+
+/// Returns `true` if each name of a zone among the parameters is this one.
+fn all_name(head: &[u8], zone: &[u8]) -> bool
+    ensures { result ≡ all_name (parameters_of head.now) zone.now }
+{
+    match cut(head, b';').1 {
+        Some(rest) => {
+            let (name, value) = cut(cut(rest, b';').0, b'=');
+            (!is_alike(name, b"TZID") || value.unwrap_or(b"".as_slice()) == zone)
+                && all_name(rest, zone)
+        }
+        None => true,
+    }
+}
+
+impl<'a> SetDraft<'a> {
+    /// Creates a draft without lines.
     pub fn new() -> Self
         ensures { result ≡ no_lines }
     {
-        let parts = SetParts {
-            start: DateOrTime::Date(to_date(0)),
-            recurrence: Recurrence {
-                pattern: Pattern::new(Frequency::Daily),
-                times: TimesOfDay::new(),
-                end: RuleEnd::Count(1),
-            },
+        SetDraft {
+            start: None,
+            recurrence: None,
             dates: Values::none(DateOrTime::Date(to_date(0))),
             exceptions: Values::none(DateOrTime::Date(to_date(0))),
-        };
-        SetDraft {
-            parts,
-            has_start: false,
-            has_rule: false,
+            zone: None,
         }
     }
 
     /// Parses one more line that begins at byte `at`. Returns `Unknown` for an unknown name, or
-    /// else the errors of `with_named`.
-    pub fn with_line(self, at: usize, line: &[u8]) -> Result<Self, ParseSetError>
-        ensures { result ≡ put_line at self line.now }
+    /// else the errors of `with_whole`.
+    pub fn with_line(self, at: usize, line: &'a [u8]) -> Result<Self, ParseSetError>
+        ensures { result ≡ put_line at self.entry line.now }
     {
         if line.is_empty() {
             return Ok(self);
         }
         let (head, value) = cut(line, b':');
         match line_of(cut(head, b';').0) {
-            Some(its) => { self.with_named(at, line, head, value.unwrap_or(b"".as_slice()), its) }
+            Some(its) => { self.with_whole(at, line, head, value.unwrap_or(b"".as_slice()), its) }
             None => Err(fault(at, ParseSetErrorKind::Unknown)),
+        }
+    }
+
+    /// Parses one more line by its head, its value and then its zone. Returns the errors of
+    /// `with_named` and `with_zone`.
+    #[tactic(auto, unfolding(crate::specs::SetText::put_whole))]
+    fn with_whole(
+        self,
+        at: usize,
+        line: &[u8],
+        head: &'a [u8],
+        value: &[u8],
+        its: SetLine,
+    ) -> Result<Self, ParseSetError>
+        ensures { result ≡ put_whole at self.entry line.now (parameters_of head.now) value.now its }
+    {
+        match self.with_named(at, line, head, value, its) {
+            Ok(draft) => draft.with_zone(at, its, head),
+            Err(error) => Err(error),
+        }
+    }
+
+    /// Parses the zone of one more line. Returns `OtherZone` if it names another one than a line
+    /// before it, or two.
+    fn with_zone(mut self, at: usize, its: SetLine, head: &'a [u8]) -> Result<Self, ParseSetError>
+        ensures { result ≡ put_zone at self.entry (parameters_of head.now) its }
+    {
+        if self.zone.is_none() {
+            self.zone = match first_zone(head) {
+                Some(name) => Some(ZoneName::new(name)),
+                None => None,
+            };
+        }
+        match &self.zone {
+            Some(zone) if !all_name(head, zone.as_bytes()) => {
+                Err(fault(at, ParseSetErrorKind::OtherZone(its)))
+            }
+            _ => Ok(self),
         }
     }
 
@@ -187,7 +257,7 @@ impl SetDraft {
         value: &[u8],
         its: SetLine,
     ) -> Result<Self, ParseSetError>
-        ensures { result ≡ put_named at self line.now (parameters_of head.now) value.now its }
+        ensures { result ≡ put_named at self.entry line.now (parameters_of head.now) value.now its }
     {
         match its {
             SetLine::Start => self.with_start(at, head, value),
@@ -199,15 +269,14 @@ impl SetDraft {
 
     /// Parses the start. Returns `Twice` if it was parsed before, or `Value` if it is invalid.
     fn with_start(mut self, at: usize, head: &[u8], value: &[u8]) -> Result<Self, ParseSetError>
-        ensures { result ≡ put_named at self [] (parameters_of head.now) value.now Start }
+        ensures { result ≡ put_named at self.entry [] (parameters_of head.now) value.now Start }
     {
-        if self.has_start {
+        if self.start.is_some() {
             return Err(fault(at, ParseSetErrorKind::Twice(SetLine::Start)));
         }
         match value_of(head, value) {
             Some(start) => {
-                self.parts.start = start;
-                self.has_start = true;
+                self.start = Some(start);
                 Ok(self)
             }
             None => Err(fault(at, ParseSetErrorKind::Value(SetLine::Start))),
@@ -216,15 +285,14 @@ impl SetDraft {
 
     /// Parses the recurrence. Returns `Twice` if it was parsed before, or `Rule` if it is invalid.
     fn with_rule(mut self, at: usize, line: &[u8]) -> Result<Self, ParseSetError>
-        ensures { result ≡ put_named at self line.now [] [] Rule }
+        ensures { result ≡ put_named at self.entry line.now [] [] Rule }
     {
-        if self.has_rule {
+        if self.recurrence.is_some() {
             return Err(fault(at, ParseSetErrorKind::Twice(SetLine::Rule)));
         }
         match parse(line) {
             Ok(recurrence) => {
-                self.parts.recurrence = recurrence;
-                self.has_rule = true;
+                self.recurrence = Some(recurrence);
                 Ok(self)
             }
             Err(error) => Err(fault(at, ParseSetErrorKind::Rule(error))),
@@ -233,13 +301,13 @@ impl SetDraft {
 
     /// Parses more dates. Returns the errors of `more_of`.
     fn with_dates(mut self, at: usize, head: &[u8], value: &[u8]) -> Result<Self, ParseSetError>
-        ensures { result ≡ put_named at self [] (parameters_of head.now) value.now Dates }
+        ensures { result ≡ put_named at self.entry [] (parameters_of head.now) value.now Dates }
     {
         let none = Values::none(DateOrTime::Date(to_date(0)));
-        let dates = std::mem::replace(&mut self.parts.dates, none);
+        let dates = std::mem::replace(&mut self.dates, none);
         match more_of(at, SetLine::Dates, dates, head, value) {
             Ok(dates) => {
-                self.parts.dates = dates;
+                self.dates = dates;
                 Ok(self)
             }
             Err(error) => Err(error),
@@ -253,27 +321,44 @@ impl SetDraft {
         head: &[u8],
         value: &[u8],
     ) -> Result<Self, ParseSetError>
-        ensures { result ≡ put_named at self [] (parameters_of head.now) value.now Exceptions }
+        ensures { result ≡ put_named at self.entry [] (parameters_of head.now) value.now Exceptions }
     {
         let none = Values::none(DateOrTime::Date(to_date(0)));
-        let exceptions = std::mem::replace(&mut self.parts.exceptions, none);
+        let exceptions = std::mem::replace(&mut self.exceptions, none);
         match more_of(at, SetLine::Exceptions, exceptions, head, value) {
             Ok(exceptions) => {
-                self.parts.exceptions = exceptions;
+                self.exceptions = exceptions;
                 Ok(self)
             }
             Err(error) => Err(error),
         }
     }
 
-    /// Returns the parts, or the error `Missing` at byte `end` without a start.
-    pub fn finished(self, end: usize) -> Result<SetParts, ParseSetError>
-        ensures { result ≡ set_finished end self }
+    /// Returns the parts, or the error `Missing` at byte `end` without a start. Without a
+    /// recurrence the set has the start.
+    pub fn finished(self, end: usize) -> Result<SetParts<'a>, ParseSetError>
+        ensures { result ≡ set_finished end self.entry }
     {
-        if self.has_start {
-            Ok(self.parts)
-        } else {
-            Err(fault(end, ParseSetErrorKind::Missing))
-        }
+        let SetDraft {
+            start,
+            recurrence,
+            dates,
+            exceptions,
+            zone,
+        } = self;
+        let Some(start) = start else {
+            return Err(fault(end, ParseSetErrorKind::Missing));
+        };
+        let recurrence = match recurrence {
+            Some(its) => its,
+            None => once(),
+        };
+        Ok(SetParts {
+            start,
+            recurrence,
+            dates,
+            exceptions,
+            zone,
+        })
     }
 }

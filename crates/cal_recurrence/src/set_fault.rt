@@ -30,6 +30,8 @@ pub enum ParseSetErrorKind {
     TooMany(SetLine),
     /// A value of the line is invalid, or is excluded by a parameter of the line.
     Value(SetLine),
+    /// The line names another zone than a line before it, or two zones (`TZID`).
+    OtherZone(SetLine),
     /// The line `RRULE` is invalid. The position in this error counts from the start of the line.
     Rule(ParseRuleError),
     /// The text has no `DTSTART`.
@@ -82,6 +84,10 @@ impl ParseSetErrorKind {
             }
             ParseSetErrorKind::Value(line) => {
                 text.push("invalid value of ");
+                text.push(line.name());
+            }
+            ParseSetErrorKind::OtherZone(line) => {
+                text.push("another zone in ");
                 text.push(line.name());
             }
             ParseSetErrorKind::Rule(_) => text.push("invalid RRULE"),

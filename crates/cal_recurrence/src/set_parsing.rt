@@ -18,13 +18,14 @@ use crate::words::{cut, split};
 ///
 /// A value is a date such as `20240101`, or a date and time such as `20240101T090000` or
 /// `20240101T090000Z`. The parameter `VALUE=DATE` requires dates, `VALUE=DATE-TIME` requires times,
-/// and `TZID=Europe/Berlin` requires times without `Z`. The name of the zone isn't kept.
+/// and `TZID=Europe/Berlin` requires times without `Z`. A set has one zone, so each `TZID` has the
+/// same name, byte by byte.
 ///
 /// Returns the error of the first invalid line: `Unknown` for any other name, `Twice` for a second
-/// `DTSTART` or `RRULE`, `TooMany` for more than 62 values, `Rule` for an invalid recurrence, or
-/// `Value` for another invalid value, or one that a parameter excludes. Otherwise returns `Missing`
-/// if there is no `DTSTART`.
-pub fn parse_set(text: &[u8]) -> Result<SetParts, ParseSetError>
+/// `DTSTART` or `RRULE`, `TooMany` for more than 62 values, `Rule` for an invalid recurrence,
+/// `Value` for another invalid value, or one that a parameter excludes, or `OtherZone` for the name
+/// of another zone. Otherwise returns `Missing` if there is no `DTSTART`.
+pub fn parse_set(text: &[u8]) -> Result<SetParts<'_>, ParseSetError>
     ensures { result ≡ set_of text.now }
 {
     read_lines(0, SetDraft::new(), text)
@@ -46,9 +47,13 @@ fn without_return(line: &[u8]) -> &[u8]
 }
 
 /// Parses the lines from byte `position` on, after the lines of the draft.
-fn read_lines(position: usize, draft: SetDraft, text: &[u8]) -> Result<SetParts, ParseSetError>
+fn read_lines<'a>(
+    position: usize,
+    draft: SetDraft<'a>,
+    text: &'a [u8],
+) -> Result<SetParts<'a>, ParseSetError>
     requires { position + length text.now < 2 ^ 64 }
-    ensures { result ≡ read_lines position draft (parts_at 10 text.now) }
+    ensures { result ≡ read_lines position draft.entry (parts_at 10 text.now) }
 {
     let (line, rest) = cut(text, b'\n');
     match draft.with_line(position, without_return(line)) {

@@ -1,6 +1,4 @@
 //! Recurrence sets in a time zone.
-ghost use Rattle.std.specs.List.{list_any};
-ghost use Rattle.std.specs.Ordering.{int_eq};
 ghost use Rattle.std.specs.Prelude.{◌≡◌, ◌↔◌, ℤ, true, ◌+ℤ◌, ◌≤ℤ◌, ◌<ℤ◌, IsTrue, option_map};
 ghost use Rattle.cal_time.specs.UtcOffset.{IsOffset};
 ghost use Rattle.cal_datetime.specs.DateTime.{IsDateTime};
@@ -50,13 +48,6 @@ fn nanoseconds(moment: OffsetDateTime) -> i128
     moment.unix_timestamp_nanos()
 }
 
-/// Returns `true` if one of some moments is at the same instant as a moment.
-fn has_instant(moments: &[OffsetDateTime], moment: OffsetDateTime) -> bool
-    ensures { result ≡ list_any (λ other. int_eq (instant other) (instant moment)) moments.now }
-{
-    moments.iter().any(|other| *other == moment)
-}
-
 /// Returns `true` if a moment isn't after the last one, if there is one.
 fn is_not_after(last: Option<OffsetDateTime>, moment: OffsetDateTime) -> bool
     ensures { result ≡ is_not_after (option_map instant last) (instant moment) }
@@ -72,7 +63,7 @@ impl<'a> ZonedSet<'a> {
     fn is_kept(&self, moment: OffsetDateTime) -> bool
         ensures { result ≡ is_kept self.now (instant moment) }
     {
-        is_not_after(self.until, moment) && !has_instant(self.exceptions, moment)
+        is_not_after(self.until, moment) && !self.exceptions.contains(&moment)
     }
 
     /// Returns the moment that a reading of the set means, if it isn't left out and is later than

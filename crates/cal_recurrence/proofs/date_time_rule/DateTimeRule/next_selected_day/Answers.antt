@@ -1,11 +1,12 @@
-use Rattle.std.proofs.Common.{◌+◌, ◌*◌, ◌∙◌, ap, arith, None, Some, subst}
+use Rattle.std.proofs.Common.{◌≡◌, ◌+◌, ◌*◌, ◌∙◌, sym, ap, arith, None, Some, subst}
 use Rattle.cal_time.specs.Date.{last_day}
 use Rattle.cal_time.specs.SignedDuration.{day}
+use Rattle.cal_datetime.specs.DateTime.{last_date_time}
 use Rattle.cal_schedule.specs.Rule.{is_occurrence}
 use Rattle.cal_recurrence.specs.TimeSearch.{NoneIn, IsFirst, selects}
-use Rattle.cal_recurrence.proofs.SelectedReadings.{days-none, first-on_day, joined, none-on_day, on-ranked}
+use Rattle.cal_recurrence.proofs.SelectedReadings.{days-none, first-on_day, joined, never-selected, none-on_day, on-ranked}
 use Rattle.cal_recurrence.proofs.Sets.{next_day}
-use Rattle.cal_recurrence.proofs.TimePositions.{days-are, ranked}
+use Rattle.cal_recurrence.proofs.TimePositions.{days-are, per_day, ranked}
 use Rattle.cal_recurrence.proofs.date_time_rule.DateTimeRule.next_selected_day.Goals as goal
 
 pub next_on_day-requires-clause-on : goal.next_on_day-requires-clause-on
@@ -43,3 +44,8 @@ returns-clause-value c =
     next_day (is_occurrence c.self.inside.days) c.loop-next.last None c.in_default.ensures.value in
     joined (selects rule) ((c.args.date + 1) * day) ((c.loop-next.last + 1) * day) ((last_day + 1) * day) c.loop-next.invariant.none
     (days-none rule (c.loop-next.last + 1) (last_day + 1) (omega arith) (subst (λ d. NoneIn (is_occurrence d) (c.loop-next.last + 1) (last_day + 1)) days none))
+
+pub returns-then-self-eq0-clause-value : goal.returns-then-self-eq0-clause-value
+returns-then-self-eq0-clause-value c =
+    let size : c.self.inside.per_day ≡ per_day c.args.self.now = c.self.invariant.count_is ∙ ap (λ r. per_day r) c.self.view_is in
+    never-selected c.args.self.now ((c.args.date + 1) * day) (last_date_time + 1) (omega (arith, size))

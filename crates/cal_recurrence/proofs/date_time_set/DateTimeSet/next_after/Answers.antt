@@ -8,15 +8,15 @@ use Rattle.cal_recurrence.proofs.FirstNumbers.{ended, kept, skipped}
 use Rattle.cal_recurrence.proofs.DateTimeSets.{found, in-list, is-found, leaves, left_out, not_found, offered, on, IsFound}
 use Rattle.cal_recurrence.proofs.date_time_set.DateTimeSet.next_after.Goals as goal
 
-pub returns-then-not-is_listed : goal.returns-then-not-is_listed
-returns-then-not-is_listed c =
+pub returns-then-not-contains : goal.returns-then-not-contains
+returns-then-not-contains c =
     let set = c.args.self.now in
     let at = c.loop-next in
     let z = c.args.reading in
     let next : IsFound (candidates set) (unsigned_abs at.last + 1) c.in-Some.next = found (candidates set) (unsigned_abs at.last + 1) c.in-Some.next c.in-Some.ensures in
     let first : IsFirst (on set) (unsigned_abs z + 1) (last_date_time + 1) (unsigned_abs c.in-Some.next) = kept (on set) (offered set) (left_out set) (leaves set)
     (unsigned_abs z + 1) (unsigned_abs at.last + 1) (last_date_time + 1) (unsigned_abs c.in-Some.next) (omega (arith, at.invariant.later)) at.invariant.none next.first
-    (ap (is_listed set.exceptions.now) (sym next.is) ∙ sym c.is_listed.ensures ∙ c.if-not-is_listed.true) in
+    (ap (is_listed set.exceptions.now) (sym next.is) ∙ sym c.contains.ensures.value ∙ c.if-not-contains.true) in
     record {
       value = in-list (is_in_set set) (unsigned_abs z + 1) (Some c.in-Some.next) (is-found (is_in_set set) (unsigned_abs z + 1) c.in-Some.next (record { is = next.is; first = first }));
       found = (omega (arith, ints, first.not_before, next.is, c.date.ensures.in_range.not_before), (ap (is_in_set set) next.is ∙ first.passes));
@@ -31,7 +31,7 @@ loop-next-preserved c =
       later = omega (arith, at.invariant.later, next.first.not_before);
       none = skipped (on set) (offered set) (left_out set) (leaves set)
           (unsigned_abs c.args.reading + 1) (unsigned_abs at.last + 1) (last_date_time + 1) (unsigned_abs c.in-Some.next) at.invariant.none next.first
-          (ap (is_listed set.exceptions.now) (sym next.is) ∙ sym c.is_listed.ensures ∙ c.if-not-is_listed.false);
+          (ap (is_listed set.exceptions.now) (sym next.is) ∙ sym c.contains.ensures.value ∙ c.if-not-contains.false);
     }
 
 pub loop-next-smaller : goal.loop-next-smaller

@@ -1,0 +1,168 @@
+-- The days, the readings or the instants that the parts of a recurrence set mean (RFC 5545).
+use Rattle.std.specs.Prelude.{◌≡◌, ℕ, ◌+◌, ◌==◌, not, Bool, true, false, ℤ, pos, List, length, filter_map, Option, Some, None, Result, Ok, Err, if◌then◌else◌}
+use Rattle.std.specs.List.{last_or}
+use Rattle.cal_datetime.specs.OffsetDateTime.{LocalAndOffset}
+use Rattle.cal_schedule.specs.Pattern.{rule_of}
+use Rattle.cal_recurrence.specs.DateOrTime.{date_of, last_reading}
+use Rattle.cal_recurrence.specs.DateTimeRule.{date_time_rule, DateTimeParts}
+use Rattle.cal_recurrence.specs.Days.{days_of}
+use Rattle.cal_recurrence.specs.RecurrenceReadings.{readings_of}
+use Rattle.cal_recurrence.specs.SetText.{is_local}
+use Rattle.cal_recurrence.specs.ZoneReadings.{AreReadingsOf}
+use Rattle.cal_zone.specs.Timeline.{Timeline}
+use Rattle.cal_recurrence.specs.declared.date_or_time.DateOrTime.{DateOrTime}
+use Rattle.cal_recurrence.specs.declared.date_or_time.DateOrTime.TheVariants.{Date, Local, Utc}
+use Rattle.cal_recurrence.specs.declared.recurrence.Recurrence.{Recurrence}
+use Rattle.cal_recurrence.specs.declared.recurrence.RuleEnd.{RuleEnd}
+use Rattle.cal_recurrence.specs.declared.recurrence.RuleEnd.TheVariants.{Never, Until, Count}
+use Rattle.cal_recurrence.specs.declared.set_fault.SetLine.{SetLine}
+use Rattle.cal_recurrence.specs.declared.set_fault.SetLine.TheVariants as line
+use Rattle.cal_recurrence.specs.declared.set_meaning.SetDays.{SetDays}
+use Rattle.cal_recurrence.specs.declared.set_meaning.SetInstants.{SetInstants}
+use Rattle.cal_recurrence.specs.declared.set_meaning.SetReadings.{SetReadings}
+use Rattle.cal_recurrence.specs.declared.set_parts.SetParts.{SetParts}
+
+-- ---- values
+-- The day of a date.
+abbrev pub day_of : DateOrTime → Option ℕ
+day_of (Date n) = Some n
+day_of (Local z) = None
+day_of (Utc z) = None
+
+-- The reading of a time with `Z`, or of a time without it.
+abbrev pub reading_of : Bool → DateOrTime → Option ℤ
+reading_of is_utc (Date n) = None
+reading_of is_utc (Local z) = if is_utc then None else Some z
+reading_of is_utc (Utc z) = if is_utc then Some z else None
+
+-- The instant of a time with `Z`.
+abbrev pub instant_of : DateOrTime → Option LocalAndOffset
+instant_of (Date n) = None
+instant_of (Local z) = None
+instant_of (Utc z) = Some (record { local = z; offset = pos 0 })
+
+-- Each value of a list has a meaning.
+abbrev pub all_mean : {X : Type 0} → (DateOrTime → Option X) → List DateOrTime → Bool
+all_mean meaning values = length (filter_map meaning values) == length values
+
+-- ---- ends
+-- The last possible day of a recurrence from a start: the day of an UNTIL, or the last of the days
+-- that a COUNT allows. If there are none, it is the first day of the range.
+abbrev pub last_counted_day_at : Recurrence → ℕ → RuleEnd → Option ℕ
+last_counted_day_at r first Never = None
+last_counted_day_at r first (Until last) = Some (date_of last)
+last_counted_day_at r first (Count n) = last_or (Some 0) (days_of r first)
+
+abbrev pub last_counted_day : Recurrence → ℕ → Option ℕ
+last_counted_day r first = last_counted_day_at r first r.end
+
+-- The last possible reading of a recurrence from a start: the reading of an UNTIL, or the last of
+-- the readings that a COUNT allows. If there are none, it is the first reading of the range.
+abbrev pub last_counted_reading_at : Recurrence → ℤ → RuleEnd → Option ℤ
+last_counted_reading_at r start Never = None
+last_counted_reading_at r start (Until last) = Some (last_reading last)
+last_counted_reading_at r start (Count n) = last_or (Some (pos 0)) (readings_of r start)
+
+abbrev pub last_counted_reading : Recurrence → ℤ → Option ℤ
+last_counted_reading r start = last_counted_reading_at r start r.end
+
+-- An UNTIL is a date, or a reading of the same kind as the start: with `Z` or without it.
+abbrev pub ends_with : Bool → RuleEnd → Bool
+ends_with is_utc Never = true
+ends_with is_utc (Until (Date n)) = true
+ends_with is_utc (Until (Local z)) = not is_utc
+ends_with is_utc (Until (Utc z)) = is_utc
+ends_with is_utc (Count n) = true
+
+-- The last possible reading in a zone, which an UNTIL with `Z` isn't, and the last possible instant,
+-- which only an UNTIL with `Z` is.
+abbrev pub last_local : Recurrence → ℤ → RuleEnd → Option ℤ
+last_local r start (Until (Utc z)) = None
+last_local r start end = last_counted_reading r start
+
+abbrev pub last_instant : RuleEnd → Option LocalAndOffset
+last_instant (Until last) = instant_of last
+last_instant end = None
+
+-- ---- sets
+-- The days of a set of dates that starts on day `first`, or the first line with a time of day.
+abbrev pub set_days_from : SetParts → ℕ → Result SetDays SetLine
+set_days_from p first =
+    if not (all_mean day_of p.dates) then Err line.Dates else
+    if not (all_mean day_of p.exceptions) then Err line.Exceptions else
+    Ok (record {
+      rule = rule_of p.recurrence.pattern first (last_counted_day p.recurrence first);
+      dates = filter_map day_of p.dates;
+      exceptions = filter_map day_of p.exceptions;
+    })
+
+abbrev pub set_days_at : SetParts → DateOrTime → Result SetDays SetLine
+set_days_at p (Date n) = set_days_from p n
+set_days_at p (Local z) = Err line.Start
+set_days_at p (Utc z) = Err line.Start
+
+abbrev pub set_days : SetParts → Result SetDays SetLine
+set_days p = set_days_at p p.start
+
+-- The rule of a set of readings that starts at a reading, up to a last possible one.
+abbrev pub reading_rule : SetParts → ℤ → Option ℤ → DateTimeParts
+reading_rule p start last = date_time_rule start last p.recurrence.pattern p.recurrence.times
+
+-- The readings of a set of times that starts at a reading, all with `Z` or all without it, or the
+-- first line with another value.
+abbrev pub set_readings_from : SetParts → Bool → ℤ → Result SetReadings SetLine
+set_readings_from p is_utc start =
+    if not (ends_with is_utc p.recurrence.end) then Err line.Rule else
+    if not (all_mean (reading_of is_utc) p.dates) then Err line.Dates else
+    if not (all_mean (reading_of is_utc) p.exceptions) then Err line.Exceptions else
+    Ok (record {
+      rule = reading_rule p start (last_counted_reading p.recurrence start);
+      dates = filter_map (reading_of is_utc) p.dates;
+      exceptions = filter_map (reading_of is_utc) p.exceptions;
+    })
+
+abbrev pub set_readings_at : SetParts → DateOrTime → Result SetReadings SetLine
+set_readings_at p (Date n) = Err line.Start
+set_readings_at p (Local z) = set_readings_from p false z
+set_readings_at p (Utc z) = set_readings_from p true z
+
+abbrev pub set_readings : SetParts → Result SetReadings SetLine
+set_readings p = set_readings_at p p.start
+
+-- The readings and the instants of a set that starts at a reading of a zone, with these readings of
+-- its RDATE.
+abbrev pub instants_with : SetParts → ℤ → List ℤ → SetInstants
+instants_with p start dates = record {
+  readings = record {
+    rule = reading_rule p start (last_local p.recurrence start p.recurrence.end);
+    dates = dates;
+    exceptions = filter_map (reading_of false) p.exceptions;
+  };
+  until = last_instant p.recurrence.end;
+  exceptions = filter_map instant_of p.exceptions;
+}
+
+-- No value is a date.
+abbrev pub all_timed : List DateOrTime → Bool
+all_timed values = length (filter_map (reading_of false) values) + length (filter_map instant_of values) == length values
+
+-- s has the readings and the instants of a set in a zone.
+pub record AreInstants (zone : Timeline) (p : SetParts) (s : SetInstants) : Type 0 where
+  pub start : ℤ
+  pub dates : List ℤ
+  pub starts : p.start ≡ Local start
+  pub each_date : AreReadingsOf zone p.dates dates
+  pub timed : all_timed p.exceptions ≡ true
+  pub is : s ≡ instants_with p start dates
+
+-- The set has a local start, and these are the readings of its RDATE.
+pub record HasReadings (zone : Timeline) (p : SetParts) (dates : List ℤ) : Type 0 where
+  pub start : is_local p.start ≡ true
+  pub each_date : AreReadingsOf zone p.dates dates
+
+-- The first line of a set with a value that it can't have in a zone.
+abbrev pub IsInstantsError : Timeline → SetParts → SetLine → Type 0
+IsInstantsError zone p line.Start = is_local p.start ≡ false
+IsInstantsError zone p line.Rule = ⊥
+IsInstantsError zone p line.Dates = (is_local p.start ≡ true) × ((dates : List ℤ) → ¬ AreReadingsOf zone p.dates dates)
+IsInstantsError zone p line.Exceptions = (dates : List ℤ) × HasReadings zone p dates × (all_timed p.exceptions ≡ false)
