@@ -1,4 +1,6 @@
-//! The tests of `cal_schedule` and `cal_recurrence`, by their public items only.
+//! The tests of `cal_schedule`, `cal_recurrence`, `cal_zone` and `cal_tzif`, by their public items.
+//!
+//! They are a crate of their own, since the gate proves a crate with tests a second time.
 #![tactic(auto)]
 
 #[cfg(test)]

@@ -13,6 +13,7 @@ mod rules;
 mod rules_laws;
 mod times_of_day;
 mod workdays;
+mod zones;
 
 /// Creates the date with this year, number of the month and day of the month.
 fn date(rt: &impl Abort, (year, month, day): (i32, u8, u8)) -> Date {

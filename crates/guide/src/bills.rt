@@ -96,14 +96,8 @@ fn labor_day(year: i32) -> Date
     }
 }
 
-pub fn show(rt: &impl Print) -> io::Result<()> {
-    let Ok(born) = Date::from_calendar_date(1980, Month::June, 1) else {
-        return Ok(());
-    };
-    let Ok(billed) = Date::from_calendar_date(2024, Month::July, 31) else {
-        return Ok(());
-    };
-    let labor_day = labor_day(2024);
+/// Prints days around a holiday.
+fn show_workdays(rt: &impl Print, billed: Date, labor_day: Date) -> io::Result<()> {
     let holidays = [labor_day];
     if !is_rising(&holidays) {
         return Ok(());
@@ -114,7 +108,17 @@ pub fn show(rt: &impl Print) -> io::Result<()> {
         workdays.checked_add_workdays(labor_day, 10),
     ];
     let between = workdays.workdays_between(billed, labor_day);
-    println!(rt; "{days:?} {between} {:?}", thanksgiving(2024))?;
+    println!(rt; "{days:?} {between} {:?}", thanksgiving(2024))
+}
+
+pub fn show(rt: &impl Print) -> io::Result<()> {
+    let Ok(born) = Date::from_calendar_date(1980, Month::June, 1) else {
+        return Ok(());
+    };
+    let Ok(billed) = Date::from_calendar_date(2024, Month::July, 31) else {
+        return Ok(());
+    };
+    show_workdays(rt, billed, labor_day(2024))?;
     if born <= billed && billed.year() < 999_999 {
         println!(rt; "{} {}", age(born, billed), year_after(billed))?;
     }

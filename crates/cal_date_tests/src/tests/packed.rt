@@ -20,7 +20,7 @@ fn is_packed(rt: &impl Abort, date: Date, packed: i32) {
 
 #[test]
 fn packed_values(rt: HostRuntime) {
-    for ((year, ordinal), packed, next) in [
+    for &((year, ordinal), packed, next) in &[
         ((-999_999, 1), -1_023_998_975, -1_023_998_974),
         ((-9999, 1), -10_238_975, -10_238_974),
         ((-1, 365), -659, 513),
@@ -29,14 +29,10 @@ fn packed_values(rt: HostRuntime) {
         ((2020, 366), 2_069_358, 2_069_505),
         ((9999, 365), 10_239_341, 10_240_513),
     ] {
-        let Ok(date) = Date::from_ordinal_date(year, ordinal) else {
-            panic!(rt; "{year} {ordinal} is refused");
-        };
+        let date = Date::from_ordinal_date(year, ordinal).expect(&rt, "no date");
         is_packed(&rt, date, packed);
         same(&rt, date.to_ordinal_date(), (year, ordinal));
-        let Some(day_after) = date.next_day() else {
-            panic!(rt; "no day follows {date}");
-        };
+        let day_after = date.next_day().expect(&rt, "no next day");
         is_packed(&rt, day_after, next);
         same(&rt, day_after.previous_day(), Some(date));
     }

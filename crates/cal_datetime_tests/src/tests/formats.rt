@@ -18,31 +18,46 @@ mod timestamps;
 const ROOM: usize = 64;
 
 fn format(text: &str, rt: &impl Abort) -> Format {
-    match Format::new(text) {
-        Ok(format) => format,
-        Err(_) => panic!(rt; "not a format"),
-    }
+    Format::new(text).ok().expect(rt, "not a format")
+}
+
+/// Returns the format of a description.
+fn described(text: &str, rt: &impl Abort) -> Format {
+    Format::from_description(text)
+        .ok()
+        .expect(rt, "not a format")
 }
 
 fn date_format(text: &str, rt: &impl Abort) -> DateFormat {
-    match format(text, rt).for_dates() {
-        Some(format) => format,
-        None => panic!(rt; "no date"),
-    }
+    format(text, rt).for_dates().expect(rt, "no date")
 }
 
 fn time_format(text: &str, rt: &impl Abort) -> TimeFormat {
-    match format(text, rt).for_times() {
-        Some(format) => format,
-        None => panic!(rt; "no time of day"),
-    }
+    format(text, rt).for_times().expect(rt, "no time of day")
 }
 
 fn date_time_format(text: &str, rt: &impl Abort) -> DateTimeFormat {
-    match format(text, rt).for_date_times() {
-        Some(format) => format,
-        None => panic!(rt; "no date-time"),
-    }
+    format(text, rt).for_date_times().expect(rt, "no date-time")
+}
+
+fn has_no_date(spelling: &str, rt: &impl Abort) -> bool {
+    format(spelling, rt).for_dates().is_none()
+}
+
+fn has_no_time(spelling: &str, rt: &impl Abort) -> bool {
+    format(spelling, rt).for_times().is_none()
+}
+
+fn has_no_offset(spelling: &str, rt: &impl Abort) -> bool {
+    format(spelling, rt).for_offsets().is_none()
+}
+
+fn has_no_date_time(spelling: &str, rt: &impl Abort) -> bool {
+    format(spelling, rt).for_date_times().is_none()
+}
+
+fn has_no_moment(spelling: &str, rt: &impl Abort) -> bool {
+    format(spelling, rt).for_offset_date_times().is_none()
 }
 
 /// Returns `true` if the buffer begins with the text, and the text ends at this position.
@@ -78,8 +93,10 @@ fn holds(rt: &impl Abort, text: &str, condition: bool) {
 
 /// Checks that a format prints the date as this text, and parses the text.
 fn date_row(spelling: &str, date: Date, text: &str, rt: &impl Abort) {
-    assert!(rt; is_date_text(&format(spelling, rt), date, text));
-    assert!(rt; date_format(spelling, rt).parse(text.as_bytes()) == Ok(date));
+    let printed = is_date_text(&format(spelling, rt), date, text);
+    holds(rt, spelling, printed);
+    let parsed = date_format(spelling, rt).parse(text.as_bytes());
+    holds(rt, spelling, parsed == Ok(date));
 }
 
 /// Checks a date in the format and the text of each row.

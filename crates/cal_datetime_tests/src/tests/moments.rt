@@ -1,6 +1,5 @@
 //! Date-times at an offset.
-use crate::tests::{date_time, hours, leap_night, same};
-use cal_datetime::OffsetDateTime;
+use crate::tests::{date_time, hours, leap_night, prints, prints_debug, same};
 use cal_datetime::laws::replacement::{
     own_clock, own_date, own_day, own_hour, own_microsecond, own_millisecond, own_minute,
     own_month, own_nanosecond, own_ordinal, own_second, own_time, own_year,
@@ -9,10 +8,10 @@ use cal_datetime::laws::{
     hash_of_instant, is_earlier, is_same_instant, max_date_time, min_date_time, order_of_instants,
     round_trip,
 };
+use cal_datetime::{OffsetDateTime, PlainDateTime};
 use cal_time::{Date, Month, SignedDuration, Time, UtcOffset, extent};
 use std::cmp::Ordering;
 use std::process::Abort;
-use std::test::Fail;
 
 #[test]
 fn one_instant_on_three_clocks(rt: HostRuntime) {
@@ -61,9 +60,7 @@ fn extent_of_instants(rt: HostRuntime) {
     let march = date_time(&rt, (2024, Month::March, 1), (0, 0, 0, 0)).assume_offset(hours(&rt, 1));
     let (utc, march_at_utc) = (utc_of(&rt, night), utc_of(&rt, march));
     let found = extent(&[march, night, utc, march_at_utc]);
-    let Some((first, last)) = found else {
-        panic!(rt; "the slice is not empty");
-    };
+    let (first, last) = found.expect(&rt, "no extent");
     let offsets = (
         first.offset().whole_seconds(),
         last.offset().whole_seconds(),
@@ -113,7 +110,7 @@ fn unix_times(rt: HostRuntime) {
         (epoch.unix_timestamp(), epoch.unix_timestamp_nanos()),
         (0, 0),
     );
-    for (seconds, wanted) in [
+    for &(seconds, wanted) in &[
         (0, Some(epoch.local())),
         (
             1_709_164_800,
@@ -134,7 +131,7 @@ fn unix_times(rt: HostRuntime) {
         (i64::MIN, None),
     ] {
         let found = OffsetDateTime::from_unix_timestamp(seconds).ok();
-        same(&rt, found.map(|moment| moment.local()), wanted);
+        same(&rt, local_of(found), wanted);
     }
 }
 
@@ -168,31 +165,30 @@ fn unix_times_in_nanoseconds(rt: HostRuntime) {
 }
 
 #[test]
-fn texts_of_moments(rt: HostRuntime) -> Result<(), Fail> {
+fn texts_of_moments(rt: HostRuntime) {
     let night = leap_night(&rt);
     let longest = max_date_time().assume_offset(hours(&rt, -25));
-    for (moment, text) in [
+    for &(moment, text) in &[
         (night, "2024-02-29 23:59:59.25 +01:00:00"),
         (longest, "+999999-12-31 23:59:59.999999999 -25:00:00"),
     ] {
         same(&rt, moment.text().as_str(), text);
-        same(&rt, format!(in rt.alloc(); "{moment}")?.as_str(), text);
-        same(&rt, format!(in rt.alloc(); "{moment:?}")?.as_str(), text);
+        prints(&rt, &moment, text);
+        prints_debug(&rt, &moment, text);
     }
-    let padded = format!(in rt.alloc(); "{night:>34}|{night:_<33?}|")?;
+    let padded = format!(in rt.alloc(); "{night:>34}|{night:_<33?}|");
     same(
         &rt,
-        padded.as_str(),
+        padded.expect(&rt, "no memory").as_str(),
         "  2024-02-29 23:59:59.25 +01:00:00|2024-02-29 23:59:59.25 +01:00:00_|",
     );
-    Ok(())
 }
 
 #[test]
 fn replaced_by_their_own(rt: HostRuntime) {
     let moment = leap_night(&rt);
     let plain = moment.local();
-    for (same_plain, same_moment) in [
+    for &(same_plain, same_moment) in &[
         own_year(plain, moment),
         own_month(plain, moment),
         own_day(plain, moment),
@@ -251,14 +247,8 @@ fn replaced_at_an_offset(rt: HostRuntime) {
         min_date_time(),
     );
     same(&rt, night.replace_year(2023).is_err(), true);
-    same(
-        &rt,
-        night
-            .replace_month(Month::March)
-            .ok()
-            .map(|moment| moment.offset()),
-        Some(one),
-    );
+    let march = night.replace_month(Month::March);
+    same(&rt, march.expect(&rt, "no date").offset(), one);
     same(
         &rt,
         OffsetDateTime::new_in_offset(night.date(), night.time(), one),
@@ -271,32 +261,49 @@ fn replaced_at_an_offset(rt: HostRuntime) {
     );
 }
 
+/// Returns the local date-time of a moment, if there is one.
+fn local_of(moment: Option<OffsetDateTime>) -> Option<PlainDateTime> {
+    Some(moment?.local())
+}
+
 /// The date-time moved on, by `+=` and by `+`.
 fn on(rt: &impl Abort, from: OffsetDateTime, duration: SignedDuration) -> OffsetDateTime {
-    assert!(rt; from.checked_add(duration).is_some());
-    let mut moved = from;
-    moved += duration;
-    same(rt, moved, from + duration);
-    moved
+    let wanted = from.checked_add(duration);
+    if wanted.is_some() {
+        let mut moved = from;
+        moved += duration;
+        same(rt, Some(moved), wanted);
+        same(rt, Some(from + duration), wanted);
+    }
+    wanted.expect(rt, "out of range")
 }
 
 /// The date-time moved back, by `-=` and by `-`.
 fn back(rt: &impl Abort, from: OffsetDateTime, duration: SignedDuration) -> OffsetDateTime {
-    assert!(rt; from.checked_sub(duration).is_some());
-    let mut moved = from;
-    moved -= duration;
-    same(rt, moved, from - duration);
-    moved
+    let wanted = from.checked_sub(duration);
+    if wanted.is_some() {
+        let mut moved = from;
+        moved -= duration;
+        same(rt, Some(moved), wanted);
+        same(rt, Some(from - duration), wanted);
+    }
+    wanted.expect(rt, "out of range")
 }
 
 /// The same instant at UTC.
 fn utc_of(rt: &impl Abort, moment: OffsetDateTime) -> OffsetDateTime {
-    assert!(rt; moment.checked_to_utc().is_some());
-    moment.to_utc()
+    let utc = moment.checked_to_utc();
+    if utc.is_some() {
+        same(rt, Some(moment.to_utc()), utc);
+    }
+    utc.expect(rt, "out of range")
 }
 
 /// The same instant at that offset.
 fn shown_at(rt: &impl Abort, moment: OffsetDateTime, offset: UtcOffset) -> OffsetDateTime {
-    assert!(rt; moment.checked_to_offset(offset).is_some());
-    moment.to_offset(offset)
+    let shown = moment.checked_to_offset(offset);
+    if shown.is_some() {
+        same(rt, Some(moment.to_offset(offset)), shown);
+    }
+    shown.expect(rt, "out of range")
 }

@@ -1,15 +1,13 @@
 //! Texts and their dates, from outside.
-use crate::tests::{same, same_at};
+use crate::tests::{date_of, of_julian_day, prints, same, same_at};
 use cal_datetime::OffsetDateTime;
 use cal_text::ParseError::{UnexpectedByte, UnexpectedEnd};
 use cal_text::date::{CalendarText, OrdinalText, WeekText, parse};
 use cal_text::julian_day::JulianText;
 use cal_text::{ParseError, julian_day};
 use cal_time::{Date, Month, SignedDuration, Time, UtcOffset};
-use std::alloc::Global;
 use std::fmt::{Debug, Display};
 use std::process::Abort;
-use std::test::Fail;
 
 mod any;
 mod moments;
@@ -49,27 +47,21 @@ fn out_of_range<T: Copy + Debug>(
     same_at(rt, text, error, Some((name, is_conditional)));
 }
 
-/// Stops the test unless the value prints this.
-fn prints<T: Display>(rt: &impl Abort, alloc: Global, value: &T, wanted: &str) -> Result<(), Fail> {
-    same(rt, format!(in alloc; "{}", *value)?.as_str(), wanted);
-    Ok(())
+/// Stops the test unless the value prints these at the right and at the left of sixteen columns.
+fn prints_padded<T: Display>(rt: &(impl Abort + AllocGlobal), value: &T, wanted: &str) {
+    let text = format!(in rt.alloc(); "{:>16}|{:*<16}", *value, *value).expect(rt, "no memory");
+    same(rt, text.as_str(), wanted);
 }
 
-/// Stops the test unless the value prints these at the right and at the left of sixteen columns.
-fn prints_padded<T: Display>(
-    rt: &impl Abort,
-    alloc: Global,
-    value: &T,
-    [right, left]: [&str; 2],
-) -> Result<(), Fail> {
-    same(rt, format!(in alloc; "{:>16}", *value)?.as_str(), right);
-    same(rt, format!(in alloc; "{:*<16}", *value)?.as_str(), left);
-    Ok(())
+/// Stops the test unless the text of the value is parsed as this date.
+fn reads_back<T: Display>(rt: &(impl Abort + AllocGlobal), value: &T, date: Date) {
+    let text = format!(in rt.alloc(); "{}", *value).expect(rt, "no memory");
+    reads(rt, date, &parse(text.as_bytes()), &Ok(date));
 }
 
 #[test]
-fn dates_in_three_forms(rt: HostRuntime) -> Result<(), Fail> {
-    for (text, year, month, day) in [
+fn dates_in_three_forms(rt: HostRuntime) {
+    for &(text, year, month, day) in &[
         ("2024-02-29", 2024, Month::February, 29),
         ("2024-060", 2024, Month::February, 29),
         ("2024-W09-4", 2024, Month::February, 29),
@@ -86,17 +78,14 @@ fn dates_in_three_forms(rt: HostRuntime) -> Result<(), Fail> {
         ("+999999-12-31", 999_999, Month::December, 31),
         ("-999999-W01-1", -999_999, Month::January, 1),
     ] {
-        let Ok(date) = Date::from_calendar_date(year, month, day) else {
-            return Err(Fail::from("a date"));
-        };
+        let date = date_of(&rt, year, month, day);
         reads(&rt, text, &parse(text.as_bytes()), &Ok(date));
     }
-    Ok(())
 }
 
 #[test]
 fn components_out_of_range(rt: HostRuntime) {
-    for (text, name, is_conditional) in [
+    for &(text, name, is_conditional) in &[
         ("2024-13-01", "month", false),
         ("2024-00-01", "month", false),
         ("+1000000-13-01", "month", false),
@@ -117,7 +106,7 @@ fn components_out_of_range(rt: HostRuntime) {
 
 #[test]
 fn texts_of_no_date(rt: HostRuntime) {
-    for (text, error) in [
+    for &(text, error) in &[
         ("", UnexpectedEnd(0)),
         ("x024-02-29", UnexpectedByte(0)),
         ("202-02-29", UnexpectedByte(3)),
@@ -152,8 +141,8 @@ fn texts_of_no_date(rt: HostRuntime) {
 }
 
 #[test]
-fn texts_of_errors(rt: HostRuntime) -> Result<(), Fail> {
-    for (text, error) in [
+fn texts_of_errors(rt: HostRuntime) {
+    for &(text, error) in &[
         ("", "unexpected end at 0"),
         ("2024-02-2", "unexpected end at 9"),
         ("2024x", "unexpected byte at 4"),
@@ -165,24 +154,18 @@ fn texts_of_errors(rt: HostRuntime) -> Result<(), Fail> {
         ("2021-W53-1", "week was not in range"),
         ("+999999-W52-6", "weekday was not in range"),
     ] {
-        let Err(refused) = parse(text.as_bytes()) else {
-            return Err(Fail::from("a text that is read"));
-        };
-        prints(&rt, rt.alloc(), &refused, error)?;
+        let refused = parse(text.as_bytes()).err();
+        prints(&rt, &refused.expect(&rt, "a text that is read"), error);
     }
     same(&rt, ParseError::unexpected(4, 5), UnexpectedByte(4));
     same(&rt, ParseError::unexpected(5, 5), UnexpectedEnd(5));
-    prints(
-        &rt,
-        rt.alloc(),
-        &UnexpectedByte(usize::MAX),
-        "unexpected byte at 18446744073709551615",
-    )
+    let last = "unexpected byte at 18446744073709551615";
+    prints(&rt, &UnexpectedByte(usize::MAX), last);
 }
 
 #[test]
-fn texts_of_dates(rt: HostRuntime) -> Result<(), Fail> {
-    for (julian_day, calendar, ordinal, week) in [
+fn texts_of_dates(rt: HostRuntime) {
+    for &(julian_day, calendar, ordinal, week) in &[
         (2_460_370, "2024-02-29", "2024-060", "2024-W09-4"),
         (2_459_216, "2021-01-01", "2021-001", "2020-W53-5"),
         (2_458_484, "2018-12-31", "2018-365", "2019-W01-1"),
@@ -198,85 +181,61 @@ fn texts_of_dates(rt: HostRuntime) -> Result<(), Fail> {
             "-999999-W01-1",
         ),
     ] {
-        let Ok(date) = Date::from_julian_day(julian_day) else {
-            return Err(Fail::from("a date"));
-        };
-        prints(&rt, rt.alloc(), &CalendarText(date), calendar)?;
-        prints(&rt, rt.alloc(), &OrdinalText(date), ordinal)?;
-        prints(&rt, rt.alloc(), &WeekText(date), week)?;
+        let date = of_julian_day(&rt, julian_day);
+        prints(&rt, &CalendarText(date), calendar);
+        prints(&rt, &OrdinalText(date), ordinal);
+        prints(&rt, &WeekText(date), week);
         same(&rt, CalendarText(date).text().as_str(), calendar);
         same(&rt, OrdinalText(date).text().as_str(), ordinal);
         same(&rt, WeekText(date).text().as_str(), week);
     }
-    Ok(())
 }
 
 #[test]
-fn texts_of_dates_in_fields(rt: HostRuntime) -> Result<(), Fail> {
+fn texts_of_dates_in_fields(rt: HostRuntime) {
     let (first, last) = (Date::MIN, Date::MAX);
     prints_padded(
         &rt,
-        rt.alloc(),
         &CalendarText(last),
-        ["   +999999-12-31", "+999999-12-31***"],
-    )?;
+        "   +999999-12-31|+999999-12-31***",
+    );
     prints_padded(
         &rt,
-        rt.alloc(),
         &OrdinalText(first),
-        ["     -999999-001", "-999999-001*****"],
-    )?;
-    prints_padded(
-        &rt,
-        rt.alloc(),
-        &WeekText(first),
-        ["   -999999-W01-1", "-999999-W01-1***"],
-    )?;
-    prints_padded(
-        &rt,
-        rt.alloc(),
-        &JulianText(first),
-        ["     J-363521074", "J-363521074*****"],
-    )
+        "     -999999-001|-999999-001*****",
+    );
+    prints_padded(&rt, &WeekText(first), "   -999999-W01-1|-999999-W01-1***");
+    prints_padded(&rt, &JulianText(first), "     J-363521074|J-363521074*****");
 }
 
 /// Every day of four years at each end of the range, in all three forms.
 #[test]
-fn days_printed_and_read(rt: HostRuntime) -> Result<(), Fail> {
-    for first in [-363_521_074, 366_963_559 - 1460] {
+fn days_printed_and_read(rt: HostRuntime) {
+    for &first in &[-363_521_074, 366_963_559 - 1460] {
         for day in 0..1461 {
-            let Ok(date) = Date::from_julian_day(i32::wrapping_add(first, day)) else {
-                return Err(Fail::from("a date"));
-            };
-            for text in [
-                format!(in rt.alloc(); "{}", CalendarText(date))?,
-                format!(in rt.alloc(); "{}", OrdinalText(date))?,
-                format!(in rt.alloc(); "{}", WeekText(date))?,
-            ] {
-                reads(&rt, day, &parse(text.as_bytes()), &Ok(date));
-            }
+            let date = of_julian_day(&rt, i32::wrapping_add(first, day));
+            reads_back(&rt, &CalendarText(date), date);
+            reads_back(&rt, &OrdinalText(date), date);
+            reads_back(&rt, &WeekText(date), date);
         }
     }
-    Ok(())
 }
 
 #[test]
-fn julian_days(rt: HostRuntime) -> Result<(), Fail> {
-    for (text, number) in [
+fn julian_days(rt: HostRuntime) {
+    for &(text, number) in &[
         ("J2460370", 2_460_370),
         ("J0", 0),
         ("J-1", -1),
         ("J-363521074", -363_521_074),
         ("J366963559", 366_963_559),
     ] {
-        let Ok(date) = Date::from_julian_day(number) else {
-            return Err(Fail::from("a date"));
-        };
+        let date = of_julian_day(&rt, number);
         reads(&rt, text, &julian_day::parse(text.as_bytes()), &Ok(date));
-        prints(&rt, rt.alloc(), &JulianText(date), text)?;
+        prints(&rt, &JulianText(date), text);
         same(&rt, JulianText(date).text().as_str(), text);
     }
-    for text in ["J366963560", "J-363521075", "J999999999"] {
+    for &text in &["J366963560", "J-363521075", "J999999999"] {
         out_of_range(
             &rt,
             text,
@@ -285,7 +244,7 @@ fn julian_days(rt: HostRuntime) -> Result<(), Fail> {
             false,
         );
     }
-    for (text, error) in [
+    for &(text, error) in &[
         ("", UnexpectedEnd(0)),
         ("2460370", UnexpectedByte(0)),
         ("j2460370", UnexpectedByte(0)),
@@ -301,5 +260,4 @@ fn julian_days(rt: HostRuntime) -> Result<(), Fail> {
     ] {
         reads(&rt, text, &julian_day::parse(text.as_bytes()), &Err(error));
     }
-    Ok(())
 }

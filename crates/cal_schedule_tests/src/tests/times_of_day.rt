@@ -246,6 +246,12 @@ fn ends(rt: HostRuntime) -> Result<(), Fail> {
     let mut first = rule.first_readings(1);
     same(rt, first.next(), Some(start));
     same(rt, first.next(), None);
+
+    // A second of 60 never matches, and the search doesn't go through the days.
+    let mut never = TimesOfDay::new();
+    never.seconds = Values::from_slice(&[60], 0);
+    let never = DateTimeRule::new(start, None, Pattern::new(Daily), never);
+    same(rt, never.next_after(start), None);
     let text = format!(in rt.alloc(); "{first:?}")?;
     same(
         rt,

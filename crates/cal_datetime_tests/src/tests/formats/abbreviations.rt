@@ -1,14 +1,19 @@
 //! Abbreviations of zones, as Python's `strftime` and GNU `date` print them.
-use crate::tests::formats::{ROOM, format, holds, is_text};
-use cal_datetime::OffsetDateTime;
+use crate::tests::formats::{
+    ROOM, format, has_no_date, has_no_date_time, has_no_moment, has_no_offset, has_no_time, holds,
+    is_text,
+};
+use crate::tests::{date_of, offset_of, time_of};
+use cal_datetime::{OffsetDateTime, PlainDateTime};
+use cal_format::Format;
 use cal_time::{Date, Month, Time, UtcOffset};
 use std::process::Abort;
-use std::test::Fail;
 
 /// Returns a time of day in March 2024.
-fn in_march(day: u8, time: Time, offset: UtcOffset) -> Result<OffsetDateTime, Fail> {
-    let date = Date::from_calendar_date(2024, Month::March, day)?;
-    Ok(OffsetDateTime::new_in_offset(date, time, offset))
+fn in_march(rt: &impl Abort, day: u8, clock: [u8; 3], offset: [i8; 2]) -> OffsetDateTime {
+    let date = date_of(rt, 2024, Month::March, day);
+    let time = time_of(rt, clock[0], clock[1], clock[2], 0);
+    OffsetDateTime::new_in_offset(date, time, offset_of(rt, offset[0], offset[1], 0))
 }
 
 /// Checks that a format prints the date-time with the abbreviation as this text.
@@ -20,13 +25,9 @@ fn row(spelling: &str, date_time: OffsetDateTime, abbreviation: &str, text: &str
 
 /// The clocks of Berlin, Sao Paulo and Kathmandu at 1:00 UTC, a second before it, and as Unix time.
 #[test]
-fn abbreviations(rt: HostRuntime) -> Result<(), Fail> {
+fn abbreviations(rt: HostRuntime) {
     let rt = &rt;
-    let winter = in_march(
-        31,
-        Time::from_hms(1, 59, 59)?,
-        UtcOffset::from_hms(1, 0, 0)?,
-    )?;
+    let winter = in_march(rt, 31, [1, 59, 59], [1, 0]);
     row(
         "%a, %d %b %Y %T %Z %z",
         winter,
@@ -34,20 +35,12 @@ fn abbreviations(rt: HostRuntime) -> Result<(), Fail> {
         "Sun, 31 Mar 2024 01:59:59 CET +0100",
         rt,
     );
-    let summer = in_march(31, Time::from_hms(3, 0, 0)?, UtcOffset::from_hms(2, 0, 0)?)?;
+    let summer = in_march(rt, 31, [3, 0, 0], [2, 0]);
     row("%H:%M %Z", summer, "CEST", "03:00 CEST", rt);
     row("%s%Z", summer, "CEST", "1711846800CEST", rt);
-    let west = in_march(
-        30,
-        Time::from_hms(22, 0, 0)?,
-        UtcOffset::from_hms(-3, 0, 0)?,
-    )?;
+    let west = in_march(rt, 30, [22, 0, 0], [-3, 0]);
     row("%H:%M%Z", west, "-03", "22:00-03", rt);
-    let nepal = in_march(
-        31,
-        Time::from_hms(6, 45, 0)?,
-        UtcOffset::from_hms(5, 45, 0)?,
-    )?;
+    let nepal = in_march(rt, 31, [6, 45, 0], [5, 45]);
     row(
         "%F %R%Z|%Z",
         nepal,
@@ -56,96 +49,90 @@ fn abbreviations(rt: HostRuntime) -> Result<(), Fail> {
         rt,
     );
     row("%H:%M", nepal, "+0545", "06:45", rt);
-    Ok(())
+}
+
+/// Checks a text that is longer than most, and a buffer that is too short for it.
+fn check_long_text(moment: OffsetDateTime, rt: &impl Abort) {
+    let long = format("%Z%Z%Z%Z%Z%Z%Z%Z%Z%Z%Z%Z%Z%Z%Z%Z%Z%Z%Z%Z", rt);
+    let mut short = [b'~'; 79];
+    let end = long.print_in_zone(moment, b"CEST", &mut short);
+    holds(rt, "too short", end.is_none());
+    holds(rt, "unchanged", short == [b'~'; 79]);
+    let mut buffer = [b'~'; 80];
+    let end = long.print_in_zone(moment, b"CEST", &mut buffer);
+    holds(rt, "exact", end == Some(80));
+    holds(rt, "begin", buffer.starts_with(b"CESTCEST"));
+    holds(rt, "end", buffer.ends_with(b"CESTCEST"));
+}
+
+/// Returns the length of the text of an abbreviation.
+fn printed_length(moment: OffsetDateTime, abbreviation: &[u8], rt: &impl Abort) -> Option<usize> {
+    let mut buffer = [b'~'; 80];
+    format("%Z", rt).print_in_zone(moment, abbreviation, &mut buffer)
 }
 
 /// A text that is longer than most, and buffers and abbreviations that are too short or too long.
 #[test]
-fn lengths(rt: HostRuntime) -> Result<(), Fail> {
+fn lengths(rt: HostRuntime) {
     let rt = &rt;
-    let moment = in_march(31, Time::from_hms(3, 0, 0)?, UtcOffset::from_hms(2, 0, 0)?)?;
-    let mut buffer = [b'~'; 80];
-    let long = format("%Z%Z%Z%Z%Z%Z%Z%Z%Z%Z%Z%Z%Z%Z%Z%Z%Z%Z%Z%Z", rt);
-    holds(
-        rt,
-        "lengths",
-        long.print_in_zone(moment, b"CEST", &mut buffer[..79])
-            .is_none(),
-    );
-    holds(rt, "lengths", buffer.as_slice() == [b'~'; 80].as_slice());
-    holds(
-        rt,
-        "lengths",
-        long.print_in_zone(moment, b"CEST", &mut buffer) == Some(80),
-    );
-    holds(rt, "lengths", buffer.starts_with(b"CESTCEST"));
-    holds(rt, "lengths", buffer.ends_with(b"CESTCEST"));
-    let short = format("%Z", rt);
-    holds(
-        rt,
-        "lengths",
-        short.print_in_zone(moment, b"ABCDEFGHIJKLMNO", &mut buffer) == Some(15),
-    );
-    holds(
-        rt,
-        "lengths",
-        short
-            .print_in_zone(moment, b"ABCDEFGHIJKLMNOP", &mut buffer)
-            .is_none(),
-    );
-    Ok(())
+    let moment = in_march(rt, 31, [3, 0, 0], [2, 0]);
+    check_long_text(moment, rt);
+    let longest = printed_length(moment, b"ABCDEFGHIJKLMNO", rt);
+    holds(rt, "longest", longest == Some(15));
+    let longer = printed_length(moment, b"ABCDEFGHIJKLMNOP", rt);
+    holds(rt, "longer", longer.is_none());
 }
 
-/// A format with `%Z` prints no value without a zone, and parses none.
-#[test]
-fn without_zones(rt: HostRuntime) -> Result<(), Fail> {
-    let rt = &rt;
-    let moment = in_march(31, Time::from_hms(3, 0, 0)?, UtcOffset::from_hms(2, 0, 0)?)?;
+fn is_unprinted_date(format: &Format, date: Date) -> bool {
     let mut buffer = [b'~'; 8];
+    format.print_date(date, &mut buffer).is_none() && buffer == [b'~'; 8]
+}
+
+fn is_unprinted_time(format: &Format, time: Time) -> bool {
+    let mut buffer = [b'~'; 8];
+    format.print_time(time, &mut buffer).is_none() && buffer == [b'~'; 8]
+}
+
+fn is_unprinted_offset(format: &Format, offset: UtcOffset) -> bool {
+    let mut buffer = [b'~'; 8];
+    format.print_offset(offset, &mut buffer).is_none() && buffer == [b'~'; 8]
+}
+
+fn is_unprinted_date_time(format: &Format, date_time: PlainDateTime) -> bool {
+    let mut buffer = [b'~'; 8];
+    format.print_date_time(date_time, &mut buffer).is_none() && buffer == [b'~'; 8]
+}
+
+fn is_unprinted_moment(format: &Format, moment: OffsetDateTime) -> bool {
+    let mut buffer = [b'~'; 8];
+    format.print_offset_date_time(moment, &mut buffer).is_none() && buffer == [b'~'; 8]
+}
+
+/// A format with `%Z` prints no value without a zone.
+#[test]
+fn printed_without_zones(rt: HostRuntime) {
+    let rt = &rt;
+    let moment = in_march(rt, 31, [3, 0, 0], [2, 0]);
     let name = format("%Z", rt);
+    holds(rt, "moment", is_unprinted_moment(&name, moment));
     holds(
         rt,
-        "without zones",
-        name.print_offset_date_time(moment, &mut buffer).is_none(),
+        "date-time",
+        is_unprinted_date_time(&name, moment.local()),
     );
-    holds(
-        rt,
-        "without zones",
-        name.print_date_time(moment.local(), &mut buffer).is_none(),
-    );
-    holds(
-        rt,
-        "without zones",
-        name.print_date(moment.date(), &mut buffer).is_none(),
-    );
-    holds(
-        rt,
-        "without zones",
-        name.print_time(moment.time(), &mut buffer).is_none(),
-    );
-    holds(
-        rt,
-        "without zones",
-        name.print_offset(moment.offset(), &mut buffer).is_none(),
-    );
-    holds(rt, "without zones", buffer == [b'~'; 8]);
-    holds(rt, "%F%Z", format("%F%Z", rt).for_dates().is_none());
-    holds(rt, "%T%Z", format("%T%Z", rt).for_times().is_none());
-    holds(rt, "%z%Z", format("%z%Z", rt).for_offsets().is_none());
-    holds(
-        rt,
-        "%F %T%Z",
-        format("%F %T%Z", rt).for_date_times().is_none(),
-    );
-    holds(
-        rt,
-        "%F %T%z%Z",
-        format("%F %T%z%Z", rt).for_offset_date_times().is_none(),
-    );
-    holds(
-        rt,
-        "%s %Z",
-        format("%s %Z", rt).for_offset_date_times().is_none(),
-    );
-    Ok(())
+    holds(rt, "date", is_unprinted_date(&name, moment.date()));
+    holds(rt, "time", is_unprinted_time(&name, moment.time()));
+    holds(rt, "offset", is_unprinted_offset(&name, moment.offset()));
+}
+
+/// A format with `%Z` parses no value.
+#[test]
+fn parsed_without_zones(rt: HostRuntime) {
+    let rt = &rt;
+    holds(rt, "%F%Z", has_no_date("%F%Z", rt));
+    holds(rt, "%T%Z", has_no_time("%T%Z", rt));
+    holds(rt, "%z%Z", has_no_offset("%z%Z", rt));
+    holds(rt, "%F %T%Z", has_no_date_time("%F %T%Z", rt));
+    holds(rt, "%F %T%z%Z", has_no_moment("%F %T%z%Z", rt));
+    holds(rt, "%s %Z", has_no_moment("%s %Z", rt));
 }

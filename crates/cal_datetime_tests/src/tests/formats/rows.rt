@@ -1,14 +1,14 @@
 //! Rows that Python's `strftime` and GNU `date` printed in the C locale.
 use crate::tests::formats::{date_rows, date_time_rows, time_rows};
+use crate::tests::{date_of, time_of};
 use cal_datetime::PlainDateTime;
-use cal_time::{Date, Month, Time};
-use std::test::Fail;
+use cal_time::Month;
 
 /// Dates, by Python.
 #[test]
-fn dates_of_python(rt: HostRuntime) -> Result<(), Fail> {
+fn dates_of_python(rt: HostRuntime) {
     let rt = &rt;
-    let date = Date::from_calendar_date(2024, Month::February, 29)?;
+    let date = date_of(rt, 2024, Month::February, 29);
     date_rows(
         date,
         &[
@@ -27,7 +27,7 @@ fn dates_of_python(rt: HostRuntime) -> Result<(), Fail> {
         ],
         rt,
     );
-    let date = Date::from_calendar_date(1999, Month::December, 31)?;
+    let date = date_of(rt, 1999, Month::December, 31);
     date_rows(
         date,
         &[
@@ -46,7 +46,7 @@ fn dates_of_python(rt: HostRuntime) -> Result<(), Fail> {
         ],
         rt,
     );
-    let date = Date::from_calendar_date(2021, Month::January, 1)?;
+    let date = date_of(rt, 2021, Month::January, 1);
     date_rows(
         date,
         &[
@@ -65,7 +65,7 @@ fn dates_of_python(rt: HostRuntime) -> Result<(), Fail> {
         ],
         rt,
     );
-    let date = Date::from_calendar_date(2005, Month::September, 4)?;
+    let date = date_of(rt, 2005, Month::September, 4);
     date_rows(
         date,
         &[
@@ -84,14 +84,13 @@ fn dates_of_python(rt: HostRuntime) -> Result<(), Fail> {
         ],
         rt,
     );
-    Ok(())
 }
 
 /// Times of day, by Python.
 #[test]
-fn times_of_python(rt: HostRuntime) -> Result<(), Fail> {
+fn times_of_python(rt: HostRuntime) {
     let rt = &rt;
-    let time = Time::from_hms_micro(13, 5, 9, 123456)?;
+    let time = time_of(rt, 13, 5, 9, 123_456_000);
     time_rows(
         time,
         &[
@@ -104,7 +103,7 @@ fn times_of_python(rt: HostRuntime) -> Result<(), Fail> {
         ],
         rt,
     );
-    let time = Time::from_hms_micro(0, 0, 0, 0)?;
+    let time = time_of(rt, 0, 0, 0, 0);
     time_rows(
         time,
         &[
@@ -117,7 +116,7 @@ fn times_of_python(rt: HostRuntime) -> Result<(), Fail> {
         ],
         rt,
     );
-    let time = Time::from_hms_micro(12, 0, 0, 500000)?;
+    let time = time_of(rt, 12, 0, 0, 500_000_000);
     time_rows(
         time,
         &[
@@ -130,7 +129,7 @@ fn times_of_python(rt: HostRuntime) -> Result<(), Fail> {
         ],
         rt,
     );
-    let time = Time::from_hms_micro(23, 59, 59, 999999)?;
+    let time = time_of(rt, 23, 59, 59, 999_999_000);
     time_rows(
         time,
         &[
@@ -143,15 +142,14 @@ fn times_of_python(rt: HostRuntime) -> Result<(), Fail> {
         ],
         rt,
     );
-    Ok(())
 }
 
 /// Date-times, by GNU `date`.
 #[test]
-fn date_times_of_gnu_date(rt: HostRuntime) -> Result<(), Fail> {
+fn date_times_of_gnu_date(rt: HostRuntime) {
     let rt = &rt;
-    let date = Date::from_calendar_date(2024, Month::February, 29)?;
-    let time = Time::from_hms_nano(13, 5, 9, 123456789)?;
+    let date = date_of(rt, 2024, Month::February, 29);
+    let time = time_of(rt, 13, 5, 9, 123_456_789);
     let date_time = PlainDateTime::new(date, time);
     date_time_rows(
         date_time,
@@ -167,8 +165,8 @@ fn date_times_of_gnu_date(rt: HostRuntime) -> Result<(), Fail> {
         ],
         rt,
     );
-    let date = Date::from_calendar_date(1969, Month::July, 20)?;
-    let time = Time::from_hms_nano(20, 17, 40, 1)?;
+    let date = date_of(rt, 1969, Month::July, 20);
+    let time = time_of(rt, 20, 17, 40, 1);
     let date_time = PlainDateTime::new(date, time);
     date_time_rows(
         date_time,
@@ -184,8 +182,8 @@ fn date_times_of_gnu_date(rt: HostRuntime) -> Result<(), Fail> {
         ],
         rt,
     );
-    let date = Date::from_calendar_date(2000, Month::January, 1)?;
-    let time = Time::from_hms_nano(0, 0, 0, 100000000)?;
+    let date = date_of(rt, 2000, Month::January, 1);
+    let time = time_of(rt, 0, 0, 0, 100_000_000);
     let date_time = PlainDateTime::new(date, time);
     date_time_rows(
         date_time,
@@ -201,14 +199,13 @@ fn date_times_of_gnu_date(rt: HostRuntime) -> Result<(), Fail> {
         ],
         rt,
     );
-    Ok(())
 }
 
 /// Times of day with milliseconds, microseconds or only their coarsest parts, by GNU `date`.
 #[test]
-fn times_of_gnu_date(rt: HostRuntime) -> Result<(), Fail> {
+fn times_of_gnu_date(rt: HostRuntime) {
     let rt = &rt;
-    let time = Time::from_hms_nano(13, 5, 9, 123000000)?;
+    let time = time_of(rt, 13, 5, 9, 123_000_000);
     time_rows(
         time,
         &[
@@ -218,7 +215,7 @@ fn times_of_gnu_date(rt: HostRuntime) -> Result<(), Fail> {
         ],
         rt,
     );
-    let time = Time::from_hms_nano(0, 0, 0, 7000000)?;
+    let time = time_of(rt, 0, 0, 0, 7_000_000);
     time_rows(
         time,
         &[
@@ -228,7 +225,7 @@ fn times_of_gnu_date(rt: HostRuntime) -> Result<(), Fail> {
         ],
         rt,
     );
-    let time = Time::from_hms(7, 30, 0)?;
+    let time = time_of(rt, 7, 30, 0, 0);
     time_rows(
         time,
         &[
@@ -238,11 +235,10 @@ fn times_of_gnu_date(rt: HostRuntime) -> Result<(), Fail> {
         ],
         rt,
     );
-    let time = Time::from_hms(19, 0, 0)?;
+    let time = time_of(rt, 19, 0, 0, 0);
     time_rows(
         time,
         &[("%H", "19"), ("%-I %p", "7 PM"), ("%p%I", "PM07")],
         rt,
     );
-    Ok(())
 }

@@ -1,27 +1,28 @@
 //! Both syntaxes, and texts that aren't formats.
-use crate::tests::formats::{format, holds, is_date_text, is_date_time_text};
+use crate::tests::formats::{
+    described, format, has_no_date, has_no_date_time, has_no_time, holds, is_date_text,
+    is_date_time_text,
+};
+use crate::tests::{date_of, time_of};
 use cal_datetime::PlainDateTime;
 use cal_format::{Format, FormatError};
-use cal_time::{Date, Month, Time};
+use cal_time::{Date, Month};
 use std::process::Abort;
-use std::test::Fail;
 
 /// Checks that each description prints the date-time as the text beside it.
 fn description_rows(date_time: PlainDateTime, rows: &[(&str, &str)], rt: &impl Abort) {
     for &(spelling, text) in rows {
-        let format = Format::from_description(spelling)
-            .ok()
-            .expect(rt, "not a format");
+        let format = described(spelling, rt);
         holds(rt, spelling, is_date_time_text(&format, date_time, text));
     }
 }
 
 /// The expected texts are those of the documentation of `time`'s format descriptions.
 #[test]
-fn descriptions(rt: HostRuntime) -> Result<(), Fail> {
+fn descriptions(rt: HostRuntime) {
     let rt = &rt;
-    let date = Date::from_calendar_date(2024, Month::February, 9)?;
-    let date_time = PlainDateTime::new(date, Time::from_hms_nano(19, 5, 9, 500_000_000)?);
+    let date = date_of(rt, 2024, Month::February, 9);
+    let date_time = PlainDateTime::new(date, time_of(rt, 19, 5, 9, 500_000_000));
     description_rows(
         date_time,
         &[
@@ -56,7 +57,6 @@ fn descriptions(rt: HostRuntime) -> Result<(), Fail> {
         ],
         rt,
     );
-    Ok(())
 }
 
 fn is_unknown(text: &str, position: usize) -> bool {
@@ -88,7 +88,7 @@ fn check_unknown_descriptions(rows: &[(&str, usize)], rt: &impl Abort) {
 }
 
 #[test]
-fn unknown_items(rt: HostRuntime) -> Result<(), Fail> {
+fn unknown_items(rt: HostRuntime) {
     let rt = &rt;
     check_unknown(
         &[
@@ -118,67 +118,62 @@ fn unknown_items(rt: HostRuntime) -> Result<(), Fail> {
         rt,
     );
     holds(rt, "", Format::new("").is_ok());
-    Ok(())
 }
 
 #[test]
-fn too_many_items(rt: HostRuntime) -> Result<(), Fail> {
+fn too_many_items(rt: HostRuntime) {
     let rt = &rt;
     let sixty = "------------------------------------------------------------";
     holds(rt, "too many items", Format::new(sixty).is_ok());
-    match Format::new("------------------------------------------------------------%F") {
-        Err(error) => assert!(rt; error == FormatError::TooLong),
-        Ok(_) => panic!(rt; "65 items"),
-    }
-    Ok(())
+    let text = "------------------------------------------------------------%F";
+    let error = Format::new(text).err();
+    holds(rt, "65 items", error == Some(FormatError::TooLong));
 }
 
 /// Checks that each format determines no date.
 fn no_dates(spellings: &[&str], rt: &impl Abort) {
     for &spelling in spellings {
-        holds(rt, spelling, format(spelling, rt).for_dates().is_none());
+        holds(rt, spelling, has_no_date(spelling, rt));
     }
 }
 
 /// Checks that each format determines no time of day.
 fn no_times(spellings: &[&str], rt: &impl Abort) {
     for &spelling in spellings {
-        holds(rt, spelling, format(spelling, rt).for_times().is_none());
+        holds(rt, spelling, has_no_time(spelling, rt));
     }
 }
 
 /// Formats that determine no value, because something is missing or runs together.
 #[test]
-fn undetermined(rt: HostRuntime) -> Result<(), Fail> {
+fn undetermined(rt: HostRuntime) {
     let rt = &rt;
     no_dates(
         &["%Y-%m", "%m-%d", "%y-%m-%d", "%G-W%V", "%-d%m%Y", "%F %H"],
         rt,
     );
     no_times(&["%I:%M", "%H:%S", "%R.%f", "%T%.f."], rt);
-    holds(rt, "%T", format("%T", rt).for_date_times().is_none());
+    holds(rt, "%T", has_no_date_time("%T", rt));
     let spelling = "%m%d%Y%-d";
     holds(rt, spelling, format(spelling, rt).for_dates().is_some());
-    Ok(())
 }
 
 /// Years outside 0 to 9999 print with a sign, and aren't parsed.
 #[test]
-fn years_with_signs(rt: HostRuntime) -> Result<(), Fail> {
+fn years_with_signs(rt: HostRuntime) {
     let rt = &rt;
-    let early = Date::from_calendar_date(-44, Month::March, 15)?;
+    let early = date_of(rt, -44, Month::March, 15);
     holds(
         rt,
         "%F",
         is_date_text(&format("%F", rt), early, "-0044-03-15"),
     );
-    let late = Date::from_calendar_date(12_024, Month::January, 1)?;
+    let late = date_of(rt, 12_024, Month::January, 1);
     holds(
         rt,
         "%F",
         is_date_text(&format("%F", rt), late, "+12024-01-01"),
     );
-    Ok(())
 }
 
 /// Checks buffers around the length of `%F`.
@@ -210,13 +205,12 @@ fn check_long_buffers(date: Date, rt: &impl Abort) {
 }
 
 #[test]
-fn short_buffers(rt: HostRuntime) -> Result<(), Fail> {
+fn short_buffers(rt: HostRuntime) {
     let rt = &rt;
-    let date = Date::from_calendar_date(2024, Month::February, 29)?;
+    let date = date_of(rt, 2024, Month::February, 29);
     check_exact_buffers(date, rt);
     let mut buffer = [0u8; 10];
     let printed = format("%H", rt).print_date(date, &mut buffer);
     holds(rt, "%H", printed.is_none());
     check_long_buffers(date, rt);
-    Ok(())
 }

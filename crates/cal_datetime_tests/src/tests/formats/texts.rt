@@ -1,8 +1,8 @@
 //! Texts that are parsed, and texts that are rejected.
 use crate::tests::formats::{date_format, date_time_format, holds, time_format};
-use cal_time::{Date, Month, Time};
+use crate::tests::{date_of, time_of};
+use cal_time::{Month, Time};
 use std::process::Abort;
-use std::test::Fail;
 
 fn is_rejected_date(spelling: &str, text: &str, rt: &impl Abort) -> bool {
     date_format(spelling, rt).parse(text.as_bytes()).is_err()
@@ -44,7 +44,7 @@ fn check_date_times(rows: &[(&str, &str, bool)], rt: &impl Abort) {
 
 /// 29 February 2024 was a Thursday, the 60th day of its year.
 #[test]
-fn rejected_dates(rt: HostRuntime) -> Result<(), Fail> {
+fn rejected_dates(rt: HostRuntime) {
     let rt = &rt;
     check_dates(
         &[
@@ -71,11 +71,10 @@ fn rejected_dates(rt: HostRuntime) -> Result<(), Fail> {
         ],
         rt,
     );
-    Ok(())
 }
 
 #[test]
-fn rejected_times(rt: HostRuntime) -> Result<(), Fail> {
+fn rejected_times(rt: HostRuntime) {
     let rt = &rt;
     check_times(
         &[
@@ -100,7 +99,6 @@ fn rejected_times(rt: HostRuntime) -> Result<(), Fail> {
         ],
         rt,
     );
-    Ok(())
 }
 
 /// Checks that a format parses the text as this time of day.
@@ -110,38 +108,36 @@ fn check_parsed(spelling: &str, text: &str, time: Time, rt: &impl Abort) {
 }
 
 #[test]
-fn fractions(rt: HostRuntime) -> Result<(), Fail> {
+fn fractions(rt: HostRuntime) {
     let rt = &rt;
     check_parsed(
         "%T%.f",
         "12:00:00.5",
-        Time::from_hms_milli(12, 0, 0, 500)?,
+        time_of(rt, 12, 0, 0, 500_000_000),
         rt,
     );
-    check_parsed("%T%.f", "12:00:00", Time::from_hms(12, 0, 0)?, rt);
+    check_parsed("%T%.f", "12:00:00", time_of(rt, 12, 0, 0, 0), rt);
     check_parsed(
         "%T%.f Z",
         "12:00:00.123456789 Z",
-        Time::from_hms_nano(12, 0, 0, 123_456_789)?,
+        time_of(rt, 12, 0, 0, 123_456_789),
         rt,
     );
-    Ok(())
 }
 
 /// 12 AM is midnight, and 12 PM is noon.
 #[test]
-fn twelve_hours(rt: HostRuntime) -> Result<(), Fail> {
+fn twelve_hours(rt: HostRuntime) {
     let rt = &rt;
-    check_parsed("%I %p", "12 AM", Time::from_hms(0, 0, 0)?, rt);
-    check_parsed("%I %p", "12 PM", Time::from_hms(12, 0, 0)?, rt);
-    check_parsed("%-I %p", "1 PM", Time::from_hms(13, 0, 0)?, rt);
-    Ok(())
+    check_parsed("%I %p", "12 AM", time_of(rt, 0, 0, 0, 0), rt);
+    check_parsed("%I %p", "12 PM", time_of(rt, 12, 0, 0, 0), rt);
+    check_parsed("%-I %p", "1 PM", time_of(rt, 13, 0, 0, 0), rt);
 }
 
 #[test]
-fn names(rt: HostRuntime) -> Result<(), Fail> {
+fn names(rt: HostRuntime) {
     let rt = &rt;
-    let date = Date::from_calendar_date(2024, Month::May, 1)?;
+    let date = date_of(rt, 2024, Month::May, 1);
     let parsed = date_format("%d%B%Y", rt).parse(b"01May2024");
     holds(rt, "%d%B%Y", parsed == Ok(date));
     let parsed = date_format("%d%b%Y", rt).parse(b"01May2024");
@@ -154,5 +150,4 @@ fn names(rt: HostRuntime) -> Result<(), Fail> {
         ],
         rt,
     );
-    Ok(())
 }

@@ -1,17 +1,18 @@
 //! Unix times as GNU `date` prints them, in texts from outside.
-use crate::tests::formats::{format, holds};
+use crate::tests::formats::{
+    described, format, has_no_date, has_no_date_time, has_no_moment, holds,
+};
+use crate::tests::{date_of, offset_of, time_of};
 use cal_datetime::OffsetDateTime;
 use cal_format::{Format, OffsetDateTimeFormat, ParseError};
 use cal_time::error::{Component, ComponentRange};
-use cal_time::{Date, Month, Time, UtcOffset};
+use cal_time::{Month, Time, UtcOffset};
 use std::process::Abort;
-use std::test::Fail;
 
 fn timestamp_format(text: &str, rt: &impl Abort) -> OffsetDateTimeFormat {
-    match format(text, rt).for_offset_date_times() {
-        Some(format) => format,
-        None => panic!(rt; "no date-time at an offset"),
-    }
+    format(text, rt)
+        .for_offset_date_times()
+        .expect(rt, "no date-time at an offset")
 }
 
 fn prints(format: &Format, date_time: OffsetDateTime, text: &str) -> bool {
@@ -25,46 +26,41 @@ fn prints(format: &Format, date_time: OffsetDateTime, text: &str) -> bool {
 /// Checks that a format parses the text as this date-time at this offset, and prints the text.
 fn timestamp_row(spelling: &str, date_time: OffsetDateTime, text: &str, rt: &impl Abort) {
     holds(rt, text, prints(&format(spelling, rt), date_time, text));
-    match timestamp_format(spelling, rt).parse(text.as_bytes()) {
-        Ok(parsed) => {
-            holds(rt, text, parsed == date_time);
-            holds(rt, text, parsed.offset() == date_time.offset());
-        }
-        Err(_) => panic!(rt; "rejected"),
-    }
+    let parsed = timestamp_format(spelling, rt).parse(text.as_bytes());
+    let parsed = parsed.expect(rt, "rejected");
+    holds(rt, text, parsed == date_time);
+    holds(rt, text, parsed.offset() == date_time.offset());
 }
 
 fn rejected(spelling: &str, text: &str, error: ParseError, rt: &impl Abort) {
-    match timestamp_format(spelling, rt).parse(text.as_bytes()) {
-        Ok(_) => panic!(rt; "accepted"),
-        Err(found) => assert!(rt; found == error),
-    }
+    let found = timestamp_format(spelling, rt).parse(text.as_bytes());
+    holds(rt, text, found == Err(error));
 }
 
-fn date_time(year: i32, time: Time, offset: UtcOffset) -> Result<OffsetDateTime, Fail> {
-    let date = Date::from_calendar_date(year, Month::December, 31)?;
-    Ok(OffsetDateTime::new_in_offset(date, time, offset))
+fn date_time(rt: &impl Abort, year: i32, time: Time, offset: UtcOffset) -> OffsetDateTime {
+    let date = date_of(rt, year, Month::December, 31);
+    OffsetDateTime::new_in_offset(date, time, offset)
 }
 
 #[test]
-fn timestamps(rt: HostRuntime) -> Result<(), Fail> {
+fn timestamps(rt: HostRuntime) {
     let rt = &rt;
-    let last = Time::from_hms(23, 59, 59)?;
+    let last = time_of(rt, 23, 59, 59, 0);
     let utc = UtcOffset::UTC;
     timestamp_row("%s", OffsetDateTime::unix_epoch(), "0", rt);
-    timestamp_row("%s", date_time(1969, last, utc)?, "-1", rt);
-    timestamp_row("%s", date_time(9999, last, utc)?, "253402300799", rt);
-    let late = Time::from_hms(23, 0, 0)?;
-    let west = UtcOffset::from_hms(-3, -30, 0)?;
-    timestamp_row("%s %z", date_time(1969, late, west)?, "9000 -0330", rt);
+    timestamp_row("%s", date_time(rt, 1969, last, utc), "-1", rt);
+    timestamp_row("%s", date_time(rt, 9999, last, utc), "253402300799", rt);
+    let late = time_of(rt, 23, 0, 0, 0);
+    let west = offset_of(rt, -3, -30, 0);
+    timestamp_row("%s %z", date_time(rt, 1969, late, west), "9000 -0330", rt);
     holds(
         rt,
         "%s",
-        prints(&format("%s", rt), date_time(1969, late, west)?, "9000"),
+        prints(&format("%s", rt), date_time(rt, 1969, late, west), "9000"),
     );
-    let day = Date::from_calendar_date(2024, Month::February, 29)?;
-    let india = UtcOffset::from_hms(5, 30, 0)?;
-    let time = Time::from_hms_milli(9, 5, 7, 250)?;
+    let day = date_of(rt, 2024, Month::February, 29);
+    let india = offset_of(rt, 5, 30, 0);
+    let time = time_of(rt, 9, 5, 7, 250_000_000);
     let moment = OffsetDateTime::new_in_offset(day, time, india);
     timestamp_row("%s.%3N%z", moment, "1709177707.250+0530", rt);
     timestamp_row(
@@ -73,11 +69,10 @@ fn timestamps(rt: HostRuntime) -> Result<(), Fail> {
         "[2024-02-29T09:05:07.25+05:30 1709177707]",
         rt,
     );
-    Ok(())
 }
 
 #[test]
-fn other_texts(rt: HostRuntime) -> Result<(), Fail> {
+fn other_texts(rt: HostRuntime) {
     let rt = &rt;
     let sign = ParseError::Contradiction(Component::Timestamp);
     rejected("%s", "-0", sign, rt);
@@ -93,34 +88,26 @@ fn other_texts(rt: HostRuntime) -> Result<(), Fail> {
         ParseError::Contradiction(Component::Year),
         rt,
     );
-    holds(rt, "%s", format("%s", rt).for_dates().is_none());
-    holds(rt, "%s", format("%s", rt).for_date_times().is_none());
-    holds(
-        rt,
-        "%s%H",
-        format("%s%H", rt).for_offset_date_times().is_none(),
-    );
-    Ok(())
+    holds(rt, "%s", has_no_date("%s", rt));
+    holds(rt, "%s", has_no_date_time("%s", rt));
+    holds(rt, "%s%H", has_no_moment("%s%H", rt));
 }
 
 #[test]
-fn descriptions(rt: HostRuntime) -> Result<(), Fail> {
+fn descriptions(rt: HostRuntime) {
     let rt = &rt;
     let spelling = "[unix_timestamp].[subsecond digits:1+]";
-    let Ok(format) = Format::from_description(spelling) else {
-        panic!(rt; "not a format");
-    };
-    let quarter = Time::from_hms_milli(23, 59, 59, 750)?;
-    let before = date_time(1969, quarter, UtcOffset::UTC)?;
+    let format = described(spelling, rt);
+    let quarter = time_of(rt, 23, 59, 59, 750_000_000);
+    let before = date_time(rt, 1969, quarter, UtcOffset::UTC);
     holds(rt, "-1.75", prints(&format, before, "-1.75"));
     holds(
         rt,
         "0.0",
         prints(&format, OffsetDateTime::unix_epoch(), "0.0"),
     );
-    let Some(parser) = format.for_offset_date_times() else {
-        panic!(rt; "no date-time at an offset");
-    };
+    let parser = format.for_offset_date_times();
+    let parser = parser.expect(rt, "no date-time at an offset");
     holds(rt, "descriptions", parser.parse(b"-1.75") == Ok(before));
     holds(
         rt,
@@ -137,5 +124,4 @@ fn descriptions(rt: HostRuntime) -> Result<(), Fail> {
         "descriptions",
         parser.parse(b"0.") == Err(ParseError::UnexpectedEnd(2)),
     );
-    Ok(())
 }

@@ -1,25 +1,19 @@
 //! Texts read in whichever form they come.
 use crate::tests::texts::{out_of_range, reads};
+use crate::tests::{date_of, offset_of, time_of};
 use cal_datetime::OffsetDateTime;
 use cal_text::ParseError::{UnexpectedByte, UnexpectedEnd};
 use cal_text::{DateForm, DateOrMoment, MomentForm, parse_any};
-use cal_time::{Date, Month, Time, UtcOffset};
-use std::test::Fail;
+use cal_time::{Date, Month};
 
 #[test]
-fn texts_in_any_form(rt: HostRuntime) -> Result<(), Fail> {
-    let Ok(date) = Date::from_calendar_date(2024, Month::February, 29) else {
-        return Err(Fail::from("a date"));
-    };
-    let Ok(time) = Time::from_hms_nano(0, 0, 0, 500_000_000) else {
-        return Err(Fail::from("a time"));
-    };
-    let Ok(hour_east) = UtcOffset::from_hms(1, 0, 0) else {
-        return Err(Fail::from("an offset"));
-    };
+fn texts_in_any_form(rt: HostRuntime) {
+    let date = date_of(&rt, 2024, Month::February, 29);
+    let time = time_of(&rt, 0, 0, 0, 500_000_000);
+    let hour_east = offset_of(&rt, 1, 0, 0);
     let utc = OffsetDateTime::new_utc(date, time);
     let east = OffsetDateTime::new_in_offset(date, time, hour_east);
-    for (text, found) in [
+    for &(text, found) in &[
         ("2024-02-29", DateOrMoment::Date(DateForm::Calendar, date)),
         ("2024-060", DateOrMoment::Date(DateForm::Ordinal, date)),
         ("2024-W09-4", DateOrMoment::Date(DateForm::Week, date)),
@@ -44,12 +38,11 @@ fn texts_in_any_form(rt: HostRuntime) -> Result<(), Fail> {
     ] {
         reads(&rt, text, &parse_any(text.as_bytes()), &Ok(found));
     }
-    Ok(())
 }
 
 #[test]
 fn components_of_texts_in_any_form(rt: HostRuntime) {
-    for (text, name, is_conditional) in [
+    for &(text, name, is_conditional) in &[
         ("2023-02-29", "day", true),
         ("2023-366", "ordinal", true),
         ("2023-W53-1", "week", true),
@@ -66,7 +59,7 @@ fn components_of_texts_in_any_form(rt: HostRuntime) {
 /// The form that goes on furthest has the position.
 #[test]
 fn texts_of_none_of_the_forms(rt: HostRuntime) {
-    for (text, error) in [
+    for &(text, error) in &[
         ("", UnexpectedEnd(0)),
         ("K2460370", UnexpectedByte(0)),
         ("J", UnexpectedEnd(1)),

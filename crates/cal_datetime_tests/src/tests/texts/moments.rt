@@ -1,13 +1,12 @@
 //! Moments of RFC 3339, read and printed.
-use crate::tests::same;
 use crate::tests::texts::{out_of_range, parts_of, reads};
+use crate::tests::{date_of, offset_of, prints, same, time_of};
 use cal_datetime::OffsetDateTime;
 use cal_text::ParseError;
 use cal_text::ParseError::{UnexpectedByte, UnexpectedEnd};
 use cal_text::rfc3339::{self, Text};
 use cal_time::{Date, Month, Time, UtcOffset};
 use std::process::Abort;
-use std::test::Fail;
 
 /// A date, a time of day and an offset by their numbers.
 type Numbers = ((i32, u8, u8), (u8, u8, u8, u32), (i8, i8));
@@ -15,10 +14,11 @@ type Numbers = ((i32, u8, u8), (u8, u8, u8, u32), (i8, i8));
 fn moment(rt: &impl Abort, numbers: Numbers) -> (Date, Time, UtcOffset) {
     let ((year, month, day), (hour, minute, second, nanosecond), (hours, minutes)) = numbers;
     let month = Month::try_from(month).expect(rt, "no month");
-    let date = Date::from_calendar_date(year, month, day).expect(rt, "no date");
-    let time = Time::from_hms_nano(hour, minute, second, nanosecond).expect(rt, "no time");
-    let offset = UtcOffset::from_hms(hours, minutes, 0).expect(rt, "no offset");
-    (date, time, offset)
+    (
+        date_of(rt, year, month, day),
+        time_of(rt, hour, minute, second, nanosecond),
+        offset_of(rt, hours, minutes, 0),
+    )
 }
 
 /// The three parts of a text.
@@ -31,10 +31,18 @@ fn printed(parts: (Date, Time, UtcOffset)) -> Option<Text> {
     Text::new(OffsetDateTime::new_in_offset(parts.0, parts.1, parts.2))
 }
 
+fn text_of(rt: &impl Abort, parts: (Date, Time, UtcOffset)) -> Text {
+    printed(parts).expect(rt, "no text")
+}
+
+fn offset_of_seconds(rt: &impl Abort, seconds: i32) -> UtcOffset {
+    UtcOffset::from_whole_seconds(seconds).expect(rt, "no offset")
+}
+
 /// The examples of the standard come first, except those with a leap second.
 #[test]
 fn moments_read(rt: HostRuntime) {
-    for (text, numbers) in [
+    for &(text, numbers) in &[
         (
             "1985-04-12T23:20:50.52Z",
             ((1985, 4, 12), (23, 20, 50, 520_000_000), (0, 0)),
@@ -88,7 +96,7 @@ fn moments_read(rt: HostRuntime) {
 /// The leap seconds of the standard's examples come first.
 #[test]
 fn components_of_moments_out_of_range(rt: HostRuntime) {
-    for (text, name, is_conditional) in [
+    for &(text, name, is_conditional) in &[
         ("1990-12-31T23:59:60Z", "second", false),
         ("1990-12-31T15:59:60-08:00", "second", false),
         ("2024-00-99T99:99:99Z", "month", false),
@@ -106,7 +114,7 @@ fn components_of_moments_out_of_range(rt: HostRuntime) {
 
 #[test]
 fn texts_of_no_moment(rt: HostRuntime) {
-    for (text, error) in [
+    for &(text, error) in &[
         ("", UnexpectedEnd(0)),
         ("24-02-29T00:00:00Z", UnexpectedByte(2)),
         ("-2024-02-29T00:00:00Z", UnexpectedByte(0)),
@@ -132,8 +140,8 @@ fn texts_of_no_moment(rt: HostRuntime) {
 }
 
 #[test]
-fn moments_printed(rt: HostRuntime) -> Result<(), Fail> {
-    for (numbers, text) in [
+fn moments_printed(rt: HostRuntime) {
+    for &(numbers, text) in &[
         (
             ((2024, 2, 29), (23, 59, 59, 250_000_000), (1, 0)),
             "2024-02-29T23:59:59.25+01:00",
@@ -148,44 +156,47 @@ fn moments_printed(rt: HostRuntime) -> Result<(), Fail> {
             "2024-02-29T09:05:07.000000001-00:30",
         ),
     ] {
-        let parts = moment(&rt, numbers);
-        let Some(printed) = printed(parts) else {
-            return Err(Fail::from("a text"));
-        };
-        same(&rt, format!(in rt.alloc(); "{printed}")?.as_str(), text);
-        reads(&rt, text, &read(text.as_bytes()), &Ok(parts));
+        let (date, time, offset) = moment(&rt, numbers);
+        prints(&rt, &text_of(&rt, (date, time, offset)), text);
+        let found = read(text.as_bytes());
+        reads(&rt, text, &found, &Ok((date, time, offset)));
     }
     let midnight = moment(&rt, ((2024, 2, 29), (0, 0, 0, 0), (0, 0)));
-    let Some(printed) = printed(midnight) else {
-        return Err(Fail::from("a text"));
-    };
+    let printed = text_of(&rt, midnight);
+    let text = format!(in rt.alloc(); "{printed:>22}|{printed:_<21}|{printed:2}|");
     same(
         &rt,
-        format!(in rt.alloc(); "{printed:>22}|{printed:_<21}|{printed:2}|")?.as_str(),
+        text.expect(&rt, "no memory").as_str(),
         "  2024-02-29T00:00:00Z|2024-02-29T00:00:00Z_|2024-02-29T00:00:00Z|",
     );
-    Ok(())
 }
 
 #[test]
 fn moments_without_a_text(rt: HostRuntime) {
     let (date, time, offset) = moment(&rt, ((2024, 2, 29), (0, 0, 0, 0), (23, 59)));
-    assert!(rt; printed((date, time, offset)).is_some());
-    for (year, month, day) in [(10_000, 1, 1), (-1, 12, 31)] {
+    same(&rt, printed((date, time, offset)).is_some(), true);
+    for &(year, month, day) in &[(10_000, 1, 1), (-1, 12, 31)] {
         let parts = moment(&rt, ((year, month, day), (0, 0, 0, 0), (0, 0)));
-        assert!(rt; printed(parts).is_none());
+        same(&rt, printed(parts).is_none(), true);
     }
-    for seconds in [86_400, -86_400, 1, -1, 3_601, 93_599] {
-        let Ok(offset) = UtcOffset::from_whole_seconds(seconds) else {
-            panic!(rt; "{seconds} is refused");
-        };
-        assert!(rt; printed((date, time, offset)).is_none());
+    for &seconds in &[86_400, -86_400, 1, -1, 3_601, 93_599] {
+        let offset = offset_of_seconds(&rt, seconds);
+        same(&rt, printed((date, time, offset)).is_none(), true);
     }
+}
+
+/// Stops the test unless the text of the moment gives it back.
+fn reads_back(rt: &(impl Abort + AllocGlobal), date: Date, time: Time, offset: UtcOffset) {
+    let printed = text_of(rt, (date, time, offset));
+    let text = format!(in rt.alloc(); "{printed}").expect(rt, "no memory");
+    let found = read(text.as_bytes());
+    reads(rt, text.as_str(), &found, &Ok((date, time, offset)));
 }
 
 /// At each offset of whole quarters of an hour, with fractions of several lengths.
 #[test]
-fn moments_printed_and_read(rt: HostRuntime) -> Result<(), Fail> {
+fn moments_printed_and_read(rt: HostRuntime) {
+    let date = date_of(&rt, 2024, Month::February, 29);
     let fractions = [
         0,
         500_000_000,
@@ -197,29 +208,11 @@ fn moments_printed_and_read(rt: HostRuntime) -> Result<(), Fail> {
         123_456_789,
     ];
     for quarters in -95i32..96 {
-        let Ok(offset) = UtcOffset::from_whole_seconds(quarters.wrapping_mul(900)) else {
-            return Err(Fail::from("an offset"));
-        };
-        for nanosecond in fractions {
-            let (date, time, _) = moment(
-                &rt,
-                (
-                    (2024, 2, 29),
-                    ((quarters.unsigned_abs() % 24) as u8, 59, 7, nanosecond),
-                    (0, 0),
-                ),
-            );
-            let Some(printed) = printed((date, time, offset)) else {
-                return Err(Fail::from("a text"));
-            };
-            let text = format!(in rt.alloc(); "{printed}")?;
-            reads(
-                &rt,
-                text.as_str(),
-                &read(text.as_bytes()),
-                &Ok((date, time, offset)),
-            );
+        let offset = offset_of_seconds(&rt, quarters.wrapping_mul(900));
+        let hour = (quarters.unsigned_abs() % 24) as u8;
+        for &nanosecond in &fractions {
+            let time = time_of(&rt, hour, 59, 7, nanosecond);
+            reads_back(&rt, date, time, offset);
         }
     }
-    Ok(())
 }

@@ -1,16 +1,21 @@
 //! Unix times, read and printed.
-use crate::tests::same;
 use crate::tests::texts::{out_of_range, parts_of, reads};
+use crate::tests::{date_of, offset_of, prints, same, time_of};
 use cal_datetime::OffsetDateTime;
 use cal_text::ParseError::{UnexpectedByte, UnexpectedEnd};
 use cal_text::unix;
-use cal_time::{Date, Month, Time, UtcOffset};
-use std::test::Fail;
+use cal_time::{Date, Month, Time};
+use std::process::Abort;
+
+/// Returns the moment at UTC with this Unix time in nanoseconds.
+fn at_nanoseconds(rt: &impl Abort, nanoseconds: i128) -> OffsetDateTime {
+    OffsetDateTime::from_unix_timestamp_nanos(nanoseconds).expect(rt, "no moment")
+}
 
 /// The local date and time of a Unix time, and at UTC.
 #[test]
-fn unix_times(rt: HostRuntime) -> Result<(), Fail> {
-    for (year, month, day, time, hours, text) in [
+fn unix_times(rt: HostRuntime) {
+    for &(year, month, day, time, hours, text) in &[
         (1970, Month::January, 1, (0, 0, 0, 0), 0, "@0"),
         (
             2024,
@@ -33,35 +38,25 @@ fn unix_times(rt: HostRuntime) -> Result<(), Fail> {
         (2038, Month::January, 19, (3, 14, 7, 0), 0, "@2147483647"),
     ] {
         let (hour, minute, second, nanosecond) = time;
-        let Ok(date) = Date::from_calendar_date(year, month, day) else {
-            return Err(Fail::from("a date"));
-        };
-        let Ok(time) = Time::from_hms_nano(hour, minute, second, nanosecond) else {
-            return Err(Fail::from("a time"));
-        };
-        let Ok(offset) = UtcOffset::from_hms(hours, 0, 0) else {
-            return Err(Fail::from("an offset"));
-        };
+        let date = date_of(&rt, year, month, day);
+        let time = time_of(&rt, hour, minute, second, nanosecond);
+        let offset = offset_of(&rt, hours, 0, 0);
         let printed = unix::Text::new(OffsetDateTime::new_in_offset(date, time, offset));
-        same(&rt, format!(in rt.alloc(); "{printed}")?.as_str(), text);
-        let Ok(moment) = unix::parse(text.as_bytes()) else {
-            return Err(Fail::from("a moment"));
-        };
-        let Some(shown) = moment.checked_to_offset(offset) else {
-            return Err(Fail::from("a moment at the offset"));
-        };
+        prints(&rt, &printed, text);
+        let moment = unix::parse(text.as_bytes()).expect(&rt, "no moment");
+        let shown = moment.checked_to_offset(offset);
+        let shown = shown.expect(&rt, "no moment at the offset");
         same(
             &rt,
             (shown.date(), shown.time(), shown.offset()),
             (date, time, offset),
         );
     }
-    Ok(())
 }
 
 #[test]
-fn unix_times_read(rt: HostRuntime) -> Result<(), Fail> {
-    for (text, nanoseconds) in [
+fn unix_times_read(rt: HostRuntime) {
+    for &(text, nanoseconds) in &[
         ("@0", 0),
         ("@1709164800.5", 1_709_164_800_500_000_000),
         ("@1709164800.50", 1_709_164_800_500_000_000),
@@ -71,9 +66,7 @@ fn unix_times_read(rt: HostRuntime) -> Result<(), Fail> {
         ("@31494784780799.999999999", 31_494_784_780_799_999_999_999),
         ("@-31619087596800", -31_619_087_596_800_000_000_000),
     ] {
-        let Ok(moment) = OffsetDateTime::from_unix_timestamp_nanos(nanoseconds) else {
-            return Err(Fail::from("a moment"));
-        };
+        let moment = at_nanoseconds(&rt, nanoseconds);
         reads(
             &rt,
             text,
@@ -81,7 +74,7 @@ fn unix_times_read(rt: HostRuntime) -> Result<(), Fail> {
             &parts_of(Ok(moment)),
         );
     }
-    for text in [
+    for &text in &[
         "@31494784780800",
         "@-31619087596800.000000001",
         "@-31619087600400",
@@ -89,12 +82,11 @@ fn unix_times_read(rt: HostRuntime) -> Result<(), Fail> {
     ] {
         out_of_range(&rt, text, &unix::parse(text.as_bytes()), "timestamp", false);
     }
-    Ok(())
 }
 
 #[test]
 fn texts_of_no_unix_time(rt: HostRuntime) {
-    for (text, error) in [
+    for &(text, error) in &[
         ("", UnexpectedEnd(0)),
         ("1709164800", UnexpectedByte(0)),
         ("@", UnexpectedEnd(1)),
@@ -121,11 +113,9 @@ fn texts_of_no_unix_time(rt: HostRuntime) {
 }
 
 #[test]
-fn unix_times_printed(rt: HostRuntime) -> Result<(), Fail> {
-    let Ok(hour_east) = UtcOffset::from_hms(1, 0, 0) else {
-        return Err(Fail::from("an offset"));
-    };
-    for (nanoseconds, text) in [
+fn unix_times_printed(rt: HostRuntime) {
+    let hour_east = offset_of(&rt, 1, 0, 0);
+    for &(nanoseconds, text) in &[
         (0, "@0"),
         (1_709_164_800_500_000_000, "@1709164800.5"),
         (9_000_000_000, "@9"),
@@ -135,17 +125,14 @@ fn unix_times_printed(rt: HostRuntime) -> Result<(), Fail> {
         (31_494_784_780_799_999_999_999, "@31494784780799.999999999"),
         (-31_619_087_596_800_000_000_000, "@-31619087596800"),
     ] {
-        let Ok(moment) = OffsetDateTime::from_unix_timestamp_nanos(nanoseconds) else {
-            return Err(Fail::from("a moment"));
-        };
-        let printed = unix::Text::new(moment);
-        same(&rt, format!(in rt.alloc(); "{printed}")?.as_str(), text);
+        let moment = at_nanoseconds(&rt, nanoseconds);
+        prints(&rt, &unix::Text::new(moment), text);
     }
     let east = unix::Text::new(OffsetDateTime::new_in_offset(Date::MIN, Time::MIDNIGHT, hour_east));
+    let text = format!(in rt.alloc(); "{east:>19}|{east:_<18}|{east:2}|").expect(&rt, "no memory");
     same(
         &rt,
-        format!(in rt.alloc(); "{east:>19}|{east:_<18}|{east:2}|")?.as_str(),
+        text.as_str(),
         "   @-31619087600400|@-31619087600400__|@-31619087600400|",
     );
-    Ok(())
 }

@@ -8,7 +8,7 @@ ghost use Rattle.std.specs.Prelude.{◌≡◌};
 use cal_datetime::PlainDateTime;
 use cal_recurrence::{
     DateOrTime, DateTimeRule, ParseRuleError, ParseSetError, Recurrence, RecurrenceSet,
-    RecurrenceSetDays, RecurrenceText, RuleReadings, SetParts,
+    RecurrenceSetDays, RecurrenceText, RuleReadings, SetDays, SetLine, SetParts, SetReadings,
 };
 use cal_schedule::{Rule, RuleDays};
 use cal_time::Date;
@@ -28,10 +28,22 @@ fn parse(text: &[u8]) -> Twice<Result<Recurrence, ParseRuleError>>
     twice!(cal_recurrence::parse(text))
 }
 
-fn parse_set(text: &[u8]) -> Twice<Result<SetParts, ParseSetError>>
+fn parse_set(text: &[u8]) -> Twice<Result<SetParts<'_>, ParseSetError>>
     ensures { result.0 ≡ result.1 }
 {
     twice!(cal_recurrence::parse_set(text))
+}
+
+fn days_of_set(parts: &SetParts<'_>) -> Twice<Result<SetDays, SetLine>>
+    ensures { result.0 ≡ result.1 }
+{
+    twice!(parts.days())
+}
+
+fn readings_of_set(parts: &SetParts<'_>) -> Twice<Result<SetReadings, SetLine>>
+    ensures { result.0 ≡ result.1 }
+{
+    twice!(parts.readings())
 }
 
 fn text(recurrence: &Recurrence) -> Twice<RecurrenceText>

@@ -3,16 +3,14 @@ use crate::tests::recurrences::read;
 use crate::tests::times_of_day::reading;
 use crate::tests::{day, same, same_at};
 use cal_recurrence::{
-    DateOrTime, ParseRuleError, ParseRuleErrorKind, ParseSetError, ParseSetErrorKind,
-    RecurrenceSet, RuleEnd, RulePart, SetLine, SetParts, parse_set, unfold,
+    DateOrTime, ParseRuleError, ParseRuleErrorKind, ParseSetError, ParseSetErrorKind, RuleEnd,
+    RulePart, SetLine, SetParts, parse_set, unfold,
 };
 use cal_time::Date;
-use std::alloc::Global;
 use std::process::Abort;
-use std::test::Fail;
 
 /// Parses the text.
-fn read_set(rt: &impl Abort, text: &str) -> SetParts {
+fn read_set<'a>(rt: &impl Abort, text: &'a str) -> SetParts<'a> {
     parse_set(text.as_bytes()).expect(rt, text)
 }
 
@@ -41,17 +39,15 @@ fn days(rt: HostRuntime) {
         parts.recurrence == read(rt, "FREQ=MONTHLY;BYDAY=-1FR"),
         true,
     );
+    same(rt, parts.zone.is_none(), true);
     let more = [day(rt, 2024_07_04)];
     are_dates(rt, parts.dates.as_slice(), &more);
     let without = [day(rt, 2024_01_26), day(rt, 2024_04_26)];
     are_dates(rt, parts.exceptions.as_slice(), &without);
-    let set = RecurrenceSet {
-        rule: parts.recurrence.rule(start),
-        dates: &more,
-        exceptions: &without,
-    };
+    let days = parts.days().expect(rt, "no set of days");
+    let set = days.set();
     let mut walk = set.days();
-    for row in [
+    for &row in &[
         2024_02_23, 2024_03_29, 2024_05_31, 2024_06_28, 2024_07_04, 2024_07_26,
     ] {
         same_at(rt, row, walk.next(), Some(day(rt, row)));
@@ -82,6 +78,141 @@ fn times(rt: HostRuntime) {
     same(rt, without.len(), 2);
     let last = reading(rt, (1997_09_06, 9_00_00));
     same(rt, without.last().copied(), Some(DateOrTime::Local(last)));
+    let zone = parts.zone.expect(rt, "no zone");
+    same(rt, zone.as_bytes() == b"Europe/Berlin".as_slice(), true);
+}
+
+/// Checks all readings of the set that a text says.
+fn check_readings(rt: &impl Abort, text: &str, rows: &[(i64, u32)]) {
+    let readings = read_set(rt, text)
+        .readings()
+        .expect(rt, "no set of readings");
+    let set = readings.set();
+    let mut walk = set.readings();
+    for row in rows {
+        same_at(rt, *row, walk.next(), Some(reading(rt, *row)));
+    }
+    same_at(rt, text, walk.next(), None);
+}
+
+#[test]
+fn readings_of_sets(rt: HostRuntime) {
+    let rt = &rt;
+    let rows = [
+        (1997_09_02, 9_00_00),
+        (1997_09_03, 17_00_00),
+        (1997_09_09, 9_00_00),
+        (1997_09_11, 9_00_00),
+    ];
+    let text = "DTSTART:19970902T090000\nRRULE:FREQ=WEEKLY;COUNT=4;BYDAY=TU,TH\n\
+        EXDATE:19970904T090000\nRDATE:19970903T170000";
+    check_readings(rt, text, &rows);
+    let rows = [
+        (1997_09_02, 9_00_00),
+        (1997_09_02, 12_00_00),
+        (1997_09_04, 9_00_00),
+        (1997_09_05, 9_00_00),
+    ];
+    let text = "DTSTART:19970902T090000Z\nRRULE:FREQ=DAILY;COUNT=4\n\
+        EXDATE:19970903T090000Z\nRDATE:19970902T120000Z";
+    check_readings(rt, text, &rows);
+    check_readings(rt, "DTSTART:19970902T090000", &[(1997_09_02, 9_00_00)]);
+    // RFC 5545 writes this value in section 3.8.5.2.
+    let text = "DTSTART:19970714T123000Z\nRDATE:19970714T123000Z";
+    check_readings(rt, text, &[(1997_07_14, 12_30_00)]);
+}
+
+/// The dates of the second example of RFC 5545, section 3.8.5.2, and a `COUNT`.
+#[test]
+fn days_of_sets(rt: HostRuntime) {
+    let rt = &rt;
+    let text = "DTSTART;VALUE=DATE:19970101\nRDATE;VALUE=DATE:19970101,19970120,19970217,19970421,\
+        19970526,19970704,19970901,19971014,19971128,19971129,19971225";
+    let days = read_set(rt, text).days().expect(rt, "no set of days");
+    let set = days.set();
+    let mut walk = set.days();
+    for row in [
+        1997_01_01, 1997_01_20, 1997_02_17, 1997_04_21, 1997_05_26, 1997_07_04, 1997_09_01,
+        1997_10_14, 1997_11_28, 1997_11_29, 1997_12_25,
+    ] {
+        same_at(rt, row, walk.next(), Some(day(rt, row)));
+    }
+    same(rt, walk.next(), None);
+    let text = "DTSTART:20240101\nRRULE:FREQ=MONTHLY;BYDAY=-1FR;COUNT=5\nEXDATE:20240126\n\
+        RDATE:20240704";
+    let days = read_set(rt, text).days().expect(rt, "no set of days");
+    let set = days.set();
+    let mut walk = set.days();
+    for row in [2024_02_23, 2024_03_29, 2024_04_26, 2024_05_31, 2024_07_04] {
+        same_at(rt, row, walk.next(), Some(day(rt, row)));
+    }
+    same(rt, walk.next(), None);
+    // No 30 February.
+    let text = "DTSTART:20240101\nRRULE:FREQ=YEARLY;BYMONTH=2;BYMONTHDAY=30;COUNT=3\n\
+        RDATE:20240704";
+    let days = read_set(rt, text).days().expect(rt, "no set of days");
+    let set = days.set();
+    let mut walk = set.days();
+    same(rt, walk.next(), Some(day(rt, 2024_07_04)));
+    same(rt, walk.next(), None);
+}
+
+/// Returns the lines that exclude the days and the readings of a set.
+fn other_kinds(rt: &impl Abort, text: &str) -> (Option<SetLine>, Option<SetLine>) {
+    let parts = read_set(rt, text);
+    (parts.days().err(), parts.readings().err())
+}
+
+#[test]
+fn other_kinds_of_values(rt: HostRuntime) {
+    let rt = &rt;
+    let start = Some(SetLine::Start);
+    let (rule, dates) = (Some(SetLine::Rule), Some(SetLine::Dates));
+    let without = Some(SetLine::Exceptions);
+    for (text, wanted) in [
+        ("DTSTART:20240101", (None, start)),
+        ("DTSTART:20240101T090000", (start, None)),
+        ("DTSTART:20240101T090000Z", (start, None)),
+        (
+            "DTSTART:20240101\nRDATE:20240101T090000\nEXDATE:20240101T090000",
+            (dates, start),
+        ),
+        (
+            "DTSTART:20240101\nEXDATE:20240102,20240101T090000",
+            (without, start),
+        ),
+        (
+            "DTSTART:20240101T090000\nRDATE:20240101T090000Z",
+            (start, dates),
+        ),
+        (
+            "DTSTART:20240101T090000\nEXDATE:20240101T090000Z",
+            (start, without),
+        ),
+        ("DTSTART:20240101T090000\nEXDATE:20240101", (start, without)),
+        (
+            "DTSTART:20240101T090000Z\nEXDATE:20240101T090000",
+            (start, without),
+        ),
+        (
+            "DTSTART:20240101T090000\nRRULE:FREQ=DAILY;UNTIL=20240201T000000Z",
+            (start, rule),
+        ),
+        (
+            "DTSTART:20240101T090000Z\nRRULE:FREQ=DAILY;UNTIL=20240201T000000",
+            (start, rule),
+        ),
+        (
+            "DTSTART:20240101T090000\nRRULE:FREQ=DAILY;UNTIL=20240201",
+            (start, None),
+        ),
+        (
+            "DTSTART:20240101\nRRULE:FREQ=DAILY;UNTIL=20240201T000000",
+            (None, start),
+        ),
+    ] {
+        same_at(rt, text, other_kinds(rt, text), wanted);
+    }
 }
 
 /// The folded line of RFC 5545, section 3.1, with both breaks and both spaces.
@@ -101,10 +232,7 @@ fn folds(rt: HostRuntime) {
 
 /// Fails unless the text gives this error.
 fn refused(rt: &impl Abort, text: &str, position: usize, reason: ParseSetErrorKind) {
-    let fault = match parse_set(text.as_bytes()) {
-        Ok(_) => None,
-        Err(fault) => Some(fault),
-    };
+    let fault = parse_set(text.as_bytes()).err();
     same_at(rt, text, fault, Some(ParseSetError { position, reason }));
 }
 
@@ -112,23 +240,34 @@ fn refused(rt: &impl Abort, text: &str, position: usize, reason: ParseSetErrorKi
 fn faults(rt: HostRuntime) {
     let rt = &rt;
     let start = ParseSetErrorKind::Value(SetLine::Start);
-    refused(rt, "", 0, ParseSetErrorKind::Missing);
-    refused(rt, "RRULE:FREQ=DAILY\n", 17, ParseSetErrorKind::Missing);
-    refused(rt, "DTEND:20240101", 0, ParseSetErrorKind::Unknown);
-    refused(rt, "DTSTART", 0, start);
-    refused(rt, "DTSTART:20240230", 0, start);
-    refused(rt, "DTSTART:20240101,20240102", 0, start);
-    refused(rt, "DTSTART;VALUE=DATE:20240101T090000", 0, start);
-    refused(rt, "DTSTART;VALUE=DATE-TIME:20240101", 0, start);
-    refused(rt, "DTSTART;TZID=Europe/Berlin:20240101", 0, start);
-    refused(rt, "DTSTART;TZID=Europe/Berlin:20240101T090000Z", 0, start);
-    refused(rt, "DTSTART;X=1:20240101", 0, start);
+    for &(text, position, reason) in &[
+        ("", 0, ParseSetErrorKind::Missing),
+        ("RRULE:FREQ=DAILY\n", 17, ParseSetErrorKind::Missing),
+        ("DTEND:20240101", 0, ParseSetErrorKind::Unknown),
+        ("DTSTART", 0, start),
+        ("DTSTART:20240230", 0, start),
+        ("DTSTART:20240101,20240102", 0, start),
+        ("DTSTART;VALUE=DATE:20240101T090000", 0, start),
+        ("DTSTART;VALUE=DATE-TIME:20240101", 0, start),
+        ("DTSTART;TZID=Europe/Berlin:20240101", 0, start),
+        ("DTSTART;TZID=Europe/Berlin:20240101T090000Z", 0, start),
+        ("DTSTART;X=1:20240101", 0, start),
+    ] {
+        refused(rt, text, position, reason);
+    }
     let twice = ParseSetErrorKind::Twice(SetLine::Start);
     refused(rt, "DTSTART:20240101\r\nDTSTART:20240102", 18, twice);
     let twice = ParseSetErrorKind::Twice(SetLine::Rule);
     refused(rt, "RRULE:FREQ=DAILY\nRRULE:FREQ=DAILY", 17, twice);
     let value = ParseSetErrorKind::Value(SetLine::Exceptions);
     refused(rt, "DTSTART:20240101\nEXDATE:20240102,", 17, value);
+    let zone = ParseSetErrorKind::OtherZone(SetLine::Exceptions);
+    let text = "DTSTART;TZID=Europe/Berlin:20240101T090000\n\
+        EXDATE;TZID=Europe/Oslo:20240102T090000";
+    refused(rt, text, 43, zone);
+    let text = "DTSTART;TZID=A;TZID=B:20240101T090000";
+    let zone = ParseSetErrorKind::OtherZone(SetLine::Start);
+    refused(rt, text, 0, zone);
     let rule = ParseRuleError {
         position: 17,
         reason: ParseRuleErrorKind::Value(RulePart::Months),
@@ -143,30 +282,34 @@ fn faults(rt: HostRuntime) {
 }
 
 /// Fails unless the error of the text has these words.
-fn refused_as(rt: &impl Abort, alloc: Global, text: &str, words: &str) -> Result<(), Fail> {
-    let Err(fault) = parse_set(text.as_bytes()) else {
-        return Err(Fail::from("a text that is read"));
-    };
-    let told = format!(in alloc; "{fault}")?;
+fn refused_as(rt: &(impl Abort + AllocGlobal), text: &str, words: &str) {
+    let fault = parse_set(text.as_bytes()).err();
+    let fault = fault.expect(rt, "a text that is read");
+    let told = format!(in rt.alloc(); "{fault}").expect(rt, "no memory");
     same(rt, told.as_str(), words);
-    Ok(())
 }
 
 #[test]
-fn texts_of_faults(rt: HostRuntime) -> Result<(), Fail> {
-    let alloc = rt.alloc();
+fn texts_of_faults(rt: HostRuntime) {
     let rt = &rt;
     let many = "RDATE:20240101,20240101,20240101,20240101,20240101,20240101,20240101,20240101\n";
-    let many = format!(in alloc; "{many}{many}{many}{many}{many}{many}{many}{many}")?;
-    refused_as(rt, alloc, many.as_str(), "too many values in RDATE at 546")?;
-    refused_as(rt, alloc, "DTEND:20240101", "unknown line at 0")?;
-    refused_as(rt, alloc, "RRULE:", "invalid RRULE at 0")?;
-    refused_as(rt, alloc, "EXDATE:2024", "invalid value of EXDATE at 0")?;
-    refused_as(
-        rt,
-        alloc,
-        "DTSTART:20240101\nDTSTART:20240101",
-        "duplicate DTSTART at 17",
-    )?;
-    refused_as(rt, alloc, "\r\n", "missing DTSTART at 2")
+    let many = format!(in rt.alloc(); "{many}{many}{many}{many}{many}{many}{many}{many}");
+    let many = many.expect(rt, "no memory");
+    refused_as(rt, many.as_str(), "too many values in RDATE at 546");
+    for &(text, words) in &[
+        ("DTEND:20240101", "unknown line at 0"),
+        ("RRULE:", "invalid RRULE at 0"),
+        ("EXDATE:2024", "invalid value of EXDATE at 0"),
+        (
+            "DTSTART:20240101\nDTSTART:20240101",
+            "duplicate DTSTART at 17",
+        ),
+        (
+            "DTSTART;TZID=A;TZID=B:20240101T090000",
+            "another zone in DTSTART at 0",
+        ),
+        ("\r\n", "missing DTSTART at 2"),
+    ] {
+        refused_as(rt, text, words);
+    }
 }

@@ -8,9 +8,7 @@ use cal_recurrence::{
 };
 use cal_schedule::{ByDay, Frequency};
 use cal_time::{Month, Weekday};
-use std::alloc::Global;
 use std::process::Abort;
-use std::test::Fail;
 
 /// A list of 63 values.
 const TOO_MANY: &str =
@@ -19,10 +17,7 @@ const TOO_MANY: &str =
 
 /// Fails unless the text gives this error.
 fn refused(rt: &impl Abort, text: &str, position: usize, reason: ParseRuleErrorKind) {
-    let fault = match parse(text.as_bytes()) {
-        Ok(_) => None,
-        Err(fault) => Some(fault),
-    };
+    let fault = parse(text.as_bytes()).err();
     same_at(rt, text, fault, Some(ParseRuleError { position, reason }));
 }
 
@@ -36,177 +31,114 @@ fn refused_value(rt: &impl Abort, part: RulePart, texts: &[&str]) {
 #[test]
 fn faults(rt: HostRuntime) {
     let rt = &rt;
-    refused(rt, "", 0, ParseRuleErrorKind::Unknown);
-    refused(rt, "=DAILY", 0, ParseRuleErrorKind::Unknown);
-    refused(rt, "FREQ =DAILY", 0, ParseRuleErrorKind::Unknown);
-    refused(rt, "FREQ=DAILY;", 11, ParseRuleErrorKind::Unknown);
-    refused(rt, "RRULE:", 6, ParseRuleErrorKind::Unknown);
-    refused(rt, "RRULE", 0, ParseRuleErrorKind::Unknown);
-    refused(rt, "RRULE:COUNT=3", 13, ParseRuleErrorKind::Missing);
-    refused(rt, "EXRULE:FREQ=DAILY", 0, ParseRuleErrorKind::Unknown);
-    refused(
-        rt,
-        "RRULE:FREQ=MONTHLY;INTERVAL=2;BYSETPOS=-1;COUNT=3",
-        30,
-        ParseRuleErrorKind::Alone(RulePart::Positions),
-    );
-    refused(
-        rt,
-        "bysetpos=-1;FREQ=MONTHLY",
-        0,
-        ParseRuleErrorKind::Alone(RulePart::Positions),
-    );
-    refused(
-        rt,
-        "FREQ=YEARLY;BYMINUTES=1,30",
-        12,
-        ParseRuleErrorKind::Unknown,
-    );
-    refused(rt, "FREQ=DAILY;HOUR=9", 11, ParseRuleErrorKind::Unknown);
-    refused(
-        rt,
-        "BYHOUR=9;FREQ=DAILY;byhour=10",
-        20,
-        ParseRuleErrorKind::Twice(RulePart::Hours),
-    );
-    refused(
-        rt,
-        "FREQ=DAILY;FREQ=DAILY",
-        11,
-        ParseRuleErrorKind::Twice(RulePart::Frequency),
-    );
-    refused(
-        rt,
-        "FREQ=DAILY;byday=MO;BYDAY=TU",
-        20,
-        ParseRuleErrorKind::Twice(RulePart::Weekdays),
-    );
-    refused(
-        rt,
-        "FREQ=DAILY;UNTIL=20241231;COUNT=3",
-        26,
-        ParseRuleErrorKind::Twice(RulePart::Count),
-    );
-    refused(
-        rt,
-        "COUNT=3;UNTIL=20241231;FREQ=DAILY",
-        8,
-        ParseRuleErrorKind::Twice(RulePart::Until),
-    );
-    refused(rt, "BYDAY=MO", 8, ParseRuleErrorKind::Missing);
-    refused(
-        rt,
-        TOO_MANY,
-        11,
-        ParseRuleErrorKind::TooMany(RulePart::MonthDays),
-    );
-    refused(
-        rt,
-        "FREQ",
-        0,
-        ParseRuleErrorKind::Value(RulePart::Frequency),
-    );
-    refused(
-        rt,
-        "FREQ=HOURLY",
-        0,
-        ParseRuleErrorKind::Value(RulePart::Frequency),
-    );
-    refused(
-        rt,
-        "FREQ=DAILY=",
-        0,
-        ParseRuleErrorKind::Value(RulePart::Frequency),
-    );
+    for &(text, position, reason) in &[
+        ("", 0, ParseRuleErrorKind::Unknown),
+        ("=DAILY", 0, ParseRuleErrorKind::Unknown),
+        ("FREQ =DAILY", 0, ParseRuleErrorKind::Unknown),
+        ("FREQ=DAILY;", 11, ParseRuleErrorKind::Unknown),
+        ("RRULE:", 6, ParseRuleErrorKind::Unknown),
+        ("RRULE", 0, ParseRuleErrorKind::Unknown),
+        ("RRULE:COUNT=3", 13, ParseRuleErrorKind::Missing),
+        ("EXRULE:FREQ=DAILY", 0, ParseRuleErrorKind::Unknown),
+        (
+            "RRULE:FREQ=MONTHLY;INTERVAL=2;BYSETPOS=-1;COUNT=3",
+            30,
+            ParseRuleErrorKind::Alone(RulePart::Positions),
+        ),
+        (
+            "bysetpos=-1;FREQ=MONTHLY",
+            0,
+            ParseRuleErrorKind::Alone(RulePart::Positions),
+        ),
+        (
+            "FREQ=YEARLY;BYMINUTES=1,30",
+            12,
+            ParseRuleErrorKind::Unknown,
+        ),
+        ("FREQ=DAILY;HOUR=9", 11, ParseRuleErrorKind::Unknown),
+        (
+            "BYHOUR=9;FREQ=DAILY;byhour=10",
+            20,
+            ParseRuleErrorKind::Twice(RulePart::Hours),
+        ),
+        (
+            "FREQ=DAILY;FREQ=DAILY",
+            11,
+            ParseRuleErrorKind::Twice(RulePart::Frequency),
+        ),
+        (
+            "FREQ=DAILY;byday=MO;BYDAY=TU",
+            20,
+            ParseRuleErrorKind::Twice(RulePart::Weekdays),
+        ),
+        (
+            "FREQ=DAILY;UNTIL=20241231;COUNT=3",
+            26,
+            ParseRuleErrorKind::Twice(RulePart::Count),
+        ),
+        (
+            "COUNT=3;UNTIL=20241231;FREQ=DAILY",
+            8,
+            ParseRuleErrorKind::Twice(RulePart::Until),
+        ),
+        ("BYDAY=MO", 8, ParseRuleErrorKind::Missing),
+        (
+            TOO_MANY,
+            11,
+            ParseRuleErrorKind::TooMany(RulePart::MonthDays),
+        ),
+        ("FREQ", 0, ParseRuleErrorKind::Value(RulePart::Frequency)),
+        (
+            "FREQ=HOURLY",
+            0,
+            ParseRuleErrorKind::Value(RulePart::Frequency),
+        ),
+        (
+            "FREQ=DAILY=",
+            0,
+            ParseRuleErrorKind::Value(RulePart::Frequency),
+        ),
+    ] {
+        refused(rt, text, position, reason);
+    }
 }
 
 /// Fails unless the error of the text has these words.
-fn refused_as(rt: &impl Abort, alloc: Global, text: &str, words: &str) -> Result<(), Fail> {
-    let Err(fault) = parse(text.as_bytes()) else {
-        return Err(Fail::from("a text that is read"));
-    };
-    let told = format!(in alloc; "{fault}")?;
+fn refused_as(rt: &(impl Abort + AllocGlobal), text: &str, words: &str) {
+    let fault = parse(text.as_bytes()).err();
+    let fault = fault.expect(rt, "a text that is read");
+    let told = format!(in rt.alloc(); "{fault}").expect(rt, "no memory");
     same(rt, told.as_str(), words);
-    let reason = format!(in alloc; "{}", fault.reason)?;
+    let reason = format!(in rt.alloc(); "{}", fault.reason).expect(rt, "no memory");
     same_at(rt, words, words.starts_with(reason.as_str()), true);
-    Ok(())
 }
 
 #[test]
-fn texts_of_faults(rt: HostRuntime) -> Result<(), Fail> {
-    let alloc = rt.alloc();
+fn texts_of_faults(rt: HostRuntime) {
     let rt = &rt;
-    refused_as(rt, alloc, "FREQ=DAILY;HOUR=9", "unknown part at 11")?;
-    refused_as(rt, alloc, "FREQ=DAILY;FREQ=DAILY", "duplicate FREQ at 11")?;
-    refused_as(
-        rt,
-        alloc,
-        "FREQ=DAILY;UNTIL=20241231;COUNT=3",
-        "duplicate COUNT at 26",
-    )?;
-    refused_as(
-        rt,
-        alloc,
-        "COUNT=3;UNTIL=20241231;FREQ=DAILY",
-        "duplicate UNTIL at 8",
-    )?;
-    refused_as(rt, alloc, TOO_MANY, "too many values in BYMONTHDAY at 11")?;
-    refused_as(rt, alloc, "FREQ=HOURLY", "invalid value of FREQ at 0")?;
-    refused_as(
-        rt,
-        alloc,
-        "FREQ=DAILY;INTERVAL=0",
-        "invalid value of INTERVAL at 11",
-    )?;
-    refused_as(
-        rt,
-        alloc,
-        "FREQ=DAILY;WKST=MON",
-        "invalid value of WKST at 11",
-    )?;
-    refused_as(
-        rt,
-        alloc,
-        "FREQ=DAILY;BYMONTH=13",
-        "invalid value of BYMONTH at 11",
-    )?;
-    refused_as(
-        rt,
-        alloc,
-        "FREQ=MONTHLY;BYDAY=54FR",
-        "invalid value of BYDAY at 13",
-    )?;
-    refused_as(
-        rt,
-        alloc,
-        "FREQ=MONTHLY;BYSETPOS=-1",
-        "no other part with BYSETPOS at 13",
-    )?;
-    refused_as(
-        rt,
-        alloc,
-        "FREQ=WEEKLY;BYMONTHDAY=1",
-        "excluded BYMONTHDAY at 12",
-    )?;
-    refused_as(
-        rt,
-        alloc,
-        "FREQ=DAILY;BYHOUR=24",
-        "invalid value of BYHOUR at 11",
-    )?;
-    refused_as(
-        rt,
-        alloc,
-        "FREQ=DAILY;BYMINUTE=60",
-        "invalid value of BYMINUTE at 11",
-    )?;
-    refused_as(
-        rt,
-        alloc,
-        "FREQ=DAILY;BYSECOND=61",
-        "invalid value of BYSECOND at 11",
-    )?;
-    refused_as(rt, alloc, "BYDAY=MO", "missing FREQ at 8")
+    for &(text, words) in &[
+        ("FREQ=DAILY;HOUR=9", "unknown part at 11"),
+        ("FREQ=DAILY;FREQ=DAILY", "duplicate FREQ at 11"),
+        ("FREQ=DAILY;UNTIL=20241231;COUNT=3", "duplicate COUNT at 26"),
+        ("COUNT=3;UNTIL=20241231;FREQ=DAILY", "duplicate UNTIL at 8"),
+        (TOO_MANY, "too many values in BYMONTHDAY at 11"),
+        ("FREQ=HOURLY", "invalid value of FREQ at 0"),
+        ("FREQ=DAILY;INTERVAL=0", "invalid value of INTERVAL at 11"),
+        ("FREQ=DAILY;WKST=MON", "invalid value of WKST at 11"),
+        ("FREQ=DAILY;BYMONTH=13", "invalid value of BYMONTH at 11"),
+        ("FREQ=MONTHLY;BYDAY=54FR", "invalid value of BYDAY at 13"),
+        (
+            "FREQ=MONTHLY;BYSETPOS=-1",
+            "no other part with BYSETPOS at 13",
+        ),
+        ("FREQ=WEEKLY;BYMONTHDAY=1", "excluded BYMONTHDAY at 12"),
+        ("FREQ=DAILY;BYHOUR=24", "invalid value of BYHOUR at 11"),
+        ("FREQ=DAILY;BYMINUTE=60", "invalid value of BYMINUTE at 11"),
+        ("FREQ=DAILY;BYSECOND=61", "invalid value of BYSECOND at 11"),
+        ("BYDAY=MO", "missing FREQ at 8"),
+    ] {
+        refused_as(rt, text, words);
+    }
 }
 
 #[test]
@@ -356,18 +288,13 @@ fn check_lists(rt: &impl Abort, text: &str, pattern: &Pattern) {
 #[test]
 fn orders_and_cases(rt: HostRuntime) {
     let rt = &rt;
-    check_parts(
-        rt,
+    for &text in &[
         "FREQ=MONTHLY;INTERVAL=2;WKST=SU;BYMONTH=3,12;BYMONTHDAY=31,-1;BYDAY=FR,-1MO;COUNT=12",
-    );
-    check_parts(
-        rt,
         "COUNT=0012;BYDAY=FR,-01MO;BYMONTHDAY=+31,-01;BYMONTH=03,12;WKST=SU;INTERVAL=2;FREQ=MONTHLY",
-    );
-    check_parts(
-        rt,
         "freq=monthly;Interval=2;wkst=su;byMonth=3,12;bymonthday=31,-1;byday=fr,-1mo;count=12",
-    );
+    ] {
+        check_parts(rt, text);
+    }
 }
 
 /// Some parts exclude each other, and the later of the two is at fault.
@@ -380,14 +307,22 @@ fn excluded(rt: HostRuntime) {
     let excluded = ParseRuleErrorKind::Excluded(RulePart::MonthDays);
     refused(rt, "FREQ=WEEKLY;BYMONTHDAY=1", 12, excluded);
     let excluded = ParseRuleErrorKind::Excluded(RulePart::YearDays);
-    refused(rt, "FREQ=DAILY;BYYEARDAY=1", 11, excluded);
-    refused(rt, "FREQ=WEEKLY;BYYEARDAY=1", 12, excluded);
-    refused(rt, "FREQ=MONTHLY;BYYEARDAY=1;BYSETPOS=1", 13, excluded);
+    for &(text, position, reason) in &[
+        ("FREQ=DAILY;BYYEARDAY=1", 11, excluded),
+        ("FREQ=WEEKLY;BYYEARDAY=1", 12, excluded),
+        ("FREQ=MONTHLY;BYYEARDAY=1;BYSETPOS=1", 13, excluded),
+    ] {
+        refused(rt, text, position, reason);
+    }
     let excluded = ParseRuleErrorKind::Excluded(RulePart::Weeks);
-    refused(rt, "FREQ=DAILY;BYWEEKNO=1", 11, excluded);
-    refused(rt, "FREQ=WEEKLY;BYWEEKNO=1", 12, excluded);
-    refused(rt, "FREQ=MONTHLY;BYDAY=1MO;BYWEEKNO=1", 23, excluded);
-    refused(rt, "BYDAY=MO,1MO;BYWEEKNO=1;FREQ=YEARLY", 13, excluded);
+    for &(text, position, reason) in &[
+        ("FREQ=DAILY;BYWEEKNO=1", 11, excluded),
+        ("FREQ=WEEKLY;BYWEEKNO=1", 12, excluded),
+        ("FREQ=MONTHLY;BYDAY=1MO;BYWEEKNO=1", 23, excluded),
+        ("BYDAY=MO,1MO;BYWEEKNO=1;FREQ=YEARLY", 13, excluded),
+    ] {
+        refused(rt, text, position, reason);
+    }
     let excluded = ParseRuleErrorKind::Excluded(RulePart::Weekdays);
     refused(rt, "FREQ=YEARLY;BYWEEKNO=1;BYDAY=1MO", 23, excluded);
     let excluded = ParseRuleErrorKind::Excluded(RulePart::Frequency);

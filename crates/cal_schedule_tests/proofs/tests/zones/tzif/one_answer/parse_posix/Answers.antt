@@ -1,7 +1,7 @@
 use Rattle.cal_tzif.specs.File.{IsPosix}
 use Rattle.cal_tzif.specs.PosixError.{IsTextError}
 use Rattle.cal_tzif.proofs.OneError.{result-one, text-one}
-use Rattle.cal_zone_tests.proofs.tests.tzif.one_answer.parse_posix.Goals as goal
+use Rattle.cal_schedule_tests.proofs.tests.zones.tzif.one_answer.parse_posix.Goals as goal
 
 pub returns : goal.returns
 returns c =

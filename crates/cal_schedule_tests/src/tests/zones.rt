@@ -3,18 +3,14 @@
 mod occurrences;
 mod tzif;
 
+use crate::tests::same;
 use cal_datetime::{OffsetDateTime, PlainDateTime, with_hms_nano};
 use cal_time::{Date, Month, Weekday};
 use cal_zone::{ChangeError, Layout, LocalType, Rule, Table, TimelineError, Yearly, Zone};
-use std::fmt::Debug;
 use std::process::Abort;
 
 /// A Unix time and an offset, in seconds.
 type Moment = Option<(i64, i32)>;
-
-fn same<T: Copy + Debug + PartialEq>(rt: &impl Abort, found: T, wanted: T) {
-    assert!(rt; found == wanted, "{found:?} and not {wanted:?}");
-}
 
 fn moment(date_time: Option<OffsetDateTime>) -> Moment {
     let date_time = date_time?;

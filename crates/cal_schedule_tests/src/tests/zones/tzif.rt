@@ -4,8 +4,9 @@
 mod files;
 mod one_answer;
 
-use crate::tests::tzif::files::{APIA, CASABLANCA, FREETOWN};
-use crate::tests::{moment, reading, same};
+use crate::tests::same;
+use crate::tests::zones::tzif::files::{APIA, CASABLANCA, FREETOWN};
+use crate::tests::zones::{moment, reading};
 use cal_datetime::PlainDateTime;
 use cal_time::Month;
 use cal_tzif::{ZoneError, ZoneErrorKind, parse, parse_parts, parse_posix, parse_posix_parts};

@@ -3,7 +3,8 @@
 ghost use Rattle.std.specs.Prelude.{◌≡◌};
 
 use cal_datetime::OffsetDateTime;
-use cal_recurrence::ZonedSet;
+use cal_recurrence::{SetInstants, SetLine, SetParts, ZonedSet};
+use cal_zone::Zone;
 use cal_zone::laws::one_local;
 
 /// The results of two calls.
@@ -20,4 +21,10 @@ fn contains(set: &ZonedSet<'_>, moment: OffsetDateTime) -> Twice<bool>
     ensures { result.0 ≡ result.1 }
 {
     (set.contains(moment), set.contains(moment))
+}
+
+fn instants(parts: &SetParts<'_>, zone: &Zone<'_>) -> Twice<Result<SetInstants, SetLine>>
+    ensures { result.0 ≡ result.1 }
+{
+    (parts.instants(zone), parts.instants(zone))
 }

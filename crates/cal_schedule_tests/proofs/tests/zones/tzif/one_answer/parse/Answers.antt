@@ -1,6 +1,6 @@
 use Rattle.cal_tzif.specs.File.{IsFile, IsFileError}
 use Rattle.cal_tzif.proofs.OneError.{result-one, file_error-one}
-use Rattle.cal_zone_tests.proofs.tests.tzif.one_answer.parse.Goals as goal
+use Rattle.cal_schedule_tests.proofs.tests.zones.tzif.one_answer.parse.Goals as goal
 
 pub returns : goal.returns
 returns c =

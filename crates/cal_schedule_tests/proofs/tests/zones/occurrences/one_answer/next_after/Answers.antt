@@ -4,7 +4,7 @@ use Rattle.cal_datetime.specs.OffsetDateTime.{LocalAndOffset, instant}
 use Rattle.cal_recurrence.specs.ZonedSet.{IsMeant, IsNextAfter, Means}
 use Rattle.cal_recurrence.specs.declared.zoned_set.ZonedSet.{ZonedSet}
 use Rattle.cal_recurrence.proofs.ZonedSearch.{means-one, IsUnique}
-use Rattle.cal_zone_tests.proofs.tests.occurrences.one_answer.next_after.Goals as goal
+use Rattle.cal_schedule_tests.proofs.tests.zones.occurrences.one_answer.next_after.Goals as goal
 
 one-next : (set : ZonedSet) → IsUnique set.zone.now → (x : ℤ) (r s : Option LocalAndOffset) → IsNextAfter (Means set) x r → IsNextAfter (Means set) x s → r ≡ s
 one-next set one x None None h g = refl

@@ -1,6 +1,6 @@
 use Rattle.std.proofs.Common.{◌≡◌, ◌∙◌, refl, sym, ap}
 use Rattle.std.specs.Prelude.{ℤ, Option, Some, None, SomeIff}
-use Rattle.cal_zone_tests.proofs.tests.tzif.one_answer.single.Goals as goal
+use Rattle.cal_schedule_tests.proofs.tests.zones.tzif.one_answer.single.Goals as goal
 
 some-one : (r s : Option ℤ) (P : Type 0) (v : ℤ) → SomeIff r P v → SomeIff s P v → r ≡ s
 some-one None None P v h k = refl

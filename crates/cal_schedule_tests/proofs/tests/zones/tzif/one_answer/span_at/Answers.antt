@@ -7,7 +7,7 @@ use Rattle.cal_zone.specs.declared.span.Span.{Span}
 use Rattle.cal_zone.specs.Span.{IsSpanAfter}
 use Rattle.cal_zone.specs.Split.{IsSplit}
 use Rattle.cal_zone.proofs.OneError.{same}
-use Rattle.cal_zone_tests.proofs.tests.tzif.one_answer.span_at.Goals as goal
+use Rattle.cal_schedule_tests.proofs.tests.zones.tzif.one_answer.span_at.Goals as goal
 
 never : (a x : ℤ) → a ≤ℤ x → x <ℤ a → ⊥
 never a x h k = omega (arith, ints)

@@ -1,7 +1,0 @@
-//! The tests of `cal_zone` and `cal_tzif`, by their public items only.
-//!
-//! They are a crate of their own, since the gate proves a crate with tests a second time.
-#![tactic(auto)]
-
-#[cfg(test)]
-mod tests;
