@@ -47,6 +47,7 @@ pub mod Rounds
 pub mod HeaderNames
 pub mod Named
 pub mod TextBounds
+mod TextEnds
 mod TextStarts
 mod DigitStarts
 pub mod Scans

@@ -159,7 +159,7 @@ point_length : (b : Bool) (last : List ℕ) → length last ≡ 1 → length (if
 point_length true last h = refl
 point_length false last h = h
 
-point_keeps : (bytes : List ℕ) → 20 ≤ length bytes → (length (with_point bytes) ≡ length bytes) × (take 18 (with_point bytes) ≡ take 18 bytes)
+pub point_keeps : (bytes : List ℕ) → 20 ≤ length bytes → (length (with_point bytes) ≡ length bytes) × (take 18 (with_point bytes) ≡ take 18 bytes)
 point_keeps bytes long =
     let front = length-take-le 19 bytes (omega (arith, long)) in
     let last = take 1 (drop 19 bytes) in
@@ -171,12 +171,12 @@ point_keeps bytes long =
     )
 
 -- without a comma nothing changes before the offset
-no_point : (bytes : List ℕ) → (slice_index bytes 19 == 44) ≡ false → with_point bytes ≡ bytes
+pub no_point : (bytes : List ℕ) → (slice_index bytes 19 == 44) ≡ false → with_point bytes ≡ bytes
 no_point bytes e =
     ap (λ b. (take 19 bytes ++ (if b then codes "." else take 1 (drop 19 bytes))) ++ drop 20 bytes) e
     ∙ ap (λ l. l ++ drop 20 bytes) (sym (take-add 19 1 bytes)) ∙ take-append-drop 20 bytes
 
-some_full : (b : Bool) (full : List ℕ) (P : List ℕ → Type 0) → IsSomeAnd (if b then None else Some full) P → P full
+pub some_full : (b : Bool) (full : List ℕ) (P : List ℕ → Type 0) → IsSomeAnd (if b then None else Some full) P → P full
 some_full true full P h = absurd h
 some_full false full P h = h
 

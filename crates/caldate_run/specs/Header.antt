@@ -1,9 +1,9 @@
 -- The header, the first line of an input, and fields by their names in it.
-use Rattle.std.specs.Prelude.{◌⊎◌, ℕ, ◌+◌, ◌<◌, ◌&&◌, nat_le, nat_lt, Bool, true, false, unwrap_or, List, [], ◌∷◌, ◌++◌, bytes_eq, codes, length, MatchResult, Option, Some, None, Result, Ok, Err, slice_index, if◌then◌else◌}
+use Rattle.std.specs.Prelude.{◌⊎◌, ℕ, ◌+◌, ◌<◌, ◌&&◌, nat_le, nat_lt, Bool, true, false, unwrap_or, drop, get_or, List, [], ◌∷◌, ◌++◌, bytes_eq, codes, length, MatchResult, Option, Some, None, Result, Ok, Err, slice_index, if◌then◌else◌}
 use Rattle.std.specs.Option.{option_map_or}
 use Rattle.std.specs.Io.KnownBytes.{Consumes, IsAtEnd}
 use Rattle.caldate_run.specs.Ending.{end_message}
-use Rattle.caldate_run.specs.Fields.{fields_of, is_quote, is_quoted, within_quotes}
+use Rattle.caldate_run.specs.Fields.{fields_of, is_quote, is_quoted, no_names, with_firsts, within_quotes}
 use Rattle.caldate_run.specs.Lines.{split_input, text_of}
 use Rattle.caldate_run.specs.Room.{longest_text}
 use Rattle.caldate_run.specs.RunStates.{NoEnd}
@@ -90,23 +90,33 @@ abbrev pub number_in : Field → List ℕ → Option (List ℕ) → Result (Opti
 number_in field header None = Ok None
 number_in field header (Some name) = option_map_or (λ n. Ok (Some n)) (number_of field name header) (Err name)
 
-abbrev pub both_numbers : Result (Option ℕ) (List ℕ) → Result (Option ℕ) (List ℕ) → Result (Option ℕ × Option ℕ) (List ℕ)
-both_numbers (Ok own) (Ok target) = Ok (own, target)
-both_numbers (Ok own) (Err name) = Err name
-both_numbers (Err name) target = Err name
+-- What f makes of both values, or the first error.
+abbrev pub of_both : {X Y Z : Type 0} → (X → Y → Z) → Result X (List ℕ) → Result Y (List ℕ) → Result Z (List ℕ)
+of_both f (Ok x) (Ok y) = Ok (f x y)
+of_both f (Ok x) (Err name) = Err name
+of_both f (Err name) other = Err name
 
--- The numbers of the field to answer and of the field that has TEXT, each if it has a name.
-abbrev pub numbers_in : Filter → Field → List ℕ → Result (Option ℕ × Option ℕ) (List ℕ)
-numbers_in filter field header = both_numbers (number_in field header filter.name) (number_in field header (target_name filter.request))
+-- The number of each name.
+abbrev pub numbers_of : Field → List ℕ → List (Option (List ℕ)) → Result (List (Option ℕ)) (List ℕ)
+numbers_of field header [] = Ok []
+numbers_of field header (name ∷ names) = of_both (λ n others. n ∷ others) (number_in field header name) (numbers_of field header names)
+
+-- The numbers of the fields to answer and of the field that has TEXT, each if it has a name.
+abbrev pub numbers_in : Filter → Field → List ℕ → Result (List (Option ℕ) × Option ℕ) (List ℕ)
+numbers_in filter field header = of_both (λ own target. (own, target)) (numbers_of field header filter.names) (number_in field header (target_name filter.request))
 
 -- The same filter with these numbers in place of its names.
 abbrev pub with_number : Option ℕ → Request → Request
 with_number None request = request
 with_number (Some n) request = with_target (Fields (record { first = n; joined = 0 })) request
 
-abbrev pub numbered : Filter → Field → (Option ℕ × Option ℕ) → Filter
-numbered filter field numbers =
-    record filter { field = Some (record field { first = unwrap_or numbers.0 field.first }); name = None; request = with_number numbers.1 filter.request }
+abbrev pub numbered : Filter → Field → (List (Option ℕ) × Option ℕ) → Filter
+numbered filter field numbers = record filter {
+  field = Some (record field { first = unwrap_or (get_or numbers.0 0 None) field.first });
+  more = with_firsts filter.more (drop 1 numbers.0);
+  names = no_names;
+  request = with_number numbers.1 filter.request;
+}
 
 -- The reader gave `front` first. If a read failed before the header ended, the run stops. Otherwise
 -- the filter runs over the whole input with the numbers that the header gives its names. If the

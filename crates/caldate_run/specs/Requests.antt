@@ -1,6 +1,6 @@
 -- The command that the arguments give, or the first invalid word and its expected kind.
 use denote.Ref.{Bor}
-use Rattle.std.specs.Prelude.{ℕ, ◌+◌, ◌-◌, nat_le, nat_lt, slice_index, max, not, ◌&&◌, ◌||◌, Bool, true, false, is_none, is_some, unwrap_or, ℤ, pos, neg_ℤ, ◌*ℤ◌, int_le, nat_abs, List, [], ◌∷◌, ◌++◌, ◌==◌, length, take, drop, Option, Some, None, option_map, option_and_then, ok_or, Result, Ok, Err, slice_get, position, bytes_eq, codes, if◌then◌else◌, ◌*◌}
+use Rattle.std.specs.Prelude.{ℕ, ◌+◌, ◌-◌, nat_le, nat_lt, slice_index, max, not, ◌&&◌, ◌||◌, Bool, true, false, is_none, is_some, unwrap_or, ℤ, pos, neg_ℤ, ◌*ℤ◌, int_le, nat_abs, List, [], ◌∷◌, ◌++◌, ◌==◌, length, take, drop, set, Option, Some, None, option_map, option_and_then, ok_or, Result, Ok, Err, slice_get, position, bytes_eq, codes, if◌then◌else◌, ◌*◌}
 use Rattle.std.specs.List.{slice_split}
 use Rattle.std.specs.Option.{option_map_or}
 use Rattle.std.specs.Result.{result_ok}
@@ -27,6 +27,7 @@ use Rattle.caldate_run.specs.ClockWords.{now_in}
 use Rattle.caldate_run.specs.Meanings.{Meanings, found_in, is_format, name_of, value_in}
 use Rattle.caldate_run.specs.Moves.{monday_to_friday}
 use Rattle.caldate_run.specs.Offsets.{is_digit, offset_of}
+use Rattle.caldate_run.specs.Fields.{names_any, no_names}
 use Rattle.caldate_run.specs.Targets.{reads_other, target_name}
 use Rattle.caldate_run.specs.Zones.{is_zone_like, workdays_of, zone_of}
 use Rattle.caldate_run.specs.declared.on_invalid.OnInvalid.{OnInvalid}
@@ -416,7 +417,7 @@ list_of now meanings words =
 -- ---- the options before a request, in any order, each at most once
 -- The options if the arguments have none.
 abbrev pub no_options : Options
-no_options = record { on_invalid = None; fields = None; name = None; more = []; append = None; header = false; csv = false; scan = false; separator = None; skip = None; readers = []; offset = None; year = None; zone = None; policy = None; workdays = None }
+no_options = record { on_invalid = None; fields = None; more = []; names = no_names; append = None; header = false; csv = false; scan = false; separator = None; skip = None; readers = []; offset = None; year = None; zone = None; policy = None; workdays = None }
 
 -- `--invalid MODE`
 abbrev pub invalid_of : List ℕ → Option OnInvalid
@@ -436,19 +437,23 @@ policy_of word =
     if bytes_eq word (codes "reject") then Some policy.Reject else
     None
 
--- The options with these fields, or with this name of a field. The name has the number 1 until the
--- header gives it its own.
-abbrev pub with_field : Options → List ℕ → Option Options
-with_field options value =
-    if is_name value then Some (record options { fields = Some (record { first = 1; joined = 0 }); name = Some value }) else
-    option_map (λ numbers. record options { fields = Some numbers }) (field_numbers_of value)
+-- `--field NAME`, `--field N`, `--field N-M`: a name has the number 1 until the header gives it its
+-- own.
+abbrev pub name_in : List ℕ → Option (List ℕ)
+name_in value = if is_name value then Some value else None
 
--- Up to three fields may be given after the first one, by their numbers.
-abbrev pub has_room_for_field : List FieldNumbers → Bool
-has_room_for_field more = nat_lt (length more) 3
+abbrev pub field_in : List ℕ → Option FieldNumbers
+field_in value = if is_name value then Some (record { first = 1; joined = 0 }) else field_numbers_of value
 
-abbrev pub with_next : Options → FieldNumbers → Option Options
-with_next options field = if has_room_for_field options.more then Some (record options { more = options.more ++ field ∷ [] }) else None
+-- Up to four fields may be given.
+abbrev pub has_room_for_field : Options → Bool
+has_room_for_field options = is_none options.fields || nat_lt (length options.more) 3
+
+abbrev pub with_named : Options → Option (List ℕ) → FieldNumbers → Option Options
+with_named options name field =
+    if is_none options.fields then Some (record options { fields = Some field; names = set options.names 0 name }) else
+    if nat_lt (length options.more) 3 then Some (record options { more = options.more ++ field ∷ []; names = set options.names (length options.more + 1) name }) else
+    None
 
 -- `--separator C`: one byte
 abbrev pub byte_of : List ℕ → Option ℕ
@@ -526,8 +531,7 @@ with_flag options word =
 abbrev pub value_of : Options → List ℕ → Option Expected
 value_of options word =
     if bytes_eq word (codes "--invalid") && is_none options.on_invalid then Some expected.Invalid else
-    if bytes_eq word (codes "--field") && is_none options.fields then Some expected.FieldNumber else
-    if bytes_eq word (codes "--field") && has_room_for_field options.more then Some expected.NextField else
+    if bytes_eq word (codes "--field") && has_room_for_field options then Some expected.FieldNumber else
     if bytes_eq word (codes "--append") && is_none options.append then Some expected.Column else
     if bytes_eq word (codes "--separator") && is_none options.separator then Some expected.Separator else
     if bytes_eq word (codes "--skip") && is_none options.skip then Some expected.Skip else
@@ -546,8 +550,7 @@ is_option word = is_flag no_options word || is_some (value_of no_options (name_o
 -- The options, with this value for the option that needs it.
 abbrev pub with_value : Meanings → Options → List ℕ → Expected → Option Options
 with_value meanings options value expected.Invalid = option_map (λ mode. record options { on_invalid = Some mode }) (invalid_of value)
-with_value meanings options value expected.FieldNumber = with_field options value
-with_value meanings options value expected.NextField = option_and_then (with_next options) (field_numbers_of value)
+with_value meanings options value expected.FieldNumber = option_and_then (with_named options (name_in value)) (field_in value)
 with_value meanings options value expected.Column = Some (record options { append = Some value })
 with_value meanings options value expected.Separator = option_map (λ c. record options { separator = Some c }) (byte_of value)
 with_value meanings options value expected.Skip = option_map (λ k. record options { skip = Some k }) (skip_of value)
@@ -692,7 +695,7 @@ conflict_in options =
     if is_some options.append && is_none options.fields then Some expected.AppendField else
     if is_some options.append && nat_lt 0 (length options.more) then Some expected.AppendFields else
     if options.csv && option_map_or (λ c. c == 34) options.separator false then Some expected.CsvSeparator else
-    if is_some options.name && not options.header then Some expected.Header else
+    if names_any options.names && not options.header then Some expected.Header else
     conflict_with_readers options
 
 -- The default: `keep` drops a line without an answer, and the line is kept if only a part of it is
@@ -722,7 +725,7 @@ filter_of options request = record {
   field = field_of options;
   more = options.more;
   scans = options.scan;
-  name = options.name;
+  names = options.names;
   column = if options.header then options.append else None;
   skip = skip_in options;
 }
@@ -749,9 +752,9 @@ filter_at now meanings words at =
     option_map_or (λ what. Err (usage_error_at front.1 what)) (conflict_in front.0)
     (and_then (request_at (now_in front.0.zone now) meanings words front.1) (filter_with front.1 front.0)))
 
--- The field to answer, if it or another field has a name.
+-- The first field to answer, if any field has a name.
 abbrev pub named_field : Filter → Option Field
-named_field filter = if is_some filter.name || is_some (target_name filter.request) then filter.field else None
+named_field filter = if names_any filter.names || is_some (target_name filter.request) then filter.field else None
 
 -- The command for the lines of the input, or for the text after `--date`.
 abbrev pub lines_command : Filter → Command

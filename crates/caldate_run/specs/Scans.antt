@@ -1,10 +1,11 @@
 -- The answer to a line with --scan: its texts in a form that the run reads are answered in place.
-use Rattle.std.specs.Prelude.{◌≡◌, ◌⊎◌, ℕ, ◌+◌, ◌-◌, ◌==◌, ◌||◌, ◌<◌, ◌≤◌, nat_lt, Bool, true, false, MatchBool, List, [], ◌++◌, length, take, drop, slice_index, Some, None, Result, Ok, Err, if◌then◌else◌}
+use Rattle.std.specs.Prelude.{◌≡◌, ◌⊎◌, ℕ, ◌+◌, ◌-◌, ◌==◌, ◌&&◌, ◌||◌, ◌<◌, ◌≤◌, nat_lt, Bool, true, false, MatchBool, List, [], ◌++◌, length, take, drop, slice_index, Some, None, Result, Ok, Err, if◌then◌else◌}
 use Rattle.cal_text.specs.Position.{Begins}
 use Rattle.cal_text.specs.declared.any.DateOrMoment.{DateOrMoment}
 use Rattle.caldate_run.specs.Answers.{Answer, IsAnswer, IsNotRead, IsReadAs, keeps}
 use Rattle.caldate_run.specs.Offsets.{is_digit}
 use Rattle.caldate_run.specs.Room.{longest_text}
+use Rattle.caldate_run.specs.Spellings.{is_sign}
 use Rattle.caldate_run.specs.Zones.{is_letter}
 use Rattle.caldate_run.specs.declared.on_invalid.OnInvalid.TheVariants as invalid
 use Rattle.caldate_run.specs.declared.request.Filter.{Filter}
@@ -74,24 +75,51 @@ pub record Bounds (IsText : List ℕ → Type 0) (bytes : List ℕ) (most : ℕ)
   pub within : most ≤ length bytes
   pub begins : (n : ℕ) → n ≤ length bytes → Begins IsText (take n bytes) → n ≤ most
 
--- A text in one of the six forms starts with a sign, an @ or a J, or with a digit. Then its fifth
--- byte is a hyphen.
-abbrev pub is_usual_start : ℕ → ℕ → Bool
-is_usual_start first fifth = if is_digit first then fifth == 45 else (first == 45 || (first == 43 || (first == 64 || first == 74)))
+abbrev pub is_digit_or_hyphen : ℕ → Bool
+is_digit_or_hyphen byte = is_digit byte || byte == 45
+
+-- The four bytes from place k on are digits.
+abbrev pub are_digits : List ℕ → ℕ → Bool
+are_digits bytes k =
+    is_digit (slice_index bytes k) && (is_digit (slice_index bytes (k + 1)) && (is_digit (slice_index bytes (k + 2)) && is_digit (slice_index bytes (k + 3))))
+
+-- A text in one of the six forms starts with four digits and a hyphen, with a sign, four digits, and
+-- a digit or a hyphen, or with an @ or a J, and a digit or a hyphen.
+abbrev pub is_usual_start : List ℕ → Bool
+is_usual_start bytes =
+    if is_digit (slice_index bytes 0) then slice_index bytes 4 == 45 && are_digits bytes 0
+    else if is_sign (slice_index bytes 0) then is_digit_or_hyphen (slice_index bytes 5) && are_digits bytes 1
+    else (slice_index bytes 0 == 64 || slice_index bytes 0 == 74) && is_digit_or_hyphen (slice_index bytes 1)
 
 abbrev pub StartsAsUsual : List ℕ → Type 0
-StartsAsUsual bytes = is_usual_start (slice_index bytes 0) (slice_index bytes 4) ≡ true
+StartsAsUsual bytes = is_usual_start bytes ≡ true
 
--- Each text starts so.
-abbrev pub StartAsUsual : Filter → Type 0
-StartAsUsual filter = (bytes : List ℕ) → IsText filter bytes → StartsAsUsual bytes
+-- The last byte of a text in one of the six forms is a digit, Z or z.
+abbrev pub is_last : ℕ → Bool
+is_last byte = is_digit byte || (byte == 90 || byte == 122)
 
--- Each text starts with a digit.
-abbrev pub StartsWithDigit : List ℕ → Type 0
-StartsWithDigit bytes = is_digit (slice_index bytes 0) ≡ true
+-- The first n bytes end as such a text does. If it starts with a digit, it is a date of at most 10
+-- bytes, or a moment of at least 20.
+abbrev pub is_usual_end : List ℕ → ℕ → Bool
+is_usual_end bytes n = is_last (slice_index bytes (n - 1)) && (if is_digit (slice_index bytes 0) then nat_lt n 11 || nat_lt 19 n else true)
 
-abbrev pub StartWithDigit : Filter → Type 0
-StartWithDigit filter = (bytes : List ℕ) → IsText filter bytes → StartsWithDigit bytes
+-- A text starts and ends so.
+pub record IsUsual (bytes : List ℕ) : Type 0 where
+  pub start : StartsAsUsual bytes
+  pub end : is_usual_end bytes (length bytes) ≡ true
+
+abbrev pub AreUsual : Filter → Type 0
+AreUsual filter = (bytes : List ℕ) → IsText filter bytes → IsUsual bytes
+
+-- Each text starts with two digits.
+abbrev pub starts_with_digits : List ℕ → Bool
+starts_with_digits bytes = is_digit (slice_index bytes 0) && is_digit (slice_index bytes 1)
+
+abbrev pub StartsWithDigits : List ℕ → Type 0
+StartsWithDigits bytes = starts_with_digits bytes ≡ true
+
+abbrev pub StartWithDigits : Filter → Type 0
+StartWithDigits filter = (bytes : List ℕ) → IsText filter bytes → StartsWithDigits bytes
 
 -- ---- the answer to the line
 -- The answer has words, which replace its text.

@@ -119,11 +119,11 @@ fn once_command<'a>(filter: Filter<'a>) -> Command<'a>
     }
 }
 
-/// Returns the field to answer, if it or another field has a name.
+/// Returns the first field to answer, if any field has a name.
 fn named_field(filter: &Filter<'_>) -> Option<Field>
     ensures { result ≡ named_field filter.now }
 {
-    if filter.name.is_some() || filter.request.names_other() {
+    if filter.names.any() || filter.request.names_other() {
         filter.field
     } else {
         None
@@ -196,7 +196,7 @@ fn filter_of<'a>(options: Options<'a>, request: Request<'a>) -> Filter<'a>
         skip: skip_in(&options),
         assumptions: assumptions_in(&options),
         workdays: workdays_in(options.workdays),
-        name: options.name,
+        names: options.names,
         more: options.more,
         column: column_of(options.header, options.append),
         readers: readers_in(options.readers),

@@ -1,8 +1,8 @@
 //! Fields by their names in a header.
-ghost use Rattle.std.specs.Prelude.{◌≡◌, ◌+◌, ◌<◌, ◌≤◌, ◌++◌, ◌∷◌, [], IsTrue, length};
+ghost use Rattle.std.specs.Prelude.{◌≡◌, ◌+◌, ◌<◌, ◌≤◌, ◌++◌, ◌∷◌, [], Err, Ok, Some, IsTrue, MatchResult, length};
 ghost use Rattle.caldate_run.specs.Calls.{Writes, write_failure};
 ghost use Rattle.caldate_run.specs.Fields.{fields_of};
-ghost use Rattle.caldate_run.specs.Header.{expected_names, field_name, has_name, header_error, header_of, header_problem, is_pair, name_number, names_text, number_of, unescaped};
+ghost use Rattle.caldate_run.specs.Header.{expected_names, field_name, has_name, header_error, header_of, header_problem, is_pair, name_number, names_text, number_in, number_of, unescaped};
 ghost use Rattle.caldate_run.specs.Room.{HasRoom, longest_text};
 ghost use Rattle.caldate_run.specs.Runs.{WritesPage};
 ghost use Rattle.caldate_run.specs.UsageMessages.{quoted};
@@ -37,6 +37,21 @@ pub(crate) fn number_of(field: Field, name: &[u8], header: &[u8]) -> Option<u16>
         return None;
     }
     name_number(field, name, header)
+}
+
+/// Returns the number that the header gives the name, or the name if the header lacks it.
+pub(crate) fn number_in<'a>(
+    field: Field,
+    header: &[u8],
+    name: &'a [u8],
+) -> Result<Option<u16>, &'a [u8]>
+    ensures { MatchResult result (λ number. number_in field header.now (Some name.now) ≡ Ok number)
+        (λ lacking. number_in field header.now (Some name.now) ≡ Err lacking.now) }
+{
+    match number_of(field, name, header) {
+        Some(number) => Ok(Some(number)),
+        None => Err(name),
+    }
 }
 
 /// Returns the number of the first field that has the name, counted from 1.

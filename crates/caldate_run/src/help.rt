@@ -46,8 +46,8 @@ invalid, or the input or the output fails.
                                   are answered one after the other
   caldate --field N-M ...         the same for the fields from N to M, as one text
   caldate --field NAME ...        with --header: the same for the field that has this name there
-  caldate --append NAME ...       with --field: writes the answer as a new last field, and with --header
-                                  its NAME
+  caldate --append NAME ...       with one --field: writes the answer as a new last field, and with
+                                  --header its NAME
   caldate --csv ...               with --field: reads records of RFC 4180, whose fields end at a
                                   comma
   caldate --header ...            writes the first line unchanged, like --skip 1

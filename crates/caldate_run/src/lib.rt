@@ -6,6 +6,7 @@ mod answer;
 pub mod args;
 pub mod clock;
 pub mod field_name;
+pub mod field_names;
 pub mod files;
 mod header;
 pub mod help;

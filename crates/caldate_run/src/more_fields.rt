@@ -1,5 +1,6 @@
 //! The fields to answer after the first one.
-ghost use Rattle.std.specs.Prelude.{◌≡◌, ◌↔◌, ◌<◌, ◌≤◌, ◌++◌, ◌∷◌, [], IsTrue, length};
+ghost use Rattle.std.specs.Prelude.{◌≡◌, ◌↔◌, ◌+◌, ◌<◌, ◌≤◌, ◌++◌, ◌∷◌, [], IsTrue, length};
+ghost use Rattle.caldate_run.specs.Fields.{with_first, with_firsts};
 
 use crate::request::FieldNumbers;
 use std::marker::Model;
@@ -54,6 +55,15 @@ impl MoreFields {
         true
     }
 
+    /// Returns the fields with these numbers in place of their own, each if it is given.
+    pub(crate) fn with_firsts(&self, numbers: &[Option<u16>]) -> Self
+        ensures { result ≡ with_firsts self.now numbers.now }
+    {
+        let mut numbered = MoreFields::new();
+        push_numbered(&mut numbered, self.as_slice(), numbers);
+        numbered
+    }
+
     /// Returns the fields.
     #[inline(always)]
     pub fn as_slice(&self) -> &[FieldNumbers]
@@ -61,5 +71,32 @@ impl MoreFields {
         ensures few { length result.now ≤ 3 }
     {
         &self.items[..self.count]
+    }
+}
+
+/// Appends the fields with these numbers in place of their own, each if it is given.
+fn push_numbered(numbered: &mut MoreFields, fields: &[FieldNumbers], numbers: &[Option<u16>])
+    requires { length numbered.old + length fields.now ≤ 3 }
+    ensures { numbered.new ≡ numbered.old ++ with_firsts fields.now numbers.now }
+{
+    match fields {
+        [] => {}
+        [field, others @ ..] => match numbers {
+            [] => {}
+            [number, more @ ..] => {
+                numbered.try_push(with_first(*field, *number));
+                push_numbered(numbered, others, more);
+            }
+        },
+    }
+}
+
+/// Returns the field with this number in place of its own, if it is given.
+fn with_first(field: FieldNumbers, number: Option<u16>) -> FieldNumbers
+    ensures { result ≡ with_first (field, number) }
+{
+    FieldNumbers {
+        first: number.unwrap_or(field.first),
+        ..field
     }
 }

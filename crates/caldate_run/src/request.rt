@@ -5,6 +5,7 @@ ghost use Rattle.caldate_run.specs.Fields.{with_numbers};
 ghost use Rattle.caldate_run.specs.Targets.{reads_other, target_fields, target_name};
 
 use crate::field_name::FieldName;
+use crate::field_names::FieldNames;
 use crate::more_fields::MoreFields;
 use crate::on_invalid::OnInvalid;
 use crate::reading::Readers;
@@ -294,8 +295,8 @@ pub struct Filter<'a> {
     pub more: MoreFields,
     /// `true` if each text in the line that has a form is answered, and not the whole line.
     pub scans: bool,
-    /// The name of the field to answer, whose number isn't known yet.
-    pub name: Option<FieldName<'a>>,
+    /// The names of the fields to answer whose numbers aren't known yet.
+    pub names: FieldNames<'a>,
     /// The name that the header, the first line, gets for a new last field.
     pub column: Option<FieldName<'a>>,
     /// How many lines to pass on unchanged at the start.

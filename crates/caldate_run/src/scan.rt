@@ -1,7 +1,7 @@
 //! The texts in a line that have a form.
 ghost use Rattle.std.specs.Prelude.{◌≡◌, ℕ, ◌+◌, ◌<◌, ◌≤◌, IfSome, MatchOption, false, length, slice_index, true};
 ghost use Rattle.caldate_run.specs.Offsets.{is_digit};
-ghost use Rattle.caldate_run.specs.Scans.{HasNoText, IsFirstText, IsLongestText, IsReadWith, IsText, IsTextAt, StartAsUsual, StartWithDigit, byte_before, has_form, is_of_word, is_usual_start, part_at};
+ghost use Rattle.caldate_run.specs.Scans.{HasNoText, IsFirstText, IsLongestText, IsReadWith, IsText, IsTextAt, AreUsual, StartWithDigits, byte_before, has_form, is_of_word, part_at};
 
 pub(crate) mod bound;
 pub(crate) mod digit_start;
@@ -13,9 +13,9 @@ use crate::answer::read_with;
 use crate::request::Filter;
 use crate::run::no_answer::NoAnswer;
 use crate::scan::bound::bound_of;
-use crate::scan::digit_start::start_with_digit;
+use crate::scan::digit_start::{start_with_digits, starts_with_digits};
 use crate::scan::found_text::FoundText;
-use crate::scan::start::{is_usual_start, start_as_usual};
+use crate::scan::start::{all_usual, is_usual_end, is_usual_start};
 use crate::zones::is_letter;
 use cal_text::DateOrMoment;
 
@@ -29,33 +29,33 @@ pub fn first_text(filter: &Filter<'_>, line: &[u8], from: usize) -> Option<Found
     ensures within { IfSome result (λ text. (from ≤ text.place) × (0 < text.count)
         × (text.place + text.count ≤ length line.now)) }
 {
-    let usual = start_as_usual(filter);
-    let digit = start_with_digit(filter);
+    let usual = all_usual(filter);
+    let digits = start_with_digits(filter);
     for place in from..line.len() {
-        if !may_begin(filter, usual, digit, line, place) {
+        if !may_begin(filter, usual, digits, line, place) {
             continue;
         }
-        if let Some(text) = longest_text(filter, line, place) {
+        if let Some(text) = longest_text(filter, usual, line, place) {
             return Some(text);
         }
     }
     None
 }
 
-/// Returns `false` only if no text begins at the place. With `usual` two bytes rule out most places,
-/// and with `digit` one.
+/// Returns `false` only if no text begins at the place. With `usual` or `digits` its first bytes rule
+/// out most places.
 #[inline(always)]
-fn may_begin(filter: &Filter<'_>, usual: bool, digit: bool, line: &[u8], place: usize) -> bool
+fn may_begin(filter: &Filter<'_>, usual: bool, digits: bool, line: &[u8], place: usize) -> bool
     requires place { place ≤ length line.now }
-    requires usual { usual ≡ true → StartAsUsual filter.now }
-    requires digit { digit ≡ true → StartWithDigit filter.now }
+    requires usual { usual ≡ true → AreUsual filter.now }
+    requires digits { digits ≡ true → StartWithDigits filter.now }
     ensures none { result ≡ false → (n : ℕ) → ¬ IsTextAt filter.now line.now place n }
     ensures before { result ≡ true → is_of_word (byte_before line.now place) ≡ false }
 {
-    if usual && !is_usual_start(byte_at(line, place), byte_at(line, place + 4)) {
+    if usual && !is_usual_start(&line[place..]) {
         return false;
     }
-    if digit && !is_digit(byte_at(line, place)) {
+    if digits && !starts_with_digits(&line[place..]) {
         return false;
     }
     if is_of_word(byte_before(line, place)) {
@@ -65,17 +65,21 @@ fn may_begin(filter: &Filter<'_>, usual: bool, digit: bool, line: &[u8], place: 
 }
 
 /// Returns the longest text at a place that is not after a letter or a digit, if one begins there.
+/// With `usual` its length and its last byte rule out most ends.
 #[inline(never)]
-fn longest_text(filter: &Filter<'_>, line: &[u8], place: usize) -> Option<FoundText>
+fn longest_text(filter: &Filter<'_>, usual: bool, line: &[u8], place: usize) -> Option<FoundText>
     requires place { place ≤ length line.now }
+    requires usual { usual ≡ true → AreUsual filter.now }
     requires before { is_of_word (byte_before line.now place) ≡ false }
     ensures { MatchOption result ((n : ℕ) → ¬ IsTextAt filter.now line.now place n)
         (IsLongestText filter.now line.now place) }
 {
     let mut count = bound_of(filter, &line[place..]);
     while count > 0 {
-        if let Some(read) = read_at(filter, line, place, count) {
-            return Some(FoundText { place, count, read });
+        if !usual || is_usual_end(&line[place..], count) {
+            if let Some(read) = read_at(filter, line, place, count) {
+                return Some(FoundText { place, count, read });
+            }
         }
         count -= 1;
     }

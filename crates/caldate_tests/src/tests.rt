@@ -9,6 +9,7 @@ use caldate_run::run::run;
 use caldate_run::run::run_error::RunError;
 use caldate_run::zones::DataFiles;
 use std::alloc::{AllocError, Global};
+use std::fmt::Debug;
 use std::io::{ErrorKind, Read, Write};
 use std::process::Abort;
 
@@ -36,6 +37,16 @@ fn run_by<R: Read, W: Write>(
     }
 }
 
+/// Checks a condition. This function is proved once, and `assert!` at each place.
+fn holds(rt: &impl Abort, condition: bool) {
+    assert!(rt; condition);
+}
+
+/// Checks a condition, and shows the numbers that it fails at.
+fn holds_at<T: Copy + Debug>(rt: &impl Abort, numbers: T, condition: bool) {
+    assert!(rt; condition, "at {numbers:?}");
+}
+
 /// Checks the output of a run, its status and its message.
 fn check_run<H: Abort + AllocGlobal>(
     rt: &H,
@@ -50,9 +61,10 @@ fn check_run<H: Abort + AllocGlobal>(
     let mut words = Vec::new(rt.alloc());
     let outcome = run_by(arguments, &mut reader, &mut output);
     let ended = end(outcome, &mut words).status;
-    assert!(rt;
+    holds_at(
+        rt,
+        (most, fine),
         ended == status && output.as_slice() == written && words.as_slice() == reported,
-        "reads of {most}, the first {fine} fine"
     );
 }
 

@@ -1,7 +1,7 @@
 //! The options before a request.
 ghost use Rattle.std.specs.Prelude.{◌≡◌, ℕ, ◌+◌, ◌≤◌, ◌^◌, ◌∷◌, List, IfOk, None, length, true};
 ghost use Rattle.caldate_run.specs.Meanings.{AreMeanings, AreMeant, IsMeaning, Meanings, name_of, value_in};
-ghost use Rattle.caldate_run.specs.Requests.{any_local, any_own, any_yearless, assumptions_in, byte_of, field_number_of, field_numbers_of, field_of, fields_from, has_own, has_room, invalid_of, is_flag, is_local, is_name, is_option, is_yearless, lacks_offset, shows_offset, year_of, conflict_in, conflict_with_readers, conflict_with_zone, no_options, options_after, options_from, policy_of, readers_in, skip_of, value_of, with_field, with_flag, with_next, with_reader, with_value, words_left};
+ghost use Rattle.caldate_run.specs.Requests.{any_local, any_own, any_yearless, assumptions_in, byte_of, field_in, field_number_of, field_numbers_of, field_of, fields_from, has_own, has_room, has_room_for_field, invalid_of, is_flag, is_local, is_name, is_option, name_in, is_yearless, lacks_offset, shows_offset, year_of, conflict_in, conflict_with_readers, conflict_with_zone, no_options, options_after, options_from, policy_of, readers_in, skip_of, value_of, with_flag, with_named, with_reader, with_value, words_left};
 ghost use Rattle.caldate_run.specs.Zones.{AreOfFiles};
 
 use crate::args::formats::reader_of;
@@ -10,6 +10,7 @@ use crate::args::spelling::parse_i64;
 use crate::args::usage_error::{Expected, UsageError, usage_error_at};
 use crate::args::words::cut;
 use crate::field_name::FieldName;
+use crate::field_names::FieldNames;
 use crate::holidays::workdays_of;
 use crate::more_fields::{MAX_MORE, MoreFields};
 use crate::on_invalid::OnInvalid;
@@ -29,12 +30,12 @@ use cal_zone::Zone;
 pub struct Options<'a> {
     /// The mode of `--invalid MODE`.
     pub on_invalid: Option<OnInvalid>,
-    /// The numbers of `--field N` or `--field N-M`.
+    /// The numbers of the first `--field N` or `--field N-M`, or the number 1 for `--field NAME`.
     pub fields: Option<FieldNumbers>,
-    /// The name of `--field NAME`, for which `fields` has the number 1.
-    pub name: Option<FieldName<'a>>,
-    /// The fields of the other `--field N` or `--field N-M`.
+    /// The same for each other `--field`.
     pub more: MoreFields,
+    /// The names of `--field NAME`.
+    pub names: FieldNames<'a>,
     /// The name of `--append NAME`.
     pub append: Option<FieldName<'a>>,
     /// `true` if `--header` is given.
@@ -68,8 +69,8 @@ fn no_options() -> Options<'static>
     Options {
         on_invalid: None,
         fields: None,
-        name: None,
         more: MoreFields::new(),
+        names: FieldNames::new(),
         append: None,
         header: false,
         csv: false,
@@ -182,10 +183,8 @@ fn value_of(options: &Options<'_>, word: &[u8]) -> Option<Expected>
 {
     if word == b"--invalid".as_slice() && options.on_invalid.is_none() {
         Some(Expected::Invalid)
-    } else if word == b"--field".as_slice() && options.fields.is_none() {
+    } else if word == b"--field".as_slice() && has_room_for_field(options) {
         Some(Expected::FieldNumber)
-    } else if word == b"--field".as_slice() && options.more.as_slice().len() < MAX_MORE {
-        Some(Expected::NextField)
     } else if word == b"--append".as_slice() && options.append.is_none() {
         Some(Expected::Column)
     } else if word == b"--separator".as_slice() && options.separator.is_none() {
@@ -207,6 +206,13 @@ fn value_of(options: &Options<'_>, word: &[u8]) -> Option<Expected>
     } else {
         None
     }
+}
+
+/// Returns whether less than four fields are given.
+fn has_room_for_field(options: &Options<'_>) -> bool
+    ensures { result ≡ has_room_for_field options.now }
+{
+    options.fields.is_none() || options.more.as_slice().len() < MAX_MORE
 }
 
 /// Returns whether the word is `--csv`, `--scan` or `--header`, and not given yet.
@@ -258,8 +264,7 @@ fn with_value<'a>(
     let mut more = options;
     match expected {
         Expected::Invalid => more.on_invalid = Some(invalid_of(value)?),
-        Expected::FieldNumber => return with_field(more, value),
-        Expected::NextField => return with_next(more, field_numbers_of(value)?),
+        Expected::FieldNumber => return with_named(more, name_in(value), field_in(value)?),
         Expected::Column => more.append = Some(FieldName::new(value)),
         Expected::Separator => more.separator = Some(byte_of(value)?),
         Expected::Skip => more.skip = Some(skip_of(value)?),
@@ -274,32 +279,50 @@ fn with_value<'a>(
     Some(more)
 }
 
-/// Sets the numbers of the fields, or the name of one, or returns `None` if the value is neither.
-fn with_field<'a>(options: Options<'a>, value: &'a [u8]) -> Option<Options<'a>>
-    ensures { result ≡ with_field options.entry value.now }
+/// Adds a field and its name, or returns `None` if four fields are given.
+fn with_named<'a>(
+    options: Options<'a>,
+    name: Option<FieldName<'a>>,
+    field: FieldNumbers,
+) -> Option<Options<'a>>
+    ensures { result ≡ with_named options.entry name.entry field }
 {
     let mut more = options;
-    if is_name(value) {
-        more.fields = Some(FieldNumbers {
-            first: 1,
-            joined: 0,
-        });
-        more.name = Some(FieldName::new(value));
+    if more.fields.is_none() {
+        more.fields = Some(field);
+        more.names.set(0, name);
         return Some(more);
     }
-    more.fields = Some(field_numbers_of(value)?);
+    let index = more.more.as_slice().len() + 1;
+    if !more.more.try_push(field) {
+        return None;
+    }
+    more.names.set(index, name);
     Some(more)
 }
 
-/// Adds the numbers of other fields, or returns `None` if three are given.
-fn with_next(options: Options<'_>, field: FieldNumbers) -> Option<Options<'_>>
-    ensures { result ≡ with_next options.entry field }
+/// Returns the name of a field, if the value is one.
+fn name_in(value: &[u8]) -> Option<FieldName<'_>>
+    ensures { result ≡ name_in value.now }
 {
-    let mut more = options;
-    if more.more.try_push(field) {
-        Some(more)
+    if is_name(value) {
+        Some(FieldName::new(value))
     } else {
         None
+    }
+}
+
+/// Parses the numbers of fields. A name has the number 1 until the header gives its own.
+fn field_in(value: &[u8]) -> Option<FieldNumbers>
+    ensures { result ≡ field_in value.now }
+{
+    if is_name(value) {
+        Some(FieldNumbers {
+            first: 1,
+            joined: 0,
+        })
+    } else {
+        field_numbers_of(value)
     }
 }
 
@@ -573,7 +596,7 @@ pub fn conflict_in(options: &Options<'_>) -> Option<Expected>
         Some(Expected::AppendFields)
     } else if options.csv && options.separator == Some(b'"') {
         Some(Expected::CsvSeparator)
-    } else if options.name.is_some() && !options.header {
+    } else if options.names.any() && !options.header {
         Some(Expected::Header)
     } else {
         conflict_with_readers(options)

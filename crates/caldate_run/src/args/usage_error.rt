@@ -39,8 +39,6 @@ pub enum Expected {
     Invalid,
     /// A number from 1 to 65535, two such numbers, or a name.
     FieldNumber,
-    /// A number from 1 to 65535, or two such numbers.
-    NextField,
     /// A name of a new last field.
     Column,
     /// One byte.

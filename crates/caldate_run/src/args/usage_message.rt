@@ -322,7 +322,7 @@ fn error_phrase(expected: Expected) -> &'static [u8]
         Expected::CsvSeparator => b"--csv can't use a quote as the separator".as_slice(),
         Expected::Header => b"a field name requires --header".as_slice(),
         Expected::Invalid => b"unknown mode".as_slice(),
-        Expected::FieldNumber | Expected::NextField => b"invalid field number".as_slice(),
+        Expected::FieldNumber => b"invalid field number".as_slice(),
         Expected::Separator => b"invalid separator".as_slice(),
         Expected::Skip => b"invalid number of lines".as_slice(),
         Expected::Reading => b"unknown input form".as_slice(),
@@ -368,7 +368,7 @@ fn missing_noun(expected: Expected) -> &'static [u8]
     match expected {
         Expected::Start | Expected::Verb => b"command".as_slice(),
         Expected::Invalid => b"mode".as_slice(),
-        Expected::FieldNumber | Expected::NextField => b"field number".as_slice(),
+        Expected::FieldNumber => b"field number".as_slice(),
         Expected::Separator => b"separator".as_slice(),
         Expected::Column => b"name".as_slice(),
         Expected::Skip => b"number of lines".as_slice(),
@@ -406,8 +406,6 @@ fn expected_phrase(expected: Expected) -> &'static [u8]
         Expected::Invalid => b"; expected keep, answer, drop or stop".as_slice(),
         Expected::FieldNumber =>
             b"; expected an integer from 1 to 65535, two such as 1-2, or a name".as_slice(),
-        Expected::NextField =>
-            b"; expected an integer from 1 to 65535, or two such as 1-2".as_slice(),
         Expected::Separator => b"; expected one byte".as_slice(),
         Expected::Skip => b"; expected an integer from 0 to 9223372036854775807".as_slice(),
         Expected::Reading => READINGS,

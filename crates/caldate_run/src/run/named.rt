@@ -10,7 +10,8 @@ ghost use Rattle.caldate_run.specs.RunStates.{NoEnd};
 ghost use Rattle.caldate_run.specs.declared.run.quoting.Quoting.TheVariants.{Ready};
 ghost use Rattle.caldate_run.specs.Targets.{target_name, with_target};
 
-use crate::header::{header_of, number_of, report_header_error};
+use crate::field_names::{FieldNames, MAX_FIELDS};
+use crate::header::{header_of, number_in, report_header_error};
 use crate::input::Input;
 use crate::request::{Field, FieldNumbers, Filter, Request, Target};
 use crate::run::ending::{Ending, end};
@@ -110,42 +111,23 @@ fn has_header(field: Field, bytes: &[u8]) -> bool
     }
 }
 
-/// Returns the numbers of the field to answer and of the field that has TEXT, each if it has a name,
-/// or the first name that the header lacks.
+/// Returns the numbers of the fields to answer and of the field that has TEXT, each if it has a
+/// name, or the first name that the header lacks.
 fn numbers_in<'a>(
     filter: &'a Filter<'_>,
     field: Field,
     header: &[u8],
-) -> Result<(Option<u16>, Option<u16>), &'a [u8]>
+) -> Result<([Option<u16>; MAX_FIELDS], Option<u16>), &'a [u8]>
     ensures { MatchResult result (λ numbers. numbers_in filter.now field header.now ≡ Ok numbers)
         (λ name. numbers_in filter.now field header.now ≡ Err name.now) }
 {
-    let own = match own_number(filter, field, header) {
-        Ok(own) => own,
-        Err(name) => return Err(name),
-    };
-    match target_number(filter, field, header) {
-        Ok(target) => Ok((own, target)),
-        Err(name) => Err(name),
-    }
+    let own = filter.names.numbers_in(field, header)?;
+    let target = target_number(filter, field, header)?;
+    Ok((own, target))
 }
 
-/// Returns the number of the field to answer if it has a name, or the name if the header lacks it.
-fn own_number<'a>(
-    filter: &'a Filter<'_>,
-    field: Field,
-    header: &[u8],
-) -> Result<Option<u16>, &'a [u8]>
-    ensures { MatchResult result (λ own. number_in field header.now filter.now.name ≡ Ok own)
-        (λ name. number_in field header.now filter.now.name ≡ Err name.now) }
-{
-    match &filter.name {
-        Some(name) => number_in(field, header, name.as_bytes()),
-        None => Ok(None),
-    }
-}
-
-/// Returns the same for the field that has TEXT.
+/// Returns the number of the field that has TEXT if it has a name, or the name if the header lacks
+/// it.
 fn target_number<'a>(
     filter: &'a Filter<'_>,
     field: Field,
@@ -161,29 +143,23 @@ fn target_number<'a>(
     }
 }
 
-/// Returns the number that the header gives the name, or the name if the header lacks it.
-fn number_in<'a>(field: Field, header: &[u8], name: &'a [u8]) -> Result<Option<u16>, &'a [u8]>
-    ensures { MatchResult result (λ number. number_in field header.now (Some name.now) ≡ Ok number)
-        (λ lacking. number_in field header.now (Some name.now) ≡ Err lacking.now) }
-{
-    match number_of(field, name, header) {
-        Some(number) => Ok(Some(number)),
-        None => Err(name),
-    }
-}
-
 /// Returns the filter with these numbers of fields in place of their names.
-fn numbered<'a>(filter: Filter<'a>, field: Field, numbers: (Option<u16>, Option<u16>)) -> Filter<'a>
+fn numbered<'a>(
+    filter: Filter<'a>,
+    field: Field,
+    numbers: ([Option<u16>; MAX_FIELDS], Option<u16>),
+) -> Filter<'a>
     ensures { result ≡ numbered filter.entry field numbers }
 {
-    let (own, target) = numbers;
+    let (firsts, target) = numbers;
     Filter {
         request: with_number(filter.request, target),
         field: Some(Field {
-            first: own.unwrap_or(field.first),
+            first: firsts[0].unwrap_or(field.first),
             ..field
         }),
-        name: None,
+        more: filter.more.with_firsts(&firsts[1..]),
+        names: FieldNames::new(),
         ..filter
     }
 }

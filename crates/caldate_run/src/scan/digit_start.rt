@@ -1,10 +1,11 @@
-//! Formats whose texts start with a digit.
-ghost use Rattle.std.specs.Prelude.{◌≡◌, ◌<◌, ℕ, ℤ, List, Some, length, true};
+//! Formats whose texts start with two digits.
+ghost use Rattle.std.specs.Prelude.{◌≡◌, ◌<◌, ◌≤◌, ℕ, ℤ, List, Some, length, true};
 ghost use Rattle.cal_format.specs.Form.{HasForm, ItemShape};
+ghost use Rattle.cal_format.specs.Moment.{width};
 ghost use Rattle.cal_text.specs.Shape.{Shape, unmatched_bytes};
 ghost use Rattle.cal_text.specs.declared.any.DateOrMoment.{DateOrMoment};
 ghost use Rattle.caldate_run.specs.Readers.{IsFormatText, IsFoundBy, IsTextBy, IsUnread, named};
-ghost use Rattle.caldate_run.specs.Scans.{StartWithDigit, StartsWithDigit, has_form};
+ghost use Rattle.caldate_run.specs.Scans.{StartWithDigits, StartsWithDigits, has_form, starts_with_digits};
 ghost use Rattle.caldate_run.specs.declared.reading.Reading.{Reading};
 ghost use Rattle.caldate_run.specs.declared.reading.reader.Assumptions.{Assumptions};
 ghost use Rattle.caldate_run.specs.declared.run.no_answer.NoAnswer.{NoAnswer};
@@ -12,34 +13,43 @@ ghost use Rattle.caldate_run.specs.declared.run.no_answer.NoAnswer.{NoAnswer};
 use crate::reading::reader::Reader;
 use crate::reading::value_format::ValueFormat;
 use crate::request::Filter;
-use cal_format::{Format, Item, Padding};
+use crate::scan::{byte_at, is_digit};
+use cal_format::{Component, Format, Item, Padding};
 
-/// Returns `true` only if each text starts with a digit.
-pub fn start_with_digit(filter: &Filter<'_>) -> bool
-    ensures { result ≡ true → StartWithDigit filter.now }
+/// Returns whether the bytes start with two digits.
+#[inline(always)]
+pub fn starts_with_digits(bytes: &[u8]) -> bool
+    ensures { result ≡ starts_with_digits bytes.now }
+{
+    is_digit(byte_at(bytes, 0)) && is_digit(byte_at(bytes, 1))
+}
+
+/// Returns `true` only if each text starts with two digits.
+pub fn start_with_digits(filter: &Filter<'_>) -> bool
+    ensures { result ≡ true → StartWithDigits filter.now }
 {
     are_digits(filter.readers.as_slice())
 }
 
-/// Returns `true` only if each text in one of these forms starts with a digit.
+/// Returns `true` only if each text in one of these forms starts with two digits.
 fn are_digits(readers: &[Reader]) -> bool
     ensures found { result ≡ true → (assumptions : Assumptions) (bytes : List ℕ) (found : DateOrMoment)
         → 0 < length bytes → IsFoundBy assumptions readers.now bytes found
-        → StartsWithDigit bytes }
+        → StartsWithDigits bytes }
     ensures rejected { result ≡ true → (assumptions : Assumptions) (bytes : List ℕ) (why : NoAnswer)
         → 0 < length bytes → IsUnread assumptions readers.now bytes why → has_form why ≡ true
-        → StartsWithDigit bytes }
+        → StartsWithDigits bytes }
 {
     match readers {
         [] => true,
-        [first, others @ ..] => is_digit_first(first) && are_digits(others),
+        [first, others @ ..] => has_digits_first(first) && are_digits(others),
     }
 }
 
-/// Returns `true` only if each text in the form starts with a digit.
-fn is_digit_first(reader: &Reader) -> bool
+/// Returns `true` only if each text in the form starts with two digits.
+fn has_digits_first(reader: &Reader) -> bool
     ensures text { result ≡ true → (assumptions : Assumptions) (bytes : List ℕ) (found : DateOrMoment)
-        → IsTextBy assumptions reader.now bytes found → StartsWithDigit bytes }
+        → IsTextBy assumptions reader.now bytes found → StartsWithDigits bytes }
     ensures form { result ≡ true → (assumptions : Assumptions) (reading : Reading)
         → ¬ (named assumptions reader.now ≡ Some reading) }
 {
@@ -49,10 +59,10 @@ fn is_digit_first(reader: &Reader) -> bool
     }
 }
 
-/// Returns `true` only if each text in the format starts with a digit.
+/// Returns `true` only if each text in the format starts with two digits.
 fn is_number_first(format: &ValueFormat) -> bool
     ensures { result ≡ true → (offset : ℤ) (bytes : List ℕ) (found : DateOrMoment)
-        → IsFormatText offset format.now bytes found → StartsWithDigit bytes }
+        → IsFormatText offset format.now bytes found → StartsWithDigits bytes }
 {
     match format {
         ValueFormat::Dates(format) => begins_with_zeros(format.as_format()),
@@ -63,7 +73,7 @@ fn is_number_first(format: &ValueFormat) -> bool
 
 /// Returns `true` only if the format begins with a number padded with zeros.
 fn begins_with_zeros(format: &Format) -> bool
-    ensures { result ≡ true → (bytes : List ℕ) → HasForm format.now bytes → StartsWithDigit bytes }
+    ensures { result ≡ true → (bytes : List ℕ) → HasForm format.now bytes → StartsWithDigits bytes }
 {
     match format.items() {
         [first, ..] => is_padded_with_zeros(first),
@@ -71,13 +81,29 @@ fn begins_with_zeros(format: &Format) -> bool
     }
 }
 
+/// Returns `true` only if the item is a number of at least two digits, padded with zeros.
 fn is_padded_with_zeros(item: &Item) -> bool
     ensures { result ≡ true → (others : Shape) (bytes : List ℕ)
-        → unmatched_bytes (ItemShape item.now others) bytes ≡ 0 → StartsWithDigit bytes }
+        → unmatched_bytes (ItemShape item.now others) bytes ≡ 0 → StartsWithDigits bytes }
 {
     match item {
-        Item::Number(_component, padding) => is_zero(*padding),
+        Item::Number(component, padding) => is_zero(*padding) && is_wide(*component),
         _ => false,
+    }
+}
+
+/// Returns `true` only if the width of the component is at least two.
+fn is_wide(component: Component) -> bool
+    ensures { result ≡ true → 2 ≤ width component }
+{
+    match component {
+        Component::Weekday
+        | Component::DaysFromSunday
+        | Component::SundayWeekday
+        | Component::Period
+        | Component::OffsetSign
+        | Component::TimestampSign => false,
+        _ => true,
     }
 }
 

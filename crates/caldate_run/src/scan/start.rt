@@ -1,9 +1,9 @@
 //! The bytes that start a text.
-ghost use Rattle.std.specs.Prelude.{◌≡◌, ◌<◌, ℕ, List, Some, length, slice_index, true};
+ghost use Rattle.std.specs.Prelude.{◌≡◌, ◌<◌, ◌≤◌, ℕ, List, Some, length, true};
 ghost use Rattle.cal_text.specs.declared.any.DateOrMoment.{DateOrMoment};
 ghost use Rattle.caldate_run.specs.Readers.{IsFoundBy, IsTextBy, IsUnread, named};
 ghost use Rattle.caldate_run.specs.Readings.{HasFormIn};
-ghost use Rattle.caldate_run.specs.Scans.{StartAsUsual, StartsAsUsual, has_form, is_usual_start};
+ghost use Rattle.caldate_run.specs.Scans.{AreUsual, IsUsual, are_digits, has_form, is_digit_or_hyphen, is_last, is_usual_end, is_usual_start};
 ghost use Rattle.caldate_run.specs.declared.reading.Reading.{Reading};
 ghost use Rattle.caldate_run.specs.declared.reading.reader.Assumptions.{Assumptions};
 ghost use Rattle.caldate_run.specs.declared.run.no_answer.NoAnswer.{NoAnswer};
@@ -12,35 +12,72 @@ use crate::reading::Reading;
 use crate::reading::reader::Reader;
 use crate::reading::spelling::Spelling;
 use crate::request::Filter;
+use crate::scan::{byte_at, is_digit};
 
-/// Returns whether a text in one of the six forms starts with the first of these bytes, and has the
-/// other one as its fifth byte.
+/// Returns whether the bytes may start a text in one of the six forms: by four digits and a hyphen, by
+/// a sign, four digits, and a digit or a hyphen, or by `@` or `J` and a digit or a hyphen.
 #[inline(always)]
-pub fn is_usual_start(first: u8, fifth: u8) -> bool
-    ensures { result ≡ is_usual_start first fifth }
+pub fn is_usual_start(bytes: &[u8]) -> bool
+    ensures { result ≡ is_usual_start bytes.now }
 {
-    if first.is_ascii_digit() {
-        fifth == b'-'
-    } else {
-        first == b'-' || first == b'+' || first == b'@' || first == b'J'
+    match byte_at(bytes, 0) {
+        // Most bytes are letters and spaces.
+        0..b'+' | b'K'.. => false,
+        b'0'..=b'9' => byte_at(bytes, 4) == b'-' && are_digits(bytes, 0),
+        b'-' | b'+' => is_digit_or_hyphen(byte_at(bytes, 5)) && are_digits(bytes, 1),
+        b'@' | b'J' => is_digit_or_hyphen(byte_at(bytes, 1)),
+        _ => false,
     }
 }
 
-/// Returns `true` only if each text starts as one of the six forms does.
-pub fn start_as_usual(filter: &Filter<'_>) -> bool
-    ensures { result ≡ true → StartAsUsual filter.now }
+/// Returns whether the four bytes from an index on are digits.
+fn are_digits(bytes: &[u8], from: usize) -> bool
+    requires { from ≤ 1 }
+    ensures { result ≡ are_digits bytes.now from }
+{
+    is_digit(byte_at(bytes, from))
+        && is_digit(byte_at(bytes, from + 1))
+        && is_digit(byte_at(bytes, from + 2))
+        && is_digit(byte_at(bytes, from + 3))
+}
+
+/// Returns whether the first `count` bytes may end a text in one of the six forms: by a digit, `Z` or
+/// `z`. After a digit at the start, a date has at most 10 bytes, and a moment at least 20.
+#[inline(always)]
+pub fn is_usual_end(bytes: &[u8], count: usize) -> bool
+    requires { 0 < count }
+    ensures { result ≡ is_usual_end bytes.now count }
+{
+    is_last(byte_at(bytes, count - 1)) && (!is_digit(byte_at(bytes, 0)) || count < 11 || count > 19)
+}
+
+fn is_last(byte: u8) -> bool
+    ensures { result ≡ is_last byte }
+{
+    is_digit(byte) || byte == b'Z' || byte == b'z'
+}
+
+fn is_digit_or_hyphen(byte: u8) -> bool
+    ensures { result ≡ is_digit_or_hyphen byte }
+{
+    is_digit(byte) || byte == b'-'
+}
+
+/// Returns `true` only if each text starts and ends as one of the six forms does.
+pub fn all_usual(filter: &Filter<'_>) -> bool
+    ensures { result ≡ true → AreUsual filter.now }
 {
     are_usual(filter.readers.as_slice())
 }
 
-/// Returns `true` only if each text in one of these forms starts as one of the six forms does.
+/// Returns `true` only if each text in one of these forms starts and ends as one of the six forms does.
 fn are_usual(readers: &[Reader]) -> bool
     ensures found { result ≡ true → (assumptions : Assumptions) (bytes : List ℕ) (found : DateOrMoment)
         → 0 < length bytes → IsFoundBy assumptions readers.now bytes found
-        → StartsAsUsual bytes }
+        → IsUsual bytes }
     ensures rejected { result ≡ true → (assumptions : Assumptions) (bytes : List ℕ) (why : NoAnswer)
         → 0 < length bytes → IsUnread assumptions readers.now bytes why → has_form why ≡ true
-        → StartsAsUsual bytes }
+        → IsUsual bytes }
 {
     match readers {
         [] => true,
@@ -56,14 +93,14 @@ pub fn has_usual(readers: &[Reader]) -> bool {
     }
 }
 
-/// Returns `true` only if each text in the form starts as one of the six forms does.
+/// Returns `true` only if each text in the form starts and ends as one of the six forms does.
 fn is_usual(reader: &Reader) -> bool
     ensures text { result ≡ true → (assumptions : Assumptions) (bytes : List ℕ) (found : DateOrMoment)
         → 0 < length bytes → IsTextBy assumptions reader.now bytes found
-        → StartsAsUsual bytes }
+        → IsUsual bytes }
     ensures form { result ≡ true → (assumptions : Assumptions) (bytes : List ℕ) (reading : Reading)
         → 0 < length bytes → named assumptions reader.now ≡ Some reading → HasFormIn reading bytes
-        → StartsAsUsual bytes }
+        → IsUsual bytes }
 {
     match reader {
         Reader::Named(reading) => is_any(*reading),

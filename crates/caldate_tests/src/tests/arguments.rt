@@ -1,5 +1,5 @@
 //! Arguments that are joined, up to the size of the buffer.
-use crate::tests::repeated;
+use crate::tests::{holds, repeated};
 use caldate_run::args::arguments::{Arguments, MAX_BYTES, join};
 use std::env::{Env, FillError};
 use std::process::Abort;
@@ -40,7 +40,7 @@ fn check_files(rt: &impl Abort, all: &[u8], joined: &[u8], first_file: Option<us
         first_file: None,
     };
     let found = join(&Words { all }, &mut buffer).unwrap_or(none);
-    assert!(rt; found.words == joined && found.first_file == first_file);
+    holds(rt, found.words == joined && found.first_file == first_file);
 }
 
 /// Checks how these arguments are joined if they name no files.
@@ -80,7 +80,7 @@ fn check_length(rt: &impl Abort, all: &[u8], length: Option<usize>) {
         Some(joined) => Some(joined.words.len()),
         None => None,
     };
-    assert!(rt; found == length);
+    holds(rt, found == length);
 }
 
 // Arguments fit up to the size of the buffer, including the zero bytes between them.

@@ -1,5 +1,6 @@
 //! The words `today` and `now`, whose meaning rows can't show: here the clock stands still. The
 //! answers are those of GNU `date` and of the moves in `tests/rows`.
+use crate::tests::holds;
 use cal_datetime::PlainDateTime;
 use caldate_run::clock::read_clock;
 use caldate_run::program::perform;
@@ -62,8 +63,9 @@ fn check_call<H: Abort + AllocGlobal>(
         &mut output,
         &mut words,
     );
-    assert!(rt;
-        ending.status == status && output.as_slice() == written && words.as_slice() == reported
+    holds(
+        rt,
+        ending.status == status && output.as_slice() == written && words.as_slice() == reported,
     );
 }
 
@@ -178,11 +180,11 @@ fn clocks_out_of_range(rt: HostRuntime) {
     let last = read_clock(&Still {
         since_1970: Duration::from_secs(31_494_784_780_799),
     });
-    assert!(rt; last.is_some());
+    holds(&rt, last.is_some());
     let after = read_clock(&Still {
         since_1970: Duration::from_secs(31_494_784_780_800),
     });
-    assert!(rt; after.is_none());
+    holds(&rt, after.is_none());
     check_call(
         &rt,
         last,

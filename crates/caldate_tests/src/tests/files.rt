@@ -2,6 +2,7 @@
 ghost use Rattle.std.specs.Prelude.{◌≡◌, ℕ, List, Some, map, ⊤};
 ghost use Rattle.caldate_run.specs.Files.{joined};
 
+use crate::tests::holds_at;
 use caldate_run::files::{Joined, Texts};
 use caldate_run::streams::Source;
 use std::io::{self, Read};
@@ -58,7 +59,7 @@ fn check_joined<H: Abort + AllocGlobal>(
             Err(error) => return Err(Fail::from(error)),
         }
     }
-    assert!(rt; given.as_slice() == whole, "reads of {most}");
+    holds_at(rt, most, given.as_slice() == whole);
     Ok(())
 }
 

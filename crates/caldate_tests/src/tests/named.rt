@@ -1,8 +1,8 @@
 //! Runs whose field has a name, over readers that give few bytes in each call, are interrupted or
 //! fail.
 use crate::tests::reads::first_lines;
-use crate::tests::repeated;
 use crate::tests::streams::Dripping;
+use crate::tests::{holds_at, repeated};
 use caldate_run::program::perform;
 use caldate_run::zones::DataFiles;
 use std::io::ErrorKind;
@@ -34,9 +34,10 @@ fn check_named<H: Abort + AllocGlobal>(
         &mut words,
     );
     let ended = ending.status;
-    assert!(rt;
+    holds_at(
+        rt,
+        (most, fine),
         ended == status && output.as_slice() == written && words.as_slice() == reported,
-        "reads of {most}, the first {fine} fine"
     );
 }
 
@@ -82,10 +83,10 @@ fn each_read_of_a_header_fails_in_turn(rt: HostRuntime) {
 
 #[test]
 fn headers_up_to_4096_bytes_and_longer_ones(rt: HostRuntime) -> Result<(), Fail> {
-    for length in [4092usize, 4093, 4094, 65_532, 65_533, 200_000] {
+    for &length in &[4092usize, 4093, 4094, 65_532, 65_533, 200_000] {
         let input = repeated(rt.alloc(), b"due,", b'x', length, b"\r\n2024-060,x\n")?;
         let answered = repeated(rt.alloc(), b"due,", b'x', length, b"\r\n2024-02-29,x\n")?;
-        for most in [1000, 4096, 4097, 65_536] {
+        for &most in &[1000, 4096, 4097, 65_536] {
             let reader = Dripping {
                 rest: &input,
                 most,

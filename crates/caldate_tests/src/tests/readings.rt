@@ -1,4 +1,5 @@
 //! Whether a text ends too early or has a wrong byte, which the program doesn't show.
+use crate::tests::holds;
 use cal_text::ParseError;
 use cal_text::ParseError::{UnexpectedByte, UnexpectedEnd};
 use cal_time::UtcOffset;
@@ -12,7 +13,7 @@ const LOCAL: Reading = Reading::Local(UtcOffset::UTC);
 
 /// Checks that a text has no value in a reading, for this reason.
 fn check_error(rt: &impl Abort, reading: Reading, text: &[u8], error: ParseError) {
-    assert!(rt; read_in(reading, text) == Err(error));
+    holds(rt, read_in(reading, text) == Err(error));
 }
 
 #[test]

@@ -16,7 +16,7 @@ struct Case {
 
 const STOPPING: &[u8] = b"--invalid\0stop\0to\0calendar";
 
-const CASES: [Case; 12] = [
+const CASES: [Case; 18] = [
     Case {
         arguments: b"to\0calendar",
         input: b"2024-060\r\n\n2024-W09-4\nJ2460370",
@@ -102,6 +102,49 @@ const CASES: [Case; 12] = [
         reported: b"caldate: line 2: refused day conditional: 2023-02-29\n",
         reads: 23,
     },
+    Case {
+        arguments: b"--csv\0--field\02\0to\0calendar",
+        input: b"\"a\n\"\"b\",2024-060,\"\n\"\r\nc,\"2024-W09-4\"\n\"x\n,y\",2024-367",
+        written: b"\"a\n\"\"b\",2024-02-29,\"\n\"\r\nc,\"2024-02-29\"\n\"x\n,y\",2024-367\n",
+        reported: b"caldate: 1 of 3 lines has no answer; first: line 3: refused ordinal conditional: \"x?,y\",2024-367\n",
+        reads: 53,
+    },
+    // Quotes that are never closed go on to the end.
+    Case {
+        arguments: b"--csv\0--field\02\0to\0calendar",
+        input: b"a,2024-060\nb,\"2024-061\n\nc",
+        written: b"a,2024-02-29\nb,\"2024-061\n\nc\n",
+        reported: b"caldate: 1 of 2 lines has no answer; first: line 2: unreadable at 0: b,\"2024-061??c\n",
+        reads: 26,
+    },
+    Case {
+        arguments: b"--csv\0--field\01\0--field\03\0to\0calendar",
+        input: b"2024-060,\"\n\",\"2024-W09-4\"\r\n\"J2460370\",b,x\n",
+        written: b"2024-02-29,\"\n\",\"2024-02-29\"\r\n\"2024-02-29\",b,x\n",
+        reported: b"caldate: 1 of 2 lines has no answer; first: line 2: unreadable at 0: \"J2460370\",b,x\n",
+        reads: 43,
+    },
+    Case {
+        arguments: b"--scan\0to\0calendar",
+        input: b"due 2024-060,\xff2024-W09-4.\r\nno day\n2024-060 2024-367\n<J2460370>",
+        written: b"due 2024-02-29,\xff2024-02-29.\r\nno day\n2024-060 2024-367\n<2024-02-29>\n",
+        reported: b"caldate: 1 of 4 lines has no answer; first: line 3: refused ordinal conditional: 2024-060 2024-367\n",
+        reads: 63,
+    },
+    Case {
+        arguments: b"--invalid\0stop\0--csv\0--field\02\0to\0calendar",
+        input: b"\"\n\",2024-060\n\"\n\",x\n\"\n\",2024-061\n",
+        written: b"\"\n\",2024-02-29\n",
+        reported: b"caldate: line 2: unreadable at 0: \"?\",x\n",
+        reads: 19,
+    },
+    Case {
+        arguments: b"--invalid\0stop\0--scan\0to\0calendar",
+        input: b"a 2024-060\nno day\n2024-060\n",
+        written: b"a 2024-02-29\n",
+        reported: b"caldate: line 2: in no form of --read: no day\n",
+        reads: 18,
+    },
 ];
 
 /// Checks that the run ends as said, although it is interrupted this often after `fine` reads.
@@ -144,6 +187,23 @@ pub fn first_lines(bytes: &[u8], count: usize) -> &[u8] {
     bytes
 }
 
+/// Returns the number of line feeds up to the last one that isn't in quotes.
+fn count_ended(bytes: &[u8]) -> usize {
+    let (mut count, mut ended, mut quoted) = (0usize, 0usize, false);
+    for byte in bytes {
+        if *byte == b'"' {
+            quoted = !quoted;
+        }
+        if *byte == b'\n' {
+            count = count.saturating_add(1);
+            if !quoted {
+                ended = count;
+            }
+        }
+    }
+    ended
+}
+
 /// Checks that the run ends with a failed read after `fine` reads of one byte, and that the lines
 /// that were read are answered.
 fn check_fails<H: Abort + AllocGlobal>(
@@ -161,8 +221,7 @@ fn check_fails<H: Abort + AllocGlobal>(
         kind,
     };
     let read = &case.input[..fine.min(case.input.len())];
-    let ended = read.iter().filter(|byte| **byte == b'\n').count();
-    let written = first_lines(case.written, ended);
+    let written = first_lines(case.written, count_ended(read));
     let reported = b"caldate: cannot read standard input\n".as_slice();
     check_run(rt, case.arguments, reader, written, 2, reported);
 }

@@ -1,6 +1,6 @@
 //! Runs over writers that take one byte in each call, are interrupted or fail.
 use crate::tests::streams::{Dripping, Sipping};
-use crate::tests::{repeated, run_by};
+use crate::tests::{holds, holds_at, repeated, run_by};
 use caldate_run::program::perform;
 use caldate_run::run::ending::end;
 use caldate_run::run::excerpt::Excerpt;
@@ -21,7 +21,7 @@ const ANSWERS: &[u8] = b"2024-02-29\n2024-12-31\r\n2024-02-29\n2024-02-29\n";
 /// that the writer takes.
 fn check_writes<H: Abort + AllocGlobal>(
     rt: &H,
-    arguments: &[u8],
+    (arguments, input): (&[u8], &[u8]),
     (fine, failures, kind): (usize, usize, Option<ErrorKind>),
     outcome: Result<(), RunError>,
     taken: &[u8],
@@ -32,51 +32,76 @@ fn check_writes<H: Abort + AllocGlobal>(
         failures,
         kind,
     };
-    let found = run_by(arguments, &mut INPUT, &mut writer);
-    assert!(rt;
+    let mut rest = input;
+    let found = run_by(arguments, &mut rest, &mut writer);
+    holds_at(
+        rt,
+        fine,
         found == outcome && writer.taken.as_slice() == taken,
-        "{fine} writes fine"
     );
 }
 
 /// Checks runs that write this, in which each write fails in turn. The bytes before are written,
 /// and an interrupted write is repeated up to 4096 times.
-fn check_each_write<H: Abort + AllocGlobal>(rt: &H, arguments: &[u8], written: &[u8]) {
+fn check_each_write<H: Abort + AllocGlobal>(rt: &H, run: (&[u8], &[u8]), written: &[u8]) {
     for fine in 0..written.len() {
         let before = &written[..fine];
-        for kind in [
+        for &kind in &[
             ErrorKind::StorageFull,
             ErrorKind::Other,
             ErrorKind::BrokenPipe,
         ] {
             let outcome = Err(RunError::Write(kind));
-            check_writes(rt, arguments, (fine, 1, Some(kind)), outcome, before);
+            check_writes(rt, run, (fine, 1, Some(kind)), outcome, before);
         }
         let nothing = Err(RunError::Write(ErrorKind::WriteZero));
-        check_writes(rt, arguments, (fine, 1, None), nothing, before);
+        check_writes(rt, run, (fine, 1, None), nothing, before);
         let interrupted = Some(ErrorKind::Interrupted);
-        check_writes(rt, arguments, (fine, 1, interrupted), Ok(()), written);
-        check_writes(rt, arguments, (fine, 4096, interrupted), Ok(()), written);
+        check_writes(rt, run, (fine, 1, interrupted), Ok(()), written);
+        check_writes(rt, run, (fine, 4096, interrupted), Ok(()), written);
         let outcome = Err(RunError::Write(ErrorKind::Interrupted));
-        check_writes(rt, arguments, (fine, 4097, interrupted), outcome, before);
+        check_writes(rt, run, (fine, 4097, interrupted), outcome, before);
     }
     let failing = Some(ErrorKind::StorageFull);
-    check_writes(rt, arguments, (written.len(), 1, failing), Ok(()), written);
+    check_writes(rt, run, (written.len(), 1, failing), Ok(()), written);
 }
 
 #[test]
 fn each_write_fails_in_turn(rt: HostRuntime) {
-    check_each_write(&rt, b"to\0calendar", ANSWERS);
-    let days = b"2024-02-28\n2024-02-29\n2024-03-01\n".as_slice();
-    check_each_write(&rt, b"list\0from\02024-02-28\0to\02024-03-01", days);
+    let record = b"\"2024-060\",\"\n\",J2460370\r\n".as_slice();
+    for &(arguments, input, written) in &[
+        (b"to\0calendar".as_slice(), INPUT, ANSWERS),
+        (
+            b"list\0from\02024-02-28\0to\02024-03-01",
+            INPUT,
+            b"2024-02-28\n2024-02-29\n2024-03-01\n",
+        ),
+        (
+            b"--csv\0--field\03\0to\0calendar",
+            record,
+            b"\"2024-060\",\"\n\",2024-02-29\r\n",
+        ),
+        (
+            b"--csv\0--field\03\0--field\01\0to\0calendar",
+            record,
+            b"\"2024-02-29\",\"\n\",2024-02-29\r\n",
+        ),
+        (
+            b"--scan\0to\0calendar",
+            record,
+            b"\"2024-02-29\",\"\n\",2024-02-29\r\n",
+        ),
+    ] {
+        check_each_write(&rt, (arguments, input), written);
+    }
 }
 
 // A long line is passed on up to the write that fails.
 #[test]
 fn a_write_fails_within_a_long_line(rt: HostRuntime) -> Result<(), Fail> {
     let input = repeated(rt.alloc(), b"2024-02-29\n", b'x', 9000, b"\n")?;
-    for most in [1000usize, 65_536] {
-        for fine in [0usize, 10, 11, 12, 4107, 4108, 9010, 9011] {
+    for &most in &[1000usize, 65_536] {
+        for &fine in &[0usize, 10, 11, 12, 4107, 4108, 9010, 9011] {
             let mut reader = Dripping {
                 rest: &input,
                 most,
@@ -91,8 +116,11 @@ fn a_write_fails_within_a_long_line(rt: HostRuntime) -> Result<(), Fail> {
                 kind: Some(ErrorKind::StorageFull),
             };
             let outcome = run_by(b"--field\01\0to\0calendar", &mut reader, &mut writer);
-            assert!(rt; outcome == Err(RunError::Write(ErrorKind::StorageFull)));
-            assert!(rt; writer.taken.len() == fine && input.starts_with(&writer.taken));
+            holds(&rt, outcome == Err(RunError::Write(ErrorKind::StorageFull)));
+            holds(
+                &rt,
+                writer.taken.len() == fine && input.starts_with(&writer.taken),
+            );
         }
     }
     Ok(())
@@ -103,7 +131,7 @@ fn a_write_fails_within_a_long_line(rt: HostRuntime) -> Result<(), Fail> {
 fn standard_error_fails(rt: HostRuntime) {
     let words = b"caldate: cannot read standard input\n".as_slice();
     for fine in 0..=words.len() {
-        for kind in [Some(ErrorKind::StorageFull), None] {
+        for &kind in &[Some(ErrorKind::StorageFull), None] {
             let mut writer = Sipping {
                 taken: Vec::new(rt.alloc()),
                 fine,
@@ -111,8 +139,11 @@ fn standard_error_fails(rt: HostRuntime) {
                 kind,
             };
             let ending = end(Err(RunError::Read), &mut writer);
-            assert!(rt; ending.status == 2 && ending.reported.is_ok() == (fine == words.len()));
-            assert!(rt; writer.taken.as_slice() == &words[..fine]);
+            holds(
+                &rt,
+                ending.status == 2 && ending.reported.is_ok() == (fine == words.len()),
+            );
+            holds(&rt, writer.taken.as_slice() == &words[..fine]);
         }
     }
 }
@@ -186,7 +217,10 @@ fn check_kind<H: Abort + AllocGlobal>(rt: &H, arguments: &[u8], kind: ErrorKind)
     } else {
         (2, b"caldate: cannot write to standard output\n".as_slice())
     };
-    assert!(rt; ending.status == status && ending.reported.is_ok() && reported.as_slice() == words);
+    holds(
+        rt,
+        ending.status == status && ending.reported.is_ok() && reported.as_slice() == words,
+    );
 }
 
 #[test]
@@ -203,16 +237,25 @@ fn a_long_list(rt: HostRuntime) {
     let mut written = Vec::new(rt.alloc());
     let arguments = b"list\0from\02000-01-01\0to\02273-10-15".as_slice();
     let outcome = run_by(arguments, &mut INPUT, &mut written);
-    assert!(rt; outcome == Ok(()) && written.len() == 1_100_000);
-    assert!(rt; written.starts_with(b"2000-01-01\n2000-01-02\n2000-01-03\n"));
-    assert!(rt; written.ends_with(b"2273-10-13\n2273-10-14\n2273-10-15\n"));
+    holds(&rt, outcome == Ok(()) && written.len() == 1_100_000);
+    holds(
+        &rt,
+        written.starts_with(b"2000-01-01\n2000-01-02\n2000-01-03\n"),
+    );
+    holds(
+        &rt,
+        written.ends_with(b"2273-10-13\n2273-10-14\n2273-10-15\n"),
+    );
 }
 
 /// Checks the message of a run with a line that has no answer.
 fn check_end<H: Abort + AllocGlobal>(rt: &H, error: RunError, words: &[u8]) {
     let mut reported = Vec::new(rt.alloc());
     let ending = end(Err(error), &mut reported);
-    assert!(rt; ending.status == 1 && ending.reported.is_ok() && reported.as_slice() == words);
+    holds(
+        rt,
+        ending.status == 1 && ending.reported.is_ok() && reported.as_slice() == words,
+    );
 }
 
 #[test]

@@ -5,8 +5,9 @@ use Rattle.cal_text.specs.Shape.{unmatched_bytes}
 use Rattle.caldate_run.proofs.DigitStarts.{padded_starts}
 use Rattle.caldate_run.proofs.scan.digit_start.is_padded_with_zeros.Goals as goal
 
-pub returns-in-Number : goal.returns-in-Number
-returns-in-Number c = λ on others bytes e.
-    let component = c.in-Number._component in
+pub returns-then-is_zero : goal.returns-then-is_zero
+returns-then-is_zero c = λ on others bytes e.
+    let component = c.in-Number.component in
     let number = subst (λ i. unmatched_bytes (ItemShape i others) bytes ≡ 0) c.in-Number.is e in
-    padded_starts component others bytes (subst (λ p. unmatched_bytes (ItemShape (Number component p) others) bytes ≡ 0) (c.is_zero.ensures on) number)
+    padded_starts component others bytes (c.is_wide.ensures on)
+    (subst (λ p. unmatched_bytes (ItemShape (Number component p) others) bytes ≡ 0) (c.is_zero.ensures c.if-is_zero.true) number)

@@ -1,7 +1,7 @@
 use Rattle.std.proofs.Common.{◌∙◌, ap, subst, sym}
 use Rattle.std.proofs.lemmas.Option.{none-some}
 use Rattle.caldate_run.specs.Readers.{IsTextBy, named}
-use Rattle.caldate_run.proofs.TextStarts.{any_named, any_text, iso_text_start}
+use Rattle.caldate_run.proofs.TextStarts.{any_named, any_text, iso_usual}
 use Rattle.caldate_run.proofs.scan.start.is_usual.Goals as goal
 
 pub returns-in-Named-clause-text : goal.returns-in-Named-clause-text
@@ -14,7 +14,7 @@ returns-in-Named-clause-form c = λ on assumptions bytes form some is has.
 
 pub returns-in-Spelled-clause-text : goal.returns-in-Spelled-clause-text
 returns-in-Spelled-clause-text c = λ on assumptions bytes found some h.
-    iso_text_start c.in-Spelled.spelling bytes found (c.is_iso.ensures on) some (subst (λ r. IsTextBy assumptions r bytes found) c.in-Spelled.is h)
+    iso_usual c.in-Spelled.spelling bytes found (c.is_iso.ensures on) some (subst (λ r. IsTextBy assumptions r bytes found) c.in-Spelled.is h)
 
 pub returns-in-Spelled-clause-form : goal.returns-in-Spelled-clause-form
 returns-in-Spelled-clause-form c = λ on assumptions bytes form some is has. absurd (none-some form (sym (ap (named assumptions) c.in-Spelled.is) ∙ is))

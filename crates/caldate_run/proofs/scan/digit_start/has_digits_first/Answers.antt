@@ -1,7 +1,7 @@
 use Rattle.std.proofs.Common.{◌∙◌, ap, subst, sym}
 use Rattle.std.proofs.lemmas.Option.{none-some}
 use Rattle.caldate_run.specs.Readers.{IsTextBy, named}
-use Rattle.caldate_run.proofs.scan.digit_start.is_digit_first.Goals as goal
+use Rattle.caldate_run.proofs.scan.digit_start.has_digits_first.Goals as goal
 
 pub returns-in-Format-clause-text : goal.returns-in-Format-clause-text
 returns-in-Format-clause-text c = λ on assumptions bytes found h.
