@@ -447,7 +447,7 @@ typedef struct fots_days_result {
     size_t length; /* or 0 */
 } fots_days_result;
 
-/* The number of dates that were written. After an error of the text, part is a fots_rule_part, or 0
+/* The number of values that were written. After an error of the text, part is a fots_rule_part, or 0
  * for FOTS_UNKNOWN_PART and FOTS_MISSING_FREQUENCY, and position is its start, from 0, or the
  * length for FOTS_MISSING_FREQUENCY. Else they are 0 and SIZE_MAX. */
 typedef struct fots_recurrence_result {
@@ -777,7 +777,7 @@ enum fots_rule_part {
 /* Parses the text of a recurrence, as RFC 5545 has it after RRULE:. It can also begin with RRULE:.
  * Calls with such a text return its first wrong part as FOTS_UNKNOWN_PART, FOTS_TOO_MANY_VALUES,
  * FOTS_DUPLICATE_PART, FOTS_INVALID_VALUE or FOTS_MISSING_FREQUENCY. BYHOUR, BYMINUTE, BYSECOND and
- * the time of an UNTIL are checked and ignored.
+ * the time of an UNTIL count only for readings and moments.
  * "FREQ=MONTHLY;BYDAY=-1FR;COUNT=3" has FOTS_MONTHLY, the interval 1, the week start 1, the count 3
  * and the weekday {-1, 5}. */
 fots_parse_recurrence_result fots_recurrence_parse(const char *text, size_t text_length);
@@ -825,6 +825,34 @@ static inline fots_rule fots_recurrence_rule(const fots_recurrence *recurrence, 
  * start 2024-01-01 has 2024-02-23 and 2024-03-29 from 2024-02-09 on. */
 fots_recurrence_result fots_recurrence_days(const char *text, size_t text_length, fots_date start, fots_date from, fots_date *days,
     size_t days_length);
+
+/* A recurrence with times of day: its text, its start, and other readings. A reading is the date and
+ * the time of a moment, at any offset. */
+typedef struct fots_recurrence_set {
+    const char *text;
+    size_t text_length;
+    fots_moment start; /* DTSTART: the first possible reading, and the times that the text lacks */
+    const fots_moment *dates; /* RDATE, in any order, at most FOTS_MAX_DATES */
+    size_t dates_length;
+    const fots_moment *exceptions; /* EXDATE, in any order, at most FOTS_MAX_DATES */
+    size_t exceptions_length;
+} fots_recurrence_set;
+
+/* Returns the set of a text and a start, without other readings. */
+static inline fots_recurrence_set fots_recurrence_set_new(const char *text, size_t text_length, fots_moment start)
+{
+    static const fots_moment none = {{0}, {0}, 0};
+    const fots_recurrence_set set = {text, text_length, start, &none, 0, &none, 0};
+    return set;
+}
+
+/* Writes the readings of a set from a reading on, in order, as moments at the offset 0, and returns
+ * their number: `readings_length`, or fewer if no more follow. COUNT counts from the start, without
+ * the other readings. BYSETPOS counts the readings of a period. A second of 60 never matches. An
+ * UNTIL that is a date includes its day. After errors of the text come FOTS_TOO_MANY_DATES and
+ * FOTS_INVALID_MOMENT. The array must not overlap the set. "FREQ=DAILY;BYHOUR=9,17;COUNT=3" from
+ * 1997-09-02 9:00 on has 9:00 and 17:00 on that day, and 9:00 on the next one. */
+fots_recurrence_result fots_recurrence_readings(const fots_recurrence_set *set, fots_moment from, fots_moment *readings, size_t readings_length);
 
 /* ---- day counts */
 
@@ -1381,6 +1409,14 @@ fots_local_result fots_zone_resolve(const fots_zone *zone, fots_date date, fots_
  * FOTS_INVALID_POLICY, FOTS_SKIPPED_TIME and FOTS_REPEATED_TIME for FOTS_REJECT,
  * FOTS_RESULT_OUT_OF_RANGE. 2024-03-31 2:30 is 3:30 +02:00 by FOTS_COMPATIBLE. */
 fots_moment_result fots_zone_moment(const fots_zone *zone, fots_date date, fots_time time, uint32_t policy);
+
+/* Writes the moments that the readings of a set mean by FOTS_COMPATIBLE, after a moment, in order,
+ * each once, and returns their number: `moments_length`, or fewer if no more follow. An UNTIL with Z
+ * ends them at its instant. It checks the bytes of the zone again. Errors are those of
+ * fots_recurrence_readings, and then FOTS_INVALID_ZONE. "FREQ=DAILY" from 2024-03-30 2:30 has
+ * 2024-03-31 3:30 +02:00 after 2024-03-31 0:00 UTC. */
+fots_recurrence_result fots_recurrence_moments(const fots_recurrence_set *set, const fots_zone *zone, fots_moment after, fots_moment *moments,
+    size_t moments_length);
 
 /* Writes the offsets at Unix times, as other calls for columns do. */
 size_t fots_zone_offsets(const fots_zone *zone, const int64_t *seconds, size_t seconds_length, int32_t *offsets, size_t offsets_length,

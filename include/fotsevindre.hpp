@@ -1114,6 +1114,70 @@ inline std::string OffsetDateTime::format(const Format &format, const Zone &zone
         [&](char *bytes, std::size_t length) { return fots_moment_format_in_zone(value_, &held, format.c(), bytes, length); });
 }
 
+// A recurrence with times of day, its start, other readings (RDATE) and readings to leave out
+// (EXDATE), at most FOTS_MAX_DATES each, in any order.
+class RecurrenceSet {
+public:
+    RecurrenceSet(Recurrence its_recurrence, PlainDateTime its_start) : recurrence(std::move(its_recurrence)), start(its_start) {}
+
+    Recurrence recurrence;
+    PlainDateTime start;
+    std::vector<PlainDateTime> dates{};
+    std::vector<PlainDateTime> exceptions{};
+
+    // Returns the first readings that are not before one: `count` of them, or fewer if no more follow. Allocates room for `count`.
+    std::vector<PlainDateTime> readings_from(PlainDateTime from, std::size_t count) const
+    {
+        std::vector<PlainDateTime> readings;
+        for (const fots_moment found : written(count, [&](const fots_recurrence_set *set, fots_moment *room) {
+                 return fots_recurrence_readings(set, from.assume_utc().c(), room, count);
+             })) {
+            readings.emplace_back(Date(found.date, {}), Time(found.time, {}));
+        }
+        return readings;
+    }
+    // Returns the first moments of these readings in a zone that are after one, in the same way. In a gap or a fold a reading means Policy::Compatible.
+    std::vector<OffsetDateTime> moments_after(const Zone &zone, OffsetDateTime after, std::size_t count) const
+    {
+        const fots_zone held = zone.c();
+        std::vector<OffsetDateTime> moments;
+        for (const fots_moment found : written(count, [&](const fots_recurrence_set *set, fots_moment *room) {
+                 return fots_recurrence_moments(set, &held, after.c(), room, count);
+             })) {
+            moments.push_back(OffsetDateTime(found, {}));
+        }
+        return moments;
+    }
+
+private:
+    // Returns what a call writes, with a set of C whose arrays live until it returns.
+    template <class Call> std::vector<fots_moment> written(std::size_t count, Call call) const
+    {
+        const std::string &text = recurrence.text();
+        fots_recurrence_set set = fots_recurrence_set_new(text.data(), text.size(), start.assume_utc().c());
+        const std::vector<fots_moment> more = moments_of_c(dates), fewer = moments_of_c(exceptions);
+        set.dates = more.data();
+        set.dates_length = dates.size();
+        set.exceptions = fewer.data();
+        set.exceptions_length = exceptions.size();
+        // At least one, so that data() is not null.
+        std::vector<fots_moment> room(std::max(count, std::size_t{1}));
+        const fots_recurrence_result found = call(&set, room.data());
+        room.resize(detail::value_or_throw(found).length);
+        return room;
+    }
+
+    static std::vector<fots_moment> moments_of_c(const std::vector<PlainDateTime> &readings)
+    {
+        std::vector<fots_moment> moments;
+        moments.reserve(readings.size() + 1); // so that data() is not null
+        for (const PlainDateTime reading : readings) {
+            moments.push_back(reading.assume_utc().c());
+        }
+        return moments;
+    }
+};
+
 } // namespace fotsevindre
 
 template <> struct std::hash<fotsevindre::Date> {

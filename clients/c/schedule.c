@@ -757,6 +757,117 @@ static void text_errors(void)
     check(of_text("FREQ=YEARLY;BYMONTH=2;BYMONTHDAY=30", start, start, days, 2).length == 0, "30 February", 0, 0);
 }
 
+static fots_moment reading(uint32_t month, uint32_t of_month, uint32_t hour, uint32_t minute)
+{
+    const fots_moment made = {day(2024, month, of_month), {0}, (hour * 60ULL + minute) * 60000000000ULL};
+    return made;
+}
+
+static int is_moment(fots_moment moment, fots_moment wanted, int32_t offset)
+{
+    return moment.date.julian_day == wanted.date.julian_day && moment.time == wanted.time && moment.offset.seconds == offset;
+}
+
+static void is_written(fots_recurrence_result result, size_t length, const char *what)
+{
+    check(result.status == FOTS_OK && result.part == 0 && result.position == SIZE_MAX && result.length == length, what, result.status, (long long)result.length);
+}
+
+static fots_recurrence_set set_of(const char *text, fots_moment start)
+{
+    return fots_recurrence_set_new(text, strlen(text), start);
+}
+
+/* "Every 20 minutes from 9:00 AM to 4:40 PM every day" of RFC 5545, and a rule with other readings. */
+static void times_of_day(void)
+{
+    fots_moment found[50];
+    fots_recurrence_set set = set_of("FREQ=DAILY;BYHOUR=9,10,11,12,13,14,15,16;BYMINUTE=0,20,40", reading(9, 2, 9, 0));
+    is_written(fots_recurrence_readings(&set, reading(9, 3, 8, 59), found, COUNT(found)), (size_t)COUNT(found), "every 20 minutes");
+    for (uint32_t index = 0; index < (uint32_t)COUNT(found); index++) {
+        check(is_moment(found[index], reading(9, 3 + index / 24, 9 + index % 24 / 3, index % 3 * 20), 0), "every 20 minutes", index, (long long)found[index].time);
+    }
+    set = set_of("FREQ=DAILY;BYHOUR=9,17;COUNT=3", reading(9, 2, 9, 0));
+    const fots_moment more[2] = {reading(1, 1, 0, 0), reading(9, 3, 9, 0)}, less[2] = {reading(9, 2, 9, 0), reading(9, 4, 9, 0)};
+    set.dates = more;
+    set.dates_length = 2;
+    set.exceptions = less;
+    set.exceptions_length = 2;
+    found[3].time = 1;
+    is_written(fots_recurrence_readings(&set, reading(1, 1, 0, 0), found, COUNT(found)), 3, "a set");
+    check(is_moment(found[0], more[0], 0) && is_moment(found[1], reading(9, 2, 17, 0), 0) && is_moment(found[2], more[1], 0) && found[3].time == 1, "a set", 0, 0);
+    is_written(fots_recurrence_readings(&set, reading(9, 2, 17, 0), found, 1), 1, "one of a set");
+    check(is_moment(found[0], reading(9, 2, 17, 0), 0) && is_moment(found[1], reading(9, 2, 17, 0), 0), "one of a set", 0, 0);
+    is_written(fots_recurrence_readings(&set, reading(9, 3, 9, 1), found, 9), 0, "after a set");
+}
+
+static void times_in_zones(void)
+{
+    static const char text[] = "CET-1CEST,M3.5.0,M10.5.0/3";
+    fots_zone berlin = fots_zone_from_posix(text, sizeof text - 1).zone;
+    fots_moment found[9];
+    fots_recurrence_set set = set_of("FREQ=WEEKLY;BYDAY=SU,MO;BYHOUR=2,3;BYMINUTE=30;UNTIL=20240407T003000Z", reading(3, 30, 0, 0));
+    is_written(fots_recurrence_moments(&set, &berlin, reading(1, 1, 0, 0), found, COUNT(found)), 4, "in Berlin");
+    check(is_moment(found[0], reading(3, 31, 3, 30), 7200) && is_moment(found[1], reading(4, 1, 2, 30), 7200) && is_moment(found[2], reading(4, 1, 3, 30), 7200)
+        && is_moment(found[3], reading(4, 7, 2, 30), 7200), "in Berlin", found[0].offset.seconds, found[3].offset.seconds);
+    /* An exception is a reading of the gap, which means the same moment as another. */
+    const fots_moment gap = reading(3, 31, 2, 30);
+    set.exceptions = &gap;
+    set.exceptions_length = 1;
+    is_written(fots_recurrence_moments(&set, &berlin, reading(3, 31, 1, 29), found, 1), 1, "the other reading");
+    check(is_moment(found[0], reading(3, 31, 3, 30), 7200), "the other reading", found[0].offset.seconds, 0);
+    is_written(fots_recurrence_moments(&set, &berlin, reading(3, 31, 1, 30), found, 1), 1, "after a moment");
+    check(is_moment(found[0], reading(4, 1, 2, 30), 7200), "after a moment", found[0].offset.seconds, 0);
+    set = set_of("FREQ=DAILY;BYHOUR=2,3;COUNT=4", reading(10, 26, 2, 30));
+    is_written(fots_recurrence_moments(&set, &berlin, reading(10, 27, 0, 0), found, COUNT(found)), 2, "in the fold");
+    check(is_moment(found[0], reading(10, 27, 2, 30), 7200) && is_moment(found[1], reading(10, 27, 3, 30), 3600), "in the fold", found[0].offset.seconds, 0);
+    berlin.bytes_length = 3;
+    found[0].time = 1;
+    const fots_recurrence_result cut = fots_recurrence_moments(&set, &berlin, reading(10, 27, 0, 0), found, 2);
+    check(cut.status == FOTS_INVALID_ZONE && cut.length == 0 && cut.position == SIZE_MAX && found[0].time == 1, "without an offset", cut.status, 0);
+}
+
+/* From the last part to the first, each is wrong before the parts that are wrong already. */
+static void time_errors(void)
+{
+    static const char utc[] = "UTC0";
+    static fots_moment many[FOTS_MAX_DATES + 1];
+    fots_zone zone = fots_zone_from_posix(utc, sizeof utc - 1).zone;
+    fots_moment found = reading(1, 1, 0, 0), invalid = found;
+    invalid.time = 86400000000000ULL;
+    for (int index = 0; index <= FOTS_MAX_DATES; index++) {
+        many[index] = reading(1, 1, 1, 0);
+    }
+    fots_recurrence_set set = set_of("FREQ=DAILY", found);
+    set.dates = many;
+    set.exceptions = many;
+    set.dates_length = FOTS_MAX_DATES;
+    set.exceptions_length = FOTS_MAX_DATES;
+    is_written(fots_recurrence_readings(&set, found, &found, 0), 0, "no room");
+    is_written(fots_recurrence_moments(&set, &zone, found, &found, 0), 0, "no room");
+    is_written(fots_recurrence_readings(&set, found, &found, 1), 1, "as many as there can be");
+    for (int turn = 0; turn < 8; turn++) {
+        const int32_t wanted = turn < 5 ? FOTS_INVALID_MOMENT : turn < 7 ? FOTS_TOO_MANY_DATES : FOTS_UNKNOWN_PART;
+        zone.bytes_length = 0;
+        many[FOTS_MAX_DATES - 1] = turn == 1 || turn == 2 ? invalid : many[0];
+        set.dates = turn == 2 ? &many[1] : many;
+        many[FOTS_MAX_DATES - 1].date.julian_day += turn == 3 ? FOTS_MAX_JULIAN_DAY : 0;
+        many[FOTS_MAX_DATES - 1].offset.seconds = turn == 4 ? 93600 : 0;
+        set.start = turn == 0 || turn > 4 ? invalid : found;
+        set.dates_length = turn == 5 ? FOTS_MAX_DATES + 1 : FOTS_MAX_DATES;
+        set.exceptions_length = turn == 6 ? FOTS_MAX_DATES + 1 : turn == 2 ? 0 : FOTS_MAX_DATES;
+        set.text_length = turn == 7 ? 0 : 10;
+        const fots_recurrence_result one = fots_recurrence_readings(&set, found, &found, 1), other = fots_recurrence_moments(&set, &zone, found, &found, 1);
+        check(one.status == wanted && one.length == 0 && one.position == (turn == 7 ? 0 : SIZE_MAX), "an invalid set", turn, one.status);
+        check(other.status == wanted && other.length == 0 && other.position == one.position, "an invalid set in a zone", turn, other.status);
+    }
+    set = set_of("FREQ=DAILY", found);
+    check(fots_recurrence_readings(&set, invalid, &found, 1).status == FOTS_INVALID_MOMENT, "from no moment", 0, 0);
+    check(fots_recurrence_moments(&set, &zone, invalid, &found, 1).status == FOTS_INVALID_MOMENT, "after no moment", 0, 0);
+    check(fots_recurrence_moments(&set, &zone, found, &found, 1).status == FOTS_INVALID_ZONE, "in no zone", 0, 0);
+    check(is_moment(found, reading(1, 1, 0, 0), 0), "an array after errors", found.date.julian_day, (long long)found.time);
+}
+
 static void invalid_dates(void)
 {
     static const int32_t invalid[] = {FOTS_MIN_JULIAN_DAY - 1, FOTS_MAX_JULIAN_DAY + 1, INT32_MIN, INT32_MAX};
@@ -788,6 +899,9 @@ int main(void)
     filled_by_hand();
     texts_in_one_order();
     text_errors();
+    times_of_day();
+    times_in_zones();
+    time_errors();
     invalid_dates();
     return ended("schedule");
 }

@@ -670,6 +670,12 @@ static void read_recurrence(const char *bytes, size_t length)
     const fots_recurrence_result found = fots_recurrence_days(bytes, length, start, start, days, 2);
     check(days[2].julian_day == -1, "a day past the room", found.status, (long long)length);
     spelled(bytes, length, found, start, days);
+    const fots_moment midnight = {start, {0}, 0};
+    const fots_recurrence_set set = fots_recurrence_set_new(bytes, length, midnight);
+    fots_moment room[2] = {midnight, midnight};
+    const fots_recurrence_result timed = fots_recurrence_readings(&set, midnight, room, 1);
+    check(timed.status == found.status && timed.part == found.part && timed.position == found.position && memcmp(&room[1], &midnight, sizeof midnight) == 0,
+        "its readings", timed.status, found.status);
     if (found.status == FOTS_OK) {
         recurrences_read++;
         check(found.part == 0 && found.position == SIZE_MAX && found.length <= 2, "a recurrence", found.part, (long long)found.length);

@@ -412,6 +412,29 @@ void days_of_chrono()
 static_assert(!std::is_convertible_v<UtcOffset, Date> && !std::is_convertible_v<int, Date> && !std::is_default_constructible_v<Date>);
 static_assert(sizeof(Date) == sizeof(fots_date) && std::is_trivially_copyable_v<Date> && std::is_trivially_copyable_v<Duration>);
 
+// "Every 20 minutes from 9:00 AM to 4:40 PM every day" of RFC 5545, and a gap of Berlin with exceptions.
+void times_of_day()
+{
+    const auto at = [](const char *date, std::uint32_t hour, std::uint32_t minute) { return PlainDateTime(Date::parse(date), Time::from_hms(hour, minute, 0)); };
+    RecurrenceSet set(Recurrence::parse("FREQ=DAILY;BYHOUR=9,10,11,12,13,14,15,16;BYMINUTE=0,20,40"), at("1997-09-02", 9, 0));
+    const std::vector<PlainDateTime> found = set.readings_from(set.start, 25);
+    check(found.size() == 25 && found[0] == set.start && found[23] == at("1997-09-02", 16, 40) && found[24] == at("1997-09-03", 9, 0), "every 20 minutes");
+    set.exceptions = {at("1997-09-02", 9, 0), at("1997-09-02", 9, 40)};
+    set.dates = {at("1997-09-02", 9, 30)};
+    check(set.readings_from(set.start, 3) == std::vector<PlainDateTime>{at("1997-09-02", 9, 20), at("1997-09-02", 9, 30), at("1997-09-02", 10, 0)}, "two lists");
+    check(set.readings_from(set.start, 0).empty(), "no readings");
+    has_no_room([&] { set.readings_from(set.start, SIZE_MAX); }, "room for too many readings");
+    const Zone berlin = Zone::from_posix("CET-1CEST,M3.5.0,M10.5.0/3");
+    RecurrenceSet nights(Recurrence::parse("FREQ=DAILY;BYHOUR=2,3;UNTIL=20240401T003000Z"), at("2024-03-30", 2, 30));
+    nights.exceptions = {at("2024-03-30", 3, 30), at("2024-03-31", 3, 30)};
+    const std::vector<OffsetDateTime> moments = nights.moments_after(berlin, at("2024-01-01", 0, 0).assume_utc(), 9);
+    check(moments.size() == 3 && moments[0].local() == nights.start && moments[1].local() == at("2024-03-31", 3, 30)
+        && moments[1].offset() == UtcOffset::from_hms(2, 0, 0) && moments[2].local() == at("2024-04-01", 2, 30), "in Berlin");
+    check(nights.moments_after(berlin, moments[1], 9) == std::vector<OffsetDateTime>{moments[2]} && nights.moments_after(berlin, moments[2], 9).empty(), "after one");
+    nights.dates.assign(FOTS_MAX_DATES + 1, nights.start);
+    throws([&] { nights.readings_from(nights.start, 1); }, FOTS_TOO_MANY_DATES, "too many dates", "too many readings");
+}
+
 int main()
 {
     dates();
@@ -423,6 +446,7 @@ int main()
     recurrences();
     plain_moments();
     zones();
+    times_of_day();
     formats();
 #if __cplusplus >= 202002L
     days_of_chrono();

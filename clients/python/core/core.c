@@ -101,6 +101,7 @@ TO_VALUE(date, date)
 TO_VALUE(time, time)
 TO_VALUE(offset, offset)
 TO_VALUE(duration, duration)
+TO_VALUE(plain, moment)
 TO_VALUE(moment, moment)
 
 /* Converts a member of an enum. */
@@ -301,14 +302,17 @@ OF_PARSED(parse_recurrence, parse_recurrence, result.part,
 OF_PARSED(recurrence_text, recurrence_text, result.part,
     PyUnicode_FromStringAndSize(result.bytes, (Py_ssize_t)result.length))
 
-static PyObject *list_of(const State *state, const fots_date *days, size_t length)
-{
-    PyObject *list = PyList_New((Py_ssize_t)length);
-    for (size_t index = 0; list && index < length; index++) {
-        PyObject *date = new_date(state, days[index]);
-        if (!date || PyList_SetItem(list, (Py_ssize_t)index, date)) {
-            Py_CLEAR(list);
-        }
+#define LIST_OF(field, parameter, type) \
+    static PyObject *list_of_##field(parameter, const fots_##field *values, size_t length) \
+    { \
+        PyObject *list = PyList_New((Py_ssize_t)length); \
+        for (size_t index = 0; list && index < length; index++) { \
+            PyObject *value = new_##field(type, values[index]); \
+            if (!value || PyList_SetItem(list, (Py_ssize_t)index, value)) { \
+                Py_CLEAR(list); \
+            } \
+        } \
+        return list; \
     }
-    return list;
-}
+LIST_OF(date, const State *state, state)
+LIST_OF(moment, PyTypeObject *type, type)

@@ -4,9 +4,9 @@
 #include "types.c"
 #include "operators.c"
 #include "workdays.c"
-#include "recurrence.c"
 #include "formats.c"
 #include "zones.c"
+#include "recurrence.c"
 #include "columns.c"
 
 /* Returns whether a timedelta of -1 days, 2 seconds and 3 microseconds is a Delta. */

@@ -1,7 +1,7 @@
 /* Rules and recurrences, for the file schedules.py. */
 
-/* The days that a call returns at most: an iteration asks for as many at once. */
-#define DAYS_AT_ONCE 64
+/* The days or times that a call returns at most: an iteration asks for as many at once. */
+#define AT_ONCE 64
 
 #define LIST_OF_RULE(list) &rule->list, &rule->list##_length
 
@@ -30,14 +30,14 @@ static PyObject *core_rule_days_after(PyObject *self, PyObject *const *given, Py
 {
     const State *state = state_of_module(self);
     fots_rule rule;
-    fots_date date, days[DAYS_AT_ONCE];
+    fots_date date, days[AT_ONCE];
     if (!is_count("rule_days_after", count, 2) || !to_rule(state, given[0], &rule) ||
         !to_date(state, given[1], &date)) {
         return NULL;
     }
-    fots_days_result result = fots_rule_days_after(&rule, date, days, DAYS_AT_ONCE);
+    fots_days_result result = fots_rule_days_after(&rule, date, days, AT_ONCE);
     return result.status ? raise_status(state, result.status) :
-        list_of(state, days, result.length);
+        list_of_date(state, days, result.length);
 }
 
 /* Returns the first days of a recurrence with a start from a day on. */
@@ -45,15 +45,43 @@ static PyObject *core_recurrence_days(PyObject *self, PyObject *const *given, Py
 {
     const State *state = state_of_module(self);
     Text text = {NULL, NULL, 0};
-    fots_date start, from, days[DAYS_AT_ONCE];
+    fots_date start, from, days[AT_ONCE];
     if (!is_count("recurrence_days", count, 3) || !to_date(state, given[1], &start) ||
         !to_date(state, given[2], &from) || !to_text(state, given[0], &text)) {
         return NULL;
     }
     fots_recurrence_result result =
-        fots_recurrence_days(text.start, text.length, start, from, days, DAYS_AT_ONCE);
+        fots_recurrence_days(text.start, text.length, start, from, days, AT_ONCE);
     Py_XDECREF(text.bytes);
     return result.status ?
         raise_position(state, result.status, result.position, result.part) :
-        list_of(state, days, result.length);
+        list_of_date(state, days, result.length);
+}
+
+/* Takes a set, which is a tuple of a text, a start, and two lists as bytes, a zone or None, and a
+ * reading. Returns the readings from that one on, or with a zone the moments after a moment. */
+static PyObject *core_recurrence_times(PyObject *self, PyObject *const *given, Py_ssize_t count)
+{
+    const State *state = state_of_module(self);
+    PyObject *start;
+    fots_recurrence_set set;
+    fots_zone zone;
+    fots_moment first, times[AT_ONCE];
+    if (!is_count("recurrence_times", count, 3) ||
+        !PyArg_ParseTuple(given[0], "s#Oy#y#", &set.text, &set.text_length, &start, &set.dates,
+            &set.dates_length, &set.exceptions, &set.exceptions_length)) {
+        return NULL;
+    }
+    int is_plain = given[1] == Py_None;
+    if (!to_plain(state, start, &set.start) || !(is_plain || to_zone(state, given[1], &zone)) ||
+        !(is_plain ? to_plain : to_moment)(state, given[2], &first)) {
+        return NULL;
+    }
+    set.dates_length /= sizeof *set.dates;
+    set.exceptions_length /= sizeof *set.exceptions;
+    fots_recurrence_result result = is_plain ?
+        fots_recurrence_readings(&set, first, times, AT_ONCE) :
+        fots_recurrence_moments(&set, &zone, first, times, AT_ONCE);
+    return result.status ? raise_status(state, result.status) :
+        list_of_moment(is_plain ? state->plain : state->moment, times, result.length);
 }

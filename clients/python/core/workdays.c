@@ -55,5 +55,5 @@ static uint32_t workdays__weekmask(const fots_workdays *workdays) { return workd
 static PyObject *workdays__holidays(PyObject *self, void *Py_UNUSED(none))
 {
     const fots_workdays *workdays = WORKDAYS(self);
-    return list_of(workdays_state(self), workdays->holidays, workdays->holidays_length);
+    return list_of_date(workdays_state(self), workdays->holidays, workdays->holidays_length);
 }

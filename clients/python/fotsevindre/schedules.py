@@ -8,11 +8,12 @@ import functools
 import itertools
 import operator
 import re
+import struct
 from collections.abc import Callable, Iterable, Iterator, Sequence
 from typing import Any, SupportsIndex, TypeGuard, overload
 
 from . import _core
-from ._core import Date, OffsetDateTime, PlainDateTime, SignedDuration
+from ._core import Date, OffsetDateTime, PlainDateTime, Time, UtcOffset
 from .choices import Frequency
 from .enums import Month, Weekday
 from .errors import check, is_like_date
@@ -22,6 +23,23 @@ from .zones import Zone
 _LISTS = {"months": "B", "weeks": "b", "year_days": "h", "month_days": "b", "weekdays": "b",
     "set_positions": "h", "dates": "i", "exceptions": "i"}
 _UNTIL = "%Y%m%dT%H%M%S%.fZ"
+_NANOSECOND = _core.nanoseconds(1)
+_Readings = Iterable[PlainDateTime]
+
+
+def _pages(page: Callable[[Any], list[Any]], follow: Callable[[Any], Any], first: Any
+           ) -> Iterator[Any]:
+    """Iterates over what a call returns, at most 64 at once, from the first or what follows."""
+    while first is not None:
+        values = page(first)
+        yield from values
+        first = follow(values[-1]) if len(values) == 64 else None
+
+
+def _packed(readings: _Readings) -> bytes:
+    """Returns readings as C has them: Julian days, offsets, and nanoseconds since midnight."""
+    return b"".join(struct.pack("iiQ", check(one, PlainDateTime).date().to_julian_day(), 0,
+        (one.time() - Time()).whole_nanoseconds()) for one in readings)
 
 
 def _is_date(value: object) -> TypeGuard[Date]:
@@ -192,14 +210,15 @@ class Rule:
 
     def days_after(self, date: Date) -> Iterator[Date]:
         """Iterates over the days of the rule after the day, in order."""
-        return self._walk(check(date, Date))
+        days = functools.partial(_core.rule_days_after, self._parts)
+        return _pages(days, lambda last: last, check(date, Date))
 
     def first_days(self, count: SupportsIndex) -> list[Date]:
         """Returns the first `count` days of the rule."""
         return list(itertools.islice(self, operator.index(count)))
 
     def __iter__(self) -> Iterator[Date]:
-        return itertools.chain([Date.MIN] if Date.MIN in self else [], self._walk(Date.MIN))
+        return itertools.chain([Date.MIN] if Date.MIN in self else [], self.days_after(Date.MIN))
 
     def __contains__(self, date: object) -> bool:
         return _is_date(date) and _core.rule_contains(self._parts, date)
@@ -209,12 +228,6 @@ class Rule:
         while day is not None:
             yield day
             day = self.previous_before(day)
-
-    def _walk(self, date: Date) -> Iterator[Date]:
-        days = [date] * 64
-        while len(days) == 64:
-            days = _core.rule_days_after(self._parts, days[-1])
-            yield from days
 
 
 @dataclasses.dataclass(frozen=True)
@@ -280,7 +293,9 @@ class Recurrence:
         byweekno: int | Iterable[int] = (), byyearday: int | Iterable[int] = (),
         bymonthday: int | Iterable[int] = (),
         byweekday: Weekday | Iterable[Weekday | tuple[int, Weekday]] = (),
-        bysetpos: int | Iterable[int] = (), wkst: Weekday = Weekday.Monday
+        byhour: int | Iterable[int] = (), byminute: int | Iterable[int] = (),
+        bysecond: int | Iterable[int] = (), bysetpos: int | Iterable[int] = (),
+        wkst: Weekday = Weekday.Monday
     ) -> Recurrence:
         """Creates a recurrence from its parts, with the names of RFC 5545 and of `dateutil`. Raises
         `ParseRuleError` for an invalid value, and for parts that exclude each other.
@@ -303,8 +318,9 @@ class Recurrence:
                 "" if until is None else str(check(until, Date)).replace("-", ""),
             "BYMONTH": listed(bymonth), "BYWEEKNO": listed(byweekno),
             "BYYEARDAY": listed(byyearday), "BYMONTHDAY": listed(bymonthday),
-            "BYDAY": listed(byweekday, weekday_text), "BYSETPOS": listed(bysetpos),
-            "WKST": weekday_text(check(wkst, Weekday))}
+            "BYDAY": listed(byweekday, weekday_text), "BYHOUR": listed(byhour),
+            "BYMINUTE": listed(byminute), "BYSECOND": listed(bysecond),
+            "BYSETPOS": listed(bysetpos), "WKST": weekday_text(check(wkst, Weekday))}
         return cls(";".join(f"{name}={value}" for name, value in parts.items() if value != ""))
 
     def rule(self, start: Date) -> Rule:
@@ -318,28 +334,39 @@ class Recurrence:
 
     def days_from(self, start: Date, date: Date) -> Iterator[Date]:
         """Iterates over the days from a start, without the days before the date."""
-        return self._walk(check(start, Date), check(date, Date))
+        days = functools.partial(_core.recurrence_days, self.text, check(start, Date))
+        return _pages(days, Date.next_day, check(date, Date))
 
-    def moments(self, start: PlainDateTime, zone: Zone,
-                since: OffsetDateTime | None = None) -> Iterator[OffsetDateTime]:
-        """Iterates over the moments at which the clocks of a zone show the days from a start to the
-        end, at its time of day, in order, each once, and without those before `since`. A time that
-        the clocks skip or show twice means `Local.compatible`. `BYHOUR` raises `ValueError`."""
-        if re.search("BY(HOUR|MINUTE|SECOND)=", self.text):
-            raise ValueError("moments with BYHOUR, BYMINUTE or BYSECOND")
-        date, until = check(start, PlainDateTime).date(), self.until_moment
-        # The dates of a moment differ by at most 3 days, as offsets are below 26 hours.
-        first = date if since is None else \
-            check(since, OffsetDateTime).date().saturating_sub(SignedDuration.days(3))
-        recurrence = Recurrence(re.sub(";UNTIL=[^;]*", "", self.text)) if until else self
-        readings = (PlainDateTime(day, start.time()) for day in recurrence.days_from(date, first))
-        moments: Iterator[OffsetDateTime] = check(zone, Zone)._moments(readings)
-        moments = itertools.dropwhile(since.__gt__, moments) if since else moments
-        return itertools.takewhile(until.__ge__, moments) if until else moments
+    def readings(self, start: PlainDateTime, since: PlainDateTime | None = None, *,
+                 dates: _Readings = (), exceptions: _Readings = ()) -> Iterator[PlainDateTime]:
+        """Iterates over the readings of a clock from a start to the end, in order, each once, and
+        without those before `since`. `dates` (RDATE) are readings too, and `exceptions` (EXDATE)
+        aren't. They have the times of `BYHOUR`, `BYMINUTE` and `BYSECOND`, or of the start.
 
-    def _walk(self, start: Date, date: Date | None) -> Iterator[Date]:
-        days = [start] * 64
-        while len(days) == 64 and date is not None:
-            days = _core.recurrence_days(self.text, start, date)
-            yield from days
-            date = days[-1].next_day() if days else None
+        >>> start = PlainDateTime.parse("1997-09-02T09:00:00")
+        >>> list(Recurrence.parse("FREQ=DAILY;BYHOUR=9,17;COUNT=3").readings(start))[1:]
+        [1997-09-02 17:00:00.0, 1997-09-03 9:00:00.0]
+        """
+        first = PlainDateTime.MIN if since is None else check(since, PlainDateTime)
+        times = self._times(start, dates, exceptions, None)
+        return _pages(times, lambda last: last.checked_add(_NANOSECOND), first)
+
+    def moments(self, start: PlainDateTime, zone: Zone, since: OffsetDateTime | None = None, *,
+                dates: _Readings = (), exceptions: Iterable[PlainDateTime | OffsetDateTime] = ()
+                ) -> Iterator[OffsetDateTime]:
+        """Iterates over the moments at which the clocks of a zone show these readings, in order,
+        each once, and without those before `since`. A time that the clocks skip or show twice means
+        `Local.compatible`. An exception can be an instant."""
+        less = [*exceptions]
+        instants = [one for one in less if isinstance(one, OffsetDateTime)]
+        readings = [one for one in less if not isinstance(one, OffsetDateTime)]
+        times = self._times(start, dates, readings, check(zone, Zone)._zone)
+        first = PlainDateTime.MIN.assume_offset(UtcOffset(25, 59, 59))
+        low = first if since is None else check(since, OffsetDateTime)
+        pages = _pages(times, lambda last: last, low.checked_sub(_NANOSECOND) or first)
+        return (one for one in pages if one >= low and one not in instants)
+
+    def _times(self, start: PlainDateTime, dates: _Readings, exceptions: _Readings, zone: Any
+               ) -> Callable[[Any], list[Any]]:
+        given = self.text, check(start, PlainDateTime), _packed(dates), _packed(exceptions)
+        return functools.partial(_core.recurrence_times, given, zone)

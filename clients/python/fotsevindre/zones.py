@@ -8,7 +8,6 @@ import importlib.resources
 import operator
 import os
 import pathlib
-from collections.abc import Iterable, Iterator
 from typing import Any, SupportsIndex
 
 # The file calls.py imports this one, so only calls use its names.
@@ -145,17 +144,6 @@ class Zone:
         kind, earlier, later, before, after = _core.zone_resolve(self._zone, date, time)
         instants = ((earlier,), (), (earlier, later))[kind - 1]
         return Local(reading, LocalKind(kind), instants, before, after)
-
-    def _moments(self, readings: Iterable[PlainDateTime]) -> Iterator[OffsetDateTime]:
-        """Yields the moments of readings at least a day apart, in order, each once. Two offsets
-        differ by less than 52 hours, so it suffices to wait for two more readings."""
-        waiting: list[OffsetDateTime] = []
-        for reading in readings:
-            with contextlib.suppress(OverflowError):
-                waiting = sorted({*waiting, self.resolve(reading).compatible()})
-            if len(waiting) > 2:
-                yield waiting.pop(0)
-        yield from waiting
 
     def in_zone(self, moment: OffsetDateTime) -> OffsetDateTime:
         """Returns the same instant in this zone, like `OffsetDateTime.in_zone`."""

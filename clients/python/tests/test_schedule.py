@@ -16,7 +16,9 @@ try:
 except ImportError:
     rrule = None
 
-from fotsevindre import ComponentRange, Convention, Date, DayCount, Frequency, Month, Recurrence, Rule, ParseRuleError, ParseRuleErrorKind, SignedDuration, Weekday, Workdays
+from fotsevindre import (
+    ComponentRange, Convention, Date, DayCount, Frequency, Month, OffsetDateTime, PlainDateTime, Recurrence, Rule, ParseRuleError, ParseRuleErrorKind,
+    SignedDuration, Time, Weekday, Workdays, Zone)
 
 
 def day(year, month, day_of_month):
@@ -322,6 +324,97 @@ class Recurrences(unittest.TestCase):
             self.assertRaises(TypeError, Recurrence.from_parts, Frequency.Yearly, **parts)
         for call in (Rule(start, Frequency.Daily).next_after, Rule(start, Frequency.Daily).days_after):
             self.assertRaises(TypeError, call, 1)
+
+
+def at(text):
+    return PlainDateTime.parse(text)
+
+
+class TimesOfDay(unittest.TestCase):
+    def test_examples_of_the_rfc(self):
+        rule, start = Recurrence.parse("FREQ=DAILY;BYHOUR=9,10,11,12,13,14,15,16;BYMINUTE=0,20,40"), at("1997-09-02T09:00:00")
+        wanted = [at(f"1997-09-{date:02}T{hour:02}:{minute:02}:00") for date in range(2, 31) for hour in range(9, 17) for minute in (0, 20, 40)]
+        self.assertEqual(list(itertools.islice(rule.readings(start), len(wanted))), wanted)
+        new_york = Zone.from_posix("EDT4")
+        self.assertEqual([one.local() for one in itertools.islice(rule.moments(start, new_york), len(wanted))], wanted)
+        # The same rule at a later time, and at an instant between two of its times.
+        self.assertEqual(next(rule.readings(start, at("1997-09-05T16:40:01"))), at("1997-09-06T09:00:00"))
+        self.assertEqual(next(rule.readings(start, at("1997-09-05T16:40:00"))), at("1997-09-05T16:40:00"))
+        self.assertEqual(next(rule.moments(start, new_york, OffsetDateTime.parse("1997-09-05T14:50:00Z"))).local(), at("1997-09-05T11:00:00"))
+        self.assertEqual(next(rule.moments(start, new_york, OffsetDateTime.parse("1997-09-05T15:00:00Z"))).local(), at("1997-09-05T11:00:00"))
+
+    @unittest.skipUnless(rrule, "dateutil is not installed")
+    def test_drawn(self):
+        """Rules with times of day, other readings and exceptions, by the sets of dateutil, which has rules of whole seconds."""
+        draw, kept = random.Random(3851), {"byhour": 0, "byminute": 0, "bysecond": 0, "bysetpos": 0, "until": 0, "count": 0}
+        frequencies = {Frequency.Daily: rrule.DAILY, Frequency.Weekly: rrule.WEEKLY, Frequency.Monthly: rrule.MONTHLY, Frequency.Yearly: rrule.YEARLY}
+        for _ in range(250):
+            frequency, start = draw.choice(list(frequencies)), datetime.datetime(2023, 1, 1) + datetime.timedelta(seconds=draw.randrange(40_000_000))
+            parts = {name: sorted(draw.sample(range(most), draw.choice((1, 2)))) for name, most in (("byhour", 24), ("byminute", 60), ("bysecond", 60))
+                if draw.random() < 0.6}
+            if draw.random() < 0.3:
+                parts["bymonth"] = draw.sample(range(1, 13), 8)
+            if frequency is not Frequency.Weekly and draw.random() < 0.3:
+                parts["bymonthday"] = draw.sample([*range(1, 32), -1, -2], 12)
+            weekdays = draw.sample(list(Weekday), 3) if draw.random() < 0.4 else []
+            # dateutil counts positions in the first week from the start only.
+            if frequency is not Frequency.Weekly and parts and draw.random() < 0.4:
+                parts["bysetpos"] = draw.sample((1, -1, 5, -3) if weekdays and frequency is not Frequency.Daily else (1, -1), 2)
+            until = start + datetime.timedelta(seconds=draw.randrange(20_000_000))
+            end = draw.choice(({}, {"count": draw.randrange(1, 130)}, {"until": until}))
+            interval, week_start = draw.choice((1, 1, 2, 3)), draw.choice(list(Weekday))
+            theirs = rrule.rrule(
+                frequencies[frequency], start, interval, int(week_start), byweekday=[rrule.weekdays[one] for one in weekdays] or None, cache=True, **parts, **end)
+            ours = Recurrence.from_parts(frequency, interval=interval, wkst=week_start, byweekday=weekdays, count=end.get("count"), **parts)
+            ours = Recurrence.parse(f"{ours};UNTIL={until:%Y%m%dT%H%M%S}") if "until" in end else ours
+            listed = list(itertools.islice(theirs, 200))
+            more = [start + datetime.timedelta(seconds=draw.randrange(-10**6, 10**7)) for _ in range(draw.choice((0, 0, 3)))]
+            without = draw.sample(listed, len(listed) // 5) + draw.sample(more, len(more) // 2)
+            whole = rrule.rruleset()
+            whole.rrule(theirs)
+            for one in more:
+                whole.rdate(one)
+            for one in without * 2:
+                whole.exdate(one)
+            wanted = [PlainDateTime.from_datetime(one) for one in itertools.islice(whole, 150)]
+            dates, exceptions = ([PlainDateTime.from_datetime(one) for one in ones * 2] for ones in (more, without))
+            found = ours.readings(PlainDateTime.from_datetime(start), dates=iter(dates), exceptions=exceptions)
+            self.assertEqual(list(itertools.islice(found, 150)), wanted, (str(start), str(ours)))
+            if len(wanted) < 150:
+                self.assertEqual(list(found), [])
+            for since in wanted[1::40]:
+                later = ours.readings(PlainDateTime.from_datetime(start), since, dates=dates, exceptions=exceptions)
+                self.assertEqual(list(itertools.islice(later, 5)), [one for one in wanted if one >= since][:5] if len(wanted) < 150 else
+                    (wanted[wanted.index(since):] + [None] * 5)[:5], (str(start), str(ours)))
+            for name in {**parts, **end}:
+                kept[name] = kept.get(name, 0) + bool(wanted)
+        self.assertGreater(min(kept.values()), 40, kept)
+
+    def test_ends(self):
+        start = PlainDateTime.MIN
+        self.assertEqual(list(Recurrence.parse("FREQ=DAILY;BYHOUR=0,12;COUNT=3").readings(start)), [start, start.replace(hour=12), start.replace(day=2)])
+        last = PlainDateTime(Date.MAX, Time(23, 59, 59, nanosecond=999_999_999))
+        self.assertEqual(list(Recurrence.parse("FREQ=DAILY").readings(last)), [last])
+        self.assertEqual(list(Recurrence.parse("FREQ=DAILY;BYSECOND=60;UNTIL=20170101").readings(at("2016-12-31T00:00:00"))), [])
+        # Each reading has the nanoseconds of the start, and the times that the text lacks.
+        found = Recurrence.parse("FREQ=DAILY;BYHOUR=7;COUNT=2").readings(at("2024-02-28T09:30:15.25"))
+        self.assertEqual(list(found), [at("2024-02-29T07:30:15.25"), at("2024-03-01T07:30:15.25")])
+        for until, wanted in (("20240102", 4), ("20240102T090000", 3), ("20240102T085959", 2), ("20240102T170000Z", 4), ("20231231", 0)):
+            found = Recurrence.parse(f"FREQ=DAILY;BYHOUR=9,17;UNTIL={until}").readings(at("2024-01-01T09:00:00"))
+            self.assertEqual(len(list(found)), wanted, until)
+
+    def test_errors(self):
+        daily, start, many = Recurrence.parse("FREQ=DAILY;BYHOUR=1"), at("2024-01-01T00:00:00"), [at("2024-01-01T00:00:00")] * 1025
+        self.assertEqual(len(list(Recurrence.parse("FREQ=DAILY;COUNT=1").readings(start, dates=many[1:], exceptions=many[1:]))), 0)
+        for lists in ({"dates": many}, {"exceptions": many}):
+            for call in (daily.readings, lambda one, **given: daily.moments(one, Zone.from_posix("UTC0"), **given)):
+                with self.assertRaisesRegex(ValueError, "^too many dates or exceptions of a rule; expected at most 1024$"):
+                    next(call(start, **lists))
+        for call in (lambda: daily.readings(start.date()), lambda: daily.readings(start, start.assume_utc()), lambda: daily.readings(start, dates=[1]),
+                lambda: daily.readings(start, exceptions=[start.assume_utc()]), lambda: daily.readings(start, dates=5)):
+            self.assertRaises(TypeError, call)
+        for parts in ({"byhour": 24}, {"byminute": 60}, {"bysecond": 61}):
+            self.assertRaises(ParseRuleError, Recurrence.from_parts, Frequency.Daily, **parts)
 
 
 if __name__ == "__main__":

@@ -177,6 +177,11 @@ class RecurrencesInZones(unittest.TestCase):
                 "04-06 1:45:00.5 +11:00, 04-07 1:45:00.5 +11:00, 04-08 1:45:00.5 +10:30"),
             ("FREQ=DAILY;COUNT=3", "2024-10-05T02:15", "Australia/Lord_Howe", "10-05 2:15:00.0 +10:30, 10-06 2:45:00.0 +11:00, 10-07 2:15:00.0 +11:00"),
             ("FREQ=WEEKLY;BYDAY=SU;COUNT=2", "2024-03-27T02:30", "Etc/UTC", "03-31 2:30:00.0 +00:00, 04-07 2:30:00.0 +00:00"),
+            # In the gap 2:30 and 3:30 are one moment, and in the fold 2:30 is the earlier one.
+            ("FREQ=DAILY;BYHOUR=1,2,3;BYMINUTE=30;COUNT=7", "2024-03-30T02:00", "Europe/Berlin",
+                "03-30 2:30:00.0 +01:00, 03-30 3:30:00.0 +01:00, 03-31 1:30:00.0 +01:00, 03-31 3:30:00.0 +02:00, 04-01 1:30:00.0 +02:00, 04-01 2:30:00.0 +02:00"),
+            ("FREQ=WEEKLY;BYDAY=SU,WE;BYHOUR=1,2,3;BYMINUTE=30;COUNT=5", "2024-10-27T01:30", "Europe/Berlin",
+                "10-27 1:30:00.0 +02:00, 10-27 2:30:00.0 +02:00, 10-27 3:30:00.0 +01:00, 10-30 1:30:00.0 +01:00, 10-30 2:30:00.0 +01:00"),
         ):
             self.assertEqual(moments(text, start, key), [f"2024-{one}:00" for one in wanted.split(", ")], (text, start, key))
 
@@ -203,6 +208,20 @@ class RecurrencesInZones(unittest.TestCase):
         self.assertEqual(last, ["+999999-12-29", "+999999-12-30"])
         first = Recurrence.parse("FREQ=DAILY").moments(PlainDateTime.MIN, Zone.from_posix("<+03>-3"), OffsetDateTime.UNIX_EPOCH)
         self.assertEqual(str(next(first)), "1970-01-02 0:00:00.0 +03:00:00")
+
+    def test_lists_of_readings(self):
+        """The exceptions of a calendar are readings, or instants. In the gap of 31 March, 2:30 and 3:30 are one moment."""
+        berlin, start, rule = Zone("Europe/Berlin"), at("2024-03-31T00:30"), Recurrence.parse("FREQ=DAILY;BYHOUR=2,3;BYMINUTE=30;COUNT=4")
+        all_four = [OffsetDateTime.parse(one) for one in ("2024-03-31T01:30Z", "2024-04-01T00:30Z", "2024-04-01T01:30Z")]
+        for exceptions, wanted in (
+            ([], all_four), ([at("2024-03-31T02:30")], all_four), ([at("2024-03-31T02:30"), at("2024-03-31T03:30")], all_four[1:]),
+            (iter([all_four[0].to_offset(berlin.offset_at(0))]), all_four[1:]), ([all_four[1], at("2024-04-01T03:30"), all_four[1]], all_four[:1]),
+        ):
+            self.assertEqual(list(rule.moments(start, berlin, exceptions=exceptions)), wanted)
+        # Other readings can come before the start, which isn't an occurrence.
+        dates = [at("2024-10-27T02:30"), at("2024-03-30T02:30"), at("2024-03-31T03:30")]
+        found = [str(one) for one in rule.moments(start, berlin, dates=dates, exceptions=all_four)]
+        self.assertEqual(found, ["2024-03-30 2:30:00.0 +01:00:00", "2024-10-27 2:30:00.0 +02:00:00"])
 
     def test_instants_of_until(self):
         # Ends of a calendar are instants. Their days can be others in the zone.
@@ -261,6 +280,9 @@ class RecurrencesInZones(unittest.TestCase):
             numbers = [draw.choice((1, 2, -1)) if frequency == Frequency.Monthly and "bymonthday" not in parts else 0] * len(weekdays)
             if draw.random() < 0.5:
                 parts["count"] = draw.randint(1, 40)
+            for name, values in (("byhour", {start.hour, (start.hour + 1) % 24}), ("byminute", {0, 30, start.minute}), ("bysecond", {0, 59})):
+                if draw.random() < 0.4:
+                    parts[name] = sorted(values)
             ours = Recurrence.from_parts(
                 frequency, interval=interval, wkst=week_start, **parts,
                 byweekday=[(number, one) if number else one for number, one in zip(numbers, weekdays)])

@@ -2,6 +2,9 @@
 //! to 9999. Prints the median of the rounds in nanoseconds of processor time for each call.
 #![allow(unexpected_cfgs)]
 
+mod formats;
+mod zones;
+
 use std::hint::black_box;
 
 const DRAWN: usize = 4096;
@@ -219,4 +222,6 @@ fn main() {
             ("chrono", over(&chronos, |date| date.to_string())),
         ],
     );
+    formats::compare_formats();
+    zones::compare_zones();
 }

@@ -19,6 +19,9 @@ pub(crate) type Status = i32;
 /// The parts of a rule, from [`with_parts`] only.
 pub(crate) type CRulePointer<'a> = &'a CRule;
 
+/// A recurrence with times of day, from [`crate::recurrence::RecurrenceSet`] only.
+pub(crate) type CRecurrenceSetPointer<'a> = &'a CRecurrenceSet;
+
 /// A format, from [`Format`](crate::Format) only.
 pub(crate) type CFormatPointer<'a> = &'a CFormat;
 /// Working days that a call made, from [`crate::Workdays`] only.

@@ -46,7 +46,7 @@ impl OffsetDateTime {
     }
 
     /// Converts from the struct of C.
-    fn from_c(moment: CMoment) -> Self {
+    pub(crate) fn from_c(moment: CMoment) -> Self {
         Self::new_in_offset(Date::from_c(moment.date), Time::from_c(moment.time), UtcOffset::from_c(moment.offset))
     }
 

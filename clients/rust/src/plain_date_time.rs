@@ -37,12 +37,12 @@ impl PlainDateTime {
     }
 
     /// Converts from the struct of C.
-    fn from_c(moment: CMoment) -> Self {
+    pub(crate) fn from_c(moment: CMoment) -> Self {
         Self::new(Date::from_c(moment.date), Time::from_c(moment.time))
     }
 
     /// Converts to the struct of C, at the offset 0.
-    fn to_c(self) -> CMoment {
+    pub(crate) fn to_c(self) -> CMoment {
         self.assume_utc().to_c()
     }
 

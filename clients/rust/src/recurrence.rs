@@ -14,11 +14,13 @@ use core::fmt;
 use core::iter::FusedIterator;
 
 mod parts;
+mod set;
 mod text;
 mod values;
 
 use parts::Parts;
 
+pub use set::RecurrenceSet;
 pub use text::RecurrenceText;
 
 /// The days in one call of an iterator.

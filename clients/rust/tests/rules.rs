@@ -1,11 +1,11 @@
 //! Recurrences, by examples of RFC 5545 with their first days.
 
-use fotsevindre::recurrence::{parse, ParseRuleError, ParseRuleErrorKind, RuleEnd, RulePart};
+use fotsevindre::recurrence::{parse, ParseRuleError, ParseRuleErrorKind, RecurrenceSet, RuleEnd, RulePart};
 use fotsevindre::ByDay::{Every, Nth};
 use fotsevindre::Frequency::{Daily, Monthly, Weekly, Yearly};
 use fotsevindre::Month::{December, February, January, July, June, November};
 use fotsevindre::Weekday::{Friday, Monday, Saturday, Sunday, Thursday, Tuesday, Wednesday};
-use fotsevindre::{Date, Duration, Frequency, Month, Rule};
+use fotsevindre::{Date, Duration, Frequency, Month, OffsetDateTime, PlainDateTime, Rule, Time, Zone};
 
 /// The day with the number of eight digits, as `1997_09_02`.
 fn date(number: i32) -> Date {
@@ -289,4 +289,53 @@ fn set_positions_past_them() {
 #[should_panic = "too many weekdays in a rule: 64; expected at most 62"]
 fn weekdays_past_them() {
     Rule { weekdays: &[Every(Monday); 64], ..rule(Daily, 2024_01_01) }.contains(Date::MAX);
+}
+
+/// The reading on a day at an hour and a minute.
+fn at(number: i32, hour: u8, minute: u8) -> PlainDateTime {
+    PlainDateTime::new(date(number), Time::from_hms(hour, minute, 0).unwrap())
+}
+
+/// "Every 20 minutes from 9:00 AM to 4:40 PM every day" of RFC 5545, over pages of 64 readings.
+#[test]
+fn times_of_day() {
+    let set = RecurrenceSet::new(parse(b"FREQ=DAILY;BYHOUR=9,10,11,12,13,14,15,16;BYMINUTE=0,20,40").unwrap(), at(1997_09_02, 9, 0));
+    let wanted = |day| (9..17).flat_map(move |hour| [0, 20, 40].map(|minute| at(1997_09_00 + day, hour, minute)));
+    assert!(set.readings().take(29 * 24).eq((2..31).flat_map(wanted)));
+    assert!(set.readings_from(at(1997_09_04, 16, 41)).take(24).eq(wanted(5)));
+    let (dates, exceptions) = ([at(1997_09_02, 9, 30); Rule::MAX_DATES], [at(1997_09_02, 9, 20); Rule::MAX_DATES]);
+    let two_lists = RecurrenceSet { dates: &dates, exceptions: &exceptions, ..set };
+    assert!(two_lists.readings().take(3).eq([(9, 0), (9, 30), (9, 40)].map(|(hour, minute)| at(1997_09_02, hour, minute))));
+    let counted = RecurrenceSet::new(parse(b"FREQ=DAILY;BYHOUR=0,12;COUNT=129").unwrap(), PlainDateTime::MIN);
+    assert_eq!((counted.readings().next(), counted.readings().count()), (Some(PlainDateTime::MIN), 129));
+    let last = RecurrenceSet::new(parse(b"FREQ=DAILY").unwrap(), PlainDateTime::MAX);
+    assert_eq!(last.readings().collect::<Vec<_>>(), [PlainDateTime::MAX]);
+}
+
+/// In the gap 2:30 and 3:30 are one moment, and in the fold 2:30 is the earlier one.
+#[test]
+fn times_in_a_zone() {
+    let berlin = Zone::parse_posix("CET-1CEST,M3.5.0,M10.5.0/3").unwrap();
+    for (text, start, wanted) in [
+        ("FREQ=DAILY;BYHOUR=2,3;COUNT=4", at(2024_03_30, 2, 30), &["30 2:30:00.0 +01", "30 3:30:00.0 +01", "31 3:30:00.0 +02"][..]),
+        ("FREQ=DAILY;BYHOUR=2,3;COUNT=3", at(2024_10_27, 2, 30), &["27 2:30:00.0 +02", "27 3:30:00.0 +01", "28 2:30:00.0 +01"]),
+        ("FREQ=DAILY;BYHOUR=2,3;UNTIL=20241027T013000Z", at(2024_10_27, 2, 30), &["27 2:30:00.0 +02"]),
+    ] {
+        let set = RecurrenceSet::new(parse(text.as_bytes()).unwrap(), start);
+        let moments: Vec<_> = set.moments_after(&berlin, OffsetDateTime::UNIX_EPOCH).collect();
+        let texts: Vec<_> = moments.iter().map(|moment| moment.to_string()[8..].trim_end_matches(":00").to_string()).collect();
+        assert_eq!(texts, wanted, "{text}");
+        assert!(set.moments_after(&berlin, moments[0]).eq(moments[1..].iter().copied()), "{text}");
+        let without = RecurrenceSet { exceptions: &[start], ..set };
+        assert!(without.moments_after(&berlin, OffsetDateTime::UNIX_EPOCH).eq(moments[1..].iter().copied()), "{text}");
+    }
+    let daily = RecurrenceSet::new(parse(b"FREQ=DAILY").unwrap(), at(2024_01_01, 12, 0));
+    assert_eq!(daily.moments_after(&berlin, OffsetDateTime::UNIX_EPOCH).nth(200).unwrap().to_string(), "2024-07-19 12:00:00.0 +02:00:00");
+}
+
+#[test]
+#[should_panic(expected = "too many exceptions in a set: 1025; expected at most 1024")]
+fn too_many_readings() {
+    let start = at(2024_01_01, 12, 0);
+    RecurrenceSet { exceptions: &[start; 1025], ..RecurrenceSet::new(parse(b"FREQ=DAILY").unwrap(), start) }.readings().next();
 }

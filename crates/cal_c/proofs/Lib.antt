@@ -19,9 +19,11 @@ pub mod OneAnswer
 pub mod ZoneResults
 pub mod ZoneTexts
 pub mod OnePass
+pub mod IsoDates
 pub mod OneZone
 pub mod FormatItems
 pub mod FormatPrinting
 pub mod FormatParsing
 pub mod FormatRows
 pub mod LaterMoments
+pub mod WrittenMoments

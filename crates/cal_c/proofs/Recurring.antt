@@ -1,5 +1,5 @@
 -- The parts of a rule, which are read one by one, and its days, which are written one by one.
-use Rattle.std.proofs.Common.{◌≡◌, ◌≢◌, refl, ℕ, ◌+◌, ◌-◌, ◌<◌, ◌≤◌, ap, sym, ◌∙◌, arith, below_more, add-one, List, [], ◌∷◌, ◌++◌, length, get_or, get_or-set_other, get_or-set_same, map, take, drop, drop-cons, length-drop, slice_get, ℤ, pos, Option, Some, None, MatchOption}
+use Rattle.std.proofs.Common.{◌≡◌, ◌≢◌, refl, ℕ, ◌+◌, ◌-◌, ◌<◌, ◌≤◌, ap, sym, ◌∙◌, arith, below_more, add-one, List, [], ◌∷◌, ◌++◌, length, get_or, get_or-set_other, get_or-set_same, map, take, drop, drop-cons, length-drop, slice_get, Option, Some, None, MatchOption}
 use Rattle.std.proofs.Math.ListN.{set}
 use Rattle.std.proofs.lemmas.List.{map_more}
 use Rattle.cal_time.specs.Month.{index, month_of_index, number}
@@ -99,22 +99,22 @@ pub none_first : (xs : List ℕ) → None ≡ slice_get xs 0 → xs ≡ []
 none_first [] e = refl
 none_first (x ∷ xs) e = absurd (cc)
 
--- A list after its first i days.
-pub goes_on : (ns xs : List ℕ) (i x : ℕ) → i < length ns → drop i ns ≡ x ∷ xs → (get_or ns i 0 ≡ x) × (drop (i + 1) ns ≡ xs)
-goes_on ns xs i x lt e = let same = drop-cons ns i 0 lt in (cc, rw (add-one) (cc))
+-- A list after its first i values.
+pub goes_on : {A : Type 0} (d : A) (ns xs : List A) (i : ℕ) (x : A) → i < length ns → drop i ns ≡ x ∷ xs → (get_or ns i d ≡ x) × (drop (i + 1) ns ≡ xs)
+goes_on d ns xs i x lt e = let same = drop-cons ns i d lt in (cc, rw (add-one) (cc))
 
-pub more_left : (ns xs : List ℕ) (i x : ℕ) → drop i ns ≡ x ∷ xs → i < length ns
+pub more_left : {A : Type 0} (ns xs : List A) (i : ℕ) (x : A) → drop i ns ≡ x ∷ xs → i < length ns
 more_left ns xs i x e = omega (arith, length-drop i ns, ap length e)
 
-pub none_left : (ns : List ℕ) (i : ℕ) → drop i ns ≡ [] → length ns ≤ i
+pub none_left : {A : Type 0} (ns : List A) (i : ℕ) → drop i ns ≡ [] → length ns ≤ i
 none_left ns i e = omega (arith, length-drop i ns, ap length e)
 
--- one more number is written
-pub written_more : (P : ℕ → ℤ → Type 0) (zs : List ℤ) (i : ℕ) (z : ℤ) → i < length zs → ((k : ℕ) → k < i → P k (get_or zs k (pos 0))) → P i z
-    → (k : ℕ) → k < i + 1 → P k (get_or (set zs i z) k (pos 0))
-written_more P zs i z lt before here =
-    below_more (λ k. P k (get_or (set zs i z) k (pos 0))) i (λ k below. let ne : k ≢ i = omega arith in rw get_or-set_other (before k below)) (rw get_or-set_same here)
+-- one more value is written
+pub written_more : {A : Type 0} (d : A) (P : ℕ → A → Type 0) (zs : List A) (i : ℕ) (z : A) → i < length zs → ((k : ℕ) → k < i → P k (get_or zs k d)) → P i z
+    → (k : ℕ) → k < i + 1 → P k (get_or (set zs i z) k d)
+written_more d P zs i z lt before here =
+    below_more (λ k. P k (get_or (set zs i z) k d)) i (λ k below. let ne : k ≢ i = omega arith in rw get_or-set_other (before k below)) (rw get_or-set_same here)
 
-pub kept_more : (old zs : List ℤ) (i : ℕ) (z : ℤ) → ((k : ℕ) → i ≤ k → get_or zs k (pos 0) ≡ get_or old k (pos 0))
-    → (k : ℕ) → i + 1 ≤ k → get_or (set zs i z) k (pos 0) ≡ get_or old k (pos 0)
-kept_more old zs i z kept k past = let ne : k ≢ i = omega arith in rw get_or-set_other (kept k (omega arith))
+pub kept_more : {A : Type 0} (d : A) (old zs : List A) (i : ℕ) (z : A) → ((k : ℕ) → i ≤ k → get_or zs k d ≡ get_or old k d)
+    → (k : ℕ) → i + 1 ≤ k → get_or (set zs i z) k d ≡ get_or old k d
+kept_more d old zs i z kept k past = let ne : k ≢ i = omega arith in rw get_or-set_other (kept k (omega arith))

@@ -19,3 +19,4 @@ pub mod FormatTexts
 pub mod FormatParsing
 pub mod FormatColumns
 pub mod OnePass
+pub mod TextSets

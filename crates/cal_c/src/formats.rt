@@ -1,6 +1,7 @@
 //! Formats: values in text by a format that C passes.
 mod components;
 pub mod format_parts;
+pub(crate) mod iso_dates;
 mod items;
 mod making;
 mod names;

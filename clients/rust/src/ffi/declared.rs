@@ -97,6 +97,10 @@ structs! {
         month_days_length: usize, weekdays: *const CRuleWeekday, weekdays_length: usize, set_positions: *const i16,
         set_positions_length: usize, dates: *const i32, dates_length: usize, exceptions: *const i32, exceptions_length: usize,
     };
+    CRecurrenceSet {
+        text: *const u8, text_length: usize, start: CMoment, dates: *const CMoment, dates_length: usize, exceptions: *const CMoment,
+        exceptions_length: usize,
+    };
     CZoneClock { offset: i32, is_daylight: u32, name_start: usize, name_end: usize };
     CZoneYearly { month: u8, week: u8, weekday: u8, time: i32, clock: CZoneClock };
     CZoneLayout { times: usize, indexes: usize, types: usize, names: usize, names_end: usize, changes: usize, kinds: usize };
@@ -204,6 +208,7 @@ calls! {
     fots_recurrence_parse(text: &[u8]) -> ParseRecurrenceResult;
     fots_recurrence_text(text: &[u8]) -> RecurrenceTextResult;
     fots_recurrence_days(text: &[u8], start: i32, from: i32, days: &mut [Date]) -> RecurrenceResult;
+    fots_recurrence_readings(set: CRecurrenceSetPointer, from: CMoment, readings: &mut [CMoment]) -> RecurrenceResult;
     fots_date_day_count(date: i32, other: i32, convention: u32) -> YearFractionResult;
     fots_date_replace_year(date: i32, year: i32) -> DateResult;
     fots_date_replace_month(date: i32, month: u32) -> DateResult;
@@ -353,6 +358,9 @@ calls! {
     fots_moment_in_zone(moment: CMoment, zone: CZonePointer) -> MomentResult;
     fots_moment_format_in_zone(moment: CMoment, zone: CZonePointer, format: CFormatPointer, bytes: &mut [u8]) -> LengthResult;
     fots_zone_resolve(zone: CZonePointer, date: i32, time: u64) -> LocalResult;
+    fots_recurrence_moments(
+        set: CRecurrenceSetPointer, zone: CZonePointer, after: CMoment, moments: &mut [CMoment],
+    ) -> RecurrenceResult;
     fots_zone_offsets(zone: CZonePointer, seconds: &[i64], offsets: &mut [i32], statuses: &mut [u8]) -> usize;
     fots_zone_instants(zone: CZonePointer, readings: &[i64], policy: u32, seconds: &mut [i64], statuses: &mut [u8]) -> usize;
 }

@@ -11,6 +11,7 @@ ghost use Rattle.cal_c.specs.OnePass.{IsItemOf, AreItemsOf, IsFormatOf, PrintsIt
 ghost use Rattle.cal_c.specs.Statuses.{invalid_format};
 
 use super::format_parts::{FormatItem, FormatParts};
+use super::iso_dates::{is_iso, parse_iso};
 use super::items::item_with;
 use super::printing::{MAX_LENGTH, write};
 use super::results::LengthResult;
@@ -69,7 +70,7 @@ pub(crate) fn print_at_once(
 /// Prints a moment like `print_moment`: first creates the format, and then prints to a buffer with
 /// room for each text. This finds the error of a text that `print_moment` can't print at once.
 #[cold]
-fn print_in_steps(
+pub(super) fn print_in_steps(
     moment: &Moment,
     low: usize,
     high: usize,
@@ -139,6 +140,9 @@ fn print_part(
 pub(super) fn parse_date_at_once(text: &[u8], format: &FormatParts) -> Option<Date>
     ensures { IfSome result (λ n. IsFormatOf format.now (λ items. IsOneDate items n text.now)) }
 {
+    if is_iso(format) {
+        return parse_iso(text);
+    }
     let parts = format.parts()?;
     let mut fields = Fields::new();
     let mut scanner = Scanner { rest: text };

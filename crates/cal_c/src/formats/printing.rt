@@ -18,7 +18,8 @@ ghost use Rattle.cal_c.specs.Statuses.{invalid_date, invalid_time, invalid_offse
 ghost use Rattle.cal_c.specs.Values.{IsJulianDay, day_of};
 
 use super::format_parts::FormatParts;
-use super::one_pass::print_moment;
+use super::iso_dates::print_date_at_once;
+use super::one_pass::{print_in_steps, print_moment};
 use super::results::LengthResult;
 use crate::moment::valid_moment;
 use crate::results::Moment as MomentParts;
@@ -26,6 +27,7 @@ use crate::status::{INVALID_DATE, INVALID_MOMENT, INVALID_OFFSET, INVALID_TIME, 
 use crate::values::{valid_date, valid_offset, valid_time};
 use cal_datetime::PlainDateTime;
 use cal_format::Moment;
+use cal_time::Date;
 
 /// The maximum length of a text: 64 items of 15 bytes.
 pub const MAX_LENGTH: usize = 960;
@@ -60,9 +62,22 @@ pub extern "C" fn fots_date_format(
         → IsPrinted (are_date_items items) (text_of items (moment_of_date (day_of date))) bytes.old bytes.new result }
 {
     let date = or_error!(LengthResult, valid_date(date), INVALID_DATE);
+    print_date(date, format, bytes)
+}
+
+fn print_date(date: Date, format: &FormatParts, bytes: &mut [u8]) -> LengthResult
+    ensures invalid_format { ¬ IsFormat format.now
+        → IsUnprinted bytes.old bytes.new result (length_error invalid_format) }
+    ensures value { (items : List Item) → HasItems format.now items
+        → IsPrinted (are_date_items items) (text_of items (moment_of_date date)) bytes.old bytes.new result }
+{
     // This call states that the date is in its range. It costs nothing.
     let _ = date.to_julian_day();
-    print_moment(&Moment::of_date(date), 0, 13, format, bytes)
+    let mut text = [0; 64];
+    match print_date_at_once(date, format, &mut text) {
+        Some(end) => write(&text, Some(end), bytes),
+        None => print_in_steps(&Moment::of_date(date), 0, 13, format, bytes),
+    }
 }
 
 /// Prints a time of day, such as `23:59` by `%H:%M`.

@@ -13,14 +13,18 @@ mod days;
 mod formatting;
 mod laws;
 mod lists;
+mod moments;
 mod months;
 mod parsing;
+mod reading_list;
+mod readings;
 mod recurrence_parts;
 mod results;
 mod rule_dates;
 mod rule_from_parts;
 mod rule_parts;
 mod set_search;
+mod text_set;
 mod weekdays;
 
 use crate::results::{DateResult, NumberResult};

@@ -16,11 +16,11 @@ use crate::columns::statuses::{
 };
 use crate::columns::{LENGTH_MISMATCH, NO_VALUE, count_errors};
 use crate::formats::format_parts::FormatParts;
-use crate::formats::one_pass::print_at_once;
+use crate::formats::iso_dates::print_date_at_once;
 use crate::formats::parsing::fots_date_parse_format;
 use crate::formats::printing::MAX_LENGTH;
 use crate::values::valid_date;
-use cal_format::{Format, Moment};
+use cal_format::Format;
 use cal_time::Date;
 
 /// Parses dates, like `fots_date_parse_format`.
@@ -123,9 +123,7 @@ fn text_row(date: i32, format: &FormatParts, text: &mut [u8]) -> (usize, u8)
     ensures room { length text.new ≡ 960 }
 {
     let date = or_return!(valid_date(date), (0, INVALID_DATE));
-    // This call states that the date is in its range. It costs nothing.
-    let _ = date.to_julian_day();
-    if let Some(end) = print_at_once(&Moment::of_date(date), 0, 13, format, text) {
+    if let Some(end) = print_date_at_once(date, format, text) {
         return (end, OK);
     }
     let format = or_return!(format.to_format(), (0, INVALID_FORMAT));

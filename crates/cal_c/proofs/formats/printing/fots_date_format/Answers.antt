@@ -1,4 +1,4 @@
-use Rattle.std.proofs.Common.{◌≡◌, ap, subst, ◌∙◌}
+use Rattle.std.proofs.Common.{◌≡◌, subst}
 use Rattle.std.proofs.lemmas.Int.{to_z-of_z}
 use Rattle.cal_c.specs.Values.{day_of}
 use Rattle.cal_format.specs.Moment.{moment_of_date}
@@ -10,4 +10,4 @@ use Rattle.cal_c.proofs.formats.printing.fots_date_format.Goals as goal
 pub returns-clause-value : goal.returns-clause-value
 returns-clause-value c _ items h =
     let valid : c.in-Some.value ≡ day_of c.args.date = simp (to_z-of_z, c.ranges.date) at c.in-Some.ensures.1 in
-    subst (λ m. IsPrinted (are_date_items items) (text_of items m) c.args.bytes.now c.print_moment.new.bytes c.print_moment.result) (c.of_date.ensures ∙ ap moment_of_date valid) (c.print_moment.ensures.value items h)
+    subst (λ n. IsPrinted (are_date_items items) (text_of items (moment_of_date n)) c.args.bytes.now c.print_date.new.bytes c.print_date.result) valid (c.print_date.ensures.value items h)

@@ -1,4 +1,4 @@
-use Rattle.std.proofs.Common.{◌≡◌, ◌∙◌, arith, ap, rules, sym, get_or, to_z, of_z, FitsSigned, w32}
+use Rattle.std.proofs.Common.{◌≡◌, ◌∙◌, arith, ap, rules, sym, get_or, pos, to_z, of_z, FitsSigned, w32}
 use Rattle.std.proofs.lemmas.Grind.{common_steps}
 use Rattle.std.proofs.lemmas.Int.{to_z-of_z}
 use Rattle.cal_time.specs.Date.{julian_day_at}
@@ -15,7 +15,7 @@ loop-index-preserved c =
     let index = c.loop-index.index in
     let from = kept.left ∙ after_next set c.loop-index.last c.in-Some.day (sym c.in-Some.is ∙ c.next_after.ensures.value) in
     let more = more_left days (set_days_after set c.in-Some.day) index c.in-Some.day from in
-    let on = goes_on days (set_days_after set c.in-Some.day) index c.in-Some.day more from in
+    let on = goes_on 0 days (set_days_after set c.in-Some.day) index c.in-Some.day more from in
     let fits : FitsSigned w32 c.to_julian_day.result = search rules in
     let here : to_z w32 (of_z w32 c.to_julian_day.result) ≡ julian_day_at (get_or days index 0) =
     simp to_z-of_z (c.to_julian_day.ensures.value ∙ ap julian_day_at (sym on.0)) in
@@ -23,8 +23,8 @@ loop-index-preserved c =
       room = grind (arith, common_steps);
       few = omega (arith, more);
       left = on.1;
-      written = written_more (λ k z. z ≡ julian_day_at (get_or days k 0)) c.loop-index.days index (to_z w32 (of_z w32 c.to_julian_day.result)) (omega arith) kept.written here;
-      others = kept_more c.args.days.now c.loop-index.days index (to_z w32 (of_z w32 c.to_julian_day.result)) kept.others;
+      written = written_more (pos 0) (λ k z. z ≡ julian_day_at (get_or days k 0)) c.loop-index.days index (to_z w32 (of_z w32 c.to_julian_day.result)) (omega arith) kept.written here;
+      others = kept_more (pos 0) c.args.days.now c.loop-index.days index (to_z w32 (of_z w32 c.to_julian_day.result)) kept.others;
     }
 
 pub returns-in_default : goal.returns-in_default

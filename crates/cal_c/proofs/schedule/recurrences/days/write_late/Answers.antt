@@ -1,4 +1,4 @@
-use Rattle.std.proofs.Common.{◌≡◌, ◌∙◌, arith, ap, rules, sym, filter, get_or, nat_le, to_z, of_z, FitsSigned, w32}
+use Rattle.std.proofs.Common.{◌≡◌, ◌∙◌, arith, ap, rules, sym, filter, get_or, pos, nat_le, to_z, of_z, FitsSigned, w32}
 use Rattle.std.proofs.lemmas.Grind.{common_steps}
 use Rattle.std.proofs.lemmas.Int.{to_z-of_z}
 use Rattle.cal_time.specs.Date.{julian_day_at}
@@ -22,7 +22,7 @@ loop-index-preserved-then-le c =
     let day = c.in-Some.day in
     let from = kept.left ∙ taken c.args.from c.loop-index.walk c.next.new.self day c.in-Some.ensures.steps (sym c.if-le.ensures) in
     let more = more_left days rest index day from in
-    let on = goes_on days rest index day more from in
+    let on = goes_on 0 days rest index day more from in
     let fits : FitsSigned w32 c.to_julian_day.result = search rules in
     let here : to_z w32 (of_z w32 c.to_julian_day.result) ≡ julian_day_at (get_or days index 0) =
     simp to_z-of_z (c.to_julian_day.ensures.value ∙ ap julian_day_at (sym on.0)) in
@@ -31,8 +31,8 @@ loop-index-preserved-then-le c =
       fits = grind (arith, common_steps);
       few = omega (arith, more);
       left = on.1;
-      written = written_more (λ k z. z ≡ julian_day_at (get_or days k 0)) c.loop-index.days index (to_z w32 (of_z w32 c.to_julian_day.result)) (omega arith) kept.written here;
-      others = kept_more c.args.days.now c.loop-index.days index (to_z w32 (of_z w32 c.to_julian_day.result)) kept.others;
+      written = written_more (pos 0) (λ k z. z ≡ julian_day_at (get_or days k 0)) c.loop-index.days index (to_z w32 (of_z w32 c.to_julian_day.result)) (omega arith) kept.written here;
+      others = kept_more (pos 0) c.args.days.now c.loop-index.days index (to_z w32 (of_z w32 c.to_julian_day.result)) kept.others;
     }
 
 pub loop-index-preserved : goal.loop-index-preserved

@@ -1,0 +1,140 @@
+-- The format `%Y-%m-%d` as numbers, and the text of a date by it.
+use Rattle.std.proofs.Common.{◌≡◌, ℕ, ◌<◌, ◌≤◌, ◌/◌, ◌%◌, List, [], ◌∷◌, ◌++◌, length, take, drop, map, get_or, refl, sym, ap, subst, ◌∙◌, arith, inl}
+use Rattle.std.proofs.lemmas.Bool.Decides.{nat_tests}
+use Rattle.std.proofs.Math.Seq.{take-append_seam}
+use Rattle.std.specs.Prelude.{pos, unsigned_abs, codes, Bool, true, false, not, ◌&&◌, ◌==◌, IsTrue, IfSome, Option, Some, None, Result, Ok, Err}
+use Rattle.std.proofs.lemmas.Bool.{and_parts}
+use borrow.Author.Tests.{eqb-true}
+use Rattle.cal_time.specs.Date.{year_at, month_at, day_of_month_at}
+use Rattle.cal_time.specs.DateText.{digits_at_least, sign_text, text}
+use Rattle.cal_time.specs.Digits.{two_digits}
+use Rattle.cal_time.specs.Laws.{digits_at_least-two, digits_at_least-four}
+use Rattle.cal_format.specs.declared.item.Component.{Component}
+use Rattle.cal_format.specs.declared.item.Item.{Item}
+use Rattle.cal_format.specs.declared.item.Item.TheVariants as item
+use Rattle.cal_format.specs.declared.item.Padding.TheVariants as padding
+use Rattle.cal_format.specs.Laws.{iso_items, iso_items-text}
+use Rattle.cal_format.specs.Moment.{moment_of_date}
+use Rattle.cal_format.specs.Reading.{index}
+use Rattle.cal_format.specs.Scanning.{IsOneDate}
+use Rattle.cal_format.specs.Text.{text_of}
+use Rattle.cal_format.proofs.Apart.{index-one}
+use Rattle.cal_c.specs.Formats.{item_parts, parts}
+use Rattle.cal_c.specs.OnePass.{IsItemOf, AreItemsOf, IsFormatOf, PrintsItems}
+use Rattle.cal_c.specs.declared.formats.format_parts.FormatItem.{FormatItem}
+use Rattle.cal_c.specs.declared.formats.format_parts.FormatParts.{FormatParts}
+
+-- Only one item has the numbers of a byte, and only one those of a component padded with zeros.
+pub byte-one : (b : ℕ) (i : Item) → parts 0 b ≡ item_parts i → i ≡ item.Literal b
+byte-one b (item.Literal c) e = ap item.Literal (sym (ap (λ p. p.value) e))
+byte-one b (item.Number c padding.Zero) e = absurd (omega (arith, ap (λ p. p.kind) e))
+byte-one b (item.Number c padding.Space) e = absurd (omega (arith, ap (λ p. p.kind) e))
+byte-one b (item.Number c padding.None) e = absurd (omega (arith, ap (λ p. p.kind) e))
+byte-one b (item.Name k) e = absurd (omega (arith, ap (λ p. p.kind) e))
+byte-one b item.Fraction e = absurd (omega (arith, ap (λ p. p.kind) e))
+byte-one b item.Decimals e = absurd (omega (arith, ap (λ p. p.kind) e))
+byte-one b item.OffsetSign e = absurd (omega (arith, ap (λ p. p.kind) e))
+byte-one b item.TimestampSign e = absurd (omega (arith, ap (λ p. p.kind) e))
+byte-one b item.Abbreviation e = absurd (omega (arith, ap (λ p. p.kind) e))
+
+pub number-one : (c : Component) (i : Item) → parts 1 (index c) ≡ item_parts i → i ≡ item.Number c padding.Zero
+number-one c (item.Literal b) e = absurd (omega (arith, ap (λ p. p.kind) e))
+number-one c (item.Number d padding.Zero) e = ap (λ x. item.Number x padding.Zero) (index-one d c (sym (ap (λ p. p.value) e)))
+number-one c (item.Number d padding.Space) e = absurd (omega (arith, ap (λ p. p.kind) e))
+number-one c (item.Number d padding.None) e = absurd (omega (arith, ap (λ p. p.kind) e))
+number-one c (item.Name k) e = absurd (omega (arith, ap (λ p. p.kind) e))
+number-one c item.Fraction e = absurd (omega (arith, ap (λ p. p.kind) e))
+number-one c item.Decimals e = absurd (omega (arith, ap (λ p. p.kind) e))
+number-one c item.OffsetSign e = absurd (omega (arith, ap (λ p. p.kind) e))
+number-one c item.TimestampSign e = absurd (omega (arith, ap (λ p. p.kind) e))
+number-one c item.Abbreviation e = absurd (omega (arith, ap (λ p. p.kind) e))
+
+-- These numbers are only this item.
+abbrev pub IsOnly : Item → FormatItem → Type 0
+IsOnly i p = IsItemOf p (λ own. own ≡ i)
+
+-- The same of several items.
+pub none-only : AreItemsOf [] (λ l. l ≡ [])
+none-only = record { items = []; parts_are = refl; every = none }
+  where
+    none : (others : List Item) → [] ≡ map item_parts others → others ≡ []
+    none [] e = refl
+    none (i ∷ others) e = absurd (omega (arith, ap length e))
+
+pub more-only : (i : Item) (items : List Item) (p : FormatItem) (ps : List FormatItem) → IsOnly i p → AreItemsOf ps (λ l. l ≡ items) → AreItemsOf (p ∷ ps) (λ l. l ≡ i ∷ items)
+more-only i items p ps first rest = record {
+  items = first.item ∷ rest.items;
+  parts_are = λ j. first.part_is j ∷ rest.parts_are j;
+  every = every;
+}
+  where
+    every : (others : List Item) → p ∷ ps ≡ map item_parts others → others ≡ i ∷ items
+    every [] e = absurd (omega (arith, ap length e))
+    every (o ∷ others) e =
+        let own = first.every o (ap (λ l. get_or l 0 (parts 0 0)) e) in
+        let last = rest.every others (ap (λ l. drop 1 l) e) in
+        λ j. own j ∷ last j
+
+abbrev at : List FormatItem → ℕ → FormatItem
+at ps n = get_or ps n (parts 0 0)
+
+pub five-only : (a b c d e : Item) (ps : List FormatItem) → length ps ≡ 5 → IsOnly a (at ps 0) → IsOnly b (at ps 1) → IsOnly c (at ps 2) → IsOnly d (at ps 3) → IsOnly e (at ps 4)
+    → AreItemsOf ps (λ l. l ≡ a ∷ b ∷ c ∷ d ∷ e ∷ [])
+five-only a b c d e (p ∷ q ∷ r ∷ s ∷ t ∷ []) n f g h i j =
+    more-only a _ p _ f (more-only b _ q _ g (more-only c _ r _ h (more-only d _ s _ i (more-only e _ t _ j none-only))))
+five-only a b c d e (p ∷ q ∷ r ∷ s ∷ t ∷ u ∷ ps) n f g h i j = absurd (omega arith)
+five-only a b c d e (p ∷ q ∷ r ∷ s ∷ []) n f g h i j = absurd (omega arith)
+five-only a b c d e (p ∷ q ∷ r ∷ []) n f g h i j = absurd (omega arith)
+five-only a b c d e (p ∷ q ∷ []) n f g h i j = absurd (omega arith)
+five-only a b c d e (p ∷ []) n f g h i j = absurd (omega arith)
+five-only a b c d e [] n f g h i j = absurd (omega arith)
+
+-- ---- the text of a date of the years 0 to 9999
+plain : (y : ℕ) → y ≤ 9_999 → sign_text (pos y) ≡ []
+plain y few = grind (arith, nat_tests)
+
+four : (y : ℕ) → y ≤ 9_999 → digits_at_least 4 y ≡ two_digits (y / 100) ++ two_digits (y % 100)
+four y few =
+    let same : y / 100 % 100 ≡ y / 100 = omega (arith, few) in
+    digits_at_least-four y (omega (arith, few)) ∙ ap (λ n. two_digits n ++ two_digits (y % 100)) same
+
+pub usual-text : (n y m d : ℕ) (a b e f : List ℕ) → year_at n ≡ pos y → y ≤ 9_999 → month_at n ≡ m → m < 100 → day_of_month_at n ≡ d → d < 100
+    → a ≡ two_digits (y / 100) → b ≡ two_digits (y % 100) → e ≡ two_digits m → f ≡ two_digits d
+    → get_or a 0 0 ∷ get_or a 1 0 ∷ get_or b 0 0 ∷ get_or b 1 0 ∷ 45 ∷ get_or e 0 0 ∷ get_or e 1 0 ∷ 45 ∷ get_or f 0 0 ∷ get_or f 1 0 ∷ [] ≡ text n
+usual-text n y m d a b e f year few month low day less ea eb ee ef =
+    (λ i. get_or (ea i) 0 0 ∷ get_or (ea i) 1 0 ∷ get_or (eb i) 0 0 ∷ get_or (eb i) 1 0 ∷ 45 ∷ get_or (ee i) 0 0 ∷ get_or (ee i) 1 0 ∷ 45 ∷ get_or (ef i) 0 0 ∷ get_or (ef i) 1 0 ∷ [])
+    ∙ sym ((λ i. sign_text (year i) ++ (digits_at_least 4 (unsigned_abs (year i)) ++ codes "-" ++ digits_at_least 2 (month i) ++ codes "-" ++ digits_at_least 2 (day i)))
+    ∙ (λ i. plain y few i ++ (four y few i ++ codes "-" ++ digits_at_least-two m low i ++ codes "-" ++ digits_at_least-two d less i)))
+
+-- The items print it to the front of a buffer.
+pub usual-printed : (n : ℕ) (old rest bytes : List ℕ) → length bytes ≡ 10 → bytes ≡ text n → PrintsItems 0 13 (moment_of_date n) old (bytes ++ rest) 0 10 iso_items
+usual-printed n old rest bytes long is =
+    let same = is ∙ sym (iso_items-text n) in
+    record {
+      within = refl;
+      text = ap (λ k. take k (bytes ++ rest)) (sym long) ∙ take-append_seam bytes rest ∙ same;
+      end_is = omega (arith, long, ap length same);
+    }
+
+pub printed-format : (f : FormatParts) (P : List Item → Type 0) → IsFormatOf f (λ l. l ≡ iso_items) → P iso_items → IsFormatOf f P
+printed-format f P is p = record { format = is.format; every = λ items has. subst P (sym (is.every items has)) p }
+
+pub ok-one : {E : Type 0} (r : Result ℕ E) (m n : ℕ) → r ≡ Ok m → r ≡ Ok n → m ≡ n
+ok-one (Ok k) m n e f = cc
+ok-one (Err k) m n e f = cc
+
+-- Numbers are the same item if their kinds and values are.
+pub same-part : (p q : FormatItem) → IsTrue ((p.kind == q.kind) && (p.value == q.value)) → p ≡ q
+same-part p q h =
+    let both = and_parts (p.kind == q.kind) (p.value == q.value) h in
+    let kind = eqb-true p.kind q.kind both.0 in
+    let value = eqb-true p.value q.value both.1 in
+    λ i. record { kind = kind i; value = value i }
+
+pub not-false : (b : Bool) → not b ≡ false → IsTrue b
+not-false true e = refl
+not-false false e = cc
+
+pub iso-parsed : (o : Option ℕ) (f : FormatParts) (text : List ℕ) → IsFormatOf f (λ l. l ≡ iso_items) → IfSome o (λ n. IsOneDate iso_items n text) → IfSome o (λ n. IsFormatOf f (λ items. IsOneDate items n text))
+iso-parsed None f text is one = tt
+iso-parsed (Some n) f text is one = printed-format f (λ items. IsOneDate items n text) is one

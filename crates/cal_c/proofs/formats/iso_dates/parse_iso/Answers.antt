@@ -1,0 +1,21 @@
+use Rattle.std.proofs.Common.{◌≡◌, sym, ◌∙◌, ap, inl, refl}
+use Rattle.std.proofs.lemmas.Slice.Eq.{bytes_eq-Decides}
+use Rattle.std.specs.Prelude.{bytes_eq}
+use Rattle.cal_time.specs.DateText.{text}
+use Rattle.cal_format.specs.Laws.{iso_items-text}
+use Rattle.cal_c.proofs.IsoDates.{not-false, ok-one}
+use Rattle.cal_c.proofs.formats.iso_dates.parse_iso.Goals as goal
+
+pub returns : goal.returns
+returns c =
+    let n = c.in-Ok.date in
+    let alike = not-false (bytes_eq c.as_slice.result.now c.args.text.now) (sym c.ne.ensures ∙ c.if-ne.false) in
+    let same : c.args.text.now ≡ text n =
+    sym ((bytes_eq-Decides c.as_slice.result.now c.args.text.now).0 alike) ∙ c.as_slice.ensures ∙ c.in_ok-own.ensures.value in
+    record {
+      determines = (refl, refl, refl);
+      date = c.in-Ok.ensures.value.0;
+      held = c.in_ok-own.ensures.held;
+      text_is = same ∙ sym (iso_items-text n);
+      every = λ w date held e. ok-one c.parse.result w n (c.parse.ensures.every w date (inl (e ∙ iso_items-text w))) c.in-Ok.is;
+    }

@@ -1,0 +1,38 @@
+use Rattle.std.proofs.Common.{arith, subst, sym}
+use Rattle.std.proofs.lemmas.Grind.{common_steps}
+use Rattle.cal_datetime.specs.OffsetDateTime.{instant}
+use Rattle.cal_recurrence.specs.ZonedSet.{IsFirstAfter, Means, NoneAfter}
+use Rattle.cal_c.specs.Moments.{local_and_offset_in, IsMoment}
+use Rattle.cal_c.specs.TextSets.{before, no_moment}
+use Rattle.cal_c.proofs.Recurring.{kept_more, written_more}
+use Rattle.cal_c.proofs.WrittenMoments.{before-next, moments_more}
+use Rattle.cal_c.proofs.schedule.recurrences.moments.write_moments.Goals as goal
+
+pub returns-in_default : goal.returns-in_default
+returns-in_default c =
+    let kept = c.loop-index.invariant in
+    record {
+      fits = omega arith;
+      valid = kept.valid;
+      moments = kept.written;
+      all = λ less. subst (NoneAfter (Means c.args.set.now)) kept.last c.in_default.ensures;
+      others = kept.others;
+    }
+
+pub loop-index-preserved : goal.loop-index-preserved
+loop-index-preserved c =
+    let kept = c.loop-index.invariant in
+    let set = c.args.set.now in
+    let x = instant c.args.after in
+    let ms = c.loop-index.moments in
+    let index = c.loop-index.index in
+    let m = c.c_moment.result in
+    let first = subst (λ y. IsFirstAfter (Means set) y c.in-Some.moment) kept.last c.in-Some.ensures in
+    let here = subst (IsFirstAfter (Means set) (before x ms index)) (sym c.c_moment.ensures.value) first in
+    record {
+      room = grind (arith, common_steps);
+      last = before-next x ms index m c.in-Some.moment (omega arith) c.c_moment.ensures.value;
+      valid = written_more no_moment (λ k one. IsMoment one) ms index m (omega arith) kept.valid c.c_moment.ensures.valid;
+      written = moments_more set x ms index m (omega arith) kept.written here;
+      others = kept_more no_moment c.args.moments.now ms index m kept.others;
+    }

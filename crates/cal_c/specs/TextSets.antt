@@ -1,0 +1,119 @@
+-- Recurrence sets of a text and lists of readings: their readings, and their moments in a zone.
+use Rattle.std.specs.Prelude.{◌≡◌, ◌⊎◌, ℕ, zero, suc, ◌<◌, ◌≤◌, min, ℤ, pos, List, [], ◌∷◌, All, get_or, length, map, Option, Some, None, option_map}
+use Rattle.cal_time.specs.Date.{julian_day_at}
+use Rattle.cal_datetime.specs.DateTime.{date_at, time_at}
+use Rattle.cal_datetime.specs.OffsetDateTime.{LocalAndOffset, instant}
+use Rattle.cal_recurrence.specs.DateOrTime.{last_reading}
+use Rattle.cal_recurrence.specs.DateTimeRule.{date_time_rule}
+use Rattle.cal_recurrence.specs.RecurrenceReadings.{readings_of}
+use Rattle.cal_recurrence.specs.ZonedSet.{IsFirstAfter, Means, NoneAfter}
+use Rattle.cal_recurrence.specs.declared.date_or_time.DateOrTime.{DateOrTime}
+use Rattle.cal_recurrence.specs.declared.date_or_time.DateOrTime.TheVariants as ends
+use Rattle.cal_recurrence.specs.declared.date_time_set.DateTimeSet.{DateTimeSet}
+use Rattle.cal_recurrence.specs.declared.recurrence.Recurrence.{Recurrence}
+use Rattle.cal_recurrence.specs.declared.recurrence.RuleEnd.{RuleEnd}
+use Rattle.cal_recurrence.specs.declared.recurrence.RuleEnd.TheVariants.{Never, Until, Count}
+use Rattle.cal_recurrence.specs.declared.zoned_set.ZonedSet.{ZonedSet}
+use Rattle.cal_tzif.specs.File.{IsFile, IsPosix}
+use Rattle.cal_zone.specs.Timeline.{Timeline}
+use Rattle.cal_c.specs.Moments.{IsMoment, local_and_offset_in, local_in}
+use Rattle.cal_c.specs.Values.{max_dates}
+use Rattle.cal_c.specs.declared.results.Moment.{Moment}
+use Rattle.cal_c.specs.declared.schedule.recurrences.text_set.TextSet.{TextSet}
+
+-- A list has at most 1024 readings.
+abbrev pub AreFew : TextSet → Type 0
+AreFew p = (length p.dates.now ≤ max_dates) × (length p.exceptions.now ≤ max_dates)
+
+-- The start and the readings of the lists are valid.
+abbrev pub AreValid : TextSet → Type 0
+AreValid p = IsMoment p.start × (All IsMoment p.dates.now × All IsMoment p.exceptions.now)
+
+-- The readings of moments.
+abbrev pub readings_in : List Moment → List ℤ
+readings_in ms = map local_in ms
+
+-- The start and the readings of the lists, which are few and valid.
+pub record HasReadings (p : TextSet) (from : ℤ) (more less : List ℤ) : Type 0 where
+  pub few : AreFew p
+  pub valid : AreValid p
+  pub start : from ≡ local_in p.start
+  pub dates : more ≡ readings_in p.dates.now
+  pub exceptions : less ≡ readings_in p.exceptions.now
+
+-- The last reading of a list, or another one without any.
+abbrev pub last_or : Option ℤ → List ℤ → Option ℤ
+last_or other [] = other
+last_or other (z ∷ zs) = last_or (Some z) zs
+
+-- The last possible reading of an end: the reading of an UNTIL, or the last of COUNT readings.
+abbrev pub end_by : RuleEnd → List ℤ → Option ℤ
+end_by Never readings = None
+end_by (Until last) readings = Some (last_reading last)
+end_by (Count n) readings = last_or None readings
+
+-- The last possible reading of a recurrence with a start.
+abbrev pub end_of : Recurrence → ℤ → Option ℤ
+end_of its start = end_by its.end (readings_of its start)
+
+-- The set has the rule of the recurrence with this start and this end, the other readings and the
+-- exceptions. The definitions of a set don't read where a list is in memory.
+pub record IsSetOf (its : Recurrence) (p : TextSet) (last : Option ℤ) (set : DateTimeSet) : Type 0 where
+  pub rule : set.rule ≡ date_time_rule (local_in p.start) last its.pattern its.times
+  pub dates : set.dates.now ≡ readings_in p.dates.now
+  pub exceptions : set.exceptions.now ≡ readings_in p.exceptions.now
+
+-- A reading as a moment at the offset 0.
+abbrev pub utc_moment : ℤ → Moment
+utc_moment z = record { date = julian_day_at (date_at z); offset = pos 0; time = time_at z }
+
+-- A moment for no index of an array.
+abbrev pub no_moment : Moment
+no_moment = record { date = pos 0; offset = pos 0; time = 0 }
+
+-- The first readings of a list were written, as many as fit in the array, and the rest of the array
+-- is unchanged.
+pub record AreReadingsWritten (zs : List ℤ) (old new : List Moment) (count : ℕ) : Type 0 where
+  pub count_is : count ≡ min (length zs) (length old)
+  pub readings : (k : ℕ) → k < count → get_or new k no_moment ≡ utc_moment (get_or zs k (pos 0))
+  pub others : (k : ℕ) → count ≤ k → get_or new k no_moment ≡ get_or old k no_moment
+
+-- ---- moments in a zone
+-- The zone of the bytes of a file, or of a POSIX text that isn't a file.
+abbrev pub IsZoneOf : List ℕ → Timeline → Type 0
+IsZoneOf bytes z = IsFile bytes z ⊎ (IsPosix bytes z × ((y : Timeline) → IsFile bytes y → ⊥))
+
+-- The instant of an UNTIL at UTC, or `None` without one.
+abbrev pub last_instant : RuleEnd → Option LocalAndOffset
+last_instant Never = None
+last_instant (Until (ends.Date d)) = None
+last_instant (Until (ends.Local z)) = None
+last_instant (Until (ends.Utc z)) = Some (record { local = z; offset = pos 0 })
+last_instant (Count n) = None
+
+-- The last possible reading of a recurrence in a zone, unless it ends at an instant.
+abbrev pub local_end : Option LocalAndOffset → Option ℤ → Option ℤ
+local_end None last = last
+local_end (Some m) last = None
+
+-- The set has the readings of the recurrence in this zone, and ends at the instant of an UNTIL at
+-- UTC.
+pub record IsZonedSetOf (its : Recurrence) (p : TextSet) (z : Timeline) (set : ZonedSet) : Type 0 where
+  pub readings : IsSetOf its p (local_end (last_instant its.end) (end_of its (local_in p.start))) set.readings
+  pub zone : set.zone.now ≡ z
+  pub until : set.until ≡ last_instant its.end
+  pub exceptions : set.exceptions.now ≡ []
+
+-- The instant before the moment with an index: that of the moment written before it, or x.
+abbrev pub before : ℤ → List Moment → ℕ → ℤ
+before x ms zero = x
+before x ms (suc k) = instant (local_and_offset_in (get_or ms k no_moment))
+
+-- The first moments of a set after the instant x were written, as many as fit in the array, and the
+-- rest of the array is unchanged.
+pub record AreMomentsWritten (set : ZonedSet) (x : ℤ) (old new : List Moment) (count : ℕ) : Type 0 where
+  pub fits : count ≤ length old
+  pub valid : (k : ℕ) → k < count → IsMoment (get_or new k no_moment)
+  pub moments : (k : ℕ) → k < count → IsFirstAfter (Means set) (before x new k) (local_and_offset_in (get_or new k no_moment))
+  pub all : count < length old → NoneAfter (Means set) (before x new count)
+  pub others : (k : ℕ) → count ≤ k → get_or new k no_moment ≡ get_or old k no_moment

@@ -1,0 +1,95 @@
+//! Recurrences in text with other readings and exceptions, as C passes them.
+ghost use Rattle.std.specs.Prelude.{◌≡◌, IfErr, IfOk, None};
+ghost use Rattle.cal_recurrence.specs.DateTimeRule.{date_time_rule};
+ghost use Rattle.cal_c.specs.Statuses.{invalid_moment, too_many_dates};
+ghost use Rattle.cal_c.specs.TextSets.{end_of, last_or, AreFew, AreValid, HasReadings};
+
+use super::reading_list::ReadingList;
+use crate::moment::valid_moment;
+use crate::results::Moment;
+use crate::schedule::date_list::MAX_DATES;
+use crate::status::{INVALID_MOMENT, TOO_MANY_DATES};
+use cal_datetime::PlainDateTime;
+use cal_recurrence::{DateTimeRule, DateTimeSet, Recurrence, RuleEnd, RuleReadings};
+
+/// A recurrence set: the text of a recurrence, its start, and readings in any order. A reading is
+/// the local date and time of a moment, at any offset.
+#[repr(C)]
+#[derive(Clone, Copy)]
+pub struct TextSet<'a> {
+    pub text: &'a [u8],
+    /// The first possible reading (`DTSTART`).
+    pub start: Moment,
+    /// Other readings (`RDATE`) and readings to leave out (`EXDATE`).
+    pub dates: &'a [Moment],
+    pub exceptions: &'a [Moment],
+}
+
+/// The readings of a set.
+#[derive(Drop)]
+pub(super) struct SetReadings {
+    pub(super) start: PlainDateTime,
+    dates: ReadingList,
+    exceptions: ReadingList,
+}
+
+/// Returns the last reading of an iterator, or `None` without one.
+fn last_of(mut walk: RuleReadings) -> Option<PlainDateTime>
+    ensures { result ≡ last_or None walk }
+{
+    let mut last = None;
+    while let Some(reading) = walk.next() {
+        last = Some(reading);
+    }
+    last
+}
+
+/// Returns the last possible reading of a recurrence: the reading of an `UNTIL`, or the last of a
+/// `COUNT`.
+pub(super) fn end_of(recurrence: &Recurrence, start: PlainDateTime) -> Option<PlainDateTime>
+    ensures { result ≡ end_of recurrence.now start }
+{
+    match recurrence.end {
+        RuleEnd::Never => None,
+        RuleEnd::Until(last) => Some(last.last_reading()),
+        RuleEnd::Count(_) => last_of(recurrence.readings(start)),
+    }
+}
+
+impl SetReadings {
+    /// Converts the readings, or returns the status of the first wrong list or reading.
+    pub(super) fn from_parts(parts: &TextSet<'_>) -> Result<Self, i32>
+        ensures few { IfErr result (λ status. ¬ AreFew parts.now → status ≡ too_many_dates) }
+        ensures invalid { IfErr result (λ status. AreFew parts.now → (¬ AreValid parts.now) × (status ≡ invalid_moment)) }
+        ensures value { IfOk result (λ its. HasReadings parts.now its.start its.dates its.exceptions) }
+    {
+        if parts.dates.len() > MAX_DATES || parts.exceptions.len() > MAX_DATES {
+            return Err(TOO_MANY_DATES);
+        }
+        let start = or_return!(valid_moment(parts.start), Err(INVALID_MOMENT));
+        let dates = or_return!(ReadingList::from_moments(parts.dates), Err(INVALID_MOMENT));
+        let exceptions = or_return!(
+            ReadingList::from_moments(parts.exceptions),
+            Err(INVALID_MOMENT)
+        );
+        Ok(SetReadings {
+            start: start.local(),
+            dates,
+            exceptions,
+        })
+    }
+
+    /// Returns the set of a recurrence with these readings, up to the last possible one.
+    pub(super) fn set(&self, recurrence: Recurrence, last: Option<PlainDateTime>) -> DateTimeSet<'_>
+        ensures rule { result.rule ≡ date_time_rule self.now.start last recurrence.pattern recurrence.times }
+        ensures dates { result.dates.now ≡ self.now.dates }
+        ensures exceptions { result.exceptions.now ≡ self.now.exceptions }
+    {
+        let Recurrence { pattern, times, .. } = recurrence;
+        DateTimeSet {
+            rule: DateTimeRule::new(self.start, last, pattern, times),
+            dates: self.dates.as_slice(),
+            exceptions: self.exceptions.as_slice(),
+        }
+    }
+}
