@@ -10,8 +10,7 @@ use Rattle.cal_format.proofs.Apart.{first_of}
 use Rattle.cal_format.proofs.Digits.{width-some}
 use Rattle.cal_text.specs.Shape.{Digits, Shape, unmatched_bytes}
 use Rattle.caldate_run.specs.Scans.{StartsWithDigit}
-use Rattle.caldate_run.proofs.DateTemplates.{stands_digit}
-use Rattle.caldate_run.proofs.ShapeBytes.{from-first}
+use Rattle.caldate_run.proofs.ShapeBytes.{from-first, stands_digit}
 
 -- a number of some digits
 digits_start : (count : ℕ) (f : Shape) (bytes : List ℕ) → 1 ≤ count → unmatched_bytes (Digits count f) bytes ≡ 0 → StartsWithDigit bytes

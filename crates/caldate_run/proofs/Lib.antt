@@ -27,13 +27,12 @@ pub mod Others
 pub mod Leads
 pub mod Listed
 pub mod ReadNumbers
-pub mod Templates
 pub mod ShapeBytes
-pub mod DateTemplates
-pub mod LocalTemplates
-pub mod NumberTemplates
-pub mod PartTexts
+pub mod Shaped
+pub mod DateShapes
 pub mod LastBytes
+pub mod LocalShapes
+pub mod WholeNumbers
 pub mod FrontDays
 pub mod SomeMeanings
 pub mod Printed

@@ -1,12 +1,15 @@
 -- The bytes that a text of a shape has, and those that it lacks.
 use Rattle.std.proofs.Common.{◌≡◌, ◌⊎◌, inl, inr, ℕ, ◌+◌, Bool, true, false, ◌&&◌, List, [], ◌∷◌, ◌++◌, Option, Some, None, sym, subst, ◌∙◌, arith}
-use Rattle.std.specs.Prelude.{◌||◌, nat_lt}
+use Rattle.std.specs.Prelude.{◌||◌, nat_le, nat_lt}
 use Rattle.std.proofs.lemmas.Bool.{and_parts, or_cases, false≢true}
 use Rattle.std.proofs.lemmas.Bool.Decides.{nat_tests}
 use Rattle.cal_text.specs.Shape.{Shape, End, ByteRange, Branch, unmatched_bytes}
 use Rattle.cal_text.proofs.Stops.{IsIn, in_or_out, unmatched_bytes-in, unmatched_bytes-out, unmatched_bytes-end, unmatched_bytes-branch_in, unmatched_bytes-branch_out, unmatched_bytes-branch_end, unmatched_bytes-more}
 
 -- ---- the first byte of a text
+pub stands_digit : (x : ℕ) → IsIn 48 9 x → nat_le 48 x && nat_le x 57 ≡ true
+stands_digit x h = let least = h.0 in let most = h.1 in grind (arith, nat_tests)
+
 pub from-first : (low above : ℕ) (f : Shape) (x : ℕ) (xs : List ℕ) → unmatched_bytes (ByteRange low above f) (x ∷ xs) ≡ 0 → IsIn low above x × (unmatched_bytes f xs ≡ 0)
 from-first low above f x xs e =
     elim (in_or_out low above x) as (λ _. IsIn low above x × (unmatched_bytes f xs ≡ 0)) [

@@ -1,5 +1,5 @@
 -- The byte that starts a text.
-use Rattle.std.proofs.Common.{◌≡◌, inl, inr, ℕ, ◌+◌, ◌<◌, ◌≤◌, Bool, true, false, List, [], ◌∷◌, ◌++◌, length, length-append, length-take, take, drop, Some, refl, sym, ap, subst, ◌∙◌, arith}
+use Rattle.std.proofs.Common.{◌≡◌, inl, inr, ℕ, zero, suc, ◌+◌, ◌<◌, ◌≤◌, Bool, true, false, get_or, List, [], ◌∷◌, ◌++◌, length, length-append, length-take, take, drop, Some, refl, sym, ap, subst, ◌∙◌, arith}
 use Rattle.std.specs.Prelude.{◌&&◌, ◌||◌, ◌==◌, min, nat_le, if◌then◌else◌, ℤ, pos, negsuc, IsSomeAnd, slice_index}
 use Rattle.std.proofs.lemmas.Bool.{cases_lt, false≢true}
 use Rattle.std.proofs.Math.ListN.{get_or-eq_default}
@@ -26,10 +26,8 @@ use Rattle.caldate_run.specs.declared.reading.spelling.Spelling.{Spelling}
 use Rattle.caldate_run.specs.declared.reading.spelling.Spelling.TheVariants.{Iso}
 use Rattle.caldate_run.specs.declared.request.Filter.{Filter}
 use Rattle.caldate_run.specs.declared.run.no_answer.NoAnswer.{NoAnswer}
-use Rattle.caldate_run.proofs.DateTemplates.{stands_digit}
-use Rattle.caldate_run.proofs.NumberTemplates.{first_same}
 use Rattle.caldate_run.proofs.Scans.{some_bytes}
-use Rattle.caldate_run.proofs.ShapeBytes.{branch-first, from-first}
+use Rattle.caldate_run.proofs.ShapeBytes.{branch-first, from-first, stands_digit}
 use Rattle.caldate_run.proofs.TextBounds.{iso_within, short_form, text_form}
 
 -- ---- the bytes
@@ -103,6 +101,11 @@ six_start bytes some (inr (inr (inl h))) = moment_start bytes (moment_shapes.eac
 six_start bytes some (inr (inr (inr h))) = usual_one bytes 64 (unix_first bytes h.0 h.1) (λ y. refl)
 
 -- ---- bytes that start another text
+first_same : (text more : List ℕ) (q : ℕ) → 0 < q → q ≤ length text → get_or (take q text ++ more) 0 0 ≡ get_or text 0 0
+first_same [] more q some within = absurd (omega (arith, some, within))
+first_same (x ∷ xs) more zero some within = absurd (omega (arith, some))
+first_same (x ∷ xs) more (suc k) some within = refl
+
 few_begin : (bytes : List ℕ) → is_usual_start (slice_index bytes 0) (slice_index bytes 4) ≡ false → Bounds (HasFormIn reading.Any) bytes (min 4 (length bytes))
 few_begin bytes off = record {
   within = omega arith;

@@ -1,19 +1,18 @@
 //! Unix times in whole milliseconds, microseconds or nanoseconds.
-ghost use Rattle.std.specs.Prelude.{◌≡◌, ◌<◌, ◌↔◌, ◌≤◌, ℤ, IfErr, IfOk, IfSome, IsTrue, Ok, Some, length, slice_index};
+ghost use Rattle.std.specs.Prelude.{◌≡◌, ◌↔◌, ◌≤◌, ℤ, IfErr, IfOk, IfSome, None, Ok, Some};
 ghost use Rattle.cal_time.specs.declared.error.ComponentRange.{ComponentRange};
-ghost use Rattle.cal_text.specs.Position.{IsErrorAtStop};
-ghost use Rattle.cal_text.specs.Parsing.{FailsWithComponent, FailsWithSyntax};
+ghost use Rattle.cal_text.specs.Position.{HasSome, IsErrorAtStop};
+ghost use Rattle.cal_text.specs.Parsing.{FailsWithComponent, FailsWithSyntax, component_of};
+ghost use Rattle.cal_text.specs.Shape.{ScansWhole};
 ghost use Rattle.cal_text.specs.declared.any.DateOrMoment.{DateOrMoment};
-ghost use Rattle.caldate_run.specs.Readings.{HasFormIn, IsErrorIn, IsNumber, IsTextIn, nanoseconds_in};
-ghost use Rattle.caldate_run.specs.Templates.{IsTemplateFor};
+ghost use Rattle.caldate_run.specs.Readings.{HasFormIn, IsErrorIn, IsNumber, IsTextIn, nanoseconds_in, number_shape};
 ghost use Rattle.caldate_run.specs.declared.reading.Reading.TheVariants.{Unix};
-ghost use Rattle.caldate_run.specs.declared.request.UnixUnit.{UnixUnit};
 
 use crate::answer::signed::signed_text;
-use crate::reading::template::wrong_at;
+use crate::reading::digits::skip_digits;
 use crate::request::UnixUnit;
 use cal_datetime::OffsetDateTime;
-use cal_text::{DateOrMoment, MomentForm, ParseError};
+use cal_text::{DateOrMoment, MomentForm, ParseError, Scanner};
 use std::str;
 
 /// The smallest number with more than 27 digits, which are too many.
@@ -30,7 +29,7 @@ pub fn read_number(unit: UnixUnit, text: &[u8]) -> Result<DateOrMoment, ParseErr
         → FailsWithComponent why result ↔ IsErrorIn (Unix unit) text.now why }
 {
     let Some(number) = parse_number(text) else {
-        return Err(wrong_at(text, number_template(text)));
+        return Err(wrong_at(text));
     };
     match OffsetDateTime::from_unix_timestamp_nanos(number * i128::from(nanoseconds_in(unit))) {
         Ok(moment) => Ok(DateOrMoment::Moment(MomentForm::Unix, moment)),
@@ -69,24 +68,27 @@ fn parse_number(text: &[u8]) -> Option<i128>
     Some(number)
 }
 
-/// Returns the template of numbers that begin like the text.
-fn number_template(text: &[u8]) -> &'static [u8]
-    ensures { (unit : UnixUnit) → IsTemplateFor (HasFormIn (Unix unit)) text.now result.now }
+/// Returns the error of a text that isn't such a number, at the first wrong byte.
+fn wrong_at(text: &[u8]) -> ParseError
+    requires { ¬ HasSome IsNumber text.now }
+    ensures form { component_of result ≡ None }
+    ensures position { IsErrorAtStop (HasSome IsNumber) text.now result }
 {
-    if begins_with(text, b'-') {
-        b"-ndddddddddddddddddddddddddd"
-    } else if begins_with(text, b'0') {
-        b"0"
-    } else {
-        b"ndddddddddddddddddddddddddd"
-    }
+    let mut scanner = Scanner { rest: text };
+    let _form = scan_number(&mut scanner);
+    ParseError::unexpected(text.len() - scanner.rest.len(), text.len())
 }
 
-fn begins_with(text: &[u8], byte: u8) -> bool
-    ensures { IsTrue result ↔ (0 < length text.now) × (slice_index text.now 0 ≡ byte) }
+/// Parses such a number, up to the end of the text.
+fn scan_number(scanner: &mut Scanner) -> Option<()>
+    ensures { ScansWhole number_shape scanner.old.rest.now scanner.new.rest.now result }
 {
-    match text {
-        [first, ..] => *first == byte,
-        [] => false,
+    if let None = scanner.byte(b'-')
+        && let Some(()) = scanner.byte(b'0')
+    {
+        return scanner.end();
     }
+    scanner.digit_from_1()?;
+    skip_digits(scanner, 26);
+    scanner.end()
 }

@@ -1,8 +1,5 @@
 use Rattle.std.proofs.Common.{◌∙◌, ap, pos}
-use Rattle.caldate_run.specs.Readings.{HasFormIn}
-use Rattle.caldate_run.specs.declared.reading.Reading.TheVariants.{Unix}
 use Rattle.caldate_run.proofs.ReadNumbers.{moment_of, no_fault, product}
-use Rattle.caldate_run.proofs.Templates.{at_stop}
 use Rattle.caldate_run.proofs.reading.number.read_number.Goals as goal
 
 pub returns-in-Ok-clause-has : goal.returns-in-Ok-clause-has
@@ -18,8 +15,3 @@ returns-in-Ok-clause-component c why =
     let n = c.in-Some.ensures.has in
     let same = product unit c.in-Some.number c.from.result n.few (c.from.ensures ∙ ap pos c.nanoseconds_in.ensures.value) in
     (λ e. absurd e, λ is. no_fault unit c.args.text.now c.in-Some.number _ why c.in-Some.ensures.every same c.in-Ok.ensures.error.1 is)
-
-pub returns-in_default-clause-position : goal.returns-in_default-clause-position
-returns-in_default-clause-position c =
-    let text = c.args.text.now in
-    at_stop (HasFormIn (Unix c.args.unit)) _ text _ (c.number_template.ensures c.args.unit) c.wrong_at.ensures.position
