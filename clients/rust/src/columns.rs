@@ -244,14 +244,14 @@ pub fn moments_texts(
 /// Writes the offsets at Unix times in a time zone, in seconds.
 #[track_caller]
 pub fn zone_offsets(zone: &Zone<'_>, seconds: &[i64], offsets: &mut [i32], statuses: &mut [u8]) -> usize {
-    zone.with(|zone| ffi::fots_zone_offsets(zone, seconds, offsets, statuses))
+    ffi::fots_zone_offsets(zone.c(), seconds, offsets, statuses)
 }
 
 /// Writes the Unix times of readings in a time zone by a policy. A reading is the seconds by the
 /// clock since 1970-01-01 0:00. A row without a result has `i64::MIN`.
 #[track_caller]
 pub fn zone_instants(zone: &Zone<'_>, readings: &[i64], policy: Policy, seconds: &mut [i64], statuses: &mut [u8]) -> usize {
-    zone.with(|zone| ffi::fots_zone_instants(zone, readings, policy as u32, seconds, statuses))
+    ffi::fots_zone_instants(zone.c(), readings, policy as u32, seconds, statuses)
 }
 
 /// Parses dates by a format, like [`Date::parse`], from texts as in [`dates_parse`]. Why a row has

@@ -12,6 +12,7 @@ use crate::rule::{ByDay, Rule};
 use crate::zone::ZoneError;
 use crate::Date;
 use core::convert::identity;
+use core::marker::PhantomData;
 
 /// The number that says how a call ended.
 pub(crate) type Status = i32;
@@ -26,7 +27,7 @@ pub(crate) type CRecurrenceSetPointer<'a> = &'a CRecurrenceSet;
 pub(crate) type CFormatPointer<'a> = &'a CFormat;
 /// Working days that a call made, from [`crate::Workdays`] only.
 pub(crate) type CWorkdaysPointer<'a> = &'a CWorkdays;
-/// The bytes of a zone, from [`with_zone`] only.
+/// A zone, from [`BorrowedZone`] only.
 pub(crate) type CZonePointer<'a> = &'a CZone;
 
 /// The result of a column call if lengths differ.
@@ -258,11 +259,42 @@ pub(crate) fn with_parts<T>(rule: &Rule<'_>, call: impl FnOnce(CRulePointer) -> 
     })
 }
 
-/// Calls with the bytes of a zone, which live until the call returns.
-#[inline]
-pub(crate) fn with_zone<T>(bytes: &[u8], parts: CZoneParts, call: impl FnOnce(CZonePointer) -> T) -> T {
-    call(&CZone { bytes: bytes.as_ptr(), bytes_length: bytes.len(), parts })
+/// The struct of a zone, which borrows its bytes. It is made once, since a call for one offset takes
+/// less time than a copy of it.
+#[derive(Clone, Copy, Debug)]
+pub(crate) struct BorrowedZone<'a> {
+    zone: CZone,
+    bytes: PhantomData<&'a [u8]>,
 }
+
+// Its pointer is that of a shared slice.
+unsafe impl Send for BorrowedZone<'_> {}
+unsafe impl Sync for BorrowedZone<'_> {}
+
+impl<'a> BorrowedZone<'a> {
+    pub(crate) fn new(bytes: &'a [u8], parts: CZoneParts) -> Self {
+        let zone = CZone { bytes: bytes.as_ptr(), bytes_length: bytes.len(), parts };
+        Self { zone, bytes: PhantomData }
+    }
+
+    /// Returns the struct for a call.
+    #[inline]
+    pub(crate) fn c(&self) -> CZonePointer<'_> {
+        &self.zone
+    }
+
+    pub(crate) fn bytes(&self) -> &'a [u8] {
+        unsafe { core::slice::from_raw_parts(self.zone.bytes, self.zone.bytes_length) }
+    }
+}
+
+impl PartialEq for BorrowedZone<'_> {
+    fn eq(&self, other: &Self) -> bool {
+        self.bytes() == other.bytes() && self.zone.parts == other.zone.parts
+    }
+}
+
+impl Eq for BorrowedZone<'_> {}
 
 impl ZoneError {
     /// Converts from a status and the position.

@@ -126,7 +126,7 @@ impl OffsetDateTime {
     /// # Ok::<(), Box<dyn std::error::Error>>(())
     /// ```
     pub fn format_in_zone(self, format: &Format, zone: &Zone<'_>) -> Option<FormatText> {
-        let print = |bytes: &mut [u8]| zone.with(|zone| ffi::fots_moment_format_in_zone(self.to_c(), zone, format.c(), bytes));
+        let print = |bytes: &mut [u8]| ffi::fots_moment_format_in_zone(self.to_c(), zone.c(), format.c(), bytes);
         let mut bytes = [0; CAPACITY];
         match print(&mut bytes) {
             Err(UNSUPPORTED_ITEM) => None,

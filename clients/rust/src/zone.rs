@@ -1,6 +1,6 @@
 //! Time zones.
 
-use crate::ffi::{self, expect_answer, or_none, with_zone, Answer, CZoneParts, CZonePointer};
+use crate::ffi::{self, expect_answer, or_none, Answer, BorrowedZone, CZonePointer};
 use crate::{Local, OffsetDateTime, PlainDateTime, UtcOffset};
 use core::fmt;
 
@@ -23,8 +23,7 @@ use core::fmt;
 /// ```
 #[derive(Clone, Copy, Debug, PartialEq, Eq)]
 pub struct Zone<'a> {
-    bytes: &'a [u8],
-    parts: CZoneParts,
+    zone: BorrowedZone<'a>,
 }
 
 /// How clocks are set.
@@ -74,7 +73,7 @@ impl<'a> Zone<'a> {
     ///
     /// The first wrong byte.
     pub fn parse(bytes: &'a [u8]) -> Result<Self, ZoneError> {
-        ffi::fots_zone_file_parts(bytes).map(|(_, parts)| Self { bytes, parts })
+        ffi::fots_zone_file_parts(bytes).map(|(_, parts)| Self { zone: BorrowedZone::new(bytes, parts) })
     }
 
     /// Parses a POSIX text, such as `CET-1CEST,M3.5.0,M10.5.0/3`.
@@ -84,23 +83,25 @@ impl<'a> Zone<'a> {
     /// The first wrong byte.
     pub fn parse_posix(text: &'a str) -> Result<Self, ZoneError> {
         let bytes = text.as_bytes();
-        ffi::fots_zone_posix_parts(bytes).map(|(_, parts)| Self { bytes, parts })
+        ffi::fots_zone_posix_parts(bytes).map(|(_, parts)| Self { zone: BorrowedZone::new(bytes, parts) })
     }
 
-    /// Calls with the struct of C.
-    pub(crate) fn with<T>(&self, call: impl FnOnce(CZonePointer) -> T) -> T {
-        with_zone(self.bytes, self.parts, call)
+    /// Returns the struct of C.
+    #[inline]
+    pub(crate) fn c(&self) -> CZonePointer<'_> {
+        self.zone.c()
     }
 
     /// Returns the offset at a Unix time.
+    #[inline]
     pub fn utc_offset_at(&self, instant: i64) -> UtcOffset {
-        UtcOffset::from_c(expect_answer(self.with(|zone| ffi::fots_zone_offset(zone, instant))))
+        UtcOffset::from_c(expect_answer(ffi::fots_zone_offset(self.c(), instant)))
     }
 
     /// Returns how the clocks are set at a Unix time.
     pub fn kind_at(&self, instant: i64) -> LocalType<'a> {
-        let (offset, is_daylight, start, length) = expect_answer(self.with(|zone| ffi::fots_zone_local_type(zone, instant)));
-        let name = self.bytes.get(start..start + length).unwrap_or_default();
+        let (offset, is_daylight, start, length) = expect_answer(ffi::fots_zone_local_type(self.c(), instant));
+        let name = self.zone.bytes().get(start..start + length).unwrap_or_default();
         LocalType {
             offset: UtcOffset::from_c(offset),
             is_daylight: is_daylight == 1,
@@ -110,25 +111,26 @@ impl<'a> Zone<'a> {
 
     /// Returns the Unix time of the first change after another one, or `None` if there is none.
     pub fn next_change(&self, instant: i64) -> Option<i64> {
-        or_none(self.with(|zone| ffi::fots_zone_next_change(zone, instant)))
+        or_none(ffi::fots_zone_next_change(self.c(), instant))
     }
 
     /// Returns the Unix time of the last change that is not after another one, or `None` if there
     /// is none.
     pub fn previous_change(&self, instant: i64) -> Option<i64> {
-        or_none(self.with(|zone| ffi::fots_zone_previous_change(zone, instant)))
+        or_none(ffi::fots_zone_previous_change(self.c(), instant))
     }
 
     /// Returns the date-times at which clocks show a reading: exactly those whose offset is the
     /// zone's at their own instant.
+    #[inline]
     pub fn resolve(&self, reading: PlainDateTime) -> Local {
         let (date, time) = (reading.date().to_c(), reading.time().to_c());
-        let (kind, _, _, before, after) = expect_answer(self.with(|zone| ffi::fots_zone_resolve(zone, date, time)));
+        let (kind, _, _, before, after) = expect_answer(ffi::fots_zone_resolve(self.c(), date, time));
         Local::new(kind, reading, UtcOffset::from_c(before), UtcOffset::from_c(after))
     }
 
     /// Returns the same instant in the zone, or the status of the error.
     pub(crate) fn convert(&self, moment: OffsetDateTime) -> Answer<ffi::CMoment> {
-        self.with(|zone| ffi::fots_moment_in_zone(moment.to_c(), zone))
+        ffi::fots_moment_in_zone(moment.to_c(), self.c())
     }
 }

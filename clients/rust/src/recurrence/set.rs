@@ -60,7 +60,7 @@ impl<'a> RecurrenceSet<'a> {
     /// [`Local::compatible`](crate::Local::compatible), after one, in order, each once.
     pub fn moments_after(self, zone: &'a Zone<'a>, after: OffsetDateTime) -> impl Iterator<Item = OffsetDateTime> + 'a {
         let write = move |after: OffsetDateTime, page: &mut [CMoment]| {
-            let call = |set: CRecurrenceSetPointer| zone.with(|zone| ffi::fots_recurrence_moments(set, zone, after.to_c(), page));
+            let call = |set: CRecurrenceSetPointer| ffi::fots_recurrence_moments(set, zone.c(), after.to_c(), page);
             self.with(call).expect("the text was parsed").1
         };
         pages(after, write, OffsetDateTime::from_c, Some)
