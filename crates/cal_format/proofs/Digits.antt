@@ -36,6 +36,16 @@ value-fill : (k b : ℕ) (ds : List ℕ) → b % 16 ≡ 0 → fold step 0 (repli
 value-fill zero b ds e = refl
 value-fill (suc k) b ds e = let same : step 0 b ≡ 0 = omega (arith, e) in ap (λ a. fold step a (replicate k b ++ ds)) same ∙ value-fill k b ds e
 
+-- Digits that spell the same number are the same.
+pub digits-one : (a b : ℕ) (ds es : List ℕ) → length ds ≡ length es → AreDigits ds → AreDigits es → fold step a ds ≡ fold step b es → (a ≡ b) × (ds ≡ es)
+digits-one a b [] [] long h k e = (e, refl)
+digits-one a b [] (y ∷ ys) long h k e = absurd (omega (arith, long))
+digits-one a b (x ∷ xs) [] long h k e = absurd (omega (arith, long))
+digits-one a b (x ∷ xs) (y ∷ ys) long h k e =
+    let found = digits-one (step a x) (step b y) xs ys (omega (arith, long)) h.2 k.2 e in
+    let first : x ≡ y = omega (arith, found.0, h.0, h.1, k.0, k.1) in
+    (omega (arith, found.0, first), λ i. first i ∷ found.1 i)
+
 pub value-padded : (p : Padding) (w n : ℕ) → n < 2 ^ 64 → fold step 0 (padded p w n) ≡ n
 value-padded padding.Zero w n small = value-fill (w - length (decimal n)) 48 (decimal n) refl ∙ value-decimal n small
 value-padded padding.Space w n small = value-fill (w - length (decimal n)) 32 (decimal n) refl ∙ value-decimal n small
@@ -77,16 +87,10 @@ pub width-most : (c : Component) → width c ≤ 9
 width-most Year = lit≤ tt
 width-most _ = lit≤ tt
 
-length-filled : (b w n : ℕ) → 1 ≤ w → n < 10 ^ w → n < 2 ^ 64 → length (replicate (w - length (decimal n)) b ++ decimal n) ≡ w
-length-filled b w n some low small =
-    let short = length-decimal-le w n some low small in
-    omega (arith, length-append (replicate (w - length (decimal n)) b) (decimal n), length-replicate (w - length (decimal n)) b, short)
-
 pub length-zeros : (w n : ℕ) → 1 ≤ w → n < 10 ^ w → n < 2 ^ 64 → length (padded padding.Zero w n) ≡ w
-length-zeros w n some low small = length-filled 48 w n some low small
-
-pub length-spaces : (w n : ℕ) → 1 ≤ w → n < 10 ^ w → n < 2 ^ 64 → length (padded padding.Space w n) ≡ w
-length-spaces w n some low small = length-filled 32 w n some low small
+length-zeros w n some low small =
+    let short = length-decimal-le w n some low small in
+    omega (arith, length-append (replicate (w - length (decimal n)) 48) (decimal n), length-replicate {A = ℕ} (w - length (decimal n)) 48, short)
 
 AreDigits-more : (ds : List ℕ) (d : ℕ) → AreDigits ds → 48 ≤ d → d ≤ 57 → AreDigits (ds ++ d ∷ [])
 AreDigits-more [] d h low high = (low, high, tt)

@@ -1,6 +1,8 @@
 -- Months and weekdays by their names.
-use Rattle.std.proofs.Common.{◌≡◌, ℕ, ◌-◌, ◌<◌, ◌≤◌, List, ◌∷◌, ◌++◌, length, refl, ap, ◌∙◌, arith, inr, lit<, lit≤}
-use Rattle.std.specs.Prelude.{◌==◌, if◌then◌else◌, nat_lt, codes, Bool, true, false}
+use Rattle.std.proofs.Common.{◌≡◌, ℕ, ◌-◌, ◌<◌, ◌≤◌, List, ◌∷◌, ◌++◌, [], length, take, drop, refl, sym, ap, ◌∙◌, arith, inr, lit<, lit≤}
+use Rattle.std.specs.Prelude.{◌==◌, if◌then◌else◌, nat_lt, codes, bytes_eq, Bool, true, false}
+use Rattle.std.proofs.lemmas.List.{take_all}
+use Rattle.std.proofs.lemmas.Slice.Eq.{bytes_eq-Decides}
 use Rattle.cal_time.specs.declared.Month.{Month}
 use Rattle.cal_time.specs.declared.Month.TheVariants.{January}
 use Rattle.cal_time.specs.declared.Weekday.{Weekday}
@@ -19,6 +21,14 @@ use Rattle.cal_format.proofs.Ends.{BeginsApart, BeginsPastPoint}
 -- ---- the month of a day
 pub same-month : (m : Month) (k : ℕ) → month.number m ≡ k → month.month_of_index (k - 1) ≡ m
 same-month m k e = ap month.month_of_index (let f : k - 1 ≡ month.index m = omega (arith, e) in f) ∙ month_of_index-index m
+
+-- The first three bytes are the letters of a month.
+pub front-month : (m : Month) (k : ℕ) (old : List ℕ) → month.number m ≡ k → 3 ≤ length old → true ≡ bytes_eq (take 3 (month.name m)) (take 3 old)
+    → old ≡ short_month (month.month_of_index (k - 1)) ++ take (length old - 3) (drop 3 old)
+front-month m k (a ∷ b ∷ c ∷ rest) e long same =
+    let letters : short_month m ≡ a ∷ b ∷ c ∷ [] = (bytes_eq-Decides (take 3 (month.name m)) (a ∷ b ∷ c ∷ [])).0 (sym same) in
+    sym (ap (λ l. l ++ take (length (a ∷ b ∷ c ∷ rest) - 3) rest) (ap short_month (same-month m k e) ∙ letters) ∙ ap (λ l. a ∷ b ∷ c ∷ l) (take_all (length (a ∷ b ∷ c ∷ rest) - 3) rest (omega arith)))
+front-month m k _ e long same = absurd (omega (arith, long))
 
 -- ---- lengths
 pub length-short_month : (m : Month) → length (short_month m) ≡ 3

@@ -1,18 +1,20 @@
 -- Scanning the digits of a fraction of a second.
-use Rattle.std.proofs.Common.{◌≡◌, ◌≢◌, ℕ, zero, suc, ◌+◌, ◌-◌, ◌*◌, ◌/◌, ◌%◌, ◌<◌, ◌≤◌, List, [], ◌∷◌, ◌++◌, length, take, drop, replicate, refl, sym, ap, ◌∙◌, arith, length-append, inl, inr}
-use Rattle.std.specs.Prelude.{Bool, true, false}
+use Rattle.std.proofs.Common.{◌≡◌, ◌≢◌, ℕ, zero, suc, ◌+◌, ◌-◌, ◌*◌, ◌/◌, ◌%◌, ◌<◌, ◌≤◌, List, [], ◌∷◌, ◌++◌, length, take, drop, replicate, refl, sym, ap, ◌∙◌, arith, length-append, inl, inr, lit≤}
+use Rattle.std.specs.Prelude.{Bool, true, false, fold}
 use Rattle.std.specs.Char.{digit_value}
 use Rattle.std.specs.Str.Parse.{AllDigits}
 use Rattle.std.proofs.lemmas.List.{length-replicate}
 use Rattle.std.proofs.lemmas.Bool.{cases_eq}
-use Rattle.std.proofs.lemmas.Bool.Decides.{nat_tests}
 use Rattle.cal_text.specs.Shape.{decimals_value}
 use Rattle.cal_text.proofs.DigitParts.{has_value, is_digit}
-use Rattle.cal_text.proofs.ReadDigits.{value-of, all-append}
+use Rattle.cal_text.proofs.ReadDigits.{value-of}
 use Rattle.cal_time.specs.Digits.{nine_digits, prepend_digit, without_trailing_zeros, decimals}
 use Rattle.cal_time.specs.Laws.{prepend_digit-other, prepend_digit-zero}
 use Rattle.cal_format.specs.Text.{fraction_text}
 use Rattle.cal_format.specs.Form.{ParsesDecimals}
+use Rattle.cal_format.proofs.Digits.{step, digits-one}
+use Rattle.cal_format.proofs.Ends.{AreDigits}
+use Rattle.cal_format.proofs.Fractions.{nine-digits, value-nine, fraction-some}
 
 -- ---- a digit, and other digits
 one-last : (d : ℕ) (ds : List ℕ) → d ≢ 48 → without_trailing_zeros ds ≡ ds → without_trailing_zeros (d ∷ ds) ≡ d ∷ ds
@@ -88,10 +90,6 @@ value-fill : (unit k : ℕ) (ds : List ℕ) → decimals_value unit (ds ++ repli
 value-fill unit k [] = value-zeros unit k
 value-fill unit k (d ∷ ds) = ap (λ v. digit_value d * unit + v) (value-fill (unit / 10) k ds)
 
-all-zeros : (k : ℕ) → AllDigits 10 (replicate k 48)
-all-zeros zero = tt
-all-zeros (suc k) = (omega (arith, value-of 0 (omega arith)), all-zeros k)
-
 last-zeros : (k : ℕ) → without_trailing_zeros (replicate k 48) ≡ []
 unfolding without_trailing_zeros
 last-zeros zero = refl
@@ -126,78 +124,43 @@ pub more-after : (x : ℕ) (xs : List ℕ) → x ≡ 48 → without_trailing_zer
 more-after x [] zero_is last = absurd (omega (arith, zero_is, one-high x (omega (arith, zero_is)) last))
 more-after x (y ∷ ys) zero_is last = omega arith
 
-digit : (x : ℕ) → digit_value x < 10 → digit_value x + 48 ≡ x
-digit x low = has_value x (is_digit x low)
+are-digits : (ds : List ℕ) → AllDigits 10 ds → AreDigits ds
+are-digits [] all = tt
+are-digits (d ∷ ds) all = let is = is_digit d all.0 in (is.0, is.1, are-digits ds all.1)
 
--- Nine digits, and the number that they spell.
-record IsSum (xa xb xc xd xe xf xg xh xk n : ℕ) : Type 0 where
-  low_a : xa < 10
-  low_b : xb < 10
-  low_c : xc < 10
-  low_d : xd < 10
-  low_e : xe < 10
-  low_f : xf < 10
-  low_g : xg < 10
-  low_h : xh < 10
-  low_k : xk < 10
-  sum : n ≡ xa * 100_000_000 + xb * 10_000_000 + xc * 1_000_000 + xd * 100_000 + xe * 10_000 + xf * 1_000 + xg * 100 + xh * 10 + xk
+value : (x : ℕ) → 48 ≤ x → x ≤ 57 → digit_value x ≡ x % 16
+value x low high = let same = has_value x (low, high) in omega (arith, low, high, same)
 
-digit-a : (xa xb xc xd xe xf xg xh xk n : ℕ) → IsSum xa xb xc xd xe xf xg xh xk n → n / 100_000_000 ≡ xa
-digit-a xa xb xc xd xe xf xg xh xk n h = omega (arith, h.sum, h.low_a, h.low_b, h.low_c, h.low_d, h.low_e, h.low_f, h.low_g, h.low_h, h.low_k)
+-- Nine digits, as a number and as a fraction.
+nine-value : (l : List ℕ) → length l ≡ 9 → AreDigits l → (fold step 0 l ≡ decimals_value 100_000_000 l) × (decimals_value 100_000_000 l < 1_000_000_000)
+nine-value (a ∷ b ∷ c ∷ d ∷ e ∷ f ∷ g ∷ h ∷ k ∷ []) long all =
+    let is_a = value a all.0 all.1 in
+    let is_b = value b all.2.0 all.2.1 in
+    let is_c = value c all.2.2.0 all.2.2.1 in
+    let is_d = value d all.2.2.2.0 all.2.2.2.1 in
+    let is_e = value e all.2.2.2.2.0 all.2.2.2.2.1 in
+    let is_f = value f all.2.2.2.2.2.0 all.2.2.2.2.2.1 in
+    let is_g = value g all.2.2.2.2.2.2.0 all.2.2.2.2.2.2.1 in
+    let is_h = value h all.2.2.2.2.2.2.2.0 all.2.2.2.2.2.2.2.1 in
+    let is_k = value k all.2.2.2.2.2.2.2.2.0 all.2.2.2.2.2.2.2.2.1 in
+    (omega (arith, is_a, is_b, is_c, is_d, is_e, is_f, is_g, is_h, is_k), omega (arith, is_a, is_b, is_c, is_d, is_e, is_f, is_g, is_h, is_k, all))
+nine-value _ long all = absurd (omega arith)
 
-digit-b : (xa xb xc xd xe xf xg xh xk n : ℕ) → IsSum xa xb xc xd xe xf xg xh xk n → n / 10_000_000 % 10 ≡ xb
-digit-b xa xb xc xd xe xf xg xh xk n h = omega (arith, h.sum, h.low_a, h.low_b, h.low_c, h.low_d, h.low_e, h.low_f, h.low_g, h.low_h, h.low_k)
+digits-fill : (k : ℕ) (ds : List ℕ) → AreDigits ds → AreDigits (ds ++ replicate k 48)
+digits-fill zero [] h = tt
+digits-fill (suc k) [] h = (lit≤ tt, lit≤ tt, digits-fill k [] tt)
+digits-fill k (d ∷ ds) h = (h.0, h.1, digits-fill k ds h.2)
 
-digit-c : (xa xb xc xd xe xf xg xh xk n : ℕ) → IsSum xa xb xc xd xe xf xg xh xk n → n / 1_000_000 % 10 ≡ xc
-digit-c xa xb xc xd xe xf xg xh xk n h = omega (arith, h.sum, h.low_a, h.low_b, h.low_c, h.low_d, h.low_e, h.low_f, h.low_g, h.low_h, h.low_k)
-
-digit-d : (xa xb xc xd xe xf xg xh xk n : ℕ) → IsSum xa xb xc xd xe xf xg xh xk n → n / 100_000 % 10 ≡ xd
-digit-d xa xb xc xd xe xf xg xh xk n h = omega (arith, h.sum, h.low_a, h.low_b, h.low_c, h.low_d, h.low_e, h.low_f, h.low_g, h.low_h, h.low_k)
-
-digit-e : (xa xb xc xd xe xf xg xh xk n : ℕ) → IsSum xa xb xc xd xe xf xg xh xk n → n / 10_000 % 10 ≡ xe
-digit-e xa xb xc xd xe xf xg xh xk n h = omega (arith, h.sum, h.low_a, h.low_b, h.low_c, h.low_d, h.low_e, h.low_f, h.low_g, h.low_h, h.low_k)
-
-digit-f : (xa xb xc xd xe xf xg xh xk n : ℕ) → IsSum xa xb xc xd xe xf xg xh xk n → n / 1_000 % 10 ≡ xf
-digit-f xa xb xc xd xe xf xg xh xk n h = omega (arith, h.sum, h.low_a, h.low_b, h.low_c, h.low_d, h.low_e, h.low_f, h.low_g, h.low_h, h.low_k)
-
-digit-g : (xa xb xc xd xe xf xg xh xk n : ℕ) → IsSum xa xb xc xd xe xf xg xh xk n → n / 100 % 10 ≡ xg
-digit-g xa xb xc xd xe xf xg xh xk n h = omega (arith, h.sum, h.low_a, h.low_b, h.low_c, h.low_d, h.low_e, h.low_f, h.low_g, h.low_h, h.low_k)
-
-digit-h : (xa xb xc xd xe xf xg xh xk n : ℕ) → IsSum xa xb xc xd xe xf xg xh xk n → n / 10 % 10 ≡ xh
-digit-h xa xb xc xd xe xf xg xh xk n h = omega (arith, h.sum, h.low_a, h.low_b, h.low_c, h.low_d, h.low_e, h.low_f, h.low_g, h.low_h, h.low_k)
-
-digit-k : (xa xb xc xd xe xf xg xh xk n : ℕ) → IsSum xa xb xc xd xe xf xg xh xk n → n % 10 ≡ xk
-digit-k xa xb xc xd xe xf xg xh xk n h = omega (arith, h.sum, h.low_a, h.low_b, h.low_c, h.low_d, h.low_e, h.low_f, h.low_g, h.low_h, h.low_k)
-
-record IsNine (l : List ℕ) : Type 0 where
-  digits : nine_digits (decimals_value 100_000_000 l) ≡ l
-  below : decimals_value 100_000_000 l < 1_000_000_000
-
-nine : (l : List ℕ) → length l ≡ 9 → AllDigits 10 l → IsNine l
-nine (a ∷ b ∷ c ∷ d ∷ e ∷ f ∷ g ∷ h ∷ k ∷ []) long all =
-    let n = decimals_value 100_000_000 (a ∷ b ∷ c ∷ d ∷ e ∷ f ∷ g ∷ h ∷ k ∷ []) in
-    let sum : IsSum (digit_value a) (digit_value b) (digit_value c) (digit_value d) (digit_value e) (digit_value f) (digit_value g) (digit_value h) (digit_value k) (decimals_value 100_000_000 (a ∷ b ∷ c ∷ d ∷ e ∷ f ∷ g ∷ h ∷ k ∷ [])) = record { low_a = all.0; low_b = all.1.0; low_c = all.1.1.0; low_d = all.1.1.1.0; low_e = all.1.1.1.1.0; low_f = all.1.1.1.1.1.0; low_g = all.1.1.1.1.1.1.0; low_h = all.1.1.1.1.1.1.1.0; low_k = all.1.1.1.1.1.1.1.1.0; sum = omega arith } in
-    let is_a : 48 + n / 100_000_000 ≡ a = omega (arith, digit-a (digit_value a) (digit_value b) (digit_value c) (digit_value d) (digit_value e) (digit_value f) (digit_value g) (digit_value h) (digit_value k) n sum, digit a sum.low_a) in
-    let is_b : 48 + n / 10_000_000 % 10 ≡ b = omega (arith, digit-b (digit_value a) (digit_value b) (digit_value c) (digit_value d) (digit_value e) (digit_value f) (digit_value g) (digit_value h) (digit_value k) n sum, digit b sum.low_b) in
-    let is_c : 48 + n / 1_000_000 % 10 ≡ c = omega (arith, digit-c (digit_value a) (digit_value b) (digit_value c) (digit_value d) (digit_value e) (digit_value f) (digit_value g) (digit_value h) (digit_value k) n sum, digit c sum.low_c) in
-    let is_d : 48 + n / 100_000 % 10 ≡ d = omega (arith, digit-d (digit_value a) (digit_value b) (digit_value c) (digit_value d) (digit_value e) (digit_value f) (digit_value g) (digit_value h) (digit_value k) n sum, digit d sum.low_d) in
-    let is_e : 48 + n / 10_000 % 10 ≡ e = omega (arith, digit-e (digit_value a) (digit_value b) (digit_value c) (digit_value d) (digit_value e) (digit_value f) (digit_value g) (digit_value h) (digit_value k) n sum, digit e sum.low_e) in
-    let is_f : 48 + n / 1_000 % 10 ≡ f = omega (arith, digit-f (digit_value a) (digit_value b) (digit_value c) (digit_value d) (digit_value e) (digit_value f) (digit_value g) (digit_value h) (digit_value k) n sum, digit f sum.low_f) in
-    let is_g : 48 + n / 100 % 10 ≡ g = omega (arith, digit-g (digit_value a) (digit_value b) (digit_value c) (digit_value d) (digit_value e) (digit_value f) (digit_value g) (digit_value h) (digit_value k) n sum, digit g sum.low_g) in
-    let is_h : 48 + n / 10 % 10 ≡ h = omega (arith, digit-h (digit_value a) (digit_value b) (digit_value c) (digit_value d) (digit_value e) (digit_value f) (digit_value g) (digit_value h) (digit_value k) n sum, digit h sum.low_h) in
-    let is_k : 48 + n % 10 ≡ k = omega (arith, digit-k (digit_value a) (digit_value b) (digit_value c) (digit_value d) (digit_value e) (digit_value f) (digit_value g) (digit_value h) (digit_value k) n sum, digit k sum.low_k) in
-    record {
-      digits = λ i. is_a i ∷ is_b i ∷ is_c i ∷ is_d i ∷ is_e i ∷ is_f i ∷ is_g i ∷ is_h i ∷ is_k i ∷ [];
-      below = omega (arith, sum.sum, sum.low_a, sum.low_b, sum.low_c, sum.low_d, sum.low_e, sum.low_f, sum.low_g, sum.low_h, sum.low_k);
-    }
-nine _ long all = absurd (omega arith)
-
-filled : (ds : List ℕ) → AllDigits 10 ds → length ds ≤ 9 → IsNine (ds ++ replicate (9 - length ds) 48)
-filled ds all few =
-    nine (ds ++ replicate (9 - length ds) 48) (omega (arith, length-append ds (replicate (9 - length ds) 48), length-replicate {A = ℕ} (9 - length ds) 48)) (all-append ds (replicate (9 - length ds) 48) all (all-zeros (9 - length ds)))
-
-digits-are : (ds : List ℕ) → AllDigits 10 ds → length ds ≤ 9 → nine_digits (decimals_value 100_000_000 ds) ≡ ds ++ replicate (9 - length ds) 48
-digits-are ds all few = ap nine_digits (sym (value-fill 100_000_000 (9 - length ds) ds)) ∙ (filled ds all few).digits
+digits-are : (ds : List ℕ) → AllDigits 10 ds → length ds ≤ 9 → (nine_digits (decimals_value 100_000_000 ds) ≡ ds ++ replicate (9 - length ds) 48) × (decimals_value 100_000_000 ds < 1_000_000_000)
+digits-are ds all few =
+    let l = ds ++ replicate (9 - length ds) 48 in
+    let n = decimals_value 100_000_000 ds in
+    let long : length l ≡ 9 = omega (arith, length-append ds (replicate (9 - length ds) 48), length-replicate {A = ℕ} (9 - length ds) 48) in
+    let are = digits-fill (9 - length ds) ds (are-digits ds all) in
+    let found = nine-value l long are in
+    let same = value-fill 100_000_000 (9 - length ds) ds in
+    let below : n < 1_000_000_000 = omega (arith, found.1, same) in
+    ((digits-one 0 0 (nine_digits n) l (sym long) (nine-digits n below) are (value-nine n below ∙ sym (found.0 ∙ same))).1, below)
 
 abbrev first_kept : List ℕ → List ℕ
 first_kept l = take 1 l ++ without_trailing_zeros (drop 1 l)
@@ -205,7 +168,7 @@ first_kept l = take 1 l ++ without_trailing_zeros (drop 1 l)
 decimals-are : (ds : List ℕ) → AllDigits 10 ds → length ds ≤ 9 → 0 < length ds → without_trailing_zeros ds ≡ ds → decimals (decimals_value 100_000_000 ds) ≡ ds
 decimals-are [] all few some last = absurd (omega arith)
 decimals-are (d ∷ ds) all few some last =
-    ap first_kept (digits-are (d ∷ ds) all few) ∙ ap (λ l. d ∷ l) (last-fill (9 - suc (length ds)) ds ∙ tail-last d ds last)
+    ap first_kept (digits-are (d ∷ ds) all few).0 ∙ ap (λ l. d ∷ l) (last-fill (9 - suc (length ds)) ds ∙ tail-last d ds last)
 
 decimals-0 : without_trailing_zeros (decimals 0) ≡ []
 unfolding without_trailing_zeros
@@ -214,17 +177,14 @@ decimals-0 = refl
 not-0 : (ds : List ℕ) → decimals 0 ≡ ds → 0 < length ds → without_trailing_zeros ds ≡ ds → ⊥
 not-0 ds e some last = omega (arith, some, ap length (sym last ∙ ap without_trailing_zeros (sym e) ∙ decimals-0))
 
-fraction-other : (n : ℕ) → n ≢ 0 → fraction_text n ≡ 46 ∷ decimals n
-fraction-other n other = grind (arith, nat_tests)
-
 pub fraction-scanned : (n : ℕ) (old mid new : List ℕ) → old ≡ 46 ∷ mid → ParsesDecimals mid new false 8 100_000_000 n → (n < 1_000_000_000) × (old ≡ fraction_text n ++ new)
 fraction-scanned n old mid new point h =
     let few : length h.digits ≤ 9 = h.few in
     let is : decimals n ≡ h.digits = ap decimals (sym h.value) ∙ decimals-are h.digits h.all few (h.some refl) h.last in
     let other : n ≢ 0 = λ e. absurd (not-0 h.digits (ap decimals (sym e) ∙ is) (h.some refl) h.last) in
-    let below = (filled h.digits h.all few).below in (
-      omega (arith, below, value-fill 100_000_000 (9 - length h.digits) h.digits, h.value),
-      point ∙ ap (λ l. 46 ∷ l) (h.bytes_are ∙ ap (λ ds. ds ++ new) (sym is)) ∙ ap (λ l. l ++ new) (sym (fraction-other n other)),
+    let below = (digits-are h.digits h.all few).1 in (
+      omega (arith, below, h.value),
+      point ∙ ap (λ l. 46 ∷ l) (h.bytes_are ∙ ap (λ ds. ds ++ new) (sym is)) ∙ ap (λ l. l ++ new) (sym (fraction-some n (omega (arith, other)))),
     )
 
 -- A digit and the digits after it.
@@ -237,8 +197,8 @@ decimals-scanned d n old mid new first h =
     let value : decimals_value 100_000_000 ((48 + d) ∷ h.digits) ≡ d * 100_000_000 + n =
     ap (λ v. v * 100_000_000 + decimals_value 10_000_000 h.digits) (value-of d first.0) ∙ ap (λ v. d * 100_000_000 + v) h.value in
     let is : decimals (d * 100_000_000 + n) ≡ (48 + d) ∷ h.digits =
-    ap decimals (sym value) ∙ ap first_kept (digits-are ((48 + d) ∷ h.digits) all few) ∙ ap (λ l. (48 + d) ∷ l) (last-fill (9 - suc (length h.digits)) h.digits ∙ h.last) in
-    let below = (filled ((48 + d) ∷ h.digits) all few).below in (
-      omega (arith, below, value-fill 100_000_000 (9 - length ((48 + d) ∷ h.digits)) ((48 + d) ∷ h.digits), value),
+    ap decimals (sym value) ∙ ap first_kept (digits-are ((48 + d) ∷ h.digits) all few).0 ∙ ap (λ l. (48 + d) ∷ l) (last-fill (9 - suc (length h.digits)) h.digits ∙ h.last) in
+    let below = (digits-are ((48 + d) ∷ h.digits) all few).1 in (
+      omega (arith, below, value),
       first.1 ∙ ap (λ l. (48 + d) ∷ l) h.bytes_are ∙ ap (λ l. l ++ new) (sym is),
     )

@@ -57,13 +57,15 @@ zeros-digits (d ∷ ds) h = prepend-digits d (without_trailing_zeros ds) h.0 h.1
 one-digit : (k : ℕ) (ds : List ℕ) → AreDigits ds → AreDigits ((48 + k % 10) ∷ ds)
 one-digit k ds h = (omega arith, omega arith, h)
 
-pub AreDigits-decimals : (n : ℕ) → n < 1_000_000_000 → AreDigits (decimals n)
-AreDigits-decimals n small =
-    let nine = nine_digits n in
+pub nine-digits : (n : ℕ) → n < 1_000_000_000 → AreDigits (nine_digits n)
+nine-digits n small =
     let first : 48 + n / 100_000_000 ≤ 57 = omega arith in
-    let eight : AreDigits (drop 1 nine) =
-    one-digit (n / 10_000_000) (drop 2 nine) (one-digit (n / 1_000_000) (drop 3 nine) (one-digit (n / 100_000) (drop 4 nine) (one-digit (n / 10_000) (drop 5 nine) (one-digit (n / 1_000) (drop 6 nine) (one-digit (n / 100) (drop 7 nine) (one-digit (n / 10) (drop 8 nine) (one-digit n [] tt))))))) in
-    (omega arith, first, zeros-digits (drop 1 nine) eight)
+    let nine = nine_digits n in
+    let eight = one-digit (n / 10_000_000) (drop 2 nine) (one-digit (n / 1_000_000) (drop 3 nine) (one-digit (n / 100_000) (drop 4 nine) (one-digit (n / 10_000) (drop 5 nine) (one-digit (n / 1_000) (drop 6 nine) (one-digit (n / 100) (drop 7 nine) (one-digit (n / 10) (drop 8 nine) (one-digit n [] tt))))))) in
+    (omega arith, first, eight)
+
+pub AreDigits-decimals : (n : ℕ) → n < 1_000_000_000 → AreDigits (decimals n)
+AreDigits-decimals n small = let nine = nine-digits n small in (nine.0, nine.1, zeros-digits (drop 1 (nine_digits n)) nine.2)
 
 -- The decimals of a fraction have no trailing zeros, and there are some.
 zeros-again-gone : (d : ℕ) (w : List ℕ) → without_trailing_zeros w ≡ w → without_trailing_zeros (prepend_digit d w) ≡ prepend_digit d w
@@ -96,7 +98,7 @@ pub decimals-present : (n : ℕ) → 0 < length (decimals n)
 decimals-present n = omega arith
 
 -- ---- the number of nine digits
-value-nine : (n : ℕ) → n < 1_000_000_000 → fold step 0 (nine_digits n) ≡ n
+pub value-nine : (n : ℕ) → n < 1_000_000_000 → fold step 0 (nine_digits n) ≡ n
 value-nine n small =
     ap (λ x. fold step x (drop 1 (nine_digits n))) (step-one (n / 100_000_000) (omega arith))
     ∙ ap (λ x. fold step x (drop 2 (nine_digits n))) (step-digit (n / 10_000_000) (n / 100_000_000) (omega arith))

@@ -158,7 +158,7 @@ unfolding unmatched_bytes MonthName
 month-each January f rest = refl
 month-each _ f rest = refl
 
-short_month-each : (m : Month) (f : Shape) (rest : List ℕ) → unmatched_bytes (MonthName false f) (short_month m ++ rest) ≡ unmatched_bytes f rest
+pub short_month-each : (m : Month) (f : Shape) (rest : List ℕ) → unmatched_bytes (MonthName false f) (short_month m ++ rest) ≡ unmatched_bytes f rest
 unfolding unmatched_bytes MonthName
 short_month-each January f rest = refl
 short_month-each _ f rest = refl
@@ -196,7 +196,7 @@ name-each name.ShortWeekday n f rest = short_weekday-each (weekday_of_index (n -
 name-each name.Period n f rest = period-each (n == 0) f rest
 
 -- ---- items
-item-each : (i : Item) (n : ℕ) (f : Shape) (rest : List ℕ) → IsNumber i n → IsEnded i rest → unmatched_bytes (ItemShape i f) (numbered_item i n ++ rest) ≡ unmatched_bytes f rest
+pub item-each : (i : Item) (n : ℕ) (f : Shape) (rest : List ℕ) → IsNumber i n → IsEnded i rest → unmatched_bytes (ItemShape i f) (numbered_item i n ++ rest) ≡ unmatched_bytes f rest
 item-each (item.Literal b) n f rest h ended = unmatched_bytes-in b 0 f b rest (omega arith, omega arith)
 item-each (item.Number c padding.Zero) n f rest h ended = padded-each padding.Zero (width c) n f rest (width-some c) h (omega (arith, h, small-width c)) (λ e. cc)
 item-each (item.Number c padding.Space) n f rest h ended = padded-each padding.Space (width c) n f rest (width-some c) h (omega (arith, h, small-width c)) (λ e. cc)

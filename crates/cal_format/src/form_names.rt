@@ -1,10 +1,11 @@
 //! The form of names.
-ghost use Rattle.std.specs.Prelude.{◌≡◌, ◌<◌, ◌≤◌, ◌∷◌, ◌++◌, IfSome, if◌then◌else◌};
+ghost use Rattle.std.specs.Prelude.{◌≡◌, ◌<◌, ◌≤◌, ◌∷◌, ◌++◌, IfSome, if◌then◌else◌, false};
 ghost use Rattle.cal_text.specs.Shape.{Scans};
 ghost use Rattle.cal_format.specs.Form.{Word, Letters, MonthName, WeekdayName, PeriodName, NameShape, month_text, weekday_text, period_text, numbered_name, IsNameNumber};
 
 use crate::item::Name;
 use cal_text::Scanner;
+use cal_time::Month;
 
 /// Makes the function return this result if the byte comes next.
 macro_rules! after_byte {
@@ -24,11 +25,36 @@ pub(crate) fn scan_name(scanner: &mut Scanner, name: Name) -> Option<u64>
 {
     match name {
         Name::Month => scan_month(scanner, true),
-        Name::ShortMonth => scan_month(scanner, false),
+        Name::ShortMonth => scan_short_month(scanner),
         Name::Weekday => scan_weekday(scanner, true),
         Name::ShortWeekday => scan_weekday(scanner, false),
         Name::Period => scan_period(scanner),
     }
+}
+
+/// The number of a month by the sum of the second and the third letter of its name, modulo 32. No
+/// two months have the same sum, and other sums have any month.
+const MONTHS: [u8; 32] = [
+    1, 7, 4, 6, 1, 11, 1, 2, 12, 1, 1, 1, 1, 1, 1, 1, 1, 1, 1, 3, 1, 9, 1, 10, 1, 1, 5, 1, 8, 1, 1,
+    1,
+];
+
+/// Parses the first three letters of the name of a month, without a branch for each letter. The
+/// other way finds the wrong byte.
+#[inline(always)]
+fn scan_short_month(scanner: &mut Scanner) -> Option<u64>
+    ensures scans { Scans (MonthName false) scanner.old.rest.now scanner.new.rest.now result }
+    ensures value { IfSome result (λ n. scanner.old.rest.now ≡ month_text false n ++ scanner.new.rest.now) }
+    ensures range { IfSome result (λ n. (1 ≤ n) × (n ≤ 12)) }
+{
+    if let [_, b, c, others @ ..] = scanner.rest
+        && let Ok(month) = Month::try_from(MONTHS[usize::from(b.wrapping_add(*c) % 32)])
+        && month.name().as_bytes()[..3] == scanner.rest[..3]
+    {
+        scanner.rest = others;
+        return Some(u64::from(u8::from(month)));
+    }
+    scan_month(scanner, false)
 }
 
 #[tactic(auto, unfolding(crate::specs::Form::MonthName))]
