@@ -9,6 +9,7 @@ pub mod ReadValues
 pub mod ReadWords
 pub mod ReadDates
 pub mod ReadParts
+pub mod SetLines
 pub mod GivenParts
 pub mod FirstNumbers
 pub mod Sets
@@ -23,3 +24,5 @@ pub mod TimePositions
 pub mod SelectedReadings
 pub mod SetValues
 pub mod Unfolding
+pub mod Puts
+pub mod FoldedLines

@@ -245,21 +245,21 @@ reading-avoids byte z out mark h =
     ∙ avoids-append byte (day_text (date_at z)) (84 ∷ clock) (digits-avoid byte (day_text (date_at z)) out (day-spelled (date_at z) h.1).all)
     (avoids-cons byte 84 clock mark (digits-avoid byte clock out (reading-spelled z h).all))
 
+date-avoids : (byte : ℕ) (value : DateOrTime) → (byte < 48) ⊎ (57 < byte) → eqb 84 byte ≡ false → eqb 90 byte ≡ false → IsDateOrTime value
+    → avoids byte (date_or_time_text value) ≡ true
+date-avoids byte (Date n) out mark zone h = digits-avoid byte (day_text n) out (day-spelled n h).all
+date-avoids byte (Local z) out mark zone h = reading-avoids byte z out mark h
+date-avoids byte (Utc z) out mark zone h = avoids-append byte (reading_text z) (codes "Z") (reading-avoids byte z out mark h) (avoids-cons byte 90 [] zone refl)
+
+date-back : (value : DateOrTime) → IsDateOrTime value → date_or_time_of (date_or_time_text value) ≡ Some value
+date-back (Date n) h = ap date_or_time_of (sym (append-nil (day_text n))) ∙ day-then n (day_text n) [] (day-spelled n h)
+date-back (Local z) h = ap date_or_time_of (sym (append-nil (reading_text z))) ∙ reading-back z [] h
+date-back (Utc z) h = reading-back z (codes "Z") h
+
 pub date-word : (value : DateOrTime) → IsDateOrTime value → IsWord date_or_time_of value (date_or_time_text value)
-date-word (Date n) h =
-    let day = day-spelled n h in
-    record {
-      comma = digits-avoid 44 (day_text n) (inl (lit< tt)) day.all;
-      semicolon = digits-avoid 59 (day_text n) (inr (lit< tt)) day.all;
-      means = ap date_or_time_of (sym (append-nil (day_text n))) ∙ day-then n (day_text n) [] day;
-    }
-date-word (Local z) h = record {
-  comma = reading-avoids 44 z (inl (lit< tt)) refl h;
-  semicolon = reading-avoids 59 z (inr (lit< tt)) refl h;
-  means = ap date_or_time_of (sym (append-nil (reading_text z))) ∙ reading-back z [] h;
-}
-date-word (Utc z) h = record {
-  comma = avoids-append 44 (reading_text z) (codes "Z") (reading-avoids 44 z (inl (lit< tt)) refl h) refl;
-  semicolon = avoids-append 59 (reading_text z) (codes "Z") (reading-avoids 59 z (inr (lit< tt)) refl h) refl;
-  means = reading-back z (codes "Z") h;
+date-word value h = record {
+  feed = date-avoids 10 value (inl (lit< tt)) refl refl h;
+  comma = date-avoids 44 value (inl (lit< tt)) refl refl h;
+  semicolon = date-avoids 59 value (inr (lit< tt)) refl refl h;
+  means = date-back value h;
 }

@@ -3,6 +3,7 @@ use Rattle.std.proofs.Common.{◌≡◌, ℕ, suc, ◌+◌, ◌≤◌, Bool, tru
 use Rattle.std.specs.Prelude.{codes, decimal, nat_le, not, option_map, ◌&&◌}
 use Rattle.std.specs.List.{All}
 use Rattle.std.proofs.lemmas.Bool.{cases_Bool, eqb-true}
+use Rattle.std.proofs.lemmas.Bool.Decides.{nat_tests}
 use Rattle.cal_time.specs.declared.Month.{Month}
 use Rattle.cal_time.specs.declared.Weekday.{Weekday}
 use Rattle.cal_time.specs.declared.Weekday.TheVariants as weekday
@@ -14,7 +15,7 @@ use Rattle.std.specs.Option.{option_map_or}
 use Rattle.cal_recurrence.specs.DateWords.{date_or_time_of}
 use Rattle.cal_recurrence.specs.Days.{ranks_alone}
 use Rattle.cal_recurrence.specs.Spelled.{IsCount, IsMonthDay, IsByDay, IsHour, IsMinute, IsPosition, IsSecond, IsWeek, IsEnd, IsSpelled}
-use Rattle.cal_recurrence.specs.Text.{checked, fault, later_of, list_of, is_given, parts_say, place_of, put, put_value, put_part, and_on, read_on, nothing, recurrence_of}
+use Rattle.cal_recurrence.specs.Text.{checked, fault, later_of, list_of, is_given, parts_say, place_of, put, put_value, put_part, and_on, read_on, nothing, recurrence_of, ReadsBack}
 use Rattle.cal_recurrence.specs.TimesOfDay.{no_times}
 use Rattle.cal_recurrence.specs.Words.{bytes_after, first_bytes, has_name, parts_at, frequency_of, weekday_of, count_of, month_of, month_day_of, week_of, by_day_of, by_hour_of, by_minute_of, by_second_of, position_of}
 use Rattle.cal_recurrence.specs.Written.{frequency_text, weekday_text, month_text, by_day_text, position_text, date_or_time_text, interval_text, end_text, list_text, week_start_text, text_of}
@@ -26,7 +27,7 @@ use Rattle.cal_recurrence.specs.declared.recurrence.Recurrence.{Recurrence}
 use Rattle.cal_recurrence.specs.declared.recurrence.RuleEnd.{RuleEnd}
 use Rattle.cal_recurrence.specs.declared.recurrence.RuleEnd.TheVariants.{Never, Until, Count}
 use Rattle.cal_recurrence.specs.declared.times_of_day.TimesOfDay.{TimesOfDay}
-use Rattle.cal_recurrence.proofs.Avoided.{avoids, avoids-append, cut-here, cut-nowhere}
+use Rattle.cal_recurrence.proofs.Avoided.{all-from, avoids, avoids-append, avoids-cons, cut-here, cut-nowhere}
 use Rattle.cal_recurrence.proofs.ReadDates.{date-word}
 use Rattle.cal_recurrence.proofs.ReadValues.{IsWord, IsValue, AreWords, one-word, list-value}
 use Rattle.cal_recurrence.proofs.ReadWords.{clock-word, count-word, month-word, month_day-word, week-word, by_day-word, position-word, frequency-word, weekday-word}
@@ -36,18 +37,32 @@ abbrev parts_after : List ℕ → List (List ℕ)
 parts_after [] = []
 parts_after (mark ∷ text) = parts_at 59 text
 
--- after what the draft has, the rest of the text says r
+-- after what the draft has, the rest of the text says r, on one line
 record Says (draft : Draft) (rest : List ℕ) (r : Recurrence) : Type 0 where
+  feed : avoids 10 rest ≡ true
   cut : (text : List ℕ) → avoids 59 text ≡ true → parts_at 59 (text ++ rest) ≡ text ∷ parts_after rest
   reads : (at : ℕ) → read_on at draft (parts_after rest) ≡ Ok r
 
-one-part : (draft more : Draft) (text rest : List ℕ) (r : Recurrence) → avoids 59 text ≡ true → put_part draft text ≡ Ok more
+-- a text has no end of a part or a line
+record IsPlain (text : List ℕ) : Type 0 where
+  feed : avoids 10 text ≡ true
+  semicolon : avoids 59 text ≡ true
+
+plain-value : {X : Type 0} (meaning : List ℕ → Option X) (x : X) (name value : List ℕ) → avoids 10 name ≡ true → avoids 59 name ≡ true
+    → IsValue meaning x value → IsPlain (name ++ value)
+plain-value meaning x name value feed semicolon h = record {
+  feed = avoids-append 10 name value feed h.feed;
+  semicolon = avoids-append 59 name value semicolon h.semicolon;
+}
+
+one-part : (draft more : Draft) (text rest : List ℕ) (r : Recurrence) → IsPlain text → put_part draft text ≡ Ok more
     → Says more rest r
     → Says draft (59 ∷ (text ++ rest)) r
 one-part draft more text rest r plain put h = record {
+  feed = avoids-cons 10 59 (text ++ rest) refl (avoids-append 10 text rest plain.feed h.feed);
   cut = λ first clean. cut-here 59 first (text ++ rest) clean;
   reads = λ at.
-      ap (read_on at draft) (h.cut text plain)
+      ap (read_on at draft) (h.cut text plain.semicolon)
       ∙ ap (and_on at (λ next. read_on (at + length text + 1) next (parts_after rest))) put
       ∙ h.reads (at + length text + 1);
 }
@@ -70,12 +85,12 @@ draft_of pattern times end has_interval has_week_start = record {
 }
 
 frequency-said : (f : Frequency) (rest : List ℕ) (r : Recurrence) → Says (draft_of (every f) no_times Never false false) rest r
-    → read_on 0 nothing (parts_at 59 ((codes "FREQ=" ++ frequency_text f) ++ rest)) ≡ Ok r
+    → Says nothing (59 ∷ ((codes "FREQ=" ++ frequency_text f) ++ rest)) r
 frequency-said f rest r h =
     let value = one-word frequency_of f (frequency_text f) (frequency-word f) in
-    (one-part nothing (draft_of (every f) no_times Never false false) (codes "FREQ=" ++ frequency_text f) rest r
-    (avoids-append 59 (codes "FREQ=") (frequency_text f) refl value.semicolon)
-    (given nothing part.Frequency (frequency_text f) frequency_of f (λ x. draft_of (every x) no_times Never false false) value refl refl) h).reads 0
+    one-part nothing (draft_of (every f) no_times Never false false) (codes "FREQ=" ++ frequency_text f) rest r
+    (plain-value frequency_of f (codes "FREQ=") (frequency_text f) refl refl value)
+    (given nothing part.Frequency (frequency_text f) frequency_of f (λ x. draft_of (every x) no_times Never false false) value refl refl) h
 
 interval-said : (p : Pattern) (n : ℕ) (rest : List ℕ) (r : Recurrence) → IsCount n
     → ((b : Bool) → Says (draft_of (record p { interval = n }) no_times Never b false) rest r)
@@ -91,7 +106,7 @@ interval-said p n rest r is h =
       | inr more ↦
           subst (λ b. Says none (text b ++ rest) r) (sym more)
           (one-part none (draft_of (record p { interval = n }) no_times Never true false) (codes "INTERVAL=" ++ decimal n) rest r
-          (avoids-append 59 (codes "INTERVAL=") (decimal n) refl value.semicolon)
+          (plain-value (count_of 4294967295) n (codes "INTERVAL=") (decimal n) refl refl value)
           (given none part.Interval (decimal n) (count_of 4294967295) n (λ x. draft_of (record p { interval = x }) no_times Never true false) value refl refl) (h true))
     ]
 
@@ -102,29 +117,29 @@ end-said p i (Until last) rest r is h =
     let none = draft_of p no_times Never i false in
     let value = one-word date_or_time_of last (date_or_time_text last) (date-word last is) in
     one-part none (draft_of p no_times (Until last) i false) (codes "UNTIL=" ++ date_or_time_text last) rest r
-    (avoids-append 59 (codes "UNTIL=") (date_or_time_text last) refl value.semicolon)
+    (plain-value date_or_time_of last (codes "UNTIL=") (date_or_time_text last) refl refl value)
     (given none part.Until (date_or_time_text last) date_or_time_of last (λ x. draft_of p no_times (Until x) i false) value refl refl) h
 end-said p i (Count n) rest r is h =
     let none = draft_of p no_times Never i false in
     let value = one-word (count_of 4294967295) n (decimal n) (count-word n is) in
     one-part none (draft_of p no_times (Count n) i false) (codes "COUNT=" ++ decimal n) rest r
-    (avoids-append 59 (codes "COUNT=") (decimal n) refl value.semicolon)
+    (plain-value (count_of 4294967295) n (codes "COUNT=") (decimal n) refl refl value)
     (given none part.Count (decimal n) (count_of 4294967295) n (λ x. draft_of p no_times (Count x) i false) value refl refl) h
 
 -- a list, with the draft for each value of its part
 list-said : {X : Type 0} (to : List X → Draft) (at : RulePart) (name : List ℕ) (meaning : List ℕ → Option X) (text : X → List ℕ)
     → ((value : List ℕ) → put_part (to []) (name ++ value) ≡ put_value (to []) value at) → is_given (to []) at ≡ false
     → ((value : List ℕ) → put (to []) at value ≡ option_map to (list_of meaning value))
-    → avoids 59 name ≡ true → (xs : List X) (rest : List ℕ) (r : Recurrence) → AreWords meaning text xs → length xs ≤ 62
+    → avoids 10 name ≡ true → avoids 59 name ≡ true → (xs : List X) (rest : List ℕ) (r : Recurrence) → AreWords meaning text xs → length xs ≤ 62
     → Says (to xs) rest r
     → Says (to []) (list_text (59 ∷ name) text xs ++ rest) r
-list-said to at name meaning text named new putting plain [] rest r words few h = h
-list-said to at name meaning text named new putting plain (x ∷ xs) rest r words few h =
+list-said to at name meaning text named new putting feed plain [] rest r words few h = h
+list-said to at name meaning text named new putting feed plain (x ∷ xs) rest r words few h =
     let value = text x ++ list_text (codes ",") text xs in
     let is = list-value meaning text x xs words few in
     subst (λ words. Says (to []) (59 ∷ (words ++ rest)) r) (sym (append_assoc name (text x) (list_text (codes ",") text xs)))
     (one-part (to []) (to (x ∷ xs)) (name ++ value) rest r
-    (avoids-append 59 name value plain is.semicolon)
+    (plain-value (list_of meaning) (x ∷ xs) name value feed plain is)
     (named value ∙ given (to []) at value (list_of meaning) (x ∷ xs) to is new (putting value)) h)
 
 week_start-given : (p : Pattern) (t : TimesOfDay) (end : RuleEnd) (i : Bool) (s : Weekday) (rest : List ℕ) (r : Recurrence)
@@ -134,7 +149,7 @@ week_start-given p t end i s rest r h =
     let none = draft_of (record p { week_start = weekday.Monday }) t end i false in
     let value = one-word weekday_of s (weekday_text s) (weekday-word s) in
     one-part none (draft_of (record p { week_start = s }) t end i true) (codes "WKST=" ++ weekday_text s) rest r
-    (avoids-append 59 (codes "WKST=") (weekday_text s) refl value.semicolon)
+    (plain-value weekday_of s (codes "WKST=") (weekday_text s) refl refl value)
     (given none part.WeekStart (weekday_text s) weekday_of s (λ x. draft_of (record p { week_start = x }) t end i true) value refl refl) h
 
 week_start-said : (p : Pattern) (t : TimesOfDay) (end : RuleEnd) (i : Bool) (s : Weekday) (rest : List ℕ) (r : Recurrence)
@@ -150,6 +165,7 @@ week_start-said p t end i weekday.Sunday rest r h = week_start-given p t end i w
 
 all-said : (r : Recurrence) (i s : Bool) → Says (draft_of r.pattern r.times r.end i s) [] r
 all-said r i s = record {
+  feed = refl;
   cut = λ text clean. ap (parts_at 59) (append-nil text) ∙ cut-nowhere 59 text clean;
   reads = λ at. refl;
 }
@@ -207,7 +223,7 @@ pub record AreFew (r : Recurrence) : Type 0 where
   pub seconds : length r.times.seconds ≤ 62
   pub set_positions : length r.pattern.set_positions ≤ 62
 
-said : (r : Recurrence) → AreFew r → IsSpelled r → read_on 0 nothing (parts_at 59 (text_of r)) ≡ Ok r
+said : (r : Recurrence) → AreFew r → IsSpelled r → Says nothing (59 ∷ text_of r) r
 said r few h =
     let p = r.pattern in
     let t = r.times in
@@ -235,7 +251,7 @@ said r few h =
     let minute_words = words IsMinute by_minute_of decimal (λ n. clock-word 59 n (lit< tt)) t.minutes h.each_minute in
     let second_words = words IsSecond by_second_of decimal (λ n. clock-word 60 n (lit< tt)) t.seconds h.each_second in
     let position_words = words IsPosition position_of position_text position-word p.set_positions h.each_position in
-    ap (λ text. read_on 0 nothing (parts_at 59 text)) (grouped (codes "FREQ=" ++ frequency_text p.frequency) (interval_text p.interval) (end_text r.end)
+    subst (λ text. Says nothing (59 ∷ text) r) (sym (grouped (codes "FREQ=" ++ frequency_text p.frequency) (interval_text p.interval) (end_text r.end)
     (list_text (codes ";BYMONTH=") month_text p.months)
     (list_text (codes ";BYWEEKNO=") position_text p.weeks)
     (list_text (codes ";BYYEARDAY=") position_text p.year_days)
@@ -245,28 +261,44 @@ said r few h =
     (list_text (codes ";BYMINUTE=") decimal t.minutes)
     (list_text (codes ";BYSECOND=") decimal t.seconds)
     (list_text (codes ";BYSETPOS=") position_text p.set_positions)
-    (week_start_text p.week_start))
-    ∙ frequency-said p.frequency interval r (interval-said (to [] [] [] [] [] []) p.interval end r h.interval (λ i.
+    (week_start_text p.week_start)))
+    (frequency-said p.frequency interval r (interval-said (to [] [] [] [] [] []) p.interval end r h.interval (λ i.
     end-said (to [] [] [] [] [] []) i r.end months r h.end (
-    list-said (λ xs. draft_of (to xs [] [] [] [] []) no_times r.end i false) part.Months (codes "BYMONTH=") month_of month_text (λ v. refl) refl (λ v. refl) refl p.months weeks r (month-words p.months) few.months (
-    list-said (λ xs. draft_of (to p.months xs [] [] [] []) no_times r.end i false) part.Weeks (codes "BYWEEKNO=") week_of position_text (λ v. refl) refl (λ v. refl) refl p.weeks year_days r week_words few.weeks (
-    list-said (λ xs. draft_of (to p.months p.weeks xs [] [] []) no_times r.end i false) part.YearDays (codes "BYYEARDAY=") position_of position_text (λ v. refl) refl (λ v. refl) refl p.year_days month_days r year_day_words few.year_days (
-    list-said (λ xs. draft_of (to p.months p.weeks p.year_days xs [] []) no_times r.end i false) part.MonthDays (codes "BYMONTHDAY=") month_day_of position_text (λ v. refl) refl (λ v. refl) refl p.month_days weekdays r day_words few.month_days (
-    list-said (λ xs. draft_of (to p.months p.weeks p.year_days p.month_days xs []) no_times r.end i false) part.Weekdays (codes "BYDAY=") by_day_of by_day_text (λ v. refl) refl (λ v. refl) refl p.weekdays hours r weekday_words few.weekdays (
-    list-said (λ xs. draft_of days (at xs [] []) r.end i false) part.Hours (codes "BYHOUR=") by_hour_of decimal (λ v. refl) refl (λ v. refl) refl t.hours minutes r hour_words few.hours (
-    list-said (λ xs. draft_of days (at t.hours xs []) r.end i false) part.Minutes (codes "BYMINUTE=") by_minute_of decimal (λ v. refl) refl (λ v. refl) refl t.minutes seconds r minute_words few.minutes (
-    list-said (λ xs. draft_of days (at t.hours t.minutes xs) r.end i false) part.Seconds (codes "BYSECOND=") by_second_of decimal (λ v. refl) refl (λ v. refl) refl t.seconds positions r second_words few.seconds (
-    list-said (λ xs. draft_of (to p.months p.weeks p.year_days p.month_days p.weekdays xs) t r.end i false) part.Positions (codes "BYSETPOS=") position_of position_text (λ v. refl) refl (λ v. refl) refl p.set_positions starts r position_words few.set_positions (
+    list-said (λ xs. draft_of (to xs [] [] [] [] []) no_times r.end i false) part.Months (codes "BYMONTH=") month_of month_text (λ v. refl) refl (λ v. refl) refl refl p.months weeks r (month-words p.months) few.months (
+    list-said (λ xs. draft_of (to p.months xs [] [] [] []) no_times r.end i false) part.Weeks (codes "BYWEEKNO=") week_of position_text (λ v. refl) refl (λ v. refl) refl refl p.weeks year_days r week_words few.weeks (
+    list-said (λ xs. draft_of (to p.months p.weeks xs [] [] []) no_times r.end i false) part.YearDays (codes "BYYEARDAY=") position_of position_text (λ v. refl) refl (λ v. refl) refl refl p.year_days month_days r year_day_words few.year_days (
+    list-said (λ xs. draft_of (to p.months p.weeks p.year_days xs [] []) no_times r.end i false) part.MonthDays (codes "BYMONTHDAY=") month_day_of position_text (λ v. refl) refl (λ v. refl) refl refl p.month_days weekdays r day_words few.month_days (
+    list-said (λ xs. draft_of (to p.months p.weeks p.year_days p.month_days xs []) no_times r.end i false) part.Weekdays (codes "BYDAY=") by_day_of by_day_text (λ v. refl) refl (λ v. refl) refl refl p.weekdays hours r weekday_words few.weekdays (
+    list-said (λ xs. draft_of days (at xs [] []) r.end i false) part.Hours (codes "BYHOUR=") by_hour_of decimal (λ v. refl) refl (λ v. refl) refl refl t.hours minutes r hour_words few.hours (
+    list-said (λ xs. draft_of days (at t.hours xs []) r.end i false) part.Minutes (codes "BYMINUTE=") by_minute_of decimal (λ v. refl) refl (λ v. refl) refl refl t.minutes seconds r minute_words few.minutes (
+    list-said (λ xs. draft_of days (at t.hours t.minutes xs) r.end i false) part.Seconds (codes "BYSECOND=") by_second_of decimal (λ v. refl) refl (λ v. refl) refl refl t.seconds positions r second_words few.seconds (
+    list-said (λ xs. draft_of (to p.months p.weeks p.year_days p.month_days p.weekdays xs) t r.end i false) part.Positions (codes "BYSETPOS=") position_of position_text (λ v. refl) refl (λ v. refl) refl refl p.set_positions starts r position_words few.set_positions (
     week_start-said (to p.months p.weeks p.year_days p.month_days p.weekdays p.set_positions) t r.end i p.week_start [] r (λ s.
-    all-said r i s)))))))))))))
+    all-said r i s))))))))))))))
 
-reads_back_of : (r : Recurrence) → AreFew r → IsSpelled r → recurrence_of (text_of r) ≡ Ok r
-reads_back_of r few h =
-    ap (λ b. cond b (parts_say 6 (parts_at 59 (bytes_after 6 (text_of r)))) (parts_say 0 (parts_at 59 (text_of r)))) (no-name r)
-    ∙ ap (checked 0 (parts_at 59 (text_of r))) (said r few h)
-    ∙ ap (λ o. option_map_or (λ both. Err (later_of 0 (parts_at 59 (text_of r)) both)) o
-    (cond (ranks_alone r) (Err (fault (place_of (codes "BYSETPOS") 0 (parts_at 59 (text_of r))) (Alone part.Positions))) (Ok r))) h.allowed
-    ∙ ap (λ b. cond b (Err (fault (place_of (codes "BYSETPOS") 0 (parts_at 59 (text_of r))) (Alone part.Positions))) (Ok r)) h.ranked
+-- the parts of the text, the first of which begins at byte `at`
+says-it : (at : ℕ) (r : Recurrence) → AreFew r → IsSpelled r → parts_say at (parts_at 59 (text_of r)) ≡ Ok r
+says-it at r few h =
+    let texts = parts_at 59 (text_of r) in
+    ap (checked at texts) ((said r few h).reads at)
+    ∙ ap (λ o. option_map_or (λ both. Err (later_of at texts both)) o
+    (cond (ranks_alone r) (Err (fault (place_of (codes "BYSETPOS") at texts) (Alone part.Positions))) (Ok r))) h.allowed
+    ∙ ap (λ b. cond b (Err (fault (place_of (codes "BYSETPOS") at texts) (Alone part.Positions))) (Ok r)) h.ranked
 
-pub reads_back : (r : Recurrence) (text : List ℕ) → text ≡ text_of r → AreFew r → IsSpelled r → recurrence_of text ≡ Ok r
-reads_back r text e few h = ap recurrence_of e ∙ reads_back_of r few h
+unnamed : (r : Recurrence) → AreFew r → IsSpelled r → recurrence_of (text_of r) ≡ Ok r
+unnamed r few h =
+    ap (λ b. cond b (parts_say 6 (parts_at 59 (bytes_after 6 (text_of r)))) (parts_say 0 (parts_at 59 (text_of r)))) (no-name r) ∙ says-it 0 r few h
+
+after-name : (text : List ℕ) → recurrence_of (codes "RRULE:" ++ text) ≡ parts_say 6 (parts_at 59 text)
+unfolding first_bytes bytes_after
+after-name text =
+    let long : nat_le 6 (length (codes "RRULE:" ++ text)) ≡ true = grind (arith, nat_tests) in
+    ap (λ b. cond (b && true) (parts_say 6 (parts_at 59 text)) (parts_say 0 (parts_at 59 (codes "RRULE:" ++ text)))) long
+
+pub reads_back : (r : Recurrence) (text : List ℕ) → text ≡ text_of r → AreFew r → IsSpelled r → ReadsBack r text
+reads_back r text e few h =
+    subst (ReadsBack r) (sym e) (record {
+      alone = unnamed r few h;
+      named = after-name (text_of r) ∙ says-it 6 r few h;
+      one_line = all-from 10 (text_of r) (said r few h).feed;
+    })

@@ -9,8 +9,9 @@ use Rattle.cal_recurrence.specs.Words.{parts_at}
 use Rattle.cal_recurrence.specs.Written.{list_text}
 use Rattle.cal_recurrence.proofs.Avoided.{avoids, avoids-append, cut-here, cut-nowhere}
 
--- a word means its value, and avoids the separators of parts and words
+-- a word means its value, and avoids the separators of lines, parts and words
 pub record IsWord {X : Type 0} (meaning : List ℕ → Option X) (x : X) (word : List ℕ) : Type 0 where
+  pub feed : avoids 10 word ≡ true
   pub comma : avoids 44 word ≡ true
   pub semicolon : avoids 59 word ≡ true
   pub means : meaning word ≡ Some x
@@ -18,12 +19,14 @@ pub record IsWord {X : Type 0} (meaning : List ℕ → Option X) (x : X) (word :
 -- the same of the value of a part
 pub record IsValue {X : Type 0} (meaning : List ℕ → Option X) (x : X) (value : List ℕ) : Type 0 where
   pub few : has_few_words value ≡ true
+  pub feed : avoids 10 value ≡ true
   pub semicolon : avoids 59 value ≡ true
   pub means : meaning value ≡ Some x
 
 pub one-word : {X : Type 0} (meaning : List ℕ → Option X) (x : X) (word : List ℕ) → IsWord meaning x word → IsValue meaning x word
 one-word meaning x word h = record {
   few = ap (λ words. nat_le (length words) most_values) (cut-nowhere 44 word h.comma);
+  feed = h.feed;
   semicolon = h.semicolon;
   means = h.means;
 }
@@ -36,11 +39,16 @@ AreWords meaning text (x ∷ xs) = IsWord meaning x (text x) × AreWords meaning
 abbrev pub joined : {X : Type 0} → (X → List ℕ) → X → List X → List ℕ
 joined text x xs = text x ++ list_text (codes ",") text xs
 
-cut : {X : Type 0} (meaning : List ℕ → Option X) (text : X → List ℕ) (x : X) (xs : List X) → AreWords meaning text (x ∷ xs)
+pub cut : {X : Type 0} (meaning : List ℕ → Option X) (text : X → List ℕ) (x : X) (xs : List X) → AreWords meaning text (x ∷ xs)
     → parts_at 44 (joined text x xs) ≡ map text (x ∷ xs)
 cut meaning text x [] h = ap (parts_at 44) (append-nil (text x)) ∙ cut-nowhere 44 (text x) h.0.comma
 cut meaning text x (y ∷ ys) h =
     cut-here 44 (text x) (joined text y ys) h.0.comma ∙ ap (λ words. text x ∷ words) (cut meaning text y ys h.1)
+
+pub no-feed : {X : Type 0} (meaning : List ℕ → Option X) (text : X → List ℕ) (x : X) (xs : List X) → AreWords meaning text (x ∷ xs)
+    → avoids 10 (joined text x xs) ≡ true
+no-feed meaning text x [] h = avoids-append 10 (text x) [] h.0.feed refl
+no-feed meaning text x (y ∷ ys) h = avoids-append 10 (text x) (44 ∷ joined text y ys) h.0.feed (no-feed meaning text y ys h.1)
 
 no-semicolon : {X : Type 0} (meaning : List ℕ → Option X) (text : X → List ℕ) (x : X) (xs : List X) → AreWords meaning text (x ∷ xs)
     → avoids 59 (joined text x xs) ≡ true
@@ -55,7 +63,7 @@ each-word meaning text (x ∷ xs) h =
     ap (λ o. option_map (λ both. both.0 ∷ both.1) (option_zip o (each meaning (map text xs)))) h.0.means
     ∙ ap (λ o. option_map (λ both. both.0 ∷ both.1) (option_zip (Some x) o)) (each-word meaning text xs h.1)
 
-length-map : {X : Type 0} (text : X → List ℕ) (xs : List X) → length (map text xs) ≡ length xs
+pub length-map : {X : Type 0} (text : X → List ℕ) (xs : List X) → length (map text xs) ≡ length xs
 length-map text [] = refl
 length-map text (x ∷ xs) = omega (arith, length-map text xs)
 
@@ -67,6 +75,7 @@ pub list-value : {X : Type 0} (meaning : List ℕ → Option X) (text : X → Li
     → IsValue (list_of meaning) (x ∷ xs) (joined text x xs)
 list-value meaning text x xs h few = record {
   few = few-enough (length (parts_at 44 (joined text x xs))) (omega (arith, few, ap length (cut meaning text x xs h), length-map text (x ∷ xs)));
+  feed = no-feed meaning text x xs h;
   semicolon = no-semicolon meaning text x xs h;
   means = ap (each meaning) (cut meaning text x xs h) ∙ each-word meaning text (x ∷ xs) h;
 }

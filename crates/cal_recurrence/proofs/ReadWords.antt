@@ -58,6 +58,7 @@ count-back most n low high small = ap (option_and_then (from_one_to most)) (deci
 
 pub count-word : (n : ℕ) → IsCount n → IsWord (count_of 4294967295) n (decimal n)
 count-word n h = record {
+  feed = decimal-avoids 10 n (inl (lit< tt)) h.1;
   comma = decimal-avoids 44 n (inl (lit< tt)) h.1;
   semicolon = decimal-avoids 59 n (inr (lit< tt)) h.1;
   means = count-back 4294967295 n h.0 (omega (arith, h.1)) h.1;
@@ -102,6 +103,7 @@ signed-avoids byte most (negsuc n) two h minus out =
 
 pub month_day-word : (z : ℤ) → IsIndex 31 z → IsWord month_day_of z (position_text z)
 month_day-word z h = record {
+  feed = signed-avoids 10 31 z (lit< tt) h refl (inl (lit< tt));
   comma = signed-avoids 44 31 z (lit< tt) h refl (inl (lit< tt));
   semicolon = signed-avoids 59 31 z (lit< tt) h refl (inr (lit< tt));
   means = index-back 2 31 z (lit< tt) (lit< tt) (lit< tt) h;
@@ -109,6 +111,7 @@ month_day-word z h = record {
 
 pub week-word : (z : ℤ) → IsIndex 53 z → IsWord week_of z (position_text z)
 week-word z h = record {
+  feed = signed-avoids 10 53 z (lit< tt) h refl (inl (lit< tt));
   comma = signed-avoids 44 53 z (lit< tt) h refl (inl (lit< tt));
   semicolon = signed-avoids 59 53 z (lit< tt) h refl (inr (lit< tt));
   means = index-back 2 53 z (lit< tt) (lit< tt) (lit< tt) h;
@@ -116,6 +119,7 @@ week-word z h = record {
 
 pub position-word : (z : ℤ) → IsIndex 366 z → IsWord position_of z (position_text z)
 position-word z h = record {
+  feed = signed-avoids 10 366 z (lit< tt) h refl (inl (lit< tt));
   comma = signed-avoids 44 366 z (lit< tt) h refl (inl (lit< tt));
   semicolon = signed-avoids 59 366 z (lit< tt) h refl (inr (lit< tt));
   means = index-back 3 366 z (lit< tt) (lit< tt) (lit< tt) h;
@@ -133,6 +137,7 @@ clock-back most n high few =
 
 pub clock-word : (most n : ℕ) → most ≤ 60 → n ≤ most → IsWord (clock_value_of most) n (decimal n)
 clock-word most n few high = record {
+  feed = decimal-avoids 10 n (inl (lit< tt)) (omega (arith, high, few));
   comma = decimal-avoids 44 n (inl (lit< tt)) (omega (arith, high, few));
   semicolon = decimal-avoids 59 n (inr (lit< tt)) (omega (arith, high, few));
   means = clock-back most n high few;
@@ -149,25 +154,26 @@ pub month-word : (m : Month) → IsWord month_of m (month_text m)
 month-word m =
     let most = number-most m in
     record {
+      feed = decimal-avoids 10 (number m) (inl (lit< tt)) (omega (arith, most));
       comma = decimal-avoids 44 (number m) (inl (lit< tt)) (omega (arith, most));
       semicolon = decimal-avoids 59 (number m) (inr (lit< tt)) (omega (arith, most));
       means = ap (option_map (λ n. month_with_index (n - 1))) (short-back 2 12 (number m) (lit< tt) (omega arith) most (lit< tt) (lit< tt)) ∙ ap Some (number-back_to m);
     }
 
 pub frequency-word : (f : Frequency) → IsWord frequency_of f (frequency_text f)
-frequency-word frequency.Daily = record { comma = refl; semicolon = refl; means = refl }
-frequency-word frequency.Weekly = record { comma = refl; semicolon = refl; means = refl }
-frequency-word frequency.Monthly = record { comma = refl; semicolon = refl; means = refl }
-frequency-word frequency.Yearly = record { comma = refl; semicolon = refl; means = refl }
+frequency-word frequency.Daily = record { feed = refl; comma = refl; semicolon = refl; means = refl }
+frequency-word frequency.Weekly = record { feed = refl; comma = refl; semicolon = refl; means = refl }
+frequency-word frequency.Monthly = record { feed = refl; comma = refl; semicolon = refl; means = refl }
+frequency-word frequency.Yearly = record { feed = refl; comma = refl; semicolon = refl; means = refl }
 
 pub weekday-word : (w : Weekday) → IsWord weekday_of w (weekday_text w)
-weekday-word weekday.Monday = record { comma = refl; semicolon = refl; means = refl }
-weekday-word weekday.Tuesday = record { comma = refl; semicolon = refl; means = refl }
-weekday-word weekday.Wednesday = record { comma = refl; semicolon = refl; means = refl }
-weekday-word weekday.Thursday = record { comma = refl; semicolon = refl; means = refl }
-weekday-word weekday.Friday = record { comma = refl; semicolon = refl; means = refl }
-weekday-word weekday.Saturday = record { comma = refl; semicolon = refl; means = refl }
-weekday-word weekday.Sunday = record { comma = refl; semicolon = refl; means = refl }
+weekday-word weekday.Monday = record { feed = refl; comma = refl; semicolon = refl; means = refl }
+weekday-word weekday.Tuesday = record { feed = refl; comma = refl; semicolon = refl; means = refl }
+weekday-word weekday.Wednesday = record { feed = refl; comma = refl; semicolon = refl; means = refl }
+weekday-word weekday.Thursday = record { feed = refl; comma = refl; semicolon = refl; means = refl }
+weekday-word weekday.Friday = record { feed = refl; comma = refl; semicolon = refl; means = refl }
+weekday-word weekday.Saturday = record { feed = refl; comma = refl; semicolon = refl; means = refl }
+weekday-word weekday.Sunday = record { feed = refl; comma = refl; semicolon = refl; means = refl }
 
 two-letters : (w : Weekday) → length (weekday_text w) ≡ 2
 two-letters weekday.Monday = refl
@@ -215,10 +221,11 @@ signed-some most (pos n) two h = let high : n ≤ most = h.1 in decimal_nonempty
 signed-some most (negsuc n) two h = omega arith
 
 pub by_day-word : (d : ByDay) → IsByDay d → IsWord by_day_of d (by_day_text d)
-by_day-word (Every w) h = record { comma = (weekday-word w).comma; semicolon = (weekday-word w).semicolon; means = every-back w }
+by_day-word (Every w) h = record { feed = (weekday-word w).feed; comma = (weekday-word w).comma; semicolon = (weekday-word w).semicolon; means = every-back w }
 by_day-word (Nth z w) h =
     let name = weekday-word w in
     record {
+      feed = avoids-append 10 (signed_decimal z) (weekday_text w) (signed-avoids 10 53 z (lit< tt) h refl (inl (lit< tt))) name.feed;
       comma = avoids-append 44 (signed_decimal z) (weekday_text w) (signed-avoids 44 53 z (lit< tt) h refl (inl (lit< tt))) name.comma;
       semicolon = avoids-append 59 (signed_decimal z) (weekday_text w) (signed-avoids 59 53 z (lit< tt) h refl (inr (lit< tt))) name.semicolon;
       means = nth-back (signed_decimal z) (weekday_text w) z w (signed-some 53 z (lit< tt) h) (two-letters w) (index-back 2 53 z (lit< tt) (lit< tt) (lit< tt) h) name.means;

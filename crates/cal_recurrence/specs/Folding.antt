@@ -1,6 +1,6 @@
 -- Folded lines (RFC 5545, section 3.1): a line feed (10), which a carriage return (13) can precede,
 -- and a space (32) or a tab (9) after it join two lines.
-use Rattle.std.specs.Prelude.{ℕ, zero, suc, ◌-◌, ◌==◌, ◌&&◌, ◌||◌, Bool, List, [], ◌∷◌, slice_index, if◌then◌else◌}
+use Rattle.std.specs.Prelude.{ℕ, zero, suc, ◌+◌, ◌-◌, ◌==◌, nat_le, ◌&&◌, ◌||◌, Bool, not, List, [], ◌∷◌, ◌++◌, take, slice_index, if◌then◌else◌}
 
 -- A space or a tab.
 abbrev pub is_blank : ℕ → Bool
@@ -21,3 +21,31 @@ unfolded_after (suc skip) (b ∷ bs) = unfolded_after skip bs
 -- A text without folds.
 abbrev pub unfolded_of : List ℕ → List ℕ
 unfolded_of text = unfolded_after 0 text
+
+-- The line ends here: a line feed, or a carriage return before one.
+abbrev pub is_line_end : List ℕ → Bool
+is_line_end bytes = slice_index bytes 0 == 10 || (slice_index bytes 0 == 13 && slice_index bytes 1 == 10)
+
+-- A fold comes before a byte after the first 75 of its line, unless the line ends there.
+abbrev pub fold_before : ℕ → List ℕ → Bool
+fold_before column bytes = nat_le 75 column && not (is_line_end bytes)
+
+-- The first of some bytes, after `column` bytes of its line, with a fold before it if needed.
+abbrev pub first_folded : ℕ → List ℕ → List ℕ
+first_folded column bytes = if fold_before column bytes then 13 ∷ 10 ∷ 32 ∷ take 1 bytes else take 1 bytes
+
+-- The number of bytes in the line after that byte. The space of a fold counts, and a line feed
+-- begins a line.
+abbrev pub column_after : ℕ → List ℕ → ℕ
+column_after column bytes =
+    if fold_before column bytes then 2 else
+    if slice_index bytes 0 == 10 then 0 else column + 1
+
+-- Bytes after `column` bytes of their line, with folds.
+abbrev pub folded_after : ℕ → List ℕ → List ℕ
+folded_after column [] = []
+folded_after column (b ∷ bs) = first_folded column (b ∷ bs) ++ folded_after (column_after column (b ∷ bs)) bs
+
+-- A text with folds, so that its lines have at most 75 bytes without their ends.
+abbrev pub folded_of : List ℕ → List ℕ
+folded_of text = folded_after 0 text

@@ -14,9 +14,11 @@ pub mod DateTimeSet
 pub mod TimeSearch
 pub mod RuleInside
 pub mod RecurrenceReadings
+pub mod Buffers
 pub mod Folding
 pub mod SetFaultText
 pub mod SetText
+pub mod SetWritten
 pub mod SetMeaning
 pub mod ZonedSet
 pub mod ZoneReadings

@@ -1,6 +1,7 @@
 -- The text of a recurrence, after the grammar of `recur` in RFC 5545. Its parts are separated by
 -- `;` (59). Each has a name, `=` (61) and a value, or a list of values separated by `,` (44).
-use Rattle.std.specs.Prelude.{ℕ, ◌+◌, ◌-◌, ◌==◌, nat_le, nat_lt, Bool, true, false, not, List, [], ◌∷◌, codes, length, Option, Some, option_map, Result, Ok, Err, if◌then◌else◌}
+use Rattle.std.specs.Prelude.{◌≡◌, ℕ, ◌+◌, ◌-◌, ◌==◌, nat_le, nat_lt, Bool, true, false, not, List, [], ◌∷◌, ◌++◌, codes, length, Option, Some, option_map, Result, Ok, Err, if◌then◌else◌}
+use Rattle.std.specs.List.{All}
 use Rattle.std.specs.Option.{option_map_or, option_zip}
 use Rattle.cal_schedule.specs.Pattern.{every}
 use Rattle.cal_schedule.specs.Values.{most_values}
@@ -153,3 +154,9 @@ parts_say at texts = checked at texts (read_on at nothing texts)
 -- The recurrence of a text, with or without `RRULE:` in front, or its first error.
 abbrev pub recurrence_of : List ℕ → Result Recurrence ParseRuleError
 recurrence_of text = if has_name text then parts_say 6 (parts_at 59 (bytes_after 6 text)) else parts_say 0 (parts_at 59 text)
+
+-- A text of one line says a recurrence, also with `RRULE:` in front.
+pub record ReadsBack (r : Recurrence) (text : List ℕ) : Type 0 where
+  pub alone : recurrence_of text ≡ Ok r
+  pub named : recurrence_of (codes "RRULE:" ++ text) ≡ Ok r
+  pub one_line : All (λ byte. ¬ (byte ≡ 10)) text

@@ -1,8 +1,8 @@
 //! The text of a recurrence.
-ghost use Rattle.std.specs.Prelude.{◌≡◌, Some, Ok};
+ghost use Rattle.std.specs.Prelude.{◌≡◌, Some};
 ghost use Rattle.std.specs.Fmt.{padded};
 ghost use Rattle.cal_recurrence.specs.Spelled.{IsSpelled};
-ghost use Rattle.cal_recurrence.specs.Text.{recurrence_of};
+ghost use Rattle.cal_recurrence.specs.Text.{ReadsBack};
 ghost use Rattle.cal_recurrence.specs.Written.{text_of};
 
 use crate::recurrence::Recurrence;
@@ -16,10 +16,11 @@ impl Recurrence {
     /// The order is `FREQ`, `INTERVAL`, `UNTIL` or `COUNT`, `BYMONTH`, `BYWEEKNO`, `BYYEARDAY`,
     /// `BYMONTHDAY`, `BYDAY`, `BYHOUR`, `BYMINUTE`, `BYSECOND`, `BYSETPOS`, `WKST`. An interval of
     /// 1, weeks from Monday, empty lists and a missing end are left out. For each recurrence that
-    /// [`parse`](crate::parse) can return, parsing its text gives the recurrence again.
+    /// [`parse`](crate::parse) can return, parsing its text, with or without `RRULE:` in front, gives
+    /// the recurrence again. Such a text has no line feed.
     pub fn text(&self) -> RecurrenceText
         ensures text { result ≡ text_of self.now }
-        ensures reads_back { IsSpelled self.now → recurrence_of result ≡ Ok self.now }
+        ensures reads_back { IsSpelled self.now → ReadsBack self.now result }
     {
         let mut text = RecurrenceText::new();
         text.push("FREQ=");

@@ -1,6 +1,9 @@
 //! Folded lines.
-ghost use Rattle.std.specs.Prelude.{◌≡◌, ◌<◌, ◌≤◌, MatchOption, drop, length, slice_index, take};
-ghost use Rattle.cal_recurrence.specs.Folding.{fold_length, is_blank, unfolded_of};
+ghost use Rattle.std.specs.Prelude.{◌≡◌, ◌<◌, ◌≤◌, ◌^◌, IfSome, MatchOption, drop, length, slice_index, take};
+ghost use Rattle.cal_recurrence.specs.Buffers.{IsPut};
+ghost use Rattle.cal_recurrence.specs.Folding.{column_after, first_folded, fold_before, fold_length, folded_of, is_blank, is_line_end, unfolded_of};
+
+use crate::buffers::put;
 
 /// Returns the byte at an index, or 0 past the end.
 fn byte_at(bytes: &[u8], index: usize) -> u8
@@ -56,6 +59,70 @@ pub fn unfold(text: &[u8], unfolded: &mut [u8]) -> Option<usize>
             filled += 1;
             index += 1;
         }
+    }
+    Some(filled)
+}
+
+/// Returns `true` if the line ends at the first byte: at a LF, or at a CR before one.
+fn is_line_end(bytes: &[u8]) -> bool
+    ensures { result ≡ is_line_end bytes.now }
+{
+    let first = byte_at(bytes, 0);
+    first == b'\n' || first == b'\r' && byte_at(bytes, 1) == b'\n'
+}
+
+/// Returns `true` if a fold comes before the first byte, which is after `column` bytes of its line.
+fn fold_before(column: usize, bytes: &[u8]) -> bool
+    ensures { result ≡ fold_before column bytes.now }
+{
+    column >= 75 && !is_line_end(bytes)
+}
+
+/// Returns the number of bytes in the line after the first byte, which is after `column` bytes.
+fn column_after(column: usize, bytes: &[u8]) -> usize
+    requires { column < 2 ^ 63 }
+    ensures { result ≡ column_after column bytes.now }
+{
+    if fold_before(column, bytes) {
+        2
+    } else if byte_at(bytes, 0) == b'\n' {
+        0
+    } else {
+        column + 1
+    }
+}
+
+/// Writes the first byte to the buffer, from this position on, with a fold before it if needed.
+fn put_folded(column: usize, bytes: &[u8], buffer: &mut [u8], at: usize) -> Option<usize>
+    requires some { 1 ≤ length bytes.now }
+    requires at { at ≤ length buffer.old }
+    ensures { IsPut at (first_folded column bytes.now) buffer.old buffer.new result }
+{
+    if fold_before(column, bytes) {
+        let next = put(buffer, at, b"\r\n ")?;
+        put(buffer, next, &bytes[..1])
+    } else {
+        put(buffer, at, &bytes[..1])
+    }
+}
+
+/// Copies a text with its lines folded, as in a calendar file: CR LF and a space come before the
+/// 76th byte of a line. So each line has at most 75 bytes, without its LF or CR LF. Returns the
+/// number of bytes, or `None` if `folded` is too short; then its bytes can be anything.
+///
+/// [`unfold`] gives the same for both texts, which is the text if it has no folds. A fold can be
+/// within a character of several bytes. A line of 76 bytes becomes one of 75, and a second one of 2.
+pub fn fold(text: &[u8], folded: &mut [u8]) -> Option<usize>
+    ensures text { IsPut 0 (folded_of text.now) folded.old folded.new result }
+    ensures unfolds { IfSome result (λ end.
+        unfolded_of (take end folded.new) ≡ unfolded_of text.now) }
+{
+    let (mut filled, mut index, mut column) = (0, 0, 0);
+    while index < text.len() {
+        let rest = &text[index..];
+        filled = put_folded(column, rest, folded, filled)?;
+        column = column_after(column, rest);
+        index += 1;
     }
     Some(filled)
 }

@@ -5,6 +5,7 @@
 //! others and without exceptions.
 #![tactic(auto)]
 
+mod buffers;
 mod date_or_time;
 mod date_time_rule;
 mod date_time_set;
@@ -28,6 +29,7 @@ mod set_meaning;
 mod set_parsing;
 mod set_parts;
 mod set_values;
+mod set_writing;
 mod text;
 mod times_of_day;
 mod words;
@@ -41,7 +43,7 @@ pub use date_or_time::DateOrTime;
 pub use date_time_rule::DateTimeRule;
 pub use date_time_set::{DateTimeSet, DateTimeSetReadings};
 pub use fault::{ParseRuleError, ParseRuleErrorKind, RulePart};
-pub use folding::unfold;
+pub use folding::{fold, unfold};
 pub use occurrences::Occurrences;
 pub use parsing::parse;
 pub use readings::RuleReadings;

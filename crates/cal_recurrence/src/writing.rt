@@ -190,7 +190,7 @@ fn reading_text(reading: PlainDateTime) -> ShortText
 }
 
 /// Formats a date or a reading in digits, such as `20241231T235959Z`.
-fn date_or_time_text(value: DateOrTime) -> ShortText
+pub fn date_or_time_text(value: DateOrTime) -> ShortText
     ensures text { result ≡ date_or_time_text value }
     ensures short { length result ≤ 19 }
 {

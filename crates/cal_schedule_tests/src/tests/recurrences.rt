@@ -8,6 +8,7 @@ mod read_back;
 mod readings;
 mod rules;
 mod searches;
+mod set_texts;
 mod sets;
 mod texts;
 mod written;

@@ -3,7 +3,7 @@
 //!
 //! A proof knows only the clauses of a call. If they allow a second answer, the proof of that call
 //! fails.
-ghost use Rattle.std.specs.Prelude.{◌≡◌};
+ghost use Rattle.std.specs.Prelude.{◌≡◌, IfSome, length, take};
 
 use cal_datetime::PlainDateTime;
 use cal_recurrence::{
@@ -44,6 +44,22 @@ fn readings_of_set(parts: &SetParts<'_>) -> Twice<Result<SetReadings, SetLine>>
     ensures { result.0 ≡ result.1 }
 {
     twice!(parts.readings())
+}
+
+fn print_set(parts: &SetParts<'_>, a: &mut [u8], b: &mut [u8]) -> Twice<Option<usize>>
+    requires { length a.old ≡ length b.old }
+    ensures result { result.0 ≡ result.1 }
+    ensures text { IfSome result.0 (λ end. take end a.new ≡ take end b.new) }
+{
+    (parts.print(a), parts.print(b))
+}
+
+fn fold(text: &[u8], a: &mut [u8], b: &mut [u8]) -> Twice<Option<usize>>
+    requires { length a.old ≡ length b.old }
+    ensures result { result.0 ≡ result.1 }
+    ensures text { IfSome result.0 (λ end. take end a.new ≡ take end b.new) }
+{
+    (cal_recurrence::fold(text, a), cal_recurrence::fold(text, b))
 }
 
 fn text(recurrence: &Recurrence) -> Twice<RecurrenceText>

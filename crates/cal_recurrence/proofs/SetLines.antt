@@ -1,0 +1,558 @@
+-- The lines of a set that was written, read back one after another.
+use Rattle.std.proofs.Common.{◌≡◌, ℕ, zero, suc, ◌+◌, ◌-◌, ◌<◌, ◌≤◌, Bool, true, false, cond, eqb, not, List, [], ◌∷◌, ◌++◌, append-nil, append_assoc, length, length-append, take, Option, Some, None, Result, Ok, Err, inl, inr, refl, sym, ap, subst, ◌∙◌, arith}
+use Rattle.std.specs.Prelude.{◌⊎◌, ⊤, codes, nat_le, bytes_eq, slice_index, IfSome, option_map, option_and_then, ◌&&◌, ◌||◌}
+use Rattle.std.specs.List.{All, list_any}
+use Rattle.std.specs.Option.{option_map_or}
+use Rattle.std.proofs.lemmas.Bool.{and_from, cases_Bool, false≢true, ne_eqb}
+use Rattle.std.proofs.lemmas.Bool.Decides.{nat_tests}
+use Rattle.std.proofs.lemmas.List.{get_or_at, take_at}
+use Rattle.std.proofs.lemmas.List.Elements.{All-head, All-tail}
+use Rattle.std.proofs.lemmas.Slice.Eq.{bytes_eq-Decides}
+use Rattle.cal_recurrence.specs.Buffers.{IsPut}
+use Rattle.cal_recurrence.specs.DateWords.{date_or_time_of}
+use Rattle.cal_recurrence.specs.SetText.{after_first_part, all_allow, and_lines, if_allowed, has_room, is_local, line_of, more_of, no_lines, parameters_of, put_dates, put_exceptions, put_line, put_named, put_rule, put_whole, and_zone, put_zone, read_lines, set_fault, set_of, value_of, without_return}
+use Rattle.cal_recurrence.specs.SetWritten.{has_local, head_text, is_same_kind, line_end, more_text, parameter_text, set_text, values_text, IsNameByte, IsSpelledSet, IsZoneOf}
+use Rattle.cal_recurrence.specs.Spelled.{IsDateOrTime, IsSpelled}
+use Rattle.cal_recurrence.specs.Text.{list_of, recurrence_of, ReadsBack}
+use Rattle.cal_recurrence.specs.Words.{first_bytes, front_at, parts_at, rest_at}
+use Rattle.cal_recurrence.specs.Written.{date_or_time_text, list_text, text_of}
+use Rattle.cal_recurrence.specs.declared.date_or_time.DateOrTime.{DateOrTime}
+use Rattle.cal_recurrence.specs.declared.date_or_time.DateOrTime.TheVariants.{Date, Local, Utc}
+use Rattle.cal_recurrence.specs.declared.recurrence.Recurrence.{Recurrence}
+use Rattle.cal_recurrence.specs.declared.set_fault.ParseSetErrorKind.TheVariants.{Unknown, TooMany, Value}
+use Rattle.cal_recurrence.specs.declared.set_fault.SetLine.{SetLine}
+use Rattle.cal_recurrence.specs.declared.set_fault.SetLine.TheVariants as line
+use Rattle.cal_recurrence.specs.declared.set_draft.SetDraft.{SetDraft}
+use Rattle.cal_recurrence.specs.declared.set_parts.SetParts.{SetParts}
+use Rattle.cal_recurrence.proofs.Avoided.{avoids, avoids-append, avoids-cons, cut-here, cut-nowhere, from-all, front-here, front-nowhere, rest-here}
+use Rattle.cal_recurrence.proofs.ReadDates.{date-word}
+use Rattle.cal_recurrence.proofs.ReadValues.{IsWord, AreWords, cut, joined, length-map, list-value, no-feed}
+
+-- ---- one line after another
+-- after the lines of the draft, the rest of the text says p
+abbrev Reads : SetDraft → List ℕ → SetParts → Type 0
+Reads draft rest p = (at : ℕ) → read_lines at draft (parts_at 10 rest) ≡ Ok p
+
+without-return : (text : List ℕ) → without_return (text ++ 13 ∷ []) ≡ text
+unfolding first_bytes
+without-return text =
+    let whole = text ++ 13 ∷ [] in
+    let size : length whole - 1 ≡ length text = omega (arith, length-append text (13 ∷ [])) in
+    let last : slice_index whole (length whole - 1) ≡ 13 = ap (slice_index whole) size ∙ get_or_at text 13 [] 0 (length text) refl in
+    ap (λ b. cond b (first_bytes (length whole - 1) whole) whole) (ap (λ n. eqb n 13) last)
+    ∙ ap (λ n. first_bytes n whole) size ∙ take_at text (13 ∷ []) (length text) refl
+
+one-line : (draft more : SetDraft) (text rest : List ℕ) (p : SetParts) → avoids 10 text ≡ true → ((at : ℕ) → put_line at draft text ≡ Ok more)
+    → Reads more rest p
+    → Reads draft (text ++ 13 ∷ 10 ∷ rest) p
+one-line draft more text rest p plain put h at =
+    let whole = text ++ 13 ∷ [] in
+    let next = at + length whole + 1 in
+    ap (λ bytes. read_lines at draft (parts_at 10 bytes)) (sym (append_assoc text (13 ∷ []) (10 ∷ rest)))
+    ∙ ap (read_lines at draft) (cut-here 10 whole rest (avoids-append 10 text (13 ∷ []) plain refl))
+    ∙ ap (λ bytes. and_lines (λ d. read_lines next d (parts_at 10 rest)) (put_line at draft bytes)) (without-return text)
+    ∙ ap (and_lines (λ d. read_lines next d (parts_at 10 rest))) (put at)
+    ∙ h next
+
+-- ---- the head of a line
+-- the bytes that end lines, heads and parameters are not in the text
+record IsName (text : List ℕ) : Type 0 where
+  feed : avoids 10 text ≡ true
+  colon : avoids 58 text ≡ true
+  semicolon : avoids 59 text ≡ true
+
+abbrev IsZone : Option (List ℕ) → Type 0
+IsZone None = ⊤
+IsZone (Some tzid) = IsName tzid
+
+-- the parameters of a line with such a value
+abbrev parameters : Option (List ℕ) → DateOrTime → List (List ℕ)
+parameters tzid (Date n) = codes "VALUE=DATE" ∷ []
+parameters None (Local z) = []
+parameters (Some tzid) (Local z) = (codes "TZID=" ++ tzid) ∷ []
+parameters tzid (Utc z) = []
+
+record IsHead (name head : List ℕ) (its : List (List ℕ)) : Type 0 where
+  feed : avoids 10 head ≡ true
+  colon : avoids 58 head ≡ true
+  named : front_at 59 head ≡ name
+  parameters : parameters_of head ≡ its
+
+one-parameter : (name parameter : List ℕ) → IsName name → IsName parameter → IsHead name (name ++ 59 ∷ parameter) (parameter ∷ [])
+one-parameter name parameter h p = record {
+  feed = avoids-append 10 name (59 ∷ parameter) h.feed (avoids-cons 10 59 parameter refl p.feed);
+  colon = avoids-append 58 name (59 ∷ parameter) h.colon (avoids-cons 58 59 parameter refl p.colon);
+  named = front-here 59 name parameter h.semicolon;
+  parameters = ap after_first_part (cut-here 59 name parameter h.semicolon ∙ ap (λ texts. name ∷ texts) (cut-nowhere 59 parameter p.semicolon));
+}
+
+no-parameter : (name : List ℕ) → IsName name → IsHead name (name ++ []) []
+no-parameter name h =
+    subst (λ head. IsHead name head []) (sym (append-nil name)) (record {
+      feed = h.feed;
+      colon = h.colon;
+      named = front-nowhere 59 name h.semicolon;
+      parameters = ap after_first_part (cut-nowhere 59 name h.semicolon);
+    })
+
+in-zone : (tzid : List ℕ) → IsName tzid → IsName (codes "TZID=" ++ tzid)
+in-zone tzid h = record {
+  feed = avoids-append 10 (codes "TZID=") tzid refl h.feed;
+  colon = avoids-append 58 (codes "TZID=") tzid refl h.colon;
+  semicolon = avoids-append 59 (codes "TZID=") tzid refl h.semicolon;
+}
+
+head-is : (name : List ℕ) (tzid : Option (List ℕ)) (v : DateOrTime) → IsName name → IsZone tzid
+    → IsHead name (name ++ parameter_text tzid v) (parameters tzid v)
+head-is name tzid (Date n) h z = one-parameter name (codes "VALUE=DATE") h (record { feed = refl; colon = refl; semicolon = refl })
+head-is name None (Local y) h z = no-parameter name h
+head-is name (Some tzid) (Local y) h z = one-parameter name (codes "TZID=" ++ tzid) h (in-zone tzid z)
+head-is name tzid (Utc y) h z = no-parameter name h
+
+-- a line by its head and its value
+line-by : (at : ℕ) (draft : SetDraft) (name head value : List ℕ) (its : SetLine) (texts : List (List ℕ)) → IsHead name head texts → line_of name ≡ Some its
+    → put_line at draft (head ++ 58 ∷ value) ≡ put_whole at draft (head ++ 58 ∷ value) texts value its
+line-by at draft name head value its texts h is =
+    let whole = head ++ 58 ∷ value in
+    let unknown = Err (set_fault at Unknown) in
+    let some : eqb (length whole) 0 ≡ false = ne_eqb (length whole) 0 (λ e. omega (arith, e, length-append head (58 ∷ value))) in
+    ap (λ b. cond b (Ok draft) (option_map_or (put_whole at draft whole (parameters_of (front_at 58 whole)) (rest_at 58 whole)) (line_of (front_at 59 (front_at 58 whole))) unknown)) some
+    ∙ ap (λ f. option_map_or (put_whole at draft whole (parameters_of f) (rest_at 58 whole)) (line_of (front_at 59 f)) unknown) (front-here 58 head value h.colon)
+    ∙ ap (λ r. option_map_or (put_whole at draft whole (parameters_of head) r) (line_of (front_at 59 head)) unknown) (rest-here 58 head value h.colon)
+    ∙ ap (λ ps. option_map_or (put_whole at draft whole ps value) (line_of (front_at 59 head)) unknown) h.parameters
+    ∙ ap (λ n. option_map_or (put_whole at draft whole texts value) (line_of n) unknown) h.named
+    ∙ ap (λ o. option_map_or (put_whole at draft whole texts value) o unknown) is
+
+-- ---- the zone of the lines so far
+-- no line named the zone, or one did
+abbrev Known : Option (List ℕ) → Option (List ℕ) → Type 0
+Known tzid s = (s ≡ None) ⊎ (s ≡ tzid)
+
+-- the zone after a line with such a value
+abbrev zone_after : Option (List ℕ) → Option (List ℕ) → DateOrTime → Option (List ℕ)
+zone_after tzid s (Date n) = s
+zone_after None s (Local z) = s
+zone_after (Some tzid) s (Local z) = Some tzid
+zone_after tzid s (Utc z) = s
+
+known-after : (tzid s : Option (List ℕ)) (v : DateOrTime) → Known tzid s → Known tzid (zone_after tzid s v)
+known-after tzid s (Date n) h = h
+known-after None s (Local z) h = h
+known-after (Some tzid) s (Local z) h = inr refl
+known-after tzid s (Utc z) h = h
+
+abbrev draft_of : Option DateOrTime → Option Recurrence → List DateOrTime → List DateOrTime → Option (List ℕ) → SetDraft
+draft_of start r dates exceptions s = record { start = start; recurrence = r; dates = dates; exceptions = exceptions; zone = s }
+
+same-bytes : (tzid : List ℕ) → bytes_eq tzid tzid && true ≡ true
+same-bytes tzid = and_from (bytes_eq tzid tzid) true ((bytes_eq-Decides tzid tzid).1 refl) refl
+
+-- before a line named the zone, and after it
+first-zone : (at : ℕ) (its : SetLine) (tzid : Option (List ℕ)) (v : DateOrTime) (a : Option DateOrTime) (r : Option Recurrence) (d e : List DateOrTime)
+    → put_zone at (draft_of a r d e None) (parameters tzid v) its ≡ Ok (draft_of a r d e (zone_after tzid None v))
+first-zone at its tzid (Date n) a r d e = refl
+first-zone at its None (Local z) a r d e = refl
+first-zone at its (Some tzid) (Local z) a r d e = rw (same-bytes tzid) refl
+first-zone at its tzid (Utc z) a r d e = refl
+
+same-zone : (at : ℕ) (its : SetLine) (tzid : Option (List ℕ)) (v : DateOrTime) (a : Option DateOrTime) (r : Option Recurrence) (d e : List DateOrTime)
+    → put_zone at (draft_of a r d e tzid) (parameters tzid v) its ≡ Ok (draft_of a r d e (zone_after tzid tzid v))
+same-zone at its None v a r d e = first-zone at its None v a r d e
+same-zone at its (Some tzid) (Date n) a r d e = refl
+same-zone at its (Some tzid) (Local z) a r d e = rw (same-bytes tzid) refl
+same-zone at its (Some tzid) (Utc z) a r d e = refl
+
+zone-put : (at : ℕ) (its : SetLine) (tzid s : Option (List ℕ)) (v : DateOrTime) (a : Option DateOrTime) (r : Option Recurrence) (d e : List DateOrTime) → Known tzid s
+    → put_zone at (draft_of a r d e s) (parameters tzid v) its ≡ Ok (draft_of a r d e (zone_after tzid s v))
+zone-put at its tzid s v a r d e (inl h) =
+    subst (λ t. put_zone at (draft_of a r d e t) (parameters tzid v) its ≡ Ok (draft_of a r d e (zone_after tzid t v))) (sym h) (first-zone at its tzid v a r d e)
+zone-put at its tzid s v a r d e (inr h) =
+    subst (λ t. put_zone at (draft_of a r d e t) (parameters tzid v) its ≡ Ok (draft_of a r d e (zone_after tzid t v))) (sym h) (same-zone at its tzid v a r d e)
+
+-- ---- the values of a line
+allowed : (tzid : Option (List ℕ)) (v w : DateOrTime) → is_same_kind v w ≡ true → all_allow (parameters tzid v) w ≡ true
+allowed tzid (Date n) (Date m) h = refl
+allowed tzid (Date n) (Local z) h = absurd (false≢true h)
+allowed tzid (Date n) (Utc z) h = absurd (false≢true h)
+allowed None (Local y) w h = refl
+allowed (Some tzid) (Local y) (Date m) h = absurd (false≢true h)
+allowed (Some tzid) (Local y) (Local z) h = refl
+allowed (Some tzid) (Local y) (Utc z) h = absurd (false≢true h)
+allowed tzid (Utc y) w h = refl
+
+same-kind : (v : DateOrTime) → is_same_kind v v ≡ true
+same-kind (Date n) = refl
+same-kind (Local z) = refl
+same-kind (Utc z) = refl
+
+kind-word : (tzid : Option (List ℕ)) (v w : DateOrTime) → is_same_kind v w ≡ true → IsDateOrTime w
+    → IsWord (value_of (parameters tzid v)) w (date_or_time_text w)
+kind-word tzid v w same is =
+    let word = date-word w is in
+    record {
+      feed = word.feed;
+      comma = word.comma;
+      semicolon = word.semicolon;
+      means = ap (option_and_then (if_allowed (parameters tzid v))) word.means ∙ ap (λ b. cond b (Some w) None) (allowed tzid v w same);
+    }
+
+-- the values of a line after the first, v
+abbrev IsRun : Option (List ℕ) → DateOrTime → List DateOrTime → Type 0
+IsRun tzid v ws = AreWords (value_of (parameters tzid v)) date_or_time_text (v ∷ ws)
+
+words-and : {X : Type 0} (meaning : List ℕ → Option X) (text : X → List ℕ) (xs : List X) (x : X) → AreWords meaning text xs → IsWord meaning x (text x)
+    → AreWords meaning text (xs ++ x ∷ [])
+words-and meaning text [] x h w = (w, tt)
+words-and meaning text (y ∷ ys) x h w = (h.0, words-and meaning text ys x h.1 w)
+
+list-and : {X : Type 0} (text : X → List ℕ) (xs : List X) (x : X)
+    → list_text (codes ",") text (xs ++ x ∷ []) ≡ list_text (codes ",") text xs ++ (codes "," ++ text x)
+list-and text [] x = append-nil (44 ∷ text x)
+list-and text (y ∷ ys) x =
+    ap (λ more. (44 ∷ text y) ++ more) (list-and text ys x) ∙ sym (append_assoc (44 ∷ text y) (list_text (codes ",") text ys) (44 ∷ text x))
+
+joined-and : (v : DateOrTime) (ws : List DateOrTime) (w : DateOrTime)
+    → joined date_or_time_text v (ws ++ w ∷ []) ≡ joined date_or_time_text v ws ++ (codes "," ++ date_or_time_text w)
+joined-and v ws w =
+    ap (λ more. date_or_time_text v ++ more) (list-and date_or_time_text ws w)
+    ∙ sym (append_assoc (date_or_time_text v) (list_text (codes ",") date_or_time_text ws) (44 ∷ date_or_time_text w))
+
+-- ---- the lines of a list
+-- the drafts with more values of a list
+record IsList (name : List ℕ) (its : SetLine) (to : List DateOrTime → Option (List ℕ) → SetDraft) : Type 0 where
+  plain : IsName name
+  means : line_of name ≡ Some its
+  puts : (at : ℕ) (ds ws : List DateOrTime) (s : Option (List ℕ)) (whole value : List ℕ) (texts : List (List ℕ)) → has_room (length ds) value ≡ true
+      → list_of (value_of texts) value ≡ Some ws
+      → put_named at (to ds s) whole texts value its ≡ Ok (to (ds ++ ws) s)
+  zoned : (at : ℕ) (ds : List DateOrTime) (tzid s : Option (List ℕ)) (v : DateOrTime) → Known tzid s
+      → put_zone at (to ds s) (parameters tzid v) its ≡ Ok (to ds (zone_after tzid s v))
+
+abbrev head_of : List ℕ → Option (List ℕ) → DateOrTime → List ℕ
+head_of name tzid v = name ++ parameter_text tzid v
+
+abbrev line_with : List ℕ → Option (List ℕ) → DateOrTime → List DateOrTime → List ℕ
+line_with name tzid v ws = head_of name tzid v ++ 58 ∷ joined date_or_time_text v ws
+
+room-for : (tzid : Option (List ℕ)) (v : DateOrTime) (ws : List DateOrTime) (n : ℕ) → IsRun tzid v ws → n + length (v ∷ ws) ≤ 62
+    → has_room n (joined date_or_time_text v ws) ≡ true
+room-for tzid v ws n run few =
+    let parts : length (parts_at 44 (joined date_or_time_text v ws)) ≡ length (v ∷ ws) =
+    ap length (cut (value_of (parameters tzid v)) date_or_time_text v ws run) ∙ length-map date_or_time_text (v ∷ ws) in
+    let enough : n + length (parts_at 44 (joined date_or_time_text v ws)) ≤ 62 = omega (arith, few, parts) in
+    grind (arith, nat_tests, enough)
+
+line-put : (name : List ℕ) (its : SetLine) (to : List DateOrTime → Option (List ℕ) → SetDraft) → IsList name its to
+    → (tzid s : Option (List ℕ)) (v : DateOrTime) (ws ds : List DateOrTime) → IsZone tzid → Known tzid s → IsRun tzid v ws → length ds + length (v ∷ ws) ≤ 62
+    → (at : ℕ) → put_line at (to ds s) (line_with name tzid v ws) ≡ Ok (to (ds ++ v ∷ ws) (zone_after tzid s v))
+unfolding put_whole
+line-put name its to h tzid s v ws ds z known run few at =
+    let value = joined date_or_time_text v ws in
+    let whole = line_with name tzid v ws in
+    let texts = parameters tzid v in
+    line-by at (to ds s) name (head_of name tzid v) value its texts (head-is name tzid v h.plain z) h.means
+    ∙ ap (and_zone at texts its) (h.puts at ds (v ∷ ws) s whole value texts (room-for tzid v ws (length ds) run few) (list-value (value_of texts) date_or_time_text v ws run (omega (arith, few))).means)
+    ∙ h.zoned at (ds ++ v ∷ ws) tzid s v known
+
+line-feed : (name : List ℕ) (tzid : Option (List ℕ)) (v : DateOrTime) (ws : List DateOrTime) → IsName name → IsZone tzid → IsRun tzid v ws
+    → avoids 10 (line_with name tzid v ws) ≡ true
+line-feed name tzid v ws h z run =
+    avoids-append 10 (head_of name tzid v) (58 ∷ joined date_or_time_text v ws) (head-is name tzid v h z).feed
+    (avoids-cons 10 58 (joined date_or_time_text v ws) refl (no-feed (value_of (parameters tzid v)) date_or_time_text v ws run))
+
+-- the zone after the lines of all values
+abbrev zones : Option (List ℕ) → Option (List ℕ) → DateOrTime → List DateOrTime → Option (List ℕ)
+zones tzid s first [] = zone_after tzid s first
+zones tzid s first (v ∷ vs) = cond (is_same_kind first v) (zones tzid s first vs) (zones tzid (zone_after tzid s first) v vs)
+
+abbrev zones_all : Option (List ℕ) → Option (List ℕ) → List DateOrTime → Option (List ℕ)
+zones_all tzid s [] = s
+zones_all tzid s (v ∷ vs) = zones tzid s v vs
+
+head-line : (name : List ℕ) (tzid : Option (List ℕ)) (v : DateOrTime) → head_text name tzid v ≡ line_with name tzid v []
+head-line name tzid v =
+    append_assoc (head_of name tzid v) (codes ":") (date_or_time_text v)
+    ∙ ap (λ text. head_of name tzid v ++ 58 ∷ text) (sym (append-nil (date_or_time_text v)))
+
+lines-read : (name : List ℕ) (its : SetLine) (to : List DateOrTime → Option (List ℕ) → SetDraft) → IsList name its to
+    → (tzid : Option (List ℕ)) → IsZone tzid → (rest : List ℕ) (p : SetParts) (all : List DateOrTime)
+    → (vs : List DateOrTime) (s : Option (List ℕ)) (v : DateOrTime) (ws ds : List DateOrTime) → Known tzid s → IsRun tzid v ws → All IsDateOrTime vs
+    → (ds ++ v ∷ ws) ++ vs ≡ all → length all ≤ 62
+    → Reads (to all (zones tzid s v vs)) rest p
+    → Reads (to ds s) ((line_with name tzid v ws ++ more_text name tzid v vs) ++ rest) p
+lines-read name its to h tzid z rest p all [] s v ws ds known run are same few reads =
+    let line = line_with name tzid v ws in
+    let same_all : ds ++ v ∷ ws ≡ all = sym (append-nil (ds ++ v ∷ ws)) ∙ same in
+    let size : length ds + length (v ∷ ws) ≤ 62 = omega (arith, few, ap length same_all, length-append ds (v ∷ ws)) in
+    subst (λ text. Reads (to ds s) text p) (sym (append_assoc line line_end rest))
+    (one-line (to ds s) (to all (zone_after tzid s v)) line rest p (line-feed name tzid v ws h.plain z run)
+    (λ at. line-put name its to h tzid s v ws ds z known run size at ∙ ap (λ ds. Ok (to ds (zone_after tzid s v))) same_all) reads)
+lines-read name its to h tzid z rest p all (w ∷ vs) s v ws ds known run are same few reads =
+    let line = line_with name tzid v ws in
+    let is = All-head IsDateOrTime w vs are in
+    let others = All-tail IsDateOrTime w vs are in
+    let text : Bool → List ℕ = λ b. cond b (codes "," ++ date_or_time_text w ++ more_text name tzid v vs) (line_end ++ head_text name tzid w ++ more_text name tzid w vs) in
+    let end : Bool → Option (List ℕ) = λ b. cond b (zones tzid s v vs) (zones tzid (zone_after tzid s v) w vs) in
+    elim (cases_Bool (is_same_kind v w)) as (λ _. Reads (to ds s) ((line ++ more_text name tzid v (w ∷ vs)) ++ rest) p) [
+      | inl alike ↦
+          let grown : line ++ (44 ∷ date_or_time_text w) ≡ line_with name tzid v (ws ++ w ∷ []) =
+          append_assoc (head_of name tzid v) (58 ∷ joined date_or_time_text v ws) (44 ∷ date_or_time_text w)
+          ∙ ap (λ more. head_of name tzid v ++ 58 ∷ more) (sym (joined-and v ws w)) in
+          let longer : line_with name tzid v (ws ++ w ∷ []) ++ more_text name tzid v vs ≡ line ++ more_text name tzid v (w ∷ vs) =
+          ap (λ front. front ++ more_text name tzid v vs) (sym grown) ∙ append_assoc line (44 ∷ date_or_time_text w) (more_text name tzid v vs)
+          ∙ ap (λ b. line ++ text b) (sym alike) in
+          let same_more : (ds ++ v ∷ (ws ++ w ∷ [])) ++ vs ≡ all =
+          append_assoc ds (v ∷ (ws ++ w ∷ [])) vs ∙ ap (λ more. ds ++ v ∷ more) (append_assoc ws (w ∷ []) vs) ∙ sym (append_assoc ds (v ∷ ws) (w ∷ vs)) ∙ same in
+          subst (λ front. Reads (to ds s) (front ++ rest) p) longer
+          (lines-read name its to h tzid z rest p all vs s v (ws ++ w ∷ []) ds known
+          (run.0, words-and (value_of (parameters tzid v)) date_or_time_text ws w run.1 (kind-word tzid v w alike is)) others same_more few
+          (subst (λ t. Reads (to all t) rest p) (ap end alike) reads))
+      | inr apart ↦
+          let next = more_text name tzid w vs in
+          let size : length ds + length (v ∷ ws) ≤ 62 = omega (arith, few, ap length same, length-append ds (v ∷ ws), length-append (ds ++ v ∷ ws) (w ∷ vs)) in
+          let begun : line ++ 13 ∷ 10 ∷ ((line_with name tzid w [] ++ next) ++ rest) ≡ (line ++ more_text name tzid v (w ∷ vs)) ++ rest =
+          ap (λ head. line ++ 13 ∷ 10 ∷ ((head ++ next) ++ rest)) (sym (head-line name tzid w))
+          ∙ sym (append_assoc line (13 ∷ 10 ∷ (head_text name tzid w ++ next)) rest)
+          ∙ ap (λ b. (line ++ text b) ++ rest) (sym apart) in
+          subst (λ text. Reads (to ds s) text p) begun
+          (one-line (to ds s) (to (ds ++ v ∷ ws) (zone_after tzid s v)) line ((line_with name tzid w [] ++ next) ++ rest) p (line-feed name tzid v ws h.plain z run)
+          (line-put name its to h tzid s v ws ds z known run size)
+          (lines-read name its to h tzid z rest p all vs (zone_after tzid s v) w [] (ds ++ v ∷ ws) (known-after tzid s v known)
+          (kind-word tzid w w (same-kind w) is, tt) others (append_assoc (ds ++ v ∷ ws) (w ∷ []) vs ∙ same) few
+          (subst (λ t. Reads (to all t) rest p) (ap end apart) reads)))
+    ]
+
+-- all values of a list
+list-read : (name : List ℕ) (its : SetLine) (to : List DateOrTime → Option (List ℕ) → SetDraft) → IsList name its to
+    → (tzid : Option (List ℕ)) → IsZone tzid → (rest : List ℕ) (p : SetParts) (vs : List DateOrTime) (s : Option (List ℕ)) → Known tzid s → All IsDateOrTime vs
+    → length vs ≤ 62
+    → Reads (to vs (zones_all tzid s vs)) rest p
+    → Reads (to [] s) (values_text name tzid vs ++ rest) p
+list-read name its to h tzid z rest p [] s known are few reads = reads
+list-read name its to h tzid z rest p (v ∷ vs) s known are few reads =
+    subst (λ head. Reads (to [] s) ((head ++ more_text name tzid v vs) ++ rest) p) (sym (head-line name tzid v))
+    (lines-read name its to h tzid z rest p (v ∷ vs) vs s v [] [] known (kind-word tzid v v (same-kind v) (All-head IsDateOrTime v vs are), tt)
+    (All-tail IsDateOrTime v vs are) refl few reads)
+
+-- ---- the whole
+list_named : (name : List ℕ) → avoids 10 name ≡ true → avoids 58 name ≡ true → avoids 59 name ≡ true → IsName name
+list_named name feed colon semicolon = record { feed = feed; colon = colon; semicolon = semicolon }
+
+more-put : (at : ℕ) (its : SetLine) (ds ws : List DateOrTime) (value : List ℕ) (texts : List (List ℕ)) → has_room (length ds) value ≡ true
+    → list_of (value_of texts) value ≡ Some ws
+    → more_of at its ds texts value ≡ Ok (ds ++ ws)
+more-put at its ds ws value texts room means =
+    ap (λ b. cond (not b) (Err (set_fault at (TooMany its))) (option_map_or Ok (option_map (λ more. ds ++ more) (list_of (value_of texts) value)) (Err (set_fault at (Value its))))) room
+    ∙ ap (λ o. option_map_or Ok (option_map (λ more. ds ++ more) o) (Err (set_fault at (Value its)))) means
+
+dates-list : (start : DateOrTime) (r : Recurrence) → IsList (codes "RDATE") line.Dates (λ ds s. draft_of (Some start) (Some r) ds [] s)
+dates-list start r = record {
+  plain = list_named (codes "RDATE") refl refl refl;
+  means = refl;
+  puts = λ at ds ws s whole value texts room means. ap (put_dates (draft_of (Some start) (Some r) ds [] s)) (more-put at line.Dates ds ws value texts room means);
+  zoned = λ at ds tzid s v known. zone-put at line.Dates tzid s v (Some start) (Some r) ds [] known;
+}
+
+exceptions-list : (start : DateOrTime) (r : Recurrence) (dates : List DateOrTime)
+    → IsList (codes "EXDATE") line.Exceptions (λ ds s. draft_of (Some start) (Some r) dates ds s)
+exceptions-list start r dates = record {
+  plain = list_named (codes "EXDATE") refl refl refl;
+  means = refl;
+  puts = λ at ds ws s whole value texts room means. ap (put_exceptions (draft_of (Some start) (Some r) dates ds s)) (more-put at line.Exceptions ds ws value texts room means);
+  zoned = λ at ds tzid s v known. zone-put at line.Exceptions tzid s v (Some start) (Some r) dates ds known;
+}
+
+-- the start
+start-put : (tzid : Option (List ℕ)) (start : DateOrTime) → IsZone tzid → IsDateOrTime start → (at : ℕ)
+    → put_line at no_lines (line_with (codes "DTSTART") tzid start []) ≡ Ok (draft_of (Some start) None [] [] (zone_after tzid None start))
+unfolding put_whole
+start-put tzid start z is at =
+    let texts = parameters tzid start in
+    let name = codes "DTSTART" in
+    let value = joined date_or_time_text start [] in
+    let word = kind-word tzid start start (same-kind start) is in
+    let means : value_of texts value ≡ Some start = ap (value_of texts) (append-nil (date_or_time_text start)) ∙ word.means in
+    line-by at no_lines name (head_of name tzid start) value line.Start texts (head-is name tzid start (list_named name refl refl refl) z) refl
+    ∙ ap (λ o. and_zone at texts line.Start (option_map_or (λ x. Ok (draft_of (Some x) None [] [] None)) o (Err (set_fault at (Value line.Start))))) means
+    ∙ zone-put at line.Start tzid None start (Some start) None [] [] (inl refl)
+
+-- the recurrence
+rule-put : (start : DateOrTime) (s : Option (List ℕ)) (r : Recurrence) (text : List ℕ) → recurrence_of (codes "RRULE:" ++ text) ≡ Ok r → (at : ℕ)
+    → put_line at (draft_of (Some start) None [] [] s) (codes "RRULE:" ++ text) ≡ Ok (draft_of (Some start) (Some r) [] [] s)
+unfolding put_whole
+rule-put start s r text says at =
+    let draft = draft_of (Some start) None [] [] s in
+    let name = codes "RRULE" in
+    line-by at draft name name text line.Rule [] (record { feed = refl; colon = refl; named = refl; parameters = refl }) refl
+    ∙ ap (λ x. and_zone at [] line.Rule (put_rule at draft x)) says
+    ∙ no-zone at start r s
+  where
+    no-zone : (at : ℕ) (start : DateOrTime) (r : Recurrence) (s : Option (List ℕ))
+        → put_zone at (draft_of (Some start) (Some r) [] [] s) [] line.Rule ≡ Ok (draft_of (Some start) (Some r) [] [] s)
+    no-zone at start r None = refl
+    no-zone at start r (Some tzid) = refl
+
+-- ---- the zone at the end
+kept-line : (tzid : Option (List ℕ)) (v : DateOrTime) → zone_after tzid tzid v ≡ tzid
+kept-line tzid (Date n) = refl
+kept-line None (Local z) = refl
+kept-line (Some name) (Local z) = refl
+kept-line tzid (Utc z) = refl
+
+kept-lines : (tzid : Option (List ℕ)) (v : DateOrTime) (vs : List DateOrTime) → zones tzid tzid v vs ≡ tzid
+kept-lines tzid v [] = kept-line tzid v
+kept-lines tzid v (w ∷ vs) =
+    either (is_same_kind v w) (kept-lines tzid v vs) (ap (λ s. zones tzid s w vs) (kept-line tzid v) ∙ kept-lines tzid w vs)
+  where
+    either : (b : Bool) {s t tzid : Option (List ℕ)} → s ≡ tzid → t ≡ tzid → cond b s t ≡ tzid
+    either true h k = h
+    either false h k = k
+
+kept : (tzid s : Option (List ℕ)) (vs : List DateOrTime) → s ≡ tzid → zones_all tzid s vs ≡ tzid
+kept tzid s [] h = h
+kept tzid s (v ∷ vs) h = ap (λ t. zones tzid t v vs) h ∙ kept-lines tzid v vs
+
+named-line : (name : List ℕ) (s : Option (List ℕ)) (v : DateOrTime) → is_local v ≡ true → zone_after (Some name) s v ≡ Some name
+named-line name s (Date n) h = absurd (false≢true h)
+named-line name s (Local z) h = refl
+named-line name s (Utc z) h = absurd (false≢true h)
+
+same-local : (v w : DateOrTime) → is_same_kind v w ≡ true → is_local w ≡ is_local v
+same-local (Date n) (Date m) h = refl
+same-local (Date n) (Local z) h = absurd (false≢true h)
+same-local (Date n) (Utc z) h = refl
+same-local (Local y) w h = h
+same-local (Utc y) (Date n) h = refl
+same-local (Utc y) (Local z) h = absurd (false≢true h)
+same-local (Utc y) (Utc z) h = refl
+
+or-true : (a b : Bool) → a || b ≡ true → (a ≡ true) ⊎ (b ≡ true)
+or-true true b h = inl refl
+or-true false b h = inr h
+
+or-first : (a b : Bool) → a ≡ true → a || b ≡ true
+or-first true b h = refl
+or-first false b h = absurd (false≢true h)
+
+or-other : (a b : Bool) → b ≡ true → a || b ≡ true
+or-other true b h = refl
+or-other false b h = h
+
+named-lines : (name : List ℕ) (s : Option (List ℕ)) (v : DateOrTime) (vs : List DateOrTime) → is_local v || list_any is_local vs ≡ true
+    → zones (Some name) s v vs ≡ Some name
+named-lines name s v [] h =
+    elim (or-true (is_local v) false h) [
+      | inl here ↦ named-line name s v here
+      | inr never ↦ absurd (false≢true never)
+    ]
+named-lines name s v (w ∷ vs) h =
+    let tzid = Some name in
+    let ends : Bool → Option (List ℕ) = λ b. cond b (zones tzid s v vs) (zones tzid (zone_after tzid s v) w vs) in
+    elim (cases_Bool (is_same_kind v w)) [
+      | inl alike ↦
+          ap ends alike
+          ∙ named-lines name s v vs (elim (or-true (is_local v) (is_local w || list_any is_local vs) h) [
+            | inl here ↦ or-first (is_local v) (list_any is_local vs) here
+            | inr later ↦ ap (λ b. b || list_any is_local vs) (sym (same-local v w alike)) ∙ later
+          ])
+      | inr apart ↦
+          ap ends apart
+          ∙ elim (or-true (is_local v) (is_local w || list_any is_local vs) h) [
+            | inl here ↦ ap (λ t. zones tzid t w vs) (named-line name s v here) ∙ kept-lines tzid w vs
+            | inr later ↦ named-lines name (zone_after tzid s v) w vs later
+          ]
+    ]
+
+named : (name : List ℕ) (s : Option (List ℕ)) (vs : List DateOrTime) → list_any is_local vs ≡ true → zones_all (Some name) s vs ≡ Some name
+named name s [] h = absurd (false≢true h)
+named name s (v ∷ vs) h = named-lines name s v vs h
+
+known-lines : (tzid s : Option (List ℕ)) (v : DateOrTime) (vs : List DateOrTime) → Known tzid s → Known tzid (zones tzid s v vs)
+known-lines tzid s v [] h = known-after tzid s v h
+known-lines tzid s v (w ∷ vs) h =
+    either (is_same_kind v w) (known-lines tzid s v vs h) (known-lines tzid (zone_after tzid s v) w vs (known-after tzid s v h))
+  where
+    either : (b : Bool) {s t : Option (List ℕ)} → Known tzid s → Known tzid t → Known tzid (cond b s t)
+    either true h k = h
+    either false h k = k
+
+known-all : (tzid s : Option (List ℕ)) (vs : List DateOrTime) → Known tzid s → Known tzid (zones_all tzid s vs)
+known-all tzid s [] h = h
+known-all tzid s (v ∷ vs) h = known-lines tzid s v vs h
+
+-- the zone after the start, the dates and the exceptions
+abbrev last_zone : SetParts → Option (List ℕ) → Option (List ℕ)
+last_zone p tzid = zones_all tzid (zones_all tzid (zone_after tzid None p.start) p.dates) p.exceptions
+
+zone-found : (p : SetParts) (tzid : Option (List ℕ)) → IsZoneOf p tzid → last_zone p tzid ≡ tzid
+zone-found p None h =
+    elim (known-all None _ p.exceptions (known-all None _ p.dates (known-after None None p.start (inl refl)))) [
+      | inl none ↦ none
+      | inr same ↦ same
+    ]
+zone-found p (Some name) h =
+    let tzid = Some name in
+    let first = zone_after tzid None p.start in
+    elim (or-true (is_local p.start) (list_any is_local p.dates || list_any is_local p.exceptions) h.1) [
+      | inl start ↦ kept tzid (zones_all tzid first p.dates) p.exceptions (kept tzid first p.dates (named-line name None p.start start))
+      | inr more ↦ elim (or-true (list_any is_local p.dates) (list_any is_local p.exceptions) more) [
+        | inl dates ↦ kept tzid (zones_all tzid first p.dates) p.exceptions (named name first p.dates dates)
+        | inr exceptions ↦ named name (zones_all tzid first p.dates) p.exceptions exceptions
+      ]
+    ]
+
+zone-is : (p : SetParts) (tzid : Option (List ℕ)) → IsZoneOf p tzid → IsZone tzid
+zone-is p None h = tt
+zone-is p (Some name) h = record {
+  feed = from-all 10 name (λ k d less. (h.0 k d less).0);
+  colon = from-all 58 name (λ k d less. (h.0 k d less).1.0);
+  semicolon = from-all 59 name (λ k d less. (h.0 k d less).1.1);
+}
+
+-- ---- the set
+all-read : (p : SetParts) (s : Option (List ℕ)) → s ≡ p.zone → Reads (draft_of (Some p.start) (Some p.recurrence) p.dates p.exceptions s) [] p
+all-read p s e at = ap (λ tzid. Ok (record p { zone = tzid })) e
+
+in-lines : (head rule dates exceptions : List ℕ)
+    → (head ++ line_end) ++ (rule ++ line_end) ++ dates ++ exceptions ≡ head ++ 13 ∷ 10 ∷ (rule ++ 13 ∷ 10 ∷ (dates ++ (exceptions ++ [])))
+in-lines head rule dates exceptions =
+    append_assoc ((head ++ line_end) ++ (rule ++ line_end)) dates exceptions
+    ∙ append_assoc (head ++ line_end) (rule ++ line_end) (dates ++ exceptions)
+    ∙ append_assoc head line_end ((rule ++ line_end) ++ (dates ++ exceptions))
+    ∙ ap (λ rest. head ++ 13 ∷ 10 ∷ rest) (append_assoc rule line_end (dates ++ exceptions) ∙ ap (λ last. rule ++ 13 ∷ 10 ∷ (dates ++ last)) (sym (append-nil exceptions)))
+
+set-reads : (p : SetParts) → IsSpelledSet p → ReadsBack p.recurrence (text_of p.recurrence) → length p.dates ≤ 62 → length p.exceptions ≤ 62
+    → set_of (set_text p) ≡ Ok p
+set-reads p h back few less =
+    let tzid = p.zone in
+    let z = zone-is p tzid h.zone in
+    let first = zone_after tzid None p.start in
+    let second = zones_all tzid first p.dates in
+    let known = known-after tzid None p.start (inl refl) in
+    let start : List ℕ = codes "DTSTART" in
+    let rule : List ℕ = codes "RRULE:" ++ text_of p.recurrence in
+    let dates = values_text (codes "RDATE") tzid p.dates in
+    let exceptions = values_text (codes "EXDATE") tzid p.exceptions in
+    let run : IsRun tzid p.start [] = (kind-word tzid p.start p.start (same-kind p.start) h.start, tt) in
+    let name = list_named start refl refl refl in
+    let excepted = list-read (codes "EXDATE") line.Exceptions (λ ds s. draft_of (Some p.start) (Some p.recurrence) p.dates ds s) (exceptions-list p.start p.recurrence p.dates) tzid z [] p p.exceptions second
+    (known-all tzid first p.dates known) h.each_exception less (all-read p (last_zone p tzid) (zone-found p tzid h.zone)) in
+    let dated = list-read (codes "RDATE") line.Dates (λ ds s. draft_of (Some p.start) (Some p.recurrence) ds [] s) (dates-list p.start p.recurrence) tzid z (exceptions ++ []) p p.dates first
+    known h.each_date few excepted in
+    let ruled = one-line (draft_of (Some p.start) None [] [] first) (draft_of (Some p.start) (Some p.recurrence) [] [] first) rule (dates ++ (exceptions ++ [])) p
+    (avoids-append 10 (codes "RRULE:") (text_of p.recurrence) refl (from-all 10 (text_of p.recurrence) back.one_line))
+    (rule-put p.start first p.recurrence (text_of p.recurrence) back.named) dated in
+    let begun = one-line no_lines (draft_of (Some p.start) None [] [] first) (line_with start tzid p.start []) (rule ++ 13 ∷ 10 ∷ (dates ++ (exceptions ++ []))) p
+    (line-feed start tzid p.start [] name z run) (start-put tzid p.start z h.start) ruled in
+    ap set_of (in-lines (head_text start tzid p.start) rule dates exceptions)
+    ∙ ap (λ head. set_of (head ++ 13 ∷ 10 ∷ (rule ++ 13 ∷ 10 ∷ (dates ++ (exceptions ++ []))))) (head-line start tzid p.start)
+    ∙ begun 0
+
+-- a buffer with the text
+pub put_reads : (p : SetParts) (text old new : List ℕ) (r : Option ℕ) → IsPut 0 (set_text p) old new r → text ≡ text_of p.recurrence
+    → (IsSpelled p.recurrence → ReadsBack p.recurrence text) → length p.dates ≤ 62 → length p.exceptions ≤ 62
+    → IsSpelledSet p
+    → IfSome r (λ end. set_of (take end new) ≡ Ok p)
+put_reads p text old new None put e back few less h = tt
+put_reads p text old new (Some end) put e back few less h =
+    ap set_of put.2 ∙ set-reads p h (subst (ReadsBack p.recurrence) e (back h.recurrence)) few less

@@ -1,0 +1,22 @@
+use Rattle.std.proofs.Common.{◌+◌, ◌∙◌, Some, ap, arith, subst, sym}
+use Rattle.std.proofs.lemmas.List.{take_rest}
+use Rattle.cal_recurrence.specs.Buffers.{IsPut}
+use Rattle.cal_recurrence.specs.Folding.{column_after, first_folded}
+use Rattle.cal_recurrence.proofs.FoldedLines.{one_byte, unfolds, IsFolded}
+use Rattle.cal_recurrence.proofs.folding.fold.Goals as goal
+
+pub loop-index-preserved : goal.loop-index-preserved
+loop-index-preserved c =
+    let text = c.args.text.now in
+    let at = c.loop-index in
+    let next = c.in_ok-filled.filled in
+    let rest = take_rest text at.index in
+    let put = subst (λ bytes. IsPut at.filled (first_folded at.column bytes) at.folded c.put_folded.new.buffer (Some next)) rest c.in_ok-filled.ensures in
+    let column = c.column_after-column.ensures ∙ ap (column_after at.column) rest in
+    subst (λ n. IsFolded text c.args.folded.now c.put_folded.new.buffer next (at.index + 1) n) (sym column)
+    (one_byte text c.args.folded.now at.folded c.put_folded.new.buffer at.filled next at.index at.column at.invariant c.loop-index-test.true put (omega (arith, c.put_folded.auto.buffer)))
+
+pub returns-clause-unfolds : goal.returns-clause-unfolds
+returns-clause-unfolds c =
+    let at = c.loop-index in
+    unfolds c.args.text.now c.args.folded.now at.folded at.filled at.index at.column at.invariant (omega (arith, c.loop-index-test.false))
