@@ -1,6 +1,6 @@
 //! The values that a format determines.
 ghost use Rattle.std.specs.Prelude.{◌≡◌};
-ghost use Rattle.cal_format.specs.Reading.{any_shows, begins_apart, begins_past_point, begins_with_decimal, ends_before, are_apart, shows_year, shows_weekday, shows_calendar_date, shows_ordinal_date, shows_iso_week_date, shows_date, shows_hour, shows_subsecond, shows_time, shows_offset, shows_timestamp, shows_moment};
+ghost use Rattle.cal_format.specs.Reading.{any_shows, is_apart, ends_before, are_apart, shows_year, shows_calendar_date, shows_ordinal_date, shows_iso_week_date, shows_date, shows_time, shows_offset, shows_timestamp, shows_moment};
 
 use crate::format::Format;
 use crate::item::{Component, Item, Padding};
@@ -23,57 +23,33 @@ pub(crate) fn are_apart(items: &[Item]) -> bool
     }
 }
 
-/// Returns `true` if the text of the items doesn't begin with a digit.
-fn begins_apart(items: &[Item]) -> bool
-    ensures { result ≡ begins_apart items.now }
-{
-    match items {
-        [] => true,
-        [item, ..] => match *item {
-            Item::Literal(byte) => byte < 48 || byte > 57,
-            Item::Name(_) => true,
-            Item::OffsetSign => true,
-            _ => false,
-        },
-    }
-}
-
-/// Returns `true` if the items begin with a number without padding.
-fn begins_with_decimal(items: &[Item]) -> bool
-    ensures { result ≡ begins_with_decimal items.now }
-{
-    match items {
-        [] => false,
-        [item, ..] => match *item {
-            Item::Number(_, Padding::None) => true,
-            _ => false,
-        },
-    }
-}
-
-/// Returns `true` if the items don't begin with a point.
-fn begins_past_point(items: &[Item]) -> bool
-    ensures { result ≡ begins_past_point items.now }
-{
-    match items {
-        [] => true,
-        [item, ..] => match *item {
-            Item::Literal(byte) => byte != 46,
-            _ => true,
-        },
-    }
-}
-
 impl Item {
+    /// Returns `true` if these items can't continue the item.
     fn ends_before(self, others: &[Item]) -> bool
         ensures { result ≡ ends_before self others.now }
     {
+        match others {
+            [] => match self {
+                Item::TimestampSign => false,
+                _ => true,
+            },
+            [next, ..] => match self {
+                Item::Number(_, Padding::None) | Item::Decimals => next.is_apart(),
+                Item::Fraction => next.is_apart() && !matches!(*next, Item::Literal(b'.')),
+                Item::TimestampSign => matches!(*next, Item::Number(_, Padding::None)),
+                _ => true,
+            },
+        }
+    }
+
+    /// Returns `true` if the text of the item doesn't begin with a digit.
+    fn is_apart(self) -> bool
+        ensures { result ≡ is_apart self }
+    {
         match self {
-            Item::Number(_, Padding::None) => begins_apart(others),
-            Item::Fraction => begins_apart(others) && begins_past_point(others),
-            Item::Decimals => begins_apart(others),
-            Item::TimestampSign => begins_with_decimal(others),
-            _ => true,
+            Item::Literal(byte) => byte < 48 || byte > 57,
+            Item::Name(_) | Item::OffsetSign => true,
+            _ => false,
         }
     }
 }
@@ -84,14 +60,6 @@ fn shows_year(items: &Format) -> bool
 {
     any_shows(items, Component::Year)
         || (any_shows(items, Component::Century) && any_shows(items, Component::YearOfCentury))
-}
-
-fn shows_weekday(items: &Format) -> bool
-    ensures { result ≡ shows_weekday items.now }
-{
-    any_shows(items, Component::Weekday)
-        || any_shows(items, Component::DaysFromSunday)
-        || any_shows(items, Component::SundayWeekday)
 }
 
 pub(crate) fn shows_calendar_date(items: &Format) -> bool
@@ -109,9 +77,10 @@ pub(crate) fn shows_ordinal_date(items: &Format) -> bool
 fn shows_iso_week_date(items: &Format) -> bool
     ensures { result ≡ shows_iso_week_date items.now }
 {
-    any_shows(items, Component::IsoYear)
-        && any_shows(items, Component::IsoWeek)
-        && shows_weekday(items)
+    let weekday = any_shows(items, Component::Weekday)
+        || any_shows(items, Component::DaysFromSunday)
+        || any_shows(items, Component::SundayWeekday);
+    any_shows(items, Component::IsoYear) && any_shows(items, Component::IsoWeek) && weekday
 }
 
 /// Returns `true` if the items determine a date.
@@ -121,28 +90,18 @@ pub(crate) fn shows_date(items: &Format) -> bool
     shows_calendar_date(items) || shows_ordinal_date(items) || shows_iso_week_date(items)
 }
 
-fn shows_hour(items: &Format) -> bool
-    ensures { result ≡ shows_hour items.now }
-{
-    any_shows(items, Component::Hour)
-        || (any_shows(items, Component::Hour12) && any_shows(items, Component::Period))
-}
-
-fn shows_subsecond(items: &Format) -> bool
-    ensures { result ≡ shows_subsecond items.now }
-{
-    any_shows(items, Component::Nanosecond)
-        || any_shows(items, Component::Microsecond)
-        || any_shows(items, Component::Millisecond)
-}
-
 /// Returns `true` if the items determine a time of day by its coarsest parts.
 pub(crate) fn shows_time(items: &Format) -> bool
     ensures { result ≡ shows_time items.now }
 {
+    let hour = any_shows(items, Component::Hour)
+        || (any_shows(items, Component::Hour12) && any_shows(items, Component::Period));
     let minute = any_shows(items, Component::Minute);
     let second = any_shows(items, Component::Second);
-    shows_hour(items) && (minute || !second) && (second || !shows_subsecond(items))
+    let subsecond = any_shows(items, Component::Nanosecond)
+        || any_shows(items, Component::Microsecond)
+        || any_shows(items, Component::Millisecond);
+    hour && (minute || !second) && (second || !subsecond)
 }
 
 /// Returns `true` if the items determine an offset.

@@ -185,43 +185,13 @@ pub(crate) fn find_moment(items: &Format, fields: &Fields) -> Option<Moment>
 {
     let offset = offset_of_numbers(items, fields);
     if shows_timestamp(items) {
-        return moment_at_timestamp(items, fields, offset);
+        let sign = fields.get(Component::TimestampSign);
+        let seconds = fields.get(Component::Timestamp);
+        return moment_at(sign, seconds, nanosecond_of(items, fields), offset);
     }
-    moment_at_date(items, fields, offset)
-}
-
-/// Returns the moment of the date and the time of day at the offset.
-fn moment_at_date(items: &Format, fields: &Fields, offset: UtcOffset) -> Option<Moment>
-    requires most { (c : Component) → number_at c fields.now ≤ maximum c }
-    requires date { IsTrue (not (shows_timestamp items.now)) }
-    requires range { IsOffset offset }
-    requires offset { offset ≡ (if shows_offset items.now
-        then offset_in (λ c. number_at c fields.now)
-        else pos 0) }
-    ensures every { (v : Moment) → IsMomentOf items.now (λ c. number_at c fields.now) v
-        → result ≡ Some v }
-    ensures value { IfSome result (IsMomentOf items.now (λ c. number_at c fields.now)) }
-{
     let date = date_of_numbers(items, fields)?;
     let time = time_of_numbers(items, fields);
     Some(Moment { date, time, offset })
-}
-
-/// Returns the moment of the Unix time at the offset.
-fn moment_at_timestamp(items: &Format, fields: &Fields, offset: UtcOffset) -> Option<Moment>
-    requires most { (c : Component) → number_at c fields.now ≤ maximum c }
-    requires timestamp { IsTrue (shows_timestamp items.now) }
-    requires range { IsOffset offset }
-    requires offset { offset ≡ (if shows_offset items.now
-        then offset_in (λ c. number_at c fields.now)
-        else pos 0) }
-    ensures every { (v : Moment) → IsMomentOf items.now (λ c. number_at c fields.now) v
-        → result ≡ Some v }
-    ensures value { IfSome result (IsMomentOf items.now (λ c. number_at c fields.now)) }
-{
-    let sign = fields.get(Component::TimestampSign);
-    let seconds = fields.get(Component::Timestamp);
-    moment_at(sign, seconds, nanosecond_of(items, fields), offset)
 }
 
 /// Returns the date of the numbers, or the first date of the range if the items determine none.

@@ -6,6 +6,7 @@ ghost use Rattle.cal_time.specs.Digits.{decimals};
 ghost use Rattle.cal_time.specs.DateText.{digits_at_least, sign_text};
 ghost use Rattle.cal_format.specs.declared.item.Item.TheVariants as items;
 ghost use Rattle.cal_format.specs.Names.{name_text};
+ghost use Rattle.cal_format.specs.Printing.{Writes};
 ghost use Rattle.cal_format.specs.Moment.{number, width};
 ghost use Rattle.cal_format.specs.Text.{sign, padded, fraction_text, item_text, text_in_zone};
 
@@ -23,13 +24,7 @@ pub(crate) fn print_items(
     at: usize,
 ) -> Option<usize>
     requires { at ≤ length buffer.old }
-    ensures room { IsSome result
-        ↔ (at + length (text_in_zone abbreviation.now items.now moment.now) ≤ length buffer.old) }
-    ensures text { IfSome result (λ end.
-        take end buffer.new
-        ≡ take at buffer.old ++ text_in_zone abbreviation.now items.now moment.now) }
-    ensures end { IfSome result (λ end.
-        end ≡ at + length (text_in_zone abbreviation.now items.now moment.now)) }
+    ensures { Writes (text_in_zone abbreviation.now items.now moment.now) at buffer.old buffer.new result }
 {
     match items {
         [] => Some(at),
@@ -46,11 +41,7 @@ impl Item {
     /// writes `2024` at position 3 of a buffer, and returns 7.
     #[inline(always)]
     pub fn print(self, moment: &Moment, buffer: &mut [u8], at: usize) -> Option<usize>
-        ensures room { IsSome result
-            ↔ (at + length (item_text [] moment.now self) ≤ length buffer.old) }
-        ensures text { IfSome result (λ end.
-            take end buffer.new ≡ take at buffer.old ++ item_text [] moment.now self) }
-        ensures end { IfSome result (λ end. end ≡ at + length (item_text [] moment.now self)) }
+        ensures { Writes (item_text [] moment.now self) at buffer.old buffer.new result }
     {
         if at > buffer.len() {
             return None;
@@ -68,12 +59,7 @@ fn print_item(
     at: usize,
 ) -> Option<usize>
     requires { at ≤ length buffer.old }
-    ensures room { IsSome result
-        ↔ (at + length (item_text abbreviation.now moment.now item) ≤ length buffer.old) }
-    ensures text { IfSome result (λ end.
-        take end buffer.new ≡ take at buffer.old ++ item_text abbreviation.now moment.now item) }
-    ensures end { IfSome result (λ end.
-        end ≡ at + length (item_text abbreviation.now moment.now item)) }
+    ensures { Writes (item_text abbreviation.now moment.now item) at buffer.old buffer.new result }
 {
     match item {
         Item::Literal(byte) => put(buffer, at, &[byte]),
@@ -95,12 +81,7 @@ fn print_number(
     at: usize,
 ) -> Option<usize>
     requires { at ≤ length buffer.old }
-    ensures room { IsSome result ↔ (at + length (sign component moment.now
-        ++ padded pad (width component) (number component moment.now)) ≤ length buffer.old) }
-    ensures text { IfSome result (λ end. take end buffer.new ≡ take at buffer.old
-        ++ (sign component moment.now ++ padded pad (width component) (number component moment.now))) }
-    ensures end { IfSome result (λ end. end ≡ at + length (sign component moment.now
-        ++ padded pad (width component) (number component moment.now))) }
+    ensures { Writes (sign component moment.now ++ padded pad (width component) (number component moment.now)) at buffer.old buffer.new result }
 {
     if !sign_of(component, moment).is_empty() {
         return print_signed(component, pad, moment, buffer, at);
@@ -119,12 +100,7 @@ fn print_signed(
     at: usize,
 ) -> Option<usize>
     requires { at ≤ length buffer.old }
-    ensures room { IsSome result ↔ (at + length (sign component moment.now
-        ++ padded pad (width component) (number component moment.now)) ≤ length buffer.old) }
-    ensures text { IfSome result (λ end. take end buffer.new ≡ take at buffer.old
-        ++ (sign component moment.now ++ padded pad (width component) (number component moment.now))) }
-    ensures end { IfSome result (λ end. end ≡ at + length (sign component moment.now
-        ++ padded pad (width component) (number component moment.now))) }
+    ensures { Writes (sign component moment.now ++ padded pad (width component) (number component moment.now)) at buffer.old buffer.new result }
 {
     let sign = sign_of(component, moment);
     let next = put(buffer, at, sign)?;
@@ -168,10 +144,7 @@ fn year_sign(year: i32) -> &'static [u8]
 fn put_padded(number: u64, width: u8, pad: Padding, buffer: &mut [u8], at: usize) -> Option<usize>
     requires at { at ≤ length buffer.old }
     requires width { width ≤ 9 }
-    ensures room { IsSome result ↔ (at + length (padded pad width number) ≤ length buffer.old) }
-    ensures text { IfSome result (λ end.
-        take end buffer.new ≡ take at buffer.old ++ padded pad width number) }
-    ensures end { IfSome result (λ end. end ≡ at + length (padded pad width number)) }
+    ensures { Writes (padded pad width number) at buffer.old buffer.new result }
 {
     match pad {
         Padding::Zero if width == 2 && number < 100 => put(buffer, at, &two_digits(number as u8)),
@@ -190,12 +163,7 @@ fn put_padded(number: u64, width: u8, pad: Padding, buffer: &mut [u8], at: usize
 fn put_filled(byte: u8, number: u64, width: u8, buffer: &mut [u8], at: usize) -> Option<usize>
     requires at { at ≤ length buffer.old }
     requires width { width ≤ 9 }
-    ensures room { IsSome result ↔ (at + length (replicate (width - length (decimal number)) byte
-        ++ decimal number) ≤ length buffer.old) }
-    ensures text { IfSome result (λ end. take end buffer.new ≡ take at buffer.old
-        ++ (replicate (width - length (decimal number)) byte ++ decimal number)) }
-    ensures end { IfSome result (λ end. end ≡ at
-        + length (replicate (width - length (decimal number)) byte ++ decimal number)) }
+    ensures { Writes (replicate (width - length (decimal number)) byte ++ decimal number) at buffer.old buffer.new result }
 {
     let mut digits = ShortText::new();
     digits.push_number(number);
@@ -210,10 +178,7 @@ fn put_filled(byte: u8, number: u64, width: u8, buffer: &mut [u8], at: usize) ->
 fn put_fill(byte: u8, count: usize, buffer: &mut [u8], at: usize) -> Option<usize>
     requires at { at ≤ length buffer.old }
     requires count { count ≤ 9 }
-    ensures room { IsSome result ↔ (at + count ≤ length buffer.old) }
-    ensures text { IfSome result (λ end.
-        take end buffer.new ≡ take at buffer.old ++ replicate count byte) }
-    ensures end { IfSome result (λ end. end ≡ at + count) }
+    ensures { Writes (replicate count byte) at buffer.old buffer.new result }
 {
     let filler = [byte; 9];
     put(buffer, at, &filler[..count])
@@ -223,9 +188,7 @@ fn put_fill(byte: u8, count: usize, buffer: &mut [u8], at: usize) -> Option<usiz
 #[inline(never)]
 fn put_decimal(number: u64, buffer: &mut [u8], at: usize) -> Option<usize>
     requires { at ≤ length buffer.old }
-    ensures room { IsSome result ↔ (at + length (decimal number) ≤ length buffer.old) }
-    ensures text { IfSome result (λ end. take end buffer.new ≡ take at buffer.old ++ decimal number) }
-    ensures end { IfSome result (λ end. end ≡ at + length (decimal number)) }
+    ensures { Writes (decimal number) at buffer.old buffer.new result }
 {
     let mut digits = ShortText::new();
     digits.push_number(number);
@@ -236,10 +199,7 @@ fn put_decimal(number: u64, buffer: &mut [u8], at: usize) -> Option<usize>
 #[inline(never)]
 fn print_name(name: Name, moment: &Moment, buffer: &mut [u8], at: usize) -> Option<usize>
     requires { at ≤ length buffer.old }
-    ensures room { IsSome result ↔ (at + length (name_text name moment.now) ≤ length buffer.old) }
-    ensures text { IfSome result (λ end.
-        take end buffer.new ≡ take at buffer.old ++ name_text name moment.now) }
-    ensures end { IfSome result (λ end. end ≡ at + length (name_text name moment.now)) }
+    ensures { Writes (name_text name moment.now) at buffer.old buffer.new result }
 {
     match name {
         Name::Month => put(buffer, at, moment.month().name().as_bytes()),
@@ -260,10 +220,7 @@ fn print_name(name: Name, moment: &Moment, buffer: &mut [u8], at: usize) -> Opti
 fn print_fraction(nanosecond: u32, buffer: &mut [u8], at: usize) -> Option<usize>
     requires at { at ≤ length buffer.old }
     requires range { nanosecond < 1_000_000_000 }
-    ensures room { IsSome result ↔ (at + length (fraction_text nanosecond) ≤ length buffer.old) }
-    ensures text { IfSome result (λ end.
-        take end buffer.new ≡ take at buffer.old ++ fraction_text nanosecond) }
-    ensures end { IfSome result (λ end. end ≡ at + length (fraction_text nanosecond)) }
+    ensures { Writes (fraction_text nanosecond) at buffer.old buffer.new result }
 {
     if nanosecond == 0 {
         return put(buffer, at, b"");
@@ -277,10 +234,7 @@ fn print_fraction(nanosecond: u32, buffer: &mut [u8], at: usize) -> Option<usize
 fn print_decimals(nanosecond: u32, buffer: &mut [u8], at: usize) -> Option<usize>
     requires at { at ≤ length buffer.old }
     requires range { nanosecond < 1_000_000_000 }
-    ensures room { IsSome result ↔ (at + length (decimals nanosecond) ≤ length buffer.old) }
-    ensures text { IfSome result (λ end.
-        take end buffer.new ≡ take at buffer.old ++ decimals nanosecond) }
-    ensures end { IfSome result (λ end. end ≡ at + length (decimals nanosecond)) }
+    ensures { Writes (decimals nanosecond) at buffer.old buffer.new result }
 {
     let mut digits = ShortText::new();
     digits.push_decimals(nanosecond);
@@ -337,9 +291,7 @@ fn four_digits(number: u16) -> [u8; 4]
 #[inline(always)]
 pub(crate) fn put(buffer: &mut [u8], at: usize, bytes: &[u8]) -> Option<usize>
     requires { at ≤ length buffer.old }
-    ensures room { IsSome result ↔ (at + length bytes.now ≤ length buffer.old) }
-    ensures text { IfSome result (λ end. take end buffer.new ≡ take at buffer.old ++ bytes.now) }
-    ensures end { IfSome result (λ end. end ≡ at + length bytes.now) }
+    ensures written { Writes bytes.now at buffer.old buffer.new result }
     ensures after { IfSome result (λ end. drop end buffer.new ≡ drop end buffer.old) }
     ensures unchanged { IfNone result (buffer.new ≡ buffer.old) }
 {

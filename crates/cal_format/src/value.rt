@@ -1,7 +1,8 @@
 //! The values that a format prints.
-ghost use Rattle.std.specs.Prelude.{◌≡◌, ◌≤◌, ◌↔◌, not, IsTrue, IsSome, IfSome, IfNone, length, take, drop};
+ghost use Rattle.std.specs.Prelude.{◌≡◌, ◌≤◌, not, IsTrue, length};
 ghost use Rattle.cal_time.specs.Date.{IsDate};
 ghost use Rattle.cal_format.specs.Moment.{moment_of_date, moment_of_time, moment_of_date_time, moment_of_offset, moment_of_offset_date_time};
+ghost use Rattle.cal_format.specs.Printing.{Prints, PrintsUnder};
 ghost use Rattle.cal_format.specs.Reading.{are_date_items, are_time_items, are_date_time_items, are_offset_items, are_moment_items};
 ghost use Rattle.cal_format.specs.Text.{text_in_zone, text_of};
 
@@ -35,13 +36,8 @@ impl Format {
     /// and leaves the buffer as it is, if the format shows more than a date, or if the buffer is
     /// too short. `%d/%m/%Y` writes `29/02/2024`.
     pub fn print_date(&self, date: Date, buffer: &mut [u8]) -> Option<usize>
-        ensures room { IsSome result ↔ IsTrue (are_date_items self.now)
-            × (length (text_of self.now (moment_of_date date)) ≤ length buffer.old) }
-        ensures text { IfSome result (λ end.
-            take end buffer.new ≡ text_of self.now (moment_of_date date)) }
-        ensures end { IfSome result (λ end. end ≡ length (text_of self.now (moment_of_date date))) }
-        ensures after { IfSome result (λ end. drop end buffer.new ≡ drop end buffer.old) }
-        ensures unchanged { IfNone result (buffer.new ≡ buffer.old) }
+        ensures { PrintsUnder (IsTrue (are_date_items self.now))
+            (text_of self.now (moment_of_date date)) buffer.old buffer.new result }
     {
         if !self.is_within(0, DATE_END) {
             return None;
@@ -53,13 +49,8 @@ impl Format {
     /// `None`, and leaves the buffer as it is, if the format shows more than a time of day, or if
     /// the buffer is too short. `%I:%M %p` writes `11:59 PM`.
     pub fn print_time(&self, time: Time, buffer: &mut [u8]) -> Option<usize>
-        ensures room { IsSome result ↔ IsTrue (are_time_items self.now)
-            × (length (text_of self.now (moment_of_time time)) ≤ length buffer.old) }
-        ensures text { IfSome result (λ end.
-            take end buffer.new ≡ text_of self.now (moment_of_time time)) }
-        ensures end { IfSome result (λ end. end ≡ length (text_of self.now (moment_of_time time))) }
-        ensures after { IfSome result (λ end. drop end buffer.new ≡ drop end buffer.old) }
-        ensures unchanged { IfNone result (buffer.new ≡ buffer.old) }
+        ensures { PrintsUnder (IsTrue (are_time_items self.now))
+            (text_of self.now (moment_of_time time)) buffer.old buffer.new result }
     {
         if !self.is_within(DATE_END, TIME_END) {
             return None;
@@ -71,14 +62,8 @@ impl Format {
     /// `None`, and leaves the buffer as it is, if the format shows an offset, a Unix time or an
     /// abbreviation, or if the buffer is too short. `%F %R` writes `2024-02-29 23:59`.
     pub fn print_date_time(&self, date_time: PlainDateTime, buffer: &mut [u8]) -> Option<usize>
-        ensures room { IsSome result ↔ IsTrue (are_date_time_items self.now)
-            × (length (text_of self.now (moment_of_date_time date_time)) ≤ length buffer.old) }
-        ensures text { IfSome result (λ end.
-            take end buffer.new ≡ text_of self.now (moment_of_date_time date_time)) }
-        ensures end { IfSome result (λ end.
-            end ≡ length (text_of self.now (moment_of_date_time date_time))) }
-        ensures after { IfSome result (λ end. drop end buffer.new ≡ drop end buffer.old) }
-        ensures unchanged { IfNone result (buffer.new ≡ buffer.old) }
+        ensures { PrintsUnder (IsTrue (are_date_time_items self.now))
+            (text_of self.now (moment_of_date_time date_time)) buffer.old buffer.new result }
     {
         if !self.is_within(0, TIME_END) {
             return None;
@@ -90,14 +75,8 @@ impl Format {
     /// `None`, and leaves the buffer as it is, if the format shows more than an offset, or if the
     /// buffer is too short. `%:z` writes `+05:30`.
     pub fn print_offset(&self, offset: UtcOffset, buffer: &mut [u8]) -> Option<usize>
-        ensures room { IsSome result ↔ IsTrue (are_offset_items self.now)
-            × (length (text_of self.now (moment_of_offset offset)) ≤ length buffer.old) }
-        ensures text { IfSome result (λ end.
-            take end buffer.new ≡ text_of self.now (moment_of_offset offset)) }
-        ensures end { IfSome result (λ end.
-            end ≡ length (text_of self.now (moment_of_offset offset))) }
-        ensures after { IfSome result (λ end. drop end buffer.new ≡ drop end buffer.old) }
-        ensures unchanged { IfNone result (buffer.new ≡ buffer.old) }
+        ensures { PrintsUnder (IsTrue (are_offset_items self.now))
+            (text_of self.now (moment_of_offset offset)) buffer.old buffer.new result }
     {
         if !self.is_within(TIME_END, OFFSET_END) {
             return None;
@@ -113,14 +92,8 @@ impl Format {
         date_time: OffsetDateTime,
         buffer: &mut [u8],
     ) -> Option<usize>
-        ensures room { IsSome result ↔ IsTrue (are_moment_items self.now)
-            × (length (text_of self.now (moment_of_offset_date_time date_time)) ≤ length buffer.old) }
-        ensures text { IfSome result (λ end.
-            take end buffer.new ≡ text_of self.now (moment_of_offset_date_time date_time)) }
-        ensures end { IfSome result (λ end.
-            end ≡ length (text_of self.now (moment_of_offset_date_time date_time))) }
-        ensures after { IfSome result (λ end. drop end buffer.new ≡ drop end buffer.old) }
-        ensures unchanged { IfNone result (buffer.new ≡ buffer.old) }
+        ensures { PrintsUnder (IsTrue (are_moment_items self.now))
+            (text_of self.now (moment_of_offset_date_time date_time)) buffer.old buffer.new result }
     {
         if self.shows_abbreviation() {
             return None;
@@ -138,14 +111,8 @@ impl Format {
         abbreviation: &[u8],
         buffer: &mut [u8],
     ) -> Option<usize>
-        ensures room { IsSome result ↔ (length abbreviation.now ≤ 15)
-            × (length (text_in_zone abbreviation.now self.now (moment_of_offset_date_time date_time)) ≤ length buffer.old) }
-        ensures text { IfSome result (λ end. take end buffer.new
-            ≡ text_in_zone abbreviation.now self.now (moment_of_offset_date_time date_time)) }
-        ensures end { IfSome result (λ end. end ≡ length
-            (text_in_zone abbreviation.now self.now (moment_of_offset_date_time date_time))) }
-        ensures after { IfSome result (λ end. drop end buffer.new ≡ drop end buffer.old) }
-        ensures unchanged { IfNone result (buffer.new ≡ buffer.old) }
+        ensures { PrintsUnder (length abbreviation.now ≤ 15)
+            (text_in_zone abbreviation.now self.now (moment_of_offset_date_time date_time)) buffer.old buffer.new result }
     {
         if abbreviation.len() > MAX_ABBREVIATION {
             return None;
@@ -169,25 +136,14 @@ impl Format {
     /// and leaves the buffer as it is, if the buffer is too short. The abbreviation of a zone
     /// prints nothing. `%R` writes `23:59`.
     pub fn print_moment(&self, moment: &Moment, buffer: &mut [u8]) -> Option<usize>
-        ensures room { IsSome result ↔ (length (text_of self.now moment.now) ≤ length buffer.old) }
-        ensures text { IfSome result (λ end. take end buffer.new ≡ text_of self.now moment.now) }
-        ensures end { IfSome result (λ end. end ≡ length (text_of self.now moment.now)) }
-        ensures after { IfSome result (λ end. drop end buffer.new ≡ drop end buffer.old) }
-        ensures unchanged { IfNone result (buffer.new ≡ buffer.old) }
+        ensures { Prints (text_of self.now moment.now) buffer.old buffer.new result }
     {
         self.print(moment, b"", buffer)
     }
 
     fn print(&self, moment: &Moment, abbreviation: &[u8], buffer: &mut [u8]) -> Option<usize>
         requires { length abbreviation.now ≤ 15 }
-        ensures room { IsSome result ↔
-            (length (text_in_zone abbreviation.now self.now moment.now) ≤ length buffer.old) }
-        ensures text { IfSome result (λ end.
-            take end buffer.new ≡ text_in_zone abbreviation.now self.now moment.now) }
-        ensures end { IfSome result (λ end.
-            end ≡ length (text_in_zone abbreviation.now self.now moment.now)) }
-        ensures after { IfSome result (λ end. drop end buffer.new ≡ drop end buffer.old) }
-        ensures unchanged { IfNone result (buffer.new ≡ buffer.old) }
+        ensures { Prints (text_in_zone abbreviation.now self.now moment.now) buffer.old buffer.new result }
     {
         let mut text = [0u8; 64];
         match print_items(self.items(), moment, abbreviation, &mut text, 0) {
@@ -207,14 +163,7 @@ fn print_long(
 ) -> Option<usize>
     requires few { length items.now ≤ 64 }
     requires short { length abbreviation.now ≤ 15 }
-    ensures room { IsSome result ↔
-        (length (text_in_zone abbreviation.now items.now moment.now) ≤ length buffer.old) }
-    ensures text { IfSome result (λ end.
-        take end buffer.new ≡ text_in_zone abbreviation.now items.now moment.now) }
-    ensures end { IfSome result (λ end.
-        end ≡ length (text_in_zone abbreviation.now items.now moment.now)) }
-    ensures after { IfSome result (λ end. drop end buffer.new ≡ drop end buffer.old) }
-    ensures unchanged { IfNone result (buffer.new ≡ buffer.old) }
+    ensures { Prints (text_in_zone abbreviation.now items.now moment.now) buffer.old buffer.new result }
 {
     // These calls state that the moment is in its range. They cost nothing.
     let _ = moment.date.to_julian_day();
