@@ -95,10 +95,7 @@ pub(crate) fn calendar_date(year: u64, month: u64, day: u64) -> Option<Date>
     ensures value { IfSome result (HasCalendarDate (pos year) month day) }
 {
     match Month::try_from(month as u8) {
-        Ok(month) => match Date::from_calendar_date(year as i32, month, day as u8) {
-            Ok(date) => Some(date),
-            Err(_) => None,
-        },
+        Ok(month) => Date::from_calendar_date(year as i32, month, day as u8).ok(),
         Err(_) => None,
     }
 }
@@ -109,10 +106,7 @@ fn ordinal_date(year: u64, ordinal: u64) -> Option<Date>
     ensures in_range { IfSome result IsDate }
     ensures value { IfSome result (HasOrdinalDate (pos year) ordinal) }
 {
-    match Date::from_ordinal_date(year as i32, ordinal as u16) {
-        Ok(date) => Some(date),
-        Err(_) => None,
-    }
+    Date::from_ordinal_date(year as i32, ordinal as u16).ok()
 }
 
 fn iso_week_date(year: u64, week: u64, weekday: u8) -> Option<Date>
@@ -122,8 +116,5 @@ fn iso_week_date(year: u64, week: u64, weekday: u8) -> Option<Date>
     ensures in_range { IfSome result IsDate }
     ensures value { IfSome result (HasIsoWeekDate (pos year) week weekday) }
 {
-    match Date::from_iso_week_date(year as i32, week as u8, Weekday::Monday.nth_next(weekday)) {
-        Ok(date) => Some(date),
-        Err(_) => None,
-    }
+    Date::from_iso_week_date(year as i32, week as u8, Weekday::Monday.nth_next(weekday)).ok()
 }

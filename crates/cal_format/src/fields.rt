@@ -112,15 +112,6 @@ impl Fields {
         }
     }
 
-    #[inline(always)]
-    fn set(&mut self, component: Component, number: u64)
-        ensures shown { self.new.shown ≡ self.old.shown }
-        ensures set { (c : Component) → number_at c self.new
-            ≡ (if index component == index c then number else number_at c self.old) }
-    {
-        self.numbers[component.index()] = number;
-    }
-
     /// Sets the numbers of the items. The first item that shows a component has its number.
     pub(crate) fn fill(&mut self, items: &[Item], numbers: &[u64])
         requires { (c : Component) → number_at c self.old ≡ 0 }
@@ -142,7 +133,7 @@ impl Fields {
             ≡ (if is_component c component then number else number_at c self.old) }
     {
         if let Some(component) = component {
-            self.set(component, number);
+            self.numbers[component.index()] = number;
         }
     }
 }

@@ -82,10 +82,8 @@ impl Format {
         ensures error { IfErr result (IsFaultOf syntax 0 0 text.now) }
     {
         let mut format = Format::empty();
-        match format.add(text, 0, syntax) {
-            Ok(()) => Ok(format),
-            Err(error) => Err(error),
-        }
+        format.add(text, 0, syntax)?;
+        Ok(format)
     }
 
     /// Creates a format without items, whose text is empty.

@@ -10,10 +10,10 @@ ghost use Rattle.cal_text.specs.Position.{IsPosition};
 ghost use Rattle.cal_format.specs.Form.{AreNumbers, HasForm, numbered_text, numbers_of};
 ghost use Rattle.cal_format.specs.Ranges.{maximum};
 ghost use Rattle.cal_format.specs.Reading.{are_apart, shows_time, shows_offset, shows_timestamp};
-ghost use Rattle.cal_format.specs.Rejection.{IsRejection, IsNumberRejection};
+ghost use Rattle.cal_format.specs.Rejection.{IsRejection, IsNumberRejection, IsParsed};
 ghost use Rattle.cal_format.specs.Scanning.{number_at};
 ghost use Rattle.cal_format.specs.Text.{text_of};
-ghost use Rattle.cal_format.specs.Values.{Holds, IsPrinted, time_in, offset_in, IsDateOf, value_error, IsMomentOf, contradiction, item_contradiction, first_contradiction};
+ghost use Rattle.cal_format.specs.Values.{Holds, IsPrinted, time_in, offset_in, IsDateOf, value_error, IsMomentOf, item_contradiction, first_contradiction};
 
 use crate::date_parts::{date_of, value_error};
 use crate::determines::{shows_date, shows_offset, shows_time, shows_timestamp};
@@ -49,24 +49,21 @@ impl Format {
             None => Some(text.len() - scanner.rest.len()),
         }
     }
-}
 
-/// Parses a text. Returns the moment that the items hold and print as this text, or why there is
-/// none.
-pub(crate) fn parse_moment(items: &Format, text: &[u8]) -> Result<Moment, ParseError>
-    requires apart { IsTrue (are_apart items.now) }
-    ensures every { (v : Moment) → Holds items.now v → text.now ≡ text_of items.now v
-        → result ≡ Ok v }
-    ensures value { IfOk result (λ v. IsPrinted items.now v text.now) }
-    ensures error { IfErr result (IsRejection items.now text.now) }
-{
-    match parse_once(items, text) {
-        Some(moment) => Ok(moment),
-        None => parse_in_steps(items, text),
+    /// Parses a text. Returns the moment that the format holds and prints as this text, or why
+    /// there is none.
+    pub(crate) fn parse(&self, text: &[u8]) -> Result<Moment, ParseError>
+        requires { IsTrue (are_apart self.now) }
+        ensures { IsParsed self.now text.now result }
+    {
+        match parse_once(self, text) {
+            Some(moment) => Ok(moment),
+            None => parse_in_steps(self, text),
+        }
     }
 }
 
-/// Parses a text like `parse_moment`: first its numbers, then their ranges, the moment and its
+/// Parses a text like `Format::parse`: first its numbers, then their ranges, the moment and its
 /// contradictions. This finds the error of a text that `parse_once` rejects.
 #[cold]
 fn parse_in_steps(items: &Format, text: &[u8]) -> Result<Moment, ParseError>
@@ -142,22 +139,11 @@ impl Item {
     pub(crate) fn contradiction(self, number: u64, moment: &Moment) -> Option<Named>
         ensures { result ≡ item_contradiction self number moment.now }
     {
-        match self.component() {
-            Some(component) => component.contradiction(number, moment),
-            None => None,
-        }
-    }
-}
-
-impl Component {
-    /// Returns its name in an error if this number isn't its number of the moment.
-    fn contradiction(self, number: u64, moment: &Moment) -> Option<Named>
-        ensures { result ≡ contradiction (Some self) number moment.now }
-    {
-        if moment.number(self) == number && sign_of(self, moment).is_empty() {
+        let component = self.component()?;
+        if moment.number(component) == number && sign_of(component, moment).is_empty() {
             None
         } else {
-            Some(self.named())
+            Some(component.named())
         }
     }
 }

@@ -64,10 +64,7 @@ fn date_at(days: u64) -> Option<Date>
     if days > 730_484_633 {
         return None;
     }
-    match Date::from_julian_day(days as i32 + FIRST_JULIAN_DAY) {
-        Ok(date) => Some(date),
-        Err(_) => None,
-    }
+    Date::from_julian_day(days as i32 + FIRST_JULIAN_DAY).ok()
 }
 
 /// Returns the time of day with these seconds after midnight.
@@ -78,8 +75,5 @@ fn time_at(seconds: u32, nanosecond: u32) -> Option<Time>
 {
     let hour = (seconds / 3_600) as u8;
     let minute = (seconds / 60 % 60) as u8;
-    match Time::from_hms_nano(hour, minute, (seconds % 60) as u8, nanosecond) {
-        Ok(time) => Some(time),
-        Err(_) => None,
-    }
+    Time::from_hms_nano(hour, minute, (seconds % 60) as u8, nanosecond).ok()
 }

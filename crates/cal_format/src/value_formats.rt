@@ -6,16 +6,14 @@ ghost use Rattle.cal_time.specs.UtcOffset.{IsOffset};
 ghost use Rattle.cal_datetime.specs.DateTime.{IsDateTime, time_at};
 ghost use Rattle.cal_datetime.specs.OffsetDateTime.{LocalAndOffset};
 ghost use Rattle.cal_format.specs.Moment.{moment_of_date, moment_of_time, moment_of_offset, moment_of_date_time, moment_of_offset_date_time};
-ghost use Rattle.cal_format.specs.Reading.{are_apart, holds_time, holds_offset, DeterminesDate, DeterminesTime, DeterminesOffset, DeterminesDateTime, DeterminesOffsetDateTime};
-ghost use Rattle.cal_format.specs.Rejection.{IsRejection, IsParsed};
+ghost use Rattle.cal_format.specs.Reading.{holds_time, holds_offset, DeterminesDate, DeterminesTime, DeterminesOffset, DeterminesDateTime, DeterminesOffsetDateTime};
+ghost use Rattle.cal_format.specs.Rejection.{IsRejection};
 ghost use Rattle.cal_format.specs.Scanning.{AreHeld};
 ghost use Rattle.cal_format.specs.Text.{text_of};
 
 use crate::determines::{shows_date, shows_moment, shows_offset, shows_time};
 use crate::error::ParseError;
 use crate::format::Format;
-use crate::moment::Moment;
-use crate::parsing::parse_moment;
 use crate::value::{DATE_END, MOMENT_END, OFFSET_END, TIME_END};
 use cal_datetime::{OffsetDateTime, PlainDateTime};
 use cal_time::{Date, Time, UtcOffset};
@@ -172,13 +170,6 @@ impl Format {
         ensures same { IfSome result (λ format. format ≡ self) }
     {
         determining!(self, OffsetDateTimeFormat, [0..MOMENT_END] shows_moment)
-    }
-
-    fn parse(&self, text: &[u8]) -> Result<Moment, ParseError>
-        requires { IsTrue (are_apart self.now) }
-        ensures { IsParsed self.now text.now result }
-    {
-        parse_moment(self, text)
     }
 }
 
