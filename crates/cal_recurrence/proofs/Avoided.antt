@@ -1,7 +1,7 @@
 -- Splitting a text whose first bytes avoid the separator.
-use Rattle.std.proofs.Common.{◌≡◌, ℕ, ◌+◌, Bool, true, false, cond, eqb, not, List, [], ◌∷◌, ◌++◌, append-nil, append_assoc, take, drop, length, length-append, refl, sym, ap, ◌∙◌, arith}
+use Rattle.std.proofs.Common.{◌≡◌, ℕ, ◌+◌, Bool, true, false, cond, eqb, not, List, [], ◌∷◌, ◌++◌, append-nil, append_assoc, take, drop, length, length-append, inl, inr, refl, sym, ap, ◌∙◌, arith}
 use Rattle.std.specs.List.{All, onto_first, position_or_len}
-use Rattle.std.proofs.lemmas.Bool.{eq-eqb, false≢true, ne_eqb}
+use Rattle.std.proofs.lemmas.Bool.{cases_Bool, eq-eqb, false≢true, ne_eqb}
 use Rattle.std.proofs.lemmas.List.{drop_at, take_at, take_all}
 use Rattle.std.proofs.lemmas.List.Elements.{All-cons, All-head, All-nil, All-tail}
 use Rattle.std.proofs.lemmas.List.Splits.{slice_split-cons_yes, slice_split-cons_no}
@@ -75,3 +75,13 @@ all-from byte [] h = All-nil (λ y. ¬ (y ≡ byte))
 all-from byte (x ∷ xs) h =
     let both = parts _ _ h in
     All-cons (λ y. ¬ (y ≡ byte)) x xs (other byte x both.0) (all-from byte xs both.1)
+
+-- ---- the first part
+pub parts_at-some : (byte : ℕ) (xs : List ℕ) → (first : List ℕ) × (others : List (List ℕ)) × (parts_at byte xs ≡ first ∷ others)
+parts_at-some byte [] = ([], [], refl)
+parts_at-some byte (x ∷ xs) =
+    let rest = parts_at-some byte xs in
+    elim (cases_Bool (eqb x byte)) [
+      | inl here ↦ ([], parts_at byte xs, slice_split-cons_yes (λ b. eqb b byte) x xs here)
+      | inr apart ↦ (x ∷ rest.0, rest.1, slice_split-cons_no (λ b. eqb b byte) x xs apart ∙ ap (onto_first x) rest.2)
+    ]

@@ -34,7 +34,7 @@ use Rattle.cal_recurrence.proofs.Dates.{has_them}
 use Rattle.cal_recurrence.proofs.Numbers.{digits, is_numeral}
 
 -- ---- values that are there
-guarded : {X : Type 0} (P : X → Type 0) (b : Bool) (x : X) → (b ≡ true → P x) → IfSome (cond b (Some x) None) P
+pub guarded : {X : Type 0} (P : X → Type 0) (b : Bool) (x : X) → (b ≡ true → P x) → IfSome (cond b (Some x) None) P
 guarded P true x h = h refl
 guarded P false x h = tt
 
@@ -47,7 +47,7 @@ mapped : {X Y : Type 0} (P : X → Type 0) (Q : Y → Type 0) (f : X → Y) (o :
 mapped P Q f None h k = tt
 mapped P Q f (Some x) h k = h x k
 
-if_there : {X Y : Type 0} (P : X → Type 0) (Q : Y → Type 0) (f : X → Option Y) (o : Option X) → ((x : X) → P x → IfSome (f x) Q)
+pub if_there : {X Y : Type 0} (P : X → Type 0) (Q : Y → Type 0) (f : X → Option Y) (o : Option X) → ((x : X) → P x → IfSome (f x) Q)
     → IfSome o P → IfSome (option_and_then f o) Q
 if_there P Q f None h k = tt
 if_there P Q f (Some x) h k = h x k
@@ -179,7 +179,7 @@ timed time n h =
     (λ e. if_there IsWholeTime IsDateOrTime (λ t. with_zone zone (date_time n t)) (option_and_then time_with clock) (λ t k. zoned zone (date_time n t) (whole n t h k))
     (if_there (λ k. ⊤) IsWholeTime time_with clock (λ k p. times k) (any clock))) tt))
 
-dates : (word : List ℕ) → IfSome (date_or_time_of word) IsDateOrTime
+pub dates : (word : List ℕ) → IfSome (date_or_time_of word) IsDateOrTime
 dates word =
     let number = number_of (first_bytes 8 word) in
     let day = option_and_then day_with number in

@@ -11,6 +11,8 @@ pub mod ReadDates
 pub mod ReadParts
 pub mod SetLines
 pub mod GivenParts
+pub mod GivenNames
+pub mod GivenSets
 pub mod FirstNumbers
 pub mod Sets
 pub mod DateTimeSets

@@ -1,6 +1,7 @@
 //! Parses the text of a recurrence set.
-ghost use Rattle.std.specs.Prelude.{◌≡◌, ◌+◌, ◌<◌, ◌^◌, length};
+ghost use Rattle.std.specs.Prelude.{◌≡◌, ◌+◌, ◌<◌, ◌^◌, length, IfOk};
 ghost use Rattle.cal_recurrence.specs.SetText.{read_lines, set_of, without_return};
+ghost use Rattle.cal_recurrence.specs.SetWritten.{IsSpelledSet};
 ghost use Rattle.cal_recurrence.specs.Words.{parts_at};
 
 use crate::set_draft::SetDraft;
@@ -26,7 +27,8 @@ use crate::words::{cut, split};
 /// `Value` for another invalid value, or one that a parameter excludes, or `OtherZone` for the name
 /// of another zone. Otherwise returns `Missing` if there is no `DTSTART`.
 pub fn parse_set(text: &[u8]) -> Result<SetParts<'_>, ParseSetError>
-    ensures { result ≡ set_of text.now }
+    ensures value { result ≡ set_of text.now }
+    ensures spelled { IfOk result IsSpelledSet }
 {
     read_lines(0, SetDraft::new(), text)
 }
