@@ -47,6 +47,8 @@ pub mod Rounds
 pub mod HeaderNames
 pub mod Named
 pub mod TextBounds
+mod DigitBounds
+mod Marks
 mod TextEnds
 mod TextStarts
 mod DigitStarts

@@ -70,6 +70,12 @@ none_more filter line i k none before = λ j n least most h. elim (cases_lt j k)
       )
 ]
 
+pub none_joined : (filter : Filter) (line : List ℕ) (i m k : ℕ) → NoneFrom filter line i m → NoneFrom filter line m k → NoneFrom filter line i k
+none_joined filter line i m k before after = λ j n least most h. elim (cases_lt j m) as (λ _. ⊥) [
+  | inl less ↦ before j n least less h
+  | inr past ↦ after j n past most h
+]
+
 pub some_text : (filter : Filter) (line : List ℕ) (i k n : ℕ) → IsFirstText filter line i k n → NoneFrom filter line i (length line) → ⊥
 some_text filter line i k n h none = none k n h.from (omega (arith, h.is.within, some_bytes filter line k n h.is)) h.is
 

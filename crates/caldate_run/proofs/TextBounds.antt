@@ -133,7 +133,7 @@ spelled_short Iso bytes found h = let few = some_if (nat_lt 60 (length bytes)) (
 spelled_short Seconds bytes found h = let few = some_if (nat_lt 60 (length bytes)) (unix_text bytes) (λ full. IsTextOf full found) h in grind (arith, nat_tests)
 
 -- ---- ISO 8601: the front stays
-abbrev Keeps : ℕ → List ℕ → List ℕ → Type 0
+abbrev pub Keeps : ℕ → List ℕ → List ℕ → Type 0
 Keeps k bytes full = (more : List ℕ) × (full ≡ take k bytes ++ more)
 
 longer_front : (k m : ℕ) (bytes more : List ℕ) → k ≤ m → Keeps k bytes (take m bytes ++ more)
@@ -147,7 +147,7 @@ either_keeps : (b : Bool) (k : ℕ) (bytes full other : List ℕ) → Keeps k by
 either_keeps true k bytes full other h h2 = h
 either_keeps false k bytes full other h h2 = h2
 
-colon_keeps : (k : ℕ) (bytes : List ℕ) → k + 2 ≤ length bytes → Keeps k bytes (with_colon bytes)
+pub colon_keeps : (k : ℕ) (bytes : List ℕ) → k + 2 ≤ length bytes → Keeps k bytes (with_colon bytes)
 colon_keeps k bytes long =
     let m = length bytes - 2 in
     let last = if is_sign (slice_index bytes (length bytes - 3)) then codes ":00" else [] in

@@ -1,7 +1,7 @@
 -- The last byte of a text, and its length.
-use Rattle.std.proofs.Common.{◌≡◌, ◌⊎◌, inl, inr, ℕ, zero, suc, ◌+◌, ◌-◌, ◌<◌, ◌≤◌, Bool, true, false, List, [], ◌∷◌, ◌++◌, length, length-append, length-drop, take, drop, refl, sym, ap, subst, ◌∙◌, arith}
-use Rattle.std.specs.Prelude.{◌&&◌, ◌||◌, ◌==◌, IsSomeAnd, codes, nat_lt, slice_index, if◌then◌else◌}
-use Rattle.std.proofs.lemmas.Bool.{and_parts, cases_lt, false≢true, le-ltb, lt-ltb, or_cases}
+use Rattle.std.proofs.Common.{◌≡◌, inl, inr, ℕ, zero, suc, ◌+◌, ◌-◌, ◌<◌, ◌≤◌, Bool, true, false, List, [], ◌∷◌, ◌++◌, length, length-append, length-drop, take, drop, refl, sym, ap, subst, ◌∙◌, arith}
+use Rattle.std.specs.Prelude.{◌&&◌, ◌||◌, ◌==◌, IsSomeAnd, codes, nat_le, nat_lt, slice_index, if◌then◌else◌}
+use Rattle.std.proofs.lemmas.Bool.{and_parts, cases_lt, false≢true, le-ltb, or_cases}
 use Rattle.std.proofs.lemmas.Bool.Decides.{nat_tests}
 use Rattle.std.proofs.lemmas.List.{get_or-append_right, get_or-drop, get_or-take, get_or_append_left, get_or_at, length-take-le}
 use Rattle.std.proofs.Math.ListN.{get_or-eq_default}
@@ -14,13 +14,14 @@ use Rattle.cal_text.proofs.NumberShapes.{julian_shape}
 use Rattle.cal_text.proofs.Stops.{IsIn, unmatched_bytes-branch_end, unmatched_bytes-end, unmatched_bytes-more}
 use Rattle.cal_text.proofs.UnixShapes.{unix_shape}
 use Rattle.caldate_run.specs.Offsets.{is_digit}
-use Rattle.caldate_run.specs.Scans.{AreUsual, IsTextAt, is_last, is_usual_end, part_at}
+use Rattle.caldate_run.specs.Scans.{AreUsual, IsText, IsTextAt, digit_bound, has_usual_length, is_last, is_usual_end, part_at}
 use Rattle.caldate_run.specs.Spellings.{full_by, is_sign, iso_text, with_colon, with_point}
 use Rattle.caldate_run.specs.declared.reading.spelling.Spelling.TheVariants.{Iso}
 use Rattle.caldate_run.specs.declared.request.Filter.{Filter}
+use Rattle.caldate_run.proofs.DigitBounds.{at_least_ten, front_bound, iso_moment_bound, moment_bound}
 use Rattle.caldate_run.proofs.Scans.{some_bytes}
 use Rattle.caldate_run.proofs.ShapeBytes.{branch-first, digits, from-first, in-digits, in-only, is_out, one_at, only}
-use Rattle.caldate_run.proofs.TextBounds.{any_form, no_point, point_keeps, short_form, some_full}
+use Rattle.caldate_run.proofs.TextBounds.{Keeps, any_form, colon_keeps, no_point, point_keeps, short_form, some_full}
 
 -- ---- the byte before a colon and before the end
 abbrev marks : ℕ → ℕ → Bool
@@ -128,61 +129,71 @@ long (suc k) (Branch low above f g) (x ∷ xs) h e =
       | inr other ↦ long (suc k) g (x ∷ xs) all.1 other
     ]
 
-abbrev at_most : ℕ → Shape → Bool
-at_most k End = true
-at_most zero (ByteRange low above f) = false
-at_most (suc k) (ByteRange low above f) = at_most k f
-at_most zero (Branch low above f g) = false
-at_most (suc k) (Branch low above f g) = at_most k f && at_most (suc k) g
+-- each length passes the test, with k bytes before
+abbrev lengths : (ℕ → Bool) → ℕ → Shape → Bool
+lengths test k End = test k
+lengths test k (ByteRange low above f) = lengths test (suc k) f
+lengths test k (Branch low above f g) = lengths test (suc k) f && lengths test k g
 
-short : (k : ℕ) (f : Shape) (bytes : List ℕ) → at_most k f ≡ true → unmatched_bytes f bytes ≡ 0 → length bytes ≤ k
-short k f [] h e = omega arith
-short k End (x ∷ xs) h e = absurd (omega (arith, e, unmatched_bytes-more x xs))
-short zero (ByteRange low above f) (x ∷ xs) h e = absurd (false≢true h)
-short (suc k) (ByteRange low above f) (x ∷ xs) h e = omega (arith, short k f xs h (from-first low above f x xs e).1)
-short zero (Branch low above f g) (x ∷ xs) h e = absurd (false≢true h)
-short (suc k) (Branch low above f g) (x ∷ xs) h e =
-    let all = and_parts (at_most k f) (at_most (suc k) g) h in
-    elim (branch-first low above f g x xs e) as (λ _. length (x ∷ xs) ≤ suc k) [
-      | inl here ↦ omega (arith, short k f xs all.0 here.1)
-      | inr other ↦ short (suc k) g (x ∷ xs) all.1 other
+length_passes : (test : ℕ → Bool) (k : ℕ) (f : Shape) (bytes : List ℕ) → lengths test k f ≡ true → unmatched_bytes f bytes ≡ 0 → test (k + length bytes) ≡ true
+length_passes test k End [] h e = ap test (omega arith) ∙ h
+length_passes test k End (x ∷ xs) h e = absurd (omega (arith, e, unmatched_bytes-more x xs))
+length_passes test k (ByteRange low above f) [] h e = absurd (omega (arith, e, unmatched_bytes-end low above f))
+length_passes test k (ByteRange low above f) (x ∷ xs) h e = ap test (omega arith) ∙ length_passes test (suc k) f xs h (from-first low above f x xs e).1
+length_passes test k (Branch low above f g) [] h e = length_passes test k g [] (and_parts _ _ h).1 (sym (unmatched_bytes-branch_end low above f g) ∙ e)
+length_passes test k (Branch low above f g) (x ∷ xs) h e =
+    let all = and_parts _ _ h in
+    elim (branch-first low above f g x xs e) as (λ _. test (k + length (x ∷ xs)) ≡ true) [
+      | inl here ↦ ap test (omega arith) ∙ length_passes test (suc k) f xs all.0 here.1
+      | inr other ↦ length_passes test k g (x ∷ xs) all.1 other
     ]
 
+at_most : (k : ℕ) (f : Shape) (bytes : List ℕ) → lengths (λ n. nat_le n k) 0 f ≡ true → unmatched_bytes f bytes ≡ 0 → length bytes ≤ k
+at_most k f bytes h e = let few = length_passes (λ n. nat_le n k) 0 f bytes h e in grind (arith, nat_tests)
+
 abbrev HasLength : List ℕ → Type 0
-HasLength bytes = (length bytes < 11) ⊎ (19 < length bytes)
+HasLength bytes = has_usual_length (length bytes) ≡ true
+
+large : (n : ℕ) → 20 ≤ n → has_usual_length n ≡ true
+large n many = grind (arith, nat_tests)
 
 no_digit : (bytes : List ℕ) (x : ℕ) → slice_index bytes 0 ≡ x → is_digit x ≡ false → is_digit (slice_index bytes 0) ≡ true → ⊥
 no_digit bytes x e off digit = false≢true (sym off ∙ ap is_digit (sym e) ∙ digit)
 
-date_length : (bytes : List ℕ) → unmatched_bytes date bytes ≡ 0 → is_digit (slice_index bytes 0) ≡ true → HasLength bytes
-date_length [] e digit = inl (omega arith)
+date_length : (bytes : List ℕ) → unmatched_bytes date bytes ≡ 0 → is_digit (slice_index bytes 0) ≡ true → HasLength bytes × (length bytes ≤ 10)
+date_length [] e digit = absurd (false≢true digit)
 date_length (x ∷ xs) e digit =
-    elim (branch-first 43 0 _ _ x xs e) as (λ _. HasLength (x ∷ xs)) [
+    elim (branch-first 43 0 _ _ x xs e) as (λ _. HasLength (x ∷ xs) × (length (x ∷ xs) ≤ 10)) [
       | inl plus ↦ absurd (no_digit (x ∷ xs) 43 (omega (arith, plus.0.0, plus.0.1)) refl digit)
-      | inr unsigned ↦ elim (branch-first 45 0 _ _ x xs unsigned) as (λ _. HasLength (x ∷ xs)) [
+      | inr unsigned ↦ elim (branch-first 45 0 _ _ x xs unsigned) as (λ _. HasLength (x ∷ xs) × (length (x ∷ xs) ≤ 10)) [
         | inl minus ↦ absurd (no_digit (x ∷ xs) 45 (omega (arith, minus.0.0, minus.0.1)) refl digit)
-        | inr year ↦ inl (omega (arith, short 10 (Digits 4 (Byte 45 after_year)) (x ∷ xs) refl year))
+        | inr year ↦
+            let f = Digits 4 (Byte 45 after_year) in
+            let none : length (x ∷ xs) ≡ 0 + length (x ∷ xs) = omega arith in
+            (ap has_usual_length none ∙ length_passes has_usual_length 0 f (x ∷ xs) refl year, at_most 10 f (x ∷ xs) refl year)
       ]
     ]
 
 six_length : (bytes : List ℕ) → HasAnyForm bytes → is_digit (slice_index bytes 0) ≡ true → HasLength bytes
-six_length bytes (inl h) digit = date_length bytes (date_shape.each bytes h) digit
+six_length bytes (inl h) digit = (date_length bytes (date_shape.each bytes h) digit).0
 six_length bytes (inr (inl h)) digit = absurd (no_digit bytes 74 (one_at 74 0 julian_day bytes refl (julian_shape.each bytes h)) refl digit)
 six_length bytes (inr (inr (inl h))) digit =
     let size = length bytes in
-    inr (omega (arith, long 20 (moment size) bytes refl (moment_shapes.each size bytes (omega arith) h)))
+    large size (long 20 (moment size) bytes refl (moment_shapes.each size bytes (omega arith) h))
 six_length bytes (inr (inr (inr h))) digit = absurd (no_digit bytes 64 (one_at 64 0 unix_time bytes refl (unix_shape.each bytes h)) refl digit)
+
+pub six_bound : (bytes : List ℕ) → HasAnyForm bytes → is_digit (slice_index bytes 0) ≡ true → length bytes ≤ digit_bound bytes
+six_bound bytes (inl h) digit = omega (arith, (date_length bytes (date_shape.each bytes h) digit).1, at_least_ten bytes)
+six_bound bytes (inr (inl h)) digit = absurd (no_digit bytes 74 (one_at 74 0 julian_day bytes refl (julian_shape.each bytes h)) refl digit)
+six_bound bytes (inr (inr (inl h))) digit = omega (arith, moment_bound (length bytes) bytes (moment_shapes.each (length bytes) bytes (omega arith) h))
+six_bound bytes (inr (inr (inr h))) digit = absurd (no_digit bytes 64 (one_at 64 0 unix_time bytes refl (unix_shape.each bytes h)) refl digit)
 
 -- ---- a text in one of the six forms, and of ISO 8601
 usual_end : (bytes : List ℕ) → is_last (slice_index bytes (length bytes - 1)) ≡ true → (is_digit (slice_index bytes 0) ≡ true → HasLength bytes) → is_usual_end bytes (length bytes) ≡ true
 usual_end bytes last size = rw (last) (at (is_digit (slice_index bytes 0)) refl)
   where
-    test : (n : ℕ) → (n < 11) ⊎ (19 < n) → (nat_lt n 11 || nat_lt 19 n) ≡ true
-    test n (inl few) = rw (lt-ltb n 11 few) refl
-    test n (inr many) = grind (arith, nat_tests)
-
-    at : (b : Bool) → is_digit (slice_index bytes 0) ≡ b → (if b then nat_lt (length bytes) 11 || nat_lt 19 (length bytes) else true) ≡ true
-    at true digit = test (length bytes) (size digit)
+    at : (b : Bool) → is_digit (slice_index bytes 0) ≡ b → (if b then has_usual_length (length bytes) else true) ≡ true
+    at true digit = size digit
     at false other = refl
 
 pub six_end : (bytes : List ℕ) → 0 < length bytes → HasAnyForm bytes → is_usual_end bytes (length bytes) ≡ true
@@ -269,9 +280,53 @@ iso_end bytes found some h =
           let form = any_form (with_colon pointed) found (subst (λ full. IsTextOf full found) same (some_full (nat_lt 60 (length bytes)) (iso_text bytes) (λ full. IsTextOf full found) h)) in
           let size = (point_keeps bytes many).0 in
           let last = subst (λ n. is_last (slice_index pointed (n - 1)) ≡ true) size (before_colon pointed (omega (arith, many, size)) form) in
-          usual_end bytes (before_point bytes many last) (λ digit. inr (omega (arith, many)))
+          usual_end bytes (before_point bytes many last) (λ digit. large (length bytes) many)
           )
     ]
+
+-- the moment of ISO 8601 in RFC 3339 starts as the text does
+pub iso_bound : (bytes : List ℕ) (found : DateOrMoment) → IsSomeAnd (full_by Iso bytes) (λ full. IsTextOf full found) → is_digit (slice_index bytes 0) ≡ true → length bytes ≤ digit_bound bytes
+iso_bound bytes found h digit =
+    elim (cases_lt (length bytes) 20) as (λ _. length bytes ≤ digit_bound bytes) [
+      | inl few ↦ six_bound bytes (short_form bytes found few h) digit
+      | inr many ↦ (
+          let full = with_colon (with_point bytes) in
+          let same : iso_text bytes ≡ full = ap (λ b. if b then bytes else full) (le-ltb (length bytes) 20 many) in
+          at many (any_form full found (subst (λ full. IsTextOf full found) same (some_full (nat_lt 60 (length bytes)) (iso_text bytes) (λ full. IsTextOf full found) h)))
+          )
+    ]
+  where
+    at : 20 ≤ length bytes → HasAnyForm (with_colon (with_point bytes)) → length bytes ≤ digit_bound bytes
+    at many form = by_form form
+      where
+        pointed : List ℕ
+        pointed = with_point bytes
+
+        kept : (length pointed ≡ length bytes) × (take 18 pointed ≡ take 18 bytes)
+        kept = point_keeps bytes many
+
+        colon : Keeps 18 pointed (with_colon pointed)
+        colon = colon_keeps 18 pointed (omega (arith, many, kept.0))
+
+        front : length (take 18 pointed) ≡ 18
+        front = length-take-le 18 pointed (omega (arith, many, kept.0))
+
+        long_full : 18 ≤ length (with_colon pointed)
+        long_full = omega (arith, ap length colon.1, front, length-append (take 18 pointed) colon.0)
+
+        first : slice_index (with_colon pointed) 0 ≡ slice_index bytes 0
+        first =
+            ap (λ l. slice_index l 0) colon.1 ∙ get_or_append_left (take 18 pointed) colon.0 0 0 (omega (arith, front)) ∙ ap (λ l. slice_index l 0) kept.1
+            ∙ get_or-take 18 bytes 0 0 (omega arith)
+
+        by_form : HasAnyForm (with_colon pointed) → length bytes ≤ digit_bound bytes
+        by_form (inl h) = absurd (omega (arith, long_full, at_most 17 date (with_colon pointed) refl (date_shape.each (with_colon pointed) h)))
+        by_form (inr (inl h)) = absurd (omega (arith, long_full, at_most 17 julian_day (with_colon pointed) refl (julian_shape.each (with_colon pointed) h)))
+        by_form (inr (inr (inl h))) =
+            let size = length (with_colon pointed) in
+            iso_moment_bound size bytes many (moment_shapes.each size (with_colon pointed) (omega arith) h)
+        by_form (inr (inr (inr h))) =
+            absurd (no_digit bytes 64 (sym first ∙ one_at 64 0 unix_time (with_colon pointed) refl (unix_shape.each (with_colon pointed) h)) refl digit)
 
 -- ---- the bytes of a line
 pub none_ends : (filter : Filter) (line : List ℕ) (k n : ℕ) → AreUsual filter → is_usual_end (drop k line) n ≡ false → IsTextAt filter line k n → ⊥
@@ -288,3 +343,13 @@ none_ends filter line k n usual off h = false≢true (sym off ∙ sym same ∙ a
 
     same : is_usual_end text n ≡ is_usual_end (drop k line) n
     same = rw (get_or-take n (drop k line) 0 0 some, get_or-take n (drop k line) (n - 1) 0 (omega (arith, some))) refl
+
+-- no text after a digit is longer than the bound
+pub none_longer : (filter : Filter) (bytes : List ℕ) → AreUsual filter → is_digit (slice_index bytes 0) ≡ true → (n : ℕ) → n ≤ length bytes → IsText filter (take n bytes) → n ≤ digit_bound bytes
+none_longer filter bytes usual digit n fits is = front_bound bytes n fits (omega (arith, size, bound))
+  where
+    size : length (take n bytes) ≡ n
+    size = length-take-le n bytes fits
+
+    bound : length (take n bytes) ≤ digit_bound (take n bytes)
+    bound = (usual (take n bytes) is).bound (ap is_digit (get_or-take n bytes 0 0 (omega (arith, is.0, size))) ∙ digit)

@@ -27,7 +27,7 @@ use Rattle.caldate_run.specs.declared.reading.spelling.Spelling.TheVariants.{Iso
 use Rattle.caldate_run.specs.declared.request.Filter.{Filter}
 use Rattle.caldate_run.specs.declared.run.no_answer.NoAnswer.{NoAnswer}
 use Rattle.caldate_run.proofs.ShapeBytes.{branch-first, byte_passes, digit_at, digits, in-digits, in-only, one_at, only, passes_at}
-use Rattle.caldate_run.proofs.TextEnds.{iso_end, six_end}
+use Rattle.caldate_run.proofs.TextEnds.{iso_bound, iso_end, six_bound, six_end}
 use Rattle.caldate_run.proofs.TextBounds.{iso_within, short_form, text_form}
 
 -- ---- a text in one of the six forms
@@ -167,7 +167,7 @@ iso_start bytes found some h = at (is_usual_start bytes) refl
 
 -- ---- one form
 six_usual : (bytes : List ℕ) → 0 < length bytes → HasAnyForm bytes → IsUsual bytes
-six_usual bytes some h = record { start = six_start bytes some h; end = six_end bytes some h }
+six_usual bytes some h = record { start = six_start bytes some h; end = six_end bytes some h; bound = six_bound bytes h }
 
 pub any_text : (r : Reading) (bytes : List ℕ) (found : DateOrMoment) → r ≡ reading.Any → 0 < length bytes → IsTextIn r bytes found → IsUsual bytes
 any_text r bytes found e some h = six_usual bytes some (subst (λ r. HasFormIn r bytes) e (text_form r bytes found h))
@@ -178,7 +178,7 @@ any_named r form bytes e some is has = six_usual bytes some (subst (λ r. HasFor
 pub iso_usual : (s : Spelling) (bytes : List ℕ) (found : DateOrMoment) → s ≡ Iso → 0 < length bytes → IsSomeAnd (full_by s bytes) (λ full. IsTextOf full found) → IsUsual bytes
 iso_usual s bytes found e some h =
     let is = subst (λ s. IsSomeAnd (full_by s bytes) (λ full. IsTextOf full found)) e h in
-    record { start = iso_start bytes found some is; end = iso_end bytes found some is }
+    record { start = iso_start bytes found some is; end = iso_end bytes found some is; bound = iso_bound bytes found is }
 
 -- ---- all forms
 pub each_text : (P : List ℕ → Type 0) (filter : Filter) (readers : List Reader) → readers ≡ filter.readers

@@ -1,5 +1,5 @@
 -- The answer to a line with --scan: its texts in a form that the run reads are answered in place.
-use Rattle.std.specs.Prelude.{◌≡◌, ◌⊎◌, ℕ, ◌+◌, ◌-◌, ◌==◌, ◌&&◌, ◌||◌, ◌<◌, ◌≤◌, nat_lt, Bool, true, false, MatchBool, List, [], ◌++◌, length, take, drop, slice_index, Some, None, Result, Ok, Err, if◌then◌else◌}
+use Rattle.std.specs.Prelude.{◌≡◌, ◌⊎◌, ℕ, suc, ◌+◌, ◌-◌, ◌==◌, ◌&&◌, ◌||◌, ◌<◌, ◌≤◌, nat_lt, Bool, true, false, MatchBool, List, [], ◌∷◌, ◌++◌, length, take, drop, slice_index, Some, None, Result, Ok, Err, if◌then◌else◌}
 use Rattle.cal_text.specs.Position.{Begins}
 use Rattle.cal_text.specs.declared.any.DateOrMoment.{DateOrMoment}
 use Rattle.caldate_run.specs.Answers.{Answer, IsAnswer, IsNotRead, IsReadAs, keeps}
@@ -94,19 +94,45 @@ is_usual_start bytes =
 abbrev pub StartsAsUsual : List ℕ → Type 0
 StartsAsUsual bytes = is_usual_start bytes ≡ true
 
+-- A sign, an @ or a J. A text that starts with a digit has a hyphen, which is one, after four digits.
+abbrev pub is_mark : ℕ → Bool
+is_mark byte = is_sign byte || (byte == 64 || byte == 74)
+
 -- The last byte of a text in one of the six forms is a digit, Z or z.
 abbrev pub is_last : ℕ → Bool
 is_last byte = is_digit byte || (byte == 90 || byte == 122)
 
--- The first n bytes end as such a text does. If it starts with a digit, it is a date of at most 10
+-- The first n bytes end as such a text does. If it starts with a digit, it is a date of 8 or 10
 -- bytes, or a moment of at least 20.
-abbrev pub is_usual_end : List ℕ → ℕ → Bool
-is_usual_end bytes n = is_last (slice_index bytes (n - 1)) && (if is_digit (slice_index bytes 0) then nat_lt n 11 || nat_lt 19 n else true)
+abbrev pub has_usual_length : ℕ → Bool
+has_usual_length n = n == 8 || (n == 10 || nat_lt 19 n)
 
--- A text starts and ends so.
+abbrev pub is_usual_end : List ℕ → ℕ → Bool
+is_usual_end bytes n = is_last (slice_index bytes (n - 1)) && (if is_digit (slice_index bytes 0) then has_usual_length n else true)
+
+-- The number of digits at the front.
+abbrev pub digits_at_front : List ℕ → ℕ
+digits_at_front [] = 0
+digits_at_front (byte ∷ bytes) = if is_digit byte then suc (digits_at_front bytes) else 0
+
+-- The index of the byte after the seconds of a moment, or after the digits that follow a point or a
+-- comma there.
+abbrev pub offset_index : List ℕ → ℕ
+offset_index bytes = if slice_index bytes 19 == 46 || slice_index bytes 19 == 44 then 20 + digits_at_front (drop 20 bytes) else 19
+
+-- A text that starts with a digit has at most this many bytes: up to the end of a Z, a z or an
+-- offset such as +01:00 at that index, or else 10.
+abbrev pub bound_with : ℕ → ℕ → ℕ
+bound_with mark index = if mark == 90 || mark == 122 then index + 1 else if is_sign mark then index + 6 else 10
+
+abbrev pub digit_bound : List ℕ → ℕ
+digit_bound bytes = bound_with (slice_index bytes (offset_index bytes)) (offset_index bytes)
+
+-- A text starts and ends so, and is not longer.
 pub record IsUsual (bytes : List ℕ) : Type 0 where
   pub start : StartsAsUsual bytes
   pub end : is_usual_end bytes (length bytes) ≡ true
+  pub bound : is_digit (slice_index bytes 0) ≡ true → length bytes ≤ digit_bound bytes
 
 abbrev pub AreUsual : Filter → Type 0
 AreUsual filter = (bytes : List ℕ) → IsText filter bytes → IsUsual bytes

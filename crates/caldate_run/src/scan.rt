@@ -1,9 +1,10 @@
 //! The texts in a line that have a form.
-ghost use Rattle.std.specs.Prelude.{◌≡◌, ℕ, ◌+◌, ◌<◌, ◌≤◌, IfSome, MatchOption, false, length, slice_index, true};
+ghost use Rattle.std.specs.Prelude.{◌≡◌, ℕ, ◌+◌, ◌<◌, ◌≤◌, IfSome, MatchOption, false, length, slice_index, take, true};
 ghost use Rattle.caldate_run.specs.Offsets.{is_digit};
-ghost use Rattle.caldate_run.specs.Scans.{HasNoText, IsFirstText, IsLongestText, IsReadWith, IsText, IsTextAt, AreUsual, StartWithDigits, byte_before, has_form, is_of_word, part_at};
+ghost use Rattle.caldate_run.specs.Scans.{HasNoText, IsFirstText, IsLongestText, IsReadWith, IsText, IsTextAt, NoneFrom, AreUsual, StartWithDigits, byte_before, has_form, is_of_word, part_at};
 
 pub(crate) mod bound;
+pub(crate) mod digit_bound;
 pub(crate) mod digit_start;
 pub(crate) mod found_text;
 pub(crate) mod push;
@@ -13,9 +14,10 @@ use crate::answer::read_with;
 use crate::request::Filter;
 use crate::run::no_answer::NoAnswer;
 use crate::scan::bound::bound_of;
-use crate::scan::digit_start::{start_with_digits, starts_with_digits};
+use crate::scan::digit_bound::digit_bound;
+use crate::scan::digit_start::{digits_place, start_with_digits};
 use crate::scan::found_text::FoundText;
-use crate::scan::start::{all_usual, is_usual_end, is_usual_start};
+use crate::scan::start::{all_usual, is_usual_end, usual_place};
 use crate::zones::is_letter;
 use cal_text::DateOrMoment;
 
@@ -31,37 +33,34 @@ pub fn first_text(filter: &Filter<'_>, line: &[u8], from: usize) -> Option<Found
 {
     let usual = all_usual(filter);
     let digits = start_with_digits(filter);
-    for place in from..line.len() {
-        if !may_begin(filter, usual, digits, line, place) {
-            continue;
+    let mut place = first_start(filter, usual, digits, line, from);
+    while place < line.len() {
+        if !is_of_word(byte_before(line, place)) {
+            if let Some(text) = longest_text(filter, usual, line, place) {
+                return Some(text);
+            }
         }
-        if let Some(text) = longest_text(filter, usual, line, place) {
-            return Some(text);
-        }
+        place = first_start(filter, usual, digits, line, place + 1);
     }
     None
 }
 
-/// Returns `false` only if no text begins at the place. With `usual` or `digits` its first bytes rule
-/// out most places.
+/// Returns a place from `from` on before which no text begins. With `usual` or `digits` the bytes at
+/// the start of a text rule out most places.
 #[inline(always)]
-fn may_begin(filter: &Filter<'_>, usual: bool, digits: bool, line: &[u8], place: usize) -> bool
-    requires place { place ≤ length line.now }
+fn first_start(filter: &Filter<'_>, usual: bool, digits: bool, line: &[u8], from: usize) -> usize
     requires usual { usual ≡ true → AreUsual filter.now }
     requires digits { digits ≡ true → StartWithDigits filter.now }
-    ensures none { result ≡ false → (n : ℕ) → ¬ IsTextAt filter.now line.now place n }
-    ensures before { result ≡ true → is_of_word (byte_before line.now place) ≡ false }
+    ensures from { from ≤ result }
+    ensures none { NoneFrom filter.now line.now from result }
 {
-    if usual && !is_usual_start(&line[place..]) {
-        return false;
+    if usual {
+        usual_place(line, from)
+    } else if digits {
+        digits_place(line, from)
+    } else {
+        from
     }
-    if digits && !starts_with_digits(&line[place..]) {
-        return false;
-    }
-    if is_of_word(byte_before(line, place)) {
-        return false;
-    }
-    true
 }
 
 /// Returns the longest text at a place that is not after a letter or a digit, if one begins there.
@@ -74,7 +73,7 @@ fn longest_text(filter: &Filter<'_>, usual: bool, line: &[u8], place: usize) -> 
     ensures { MatchOption result ((n : ℕ) → ¬ IsTextAt filter.now line.now place n)
         (IsLongestText filter.now line.now place) }
 {
-    let mut count = bound_of(filter, &line[place..]);
+    let mut count = bound_at(filter, usual, &line[place..]);
     while count > 0 {
         if !usual || is_usual_end(&line[place..], count) {
             if let Some(read) = read_at(filter, line, place, count) {
@@ -84,6 +83,21 @@ fn longest_text(filter: &Filter<'_>, usual: bool, line: &[u8], place: usize) -> 
         count -= 1;
     }
     None
+}
+
+/// Returns a length that no text at the front of the bytes exceeds. With `usual`, no text is parsed
+/// for it after a digit.
+fn bound_at(filter: &Filter<'_>, usual: bool, bytes: &[u8]) -> usize
+    requires { usual ≡ true → AreUsual filter.now }
+    ensures within { result ≤ length bytes.now }
+    ensures none { (n : ℕ) → result < n → n ≤ length bytes.now
+        → ¬ IsText filter.now (take n bytes.now) }
+{
+    if usual && is_digit(byte_at(bytes, 0)) {
+        digit_bound(bytes).min(bytes.len())
+    } else {
+        bound_of(filter, bytes)
+    }
 }
 
 /// Reads these bytes of the line, which follow no letter or digit, if they are a text.

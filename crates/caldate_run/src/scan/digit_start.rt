@@ -1,5 +1,5 @@
 //! Formats whose texts start with two digits.
-ghost use Rattle.std.specs.Prelude.{◌≡◌, ◌<◌, ◌≤◌, ℕ, ℤ, List, Some, length, true};
+ghost use Rattle.std.specs.Prelude.{◌≡◌, ◌<◌, ◌≤◌, ℕ, ℤ, List, Some, drop, false, length, true};
 ghost use Rattle.cal_format.specs.Form.{HasForm, ItemShape};
 ghost use Rattle.cal_format.specs.Moment.{width};
 ghost use Rattle.cal_text.specs.Shape.{Shape, unmatched_bytes};
@@ -16,9 +16,23 @@ use crate::request::Filter;
 use crate::scan::{byte_at, is_digit};
 use cal_format::{Component, Format, Item, Padding};
 
+/// Returns the first place from `from` on with two digits, or a place past the last byte.
+#[inline(always)]
+pub fn digits_place(line: &[u8], from: usize) -> usize
+    ensures from { from ≤ result }
+    ensures none { (j : ℕ) → from ≤ j → j < result
+        → starts_with_digits (drop j line.now) ≡ false }
+{
+    let mut place = from;
+    while place < line.len() && !starts_with_digits(&line[place..]) {
+        place += 1;
+    }
+    place
+}
+
 /// Returns whether the bytes start with two digits.
 #[inline(always)]
-pub fn starts_with_digits(bytes: &[u8]) -> bool
+fn starts_with_digits(bytes: &[u8]) -> bool
     ensures { result ≡ starts_with_digits bytes.now }
 {
     is_digit(byte_at(bytes, 0)) && is_digit(byte_at(bytes, 1))

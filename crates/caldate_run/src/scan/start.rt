@@ -1,9 +1,9 @@
 //! The bytes that start a text.
-ghost use Rattle.std.specs.Prelude.{◌≡◌, ◌<◌, ◌≤◌, ℕ, List, Some, length, true};
+ghost use Rattle.std.specs.Prelude.{◌≡◌, ◌<◌, ◌≤◌, ℕ, List, Some, drop, false, length, slice_index, true};
 ghost use Rattle.cal_text.specs.declared.any.DateOrMoment.{DateOrMoment};
 ghost use Rattle.caldate_run.specs.Readers.{IsFoundBy, IsTextBy, IsUnread, named};
 ghost use Rattle.caldate_run.specs.Readings.{HasFormIn};
-ghost use Rattle.caldate_run.specs.Scans.{AreUsual, IsUsual, are_digits, has_form, is_digit_or_hyphen, is_last, is_usual_end, is_usual_start};
+ghost use Rattle.caldate_run.specs.Scans.{AreUsual, IsUsual, are_digits, has_form, is_digit_or_hyphen, is_last, is_mark, is_usual_end, is_usual_start};
 ghost use Rattle.caldate_run.specs.declared.reading.Reading.{Reading};
 ghost use Rattle.caldate_run.specs.declared.reading.reader.Assumptions.{Assumptions};
 ghost use Rattle.caldate_run.specs.declared.run.no_answer.NoAnswer.{NoAnswer};
@@ -21,13 +21,52 @@ pub fn is_usual_start(bytes: &[u8]) -> bool
     ensures { result ≡ is_usual_start bytes.now }
 {
     match byte_at(bytes, 0) {
-        // Most bytes are letters and spaces.
-        0..b'+' | b'K'.. => false,
         b'0'..=b'9' => byte_at(bytes, 4) == b'-' && are_digits(bytes, 0),
         b'-' | b'+' => is_digit_or_hyphen(byte_at(bytes, 5)) && are_digits(bytes, 1),
         b'@' | b'J' => is_digit_or_hyphen(byte_at(bytes, 1)),
         _ => false,
     }
+}
+
+/// Returns the first place from `from` on at which a text in one of the six forms may start, or a
+/// place past the last byte.
+pub fn usual_place(line: &[u8], from: usize) -> usize
+    ensures from { from ≤ result }
+    ensures none { (j : ℕ) → from ≤ j → j < result → is_usual_start (drop j line.now) ≡ false }
+{
+    let mut index = mark_index(line, from);
+    while index < line.len() {
+        // Four digits before a hyphen come first.
+        if index - from >= 4 && is_usual_start(&line[index - 4..]) {
+            return index - 4;
+        }
+        if is_usual_start(&line[index..]) {
+            return index;
+        }
+        index = mark_index(line, index + 1);
+    }
+    index
+}
+
+/// Returns the first index from `from` on of a sign, an `@` or a `J`, or one past the last byte. Most
+/// bytes are letters, digits and spaces.
+#[inline(always)]
+fn mark_index(line: &[u8], from: usize) -> usize
+    ensures from { from ≤ result }
+    ensures none { (j : ℕ) → from ≤ j → j < result → is_mark (slice_index line.now j) ≡ false }
+    ensures mark { result < length line.now → is_mark (slice_index line.now result) ≡ true }
+{
+    let mut index = from;
+    while index < line.len() && !is_mark(line[index]) {
+        index += 1;
+    }
+    index
+}
+
+fn is_mark(byte: u8) -> bool
+    ensures { result ≡ is_mark byte }
+{
+    byte == b'-' || byte == b'+' || byte == b'@' || byte == b'J'
 }
 
 /// Returns whether the four bytes from an index on are digits.
@@ -42,13 +81,14 @@ fn are_digits(bytes: &[u8], from: usize) -> bool
 }
 
 /// Returns whether the first `count` bytes may end a text in one of the six forms: by a digit, `Z` or
-/// `z`. After a digit at the start, a date has at most 10 bytes, and a moment at least 20.
+/// `z`. After a digit at the start, a date has 8 or 10 bytes, and a moment 20 or more.
 #[inline(always)]
 pub fn is_usual_end(bytes: &[u8], count: usize) -> bool
     requires { 0 < count }
     ensures { result ≡ is_usual_end bytes.now count }
 {
-    is_last(byte_at(bytes, count - 1)) && (!is_digit(byte_at(bytes, 0)) || count < 11 || count > 19)
+    is_last(byte_at(bytes, count - 1))
+        && (!is_digit(byte_at(bytes, 0)) || count == 8 || count == 10 || count > 19)
 }
 
 fn is_last(byte: u8) -> bool

@@ -10,10 +10,10 @@ pub loop-count-init : goal.loop-count-init
 loop-count-init c =
     let line = c.args.line.now in
     let place = c.args.place in
-    let bound = c.bound_of-count.result in record {
-      within = omega (arith, c.bound_of-count.ensures.within, ap length (take_rest line place), length-drop place line, c.requires.place);
+    let bound = c.bound_at-count.result in record {
+      within = omega (arith, c.bound_at-count.ensures.within, ap length (take_rest line place), length-drop place line, c.requires.place);
       longer = none_past c.args.filter.now line place bound
-          (subst (λ (bytes : List ℕ). (n : ℕ) → bound < n → n ≤ length bytes → IsText c.args.filter.now (take n bytes) → ⊥) (take_rest line place) c.bound_of-count.ensures.none);
+          (subst (λ (bytes : List ℕ). (n : ℕ) → bound < n → n ≤ length bytes → IsText c.args.filter.now (take n bytes) → ⊥) (take_rest line place) c.bound_at-count.ensures.none);
     }
 
 pub loop-count-preserved : goal.loop-count-preserved
