@@ -50,7 +50,7 @@ one_byte text old mid new filled next index column h less put size =
       few = omega (arith, h.few, column-few column (drop index text));
     }
 
-all_folded : (text old new : List ℕ) (filled index column : ℕ) → IsFolded text old new filled index column → length text ≤ index
+pub all_folded : (text old new : List ℕ) (filled index column : ℕ) → IsFolded text old new filled index column → length text ≤ index
     → IsPut 0 (folded_of text) old new (Some filled)
 all_folded text old new filled index column h all =
     let whole : h.done ≡ folded_of text = sym (append-nil h.done) ∙ ap (λ bytes. h.done ++ folded_after column bytes) (sym (drop_all index text all)) ∙ h.joined in
@@ -79,10 +79,10 @@ both-kept : (b : ℕ) (xs ys : List ℕ) → fold_length (b ∷ xs) ≡ 0 → fo
 both-kept b xs ys e f h = one-kept b xs e ∙ ap (λ rest. b ∷ rest) h ∙ sym (one-kept b ys f)
 
 -- a line feed begins a line, before which no fold comes
-line-stays : (column : ℕ) (bs : List ℕ) → fold_before column (10 ∷ bs) ≡ false
+pub line-stays : (column : ℕ) (bs : List ℕ) → fold_before column (10 ∷ bs) ≡ false
 line-stays column bs = and-false (nat_le 75 column)
 
-stays : (column b : ℕ) (bs : List ℕ) → fold_before column (b ∷ bs) ≡ false → folded_after column (b ∷ bs) ≡ b ∷ folded_after (column_after column (b ∷ bs)) bs
+pub stays : (column b : ℕ) (bs : List ℕ) → fold_before column (b ∷ bs) ≡ false → folded_after column (b ∷ bs) ≡ b ∷ folded_after (column_after column (b ∷ bs)) bs
 stays column b bs e = ap (λ t. cond t (13 ∷ 10 ∷ 32 ∷ b ∷ []) (b ∷ []) ++ folded_after (column_after column (b ∷ bs)) bs) e
 
 -- a fold goes away

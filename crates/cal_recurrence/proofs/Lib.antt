@@ -28,3 +28,4 @@ pub mod SetValues
 pub mod Unfolding
 pub mod Puts
 pub mod FoldedLines
+pub mod ShortLines

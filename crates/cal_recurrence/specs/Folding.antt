@@ -1,6 +1,7 @@
 -- Folded lines (RFC 5545, section 3.1): a line feed (10), which a carriage return (13) can precede,
 -- and a space (32) or a tab (9) after it join two lines.
-use Rattle.std.specs.Prelude.{ℕ, zero, suc, ◌+◌, ◌-◌, ◌==◌, nat_le, ◌&&◌, ◌||◌, Bool, not, List, [], ◌∷◌, ◌++◌, take, slice_index, if◌then◌else◌}
+use Rattle.std.specs.Prelude.{◌≤◌, length, ℕ, zero, suc, ◌+◌, ◌-◌, ◌==◌, nat_le, ◌&&◌, ◌||◌, Bool, not, List, [], ◌∷◌, ◌++◌, take, slice_index, if◌then◌else◌}
+use Rattle.cal_recurrence.specs.SetText.{without_return}
 
 -- A space or a tab.
 abbrev pub is_blank : ℕ → Bool
@@ -49,3 +50,7 @@ folded_after column (b ∷ bs) = first_folded column (b ∷ bs) ++ folded_after 
 -- A text with folds, so that its lines have at most 75 bytes without their ends.
 abbrev pub folded_of : List ℕ → List ℕ
 folded_of text = folded_after 0 text
+
+-- A line has at most 75 bytes without its end (RFC 5545, section 3.1).
+abbrev pub IsShortLine : List ℕ → Type 0
+IsShortLine text = length (without_return text) ≤ 75

@@ -1,7 +1,9 @@
 //! Folded lines.
 ghost use Rattle.std.specs.Prelude.{◌≡◌, ◌<◌, ◌≤◌, ◌^◌, IfSome, MatchOption, drop, length, slice_index, take};
+ghost use Rattle.std.specs.List.{All};
 ghost use Rattle.cal_recurrence.specs.Buffers.{IsPut};
-ghost use Rattle.cal_recurrence.specs.Folding.{column_after, first_folded, fold_before, fold_length, folded_of, is_blank, is_line_end, unfolded_of};
+ghost use Rattle.cal_recurrence.specs.Folding.{column_after, first_folded, fold_before, fold_length, folded_of, is_blank, is_line_end, unfolded_of, IsShortLine};
+ghost use Rattle.cal_recurrence.specs.Words.{parts_at};
 
 use crate::buffers::put;
 
@@ -116,6 +118,8 @@ pub fn fold(text: &[u8], folded: &mut [u8]) -> Option<usize>
     ensures text { IsPut 0 (folded_of text.now) folded.old folded.new result }
     ensures unfolds { IfSome result (λ end.
         unfolded_of (take end folded.new) ≡ unfolded_of text.now) }
+    ensures lines { IfSome result (λ end.
+        All IsShortLine (parts_at 10 (take end folded.new))) }
 {
     let (mut filled, mut index, mut column) = (0, 0, 0);
     while index < text.len() {

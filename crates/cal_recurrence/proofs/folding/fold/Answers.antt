@@ -1,8 +1,11 @@
 use Rattle.std.proofs.Common.{◌+◌, ◌∙◌, Some, ap, arith, subst, sym}
+use Rattle.std.specs.List.{All}
 use Rattle.std.proofs.lemmas.List.{take_rest}
 use Rattle.cal_recurrence.specs.Buffers.{IsPut}
-use Rattle.cal_recurrence.specs.Folding.{column_after, first_folded}
-use Rattle.cal_recurrence.proofs.FoldedLines.{one_byte, unfolds, IsFolded}
+use Rattle.cal_recurrence.specs.Folding.{column_after, first_folded, IsShortLine}
+use Rattle.cal_recurrence.specs.Words.{parts_at}
+use Rattle.cal_recurrence.proofs.FoldedLines.{all_folded, one_byte, unfolds, IsFolded}
+use Rattle.cal_recurrence.proofs.ShortLines.{short_lines}
 use Rattle.cal_recurrence.proofs.folding.fold.Goals as goal
 
 pub loop-index-preserved : goal.loop-index-preserved
@@ -20,3 +23,10 @@ pub returns-clause-unfolds : goal.returns-clause-unfolds
 returns-clause-unfolds c =
     let at = c.loop-index in
     unfolds c.args.text.now c.args.folded.now at.folded at.filled at.index at.column at.invariant (omega (arith, c.loop-index-test.false))
+
+pub returns-clause-lines : goal.returns-clause-lines
+returns-clause-lines c =
+    let text = c.args.text.now in
+    let at = c.loop-index in
+    let whole = (all_folded text c.args.folded.now at.folded at.filled at.index at.column at.invariant (omega (arith, c.loop-index-test.false))).2 in
+    subst (λ bytes. All IsShortLine (parts_at 10 bytes)) (sym whole) (short_lines text)
