@@ -7,7 +7,7 @@ use Rattle.caldate_run.specs.Calls.{Gives, Reads, Sends, Writes, has_read_failur
 use Rattle.caldate_run.specs.Calls.Reads.{given, ended, failed as fails}
 use Rattle.caldate_run.specs.Calls.Writes.{no_more, sent, failed}
 use Rattle.caldate_run.specs.Calls.Sends.{all}
-use Rattle.caldate_run.specs.Runs.{IsEarly, IsOfWrite}
+use Rattle.caldate_run.specs.Runs.{IsEarly}
 use Rattle.caldate_run.specs.declared.run.run_error.RunError.{RunError}
 use Rattle.caldate_run.specs.declared.run.run_error.RunError.TheVariants.{Read, Write, Stopped, Unanswered}
 
@@ -57,10 +57,3 @@ no_read_failed (Err Read) early = absurd early
 no_read_failed (Err (Write kind)) early = refl
 no_read_failed (Err (Stopped reported)) early = refl
 no_read_failed (Err (Unanswered tally)) early = refl
-
-pub write_failed : (r : Result Unit RunError) → IsErrAnd r IsOfWrite → has_read_failure r ≡ false
-write_failed (Ok done) is = refl
-write_failed (Err Read) is = absurd is
-write_failed (Err (Write kind)) is = refl
-write_failed (Err (Stopped reported)) is = absurd is
-write_failed (Err (Unanswered tally)) is = absurd is

@@ -6,14 +6,13 @@ use Rattle.std.proofs.Math.Seq.{drop-append_seam, take-append_seam, take-append-
 use Rattle.std.proofs.lemmas.Bool.{eqb-true}
 use Rattle.std.proofs.lemmas.Bool.Decides.{nat_tests}
 use Rattle.std.proofs.lemmas.List.{append-nil, take_rest}
-use Rattle.std.proofs.lemmas.Option.{none-some}
 use Rattle.std.proofs.lemmas.List.Splits.{join_with_byte-slice_split, length-slice_split}
 use Rattle.caldate_run.specs.Fields.{HasFirst, IsAfter, each_ended, fields_of, has_too_few, in_place_of, is_open, is_quote, joined_fields, part_of, quoting_after, split_outside_quotes, split_record, with_part}
 use Rattle.caldate_run.specs.declared.run.quoting.Quoting.{Quoting}
 use Rattle.caldate_run.specs.declared.run.quoting.Quoting.TheVariants.{Ready}
 use Rattle.caldate_run.specs.declared.request.Field.{Field}
 use Rattle.caldate_run.proofs.Parts.{no_fields, no_separator, none_before}
-use Rattle.caldate_run.proofs.Quotes.{bare_passes, ends_after, ends_last}
+use Rattle.caldate_run.proofs.Quotes.{bare_passes, ends_after, ends_last, onto_some}
 use Rattle.caldate_run.proofs.Parts.{some_fields as one_field}
 
 -- ---- fields with their separators
@@ -32,10 +31,6 @@ join_each c (x ∷ xs) more h =
     ∙ sym (append_assoc x (c ∷ each_ended c xs) (join_with_byte c more))
 
 -- ---- the fields of a text
-onto_some : (x : ℕ) (parts : List (List ℕ)) → 0 < length (onto_first x parts)
-onto_some x [] = omega arith
-onto_some x (part ∷ parts) = omega arith
-
 abbrev record_more : ℕ → ℕ → Quoting → ℕ → List ℕ → List (List ℕ)
 record_more e c q x xs = onto_first x (split_outside_quotes e c (quoting_after c q x) xs)
 
@@ -83,9 +78,6 @@ join_fields field text =
     (λ e. join_record field.separator field.separator Ready text) (join_with_byte-slice_split field.separator text)
 
 -- ---- one field further on
-pub begun : (field : Field) (text : List ℕ) → IsAfter field 0 text text
-begun field text = record { passed = []; many = refl; fields = refl; whole = refl }
-
 pub further : (field : Field) (count : ℕ) (text rest first after : List ℕ) → fields_of field rest ≡ first ∷ fields_of field after
     → rest ≡ first ++ field.separator ∷ after → IsAfter field count text rest → IsAfter field (count + 1) text after
 further field count text rest first after cut whole h = record {
@@ -96,14 +88,6 @@ further field count text rest first after cut whole h = record {
       ∙ sym (append_assoc (each_ended field.separator h.passed) (first ++ field.separator ∷ []) after)
       ∙ ap (λ l. l ++ after) (sym (each_append field.separator h.passed (first ∷ [])));
 }
-
-pub too_few : (field : Field) (count : ℕ) (text rest : List ℕ) → fields_of field rest ≡ rest ∷ [] → IsAfter field count text rest
-    → length (fields_of field text) ≡ count + 1
-too_few field count text rest none h =
-    omega (arith, ap length h.fields, length-append h.passed (fields_of field rest), ap length none, h.many)
-
-pub shorter : (field : Field) (count : ℕ) (text rest : List ℕ) → IsAfter field count text rest → length rest ≤ length text
-shorter field count text rest h = omega (arith, ap length h.whole, length-append (each_ended field.separator h.passed) rest)
 
 -- ---- the first field
 pub first_of : (field : Field) (text : List ℕ) (n : ℕ)
@@ -279,8 +263,3 @@ plain_separator field text (Some k) (inl h) f =
           ∙ ap (λ l. take k text ∷ l) (sym (csv_fields field after h.0)),
       s.2,
     )
-
--- a text that lacks the field stays as it is
-unchanged : (b : Bool) (text part all : List ℕ) → cond b None (Some part) ≡ None → cond b text all ≡ text
-unchanged true text part all e = refl
-unchanged false text part all e = absurd (none-some part (sym e))

@@ -1,11 +1,11 @@
 -- A text in the first of some forms, by what the parser of the first form says and what those of the
 -- others say.
-use Rattle.std.proofs.Common.{◌≡◌, ℕ, ◌-◌, ◌≤◌, List, [], ◌∷◌, Some, None, Result, Ok, Err, inl, inr, refl, sym, ap, subst, arith, length, take, drop, get_or}
+use Rattle.std.proofs.Common.{◌≡◌, ℕ, ◌-◌, ◌≤◌, List, [], ◌∷◌, Some, None, Result, Ok, Err, inl, inr, sym, ap, subst, arith, length, take, drop, get_or}
 use Rattle.std.specs.Prelude.{MatchOption}
 use Rattle.std.proofs.lemmas.List.{take_all}
 use Rattle.std.proofs.lemmas.Option.{none-some, same_Some}
 use Rattle.cal_text.specs.declared.any.DateOrMoment.{DateOrMoment}
-use Rattle.caldate_run.specs.Readers.{IsFoundBy, IsTextBy, IsUnread, IsUnreadIn, first_named, named}
+use Rattle.caldate_run.specs.Readers.{IsFoundBy, IsTextBy, IsUnread, IsUnreadIn, named}
 use Rattle.caldate_run.specs.Readings.{IsTextIn}
 use Rattle.caldate_run.specs.declared.run.no_answer.NoAnswer.{NoAnswer}
 use Rattle.caldate_run.specs.declared.run.no_answer.NoAnswer.TheVariants as why
@@ -79,14 +79,3 @@ none_unread assumptions r rs form text w e lack every is = record {
   none = none_found assumptions r rs form text w e lack every;
   why_is = subst (λ o. MatchOption o (w ≡ why.NoForm) (λ form. IsUnreadIn form text w)) (sym e) is;
 }
-
--- ---- no form says why
-pub no_form : (assumptions : Assumptions) (readers : List Reader) (text : List ℕ) → first_named assumptions readers ≡ None → ((g : DateOrMoment) → IsFoundBy assumptions readers text g → None ≡ Some g)
-    → IsUnread assumptions readers text why.NoForm
-no_form assumptions readers text e every = record {
-  none = λ found h. none-some found (every found h);
-  why_is = subst (λ o. MatchOption o (why.NoForm ≡ why.NoForm) (λ form. IsUnreadIn form text why.NoForm)) (sym e) refl;
-}
-
-pub why_none : (assumptions : Assumptions) (readers : List Reader) (text : List ℕ) (any : NoAnswer) → first_named assumptions readers ≡ None → IsUnread assumptions readers text any → any ≡ why.NoForm
-why_none assumptions readers text any e h = subst (λ o. MatchOption o (any ≡ why.NoForm) (λ form. IsUnreadIn form text any)) e h.why_is

@@ -8,6 +8,7 @@ use Rattle.std.proofs.lemmas.List.Sums.{take_while-cons}
 use Rattle.cal_recurrence.specs.Days.{days_of, last_of, up_to_end}
 use Rattle.cal_recurrence.specs.declared.recurrence.RuleEnd.{RuleEnd}
 use Rattle.cal_recurrence.specs.declared.recurrence.RuleEnd.TheVariants.{Never, Until, Count}
+use Rattle.cal_schedule.specs.Ranks.{from-no, from-yes}
 use Rattle.cal_schedule.specs.Pattern.{rule_of}
 use Rattle.cal_schedule.specs.Rule.{occurrences, is_occurrence}
 use Rattle.cal_schedule.specs.declared.rule.rule.Rule.{Rule}
@@ -28,14 +29,6 @@ filter-none : (test : ℕ → Bool) (n : ℕ) → filter test (days_from n 0) �
 unfolding days_from
 filter-none test n = refl
 
-filter-yes : (test : ℕ → Bool) (n k : ℕ) → test n ≡ true → filter test (days_from n (suc k)) ≡ n ∷ filter test (days_from (n + 1) k)
-unfolding days_from
-filter-yes test n k h = rw h refl
-
-filter-no : (test : ℕ → Bool) (n k : ℕ) → test n ≡ false → filter test (days_from n (suc k)) ≡ filter test (days_from (n + 1) k)
-unfolding days_from
-filter-no test n k h = rw h refl
-
 front_is : (last day : ℕ) (days : List ℕ) (b : Bool) → within last day ≡ b → take_while (within last) days ≡ filter (within last) days
     → (b ≡ false → filter (within last) days ≡ []) → take_while (within last) (day ∷ days) ≡ filter (within last) (day ∷ days)
 front_is last day days true e same none = take_while-cons (within last) day days ∙ rw e (ap (λ l. day ∷ l) same)
@@ -49,9 +42,9 @@ none_past : (last : ℕ) (test : ℕ → Bool) (k n count : ℕ) → last < n �
 none_past last test zero n count h = ap (filter (within last)) (take-none count _ (filter-none test n))
 none_past last test (suc k) n count h =
     elim (cases_Bool (test n)) as (λ _. filter (within last) (first_days test count n (suc k)) ≡ []) [
-      | inl on ↦ ap (λ l. filter (within last) (take count l)) (filter-yes test n k on)
+      | inl on ↦ ap (λ l. filter (within last) (take count l)) (from-yes test n k on)
           ∙ past (λ count. none_past last test k (n + 1) count (omega arith)) count
-      | inr off ↦ ap (λ l. filter (within last) (take count l)) (filter-no test n k off) ∙ none_past last test k (n + 1) count (omega arith)
+      | inr off ↦ ap (λ l. filter (within last) (take count l)) (from-no test n k off) ∙ none_past last test k (n + 1) count (omega arith)
     ]
   where
     past : ((count : ℕ) → filter (within last) (first_days test count (n + 1) k) ≡ []) → (count : ℕ)
@@ -68,10 +61,10 @@ front_days last test zero n count =
 front_days last test (suc k) n count =
     elim (cases_Bool (test n)) as (λ _. take_while (within last) (first_days test count n (suc k)) ≡ up_to last (first_days test count n (suc k))) [
       | inl on ↦
-          let e = ap (take count) (filter-yes test n k on) in
+          let e = ap (take count) (from-yes test n k on) in
           ap (take_while (within last)) e ∙ from (λ count. front_days last test k (n + 1) count) count ∙ sym (ap (up_to last) e)
       | inr off ↦
-          let e = ap (take count) (filter-no test n k off) in
+          let e = ap (take count) (from-no test n k off) in
           ap (take_while (within last)) e ∙ front_days last test k (n + 1) count ∙ sym (ap (up_to last) e)
     ]
   where

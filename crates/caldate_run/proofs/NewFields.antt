@@ -2,7 +2,7 @@
 use Rattle.std.proofs.Common.{◌≡◌, ℕ, ◌-◌, Bool, true, false, cond, eqb, List, [], ◌∷◌, ◌++◌, length, take, drop, Some, refl, sym, ap, ◌∙◌, append_assoc}
 use Rattle.std.specs.Prelude.{◌&&◌, ◌||◌, nat_le, slice_index}
 use Rattle.std.proofs.Math.Seq.{drop-append_seam, take-append_seam}
-use Rattle.std.proofs.lemmas.Bool.{false≢true}
+use Rattle.std.proofs.lemmas.Bool.{or_parts}
 use Rattle.std.proofs.lemmas.List.{append-nil}
 use Rattle.caldate_run.specs.Fields.{as_field, doubled, end_of_field, escaped, in_place_of, in_quotes, is_quote, is_quoted, is_special, needs_quotes, text_with, with_last, with_part, within_quotes}
 use Rattle.caldate_run.specs.declared.request.Field.{Field}
@@ -27,19 +27,15 @@ pub appended_text : (field : Field) (text words : List ℕ) → field.appends �
 appended_text field text words e = ap (λ b. cond b (with_last field text words) (with_part field text words)) e
 
 -- ---- words that need no quotes
-pub or_false : (a b : Bool) → (a || b) ≡ false → (a ≡ false) × (b ≡ false)
-or_false true b e = absurd (false≢true (sym e))
-or_false false b e = (refl, e)
-
 pub not_special : (separator x : ℕ) → is_special separator x ≡ false → (eqb x separator ≡ false) × (is_quote x ≡ false)
 not_special separator x e =
-    let h = or_false (eqb x separator) (is_quote x || (eqb x 10 || eqb x 13)) e in
-    (h.0, (or_false (is_quote x) (eqb x 10 || eqb x 13) h.1).0)
+    let h = or_parts (eqb x separator) (is_quote x || (eqb x 10 || eqb x 13)) e in
+    (h.0, (or_parts (is_quote x) (eqb x 10 || eqb x 13) h.1).0)
 
 not_doubled : (separator : ℕ) (words : List ℕ) → needs_quotes separator words ≡ false → doubled words ≡ words
 not_doubled separator [] e = refl
 not_doubled separator (x ∷ xs) e =
-    let h = or_false (is_special separator x) (needs_quotes separator xs) e in
+    let h = or_parts (is_special separator x) (needs_quotes separator xs) e in
     ap (λ b. cond b (34 ∷ 34 ∷ doubled xs) (x ∷ doubled xs)) (not_special separator x h.0).1 ∙ ap (λ l. x ∷ l) (not_doubled separator xs h.1)
 
 -- ---- the end of a field

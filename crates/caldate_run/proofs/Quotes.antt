@@ -1,5 +1,5 @@
 -- The parts of a record outside of its quotes.
-use Rattle.std.proofs.Common.{◌≡◌, ◌⊎◌, inl, inr, eq-eqb, ℕ, ◌+◌, ◌<◌, Bool, true, false, cond, eqb, List, [], ◌∷◌, ◌++◌, length, take, drop, get_or, refl, sym, ap, ◌∙◌, add-one, append_assoc, take-append-drop}
+use Rattle.std.proofs.Common.{◌≡◌, ◌⊎◌, inl, inr, eq-eqb, ℕ, ◌+◌, ◌<◌, Bool, true, false, cond, eqb, List, [], ◌∷◌, ◌++◌, length, take, drop, get_or, refl, sym, ap, ◌∙◌, add-one, append_assoc, arith, take-append-drop}
 use Rattle.std.specs.Prelude.{not, ◌&&◌, All}
 use Rattle.std.specs.List.{onto_first}
 use Rattle.std.proofs.Math.Seq.{drop-cons, take-length}
@@ -18,6 +18,10 @@ onto_more (y ∷ ys) x parts = ap (onto_first y) (onto_more ys x parts)
 pub onto_one : (xs part : List ℕ) (parts : List (List ℕ)) → onto xs (part ∷ parts) ≡ (xs ++ part) ∷ parts
 onto_one [] part parts = refl
 onto_one (x ∷ xs) part parts = ap (onto_first x) (onto_one xs part parts)
+
+pub onto_some : (x : ℕ) (parts : List (List ℕ)) → 0 < length (onto_first x parts)
+onto_some x [] = omega arith
+onto_some x (part ∷ parts) = omega arith
 
 -- ---- one byte
 abbrev Splits : ℕ → ℕ → Quoting → ℕ → List ℕ → Bool → List (List ℕ)

@@ -11,13 +11,13 @@ use Rattle.caldate_run.specs.RunStates.{onto}
 use Rattle.caldate_run.specs.declared.run.quoting.Quoting.TheVariants.{Ready, Open, Bare}
 use Rattle.caldate_run.specs.declared.run.quoting.Quoting.{Quoting}
 use Rattle.caldate_run.specs.Lines.{all_lines, is_end, without_empty_last}
-use Rattle.std.proofs.lemmas.Bool.{false≢true, ne_eqb}
+use Rattle.std.proofs.lemmas.Bool.{false≢true, ne_eqb, or_parts}
 use Rattle.caldate_run.proofs.Cuts.{record_some}
 use Rattle.caldate_run.proofs.Splits.{onto_onto}
 use Rattle.caldate_run.proofs.Steps.{part_counts}
 use Rattle.caldate_run.specs.Records.IsEscaped.{none, byte, doubled}
 use Rattle.caldate_run.specs.Records.IsField.{bare, escaped}
-use Rattle.caldate_run.proofs.NewFields.{not_special, or_false}
+use Rattle.caldate_run.proofs.NewFields.{not_special}
 use Rattle.caldate_run.proofs.Quotes.{Passes, bare_passes, ends_after, ends_last, goes, onto_more}
 
 within : (b : Bool) → (b && not true) ≡ false
@@ -122,7 +122,7 @@ doubled_is (x ∷ xs) = escaped_one (is_quote x) x (doubled_quotes xs) refl (dou
 bare_is : (c : ℕ) (words : List ℕ) → needs_quotes c words ≡ false → All (λ x. is_quote x ≡ false) words × All (λ x. eqb x c ≡ false) words
 bare_is c [] e = (All-nil _, All-nil _)
 bare_is c (x ∷ xs) e =
-    let h = or_false (is_special c x) (needs_quotes c xs) e in
+    let h = or_parts (is_special c x) (needs_quotes c xs) e in
     let one = not_special c x h.0 in
     let more = bare_is c xs h.1 in
     (All-cons (λ x. is_quote x ≡ false) x xs one.1 more.0, All-cons (λ x. eqb x c ≡ false) x xs one.0 more.1)

@@ -1,5 +1,5 @@
 -- The reply to a line, from the answer to its text.
-use Rattle.std.proofs.Common.{◌≡◌, ℕ, ◌+◌, ◌-◌, ◌<◌, ◌≤◌, Bool, true, false, cond, eqb, List, [], ◌∷◌, ◌++◌, length, take, get_or, Option, Some, None, Result, Ok, Err, refl, sym, ap, ◌∙◌, subst, arith, length-append, length-take, append_assoc}
+use Rattle.std.proofs.Common.{◌≡◌, ℕ, ◌+◌, ◌-◌, ◌<◌, ◌≤◌, Bool, true, false, cond, eqb, List, [], ◌∷◌, ◌++◌, length, take, get_or, Option, Some, None, Result, Ok, Err, refl, sym, ap, ◌∙◌, subst, arith, length-append, append_assoc}
 use Rattle.std.specs.Prelude.{IsSomeAnd, OnOk, MatchBool, MatchOption, is_some, nat_lt, unwrap_or}
 use Rattle.std.proofs.Math.Seq.{take-append-add, take-append_seam}
 use Rattle.std.proofs.lemmas.Bool.{false≢true, le-ltb, lt-ltb}
@@ -23,7 +23,6 @@ use Rattle.caldate_run.specs.declared.on_invalid.OnInvalid.{OnInvalid}
 use Rattle.caldate_run.specs.declared.on_invalid.OnInvalid.TheVariants as invalid
 use Rattle.caldate_run.specs.declared.run.progress.Progress.{Progress}
 use Rattle.caldate_run.specs.declared.request.Field.{Field}
-use Rattle.caldate_run.specs.declared.request.FieldNumbers.{FieldNumbers}
 use Rattle.caldate_run.specs.declared.request.Filter.{Filter}
 use Rattle.caldate_run.specs.declared.request.Request.{Request}
 use Rattle.caldate_run.specs.declared.request.Request.TheVariants.{To, Print, Add, Move, Floor, Until, Since, At, Keep}
@@ -115,11 +114,6 @@ single : (filter : Filter) (field : Option Field) (text : List ℕ) (answer : An
     → IsAnswerToText filter field text answer → IsAnswerToEach filter (several filter.field filter.more) text answer
 single filter field text answer is none h =
     subst (λ fields. IsAnswerToEach filter fields text answer) (sym none) (subst (λ f. IsAnswerToText filter f text answer) (sym is) h)
-
-no_more : (field : Option Field) (others : List FieldNumbers) → length others ≡ 0 → several field others ≡ []
-no_more None others e = refl
-no_more (Some field) [] e = refl
-no_more (Some field) (next ∷ others) e = absurd (omega (arith, e))
 
 pub of_whole : (filter : Filter) (text : List ℕ) (answer : Answer) → filter.field ≡ None → IsAnswer filter text answer
     → IsAnswerToEach filter (several filter.field filter.more) text answer

@@ -1,7 +1,7 @@
 -- The bytes that a text of a shape has, and those that it lacks.
-use Rattle.std.proofs.Common.{◌≡◌, ◌⊎◌, inl, inr, ℕ, zero, suc, ◌+◌, Bool, true, false, ◌&&◌, List, [], ◌∷◌, ◌++◌, Option, Some, None, sym, subst, ◌∙◌, arith}
+use Rattle.std.proofs.Common.{◌≡◌, ◌⊎◌, inl, inr, ℕ, zero, suc, ◌+◌, Bool, true, false, ◌&&◌, List, [], ◌∷◌, ◌++◌, sym, ◌∙◌, arith}
 use Rattle.std.specs.Prelude.{◌||◌, ◌==◌, nat_le, nat_lt, slice_index}
-use Rattle.std.proofs.lemmas.Bool.{and_parts, or_cases, false≢true}
+use Rattle.std.proofs.lemmas.Bool.{and_parts, false≢true}
 use Rattle.std.proofs.lemmas.Bool.Decides.{nat_tests}
 use Rattle.caldate_run.specs.Offsets.{is_digit}
 use Rattle.cal_text.specs.Shape.{Shape, End, ByteRange, Branch, unmatched_bytes}
@@ -91,50 +91,3 @@ lacks_byte b (Branch low above f g) [] ys h e =
 lacks_byte b (Branch low above f g) (x ∷ xs) ys h e =
     let all = and_parts _ _ (and_parts _ _ h).1 in
     elim (branch-first low above f g x (xs ++ b ∷ ys) e) [ inl here ↦ lacks_byte b f xs ys all.0 here.1 | inr other ↦ lacks_byte b g (x ∷ xs) ys all.1 other ]
-
--- ---- bytes, some of which are known, that are not a text of the shape
-abbrev pub Knows : List (Option ℕ) → List ℕ → Type 0
-Knows [] [] = Unit {0}
-Knows [] (x ∷ xs) = ⊥
-Knows (k ∷ ks) [] = ⊥
-Knows (None ∷ ks) (x ∷ xs) = Knows ks xs
-Knows (Some b ∷ ks) (x ∷ xs) = (b ≡ x) × Knows ks xs
-
-abbrev misses : ℕ → ℕ → Option ℕ → Bool
-misses low above None = false
-misses low above (Some b) = is_out low above b
-
-abbrev pub rules_out : List (Option ℕ) → Shape → Bool
-rules_out [] End = false
-rules_out (k ∷ ks) End = true
-rules_out [] (ByteRange low above f) = true
-rules_out (k ∷ ks) (ByteRange low above f) = misses low above k || rules_out ks f
-rules_out [] (Branch low above f g) = rules_out [] g
-rules_out (k ∷ ks) (Branch low above f g) = (misses low above k || rules_out ks f) && rules_out (k ∷ ks) g
-
-known : (low above : ℕ) (k : Option ℕ) (ks : List (Option ℕ)) (x : ℕ) (xs : List ℕ) → Knows (k ∷ ks) (x ∷ xs)
-    → (misses low above k ≡ true → ¬ IsIn low above x) × Knows ks xs
-known low above None ks x xs h = (λ e. absurd (false≢true e), h)
-known low above (Some b) ks x xs h = (λ e here. out low above b e (subst (IsIn low above) (sym h.0) here), h.1)
-
-pub ruled_out : (ks : List (Option ℕ)) (f : Shape) (bytes : List ℕ) → rules_out ks f ≡ true → Knows ks bytes → unmatched_bytes f bytes ≡ 0 → ⊥
-ruled_out [] End bytes h is e = absurd (false≢true h)
-ruled_out (k ∷ ks) End [] h is e = absurd is
-ruled_out (k ∷ ks) End (x ∷ xs) h is e = absurd (omega (arith, e, unmatched_bytes-more x xs))
-ruled_out [] (ByteRange low above f) [] h is e = absurd (omega (arith, e, unmatched_bytes-end low above f))
-ruled_out [] (ByteRange low above f) (x ∷ xs) h is e = absurd is
-ruled_out (k ∷ ks) (ByteRange low above f) [] h is e = absurd is
-ruled_out (k ∷ ks) (ByteRange low above f) (x ∷ xs) h is e =
-    let first = known low above k ks x xs is in
-    let next = from-first low above f x xs e in
-    elim (or_cases _ _ h) [ inl missed ↦ first.0 missed next.0 | inr none ↦ ruled_out ks f xs none first.1 next.1 ]
-ruled_out [] (Branch low above f g) [] h is e = ruled_out [] g [] h is (sym (unmatched_bytes-branch_end low above f g) ∙ e)
-ruled_out [] (Branch low above f g) (x ∷ xs) h is e = absurd is
-ruled_out (k ∷ ks) (Branch low above f g) [] h is e = absurd is
-ruled_out (k ∷ ks) (Branch low above f g) (x ∷ xs) h is e =
-    let first = known low above k ks x xs is in
-    let all = and_parts _ _ h in
-    elim (branch-first low above f g x xs e) [
-      | inl next ↦ elim (or_cases _ _ all.0) [ inl missed ↦ first.0 missed next.0 | inr none ↦ ruled_out ks f xs none first.1 next.1 ]
-      | inr other ↦ ruled_out (k ∷ ks) g (x ∷ xs) all.1 is other
-    ]

@@ -10,7 +10,7 @@ use Rattle.caldate_run.specs.RunStates.{FirstEnds, HasNoFeed, NoEnd, onto, quoti
 use Rattle.caldate_run.specs.declared.run.quoting.Quoting.{Quoting}
 use Rattle.caldate_run.specs.declared.run.quoting.Quoting.TheVariants.{Ready}
 use Rattle.caldate_run.specs.declared.request.Field.{Field}
-use Rattle.caldate_run.proofs.Quotes.{onto_one}
+use Rattle.caldate_run.proofs.Quotes.{onto_one, onto_some}
 
 -- the lines are CSV records
 abbrev pub is_csv : Option Field → Bool
@@ -61,10 +61,6 @@ in_some None q x xs = refl
 in_some (Some field) q x xs = refl
 
 -- ---- the first part
-onto_some : (x : ℕ) (parts : List (List ℕ)) → 0 < length (onto_first x parts)
-onto_some x [] = omega arith
-onto_some x (part ∷ parts) = omega arith
-
 some_either : (b : Bool) (x : ℕ) (parts others : List (List ℕ)) → 0 < length (cond b ([] ∷ parts) (onto_first x others))
 some_either true x parts others = omega arith
 some_either false x parts others = onto_some x others

@@ -25,7 +25,7 @@ use Rattle.cal_text.specs.declared.any.MomentForm.TheVariants.{Rfc3339, Unix}
 use Rattle.cal_text.proofs.DayForms.{calendar-of, ordinal-of, week-of}
 use Rattle.cal_text.proofs.Positions.{begins_less}
 use Rattle.caldate_run.specs.Readers.{IsDateText, IsDateTimeText, IsFoundBy, IsMomentText, IsUnread, IsUnreadIn, named}
-use Rattle.caldate_run.specs.Readings.{HasFormIn, IsErrorIn, IsTextIn, assumed, full_text}
+use Rattle.caldate_run.specs.Readings.{HasFormIn, IsErrorIn, IsTextIn}
 use Rattle.caldate_run.specs.Scans.{Bounds, IsText, has_form}
 use Rattle.caldate_run.specs.Spellings.{full_by, is_sign, iso_text, unix_text, with_colon, with_point}
 use Rattle.caldate_run.specs.declared.reading.Reading.{Reading}
@@ -56,22 +56,17 @@ error_form bytes any (inr (inl h)) = inr (inl (h.0, h.1))
 error_form bytes any (inr (inr (inl h))) = inr (inr (inl (h.0, h.1)))
 error_form bytes any (inr (inr (inr h))) = inr (inr (inr (h.0, h.1)))
 
-full_form : (o : Option (List ℕ)) (r : Reading) (found : DateOrMoment) → IsSomeAnd o (λ t. (other : DateOrMoment) × IsTextOf t other × (found ≡ assumed r other))
-    → IsSomeAnd o HasAnyForm
-full_form None r found h = h
-full_form (Some t) r found h = any_form t h.0 h.1
-
-full_error : (o : Option (List ℕ)) (any : ComponentRange) → IsSomeAnd o (λ t. IsDateOrMomentError t any) → IsSomeAnd o HasAnyForm
-full_error None any h = h
-full_error (Some t) any h = error_form t any h
-
 pub text_form : (r : Reading) (bytes : List ℕ) (found : DateOrMoment) → IsTextIn r bytes found → HasFormIn r bytes
+text_form reading.Any bytes found h = any_form bytes found h
+text_form (reading.Date order) bytes found h = (h.0, h.1)
 text_form (reading.Unix unit) bytes found h = (h.0, h.1)
-text_form r bytes found h = full_form (full_text r bytes) r found h
+text_form (reading.Local offset) bytes found (m, text, is) = (text.1.0, (text.0, text.1.1))
 
 out_of_range_form : (r : Reading) (bytes : List ℕ) (any : ComponentRange) → IsErrorIn r bytes any → HasFormIn r bytes
+out_of_range_form reading.Any bytes any h = error_form bytes any h
+out_of_range_form (reading.Date order) bytes any h = (h.0, h.1)
 out_of_range_form (reading.Unix unit) bytes any h = (h.1.0, h.1.1)
-out_of_range_form r bytes any h = full_error (full_text r bytes) any h
+out_of_range_form (reading.Local offset) bytes any h = (h.0, h.1)
 
 rejected_form : (r : Reading) (bytes : List ℕ) (any : NoAnswer) → IsUnreadIn r bytes any → has_form any ≡ true → HasFormIn r bytes
 rejected_form r bytes (why.Rejected component) h e = out_of_range_form r bytes component h

@@ -1,12 +1,7 @@
--- The digits of numbers, and the days between two days.
-use Rattle.std.proofs.Common.{◌≡◌, ℕ, ◌^◌, ◌<◌, ◌≤◌, length, decimal, ap, ◌∙◌, arith, lit<, ℤ, pos, negsuc, ◌-ℤ◌, unsigned_abs, to_z, of_z, w32, FitsSigned}
+-- The days between two days.
+use Rattle.std.proofs.Common.{◌≡◌, ℕ, ◌<◌, ap, ◌∙◌, arith, ℤ, pos, negsuc, ◌-ℤ◌, unsigned_abs, to_z, of_z, w32, FitsSigned}
 use Rattle.std.proofs.lemmas.Int.{ints, to_z-of_z}
 use Rattle.cal_time.specs.Date.{IsDate, julian_day_at}
-use Rattle.std.proofs.lemmas.Fmt.{length-decimal-le}
-
--- no number of 64 bits has more than 20 digits
-pub few_digits : (n : ℕ) → n < 2 ^ 64 → length (decimal n) ≤ 20
-few_digits n small = length-decimal-le 20 n (lit< tt) (omega (arith, small)) small
 
 -- the days between two days of the range, as 32 bits count them
 small : (z : ℤ) → unsigned_abs z < 2000000000 → FitsSigned w32 z

@@ -32,7 +32,6 @@ pub mod Spellings
 pub mod Targets
 pub mod RunStates
 pub mod Scans
-pub mod Templates
 pub mod ReadHolidaysErrors
 pub mod ReadZoneErrors
 pub mod Zones

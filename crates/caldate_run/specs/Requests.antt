@@ -35,6 +35,7 @@ use Rattle.caldate_run.specs.declared.on_invalid.OnInvalid.TheVariants as invali
 use Rattle.caldate_run.specs.declared.args.options.Options.{Options}
 use Rattle.caldate_run.specs.declared.args.options.OptionsAfter.{OptionsAfter}
 use Rattle.caldate_run.specs.declared.args.options.OptionsAfter.TheVariants.{Continued, Ended, Invalid}
+use Rattle.caldate_run.specs.declared.reading.DateOrder.TheVariants.{Basic, DayFirst, MonthFirst}
 use Rattle.caldate_run.specs.declared.reading.Reading.TheVariants as read
 use Rattle.caldate_run.specs.declared.reading.reader.Assumptions.{Assumptions}
 use Rattle.caldate_run.specs.declared.reading.reader.Reader.{Reader}
@@ -473,9 +474,9 @@ skip_of word = number_between 0 9223372036854775807 word
 -- `--read FORM`
 abbrev pub reader_named : List ℕ → Option Reader
 reader_named word =
-    if bytes_eq word (codes "basic") then Some (reader.Named read.Basic) else
-    if bytes_eq word (codes "dmy") then Some (reader.Named read.DayFirst) else
-    if bytes_eq word (codes "mdy") then Some (reader.Named read.MonthFirst) else
+    if bytes_eq word (codes "basic") then Some (reader.Named (read.Date Basic)) else
+    if bytes_eq word (codes "dmy") then Some (reader.Named (read.Date DayFirst)) else
+    if bytes_eq word (codes "mdy") then Some (reader.Named (read.Date MonthFirst)) else
     if bytes_eq word (codes "unix-ms") then Some (reader.Named (read.Unix Milliseconds)) else
     if bytes_eq word (codes "unix-us") then Some (reader.Named (read.Unix Microseconds)) else
     if bytes_eq word (codes "unix-ns") then Some (reader.Named (read.Unix Nanoseconds)) else

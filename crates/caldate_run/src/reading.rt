@@ -6,21 +6,19 @@ ghost use Rattle.cal_text.specs.Parsing.{FailsWithComponent, FailsWithSyntax};
 ghost use Rattle.cal_text.specs.declared.any.DateOrMoment.{DateOrMoment};
 ghost use Rattle.caldate_run.specs.Readings.{HasFormIn, IsErrorIn, IsTextIn};
 
+mod date;
+mod digits;
 pub(crate) mod full_text;
 mod local;
 mod number;
-mod parts;
 pub mod reader;
 mod readers;
 pub(crate) mod spelling;
-mod template;
 pub mod value_format;
 
+use crate::reading::date::read_date;
 use crate::reading::local::read_local;
 use crate::reading::number::read_number;
-use crate::reading::parts::{
-    basic_parts, day_first_parts, month_first_parts, parted_template, read_parts,
-};
 pub(crate) use crate::reading::readers::reason_of;
 pub use crate::reading::readers::{Readers, read};
 use crate::request::UnixUnit;
@@ -32,16 +30,23 @@ use cal_time::UtcOffset;
 pub enum Reading {
     /// Any of the six forms.
     Any,
+    /// A date with its parts in this order.
+    Date(DateOrder),
+    /// A moment at UTC such as `1709164800500`, in whole units since 1970.
+    Unix(UnixUnit),
+    /// A moment at this offset, such as `2024-02-29T10:00:00`.
+    Local(UtcOffset),
+}
+
+/// The order of the parts of a date.
+#[derive(Clone, Copy)]
+pub enum DateOrder {
     /// A date such as `20240229`.
     Basic,
     /// A date such as `29.02.2024`, `29/02/2024` or `29-02-2024`.
     DayFirst,
     /// A date such as `02.29.2024`, `02/29/2024` or `02-29-2024`.
     MonthFirst,
-    /// A moment at UTC such as `1709164800500`, in whole units since 1970.
-    Unix(UnixUnit),
-    /// A moment at this offset, such as `2024-02-29T10:00:00`.
-    Local(UtcOffset),
 }
 
 /// Parses a text, and returns the date or the moment and the form of its answers.
@@ -60,9 +65,7 @@ pub fn read_in(reading: Reading, text: &[u8]) -> Result<DateOrMoment, ParseError
 {
     match reading {
         Reading::Any => parse_any(text),
-        Reading::Basic => read_parts(basic_parts(text), text, b"dddddddd"),
-        Reading::DayFirst => read_parts(day_first_parts(text), text, &parted_template(text)),
-        Reading::MonthFirst => read_parts(month_first_parts(text), text, &parted_template(text)),
+        Reading::Date(order) => read_date(order, text),
         Reading::Unix(unit) => read_number(unit, text),
         Reading::Local(offset) => read_local(offset, text),
     }

@@ -6,10 +6,10 @@ ghost use Rattle.caldate_run.specs.Meanings.{IsItems, IsMeaning, Meanings, forma
 ghost use Rattle.caldate_run.specs.Requests.{items_of, reader_named, reader_of, reader_with, to_of, value_format_of};
 
 use crate::args::spelling::form_of;
-use crate::reading::Reading;
 use crate::reading::reader::Reader;
 use crate::reading::spelling::Spelling;
 use crate::reading::value_format::ValueFormat;
+use crate::reading::{DateOrder, Reading};
 use crate::request::{Request, UnixUnit};
 use crate::run::lines::index_of;
 use cal_format::{Component, Format, Item, Padding};
@@ -152,11 +152,11 @@ fn reader_named(word: &[u8]) -> Option<Reader>
     ensures { result ≡ reader_named word.now }
 {
     if word == b"basic".as_slice() {
-        Some(Reader::Named(Reading::Basic))
+        Some(Reader::Named(Reading::Date(DateOrder::Basic)))
     } else if word == b"dmy".as_slice() {
-        Some(Reader::Named(Reading::DayFirst))
+        Some(Reader::Named(Reading::Date(DateOrder::DayFirst)))
     } else if word == b"mdy".as_slice() {
-        Some(Reader::Named(Reading::MonthFirst))
+        Some(Reader::Named(Reading::Date(DateOrder::MonthFirst)))
     } else if word == b"unix-ms".as_slice() {
         Some(Reader::Named(Reading::Unix(UnixUnit::Milliseconds)))
     } else if word == b"unix-us".as_slice() {

@@ -96,7 +96,7 @@ impl Buffer {
     }
 
     /// Appends a number in decimal.
-    #[tactic(auto, using(crate::proofs::Texts::few_digits))]
+    #[tactic(auto, using(cal_text::proofs::NumberTexts::few_digits))]
     pub fn push_number(&mut self, number: u64)
         requires { HasRoom 20 self.old }
         ensures appended { self.new ≡ self.old ++ decimal number }

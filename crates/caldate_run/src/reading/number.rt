@@ -1,23 +1,17 @@
 //! Unix times in whole milliseconds, microseconds or nanoseconds.
-ghost use Rattle.std.specs.Prelude.{◌≡◌, ◌<◌, ◌↔◌, ◌≤◌, ℤ, IfErr, IfOk, IfSome, IsTrue, Ok, Some, length, slice_index};
+ghost use Rattle.std.specs.Prelude.{◌≡◌, ◌<◌, ◌↔◌, ◌≤◌, pos, IfErr, IfOk, IfSome, Ok};
 ghost use Rattle.cal_time.specs.declared.error.ComponentRange.{ComponentRange};
-ghost use Rattle.cal_text.specs.Position.{IsErrorAtStop};
 ghost use Rattle.cal_text.specs.Parsing.{FailsWithComponent, FailsWithSyntax};
+ghost use Rattle.cal_text.specs.Position.{IsErrorAtStop};
+ghost use Rattle.cal_text.specs.Shape.{End, Number, ScansWhole};
 ghost use Rattle.cal_text.specs.declared.any.DateOrMoment.{DateOrMoment};
-ghost use Rattle.caldate_run.specs.Readings.{HasFormIn, IsErrorIn, IsNumber, IsTextIn, nanoseconds_in};
-ghost use Rattle.caldate_run.specs.Templates.{IsTemplateFor};
+ghost use Rattle.caldate_run.specs.Readings.{HasFormIn, IsErrorIn, IsNumber, IsTextIn, nanoseconds_in, number_shape};
 ghost use Rattle.caldate_run.specs.declared.reading.Reading.TheVariants.{Unix};
-ghost use Rattle.caldate_run.specs.declared.request.UnixUnit.{UnixUnit};
 
-use crate::answer::signed::signed_text;
-use crate::reading::template::wrong_at;
+use crate::reading::digits::scan_more_digits;
 use crate::request::UnixUnit;
 use cal_datetime::OffsetDateTime;
-use cal_text::{DateOrMoment, MomentForm, ParseError};
-use std::str;
-
-/// The smallest number with more than 27 digits, which are too many.
-const TOO_MANY: u128 = 1_000_000_000_000_000_000_000_000_000;
+use cal_text::{DateOrMoment, MomentForm, ParseError, Scanner};
 
 /// Parses a number of units since 1970-01-01 UTC.
 pub fn read_number(unit: UnixUnit, text: &[u8]) -> Result<DateOrMoment, ParseError>
@@ -29,8 +23,10 @@ pub fn read_number(unit: UnixUnit, text: &[u8]) -> Result<DateOrMoment, ParseErr
     ensures component { (why : ComponentRange)
         → FailsWithComponent why result ↔ IsErrorIn (Unix unit) text.now why }
 {
-    let Some(number) = parse_number(text) else {
-        return Err(wrong_at(text, number_template(text)));
+    let mut scanner = Scanner { rest: text };
+    let Some(number) = scan_number(&mut scanner) else {
+        let position = text.len() - scanner.rest.len();
+        return Err(ParseError::unexpected(position, text.len()));
     };
     match OffsetDateTime::from_unix_timestamp_nanos(number * i128::from(nanoseconds_in(unit))) {
         Ok(moment) => Ok(DateOrMoment::Moment(MomentForm::Unix, moment)),
@@ -49,44 +45,37 @@ fn nanoseconds_in(unit: UnixUnit) -> u32
     }
 }
 
-/// Parses a number of at most 27 digits without a plus sign and without leading zeros.
-fn parse_number(text: &[u8]) -> Option<i128>
-    ensures every { (z : ℤ) → IsNumber text.now z → result ≡ Some z }
-    ensures has { IfSome result (IsNumber text.now) }
+/// Parses a number of at most 27 digits without leading zeros, up to the end of the text. It has a
+/// minus sign if it is negative.
+fn scan_number(scanner: &mut Scanner) -> Option<i128>
+    ensures scans { ScansWhole number_shape scanner.old.rest.now scanner.new.rest.now result }
+    ensures value { IfSome result (IsNumber scanner.old.rest.now) }
 {
-    let Ok(digits) = str::from_utf8(text) else {
-        return None;
-    };
-    let number: i128 = digits.parse().ok()?;
-    if number.unsigned_abs() >= TOO_MANY {
-        return None;
+    match scanner.byte(b'-') {
+        Some(()) => {
+            let number = scan_positive_number(scanner)?;
+            Some(-(number as i128))
+        }
+        None => match scanner.byte(b'0') {
+            Some(()) => {
+                scanner.end()?;
+                Some(0)
+            }
+            None => {
+                let number = scan_positive_number(scanner)?;
+                Some(number as i128)
+            }
+        },
     }
+}
 
-    // Rejects other texts of the number, such as `+1`, `01` and `-0`.
-    if signed_text(number).as_bytes() != text {
-        return None;
-    }
+/// Parses a number above 0 of at most 27 digits without leading zeros, up to the end of the text.
+fn scan_positive_number(scanner: &mut Scanner) -> Option<u128>
+    ensures scans { ScansWhole (Number 26 End) scanner.old.rest.now scanner.new.rest.now result }
+    ensures value { IfSome result (λ n. (0 < n) × IsNumber scanner.old.rest.now (pos n)) }
+{
+    let first = scanner.digit_from_1()?;
+    let number = scan_more_digits(scanner, u128::from(first), 26);
+    scanner.end()?;
     Some(number)
-}
-
-/// Returns the template of numbers that begin like the text.
-fn number_template(text: &[u8]) -> &'static [u8]
-    ensures { (unit : UnixUnit) → IsTemplateFor (HasFormIn (Unix unit)) text.now result.now }
-{
-    if begins_with(text, b'-') {
-        b"-ndddddddddddddddddddddddddd"
-    } else if begins_with(text, b'0') {
-        b"0"
-    } else {
-        b"ndddddddddddddddddddddddddd"
-    }
-}
-
-fn begins_with(text: &[u8], byte: u8) -> bool
-    ensures { IsTrue result ↔ (0 < length text.now) × (slice_index text.now 0 ≡ byte) }
-{
-    match text {
-        [first, ..] => *first == byte,
-        [] => false,
-    }
 }
