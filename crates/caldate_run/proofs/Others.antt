@@ -17,14 +17,6 @@ use Rattle.caldate_run.proofs.OneAnswer.{one_answer}
 pub no_other : (filter : Filter) → filter.field ≡ None → other_field filter ≡ None
 no_other filter e = ap (option_and_then (fields_beside filter.request)) e
 
-none_of : {A : Type 0} (o : Option A) → is_some o ≡ false → o ≡ None
-none_of None e = refl
-none_of (Some a) e = cc
-
--- what the test before an answer says
-pub tested : (filter : Filter) (other : Option Field) (r : Bool) → other ≡ other_field filter → r ≡ is_some other → r ≡ false → other_field filter ≡ None
-tested filter other r is e test = sym is ∙ none_of other (sym e ∙ test)
-
 some_of : {A B : Type 0} (o : Option A) (f : A → B) (b : B) → option_map f o ≡ Some b → is_some o ≡ true
 some_of None f b e = absurd (none-some b e)
 some_of (Some a) f b e = refl

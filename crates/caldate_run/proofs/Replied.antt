@@ -1,6 +1,6 @@
 -- The reply to a line, from the answer to its text.
 use Rattle.std.proofs.Common.{◌≡◌, ℕ, ◌+◌, ◌-◌, ◌<◌, ◌≤◌, Bool, true, false, cond, eqb, List, [], ◌∷◌, ◌++◌, length, take, get_or, Option, Some, None, Result, Ok, Err, refl, sym, ap, ◌∙◌, subst, arith, length-append, append_assoc}
-use Rattle.std.specs.Prelude.{IsSomeAnd, OnOk, MatchBool, MatchOption, is_some, nat_lt, unwrap_or}
+use Rattle.std.specs.Prelude.{IsSomeAnd, MatchBool, MatchOption, is_some, nat_lt, unwrap_or}
 use Rattle.std.proofs.Math.Seq.{take-append-add, take-append_seam}
 use Rattle.std.proofs.lemmas.Bool.{false≢true, le-ltb, lt-ltb}
 use Rattle.std.proofs.lemmas.List.{append-nil, get_or-append-add}
@@ -110,7 +110,7 @@ in_whole filter text answer none h =
     (in_field filter None text text answer refl (by_itself filter text text answer (no_other filter none) h))
 
 -- one field, or none
-single : (filter : Filter) (field : Option Field) (text : List ℕ) (answer : Answer) → filter.field ≡ field → several filter.field filter.more ≡ []
+pub single : (filter : Filter) (field : Option Field) (text : List ℕ) (answer : Answer) → filter.field ≡ field → several filter.field filter.more ≡ []
     → IsAnswerToText filter field text answer → IsAnswerToEach filter (several filter.field filter.more) text answer
 single filter field text answer is none h =
     subst (λ fields. IsAnswerToEach filter fields text answer) (sym none) (subst (λ f. IsAnswerToText filter f text answer) (sym is) h)
@@ -125,16 +125,15 @@ puts_other P Q (Ok false) old new f h = (h.0, f (Ok None) h.1)
 puts_other P Q (Err any) old new f h = (h.0, f (Err any) h.1)
 
 -- the line has no answer, and its reply is appended
-pub replied_without : (filter : Filter) (progress : Progress) (tally : Tally) (line text old mid new : List ℕ) (cut : Bool) (any : NoAnswer) (r : Result Unit NoAnswer)
+pub replied_without : (filter : Filter) (progress : Progress) (tally : Tally) (line text old mid new : List ℕ) (cut : Bool) (any : NoAnswer)
     → text ≡ text_of line → cut ≡ has_return line
     → AtLine progress line (λ before whole. (mid ≡ old) × IsAnswerOf filter before (text_of whole) (Err any))
-    → OnOk r ((line : List ℕ) → text ≡ text_of line → cut ≡ has_return line → AtLine progress line (λ before whole. IsAnswerOf filter before (text_of whole) (Err any))
+    → ((line : List ℕ) → text ≡ text_of line → cut ≡ has_return line → AtLine progress line (λ before whole. IsAnswerOf filter before (text_of whole) (Err any))
     → AppendsReply (IsReplyTo filter) filter.on_invalid progress tally line mid new)
-    → OnOk r (AppendsReply (IsReplyTo filter) filter.on_invalid progress tally line old new)
-replied_without filter progress tally line text old mid new cut any (Ok done) e f put h = λ kept before held front number.
+    → AppendsReply (IsReplyTo filter) filter.on_invalid progress tally line old new
+replied_without filter progress tally line text old mid new cut any e f put h = λ kept before held front number.
     subst (λ l. AppendsSome (λ words. IsReplyTo filter before (kept ++ line) (passed filter.on_invalid kept ++ words) progress.tally tally) l new)
     ((put kept before held front number).0) (h line e f (λ kept before held front number. (put kept before held front number).1) kept before held front number)
-replied_without filter progress tally line text old mid new cut any (Err other) e f put h = h
 
 pub taken_back : (old mid rest new : List ℕ) (before : ℕ) → before ≡ length old → mid ≡ old ++ rest → new ≡ take before mid → new ≡ old
 taken_back old mid rest new before at e f = f ∙ ap (λ k. take k mid) at ∙ ap (λ l. take (length old) l) e ∙ take-append_seam old rest

@@ -1,15 +1,19 @@
 //! The answer to the text of a line.
-ghost use Rattle.std.specs.Prelude.{◌≡◌, ◌+◌, ◌≤◌, ◌++◌, ℕ, List, Some, Ok, Err, IfOk, IfErr, false, true, length, MatchOption};
+ghost use Rattle.std.specs.Prelude.{◌≡◌, ◌+◌, ◌≤◌, ◌++◌, ◌∷◌, ℕ, List, None, Some, Ok, Err, IfOk, IfErr, false, true, length, MatchOption};
 ghost use Rattle.cal_datetime.specs.OffsetDateTime.{LocalAndOffset};
-ghost use Rattle.cal_text.specs.AnyForm.{date_text};
 ghost use Rattle.cal_text.specs.declared.any.DateOrMoment.{DateOrMoment};
 ghost use Rattle.caldate_run.specs.Answers.{IsAnswer, IsAnswerTo, IsAt, IsBetween, IsDayLater, IsLater, IsMomentLater, IsMoved, IsNotRead, IsReadAs, compares, floored, form_read, is_date, keeps, moment_of, offset_in, on_day, until_text};
 ghost use Rattle.caldate_run.specs.Bounds.{lies_in};
 ghost use Rattle.caldate_run.specs.Forms.{IsInForm, format_text};
+ghost use Rattle.caldate_run.specs.Readers.{IsUnreadIn};
+ghost use Rattle.caldate_run.specs.Readings.{IsTextIn};
 ghost use Rattle.caldate_run.specs.Replies.{reason, refused_text};
 ghost use Rattle.caldate_run.specs.Room.{HasRoom, longest_answer};
 ghost use Rattle.caldate_run.specs.Runs.{AppendsSome, AppendsAnswer};
 ghost use Rattle.caldate_run.specs.Scans.{IsReadWith};
+ghost use Rattle.caldate_run.specs.declared.reading.Reading.TheVariants.{Any};
+ghost use Rattle.caldate_run.specs.declared.reading.reader.Reader.{Reader};
+ghost use Rattle.caldate_run.specs.declared.reading.reader.Reader.TheVariants.{Named};
 ghost use Rattle.caldate_run.specs.declared.run.no_answer.NoAnswer.{NoAnswer};
 
 pub(crate) mod clock;
@@ -17,23 +21,25 @@ pub(crate) mod counts;
 pub(crate) mod forms;
 pub(crate) mod moves;
 pub(crate) mod signed;
+pub(crate) mod texts;
 
 use crate::answer::clock::placed;
 use crate::answer::counts::count_between;
-use crate::answer::forms::{basic_text, month_text, quarter_text, unix_text};
 use crate::answer::moves::moved_day;
-use crate::answer::signed::signed_text;
+use crate::answer::texts::{
+    push_basic, push_date, push_month, push_quarter, push_rfc3339, push_signed, push_unix,
+    push_whole_unix,
+};
 use crate::args::bounds::{is_comparable, lies_in};
 use crate::output::buffer::Buffer;
-use crate::reading::read;
+use crate::reading::reader::Reader;
+use crate::reading::{Reading, read, read_in, reason_of};
 use crate::request::{Bounds, DayMove, Filter, Form, Place, Request, Target, TimeUnit};
 use crate::run::no_answer::NoAnswer;
 use cal_datetime::OffsetDateTime;
 use cal_format::Format;
 use cal_schedule::Workdays;
-use cal_text::date::{CalendarText, OrdinalText, WeekText};
-use cal_text::julian_day::JulianText;
-use cal_text::{DateForm, DateOrMoment, MomentForm, rfc3339, unix};
+use cal_text::{DateOrMoment, MomentForm};
 use cal_time::error::ComponentRange;
 use cal_time::{Date, ShortText, SignedDuration, Time, UtcOffset};
 
@@ -44,6 +50,7 @@ pub const LONGEST_TEXT: usize = 4096;
 const LONGEST_PRINTED: usize = 960;
 
 /// Appends the answer to `text`, and returns whether its line goes out.
+// The results of rare calls are matched, so that no line waits for one in memory.
 #[inline(always)]
 pub fn push_answer(buffer: &mut Buffer, filter: &Filter<'_>, text: &[u8]) -> Result<bool, NoAnswer>
     requires { HasRoom (length text.now + longest_answer) buffer.old }
@@ -52,7 +59,73 @@ pub fn push_answer(buffer: &mut Buffer, filter: &Filter<'_>, text: &[u8]) -> Res
     ensures few { keeps filter.now.request ≡ false
         → length buffer.new ≤ length buffer.old + longest_answer }
 {
+    if reads_six_forms(filter) {
+        return match read_in(Reading::Any, text) {
+            Ok(found) => push_found(buffer, filter, text, &found),
+            Err(error) => match push_by_others(buffer, filter, text, reason_of(error)) {
+                Ok(goes_out) => Ok(goes_out),
+                Err(why) => Err(why),
+            },
+        };
+    }
+    match push_by_forms(buffer, filter, text) {
+        Ok(goes_out) => Ok(goes_out),
+        Err(why) => Err(why),
+    }
+}
+
+/// Returns whether a text is first read in the six forms, and its moment is on no clock.
+fn reads_six_forms(filter: &Filter<'_>) -> bool
+    ensures forms { result ≡ true
+        → (others : List Reader) × (filter.now.readers ≡ Named Any ∷ others) }
+    ensures clock { result ≡ true → filter.now.clock ≡ None }
+{
+    match filter.readers.as_slice() {
+        [Reader::Named(Reading::Any), ..] => filter.clock.is_none(),
+        _ => false,
+    }
+}
+
+/// Appends the answer to `text`, whatever its forms are, and returns whether its line goes out.
+#[inline(never)]
+pub fn push_by_forms(
+    buffer: &mut Buffer,
+    filter: &Filter<'_>,
+    text: &[u8],
+) -> Result<bool, NoAnswer>
+    requires { HasRoom (length text.now + longest_answer) buffer.old }
+    ensures answered { AppendsAnswer (IsAnswer filter.now text.now) result buffer.old buffer.new }
+    ensures short { length buffer.new ≤ length buffer.old + length text.now + longest_answer }
+    ensures few { keeps filter.now.request ≡ false
+        → length buffer.new ≤ length buffer.old + longest_answer }
+{
     push_read(buffer, filter, text, read_with(filter, text))
+}
+
+/// Appends the answer to `text`, which isn't in the six forms for this reason, by the other forms.
+/// Returns whether its line goes out.
+#[inline(never)]
+fn push_by_others(
+    buffer: &mut Buffer,
+    filter: &Filter<'_>,
+    text: &[u8],
+    why: NoAnswer,
+) -> Result<bool, NoAnswer>
+    requires room { HasRoom (length text.now + longest_answer) buffer.old }
+    requires forms { (others : List Reader) × (filter.now.readers ≡ Named Any ∷ others) }
+    requires clock { filter.now.clock ≡ None }
+    requires unread { (found : DateOrMoment) → ¬ IsTextIn Any text.now found }
+    requires why { IsUnreadIn Any text.now why }
+    ensures answered { AppendsAnswer (IsAnswer filter.now text.now) result buffer.old buffer.new }
+    ensures short { length buffer.new ≤ length buffer.old + length text.now + longest_answer }
+    ensures few { keeps filter.now.request ≡ false
+        → length buffer.new ≤ length buffer.old + longest_answer }
+{
+    let others = &filter.readers.as_slice()[1..];
+    match read(others, &filter.assumptions, text) {
+        Ok(found) => push_found(buffer, filter, text, &found),
+        Err(_) => Err(why),
+    }
 }
 
 /// Appends the answer to `text`, which is read so, and returns whether its line goes out.
@@ -70,13 +143,31 @@ pub fn push_read(
     ensures few { keeps filter.now.request ≡ false
         → length buffer.new ≤ length buffer.old + longest_answer }
 {
-    let found = match read {
-        Ok(found) => found,
-        Err(why) => return Err(why),
-    };
-    if push_answer_to(buffer, &filter.workdays, &filter.request, text, &found) {
+    match read {
+        Ok(found) => push_found(buffer, filter, text, &found),
+        Err(why) => Err(why),
+    }
+}
+
+/// Appends the answer to `text`, which is read as this date or moment, and returns whether its line
+/// goes out.
+#[inline(always)]
+fn push_found(
+    buffer: &mut Buffer,
+    filter: &Filter<'_>,
+    text: &[u8],
+    found: &DateOrMoment,
+) -> Result<bool, NoAnswer>
+    requires room { HasRoom (length text.now + longest_answer) buffer.old }
+    requires read { IsReadAs filter.now text.now found.now }
+    ensures answered { AppendsAnswer (IsAnswer filter.now text.now) result buffer.old buffer.new }
+    ensures short { length buffer.new ≤ length buffer.old + length text.now + longest_answer }
+    ensures few { keeps filter.now.request ≡ false
+        → length buffer.new ≤ length buffer.old + longest_answer }
+{
+    if push_answer_to(buffer, &filter.workdays, &filter.request, text, found) {
         Ok(true)
-    } else if compares(&filter.request, &found) {
+    } else if compares(&filter.request, found) {
         Ok(false)
     } else {
         Err(NoAnswer::None)
@@ -255,6 +346,7 @@ fn floored(minutes: u16, moment: OffsetDateTime) -> OffsetDateTime
 }
 
 /// Appends a moment in a form, or nothing if the form can't express it. Returns whether it can.
+#[inline(always)]
 fn push_in_form(buffer: &mut Buffer, form: Form, moment: OffsetDateTime) -> bool
     requires { HasRoom longest_answer buffer.old }
     ensures has { result ≡ true → AppendsSome (IsInForm form moment) buffer.old buffer.new }
@@ -263,23 +355,15 @@ fn push_in_form(buffer: &mut Buffer, form: Form, moment: OffsetDateTime) -> bool
     ensures short { length buffer.new ≤ length buffer.old + longest_answer }
 {
     match form {
-        Form::Date(form) => buffer.push(text_of_date(form, moment.date()).as_bytes()),
+        Form::Date(form) => push_date(buffer, form, moment.date()),
         Form::Weekday => buffer.push(moment.date().weekday().name().as_bytes()),
-        Form::Moment(form) => match form {
-            MomentForm::Rfc3339 => match rfc3339::Text::new(moment) {
-                Some(text) => buffer.push(text.text().as_bytes()),
-                None => return false,
-            },
-            MomentForm::Unix => buffer.push(unix::Text::new(moment).text().as_bytes()),
-        },
+        Form::Moment(MomentForm::Rfc3339) => return push_rfc3339(buffer, moment),
+        Form::Moment(MomentForm::Unix) => push_unix(buffer, moment),
         Form::ShortWeekday => buffer.push(&moment.date().weekday().name().as_bytes()[..3]),
-        Form::Month => buffer.push(month_text(moment.date()).as_bytes()),
-        Form::Quarter => buffer.push(quarter_text(moment.date()).as_bytes()),
-        Form::Basic => match basic_text(moment.date()) {
-            Some(text) => buffer.push(text.as_bytes()),
-            None => return false,
-        },
-        Form::Unix(unit) => buffer.push(unix_text(unit, moment).as_bytes()),
+        Form::Month => push_month(buffer, moment.date()),
+        Form::Quarter => push_quarter(buffer, moment.date()),
+        Form::Basic => return push_basic(buffer, moment),
+        Form::Unix(unit) => push_whole_unix(buffer, unit, moment),
     }
     true
 }
@@ -299,18 +383,6 @@ fn push_printed(buffer: &mut Buffer, format: &Format, moment: OffsetDateTime)
     match format.print_in_zone(moment, b"", &mut text) {
         Some(end) => buffer.push(&text[..end]),
         None => unreachable!(),
-    }
-}
-
-fn text_of_date(form: DateForm, date: Date) -> ShortText
-    ensures text { result ≡ date_text form date }
-    ensures short { length result ≤ 38 }
-{
-    match form {
-        DateForm::Calendar => CalendarText(date).text(),
-        DateForm::Ordinal => OrdinalText(date).text(),
-        DateForm::Week => WeekText(date).text(),
-        DateForm::JulianDay => JulianText(date).text(),
     }
 }
 
@@ -405,7 +477,7 @@ pub fn push_between(
     match unit {
         Some(unit) => {
             let count = count_between(workdays, unit, moment_of(from), moment_of(to));
-            buffer.push(signed_text(i128::from(count)).as_bytes());
+            push_signed(buffer, count);
         }
         None => push_until(buffer, from, to),
     }

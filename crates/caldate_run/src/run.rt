@@ -167,9 +167,15 @@ fn answer_lines<W: Sink>(
     ensures others { IfErr result IsEarly }
     ensures writes { Writes W.write_gives writer.old (write_failure result) writer.new }
 {
+    let field = filter.field;
+    // Only the first line can be the rest of a long one.
+    let mut quoting = progress.quoting();
     let mut rest = bytes;
-    while let Some((line, after)) = next_line(filter.field, progress.quoting(), rest) {
-        make_room(buffer, line.len(), writer)?;
+    while let Some((line, after)) = next_line(field, quoting, rest) {
+        if !buffer.has_room_for(line.len()) {
+            flush(buffer, writer)?;
+            continue;
+        }
         match push_reply(buffer, filter, progress, line) {
             Ok(()) => {}
             Err(why) => {
@@ -177,6 +183,7 @@ fn answer_lines<W: Sink>(
                 return Err(stop(reported, buffer, writer));
             }
         }
+        quoting = Quoting::Ready;
         rest = after;
     }
     Ok(rest.len())

@@ -85,6 +85,7 @@ fn are_dates(bounds: &Bounds) -> bool
     }
 }
 
+#[inline(always)]
 fn is_within(bounds: &Bounds, found: &DateOrMoment) -> bool
     ensures { result ≡ is_within bounds.now found.now }
 {

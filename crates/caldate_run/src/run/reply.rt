@@ -1,13 +1,14 @@
 //! The reply to a line.
-ghost use Rattle.std.specs.Prelude.{◌≡◌, ◌⊎◌, ◌+◌, ◌<◌, ◌≤◌, ◌++◌, ◌∷◌, [], ℕ, List, Some, Err, false, true, is_some, length, max, nat_lt, unwrap_or, IfErr, OnErr, OnOk, if◌then◌else◌};
-ghost use Rattle.caldate_run.specs.Fields.{text_with, text_without};
+ghost use Rattle.std.specs.Prelude.{◌≡◌, ◌⊎◌, ◌+◌, ◌<◌, ◌≤◌, ◌++◌, ◌∷◌, [], ℕ, List, None, Some, Err, false, true, is_some, length, max, nat_lt, unwrap_or, IfErr, IfSome, OnErr, OnOk, if◌then◌else◌};
+ghost use Rattle.caldate_run.specs.Fields.{several, text_with, text_without};
 ghost use Rattle.caldate_run.specs.Lines.{has_return, text_of};
 ghost use Rattle.caldate_run.specs.Replies.{Describes, IsAnswerOf, IsAnswerToText, IsInPlace, IsReplyTo, header_with, in_place, more, reason, skipped, stops, with_name, with_reason};
 ghost use Rattle.caldate_run.specs.Room.{HasRoom, longest_field, longest_left, longest_reply, longest_text};
 ghost use Rattle.caldate_run.specs.Runs.{AppendsOut, AppendsSome, AppendsAnswer, AppendsReply};
 ghost use Rattle.caldate_run.specs.RunStates.{AtLine, counted};
+ghost use Rattle.caldate_run.specs.Targets.{other_field};
 
-use crate::answer::{LONGEST_TEXT, push_answer, push_reason};
+use crate::answer::{LONGEST_TEXT, push_answer, push_by_forms, push_reason};
 use crate::field_name::FieldName;
 use crate::input::fields::{cut_field, is_quoted};
 use crate::on_invalid::OnInvalid;
@@ -51,7 +52,13 @@ pub fn push_reply(
             progress.is_long = false;
             Ok(())
         }
-        Err(why) => push_unanswered(buffer, filter, progress, text, has_return, why),
+        Err(why) => {
+            if stops(filter.on_invalid) {
+                return Err(why);
+            }
+            push_unanswered(buffer, filter, progress, text, has_return, why);
+            Ok(())
+        }
     }
 }
 
@@ -79,9 +86,8 @@ fn push_line(
     push_text(buffer, filter, progress.tally.lines, text)
 }
 
-/// Appends the reply to a line that has no answer, and counts the line. Fails with the reason, and
-/// changes nothing, if the run ends at the line. The line is given by its text and whether it has a
-/// carriage return.
+/// Appends the reply to a line that has no answer and doesn't end the run, and counts the line. The
+/// line is given by its text and whether it has a carriage return.
 #[cold]
 #[inline(never)]
 fn push_unanswered(
@@ -91,31 +97,24 @@ fn push_unanswered(
     text: &[u8],
     with_return: bool,
     why: NoAnswer,
-) -> Result<(), NoAnswer>
+)
+    requires goes_on { stops filter.now.on_invalid ≡ false }
     requires room { HasRoom longest_reply buffer.old }
     requires line { HasRoom (length text.now + (if with_return then 3 else 2)) buffer.old }
     requires fits { progress.old.is_long ≡ true ⊎ longest_text < length text.now
         → why ≡ NoAnswer.TooLong }
-    ensures replied { OnOk result ((line : List ℕ) → text.now ≡ text_of line
-        → with_return ≡ has_return line
+    ensures replied { (line : List ℕ) → text.now ≡ text_of line → with_return ≡ has_return line
         → AtLine progress.old line (λ before whole. IsAnswerOf filter.now before (text_of whole) (Err why))
         → AppendsReply (IsReplyTo filter.now) filter.now.on_invalid progress.old progress.new.tally
-        line buffer.old buffer.new) }
-    ensures counted { OnOk result (progress.new.tally.lines ≡ more progress.old.tally.lines) }
-    ensures short { OnOk result (progress.new.is_long ≡ false) }
-    ensures ends { IfErr result (λ reason. (reason ≡ why) × (stops filter.now.on_invalid ≡ true)) }
-    ensures same { OnErr result (buffer.new ≡ buffer.old) }
-    ensures still { OnErr result (progress.new ≡ progress.old) }
+        line buffer.old buffer.new }
+    ensures counted { progress.new.tally.lines ≡ more progress.old.tally.lines }
+    ensures short { progress.new.is_long ≡ false }
 {
-    if stops(filter.on_invalid) {
-        return Err(why);
-    }
     let reported = describe(progress, text, why);
     let goes_out = push_instead(buffer, filter, progress.is_long, text, why);
     push_end(buffer, goes_out, with_return);
     progress.tally.count_unanswered(reported);
     progress.is_long = false;
-    Ok(())
 }
 
 /// Appends the end of a line that goes out.
@@ -296,6 +295,55 @@ fn push_text(
     ensures same { OnErr result (buffer.new ≡ buffer.old) }
     ensures short { length buffer.new ≤ length buffer.old + longest_left }
 {
+    if number >= filter.skip && is_simple(filter) {
+        match filter.field {
+            Some(field) => return push_field(buffer, filter, field, text),
+            None => return push_answer(buffer, filter, text),
+        }
+    }
+    match push_otherwise(buffer, filter, number, text) {
+        Ok(goes_out) => Ok(goes_out),
+        Err(why) => Err(why),
+    }
+}
+
+/// Returns whether the whole line or one field of it is answered in place, by itself. The field is
+/// not one of a CSV record.
+fn is_simple(filter: &Filter<'_>) -> bool
+    ensures scans { result ≡ true → filter.now.scans ≡ false }
+    ensures field { result ≡ true
+        → IfSome filter.now.field (λ field. (field.csv ≡ false) × (field.appends ≡ false)) }
+    ensures single { result ≡ true → several filter.now.field filter.now.more ≡ [] }
+    ensures other { result ≡ true → other_field filter.now ≡ None }
+{
+    if filter.scans {
+        return false;
+    }
+    let Some(field) = filter.field else {
+        return true;
+    };
+    if field.csv || field.appends || has_more(filter) {
+        return false;
+    }
+    other_field(filter).is_none()
+}
+
+/// Appends the text of a line after `number` other lines, with its answer, whatever the options are.
+/// Returns whether the line goes out.
+#[inline(never)]
+fn push_otherwise(
+    buffer: &mut Buffer,
+    filter: &Filter<'_>,
+    number: u64,
+    text: &[u8],
+) -> Result<bool, NoAnswer>
+    requires room { HasRoom longest_reply buffer.old }
+    requires fits { length text.now ≤ longest_text }
+    ensures answered { (before : ℕ) → number ≡ counted before
+        → AppendsAnswer (IsAnswerOf filter.now before text.now) result buffer.old buffer.new }
+    ensures same { OnErr result (buffer.new ≡ buffer.old) }
+    ensures short { length buffer.new ≤ length buffer.old + longest_left }
+{
     if number < filter.skip {
         return push_skipped(buffer, filter, number, text);
     }
@@ -304,9 +352,8 @@ fn push_text(
     }
     match filter.field {
         Some(field) if has_more(filter) => push_several(buffer, filter, field, text),
-        Some(field) if field.csv || field.appends => push_in_record(buffer, filter, field, text),
-        Some(field) => push_field(buffer, filter, field, text),
-        None => push_answer(buffer, filter, text),
+        Some(field) => push_in_record(buffer, filter, field, text),
+        None => push_by_forms(buffer, filter, text),
     }
 }
 
@@ -380,7 +427,6 @@ fn push_column(
 
 /// Appends the text, which isn't a CSV record, with the answer in place of the field, and returns
 /// whether the line goes out.
-// Other fields are rare, so they are left to the slower way.
 #[inline(always)]
 fn push_field(
     buffer: &mut Buffer,
@@ -392,13 +438,11 @@ fn push_field(
     requires fits { length text.now ≤ longest_text }
     requires plain { field.csv ≡ false }
     requires in_place { field.appends ≡ false }
+    requires other { other_field filter.now ≡ None }
     ensures answered { AppendsAnswer (IsAnswerToText filter.now (Some field) text.now) result
         buffer.old buffer.new }
     ensures short { length buffer.new ≤ length buffer.old + longest_text + longest_field }
 {
-    if other_field(filter).is_some() {
-        return push_in_record(buffer, filter, field, text);
-    }
     let Some((front, part, rest)) = cut_field(field, text) else {
         return Err(NoAnswer::NoField);
     };

@@ -4,7 +4,7 @@ use Rattle.std.specs.Prelude.{option_map}
 use Rattle.caldate_run.specs.Fields.{text_with, within_quotes}
 use Rattle.caldate_run.specs.Runs.{AppendsSome, AppendsAnswer}
 use Rattle.caldate_run.proofs.NewFields.{in_place_text, plain_within, plain_words}
-use Rattle.caldate_run.proofs.Others.{by_itself, tested}
+use Rattle.caldate_run.proofs.Others.{by_itself}
 use Rattle.caldate_run.proofs.Replied.{in_field, in_part, kept_or, taken_back}
 use Rattle.caldate_run.proofs.run.reply.push_field.Goals as goal
 
@@ -19,7 +19,7 @@ returns-in-Ok-true-clause-answered c =
     subst (λ goes. AppendsAnswer (IsAnswer filter c.in-Some.part.now) (Ok goes) c.push.new.self c.push_answer.new.buffer) c.in-Ok-true.field-0-test c.in-Ok-true.ensures.answered in
     let part = c.in-Some.part.now in
     let asked = ap (option_map (within_quotes c.args.field)) c.in-Some.ensures.part ∙ ap Some (plain_within c.args.field part c.requires.plain) in
-    let none = tested filter c.other_field.result _ c.other_field.ensures c.is_some.ensures c.if-is_some.false in
+    let none = c.requires.other in
     let around = in_place_text c.args.field text put.0 c.requires.in_place ∙ c.in-Some.ensures.around put.0 ∙ ap (λ words. front ++ words ++ rest) (plain_words c.args.field part put.0 c.requires.plain) in (
       front ++ put.0 ++ rest,
       c.push-in-Ok-true.ensures.appended ∙ ap (λ l. l ++ rest) (put.1 ∙ ap (λ l. l ++ put.0) c.push.ensures.appended)
@@ -31,7 +31,7 @@ returns-in-Ok-true-clause-answered c =
 
 pub returns-in-Ok-false-clause-answered : goal.returns-in-Ok-false-clause-answered
 returns-in-Ok-false-clause-answered c =
-    let none = tested c.args.filter.now c.other_field.result _ c.other_field.ensures c.is_some.ensures c.if-is_some.false in
+    let none = c.requires.other in
     let put : (c.push_answer.new.buffer ≡ c.push.new.self) × IsAnswer c.args.filter.now c.in-Some.part.now (Ok None) =
     subst (λ goes. AppendsAnswer (IsAnswer c.args.filter.now c.in-Some.part.now) (Ok goes) c.push.new.self c.push_answer.new.buffer) c.in-Ok-false.field-0-test c.in-Ok-false.ensures.answered in (
       taken_back _ _ c.in-Some.front.now _ _ c.len-start.ensures (put.0 ∙ c.push.ensures.appended) c.truncate.ensures,
@@ -40,7 +40,7 @@ returns-in-Ok-false-clause-answered c =
 
 pub returns-in-Err-clause-answered : goal.returns-in-Err-clause-answered
 returns-in-Err-clause-answered c =
-    let none = tested c.args.filter.now c.other_field.result _ c.other_field.ensures c.is_some.ensures c.if-is_some.false in
+    let none = c.requires.other in
     let put = c.in-Err.ensures.answered in (
       taken_back _ _ c.in-Some.front.now _ _ c.len-start.ensures (put.0 ∙ c.push.ensures.appended) c.truncate-in-Err.ensures,
       in_field c.args.filter.now (Some c.args.field) c.args.text.now c.in-Some.part.now (Err c.in-Err.why) (ap (option_map (within_quotes c.args.field)) c.in-Some.ensures.part ∙ ap Some (plain_within c.args.field c.in-Some.part.now c.requires.plain)) (by_itself c.args.filter.now c.args.text.now c.in-Some.part.now (Err c.in-Err.why) none put.1),

@@ -1,7 +1,4 @@
-use Rattle.std.proofs.Common.{◌≡◌, ◌++◌, [], ℕ, Bool, List, Err, false, subst, sym}
-use Rattle.std.proofs.lemmas.Result.{IfErr-weaker}
-use Rattle.caldate_run.specs.Lines.{text_of}
-use Rattle.caldate_run.specs.Replies.{IsAnswerOf}
+use Rattle.std.proofs.Common.{◌≡◌, ◌∙◌, [], ℕ, Bool, List, false, subst, sym}
 use Rattle.caldate_run.specs.RunStates.{IsDroppedFront}
 use Rattle.caldate_run.proofs.Replied.{replied, replied_without}
 use Rattle.caldate_run.proofs.run.reply.push_reply.Goals as goal
@@ -16,15 +13,16 @@ returns-in-Ok-clause-replied c = λ kept before held front number.
     c.args.progress.now.tally c.count.new.self (held_none _ kept line c.in-Ok.ensures.whole held) (c.in-Ok.ensures.answered line c.cut_return-has_return.ensures.text kept before held front number)
     c.cut_return-has_return.ensures.cut c.push_end.ensures c.count.ensures
 
-pub returns-in-Err-clause-replied : goal.returns-in-Err-clause-replied
-returns-in-Err-clause-replied c =
+pub push_unanswered-requires-clause-goes_on : goal.push_unanswered-requires-clause-goes_on
+push_unanswered-requires-clause-goes_on c = sym c.stops.ensures ∙ c.if-stops.false
+
+pub returns-else-stops-clause-replied : goal.returns-else-stops-clause-replied
+returns-else-stops-clause-replied c =
     replied_without c.args.filter.now c.args.progress.now c.push_unanswered.new.progress.tally c.args.line.now _ c.args.buffer.now c.push_line.new.buffer
-    c.push_unanswered.new.buffer _ c.in-Err.why c.push_unanswered.result c.cut_return-has_return.ensures.text c.cut_return-has_return.ensures.cut
+    c.push_unanswered.new.buffer _ c.in-Err.why c.cut_return-has_return.ensures.text c.cut_return-has_return.ensures.cut
     (c.in-Err.ensures.answered c.args.line.now c.cut_return-has_return.ensures.text) c.push_unanswered.ensures.replied
 
-pub returns-in-Err-clause-ends : goal.returns-in-Err-clause-ends
-returns-in-Err-clause-ends c =
-    IfErr-weaker c.push_unanswered.result _ _ (λ why is kept before held front number.
-    let line = c.args.line.now in
-    let put = c.in-Err.ensures.answered line c.cut_return-has_return.ensures.text kept before held front number in
-    (is.1, subst (λ w. IsAnswerOf c.args.filter.now before (text_of (kept ++ line)) (Err w)) (sym is.0) put.1)) c.push_unanswered.ensures.ends
+pub returns-then-stops-clause-ends : goal.returns-then-stops-clause-ends
+returns-then-stops-clause-ends c = λ kept before held front number.
+    let put = c.in-Err.ensures.answered c.args.line.now c.cut_return-has_return.ensures.text kept before held front number in
+    (sym c.stops.ensures ∙ c.if-stops.true, put.1)
