@@ -1,5 +1,5 @@
 -- The days of a list, one after the other.
-use Rattle.std.proofs.Common.{◌≡◌, ℕ, suc, ◌+◌, ◌*◌, ◌<◌, ◌∙◌, ap, sym, subst, arith, inl, inr, Option, None, Some, Result, Ok, Err, ℤ, pos, min, List, [], ◌∷◌, ◌++◌, length, get_or, append_assoc, length-append}
+use Rattle.std.proofs.Common.{◌≡◌, ℕ, suc, ◌+◌, ◌*◌, ◌<◌, ◌∙◌, ap, refl, sym, subst, arith, inl, inr, Option, None, Some, Result, Ok, Err, ℤ, pos, min, List, [], ◌∷◌, ◌++◌, length, get_or, append_assoc, length-append}
 use Rattle.std.specs.Prelude.{IfErr, IfSome, IsErrAnd, IsOk, MatchOption, OnErr, OnOk}
 use Rattle.std.specs.List.{flat_map}
 use Rattle.std.proofs.lemmas.Bool.{cases_lt, false≢true}
@@ -12,8 +12,8 @@ use Rattle.std.specs.Io.KnownBytes.{Appends}
 use Rattle.cal_time.specs.Date.{IsDate}
 use Rattle.cal_schedule.specs.Months.{IsMonthsLater}
 use Rattle.cal_schedule.proofs.MonthMoves.{IsMonthNumber-date, one_later}
-use Rattle.caldate_run.specs.Lists.{AreAll, AreFirst, IsUnitsAfter, IsListed, TakesLines, line_of}
-use Rattle.caldate_run.specs.Runs.{AppendsFront, IsOfWrite}
+use Rattle.caldate_run.specs.Lists.{AreAll, AreFirst, IsUnitsAfter, IsListed, Lists, line_of}
+use Rattle.caldate_run.specs.Runs.{AppendsFront, IsOfWrite, WritesPage}
 use Rattle.caldate_run.specs.declared.run.run_error.RunError.{RunError}
 use Rattle.caldate_run.specs.declared.request.Listing.{Listing}
 use Rattle.caldate_run.specs.declared.request.StepUnit.{StepUnit}
@@ -69,18 +69,45 @@ next_count days day count every e =
     sym (ap (λ k. k * every) longer ∙ suc-mul (length days) every ∙ ap (λ p. p + every) (sym e))
 
 -- ---- what the writer took
-pub lists_failed : (All First : List ℕ → Type 0) (r : Result Unit RunError) (old new : Option (List ℕ)) (days : List ℕ) → IsErrAnd r IsOfWrite → First days
-    → AppendsFront old new (flat_map line_of days) → TakesLines All First r old new
-lists_failed All First (Ok done) old new days is first front = absurd is
-lists_failed All First (Err error) old new days is first front = (is, (days, first, front))
+pub lists_failed : (listing : Listing) (r : Result Unit RunError) (old new : Option (List ℕ)) (days : List ℕ) → IsErrAnd r IsOfWrite → AreFirst listing days
+    → AppendsFront old new (flat_map line_of days) → Lists listing r old new
+lists_failed listing (Ok done) old new days is first front = absurd is
+lists_failed listing (Err error) old new days is first front = (is, (days, first, front))
 
-pub lists_ended : (All First : List ℕ → Type 0) (r : Result Unit RunError) (start now new : Option (List ℕ)) (days written buffered : List ℕ) → All days → First days
+pub lists_ended : (listing : Listing) (r : Result Unit RunError) (start now new : Option (List ℕ)) (days written buffered : List ℕ) → AreAll listing days
     → flat_map line_of days ≡ written ++ buffered → Appends start now written → OnOk r (Appends now new buffered) → OnErr r (AppendsFront now new buffered)
-    → IfErr r IsOfWrite → TakesLines All First r start new
-lists_ended All First (Ok done) start now new days written buffered all first whole taken ok front err =
+    → IfErr r IsOfWrite → Lists listing r start new
+lists_ended listing (Ok done) start now new days written buffered all whole taken ok front err =
     (days, all, all_more start now new written buffered _ whole taken ok)
-lists_ended All First (Err error) start now new days written buffered all first whole taken ok front err =
-    (err, (days, first, front_more start now new written buffered _ whole taken front))
+lists_ended listing (Err error) start now new days written buffered all whole taken ok front err =
+    (err, (days, all.0, front_more start now new written buffered _ whole taken front))
+
+-- ---- lines of which some are left
+pub one_text_more : (all written old room buffered text left : List ℕ) → all ≡ written ++ (old ++ (text ++ 10 ∷ left)) → old ≡ room ++ buffered
+    → all ≡ (written ++ room) ++ (((buffered ++ text) ++ 10 ∷ []) ++ left)
+one_text_more all written old room buffered text left e cut =
+    e ∙ ap (λ l. written ++ (l ++ (text ++ 10 ∷ left))) cut ∙ simp append_assoc refl
+
+pub lines_failed : (r : Result Unit RunError) (start now new : Option (List ℕ)) (all written buffered left : List ℕ) → IsErrAnd r IsOfWrite
+    → all ≡ written ++ (buffered ++ left) → Appends start now written → AppendsFront now new buffered → WritesPage all r start new
+lines_failed (Ok done) start now new all written buffered left is e taken front = absurd is
+lines_failed (Err error) start now new all written buffered left is e taken front =
+    let more : AppendsFront now new (buffered ++ left) = record {
+      front = front.front;
+      rest = front.rest ++ left;
+      whole = ap (λ l. l ++ left) front.whole ∙ append_assoc front.front front.rest left;
+      left = omega (arith, front.left, length-append front.rest left);
+      taken = front.taken;
+    } in
+    (is, front_more start now new written (buffered ++ left) all e taken more)
+
+pub lines_ended : (r : Result Unit RunError) (start now new : Option (List ℕ)) (all written buffered left : List ℕ) → left ≡ []
+    → all ≡ written ++ (buffered ++ left) → Appends start now written → OnOk r (Appends now new buffered) → OnErr r (AppendsFront now new buffered)
+    → IfErr r IsOfWrite → WritesPage all r start new
+lines_ended (Ok done) start now new all written buffered left none e taken ok front err =
+    all_more start now new written buffered all (e ∙ ap (λ l. written ++ l) (ap (λ l. buffered ++ l) none ∙ append-nil buffered)) taken ok
+lines_ended (Err error) start now new all written buffered left none e taken ok front err =
+    (err, front_more start now new written buffered all (e ∙ ap (λ l. written ++ l) (ap (λ l. buffered ++ l) none ∙ append-nil buffered)) taken front)
 
 -- ---- a list has one answer
 pub one_after : (unit : StepUnit) (count n a b : ℕ) → IsUnitsAfter unit count n a → IsUnitsAfter unit count n b → a ≡ b
@@ -91,7 +118,7 @@ one_after Months count n a b h k = one_later n a b (pos count) h k
 no_shorter : (listing : Listing) (days others : List ℕ) → AreAll listing days → AreFirst listing others → ¬ (length days < length others)
 no_shorter listing days others all first less = all.1 (get_or others (length days) 0) (first (length days) less)
 
-pub one_list : (listing : Listing) (days others : List ℕ) → AreAll listing days → AreAll listing others → days ≡ others
+one_list : (listing : Listing) (days others : List ℕ) → AreAll listing days → AreAll listing others → days ≡ others
 one_list listing days others all too =
     let same : length days ≡ length others =
     elim (cases_lt (length days) (length others)) as (λ _. length days ≡ length others) [
@@ -105,10 +132,15 @@ one_list listing days others all too =
     one_after listing.step.unit (k * listing.step.every) listing.first (get_or days k 0) (get_or others k 0)
     (all.0 k less).after (too.0 k (omega (arith, less, same))).after)
 
-pub lists-one : (All First : List ℕ → Type 0) → ((days others : List ℕ) → All days → All others → days ≡ others)
-    → (held : List ℕ) (r s : Result Unit RunError) (w v : Option (List ℕ)) → IsOk r → IsOk s
-    → TakesLines All First r (Some held) w → TakesLines All First s (Some held) v → w ≡ v
-lists-one All First one held (Err e) s w v ok too first second = absurd (false≢true ok)
-lists-one All First one held (Ok done) (Err e) w v ok too first second = absurd (false≢true too)
-lists-one All First one held (Ok done) (Ok end) w v ok too (days, all, took) (others, every, taken) =
-    took-one held _ _ w v took taken (ap (flat_map line_of) (one days others all every))
+pub lists-one : (listing : Listing) (held : List ℕ) (r s : Result Unit RunError) (w v : Option (List ℕ)) → IsOk r → IsOk s
+    → Lists listing r (Some held) w → Lists listing s (Some held) v → w ≡ v
+lists-one listing held (Err e) s w v ok too first second = absurd (false≢true ok)
+lists-one listing held (Ok done) (Err e) w v ok too first second = absurd (false≢true too)
+lists-one listing held (Ok done) (Ok end) w v ok too (days, all, took) (others, every, taken) =
+    took-one held _ _ w v took taken (ap (flat_map line_of) (one_list listing days others all every))
+
+pub pages-one : (page held : List ℕ) (r s : Result Unit RunError) (w v : Option (List ℕ)) → IsOk r → IsOk s
+    → WritesPage page r (Some held) w → WritesPage page s (Some held) v → w ≡ v
+pages-one page held (Err e) s w v ok too first second = absurd (false≢true ok)
+pages-one page held (Ok done) (Err e) w v ok too first second = absurd (false≢true too)
+pages-one page held (Ok done) (Ok end) w v ok too first second = took-one held page page w v first second refl

@@ -1,8 +1,8 @@
 -- The words `today` and `now`, and the moment that they mean.
-use Rattle.std.specs.Prelude.{◌&&◌, Bool, ℤ, pos, int_le, List, ℕ, codes, bytes_eq, Option, Some, None, option_map, if◌then◌else◌}
+use Rattle.std.specs.Prelude.{◌&&◌, ◌==◌, ◌%◌, Bool, ℤ, pos, int_le, nat_lt, unsigned_abs, List, ℕ, codes, bytes_eq, Option, Some, None, option_map, if◌then◌else◌}
 use Rattle.cal_time.specs.Date.{year_at}
 use Rattle.cal_datetime.specs.DateTime.{clamped_date_time, date_at}
-use Rattle.cal_datetime.specs.OffsetDateTime.{LocalAndOffset, local_at, unix_nanoseconds, unix_seconds}
+use Rattle.cal_datetime.specs.OffsetDateTime.{LocalAndOffset, instant, local_at, unix_nanoseconds, unix_seconds}
 use Rattle.cal_text.specs.AnyForm.{date_text}
 use Rattle.cal_text.specs.Rfc3339.{moment_text}
 use Rattle.cal_text.specs.UnixText.{unix_text}
@@ -35,17 +35,19 @@ clock_word m word =
 abbrev pub zone_of_clock : Option Clock → Option Timeline
 zone_of_clock clock = option_map (λ c. c.zone) clock
 
--- RFC 3339 has the years from 0 to 9999.
-abbrev pub has_rfc3339_year : ℤ → Bool
-has_rfc3339_year z = int_le (pos 0) (year_at (date_at z)) && int_le (year_at (date_at z)) (pos 9999)
+-- RFC 3339 has the years from 0 to 9999, and offsets of whole minutes below a day.
+abbrev pub has_rfc3339_text : LocalAndOffset → Bool
+has_rfc3339_text m =
+    int_le (pos 0) (year_at (date_at m.local)) && (int_le (year_at (date_at m.local)) (pos 9999)
+    && ((unsigned_abs m.offset % 60 == 0) && nat_lt (unsigned_abs m.offset) 86400))
 
--- The text of z of UTC.
-abbrev pub utc_text : ℤ → List ℕ
-utc_text z = if has_rfc3339_year z then moment_text (moment_in None z) else unix_text (unix_nanoseconds z)
+-- The text of a moment: in RFC 3339, or if that has none, its Unix time.
+abbrev pub rfc3339_or_unix_text : LocalAndOffset → List ℕ
+rfc3339_or_unix_text m = if has_rfc3339_text m then moment_text m else unix_text (unix_nanoseconds (instant m))
 
 -- The text that a word means after `--date`.
 abbrev pub clock_text : Option Clock → ℤ → List ℕ → Option (List ℕ)
 clock_text clock z word =
     if bytes_eq word (codes "today") then Some (date_text Calendar (date_at (moment_in (zone_of_clock clock) z).local)) else
-    if bytes_eq word (codes "now") then Some (utc_text z) else
+    if bytes_eq word (codes "now") then Some (rfc3339_or_unix_text (moment_in None z)) else
     None

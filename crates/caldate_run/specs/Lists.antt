@@ -11,8 +11,6 @@ use Rattle.caldate_run.specs.declared.run.run_error.RunError.{RunError}
 use Rattle.caldate_run.specs.declared.request.Command.{Command}
 use Rattle.caldate_run.specs.declared.request.Command.TheVariants.{Dates}
 use Rattle.caldate_run.specs.declared.request.Listing.{Listing}
-use Rattle.caldate_run.specs.declared.request.Pace.{Pace}
-use Rattle.caldate_run.specs.declared.request.Pace.TheVariants.{Steps, Rule}
 use Rattle.caldate_run.specs.declared.request.Step.{Step}
 use Rattle.caldate_run.specs.declared.request.StepUnit.{StepUnit}
 use Rattle.caldate_run.specs.declared.request.StepUnit.TheVariants.{Days, Months}
@@ -20,10 +18,6 @@ use Rattle.caldate_run.specs.declared.request.StepUnit.TheVariants.{Days, Months
 -- A step has 1 to 51539607540 days or months. The maximum is 4294967295 years.
 abbrev pub IsStep : Step → Type 0
 IsStep step = (1 ≤ step.every) × (step.every ≤ 51539607540)
-
-abbrev pub IsPace : Pace → Type 0
-IsPace (Steps step) = IsStep step
-IsPace (Rule recurrence) = ⊤
 
 -- If the command is a list in steps, its step has a length in this range.
 abbrev pub HasValidStep : Command → Type 0
@@ -59,10 +53,6 @@ line_of day = date_text Calendar day ++ 10 ∷ []
 
 -- The writer took the lines of all days. After a failed write it took a beginning of the lines of
 -- the first days, and never all of them.
-abbrev pub TakesLines : (List ℕ → Type 0) → (List ℕ → Type 0) → Result Unit RunError → Option (List ℕ) → Option (List ℕ) → Type 0
-TakesLines All First (Ok done) old new = (days : List ℕ) × All days × Appends old new (flat_map line_of days)
-TakesLines All First (Err error) old new = IsOfWrite error × ((days : List ℕ) × First days × AppendsFront old new (flat_map line_of days))
-
--- The same for the days of a list.
 abbrev pub Lists : Listing → Result Unit RunError → Option (List ℕ) → Option (List ℕ) → Type 0
-Lists listing outcome old new = TakesLines (AreAll listing) (AreFirst listing) outcome old new
+Lists listing (Ok done) old new = (days : List ℕ) × AreAll listing days × Appends old new (flat_map line_of days)
+Lists listing (Err error) old new = IsOfWrite error × ((days : List ℕ) × AreFirst listing days × AppendsFront old new (flat_map line_of days))

@@ -56,8 +56,9 @@ use Rattle.caldate_run.specs.declared.request.Period.{Period}
 use Rattle.caldate_run.specs.declared.request.Period.TheVariants as period
 use Rattle.caldate_run.specs.declared.request.Place.{Place}
 use Rattle.caldate_run.specs.declared.request.Place.TheVariants as place
-use Rattle.caldate_run.specs.declared.request.Pace.{Pace}
-use Rattle.caldate_run.specs.declared.request.Pace.TheVariants.{Steps, Rule}
+use Rattle.caldate_run.specs.declared.request.Occurrences.{Occurrences}
+use Rattle.caldate_run.specs.declared.request.Span.{Span}
+use Rattle.caldate_run.specs.declared.request.Span.TheVariants.{Dates, Moments}
 use Rattle.caldate_run.specs.declared.request.Step.{Step}
 use Rattle.caldate_run.specs.declared.request.StepUnit.TheVariants as steps
 use Rattle.caldate_run.specs.declared.request.Target.{Target}
@@ -70,7 +71,8 @@ use Rattle.caldate_run.specs.declared.request.Request.TheVariants.{To, Print, Ad
 use Rattle.caldate_run.specs.declared.request.Bounds.{Bounds}
 use Rattle.caldate_run.specs.declared.request.Bounds.TheVariants.{FromTo, After, Before}
 use Rattle.caldate_run.specs.declared.request.Command.{Command}
-use Rattle.caldate_run.specs.declared.request.Command.TheVariants.{Help, Version, Lines, Named, Once, NamedOnce, Dates, Recurring}
+use Rattle.caldate_run.specs.declared.request.Command.TheVariants.{Help, Version, Lines, Named, Once, NamedOnce, Recurring}
+use Rattle.caldate_run.specs.declared.request.Command.TheVariants as command
 use Rattle.caldate_run.specs.declared.args.usage_error.UsageError.{UsageError}
 use Rattle.caldate_run.specs.declared.args.usage_error.Expected.{Expected}
 use Rattle.caldate_run.specs.declared.args.usage_error.Expected.TheVariants as expected
@@ -362,7 +364,7 @@ request_at now meanings words at =
     if bytes_eq word (codes "since") then and_then (target_at now meanings words (at + 1)) (λ t. Ok (Since t.0 t.1)) else
     further_request_at now meanings words at word)
 
--- ---- lists: `from A to B`, and a pace
+-- ---- lists: `from A to B`, and a step or a rule
 -- The day of a date. A moment has none.
 abbrev pub date_in : DateOrMoment → Option ℕ
 date_in (dated.Date form n) = Some n
@@ -372,6 +374,15 @@ date_in (dated.Moment form m) = None
 abbrev pub date_at : Option LocalAndOffset → Meanings → List (List ℕ) → ℕ → Result ℕ UsageError
 date_at now meanings words at = and_then (word_as words at (found_in now meanings) expected.Date) (λ found. ok_or (date_in found) (usage_error_at at expected.Date))
 
+-- The same for a moment.
+abbrev pub moment_in : DateOrMoment → Option LocalAndOffset
+moment_in (dated.Date form n) = None
+moment_in (dated.Moment form m) = Some m
+
+abbrev pub moment_at : Option LocalAndOffset → Meanings → List (List ℕ) → ℕ → Result LocalAndOffset UsageError
+moment_at now meanings words at =
+    and_then (word_as words at (found_in now meanings) expected.Moment) (λ found. ok_or (moment_in found) (usage_error_at at expected.Moment))
+
 -- A step of n days, weeks, months or years.
 abbrev pub step_in : ℕ → TimeUnit → Option Step
 step_in n unit.Days = Some (record { every = n; unit = steps.Days })
@@ -380,11 +391,13 @@ step_in n unit.Months = Some (record { every = n; unit = steps.Months })
 step_in n unit.Years = Some (record { every = n * 12; unit = steps.Months })
 step_in n other = None
 
--- `N UNIT`
-abbrev pub steps_of : List (List ℕ) → Result Pace UsageError
-steps_of words =
+-- `by N UNIT`, or each day
+abbrev pub step_of : List (List ℕ) → Result Step UsageError
+step_of words =
+    if ends_at words 5 then Ok (record { every = 1; unit = steps.Days }) else
+    and_then (word_as words 5 (keyword (codes "by")) expected.By) (λ by_word.
     and_then (word_as words 6 parse_u32 expected.Many) (λ n.
-    and_then (word_as words 7 (λ word. option_and_then (step_in n) (unit_of word)) expected.UnitOfDays) (λ step. ended words 8 (Steps step)))
+    and_then (word_as words 7 (λ word. option_and_then (step_in n) (unit_of word)) expected.UnitOfDays) (λ step. ended words 8 step)))
 
 -- `RULE`: each recurrence contains a `=` (61), and a number doesn't.
 abbrev pub is_rule_like : List ℕ → Bool
@@ -393,27 +406,29 @@ is_rule_like word = is_some (position (λ b. b == 61) word)
 abbrev pub rule_of : List ℕ → Option Recurrence
 rule_of word = result_ok (recurrence_of word)
 
--- `by N UNIT`, `by RULE`, or each day
-abbrev pub pace_of : List (List ℕ) → Result Pace UsageError
-pace_of words =
-    if ends_at words 5 then Ok (Steps (record { every = 1; unit = steps.Days })) else
+-- `B`: a date after a date, a moment after a moment
+abbrev pub span_from : Option LocalAndOffset → Meanings → List (List ℕ) → DateOrMoment → Result Span UsageError
+span_from now meanings words (dated.Date form a) = and_then (date_at now meanings words 4) (λ b. Ok (Dates a b))
+span_from now meanings words (dated.Moment form a) = and_then (moment_at now meanings words 4) (λ b. Ok (Moments a b))
+
+-- `A to B by RULE`
+abbrev pub occurrences_of : Option LocalAndOffset → Meanings → List (List ℕ) → Result Occurrences UsageError
+occurrences_of now meanings words =
+    and_then (word_as words 2 (found_in now meanings) expected.Target) (λ first.
+    and_then (word_as words 3 (keyword (codes "to")) expected.UpTo) (λ to_word.
+    and_then (span_from now meanings words first) (λ span.
     and_then (word_as words 5 (keyword (codes "by")) expected.By) (λ by_word.
-    if option_map_or is_rule_like (slice_get words 6) false then and_then (only_at words 6 rule_of expected.Rule) (λ rule. Ok (Rule rule)) else
-    steps_of words)
+    and_then (only_at words 6 rule_of expected.Rule) (λ rule. Ok (record { span = span; recurrence = rule }))))))
 
--- The command for a list from one day to another with this pace.
-abbrev pub paced : ℕ → ℕ → Pace → Command
-paced a b (Steps step) = Dates (record { first = a; last = b; step = step })
-paced a b (Rule recurrence) = Recurring (record { first = a; last = b; recurrence = recurrence })
-
--- `list from A to B`, with a pace or without one
+-- `list from A to B`, with a step, a rule or neither
 abbrev pub list_of : Option LocalAndOffset → Meanings → List (List ℕ) → Result Command UsageError
 list_of now meanings words =
     and_then (word_as words 1 (keyword (codes "from")) expected.From) (λ from_word.
+    if option_map_or is_rule_like (slice_get words 6) false then and_then (occurrences_of now meanings words) (λ dates. Ok (Recurring dates)) else
     and_then (date_at now meanings words 2) (λ first.
     and_then (word_as words 3 (keyword (codes "to")) expected.UpTo) (λ to_word.
     and_then (date_at now meanings words 4) (λ last.
-    and_then (pace_of words) (λ pace. Ok (paced first last pace))))))
+    and_then (step_of words) (λ step. Ok (command.Dates (record { first = first; last = last; step = step })))))))
 
 -- ---- the options before a request, in any order, each at most once
 -- The options if the arguments have none.

@@ -36,7 +36,8 @@ invalid, or the input or the output fails.
                                   also keep after A and keep before B
   caldate list from A to B        without input: all dates from A to B; with by N UNIT every N
                                   days, weeks, months or years; with by RULE the dates of a
-                                  recurrence, such as FREQ=MONTHLY;BYDAY=-1FR
+                                  recurrence, such as FREQ=MONTHLY;BYDAY=-1FR, or its moments if
+                                  A and B are moments
   caldate --date DATE ...         answers for this date or moment, without input
   caldate --invalid MODE ...      what is written for a line without an answer: keep for the line
                                   (the default with --field and --scan), answer for the reason (the

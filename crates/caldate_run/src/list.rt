@@ -6,6 +6,7 @@ ghost use Rattle.caldate_run.specs.Lists.{IsUnitsAfter, IsStep, IsWithin, Lists,
 ghost use Rattle.caldate_run.specs.Room.{HasRoom, longest_reply};
 
 pub mod recurring;
+pub(crate) mod remaining;
 
 use crate::output::buffer::Buffer;
 use crate::output::write_all;
@@ -84,7 +85,7 @@ fn months_after(date: Date, months: u64) -> Option<Date>
 }
 
 /// Appends the line of a day.
-pub fn push_day(buffer: &mut Buffer, day: Date)
+fn push_day(buffer: &mut Buffer, day: Date)
     requires { HasRoom longest_reply buffer.old }
     ensures { buffer.new ≡ buffer.old ++ line_of day }
 {

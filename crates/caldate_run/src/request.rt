@@ -10,6 +10,7 @@ use crate::more_fields::MoreFields;
 use crate::on_invalid::OnInvalid;
 use crate::reading::Readers;
 use crate::reading::reader::Assumptions;
+use cal_datetime::OffsetDateTime;
 use cal_format::Format;
 use cal_recurrence::Recurrence;
 use cal_schedule::Workdays;
@@ -330,24 +331,22 @@ pub struct Listing {
     pub step: Step,
 }
 
-/// A list of the dates of a recurrence that starts on the first date, up to the last.
-#[derive(Drop)]
-pub struct Occurrences {
-    /// The date on which the recurrence starts.
-    pub first: Date,
-    /// The last date that the list may have.
-    pub last: Date,
-    /// The recurrence of RFC 5545.
-    pub recurrence: Recurrence,
+/// The start of a recurrence, and the last date or moment that a list may have.
+#[derive(Clone, Copy)]
+pub enum Span {
+    /// Two dates.
+    Dates(Date, Date),
+    /// Two moments. The list has the offset of the first.
+    Moments(OffsetDateTime, OffsetDateTime),
 }
 
-/// A way from the first date of a list to the others.
+/// A list of the dates or moments of a recurrence.
 #[derive(Drop)]
-pub enum Pace {
-    /// `by N UNIT`: steps of one length.
-    Steps(Step),
-    /// `by RULE`: a recurrence.
-    Rule(Recurrence),
+pub struct Occurrences {
+    /// The start and the last possible date or moment.
+    pub span: Span,
+    /// The recurrence of RFC 5545.
+    pub recurrence: Recurrence,
 }
 
 /// A command of the program.
@@ -368,6 +367,6 @@ pub enum Command<'a> {
     NamedOnce(Filter<'a>, Field),
     /// `list from A to B [by N UNIT]`: the dates from A to B.
     Dates(Listing),
-    /// `list from A to B by RULE`: the dates of the recurrence.
+    /// `list from A to B by RULE`: the dates or moments of the recurrence.
     Recurring(Occurrences),
 }

@@ -1,7 +1,7 @@
 //! The words `today` and `now`, and the moment that they mean.
-ghost use Rattle.std.specs.Prelude.{◌≡◌, Some, option_and_then};
+ghost use Rattle.std.specs.Prelude.{◌≡◌, ◌≤◌, Some, length, option_and_then};
 ghost use Rattle.cal_datetime.specs.DateTime.{date_at};
-ghost use Rattle.caldate_run.specs.ClockWords.{clock_text, clock_word, has_rfc3339_year, moment_in, now_in, utc_text, zone_of_clock};
+ghost use Rattle.caldate_run.specs.ClockWords.{clock_text, clock_word, moment_in, now_in, rfc3339_or_unix_text, zone_of_clock};
 
 use crate::request::Clock;
 use cal_datetime::{OffsetDateTime, PlainDateTime};
@@ -56,7 +56,7 @@ pub fn clock_text(
     if word == b"today".as_slice() {
         Some(CalendarText(date_on(clock, utc)).text())
     } else if word == b"now".as_slice() {
-        Some(utc_text(utc))
+        Some(rfc3339_or_unix_text(utc.assume_utc()))
     } else {
         None
     }
@@ -72,23 +72,13 @@ fn date_on(clock: &Option<Clock<'_>>, utc: PlainDateTime) -> Date
     }
 }
 
-/// Formats a date-time of UTC in RFC 3339, or as a Unix time if its year isn't from 0 to 9999.
-fn utc_text(utc: PlainDateTime) -> ShortText
-    ensures { result ≡ utc_text utc }
+/// Formats a moment in RFC 3339, or as a Unix time if RFC 3339 has no text for it.
+pub fn rfc3339_or_unix_text(moment: OffsetDateTime) -> ShortText
+    ensures text { result ≡ rfc3339_or_unix_text moment }
+    ensures short { length result ≤ 38 }
 {
-    if !has_rfc3339_year(utc) {
-        return unix::Text::new(utc.assume_utc()).text();
-    }
-    match rfc3339::Text::new(utc.assume_utc()) {
+    match rfc3339::Text::new(moment) {
         Some(text) => text.text(),
-        None => unreachable!(),
+        None => unix::Text::new(moment).text(),
     }
-}
-
-/// Returns whether RFC 3339 has the year, which is from 0 to 9999.
-fn has_rfc3339_year(utc: PlainDateTime) -> bool
-    ensures { result ≡ has_rfc3339_year utc }
-{
-    let year = utc.year();
-    0 <= year && year <= 9_999
 }

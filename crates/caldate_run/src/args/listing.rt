@@ -1,14 +1,14 @@
 //! The arguments of `list`.
 ghost use Rattle.std.specs.Prelude.{◌≡◌, ◌≤◌, ℕ, List, Option, IfOk, IfSome, false, slice_get};
 ghost use Rattle.std.specs.Option.{option_map_or};
-ghost use Rattle.caldate_run.specs.Lists.{HasValidStep, IsPace, IsStep};
+ghost use Rattle.caldate_run.specs.Lists.{HasValidStep, IsStep};
 ghost use Rattle.caldate_run.specs.Meanings.{AreMeanings, Meanings};
-ghost use Rattle.caldate_run.specs.Requests.{arguments_of, date_at, date_in, is_rule_like, list_of, pace_of, paced, rule_of, step_in, steps_of};
+ghost use Rattle.caldate_run.specs.Requests.{arguments_of, date_at, date_in, is_rule_like, list_of, moment_at, moment_in, occurrences_of, rule_of, span_from, step_in, step_of};
 
 use crate::args::spelling::{parse_u32, unit_of};
 use crate::args::usage_error::{Expected, UsageError, usage_error_at};
 use crate::args::words::{ended, ends_at, found_at, keyword_at, only_at, word_as, word_at};
-use crate::request::{Command, Listing, Occurrences, Pace, Step, StepUnit, TimeUnit};
+use crate::request::{Command, Listing, Occurrences, Span, Step, StepUnit, TimeUnit};
 use crate::run::lines::index_of;
 use cal_datetime::OffsetDateTime;
 use cal_recurrence::{Recurrence, parse};
@@ -23,11 +23,42 @@ pub fn list_of(words: &[u8], now: &Option<OffsetDateTime>) -> Result<Command<'st
         → result ≡ list_of now.now meanings (arguments_of words.now) }
 {
     keyword_at(words, 1, b"from", Expected::From)?;
+    if is_rule_like(words) {
+        return Ok(Command::Recurring(occurrences_of(words, now)?));
+    }
     let first = date_at(words, 2, now)?;
     keyword_at(words, 3, b"to", Expected::UpTo)?;
     let last = date_at(words, 4, now)?;
-    let pace = pace_of(words)?;
-    Ok(paced(first, last, pace))
+    let step = step_of(words)?;
+    Ok(Command::Dates(Listing { first, last, step }))
+}
+
+/// Parses `A to B by RULE`, where A and B are two dates or two moments.
+fn occurrences_of(words: &[u8], now: &Option<OffsetDateTime>) -> Result<Occurrences, UsageError>
+    ensures { (meanings : Meanings) → AreMeanings meanings (arguments_of words.now)
+        → result ≡ occurrences_of now.now meanings (arguments_of words.now) }
+{
+    let first = found_at(words, 2, Expected::Target, *now)?;
+    keyword_at(words, 3, b"to", Expected::UpTo)?;
+    let span = span_from(words, &first, now)?;
+    keyword_at(words, 5, b"by", Expected::By)?;
+    let recurrence = only_at(words, 6, rule_of, Expected::Rule)?;
+    Ok(Occurrences { span, recurrence })
+}
+
+/// Parses B, a date if A is one, else a moment.
+fn span_from(
+    words: &[u8],
+    first: &DateOrMoment,
+    now: &Option<OffsetDateTime>,
+) -> Result<Span, UsageError>
+    ensures { (meanings : Meanings) → AreMeanings meanings (arguments_of words.now)
+        → result ≡ span_from now.now meanings (arguments_of words.now) first.now }
+{
+    match first {
+        DateOrMoment::Date(_, date) => Ok(Span::Dates(*date, date_at(words, 4, now)?)),
+        DateOrMoment::Moment(_, moment) => Ok(Span::Moments(*moment, moment_at(words, 4, now)?)),
+    }
 }
 
 /// Parses the word at an index as a date.
@@ -48,18 +79,25 @@ fn date_in(found: &DateOrMoment) -> Option<Date>
     }
 }
 
-fn paced(first: Date, last: Date, pace: Pace) -> Command<'static>
-    requires { IsPace pace }
-    ensures steps { HasValidStep result }
-    ensures list { result ≡ paced first last pace }
+/// Parses the word at an index as a moment.
+fn moment_at(
+    words: &[u8],
+    at: usize,
+    now: &Option<OffsetDateTime>,
+) -> Result<OffsetDateTime, UsageError>
+    ensures { (meanings : Meanings) → AreMeanings meanings (arguments_of words.now)
+        → result ≡ moment_at now.now meanings (arguments_of words.now) at }
 {
-    match pace {
-        Pace::Steps(step) => Command::Dates(Listing { first, last, step }),
-        Pace::Rule(recurrence) => Command::Recurring(Occurrences {
-            first,
-            last,
-            recurrence,
-        }),
+    let found = found_at(words, at, Expected::Moment, *now)?;
+    moment_in(&found).ok_or(usage_error_at(at, Expected::Moment))
+}
+
+fn moment_in(found: &DateOrMoment) -> Option<OffsetDateTime>
+    ensures { result ≡ moment_in found.now }
+{
+    match found {
+        DateOrMoment::Date(_, _) => None,
+        DateOrMoment::Moment(_, moment) => Some(*moment),
     }
 }
 
@@ -68,19 +106,23 @@ const EVERY_DAY: Step = Step {
     unit: StepUnit::Days,
 };
 
-/// Parses `by N UNIT` or `by RULE` after the two dates. The default is every day.
-fn pace_of(words: &[u8]) -> Result<Pace, UsageError>
-    ensures steps { IfOk result IsPace }
-    ensures pace { result ≡ pace_of (arguments_of words.now) }
+/// Parses `by N UNIT` after the two dates. The default is every day.
+fn step_of(words: &[u8]) -> Result<Step, UsageError>
+    ensures steps { IfOk result IsStep }
+    ensures step { result ≡ step_of (arguments_of words.now) }
 {
     if ends_at(words, 5) {
-        return Ok(Pace::Steps(EVERY_DAY));
+        return Ok(EVERY_DAY);
     }
     keyword_at(words, 5, b"by", Expected::By)?;
-    if is_rule_like(words) {
-        return Ok(Pace::Rule(only_at(words, 6, rule_of, Expected::Rule)?));
-    }
-    steps_of(words)
+    let number = word_as(words, 6, parse_u32, Expected::Many)?;
+    let step = word_as(
+        words,
+        7,
+        |word| step_in(number, unit_of(word)?),
+        Expected::UnitOfDays,
+    )?;
+    ended(words, 8, step)
 }
 
 /// Returns whether word 6 contains a `=`, as every recurrence does and no number does.
@@ -97,21 +139,6 @@ fn rule_of(text: &[u8]) -> Option<Recurrence>
     ensures { result ≡ rule_of text.now }
 {
     parse(text).ok()
-}
-
-/// Parses `N UNIT`.
-fn steps_of(words: &[u8]) -> Result<Pace, UsageError>
-    ensures steps { IfOk result IsPace }
-    ensures pace { result ≡ steps_of (arguments_of words.now) }
-{
-    let number = word_as(words, 6, parse_u32, Expected::Many)?;
-    let step = word_as(
-        words,
-        7,
-        |word| step_in(number, unit_of(word)?),
-        Expected::UnitOfDays,
-    )?;
-    ended(words, 8, Pace::Steps(step))
 }
 
 /// Returns a step of `number` days, weeks, months or years, or `None` for any other unit.

@@ -103,6 +103,8 @@ pub enum Expected {
     From,
     /// A date.
     Date,
+    /// A moment.
+    Moment,
     /// `to`.
     UpTo,
     /// `by`.

@@ -353,6 +353,7 @@ fn error_phrase(expected: Expected) -> &'static [u8]
         Expected::Zone => b"cannot read zone".as_slice(),
         Expected::Bounds => b"unknown bound".as_slice(),
         Expected::Date => b"invalid date".as_slice(),
+        Expected::Moment => b"invalid moment".as_slice(),
         Expected::Many => b"invalid number or rule".as_slice(),
         Expected::Rule => b"invalid rule".as_slice(),
         Expected::UnitOfDays => b"invalid unit".as_slice(),
@@ -426,6 +427,8 @@ fn expected_phrase(expected: Expected) -> &'static [u8]
         Expected::Bounds => b"; expected from, after or before".as_slice(),
         Expected::From => b"; expected 'from'".as_slice(),
         Expected::Date => DATES,
+        Expected::Moment =>
+            b"; expected one such as 2024-02-29T23:59:59Z, @1709164800 or now".as_slice(),
         Expected::UpTo => b"; expected 'to'".as_slice(),
         Expected::By => b"; expected 'by'".as_slice(),
         Expected::Many => NUMBERS_AND_RULES,

@@ -101,6 +101,12 @@ fn the_day_and_the_moment_of_the_start(rt: HostRuntime) {
         b"",
         b"2024-02-29\n2024-03-01\n",
     );
+    check_answers(
+        &rt,
+        b"list\0from\0now\0to\0now\0by\0FREQ=DAILY",
+        b"",
+        b"2024-02-29T23:30:00.5Z\n",
+    );
 }
 
 #[test]
