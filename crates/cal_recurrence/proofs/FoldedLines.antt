@@ -1,10 +1,10 @@
 -- A text that is copied with folds, step by step, and unfolded again.
-use Rattle.std.proofs.Common.{◌≡◌, ℕ, zero, suc, ◌+◌, ◌-◌, ◌<◌, ◌≤◌, Bool, true, false, cond, eqb, not, List, [], ◌∷◌, ◌++◌, append-nil, append_assoc, length, length-append, take, drop, slice_index_or, Option, Some, None, inl, inr, refl, sym, ap, subst, ◌∙◌, arith}
-use Rattle.std.specs.Prelude.{◌⊎◌, ◌&&◌, ◌||◌, nat_le, slice_index}
+use Rattle.std.proofs.Common.{◌≡◌, ℕ, zero, suc, ◌+◌, ◌-◌, ◌<◌, ◌≤◌, Bool, true, false, cond, eqb, List, [], ◌∷◌, ◌++◌, append-nil, append_assoc, length, take, drop, slice_index_or, Some, inl, inr, refl, sym, ap, subst, ◌∙◌, arith}
+use Rattle.std.specs.Prelude.{◌⊎◌, ◌&&◌, nat_le, slice_index}
 use Rattle.std.proofs.lemmas.Bool.{and_parts, cases_Bool, eqb-true, true≢false}
 use Rattle.std.proofs.lemmas.List.{drop_all}
 use Rattle.cal_recurrence.specs.Buffers.{IsPut}
-use Rattle.cal_recurrence.specs.Folding.{column_after, first_folded, fold_before, fold_length, folded_after, folded_of, is_blank, is_line_end, unfolded_after, unfolded_of}
+use Rattle.cal_recurrence.specs.Folding.{column_after, first_folded, fold_before, fold_length, folded_after, folded_of, is_blank, unfolded_after, unfolded_of}
 use Rattle.cal_recurrence.proofs.Marked.{at_index}
 use Rattle.cal_recurrence.proofs.Puts.{then_put}
 

@@ -1,6 +1,6 @@
 -- The zones that the parameters of a parsed line name.
-use Rattle.std.proofs.Common.{◌≡◌, ℕ, suc, ◌+◌, ◌<◌, Bool, true, false, cond, eqb, not, List, [], ◌∷◌, ◌++◌, append_assoc, take, drop, length, length-append, Option, Some, None, Result, Ok, Err, inl, inr, refl, sym, ap, subst, ◌∙◌, arith}
-use Rattle.std.specs.Prelude.{◌⊎◌, ◌&&◌, ⊤, IfSome, bytes_eq, codes, nat_le}
+use Rattle.std.proofs.Common.{◌≡◌, ℕ, suc, ◌+◌, Bool, true, false, cond, eqb, not, List, [], ◌∷◌, ◌++◌, append_assoc, take, length, length-append, Option, Some, None, Ok, Err, inl, inr, refl, sym, ap, subst, ◌∙◌, arith}
+use Rattle.std.specs.Prelude.{◌⊎◌, ◌&&◌, IfSome, bytes_eq, codes, nat_le}
 use Rattle.std.specs.Char.{to_ascii_lowercase}
 use Rattle.std.specs.List.{All, onto_first, position_or_len}
 use Rattle.std.specs.Str.{str_to_ascii_lowercase}
@@ -11,16 +11,14 @@ use Rattle.std.proofs.lemmas.List.Splits.{slice_split-cons_yes, slice_split-cons
 use Rattle.std.proofs.lemmas.Slice.Eq.{bytes_eq-Decides}
 use Rattle.cal_recurrence.specs.SetText.{after_first_part, all_allow, allows, first_zone, is_date, is_local, line_of, names_zone, parameters_of}
 use Rattle.cal_recurrence.specs.SetWritten.{IsNameByte}
-use Rattle.cal_recurrence.specs.Text.{and_on, checked, fault, nothing, parts_say, put_part, put_value, read_on, recurrence_of}
+use Rattle.cal_recurrence.specs.Text.{and_on, checked, fault, nothing, parts_say, put_value, read_on, recurrence_of}
 use Rattle.cal_recurrence.specs.Words.{bytes_after, first_bytes, front_at, is_alike, part_of, parts_at, rest_at}
 use Rattle.std.specs.Option.{option_map_or}
 use Rattle.cal_recurrence.specs.declared.date_or_time.DateOrTime.{DateOrTime}
 use Rattle.cal_recurrence.specs.declared.fault.ParseRuleErrorKind.TheVariants.{Unknown}
-use Rattle.cal_recurrence.specs.declared.fault.RulePart.{RulePart}
 use Rattle.cal_recurrence.specs.declared.recurrence.Recurrence.{Recurrence}
-use Rattle.cal_recurrence.specs.declared.set_fault.SetLine.{SetLine}
 use Rattle.cal_recurrence.specs.declared.set_fault.SetLine.TheVariants as line
-use Rattle.cal_recurrence.proofs.Avoided.{avoids, avoids-append, avoids-cons, cut-here, cut-nowhere, front-here, front-nowhere}
+use Rattle.cal_recurrence.proofs.Avoided.{avoids, avoids-cons, cut-here, cut-nowhere, front-here, front-nowhere}
 
 -- ---- the bytes of a part
 -- a byte that passes, and isn't the separator

@@ -1,6 +1,6 @@
 -- A parsed set is spelled: each value is a value of its line, and some line names its zone.
-use Rattle.std.proofs.Common.{◌≡◌, ℕ, ◌+◌, ◌-◌, ◌<◌, Bool, true, false, cond, eqb, not, List, [], ◌∷◌, ◌++◌, length, Option, Some, None, Result, Ok, Err, inl, inr, refl, sym, ap, subst, ◌∙◌, arith}
-use Rattle.std.specs.Prelude.{◌⊎◌, ⊤, ◌||◌, codes, IfOk, IfSome, is_some, option_map, option_and_then, slice_index, unwrap_or}
+use Rattle.std.proofs.Common.{◌≡◌, ℕ, ◌+◌, ◌-◌, Bool, true, false, cond, eqb, not, List, [], ◌∷◌, ◌++◌, length, Option, Some, None, Result, Ok, Err, refl, sym, ap, subst, ◌∙◌, arith}
+use Rattle.std.specs.Prelude.{⊤, ◌||◌, codes, IfOk, IfSome, is_some, option_map, slice_index, unwrap_or}
 use Rattle.std.specs.List.{All, list_any}
 use Rattle.std.specs.Option.{option_map_or, option_or, option_zip}
 use Rattle.std.proofs.lemmas.List.Elements.{All-append, All-cons, All-head, All-nil, All-tail, All-take}
@@ -23,7 +23,6 @@ use Rattle.cal_recurrence.specs.declared.set_fault.ParseSetError.{ParseSetError}
 use Rattle.cal_recurrence.specs.declared.set_fault.ParseSetErrorKind.TheVariants.{Missing, OtherZone, TooMany, Twice, Unknown, Value}
 use Rattle.cal_recurrence.specs.declared.set_fault.SetLine.{SetLine}
 use Rattle.cal_recurrence.specs.declared.set_fault.SetLine.TheVariants as line
-use Rattle.cal_recurrence.specs.declared.set_parts.SetParts.{SetParts}
 use Rattle.cal_recurrence.proofs.Avoided.{parts_at-some}
 use Rattle.cal_recurrence.proofs.GivenNames.{local-if, named-bytes, no-zone, parameters-bytes, parts-bytes, IsInner}
 use Rattle.cal_recurrence.proofs.GivenParts.{dates, guarded, if_there, read_is_spelled}

@@ -1,6 +1,6 @@
 -- The lines of a set that was written, read back one after another.
-use Rattle.std.proofs.Common.{◌≡◌, ℕ, zero, suc, ◌+◌, ◌-◌, ◌<◌, ◌≤◌, Bool, true, false, cond, eqb, not, List, [], ◌∷◌, ◌++◌, append-nil, append_assoc, length, length-append, take, Option, Some, None, Result, Ok, Err, inl, inr, refl, sym, ap, subst, ◌∙◌, arith}
-use Rattle.std.specs.Prelude.{◌⊎◌, ⊤, codes, nat_le, bytes_eq, slice_index, IfSome, option_map, option_and_then, ◌&&◌, ◌||◌}
+use Rattle.std.proofs.Common.{◌≡◌, ℕ, ◌+◌, ◌-◌, ◌≤◌, Bool, true, false, cond, eqb, not, List, [], ◌∷◌, ◌++◌, append-nil, append_assoc, length, length-append, take, Option, Some, None, Ok, Err, inl, inr, refl, sym, ap, subst, ◌∙◌, arith}
+use Rattle.std.specs.Prelude.{◌⊎◌, ⊤, codes, bytes_eq, slice_index, IfSome, option_map, option_and_then, ◌&&◌, ◌||◌}
 use Rattle.std.specs.List.{All, list_any}
 use Rattle.std.specs.Option.{option_map_or}
 use Rattle.std.proofs.lemmas.Bool.{and_from, cases_Bool, false≢true, ne_eqb}
@@ -9,9 +9,8 @@ use Rattle.std.proofs.lemmas.List.{get_or_at, take_at}
 use Rattle.std.proofs.lemmas.List.Elements.{All-head, All-tail}
 use Rattle.std.proofs.lemmas.Slice.Eq.{bytes_eq-Decides}
 use Rattle.cal_recurrence.specs.Buffers.{IsPut}
-use Rattle.cal_recurrence.specs.DateWords.{date_or_time_of}
 use Rattle.cal_recurrence.specs.SetText.{after_first_part, all_allow, and_lines, if_allowed, has_room, is_local, line_of, more_of, no_lines, parameters_of, put_dates, put_exceptions, put_line, put_named, put_rule, put_whole, and_zone, put_zone, read_lines, set_fault, set_of, value_of, without_return}
-use Rattle.cal_recurrence.specs.SetWritten.{has_local, head_text, is_same_kind, line_end, more_text, parameter_text, set_text, values_text, IsNameByte, IsSpelledSet, IsZoneOf}
+use Rattle.cal_recurrence.specs.SetWritten.{head_text, is_same_kind, line_end, more_text, parameter_text, set_text, values_text, IsSpelledSet, IsZoneOf}
 use Rattle.cal_recurrence.specs.Spelled.{IsDateOrTime, IsSpelled}
 use Rattle.cal_recurrence.specs.Text.{list_of, recurrence_of, ReadsBack}
 use Rattle.cal_recurrence.specs.Words.{first_bytes, front_at, parts_at, rest_at}

@@ -1,6 +1,6 @@
 -- Folded lines (RFC 5545, section 3.1): a line feed (10), which a carriage return (13) can precede,
 -- and a space (32) or a tab (9) after it join two lines.
-use Rattle.std.specs.Prelude.{◌≤◌, length, ℕ, zero, suc, ◌+◌, ◌-◌, ◌==◌, nat_le, ◌&&◌, ◌||◌, Bool, not, List, [], ◌∷◌, ◌++◌, take, slice_index, if◌then◌else◌}
+use Rattle.std.specs.Prelude.{ℕ, ◌≤◌, length, zero, suc, ◌+◌, ◌-◌, ◌==◌, nat_le, ◌&&◌, ◌||◌, Bool, not, List, [], ◌∷◌, ◌++◌, take, slice_index, if◌then◌else◌}
 use Rattle.cal_recurrence.specs.SetText.{without_return}
 
 -- A space or a tab.

@@ -21,7 +21,7 @@ impl SetParts<'_> {
     /// [`parse_set`](crate::parse_set) can return, parsing its text gives the set again.
     ///
     /// A set from `DTSTART;VALUE=DATE:20240101` is printed as that line, and then
-    /// `RRULE:FREQ=DAILY;COUNT=1`. That takes 56 bytes.
+    /// `RRULE:FREQ=DAILY;COUNT=1`. That takes 55 bytes.
     pub fn print(&self, buffer: &mut [u8]) -> Option<usize>
         ensures text { IsPut 0 (set_text self.now) buffer.old buffer.new result }
         ensures reads_back { IsSpelledSet self.now

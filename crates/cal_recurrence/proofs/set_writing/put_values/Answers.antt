@@ -1,4 +1,4 @@
-use Rattle.std.proofs.Common.{◌-◌, ◌∷◌, ◌∙◌, ◌≡◌, ap, arith, drop, length, sym, take}
+use Rattle.std.proofs.Common.{◌-◌, ◌∷◌, ◌≡◌, ap, arith, drop, length, take}
 use Rattle.cal_recurrence.specs.SetWritten.{head_text, more_text, values_text}
 use Rattle.cal_recurrence.proofs.Puts.{first_value, then_put}
 use Rattle.cal_recurrence.proofs.set_writing.put_values.Goals as goal

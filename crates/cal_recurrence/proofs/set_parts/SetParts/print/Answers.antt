@@ -2,7 +2,6 @@ use Rattle.std.proofs.Common.{ℕ, List, [], ◌∷◌, Some, ◌++◌, ◌∙�
 use Rattle.std.specs.Prelude.{codes}
 use Rattle.cal_recurrence.specs.Buffers.{IsPut}
 use Rattle.cal_recurrence.specs.SetWritten.{line_end, set_text, values_text}
-use Rattle.cal_recurrence.specs.Written.{text_of}
 use Rattle.cal_recurrence.proofs.Puts.{then_put}
 use Rattle.cal_recurrence.proofs.SetLines.{put_reads}
 use Rattle.cal_recurrence.proofs.set_parts.SetParts.print.Goals as goal
