@@ -1,5 +1,5 @@
 -- Answers by TEXT in other fields of the line.
-use Rattle.std.proofs.Common.{◌≡◌, ◌∙◌, ℕ, Bool, true, false, List, Option, Some, None, Result, Ok, Err, refl, ap, subst, sym}
+use Rattle.std.proofs.Common.{◌≡◌, ◌∙◌, ℕ, true, List, Option, Some, None, Result, Ok, Err, refl, ap, subst, sym}
 use Rattle.std.specs.Prelude.{MatchOption, is_some, option_and_then, option_map}
 use Rattle.std.proofs.lemmas.Option.{none-some}
 use Rattle.cal_text.specs.declared.any.DateOrMoment.{DateOrMoment}

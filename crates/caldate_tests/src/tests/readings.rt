@@ -20,12 +20,42 @@ fn check_error(rt: &impl Abort, reading: Reading, text: &[u8], error: ParseError
 fn ends_and_wrong_bytes(rt: HostRuntime) {
     check_error(&rt, Reading::Any, b"2024-02-", UnexpectedEnd(8));
     check_error(&rt, Reading::Any, b"20240229", UnexpectedByte(4));
-    check_error(&rt, Reading::Date(DateOrder::Basic), b"2024022", UnexpectedEnd(7));
-    check_error(&rt, Reading::Date(DateOrder::Basic), b"2024022x", UnexpectedByte(7));
-    check_error(&rt, Reading::Date(DateOrder::DayFirst), b"29.02.24", UnexpectedEnd(8));
-    check_error(&rt, Reading::Date(DateOrder::DayFirst), b"29.02/2024", UnexpectedByte(5));
-    check_error(&rt, Reading::Date(DateOrder::MonthFirst), b"02/2", UnexpectedEnd(4));
-    check_error(&rt, Reading::Date(DateOrder::MonthFirst), b"02/29-2024", UnexpectedByte(5));
+    check_error(
+        &rt,
+        Reading::Date(DateOrder::Basic),
+        b"2024022",
+        UnexpectedEnd(7),
+    );
+    check_error(
+        &rt,
+        Reading::Date(DateOrder::Basic),
+        b"2024022x",
+        UnexpectedByte(7),
+    );
+    check_error(
+        &rt,
+        Reading::Date(DateOrder::DayFirst),
+        b"29.02.24",
+        UnexpectedEnd(8),
+    );
+    check_error(
+        &rt,
+        Reading::Date(DateOrder::DayFirst),
+        b"29.02/2024",
+        UnexpectedByte(5),
+    );
+    check_error(
+        &rt,
+        Reading::Date(DateOrder::MonthFirst),
+        b"02/2",
+        UnexpectedEnd(4),
+    );
+    check_error(
+        &rt,
+        Reading::Date(DateOrder::MonthFirst),
+        b"02/29-2024",
+        UnexpectedByte(5),
+    );
     check_error(&rt, UNIX, b"-", UnexpectedEnd(1));
     check_error(&rt, UNIX, b"-0", UnexpectedByte(1));
     check_error(&rt, LOCAL, b"2024-02-29T10:00:00.", UnexpectedEnd(20));

@@ -1,4 +1,4 @@
-use Rattle.std.proofs.Common.{◌∙◌, ap}
+use Rattle.std.proofs.Common.{ap}
 use Rattle.caldate_run.specs.Fields.{several}
 use Rattle.caldate_run.proofs.Others.{no_other}
 use Rattle.caldate_run.proofs.run.reply.is_simple.Goals as goal
