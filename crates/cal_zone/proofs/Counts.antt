@@ -22,6 +22,29 @@ pub of_changes : (cs ds : List Change) (i x : ℤ) (n : ℕ) → ds ≡ cs → x
 of_changes cs ds i x n is e b =
     subst (λ (es : List Change). IsBracket (at es) (length es) i n n) is (subst (λ (j : ℤ). IsBracket (at ds) (length ds) j n n) e b)
 
+-- A count below the number of changes of the table is the count of all changes.
+pub in_table : (xs ys : List Change) (x : ℤ) (n : ℕ) → IsBracket (at xs) (length xs) x n n → n < length xs → IsBracket (at (xs ++ ys)) (length (xs ++ ys)) x n n
+in_table xs ys x n b less =
+    let sum = length-append xs ys in
+    record {
+      ordered = omega arith;
+      inside = omega arith;
+      below = λ k e. subst (λ (c : Change). c.at ≤ℤ x) (sym (item_left xs ys k (omega arith))) (b.below k e);
+      above = λ _. subst (λ (c : Change). x <ℤ c.at) (sym (item_left xs ys n less)) (b.above less);
+    }
+
+-- So is the number of changes of the table if no others follow.
+pub at_end : (xs ys : List Change) (x : ℤ) (n : ℕ) → IsBracket (at xs) (length xs) x n n → length xs ≤ n → length ys ≡ 0 → IsBracket (at (xs ++ ys)) (length (xs ++ ys)) x n n
+at_end xs ys x n b all none =
+    let sum = length-append xs ys in
+    let inside = b.inside in
+    record {
+      ordered = omega arith;
+      inside = omega arith;
+      below = λ k e. subst (λ (c : Change). c.at ≤ℤ x) (sym (item_left xs ys k (omega arith))) (b.below k e);
+      above = λ h. absurd (omega arith);
+    }
+
 -- The rule's change with an index from s on.
 rule_item : (one other : Yearly) (xs : List Change) (s k j : ℕ) → k ≡ length xs + j → j < rule_count - s
     → slice_index_or (xs ++ changes_from one other s) k no_change ≡ change_of one other (s + j)

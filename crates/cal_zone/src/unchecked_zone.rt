@@ -262,9 +262,14 @@ impl<'a> UncheckedZone<'a> {
         ensures none { InOrder self.now → IfNone result (IsByRule self.now reading
             ⊎ HasNear (at self.now.changes) 0 (length self.now.changes) reading) }
     {
-        match self.count_in_table(reading) {
-            Some(count) => self.span_of(count).single(reading),
-            None => None,
+        // Not by `count_in_table`: then the search in the table would copy the rule.
+        let count = self.table.count(reading);
+        if count < self.table.len() {
+            return self.span_of(count).single(reading);
+        }
+        match &self.rule {
+            Some(_) => None,
+            None => self.span_of(count).single(reading),
         }
     }
 
