@@ -151,7 +151,7 @@ after-other : (b m : ℕ) (bs : List ℕ) → eqb b 10 ≡ false → eqb b 13 &&
     → unfolded_of (b ∷ folded_after m bs) ≡ unfolded_of (b ∷ bs)
 after-other b m bs e f h = both-kept b (folded_after m bs) bs (no-fold b (folded_after m bs) e (first-not b m bs f)) (no-fold b bs e f) (h m)
 
--- after a byte that is no line feed
+-- after a byte other than a line feed
 after-byte : (b m : ℕ) (bs : List ℕ) → eqb b 10 ≡ false → Same bs → ((ds : List ℕ) → length ds < length bs → Same ds)
     → unfolded_of (b ∷ folded_after m bs) ≡ unfolded_of (b ∷ bs)
 after-byte b m [] e h g = refl

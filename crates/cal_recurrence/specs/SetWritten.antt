@@ -40,7 +40,7 @@ more_text name tzid first (value ∷ values) =
     if is_same_kind first value then codes "," ++ date_or_time_text value ++ more_text name tzid first values
     else line_end ++ head_text name tzid value ++ more_text name tzid value values
 
--- The lines of the values, of which there are none without values.
+-- The lines of the values, or an empty text without values.
 abbrev pub values_text : List ℕ → Option (List ℕ) → List DateOrTime → List ℕ
 values_text name tzid [] = []
 values_text name tzid (value ∷ values) = head_text name tzid value ++ more_text name tzid value values
