@@ -9,7 +9,7 @@ fn printed(rt: &impl Abort, text: &str, wanted: &str) {
     let mut buffer = [b'x'; 600];
     let end = parts.print(&mut buffer).expect(rt, text);
     same_at(rt, text, &buffer[..end], wanted.as_bytes());
-    same_at(rt, text, &buffer[end..end + 1], b"x".as_slice());
+    same_at(rt, text, buffer.get(end).copied(), Some(b'x'));
     let again = parse_set(&buffer[..end]).expect(rt, wanted);
     same_at(rt, text, again == parts, true);
     same_at(rt, text, parts.print(&mut buffer[..end - 1]), None);
@@ -83,7 +83,7 @@ fn folded(rt: &impl Abort, text: &[u8], wanted: &[u8]) {
     let (mut buffer, mut unfolded) = ([b'x'; 300], [b'x'; 300]);
     let end = fold(text, &mut buffer).expect(rt, "a short buffer");
     same(rt, &buffer[..end], wanted);
-    same(rt, &buffer[end..end + 1], b"x".as_slice());
+    same(rt, buffer.get(end).copied(), Some(b'x'));
     let again = unfold(&buffer[..end], &mut unfolded).expect(rt, "a short buffer");
     same(rt, &unfolded[..again], text);
     if end > 0 {
