@@ -1,20 +1,23 @@
 -- Each year has the day of a rule's change, which lies in its month.
-use Rattle.std.proofs.Common.{◌≡◌, ℕ, suc, ◌+◌, ◌-◌, ◌*◌, ◌%◌, ◌<◌, ◌≤◌, ◌==◌, refl, sym, ap, ◌∙◌, subst, arith, ℤ, pos, ◌+ℤ◌, ◌-ℤ◌, ◌*ℤ◌, ◌<ℤ◌, inl, inr, true, false, filter, slice_get, Some}
+use mir.Val.{bool_byte}
+use Rattle.std.proofs.Common.{nat_le, ◌≡◌, ℕ, suc, ◌+◌, ◌-◌, ◌*◌, ◌%◌, ◌<◌, ◌≤◌, ◌==◌, refl, sym, ap, ◌∙◌, subst, arith, ℤ, pos, ◌+ℤ◌, ◌-ℤ◌, ◌*ℤ◌, ◌<ℤ◌, inl, inr, true, false, filter, slice_get, Some}
 use Rattle.std.proofs.lemmas.Bool.{and_parts, cases_lt, cases_Bool, cases_eq, eq-eqb, eqb-true}
 use Rattle.std.proofs.lemmas.Bool.Decides.{nat_tests, Decides-int_eq}
 use Rattle.std.proofs.lemmas.Int.{ints}
-use Rattle.cal_time.specs.Date.{last_day, year_at, weekday_at, IsDate, IsYear, HasCalendarDate}
+use Rattle.cal_time.specs.Date.{first_year, last_day, year_at, weekday_at, IsDate, IsYear, HasCalendarDate}
 use Rattle.cal_time.specs.Days.{IsMonth, day_with, days-follow, days_in_month-least}
 use Rattle.cal_time.specs.IsoWeekDate.{count_before}
 use Rattle.cal_time.specs.Laws.{weekday_at-is}
-use Rattle.cal_time.specs.Lengths.{days_in_month}
+use Rattle.cal_time.specs.Lengths.{days_in_month, days_in_year}
+use Rattle.cal_date.specs.CountLaws.{years_before, days_of_years-suc}
+use Rattle.cal_date.proofs.MarchYears.{number_with, has_number, march_number, marked}
 use Rattle.cal_time.specs.Month.{number}
 use Rattle.cal_time.specs.Weekday.{index}
 use Rattle.cal_time.specs.MonthCycle as months
 use Rattle.cal_time.specs.WeekdayCycle as weekdays
 use Rattle.cal_time.specs.Occurrences.{days_from, days_back_from}
 use Rattle.cal_time.proofs.Weekdays.{count_before-same}
-use Rattle.cal_schedule.specs.MonthLaws.{month_numbers-rise, number_from}
+use Rattle.cal_schedule.specs.MonthLaws.{month_numbers-rise, number_from, first-least, last-greatest}
 use Rattle.cal_schedule.specs.Months.{month_number_at}
 use Rattle.cal_schedule.specs.Ranks.{count-none, count-yes, nth-from, nth-back}
 use Rattle.cal_schedule.specs.Weekdays.{is_weekday_in_month, IsWeekdayInMonth, IsNthWeekday, IsLastWeekday}
@@ -154,3 +157,34 @@ month_between a b y m year month low high =
     let start = before_month a first.day (subst (λ (z : ℤ). month_number_at a <ℤ z) (sym (number_from first.day y m 1 first.has)) low) in
     let end = before_month (first.day + 27) b (subst (λ (z : ℤ). z <ℤ month_number_at b) (sym (number_from (first.day + 27) y m 28 late)) high) in
     omega arith
+
+-- ---- the day of a change is at least 335 days later in the next year
+longest : (y : ℤ) (m : ℕ) → days_in_month y m ≤ 31
+unfolding days_in_month
+longest y m = grind (arith, nat_tests)
+
+shortest : (y : ℤ) → 365 ≤ days_in_year y
+shortest y = grind (arith, nat_tests)
+
+first_later : (y : ℤ) (m : ℕ) → IsYear y → IsMonth m → number_with y m (days_in_month y m) + 335 ≤ number_with (y +ℤ pos 1) m 1
+first_later y m year month =
+    let mark = bool_byte (nat_le m 2) in
+    let is = marked m mark refl in
+    let most = is.most in
+    let years = years_before y + 1 - mark in
+    let next : suc years + mark ≡ years_before (y +ℤ pos 1) + 1 = omega (arith, ints, year.0, most) in
+    let least = days_in_month-least y m in
+    let here = march_number y m (days_in_month y m) mark years year.0 month (omega arith) is (omega (arith, most)) in
+    let there = march_number (y +ℤ pos 1) m 1 mark (suc years) (omega (arith, ints, year.0)) month (omega arith) is next in
+    omega (arith, here, there, days_of_years-suc years, shortest (first_year +ℤ pos years), longest y m)
+
+pub year_later : (r : Yearly) (y : ℤ) → IsYear y → IsYear (y +ℤ pos 1) → IsYearly r → day_of r y + 335 ≤ day_of r (y +ℤ pos 1)
+year_later r y year next h =
+    let m = number r.month in
+    let month = is_month r in
+    let least = days_in_month-least y m in
+    let end = has_number y m (days_in_month y m) year.0 month (omega arith, omega arith) in
+    let start = has_number (y +ℤ pos 1) m 1 next.0 month (omega arith, omega (arith, days_in_month-least (y +ℤ pos 1) m)) in
+    let before = last-greatest _ (day_of r y) y m end (omega (arith, ints, (rule_day r y year h).month)) in
+    let after = first-least _ (day_of r (y +ℤ pos 1)) (y +ℤ pos 1) m start (omega (arith, ints, (rule_day r (y +ℤ pos 1) next h).month)) in
+    omega (arith, before, after, first_later y m year month)

@@ -18,7 +18,7 @@ use Rattle.cal_zone.specs.Zone.{is_after, Joins}
 use Rattle.cal_zone.proofs.Offsets.{after_changes-offset}
 use Rattle.cal_zone.proofs.Orders.{rises}
 use Rattle.cal_zone.proofs.Joins.{same_next, joined}
-use Rattle.cal_zone.proofs.RuleDays.{rule_day, month_between, is_month}
+use Rattle.cal_zone.proofs.RuleDays.{rule_day, month_between, is_month, year_later}
 
 -- ---- by parity
 at_even : (one other : Yearly) (k : ℕ) → k % 2 ≡ 0 → ((change_of one other k).at ≡ moment one other.kind.offset (first_year +ℤ pos (k / 2))) × ((change_of one other k).kind.offset ≡ one.kind.offset)
@@ -99,6 +99,27 @@ next_far one other j calm h =
           same_far _ _ _ _ p.0 (q.0 ∙ ap (moment one other.kind.offset) years)
           (days_far (day_of other y) (day_of one (y +ℤ pos 1)) other.time one.time one.kind.offset other.kind.offset (gap_over_year one other y calm (year_in j (omega arith)) next)
           calm.second.time calm.first.time calm.first.offset calm.second.offset)
+    ]
+
+-- Each change is at least 335 days later in the next year.
+later : (d e : ℕ) (t b : ℤ) → d + 335 ≤ e → (instant_of d t b +ℤ pos 28_944_000) ≤ℤ instant_of e t b
+later d e t b h = omega (arith, ints, h)
+
+pub year_far : (one other : Yearly) (j : ℕ) → IsCalm one other → j + 2 < 3_999_998 → (instant_at one other j +ℤ pos 28_944_000) ≤ℤ instant_at one other (j + 2)
+year_far one other j calm h =
+    let y = first_year +ℤ pos (j / 2) in
+    let years : first_year +ℤ pos ((j + 2) / 2) ≡ y +ℤ pos 1 = omega (arith, ints) in
+    let year = year_in j (omega arith) in
+    let next : IsYear (y +ℤ pos 1) = subst IsYear years (year_in (j + 2) h) in
+    elim (cases_eq (j % 2) 0) as (λ _. (instant_at one other j +ℤ pos 28_944_000) ≤ℤ instant_at one other (j + 2)) [
+      | inl even ↦
+          let e = (at_even one other j even).0 in
+          let f = (at_even one other (j + 2) (omega arith)).0 ∙ ap (moment one other.kind.offset) years in
+          rw (e, f) (later (day_of one y) _ one.time other.kind.offset (year_later one y year next calm.first))
+      | inr odd ↦
+          let e = (at_odd one other j (omega arith)).0 in
+          let f = (at_odd one other (j + 2) (omega arith)).0 ∙ ap (moment other one.kind.offset) years in
+          rw (e, f) (later (day_of other y) _ other.time one.kind.offset (year_later other y year next calm.second))
     ]
 
 -- each by itself

@@ -19,19 +19,17 @@ pub struct Rule {
 /// The number of changes in the years of the range.
 const COUNT: u32 = 3_999_998;
 
-/// Returns about the index of the first change in the year of an instant, from the first year of
-/// the range. It makes a search short, and need not be right.
-fn index_near(instant: i64) -> u32
-    ensures { (1 ≤ result) × (result ≤ 3_999_990) }
+/// The seconds of 335 days. A change comes at least as long after the same change of the year
+/// before.
+const MIN_YEAR: i64 = 28_944_000;
+
+/// Returns about the year of an instant, counted from the first year of the range.
+fn year_near(instant: i64) -> u32
+    ensures { result ≤ 1_999_998 }
 {
-    let year = instant.div_euclid(31_556_952);
-    if year < -1_001_968 {
-        return 2;
-    }
-    if year > 998_020 {
-        return 3_999_990;
-    }
-    ((year + 1_001_969) * 2) as u32
+    // 1970 is the year 1001969 of the range, and the mean year has 31556952 seconds.
+    let seconds = instant.saturating_add(31_619_087_638_488).max(0);
+    (seconds.cast_unsigned() / 31_556_952).min(1_999_998) as u32
 }
 
 impl Rule {
@@ -125,39 +123,13 @@ impl Rule {
         }
     }
 
-    /// Returns two indexes between which the search for an instant ends: the same ones, unless it
-    /// is near the turn of a year.
-    #[inline(always)]
-    fn indexes_near(&self, instant: i64) -> (u32, u32)
-        ensures { IsBracket (instant_at self.now.one self.now.other) rule_count
-            instant result.0 result.1 }
-    {
-        let count = self.len();
-        let index = index_near(instant);
-        if instant < self.time(index) {
-            if self.time(index - 1) <= instant {
-                return (index, index);
-            }
-            return (0, index);
-        }
-        if instant < self.time(index + 1) {
-            return (index + 1, index + 1);
-        }
-        if instant < self.time(index + 2) {
-            return (index + 2, index + 2);
-        }
-        (index + 3, count)
-    }
-
     /// Returns the number of changes that are not after an instant.
-    pub(crate) fn count(&self, instant: i64) -> u32
-        ensures split { IsSplit (instant_at self.now.one self.now.other) rule_count
+    fn search(&self, instant: i64) -> u32
+        ensures { IsBracket (instant_at self.now.one self.now.other) rule_count
             instant result result }
     {
-        let _ = self.len();
-        let near = self.indexes_near(instant);
-        let mut low = near.0;
-        let mut high = near.1;
+        let mut low = 0;
+        let mut high = self.len();
         while low < high {
             let middle = low + (high - low) / 2;
             if self.time(middle) <= instant {
@@ -167,6 +139,22 @@ impl Rule {
             }
         }
         low
+    }
+
+    /// Returns the number of changes that are not after an instant. It counts the changes of one
+    /// year without a branch, which nearly always suffices.
+    pub(crate) fn count(&self, instant: i64) -> u32
+        ensures split { IsSplit (instant_at self.now.one self.now.other) rule_count
+            instant result result }
+    {
+        let _ = self.len();
+        let index = 2 * year_near(instant);
+        let one = self.time(index);
+        let other = self.time(index + 1);
+        if other - MIN_YEAR <= instant && instant < one + MIN_YEAR {
+            return index + u32::from(one <= instant) + u32::from(other <= instant);
+        }
+        self.search(instant)
     }
 
     /// Returns the offset at a Unix time in seconds, in a zone whose last changes are the rule's
