@@ -29,7 +29,7 @@ use Rattle.cal_recurrence.proofs.Avoided.{parts_at-some}
 use Rattle.cal_recurrence.proofs.GivenNames.{local-if, named-bytes, no-zone, parameters-bytes, parts-bytes, IsInner}
 use Rattle.cal_recurrence.specs.declared.set_parts.SetParts.{SetParts}
 use Rattle.cal_recurrence.proofs.GivenParts.{dates, guarded, if_there, read_is_spelled}
-use Rattle.cal_recurrence.proofs.SaidLines.{error-here, first-none, no-value, parts-more, passes, second-none}
+use Rattle.cal_recurrence.proofs.SaidLines.{error-here, first-none, local_start, no-value, parts-more, passes, second-none, some_local}
 
 -- ---- recurrences
 recurrence-at : (at : ℕ) (texts : List (List ℕ)) → IfOk (parts_say at texts) IsSpelled
@@ -123,13 +123,6 @@ values-given ps value =
     subst (λ texts. IfSome (each (value_of ps) texts) (AreGiven ps)) (sym parts.2) (some-given ps parts.0 parts.1)
 
 -- ---- the parts that lines say
-abbrev local_start : Option DateOrTime → Bool
-local_start None = false
-local_start (Some v) = is_local v
-
-abbrev some_local : SetDraft → Bool
-some_local d = local_start d.start || (list_any is_local d.dates || list_any is_local d.exceptions)
-
 abbrev IsZoneIn : SetDraft → Option (List ℕ) → Type 0
 IsZoneIn d None = ⊤
 IsZoneIn d (Some zone) = All IsNameByte zone × (some_local d ≡ true)

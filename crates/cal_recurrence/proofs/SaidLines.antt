@@ -1,7 +1,7 @@
 -- The parts that lines say, and their errors, line after line.
 use Rattle.std.proofs.Common.{◌≡◌, ℕ, zero, suc, ◌<◌, Bool, true, false, cond, eqb, not, List, [], ◌∷◌, ◌++◌, append-nil, length, length-append, take, Option, Some, None, Ok, inl, inr, refl, sym, ap, ◌∙◌, arith}
-use Rattle.std.specs.Prelude.{filter_map, is_some, slice_get, option_and_then, unwrap_or}
-use Rattle.std.specs.List.{cons_option, flat_map}
+use Rattle.std.specs.Prelude.{◌||◌, filter_map, is_some, slice_get, option_and_then, unwrap_or}
+use Rattle.std.specs.List.{cons_option, flat_map, list_any}
 use Rattle.std.specs.Option.{option_map_or, option_or}
 use Rattle.std.specs.Result.{result_ok}
 use Rattle.std.proofs.lemmas.Bool.{cases_lt, ne_eqb}
@@ -9,7 +9,7 @@ use Rattle.std.proofs.lemmas.Grind.{flat_map-append}
 use Rattle.std.proofs.lemmas.List.{take_at, take-append-le}
 use Rattle.std.proofs.lemmas.List.Elements.{filter_map-append}
 use Rattle.std.proofs.lemmas.Option.{slice_get_past}
-use Rattle.cal_recurrence.specs.SetText.{all_name, error_after, error_at, error_unless, is_named, kind_of, listed_on, parameters_on, parts_of, rule_on, start_on, unless_error, value_error, value_on, values_on, with_line, with_value, with_zone, zone_error, zone_on, AreValid}
+use Rattle.cal_recurrence.specs.SetText.{all_name, error_after, error_at, error_unless, is_local, is_named, kind_of, listed_on, parameters_on, parts_of, rule_on, start_on, unless_error, value_error, value_on, values_on, with_line, with_value, with_zone, zone_error, zone_on, AreValid}
 use Rattle.cal_recurrence.specs.Text.{recurrence_of}
 use Rattle.cal_recurrence.specs.declared.date_or_time.DateOrTime.{DateOrTime}
 use Rattle.cal_recurrence.specs.declared.recurrence.Recurrence.{Recurrence}
@@ -63,6 +63,14 @@ line-read said draft text its some kind e =
     ap (λ d. unless_error (zone_error d text its) (with_zone d text)) (sym both.1)
     ∙ ap (λ o. unless_error o (with_zone (with_value said text its) text)) zones
     ∙ sym whole
+
+-- ---- readings without `Z`
+abbrev pub local_start : Option DateOrTime → Bool
+local_start None = false
+local_start (Some v) = is_local v
+
+abbrev pub some_local : SetDraft → Bool
+some_local d = local_start d.start || (list_any is_local d.dates || list_any is_local d.exceptions)
 
 -- ---- one more line
 first-more : {X : Type 0} (xs : List X) (o : Option X) → slice_get (xs ++ cons_option o []) 0 ≡ option_or (slice_get xs 0) o

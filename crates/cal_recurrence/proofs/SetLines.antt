@@ -7,6 +7,7 @@ use Rattle.std.specs.Result.{result_err, result_ok}
 use Rattle.std.proofs.lemmas.Bool.{and_from, cases_Bool, false≢true, ne_eqb}
 use Rattle.std.proofs.lemmas.Bool.Decides.{nat_tests}
 use Rattle.std.proofs.lemmas.List.{get_or_at, take_at}
+use Rattle.std.proofs.lemmas.List.Folds.{list_any-append}
 use Rattle.std.proofs.lemmas.List.Elements.{All-head, All-tail}
 use Rattle.std.proofs.lemmas.Slice.Eq.{bytes_eq-Decides}
 use Rattle.cal_recurrence.specs.Buffers.{IsPut}
@@ -27,7 +28,7 @@ use Rattle.cal_recurrence.specs.declared.set_draft.SetDraft.{SetDraft}
 use Rattle.cal_recurrence.specs.declared.set_parts.SetParts.{SetParts}
 use Rattle.cal_recurrence.proofs.Avoided.{avoids, avoids-append, avoids-cons, cut-here, cut-nowhere, from-all, front-here, front-nowhere, rest-here}
 use Rattle.cal_recurrence.proofs.ReadDates.{date-word}
-use Rattle.cal_recurrence.proofs.SaidLines.{ok-from, parts-more, valid-more}
+use Rattle.cal_recurrence.proofs.SaidLines.{ok-from, parts-more, some_local, valid-more}
 use Rattle.cal_recurrence.proofs.ReadValues.{IsWord, AreWords, cut, joined, length-map, list-value, no-feed}
 
 -- ---- one line after another
@@ -164,11 +165,13 @@ zone_after None s (Local z) = s
 zone_after (Some tzid) s (Local z) = Some tzid
 zone_after tzid s (Utc z) = s
 
-known-after : (tzid s : Option (List ℕ)) (v : DateOrTime) → Known tzid s → Known tzid (zone_after tzid s v)
-known-after tzid s (Date n) h = h
-known-after None s (Local z) h = h
-known-after (Some tzid) s (Local z) h = inr refl
-known-after tzid s (Utc z) h = h
+-- the lines so far named the zone, or have no reading without `Z`
+abbrev IsKnown : Option (List ℕ) → SetDraft → Type 0
+IsKnown tzid d = (d.zone ≡ tzid) ⊎ (d.zone ≡ None) × (some_local d ≡ false)
+
+known-zone : (tzid : Option (List ℕ)) (d : SetDraft) → IsKnown tzid d → Known tzid d.zone
+known-zone tzid d (inl h) = inr h
+known-zone tzid d (inr h) = inl h.0
 
 abbrev draft_of : Option DateOrTime → Option Recurrence → List DateOrTime → List DateOrTime → Option (List ℕ) → SetDraft
 draft_of start r dates exceptions s = record { start = start; recurrence = r; dates = dates; exceptions = exceptions; zone = s }
@@ -252,6 +255,7 @@ record IsList (name : List ℕ) (its : SetLine) (to : List DateOrTime → Option
   puts : (ds ws : List DateOrTime) (s : Option (List ℕ)) (whole : List ℕ) → has_room (length ds) (rest_at 58 whole) ≡ true → values_on whole ≡ Some ws
       → (value_error (to ds s) whole its ≡ None) × (with_value (to ds s) whole its ≡ to (ds ++ ws) s)
   zoned : (ds : List DateOrTime) (s t : Option (List ℕ)) → ((to ds s).zone ≡ s) × (record (to ds s) { zone = t } ≡ to ds t)
+  locals : (ds ws : List DateOrTime) (s t : Option (List ℕ)) → some_local (to ds s) ≡ false → list_any is_local ws ≡ false → some_local (to (ds ++ ws) t) ≡ false
 
 abbrev head_of : List ℕ → Option (List ℕ) → DateOrTime → List ℕ
 head_of name tzid v = name ++ parameter_text tzid v
@@ -289,14 +293,39 @@ line-feed name tzid v ws h z run =
     avoids-append 10 (head_of name tzid v) (58 ∷ joined date_or_time_text v ws) (head-is name tzid v h z).feed
     (avoids-cons 10 58 (joined date_or_time_text v ws) refl (no-feed (value_of (parameters tzid v)) date_or_time_text v ws run))
 
--- the zone after the lines of all values
-abbrev zones : Option (List ℕ) → Option (List ℕ) → DateOrTime → List DateOrTime → Option (List ℕ)
-zones tzid s first [] = zone_after tzid s first
-zones tzid s first (v ∷ vs) = cond (is_same_kind first v) (zones tzid s first vs) (zones tzid (zone_after tzid s first) v vs)
+known-zone-of : (name : List ℕ) (its : SetLine) (to : List DateOrTime → Option (List ℕ) → SetDraft) → IsList name its to
+    → (tzid s : Option (List ℕ)) (ds : List DateOrTime) → IsKnown tzid (to ds s) → Known tzid s
+known-zone-of name its to h tzid s ds known = subst (Known tzid) (h.zoned ds s s).0 (known-zone tzid (to ds s) known)
 
-abbrev zones_all : Option (List ℕ) → Option (List ℕ) → List DateOrTime → Option (List ℕ)
-zones_all tzid s [] = s
-zones_all tzid s (v ∷ vs) = zones tzid s v vs
+-- the zone after a line with values of one kind
+known-more : (name : List ℕ) (its : SetLine) (to : List DateOrTime → Option (List ℕ) → SetDraft) → IsList name its to
+    → (tzid s : Option (List ℕ)) (v : DateOrTime) (ws ds : List DateOrTime) → IsKnown tzid (to ds s) → (is_local v ≡ false → list_any is_local ws ≡ false)
+    → IsKnown tzid (to (ds ++ v ∷ ws) (zone_after tzid s v))
+known-more name its to h tzid s v ws ds known kinds = by-kind tzid v kinds known
+  where
+    stays : (tzid : Option (List ℕ)) (w : DateOrTime) → list_any is_local (w ∷ ws) ≡ false → IsKnown tzid (to ds s) → IsKnown tzid (to (ds ++ w ∷ ws) s)
+    stays tzid w plain (inl e) = inl ((h.zoned (ds ++ w ∷ ws) s s).0 ∙ sym (h.zoned ds s s).0 ∙ e)
+    stays tzid w plain (inr e) = inr ((h.zoned (ds ++ w ∷ ws) s s).0 ∙ sym (h.zoned ds s s).0 ∙ e.0, h.locals ds (w ∷ ws) s s e.1 plain)
+
+    none : (w : DateOrTime) → IsKnown None (to ds s) → IsKnown None (to (ds ++ w ∷ ws) s)
+    none w (inl e) = inl ((h.zoned (ds ++ w ∷ ws) s s).0 ∙ sym (h.zoned ds s s).0 ∙ e)
+    none w (inr e) = inl ((h.zoned (ds ++ w ∷ ws) s s).0 ∙ sym (h.zoned ds s s).0 ∙ e.0)
+
+    by-kind : (tzid : Option (List ℕ)) (w : DateOrTime) → (is_local w ≡ false → list_any is_local ws ≡ false) → IsKnown tzid (to ds s)
+        → IsKnown tzid (to (ds ++ w ∷ ws) (zone_after tzid s w))
+    by-kind tzid (Date n) plain k = stays tzid (Date n) (plain refl) k
+    by-kind None (Local z) plain k = none (Local z) k
+    by-kind (Some tzid) (Local z) plain k = inl (h.zoned (ds ++ Local z ∷ ws) (Some tzid) s).0
+    by-kind tzid (Utc z) plain k = stays tzid (Utc z) (plain refl) k
+
+same-local : (v w : DateOrTime) → is_same_kind v w ≡ true → is_local w ≡ is_local v
+same-local (Date n) (Date m) h = refl
+same-local (Date n) (Local z) h = absurd (false≢true h)
+same-local (Date n) (Utc z) h = refl
+same-local (Local y) w h = h
+same-local (Utc y) (Date n) h = refl
+same-local (Utc y) (Local z) h = absurd (false≢true h)
+same-local (Utc y) (Utc z) h = refl
 
 head-line : (name : List ℕ) (tzid : Option (List ℕ)) (v : DateOrTime) → head_text name tzid v ≡ line_with name tzid v []
 head-line name tzid v =
@@ -305,23 +334,23 @@ head-line name tzid v =
 
 lines-read : (name : List ℕ) (its : SetLine) (to : List DateOrTime → Option (List ℕ) → SetDraft) → IsList name its to
     → (tzid : Option (List ℕ)) → IsZone tzid → (rest : List ℕ) (p : SetParts) (all : List DateOrTime)
-    → (vs : List DateOrTime) (s : Option (List ℕ)) (v : DateOrTime) (ws ds : List DateOrTime) → Known tzid s → IsRun tzid v ws → All IsDateOrTime vs
-    → (ds ++ v ∷ ws) ++ vs ≡ all → length all ≤ 62
-    → Reads (to all (zones tzid s v vs)) rest p
+    → (vs : List DateOrTime) (s : Option (List ℕ)) (v : DateOrTime) (ws ds : List DateOrTime) → IsKnown tzid (to ds s) → IsRun tzid v ws → (is_local v ≡ false → list_any is_local ws ≡ false)
+    → All IsDateOrTime vs → (ds ++ v ∷ ws) ++ vs ≡ all → length all ≤ 62
+    → ((t : Option (List ℕ)) → IsKnown tzid (to all t) → Reads (to all t) rest p)
     → Reads (to ds s) ((line_with name tzid v ws ++ more_text name tzid v vs) ++ rest) p
-lines-read name its to h tzid z rest p all [] s v ws ds known run are same few reads =
+lines-read name its to h tzid z rest p all [] s v ws ds known run kinds are same few reads =
     let line = line_with name tzid v ws in
     let same_all : ds ++ v ∷ ws ≡ all = sym (append-nil (ds ++ v ∷ ws)) ∙ same in
     let size : length ds + length (v ∷ ws) ≤ 62 = omega (arith, few, ap length same_all, length-append ds (v ∷ ws)) in
     subst (λ text. Reads (to ds s) text p) (sym (append_assoc line line_end rest))
     (one-line (to ds s) (to all (zone_after tzid s v)) line rest p (line-feed name tzid v ws h.plain z run)
-    (line-put name its to h tzid s v ws ds z known run size ∙ ap (λ ds. Ok (to ds (zone_after tzid s v))) same_all) reads)
-lines-read name its to h tzid z rest p all (w ∷ vs) s v ws ds known run are same few reads =
+    (line-put name its to h tzid s v ws ds z (known-zone-of name its to h tzid s ds known) run size ∙ ap (λ ds. Ok (to ds (zone_after tzid s v))) same_all)
+    (reads (zone_after tzid s v) (subst (λ ds. IsKnown tzid (to ds (zone_after tzid s v))) same_all (known-more name its to h tzid s v ws ds known kinds))))
+lines-read name its to h tzid z rest p all (w ∷ vs) s v ws ds known run kinds are same few reads =
     let line = line_with name tzid v ws in
     let is = All-head IsDateOrTime w vs are in
     let others = All-tail IsDateOrTime w vs are in
     let text : Bool → List ℕ = λ b. cond b (codes "," ++ date_or_time_text w ++ more_text name tzid v vs) (line_end ++ head_text name tzid w ++ more_text name tzid w vs) in
-    let end : Bool → Option (List ℕ) = λ b. cond b (zones tzid s v vs) (zones tzid (zone_after tzid s v) w vs) in
     elim (cases_Bool (is_same_kind v w)) as (λ _. Reads (to ds s) ((line ++ more_text name tzid v (w ∷ vs)) ++ rest) p) [
       | inl alike ↦
           let grown : line ++ (44 ∷ date_or_time_text w) ≡ line_with name tzid v (ws ++ w ∷ []) =
@@ -334,8 +363,8 @@ lines-read name its to h tzid z rest p all (w ∷ vs) s v ws ds known run are sa
           append_assoc ds (v ∷ (ws ++ w ∷ [])) vs ∙ ap (λ more. ds ++ v ∷ more) (append_assoc ws (w ∷ []) vs) ∙ sym (append_assoc ds (v ∷ ws) (w ∷ vs)) ∙ same in
           subst (λ front. Reads (to ds s) (front ++ rest) p) longer
           (lines-read name its to h tzid z rest p all vs s v (ws ++ w ∷ []) ds known
-          (run.0, words-and (value_of (parameters tzid v)) date_or_time_text ws w run.1 (kind-word tzid v w alike is)) others same_more few
-          (subst (λ t. Reads (to all t) rest p) (ap end alike) reads))
+          (run.0, words-and (value_of (parameters tzid v)) date_or_time_text ws w run.1 (kind-word tzid v w alike is))
+          (λ e. list_any-append is_local ws (w ∷ []) ∙ ap (λ b. b || (is_local w || false)) (kinds e) ∙ ap (λ b. b || false) (same-local v w alike ∙ e)) others same_more few reads)
       | inr apart ↦
           let next = more_text name tzid w vs in
           let size : length ds + length (v ∷ ws) ≤ 62 = omega (arith, few, ap length same, length-append ds (v ∷ ws), length-append (ds ++ v ∷ ws) (w ∷ vs)) in
@@ -345,22 +374,21 @@ lines-read name its to h tzid z rest p all (w ∷ vs) s v ws ds known run are sa
           ∙ ap (λ b. (line ++ text b) ++ rest) (sym apart) in
           subst (λ text. Reads (to ds s) text p) begun
           (one-line (to ds s) (to (ds ++ v ∷ ws) (zone_after tzid s v)) line ((line_with name tzid w [] ++ next) ++ rest) p (line-feed name tzid v ws h.plain z run)
-          (line-put name its to h tzid s v ws ds z known run size)
-          (lines-read name its to h tzid z rest p all vs (zone_after tzid s v) w [] (ds ++ v ∷ ws) (known-after tzid s v known)
-          (kind-word tzid w w (same-kind w) is, tt) others (append_assoc (ds ++ v ∷ ws) (w ∷ []) vs ∙ same) few
-          (subst (λ t. Reads (to all t) rest p) (ap end apart) reads)))
+          (line-put name its to h tzid s v ws ds z (known-zone-of name its to h tzid s ds known) run size)
+          (lines-read name its to h tzid z rest p all vs (zone_after tzid s v) w [] (ds ++ v ∷ ws) (known-more name its to h tzid s v ws ds known kinds)
+          (kind-word tzid w w (same-kind w) is, tt) (λ e. refl) others (append_assoc (ds ++ v ∷ ws) (w ∷ []) vs ∙ same) few reads))
     ]
 
 -- all values of a list
 list-read : (name : List ℕ) (its : SetLine) (to : List DateOrTime → Option (List ℕ) → SetDraft) → IsList name its to
-    → (tzid : Option (List ℕ)) → IsZone tzid → (rest : List ℕ) (p : SetParts) (vs : List DateOrTime) (s : Option (List ℕ)) → Known tzid s → All IsDateOrTime vs
+    → (tzid : Option (List ℕ)) → IsZone tzid → (rest : List ℕ) (p : SetParts) (vs : List DateOrTime) (s : Option (List ℕ)) → IsKnown tzid (to [] s) → All IsDateOrTime vs
     → length vs ≤ 62
-    → Reads (to vs (zones_all tzid s vs)) rest p
+    → ((t : Option (List ℕ)) → IsKnown tzid (to vs t) → Reads (to vs t) rest p)
     → Reads (to [] s) (values_text name tzid vs ++ rest) p
-list-read name its to h tzid z rest p [] s known are few reads = reads
+list-read name its to h tzid z rest p [] s known are few reads = reads s known
 list-read name its to h tzid z rest p (v ∷ vs) s known are few reads =
     subst (λ head. Reads (to [] s) ((head ++ more_text name tzid v vs) ++ rest) p) (sym (head-line name tzid v))
-    (lines-read name its to h tzid z rest p (v ∷ vs) vs s v [] [] known (kind-word tzid v v (same-kind v) (All-head IsDateOrTime v vs are), tt)
+    (lines-read name its to h tzid z rest p (v ∷ vs) vs s v [] [] known (kind-word tzid v v (same-kind v) (All-head IsDateOrTime v vs are), tt) (λ e. refl)
     (All-tail IsDateOrTime v vs are) refl few reads)
 
 -- ---- the whole
@@ -372,12 +400,25 @@ list-clean : (filled : ℕ) (whole : List ℕ) (its : SetLine) (ws : List DateOr
 list-clean filled whole its ws room values =
     ap (λ b. option_or (error_unless b (TooMany its)) (error_unless (is_some (values_on whole)) (Value its))) room ∙ ap (λ o. error_unless (is_some o) (Value its)) values
 
+more-false : (a b c e : Bool) → a || (b || e) ≡ false → c ≡ false → a || ((b || c) || e) ≡ false
+more-false true b c e h k = h
+more-false false true c e h k = h
+more-false false false c e h k = ap (λ x. x || e) k ∙ h
+
+last-false : (a b c e : Bool) → a || (b || c) ≡ false → e ≡ false → a || (b || (c || e)) ≡ false
+last-false true b c e h k = h
+last-false false true c e h k = h
+last-false false false true e h k = h
+last-false false false false e h k = k
+
 dates-list : (start : DateOrTime) (r : Recurrence) → IsList (codes "RDATE") line.Dates (λ ds s. draft_of (Some start) (Some r) ds [] s)
 dates-list start r = record {
   plain = list_named (codes "RDATE") refl refl refl;
   means = refl;
   puts = λ ds ws s whole room values. (list-clean (length ds) whole line.Dates ws room values, ap (λ o. draft_of (Some start) (Some r) (ds ++ unwrap_or o []) [] s) values);
   zoned = λ ds s t. (refl, refl);
+  locals = λ ds ws s t none plain.
+      ap (λ b. is_local start || (b || false)) (list_any-append is_local ds ws) ∙ more-false (is_local start) (list_any is_local ds) (list_any is_local ws) false none plain;
 }
 
 exceptions-list : (start : DateOrTime) (r : Recurrence) (dates : List DateOrTime)
@@ -388,6 +429,9 @@ exceptions-list start r dates = record {
   puts = λ ds ws s whole room values.
       (list-clean (length ds) whole line.Exceptions ws room values, ap (λ o. draft_of (Some start) (Some r) dates (ds ++ unwrap_or o []) s) values);
   zoned = λ ds s t. (refl, refl);
+  locals = λ ds ws s t none plain.
+      ap (λ b. is_local start || (list_any is_local dates || b)) (list_any-append is_local ds ws)
+      ∙ last-false (is_local start) (list_any is_local dates) (list_any is_local ds) (list_any is_local ws) none plain;
 }
 
 -- the start
@@ -420,113 +464,16 @@ rule-put start s r text says =
     no-zone (Some tzid) = (refl, refl)
 
 -- ---- the zone at the end
-kept-line : (tzid : Option (List ℕ)) (v : DateOrTime) → zone_after tzid tzid v ≡ tzid
-kept-line tzid (Date n) = refl
-kept-line None (Local z) = refl
-kept-line (Some name) (Local z) = refl
-kept-line tzid (Utc z) = refl
+first-known : (tzid : Option (List ℕ)) (v : DateOrTime) → IsKnown tzid (draft_of (Some v) None [] [] (zone_after tzid None v))
+first-known tzid (Date n) = inr (refl, refl)
+first-known None (Local z) = inl refl
+first-known (Some tzid) (Local z) = inl refl
+first-known tzid (Utc z) = inr (refl, refl)
 
-kept-lines : (tzid : Option (List ℕ)) (v : DateOrTime) (vs : List DateOrTime) → zones tzid tzid v vs ≡ tzid
-kept-lines tzid v [] = kept-line tzid v
-kept-lines tzid v (w ∷ vs) =
-    either (is_same_kind v w) (kept-lines tzid v vs) (ap (λ s. zones tzid s w vs) (kept-line tzid v) ∙ kept-lines tzid w vs)
-  where
-    either : (b : Bool) {s t tzid : Option (List ℕ)} → s ≡ tzid → t ≡ tzid → cond b s t ≡ tzid
-    either true h k = h
-    either false h k = k
-
-kept : (tzid s : Option (List ℕ)) (vs : List DateOrTime) → s ≡ tzid → zones_all tzid s vs ≡ tzid
-kept tzid s [] h = h
-kept tzid s (v ∷ vs) h = ap (λ t. zones tzid t v vs) h ∙ kept-lines tzid v vs
-
-named-line : (name : List ℕ) (s : Option (List ℕ)) (v : DateOrTime) → is_local v ≡ true → zone_after (Some name) s v ≡ Some name
-named-line name s (Date n) h = absurd (false≢true h)
-named-line name s (Local z) h = refl
-named-line name s (Utc z) h = absurd (false≢true h)
-
-same-local : (v w : DateOrTime) → is_same_kind v w ≡ true → is_local w ≡ is_local v
-same-local (Date n) (Date m) h = refl
-same-local (Date n) (Local z) h = absurd (false≢true h)
-same-local (Date n) (Utc z) h = refl
-same-local (Local y) w h = h
-same-local (Utc y) (Date n) h = refl
-same-local (Utc y) (Local z) h = absurd (false≢true h)
-same-local (Utc y) (Utc z) h = refl
-
-or-true : (a b : Bool) → a || b ≡ true → (a ≡ true) ⊎ (b ≡ true)
-or-true true b h = inl refl
-or-true false b h = inr h
-
-or-first : (a b : Bool) → a ≡ true → a || b ≡ true
-or-first true b h = refl
-or-first false b h = absurd (false≢true h)
-
-or-other : (a b : Bool) → b ≡ true → a || b ≡ true
-or-other true b h = refl
-or-other false b h = h
-
-named-lines : (name : List ℕ) (s : Option (List ℕ)) (v : DateOrTime) (vs : List DateOrTime) → is_local v || list_any is_local vs ≡ true
-    → zones (Some name) s v vs ≡ Some name
-named-lines name s v [] h =
-    elim (or-true (is_local v) false h) [
-      | inl here ↦ named-line name s v here
-      | inr never ↦ absurd (false≢true never)
-    ]
-named-lines name s v (w ∷ vs) h =
-    let tzid = Some name in
-    let ends : Bool → Option (List ℕ) = λ b. cond b (zones tzid s v vs) (zones tzid (zone_after tzid s v) w vs) in
-    elim (cases_Bool (is_same_kind v w)) [
-      | inl alike ↦
-          ap ends alike
-          ∙ named-lines name s v vs (elim (or-true (is_local v) (is_local w || list_any is_local vs) h) [
-            | inl here ↦ or-first (is_local v) (list_any is_local vs) here
-            | inr later ↦ ap (λ b. b || list_any is_local vs) (sym (same-local v w alike)) ∙ later
-          ])
-      | inr apart ↦
-          ap ends apart
-          ∙ elim (or-true (is_local v) (is_local w || list_any is_local vs) h) [
-            | inl here ↦ ap (λ t. zones tzid t w vs) (named-line name s v here) ∙ kept-lines tzid w vs
-            | inr later ↦ named-lines name (zone_after tzid s v) w vs later
-          ]
-    ]
-
-named : (name : List ℕ) (s : Option (List ℕ)) (vs : List DateOrTime) → list_any is_local vs ≡ true → zones_all (Some name) s vs ≡ Some name
-named name s [] h = absurd (false≢true h)
-named name s (v ∷ vs) h = named-lines name s v vs h
-
-known-lines : (tzid s : Option (List ℕ)) (v : DateOrTime) (vs : List DateOrTime) → Known tzid s → Known tzid (zones tzid s v vs)
-known-lines tzid s v [] h = known-after tzid s v h
-known-lines tzid s v (w ∷ vs) h =
-    either (is_same_kind v w) (known-lines tzid s v vs h) (known-lines tzid (zone_after tzid s v) w vs (known-after tzid s v h))
-  where
-    either : (b : Bool) {s t : Option (List ℕ)} → Known tzid s → Known tzid t → Known tzid (cond b s t)
-    either true h k = h
-    either false h k = k
-
-known-all : (tzid s : Option (List ℕ)) (vs : List DateOrTime) → Known tzid s → Known tzid (zones_all tzid s vs)
-known-all tzid s [] h = h
-known-all tzid s (v ∷ vs) h = known-lines tzid s v vs h
-
--- the zone after the start, the dates and the exceptions
-abbrev last_zone : SetParts → Option (List ℕ) → Option (List ℕ)
-last_zone p tzid = zones_all tzid (zones_all tzid (zone_after tzid None p.start) p.dates) p.exceptions
-
-zone-found : (p : SetParts) (tzid : Option (List ℕ)) → IsZoneOf p tzid → last_zone p tzid ≡ tzid
-zone-found p None h =
-    elim (known-all None _ p.exceptions (known-all None _ p.dates (known-after None None p.start (inl refl)))) [
-      | inl none ↦ none
-      | inr same ↦ same
-    ]
-zone-found p (Some name) h =
-    let tzid = Some name in
-    let first = zone_after tzid None p.start in
-    elim (or-true (is_local p.start) (list_any is_local p.dates || list_any is_local p.exceptions) h.1) [
-      | inl start ↦ kept tzid (zones_all tzid first p.dates) p.exceptions (kept tzid first p.dates (named-line name None p.start start))
-      | inr more ↦ elim (or-true (list_any is_local p.dates) (list_any is_local p.exceptions) more) [
-        | inl dates ↦ kept tzid (zones_all tzid first p.dates) p.exceptions (named name first p.dates dates)
-        | inr exceptions ↦ named name (zones_all tzid first p.dates) p.exceptions exceptions
-      ]
-    ]
+zone-found : (p : SetParts) (tzid : Option (List ℕ)) (s : Option (List ℕ)) → IsZoneOf p tzid → IsKnown tzid (draft_of (Some p.start) (Some p.recurrence) p.dates p.exceptions s) → s ≡ tzid
+zone-found p tzid s h (inl e) = e
+zone-found p None s h (inr e) = e.0
+zone-found p (Some name) s h (inr e) = absurd (false≢true (sym e.1 ∙ h.1))
 
 zone-is : (p : SetParts) (tzid : Option (List ℕ)) → IsZoneOf p tzid → IsZone tzid
 zone-is p None h = tt
@@ -560,18 +507,16 @@ set-reads p h back few less =
     let tzid = p.zone in
     let z = zone-is p tzid h.zone in
     let first = zone_after tzid None p.start in
-    let second = zones_all tzid first p.dates in
-    let known = known-after tzid None p.start (inl refl) in
     let start : List ℕ = codes "DTSTART" in
     let rule : List ℕ = codes "RRULE:" ++ text_of p.recurrence in
     let dates = values_text (codes "RDATE") tzid p.dates in
     let exceptions = values_text (codes "EXDATE") tzid p.exceptions in
     let run : IsRun tzid p.start [] = (kind-word tzid p.start p.start (same-kind p.start) h.start, tt) in
     let name = list_named start refl refl refl in
-    let excepted = list-read (codes "EXDATE") line.Exceptions (λ ds s. draft_of (Some p.start) (Some p.recurrence) p.dates ds s) (exceptions-list p.start p.recurrence p.dates) tzid z [] p p.exceptions second
-    (known-all tzid first p.dates known) h.each_exception less (all-read p (last_zone p tzid) (zone-found p tzid h.zone)) in
+    let excepted = λ (s : Option (List ℕ)) (known : IsKnown tzid (draft_of (Some p.start) (Some p.recurrence) p.dates [] s)). list-read (codes "EXDATE") line.Exceptions (λ ds s. draft_of (Some p.start) (Some p.recurrence) p.dates ds s) (exceptions-list p.start p.recurrence p.dates) tzid z [] p p.exceptions s
+    known h.each_exception less (λ t last. all-read p t (zone-found p tzid t h.zone last)) in
     let dated = list-read (codes "RDATE") line.Dates (λ ds s. draft_of (Some p.start) (Some p.recurrence) ds [] s) (dates-list p.start p.recurrence) tzid z (exceptions ++ []) p p.dates first
-    known h.each_date few excepted in
+    (first-known tzid p.start) h.each_date few excepted in
     let ruled = one-line (draft_of (Some p.start) None [] [] first) (draft_of (Some p.start) (Some p.recurrence) [] [] first) rule (dates ++ (exceptions ++ [])) p
     (avoids-append 10 (codes "RRULE:") (text_of p.recurrence) refl (from-all 10 (text_of p.recurrence) back.one_line))
     (rule-put p.start first p.recurrence (text_of p.recurrence) back.named) dated in
