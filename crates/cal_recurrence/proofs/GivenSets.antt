@@ -26,6 +26,7 @@ use Rattle.cal_recurrence.specs.declared.set_fault.ParseSetErrorKind.TheVariants
 use Rattle.cal_recurrence.specs.declared.set_fault.SetLine.{SetLine}
 use Rattle.cal_recurrence.specs.declared.set_fault.SetLine.TheVariants as line
 use Rattle.cal_recurrence.proofs.Avoided.{parts_at-some}
+use Rattle.cal_recurrence.proofs.FirstNumbers.{first_one, other_one}
 use Rattle.cal_recurrence.proofs.GivenNames.{local-if, named-bytes, no-zone, parameters-bytes, parts-bytes, IsInner}
 use Rattle.cal_recurrence.specs.declared.set_parts.SetParts.{SetParts}
 use Rattle.cal_recurrence.proofs.GivenParts.{dates, guarded, if_there, read_is_spelled}
@@ -82,14 +83,6 @@ value-is : (ps : List (List ℕ)) (word : List ℕ) → IfSome (value_of ps word
 value-is ps word =
     if_there IsDateOrTime (IsAllowed ps) (if_allowed ps) (date_or_time_of word) (λ v h. guarded (IsAllowed ps) (all_allow ps v) v (λ e. (h, e))) (dates word)
 
-or-first : (a b : Bool) → a ≡ true → a || b ≡ true
-or-first true b h = refl
-or-first false b h = absurd (cc)
-
-or-other : (a b : Bool) → b ≡ true → a || b ≡ true
-or-other true b h = refl
-or-other false b h = h
-
 -- the values of a line, which are readings without `Z` if the line names a zone
 record AreGiven (ps : List (List ℕ)) (vs : List DateOrTime) : Type 0 where
   all : All IsDateOrTime vs
@@ -114,7 +107,7 @@ some-given ps text texts = both (value_of ps text) (each (value_of ps) texts) (v
     both (Some v) None h k = tt
     both (Some v) (Some vs) h k = record {
       all = All-cons IsDateOrTime v vs h.0 k;
-      local = λ zone e. or-first (is_local v) (list_any is_local vs) (local-if ps v zone e h.1);
+      local = λ zone e. first_one (is_local v) (list_any is_local vs) (local-if ps v zone e h.1);
     }
 
 values-given : (ps : List (List ℕ)) (value : List ℕ) → IfSome (list_of (value_of ps) value) (AreGiven ps)
@@ -152,9 +145,9 @@ start-is d ps (Some v) h none e k = record {
     each_date = h.each_date;
     each_exception = h.each_exception;
     zone = more-local d (record d { start = Some v }) d.zone
-        (λ e. or-other (is_local v) _ (sym (ap (λ s. local_start s || (list_any is_local d.dates || list_any is_local d.exceptions)) none) ∙ e)) h.zone;
+        (λ e. other_one (is_local v) _ (sym (ap (λ s. local_start s || (list_any is_local d.dates || list_any is_local d.exceptions)) none) ∙ e)) h.zone;
   };
-  local = λ zone e. or-first (is_local v) _ (local-if ps v zone e k.1);
+  local = λ zone e. first_one (is_local v) _ (local-if ps v zone e k.1);
 }
 
 rule-is : (d : SetDraft) (ps : List (List ℕ)) (o : Result Recurrence ParseRuleError) → IsDraft d → option_map Rule (result_err o) ≡ None → IfOk o IsSpelled
@@ -173,15 +166,15 @@ rule-is d ps (Ok r) h e k none = record {
 }
 
 any-first : (ds vs : List DateOrTime) → list_any is_local ds ≡ true → list_any is_local (ds ++ vs) ≡ true
-any-first ds vs h = list_any-append is_local ds vs ∙ or-first (list_any is_local ds) (list_any is_local vs) h
+any-first ds vs h = list_any-append is_local ds vs ∙ first_one (list_any is_local ds) (list_any is_local vs) h
 
 any-other : (ds vs : List DateOrTime) → list_any is_local vs ≡ true → list_any is_local (ds ++ vs) ≡ true
-any-other ds vs h = list_any-append is_local ds vs ∙ or-other (list_any is_local ds) (list_any is_local vs) h
+any-other ds vs h = list_any-append is_local ds vs ∙ other_one (list_any is_local ds) (list_any is_local vs) h
 
 or-more : (a b c x y : Bool) → (b ≡ true → x ≡ true) → (c ≡ true → y ≡ true) → a || (b || c) ≡ true → a || (x || y) ≡ true
 or-more true b c x y h k e = refl
-or-more false true c x y h k e = or-first x y (h refl)
-or-more false false c x y h k e = or-other x y (k e)
+or-more false true c x y h k e = first_one x y (h refl)
+or-more false false c x y h k e = other_one x y (k e)
 
 dates-is : (d : SetDraft) (ps : List (List ℕ)) (o : Option (List DateOrTime)) → IsDraft d → is_some o ≡ true → IfSome o (AreGiven ps)
     → IsNamed ps (record d { dates = d.dates ++ unwrap_or o [] })
@@ -195,7 +188,7 @@ dates-is d ps (Some vs) h e k = record {
     zone = more-local d (record d { dates = d.dates ++ vs }) d.zone
         (or-more (local_start d.start) (list_any is_local d.dates) (list_any is_local d.exceptions) _ _ (any-first d.dates vs) (λ e. e)) h.zone;
   };
-  local = λ zone e. or-other (local_start d.start) _ (or-first _ (list_any is_local d.exceptions) (any-other d.dates vs (k.local zone e)));
+  local = λ zone e. other_one (local_start d.start) _ (first_one _ (list_any is_local d.exceptions) (any-other d.dates vs (k.local zone e)));
 }
 
 exceptions-is : (d : SetDraft) (ps : List (List ℕ)) (o : Option (List DateOrTime)) → IsDraft d → is_some o ≡ true → IfSome o (AreGiven ps)
@@ -210,7 +203,7 @@ exceptions-is d ps (Some vs) h e k = record {
     zone = more-local d (record d { exceptions = d.exceptions ++ vs }) d.zone
         (or-more (local_start d.start) (list_any is_local d.dates) (list_any is_local d.exceptions) _ _ (λ e. e) (any-first d.exceptions vs)) h.zone;
   };
-  local = λ zone e. or-other (local_start d.start) _ (or-other (list_any is_local d.dates) _ (any-other d.exceptions vs (k.local zone e)));
+  local = λ zone e. other_one (local_start d.start) _ (other_one (list_any is_local d.dates) _ (any-other d.exceptions vs (k.local zone e)));
 }
 
 -- ---- lines

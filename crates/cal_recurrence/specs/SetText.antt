@@ -87,10 +87,11 @@ line_of word =
     if is_alike word (codes "EXDATE") then Some line.Exceptions else
     None
 
--- What a line is, by its name.
+-- The kind of a line, by its name.
 abbrev pub kind_of : List ℕ → Option SetLine
 kind_of text = line_of (front_at 59 (front_at 58 text))
 
+-- A line has this name.
 abbrev pub is_named : SetLine → Option SetLine → Bool
 is_named line.Start (Some line.Start) = true
 is_named line.Rule (Some line.Rule) = true
@@ -141,8 +142,8 @@ listed_on its text = if is_named its (kind_of text) then unwrap_or (values_on te
 abbrev pub zone_on : List ℕ → Option (List ℕ)
 zone_on text = first_zone (parameters_on text)
 
--- The parts that some lines say, in any order: the start, the recurrence and the zone of the first
--- line that has one, and the values of all lines.
+-- The parts that lines say: the first start, the first recurrence and the first zone, and all dates
+-- and exceptions in order. Lines without an error say no second start, recurrence or zone.
 abbrev pub parts_of : List (List ℕ) → SetDraft
 parts_of lines = record {
   start = slice_get (filter_map start_on lines) 0;
@@ -196,7 +197,8 @@ once = record { pattern = every Daily; times = no_times; end = Count 1 }
 abbrev pub parts_from : SetDraft → DateOrTime → SetParts
 parts_from said start = record { start = start; recurrence = unwrap_or said.recurrence once; dates = said.dates; exceptions = said.exceptions; zone = said.zone }
 
--- Lines say a set: none has an error, one says the start, and together they say the other parts.
+-- Lines say the parts of a set: none has an error, the line DTSTART says the start, the line RRULE
+-- the recurrence, the lines RDATE and EXDATE the dates and the exceptions, and each TZID the zone.
 pub record SaysSet (lines : List (List ℕ)) (p : SetParts) : Type 0 where
   pub valid : AreValid lines
   pub start : (parts_of lines).start ≡ Some p.start

@@ -3,7 +3,7 @@ ghost use Rattle.std.specs.Prelude.{◌≡◌, ◌+◌, ◌≤◌, ◌++◌, [],
 ghost use Rattle.cal_schedule.specs.Values.{most_values};
 ghost use Rattle.cal_recurrence.specs.SetText.{all_allow, all_name, allows, error_after, first_zone, is_date, is_local, kind_of, line_of, list_error, once, parameters_of, parts_from, parts_of, unless_error, value_error, value_of, value_on, values_on, with_line, with_value, with_zone, zone_error, zone_on};
 ghost use Rattle.cal_recurrence.specs.Text.{list_of};
-ghost use Rattle.cal_recurrence.specs.declared.set_fault.SetLine.TheVariants.{Start, Rule, Dates, Exceptions};
+ghost use Rattle.cal_recurrence.specs.declared.set_fault.SetLine.TheVariants.{Start, Rule};
 ghost use Rattle.cal_recurrence.specs.Words.{parts_at, rest_at};
 
 use crate::date_or_time::DateOrTime;
@@ -99,6 +99,13 @@ fn more_values(
     Some(values)
 }
 
+/// Returns an empty list.
+fn no_values() -> Values<DateOrTime>
+    ensures { result ≡ [] }
+{
+    Values::none(DateOrTime::Date(to_date(0)))
+}
+
 /// Returns the bytes of a line after its head, or no bytes.
 fn tail(line: &[u8]) -> &[u8]
     ensures { result.now ≡ rest_at 58 line.now }
@@ -126,10 +133,7 @@ fn more_of(
     if !has_room(dates.as_slice().len(), tail(line)) {
         return Err(ParseSetErrorKind::TooMany(kind));
     }
-    match more_values(dates, cut(line, b':').0, tail(line)) {
-        Some(all) => Ok(all),
-        None => Err(ParseSetErrorKind::Value(kind)),
-    }
+    more_values(dates, cut(line, b':').0, tail(line)).ok_or(ParseSetErrorKind::Value(kind))
 }
 
 /// Returns the recurrence of a set without `RRULE`.
@@ -202,8 +206,8 @@ impl<'a> SetDraft<'a> {
         SetDraft {
             start: None,
             recurrence: None,
-            dates: Values::none(DateOrTime::Date(to_date(0))),
-            exceptions: Values::none(DateOrTime::Date(to_date(0))),
+            dates: no_values(),
+            exceptions: no_values(),
             zone: None,
         }
     }
@@ -249,15 +253,23 @@ impl<'a> SetDraft<'a> {
 
     /// Parses the value of one more line. Returns `Twice` for a second start or recurrence, `Rule`
     /// for an invalid recurrence, `Value` for another invalid value, or the errors of `more_of`.
-    fn with_value(self, line: &[u8], kind: SetLine) -> Result<Self, ParseSetErrorKind>
+    fn with_value(mut self, line: &[u8], kind: SetLine) -> Result<Self, ParseSetErrorKind>
         ensures { result ≡ unless_error (value_error self.entry line.now kind)
             (with_value self.entry line.now kind) }
     {
         match kind {
             SetLine::Start => self.with_start(line),
             SetLine::Rule => self.with_rule(line),
-            SetLine::Dates => self.with_dates(line),
-            SetLine::Exceptions => self.with_exceptions(line),
+            SetLine::Dates => {
+                let dates = std::mem::replace(&mut self.dates, no_values());
+                self.dates = more_of(dates, line, kind)?;
+                Ok(self)
+            }
+            SetLine::Exceptions => {
+                let exceptions = std::mem::replace(&mut self.exceptions, no_values());
+                self.exceptions = more_of(exceptions, line, kind)?;
+                Ok(self)
+            }
         }
     }
 
@@ -294,38 +306,6 @@ impl<'a> SetDraft<'a> {
         }
     }
 
-    /// Parses more dates. Returns the errors of `more_of`.
-    fn with_dates(mut self, line: &[u8]) -> Result<Self, ParseSetErrorKind>
-        ensures { result ≡ unless_error (value_error self.entry line.now Dates)
-            (with_value self.entry line.now Dates) }
-    {
-        let none = Values::none(DateOrTime::Date(to_date(0)));
-        let dates = std::mem::replace(&mut self.dates, none);
-        match more_of(dates, line, SetLine::Dates) {
-            Ok(dates) => {
-                self.dates = dates;
-                Ok(self)
-            }
-            Err(error) => Err(error),
-        }
-    }
-
-    /// Parses more exceptions. Returns the errors of `more_of`.
-    fn with_exceptions(mut self, line: &[u8]) -> Result<Self, ParseSetErrorKind>
-        ensures { result ≡ unless_error (value_error self.entry line.now Exceptions)
-            (with_value self.entry line.now Exceptions) }
-    {
-        let none = Values::none(DateOrTime::Date(to_date(0)));
-        let exceptions = std::mem::replace(&mut self.exceptions, none);
-        match more_of(exceptions, line, SetLine::Exceptions) {
-            Ok(exceptions) => {
-                self.exceptions = exceptions;
-                Ok(self)
-            }
-            Err(error) => Err(error),
-        }
-    }
-
     /// Returns the parts, or `None` without a start. Without a recurrence the set has the start.
     pub fn finished(self) -> Option<SetParts<'a>>
         ensures { result ≡ option_map (parts_from self.entry) self.entry.start }
@@ -337,15 +317,12 @@ impl<'a> SetDraft<'a> {
             exceptions,
             zone,
         } = self;
-        let Some(start) = start else {
-            return None;
-        };
         let recurrence = match recurrence {
             Some(its) => its,
             None => once(),
         };
         Some(SetParts {
-            start,
+            start: start?,
             recurrence,
             dates,
             exceptions,
