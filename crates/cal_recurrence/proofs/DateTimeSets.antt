@@ -1,6 +1,6 @@
 -- The next reading of a set of date-times: the nearest one of a rule or a list that isn't left out.
 use Rattle.std.proofs.Common.{◌≡◌, ℕ, suc, ◌+◌, ◌-◌, refl, sym, ap, ◌∙◌, arith, Bool, true, false, filter, map, slice_get, subst, Option, Some, None, ℤ, pos, ◌<ℤ◌}
-use Rattle.std.specs.Prelude.{◌||◌, nat_lt, option_map, unsigned_abs}
+use Rattle.std.specs.Prelude.{◌||◌, int_lt, nat_lt, option_map, unsigned_abs}
 use Rattle.std.specs.Ordering.{int_eq}
 use Rattle.std.proofs.lemmas.Int.{ints}
 use Rattle.std.proofs.lemmas.Option.{slice_get-map}
@@ -8,9 +8,8 @@ use Rattle.cal_time.specs.Occurrences.{days_from}
 use Rattle.cal_schedule.specs.Ranks.{from-no, from-yes}
 use Rattle.cal_datetime.specs.DateTime.{last_date_time, IsDateTime}
 use Rattle.cal_recurrence.specs.DateTimeRule.{readings_from}
-use Rattle.cal_recurrence.specs.DateTimeSet.{candidates, earlier, is_in_set, is_listed, IsNextFrom, IsNextOf}
-use Rattle.cal_recurrence.specs.Sets as days
-use Rattle.cal_recurrence.specs.TimeSearch.{NoneIn, IsFirst, IsNext}
+use Rattle.cal_recurrence.specs.DateTimeSet.{candidates, is_in_set, is_listed, IsNextFrom, IsNextOf}
+use Rattle.cal_recurrence.specs.TimeSearch.{first_by, NoneIn, IsFirst, IsNext}
 use Rattle.cal_recurrence.specs.declared.date_time_set.DateTimeSet.{DateTimeSet}
 use Rattle.cal_recurrence.proofs.FirstNumbers.{Leaves, earlier_is, first-in_list, first-of_list, next-alike}
 
@@ -51,19 +50,19 @@ alike t u z r same h = record {
 }
 
 -- ---- the nearest reading that passes one of two tests
-earlier-at : (m n : ℕ) (b : Bool) → nat_lt m n ≡ b → earlier (Some (pos n)) (Some (pos m)) ≡ option_map pos (days.earlier (Some n) (Some m))
+earlier-at : (m n : ℕ) (b : Bool) → nat_lt m n ≡ b → first_by int_lt (Some (pos n)) (Some (pos m)) ≡ option_map pos (first_by nat_lt (Some n) (Some m))
 earlier-at m n true e = rw e refl
 earlier-at m n false e = rw e refl
 
-earlier-numbers : (p q : Option ℕ) → earlier (option_map pos p) (option_map pos q) ≡ option_map pos (days.earlier p q)
+earlier-numbers : (p q : Option ℕ) → first_by int_lt (option_map pos p) (option_map pos q) ≡ option_map pos (first_by nat_lt p q)
 earlier-numbers None q = refl
 earlier-numbers (Some n) None = refl
 earlier-numbers (Some n) (Some m) = earlier-at m n (nat_lt m n) refl
 
-pub either : (s t : ℤ → Bool) (z : ℤ) (r q : Option ℤ) → IsNextOf s z r → IsNextOf t z q → IsNextOf (λ y. s y || t y) z (earlier r q)
+pub either : (s t : ℤ → Bool) (z : ℤ) (r q : Option ℤ) → IsNextOf s z r → IsNextOf t z q → IsNextOf (λ y. s y || t y) z (first_by int_lt r q)
 either s t z r q h g = record {
-  number = days.earlier h.number g.number;
-  is = ap (λ o. earlier o q) h.is ∙ ap (earlier (option_map pos h.number)) g.is ∙ earlier-numbers h.number g.number;
+  number = first_by nat_lt h.number g.number;
+  is = ap (λ o. first_by int_lt o q) h.is ∙ ap (first_by int_lt (option_map pos h.number)) g.is ∙ earlier-numbers h.number g.number;
   next = earlier_is (λ k. s (pos k)) (λ k. t (pos k)) (unsigned_abs z + 1) (last_date_time + 1) h.number g.number h.next g.next;
 }
 

@@ -6,8 +6,7 @@ use Rattle.std.proofs.lemmas.Bool.{cases_lt}
 use Rattle.std.proofs.lemmas.Bool.Decides.{nat_tests}
 use Rattle.cal_time.specs.Filters.{filter-first, filter-none, first_matching, none_matching}
 use Rattle.cal_time.specs.Occurrences.{days_from}
-use Rattle.cal_recurrence.specs.Sets.{earlier}
-use Rattle.cal_recurrence.specs.TimeSearch.{NoneIn, IsFirst, IsNext}
+use Rattle.cal_recurrence.specs.TimeSearch.{first_by, NoneIn, IsFirst, IsNext}
 
 -- ---- one of two tests
 pub neither : (a b : Bool) → a ≡ false → b ≡ false → (a || b) ≡ false
@@ -20,10 +19,10 @@ pub other_one : (a b : Bool) → b ≡ true → (a || b) ≡ true
 other_one true b p = refl
 other_one false b p = p
 
-is_earlier : (x y : ℕ) → nat_lt x y ≡ true → x < y
+pub is_earlier : (x y : ℕ) → nat_lt x y ≡ true → x < y
 is_earlier x y h = grind (arith, nat_tests)
 
-is_later : (x y : ℕ) → nat_lt x y ≡ false → y ≤ x
+pub is_later : (x y : ℕ) → nat_lt x y ≡ false → y ≤ x
 is_later x y h = grind (arith, nat_tests)
 
 -- The first number of one test is the first of both, if the other test has none before it.
@@ -43,11 +42,11 @@ by-other s t m e x none h = record {
   none_before = λ k low high. neither (s k) (t k) (none k low high) (h.none_before k low high);
 }
 
-earlier-at : (s t : ℕ → Bool) (m e x y : ℕ) (b : Bool) → nat_lt y x ≡ b → IsFirst s m e x → IsFirst t m e y → IsNext (λ k. s k || t k) m e (earlier (Some x) (Some y))
+earlier-at : (s t : ℕ → Bool) (m e x y : ℕ) (b : Bool) → nat_lt y x ≡ b → IsFirst s m e x → IsFirst t m e y → IsNext (λ k. s k || t k) m e (first_by nat_lt (Some x) (Some y))
 earlier-at s t m e x y true is p q = rw is (by-other s t m e y (λ k low high. p.none_before k low (omega (arith, high, is_earlier y x is))) q)
 earlier-at s t m e x y false is p q = rw is (by-one s t m e x p (λ k low high. q.none_before k low (omega (arith, high, is_later y x is))))
 
-pub earlier_is : (s t : ℕ → Bool) (m e : ℕ) (p q : Option ℕ) → IsNext s m e p → IsNext t m e q → IsNext (λ k. s k || t k) m e (earlier p q)
+pub earlier_is : (s t : ℕ → Bool) (m e : ℕ) (p q : Option ℕ) → IsNext s m e p → IsNext t m e q → IsNext (λ k. s k || t k) m e (first_by nat_lt p q)
 earlier_is s t m e None None a b = λ k low high. neither (s k) (t k) (a k low high) (b k low high)
 earlier_is s t m e None (Some y) a b = by-other s t m e y (λ k low high. a k low (omega (arith, high, b.below))) b
 earlier_is s t m e (Some x) None a b = by-one s t m e x a (λ k low high. b k low (omega (arith, high, a.below)))

@@ -9,6 +9,8 @@ pub mod ReadValues
 pub mod ReadWords
 pub mod ReadDates
 pub mod ReadParts
+pub mod SaidLines
+pub mod SetSteps
 pub mod SetLines
 pub mod GivenParts
 pub mod GivenNames

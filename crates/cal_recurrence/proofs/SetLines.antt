@@ -1,15 +1,17 @@
 -- The lines of a set that was written, read back one after another.
-use Rattle.std.proofs.Common.{◌≡◌, ℕ, ◌+◌, ◌-◌, ◌≤◌, Bool, true, false, cond, eqb, not, List, [], ◌∷◌, ◌++◌, append-nil, append_assoc, length, length-append, take, Option, Some, None, Ok, Err, inl, inr, refl, sym, ap, subst, ◌∙◌, arith}
-use Rattle.std.specs.Prelude.{◌⊎◌, ⊤, codes, bytes_eq, slice_index, IfSome, option_map, option_and_then, ◌&&◌, ◌||◌}
+use Rattle.std.proofs.Common.{◌≡◌, ℕ, ◌+◌, ◌-◌, ◌≤◌, Bool, true, false, cond, eqb, List, [], ◌∷◌, ◌++◌, append-nil, append_assoc, length, length-append, map, take, Option, Some, None, Result, Ok, inl, inr, refl, sym, ap, subst, ◌∙◌, arith}
+use Rattle.std.specs.Prelude.{◌⊎◌, ⊤, codes, bytes_eq, slice_index, is_some, unwrap_or, IfSome, option_map, option_and_then, ◌&&◌, ◌||◌}
 use Rattle.std.specs.List.{All, list_any}
-use Rattle.std.specs.Option.{option_map_or}
+use Rattle.std.specs.Option.{option_map_or, option_or}
+use Rattle.std.specs.Result.{result_err, result_ok}
 use Rattle.std.proofs.lemmas.Bool.{and_from, cases_Bool, false≢true, ne_eqb}
 use Rattle.std.proofs.lemmas.Bool.Decides.{nat_tests}
 use Rattle.std.proofs.lemmas.List.{get_or_at, take_at}
+use Rattle.std.proofs.lemmas.List.Folds.{list_any-append}
 use Rattle.std.proofs.lemmas.List.Elements.{All-head, All-tail}
 use Rattle.std.proofs.lemmas.Slice.Eq.{bytes_eq-Decides}
 use Rattle.cal_recurrence.specs.Buffers.{IsPut}
-use Rattle.cal_recurrence.specs.SetText.{after_first_part, all_allow, and_lines, if_allowed, has_room, is_local, line_of, more_of, no_lines, parameters_of, put_dates, put_exceptions, put_line, put_named, put_rule, put_whole, and_zone, put_zone, read_lines, set_fault, set_of, value_of, without_return}
+use Rattle.cal_recurrence.specs.SetText.{after_first_part, all_allow, all_name, error_after, error_unless, first_zone, has_room, if_allowed, is_local, kind_of, line_of, lines_of, list_error, parameters_of, parameters_on, parts_from, parts_of, unless_error, value_error, value_of, value_on, values_on, with_line, with_value, with_zone, without_return, zone_error, zone_on, AreValid, SaysSet}
 use Rattle.cal_recurrence.specs.SetWritten.{head_text, is_same_kind, line_end, more_text, parameter_text, set_text, values_text, IsSpelledSet, IsZoneOf}
 use Rattle.cal_recurrence.specs.Spelled.{IsDateOrTime, IsSpelled}
 use Rattle.cal_recurrence.specs.Text.{list_of, recurrence_of, ReadsBack}
@@ -18,19 +20,25 @@ use Rattle.cal_recurrence.specs.Written.{date_or_time_text, list_text, text_of}
 use Rattle.cal_recurrence.specs.declared.date_or_time.DateOrTime.{DateOrTime}
 use Rattle.cal_recurrence.specs.declared.date_or_time.DateOrTime.TheVariants.{Date, Local, Utc}
 use Rattle.cal_recurrence.specs.declared.recurrence.Recurrence.{Recurrence}
-use Rattle.cal_recurrence.specs.declared.set_fault.ParseSetErrorKind.TheVariants.{Unknown, TooMany, Value}
+use Rattle.cal_recurrence.specs.declared.set_fault.ParseSetErrorKind.{ParseSetErrorKind}
+use Rattle.cal_recurrence.specs.declared.set_fault.ParseSetErrorKind.TheVariants.{OtherZone, Rule, TooMany, Unknown, Value}
 use Rattle.cal_recurrence.specs.declared.set_fault.SetLine.{SetLine}
 use Rattle.cal_recurrence.specs.declared.set_fault.SetLine.TheVariants as line
 use Rattle.cal_recurrence.specs.declared.set_draft.SetDraft.{SetDraft}
 use Rattle.cal_recurrence.specs.declared.set_parts.SetParts.{SetParts}
 use Rattle.cal_recurrence.proofs.Avoided.{avoids, avoids-append, avoids-cons, cut-here, cut-nowhere, from-all, front-here, front-nowhere, rest-here}
 use Rattle.cal_recurrence.proofs.ReadDates.{date-word}
+use Rattle.cal_recurrence.proofs.SaidLines.{ok-from, parts-more, some_local, valid-more}
 use Rattle.cal_recurrence.proofs.ReadValues.{IsWord, AreWords, cut, joined, length-map, list-value, no-feed}
 
 -- ---- one line after another
--- after the lines of the draft, the rest of the text says p
+-- after lines that say the parts of the draft, the rest of the text says p
 abbrev Reads : SetDraft → List ℕ → SetParts → Type 0
-Reads draft rest p = (at : ℕ) → read_lines at draft (parts_at 10 rest) ≡ Ok p
+Reads draft rest p = (before : List (List ℕ)) → AreValid before → parts_of before ≡ draft → SaysSet (before ++ lines_of rest) p
+
+-- the parts with one more line
+abbrev put_line : SetDraft → List ℕ → Result SetDraft ParseSetErrorKind
+put_line draft text = unless_error (error_after draft text) (with_line draft text)
 
 without-return : (text : List ℕ) → without_return (text ++ 13 ∷ []) ≡ text
 unfolding first_bytes
@@ -41,17 +49,17 @@ without-return text =
     ap (λ b. cond b (first_bytes (length whole - 1) whole) whole) (ap (λ n. eqb n 13) last)
     ∙ ap (λ n. first_bytes n whole) size ∙ take_at text (13 ∷ []) (length text) refl
 
-one-line : (draft more : SetDraft) (text rest : List ℕ) (p : SetParts) → avoids 10 text ≡ true → ((at : ℕ) → put_line at draft text ≡ Ok more)
-    → Reads more rest p
+one-line : (draft more : SetDraft) (text rest : List ℕ) (p : SetParts) → avoids 10 text ≡ true → put_line draft text ≡ Ok more → Reads more rest p
     → Reads draft (text ++ 13 ∷ 10 ∷ rest) p
-one-line draft more text rest p plain put h at =
-    let whole = text ++ 13 ∷ [] in
-    let next = at + length whole + 1 in
-    ap (λ bytes. read_lines at draft (parts_at 10 bytes)) (sym (append_assoc text (13 ∷ []) (10 ∷ rest)))
-    ∙ ap (read_lines at draft) (cut-here 10 whole rest (avoids-append 10 text (13 ∷ []) plain refl))
-    ∙ ap (λ bytes. and_lines (λ d. read_lines next d (parts_at 10 rest)) (put_line at draft bytes)) (without-return text)
-    ∙ ap (and_lines (λ d. read_lines next d (parts_at 10 rest))) (put at)
-    ∙ h next
+one-line draft more text rest p plain put h before valid is =
+    let both = ok-from (error_after draft text) (with_line draft text) more put in
+    let none : error_after (parts_of before) text ≡ None = ap (λ d. error_after d text) is ∙ both.0 in
+    let lines : lines_of (text ++ 13 ∷ 10 ∷ rest) ≡ text ∷ lines_of rest =
+    ap lines_of (sym (append_assoc text (13 ∷ []) (10 ∷ rest)))
+    ∙ ap (map without_return) (cut-here 10 (text ++ 13 ∷ []) rest (avoids-append 10 text (13 ∷ []) plain refl))
+    ∙ ap (λ line. line ∷ lines_of rest) (without-return text) in
+    subst (λ texts. SaysSet texts p) (append_assoc before (text ∷ []) (lines_of rest) ∙ ap (λ texts. before ++ texts) (sym lines))
+    (h (before ++ text ∷ []) (valid-more before text valid none) (parts-more before text none ∙ ap (λ d. with_line d text) is ∙ both.1))
 
 -- ---- the head of a line
 -- the bytes that end lines, heads and parameters are not in the text
@@ -109,18 +117,41 @@ head-is name (Some tzid) (Local y) h z = one-parameter name (codes "TZID=" ++ tz
 head-is name tzid (Utc y) h z = no-parameter name h
 
 -- a line by its head and its value
-line-by : (at : ℕ) (draft : SetDraft) (name head value : List ℕ) (its : SetLine) (texts : List (List ℕ)) → IsHead name head texts → line_of name ≡ Some its
-    → put_line at draft (head ++ 58 ∷ value) ≡ put_whole at draft (head ++ 58 ∷ value) texts value its
-line-by at draft name head value its texts h is =
+record IsLine (whole : List ℕ) (its : SetLine) (texts : List (List ℕ)) (value : List ℕ) : Type 0 where
+  some : eqb (length whole) 0 ≡ false
+  kind : kind_of whole ≡ Some its
+  parameters : parameters_on whole ≡ texts
+  rest : rest_at 58 whole ≡ value
+
+line-by : (name head value : List ℕ) (its : SetLine) (texts : List (List ℕ)) → IsHead name head texts → line_of name ≡ Some its → IsLine (head ++ 58 ∷ value) its texts value
+line-by name head value its texts h is =
     let whole = head ++ 58 ∷ value in
-    let unknown = Err (set_fault at Unknown) in
-    let some : eqb (length whole) 0 ≡ false = ne_eqb (length whole) 0 (λ e. omega (arith, e, length-append head (58 ∷ value))) in
-    ap (λ b. cond b (Ok draft) (option_map_or (put_whole at draft whole (parameters_of (front_at 58 whole)) (rest_at 58 whole)) (line_of (front_at 59 (front_at 58 whole))) unknown)) some
-    ∙ ap (λ f. option_map_or (put_whole at draft whole (parameters_of f) (rest_at 58 whole)) (line_of (front_at 59 f)) unknown) (front-here 58 head value h.colon)
-    ∙ ap (λ r. option_map_or (put_whole at draft whole (parameters_of head) r) (line_of (front_at 59 head)) unknown) (rest-here 58 head value h.colon)
-    ∙ ap (λ ps. option_map_or (put_whole at draft whole ps value) (line_of (front_at 59 head)) unknown) h.parameters
-    ∙ ap (λ n. option_map_or (put_whole at draft whole texts value) (line_of n) unknown) h.named
-    ∙ ap (λ o. option_map_or (put_whole at draft whole texts value) o unknown) is
+    let front = front-here 58 head value h.colon in
+    record {
+      some = ne_eqb (length whole) 0 (λ e. omega (arith, e, length-append head (58 ∷ value)));
+      kind = ap (λ f. line_of (front_at 59 f)) front ∙ ap line_of h.named ∙ is;
+      parameters = ap parameters_of front ∙ h.parameters;
+      rest = rest-here 58 head value h.colon;
+    }
+
+abbrev zone_error_in : Option (List ℕ) → List (List ℕ) → SetLine → Option ParseSetErrorKind
+zone_error_in s texts its = option_map_or (λ zone. error_unless (all_name texts zone) (OtherZone its)) (option_or s (first_zone texts)) None
+
+line-done : (d e : SetDraft) (whole : List ℕ) (its : SetLine) (texts : List (List ℕ)) (value : List ℕ) (s t : Option (List ℕ)) → IsLine whole its texts value → d.zone ≡ s → e.zone ≡ s
+    → value_error d whole its ≡ None → with_value d whole its ≡ e → (zone_error_in s texts its ≡ None) × (option_or s (first_zone texts) ≡ t)
+    → put_line d whole ≡ Ok (record e { zone = t })
+line-done d e whole its texts value s t is zone same none next zones =
+    let by : Option SetLine → Option ParseSetErrorKind = λ o. option_map_or (λ k. option_or (value_error d whole k) (zone_error d whole k)) o (Some Unknown) in
+    let with : Option SetLine → SetDraft = λ o. option_map_or (λ k. with_zone (with_value d whole k) whole) o d in
+    let clean : zone_error d whole its ≡ None = ap (λ z. zone_error_in z (parameters_on whole) its) zone ∙ ap (λ ps. zone_error_in s ps its) is.parameters ∙ zones.0 in
+    let zoned : with_zone e whole ≡ record e { zone = t } =
+    ap (λ z. record e { zone = option_or z (zone_on whole) }) same ∙ ap (λ ps. record e { zone = option_or s (first_zone ps) }) is.parameters ∙ ap (λ z. record e { zone = z }) zones.1 in
+    ap (λ b. unless_error (cond b None (by (kind_of whole))) (cond b d (with (kind_of whole)))) is.some
+    ∙ ap (λ o. unless_error (by o) (with o)) is.kind
+    ∙ ap (λ o. unless_error (option_or o (zone_error d whole its)) (with_zone (with_value d whole its) whole)) none
+    ∙ ap (λ o. unless_error o (with_zone (with_value d whole its) whole)) clean
+    ∙ ap (λ x. Ok (with_zone x whole)) next
+    ∙ ap Ok zoned
 
 -- ---- the zone of the lines so far
 -- no line named the zone, or one did
@@ -134,11 +165,13 @@ zone_after None s (Local z) = s
 zone_after (Some tzid) s (Local z) = Some tzid
 zone_after tzid s (Utc z) = s
 
-known-after : (tzid s : Option (List ℕ)) (v : DateOrTime) → Known tzid s → Known tzid (zone_after tzid s v)
-known-after tzid s (Date n) h = h
-known-after None s (Local z) h = h
-known-after (Some tzid) s (Local z) h = inr refl
-known-after tzid s (Utc z) h = h
+-- the lines so far named the zone, or have no reading without `Z`
+abbrev IsKnown : Option (List ℕ) → SetDraft → Type 0
+IsKnown tzid d = (d.zone ≡ tzid) ⊎ (d.zone ≡ None) × (some_local d ≡ false)
+
+known-zone : (tzid : Option (List ℕ)) (d : SetDraft) → IsKnown tzid d → Known tzid d.zone
+known-zone tzid d (inl h) = inr h
+known-zone tzid d (inr h) = inl h.0
 
 abbrev draft_of : Option DateOrTime → Option Recurrence → List DateOrTime → List DateOrTime → Option (List ℕ) → SetDraft
 draft_of start r dates exceptions s = record { start = start; recurrence = r; dates = dates; exceptions = exceptions; zone = s }
@@ -147,26 +180,24 @@ same-bytes : (tzid : List ℕ) → bytes_eq tzid tzid && true ≡ true
 same-bytes tzid = and_from (bytes_eq tzid tzid) true ((bytes_eq-Decides tzid tzid).1 refl) refl
 
 -- before a line named the zone, and after it
-first-zone : (at : ℕ) (its : SetLine) (tzid : Option (List ℕ)) (v : DateOrTime) (a : Option DateOrTime) (r : Option Recurrence) (d e : List DateOrTime)
-    → put_zone at (draft_of a r d e None) (parameters tzid v) its ≡ Ok (draft_of a r d e (zone_after tzid None v))
-first-zone at its tzid (Date n) a r d e = refl
-first-zone at its None (Local z) a r d e = refl
-first-zone at its (Some tzid) (Local z) a r d e = rw (same-bytes tzid) refl
-first-zone at its tzid (Utc z) a r d e = refl
+abbrev IsZoned : SetLine → Option (List ℕ) → Option (List ℕ) → DateOrTime → Type 0
+IsZoned its tzid s v = (zone_error_in s (parameters tzid v) its ≡ None) × (option_or s (first_zone (parameters tzid v)) ≡ zone_after tzid s v)
 
-same-zone : (at : ℕ) (its : SetLine) (tzid : Option (List ℕ)) (v : DateOrTime) (a : Option DateOrTime) (r : Option Recurrence) (d e : List DateOrTime)
-    → put_zone at (draft_of a r d e tzid) (parameters tzid v) its ≡ Ok (draft_of a r d e (zone_after tzid tzid v))
-same-zone at its None v a r d e = first-zone at its None v a r d e
-same-zone at its (Some tzid) (Date n) a r d e = refl
-same-zone at its (Some tzid) (Local z) a r d e = rw (same-bytes tzid) refl
-same-zone at its (Some tzid) (Utc z) a r d e = refl
+first-zone : (its : SetLine) (tzid : Option (List ℕ)) (v : DateOrTime) → IsZoned its tzid None v
+first-zone its tzid (Date n) = (refl, refl)
+first-zone its None (Local z) = (refl, refl)
+first-zone its (Some tzid) (Local z) = (rw (same-bytes tzid) refl, refl)
+first-zone its tzid (Utc z) = (refl, refl)
 
-zone-put : (at : ℕ) (its : SetLine) (tzid s : Option (List ℕ)) (v : DateOrTime) (a : Option DateOrTime) (r : Option Recurrence) (d e : List DateOrTime) → Known tzid s
-    → put_zone at (draft_of a r d e s) (parameters tzid v) its ≡ Ok (draft_of a r d e (zone_after tzid s v))
-zone-put at its tzid s v a r d e (inl h) =
-    subst (λ t. put_zone at (draft_of a r d e t) (parameters tzid v) its ≡ Ok (draft_of a r d e (zone_after tzid t v))) (sym h) (first-zone at its tzid v a r d e)
-zone-put at its tzid s v a r d e (inr h) =
-    subst (λ t. put_zone at (draft_of a r d e t) (parameters tzid v) its ≡ Ok (draft_of a r d e (zone_after tzid t v))) (sym h) (same-zone at its tzid v a r d e)
+same-zone : (its : SetLine) (tzid : Option (List ℕ)) (v : DateOrTime) → IsZoned its tzid tzid v
+same-zone its None v = first-zone its None v
+same-zone its (Some tzid) (Date n) = (refl, refl)
+same-zone its (Some tzid) (Local z) = (rw (same-bytes tzid) refl, refl)
+same-zone its (Some tzid) (Utc z) = (refl, refl)
+
+zone-put : (its : SetLine) (tzid s : Option (List ℕ)) (v : DateOrTime) → Known tzid s → IsZoned its tzid s v
+zone-put its tzid s v (inl h) = subst (λ t. IsZoned its tzid t v) (sym h) (first-zone its tzid v)
+zone-put its tzid s v (inr h) = subst (λ t. IsZoned its tzid t v) (sym h) (same-zone its tzid v)
 
 -- ---- the values of a line
 allowed : (tzid : Option (List ℕ)) (v w : DateOrTime) → is_same_kind v w ≡ true → all_allow (parameters tzid v) w ≡ true
@@ -221,11 +252,10 @@ joined-and v ws w =
 record IsList (name : List ℕ) (its : SetLine) (to : List DateOrTime → Option (List ℕ) → SetDraft) : Type 0 where
   plain : IsName name
   means : line_of name ≡ Some its
-  puts : (at : ℕ) (ds ws : List DateOrTime) (s : Option (List ℕ)) (whole value : List ℕ) (texts : List (List ℕ)) → has_room (length ds) value ≡ true
-      → list_of (value_of texts) value ≡ Some ws
-      → put_named at (to ds s) whole texts value its ≡ Ok (to (ds ++ ws) s)
-  zoned : (at : ℕ) (ds : List DateOrTime) (tzid s : Option (List ℕ)) (v : DateOrTime) → Known tzid s
-      → put_zone at (to ds s) (parameters tzid v) its ≡ Ok (to ds (zone_after tzid s v))
+  puts : (ds ws : List DateOrTime) (s : Option (List ℕ)) (whole : List ℕ) → has_room (length ds) (rest_at 58 whole) ≡ true → values_on whole ≡ Some ws
+      → (value_error (to ds s) whole its ≡ None) × (with_value (to ds s) whole its ≡ to (ds ++ ws) s)
+  zoned : (ds : List DateOrTime) (s t : Option (List ℕ)) → ((to ds s).zone ≡ s) × (record (to ds s) { zone = t } ≡ to ds t)
+  locals : (ds ws : List DateOrTime) (s t : Option (List ℕ)) → some_local (to ds s) ≡ false → list_any is_local ws ≡ false → some_local (to (ds ++ ws) t) ≡ false
 
 abbrev head_of : List ℕ → Option (List ℕ) → DateOrTime → List ℕ
 head_of name tzid v = name ++ parameter_text tzid v
@@ -243,15 +273,19 @@ room-for tzid v ws n run few =
 
 line-put : (name : List ℕ) (its : SetLine) (to : List DateOrTime → Option (List ℕ) → SetDraft) → IsList name its to
     → (tzid s : Option (List ℕ)) (v : DateOrTime) (ws ds : List DateOrTime) → IsZone tzid → Known tzid s → IsRun tzid v ws → length ds + length (v ∷ ws) ≤ 62
-    → (at : ℕ) → put_line at (to ds s) (line_with name tzid v ws) ≡ Ok (to (ds ++ v ∷ ws) (zone_after tzid s v))
-unfolding put_whole
-line-put name its to h tzid s v ws ds z known run few at =
+    → put_line (to ds s) (line_with name tzid v ws) ≡ Ok (to (ds ++ v ∷ ws) (zone_after tzid s v))
+line-put name its to h tzid s v ws ds z known run few =
     let value = joined date_or_time_text v ws in
     let whole = line_with name tzid v ws in
     let texts = parameters tzid v in
-    line-by at (to ds s) name (head_of name tzid v) value its texts (head-is name tzid v h.plain z) h.means
-    ∙ ap (and_zone at texts its) (h.puts at ds (v ∷ ws) s whole value texts (room-for tzid v ws (length ds) run few) (list-value (value_of texts) date_or_time_text v ws run (omega (arith, few))).means)
-    ∙ h.zoned at (ds ++ v ∷ ws) tzid s v known
+    let is = line-by name (head_of name tzid v) value its texts (head-is name tzid v h.plain z) h.means in
+    let values : values_on whole ≡ Some (v ∷ ws) =
+    ap (λ ps. list_of (value_of ps) (rest_at 58 whole)) is.parameters ∙ ap (list_of (value_of texts)) is.rest
+    ∙ (list-value (value_of texts) date_or_time_text v ws run (omega (arith, few))).means in
+    let puts = h.puts ds (v ∷ ws) s whole (ap (has_room (length ds)) is.rest ∙ room-for tzid v ws (length ds) run few) values in
+    let zones = h.zoned (ds ++ v ∷ ws) s (zone_after tzid s v) in
+    line-done (to ds s) (to (ds ++ v ∷ ws) s) whole its texts value s (zone_after tzid s v) is (h.zoned ds s s).0 zones.0 puts.0 puts.1 (zone-put its tzid s v known)
+    ∙ ap Ok zones.1
 
 line-feed : (name : List ℕ) (tzid : Option (List ℕ)) (v : DateOrTime) (ws : List DateOrTime) → IsName name → IsZone tzid → IsRun tzid v ws
     → avoids 10 (line_with name tzid v ws) ≡ true
@@ -259,14 +293,39 @@ line-feed name tzid v ws h z run =
     avoids-append 10 (head_of name tzid v) (58 ∷ joined date_or_time_text v ws) (head-is name tzid v h z).feed
     (avoids-cons 10 58 (joined date_or_time_text v ws) refl (no-feed (value_of (parameters tzid v)) date_or_time_text v ws run))
 
--- the zone after the lines of all values
-abbrev zones : Option (List ℕ) → Option (List ℕ) → DateOrTime → List DateOrTime → Option (List ℕ)
-zones tzid s first [] = zone_after tzid s first
-zones tzid s first (v ∷ vs) = cond (is_same_kind first v) (zones tzid s first vs) (zones tzid (zone_after tzid s first) v vs)
+known-zone-of : (name : List ℕ) (its : SetLine) (to : List DateOrTime → Option (List ℕ) → SetDraft) → IsList name its to
+    → (tzid s : Option (List ℕ)) (ds : List DateOrTime) → IsKnown tzid (to ds s) → Known tzid s
+known-zone-of name its to h tzid s ds known = subst (Known tzid) (h.zoned ds s s).0 (known-zone tzid (to ds s) known)
 
-abbrev zones_all : Option (List ℕ) → Option (List ℕ) → List DateOrTime → Option (List ℕ)
-zones_all tzid s [] = s
-zones_all tzid s (v ∷ vs) = zones tzid s v vs
+-- the zone after a line with values of one kind
+known-more : (name : List ℕ) (its : SetLine) (to : List DateOrTime → Option (List ℕ) → SetDraft) → IsList name its to
+    → (tzid s : Option (List ℕ)) (v : DateOrTime) (ws ds : List DateOrTime) → IsKnown tzid (to ds s) → (is_local v ≡ false → list_any is_local ws ≡ false)
+    → IsKnown tzid (to (ds ++ v ∷ ws) (zone_after tzid s v))
+known-more name its to h tzid s v ws ds known kinds = by-kind tzid v kinds known
+  where
+    stays : (tzid : Option (List ℕ)) (w : DateOrTime) → list_any is_local (w ∷ ws) ≡ false → IsKnown tzid (to ds s) → IsKnown tzid (to (ds ++ w ∷ ws) s)
+    stays tzid w plain (inl e) = inl ((h.zoned (ds ++ w ∷ ws) s s).0 ∙ sym (h.zoned ds s s).0 ∙ e)
+    stays tzid w plain (inr e) = inr ((h.zoned (ds ++ w ∷ ws) s s).0 ∙ sym (h.zoned ds s s).0 ∙ e.0, h.locals ds (w ∷ ws) s s e.1 plain)
+
+    none : (w : DateOrTime) → IsKnown None (to ds s) → IsKnown None (to (ds ++ w ∷ ws) s)
+    none w (inl e) = inl ((h.zoned (ds ++ w ∷ ws) s s).0 ∙ sym (h.zoned ds s s).0 ∙ e)
+    none w (inr e) = inl ((h.zoned (ds ++ w ∷ ws) s s).0 ∙ sym (h.zoned ds s s).0 ∙ e.0)
+
+    by-kind : (tzid : Option (List ℕ)) (w : DateOrTime) → (is_local w ≡ false → list_any is_local ws ≡ false) → IsKnown tzid (to ds s)
+        → IsKnown tzid (to (ds ++ w ∷ ws) (zone_after tzid s w))
+    by-kind tzid (Date n) plain k = stays tzid (Date n) (plain refl) k
+    by-kind None (Local z) plain k = none (Local z) k
+    by-kind (Some tzid) (Local z) plain k = inl (h.zoned (ds ++ Local z ∷ ws) (Some tzid) s).0
+    by-kind tzid (Utc z) plain k = stays tzid (Utc z) (plain refl) k
+
+same-local : (v w : DateOrTime) → is_same_kind v w ≡ true → is_local w ≡ is_local v
+same-local (Date n) (Date m) h = refl
+same-local (Date n) (Local z) h = absurd (false≢true h)
+same-local (Date n) (Utc z) h = refl
+same-local (Local y) w h = h
+same-local (Utc y) (Date n) h = refl
+same-local (Utc y) (Local z) h = absurd (false≢true h)
+same-local (Utc y) (Utc z) h = refl
 
 head-line : (name : List ℕ) (tzid : Option (List ℕ)) (v : DateOrTime) → head_text name tzid v ≡ line_with name tzid v []
 head-line name tzid v =
@@ -275,23 +334,23 @@ head-line name tzid v =
 
 lines-read : (name : List ℕ) (its : SetLine) (to : List DateOrTime → Option (List ℕ) → SetDraft) → IsList name its to
     → (tzid : Option (List ℕ)) → IsZone tzid → (rest : List ℕ) (p : SetParts) (all : List DateOrTime)
-    → (vs : List DateOrTime) (s : Option (List ℕ)) (v : DateOrTime) (ws ds : List DateOrTime) → Known tzid s → IsRun tzid v ws → All IsDateOrTime vs
-    → (ds ++ v ∷ ws) ++ vs ≡ all → length all ≤ 62
-    → Reads (to all (zones tzid s v vs)) rest p
+    → (vs : List DateOrTime) (s : Option (List ℕ)) (v : DateOrTime) (ws ds : List DateOrTime) → IsKnown tzid (to ds s) → IsRun tzid v ws → (is_local v ≡ false → list_any is_local ws ≡ false)
+    → All IsDateOrTime vs → (ds ++ v ∷ ws) ++ vs ≡ all → length all ≤ 62
+    → ((t : Option (List ℕ)) → IsKnown tzid (to all t) → Reads (to all t) rest p)
     → Reads (to ds s) ((line_with name tzid v ws ++ more_text name tzid v vs) ++ rest) p
-lines-read name its to h tzid z rest p all [] s v ws ds known run are same few reads =
+lines-read name its to h tzid z rest p all [] s v ws ds known run kinds are same few reads =
     let line = line_with name tzid v ws in
     let same_all : ds ++ v ∷ ws ≡ all = sym (append-nil (ds ++ v ∷ ws)) ∙ same in
     let size : length ds + length (v ∷ ws) ≤ 62 = omega (arith, few, ap length same_all, length-append ds (v ∷ ws)) in
     subst (λ text. Reads (to ds s) text p) (sym (append_assoc line line_end rest))
     (one-line (to ds s) (to all (zone_after tzid s v)) line rest p (line-feed name tzid v ws h.plain z run)
-    (λ at. line-put name its to h tzid s v ws ds z known run size at ∙ ap (λ ds. Ok (to ds (zone_after tzid s v))) same_all) reads)
-lines-read name its to h tzid z rest p all (w ∷ vs) s v ws ds known run are same few reads =
+    (line-put name its to h tzid s v ws ds z (known-zone-of name its to h tzid s ds known) run size ∙ ap (λ ds. Ok (to ds (zone_after tzid s v))) same_all)
+    (reads (zone_after tzid s v) (subst (λ ds. IsKnown tzid (to ds (zone_after tzid s v))) same_all (known-more name its to h tzid s v ws ds known kinds))))
+lines-read name its to h tzid z rest p all (w ∷ vs) s v ws ds known run kinds are same few reads =
     let line = line_with name tzid v ws in
     let is = All-head IsDateOrTime w vs are in
     let others = All-tail IsDateOrTime w vs are in
     let text : Bool → List ℕ = λ b. cond b (codes "," ++ date_or_time_text w ++ more_text name tzid v vs) (line_end ++ head_text name tzid w ++ more_text name tzid w vs) in
-    let end : Bool → Option (List ℕ) = λ b. cond b (zones tzid s v vs) (zones tzid (zone_after tzid s v) w vs) in
     elim (cases_Bool (is_same_kind v w)) as (λ _. Reads (to ds s) ((line ++ more_text name tzid v (w ∷ vs)) ++ rest) p) [
       | inl alike ↦
           let grown : line ++ (44 ∷ date_or_time_text w) ≡ line_with name tzid v (ws ++ w ∷ []) =
@@ -304,8 +363,8 @@ lines-read name its to h tzid z rest p all (w ∷ vs) s v ws ds known run are sa
           append_assoc ds (v ∷ (ws ++ w ∷ [])) vs ∙ ap (λ more. ds ++ v ∷ more) (append_assoc ws (w ∷ []) vs) ∙ sym (append_assoc ds (v ∷ ws) (w ∷ vs)) ∙ same in
           subst (λ front. Reads (to ds s) (front ++ rest) p) longer
           (lines-read name its to h tzid z rest p all vs s v (ws ++ w ∷ []) ds known
-          (run.0, words-and (value_of (parameters tzid v)) date_or_time_text ws w run.1 (kind-word tzid v w alike is)) others same_more few
-          (subst (λ t. Reads (to all t) rest p) (ap end alike) reads))
+          (run.0, words-and (value_of (parameters tzid v)) date_or_time_text ws w run.1 (kind-word tzid v w alike is))
+          (λ e. list_any-append is_local ws (w ∷ []) ∙ ap (λ b. b || (is_local w || false)) (kinds e) ∙ ap (λ b. b || false) (same-local v w alike ∙ e)) others same_more few reads)
       | inr apart ↦
           let next = more_text name tzid w vs in
           let size : length ds + length (v ∷ ws) ≤ 62 = omega (arith, few, ap length same, length-append ds (v ∷ ws), length-append (ds ++ v ∷ ws) (w ∷ vs)) in
@@ -315,41 +374,51 @@ lines-read name its to h tzid z rest p all (w ∷ vs) s v ws ds known run are sa
           ∙ ap (λ b. (line ++ text b) ++ rest) (sym apart) in
           subst (λ text. Reads (to ds s) text p) begun
           (one-line (to ds s) (to (ds ++ v ∷ ws) (zone_after tzid s v)) line ((line_with name tzid w [] ++ next) ++ rest) p (line-feed name tzid v ws h.plain z run)
-          (line-put name its to h tzid s v ws ds z known run size)
-          (lines-read name its to h tzid z rest p all vs (zone_after tzid s v) w [] (ds ++ v ∷ ws) (known-after tzid s v known)
-          (kind-word tzid w w (same-kind w) is, tt) others (append_assoc (ds ++ v ∷ ws) (w ∷ []) vs ∙ same) few
-          (subst (λ t. Reads (to all t) rest p) (ap end apart) reads)))
+          (line-put name its to h tzid s v ws ds z (known-zone-of name its to h tzid s ds known) run size)
+          (lines-read name its to h tzid z rest p all vs (zone_after tzid s v) w [] (ds ++ v ∷ ws) (known-more name its to h tzid s v ws ds known kinds)
+          (kind-word tzid w w (same-kind w) is, tt) (λ e. refl) others (append_assoc (ds ++ v ∷ ws) (w ∷ []) vs ∙ same) few reads))
     ]
 
 -- all values of a list
 list-read : (name : List ℕ) (its : SetLine) (to : List DateOrTime → Option (List ℕ) → SetDraft) → IsList name its to
-    → (tzid : Option (List ℕ)) → IsZone tzid → (rest : List ℕ) (p : SetParts) (vs : List DateOrTime) (s : Option (List ℕ)) → Known tzid s → All IsDateOrTime vs
+    → (tzid : Option (List ℕ)) → IsZone tzid → (rest : List ℕ) (p : SetParts) (vs : List DateOrTime) (s : Option (List ℕ)) → IsKnown tzid (to [] s) → All IsDateOrTime vs
     → length vs ≤ 62
-    → Reads (to vs (zones_all tzid s vs)) rest p
+    → ((t : Option (List ℕ)) → IsKnown tzid (to vs t) → Reads (to vs t) rest p)
     → Reads (to [] s) (values_text name tzid vs ++ rest) p
-list-read name its to h tzid z rest p [] s known are few reads = reads
+list-read name its to h tzid z rest p [] s known are few reads = reads s known
 list-read name its to h tzid z rest p (v ∷ vs) s known are few reads =
     subst (λ head. Reads (to [] s) ((head ++ more_text name tzid v vs) ++ rest) p) (sym (head-line name tzid v))
-    (lines-read name its to h tzid z rest p (v ∷ vs) vs s v [] [] known (kind-word tzid v v (same-kind v) (All-head IsDateOrTime v vs are), tt)
+    (lines-read name its to h tzid z rest p (v ∷ vs) vs s v [] [] known (kind-word tzid v v (same-kind v) (All-head IsDateOrTime v vs are), tt) (λ e. refl)
     (All-tail IsDateOrTime v vs are) refl few reads)
 
 -- ---- the whole
 list_named : (name : List ℕ) → avoids 10 name ≡ true → avoids 58 name ≡ true → avoids 59 name ≡ true → IsName name
 list_named name feed colon semicolon = record { feed = feed; colon = colon; semicolon = semicolon }
 
-more-put : (at : ℕ) (its : SetLine) (ds ws : List DateOrTime) (value : List ℕ) (texts : List (List ℕ)) → has_room (length ds) value ≡ true
-    → list_of (value_of texts) value ≡ Some ws
-    → more_of at its ds texts value ≡ Ok (ds ++ ws)
-more-put at its ds ws value texts room means =
-    ap (λ b. cond (not b) (Err (set_fault at (TooMany its))) (option_map_or Ok (option_map (λ more. ds ++ more) (list_of (value_of texts) value)) (Err (set_fault at (Value its))))) room
-    ∙ ap (λ o. option_map_or Ok (option_map (λ more. ds ++ more) o) (Err (set_fault at (Value its)))) means
+list-clean : (filled : ℕ) (whole : List ℕ) (its : SetLine) (ws : List DateOrTime) → has_room filled (rest_at 58 whole) ≡ true → values_on whole ≡ Some ws
+    → list_error filled whole its ≡ None
+list-clean filled whole its ws room values =
+    ap (λ b. option_or (error_unless b (TooMany its)) (error_unless (is_some (values_on whole)) (Value its))) room ∙ ap (λ o. error_unless (is_some o) (Value its)) values
+
+more-false : (a b c e : Bool) → a || (b || e) ≡ false → c ≡ false → a || ((b || c) || e) ≡ false
+more-false true b c e h k = h
+more-false false true c e h k = h
+more-false false false c e h k = ap (λ x. x || e) k ∙ h
+
+last-false : (a b c e : Bool) → a || (b || c) ≡ false → e ≡ false → a || (b || (c || e)) ≡ false
+last-false true b c e h k = h
+last-false false true c e h k = h
+last-false false false true e h k = h
+last-false false false false e h k = k
 
 dates-list : (start : DateOrTime) (r : Recurrence) → IsList (codes "RDATE") line.Dates (λ ds s. draft_of (Some start) (Some r) ds [] s)
 dates-list start r = record {
   plain = list_named (codes "RDATE") refl refl refl;
   means = refl;
-  puts = λ at ds ws s whole value texts room means. ap (put_dates (draft_of (Some start) (Some r) ds [] s)) (more-put at line.Dates ds ws value texts room means);
-  zoned = λ at ds tzid s v known. zone-put at line.Dates tzid s v (Some start) (Some r) ds [] known;
+  puts = λ ds ws s whole room values. (list-clean (length ds) whole line.Dates ws room values, ap (λ o. draft_of (Some start) (Some r) (ds ++ unwrap_or o []) [] s) values);
+  zoned = λ ds s t. (refl, refl);
+  locals = λ ds ws s t none plain.
+      ap (λ b. is_local start || (b || false)) (list_any-append is_local ds ws) ∙ more-false (is_local start) (list_any is_local ds) (list_any is_local ws) false none plain;
 }
 
 exceptions-list : (start : DateOrTime) (r : Recurrence) (dates : List DateOrTime)
@@ -357,148 +426,54 @@ exceptions-list : (start : DateOrTime) (r : Recurrence) (dates : List DateOrTime
 exceptions-list start r dates = record {
   plain = list_named (codes "EXDATE") refl refl refl;
   means = refl;
-  puts = λ at ds ws s whole value texts room means. ap (put_exceptions (draft_of (Some start) (Some r) dates ds s)) (more-put at line.Exceptions ds ws value texts room means);
-  zoned = λ at ds tzid s v known. zone-put at line.Exceptions tzid s v (Some start) (Some r) dates ds known;
+  puts = λ ds ws s whole room values.
+      (list-clean (length ds) whole line.Exceptions ws room values, ap (λ o. draft_of (Some start) (Some r) dates (ds ++ unwrap_or o []) s) values);
+  zoned = λ ds s t. (refl, refl);
+  locals = λ ds ws s t none plain.
+      ap (λ b. is_local start || (list_any is_local dates || b)) (list_any-append is_local ds ws)
+      ∙ last-false (is_local start) (list_any is_local dates) (list_any is_local ds) (list_any is_local ws) none plain;
 }
 
 -- the start
-start-put : (tzid : Option (List ℕ)) (start : DateOrTime) → IsZone tzid → IsDateOrTime start → (at : ℕ)
-    → put_line at no_lines (line_with (codes "DTSTART") tzid start []) ≡ Ok (draft_of (Some start) None [] [] (zone_after tzid None start))
-unfolding put_whole
-start-put tzid start z is at =
+start-put : (tzid : Option (List ℕ)) (start : DateOrTime) → IsZone tzid → IsDateOrTime start
+    → put_line (parts_of []) (line_with (codes "DTSTART") tzid start []) ≡ Ok (draft_of (Some start) None [] [] (zone_after tzid None start))
+start-put tzid start z is =
     let texts = parameters tzid start in
     let name = codes "DTSTART" in
     let value = joined date_or_time_text start [] in
+    let whole = line_with name tzid start [] in
     let word = kind-word tzid start start (same-kind start) is in
-    let means : value_of texts value ≡ Some start = ap (value_of texts) (append-nil (date_or_time_text start)) ∙ word.means in
-    line-by at no_lines name (head_of name tzid start) value line.Start texts (head-is name tzid start (list_named name refl refl refl) z) refl
-    ∙ ap (λ o. and_zone at texts line.Start (option_map_or (λ x. Ok (draft_of (Some x) None [] [] None)) o (Err (set_fault at (Value line.Start))))) means
-    ∙ zone-put at line.Start tzid None start (Some start) None [] [] (inl refl)
+    let split = line-by name (head_of name tzid start) value line.Start texts (head-is name tzid start (list_named name refl refl refl) z) refl in
+    let means : value_on whole ≡ Some start =
+    ap (λ ps. value_of ps (rest_at 58 whole)) split.parameters ∙ ap (value_of texts) (split.rest ∙ append-nil (date_or_time_text start)) ∙ word.means in
+    line-done (parts_of []) (draft_of (Some start) None [] [] None) whole line.Start texts value None (zone_after tzid None start) split refl refl
+    (ap (λ o. error_unless (is_some o) (Value line.Start)) means) (ap (λ o. draft_of o None [] [] None) means) (first-zone line.Start tzid start)
 
 -- the recurrence
-rule-put : (start : DateOrTime) (s : Option (List ℕ)) (r : Recurrence) (text : List ℕ) → recurrence_of (codes "RRULE:" ++ text) ≡ Ok r → (at : ℕ)
-    → put_line at (draft_of (Some start) None [] [] s) (codes "RRULE:" ++ text) ≡ Ok (draft_of (Some start) (Some r) [] [] s)
-unfolding put_whole
-rule-put start s r text says at =
-    let draft = draft_of (Some start) None [] [] s in
-    let name = codes "RRULE" in
-    line-by at draft name name text line.Rule [] (record { feed = refl; colon = refl; named = refl; parameters = refl }) refl
-    ∙ ap (λ x. and_zone at [] line.Rule (put_rule at draft x)) says
-    ∙ no-zone at start r s
+rule-put : (start : DateOrTime) (s : Option (List ℕ)) (r : Recurrence) (text : List ℕ) → recurrence_of (codes "RRULE:" ++ text) ≡ Ok r
+    → put_line (draft_of (Some start) None [] [] s) (codes "RRULE:" ++ text) ≡ Ok (draft_of (Some start) (Some r) [] [] s)
+rule-put start s r text says =
+    let whole : List ℕ = codes "RRULE:" ++ text in
+    let name : List ℕ = codes "RRULE" in
+    line-done (draft_of (Some start) None [] [] s) (draft_of (Some start) (Some r) [] [] s) whole line.Rule [] text s s
+    (line-by name name text line.Rule [] (record { feed = refl; colon = refl; named = refl; parameters = refl }) refl) refl refl
+    (ap (λ o. option_map Rule (result_err o)) says) (ap (λ o. draft_of (Some start) (result_ok o) [] [] s) says) (no-zone s)
   where
-    no-zone : (at : ℕ) (start : DateOrTime) (r : Recurrence) (s : Option (List ℕ))
-        → put_zone at (draft_of (Some start) (Some r) [] [] s) [] line.Rule ≡ Ok (draft_of (Some start) (Some r) [] [] s)
-    no-zone at start r None = refl
-    no-zone at start r (Some tzid) = refl
+    no-zone : (s : Option (List ℕ)) → (zone_error_in s [] line.Rule ≡ None) × (option_or s None ≡ s)
+    no-zone None = (refl, refl)
+    no-zone (Some tzid) = (refl, refl)
 
 -- ---- the zone at the end
-kept-line : (tzid : Option (List ℕ)) (v : DateOrTime) → zone_after tzid tzid v ≡ tzid
-kept-line tzid (Date n) = refl
-kept-line None (Local z) = refl
-kept-line (Some name) (Local z) = refl
-kept-line tzid (Utc z) = refl
+first-known : (tzid : Option (List ℕ)) (v : DateOrTime) → IsKnown tzid (draft_of (Some v) None [] [] (zone_after tzid None v))
+first-known tzid (Date n) = inr (refl, refl)
+first-known None (Local z) = inl refl
+first-known (Some tzid) (Local z) = inl refl
+first-known tzid (Utc z) = inr (refl, refl)
 
-kept-lines : (tzid : Option (List ℕ)) (v : DateOrTime) (vs : List DateOrTime) → zones tzid tzid v vs ≡ tzid
-kept-lines tzid v [] = kept-line tzid v
-kept-lines tzid v (w ∷ vs) =
-    either (is_same_kind v w) (kept-lines tzid v vs) (ap (λ s. zones tzid s w vs) (kept-line tzid v) ∙ kept-lines tzid w vs)
-  where
-    either : (b : Bool) {s t tzid : Option (List ℕ)} → s ≡ tzid → t ≡ tzid → cond b s t ≡ tzid
-    either true h k = h
-    either false h k = k
-
-kept : (tzid s : Option (List ℕ)) (vs : List DateOrTime) → s ≡ tzid → zones_all tzid s vs ≡ tzid
-kept tzid s [] h = h
-kept tzid s (v ∷ vs) h = ap (λ t. zones tzid t v vs) h ∙ kept-lines tzid v vs
-
-named-line : (name : List ℕ) (s : Option (List ℕ)) (v : DateOrTime) → is_local v ≡ true → zone_after (Some name) s v ≡ Some name
-named-line name s (Date n) h = absurd (false≢true h)
-named-line name s (Local z) h = refl
-named-line name s (Utc z) h = absurd (false≢true h)
-
-same-local : (v w : DateOrTime) → is_same_kind v w ≡ true → is_local w ≡ is_local v
-same-local (Date n) (Date m) h = refl
-same-local (Date n) (Local z) h = absurd (false≢true h)
-same-local (Date n) (Utc z) h = refl
-same-local (Local y) w h = h
-same-local (Utc y) (Date n) h = refl
-same-local (Utc y) (Local z) h = absurd (false≢true h)
-same-local (Utc y) (Utc z) h = refl
-
-or-true : (a b : Bool) → a || b ≡ true → (a ≡ true) ⊎ (b ≡ true)
-or-true true b h = inl refl
-or-true false b h = inr h
-
-or-first : (a b : Bool) → a ≡ true → a || b ≡ true
-or-first true b h = refl
-or-first false b h = absurd (false≢true h)
-
-or-other : (a b : Bool) → b ≡ true → a || b ≡ true
-or-other true b h = refl
-or-other false b h = h
-
-named-lines : (name : List ℕ) (s : Option (List ℕ)) (v : DateOrTime) (vs : List DateOrTime) → is_local v || list_any is_local vs ≡ true
-    → zones (Some name) s v vs ≡ Some name
-named-lines name s v [] h =
-    elim (or-true (is_local v) false h) [
-      | inl here ↦ named-line name s v here
-      | inr never ↦ absurd (false≢true never)
-    ]
-named-lines name s v (w ∷ vs) h =
-    let tzid = Some name in
-    let ends : Bool → Option (List ℕ) = λ b. cond b (zones tzid s v vs) (zones tzid (zone_after tzid s v) w vs) in
-    elim (cases_Bool (is_same_kind v w)) [
-      | inl alike ↦
-          ap ends alike
-          ∙ named-lines name s v vs (elim (or-true (is_local v) (is_local w || list_any is_local vs) h) [
-            | inl here ↦ or-first (is_local v) (list_any is_local vs) here
-            | inr later ↦ ap (λ b. b || list_any is_local vs) (sym (same-local v w alike)) ∙ later
-          ])
-      | inr apart ↦
-          ap ends apart
-          ∙ elim (or-true (is_local v) (is_local w || list_any is_local vs) h) [
-            | inl here ↦ ap (λ t. zones tzid t w vs) (named-line name s v here) ∙ kept-lines tzid w vs
-            | inr later ↦ named-lines name (zone_after tzid s v) w vs later
-          ]
-    ]
-
-named : (name : List ℕ) (s : Option (List ℕ)) (vs : List DateOrTime) → list_any is_local vs ≡ true → zones_all (Some name) s vs ≡ Some name
-named name s [] h = absurd (false≢true h)
-named name s (v ∷ vs) h = named-lines name s v vs h
-
-known-lines : (tzid s : Option (List ℕ)) (v : DateOrTime) (vs : List DateOrTime) → Known tzid s → Known tzid (zones tzid s v vs)
-known-lines tzid s v [] h = known-after tzid s v h
-known-lines tzid s v (w ∷ vs) h =
-    either (is_same_kind v w) (known-lines tzid s v vs h) (known-lines tzid (zone_after tzid s v) w vs (known-after tzid s v h))
-  where
-    either : (b : Bool) {s t : Option (List ℕ)} → Known tzid s → Known tzid t → Known tzid (cond b s t)
-    either true h k = h
-    either false h k = k
-
-known-all : (tzid s : Option (List ℕ)) (vs : List DateOrTime) → Known tzid s → Known tzid (zones_all tzid s vs)
-known-all tzid s [] h = h
-known-all tzid s (v ∷ vs) h = known-lines tzid s v vs h
-
--- the zone after the start, the dates and the exceptions
-abbrev last_zone : SetParts → Option (List ℕ) → Option (List ℕ)
-last_zone p tzid = zones_all tzid (zones_all tzid (zone_after tzid None p.start) p.dates) p.exceptions
-
-zone-found : (p : SetParts) (tzid : Option (List ℕ)) → IsZoneOf p tzid → last_zone p tzid ≡ tzid
-zone-found p None h =
-    elim (known-all None _ p.exceptions (known-all None _ p.dates (known-after None None p.start (inl refl)))) [
-      | inl none ↦ none
-      | inr same ↦ same
-    ]
-zone-found p (Some name) h =
-    let tzid = Some name in
-    let first = zone_after tzid None p.start in
-    elim (or-true (is_local p.start) (list_any is_local p.dates || list_any is_local p.exceptions) h.1) [
-      | inl start ↦ kept tzid (zones_all tzid first p.dates) p.exceptions (kept tzid first p.dates (named-line name None p.start start))
-      | inr more ↦ elim (or-true (list_any is_local p.dates) (list_any is_local p.exceptions) more) [
-        | inl dates ↦ kept tzid (zones_all tzid first p.dates) p.exceptions (named name first p.dates dates)
-        | inr exceptions ↦ named name (zones_all tzid first p.dates) p.exceptions exceptions
-      ]
-    ]
+zone-found : (p : SetParts) (tzid : Option (List ℕ)) (s : Option (List ℕ)) → IsZoneOf p tzid → IsKnown tzid (draft_of (Some p.start) (Some p.recurrence) p.dates p.exceptions s) → s ≡ tzid
+zone-found p tzid s h (inl e) = e
+zone-found p None s h (inr e) = e.0
+zone-found p (Some name) s h (inr e) = absurd (false≢true (sym e.1 ∙ h.1))
 
 zone-is : (p : SetParts) (tzid : Option (List ℕ)) → IsZoneOf p tzid → IsZone tzid
 zone-is p None h = tt
@@ -510,7 +485,13 @@ zone-is p (Some name) h = record {
 
 -- ---- the set
 all-read : (p : SetParts) (s : Option (List ℕ)) → s ≡ p.zone → Reads (draft_of (Some p.start) (Some p.recurrence) p.dates p.exceptions s) [] p
-all-read p s e at = ap (λ tzid. Ok (record p { zone = tzid })) e
+all-read p s e before valid is =
+    let said = parts-more before [] refl ∙ is in
+    record {
+      valid = valid-more before [] valid refl;
+      start = ap (λ d. d.start) said;
+      is = ap (λ tzid. record p { zone = tzid }) (sym e) ∙ ap (λ d. parts_from d p.start) (sym said);
+    }
 
 in-lines : (head rule dates exceptions : List ℕ)
     → (head ++ line_end) ++ (rule ++ line_end) ++ dates ++ exceptions ≡ head ++ 13 ∷ 10 ∷ (rule ++ 13 ∷ 10 ∷ (dates ++ (exceptions ++ [])))
@@ -521,37 +502,35 @@ in-lines head rule dates exceptions =
     ∙ ap (λ rest. head ++ 13 ∷ 10 ∷ rest) (append_assoc rule line_end (dates ++ exceptions) ∙ ap (λ last. rule ++ 13 ∷ 10 ∷ (dates ++ last)) (sym (append-nil exceptions)))
 
 set-reads : (p : SetParts) → IsSpelledSet p → ReadsBack p.recurrence (text_of p.recurrence) → length p.dates ≤ 62 → length p.exceptions ≤ 62
-    → set_of (set_text p) ≡ Ok p
+    → SaysSet (lines_of (set_text p)) p
 set-reads p h back few less =
     let tzid = p.zone in
     let z = zone-is p tzid h.zone in
     let first = zone_after tzid None p.start in
-    let second = zones_all tzid first p.dates in
-    let known = known-after tzid None p.start (inl refl) in
     let start : List ℕ = codes "DTSTART" in
     let rule : List ℕ = codes "RRULE:" ++ text_of p.recurrence in
     let dates = values_text (codes "RDATE") tzid p.dates in
     let exceptions = values_text (codes "EXDATE") tzid p.exceptions in
     let run : IsRun tzid p.start [] = (kind-word tzid p.start p.start (same-kind p.start) h.start, tt) in
     let name = list_named start refl refl refl in
-    let excepted = list-read (codes "EXDATE") line.Exceptions (λ ds s. draft_of (Some p.start) (Some p.recurrence) p.dates ds s) (exceptions-list p.start p.recurrence p.dates) tzid z [] p p.exceptions second
-    (known-all tzid first p.dates known) h.each_exception less (all-read p (last_zone p tzid) (zone-found p tzid h.zone)) in
+    let excepted = λ (s : Option (List ℕ)) (known : IsKnown tzid (draft_of (Some p.start) (Some p.recurrence) p.dates [] s)). list-read (codes "EXDATE") line.Exceptions (λ ds s. draft_of (Some p.start) (Some p.recurrence) p.dates ds s) (exceptions-list p.start p.recurrence p.dates) tzid z [] p p.exceptions s
+    known h.each_exception less (λ t last. all-read p t (zone-found p tzid t h.zone last)) in
     let dated = list-read (codes "RDATE") line.Dates (λ ds s. draft_of (Some p.start) (Some p.recurrence) ds [] s) (dates-list p.start p.recurrence) tzid z (exceptions ++ []) p p.dates first
-    known h.each_date few excepted in
+    (first-known tzid p.start) h.each_date few excepted in
     let ruled = one-line (draft_of (Some p.start) None [] [] first) (draft_of (Some p.start) (Some p.recurrence) [] [] first) rule (dates ++ (exceptions ++ [])) p
     (avoids-append 10 (codes "RRULE:") (text_of p.recurrence) refl (from-all 10 (text_of p.recurrence) back.one_line))
     (rule-put p.start first p.recurrence (text_of p.recurrence) back.named) dated in
-    let begun = one-line no_lines (draft_of (Some p.start) None [] [] first) (line_with start tzid p.start []) (rule ++ 13 ∷ 10 ∷ (dates ++ (exceptions ++ []))) p
+    let begun = one-line (parts_of []) (draft_of (Some p.start) None [] [] first) (line_with start tzid p.start []) (rule ++ 13 ∷ 10 ∷ (dates ++ (exceptions ++ []))) p
     (line-feed start tzid p.start [] name z run) (start-put tzid p.start z h.start) ruled in
-    ap set_of (in-lines (head_text start tzid p.start) rule dates exceptions)
-    ∙ ap (λ head. set_of (head ++ 13 ∷ 10 ∷ (rule ++ 13 ∷ 10 ∷ (dates ++ (exceptions ++ []))))) (head-line start tzid p.start)
-    ∙ begun 0
+    subst (λ text. SaysSet (lines_of text) p)
+    (sym (in-lines (head_text start tzid p.start) rule dates exceptions ∙ ap (λ head. head ++ 13 ∷ 10 ∷ (rule ++ 13 ∷ 10 ∷ (dates ++ (exceptions ++ [])))) (head-line start tzid p.start)))
+    (begun [] (λ k. refl) refl)
 
 -- a buffer with the text
 pub put_reads : (p : SetParts) (text old new : List ℕ) (r : Option ℕ) → IsPut 0 (set_text p) old new r → text ≡ text_of p.recurrence
     → (IsSpelled p.recurrence → ReadsBack p.recurrence text) → length p.dates ≤ 62 → length p.exceptions ≤ 62
     → IsSpelledSet p
-    → IfSome r (λ end. set_of (take end new) ≡ Ok p)
+    → IfSome r (λ end. SaysSet (lines_of (take end new)) p)
 put_reads p text old new None put e back few less h = tt
 put_reads p text old new (Some end) put e back few less h =
-    ap set_of put.2 ∙ set-reads p h (subst (ReadsBack p.recurrence) e (back h.recurrence)) few less
+    subst (λ bytes. SaysSet (lines_of bytes) p) (sym put.2) (set-reads p h (subst (ReadsBack p.recurrence) e (back h.recurrence)) few less)

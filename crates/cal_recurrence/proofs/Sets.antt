@@ -2,14 +2,14 @@
 use Rattle.std.proofs.Common.{◌≡◌, ℕ, suc, ◌+◌, ◌-◌, ◌<◌, ◌≤◌, eqb, refl, sym, ap, ◌∙◌, arith, Bool, true, false, ◌&&◌, not, ◌∷◌, filter, slice_get, Option, Some, None, inl, inr, eq-eqb, ne_eqb, nat_lt}
 use Rattle.std.specs.Prelude.{◌||◌}
 use Rattle.std.proofs.lemmas.Bool.{cases_lt}
-use Rattle.std.proofs.lemmas.Bool.Decides.{nat_tests}
 use Rattle.cal_time.specs.Date.{last_day, IsDate}
 use Rattle.cal_time.specs.Occurrences.{days_from}
 use Rattle.cal_schedule.specs.Previous.{IsPreviousDay, is_previous_day}
 use Rattle.cal_schedule.specs.Ranks.{from-no, from-yes}
-use Rattle.cal_recurrence.specs.Sets.{candidates, is_in_set, is_listed, later, set_days_after, set_days_before, set_days_from, set_days_left, IsNextDay}
+use Rattle.cal_recurrence.specs.TimeSearch.{first_by}
+use Rattle.cal_recurrence.specs.Sets.{candidates, is_in_set, is_listed, set_days_after, set_days_before, set_days_from, set_days_left, IsNextDay}
 use Rattle.cal_recurrence.specs.declared.set.RecurrenceSet.{RecurrenceSet}
-use Rattle.cal_recurrence.proofs.FirstNumbers.{Leaves, first-in_list, first-of_list, first_one, list-first, list-none, neither, other_one}
+use Rattle.cal_recurrence.proofs.FirstNumbers.{Leaves, first-in_list, first-of_list, first_one, is_earlier, is_later, list-first, list-none, neither, other_one}
 
 -- ---- one day, and lists
 pub one_after : (d n : ℕ) → n < d → IsDate d → IsNextDay (λ k. eqb d k) n (Some d)
@@ -24,19 +24,16 @@ pub one_not_after : (d n : ℕ) → d ≤ n → IsNextDay (λ k. eqb d k) n None
 one_not_after d n early = λ k late date. ne_eqb d k (λ e. absurd (omega arith))
 
 -- ---- the nearest day that passes one of two tests
-is_earlier : (x y : ℕ) → nat_lt x y ≡ true → x < y
-is_earlier x y h = grind (arith, nat_tests)
+abbrev is_after : ℕ → ℕ → Bool
+is_after n m = nat_lt m n
 
-is_later : (x y : ℕ) → nat_lt x y ≡ false → y ≤ x
-is_later x y h = grind (arith, nat_tests)
-
-later-at : (s t : ℕ → Bool) (n x y : ℕ) (b : Bool) → nat_lt x y ≡ b → IsPreviousDay s n (Some x) → IsPreviousDay t n (Some y) → IsPreviousDay (λ k. s k || t k) n (later (Some x) (Some y))
+later-at : (s t : ℕ → Bool) (n x y : ℕ) (b : Bool) → nat_lt x y ≡ b → IsPreviousDay s n (Some x) → IsPreviousDay t n (Some y) → IsPreviousDay (λ k. s k || t k) n (first_by is_after (Some x) (Some y))
 later-at s t n x y true e p q =
     rw e (q.0, other_one (s y) (t y) q.1, λ k after early. neither (s k) (t k) (p.2 k (omega (arith, after, is_earlier x y e)) early) (q.2 k after early))
 later-at s t n x y false e p q =
     rw e (p.0, first_one (s x) (t x) p.1, λ k after early. neither (s k) (t k) (p.2 k after early) (q.2 k (omega (arith, after, is_later x y e)) early))
 
-pub later_is : (s t : ℕ → Bool) (n : ℕ) (p q : Option ℕ) → IsPreviousDay s n p → IsPreviousDay t n q → IsPreviousDay (λ k. s k || t k) n (later p q)
+pub later_is : (s t : ℕ → Bool) (n : ℕ) (p q : Option ℕ) → IsPreviousDay s n p → IsPreviousDay t n q → IsPreviousDay (λ k. s k || t k) n (first_by is_after p q)
 later_is s t n None None a b = λ k early. neither (s k) (t k) (a k early) (b k early)
 later_is s t n None (Some y) a b = (b.0, other_one (s y) (t y) b.1, λ k after early. neither (s k) (t k) (a k early) (b.2 k after early))
 later_is s t n (Some x) None a b = (a.0, first_one (s x) (t x) a.1, λ k after early. neither (s k) (t k) (a.2 k after early) (b k early))

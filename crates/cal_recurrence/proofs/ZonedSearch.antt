@@ -19,7 +19,8 @@ use Rattle.cal_zone.specs.declared.gap.Gap as gaps
 use Rattle.cal_zone.specs.declared.local.Local.{Local}
 use Rattle.cal_zone.specs.declared.local.Local.TheVariants.{Single, Gap, Fold}
 use Rattle.cal_recurrence.specs.Occurrences.{nanoseconds_left}
-use Rattle.cal_recurrence.specs.ZonedSet.{earlier, is_kept, reach, HasInstant, IsFirstAfter, IsMeant, IsNextAfter, Means, MeansAt, NoneAfter}
+use Rattle.cal_recurrence.specs.TimeSearch.{first_by}
+use Rattle.cal_recurrence.specs.ZonedSet.{is_earlier, is_kept, reach, HasInstant, IsFirstAfter, IsMeant, IsNextAfter, Means, MeansAt, NoneAfter}
 use Rattle.cal_recurrence.specs.declared.zoned_set.ZonedSet.{ZonedSet}
 
 -- ---- numbers
@@ -134,7 +135,7 @@ record Splits (P Q R : ℤ → LocalAndOffset → Type 0) : Type 0 where
   order : (z w : ℤ) (k l : LocalAndOffset) → P z k → Q w l → z <ℤ w
 
 joined-at : (P Q R : ℤ → LocalAndOffset → Type 0) (x : ℤ) (m k : LocalAndOffset) (b : Bool) → int_lt (instant k) (instant m) ≡ b → Splits P Q R → IsFirstAfter P x m → IsFirstAfter Q x k
-    → IsNextAfter R x (earlier (Some m) (Some k))
+    → IsNextAfter R x (first_by is_earlier (Some m) (Some k))
 joined-at P Q R x m k true e s p q = rw e (record {
   reading = q.reading;
   meant = s.other q.reading k q.meant;
@@ -161,7 +162,7 @@ joined-at P Q R x m k false e s p q = rw e (record {
   ];
 })
 
-joined : (P Q R : ℤ → LocalAndOffset → Type 0) (x : ℤ) (p q : Option LocalAndOffset) → Splits P Q R → IsNextAfter P x p → IsNextAfter Q x q → IsNextAfter R x (earlier p q)
+joined : (P Q R : ℤ → LocalAndOffset → Type 0) (x : ℤ) (p q : Option LocalAndOffset) → Splits P Q R → IsNextAfter P x p → IsNextAfter Q x q → IsNextAfter R x (first_by is_earlier p q)
 joined P Q R x None None s p q = λ z k h. elim (s.down z k h) as (λ _. instant k ≤ℤ x) [ inl a ↦ p z k a | inr b ↦ q z k b ]
 joined P Q R x None (Some m) s p q = record {
   reading = q.reading;
@@ -240,7 +241,7 @@ up-to_next set last n x r range h covered = widen (Covered set last) (Before set
 )) (λ z k g. (g.0, omega (arith, ints, g.1, h.from, h.range.not_before, range.not_before))) covered
 
 pub step : (set : ZonedSet) (last n x : ℤ) (p q : Option LocalAndOffset) → IsDateTime last → IsAt set (unsigned_abs last + 1) n
-    → IsNextAfter (Covered set last) x p → IsNextAfter (MeansAt set n) x q → IsNextAfter (Covered set n) x (earlier p q)
+    → IsNextAfter (Covered set last) x p → IsNextAfter (MeansAt set n) x q → IsNextAfter (Covered set n) x (first_by is_earlier p q)
 step set last n x p q range h covered at =
     joined (Before set n) (MeansAt set n) (Covered set n) x p q (splits set n) (up-to_next set last n x p range h covered) at
 

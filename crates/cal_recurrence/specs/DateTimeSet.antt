@@ -1,6 +1,6 @@
 -- Recurrence sets of date-times: the readings of a rule and of `RDATE`, without the readings of
 -- `EXDATE` (RFC 5545).
-use Rattle.std.specs.Prelude.{◌≡◌, ℕ, ◌+◌, Bool, ◌&&◌, ◌||◌, not, ℤ, pos, int_lt, unsigned_abs, if◌then◌else◌, List, Option, Some, None, option_map}
+use Rattle.std.specs.Prelude.{◌≡◌, ℕ, ◌+◌, Bool, ◌&&◌, ◌||◌, not, ℤ, pos, unsigned_abs, List, Option, option_map}
 use Rattle.std.specs.List.{list_any}
 use Rattle.std.specs.Ordering.{int_eq}
 use Rattle.cal_datetime.specs.DateTime.{last_date_time}
@@ -31,12 +31,6 @@ set_readings_after set z = readings_from (is_in_set set) (unsigned_abs z + 1)
 -- A reading of the set and the readings after it, or no readings.
 abbrev pub set_readings_left : DateTimeSet → Option ℤ → List ℤ
 set_readings_left set r = readings_left (is_in_set set) r
-
--- The earlier reading, or the only one.
-abbrev pub earlier : Option ℤ → Option ℤ → Option ℤ
-earlier None other = other
-earlier (Some z) None = Some z
-earlier (Some z) (Some y) = if int_lt y z then Some y else Some z
 
 -- r is the first reading of the range from the number n on that passes a test. If r is `None`, none
 -- passes.

@@ -1,8 +1,10 @@
 -- The text of a recurrence set, after the properties of RFC 5545. Its lines end with a line feed
 -- (10), which a carriage return (13) can precede. Each has a name, parameters after `;` (59), `:`
 -- (58) and a value, or a list of values separated by `,` (44).
-use Rattle.std.specs.Prelude.{ℕ, ◌+◌, ◌-◌, ◌==◌, ◌&&◌, ◌||◌, nat_le, Bool, true, false, not, List, [], ◌∷◌, ◌++◌, codes, length, slice_index, Option, Some, None, option_map, option_and_then, is_some, unwrap_or, bytes_eq, Result, Ok, Err, if◌then◌else◌}
+use Rattle.std.specs.Prelude.{◌≡◌, ◌⊎◌, ◌<◌, ℕ, ◌+◌, ◌-◌, ◌==◌, ◌&&◌, ◌||◌, nat_le, Bool, true, false, not, List, [], ◌∷◌, ◌++◌, codes, length, map, filter_map, take, slice_get, slice_index, Option, Some, None, option_map, option_and_then, is_some, unwrap_or, bytes_eq, Result, Ok, Err, MatchResult, if◌then◌else◌}
+use Rattle.std.specs.List.{flat_map}
 use Rattle.std.specs.Option.{option_map_or, option_or}
+use Rattle.std.specs.Result.{result_err, result_ok}
 use Rattle.cal_schedule.specs.Pattern.{every}
 use Rattle.cal_schedule.specs.Values.{most_values}
 use Rattle.cal_schedule.specs.declared.rule.rule.Frequency.TheVariants.{Daily}
@@ -12,7 +14,6 @@ use Rattle.cal_recurrence.specs.TimesOfDay.{no_times}
 use Rattle.cal_recurrence.specs.Words.{first_bytes, is_alike, parts_at, front_at, rest_at}
 use Rattle.cal_recurrence.specs.declared.date_or_time.DateOrTime.{DateOrTime}
 use Rattle.cal_recurrence.specs.declared.date_or_time.DateOrTime.TheVariants.{Date, Local, Utc}
-use Rattle.cal_recurrence.specs.declared.fault.ParseRuleError.{ParseRuleError}
 use Rattle.cal_recurrence.specs.declared.recurrence.Recurrence.{Recurrence}
 use Rattle.cal_recurrence.specs.declared.recurrence.RuleEnd.TheVariants.{Count}
 use Rattle.cal_recurrence.specs.declared.set_fault.ParseSetError.{ParseSetError}
@@ -69,9 +70,13 @@ abbrev pub has_room : ℕ → List ℕ → Bool
 has_room filled value = nat_le (filled + length (parts_at 44 value)) most_values
 
 -- ---- lines
--- The error with this reason at a position.
-abbrev pub set_fault : ℕ → ParseSetErrorKind → ParseSetError
-set_fault at why = record { position = at; reason = why }
+-- A line without the carriage return at its end.
+abbrev pub without_return : List ℕ → List ℕ
+without_return text = if slice_index text (length text - 1) == 13 then first_bytes (length text - 1) text else text
+
+-- The lines of a text, without their ends.
+abbrev pub lines_of : List ℕ → List (List ℕ)
+lines_of text = map without_return (parts_at 10 text)
 
 -- The line with the name that a word is, if there is one.
 abbrev pub line_of : List ℕ → Option SetLine
@@ -82,38 +87,30 @@ line_of word =
     if is_alike word (codes "EXDATE") then Some line.Exceptions else
     None
 
--- The draft with the recurrence of the line at byte `at`, or its error.
-abbrev pub put_rule : ℕ → SetDraft → Result Recurrence ParseRuleError → Result SetDraft ParseSetError
-put_rule at draft (Ok its) = Ok (record draft { recurrence = Some its })
-put_rule at draft (Err fault) = Err (set_fault at (Rule fault))
+-- The kind of a line, by its name.
+abbrev pub kind_of : List ℕ → Option SetLine
+kind_of text = line_of (front_at 59 (front_at 58 text))
 
--- A list with the values of one more line that begins at byte `at`, or the error of the line: too
--- many values in all, or an invalid one.
-abbrev pub more_of : ℕ → SetLine → List DateOrTime → List (List ℕ) → List ℕ → Result (List DateOrTime) ParseSetError
-more_of at its dates parameters value =
-    if not (has_room (length dates) value) then Err (set_fault at (TooMany its)) else
-    option_map_or Ok (option_map (λ more. dates ++ more) (list_of (value_of parameters) value)) (Err (set_fault at (Value its)))
+-- A line has this name.
+abbrev pub is_named : SetLine → Option SetLine → Bool
+is_named line.Start (Some line.Start) = true
+is_named line.Rule (Some line.Rule) = true
+is_named line.Dates (Some line.Dates) = true
+is_named line.Exceptions (Some line.Exceptions) = true
+is_named its other = false
 
--- The draft with other dates.
-abbrev pub put_dates : SetDraft → Result (List DateOrTime) ParseSetError → Result SetDraft ParseSetError
-put_dates draft (Ok dates) = Ok (record draft { dates = dates })
-put_dates draft (Err why) = Err why
+-- The parameters of a line, which come after its name.
+abbrev pub parameters_on : List ℕ → List (List ℕ)
+parameters_on text = parameters_of (front_at 58 text)
 
--- The draft with other exceptions.
-abbrev pub put_exceptions : SetDraft → Result (List DateOrTime) ParseSetError → Result SetDraft ParseSetError
-put_exceptions draft (Ok dates) = Ok (record draft { exceptions = dates })
-put_exceptions draft (Err why) = Err why
+-- The value of a line, if its parameters allow it.
+abbrev pub value_on : List ℕ → Option DateOrTime
+value_on text = value_of (parameters_on text) (rest_at 58 text)
 
--- The draft with one more line that begins at byte `at`, by its name, its parameters and its value.
-abbrev pub put_named : ℕ → SetDraft → List ℕ → List (List ℕ) → List ℕ → SetLine → Result SetDraft ParseSetError
-put_named at draft whole parameters value line.Start =
-    if is_some draft.start then Err (set_fault at (Twice line.Start)) else
-    option_map_or (λ start. Ok (record draft { start = Some start })) (value_of parameters value) (Err (set_fault at (Value line.Start)))
-put_named at draft whole parameters value line.Rule = if is_some draft.recurrence then Err (set_fault at (Twice line.Rule)) else put_rule at draft (recurrence_of whole)
-put_named at draft whole parameters value line.Dates = put_dates draft (more_of at line.Dates draft.dates parameters value)
-put_named at draft whole parameters value line.Exceptions = put_exceptions draft (more_of at line.Exceptions draft.exceptions parameters value)
+-- The values of a line with commas between them, if its parameters allow each.
+abbrev pub values_on : List ℕ → Option (List DateOrTime)
+values_on text = list_of (value_of (parameters_on text)) (rest_at 58 text)
 
--- ---- zones
 -- The name of a zone that a parameter gives: the value of TZID.
 abbrev pub names_zone : List ℕ → Bool
 names_zone parameter = is_alike (front_at 61 parameter) (codes "TZID")
@@ -128,63 +125,124 @@ abbrev pub all_name : List (List ℕ) → List ℕ → Bool
 all_name [] zone = true
 all_name (parameter ∷ parameters) zone = (not (names_zone parameter) || bytes_eq (rest_at 61 parameter) zone) && all_name parameters zone
 
--- The draft with the zone of one more line, or the error that the line names another zone than a
--- line before it, or two zones.
-abbrev pub put_zone_of : ℕ → SetDraft → List (List ℕ) → SetLine → Option (List ℕ) → Result SetDraft ParseSetError
-put_zone_of at draft parameters its None = Ok draft
-put_zone_of at draft parameters its (Some zone) =
-    if all_name parameters zone then Ok (record draft { zone = Some zone }) else Err (set_fault at (OtherZone its))
+-- ---- the parts that lines say
+-- The start that a line says.
+abbrev pub start_on : List ℕ → Option DateOrTime
+start_on text = if is_named line.Start (kind_of text) then value_on text else None
 
-abbrev pub put_zone : ℕ → SetDraft → List (List ℕ) → SetLine → Result SetDraft ParseSetError
-put_zone at draft parameters its = put_zone_of at draft parameters its (option_or draft.zone (first_zone parameters))
+-- The recurrence that a line says.
+abbrev pub rule_on : List ℕ → Option Recurrence
+rule_on text = if is_named line.Rule (kind_of text) then result_ok (recurrence_of text) else None
 
--- The draft with the zone of one more line, or an earlier error of the line.
-abbrev pub and_zone : ℕ → List (List ℕ) → SetLine → Result SetDraft ParseSetError → Result SetDraft ParseSetError
-and_zone at parameters its (Ok draft) = put_zone at draft parameters its
-and_zone at parameters its (Err why) = Err why
+-- The values that a line with this name says.
+abbrev pub listed_on : SetLine → List ℕ → List DateOrTime
+listed_on its text = if is_named its (kind_of text) then unwrap_or (values_on text) [] else []
 
--- The draft with one more line that begins at byte `at`: what its name says, and then its zone.
-unfoldable pub put_whole : ℕ → SetDraft → List ℕ → List (List ℕ) → List ℕ → SetLine → Result SetDraft ParseSetError
-put_whole at draft whole parameters value its = and_zone at parameters its (put_named at draft whole parameters value its)
+-- The zone that a line names.
+abbrev pub zone_on : List ℕ → Option (List ℕ)
+zone_on text = first_zone (parameters_on text)
 
--- The draft with one more line that begins at byte `at`. An empty line says nothing.
-abbrev pub put_line : ℕ → SetDraft → List ℕ → Result SetDraft ParseSetError
-put_line at draft text =
-    if length text == 0 then Ok draft else
-    option_map_or (put_whole at draft text (parameters_of (front_at 58 text)) (rest_at 58 text)) (line_of (front_at 59 (front_at 58 text))) (Err (set_fault at Unknown))
+-- The parts that lines say: the first start, the first recurrence and the first zone, and all dates
+-- and exceptions in order. Lines without an error say no second start, recurrence or zone.
+abbrev pub parts_of : List (List ℕ) → SetDraft
+parts_of lines = record {
+  start = slice_get (filter_map start_on lines) 0;
+  recurrence = slice_get (filter_map rule_on lines) 0;
+  dates = flat_map (listed_on line.Dates) lines;
+  exceptions = flat_map (listed_on line.Exceptions) lines;
+  zone = slice_get (filter_map zone_on lines) 0;
+}
+
+-- ---- errors
+-- An error, unless a test passes.
+abbrev pub error_unless : Bool → ParseSetErrorKind → Option ParseSetErrorKind
+error_unless passes why = if passes then None else Some why
+
+-- The error in the values of a line, if there are already `filled` values: too many in all, or an
+-- invalid one.
+abbrev pub list_error : ℕ → List ℕ → SetLine → Option ParseSetErrorKind
+list_error filled text its = option_or (error_unless (has_room filled (rest_at 58 text)) (TooMany its)) (error_unless (is_some (values_on text)) (Value its))
+
+-- The error in the value of a line after lines that say some parts.
+abbrev pub value_error : SetDraft → List ℕ → SetLine → Option ParseSetErrorKind
+value_error said text line.Start = option_or (error_unless (not (is_some said.start)) (Twice line.Start)) (error_unless (is_some (value_on text)) (Value line.Start))
+value_error said text line.Rule = option_or (error_unless (not (is_some said.recurrence)) (Twice line.Rule)) (option_map Rule (result_err (recurrence_of text)))
+value_error said text line.Dates = list_error (length said.dates) text line.Dates
+value_error said text line.Exceptions = list_error (length said.exceptions) text line.Exceptions
+
+-- The error of a line that names another zone than a line before it, or two zones.
+abbrev pub zone_error : SetDraft → List ℕ → SetLine → Option ParseSetErrorKind
+zone_error said text its = option_map_or (λ zone. error_unless (all_name (parameters_on text) zone) (OtherZone its)) (option_or said.zone (zone_on text)) None
+
+-- The error of a line after lines that say some parts, if it has one. An empty line says nothing.
+abbrev pub error_after : SetDraft → List ℕ → Option ParseSetErrorKind
+error_after said text =
+    if length text == 0 then None else
+    option_map_or (λ its. option_or (value_error said text its) (zone_error said text its)) (kind_of text) (Some Unknown)
+
+-- The error of line k after the lines before it, if it has one.
+abbrev pub error_at : List (List ℕ) → ℕ → Option ParseSetErrorKind
+error_at lines k = option_and_then (error_after (parts_of (take k lines))) (slice_get lines k)
+
+-- No line has an error.
+abbrev pub AreValid : List (List ℕ) → Type 0
+AreValid lines = (k : ℕ) → error_at lines k ≡ None
 
 -- ---- the whole
--- A line without the carriage return at its end.
-abbrev pub without_return : List ℕ → List ℕ
-without_return text = if slice_index text (length text - 1) == 13 then first_bytes (length text - 1) text else text
-
 -- The recurrence without a line `RRULE`: the start, once.
 abbrev pub once : Recurrence
 once = record { pattern = every Daily; times = no_times; end = Count 1 }
 
--- The parts of a draft that has a start.
+-- The parts of a set, from those that lines say and their start.
 abbrev pub parts_from : SetDraft → DateOrTime → SetParts
-parts_from draft start = record { start = start; recurrence = unwrap_or draft.recurrence once; dates = draft.dates; exceptions = draft.exceptions; zone = draft.zone }
+parts_from said start = record { start = start; recurrence = unwrap_or said.recurrence once; dates = said.dates; exceptions = said.exceptions; zone = said.zone }
 
--- The parts of a draft, or the error `Missing` without a start.
-abbrev pub set_finished : ℕ → SetDraft → Result SetParts ParseSetError
-set_finished at draft = option_map_or (λ start. Ok (parts_from draft start)) draft.start (Err (set_fault at Missing))
+-- Lines say the parts of a set: none has an error, the line DTSTART says the start, the line RRULE
+-- the recurrence, the lines RDATE and EXDATE the dates and the exceptions, and each TZID the zone.
+pub record SaysSet (lines : List (List ℕ)) (p : SetParts) : Type 0 where
+  pub valid : AreValid lines
+  pub start : (parts_of lines).start ≡ Some p.start
+  pub is : p ≡ parts_from (parts_of lines) p.start
 
--- The result for a line and the lines after it: the error of this line, or the result for the
--- others.
-abbrev pub and_lines : (SetDraft → Result SetParts ParseSetError) → Result SetDraft ParseSetError → Result SetParts ParseSetError
-and_lines others (Ok draft) = others draft
-and_lines others (Err why) = Err why
+-- The number of bytes of some lines with their line feeds.
+abbrev pub size_of : List (List ℕ) → ℕ
+size_of [] = 0
+size_of (text ∷ texts) = length text + 1 + size_of texts
 
--- The parts of a draft with more lines, the first of which begins at byte `at`, or the first error.
-abbrev pub read_lines : ℕ → SetDraft → List (List ℕ) → Result SetParts ParseSetError
-read_lines at draft [] = set_finished (at - 1) draft
-read_lines at draft (text ∷ texts) = and_lines (λ more. read_lines (at + length text + 1) more texts) (put_line at draft (without_return text))
+-- A line is the first one with an error, and begins at its position.
+pub record IsLineError (text : List ℕ) (e : ParseSetError) : Type 0 where
+  pub line : ℕ
+  pub first : (k : ℕ) → k < line → error_at (lines_of text) k ≡ None
+  pub reason : error_at (lines_of text) line ≡ Some e.reason
+  pub position : e.position ≡ size_of (take line (parts_at 10 text))
 
--- The draft without lines.
-abbrev pub no_lines : SetDraft
-no_lines = record { start = None; recurrence = None; dates = []; exceptions = []; zone = None }
+-- No line has an error, and none is the start.
+pub record LacksStart (text : List ℕ) (e : ParseSetError) : Type 0 where
+  pub valid : AreValid (lines_of text)
+  pub start : (parts_of (lines_of text)).start ≡ None
+  pub is : e ≡ record { position = length text; reason = Missing }
 
--- The parts of the set that a text says, or its first error.
-abbrev pub set_of : List ℕ → Result SetParts ParseSetError
-set_of text = read_lines 0 no_lines (parts_at 10 text)
+-- A text says the parts of a set, or has this error.
+abbrev pub IsSetOf : List ℕ → Result SetParts ParseSetError → Type 0
+IsSetOf text result = MatchResult result (SaysSet (lines_of text)) (λ e. IsLineError text e ⊎ LacksStart text e)
+
+-- ---- one more line
+-- The parts with the value of one more line.
+abbrev pub with_value : SetDraft → List ℕ → SetLine → SetDraft
+with_value said text line.Start = record said { start = value_on text }
+with_value said text line.Rule = record said { recurrence = result_ok (recurrence_of text) }
+with_value said text line.Dates = record said { dates = said.dates ++ unwrap_or (values_on text) [] }
+with_value said text line.Exceptions = record said { exceptions = said.exceptions ++ unwrap_or (values_on text) [] }
+
+-- The parts with the zone of one more line.
+abbrev pub with_zone : SetDraft → List ℕ → SetDraft
+with_zone said text = record said { zone = option_or said.zone (zone_on text) }
+
+-- The parts with one more line that has no error.
+abbrev pub with_line : SetDraft → List ℕ → SetDraft
+with_line said text = if length text == 0 then said else option_map_or (λ its. with_zone (with_value said text its) text) (kind_of text) said
+
+-- An error, or else a value.
+abbrev pub unless_error : {X : Type 0} → Option ParseSetErrorKind → X → Result X ParseSetErrorKind
+unless_error None x = Ok x
+unless_error (Some why) x = Err why

@@ -1,6 +1,6 @@
 -- Recurrence sets of days: the days of a rule and of `RDATE`, without the days of `EXDATE`
 -- (RFC 5545).
-use Rattle.std.specs.Prelude.{ℕ, ◌+◌, ◌-◌, ◌==◌, ◌&&◌, ◌||◌, nat_lt, if◌then◌else◌, Bool, not, List, [], ◌∷◌, filter, Option, Some, None}
+use Rattle.std.specs.Prelude.{ℕ, ◌+◌, ◌-◌, ◌==◌, ◌&&◌, ◌||◌, Bool, not, List, [], ◌∷◌, filter, Option, Some, None}
 use Rattle.std.specs.List.{list_any}
 use Rattle.cal_time.specs.Date.{last_day}
 use Rattle.cal_time.specs.Occurrences.{days_from, days_back_from}
@@ -36,18 +36,6 @@ set_days_before set n = filter (is_in_set set) (days_back_from n)
 abbrev pub set_days_left : RecurrenceSet → Option ℕ → List ℕ
 set_days_left set None = []
 set_days_left set (Some n) = n ∷ set_days_after set n
-
--- The earlier day, or the only one.
-abbrev pub earlier : Option ℕ → Option ℕ → Option ℕ
-earlier None other = other
-earlier (Some n) None = Some n
-earlier (Some n) (Some m) = if nat_lt m n then Some m else Some n
-
--- The later day, or the only one.
-abbrev pub later : Option ℕ → Option ℕ → Option ℕ
-later None other = other
-later (Some n) None = Some n
-later (Some n) (Some m) = if nat_lt n m then Some m else Some n
 
 -- r is the first day of the range after day n that passes a test. If r is `None`, none passes.
 abbrev pub IsNextDay : (ℕ → Bool) → ℕ → Option ℕ → Type 0

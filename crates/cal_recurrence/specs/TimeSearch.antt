@@ -1,5 +1,5 @@
 -- The search for the next reading of a date-time rule.
-use Rattle.std.specs.Prelude.{◌≡◌, ℕ, zero, suc, max, ◌+◌, ◌*◌, ◌/◌, ◌%◌, ◌<◌, ◌≤◌, Bool, true, false, ◌&&◌, ℤ, pos, negsuc, Option, MatchOption}
+use Rattle.std.specs.Prelude.{◌≡◌, ℕ, zero, suc, max, ◌+◌, ◌*◌, ◌/◌, ◌%◌, ◌<◌, ◌≤◌, Bool, true, false, ◌&&◌, ℤ, pos, negsuc, Option, Some, None, MatchOption, if◌then◌else◌}
 use Rattle.cal_time.specs.SignedDuration.{day}
 use Rattle.cal_time.specs.Time.{hour_of, minute_of, second_of}
 use Rattle.cal_datetime.specs.DateTime.{last_date_time, time_at}
@@ -22,6 +22,13 @@ pub record IsFirst (test : ℕ → Bool) (m e x : ℕ) : Type 0 where
 -- r is the first number from m on and below e that passes the test, or `None` without one.
 abbrev pub IsNext : (ℕ → Bool) → ℕ → ℕ → Option ℕ → Type 0
 IsNext test m e r = MatchOption r (NoneIn test m e) (IsFirst test m e)
+
+-- The first of two values, or the only one. `before` says which comes first; if neither does, the
+-- result is the left one.
+abbrev pub first_by : {X : Type 0} → (X → X → Bool) → Option X → Option X → Option X
+first_by before None other = other
+first_by before (Some x) None = Some x
+first_by before (Some x) (Some y) = if before y x then Some y else Some x
 
 -- The minute n of a day, from 0 at midnight, passes.
 abbrev pub matches_minute : TimesOfDay → ℕ → ℕ → Bool

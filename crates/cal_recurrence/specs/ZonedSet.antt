@@ -1,5 +1,5 @@
 -- Recurrence sets in a time zone: the instants that the readings of a set mean (RFC 5545).
-use Rattle.std.specs.Prelude.{◌≡◌, Bool, true, ◌&&◌, not, if◌then◌else◌, ℤ, pos, ◌*◌, ◌≤ℤ◌, ◌<ℤ◌, int_lt, Option, Some, None, MatchOption, option_map}
+use Rattle.std.specs.Prelude.{◌≡◌, Bool, true, ◌&&◌, not, ℤ, pos, ◌*◌, ◌≤ℤ◌, ◌<ℤ◌, int_lt, Option, Some, MatchOption, option_map}
 use Rattle.std.specs.List.{list_any}
 use Rattle.std.specs.Ordering.{int_eq}
 use Rattle.cal_time.specs.SignedDuration.{second}
@@ -63,8 +63,6 @@ reach = pos (93_599 * second)
 abbrev pub MeansAt : ZonedSet → ℤ → ℤ → LocalAndOffset → Type 0
 MeansAt set y z m = Means set z m × (z ≡ y)
 
--- The earlier date-time, the first one if both are the same instant, or the only one.
-abbrev pub earlier : Option LocalAndOffset → Option LocalAndOffset → Option LocalAndOffset
-earlier None other = other
-earlier (Some m) None = Some m
-earlier (Some m) (Some k) = if int_lt (instant k) (instant m) then Some k else Some m
+-- The date-time m is earlier than k.
+abbrev pub is_earlier : LocalAndOffset → LocalAndOffset → Bool
+is_earlier m k = int_lt (instant m) (instant k)

@@ -1,8 +1,9 @@
 //! Recurrence sets of date-times without a zone.
-ghost use Rattle.std.specs.Prelude.{◌≡◌, ◌<ℤ◌, IfSome, slice_get, true, pos};
+ghost use Rattle.std.specs.Prelude.{◌≡◌, ◌<ℤ◌, IfSome, int_lt, slice_get, true, pos};
 ghost use Rattle.std.specs.Ordering.{int_eq};
 ghost use Rattle.cal_datetime.specs.DateTime.{IsDateTime};
-ghost use Rattle.cal_recurrence.specs.DateTimeSet.{candidates, earlier, is_in_set, is_listed, set_readings_after, set_readings_from, IsNextOf};
+ghost use Rattle.cal_recurrence.specs.DateTimeSet.{candidates, is_in_set, is_listed, set_readings_after, set_readings_from, IsNextOf};
+ghost use Rattle.cal_recurrence.specs.TimeSearch.{first_by};
 
 use crate::date_time_rule::DateTimeRule;
 use cal_datetime::{PlainDateTime, midnight};
@@ -23,7 +24,7 @@ pub struct DateTimeSet<'a> {
 
 /// Returns the earlier reading, or the only one.
 fn earlier(reading: Option<PlainDateTime>, other: Option<PlainDateTime>) -> Option<PlainDateTime>
-    ensures { result ≡ earlier reading other }
+    ensures { result ≡ first_by int_lt reading other }
 {
     let Some(one) = reading else {
         return other;

@@ -13,10 +13,10 @@ use crate::words::{cut, has_name, is_alike, split};
 /// `RRULE:` in front.
 ///
 /// The parts come in any order and any case, with `;` between them. `FREQ` is `DAILY`, `WEEKLY`,
-/// `MONTHLY` or `YEARLY`, and is required. `INTERVAL` and `COUNT` are from 1 to 4294967295.
-/// `UNTIL`, in place of `COUNT`, is a date such as `20241231`, or a date and time such as
-/// `20241231T235959` or, at UTC, `20241231T235959Z`. A leap second, 60, becomes 59. `WKST` is a
-/// weekday such as `MO`.
+/// `MONTHLY` or `YEARLY`, and is required. `HOURLY`, `MINUTELY` and `SECONDLY` are invalid.
+/// `INTERVAL` and `COUNT` are from 1 to 4294967295. `UNTIL`, in place of `COUNT`, is a date such as
+/// `20241231`, or a date and time such as `20241231T235959` or, at UTC, `20241231T235959Z`. A leap
+/// second, 60, becomes 59. `WKST` is a weekday such as `MO`.
 ///
 /// Lists have at most 62 values with commas between them. `BYMONTH` has months from 1 to 12,
 /// `BYMONTHDAY` days from 1 to 31, `BYYEARDAY` and `BYSETPOS` days from 1 to 366, and `BYWEEKNO`

@@ -2,7 +2,8 @@
 ghost use Rattle.std.specs.Prelude.{◌≡◌, ◌≤◌, ℤ, true, ◌+ℤ◌, ◌≤ℤ◌, ◌<ℤ◌, unsigned_abs, MatchOption};
 ghost use Rattle.cal_datetime.specs.DateTime.{IsDateTime};
 ghost use Rattle.cal_datetime.specs.OffsetDateTime.{instant};
-ghost use Rattle.cal_recurrence.specs.ZonedSet.{earlier, reach};
+ghost use Rattle.cal_recurrence.specs.TimeSearch.{first_by};
+ghost use Rattle.cal_recurrence.specs.ZonedSet.{is_earlier, reach};
 
 use cal_datetime::{OffsetDateTime, PlainDateTime, midnight};
 use cal_time::UtcOffset;
@@ -49,7 +50,7 @@ pub(crate) fn earlier(
     moment: &Option<OffsetDateTime>,
     other: &Option<OffsetDateTime>,
 ) -> Option<OffsetDateTime>
-    ensures { result ≡ earlier moment.now other.now }
+    ensures { result ≡ first_by is_earlier moment.now other.now }
 {
     let Some(one) = *moment else {
         return *other;

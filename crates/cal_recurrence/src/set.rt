@@ -1,9 +1,10 @@
 //! Recurrence sets: the days of a rule and other days, without some of them.
-ghost use Rattle.std.specs.Prelude.{◌≡◌, ◌<◌, ◌==◌, ◌||◌, IfSome, slice_get, true};
+ghost use Rattle.std.specs.Prelude.{◌≡◌, ◌<◌, ◌==◌, ◌||◌, IfSome, nat_lt, slice_get, true};
 ghost use Rattle.cal_time.specs.Date.{IsDate};
 ghost use Rattle.cal_schedule.specs.Previous.{IsPreviousDay};
 ghost use Rattle.cal_schedule.specs.Rule.{is_occurrence};
-ghost use Rattle.cal_recurrence.specs.Sets.{candidates, earlier, is_in_set, is_listed, later, set_days_after, set_days_before, set_days_from, IsNextDay};
+ghost use Rattle.cal_recurrence.specs.Sets.{candidates, is_in_set, is_listed, set_days_after, set_days_before, set_days_from, IsNextDay};
+ghost use Rattle.cal_recurrence.specs.TimeSearch.{first_by};
 
 use cal_schedule::Rule;
 use cal_time::Date;
@@ -24,7 +25,7 @@ pub struct RecurrenceSet<'a> {
 
 /// Returns the earlier date, or the only one.
 fn earlier(date: Option<Date>, other: Option<Date>) -> Option<Date>
-    ensures { result ≡ earlier date other }
+    ensures { result ≡ first_by nat_lt date other }
 {
     let Some(one) = date else {
         return other;
@@ -37,7 +38,7 @@ fn earlier(date: Option<Date>, other: Option<Date>) -> Option<Date>
 
 /// Returns the later date, or the only one.
 fn later(date: Option<Date>, other: Option<Date>) -> Option<Date>
-    ensures { result ≡ later date other }
+    ensures { result ≡ first_by (λ n m. nat_lt m n) date other }
 {
     let Some(one) = date else {
         return other;

@@ -1,17 +1,17 @@
 //! A recurrence set while it is parsed.
-ghost use Rattle.std.specs.Prelude.{◌≡◌, ◌+◌, ◌≤◌, ◌++◌, [], length, option_map};
+ghost use Rattle.std.specs.Prelude.{◌≡◌, ◌+◌, ◌≤◌, ◌++◌, [], length, option_map, unwrap_or};
 ghost use Rattle.cal_schedule.specs.Values.{most_values};
-ghost use Rattle.cal_recurrence.specs.SetText.{all_allow, all_name, allows, first_zone, is_date, is_local, line_of, more_of, no_lines, once, parameters_of, put_line, put_named, put_whole, put_zone, set_fault, set_finished, value_of};
+ghost use Rattle.cal_recurrence.specs.SetText.{all_allow, all_name, allows, error_after, first_zone, is_date, is_local, kind_of, line_of, list_error, once, parameters_of, parts_from, parts_of, unless_error, value_error, value_of, value_on, values_on, with_line, with_value, with_zone, zone_error, zone_on};
 ghost use Rattle.cal_recurrence.specs.Text.{list_of};
-ghost use Rattle.cal_recurrence.specs.declared.set_fault.SetLine.TheVariants.{Start, Rule, Dates, Exceptions};
-ghost use Rattle.cal_recurrence.specs.Words.{parts_at};
+ghost use Rattle.cal_recurrence.specs.declared.set_fault.SetLine.TheVariants.{Start, Rule};
+ghost use Rattle.cal_recurrence.specs.Words.{parts_at, rest_at};
 
 use crate::date_or_time::DateOrTime;
 use crate::date_words::date_or_time_of;
 use crate::lists::has_room;
 use crate::parsing::parse;
 use crate::recurrence::{Recurrence, RuleEnd};
-use crate::set_fault::{ParseSetError, ParseSetErrorKind, SetLine};
+use crate::set_fault::{ParseSetErrorKind, SetLine};
 use crate::set_parts::SetParts;
 use crate::times_of_day::TimesOfDay;
 use crate::words::{cut, is_alike};
@@ -99,31 +99,41 @@ fn more_values(
     Some(values)
 }
 
+/// Returns an empty list.
+fn no_values() -> Values<DateOrTime>
+    ensures { result ≡ [] }
+{
+    Values::none(DateOrTime::Date(to_date(0)))
+}
+
+/// Returns the bytes of a line after its head, or no bytes.
+fn tail(line: &[u8]) -> &[u8]
+    ensures { result.now ≡ rest_at 58 line.now }
+{
+    cut(line, b':').1.unwrap_or(b"".as_slice())
+}
+
+/// Parses the value of a line, or returns `None` if it is invalid.
+fn value_on(line: &[u8]) -> Option<DateOrTime>
+    ensures { result ≡ value_on line.now }
+{
+    value_of(cut(line, b':').0, tail(line))
+}
+
 /// Returns the values with the values of one more line. Returns `TooMany` for more than 62 in all,
 /// or `Value` if one is invalid.
 fn more_of(
-    at: usize,
-    line: SetLine,
     dates: Values<DateOrTime>,
-    head: &[u8],
-    value: &[u8],
-) -> Result<Values<DateOrTime>, ParseSetError>
-    ensures { result ≡ more_of at line dates (parameters_of head.now) value.now }
+    line: &[u8],
+    kind: SetLine,
+) -> Result<Values<DateOrTime>, ParseSetErrorKind>
+    ensures { result ≡ unless_error (list_error (length dates) line.now kind)
+        (dates ++ unwrap_or (values_on line.now) []) }
 {
-    if !has_room(dates.as_slice().len(), value) {
-        return Err(fault(at, ParseSetErrorKind::TooMany(line)));
+    if !has_room(dates.as_slice().len(), tail(line)) {
+        return Err(ParseSetErrorKind::TooMany(kind));
     }
-    match more_values(dates, head, value) {
-        Some(all) => Ok(all),
-        None => Err(fault(at, ParseSetErrorKind::Value(line))),
-    }
-}
-
-/// Returns the error with this reason at a position.
-fn fault(position: usize, reason: ParseSetErrorKind) -> ParseSetError
-    ensures { result ≡ set_fault position reason }
-{
-    ParseSetError { position, reason }
+    more_values(dates, cut(line, b':').0, tail(line)).ok_or(ParseSetErrorKind::Value(kind))
 }
 
 /// Returns the recurrence of a set without `RRULE`.
@@ -135,6 +145,13 @@ fn once() -> Recurrence
         times: TimesOfDay::new(),
         end: RuleEnd::Count(1),
     }
+}
+
+/// Returns the kind of a line by its name, or `None` for an unknown name.
+fn kind_of(line: &[u8]) -> Option<SetLine>
+    ensures { result ≡ kind_of line.now }
+{
+    line_of(cut(cut(line, b':').0, b';').0)
 }
 
 /// Returns the line with a name, or `None` for an unknown name.
@@ -184,56 +201,42 @@ fn all_name(head: &[u8], zone: &[u8]) -> bool
 impl<'a> SetDraft<'a> {
     /// Creates a draft without lines.
     pub fn new() -> Self
-        ensures { result ≡ no_lines }
+        ensures { result ≡ parts_of [] }
     {
         SetDraft {
             start: None,
             recurrence: None,
-            dates: Values::none(DateOrTime::Date(to_date(0))),
-            exceptions: Values::none(DateOrTime::Date(to_date(0))),
+            dates: no_values(),
+            exceptions: no_values(),
             zone: None,
         }
     }
 
-    /// Parses one more line that begins at byte `at`. Returns `Unknown` for an unknown name, or
-    /// else the errors of `with_whole`.
-    pub fn with_line(self, at: usize, line: &'a [u8]) -> Result<Self, ParseSetError>
-        ensures { result ≡ put_line at self.entry line.now }
+    /// Parses one more line. Returns `Unknown` for an unknown name, or else the errors of
+    /// `with_value` and `with_zone`.
+    pub fn with_line(self, line: &'a [u8]) -> Result<Self, ParseSetErrorKind>
+        ensures { result ≡ unless_error (error_after self.entry line.now)
+            (with_line self.entry line.now) }
     {
         if line.is_empty() {
             return Ok(self);
         }
-        let (head, value) = cut(line, b':');
-        match line_of(cut(head, b';').0) {
-            Some(its) => { self.with_whole(at, line, head, value.unwrap_or(b"".as_slice()), its) }
-            None => Err(fault(at, ParseSetErrorKind::Unknown)),
-        }
-    }
-
-    /// Parses one more line by its head, its value and then its zone. Returns the errors of
-    /// `with_named` and `with_zone`.
-    #[tactic(auto, unfolding(crate::specs::SetText::put_whole))]
-    fn with_whole(
-        self,
-        at: usize,
-        line: &[u8],
-        head: &'a [u8],
-        value: &[u8],
-        its: SetLine,
-    ) -> Result<Self, ParseSetError>
-        ensures { result ≡ put_whole at self.entry line.now (parameters_of head.now) value.now its }
-    {
-        match self.with_named(at, line, head, value, its) {
-            Ok(draft) => draft.with_zone(at, its, head),
+        let Some(kind) = kind_of(line) else {
+            return Err(ParseSetErrorKind::Unknown);
+        };
+        match self.with_value(line, kind) {
+            Ok(draft) => draft.with_zone(line, kind),
             Err(error) => Err(error),
         }
     }
 
     /// Parses the zone of one more line. Returns `OtherZone` if it names another one than a line
     /// before it, or two.
-    fn with_zone(mut self, at: usize, its: SetLine, head: &'a [u8]) -> Result<Self, ParseSetError>
-        ensures { result ≡ put_zone at self.entry (parameters_of head.now) its }
+    fn with_zone(mut self, line: &'a [u8], kind: SetLine) -> Result<Self, ParseSetErrorKind>
+        ensures { result ≡ unless_error (zone_error self.entry line.now kind)
+            (with_zone self.entry line.now) }
     {
+        let head = cut(line, b':').0;
         if self.zone.is_none() {
             self.zone = match first_zone(head) {
                 Some(name) => Some(ZoneName::new(name)),
@@ -242,102 +245,70 @@ impl<'a> SetDraft<'a> {
         }
         match &self.zone {
             Some(zone) if !all_name(head, zone.as_bytes()) => {
-                Err(fault(at, ParseSetErrorKind::OtherZone(its)))
+                Err(ParseSetErrorKind::OtherZone(kind))
             }
             _ => Ok(self),
         }
     }
 
-    /// Parses one more line by its head, which is its name and its parameters, and its value.
-    fn with_named(
-        self,
-        at: usize,
-        line: &[u8],
-        head: &[u8],
-        value: &[u8],
-        its: SetLine,
-    ) -> Result<Self, ParseSetError>
-        ensures { result ≡ put_named at self.entry line.now (parameters_of head.now) value.now its }
+    /// Parses the value of one more line. Returns `Twice` for a second start or recurrence, `Rule`
+    /// for an invalid recurrence, `Value` for another invalid value, or the errors of `more_of`.
+    fn with_value(mut self, line: &[u8], kind: SetLine) -> Result<Self, ParseSetErrorKind>
+        ensures { result ≡ unless_error (value_error self.entry line.now kind)
+            (with_value self.entry line.now kind) }
     {
-        match its {
-            SetLine::Start => self.with_start(at, head, value),
-            SetLine::Rule => self.with_rule(at, line),
-            SetLine::Dates => self.with_dates(at, head, value),
-            SetLine::Exceptions => self.with_exceptions(at, head, value),
+        match kind {
+            SetLine::Start => self.with_start(line),
+            SetLine::Rule => self.with_rule(line),
+            SetLine::Dates => {
+                let dates = std::mem::replace(&mut self.dates, no_values());
+                self.dates = more_of(dates, line, kind)?;
+                Ok(self)
+            }
+            SetLine::Exceptions => {
+                let exceptions = std::mem::replace(&mut self.exceptions, no_values());
+                self.exceptions = more_of(exceptions, line, kind)?;
+                Ok(self)
+            }
         }
     }
 
     /// Parses the start. Returns `Twice` if it was parsed before, or `Value` if it is invalid.
-    fn with_start(mut self, at: usize, head: &[u8], value: &[u8]) -> Result<Self, ParseSetError>
-        ensures { result ≡ put_named at self.entry [] (parameters_of head.now) value.now Start }
+    fn with_start(mut self, line: &[u8]) -> Result<Self, ParseSetErrorKind>
+        ensures { result ≡ unless_error (value_error self.entry line.now Start)
+            (with_value self.entry line.now Start) }
     {
         if self.start.is_some() {
-            return Err(fault(at, ParseSetErrorKind::Twice(SetLine::Start)));
+            return Err(ParseSetErrorKind::Twice(SetLine::Start));
         }
-        match value_of(head, value) {
-            Some(start) => {
-                self.start = Some(start);
-                Ok(self)
-            }
-            None => Err(fault(at, ParseSetErrorKind::Value(SetLine::Start))),
+        self.start = value_on(line);
+        if self.start.is_some() {
+            Ok(self)
+        } else {
+            Err(ParseSetErrorKind::Value(SetLine::Start))
         }
     }
 
     /// Parses the recurrence. Returns `Twice` if it was parsed before, or `Rule` if it is invalid.
-    fn with_rule(mut self, at: usize, line: &[u8]) -> Result<Self, ParseSetError>
-        ensures { result ≡ put_named at self.entry line.now [] [] Rule }
+    fn with_rule(mut self, line: &[u8]) -> Result<Self, ParseSetErrorKind>
+        ensures { result ≡ unless_error (value_error self.entry line.now Rule)
+            (with_value self.entry line.now Rule) }
     {
         if self.recurrence.is_some() {
-            return Err(fault(at, ParseSetErrorKind::Twice(SetLine::Rule)));
+            return Err(ParseSetErrorKind::Twice(SetLine::Rule));
         }
         match parse(line) {
             Ok(recurrence) => {
                 self.recurrence = Some(recurrence);
                 Ok(self)
             }
-            Err(error) => Err(fault(at, ParseSetErrorKind::Rule(error))),
+            Err(error) => Err(ParseSetErrorKind::Rule(error)),
         }
     }
 
-    /// Parses more dates. Returns the errors of `more_of`.
-    fn with_dates(mut self, at: usize, head: &[u8], value: &[u8]) -> Result<Self, ParseSetError>
-        ensures { result ≡ put_named at self.entry [] (parameters_of head.now) value.now Dates }
-    {
-        let none = Values::none(DateOrTime::Date(to_date(0)));
-        let dates = std::mem::replace(&mut self.dates, none);
-        match more_of(at, SetLine::Dates, dates, head, value) {
-            Ok(dates) => {
-                self.dates = dates;
-                Ok(self)
-            }
-            Err(error) => Err(error),
-        }
-    }
-
-    /// Parses more exceptions. Returns the errors of `more_of`.
-    fn with_exceptions(
-        mut self,
-        at: usize,
-        head: &[u8],
-        value: &[u8],
-    ) -> Result<Self, ParseSetError>
-        ensures { result ≡ put_named at self.entry [] (parameters_of head.now) value.now Exceptions }
-    {
-        let none = Values::none(DateOrTime::Date(to_date(0)));
-        let exceptions = std::mem::replace(&mut self.exceptions, none);
-        match more_of(at, SetLine::Exceptions, exceptions, head, value) {
-            Ok(exceptions) => {
-                self.exceptions = exceptions;
-                Ok(self)
-            }
-            Err(error) => Err(error),
-        }
-    }
-
-    /// Returns the parts, or the error `Missing` at byte `end` without a start. Without a
-    /// recurrence the set has the start.
-    pub fn finished(self, end: usize) -> Result<SetParts<'a>, ParseSetError>
-        ensures { result ≡ set_finished end self.entry }
+    /// Returns the parts, or `None` without a start. Without a recurrence the set has the start.
+    pub fn finished(self) -> Option<SetParts<'a>>
+        ensures { result ≡ option_map (parts_from self.entry) self.entry.start }
     {
         let SetDraft {
             start,
@@ -346,15 +317,12 @@ impl<'a> SetDraft<'a> {
             exceptions,
             zone,
         } = self;
-        let Some(start) = start else {
-            return Err(fault(end, ParseSetErrorKind::Missing));
-        };
         let recurrence = match recurrence {
             Some(its) => its,
             None => once(),
         };
-        Ok(SetParts {
-            start,
+        Some(SetParts {
+            start: start?,
             recurrence,
             dates,
             exceptions,

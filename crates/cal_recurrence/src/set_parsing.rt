@@ -1,11 +1,10 @@
 //! Parses the text of a recurrence set.
-ghost use Rattle.std.specs.Prelude.{◌≡◌, ◌+◌, ◌<◌, ◌^◌, length, IfOk};
-ghost use Rattle.cal_recurrence.specs.SetText.{read_lines, set_of, without_return};
+ghost use Rattle.std.specs.Prelude.{◌≡◌, IfOk};
+ghost use Rattle.cal_recurrence.specs.SetText.{without_return, IsSetOf};
 ghost use Rattle.cal_recurrence.specs.SetWritten.{IsSpelledSet};
-ghost use Rattle.cal_recurrence.specs.Words.{parts_at};
 
 use crate::set_draft::SetDraft;
-use crate::set_fault::ParseSetError;
+use crate::set_fault::{ParseSetError, ParseSetErrorKind};
 use crate::set_parts::SetParts;
 use crate::words::{cut, split};
 
@@ -27,10 +26,26 @@ use crate::words::{cut, split};
 /// `Value` for another invalid value, or one that a parameter excludes, or `OtherZone` for the name
 /// of another zone. Otherwise returns `Missing` if there is no `DTSTART`.
 pub fn parse_set(text: &[u8]) -> Result<SetParts<'_>, ParseSetError>
-    ensures value { result ≡ set_of text.now }
+    ensures value { IsSetOf text.now result }
     ensures spelled { IfOk result IsSpelledSet }
 {
-    read_lines(0, SetDraft::new(), text)
+    let (mut draft, mut position, mut lines) = (SetDraft::new(), 0, Some(text));
+    while let Some(left) = lines {
+        let (line, rest) = cut(left, b'\n');
+        draft = match draft.with_line(without_return(line)) {
+            Ok(draft) => draft,
+            Err(reason) => return Err(ParseSetError { position, reason }),
+        };
+        position += line.len() + 1;
+        lines = rest;
+    }
+    match draft.finished() {
+        Some(parts) => Ok(parts),
+        None => Err(ParseSetError {
+            position: text.len(),
+            reason: ParseSetErrorKind::Missing,
+        }),
+    }
 }
 
 /// Returns the line without the carriage return at its end.
@@ -45,24 +60,5 @@ fn without_return(line: &[u8]) -> &[u8]
         split(line, last).0
     } else {
         line
-    }
-}
-
-/// Parses the lines from byte `position` on, after the lines of the draft.
-fn read_lines<'a>(
-    position: usize,
-    draft: SetDraft<'a>,
-    text: &'a [u8],
-) -> Result<SetParts<'a>, ParseSetError>
-    requires { position + length text.now < 2 ^ 64 }
-    ensures { result ≡ read_lines position draft.entry (parts_at 10 text.now) }
-{
-    let (line, rest) = cut(text, b'\n');
-    match draft.with_line(position, without_return(line)) {
-        Ok(draft) => match rest {
-            Some(rest) => read_lines(position + line.len() + 1, draft, rest),
-            None => draft.finished(position + line.len()),
-        },
-        Err(error) => Err(error),
     }
 }

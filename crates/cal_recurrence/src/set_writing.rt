@@ -1,7 +1,7 @@
 //! Prints a recurrence set.
-ghost use Rattle.std.specs.Prelude.{◌≡◌, ◌≤◌, ◌++◌, codes, length, take, IfSome, Ok};
+ghost use Rattle.std.specs.Prelude.{◌≡◌, ◌≤◌, ◌++◌, codes, length, take, IfSome};
 ghost use Rattle.cal_recurrence.specs.Buffers.{IsPut};
-ghost use Rattle.cal_recurrence.specs.SetText.{set_of};
+ghost use Rattle.cal_recurrence.specs.SetText.{lines_of, SaysSet};
 ghost use Rattle.cal_recurrence.specs.SetWritten.{head_text, is_same_kind, line_end, more_text, parameter_text, set_text, values_text, IsSpelledSet};
 ghost use Rattle.cal_recurrence.specs.Written.{date_or_time_text};
 
@@ -25,7 +25,7 @@ impl SetParts<'_> {
     pub fn print(&self, buffer: &mut [u8]) -> Option<usize>
         ensures text { IsPut 0 (set_text self.now) buffer.old buffer.new result }
         ensures reads_back { IsSpelledSet self.now
-            → IfSome result (λ end. set_of (take end buffer.new) ≡ Ok self.now) }
+            → IfSome result (λ end. SaysSet (lines_of (take end buffer.new)) self.now) }
     {
         let next = put_values(b"DTSTART", &self.zone, &[self.start], buffer, 0)?;
         let next = put_rule(self.recurrence.text().as_bytes(), buffer, next)?;

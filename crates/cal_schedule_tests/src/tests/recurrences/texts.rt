@@ -123,6 +123,8 @@ fn texts_of_faults(rt: HostRuntime) {
         ("COUNT=3;UNTIL=20241231;FREQ=DAILY", "duplicate UNTIL at 8"),
         (TOO_MANY, "too many values in BYMONTHDAY at 11"),
         ("FREQ=HOURLY", "invalid value of FREQ at 0"),
+        ("FREQ=MINUTELY", "invalid value of FREQ at 0"),
+        ("FREQ=SECONDLY", "invalid value of FREQ at 0"),
         ("FREQ=DAILY;INTERVAL=0", "invalid value of INTERVAL at 11"),
         ("FREQ=DAILY;WKST=MON", "invalid value of WKST at 11"),
         ("FREQ=DAILY;BYMONTH=13", "invalid value of BYMONTH at 11"),
