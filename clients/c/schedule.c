@@ -827,6 +827,39 @@ static void times_in_zones(void)
     check(cut.status == FOTS_INVALID_ZONE && cut.length == 0 && cut.position == SIZE_MAX && found[0].time == 1, "without an offset", cut.status, 0);
 }
 
+/* The first and the last days of long counts. */
+static void long_counts(void)
+{
+    static const char utc[] = "UTC0";
+    static const struct {
+        const char *text;
+        uint32_t first;
+        int length;
+    } counts[] = {
+        {"FREQ=DAILY;COUNT=4294967295", 0, 300},
+        {"FREQ=DAILY;COUNT=4294967295", 5000, 300},
+        {"FREQ=DAILY;COUNT=64", 0, 64},
+        {"FREQ=DAILY;COUNT=65", 0, 65},
+        {"FREQ=DAILY;COUNT=5100", 5000, 100},
+        {"FREQ=DAILY;COUNT=5000", 5000, 0},
+    };
+    const fots_zone zone = fots_zone_from_posix(utc, sizeof utc - 1).zone;
+    for (int row = 0; row < COUNT(counts); row++) {
+        fots_moment found[300];
+        const int32_t first = reading(1, 1, 9, 0).date.julian_day + (int32_t)counts[row].first;
+        fots_moment from = reading(1, 1, 9, 0), after = reading(1, 1, 8, 0);
+        from.date.julian_day = after.date.julian_day = first;
+        const fots_recurrence_set set = set_of(counts[row].text, reading(1, 1, 9, 0));
+        for (int turn = 0; turn < 2; turn++) {
+            is_written(turn == 0 ? fots_recurrence_readings(&set, from, found, COUNT(found)) : fots_recurrence_moments(&set, &zone, after, found, COUNT(found)),
+                (size_t)counts[row].length, counts[row].text);
+            for (int index = 0; index < counts[row].length; index++) {
+                check(found[index].date.julian_day == first + index && found[index].time == from.time, counts[row].text, turn, index);
+            }
+        }
+    }
+}
+
 /* From the last part to the first, each is wrong before the parts that are wrong already. */
 static void time_errors(void)
 {
@@ -901,6 +934,7 @@ int main(void)
     text_errors();
     times_of_day();
     times_in_zones();
+    long_counts();
     time_errors();
     invalid_dates();
     return ended("schedule");

@@ -1,5 +1,5 @@
 -- The format `%Y-%m-%d` as numbers, and the text of a date by it.
-use Rattle.std.proofs.Common.{◌≡◌, ℕ, ◌<◌, ◌≤◌, ◌/◌, ◌%◌, List, [], ◌∷◌, ◌++◌, length, take, drop, map, get_or, refl, sym, ap, subst, ◌∙◌, arith, inl}
+use Rattle.std.proofs.Common.{◌≡◌, ℕ, ◌<◌, ◌≤◌, ◌/◌, ◌%◌, List, [], ◌∷◌, ◌++◌, length, take, drop, map, get_or, refl, sym, ap, subst, ◌∙◌, arith}
 use Rattle.std.proofs.lemmas.Bool.Decides.{nat_tests}
 use Rattle.std.proofs.Math.Seq.{take-append_seam}
 use Rattle.std.specs.Prelude.{pos, unsigned_abs, codes, Bool, true, false, not, ◌&&◌, ◌==◌, IsTrue, IfSome, Option, Some, None, Result, Ok, Err}
@@ -17,7 +17,6 @@ use Rattle.cal_format.specs.Laws.{iso_items, iso_items-text}
 use Rattle.cal_format.specs.Moment.{moment_of_date}
 use Rattle.cal_format.specs.Reading.{index}
 use Rattle.cal_format.specs.Scanning.{IsOneDate}
-use Rattle.cal_format.specs.Text.{text_of}
 use Rattle.cal_format.proofs.Apart.{index-one}
 use Rattle.cal_c.specs.Formats.{item_parts, parts}
 use Rattle.cal_c.specs.OnePass.{IsItemOf, AreItemsOf, IsFormatOf, PrintsItems}

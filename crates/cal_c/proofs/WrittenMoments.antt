@@ -7,6 +7,7 @@ use Rattle.cal_time.specs.UtcOffset.{IsOffset}
 use Rattle.cal_datetime.specs.DateTime.{date_at, date_time, time_at}
 use Rattle.cal_datetime.specs.OffsetDateTime.{LocalAndOffset, instant}
 use Rattle.cal_recurrence.specs.DateTimeRule.{date_time_rule}
+use Rattle.cal_recurrence.specs.SetMeaning.{last_instant, last_local}
 use Rattle.cal_recurrence.specs.ZonedSet.{IsFirstAfter, Means}
 use Rattle.cal_recurrence.specs.declared.date_time_set.DateTimeSet.{DateTimeSet}
 use Rattle.cal_recurrence.specs.declared.fault.ParseRuleError.{ParseRuleError}
@@ -15,7 +16,7 @@ use Rattle.cal_recurrence.specs.declared.zoned_set.ZonedSet.{ZonedSet}
 use Rattle.cal_zone.specs.Timeline.{Timeline}
 use Rattle.cal_c.specs.Moments.{local_and_offset_in, local_in, moment_ok, IsMoment}
 use Rattle.cal_c.specs.RecurrenceTexts.{recurrence_ok}
-use Rattle.cal_c.specs.TextSets.{before, end_of, last_instant, local_end, no_moment, readings_in, AreMomentsWritten, IsSetOf, IsZonedSetOf}
+use Rattle.cal_c.specs.TextSets.{before, no_moment, readings_in, AreMomentsWritten, IsSetOf, IsZonedSetOf}
 use Rattle.cal_c.specs.declared.results.Moment.{Moment}
 use Rattle.cal_c.specs.declared.schedule.recurrences.results.RecurrenceResult.{RecurrenceResult}
 use Rattle.cal_c.specs.declared.schedule.recurrences.text_set.TextSet.{TextSet}
@@ -63,18 +64,15 @@ pub one-zone : (a b : Timeline) → Some a ≡ Some b → a ≡ b
 one-zone a b e = cc
 
 -- A set with the readings of a text.
-pub set-of : (its : Recurrence) (p : TextSet) (set : DateTimeSet) (start : ℤ) (last : Option ℤ) (dates exceptions : List ℤ)
-    → set.rule ≡ date_time_rule start last its.pattern its.times → set.dates.now ≡ dates → set.exceptions.now ≡ exceptions
-    → start ≡ local_in p.start → dates ≡ readings_in p.dates.now → exceptions ≡ readings_in p.exceptions.now
-    → last ≡ local_end (last_instant its.end) (end_of its start)
-    → IsSetOf its p (local_end (last_instant its.end) (end_of its (local_in p.start))) set
-set-of its p set start last dates exceptions rule more less starts has without ends =
-    let whole : last ≡ local_end (last_instant its.end) (end_of its (local_in p.start)) = ends ∙ (λ i. local_end (last_instant its.end) (end_of its (starts i))) in
-    record { rule = rule ∙ (λ i. date_time_rule (starts i) (whole i) its.pattern its.times); dates = more ∙ has; exceptions = less ∙ without }
+pub set-of : (its : Recurrence) (p : TextSet) (set : DateTimeSet) (start : ℤ) (end : ℤ → Option ℤ) (dates exceptions : List ℤ)
+    → set.rule ≡ date_time_rule start (end start) its.pattern its.times → set.dates.now ≡ dates → set.exceptions.now ≡ exceptions
+    → start ≡ local_in p.start → dates ≡ readings_in p.dates.now → exceptions ≡ readings_in p.exceptions.now → IsSetOf its p (end (local_in p.start)) set
+set-of its p set start end dates exceptions rule more less starts has without =
+    record { rule = rule ∙ ap (λ z. date_time_rule z (end z) its.pattern its.times) starts; dates = more ∙ has; exceptions = less ∙ without }
 
 -- The moments of such a set are the moments of the text.
 pub made-of : (s : ZonedSet) (its : Recurrence) (p : TextSet) (z : Timeline) (x : ℤ) (old new : List Moment) (count : ℕ)
-    → AreMomentsWritten s x old new count → IsSetOf its p (local_end (last_instant its.end) (end_of its (local_in p.start))) s.readings
+    → AreMomentsWritten s x old new count → IsSetOf its p (last_local its (local_in p.start) its.end) s.readings
     → s.zone.now ≡ z → s.until ≡ last_instant its.end → s.exceptions.now ≡ []
     → (t : ZonedSet) × IsZonedSetOf its p z t × AreMomentsWritten t x old new count
 made-of s its p z x old new count written readings zone until none =

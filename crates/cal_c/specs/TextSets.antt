@@ -1,18 +1,13 @@
 -- Recurrence sets of a text and lists of readings: their readings, and their moments in a zone.
-use Rattle.std.specs.Prelude.{◌≡◌, ◌⊎◌, ℕ, zero, suc, ◌<◌, ◌≤◌, min, ℤ, pos, List, [], ◌∷◌, All, get_or, length, map, Option, Some, None, option_map}
+use Rattle.std.specs.Prelude.{◌≡◌, ◌⊎◌, ℕ, zero, suc, ◌<◌, ◌≤◌, min, ℤ, pos, List, [], All, get_or, length, map, Option}
 use Rattle.cal_time.specs.Date.{julian_day_at}
 use Rattle.cal_datetime.specs.DateTime.{date_at, time_at}
-use Rattle.cal_datetime.specs.OffsetDateTime.{LocalAndOffset, instant}
-use Rattle.cal_recurrence.specs.DateOrTime.{last_reading}
+use Rattle.cal_datetime.specs.OffsetDateTime.{instant}
 use Rattle.cal_recurrence.specs.DateTimeRule.{date_time_rule}
-use Rattle.cal_recurrence.specs.RecurrenceReadings.{readings_of}
+use Rattle.cal_recurrence.specs.SetMeaning.{last_instant, last_local}
 use Rattle.cal_recurrence.specs.ZonedSet.{IsFirstAfter, Means, NoneAfter}
-use Rattle.cal_recurrence.specs.declared.date_or_time.DateOrTime.{DateOrTime}
-use Rattle.cal_recurrence.specs.declared.date_or_time.DateOrTime.TheVariants as ends
 use Rattle.cal_recurrence.specs.declared.date_time_set.DateTimeSet.{DateTimeSet}
 use Rattle.cal_recurrence.specs.declared.recurrence.Recurrence.{Recurrence}
-use Rattle.cal_recurrence.specs.declared.recurrence.RuleEnd.{RuleEnd}
-use Rattle.cal_recurrence.specs.declared.recurrence.RuleEnd.TheVariants.{Never, Until, Count}
 use Rattle.cal_recurrence.specs.declared.zoned_set.ZonedSet.{ZonedSet}
 use Rattle.cal_tzif.specs.File.{IsFile, IsPosix}
 use Rattle.cal_zone.specs.Timeline.{Timeline}
@@ -41,21 +36,6 @@ pub record HasReadings (p : TextSet) (from : ℤ) (more less : List ℤ) : Type 
   pub dates : more ≡ readings_in p.dates.now
   pub exceptions : less ≡ readings_in p.exceptions.now
 
--- The last reading of a list, or another one without any.
-abbrev pub last_or : Option ℤ → List ℤ → Option ℤ
-last_or other [] = other
-last_or other (z ∷ zs) = last_or (Some z) zs
-
--- The last possible reading of an end: the reading of an UNTIL, or the last of COUNT readings.
-abbrev pub end_by : RuleEnd → List ℤ → Option ℤ
-end_by Never readings = None
-end_by (Until last) readings = Some (last_reading last)
-end_by (Count n) readings = last_or None readings
-
--- The last possible reading of a recurrence with a start.
-abbrev pub end_of : Recurrence → ℤ → Option ℤ
-end_of its start = end_by its.end (readings_of its start)
-
 -- The set has the rule of the recurrence with this start and this end, the other readings and the
 -- exceptions. The definitions of a set don't read where a list is in memory.
 pub record IsSetOf (its : Recurrence) (p : TextSet) (last : Option ℤ) (set : DateTimeSet) : Type 0 where
@@ -83,23 +63,10 @@ pub record AreReadingsWritten (zs : List ℤ) (old new : List Moment) (count : �
 abbrev pub IsZoneOf : List ℕ → Timeline → Type 0
 IsZoneOf bytes z = IsFile bytes z ⊎ (IsPosix bytes z × ((y : Timeline) → IsFile bytes y → ⊥))
 
--- The instant of an UNTIL at UTC, or `None` without one.
-abbrev pub last_instant : RuleEnd → Option LocalAndOffset
-last_instant Never = None
-last_instant (Until (ends.Date d)) = None
-last_instant (Until (ends.Local z)) = None
-last_instant (Until (ends.Utc z)) = Some (record { local = z; offset = pos 0 })
-last_instant (Count n) = None
-
--- The last possible reading of a recurrence in a zone, unless it ends at an instant.
-abbrev pub local_end : Option LocalAndOffset → Option ℤ → Option ℤ
-local_end None last = last
-local_end (Some m) last = None
-
 -- The set has the readings of the recurrence in this zone, and ends at the instant of an UNTIL at
 -- UTC.
 pub record IsZonedSetOf (its : Recurrence) (p : TextSet) (z : Timeline) (set : ZonedSet) : Type 0 where
-  pub readings : IsSetOf its p (local_end (last_instant its.end) (end_of its (local_in p.start))) set.readings
+  pub readings : IsSetOf its p (last_local its (local_in p.start) its.end) set.readings
   pub zone : set.zone.now ≡ z
   pub until : set.until ≡ last_instant its.end
   pub exceptions : set.exceptions.now ≡ []

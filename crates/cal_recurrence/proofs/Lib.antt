@@ -20,6 +20,7 @@ pub mod Sets
 pub mod DateTimeSets
 pub mod ZonedSearch
 pub mod ZoneReadings
+pub mod CountedSets
 pub mod TimeSteps
 pub mod TimeTests
 pub mod RuleOccurrences

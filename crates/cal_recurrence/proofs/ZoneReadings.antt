@@ -1,15 +1,13 @@
 -- The readings of values in a zone: a value has at most one.
-use Rattle.std.proofs.Common.{◌≡◌, ℕ, zero, suc, ◌+◌, ◌<◌, ◌≤◌, ◌++◌, List, [], ◌∷◌, length, take, refl, sym, ap, ◌∙◌, arith, subst, ℤ, pos, Some, inl, length-append}
+use Rattle.std.proofs.Common.{◌≡◌, ℕ, zero, suc, ◌+◌, ◌<◌, ◌≤◌, ◌++◌, List, [], ◌∷◌, length, take, refl, sym, ap, ◌∙◌, arith, subst, ℤ, pos, length-append}
 use Rattle.std.specs.List.{slice_index_or}
 use Rattle.std.proofs.lemmas.Int.{ints}
 use Rattle.std.proofs.lemmas.List.{take_more}
 use Rattle.cal_datetime.specs.DateTime.{IsDateTime}
 use Rattle.cal_datetime.specs.OffsetDateTime.{LocalAndOffset, instant, local_at, unix_seconds}
-use Rattle.cal_zone.specs.Local.{IsCompatible, IsLocalOf, Shows}
 use Rattle.cal_zone.specs.Timeline.{Timeline, offset_at}
-use Rattle.cal_zone.specs.declared.local.Local.{Local}
-use Rattle.cal_zone.specs.declared.local.Local.TheVariants.{Single, Gap, Fold}
 use Rattle.cal_recurrence.specs.ZonedSet.{IsMeant}
+use Rattle.cal_recurrence.specs.ZonedSetLaws.{shown-at}
 use Rattle.cal_recurrence.specs.ZoneReadings.{AreReadingsOf, IsReadingAt, IsReadingOf}
 use Rattle.cal_recurrence.specs.declared.date_or_time.DateOrTime.{DateOrTime}
 use Rattle.cal_recurrence.specs.declared.date_or_time.DateOrTime.TheVariants as value
@@ -24,12 +22,6 @@ back : (m : LocalAndOffset) → m.local ≡ local_at (instant m) m.offset
 unfolding instant
 back m = let e : m.local ≡ local_at (instant m) m.offset = omega (arith, ints) in e
 
--- The clocks show a reading at the date-time that it means, if they show it at all.
-shows-at : (zone : Timeline) (y : ℤ) (m k : LocalAndOffset) (local : Local) → IsLocalOf zone y local → IsCompatible local (Some m) → Shows zone y k → Shows zone y m
-shows-at zone y m k (Single x) its selected shown = let e : m ≡ x = cc in (its.set m).0 e
-shows-at zone y m k (Gap gap) its selected shown = absurd ((its.set k).1 shown)
-shows-at zone y m k (Fold a b) its selected shown = let e : m ≡ a = cc in (its.set m).0 (inl e)
-
 reading-is : (zone : Timeline) (x y : ℤ) → IsReadingAt zone x y → y ≡ local_at x (offset_at zone (unix_seconds x))
 reading-is zone x y h =
     sym h.shown.same ∙ back h.moment ∙ ap (local_at (instant h.moment)) h.shown.offset ∙ ap (λ i. local_at i (offset_at zone (unix_seconds i))) h.same
@@ -43,7 +35,7 @@ pub is-reading : (zone : Timeline) (x : ℤ) (there its : LocalAndOffset) → Is
 is-reading zone x there its range e at g same = record {
   moment = its;
   range = subst IsDateTime (sym (ap (λ m. m.local) e)) range;
-  shown = shows-at zone there.local its there g.local g.shown g.selected (record {
+  shown = shown-at zone there.local its there g.local g.shown g.selected (record {
     same = refl;
     offset = ap (λ m. m.offset) e ∙ ap (λ i. offset_at zone (unix_seconds i)) (sym at);
   });

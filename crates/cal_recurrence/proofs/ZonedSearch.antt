@@ -31,7 +31,7 @@ is_most : (a b : ℤ) → int_lt a b ≡ false → b ≤ℤ a
 is_most a b e = grind (arith, ints)
 
 -- One integer is less than another, or it isn't.
-compared : (a b : ℤ) → (a <ℤ b) ⊎ (b ≤ℤ a)
+pub compared : (a b : ℤ) → (a <ℤ b) ⊎ (b ≤ℤ a)
 compared a b = elim (cases_Bool (int_lt a b)) as (λ _. (a <ℤ b) ⊎ (b ≤ℤ a)) [ inl e ↦ inl (is_less a b e) | inr e ↦ inr (is_most a b e) ]
 
 pub in-range : (m : LocalAndOffset) → IsDateTime m.local → IsOffset m.offset → IsInstant (instant m)

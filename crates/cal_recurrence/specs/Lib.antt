@@ -21,5 +21,7 @@ pub mod SetText
 pub mod SetWritten
 pub mod SetMeaning
 pub mod ZonedSet
+pub mod ZonedSetLaws
+pub mod CountedSet
 pub mod ZoneReadings
 pub mod Occurrences

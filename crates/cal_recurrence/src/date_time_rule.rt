@@ -95,8 +95,23 @@ impl DateTimeRule {
         }
     }
 
+    /// Moves the end of the rule to a reading.
+    pub(crate) fn end_at(&mut self, last: PlainDateTime)
+        ensures { self.new ≡ record self.old { until = Some last } }
+    {
+        self.until = Some(last);
+        self.days.until = Some(last.date());
+    }
+
+    /// Returns the last possible reading, if there is one.
+    pub(crate) fn until(&self) -> Option<PlainDateTime>
+        ensures { result ≡ self.now.until }
+    {
+        self.until
+    }
+
     /// Returns `true` if a reading is not after the last one, if there is one.
-    fn is_not_after(&self, reading: PlainDateTime) -> bool
+    pub(crate) fn is_not_after(&self, reading: PlainDateTime) -> bool
         ensures { result ≡ is_not_after self.now.until reading }
     {
         match self.until {

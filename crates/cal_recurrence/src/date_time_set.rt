@@ -5,6 +5,7 @@ ghost use Rattle.cal_datetime.specs.DateTime.{IsDateTime};
 ghost use Rattle.cal_recurrence.specs.DateTimeSet.{candidates, is_in_set, is_listed, set_readings_after, set_readings_from, IsNextOf};
 ghost use Rattle.cal_recurrence.specs.TimeSearch.{first_by};
 
+use crate::counted_set::CountedSet;
 use crate::date_time_rule::DateTimeRule;
 use cal_datetime::{PlainDateTime, midnight};
 use cal_time::day_number::to_date;
@@ -115,14 +116,12 @@ impl<'a> DateTimeSet<'a> {
     pub fn readings_from(&self, reading: PlainDateTime) -> DateTimeSetReadings<'a>
         ensures { result ≡ set_readings_from self.now reading }
     {
-        DateTimeSetReadings {
-            set: DateTimeSet {
-                rule: self.rule.copy(),
-                dates: self.dates,
-                exceptions: self.exceptions,
-            },
-            front: self.first_from(reading),
-        }
+        let set = DateTimeSet {
+            rule: self.rule.copy(),
+            dates: self.dates,
+            exceptions: self.exceptions,
+        };
+        set.counted().readings_from(reading)
     }
 
     /// Returns an iterator over all readings of the set, in ascending order, each once. The set of
@@ -139,8 +138,8 @@ impl<'a> DateTimeSet<'a> {
 /// the readings left.
 #[derive(Debug, Drop)]
 pub struct DateTimeSetReadings<'a> {
-    set: DateTimeSet<'a>,
-    front: Option<PlainDateTime>,
+    pub(crate) set: CountedSet<'a>,
+    pub(crate) front: Option<PlainDateTime>,
 }
 
 impl<'a> Model for DateTimeSetReadings<'a> {

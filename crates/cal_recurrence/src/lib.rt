@@ -6,6 +6,9 @@
 #![tactic(auto)]
 
 mod buffers;
+mod counted_set;
+mod counted_zoned_set;
+mod counting;
 mod date_or_time;
 mod date_time_rule;
 mod date_time_set;
@@ -39,6 +42,8 @@ mod zone_readings;
 mod zoned_set;
 
 pub use cal_schedule::{Pattern, Values};
+pub use counted_set::CountedSet;
+pub use counted_zoned_set::CountedZonedSet;
 pub use date_or_time::DateOrTime;
 pub use date_time_rule::DateTimeRule;
 pub use date_time_set::{DateTimeSet, DateTimeSetReadings};

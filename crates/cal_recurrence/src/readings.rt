@@ -50,9 +50,10 @@ impl DateTimeRule {
     fn first_of(&self, count: u128) -> RuleReadings
         ensures { result ≡ take count (occurrences self.now) }
     {
+        let front = if count == 0 { None } else { self.first() };
         RuleReadings {
             rule: self.copy(),
-            front: self.first(),
+            front,
             left: count,
         }
     }

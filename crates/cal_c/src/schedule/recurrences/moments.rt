@@ -10,16 +10,16 @@ ghost use Rattle.cal_c.specs.Moments.{IsMoment, local_and_offset_in, local_in};
 ghost use Rattle.cal_c.specs.RecurrenceTexts.{recurrence_ok, recurrence_error, recurrence_parse_error};
 ghost use Rattle.cal_c.specs.Statuses.{invalid_moment, invalid_zone, too_many_dates};
 ghost use Rattle.cal_c.specs.declared.schedule.recurrences.text_set.TextSet.{TextSet};
-ghost use Rattle.cal_c.specs.TextSets.{end_of, last_instant, local_end, readings_in, AreFew, AreMomentsWritten, AreValid, IsZoneOf, IsZonedSetOf};
+ghost use Rattle.cal_c.specs.TextSets.{readings_in, AreFew, AreMomentsWritten, AreValid, IsZoneOf, IsZonedSetOf};
 
 use super::results::RecurrenceResult;
-use super::text_set::{SetReadings, TextSet, end_of};
+use super::text_set::{SetReadings, TextSet};
 use crate::moment::valid_moment;
 use crate::results::{Moment, MomentResult};
 use crate::status::{INVALID_MOMENT, INVALID_ZONE};
 use crate::zones::checked_zone::CheckedZone;
-use cal_datetime::{OffsetDateTime, PlainDateTime};
-use cal_recurrence::{DateOrTime, Recurrence, RuleEnd, ZonedSet, parse};
+use cal_datetime::OffsetDateTime;
+use cal_recurrence::{CountedZonedSet, Recurrence, parse};
 use cal_zone::Zone;
 
 /// Writes the moments of a recurrence in text with times of day in a time zone, after a moment, in
@@ -55,32 +55,26 @@ pub extern "C" fn fots_recurrence_moments(
     let its = or_return!(SetReadings::from_parts(set), status => RecurrenceResult::error(status));
     let after = or_error!(RecurrenceResult, valid_moment(after), INVALID_MOMENT);
     let zone = or_error!(RecurrenceResult, zone_of(zone.bytes), INVALID_ZONE);
-    RecurrenceResult::ok(write_in_zone(&its, recurrence, &zone, after, moments))
+    RecurrenceResult::ok(write_in_zone(&its, &recurrence, &zone, after, moments))
 }
 
 /// Writes the moments of a recurrence with these readings in a zone after a moment, as many as fit,
 /// and returns their number.
 fn write_in_zone<'a>(
     its: &'a SetReadings,
-    recurrence: Recurrence,
+    recurrence: &Recurrence,
     zone: &'a Zone<'a>,
     after: OffsetDateTime,
     moments: &mut [Moment],
 ) -> usize
     ensures { (p : TextSet) → its.now.start ≡ local_in p.start → its.now.dates ≡ readings_in p.dates.now
         → its.now.exceptions ≡ readings_in p.exceptions.now
-        → (zoned : ZonedSet) × IsZonedSetOf recurrence p zone.now zoned
+        → (zoned : ZonedSet) × IsZonedSetOf recurrence.now p zone.now zoned
         × AreMomentsWritten zoned (instant after) moments.old moments.new result }
 {
-    let until = last_instant(&recurrence);
-    let last = local_end(&recurrence, its.start);
-    let set = ZonedSet {
-        readings: its.set(recurrence, last),
-        zone,
-        until,
-        exceptions: &[],
-    };
-    write_moments(&set, after, moments)
+    let (dates, exceptions) = (its.dates.as_slice(), its.exceptions.as_slice());
+    let mut set = recurrence.zoned_set(its.start, dates, exceptions, zone);
+    write_moments(&mut set, after, moments)
 }
 
 /// Returns the zone of the bytes of a file, or else of a POSIX text.
@@ -97,26 +91,6 @@ fn zone_of(bytes: &[u8]) -> Option<Zone<'_>>
     }
 }
 
-/// Returns the instant of an `UNTIL` at UTC, or `None` without one.
-fn last_instant(recurrence: &Recurrence) -> Option<OffsetDateTime>
-    ensures { result ≡ last_instant recurrence.now.end }
-{
-    match recurrence.end {
-        RuleEnd::Until(DateOrTime::Utc(reading)) => Some(reading.assume_utc()),
-        _ => None,
-    }
-}
-
-/// Returns the last possible reading of a recurrence, unless it ends at an instant.
-fn local_end(recurrence: &Recurrence, start: PlainDateTime) -> Option<PlainDateTime>
-    ensures { result ≡ local_end (last_instant recurrence.now.end) (end_of recurrence.now start) }
-{
-    match last_instant(recurrence) {
-        Some(_) => None,
-        None => end_of(recurrence, start),
-    }
-}
-
 /// Returns the numbers of a moment.
 fn c_moment(moment: OffsetDateTime) -> Moment
     ensures valid { IsMoment result }
@@ -130,8 +104,12 @@ fn c_moment(moment: OffsetDateTime) -> Moment
 }
 
 /// Writes the moments of a set after a moment, as many as fit, and returns their number.
-fn write_moments(set: &ZonedSet<'_>, after: OffsetDateTime, moments: &mut [Moment]) -> usize
-    ensures { AreMomentsWritten set.now (instant after) moments.old moments.new result }
+fn write_moments(
+    set: &mut CountedZonedSet<'_>,
+    after: OffsetDateTime,
+    moments: &mut [Moment],
+) -> usize
+    ensures { AreMomentsWritten set.old (instant after) moments.old moments.new result }
 {
     let mut last = after;
     for index in 0..moments.len() {

@@ -1,6 +1,7 @@
 //! The readings of recurrences in text, with times of day.
 ghost use Rattle.std.specs.Prelude.{◌≡◌, Err, Ok};
 ghost use Rattle.cal_recurrence.specs.DateTimeSet.{set_readings_from};
+ghost use Rattle.cal_recurrence.specs.SetMeaning.{last_counted_reading};
 ghost use Rattle.cal_recurrence.specs.Text.{recurrence_of};
 ghost use Rattle.cal_recurrence.specs.declared.date_time_set.DateTimeSet.{DateTimeSet};
 ghost use Rattle.cal_recurrence.specs.declared.fault.ParseRuleError.{ParseRuleError};
@@ -8,10 +9,10 @@ ghost use Rattle.cal_recurrence.specs.declared.recurrence.Recurrence.{Recurrence
 ghost use Rattle.cal_c.specs.Moments.{IsMoment, local_in};
 ghost use Rattle.cal_c.specs.RecurrenceTexts.{recurrence_ok, recurrence_error, recurrence_parse_error};
 ghost use Rattle.cal_c.specs.Statuses.{invalid_moment, too_many_dates};
-ghost use Rattle.cal_c.specs.TextSets.{end_of, AreFew, AreReadingsWritten, AreValid, IsSetOf, utc_moment};
+ghost use Rattle.cal_c.specs.TextSets.{AreFew, AreReadingsWritten, AreValid, IsSetOf, utc_moment};
 
 use super::results::RecurrenceResult;
-use super::text_set::{SetReadings, TextSet, end_of};
+use super::text_set::{SetReadings, TextSet};
 use crate::moment::valid_moment;
 use crate::results::Moment;
 use crate::status::INVALID_MOMENT;
@@ -42,15 +43,15 @@ pub extern "C" fn fots_recurrence_readings(
     ensures value { (its : Recurrence) → recurrence_of set.now.text.now ≡ Ok its → AreFew set.now
         → AreValid set.now → IsMoment from
         → (result ≡ recurrence_ok result.length) × ((readings_set : DateTimeSet)
-        × IsSetOf its set.now (end_of its (local_in set.now.start)) readings_set
+        × IsSetOf its set.now (last_counted_reading its (local_in set.now.start)) readings_set
         × AreReadingsWritten (set_readings_from readings_set (local_in from)) readings.old readings.new result.length) }
 {
     let recurrence = or_return!(parse(set.text), fault => RecurrenceResult::parse_error(fault));
     let its = or_return!(SetReadings::from_parts(set), status => RecurrenceResult::error(status));
     let from = or_error!(RecurrenceResult, valid_moment(from), INVALID_MOMENT);
-    let last = end_of(&recurrence, its.start);
-    let walk = its.set(recurrence, last).readings_from(from.local());
-    RecurrenceResult::ok(write_readings(walk, readings))
+    let (dates, exceptions) = (its.dates.as_slice(), its.exceptions.as_slice());
+    let set = recurrence.counted_set(its.start, dates, exceptions);
+    RecurrenceResult::ok(write_readings(set.readings_from(from.local()), readings))
 }
 
 /// Returns a reading as a moment at the offset 0.

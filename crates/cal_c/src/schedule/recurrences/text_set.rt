@@ -1,8 +1,7 @@
 //! Recurrences in text with other readings and exceptions, as C passes them.
-ghost use Rattle.std.specs.Prelude.{◌≡◌, IfErr, IfOk, None};
-ghost use Rattle.cal_recurrence.specs.DateTimeRule.{date_time_rule};
+ghost use Rattle.std.specs.Prelude.{◌≡◌, IfErr, IfOk};
 ghost use Rattle.cal_c.specs.Statuses.{invalid_moment, too_many_dates};
-ghost use Rattle.cal_c.specs.TextSets.{end_of, last_or, AreFew, AreValid, HasReadings};
+ghost use Rattle.cal_c.specs.TextSets.{AreFew, AreValid, HasReadings};
 
 use super::reading_list::ReadingList;
 use crate::moment::valid_moment;
@@ -10,7 +9,6 @@ use crate::results::Moment;
 use crate::schedule::date_list::MAX_DATES;
 use crate::status::{INVALID_MOMENT, TOO_MANY_DATES};
 use cal_datetime::PlainDateTime;
-use cal_recurrence::{DateTimeRule, DateTimeSet, Recurrence, RuleEnd, RuleReadings};
 
 /// A recurrence set: the text of a recurrence, its start, and readings in any order. A reading is
 /// the local date and time of a moment, at any offset.
@@ -29,31 +27,8 @@ pub struct TextSet<'a> {
 #[derive(Drop)]
 pub(super) struct SetReadings {
     pub(super) start: PlainDateTime,
-    dates: ReadingList,
-    exceptions: ReadingList,
-}
-
-/// Returns the last reading of an iterator, or `None` without one.
-fn last_of(mut walk: RuleReadings) -> Option<PlainDateTime>
-    ensures { result ≡ last_or None walk }
-{
-    let mut last = None;
-    while let Some(reading) = walk.next() {
-        last = Some(reading);
-    }
-    last
-}
-
-/// Returns the last possible reading of a recurrence: the reading of an `UNTIL`, or the last of a
-/// `COUNT`.
-pub(super) fn end_of(recurrence: &Recurrence, start: PlainDateTime) -> Option<PlainDateTime>
-    ensures { result ≡ end_of recurrence.now start }
-{
-    match recurrence.end {
-        RuleEnd::Never => None,
-        RuleEnd::Until(last) => Some(last.last_reading()),
-        RuleEnd::Count(_) => last_of(recurrence.readings(start)),
-    }
+    pub(super) dates: ReadingList,
+    pub(super) exceptions: ReadingList,
 }
 
 impl SetReadings {
@@ -77,19 +52,5 @@ impl SetReadings {
             dates,
             exceptions,
         })
-    }
-
-    /// Returns the set of a recurrence with these readings, up to the last possible one.
-    pub(super) fn set(&self, recurrence: Recurrence, last: Option<PlainDateTime>) -> DateTimeSet<'_>
-        ensures rule { result.rule ≡ date_time_rule self.now.start last recurrence.pattern recurrence.times }
-        ensures dates { result.dates.now ≡ self.now.dates }
-        ensures exceptions { result.exceptions.now ≡ self.now.exceptions }
-    {
-        let Recurrence { pattern, times, .. } = recurrence;
-        DateTimeSet {
-            rule: DateTimeRule::new(self.start, last, pattern, times),
-            dates: self.dates.as_slice(),
-            exceptions: self.exceptions.as_slice(),
-        }
     }
 }

@@ -1,4 +1,4 @@
-use Rattle.std.proofs.Common.{◌≡◌, sym, ◌∙◌, ap, inl, refl}
+use Rattle.std.proofs.Common.{◌≡◌, sym, ◌∙◌, inl, refl}
 use Rattle.std.proofs.lemmas.Slice.Eq.{bytes_eq-Decides}
 use Rattle.std.specs.Prelude.{bytes_eq}
 use Rattle.cal_time.specs.DateText.{text}

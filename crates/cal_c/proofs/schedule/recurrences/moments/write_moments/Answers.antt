@@ -1,8 +1,8 @@
-use Rattle.std.proofs.Common.{arith, subst, sym}
+use Rattle.std.proofs.Common.{◌∙◌, arith, subst, sym}
 use Rattle.std.proofs.lemmas.Grind.{common_steps}
 use Rattle.cal_datetime.specs.OffsetDateTime.{instant}
 use Rattle.cal_recurrence.specs.ZonedSet.{IsFirstAfter, Means, NoneAfter}
-use Rattle.cal_c.specs.Moments.{local_and_offset_in, IsMoment}
+use Rattle.cal_c.specs.Moments.{IsMoment}
 use Rattle.cal_c.specs.TextSets.{before, no_moment}
 use Rattle.cal_c.proofs.Recurring.{kept_more, written_more}
 use Rattle.cal_c.proofs.WrittenMoments.{before-next, moments_more}
@@ -11,11 +11,12 @@ use Rattle.cal_c.proofs.schedule.recurrences.moments.write_moments.Goals as goal
 pub returns-in_default : goal.returns-in_default
 returns-in_default c =
     let kept = c.loop-index.invariant in
+    let x = instant c.args.after in
     record {
       fits = omega arith;
       valid = kept.valid;
       moments = kept.written;
-      all = λ less. subst (NoneAfter (Means c.args.set.now)) kept.last c.in_default.ensures;
+      all = λ less. subst (λ s. NoneAfter (Means s) (before x c.loop-index.moments c.loop-index.index)) kept.same (subst (NoneAfter (Means c.loop-index.set)) kept.last c.in_default.ensures.value);
       others = kept.others;
     }
 
@@ -27,9 +28,11 @@ loop-index-preserved c =
     let ms = c.loop-index.moments in
     let index = c.loop-index.index in
     let m = c.c_moment.result in
-    let first = subst (λ y. IsFirstAfter (Means set) y c.in-Some.moment) kept.last c.in-Some.ensures in
+    let first = subst (λ s. IsFirstAfter (Means s) (before x ms index) c.in-Some.moment) kept.same
+    (subst (λ y. IsFirstAfter (Means c.loop-index.set) y c.in-Some.moment) kept.last c.in-Some.ensures.value) in
     let here = subst (IsFirstAfter (Means set) (before x ms index)) (sym c.c_moment.ensures.value) first in
     record {
+      same = c.in-Some.ensures.same ∙ kept.same;
       room = grind (arith, common_steps);
       last = before-next x ms index m c.in-Some.moment (omega arith) c.c_moment.ensures.value;
       valid = written_more no_moment (λ k one. IsMoment one) ms index m (omega arith) kept.valid c.c_moment.ensures.valid;

@@ -1,0 +1,170 @@
+-- A set whose rule ends earlier has the same readings up to this end, and a search that finds one of
+-- them has found it for the whole set.
+use Rattle.std.proofs.Common.{◌≡◌, refl, sym, ap, ◌∙◌, arith, ℕ, zero, suc, ◌+◌, ◌-◌, ◌≤◌, Bool, true, false, ◌&&◌, not, List, [], ◌∷◌, filter, map, take, Option, Some, None, ℤ, pos, ◌+ℤ◌, ◌≤ℤ◌, ◌<ℤ◌, inl, inr}
+use Rattle.std.specs.Prelude.{◌||◌, int_le, unsigned_abs, option_map, MatchOption}
+use Rattle.std.specs.List.{last_or}
+use Rattle.std.proofs.lemmas.Bool.{and_parts, false≢true}
+use Rattle.std.proofs.lemmas.Bool.Decides.{nat_tests}
+use Rattle.std.proofs.lemmas.Int.{ints}
+use Rattle.cal_time.specs.Occurrences.{days_from}
+use Rattle.cal_datetime.specs.DateTime.{date_at, last_date_time, IsDateTime}
+use Rattle.cal_datetime.specs.OffsetDateTime.{LocalAndOffset, instant}
+use Rattle.cal_schedule.specs.Rule as days
+use Rattle.cal_schedule.specs.Pattern.{rule_of}
+use Rattle.cal_schedule.specs.declared.rule.pattern.Pattern.{Pattern}
+use Rattle.cal_recurrence.specs.CountedSet.{ascend_from, whole_set, whole_zoned_set}
+use Rattle.cal_recurrence.specs.DateTimeRule.{date_time_rule, is_not_after, is_occurrence, matches_positions, occurrences, DateTimeParts}
+use Rattle.cal_recurrence.specs.Days.{up_to_end}
+use Rattle.cal_recurrence.specs.RecurrenceReadings.{last_reading_of, readings_of}
+use Rattle.cal_recurrence.specs.DateTimeSet.{is_in_set, is_listed, IsNextFrom}
+use Rattle.cal_recurrence.specs.ZonedSet.{reach, IsNextAfter, Means}
+use Rattle.cal_recurrence.specs.declared.date_time_set.DateTimeSet.{DateTimeSet}
+use Rattle.cal_recurrence.specs.declared.recurrence.Recurrence.{Recurrence}
+use Rattle.cal_recurrence.specs.declared.recurrence.RuleEnd.{RuleEnd}
+use Rattle.cal_recurrence.specs.declared.recurrence.RuleEnd.TheVariants.{Never, Until, Count}
+use Rattle.cal_recurrence.specs.declared.zoned_set.ZonedSet.{ZonedSet}
+use Rattle.cal_recurrence.proofs.DateTimeSets.{found, is-found, IsFound}
+use Rattle.cal_recurrence.proofs.ZonedSearch.{compared, near}
+
+-- ---- readings that ascend
+le-true : (a b : ℤ) → int_le a b ≡ true → a ≤ℤ b
+le-true a b e = grind (arith, ints)
+
+true-le : (a b : ℤ) → a ≤ℤ b → int_le a b ≡ true
+true-le a b e = grind (arith, ints)
+
+-- A reading up to the end isn't after the last of the readings that are left.
+not-after : (end : Option ℤ) (left : List ℤ) (z : ℤ) → ascend_from end left ≡ true → is_not_after end z ≡ true → is_not_after (last_or end left) z ≡ true
+not-after end [] z order by = by
+not-after None (x ∷ xs) z order by = absurd (false≢true order)
+not-after (Some y) (x ∷ xs) z order by =
+    let both = and_parts (int_le y x) (ascend_from (Some x) xs) order in
+    let first = le-true y x both.0 in
+    let second = le-true z y by in
+    not-after (Some x) xs z both.1 (true-le z x (omega (arith, ints, first, second)))
+
+ascend-at : (test : ℕ → Bool) (m n count : ℕ) (b : Bool) → test n ≡ b → m ≤ n → ((k : ℕ) → k ≤ n + 1 → ascend_from (Some (pos k)) (map pos (filter test (days_from (n + 1) count))) ≡ true)
+    → ascend_from (Some (pos m)) (map pos (filter test (days_from n (suc count)))) ≡ true
+unfolding days_from
+ascend-at test m n count true on h rest = rw on (rw (true-le (pos m) (pos n) (omega (arith, ints))) (rest n (omega arith)))
+ascend-at test m n count false off h rest = rw off (rest m (omega arith))
+
+-- The numbers of a filter ascend.
+numbers-ascend : (test : ℕ → Bool) (count n m : ℕ) → m ≤ n → ascend_from (Some (pos m)) (map pos (filter test (days_from n count))) ≡ true
+unfolding days_from
+numbers-ascend test zero n m h = refl
+numbers-ascend test (suc count) n m h = ascend-at test m n count (test n) refl h (λ k less. numbers-ascend test count (n + 1) k less)
+
+first-ascend : (end : Option ℤ) (z : ℤ) (xs ys : List ℤ) → (ascend_from (Some z) xs ≡ true → ascend_from (Some z) ys ≡ true) → ascend_from end (z ∷ xs) ≡ true → ascend_from end (z ∷ ys) ≡ true
+first-ascend None z xs ys rest order = order
+first-ascend (Some y) z xs ys rest order =
+    let both = and_parts (int_le y z) (ascend_from (Some z) xs) order in
+    rw both.0 (rest both.1)
+
+take-ascend : (n : ℕ) (end : Option ℤ) (xs : List ℤ) → ascend_from end xs ≡ true → ascend_from end (take n xs) ≡ true
+take-ascend zero end xs order = refl
+take-ascend (suc n) end [] order = refl
+take-ascend (suc n) end (x ∷ xs) order = first-ascend end x xs (take n xs) (take-ascend n (Some x) xs) order
+
+up-to_end-ascend : (end : RuleEnd) (xs : List ℤ) → ascend_from (Some (pos 0)) xs ≡ true → ascend_from (Some (pos 0)) (up_to_end end xs) ≡ true
+up-to_end-ascend Never xs order = order
+up-to_end-ascend (Until last) xs order = order
+up-to_end-ascend (Count n) xs order = take-ascend n (Some (pos 0)) xs order
+
+-- The readings of a recurrence ascend.
+pub readings-ascend : (r : Recurrence) (start : ℤ) → ascend_from (Some (pos 0)) (readings_of r start) ≡ true
+readings-ascend r start =
+    let rule = date_time_rule start (last_reading_of r.end) r.pattern r.times in
+    up-to_end-ascend r.end (occurrences rule) (numbers-ascend (λ k. is_occurrence rule (pos k)) (last_date_time + 1 - 0) 0 0 (omega arith))
+
+-- ---- the readings up to an end
+up-to-day : (end : Option ℤ) (z : ℤ) → IsDateTime z → is_not_after end z ≡ true → days.matches_until (option_map date_at end) (date_at z) ≡ true
+unfolding date_at
+up-to-day None z range by = refl
+up-to-day (Some last) z range by =
+    let most = le-true z last by in
+    let less : date_at z ≤ date_at last = omega (arith, ints, most, range.not_before) in
+    grind (arith, nat_tests)
+
+same-day : (pattern : Pattern) (start n : ℕ) (end other : Option ℕ) → days.matches_until end n ≡ true → days.matches_until other n ≡ true
+    → days.is_occurrence (rule_of pattern start end) n ≡ days.is_occurrence (rule_of pattern start other) n
+unfolding days.is_occurrence days.periods_past days.passes days.matches_months days.matches_weeks days.matches_days days.matches_positions days.unit_of
+same-day pattern start n end other by on = rw (by, on) refl
+
+same-occurrence : (rule : DateTimeParts) (end : Option ℤ) (z : ℤ) → IsDateTime z → is_not_after rule.until z ≡ true → is_not_after end z ≡ true
+    → is_occurrence (record rule { until = end }) z ≡ is_occurrence rule z
+unfolding is_occurrence matches_positions days.passes days.matches_months days.matches_weeks days.matches_days days.unit_of
+same-occurrence rule end z range by on =
+    let day = same-day (record rule.pattern { set_positions = [] }) (date_at rule.start) (date_at z) (option_map date_at end) (option_map date_at rule.until)
+    (up-to-day end z range on) (up-to-day rule.until z range by) in
+    rw (by, on, day) refl
+
+same-in : (set : DateTimeSet) (left : List ℤ) (z : ℤ) → ascend_from set.rule.until left ≡ true → IsDateTime z → is_not_after set.rule.until z ≡ true
+    → is_in_set (whole_set set left) z ≡ is_in_set set z
+unfolding is_in_set
+same-in set left z order range by =
+    ap (λ b. (b || is_listed set.dates.now z) && not (is_listed set.exceptions.now z))
+    (same-occurrence set.rule (last_or set.rule.until left) z range by (not-after set.rule.until left z order by))
+
+-- ---- a search that finds a reading up to the end
+earlier-too : (end : Option ℤ) (k m : ℕ) → k ≤ m → is_not_after end (pos m) ≡ true → is_not_after end (pos k) ≡ true
+earlier-too None k m less by = refl
+earlier-too (Some last) k m less by = let most = le-true (pos m) last by in true-le (pos k) last (omega (arith, ints, most))
+
+pub settled : (set : DateTimeSet) (left : List ℤ) (n : ℕ) (y : ℤ) → ascend_from set.rule.until left ≡ true → is_not_after set.rule.until y ≡ true
+    → IsNextFrom (is_in_set set) n (Some y) → IsNextFrom (is_in_set (whole_set set left)) n (Some y)
+settled set left n y order by h =
+    let first : IsFound (is_in_set set) n y = found (is_in_set set) n y h in
+    let m = unsigned_abs y in
+    let up-to : (k : ℕ) → k ≤ m → is_in_set (whole_set set left) (pos k) ≡ is_in_set set (pos k) = λ k less.
+    same-in set left (pos k) order (record { not_before = omega (arith, ints); not_after = omega (arith, ints, less, first.first.below) })
+    (earlier-too set.rule.until k m less (ap (is_not_after set.rule.until) (sym first.is) ∙ by)) in
+    is-found (is_in_set (whole_set set left)) n y (record {
+      is = first.is;
+      first = record {
+        not_before = first.first.not_before;
+        below = first.first.below;
+        passes = up-to m (omega arith) ∙ first.first.passes;
+        none_before = λ k low high. up-to k (omega (arith, high)) ∙ first.first.none_before k low high;
+      };
+    })
+
+-- A set with nothing left to count is whole.
+pub nothing-left : (set : DateTimeSet) (left : List ℤ) → left ≡ [] → set ≡ whole_set set left
+nothing-left set left e = sym (ap (whole_set set) e)
+
+-- ---- a search in a zone that finds an instant before all that are left
+up-to-end : (set : ZonedSet) (left : List ℤ) (last : ℤ) (z : ℤ) (k : LocalAndOffset) → ascend_from set.readings.rule.until left ≡ true → set.readings.rule.until ≡ Some last → z ≤ℤ last
+    → IsDateTime z → is_in_set (whole_set set.readings left) z ≡ is_in_set set.readings z
+up-to-end set left last z k order is most range =
+    same-in set.readings left z order range (ap (λ end. is_not_after end z) is ∙ true-le z last most)
+
+pub settled-after : (set : ZonedSet) (left : List ℤ) (x last : ℤ) (r : Option LocalAndOffset) → ascend_from set.readings.rule.until left ≡ true → set.readings.rule.until ≡ Some last
+    → MatchOption r ⊥ (λ m. (instant m +ℤ reach) <ℤ last) → IsNextAfter (Means set) x r → IsNextAfter (Means (whole_zoned_set set left)) x r
+settled-after set left x last None order is past h = absurd past
+settled-after set left x last (Some m) order is past h =
+    let near-first = (near set.zone.now h.reading m h.meant.meant).1 in
+    record {
+      reading = h.reading;
+      meant = record {
+        range = h.meant.range;
+        on = up-to-end set left last h.reading m order is (omega (arith, ints, past, near-first)) h.meant.range ∙ h.meant.on;
+        meant = h.meant.meant;
+        kept = h.meant.kept;
+      };
+      later = h.later;
+      first = λ z k g late. elim (compared z last) as (λ _. (instant m ≤ℤ instant k) × (instant k ≡ instant m → h.reading ≤ℤ z)) [
+        | inl less ↦ h.first z k (record {
+          range = g.range;
+          on = sym (up-to-end set left last z k order is (omega (arith, ints, less)) g.range) ∙ g.on;
+          meant = g.meant;
+          kept = g.kept;
+        }) late
+        | inr most ↦
+            let far = (near set.zone.now z k g.meant).1 in
+            (omega (arith, ints, past, most, far), λ e. omega (arith, ints, past, most, near-first))
+      ];
+    }
+
+pub nothing-left-in_zone : (set : ZonedSet) (left : List ℤ) → left ≡ [] → set ≡ whole_zoned_set set left
+nothing-left-in_zone set left e = sym (ap (whole_zoned_set set) e)

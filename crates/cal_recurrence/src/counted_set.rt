@@ -1,0 +1,137 @@
+//! Recurrence sets whose `COUNT` is counted only as far as a search needs.
+ghost use Rattle.std.specs.Prelude.{◌≡◌, true, slice_get};
+ghost use Rattle.cal_recurrence.specs.CountedSet.{ascend_from, first_number, whole_rule};
+ghost use Rattle.cal_recurrence.specs.DateTimeRule.{date_time_rule, readings_from};
+ghost use Rattle.cal_recurrence.specs.DateTimeSet.{is_in_set, set_readings_after, set_readings_from};
+ghost use Rattle.cal_recurrence.specs.SetMeaning.{last_counted_reading};
+
+use crate::counting::Uncounted;
+use crate::date_time_rule::DateTimeRule;
+use crate::date_time_set::{DateTimeSet, DateTimeSetReadings};
+use crate::readings::RuleReadings;
+use crate::recurrence::{Recurrence, RuleEnd};
+use cal_datetime::{PlainDateTime, midnight};
+use cal_time::day_number::to_date;
+use std::marker::Model;
+
+/// A recurrence set of a recurrence with a `COUNT` or without one. A search counts the readings of
+/// a `COUNT` from the start, as far as it needs them. Contracts see the set, up to the last reading
+/// of the `COUNT`.
+#[derive(Debug, Drop)]
+pub struct CountedSet<'a> {
+    /// The set, whose rule ends at the last reading that was counted.
+    set: DateTimeSet<'a>,
+    left: Uncounted,
+}
+
+impl<'a> Model for CountedSet<'a> {
+    ghost use Rattle.std.specs.Prelude.{◌≡◌, true};
+    ghost use Rattle.cal_recurrence.specs.declared.date_time_set.DateTimeSet.{DateTimeSet};
+
+    ghost Value = { DateTimeSet };
+
+    ghost use Rattle.cal_recurrence.specs.CountedSet.{ascend_from, whole_set};
+
+    ghost view = { λ counted. whole_set counted.set counted.left };
+
+    ghost invariant = { λ counted. ascend_from counted.set.rule.until counted.left ≡ true };
+}
+
+impl Recurrence {
+    /// Returns the rule from a start, which ends before the readings of a `COUNT`, and these
+    /// readings.
+    pub(crate) fn uncounted(&self, start: PlainDateTime) -> (DateTimeRule, RuleReadings)
+        ensures whole { whole_rule result.0 result.1 ≡ date_time_rule start
+            (last_counted_reading self.now start) self.now.pattern self.now.times }
+        ensures order { ascend_from result.0.until result.1 ≡ true }
+    {
+        if let RuleEnd::Count(_) = self.end {
+            // The first reading of the range.
+            let none = midnight(to_date(0));
+            return (self.rule_until(start, Some(none)), self.readings(start));
+        }
+        let rule = self.date_time_rule(start);
+        let left = rule.first_readings(0);
+        (rule, left)
+    }
+
+    /// Returns the set of the readings from a start with others (`RDATE`) and without exceptions
+    /// (`EXDATE`).
+    pub fn counted_set<'a>(
+        &self,
+        start: PlainDateTime,
+        dates: &'a [PlainDateTime],
+        exceptions: &'a [PlainDateTime],
+    ) -> CountedSet<'a>
+        ensures rule { result.rule ≡ date_time_rule start (last_counted_reading self.now start)
+            self.now.pattern self.now.times }
+        ensures dates { result.dates.now ≡ dates.now }
+        ensures exceptions { result.exceptions.now ≡ exceptions.now }
+    {
+        let (rule, left) = self.uncounted(start);
+        let set = DateTimeSet {
+            rule,
+            dates,
+            exceptions,
+        };
+        CountedSet {
+            set,
+            left: Uncounted::new(left),
+        }
+    }
+}
+
+impl<'a> DateTimeSet<'a> {
+    /// Returns the set, which has nothing left to count.
+    pub(crate) fn counted(self) -> CountedSet<'a>
+        ensures { result ≡ self.entry }
+    {
+        let left = self.rule.first_readings(0);
+        CountedSet {
+            set: self,
+            left: Uncounted::new(left),
+        }
+    }
+}
+
+impl<'a> CountedSet<'a> {
+    /// Returns the first reading of the set after a reading, or from it on.
+    fn search(&mut self, reading: PlainDateTime, after: bool) -> Option<PlainDateTime>
+        ensures value { result ≡ slice_get (readings_from (is_in_set self.old) (first_number after reading)) 0 }
+        ensures same { self.new ≡ self.old }
+    {
+        loop {
+            let found = if after {
+                self.set.next_after(reading)
+            } else {
+                self.set.first_from(reading)
+            };
+            if let Some(next) = found {
+                if self.set.rule.is_not_after(next) {
+                    return found;
+                }
+            }
+            if !self.left.count_on(&mut self.set.rule) {
+                return found;
+            }
+        }
+    }
+
+    /// Returns the first reading of the set after a reading, or `None` if the range has no such
+    /// reading.
+    pub(crate) fn next_after(&mut self, reading: PlainDateTime) -> Option<PlainDateTime>
+        ensures value { result ≡ slice_get (set_readings_after self.old reading) 0 }
+        ensures same { self.new ≡ self.old }
+    {
+        self.search(reading, true)
+    }
+
+    /// Returns an iterator over the readings of the set from a reading on, in ascending order, each
+    /// once.
+    pub fn readings_from(mut self, reading: PlainDateTime) -> DateTimeSetReadings<'a>
+        ensures { result ≡ set_readings_from self.entry reading }
+    {
+        let front = self.search(reading, false);
+        DateTimeSetReadings { set: self, front }
+    }
+}
