@@ -51,3 +51,8 @@ mod TextStarts
 mod DigitStarts
 pub mod Scans
 pub mod OneScan
+pub mod Grammar
+mod GrammarRequests
+mod GrammarLists
+mod GrammarOptions
+mod GrammarCommands

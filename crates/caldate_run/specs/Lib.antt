@@ -9,6 +9,7 @@ pub mod Ending
 pub mod Fields
 pub mod Files
 pub mod Forms
+pub mod Grammar
 pub mod Found
 pub mod Header
 pub mod Holidays
