@@ -62,7 +62,16 @@ impl Rule {
         if first + 10 < second {
             return None;
         }
-        Some(Rule { one, other })
+        Some(Rule::from_changes(one, other))
+    }
+
+    /// Creates the rule of two changes without a look at them.
+    #[inline(always)]
+    pub fn from_changes(one: Yearly, other: Yearly) -> Self
+        requires { IsCalm one other }
+        ensures { (result.one ≡ one) × (result.other ≡ other) }
+    {
+        Rule { one, other }
     }
 
     /// Returns how the clocks are set before the first change of a year.
@@ -115,12 +124,9 @@ impl Rule {
         ensures value { result ≡ (change_of self.now.one self.now.other index).kind }
         ensures offset { IsOffset result.offset }
     {
-        let _ = &self.one;
-        if index % 2 == 0 {
-            self.one.kind
-        } else {
-            self.other.kind
-        }
+        // Both are read first, so that the choice needs no branch.
+        let (one, other) = (self.one.kind, self.other.kind);
+        if index % 2 == 0 { one } else { other }
     }
 
     /// Returns the number of changes that are not after an instant.

@@ -109,6 +109,9 @@ pub struct Table<'a> {
     layout: Layout,
 }
 
+/// No slice is longer.
+const MAX_LEN: usize = 0x7fff_ffff_ffff_ffff;
+
 /// Returns about the number of changes that are not after an instant, at two changes a year before
 /// the last one, from 0 to `most`. It makes a search short, and need not be right.
 fn count_near(last: i64, instant: i64, most: usize) -> usize
@@ -163,13 +166,17 @@ impl<'a> Table<'a> {
         ensures none { IfNone result (¬ IsReadable bytes.now layout) }
     {
         let len = bytes.len();
-        if layout.changes > len / 8 || layout.kinds > len / 6 {
+        // No sum below overflows then.
+        if layout.changes > MAX_LEN / 8 || layout.kinds > MAX_LEN / 6 {
             return None;
         }
-        if layout.times > len - 8 * layout.changes || layout.indexes > len - layout.changes {
+        if layout.times > MAX_LEN || layout.indexes > MAX_LEN || layout.types > MAX_LEN {
             return None;
         }
-        if layout.types > len - 6 * layout.kinds || layout.names > len {
+        if layout.times + 8 * layout.changes > len || layout.indexes + layout.changes > len {
+            return None;
+        }
+        if layout.types + 6 * layout.kinds > len || layout.names > len {
             return None;
         }
         Some(Table { bytes, layout })
@@ -241,7 +248,7 @@ impl<'a> Table<'a> {
 
     /// Returns 1 if the change at an index is not after an instant, else 0.
     #[inline(always)]
-    fn past(&self, index: usize, instant: i64) -> usize
+    pub(crate) fn past(&self, index: usize, instant: i64) -> usize
         requires { index < length self.now }
         ensures { result ≤ 1 }
     {
@@ -249,30 +256,26 @@ impl<'a> Table<'a> {
     }
 
     /// Returns about the number of changes that are not after an instant, from `start` to
-    /// `start + 31`. It looks at ten changes without a branch, and need not be right.
+    /// `start + 31`. It looks at seven changes without a branch, and need not be right.
     #[inline(always)]
     fn count_from(&self, start: usize, instant: i64) -> usize
         requires { start + 31 < length self.now }
         ensures { result ≤ start + 31 }
     {
         let _ = self.len();
-        let blocks = self.past(start + 7, instant)
-            + self.past(start + 15, instant)
-            + self.past(start + 23, instant);
-        let first = start + 8 * blocks;
-        let early = self.past(first, instant)
-            + self.past(first + 1, instant)
-            + self.past(first + 2, instant)
-            + self.past(first + 3, instant);
-        let late = self.past(first + 4, instant)
-            + self.past(first + 5, instant)
-            + self.past(first + 6, instant);
-        first + early + late
+        let half = start + 16 * self.past(start + 15, instant);
+        let part = half
+            + 4 * (self.past(half + 3, instant)
+                + self.past(half + 7, instant)
+                + self.past(half + 11, instant));
+        part + self.past(part, instant)
+            + self.past(part + 1, instant)
+            + self.past(part + 2, instant)
     }
 
     /// Checks that the change before an index is not after an instant, and the change at it is.
     #[inline(always)]
-    fn is_count(&self, index: usize, instant: i64) -> bool
+    pub(crate) fn is_count(&self, index: usize, instant: i64) -> bool
         requires { index < length self.now }
         ensures { IsTrue result ↔ IsBracket (at self.now) (length self.now) instant index index }
     {
@@ -283,7 +286,6 @@ impl<'a> Table<'a> {
     }
 
     /// Returns the number of changes that are not after an instant, if they rise.
-    #[inline(always)]
     fn search(&self, instant: i64) -> usize
         ensures { IsBracket (at self.now) (length self.now) instant result result }
     {
@@ -300,8 +302,25 @@ impl<'a> Table<'a> {
         low
     }
 
-    /// Returns the number of changes that are not after an instant, if they rise. It tries two
-    /// numbers before a search: by two changes a year, and one that is up to 23 more or 8 less.
+    /// Returns the number of changes that are not after an instant, if they rise. Before a search
+    /// it tries a number that is up to 23 more or 8 less than `near`. It isn't inlined, and takes a
+    /// table by value, so that a caller keeps none in memory.
+    #[inline(never)]
+    fn count_far(self, near: usize, instant: i64) -> usize
+        ensures { IsBracket (at self.entry) (length self.entry) instant result result }
+    {
+        let len = self.len();
+        if 32 <= len {
+            let count = self.count_from(near.saturating_sub(8).min(len - 32), instant);
+            if self.is_count(count, instant) {
+                return count;
+            }
+        }
+        self.search(instant)
+    }
+
+    /// Returns the number of changes that are not after an instant, if they rise. First it tries
+    /// the number by two changes a year.
     #[inline(always)]
     pub(crate) fn count(&self, instant: i64) -> usize
         ensures { IsBracket (at self.now) (length self.now) instant result result }
@@ -319,12 +338,7 @@ impl<'a> Table<'a> {
         if self.is_count(count, instant) {
             return count;
         }
-        if 32 <= len {
-            let count = self.count_from(near.saturating_sub(8).min(len - 32), instant);
-            if self.is_count(count, instant) {
-                return count;
-            }
-        }
-        self.search(instant)
+        let (bytes, layout) = (self.bytes, self.layout);
+        Table { bytes, layout }.count_far(near, instant)
     }
 }

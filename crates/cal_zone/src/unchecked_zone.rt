@@ -8,7 +8,7 @@ ghost use Rattle.cal_zone.specs.Zone.{later, made_of, AreParts, IsByRule};
 ghost use Rattle.cal_zone.specs.Instants.{Names, IsExplained};
 ghost use Rattle.cal_zone.specs.Span.{HasNear, IsBetweenChanges, IsNear, IsSpan, IsSpanAfter};
 
-use crate::{Change, Instants, LocalType, Rule, Span, Table, ZoneParts};
+use crate::{Change, Guesses, Instants, LocalType, Rule, Span, Table, ZoneParts};
 use std::marker::Model;
 
 /// A zone whose changes need not be in order. If they are not, a call may return any value.
@@ -157,6 +157,22 @@ impl<'a> UncheckedZone<'a> {
         }
     }
 
+    /// Returns the number of changes that are not after an instant. It is fast if the guess for the
+    /// instant is right.
+    #[inline(always)]
+    fn count_by(&self, instant: i64, guesses: &mut Guesses) -> usize
+        ensures { IsBracket (at self.now.changes) (length self.now.changes) instant result result }
+    {
+        let table = &self.table;
+        match guesses.near(table, instant) {
+            Some(count) if count < table.len() && table.is_count(count, instant) => count,
+            _ => {
+                guesses.note(table);
+                self.count(instant)
+            }
+        }
+    }
+
     /// Returns the number of changes that are not after an instant, or `None` if that takes the
     /// rule's changes.
     #[inline(always)]
@@ -236,6 +252,18 @@ impl<'a> UncheckedZone<'a> {
         }
     }
 
+    /// Returns the same as `span_at`, if `count` changes are not after the instant.
+    #[inline(always)]
+    fn span_counted(&self, instant: i64, count: usize) -> Span
+        requires { IsBracket (at self.now.changes) (length self.now.changes) instant count count }
+        ensures span { InOrder self.now → IsSpan self.now result }
+        ensures offset { InOrder self.now → result.offset ≡ offset_at self.now instant }
+        ensures ends { InOrder self.now → IsBetweenChanges self.now instant result }
+    {
+        let _ = instant;
+        self.span_of(count)
+    }
+
     /// Returns the offset at a Unix time in seconds, and the instants from the last change that is
     /// not after it to the next change. Without such a change they begin at the minimum, or end at
     /// the maximum. In Berlin the offset is 7200 from 1711846800 to 1729990799.
@@ -244,7 +272,7 @@ impl<'a> UncheckedZone<'a> {
         ensures offset { InOrder self.now → result.offset ≡ offset_at self.now instant }
         ensures ends { InOrder self.now → IsBetweenChanges self.now instant result }
     {
-        self.span_of(self.count(instant))
+        self.span_counted(instant, self.count(instant))
     }
 
     /// Returns the Unix time of the only instant at which clocks show a reading by the changes of
@@ -273,10 +301,21 @@ impl<'a> UncheckedZone<'a> {
         }
     }
 
+    /// Returns the same as `span_at`, with guesses for many searches in the zone.
+    #[inline(always)]
+    pub fn span_by(&self, instant: i64, guesses: &mut Guesses) -> Span
+        ensures span { InOrder self.now → IsSpan self.now result }
+        ensures offset { InOrder self.now → result.offset ≡ offset_at self.now instant }
+        ensures ends { InOrder self.now → IsBetweenChanges self.now instant result }
+    {
+        self.span_counted(instant, self.count_by(instant, guesses))
+    }
+
     /// Returns the same as `span_at` if the instant is less than half a year after the last instant
     /// of the span `other`, or before its first one. Otherwise returns only the instant itself with
-    /// its offset: that is faster, and the next instant is seldom in the same span.
-    pub fn span_after(&self, instant: i64, other: Span) -> Span
+    /// its offset, with guesses for many searches: that is faster, and the next instant is seldom
+    /// in the same span.
+    pub fn span_after(&self, instant: i64, other: Span, guesses: &mut Guesses) -> Span
         ensures span { InOrder self.now → IsSpan self.now result }
         ensures offset { InOrder self.now → result.offset ≡ offset_at self.now instant }
         ensures near { InOrder self.now → IsNear other instant
@@ -290,7 +329,7 @@ impl<'a> UncheckedZone<'a> {
             Span {
                 first: instant,
                 last: instant,
-                offset: self.kind_at(instant).offset,
+                offset: self.span_by(instant, guesses).offset,
             }
         }
     }

@@ -16,7 +16,7 @@ use super::{LENGTH_MISMATCH, NO_VALUE, count_errors};
 use crate::zones::checked_zone::CheckedZone;
 use crate::zones::policy::Policy;
 use crate::zones::results::at_offset;
-use cal_zone::{Instants, Span, UncheckedZone};
+use cal_zone::{Guesses, Instants, Span, UncheckedZone};
 
 /// Writes the offsets at Unix times, like `fots_zone_offset`.
 #[unsafe(no_mangle)]
@@ -32,8 +32,9 @@ pub extern "C" fn fots_zone_offsets(
         (offset_row (int_at offsets.new k) (nat_at statuses.new k))) }
 {
     let unchecked = zone.unchecked();
+    let mut guesses = Guesses::new();
     let mut span = Span::empty();
-    write_rows!(row_of_offset(seconds; &unchecked, &mut span) => offsets; statuses)
+    write_rows!(row_of_offset(seconds; &unchecked, &mut guesses, &mut span) => offsets; statuses)
 }
 
 /// Writes the Unix times at which clocks show readings, by a policy like `fots_zone_moment`. A
@@ -55,8 +56,9 @@ pub extern "C" fn fots_zone_instants(
         zone: zone.unchecked(),
         policy: Policy::from_number(policy),
     };
+    let mut guesses = Guesses::new();
     let mut span = Span::empty();
-    write_rows!(row_of_instant(readings; &resolver, &mut span) => seconds; statuses)
+    write_rows!(row_of_instant(readings; &resolver, &mut guesses, &mut span) => seconds; statuses)
 }
 
 /// A zone and a policy, or what is wrong with them.
@@ -67,30 +69,40 @@ struct Resolver<'a> {
 }
 
 /// Returns the row of the offset at a Unix time. Tries the span of the row before first.
-fn row_of_offset(seconds: i64, zone: &Option<UncheckedZone<'_>>, span: &mut Span) -> (i32, u8)
+fn row_of_offset(
+    seconds: i64,
+    zone: &Option<UncheckedZone<'_>>,
+    guesses: &mut Guesses,
+    span: &mut Span,
+) -> (i32, u8)
     ensures { MatchOption zone.now (offset_row result.0 result.1 ≡ offset_error invalid_zone)
         (λ z. InOrder z → IsSpan z span.old → IsSpan z span.new
         × (offset_row result.0 result.1 ≡ offset_ok (offset_at z seconds))) }
 {
     match zone {
-        Some(zone) => (offset_in(seconds, zone, span), OK),
+        Some(zone) => (offset_in(seconds, zone, guesses, span), OK),
         None => (NO_VALUE, INVALID_ZONE),
     }
 }
 
 /// Returns the offset at a Unix time. Keeps the span if that is in it.
-fn offset_in(seconds: i64, zone: &UncheckedZone<'_>, span: &mut Span) -> i32
+fn offset_in(seconds: i64, zone: &UncheckedZone<'_>, guesses: &mut Guesses, span: &mut Span) -> i32
     ensures { InOrder zone.now → IsSpan zone.now span.old → IsSpan zone.now span.new
         × (result ≡ offset_at zone.now seconds) }
 {
     if !span.contains(seconds) {
-        *span = zone.span_after(seconds, *span);
+        *span = zone.span_after(seconds, *span, guesses);
     }
     span.offset
 }
 
 /// Returns the row of the instant of a reading. Tries the span of the row before first.
-fn row_of_instant(reading: i64, resolver: &Resolver<'_>, span: &mut Span) -> (i64, u8)
+fn row_of_instant(
+    reading: i64,
+    resolver: &Resolver<'_>,
+    guesses: &mut Guesses,
+    span: &mut Span,
+) -> (i64, u8)
     ensures { MatchOption resolver.now.zone (int64_row result.0 result.1 ≡ int64_error invalid_zone)
         (λ z. InOrder z → IsSpan z span.old → IsSpan z span.new × MatchOption resolver.now.policy
         (int64_row result.0 result.1 ≡ int64_error invalid_policy)
@@ -98,7 +110,7 @@ fn row_of_instant(reading: i64, resolver: &Resolver<'_>, span: &mut Span) -> (i6
 {
     match &resolver.zone {
         Some(zone) => match &resolver.policy {
-            Some(policy) => instant_by_policy(reading, zone, *policy, span),
+            Some(policy) => instant_by_policy(reading, zone, *policy, guesses, span),
             None => (i64::MIN, INVALID_POLICY),
         },
         None => (i64::MIN, INVALID_ZONE),
@@ -110,6 +122,7 @@ fn instant_by_policy(
     reading: i64,
     zone: &UncheckedZone<'_>,
     policy: Policy,
+    guesses: &mut Guesses,
     span: &mut Span,
 ) -> (i64, u8)
     ensures { InOrder zone.now → IsSpan zone.now span.old → IsSpan zone.now span.new
@@ -118,12 +131,17 @@ fn instant_by_policy(
     if reading < -1_152_921_504_606_846_976 || 1_152_921_504_606_846_976 < reading {
         return (i64::MIN, RESULT_OUT_OF_RANGE);
     }
-    choose(reading, instants_in(reading, zone, span), policy)
+    choose(reading, instants_in(reading, zone, guesses, span), policy)
 }
 
 /// Returns the instants at which clocks show a reading. Keeps the span if there is one instant in
 /// it.
-fn instants_in(reading: i64, zone: &UncheckedZone<'_>, span: &mut Span) -> Instants
+fn instants_in(
+    reading: i64,
+    zone: &UncheckedZone<'_>,
+    guesses: &mut Guesses,
+    span: &mut Span,
+) -> Instants
     requires { IsMoment reading }
     ensures { InOrder zone.now → IsSpan zone.now span.old → IsSpan zone.now span.new
         × AreInstantsOf zone.now reading result }
@@ -131,7 +149,7 @@ fn instants_in(reading: i64, zone: &UncheckedZone<'_>, span: &mut Span) -> Insta
     if let Some(instant) = span.single(reading) {
         return Instants::Single(instant);
     }
-    *span = zone.span_at(reading);
+    *span = zone.span_by(reading, guesses);
     match span.single(reading) {
         Some(instant) => Instants::Single(instant),
         None => zone.instants_near_change(reading),

@@ -105,25 +105,32 @@ impl ZoneYearly {
         }
     }
 
+    /// Returns the change of the numbers.
+    #[inline(always)]
+    fn held(self) -> Yearly
+        requires { HasPlaces self }
+        ensures { result ≡ yearly_in self }
+    {
+        Yearly {
+            month: Month::at(self.month),
+            week: self.week,
+            weekday: Weekday::at(self.weekday),
+            time: self.time,
+            kind: self.clock.kind(),
+        }
+    }
+
     /// Returns the change of the numbers, or `None` for an invalid month or weekday.
     #[inline(always)]
     fn yearly(self) -> Option<Yearly>
         ensures some { IfSome result (λ yearly. (yearly ≡ yearly_in self) × HasPlaces self) }
         ensures none { IfNone result (¬ HasPlaces self) }
     {
-        if self.month >= 12 {
-            return None;
+        if self.month < 12 && self.weekday < 7 {
+            Some(self.held())
+        } else {
+            None
         }
-        if self.weekday >= 7 {
-            return None;
-        }
-        Some(Yearly {
-            month: Month::at(self.month),
-            week: self.week,
-            weekday: Weekday::at(self.weekday),
-            time: self.time,
-            kind: self.clock.kind(),
-        })
     }
 }
 
@@ -183,16 +190,23 @@ impl CheckedParts {
         Rule::new(self.one.yearly()?, self.other.yearly()?)
     }
 
+    /// Returns the rule of the two changes, which are one.
+    #[inline(always)]
+    fn held(&self) -> Rule
+        requires { HasRule self.now }
+        ensures { (result.one ≡ yearly_in self.now.one) × (result.other ≡ yearly_in self.now.other) }
+    {
+        Rule::from_changes(self.one.held(), self.other.held())
+    }
+
     /// Returns the offset at a Unix time by the rule. `None` says nothing about the offset.
     pub(super) fn offset_by_rule(&self, seconds: i64) -> Option<i32>
+        requires { HasRuleOrNone self.now }
         ensures { (bytes : List ℕ) → InOrder (zone_of_parts bytes self.now)
             → IfSome result (λ offset. offset ≡ offset_at (zone_of_parts bytes self.now) seconds) }
     {
         if self.rule == RULE {
-            match self.two_changes() {
-                Some(rule) => rule.offset_after(self.skip, seconds),
-                None => None,
-            }
+            self.held().offset_after(self.skip, seconds)
         } else {
             None
         }
@@ -201,15 +215,13 @@ impl CheckedParts {
     /// Returns the only instant at which clocks show a reading by the rule. `None` says nothing
     /// about the reading.
     pub(super) fn single_by_rule(&self, reading: i64) -> Option<i64>
-        requires { IsMoment reading }
+        requires moment { IsMoment reading }
+        requires rule { HasRuleOrNone self.now }
         ensures { (bytes : List ℕ) → InOrder (zone_of_parts bytes self.now) → IfSome result
             (λ instant. (i : ℤ) → (i ≡ instant) ↔ (local_at (zone_of_parts bytes self.now) i ≡ reading)) }
     {
         if self.rule == RULE {
-            match self.two_changes() {
-                Some(rule) => rule.single_after(self.skip, reading),
-                None => None,
-            }
+            self.held().single_after(self.skip, reading)
         } else {
             None
         }

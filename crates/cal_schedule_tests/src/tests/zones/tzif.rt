@@ -10,7 +10,7 @@ use crate::tests::zones::{moment, reading};
 use cal_datetime::PlainDateTime;
 use cal_time::Month;
 use cal_tzif::{ZoneError, ZoneErrorKind, parse, parse_parts, parse_posix, parse_posix_parts};
-use cal_zone::{ChangeError, Span, TimelineError, UncheckedZone, Zone, ZoneParts};
+use cal_zone::{ChangeError, Guesses, Span, TimelineError, UncheckedZone, Zone, ZoneParts};
 use std::process::Abort;
 
 /// A Unix time and an offset, in seconds.
@@ -260,17 +260,15 @@ fn spans(rt: HostRuntime) {
     };
     same(rt, zone.span_at(1_710_036_000), ramadan);
     same(rt, zone.span_at(1_713_059_999), ramadan);
-    same(
-        rt,
-        zone.span_after(1_710_035_999, ramadan).last,
-        1_710_035_999,
-    );
-    same(
-        rt,
-        zone.span_after(1_713_060_000, ramadan).first,
-        1_713_060_000,
-    );
-    let far = zone.span_after(1_711_000_000, Span::empty());
+    let mut guesses = Guesses::new();
+    'many: for _ in 0..100 {
+        same(rt, zone.span_by(1_713_059_999, &mut guesses), ramadan);
+    }
+    let before = zone.span_after(1_710_035_999, ramadan, &mut guesses);
+    same(rt, before.last, 1_710_035_999);
+    let after = zone.span_after(1_713_060_000, ramadan, &mut guesses);
+    same(rt, after.first, 1_713_060_000);
+    let far = zone.span_after(1_711_000_000, Span::empty(), &mut guesses);
     same(rt, (far.first, far.last), (1_711_000_000, 1_711_000_000));
     same(rt, far.offset, 0);
     same(rt, ramadan.single(1_711_000_000), Some(1_711_000_000));

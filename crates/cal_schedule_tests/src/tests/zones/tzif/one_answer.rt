@@ -6,7 +6,7 @@ ghost use Rattle.std.specs.Prelude.{◌≡◌};
 ghost use Rattle.cal_zone.specs.Timeline.{InOrder, IsMoment};
 
 use cal_tzif::ZoneError;
-use cal_zone::{Span, UncheckedZone, Zone};
+use cal_zone::{Guesses, Span, UncheckedZone, Zone};
 
 /// The results of two calls.
 type Twice<T> = (T, T);
@@ -23,10 +23,10 @@ fn parse_posix(text: &[u8]) -> Twice<Result<Zone<'_>, ZoneError>>
     (cal_tzif::parse_posix(text), cal_tzif::parse_posix(text))
 }
 
-fn span_at(zone: &UncheckedZone<'_>, instant: i64) -> Twice<Span>
+fn span_at(zone: &UncheckedZone<'_>, instant: i64, guesses: &mut Guesses) -> Twice<Span>
     ensures { InOrder zone.now → result.0 ≡ result.1 }
 {
-    (zone.span_at(instant), zone.span_at(instant))
+    (zone.span_at(instant), zone.span_by(instant, guesses))
 }
 
 fn single(span: Span, reading: i64) -> Twice<Option<i64>>

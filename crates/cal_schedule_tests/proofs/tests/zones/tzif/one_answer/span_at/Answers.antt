@@ -35,7 +35,7 @@ pub returns : goal.returns
 returns c = λ order.
     let cs = c.args.zone.now.changes in
     let a = c.span_at.ensures.ends order in
-    let b = c.span_at-2.ensures.ends order in
+    let b = c.span_by.ensures.ends order in
     let e = split-one _ _ _ a.count b.count a.split b.split in
     let h = subst (λ (n : ℕ). IsSpanAfter cs n c.span_at.result) e a.after in
-    span-one _ _ (first-one cs b.count _ _ h b.after) (last-one cs b.count _ _ h b.after) (c.span_at.ensures.offset order ∙ sym (c.span_at-2.ensures.offset order))
+    span-one _ _ (first-one cs b.count _ _ h b.after) (last-one cs b.count _ _ h b.after) (c.span_at.ensures.offset order ∙ sym (c.span_by.ensures.offset order))
