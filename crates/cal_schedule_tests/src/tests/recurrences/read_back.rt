@@ -1,7 +1,7 @@
 //! The text of a recurrence or of a set is parsed as that recurrence or set, by only the clauses of
 //! the calls.
 ghost use Rattle.std.specs.Prelude.{◌≡◌, IfSome, Ok};
-ghost use Rattle.cal_recurrence.specs.SetText.{set_of};
+ghost use Rattle.cal_recurrence.specs.SetText.{IsSetOf};
 ghost use Rattle.cal_recurrence.specs.Spelled.{IsSpelled};
 ghost use Rattle.cal_recurrence.specs.Text.{recurrence_of};
 
@@ -29,7 +29,7 @@ fn read_set_again<'a>(
     text: &'a [u8],
     buffer: &'a mut [u8],
 ) -> Option<Result<SetParts<'a>, ParseSetError>>
-    ensures { IfSome result (λ again. again ≡ set_of text.now) }
+    ensures { IfSome result (λ again. IsSetOf text.now again) }
 {
     match parse_set(text) {
         Ok(parts) => {
