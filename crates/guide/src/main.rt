@@ -15,6 +15,7 @@ mod generic;
 mod order;
 mod printing;
 mod recurrences;
+mod sets;
 mod texts;
 mod walking;
 mod zones;
@@ -37,6 +38,7 @@ fn main(rt: HostRuntime) -> io::Result<()> {
     texts::show(&rt)?;
     bills::show(&rt)?;
     recurrences::show(&rt)?;
+    sets::show(&rt)?;
     zones::show(&rt)?;
     arrival::main(rt)
 }

@@ -56,7 +56,7 @@ fn last_sunday(month: Month, before: i32, after: i32) -> Yearly {
 }
 
 /// Returns a zone of the European Union, by its offset in winter.
-fn european(winter: i32) -> Option<Zone<'static>> {
+pub fn european(winter: i32) -> Option<Zone<'static>> {
     let summer = winter.checked_add(3_600)?;
     let spring = last_sunday(Month::March, winter, summer);
     let autumn = last_sunday(Month::October, summer, winter);
