@@ -157,5 +157,6 @@ command_read now meanings words c (grammar.lines {filter = filter} spelled) =
     subst (λ (ws : Words). parse_args now meanings ws ≡ Ok (lines_command filter)) (sym own.is)
     (lines_read now meanings own.first own.rest filter own.some own.own (subst (λ (ws : Words). SpellsFilter now meanings ws filter) own.is spelled))
 
-pub spelled : (now : Option ℤ) (meanings : Meanings) (words : Words) (c : Command) → parse_args now meanings words ≡ Ok c ↔ Spells now meanings words c
-spelled now meanings words c = (command_spelled now meanings words c, command_read now meanings words c)
+pub spelled : (now : Option ℤ) (meanings : Meanings) (words : Words) (r : Result Command UsageError) (c : Command) → r ≡ parse_args now meanings words
+    → r ≡ Ok c ↔ Spells now meanings words c
+spelled now meanings words r c e = rw e (command_spelled now meanings words c, command_read now meanings words c)

@@ -1,4 +1,4 @@
--- The grammar of the arguments: which words spell which command, whatever order they are read in.
+-- The grammar of the arguments: which words spell which command.
 use Rattle.std.specs.Prelude.{◌≡◌, ℕ, ℤ, true, false, List, [], ◌∷◌, ◌++◌, codes, Option, Some, None}
 use Rattle.cal_time.specs.declared.Weekday.{Weekday}
 use Rattle.cal_format.specs.declared.item.Item.{Item}

@@ -1,5 +1,6 @@
 //! The command that the arguments give.
-ghost use Rattle.std.specs.Prelude.{◌≡◌, ◌+◌, ◌<◌, ◌^◌, ◌≤◌, ℕ, List, Option, None, IfOk, drop, false, slice_get, unwrap_or, if◌then◌else◌};
+ghost use Rattle.std.specs.Prelude.{◌≡◌, ◌↔◌, ◌+◌, ◌<◌, ◌^◌, ◌≤◌, ℕ, List, Ok, Option, None, IfOk, drop, false, slice_get, unwrap_or, if◌then◌else◌};
+ghost use Rattle.caldate_run.specs.Grammar.{Spells};
 ghost use Rattle.caldate_run.specs.Lists.{HasValidStep};
 ghost use Rattle.caldate_run.specs.Offsets.{offset_of};
 ghost use Rattle.caldate_run.specs.Meanings.{AreMeanings, Meanings};
@@ -58,6 +59,8 @@ pub fn parse_args<'a>(
     ensures value { (meanings : Meanings)
         → AreMeanings meanings (arguments_of words.now)
         → AreOfFiles files.now meanings → result ≡ parse_args now meanings (arguments_of words.now) }
+    ensures spelled { (meanings : Meanings) (command : Command) → AreMeanings meanings (arguments_of words.now)
+        → AreOfFiles files.now meanings → result ≡ Ok command ↔ Spells now meanings (arguments_of words.now) command }
 {
     let nothing = usage_error_at(0, Expected::Something);
     let first = word_at(words, 0).ok_or(nothing)?;

@@ -1,20 +1,18 @@
 //! Laws: a text has one answer, a line has one reply, a record has its fields, an answer becomes
 //! one field, and all arguments have meanings.
 ghost use Rattle.std.specs.List.{join_with_byte};
-ghost use Rattle.std.specs.Prelude.{◌≡◌, ◌+◌, ◌∷◌, ◌==◌, ◌<◌, ◌≤◌, ◌↔◌, ℕ, ℤ, List, All, Ok, Option, Some, false, length, map, take, true};
+ghost use Rattle.std.specs.Prelude.{◌≡◌, ◌+◌, ◌∷◌, ◌==◌, ◌<◌, ◌≤◌, ℕ, List, All, Option, Some, false, length, map, take, true};
 ghost use Rattle.caldate_run.specs.Answers.{Answer, IsAnswer};
 ghost use Rattle.caldate_run.specs.Fields.{each_of, in_place_of, several, split_record};
 ghost use Rattle.caldate_run.specs.Lines.{all_lines};
 ghost use Rattle.caldate_run.specs.Records.{IsField, IsRecord, records_text};
 ghost use Rattle.caldate_run.specs.Replies.{AreAnswers, IsAnswerToPart, IsReplyTo};
 ghost use Rattle.caldate_run.specs.Meanings.{AreMeanings, Meanings};
-ghost use Rattle.caldate_run.specs.Grammar.{Spells};
-ghost use Rattle.caldate_run.specs.Requests.{arguments_of, parse_args};
+ghost use Rattle.caldate_run.specs.Requests.{arguments_of};
 ghost use Rattle.caldate_run.specs.Room.{longest_left, longest_text};
 ghost use Rattle.caldate_run.specs.Scans.{IsScanned, part_at};
 ghost use Rattle.caldate_run.specs.Targets.{IsAnswerAt};
 ghost use Rattle.caldate_run.specs.Zones.{AreOfFiles};
-ghost use Rattle.caldate_run.specs.declared.request.Command.{Command};
 ghost use Rattle.caldate_run.specs.declared.run.no_answer.NoAnswer.{NoAnswer};
 ghost use Rattle.caldate_run.specs.declared.run.tally.Tally.{Tally};
 
@@ -196,9 +194,3 @@ pub fn have_zones(arguments: &[u8], files: &DataFiles<'_>)
     let _first = zone_in(files.first);
     let _second = zone_in(files.second);
 }
-
-/// Proves that the arguments give a command exactly if they are one of its spellings.
-pub fn grammar()
-    ensures { (now : Option ℤ) (meanings : Meanings) (words : List (List ℕ)) (command : Command)
-        → parse_args now meanings words ≡ Ok command ↔ Spells now meanings words command }
-{}
